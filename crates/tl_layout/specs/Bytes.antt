@@ -1,0 +1,24 @@
+-- What bytes a line may hold, and the bytes of a column.
+use Rattle.std.specs.Prelude.{◌≡◌, ℕ, ◌-◌, ◌≤◌, ◌<◌, List, [], ◌∷◌, length, Bool, nat_le, nat_lt, ◌&&◌, ◌||◌, IsTrue, slice_range, All}
+
+-- a byte that a line may hold: printable ASCII, or the upper half of Latin-1 from its no-break space on
+abbrev pub is_allowed : ℕ → Bool
+is_allowed b = (nat_le 32 b && nat_lt b 127) || (nat_le 160 b && nat_lt b 256)
+
+-- bytes that a line may hold, and no others
+unfoldable pub AreAllowed : List ℕ → Type 0
+AreAllowed bytes = All (λ b. IsTrue (is_allowed b)) bytes
+
+-- text of exactly that many allowed bytes
+pub record IsText (width : ℕ) (bytes : List ℕ) : Type 0 where
+  pub len : length bytes ≡ width
+  pub allowed : AreAllowed bytes
+
+-- the bytes from column first to column last of a line, both included, counted from 1 as in the column tables
+abbrev pub columns : ℕ → ℕ → List ℕ → List ℕ
+columns first last line = slice_range line (first - 1) last
+
+-- a full line of a record type: its first byte is the type, and it has exactly len allowed bytes
+pub record IsLine (rtype len : ℕ) (line : List ℕ) : Type 0 where
+  pub begins : columns 1 1 line ≡ rtype ∷ []
+  pub text : IsText len line

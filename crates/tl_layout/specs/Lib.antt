@@ -1,0 +1,5 @@
+pub mod Bytes
+pub mod Coordinates
+pub mod Numbers
+pub mod PolygonSide
+pub mod Fields

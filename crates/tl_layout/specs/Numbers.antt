@@ -1,0 +1,10 @@
+-- The numbers of the map: TLID, RTSQ, FEAT, LAND, POLYID and the numbers of nodes.
+use Rattle.std.specs.Prelude.{ℕ, ◌^◌, ◌<◌, Option, IfSome}
+
+-- a number of at most width digits, and not 0
+abbrev pub IsNumber : ℕ → ℕ → Type 0
+IsNumber width n = (0 < n) × (n < 10 ^ width)
+
+-- such a number, or none
+abbrev pub IsNumberOrNone : ℕ → Option ℕ → Type 0
+IsNumberOrNone width n = IfSome n (IsNumber width)

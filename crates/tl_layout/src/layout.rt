@@ -1,0 +1,60 @@
+//! What every record type offers.
+
+ghost use Rattle.std.specs.Prelude.{◌≡◌, ◌≤◌, ◌<◌, ℕ, List, Result, Ok, Err, length, IfOk, IfErr, IsOk};
+ghost use Rattle.tl_layout.specs.Bytes.{IsLine};
+ghost use Rattle.tl_layout.specs.declared.fault.FieldFault.{FieldFault};
+
+use crate::fault::FieldFault;
+
+/// A record type: how a line spells its records, and the one canonical spelling of each.
+pub trait Layout: Sized {
+    /// Length of a full line, in bytes.
+    const LEN: usize;
+
+    ghost LEN: { ℕ };
+
+    /// The record type, the byte in column 1.
+    const RTYPE: u8;
+
+    ghost RTYPE: { ℕ };
+
+    /// The values that a record of this type may hold.
+    ghost Fits: { Self → Type 0 };
+
+    /// A full line spells the record: a relation, since a record has many spellings.
+    ghost Spells: { List ℕ → Self → Type 0 };
+
+    /// What a full line is read as: the record, or the leftmost fault.
+    ghost reading: { List ℕ → Result Self FieldFault };
+
+    /// The canonical spelling of the record.
+    ghost spelling: { Self → List ℕ };
+
+    /// Reads a full line of allowed bytes that begins with the record type.
+    fn take(line: &[u8]) -> Result<Self, FieldFault>
+        requires { IsLine RTYPE LEN line.now }
+        ensures found { IfOk result (λ r. Fits r × Spells line.now r) }
+        ensures only { (r : Self) → Spells line.now r → result ≡ Ok r }
+        ensures exact { result ≡ reading line.now };
+
+    /// Writes the canonical spelling.
+    fn put(&self, out: &mut [u8])
+        requires { length out.old ≡ LEN }
+        ensures spelling { out.new ≡ spelling self.now }
+        ensures fits { Fits self.now };
+
+    /// No line is longer than 228 bytes, and none is empty.
+    ghost bounded: { (1 ≤ LEN) × (LEN ≤ 228) };
+
+    /// The canonical spelling is a full line.
+    ghost spelling_is_line: { (r : Self) → Fits r → IsLine RTYPE LEN (spelling r) };
+
+    /// What is read of the canonical spelling is the record.
+    ghost reads_spelling: { (r : Self) → Fits r → reading (spelling r) ≡ Ok r };
+
+    /// What is read is spelled so.
+    ghost reads_spelled: { (line : List ℕ) (r : Self) → IsLine RTYPE LEN line → reading line ≡ Ok r → Fits r × Spells line r };
+
+    /// What is spelled so is read.
+    ghost spelled_is_read: { (line : List ℕ) (r : Self) → IsLine RTYPE LEN line → Spells line r → reading line ≡ Ok r };
+}

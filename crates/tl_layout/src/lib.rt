@@ -1,0 +1,40 @@
+//! The record layouts of TIGER/Line 2006: each record type as a value, read from a line and written canonically.
+#![tactic(auto)]
+
+mod fault;
+mod layout;
+mod name;
+mod pair;
+mod point;
+mod ranges;
+mod record_type;
+mod side;
+mod text;
+mod type1;
+mod type2;
+mod type4;
+mod type5;
+mod type6;
+mod type7;
+mod type8;
+mod type_i;
+mod type_p;
+
+pub use fault::{DeviceFault, FieldFault, FieldKind};
+pub use layout::Layout;
+pub use name::FeatureName;
+pub use pair::LeftRight;
+pub use point::Point;
+pub use ranges::Ranges;
+pub use record_type::Record;
+pub use side::Side;
+pub use text::Text;
+pub use type_i::{BodyI, RecI};
+pub use type_p::{BodyP, RecP};
+pub use type1::{Body1, GeographicEntities, NativeAreas, Rec1};
+pub use type2::Rec2;
+pub use type4::Rec4;
+pub use type5::{Body5, Rec5};
+pub use type6::Rec6;
+pub use type7::{Body7, Rec7};
+pub use type8::Rec8;

@@ -1,0 +1,50 @@
+//! Points of the map.
+
+ghost use Rattle.std.specs.Prelude.{◌≡◌};
+ghost use Rattle.tl_layout.specs.Coordinates.{Coordinates, IsOnMap};
+
+use std::marker::Model;
+
+/// A point of the map, in millionths of a degree: a longitude of magnitude at most 999,999,999 and a latitude of
+/// magnitude at most 99,999,999, not both 0.
+#[derive(Clone, Copy, Debug, PartialEq, Eq)]
+pub struct Point {
+    long: i32,
+    lat: i32,
+}
+
+impl Model for Point {
+    ghost Value = { Coordinates };
+
+    ghost view = { λ p. record { long = p.long; lat = p.lat } };
+
+    ghost invariant = { λ p. IsOnMap (record { long = p.long; lat = p.lat }) };
+
+    ghost inverse = { λ c. record { long = c.long; lat = c.lat } };
+}
+
+impl Point {
+    /// The point at this longitude and latitude, in millionths of a degree.
+    pub fn new(long: i32, lat: i32) -> Point
+        requires { IsOnMap (record { long = long; lat = lat }) }
+        ensures { result ≡ record { long = long; lat = lat } }
+    {
+        Point { long, lat }
+    }
+
+    /// The longitude, in millionths of a degree.
+    pub fn long(&self) -> i32
+        ensures value { result ≡ self.now.long }
+        ensures on_map { IsOnMap self.now }
+    {
+        self.long
+    }
+
+    /// The latitude, in millionths of a degree.
+    pub fn lat(&self) -> i32
+        ensures value { result ≡ self.now.lat }
+        ensures on_map { IsOnMap self.now }
+    {
+        self.lat
+    }
+}

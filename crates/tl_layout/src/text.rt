@@ -1,0 +1,50 @@
+//! Opaque fields: text of a fixed width, of bytes that a line may hold.
+
+ghost use Rattle.std.specs.Prelude.{◌≡◌, ℕ, length, List};
+ghost use Rattle.tl_layout.specs.Bytes.{IsText, AreAllowed};
+
+use std::marker::Model;
+
+/// The bytes of an opaque field: `N` bytes, each from 0x20 to 0x7E or from 0xA0 to 0xFF.
+#[derive(Clone, Copy, Debug, PartialEq, Eq)]
+pub struct Text<const N: usize> {
+    bytes: [u8; N],
+}
+
+impl<const N: usize> Model for Text<N> {
+    ghost Value = { List ℕ };
+
+    ghost view = { λ t. t.bytes };
+
+    ghost invariant = { λ t. IsText N t.bytes };
+
+    ghost inverse = { λ bytes. record { bytes = bytes } };
+}
+
+impl<const N: usize> Text<N> {
+    /// A field of these bytes.
+    pub fn new(bytes: [u8; N]) -> Text<N>
+        requires { AreAllowed bytes }
+        ensures { result ≡ bytes.entry }
+    {
+        Text { bytes }
+    }
+
+    /// A field of these bytes, of which there are just `N`.
+    pub fn from_slice(bytes: &[u8]) -> Text<N>
+        requires { IsText N bytes.now }
+        ensures { result ≡ bytes.now }
+    {
+        let mut field = [b' '; N];
+        field.copy_from_slice(bytes);
+        Text { bytes: field }
+    }
+
+    /// The bytes of the field.
+    pub fn as_bytes(&self) -> &[u8; N]
+        ensures value { result.now ≡ self.now }
+        ensures text { IsText N self.now }
+    {
+        &self.bytes
+    }
+}
