@@ -1,9 +1,11 @@
 //! The record layouts of TIGER/Line 2006: each record type as a value, read from a line and written canonically.
 #![tactic(auto)]
 
+mod coordinate;
 mod fault;
 mod layout;
 mod name;
+mod number;
 mod pair;
 mod point;
 mod ranges;
