@@ -1,5 +1,5 @@
 -- Coordinates: blanks, at most one sign, digits, blanks.
-use Rattle.std.specs.Prelude.{◌≡◌, ℕ, zero, suc, ◌+◌, ◌/◌, ◌%◌, ◌≤◌, ◌==◌, List, [], ◌∷◌, ◌++◌, nat_le, Option, Some, None, IsTrue, if◌then◌else◌, ℤ, pos, negsuc, unsigned_abs}
+use Rattle.std.specs.Prelude.{◌≡◌, ℕ, zero, suc, ◌+◌, ◌/◌, ◌%◌, ◌≤◌, ◌==◌, true, List, [], ◌∷◌, ◌++◌, nat_le, Option, Some, None, if◌then◌else◌, ℤ, pos, negsuc, unsigned_abs}
 use Rattle.std.specs.List.{list_all}
 use Rattle.tl_layout.specs.NumberField.{is_blank, is_digit, value_after, drop_blanks, number_after}
 use Rattle.tl_layout.specs.declared.coordinate.Coordinate.{Coordinate}
@@ -25,15 +25,15 @@ pub record IsCoordinateField (limit : ℕ) (field : List ℕ) (value : ℤ) : Ty
   pub digits : List ℕ
   pub after : List ℕ
   pub spelt : field ≡ before ++ (sign ++ (first ∷ digits ++ after))
-  pub blanks_before : IsTrue (list_all is_blank before)
-  pub all_digits : IsTrue (list_all is_digit (first ∷ digits))
-  pub blanks_after : IsTrue (list_all is_blank after)
+  pub blanks_before : list_all is_blank before ≡ true
+  pub all_digits : list_all is_digit (first ∷ digits) ≡ true
+  pub blanks_after : list_all is_blank after ≡ true
   pub signed : IsSigned sign (value_after 0 (first ∷ digits)) value
   pub within : value_after 0 (first ∷ digits) ≤ limit
 
 -- a field of blanks alone
 abbrev pub IsBlankField : List ℕ → Type 0
-IsBlankField field = IsTrue (list_all is_blank field)
+IsBlankField field = list_all is_blank field ≡ true
 
 -- the number, if it is within the limit
 abbrev pub within : ℕ → Option ℕ → Option ℕ

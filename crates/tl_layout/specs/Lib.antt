@@ -1,6 +1,9 @@
 pub mod Bytes
 pub mod NumberField
+pub mod NumberLaws
+pub mod NumberTextLaws
 pub mod CoordinateField
+pub mod CoordinateLaws
 pub mod Coordinates
 pub mod Numbers
 pub mod FieldReading

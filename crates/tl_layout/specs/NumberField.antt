@@ -1,5 +1,5 @@
 -- Number fields: blanks, digits, blanks, each of them possibly empty.
-use Rattle.std.specs.Prelude.{◌≡◌, ℕ, zero, suc, ◌+◌, ◌-◌, ◌*◌, ◌/◌, ◌%◌, ◌==◌, List, [], ◌∷◌, ◌++◌, Bool, nat_le, ◌&&◌, Option, Some, None, IsTrue, if◌then◌else◌}
+use Rattle.std.specs.Prelude.{◌≡◌, ℕ, zero, suc, ◌+◌, ◌-◌, ◌*◌, ◌/◌, ◌%◌, ◌==◌, true, List, [], ◌∷◌, ◌++◌, Bool, nat_le, ◌&&◌, Option, Some, None, if◌then◌else◌}
 use Rattle.std.specs.List.{list_all}
 
 -- a blank, the byte 0x20
@@ -21,9 +21,9 @@ pub record IsNumberField (field : List ℕ) (n : ℕ) : Type 0 where
   pub digits : List ℕ
   pub after : List ℕ
   pub spelt : field ≡ before ++ (digits ++ after)
-  pub blanks_before : IsTrue (list_all is_blank before)
-  pub all_digits : IsTrue (list_all is_digit digits)
-  pub blanks_after : IsTrue (list_all is_blank after)
+  pub blanks_before : list_all is_blank before ≡ true
+  pub all_digits : list_all is_digit digits ≡ true
+  pub blanks_after : list_all is_blank after ≡ true
   pub value : n ≡ value_after 0 digits
 
 -- what is left behind the blanks in front
