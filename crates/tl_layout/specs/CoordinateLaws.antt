@@ -229,3 +229,7 @@ pub coordinate_text_spells : (width limit : ℕ) (value : ℤ) → 0 < width →
 unfolding coordinate_text
 coordinate_text_spells width limit value wide most h =
     text_spells limit (digits_text width (unsigned_abs value)) value (digits_text_digits width (unsigned_abs value)) (let l = length-digits_text width (unsigned_abs value) in omega arith) (digits_text_value width (unsigned_abs value) (omega arith)) h
+
+-- what is read is within its limit
+pub coordinate_read_within : (limit : ℕ) (field : List ℕ) (value : ℤ) → coordinate_of limit field ≡ Value value → unsigned_abs value ≤ limit
+coordinate_read_within limit field value h = coordinate_within limit field value (coordinate_found limit field value h)

@@ -44,6 +44,11 @@ bad_number column = record { kind = BadNumber; column = column }
 abbrev pub bad_point : ℕ → FieldFault
 bad_point column = record { kind = BadPoint; column = column }
 
+-- the number, 0 for none
+abbrev pub number_or_zero : Option ℕ → ℕ
+number_or_zero None = 0
+number_or_zero (Some n) = n
+
 -- a number, where one is demanded
 abbrev pub demanded_number : ℕ → Option ℕ → Result ℕ FieldFault
 demanded_number column None = Err (bad_number column)

@@ -1,4 +1,6 @@
 pub mod Bytes
+pub mod Columns
+pub mod ColumnLaws
 pub mod NumberField
 pub mod NumberLaws
 pub mod NumberTextLaws
@@ -7,5 +9,7 @@ pub mod CoordinateLaws
 pub mod Coordinates
 pub mod Numbers
 pub mod FieldReading
+pub mod FieldLaws
 pub mod PolygonSide
 pub mod Fields
+pub mod TypeI

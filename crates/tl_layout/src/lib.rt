@@ -3,6 +3,7 @@
 
 mod coordinate;
 mod fault;
+mod field;
 mod layout;
 mod name;
 mod number;
@@ -21,6 +22,7 @@ mod type7;
 mod type8;
 mod type_i;
 mod type_p;
+mod writing;
 
 pub use fault::{DeviceFault, FieldFault, FieldKind};
 pub use layout::Layout;

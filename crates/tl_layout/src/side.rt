@@ -1,6 +1,7 @@
 //! The polygon on one side of a chain.
 
-ghost use Rattle.std.specs.Prelude.{◌≡◌, List, ℕ, Option};
+ghost use Rattle.std.specs.Prelude.{◌≡◌};
+ghost use Rattle.tl_layout.specs.Numbers.{IsNumberOrNone};
 ghost use Rattle.tl_layout.specs.PolygonSide.{PolygonSide, FitsSide};
 
 use crate::text::Text;
@@ -19,7 +20,33 @@ impl Model for Side {
 
     ghost view = { λ s. record { cenid = s.cenid; polyid = s.polyid } };
 
-    ghost invariant = { λ s. FitsSide (record { cenid = s.cenid; polyid = s.polyid }) };
+    ghost invariant = { λ s. IsNumberOrNone 10 s.polyid };
 
     ghost inverse = { λ s. record { cenid = s.cenid; polyid = s.polyid } };
+}
+
+impl Side {
+    /// The side with this CENID, and with the polygon of this POLYID or none.
+    pub fn new(cenid: Text<5>, polyid: Option<u64>) -> Side
+        requires { IsNumberOrNone 10 polyid }
+        ensures { result ≡ record { cenid = cenid; polyid = polyid } }
+    {
+        Side { cenid, polyid }
+    }
+
+    /// The CENID (CENIDL or CENIDR).
+    pub fn cenid(&self) -> Text<5>
+        ensures value { result ≡ self.now.cenid }
+        ensures fits { FitsSide self.now }
+    {
+        self.cenid
+    }
+
+    /// The POLYID, or none (POLYIDL or POLYIDR).
+    pub fn polyid(&self) -> Option<u64>
+        ensures value { result ≡ self.now.polyid }
+        ensures fits { FitsSide self.now }
+    {
+        self.polyid
+    }
 }
