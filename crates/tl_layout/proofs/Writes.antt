@@ -1,6 +1,6 @@
 -- What a buffer holds after a part of it was written.
 use Rattle.std.proofs.Common.{◌≡◌, ◌≤◌, ◌-◌, ◌+◌, ℕ, List, [], ◌∷◌, ◌++◌, length, take, drop, slice_set, codes, arith, ap, ◌∙◌}
-use Rattle.std.proofs.lemmas.List.{drop_all, append-nil}
+use Rattle.std.proofs.lemmas.List.{drop_all, append-nil, take_all}
 use Rattle.std.proofs.lemmas.Slice.{take-put_mid}
 use borrow.Rule.Slice.PartMut.{put_mid}
 
@@ -18,4 +18,14 @@ columns_written first last k old text f l = take-put_mid (first - 1) k old text 
 -- the record type was written, and then the four bytes behind it
 pub head_written : (out : List ℕ) (rtype : ℕ) (version : List ℕ) → 5 ≤ length out → version ≡ codes "2006" → take 5 (put_mid 1 4 (slice_set out 0 rtype) version) ≡ rtype ∷ codes "2006"
 head_written [] rtype version h e = absurd (omega arith)
-head_written (x ∷ xs) rtype version h e = rw e (take-put_mid 1 4 (rtype ∷ xs) (codes "2006") 5 refl (omega arith))
+head_written (x ∷ xs) rtype version h e =
+    let five : 5 ≡ 1 + length (codes "2006") = omega arith in
+    rw e (take-put_mid 1 4 (rtype ∷ xs) (codes "2006") 5 five (omega arith))
+
+-- A text was written behind what stood there.
+pub behind : {new rest before text text' : List ℕ} → new ≡ rest ++ text → rest ≡ before → text ≡ text' → new ≡ before ++ text'
+behind w h e = (cc)
+
+-- The last column is the last byte of the buffer.
+pub whole : (last : ℕ) (out text : List ℕ) → length out ≡ last → take last out ≡ text → out ≡ text
+whole last out text l h = sym (take_all last out (omega arith)) ∙ h

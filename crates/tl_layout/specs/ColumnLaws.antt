@@ -92,3 +92,7 @@ pub columns_of_width : (first last width : ℕ) (line : List ℕ) → AreAllowed
 columns_of_width first last width line a f l w =
     let same : last + 1 - first ≡ width = omega arith in
     rw same at (columns_text first last (length line) line (record { len = refl; allowed = a }) f (omega arith) l)
+
+-- columns of a text are a text of their width
+pub columns_of_text : (len : ℕ) (line : List ℕ) → IsText len line → (first last width : ℕ) → 1 ≤ first → last ≤ len → last + 1 ≡ first + width → IsText width (columns first last line)
+columns_of_text len line t first last width f l w = columns_of_width first last width line t.allowed f (let e = t.len in omega arith) w

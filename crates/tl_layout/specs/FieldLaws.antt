@@ -1,6 +1,6 @@
 -- What the fields of a line spell and what they are read as is one and the same; what is read is in range; and the
 -- canonical texts spell their values.
-use Rattle.std.proofs.Common.{◌≡◌, ℕ, zero, suc, ◌+◌, ◌-◌, ◌^◌, ◌<◌, ◌≤◌, ◌⊎◌, List, [], ◌∷◌, ◌++◌, length, drop, Bool, true, false, cond, nat_eq, Option, Some, None, Result, Ok, Err, refl, sym, ap, ◌∙◌, subst, arith, inl, inr, lit<, ℤ, pos, negsuc, unsigned_abs}
+use Rattle.std.proofs.Common.{◌≡◌, ℕ, zero, suc, ◌+◌, ◌-◌, ◌^◌, ◌<◌, ◌≤◌, ◌⊎◌, List, [], ◌∷◌, ◌++◌, length, drop, Bool, true, false, cond, nat_eq, Option, Some, None, unwrap_or, Result, Ok, Err, refl, sym, ap, ◌∙◌, subst, arith, inl, inr, lit<, ℤ, pos, negsuc, unsigned_abs}
 use Rattle.std.proofs.lemmas.List.{length-drop, length-take-le}
 use Rattle.std.proofs.lemmas.Bool.{eqb-true, eqb-false, ne_eqb}
 use Rattle.std.proofs.Math.Nat.{one-le-pow}
@@ -12,7 +12,7 @@ use Rattle.tl_layout.specs.NumberLaws.{number_found, number_only}
 use Rattle.tl_layout.specs.NumberTextLaws.{number_below, number_text_spells}
 use Rattle.tl_layout.specs.CoordinateField.{IsCoordinateField, IsBlankField, coordinate_of, coordinate_text}
 use Rattle.tl_layout.specs.CoordinateLaws.{coordinate_found, coordinate_only, coordinate_within, blank_found, blank_only, coordinate_text_spells}
-use Rattle.tl_layout.specs.FieldReading.{◌>>=◌, SpellsNumber, SpellsNumberOrNone, SpellsPoint, SpellsPointOrNone, demanded_number, possible_number, number_at, number_or_none_at, point_or_none, pair_of, point_or_none_at, demanded_point, point_at, number_or_zero}
+use Rattle.tl_layout.specs.FieldReading.{and_then, SpellsNumber, SpellsNumberOrNone, SpellsPoint, SpellsPointOrNone, demanded_number, possible_number, number_at, number_or_none_at, point_or_none, pair_of, point_or_none_at, demanded_point, point_at}
 use Rattle.tl_layout.specs.declared.coordinate.Coordinate.{Coordinate}
 use Rattle.tl_layout.specs.declared.coordinate.Coordinate.TheVariants.{Malformed, Blank, Value}
 use Rattle.tl_layout.specs.declared.fault.FieldFault.{FieldFault}
@@ -23,9 +23,15 @@ pub record Reads {A B : Type 0} (first : Result A FieldFault) (more : A → Resu
   pub was : first ≡ Ok value
   pub gave : more value ≡ Ok answer
 
-pub reads : {A B : Type 0} (first : Result A FieldFault) (more : A → Result B FieldFault) (answer : B) → (first >>= more) ≡ Ok answer → Reads first more answer
+pub reads : {A B : Type 0} (first : Result A FieldFault) (more : A → Result B FieldFault) (answer : B) → and_then first more ≡ Ok answer → Reads first more answer
+unfolding and_then
 reads (Ok x) more answer h = record { value = x; was = refl; gave = h }
 reads (Err e) more answer h = (cc)
+
+-- reading goes on with what was read
+pub reads_on : {A B : Type 0} (first : Result A FieldFault) (more : A → Result B FieldFault) (value : A) (answer : Result B FieldFault) → first ≡ Ok value → more value ≡ answer → and_then first more ≡ answer
+unfolding and_then
+reads_on first more value answer was gave = rw was gave
 
 demanded_found : (column n : ℕ) (field : List ℕ) (read : Option ℕ) → number_of field ≡ read → demanded_number column read ≡ Ok n → SpellsNumber field n
 demanded_found column n field None r h = (cc)
@@ -79,13 +85,15 @@ pub number_or_none_fits : (width : ℕ) (n : Option ℕ) (field : List ℕ) → 
 number_or_none_fits width None field l h = tt
 number_or_none_fits width (Some n) field l h = number_fits width n field l h
 
--- the canonical texts of numbers
-pub number_text_again : (width n : ℕ) → IsNumber width n → SpellsNumber (number_text width n) n
-number_text_again width n h = (number_text_spells width n h.1, h.0)
+-- a field that holds the canonical text of a number spells it
+pub number_again : (width n : ℕ) (field : List ℕ) → field ≡ number_text width n → IsNumber width n → SpellsNumber field n
+number_again width n field e h = let P : List ℕ → Type 0 = λ f. SpellsNumber f n in subst P (sym e) (number_text_spells width n h.1, h.0)
 
-pub number_or_none_text_again : (width : ℕ) (n : Option ℕ) → IsNumberOrNone width n → SpellsNumberOrNone (number_text width (number_or_zero n)) n
-number_or_none_text_again width None h = number_text_spells width 0 (one-le-pow width 10 (lit< tt))
-number_or_none_text_again width (Some n) h = number_text_again width n h
+pub number_or_none_again : (width : ℕ) (n : Option ℕ) (field : List ℕ) → field ≡ number_text width (unwrap_or n 0) → IsNumberOrNone width n → SpellsNumberOrNone field n
+number_or_none_again width None field e h =
+    let P : List ℕ → Type 0 = λ f. SpellsNumberOrNone f None in
+    subst P (sym e) (number_text_spells width 0 (one-le-pow width 10 (lit< tt)))
+number_or_none_again width (Some n) field e h = number_again width n field e h
 
 -- where both are 0, both values are
 both_zero : (value : ℤ) → unsigned_abs value ≡ 0 → value ≡ pos 0
@@ -105,7 +113,7 @@ point_found long_field lat_field long lat point false e x y h =
     subst P h (record { long_spelt = x; lat_spelt = y; somewhere = omega arith })
 
 -- two answers that are Ok have one value
-ok_value : {A : Type 0} (x y : A) → ◌≡◌ {A = Result A FieldFault} (Ok x) (Ok y) → x ≡ y
+pub ok_value : {A : Type 0} (x y : A) → ◌≡◌ {A = Result A FieldFault} (Ok x) (Ok y) → x ≡ y
 ok_value x y h = (cc)
 
 pair_found : (column : ℕ) (long_field lat_field : List ℕ) (point : Option Coordinates) (long lat : Coordinate) → coordinate_of 999999999 long_field ≡ long → coordinate_of 99999999 lat_field ≡ lat → pair_of column long lat ≡ Ok point → SpellsPointOrNone long_field lat_field point
@@ -154,23 +162,25 @@ point_at_found column line point h =
 
 pub point_at_only : (column : ℕ) (line : List ℕ) (point : Coordinates) → SpellsPoint (columns column (column + 9) line) (columns (column + 10) (column + 18) line) point → point_at column line ≡ Ok point
 unfolding point_at
-point_at_only column line point h = rw (point_or_none_at_only column line (Some point) h) refl
+point_at_only column line point h = reads_on _ _ (Some point) _ (point_or_none_at_only column line (Some point) h) refl
 
 -- a point that is spelt lies on the map
 pub point_on_map : (long lat : List ℕ) (point : Coordinates) → SpellsPoint long lat point → IsOnMap point
 point_on_map long lat point h =
     record { long = coordinate_within 999999999 long point.long h.long_spelt; lat = coordinate_within 99999999 lat point.lat h.lat_spelt; somewhere = h.somewhere }
 
--- the canonical texts of a point spell it
-pub point_text_again : (point : Coordinates) → IsOnMap point → SpellsPoint (coordinate_text 9 point.long) (coordinate_text 8 point.lat) point
-point_text_again point h =
+-- fields that hold the canonical texts of a point spell it
+pub point_again : (point : Coordinates) (long lat : List ℕ) → long ≡ coordinate_text 9 point.long → lat ≡ coordinate_text 8 point.lat → IsOnMap point → SpellsPoint long lat point
+point_again point long lat e e' h =
+    let P : List ℕ → Type 0 = λ f. IsCoordinateField 999999999 f point.long in
+    let Q : List ℕ → Type 0 = λ f. IsCoordinateField 99999999 f point.lat in
     record {
-      long_spelt = coordinate_text_spells 9 999999999 point.long (lit< tt) (lit< tt) h.long;
-      lat_spelt = coordinate_text_spells 8 99999999 point.lat (lit< tt) (lit< tt) h.lat;
+      long_spelt = subst P (sym e) (coordinate_text_spells 9 999999999 point.long (lit< tt) (lit< tt) h.long);
+      lat_spelt = subst Q (sym e') (coordinate_text_spells 8 99999999 point.lat (lit< tt) (lit< tt) h.lat);
       somewhere = h.somewhere;
     }
 
-columns_len : (first last : ℕ) (line : List ℕ) → 1 ≤ first → first ≤ last → last ≤ length line → length (columns first last line) ≡ last + 1 - first
+pub columns_len : (first last : ℕ) (line : List ℕ) → 1 ≤ first → first ≤ last → last ≤ length line → length (columns first last line) ≡ last + 1 - first
 columns_len first last line f o l =
     let dropped = length-drop (first - 1) line in
     length-take-le (last - (first - 1)) (drop (first - 1) line) (omega arith) ∙ omega arith

@@ -9,11 +9,14 @@ use Rattle.tl_layout.specs.declared.coordinate.Coordinate.TheVariants.{Malformed
 use Rattle.tl_layout.specs.declared.fault.FieldKind.TheVariants.{BadNumber, BadPoint}
 use Rattle.tl_layout.specs.declared.fault.FieldFault.{FieldFault}
 
-infixl 10 ◌>>=◌
 -- reading goes on behind what was read, and stops at the first fault
+unfoldable pub and_then : {A B : Type 0} → Result A FieldFault → (A → Result B FieldFault) → Result B FieldFault
+and_then (Ok x) more = more x
+and_then (Err e) more = Err e
+
+infixl 10 ◌>>=◌
 abbrev pub ◌>>=◌ : {A B : Type 0} → Result A FieldFault → (A → Result B FieldFault) → Result B FieldFault
-(Ok x) >>= f = f x
-(Err e) >>= f = Err e
+x >>= more = and_then x more
 
 -- the field spells a number
 abbrev pub SpellsNumber : List ℕ → ℕ → Type 0
@@ -43,11 +46,6 @@ bad_number column = record { kind = BadNumber; column = column }
 -- a bad point, told at this column
 abbrev pub bad_point : ℕ → FieldFault
 bad_point column = record { kind = BadPoint; column = column }
-
--- the number, 0 for none
-abbrev pub number_or_zero : Option ℕ → ℕ
-number_or_zero None = 0
-number_or_zero (Some n) = n
 
 -- a number, where one is demanded
 abbrev pub demanded_number : ℕ → Option ℕ → Result ℕ FieldFault

@@ -1,4 +1,5 @@
 pub mod Bytes
+pub mod ByteLaws
 pub mod Columns
 pub mod ColumnLaws
 pub mod NumberField
@@ -13,3 +14,4 @@ pub mod FieldLaws
 pub mod PolygonSide
 pub mod Fields
 pub mod TypeI
+pub mod TypeILaws

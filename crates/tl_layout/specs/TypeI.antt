@@ -1,11 +1,11 @@
 -- Record type I, 127 bytes: the nodes of a chain and the polygons on its sides.
-use Rattle.std.specs.Prelude.{◌≡◌, ℕ, List, [], ◌∷◌, ◌++◌, Option, Result, Ok, Err, codes}
+use Rattle.std.specs.Prelude.{◌≡◌, ℕ, List, [], ◌∷◌, ◌++◌, Option, unwrap_or, Result, Ok, Err, codes}
 use Rattle.tl_layout.specs.Bytes.{IsText, columns}
 use Rattle.tl_layout.specs.Numbers.{IsNumber, IsNumberOrNone}
 use Rattle.tl_layout.specs.PolygonSide.{PolygonSide, FitsSide}
 use Rattle.tl_layout.specs.Fields.{FieldsI}
 use Rattle.tl_layout.specs.NumberField.{number_text}
-use Rattle.tl_layout.specs.FieldReading.{◌>>=◌, SpellsNumber, SpellsNumberOrNone, number_at, number_or_none_at, number_or_zero}
+use Rattle.tl_layout.specs.FieldReading.{◌>>=◌, SpellsNumber, SpellsNumberOrNone, number_at, number_or_none_at}
 use Rattle.tl_layout.specs.Columns.{joined}
 use Rattle.tl_layout.specs.declared.type_i.BodyI.{BodyI}
 use Rattle.tl_layout.specs.declared.fault.FieldFault.{FieldFault}
@@ -56,6 +56,18 @@ body_i_at line =
       rs_i3 = columns 118 127 line;
     }
 
+-- the record of a line whose numbers are these
+abbrev pub type_i_of : List ℕ → ℕ → Option ℕ → Option ℕ → Option ℕ → Option ℕ → FieldsI
+type_i_of line tlid start_node end_node left_polyid right_polyid =
+    record {
+      tlid = tlid;
+      body = body_i_at line;
+      start_node = start_node;
+      end_node = end_node;
+      left = record { cenid = columns 41 45 line; polyid = left_polyid };
+      right = record { cenid = columns 56 60 line; polyid = right_polyid };
+    }
+
 -- what a line is read as: its fields from the left, up to the first fault
 unfoldable pub type_i_reading : List ℕ → Result FieldsI FieldFault
 type_i_reading line = do
@@ -64,21 +76,14 @@ type_i_reading line = do
   end_node ← number_or_none_at 31 40 line
   left_polyid ← number_or_none_at 46 55 line
   right_polyid ← number_or_none_at 61 70 line
-  Ok (record {
-    tlid = tlid;
-    body = body_i_at line;
-    start_node = start_node;
-    end_node = end_node;
-    left = record { cenid = columns 41 45 line; polyid = left_polyid };
-    right = record { cenid = columns 56 60 line; polyid = right_polyid };
-  })
+  Ok (type_i_of line tlid start_node end_node left_polyid right_polyid)
 
 -- the canonical texts of the columns
 abbrev pub type_i_texts : FieldsI → List (List ℕ)
 type_i_texts r =
-    codes "I" ∷ codes "2006" ∷ r.body.file ∷ number_text 10 r.tlid ∷ number_text 10 (number_or_zero r.start_node)
-    ∷ number_text 10 (number_or_zero r.end_node) ∷ r.left.cenid ∷ number_text 10 (number_or_zero r.left.polyid) ∷ r.right.cenid
-    ∷ number_text 10 (number_or_zero r.right.polyid) ∷ r.body.source ∷ r.body.ftseg ∷ r.body.rs_i1 ∷ r.body.rs_i2 ∷ r.body.rs_i3 ∷ []
+    codes "I" ∷ codes "2006" ∷ r.body.file ∷ number_text 10 r.tlid ∷ number_text 10 (unwrap_or r.start_node 0)
+    ∷ number_text 10 (unwrap_or r.end_node 0) ∷ r.left.cenid ∷ number_text 10 (unwrap_or r.left.polyid 0) ∷ r.right.cenid
+    ∷ number_text 10 (unwrap_or r.right.polyid 0) ∷ r.body.source ∷ r.body.ftseg ∷ r.body.rs_i1 ∷ r.body.rs_i2 ∷ r.body.rs_i3 ∷ []
 
 -- the canonical spelling of a record
 unfoldable pub type_i_spelling : FieldsI → List ℕ

@@ -99,7 +99,7 @@ pub fn read_point_or_none(line: &[u8], column: usize) -> Result<Option<Point>, F
 }
 
 /// The point in the pair of coordinates that begins at this column, where one is demanded.
-#[tactic(auto, unfolding(crate::specs::FieldReading::point_at))]
+#[tactic(auto, unfolding(crate::specs::FieldReading::point_at, crate::specs::FieldReading::and_then))]
 pub fn read_point(line: &[u8], column: usize) -> Result<Point, FieldFault>
     requires from_one { 1 ≤ column }
     requires within { (column + 18 ≤ length line.now) × (column ≤ 210) }

@@ -2,7 +2,7 @@
 
 ghost use Rattle.std.specs.Prelude.{◌≡◌};
 ghost use Rattle.tl_layout.specs.Numbers.{IsNumberOrNone};
-ghost use Rattle.tl_layout.specs.PolygonSide.{PolygonSide, FitsSide};
+ghost use Rattle.tl_layout.specs.PolygonSide.{PolygonSide};
 
 use crate::text::Text;
 use std::marker::Model;
@@ -35,17 +35,16 @@ impl Side {
     }
 
     /// The CENID (CENIDL or CENIDR).
-    pub fn cenid(&self) -> Text<5>
-        ensures value { result ≡ self.now.cenid }
-        ensures fits { FitsSide self.now }
+    pub fn cenid(&self) -> &Text<5>
+        ensures { result.now ≡ self.now.cenid }
     {
-        self.cenid
+        &self.cenid
     }
 
     /// The POLYID, or none (POLYIDL or POLYIDR).
     pub fn polyid(&self) -> Option<u64>
         ensures value { result ≡ self.now.polyid }
-        ensures fits { FitsSide self.now }
+        ensures in_range { IsNumberOrNone 10 result }
     {
         self.polyid
     }

@@ -73,7 +73,7 @@ impl BodyI {
 }
 
 /// What a full line is read as.
-#[tactic(auto, unfolding(crate::specs::TypeI::type_i_reading))]
+#[tactic(auto, unfolding(crate::specs::TypeI::type_i_reading, crate::specs::FieldReading::and_then))]
 fn read(line: &[u8]) -> Result<RecI, FieldFault>
     requires { IsText 127 line.now }
     ensures { result ≡ type_i_reading line.now }
@@ -91,4 +91,61 @@ fn read(line: &[u8]) -> Result<RecI, FieldFault>
         left: Side::new(text_at(line, 41, 45), left_polyid),
         right: Side::new(text_at(line, 56, 60), right_polyid),
     })
+}
+
+impl Layout for RecI {
+    ghost use Rattle.std.specs.Prelude.{ℕ, List};
+    ghost use Rattle.tl_layout.specs.TypeI.{FitsTypeI, SpellsTypeI, type_i_reading, type_i_spelling};
+    ghost use Rattle.tl_layout.specs.TypeILaws.{type_i_spelling_is_line, type_i_reads_spelling, type_i_reads_spelled, type_i_spelled_is_read};
+    ghost use Rattle.std.proofs.Common.{lit≤};
+
+    const LEN: usize = 127;
+
+    ghost LEN = { 127 };
+
+    const RTYPE: u8 = b'I';
+
+    ghost RTYPE = { 73 };
+
+    ghost Fits = { FitsTypeI };
+
+    ghost Spells = { SpellsTypeI };
+
+    ghost reading = { type_i_reading };
+
+    ghost spelling = { type_i_spelling };
+
+    #[tactic(auto, using(crate::specs::TypeILaws::type_i_reads_spelled, crate::specs::TypeILaws::type_i_spelled_is_read))]
+    fn take(line: &[u8]) -> Result<RecI, FieldFault> {
+        read(line)
+    }
+
+    #[tactic(auto, unfolding(crate::specs::TypeI::type_i_spelling))]
+    fn put(&self, out: &mut [u8]) {
+        let body = &self.body;
+        write_head(out, b'I');
+        write_text(out, 6, 10, &body.file);
+        write_number(out, 11, 20, self.tlid);
+        write_number(out, 21, 30, self.start_node.unwrap_or(0));
+        write_number(out, 31, 40, self.end_node.unwrap_or(0));
+        write_text(out, 41, 45, self.left.cenid());
+        write_number(out, 46, 55, self.left.polyid().unwrap_or(0));
+        write_text(out, 56, 60, self.right.cenid());
+        write_number(out, 61, 70, self.right.polyid().unwrap_or(0));
+        write_text(out, 71, 80, &body.source);
+        write_text(out, 81, 97, &body.ftseg);
+        write_text(out, 98, 107, &body.rs_i1);
+        write_text(out, 108, 117, &body.rs_i2);
+        write_text(out, 118, 127, &body.rs_i3);
+    }
+
+    ghost bounded = { (lit≤ tt, lit≤ tt) };
+
+    ghost spelling_is_line = { type_i_spelling_is_line };
+
+    ghost reads_spelling = { type_i_reads_spelling };
+
+    ghost reads_spelled = { type_i_reads_spelled };
+
+    ghost spelled_is_read = { type_i_spelled_is_read };
 }

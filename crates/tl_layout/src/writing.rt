@@ -1,6 +1,7 @@
 //! Writing fields into the columns of a line, counted from 1 as in the column tables, from left to right.
 
 ghost use Rattle.std.specs.Prelude.{◌≡◌, ◌+◌, ◌-◌, ◌≤◌, ◌<◌, [], ◌∷◌, ◌++◌, length, take, replicate, codes};
+ghost use Rattle.tl_layout.specs.Bytes.{IsText};
 ghost use Rattle.tl_layout.specs.NumberField.{number_text};
 ghost use Rattle.tl_layout.specs.CoordinateField.{coordinate_text};
 ghost use Rattle.tl_layout.specs.Columns.{joined};
@@ -26,7 +27,8 @@ pub fn write_text<const N: usize>(out: &mut [u8], first: usize, last: usize, tex
     requires from_one { 1 ≤ first }
     requires within { last ≤ length out.old }
     requires width { last + 1 ≡ first + N }
-    ensures { take last out.new ≡ take (first - 1) out.old ++ text.now }
+    ensures written { take last out.new ≡ take (first - 1) out.old ++ text.now }
+    ensures text { IsText N text.now }
 {
     out[first - 1..last].copy_from_slice(text.as_bytes());
 }

@@ -1,4 +1,4 @@
-use Rattle.std.proofs.Common.{rules, arith, ap, refl}
+use Rattle.std.proofs.Common.{rules, arith}
 use Rattle.tl_layout.specs.FieldLaws.{number_read_in_range}
 use Rattle.tl_layout.proofs.field.read_number_or_none.Goals as goal
 

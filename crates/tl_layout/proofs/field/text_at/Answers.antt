@@ -1,4 +1,4 @@
-use Rattle.std.proofs.Common.{rules, arith}
+use Rattle.std.proofs.Common.{arith}
 use Rattle.tl_layout.specs.ColumnLaws.{columns_of_width}
 use Rattle.tl_layout.proofs.field.text_at.Goals as goal
 
