@@ -12,6 +12,12 @@ pub mod Numbers
 pub mod FieldReading
 pub mod FieldLaws
 pub mod PolygonSide
+pub mod Names
+pub mod Pairs
+pub mod AddressRanges
 pub mod Fields
+pub mod GroupLaws
+pub mod Type1
+pub mod Type1Laws
 pub mod TypeI
 pub mod TypeILaws
