@@ -1,5 +1,5 @@
 -- Number fields and pairs of coordinates in the columns of a line: what they spell, and what they are read as.
-use Rattle.std.specs.Prelude.{ℕ, zero, suc, ◌+◌, ◌<◌, ◌==◌, ◌⊎◌, List, ◌++◌, replicate, Option, Some, None, Result, Ok, Err, if◌then◌else◌, ℤ, pos, unsigned_abs}
+use Rattle.std.specs.Prelude.{ℕ, zero, suc, ◌+◌, ◌<◌, ◌==◌, ◌⊎◌, List, replicate, Option, Some, None, Result, Ok, Err, if◌then◌else◌, ℤ, pos, unsigned_abs}
 use Rattle.tl_layout.specs.Bytes.{columns}
 use Rattle.tl_layout.specs.Coordinates.{Coordinates}
 use Rattle.tl_layout.specs.NumberField.{IsNumberField, number_of}
@@ -95,11 +95,12 @@ demanded_point column (Some point) = Ok point
 unfoldable pub point_at : ℕ → List ℕ → Result Coordinates FieldFault
 point_at column line = point_or_none_at column line >>= demanded_point column
 
--- a longitude of a sign and nine digits, and a latitude of a sign and eight
-unfoldable pub point_text : Coordinates → List ℕ
-point_text point = coordinate_text 9 point.long ++ coordinate_text 8 point.lat
+-- the canonical text of a longitude: a sign and nine digits, or blanks where there is no point
+abbrev pub long_text : Option Coordinates → List ℕ
+long_text None = replicate 10 32
+long_text (Some point) = coordinate_text 9 point.long
 
--- a point, or 19 blanks
-unfoldable pub point_or_blanks_text : Option Coordinates → List ℕ
-point_or_blanks_text None = replicate 19 32
-point_or_blanks_text (Some point) = point_text point
+-- the canonical text of a latitude: a sign and eight digits, or blanks where there is no point
+abbrev pub lat_text : Option Coordinates → List ℕ
+lat_text None = replicate 9 32
+lat_text (Some point) = coordinate_text 8 point.lat

@@ -21,3 +21,13 @@ pub mod Type1
 pub mod Type1Laws
 pub mod TypeI
 pub mod TypeILaws
+pub mod Type5
+pub mod Type5Laws
+pub mod Type6
+pub mod Type6Laws
+pub mod Type7
+pub mod Type7Laws
+pub mod Type8
+pub mod Type8Laws
+pub mod TypeP
+pub mod TypePLaws
