@@ -11,6 +11,8 @@ pub mod Coordinates
 pub mod Numbers
 pub mod FieldReading
 pub mod FieldLaws
+pub mod Places
+pub mod PlaceLaws
 pub mod PolygonSide
 pub mod Names
 pub mod Pairs
