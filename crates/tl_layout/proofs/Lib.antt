@@ -1,2 +1,3 @@
 pub mod NumberLemmas
 pub mod Writes
+pub mod PlaceSteps

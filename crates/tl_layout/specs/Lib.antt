@@ -33,3 +33,7 @@ pub mod Type8
 pub mod Type8Laws
 pub mod TypeP
 pub mod TypePLaws
+pub mod Type2
+pub mod Type2Laws
+pub mod Type4
+pub mod Type4Laws

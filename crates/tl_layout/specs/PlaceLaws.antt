@@ -1,11 +1,17 @@
 -- Places: what is read is spelt so, what is spelt so is read, and the canonical text is a spelling.
-use Rattle.std.proofs.Common.{◌≡◌, ℕ, zero, suc, ◌+◌, ◌*◌, ◌<◌, ◌≤◌, List, [], ◌∷◌, ◌++◌, length, Bool, true, false, cond, Option, Some, None, Result, Ok, Err, refl, sym, ap, ◌∙◌, subst, arith, append_assoc, IsTrue, IfSome}
+use Rattle.std.proofs.Common.{◌≡◌, ℕ, zero, suc, ◌+◌, ◌*◌, ◌<◌, ◌≤◌, List, [], ◌∷◌, ◌++◌, length, Bool, true, false, cond, Option, Some, None, Result, Ok, Err, refl, sym, ap, ◌∙◌, subst, arith, append_assoc, IsTrue, IfSome, take, drop, ◌-◌, unwrap_or, inr, lit<, lit≤, pos}
 use Rattle.std.specs.List.{AllByRecursion}
-use Rattle.std.proofs.lemmas.List.{append-nil, length-append}
+use Rattle.std.proofs.lemmas.List.{append-nil, length-append, drop_at, take_at, length-take}
 use Rattle.std.proofs.lemmas.List.Elements.{All-append, All-nil}
-use Rattle.tl_layout.specs.Bytes.{IsText, AreAllowed, is_allowed}
-use Rattle.tl_layout.specs.FieldReading.{and_then}
-use Rattle.tl_layout.specs.FieldLaws.{reads, reads_on, ok_value}
+use Rattle.std.proofs.Math.Nat.{pow-le-pow_right}
+use Rattle.tl_layout.specs.Bytes.{IsText, AreAllowed, is_allowed, columns}
+use Rattle.tl_layout.specs.Numbers.{IsNumber, IsNumberOrNone}
+use Rattle.tl_layout.specs.Coordinates.{Coordinates, IsOnMap}
+use Rattle.tl_layout.specs.NumberTextLaws.{number_text_is_text, number_below}
+use Rattle.tl_layout.specs.CoordinateField.{IsCoordinateField, coordinate_text}
+use Rattle.tl_layout.specs.CoordinateLaws.{coordinate_text_is_text, coordinate_text_spells}
+use Rattle.tl_layout.specs.FieldReading.{and_then, SpellsPointPlace, SpellsNumberPlace, point_place_text, number_place_text}
+use Rattle.tl_layout.specs.FieldLaws.{reads, reads_on, ok_value, point_again, number_or_none_again}
 use Rattle.tl_layout.specs.Places.{SpellsPlaces, gap, at_place, places_reading, places_text}
 use Rattle.tl_layout.specs.declared.fault.FieldFault.{FieldFault}
 
@@ -105,3 +111,66 @@ places_again Spells text Good width fits again before (suc count) column (x ∷ 
     let len = length-append before (text (Some x)) in
     let wide = (fits (Some x)).len in
     (subst P (sym e) (subst Q (sym c) (again before (Some x) (places_text text count xs) g.0)), places_again Spells text Good width fits again (before ++ text (Some x)) count (column + width) xs line (omega arith) (e ∙ sym (append_assoc before (text (Some x)) (places_text text count xs))) (omega arith) g.1)
+
+-- columns hold the text that stands behind as many bytes as there are columns before
+pub columns_behind : (before text after : List ℕ) (first last : ℕ) → first ≡ length before + 1 → last ≡ length before + length text → columns first last (before ++ (text ++ after)) ≡ text
+columns_behind before text after first last f l =
+    let skip : first - 1 ≡ length before = omega arith in
+    let span : last - length before ≡ length text = omega arith in
+    rw (skip, span) (ap (take (length text)) (drop_at before (text ++ after) (length before) refl) ∙ take_at text after (length text) refl)
+
+-- a longitude and a latitude side by side
+two_parts : (before long lat after : List ℕ) → length long ≡ 10 → length lat ≡ 9 → (columns (length before + 1) (length before + 1 + 9) (before ++ ((long ++ lat) ++ after)) ≡ long) × (columns (length before + 1 + 10) (length before + 1 + 18) (before ++ ((long ++ lat) ++ after)) ≡ lat)
+two_parts before long lat after l m =
+    let joined = length-append before long in
+    let left = ap (λ (t : List ℕ). before ++ t) (append_assoc long lat after) in
+    let right = sym (append_assoc before long (lat ++ after)) in (
+      ap (columns (length before + 1) (length before + 1 + 9)) left ∙ columns_behind before long (lat ++ after) (length before + 1) (length before + 1 + 9) refl (omega arith),
+      ap (columns (length before + 1 + 10) (length before + 1 + 18)) (left ∙ right) ∙ columns_behind (before ++ long) lat after (length before + 1 + 10) (length before + 1 + 18) (omega arith) (omega arith),
+    )
+
+pair_of_texts : (m n : ℕ) (a b : List ℕ) → IsText m a → IsText n b → IsText (m + n) (a ++ b)
+unfolding AreAllowed
+pair_of_texts m n a b s t =
+    let l = s.len in
+    let k = t.len in
+    record { len = length-append a b ∙ omega arith; allowed = All-append (λ b. IsTrue (is_allowed b)) a b s.allowed t.allowed }
+
+number_good : (place : Option ℕ) → IfSome place (IsNumber 8) → IsNumberOrNone 8 place
+number_good None g = tt
+number_good (Some n) g = g
+
+-- the text of a place for a point spells it
+pub point_place_again : IsSpeltAnywhere SpellsPointPlace point_place_text IsOnMap
+point_place_again before None after g =
+    let long = coordinate_text 9 (pos 0) in
+    let lat = coordinate_text 8 (pos 0) in
+    let long_is = two_parts before long lat after (coordinate_text_is_text 9 (pos 0)).len (coordinate_text_is_text 8 (pos 0)).len in
+    let P : List ℕ → Type 0 = λ f. IsCoordinateField 999999999 f (pos 0) in
+    let Q : List ℕ → Type 0 = λ f. IsCoordinateField 99999999 f (pos 0) in
+    inr (subst P (sym long_is.0) (coordinate_text_spells 9 999999999 (pos 0) (lit< tt) (lit< tt) (lit≤ tt)), subst Q (sym long_is.1) (coordinate_text_spells 8 99999999 (pos 0) (lit< tt) (lit< tt) (lit≤ tt)))
+point_place_again before (Some point) after g =
+    let parts = two_parts before (coordinate_text 9 point.long) (coordinate_text 8 point.lat) after (coordinate_text_is_text 9 point.long).len (coordinate_text_is_text 8 point.lat).len in
+    point_again point _ _ parts.0 parts.1 g
+
+-- the text of a place for a number spells it
+pub number_place_again : IsSpeltAnywhere SpellsNumberPlace number_place_text (IsNumber 8)
+number_place_again before place after g =
+    let text = number_text_is_text 8 (unwrap_or place 0) in
+    number_or_none_again 8 place _ (columns_behind before (number_place_text place) after (length before + 1) (length before + 1 + 7) refl (let l = text.len in omega arith)) (number_good place g)
+
+pub point_place_is_text : (place : Option Coordinates) → IsText 19 (point_place_text place)
+point_place_is_text None = pair_of_texts 10 9 _ _ (coordinate_text_is_text 9 (pos 0)) (coordinate_text_is_text 8 (pos 0))
+point_place_is_text (Some point) = pair_of_texts 10 9 _ _ (coordinate_text_is_text 9 point.long) (coordinate_text_is_text 8 point.lat)
+
+pub number_place_is_text : (place : Option ℕ) → IsText 8 (number_place_text place)
+number_place_is_text place = number_text_is_text 8 (unwrap_or place 0)
+
+-- a number in eight columns has eight digits at most
+pub number_place_fits : (line : List ℕ) (column n : ℕ) → SpellsNumberPlace line column (Some n) → IsNumber 8 n
+number_place_fits line column n s =
+    let below = number_below (columns column (column + 7) line) n s.0 in
+    let len = length-take (column + 7 - (column - 1)) (drop (column - 1) line) in
+    let short : length (columns column (column + 7) line) ≤ 8 = omega arith in
+    let most = pow-le-pow_right {n = 10} (lit< tt) short in
+    (s.1, omega arith)
