@@ -1,7 +1,7 @@
 -- Places: what is read is spelt so, what is spelt so is read, and the canonical text is a spelling.
-use Rattle.std.proofs.Common.{◌≡◌, ℕ, zero, suc, ◌+◌, ◌*◌, ◌<◌, ◌≤◌, List, [], ◌∷◌, ◌++◌, length, Bool, true, false, cond, Option, Some, None, Result, Ok, Err, refl, sym, ap, ◌∙◌, subst, arith, append_assoc, IsTrue, IfSome, take, drop, ◌-◌, unwrap_or, inr, lit<, lit≤, pos}
+use Rattle.std.proofs.Common.{◌≡◌, ℕ, zero, suc, ◌+◌, ◌*◌, ◌≤◌, List, [], ◌∷◌, ◌++◌, length, Bool, true, false, cond, Option, Some, None, Result, Ok, Err, refl, sym, ap, ◌∙◌, subst, arith, append_assoc, IsTrue, IfSome, take, drop, ◌-◌, unwrap_or, inr, lit<, lit≤, pos}
 use Rattle.std.specs.List.{AllByRecursion}
-use Rattle.std.proofs.lemmas.List.{append-nil, length-append, drop_at, take_at, length-take}
+use Rattle.std.proofs.lemmas.List.{length-append, drop_at, take_at, length-take}
 use Rattle.std.proofs.lemmas.List.Elements.{All-append, All-nil}
 use Rattle.std.proofs.Math.Nat.{pow-le-pow_right}
 use Rattle.tl_layout.specs.Bytes.{IsText, AreAllowed, is_allowed, columns}

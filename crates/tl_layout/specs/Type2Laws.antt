@@ -1,6 +1,6 @@
 -- Record type 2: what is read is spelt so, what is spelt so is read, and the canonical spelling is a spelling.
-use Rattle.std.proofs.Common.{◌≡◌, ℕ, ◌+◌, List, [], ◌∷◌, ◌++◌, length, false, Option, Result, Ok, codes, refl, ap, sym, subst, arith, lit<, lit≤, ◌∙◌}
-use Rattle.tl_layout.specs.Bytes.{IsText, IsLine, columns}
+use Rattle.std.proofs.Common.{◌≡◌, ℕ, ◌+◌, List, [], ◌∷◌, false, Ok, codes, refl, ap, sym, subst, lit<, lit≤}
+use Rattle.tl_layout.specs.Bytes.{IsText, IsLine}
 use Rattle.tl_layout.specs.ByteLaws.{text_2006, text_2}
 use Rattle.tl_layout.specs.Coordinates.{Coordinates, IsOnMap}
 use Rattle.tl_layout.specs.Fields.{Fields2}
@@ -8,7 +8,7 @@ use Rattle.tl_layout.specs.NumberField.{number_text}
 use Rattle.tl_layout.specs.NumberTextLaws.{number_text_is_text}
 use Rattle.tl_layout.specs.FieldReading.{SpellsPointPlace, number_at, point_or_none_at, point_place_text}
 use Rattle.tl_layout.specs.FieldLaws.{reads, reads_on, ok_value, number_at_found, number_at_only, number_fits, number_again, point_or_none_at_found, point_or_none_at_only, point_on_map}
-use Rattle.tl_layout.specs.Places.{places_reading, places_text}
+use Rattle.tl_layout.specs.Places.{places_reading}
 use Rattle.tl_layout.specs.PlaceLaws.{places_found, places_only, places_len, places_each, places_text_is_text, places_again, point_place_again, point_place_is_text}
 use Rattle.tl_layout.specs.Columns.{joined, FitColumns}
 use Rattle.tl_layout.specs.ColumnLaws.{column, columns_of_text, length-joined, joined_allowed}

@@ -1,6 +1,7 @@
 -- Record type 4: what is read is spelt so, what is spelt so is read, and the canonical spelling is a spelling.
-use Rattle.std.proofs.Common.{◌≡◌, ℕ, ◌+◌, List, [], ◌∷◌, ◌++◌, length, false, Option, Result, Ok, codes, refl, ap, sym, subst, arith, lit<, lit≤, ◌∙◌}
-use Rattle.tl_layout.specs.Bytes.{IsText, IsLine, columns}
+use Rattle.std.proofs.Common.{◌≡◌, ℕ, ◌+◌, List, [], ◌∷◌, false, Ok, codes, refl, ap, sym, subst, lit<, lit≤}
+use Rattle.std.specs.List.{AllByRecursion}
+use Rattle.tl_layout.specs.Bytes.{IsText, IsLine}
 use Rattle.tl_layout.specs.ByteLaws.{text_2006, text_4}
 use Rattle.tl_layout.specs.Numbers.{IsNumber}
 use Rattle.tl_layout.specs.Fields.{Fields4}
@@ -8,7 +9,7 @@ use Rattle.tl_layout.specs.NumberField.{number_text}
 use Rattle.tl_layout.specs.NumberTextLaws.{number_text_is_text}
 use Rattle.tl_layout.specs.FieldReading.{SpellsNumberPlace, number_at, number_or_none_at, number_place_text}
 use Rattle.tl_layout.specs.FieldLaws.{reads, reads_on, ok_value, number_at_found, number_at_only, number_fits, number_again, number_or_none_at_found, number_or_none_at_only}
-use Rattle.tl_layout.specs.Places.{places_reading, places_text}
+use Rattle.tl_layout.specs.Places.{places_reading}
 use Rattle.tl_layout.specs.PlaceLaws.{places_found, places_only, places_len, places_each, places_text_is_text, places_again, number_place_again, number_place_is_text, number_place_fits}
 use Rattle.tl_layout.specs.Columns.{joined, FitColumns}
 use Rattle.tl_layout.specs.ColumnLaws.{column, columns_of_text, length-joined, joined_allowed}
@@ -74,3 +75,8 @@ spelling_spells r f =
 
 pub type_4_reads_spelling : (r : Fields4) → FitsType4 r → type_4_reading (type_4_spelling r) ≡ Ok r
 type_4_reads_spelling r f = type_4_spelled_is_read (type_4_spelling r) r (type_4_spelling_is_line r f) (spelling_spells r f)
+
+-- FEATs that are read are in range
+pub feats_in_range : (line : List ℕ) (feats : List ℕ) → places_reading (λ column. number_or_none_at column (column + 7) line) 8 false 5 19 ≡ Ok feats → AllByRecursion (IsNumber 8) feats
+feats_in_range line feats was =
+    places_each (SpellsNumberPlace line) (IsNumber 8) (number_place_fits line) 8 5 19 feats (places_found (λ column. number_or_none_at column (column + 7) line) (SpellsNumberPlace line) (λ column place. number_or_none_at_found column (column + 7) line place) 8 false 5 19 feats was).1

@@ -1,6 +1,5 @@
 -- Each place was read as the reading of all places says.
-use Rattle.std.proofs.Common.{◌≡◌, ◌≤◌, ◌+◌, ◌*◌, ◌-◌, ℕ, suc, List, [], ◌∷◌, ◌++◌, length, Bool, true, false, Result, Ok, Err, Some, None, sym, refl, ◌∙◌, ap, subst, arith}
-use Rattle.std.proofs.lemmas.List.{length_push}
+use Rattle.std.proofs.Common.{◌≡◌, ◌+◌, ◌*◌, ◌-◌, ℕ, suc, length, Bool, true, false, Ok, Err, sym, ◌∙◌, ap, subst, arith}
 use Rattle.tl_layout.specs.FieldReading.{point_or_none_at}
 use Rattle.tl_layout.specs.Places.{places_reading}
 use Rattle.tl_layout.proofs.PlaceSteps.{with_front, after_none, after_some, at_gap, at_fault, at_end, at_start}
