@@ -39,3 +39,4 @@ pub mod Type4
 pub mod Type4Laws
 pub mod RecordText
 pub mod RecordLaws
+pub mod Turned

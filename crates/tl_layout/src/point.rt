@@ -6,8 +6,8 @@ ghost use Rattle.tl_layout.specs.Coordinates.{Coordinates, IsOnMap};
 use std::marker::Model;
 
 /// A point of the map, in millionths of a degree: a longitude of magnitude at most 999,999,999 and a latitude of
-/// magnitude at most 99,999,999, not both 0.
-#[derive(Clone, Copy, Debug, PartialEq, Eq)]
+/// magnitude at most 99,999,999, not both 0. Points are ordered by longitude, then by latitude, as numbers.
+#[derive(Clone, Copy, Debug, PartialEq, Eq, PartialOrd, Ord)]
 pub struct Point {
     long: i32,
     lat: i32,

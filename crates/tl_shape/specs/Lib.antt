@@ -1,0 +1,3 @@
+pub mod PointOrder
+pub mod Chain
+pub mod Turned

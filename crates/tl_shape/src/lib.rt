@@ -1,0 +1,8 @@
+//! Point lists, their order, and chains with their turn.
+#![tactic(auto)]
+
+mod chain;
+mod shape;
+
+pub use chain::{Chain, Surroundings};
+pub use shape::Shape;
