@@ -30,7 +30,12 @@ impl Model for Shape {
 
 impl Shape {
     /// The shape from `start` by the shape points `inner` to `end`.
-    pub fn new(alloc: Global, start: Point, inner: &[Point], end: Point) -> Result<Shape, AllocError>
+    pub fn new(
+        alloc: Global,
+        start: Point,
+        inner: &[Point],
+        end: Point,
+    ) -> Result<Shape, AllocError>
         ensures { IfOk result (λ shape. shape ≡ (start ∷ inner.now) ++ end ∷ []) }
     {
         let mut points = Vec::new(alloc);
