@@ -25,7 +25,7 @@ impl FeatureName {
     ghost use Rattle.tl_layout.specs.Names.{FitsName, name_at, name_texts};
 
     /// The name that begins in this column of a line.
-    pub fn at(line: &[u8], first: usize) -> FeatureName
+    pub(crate) fn at(line: &[u8], first: usize) -> FeatureName
         requires allowed { AreAllowed line.now }
         requires from_one { 1 ≤ first }
         requires within { (first + 37 ≤ length line.now) × (first ≤ 191) }
@@ -40,7 +40,7 @@ impl FeatureName {
     }
 
     /// Writes the name from this column on.
-    pub fn put(&self, out: &mut [u8], first: usize)
+    pub(crate) fn put(&self, out: &mut [u8], first: usize)
         requires from_one { 1 ≤ first }
         requires within { (first + 37 ≤ length out.old) × (first ≤ 191) }
         ensures written { take (first + 37) out.new ≡ joined (take (first - 1) out.old) (name_texts self.now) }

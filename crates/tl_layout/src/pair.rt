@@ -19,7 +19,7 @@ impl<const N: usize> LeftRight<N> {
     ghost use Rattle.tl_layout.specs.Pairs.{FitsPair, pair_at, pair_texts};
 
     /// The pair that begins in this column of a line.
-    pub fn at(line: &[u8], first: usize) -> LeftRight<N>
+    pub(crate) fn at(line: &[u8], first: usize) -> LeftRight<N>
         requires allowed { AreAllowed line.now }
         requires from_one { 1 ≤ first }
         requires within { (first + 2 * N ≤ length line.now + 1) × (first + 2 * N ≤ 229) }
@@ -32,7 +32,7 @@ impl<const N: usize> LeftRight<N> {
     }
 
     /// Writes the pair from this column on.
-    pub fn put(&self, out: &mut [u8], first: usize)
+    pub(crate) fn put(&self, out: &mut [u8], first: usize)
         requires from_one { 1 ≤ first }
         requires within { (first + 2 * N ≤ length out.old + 1) × (first + 2 * N ≤ 229) }
         ensures written { take (first + 2 * N - 1) out.new ≡ joined (take (first - 1) out.old) (pair_texts N self.now) }

@@ -51,6 +51,10 @@ impl Point {
 
 /// The point at longitude 0 and one millionth of a degree north: it only fills arrays, and stands for no place of a map.
 impl Default for Point {
+    ghost use Rattle.std.specs.Prelude.{◌≡◌, pos};
+
+    ghost is_default = { λ p. p ≡ record { long = pos 0; lat = pos 1 } };
+
     fn default() -> Point {
         Point::new(0, 1)
     }

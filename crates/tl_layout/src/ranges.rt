@@ -36,7 +36,7 @@ impl Ranges {
     ghost use Rattle.tl_layout.specs.AddressRanges.{FitsRanges, ranges_at, ranges_texts};
 
     /// The ranges that begin in this column of a line.
-    pub fn at(line: &[u8], first: usize) -> Ranges
+    pub(crate) fn at(line: &[u8], first: usize) -> Ranges
         requires allowed { AreAllowed line.now }
         requires from_one { 1 ≤ first }
         requires within { (first + 57 ≤ length line.now) × (first ≤ 171) }
@@ -56,7 +56,7 @@ impl Ranges {
     }
 
     /// Writes the ranges from this column on.
-    pub fn put(&self, out: &mut [u8], first: usize)
+    pub(crate) fn put(&self, out: &mut [u8], first: usize)
         requires from_one { 1 ≤ first }
         requires within { (first + 57 ≤ length out.old) × (first ≤ 171) }
         ensures written { take (first + 57) out.new ≡ joined (take (first - 1) out.old) (ranges_texts self.now) }
