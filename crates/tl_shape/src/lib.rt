@@ -3,6 +3,8 @@
 
 mod chain;
 mod shape;
+#[cfg(test)]
+mod tests;
 
 pub use chain::{Chain, Surroundings};
 pub use shape::Shape;
