@@ -1,1 +1,6 @@
 pub mod Reading
+pub mod LineLemmas
+pub mod Settled
+pub mod Adding
+pub mod Steps
+pub mod Views

@@ -1,5 +1,5 @@
 -- The lines of a part: the pieces that LF ends, and what stands after the last LF.
-use Rattle.std.specs.Prelude.{ℕ, List, [], ◌∷◌, Bool, ◌==◌, if◌then◌else◌, All, ◌≡◌, false}
+use Rattle.std.specs.Prelude.{◌≡◌, ℕ, ◌-◌, List, [], ◌∷◌, length, take, slice_index, Bool, false, ◌==◌, if◌then◌else◌, All}
 use Rattle.std.specs.List.{slice_split}
 
 -- the byte that ends a line, LF
@@ -12,9 +12,7 @@ IsWithoutLineFeed bytes = All (λ b. is_line_feed b ≡ false) bytes
 
 -- the bytes without one CR at their very end
 unfoldable pub without_return : List ℕ → List ℕ
-without_return [] = []
-without_return (b ∷ []) = if b == 13 then [] else b ∷ []
-without_return (b ∷ c ∷ bytes) = b ∷ without_return (c ∷ bytes)
+without_return bytes = if slice_index bytes (length bytes - 1) == 13 then take (length bytes - 1) bytes else bytes
 
 -- what stands after the last LF is a line, unless it is empty
 unfoldable pub last_line : List ℕ → List (List ℕ)

@@ -65,10 +65,14 @@ abbrev pub ◌>>=◌ : {A B : Type 0} → Result A LoadFault → (A → Result B
 (Ok x) >>= f = f x
 (Err e) >>= f = Err e
 
+-- the records with one more, or the fault that there are limit of its type already
+abbrev pub with_record : {R : Type 0} → Judge R → ℕ → List R → R → Result (List R) LoadFault
+with_record judge limit records r =
+    if nat_le limit (count_of judge (judge.rtype r) records) then Err (faults.TooManyRecords (judge.rtype r)) else Ok (records ++ r ∷ [])
+
 -- the records after a line that was judged so, or its fault
 abbrev pub after_verdict : {R : Type 0} → Judge R → ℕ → List R → PlacedLine → Result R LineFault → Result (List R) LoadFault
-after_verdict judge limit records line (Ok r) =
-    if nat_le limit (count_of judge (judge.rtype r) records) then Err (faults.TooManyRecords (judge.rtype r)) else Ok (records ++ r ∷ [])
+after_verdict judge limit records line (Ok r) = with_record judge limit records r
 after_verdict judge limit records line (Err f) = Err (fault_at line.part line.line f)
 
 -- the records after one more line, or its fault

@@ -2,5 +2,12 @@
 #![tactic(auto)]
 
 mod fault;
+mod judge;
+mod line;
+mod loader;
+mod source;
 
 pub use fault::{LineFault, LoadFault};
+pub use judge::record_type;
+pub use loader::Loader;
+pub use source::{Counted, Source};

@@ -1,0 +1,11 @@
+use Rattle.std.proofs.Common.{◌≡◌, ℕ, List, ◌++◌, sym, ap, ◌∙◌}
+use Rattle.tl_load.specs.Loaded.{Loaded}
+use Rattle.tl_load.proofs.Steps.{holds_more}
+use Rattle.tl_load.proofs.loader.Loader.hold.Goals as goal
+
+pub returns-in-Ok-clause-takes : goal.returns-in-Ok-clause-takes
+returns-in-Ok-clause-takes c =
+    let view = c.self.view_is in
+    holds_more _ _ c.args.self.now _ c.args.bytes.now
+      (record { records = ap (λ (l : Loaded). l.records) view; parts = ap (λ (l : Loaded). l.parts) view; judged = ap (λ (l : Loaded). l.judged) view; limit = ap (λ (l : Loaded). l.limit) view })
+      (c.in-Ok.ensures.ok ∙ ap (λ (l : List ℕ). l ++ c.args.bytes.now) (ap (λ (l : Loaded). l.unfinished) view))

@@ -1,0 +1,64 @@
+//! Where bytes come from.
+
+ghost use Rattle.std.specs.Prelude.{◌≡◌, ◌≢◌, ◌≤◌, ◌<◌, ◌+◌, ℕ, List, Option, Some, length, IfOk, is_ok, if◌then◌else◌};
+ghost use Rattle.std.specs.Io.KnownBytes.{ReadConsumes};
+
+use std::io::Read;
+use tl_layout::DeviceFault;
+
+/// A device that bytes are read from, and that may fail.
+pub trait Source {
+    /// How many reads have failed.
+    ghost failed: { Self → ℕ };
+
+    /// The bytes that reads will give from here on, where they are known.
+    ghost remaining: { Self → Option (List ℕ) };
+
+    /// How many reads have failed.
+    fn failures(&self) -> u64
+        ensures { result ≡ failed self.now };
+
+    /// Reads into the front of the buffer, and answers how many bytes: 0 only at the end, or if the buffer is empty.
+    fn read(&mut self, buf: &mut [u8]) -> Result<usize, DeviceFault>
+        requires { failed self.old < u64.MAX }
+        ensures failures { failed self.new ≡ (if is_ok result then failed self.old else failed self.old + 1) }
+        ensures bound { IfOk result (λ n. n ≤ length buf.new) }
+        ensures bytes { ReadConsumes (remaining self.old) (remaining self.new) result buf.new };
+}
+
+/// A source over a reader. Every error of the reader is a failure, and none is tried again.
+#[derive(Drop)]
+pub struct Counted<T> {
+    inner: T,
+    failures: u64,
+}
+
+impl<T: Read> Counted<T> {
+    /// A source that has not failed yet.
+    pub fn new(inner: T) -> Self
+        ensures failures { ⟦<Counted<T> as Source>⟧.failed result ≡ 0 }
+        ensures bytes { ⟦<Counted<T> as Source>⟧.remaining result ≡ T.remaining inner }
+    {
+        Counted { inner, failures: 0 }
+    }
+}
+
+impl<T: Read> Source for Counted<T> {
+    ghost failed = { λ s. s.failures };
+
+    ghost remaining = { λ s. T.remaining s.inner };
+
+    fn failures(&self) -> u64 {
+        self.failures
+    }
+
+    fn read(&mut self, buf: &mut [u8]) -> Result<usize, DeviceFault> {
+        match self.inner.read(buf) {
+            Ok(count) => Ok(count),
+            Err(_) => {
+                self.failures += 1;
+                Err(DeviceFault)
+            }
+        }
+    }
+}
