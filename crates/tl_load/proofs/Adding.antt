@@ -1,9 +1,11 @@
 -- A record is added and counted.
-use Rattle.std.proofs.Common.{◌≡◌, ℕ, suc, ◌+◌, ◌-◌, ◌<◌, ◌≤◌, Bool, true, false, cond, List, [], ◌∷◌, ◌++◌, length, get_or, set, replicate, Result, Ok, Err, refl, sym, ap, subst, ◌∙◌, arith, eqb, leb, inl, inr, ◌⊎◌}
+use Rattle.std.proofs.Common.{◌≡◌, ℕ, suc, ◌+◌, ◌-◌, ◌<◌, ◌≤◌, Bool, true, false, cond, List, [], ◌∷◌, ◌++◌, length, get_or, set, replicate, Result, Ok, Err, refl, sym, ap, subst, ◌∙◌, arith, lit<, eqb, leb, inl, inr, ◌⊎◌}
 use Rattle.std.proofs.lemmas.Bool.{cases_eq, eq-eqb, ne_eqb, le-leb, lt-leb}
 use Rattle.std.proofs.lemmas.List.{length-append, length-set, get_or-set_same, get_or-set_other, get_or-replicate, length-replicate}
 use Rattle.std.proofs.lemmas.List.Elements.{All-nil}
+use Rattle.std.proofs.lemmas.List.Sums.{sum_by-append}
 use Rattle.tl_layout.specs.declared.record_type.Record.{Record}
+use Rattle.tl_layout.specs.declared.record_type.Record.TheVariants.{One, Two, Four, Five, Six, Seven, Eight, I, P}
 use Rattle.tl_load.specs.declared.fault.LoadFault.{LoadFault}
 use Rattle.tl_load.specs.declared.fault.LoadFault.TheVariants as faults
 use Rattle.tl_load.specs.Lines.{is_line_feed}
@@ -79,3 +81,39 @@ empty_loader limit h = record {
     short = omega arith;
     begun = λ lt. absurd (omega arith);
   }
+
+-- ---- how many records there may be
+
+-- the records of all nine types
+total : List Record → ℕ
+total rs = count_of tiger 49 rs + count_of tiger 50 rs + count_of tiger 52 rs + count_of tiger 53 rs + count_of tiger 54 rs + count_of tiger 55 rs + count_of tiger 56 rs + count_of tiger 73 rs + count_of tiger 80 rs
+
+total_one : (r : Record) → total (r ∷ []) ≡ 1
+unfolding total tiger type_of
+total_one (One x) = refl
+total_one (Two x) = refl
+total_one (Four x) = refl
+total_one (Five x) = refl
+total_one (Six x) = refl
+total_one (Seven x) = refl
+total_one (Eight x) = refl
+total_one (I x) = refl
+total_one (P x) = refl
+
+count_cons : (t : ℕ) (r : Record) (rs : List Record) → count_of tiger t (r ∷ rs) ≡ count_of tiger t (r ∷ []) + count_of tiger t rs
+count_cons t r rs = sum_by-append (λ s. cond (eqb (tiger.rtype s) t) 1 0) (r ∷ []) rs
+
+total_cons : (r : Record) (rs : List Record) → total (r ∷ rs) ≡ total (r ∷ []) + total rs
+unfolding total
+total_cons r rs = omega (arith, count_cons 49 r rs, count_cons 50 r rs, count_cons 52 r rs, count_cons 53 r rs, count_cons 54 r rs, count_cons 55 r rs, count_cons 56 r rs, count_cons 73 r rs, count_cons 80 r rs)
+
+total_is : (rs : List Record) → length rs ≡ total rs
+unfolding total
+total_is [] = refl
+total_is (r ∷ rs) = omega (arith, total_is rs, total_cons r rs, total_one r)
+
+pub most_records : (records : List Record) (counts : List ℕ) (unfinished : List ℕ) (parts judged limit : ℕ) → IsLoader records counts unfinished parts judged limit → length records ≤ 90000000
+unfolding total
+most_records records counts unfinished parts judged limit l =
+    let each : (t : ℕ) → t < 128 → count_of tiger t records ≤ 10000000 = λ t h. let a = l.counts_are t h in let b = l.within t h in let c = l.limit_low in omega arith in
+    omega (arith, total_is records, each 49 (lit< tt), each 50 (lit< tt), each 52 (lit< tt), each 53 (lit< tt), each 54 (lit< tt), each 55 (lit< tt), each 56 (lit< tt), each 73 (lit< tt), each 80 (lit< tt))

@@ -4,3 +4,5 @@ pub mod Settled
 pub mod Adding
 pub mod Steps
 pub mod Views
+pub mod Histories
+pub mod ReadSteps

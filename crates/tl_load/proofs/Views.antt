@@ -41,3 +41,7 @@ cut_at bytes n lt h =
 -- what `&bytes[1..]` is
 pub rest_of : (bytes : List ℕ) → take (length bytes - 1) (drop 1 bytes) ≡ drop 1 bytes
 rest_of bytes = take_rest bytes 1
+
+pub none_is : {A : Type 0} (o : Option A) → ((x : A) → o ≡ Some x → ⊥) → o ≡ None
+none_is None h = refl
+none_is (Some x) h = absurd (h x refl)

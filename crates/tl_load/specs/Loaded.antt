@@ -1,5 +1,5 @@
 -- A loader as contracts see it, and what it was fed.
-use Rattle.std.specs.Prelude.{◌≡◌, ℕ, ◌+◌, ◌-◌, ◌*◌, ◌^◌, ◌<◌, ◌≤◌, slice_index, List, [], ◌∷◌, ◌++◌, length, Option, Some, MatchOption, Result, Ok, Err, MatchResult}
+use Rattle.std.specs.Prelude.{◌≡◌, ℕ, ◌+◌, ◌-◌, ◌*◌, ◌^◌, ◌<◌, ◌≤◌, slice_index, Bool, true, false, List, [], ◌∷◌, ◌++◌, length, Option, Some, MatchOption, Result, Ok, Err, MatchResult, ◌⊎◌}
 use Rattle.tl_layout.specs.declared.record_type.Record.{Record}
 use Rattle.tl_load.specs.declared.fault.LoadFault.{LoadFault}
 use Rattle.tl_load.specs.declared.fault.LoadFault.TheVariants as faults
@@ -52,6 +52,10 @@ Takes before bytes result after = MatchResult result
     (λ _. (more : List ℕ) (later : List (List ℕ)) → to_come before (bytes ++ more) later ≡ to_come after more later)
     (λ f. IsOfLines f → (more : List ℕ) (later : List (List ℕ)) → to_come before (bytes ++ more) later ≡ Err f)
 
+-- the bytes were fed, and no fault came
+unfoldable pub Fed : Loaded → List ℕ → Loaded → Type 0
+Fed before taken after = (more : List ℕ) (later : List (List ℕ)) → to_come before (taken ++ more) later ≡ to_come after more later
+
 -- the line that is judged next, if it has these bytes
 abbrev pub next_place : Loaded → List ℕ → PlacedLine
 next_place l bytes = record { part = l.parts + 1; line = l.judged + 1; bytes = bytes }
@@ -100,6 +104,15 @@ with_fault (Err f) l = record l { fault = Some f }
 unfoldable pub Leaves : Loaded → List ℕ → Loaded → List ℕ → Type 0
 Leaves before bytes after rest = (more : List ℕ) (later : List (List ℕ)) → to_come before (bytes ++ more) later ≡ to_come after (rest ++ more) later
 
+-- a step was stopped by the fault of a device
+abbrev pub is_device_fault : LoadFault → Bool
+is_device_fault faults.Device = true
+is_device_fault _ = false
+
+abbrev pub is_device : {T : Type 0} → Result T LoadFault → Bool
+is_device (Ok _) = false
+is_device (Err f) = is_device_fault f
+
 -- the fields of a loader fit one another
 pub record IsLoader (records : List Record) (counts : List ℕ) (unfinished : List ℕ) (parts judged limit : ℕ) : Type 0 where
   pub counts_len : length counts ≡ 128
@@ -114,3 +127,15 @@ pub record IsLoader (records : List Record) (counts : List ℕ) (unfinished : Li
 -- the most bytes that were fed, if each line that was judged had 230 with its end
 abbrev pub bytes_used : Loaded → ℕ
 bytes_used l = 230 * length l.records + length l.unfinished
+
+-- bytes went into the open part: it was read to its end and is closed now, or a fault came
+unfoldable pub Reads : {T : Type 0} → Loaded → List ℕ → Type 0 → Result T LoadFault → Loaded → Type 0
+Reads before taken at_end result after = MatchResult result
+    (λ _. at_end × ((more : List ℕ) (later : List (List ℕ)) → to_come before taken (more ∷ later) ≡ to_come after more later))
+    (λ f. IsOfLines f → (at_end × ((later : List (List ℕ)) → to_come before taken later ≡ Err f)) ⊎ ((more : List ℕ) (later : List (List ℕ)) → to_come before (taken ++ more) later ≡ Err f))
+
+-- the loader was fed the bytes into its open part, which was closed at their end, or in which a fault came
+abbrev pub FedPart : {T : Type 0} → Loaded → List ℕ → Type 0 → Result T LoadFault → Loaded → Type 0
+FedPart before taken at_end result after = (limit : ℕ) (closed : List (List ℕ)) (open_part : List ℕ) → WasFed limit before closed open_part → MatchResult result
+    (λ _. at_end × WasFed limit after (closed ++ (open_part ++ taken) ∷ []) [])
+    (λ _. (at_end × WasFed limit after (closed ++ (open_part ++ taken) ∷ []) []) ⊎ WasFed limit after closed (open_part ++ taken))

@@ -10,4 +10,4 @@ mod source;
 pub use fault::{LineFault, LoadFault};
 pub use judge::record_type;
 pub use loader::Loader;
-pub use source::{Counted, Source};
+pub use source::{Counted, SlowSource, Source};

@@ -1,13 +1,17 @@
 //! The loader: lines out of pieces of bytes, each judged when it ends.
 
-ghost use Rattle.std.specs.Prelude.{◌≡◌, ◌≢◌, ◌≤◌, ◌<◌, ◌+◌, ◌*◌, ℕ, List, [], ◌∷◌, ◌++◌, Option, Some, None, length, replicate, MatchResult, IfOk, IfErr, OnOk, OnErr, is_ok, if◌then◌else◌};
+ghost use Rattle.std.specs.Prelude.{◌≡◌, ◌≢◌, ◌≤◌, ◌<◌, ◌+◌, ◌*◌, ℕ, List, [], ◌∷◌, ◌++◌, Option, Some, None, length, replicate, IfSome, Err, MatchResult, IfOk, IfErr, OnOk, OnErr, is_ok, if◌then◌else◌};
 ghost use Rattle.std.specs.Result.{IsErr};
 ghost use Rattle.tl_load.specs.Lines.{IsWithoutLineFeed};
-ghost use Rattle.tl_load.specs.Loaded.{Takes, Ends, Closes, Judges, Adds, IsSamePart, IsNotDevice, IsOfLines, WasFed, to_come, bytes_used};
+ghost use Rattle.std.specs.Io.KnownBytes.{Consumes, IsAtEnd};
+ghost use Rattle.tl_load.specs.Choice.{tiger};
+ghost use Rattle.tl_load.specs.Outcome.{Accepts, FaultAt};
+ghost use Rattle.tl_load.specs.Loaded.{Takes, Ends, Closes, Reads, FedPart, Judges, Adds, IsSamePart, IsNotDevice, is_device, IsOfLines, IsFaultHowever, WasFed, with_fault, all_parts, bytes_used};
 
 use crate::fault::LoadFault;
 use crate::judge::{judge_line, record_type};
 use crate::line::without_carriage_return;
+use crate::source::Source;
 use arrayvec::ArrayVec;
 use memchr::memchr;
 use std::alloc::Global;
@@ -16,6 +20,9 @@ use tl_layout::Record;
 
 /// The most bytes of an unfinished line that are kept: a line of 228 bytes and a CR.
 const LINE_BYTES: usize = 229;
+
+/// The bytes of a read.
+const READ_BYTES: usize = 4096;
 
 /// The most records of one type.
 const MOST_RECORDS: u64 = 10_000_000;
@@ -138,6 +145,7 @@ impl Loader {
         ensures takes { Takes self.old bytes.now result self.new }
         ensures same_part { IsSamePart self.old self.new }
         ensures used { OnOk result (bytes_used self.new ≡ bytes_used self.old + length bytes.now) }
+        ensures most { OnOk result (bytes_used self.new ≤ 20700000229) }
         ensures no_device { IfErr result IsNotDevice }
     {
         match self.line.try_extend_from_slice(bytes) {
@@ -180,6 +188,7 @@ impl Loader {
         ensures takes { Takes self.old piece.now result self.new }
         ensures same_part { IsSamePart self.old self.new }
         ensures used { OnOk result (bytes_used self.old + length piece.now ≤ bytes_used self.new) }
+        ensures most { OnOk result (bytes_used self.new ≤ 20700000229) }
         ensures no_device { IfErr result IsNotDevice }
     {
         let mut rest = piece;
@@ -218,5 +227,129 @@ impl Loader {
         self.parts += 1;
         self.judged = 0;
         Ok(())
+    }
+
+    // Feeds what the source gives until it gives nothing, and closes the part.
+    fn read_to_end<R: Source>(&mut self, source: &mut R) -> Result<(), LoadFault>
+        requires parts { self.old.parts < u64.MAX }
+        requires failures { R.failed source.old < u64.MAX }
+        ensures reads { (taken : List ℕ) × Consumes (R.remaining source.old) (R.remaining source.new) taken × (length taken ≤ 20700004325)
+            × Reads self.old taken (IsAtEnd (R.remaining source.new)) result self.new }
+        ensures limit { self.new.limit ≡ self.old.limit }
+        ensures fault { self.new.fault ≡ self.old.fault }
+        ensures parts { self.new.parts ≡ (if is_ok result then self.old.parts + 1 else self.old.parts) }
+        ensures failures { R.failed source.new ≡ (if is_device result then R.failed source.old + 1 else R.failed source.old) }
+    {
+        let _ = &self.parts;
+        let mut buffer = [0; READ_BYTES];
+        loop {
+            let count = match source.read(&mut buffer) {
+                Ok(count) => count,
+                Err(_) => return Err(LoadFault::Device),
+            };
+            if count == 0 {
+                return self.close_part();
+            }
+            self.take_piece(&buffer[..count])?;
+        }
+    }
+
+    // Keeps the fault of a step: it stands from now on.
+    fn keep(&mut self, outcome: Result<(), LoadFault>) -> Result<(), LoadFault>
+        ensures same { result ≡ outcome }
+        ensures kept { self.new ≡ with_fault outcome self.old }
+    {
+        match outcome {
+            Ok(()) => Ok(()),
+            Err(fault) => {
+                self.fault = Some(fault);
+                Err(fault)
+            }
+        }
+    }
+
+    /// Takes a piece of the open part. A fault is the one of every set that goes on like this.
+    pub fn feed(&mut self, piece: &[u8]) -> Result<(), LoadFault>
+        requires { self.old.parts < u64.MAX }
+        // What was fed before is followed by the piece.
+        ensures fed { (limit : ℕ) (closed : List (List ℕ)) (open_part : List ℕ) → WasFed limit self.old closed open_part → WasFed limit self.new closed (open_part ++ piece.now) }
+        // A fault of the lines is the fault of the parts, however they go on.
+        ensures fault { (limit : ℕ) (closed : List (List ℕ)) (open_part : List ℕ) → WasFed limit self.old closed open_part
+            → IfErr result (λ f. IsOfLines f → IsFaultHowever limit closed (open_part ++ piece.now) f) }
+        ensures ok { OnOk result (self.new.fault ≡ None) }
+        ensures told { IfErr result (λ f. self.new.fault ≡ Some f) }
+        // After a fault nothing changes.
+        ensures stood { IfSome self.old.fault (λ f. (result ≡ Err f) × (self.new ≡ self.old)) }
+        ensures parts { self.new.parts ≡ self.old.parts }
+        ensures device { self.old.fault ≡ None → IfErr result IsNotDevice }
+    {
+        if let Some(fault) = self.fault {
+            return Err(fault);
+        }
+        let outcome = self.take_piece(piece);
+        self.keep(outcome)
+    }
+
+    /// Ends the open part.
+    pub fn end_part(&mut self) -> Result<(), LoadFault>
+        requires { self.old.parts < u64.MAX }
+        // The open part is closed, and nothing was fed since.
+        ensures fed { (limit : ℕ) (closed : List (List ℕ)) (open_part : List ℕ) → WasFed limit self.old closed open_part → WasFed limit self.new (closed ++ open_part ∷ []) [] }
+        // A fault of the lines is the fault of the closed parts, whatever follows.
+        ensures fault { (limit : ℕ) (closed : List (List ℕ)) (open_part : List ℕ) → WasFed limit self.old closed open_part
+            → IfErr result (λ f. IsOfLines f → IsFaultHowever limit (closed ++ open_part ∷ []) [] f) }
+        ensures ok { OnOk result (self.new.fault ≡ None) }
+        ensures told { IfErr result (λ f. self.new.fault ≡ Some f) }
+        // After a fault nothing changes.
+        ensures stood { IfSome self.old.fault (λ f. (result ≡ Err f) × (self.new ≡ self.old)) }
+        ensures parts { self.new.parts ≡ (if is_ok result then self.old.parts + 1 else self.old.parts) }
+        ensures device { self.old.fault ≡ None → IfErr result IsNotDevice }
+    {
+        if let Some(fault) = self.fault {
+            return Err(fault);
+        }
+        let outcome = self.close_part();
+        self.keep(outcome)
+    }
+
+    /// Reads a source to its end into the open part, and ends the part. The source is read by 4,096 bytes at most,
+    /// and no further than the read that brought a fault.
+    pub fn read_part<R: Source>(&mut self, source: &mut R) -> Result<(), LoadFault>
+        requires parts { self.old.parts < u64.MAX }
+        requires failures { R.failed source.old < u64.MAX }
+        // What the source gave went into the open part, and no endless source keeps the call from its return.
+        ensures fed { (taken : List ℕ) × Consumes (R.remaining source.old) (R.remaining source.new) taken × (length taken ≤ 20700004325)
+            × FedPart self.old taken (IsAtEnd (R.remaining source.new)) result self.new }
+        ensures ok { OnOk result (self.new.fault ≡ None) }
+        ensures told { IfErr result (λ f. self.new.fault ≡ Some f) }
+        // After a fault nothing changes, and nothing is read.
+        ensures stood { IfSome self.old.fault (λ f. (result ≡ Err f) × (self.new ≡ self.old) × (source.new ≡ source.old)) }
+        ensures parts { self.new.parts ≡ (if is_ok result then self.old.parts + 1 else self.old.parts) }
+        // The device is at fault exactly where the source failed in this call.
+        ensures device { self.old.fault ≡ None → R.failed source.new ≡ (if is_device result then R.failed source.old + 1 else R.failed source.old) }
+    {
+        if let Some(fault) = self.fault {
+            return Err(fault);
+        }
+        let outcome = self.read_to_end(source);
+        self.keep(outcome)
+    }
+
+    /// Ends the open part, if bytes were fed into it, and answers the records of all parts, in the order of their lines.
+    pub fn finish(mut self) -> Result<Vec<Record>, LoadFault>
+        // The parts spell these records, with at most limit of each type.
+        ensures loaded { (limit : ℕ) (closed : List (List ℕ)) (open_part : List ℕ) → WasFed limit self closed open_part
+            → IfOk result (λ records. Accepts tiger limit (all_parts closed open_part) records.items) }
+        // Or this fault is at them.
+        ensures fault { (limit : ℕ) (closed : List (List ℕ)) (open_part : List ℕ) → WasFed limit self closed open_part
+            → IfErr result (λ f. IsOfLines f → FaultAt tiger limit (all_parts closed open_part) f) }
+        ensures stood { IfSome self.fault (λ f. result ≡ Err f) }
+        ensures device { self.fault ≡ None → IfErr result IsNotDevice }
+    {
+        if let Some(fault) = self.fault {
+            return Err(fault);
+        }
+        self.end_last_line()?;
+        Ok(self.records)
     }
 }

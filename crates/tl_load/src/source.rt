@@ -62,3 +62,70 @@ impl<T: Read> Source for Counted<T> {
         }
     }
 }
+
+/// A source over lent bytes, for trying out what reads a source: it gives few bytes a read, and may fail.
+#[derive(Drop)]
+pub struct SlowSource<'a> {
+    bytes: &'a [u8],
+    most: usize,
+    reads_to_failure: Option<u64>,
+    failures: u64,
+    ghost gives: { 0 < most },
+}
+
+impl<'a> SlowSource<'a> {
+    /// A source that gives at most `most` bytes a read. For `failing` of `Some(k)` its k-th read fails, counted from 1, and no
+    /// other; for `None` none does.
+    pub fn new(bytes: &'a [u8], most: usize, failing: Option<u64>) -> Self
+        requires { 0 < most }
+        ensures failures { result.failures ≡ 0 }
+        ensures bytes { result.bytes.now ≡ bytes.now }
+        ensures most { result.most ≡ most }
+        ensures failing { result.reads_to_failure ≡ failing }
+    {
+        SlowSource {
+            bytes,
+            most,
+            reads_to_failure: failing,
+            failures: 0,
+        }
+    }
+}
+
+// Counts a read down, and says whether it is the one that fails.
+fn is_failing_read(reads_to_failure: &mut Option<u64>) -> bool {
+    match *reads_to_failure {
+        Some(1) => {
+            *reads_to_failure = None;
+            true
+        }
+        Some(reads) if reads > 1 => {
+            *reads_to_failure = Some(reads - 1);
+            false
+        }
+        _ => false,
+    }
+}
+
+impl Source for SlowSource<'_> {
+    ghost failed = { λ s. s.failures };
+
+    ghost remaining = { λ s. Some s.bytes.now };
+
+    fn failures(&self) -> u64 {
+        self.failures
+    }
+
+    fn read(&mut self, buf: &mut [u8]) -> Result<usize, DeviceFault> {
+        if is_failing_read(&mut self.reads_to_failure) {
+            self.failures += 1;
+            return Err(DeviceFault);
+        }
+        let count = self.most.min(buf.len()).min(self.bytes.len());
+        let (front, rest) = self.bytes.split_at(count);
+        let taken = &mut buf[..count];
+        taken.copy_from_slice(front);
+        self.bytes = rest;
+        Ok(count)
+    }
+}
