@@ -1,9 +1,12 @@
 //! The record layouts of TIGER/Line 2006: each record type as a value, read from a line and written canonically.
 #![tactic(auto)]
 
+mod coordinate;
 mod fault;
+mod field;
 mod layout;
 mod name;
+mod number;
 mod pair;
 mod point;
 mod ranges;
@@ -19,6 +22,7 @@ mod type7;
 mod type8;
 mod type_i;
 mod type_p;
+mod writing;
 
 pub use fault::{DeviceFault, FieldFault, FieldKind};
 pub use layout::Layout;
