@@ -6,3 +6,4 @@ pub mod Steps
 pub mod Views
 pub mod Histories
 pub mod ReadSteps
+pub mod Filling

@@ -1,9 +1,11 @@
 -- The choice of the layout by a line's first byte.
-use Rattle.std.specs.Prelude.{ℕ, List, Result, Ok, Err}
+use Rattle.std.specs.Prelude.{ℕ, List, [], ◌∷◌, ◌==◌, Result, Ok, Err, if◌then◌else◌}
+use Rattle.tl_layout.specs.TypeI.{type_i_reading}
 use Rattle.tl_layout.specs.declared.record_type.Record.{Record}
 use Rattle.tl_layout.specs.declared.record_type.Record.TheVariants.{One, Two, Four, Five, Six, Seven, Eight, I, P}
 use Rattle.tl_load.specs.declared.fault.LineFault.{LineFault}
 use Rattle.tl_load.specs.declared.fault.LineFault.TheVariants as line_faults
+use Rattle.tl_load.specs.LineOf.{judged_as}
 use Rattle.tl_load.specs.Verdicts.{Judge}
 
 -- the type of a record, the byte in column 1
@@ -18,9 +20,21 @@ type_of (Eight _) = 56
 type_of (I _) = 73
 type_of (P _) = 80
 
+-- the record of one layout, as a record of any type
+abbrev pub as_record : {R : Type 0} → (R → Record) → Result R LineFault → Result Record LineFault
+as_record wrap (Ok r) = Ok (wrap r)
+as_record wrap (Err fault) = Err fault
+
+-- what a line is judged as by its first byte, the record type
+unfoldable pub judged_by : ℕ → List ℕ → Result Record LineFault
+judged_by rtype line =
+    if rtype == 73 then as_record I (judged_as 127 type_i_reading line)
+    else Err line_faults.UnknownType
+
 -- what a line is judged as
 unfoldable pub judged : List ℕ → Result Record LineFault
-judged line = Err line_faults.UnknownType
+judged [] = Err line_faults.UnknownType
+judged (b ∷ bytes) = judged_by b (b ∷ bytes)
 
 -- the judge of TIGER/Line 2006
 unfoldable pub tiger : Judge Record

@@ -1,18 +1,70 @@
 //! What a line is judged as.
 
-ghost use Rattle.std.specs.Prelude.{◌≡◌, ◌<◌};
+ghost use Rattle.std.specs.Prelude.{◌≡◌, ◌≤◌, ◌<◌, [], ◌∷◌, take, length};
+ghost use Rattle.tl_layout.specs.Bytes.{IsLine};
+ghost use Rattle.tl_load.specs.LineOf.{filled, judged_as, judged_full};
 ghost use Rattle.tl_load.specs.Choice.{judged, type_of};
 
+use crate::bytes::first_bad;
 use crate::fault::LineFault;
-use tl_layout::Record;
+use tl_layout::{Layout, RecI, Record};
 
 /// The record of a line, or its fault. The line has neither LF nor the CR before it.
-#[tactic(auto, unfolding(crate::specs::Choice::judged))]
+#[tactic(auto, unfolding(crate::specs::Choice::judged, crate::specs::Choice::judged_by))]
 pub(crate) fn judge_line(line: &[u8]) -> Result<Record, LineFault>
     ensures { result ≡ judged line.now }
 {
-    let _ = line;
-    Err(LineFault::UnknownType)
+    match line {
+        [b'I', ..] => match judge_as::<RecI>(line) {
+            Ok(found) => Ok(Record::I(found)),
+            Err(fault) => Err(fault),
+        },
+        _ => Err(LineFault::UnknownType),
+    }
+}
+
+/// The record of a line that begins with the layout's type, or its fault. A short line is filled with blanks.
+#[tactic(auto, unfolding(crate::specs::LineOf::judged_as))]
+fn judge_as<L: Layout>(line: &[u8]) -> Result<L, LineFault>
+    requires { take 1 line.now ≡ L.RTYPE ∷ [] }
+    ensures { result ≡ judged_as L.LEN L.reading line.now }
+{
+    let len = line.len();
+    if len > L::LEN {
+        return Err(LineFault::LineTooLong);
+    }
+    if len == L::LEN {
+        return judge_full::<L>(line);
+    }
+    let filled = fill(line);
+    judge_full::<L>(&filled[..L::LEN])
+}
+
+/// The line, filled with blanks to the length of the longest one.
+fn fill(line: &[u8]) -> [u8; 228]
+    requires { length line.now ≤ 228 }
+    ensures { result ≡ filled 228 line.now }
+{
+    let mut filled = [b' '; 228];
+    let front = &mut filled[..line.len()];
+    front.copy_from_slice(line);
+    filled
+}
+
+/// The record of a full line that begins with the layout's type, or its fault.
+#[tactic(auto, unfolding(crate::specs::LineOf::judged_full))]
+fn judge_full<L: Layout>(line: &[u8]) -> Result<L, LineFault>
+    requires begins { take 1 line.now ≡ L.RTYPE ∷ [] }
+    requires full { length line.now ≡ L.LEN }
+    ensures { result ≡ judged_full L.reading line.now }
+{
+    if let Some(place) = first_bad(line) {
+        return Err(LineFault::BadByte((place + 1) as u16));
+    }
+    match L::take(line) {
+        Ok(found) => Ok(found),
+        Err(fault) => Err(LineFault::Field(fault)),
+    }
 }
 
 /// The type of a record, the byte in column 1 of its line.

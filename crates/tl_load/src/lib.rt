@@ -1,12 +1,14 @@
 //! Loads TIGER/Line 2006 records: lines out of pieces of bytes, each judged by its layout, and the first fault.
 #![tactic(auto)]
 
+mod bytes;
 mod fault;
 mod judge;
 mod line;
 mod loader;
 mod source;
 
+pub use bytes::first_bad;
 pub use fault::{LineFault, LoadFault};
 pub use judge::record_type;
 pub use loader::Loader;
