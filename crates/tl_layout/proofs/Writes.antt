@@ -2,6 +2,7 @@
 use Rattle.std.proofs.Common.{◌≡◌, ◌≤◌, ◌-◌, ◌+◌, ℕ, List, [], ◌∷◌, ◌++◌, length, take, drop, slice_set, codes, arith, ap, sym, ◌∙◌}
 use Rattle.std.proofs.lemmas.List.{drop_all, append-nil, take_all}
 use Rattle.std.proofs.lemmas.Slice.{take-put_mid}
+use Rattle.tl_layout.specs.Columns.{joined}
 use borrow.Rule.Slice.PartMut.{put_mid}
 
 -- the first place was written, and then all others
@@ -29,3 +30,7 @@ behind w h e = (cc)
 -- The last column is the last byte of the buffer.
 pub whole : (last : ℕ) (out text : List ℕ) → length out ≡ last → take last out ≡ text → out ≡ text
 whole last out text l h = sym (take_all last out (omega arith)) ∙ h
+
+-- The texts of a group were written behind what stood there.
+pub group_behind : {new rest before : List ℕ} (texts : List (List ℕ)) → new ≡ joined rest texts → rest ≡ before → new ≡ joined before texts
+group_behind texts w h = w ∙ ap (λ l. joined l texts) h

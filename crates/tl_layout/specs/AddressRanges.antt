@@ -1,5 +1,5 @@
 -- Address ranges and ZIP codes, 58 bytes.
-use Rattle.std.specs.Prelude.{ℕ, ◌+◌, List, [], ◌∷◌, ◌++◌}
+use Rattle.std.specs.Prelude.{ℕ, ◌+◌, List, [], ◌∷◌}
 use Rattle.tl_layout.specs.Bytes.{IsText, columns}
 use Rattle.tl_layout.specs.Pairs.{FitsPair, pair_at, pair_texts}
 use Rattle.tl_layout.specs.declared.ranges.Ranges.{Ranges}

@@ -1,5 +1,5 @@
 -- The literal bytes of the spellings are allowed.
-use Rattle.std.proofs.Common.{ℕ, refl, codes, IsTrue, List, ◌≡◌, true}
+use Rattle.std.proofs.Common.{ℕ, refl, codes, List, ◌≡◌, true}
 use Rattle.std.specs.List.{list_all}
 use Rattle.std.proofs.lemmas.List.Sums.{AllPass-from_list_all}
 use Rattle.tl_layout.specs.Bytes.{IsText, AreAllowed, is_allowed}

@@ -1,5 +1,5 @@
 -- What stands in the columns of a line that texts of those widths make.
-use Rattle.std.proofs.Common.{◌≡◌, ℕ, zero, suc, ◌+◌, ◌-◌, ◌<◌, ◌≤◌, List, [], ◌∷◌, ◌++◌, length, take, drop, slice_range, slice_index_or, refl, sym, ap, ◌∙◌, arith, append_assoc, IsTrue}
+use Rattle.std.proofs.Common.{◌≡◌, ℕ, zero, suc, ◌+◌, ◌-◌, ◌<◌, ◌≤◌, List, [], ◌∷◌, ◌++◌, length, take, drop, slice_index_or, refl, sym, ap, ◌∙◌, arith, append_assoc, IsTrue}
 use Rattle.std.proofs.lemmas.List.{append-nil, length-append, take_at, drop_at, drop-drop, length-drop, length-take-le}
 use Rattle.std.proofs.lemmas.List.Elements.{All-append, All-nil, All-drop, All-take}
 use Rattle.tl_layout.specs.Bytes.{IsText, AreAllowed, is_allowed, columns}

@@ -1,16 +1,16 @@
 -- What the fields of a line spell and what they are read as is one and the same; what is read is in range; and the
 -- canonical texts spell their values.
-use Rattle.std.proofs.Common.{◌≡◌, ℕ, zero, suc, ◌+◌, ◌-◌, ◌^◌, ◌<◌, ◌≤◌, ◌⊎◌, List, [], ◌∷◌, ◌++◌, length, drop, Bool, true, false, cond, nat_eq, Option, Some, None, unwrap_or, Result, Ok, Err, refl, sym, ap, ◌∙◌, subst, arith, inl, inr, lit<, ℤ, pos, negsuc, unsigned_abs}
+use Rattle.std.proofs.Common.{◌≡◌, ℕ, zero, suc, ◌+◌, ◌-◌, ◌^◌, ◌<◌, ◌≤◌, List, length, drop, Bool, true, false, cond, nat_eq, Option, Some, None, unwrap_or, Result, Ok, Err, refl, sym, ap, ◌∙◌, subst, arith, inl, inr, lit<, ℤ, pos, negsuc, unsigned_abs}
 use Rattle.std.proofs.lemmas.List.{length-drop, length-take-le}
 use Rattle.std.proofs.lemmas.Bool.{eqb-true, eqb-false, ne_eqb}
 use Rattle.std.proofs.Math.Nat.{one-le-pow}
 use Rattle.tl_layout.specs.Bytes.{columns}
 use Rattle.tl_layout.specs.Numbers.{IsNumber, IsNumberOrNone}
 use Rattle.tl_layout.specs.Coordinates.{Coordinates, IsOnMap}
-use Rattle.tl_layout.specs.NumberField.{IsNumberField, number_of, number_text}
+use Rattle.tl_layout.specs.NumberField.{number_of, number_text}
 use Rattle.tl_layout.specs.NumberLaws.{number_found, number_only}
 use Rattle.tl_layout.specs.NumberTextLaws.{number_below, number_text_spells}
-use Rattle.tl_layout.specs.CoordinateField.{IsCoordinateField, IsBlankField, coordinate_of, coordinate_text}
+use Rattle.tl_layout.specs.CoordinateField.{IsCoordinateField, coordinate_of, coordinate_text}
 use Rattle.tl_layout.specs.CoordinateLaws.{coordinate_found, coordinate_only, coordinate_within, blank_found, blank_only, coordinate_text_spells}
 use Rattle.tl_layout.specs.FieldReading.{and_then, SpellsNumber, SpellsNumberOrNone, SpellsPoint, SpellsPointOrNone, demanded_number, possible_number, number_at, number_or_none_at, point_or_none, pair_of, point_or_none_at, demanded_point, point_at}
 use Rattle.tl_layout.specs.declared.coordinate.Coordinate.{Coordinate}

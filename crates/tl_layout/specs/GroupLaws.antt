@@ -1,5 +1,5 @@
 -- Groups of columns: their texts fit, what is read of them fits, and what stands in their columns is the group.
-use Rattle.std.proofs.Common.{◌≡◌, ℕ, ◌+◌, ◌-◌, ◌*◌, ◌<◌, ◌≤◌, List, [], ◌∷◌, ◌++◌, refl, arith}
+use Rattle.std.proofs.Common.{◌≡◌, ℕ, ◌+◌, ◌-◌, ◌*◌, ◌≤◌, List, [], ◌∷◌, refl, arith}
 use Rattle.tl_layout.specs.Bytes.{IsText, columns}
 use Rattle.tl_layout.specs.Columns.{FitColumns}
 use Rattle.tl_layout.specs.ColumnLaws.{columns_of_text}

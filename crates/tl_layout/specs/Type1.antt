@@ -49,7 +49,7 @@ pub record FitsType1 (r : Fields1) : Type 0 where
   pub end : IsOnMap r.end
 
 -- the geographic entities in the columns of a line
-abbrev pub entities_at : List ℕ → GeographicEntities
+unfoldable pub entities_at : List ℕ → GeographicEntities
 entities_at line =
     record {
       state = pair_at 2 131 line;
@@ -62,7 +62,7 @@ entities_at line =
     }
 
 -- the content in the columns of a line
-abbrev pub body_1_at : List ℕ → Body1
+unfoldable pub body_1_at : List ℕ → Body1
 body_1_at line =
     record {
       side1 = columns 16 16 line;

@@ -1,8 +1,8 @@
 -- Record type 1: what is read is spelt so, what is spelt so is read, and the canonical spelling is a spelling.
-use Rattle.std.proofs.Common.{◌≡◌, ℕ, suc, ◌+◌, ◌<◌, List, [], ◌∷◌, ◌++◌, Result, Ok, refl, subst, lit<, lit≤}
+use Rattle.std.proofs.Common.{◌≡◌, ℕ, List, [], ◌∷◌, ◌++◌, Ok, refl, subst, lit<, lit≤}
 use Rattle.tl_layout.specs.Bytes.{IsText, IsLine, columns}
 use Rattle.tl_layout.specs.ByteLaws.{text_2006, text_1}
-use Rattle.tl_layout.specs.Coordinates.{Coordinates, IsOnMap}
+use Rattle.tl_layout.specs.Coordinates.{Coordinates}
 use Rattle.tl_layout.specs.Fields.{Fields1}
 use Rattle.tl_layout.specs.NumberTextLaws.{number_text_is_text}
 use Rattle.tl_layout.specs.CoordinateLaws.{coordinate_text_is_text}
@@ -13,7 +13,7 @@ use Rattle.tl_layout.specs.ColumnLaws.{column, columns_of_text, FitColumns-appen
 use Rattle.tl_layout.specs.Names.{name_widths, name_texts, name_at}
 use Rattle.tl_layout.specs.AddressRanges.{ranges_widths, ranges_texts, ranges_at}
 use Rattle.tl_layout.specs.Pairs.{pair_texts, pair_at}
-use Rattle.tl_layout.specs.GroupLaws.{pair_fits, pair_in, pair_fit, name_fits, name_in, name_fit, ranges_fits, ranges_in, ranges_fit}
+use Rattle.tl_layout.specs.GroupLaws.{pair_fits, pair_in, name_fits, name_in, name_fit, ranges_fits, ranges_in, ranges_fit}
 use Rattle.tl_layout.specs.Type1.{FitsEntities, FitsBody1, FitsType1, SpellsType1, entities_at, body_1_at, type_1_reading, entities_texts, body_1_texts, point_texts, type_1_texts, type_1_spelling}
 use Rattle.tl_layout.specs.declared.type1.GeographicEntities.{GeographicEntities}
 use Rattle.tl_layout.specs.declared.type1.Body1.{Body1}
@@ -31,6 +31,7 @@ abbrev widths : List ℕ
 widths = 1 ∷ 4 ∷ 10 ∷ (body_widths ++ (10 ∷ 9 ∷ 10 ∷ 9 ∷ []))
 
 entities_fits : (line : List ℕ) → IsText 228 line → FitsEntities (entities_at line)
+unfolding entities_at
 entities_fits line t =
     let pair = pair_fits 228 line t in
     record {
@@ -44,6 +45,7 @@ entities_fits line t =
     }
 
 body_fits : (line : List ℕ) → IsText 228 line → FitsBody1 (body_1_at line)
+unfolding body_1_at
 body_fits line t =
     let text = columns_of_text 228 line t in
     let pair = pair_fits 228 line t in
@@ -60,9 +62,11 @@ body_fits line t =
     }
 
 entities_in : (line : List ℕ) (e : GeographicEntities) → pair_at 2 131 line ≡ e.state → pair_at 3 135 line ≡ e.county → pair_at 5 141 line ≡ e.cousub → pair_at 5 151 line ≡ e.submcd → pair_at 5 161 line ≡ e.place → pair_at 6 171 line ≡ e.tract → pair_at 4 183 line ≡ e.block → entities_at line ≡ e
+unfolding entities_at
 entities_in line e a b c d f g h = rw (a, b, c, d, f, g, h) refl
 
 body_in : (line : List ℕ) (body : Body1) → columns 16 16 line ≡ body.side1 → columns 17 17 line ≡ body.source → name_at 18 line ≡ body.name → columns 56 58 line ≡ body.cfcc → ranges_at 59 line ≡ body.ranges → pair_at 5 117 line ≡ body.native_areas.aianhhfp → pair_at 1 127 line ≡ body.native_areas.aihhtli → columns 129 129 line ≡ body.census1 → columns 130 130 line ≡ body.census2 → entities_at line ≡ body.entities → body_1_at line ≡ body
+unfolding body_1_at
 body_in line body a b c d e f g h i j = rw (a, b, c, d, e, f, g, h, i, j) refl
 
 -- what was read of each field is what the line spells
@@ -72,12 +76,15 @@ read_is_spelt line tlid start end r t a b c same =
     let start_spelt = point_at_found 191 line start b in
     let end_spelt = point_at_found 210 line end c in
     let P : Fields1 → Type 0 = λ v. FitsType1 v × SpellsType1 line v in
-    subst P same (record {
-      tlid = number_fits 10 tlid _ (columns_of_text 228 line t 6 15 10 (lit≤ tt) (lit≤ tt) refl).len tlid_spelt;
-      body = body_fits line t;
-      start = point_on_map _ _ start start_spelt;
-      end = point_on_map _ _ end end_spelt;
-    }, record { tlid = tlid_spelt; body = refl; start = start_spelt; end = end_spelt })
+    subst P same (
+      record {
+        tlid = number_fits 10 tlid _ (columns_of_text 228 line t 6 15 10 (lit≤ tt) (lit≤ tt) refl).len tlid_spelt;
+        body = body_fits line t;
+        start = point_on_map _ _ start start_spelt;
+        end = point_on_map _ _ end end_spelt;
+      },
+      record { tlid = tlid_spelt; body = refl; start = start_spelt; end = end_spelt },
+    )
 
 pub type_1_reads_spelled : (line : List ℕ) (r : Fields1) → IsLine 49 228 line → type_1_reading line ≡ Ok r → FitsType1 r × SpellsType1 line r
 unfolding type_1_reading
@@ -95,9 +102,31 @@ type_1_spelled_is_read line r l s =
     (reads_on _ _ r.end _ (point_at_only 210 line r.end s.end) (rw s.body refl)))
 
 entities_fit : (e : GeographicEntities) → FitsEntities e → FitColumns entities_widths (entities_texts e)
-entities_fit e f =
-    (f.state.left, (f.state.right, (f.county.left, (f.county.right, (f.cousub.left, (f.cousub.right, (f.submcd.left, (f.submcd.right,
-    (f.place.left, (f.place.right, (f.tract.left, (f.tract.right, (f.block.left, (f.block.right, tt))))))))))))))
+entities_fit e f = (
+  f.state.left,
+  (
+    f.state.right,
+    (
+      f.county.left,
+      (
+        f.county.right,
+        (
+          f.cousub.left,
+          (
+            f.cousub.right,
+            (
+              f.submcd.left,
+              (
+                f.submcd.right,
+                (f.place.left, (f.place.right, (f.tract.left, (f.tract.right, (f.block.left, (f.block.right, tt)))))),
+              ),
+            ),
+          ),
+        ),
+      ),
+    ),
+  ),
+)
 
 -- the texts behind the address ranges, and those from the class code on
 abbrev texts_behind_ranges : Body1 → List (List ℕ)
@@ -120,7 +149,7 @@ body_fit body f =
 texts_fit : (r : Fields1) → FitsType1 r → FitColumns widths (type_1_texts r)
 texts_fit r f =
     let points : FitColumns (10 ∷ 9 ∷ 10 ∷ 9 ∷ []) (point_texts r.start ++ point_texts r.end) =
-        (coordinate_text_is_text 9 r.start.long, (coordinate_text_is_text 8 r.start.lat, (coordinate_text_is_text 9 r.end.long, (coordinate_text_is_text 8 r.end.lat, tt)))) in
+    (coordinate_text_is_text 9 r.start.long, (coordinate_text_is_text 8 r.start.lat, (coordinate_text_is_text 9 r.end.long, (coordinate_text_is_text 8 r.end.lat, tt)))) in
     (text_1, (text_2006, (number_text_is_text 10 r.tlid, FitColumns-append body_widths (10 ∷ 9 ∷ 10 ∷ 9 ∷ []) (body_1_texts r.body) (point_texts r.start ++ point_texts r.end) (body_fit r.body f.body) points)))
 
 pub type_1_spelling_is_line : (r : Fields1) → FitsType1 r → IsLine 49 228 (type_1_spelling r)

@@ -1,8 +1,8 @@
 -- Record type I, 127 bytes: the nodes of a chain and the polygons on its sides.
-use Rattle.std.specs.Prelude.{◌≡◌, ℕ, List, [], ◌∷◌, ◌++◌, Option, unwrap_or, Result, Ok, Err, codes}
+use Rattle.std.specs.Prelude.{◌≡◌, ℕ, List, [], ◌∷◌, Option, unwrap_or, Result, Ok, codes}
 use Rattle.tl_layout.specs.Bytes.{IsText, columns}
 use Rattle.tl_layout.specs.Numbers.{IsNumber, IsNumberOrNone}
-use Rattle.tl_layout.specs.PolygonSide.{PolygonSide, FitsSide}
+use Rattle.tl_layout.specs.PolygonSide.{FitsSide}
 use Rattle.tl_layout.specs.Fields.{FieldsI}
 use Rattle.tl_layout.specs.NumberField.{number_text}
 use Rattle.tl_layout.specs.FieldReading.{◌>>=◌, SpellsNumber, SpellsNumberOrNone, number_at, number_or_none_at}

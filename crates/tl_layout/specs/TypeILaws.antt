@@ -1,14 +1,14 @@
 -- Record type I: what is read is spelt so, what is spelt so is read, and the canonical spelling is a spelling.
-use Rattle.std.proofs.Common.{◌≡◌, ℕ, suc, ◌+◌, ◌<◌, List, [], ◌∷◌, length, Result, Ok, refl, sym, ap, ◌∙◌, subst, Option, lit<, lit≤}
-use Rattle.tl_layout.specs.Bytes.{IsText, IsLine, columns}
+use Rattle.std.proofs.Common.{◌≡◌, ℕ, List, [], ◌∷◌, Ok, refl, subst, Option, lit<, lit≤}
+use Rattle.tl_layout.specs.Bytes.{IsText, IsLine}
 use Rattle.tl_layout.specs.Fields.{FieldsI}
 use Rattle.tl_layout.specs.NumberTextLaws.{number_text_is_text}
 use Rattle.tl_layout.specs.ByteLaws.{text_2006, text_I}
 use Rattle.tl_layout.specs.FieldReading.{number_at, number_or_none_at}
 use Rattle.tl_layout.specs.FieldLaws.{reads, reads_on, ok_value, number_at_found, number_at_only, number_or_none_at_found, number_or_none_at_only, number_fits, number_or_none_fits, number_again, number_or_none_again}
-use Rattle.tl_layout.specs.Columns.{joined, FitColumns}
+use Rattle.tl_layout.specs.Columns.{FitColumns}
 use Rattle.tl_layout.specs.ColumnLaws.{column, columns_of_text, length-joined, joined_allowed}
-use Rattle.tl_layout.specs.TypeI.{FitsBodyI, FitsTypeI, SpellsTypeI, type_i_reading, type_i_texts, type_i_spelling, body_i_at, type_i_of}
+use Rattle.tl_layout.specs.TypeI.{FitsTypeI, SpellsTypeI, type_i_reading, type_i_texts, type_i_spelling, type_i_of}
 
 abbrev widths : List ℕ
 widths = 1 ∷ 4 ∷ 5 ∷ 10 ∷ 10 ∷ 10 ∷ 5 ∷ 10 ∷ 5 ∷ 10 ∷ 10 ∷ 17 ∷ 10 ∷ 10 ∷ 10 ∷ []

@@ -72,25 +72,90 @@ impl BodyI {
     }
 }
 
-/// What a full line is read as.
-#[tactic(auto, unfolding(crate::specs::TypeI::type_i_reading, crate::specs::FieldReading::and_then))]
-fn read(line: &[u8]) -> Result<RecI, FieldFault>
-    requires { IsText 127 line.now }
-    ensures { result ≡ type_i_reading line.now }
-{
-    let tlid = read_number(line, 11, 20)?;
-    let start_node = read_number_or_none(line, 21, 30)?;
-    let end_node = read_number_or_none(line, 31, 40)?;
-    let left_polyid = read_number_or_none(line, 46, 55)?;
-    let right_polyid = read_number_or_none(line, 61, 70)?;
-    Ok(RecI {
-        tlid,
-        body: BodyI::at(line),
-        start_node,
-        end_node,
-        left: Side::new(text_at(line, 41, 45), left_polyid),
-        right: Side::new(text_at(line, 56, 60), right_polyid),
-    })
+impl RecI {
+    /// The record of these fields: numbers from 1 to 9,999,999,999, or none where there is no node.
+    pub fn new(
+        tlid: u64,
+        body: BodyI,
+        start_node: Option<u64>,
+        end_node: Option<u64>,
+        left: Side,
+        right: Side,
+    ) -> RecI
+        requires tlid { IsNumber 10 tlid }
+        requires nodes { IsNumberOrNone 10 start_node × IsNumberOrNone 10 end_node }
+        ensures { result ≡ record { tlid = tlid; body = body; start_node = start_node; end_node = end_node; left = left; right = right } }
+    {
+        RecI {
+            tlid,
+            body,
+            start_node,
+            end_node,
+            left,
+            right,
+        }
+    }
+
+    /// Number of the chain (TLID), from 1 to 9,999,999,999.
+    pub fn tlid(&self) -> u64
+        ensures value { result ≡ self.now.tlid }
+        ensures in_range { IsNumber 10 result }
+    {
+        self.tlid
+    }
+
+    /// All but the TLID, the nodes and the sides.
+    pub fn body(&self) -> &BodyI
+        ensures { result.now ≡ self.now.body }
+    {
+        &self.body
+    }
+
+    /// Number of the node where the chain starts (TZIDS), from 1 to 9,999,999,999, or none.
+    pub fn start_node(&self) -> Option<u64>
+        ensures value { result ≡ self.now.start_node }
+        ensures in_range { IsNumberOrNone 10 result }
+    {
+        self.start_node
+    }
+
+    /// Number of the node where the chain ends (TZIDE), from 1 to 9,999,999,999, or none.
+    pub fn end_node(&self) -> Option<u64>
+        ensures value { result ≡ self.now.end_node }
+        ensures in_range { IsNumberOrNone 10 result }
+    {
+        self.end_node
+    }
+
+    /// What stands on the left side (CENIDL, POLYIDL).
+    pub fn left(&self) -> &Side
+        ensures { result.now ≡ self.now.left }
+    {
+        &self.left
+    }
+
+    /// What stands on the right side (CENIDR, POLYIDR).
+    pub fn right(&self) -> &Side
+        ensures { result.now ≡ self.now.right }
+    {
+        &self.right
+    }
+
+    /// What a full line is read as.
+    #[tactic(auto, unfolding(crate::specs::TypeI::type_i_reading, crate::specs::FieldReading::and_then))]
+    fn read(line: &[u8]) -> Result<RecI, FieldFault>
+        requires { IsText 127 line.now }
+        ensures { result ≡ type_i_reading line.now }
+    {
+        let tlid = read_number(line, 11, 20)?;
+        let start_node = read_number_or_none(line, 21, 30)?;
+        let end_node = read_number_or_none(line, 31, 40)?;
+        let left_polyid = read_number_or_none(line, 46, 55)?;
+        let right_polyid = read_number_or_none(line, 61, 70)?;
+        let left = Side::new(text_at(line, 41, 45), left_polyid);
+        let right = Side::new(text_at(line, 56, 60), right_polyid);
+        Ok(RecI::new(tlid, BodyI::at(line), start_node, end_node, left, right))
+    }
 }
 
 impl Layout for RecI {
@@ -117,7 +182,7 @@ impl Layout for RecI {
 
     #[tactic(auto, using(crate::specs::TypeILaws::type_i_reads_spelled, crate::specs::TypeILaws::type_i_spelled_is_read))]
     fn take(line: &[u8]) -> Result<RecI, FieldFault> {
-        read(line)
+        RecI::read(line)
     }
 
     #[tactic(auto, unfolding(crate::specs::TypeI::type_i_spelling))]

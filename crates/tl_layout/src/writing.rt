@@ -4,6 +4,7 @@ ghost use Rattle.std.specs.Prelude.{◌≡◌, ◌+◌, ◌-◌, ◌≤◌, ◌<
 ghost use Rattle.tl_layout.specs.Bytes.{IsText};
 ghost use Rattle.tl_layout.specs.NumberField.{number_text};
 ghost use Rattle.tl_layout.specs.CoordinateField.{coordinate_text};
+ghost use Rattle.tl_layout.specs.Coordinates.{IsOnMap};
 ghost use Rattle.tl_layout.specs.Columns.{joined};
 
 use crate::coordinate::put_coordinate;
@@ -70,8 +71,9 @@ fn write_coordinate(out: &mut [u8], first: usize, last: usize, value: i32)
 pub fn write_point(out: &mut [u8], column: usize, point: &Point)
     requires from_one { 1 ≤ column }
     requires within { column + 18 ≤ length out.old }
-    ensures { take (column + 18) out.new
+    ensures written { take (column + 18) out.new
         ≡ joined (take (column - 1) out.old) (coordinate_text 9 point.now.long ∷ coordinate_text 8 point.now.lat ∷ []) }
+    ensures on_map { IsOnMap point.now }
 {
     write_coordinate(out, column, column + 9, point.long());
     write_coordinate(out, column + 10, column + 18, point.lat());
