@@ -16,7 +16,9 @@ take_filled len most line short low =
     ∙ ap (λ (l : List ℕ). line ++ l) (take-replicate (len - length line) (most - length line) 32 (omega arith))
 
 pub filled_full : (len : ℕ) (line : List ℕ) → length line ≡ len → filled len line ≡ line
-filled_full len line e = ap (λ (k : ℕ). line ++ replicate k 32) (omega arith) ∙ append-nil line
+filled_full len line e =
+    let none : len - length line ≡ 0 = omega arith in
+    ap (λ (k : ℕ). line ++ replicate k 32) none ∙ append-nil line
 
 pub length_filled : (len : ℕ) (line : List ℕ) → length line ≤ len → length (filled len line) ≡ len
 length_filled len line short = omega (arith, length-append line (replicate (len - length line) 32), length-replicate {A = ℕ} (len - length line) 32)

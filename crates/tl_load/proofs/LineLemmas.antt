@@ -37,7 +37,7 @@ pub lines_none : lines [] ≡ []
 unfolding lines lines_of_pieces last_line
 lines_none = refl
 
-take_past : (a b : List ℕ) (n : ℕ) → take (length a + n) (a ++ b) ≡ a ++ take n b
+pub take_past : (a b : List ℕ) (n : ℕ) → take (length a + n) (a ++ b) ≡ a ++ take n b
 take_past [] b n = ap (λ (k : ℕ). take k b) (omega arith)
 take_past (x ∷ a) b n =
     let e : length (x ∷ a) + n ≡ suc (length a + n) = omega arith in

@@ -5,7 +5,8 @@ use Rattle.std.proofs.lemmas.Bool.{lt-ltb}
 use Rattle.std.proofs.lemmas.List.{length-append}
 use Rattle.tl_layout.specs.declared.fault.FieldFault.{FieldFault}
 use Rattle.tl_layout.specs.declared.record_type.Record.{Record}
-use Rattle.tl_layout.specs.declared.record_type.Record.TheVariants.{I}
+use Rattle.tl_layout.specs.declared.record_type.Record.TheVariants.{One, I}
+use Rattle.tl_layout.specs.Type1.{type_1_reading}
 use Rattle.tl_layout.specs.TypeI.{type_i_reading}
 use Rattle.tl_load.specs.declared.fault.LineFault.{LineFault}
 use Rattle.tl_load.specs.declared.fault.LineFault.TheVariants as line_faults
@@ -18,11 +19,12 @@ too_long len reading wrap line low long = ap (λ (b : Bool). as_record wrap (con
 
 -- what a line of more than 228 bytes is refused as, by its first byte
 long_fault : ℕ → Result Record LineFault
-long_fault rtype = cond (eqb rtype 73) (Err line_faults.LineTooLong) (Err line_faults.UnknownType)
+long_fault rtype = cond (eqb rtype 49) (Err line_faults.LineTooLong) (cond (eqb rtype 73) (Err line_faults.LineTooLong) (Err line_faults.UnknownType))
 
 long_by : (rtype : ℕ) (line : List ℕ) → 228 < length line → judged_by rtype line ≡ long_fault rtype
 unfolding judged_by long_fault
 long_by rtype line long =
+    let one = too_long 228 type_1_reading One line (lit≤ tt) long in
     let i = too_long 127 type_i_reading I line (lit≤ tt) long in
     cc
 
@@ -32,7 +34,9 @@ err_cond false x y p q = q
 
 err_long : (rtype : ℕ) → IsErr (long_fault rtype)
 unfolding long_fault
-err_long rtype = err_cond (eqb rtype 73) (Err line_faults.LineTooLong) (Err line_faults.UnknownType) refl refl
+err_long rtype =
+    err_cond (eqb rtype 49) (Err line_faults.LineTooLong) (cond (eqb rtype 73) (Err line_faults.LineTooLong) (Err line_faults.UnknownType)) refl
+    (err_cond (eqb rtype 73) (Err line_faults.LineTooLong) (Err line_faults.UnknownType) refl refl)
 
 is_err_along : (x y : Result Record LineFault) → x ≡ y → IsErr y → IsErr x
 is_err_along x y e h = rw e h

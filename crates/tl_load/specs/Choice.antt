@@ -1,5 +1,6 @@
 -- The choice of the layout by a line's first byte.
 use Rattle.std.specs.Prelude.{ℕ, List, [], ◌∷◌, ◌==◌, Result, Ok, Err, if◌then◌else◌}
+use Rattle.tl_layout.specs.Type1.{type_1_reading}
 use Rattle.tl_layout.specs.TypeI.{type_i_reading}
 use Rattle.tl_layout.specs.declared.record_type.Record.{Record}
 use Rattle.tl_layout.specs.declared.record_type.Record.TheVariants.{One, Two, Four, Five, Six, Seven, Eight, I, P}
@@ -28,7 +29,8 @@ as_record wrap (Err fault) = Err fault
 -- what a line is judged as by its first byte, the record type
 unfoldable pub judged_by : ℕ → List ℕ → Result Record LineFault
 judged_by rtype line =
-    if rtype == 73 then as_record I (judged_as 127 type_i_reading line)
+    if rtype == 49 then as_record One (judged_as 228 type_1_reading line)
+    else if rtype == 73 then as_record I (judged_as 127 type_i_reading line)
     else Err line_faults.UnknownType
 
 -- what a line is judged as

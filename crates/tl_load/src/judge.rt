@@ -1,13 +1,13 @@
 //! What a line is judged as.
 
-ghost use Rattle.std.specs.Prelude.{◌≡◌, ◌≤◌, ◌<◌, [], ◌∷◌, take, length};
+ghost use Rattle.std.specs.Prelude.{◌≡◌, ◌≤◌, ◌<◌, [], ◌∷◌, take, length, replicate};
 ghost use Rattle.tl_layout.specs.Bytes.{IsLine};
 ghost use Rattle.tl_load.specs.LineOf.{filled, judged_as, judged_full};
 ghost use Rattle.tl_load.specs.Choice.{judged, type_of};
 
 use crate::bytes::first_bad;
 use crate::fault::LineFault;
-use tl_layout::{Layout, RecI, Record};
+use tl_layout::{Layout, Rec1, RecI, Record};
 
 /// The record of a line, or its fault. The line has neither LF nor the CR before it.
 #[tactic(auto, unfolding(crate::specs::Choice::judged, crate::specs::Choice::judged_by))]
@@ -15,6 +15,10 @@ pub(crate) fn judge_line(line: &[u8]) -> Result<Record, LineFault>
     ensures { result ≡ judged line.now }
 {
     match line {
+        [b'1', ..] => match judge_as::<Rec1>(line) {
+            Ok(found) => Ok(Record::One(found)),
+            Err(fault) => Err(fault),
+        },
         [b'I', ..] => match judge_as::<RecI>(line) {
             Ok(found) => Ok(Record::I(found)),
             Err(fault) => Err(fault),
@@ -40,12 +44,19 @@ fn judge_as<L: Layout>(line: &[u8]) -> Result<L, LineFault>
     judge_full::<L>(&filled[..L::LEN])
 }
 
+/// A line of blanks.
+fn blanks() -> [u8; 228]
+    ensures { result ≡ replicate 228 32 }
+{
+    [b' '; 228]
+}
+
 /// The line, filled with blanks to the length of the longest one.
 fn fill(line: &[u8]) -> [u8; 228]
     requires { length line.now ≤ 228 }
     ensures { result ≡ filled 228 line.now }
 {
-    let mut filled = [b' '; 228];
+    let mut filled = blanks();
     let front = &mut filled[..line.len()];
     front.copy_from_slice(line);
     filled
