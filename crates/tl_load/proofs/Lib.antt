@@ -7,3 +7,4 @@ pub mod Views
 pub mod Histories
 pub mod ReadSteps
 pub mod Filling
+pub mod LineLaws

@@ -4,6 +4,7 @@
 mod bytes;
 mod fault;
 mod judge;
+mod laws;
 mod line;
 mod loader;
 mod source;
@@ -11,5 +12,6 @@ mod source;
 pub use bytes::first_bad;
 pub use fault::{LineFault, LoadFault};
 pub use judge::record_type;
+pub use laws::{line_has_record, spelled_or_one_fault};
 pub use loader::Loader;
 pub use source::{Counted, SlowSource, Source};
