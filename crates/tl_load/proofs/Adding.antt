@@ -37,50 +37,50 @@ adds_room records counts unfinished parts judged limit added rtype l is low h =
 pub counted : (records : List Record) (counts : List ℕ) (unfinished : List ℕ) (parts judged limit : ℕ) (added : Record) (rtype : ℕ) → IsLoader records counts unfinished parts judged limit
     → rtype ≡ type_of added → rtype < 128 → get_or counts rtype 0 < limit → IsLoader (records ++ added ∷ []) (set counts rtype (get_or counts rtype 0 + 1)) unfinished parts (judged + 1) limit
 counted records counts unfinished parts judged limit added rtype l is low room = record {
-    counts_len = omega (arith, length-set counts rtype (get_or counts rtype 0 + 1), l.counts_len);
-    counts_are = λ t h. elim (cases_eq t rtype) [
-        | inl same ↦
-            let b : eqb (tiger.rtype added) t ≡ true = eq-eqb (tiger.rtype added) t (tiger_rtype added ∙ sym is ∙ sym same) in
-            let e = count_push tiger records added t in
-            let one : ◌≡◌ {A = ℕ} (cond (eqb (tiger.rtype added) t) 1 0) 1 = ap (λ (z : Bool). cond z 1 0) b in
-            let here : get_or (set counts rtype (get_or counts rtype 0 + 1)) t 0 ≡ get_or counts rtype 0 + 1 = ap (λ (k : ℕ). get_or (set counts rtype (get_or counts rtype 0 + 1)) k 0) same ∙ get_or-set_same counts rtype (get_or counts rtype 0 + 1) 0 (omega (arith, l.counts_len)) in
-            let was : get_or counts rtype 0 ≡ count_of tiger t records = l.counts_are rtype low ∙ ap (λ (k : ℕ). count_of tiger k records) (sym same) in
-            omega (arith, e, one, here, was)
-        | inr other ↦
-            let b : eqb (tiger.rtype added) t ≡ false = ne_eqb (tiger.rtype added) t (λ e. other (sym e ∙ tiger_rtype added ∙ sym is)) in
-            let e = count_push tiger records added t in
-            let none : ◌≡◌ {A = ℕ} (cond (eqb (tiger.rtype added) t) 1 0) 0 = ap (λ (z : Bool). cond z 1 0) b in
-            let here = get_or-set_other counts rtype t (get_or counts rtype 0 + 1) 0 other in
-            let was = l.counts_are t h in
-            omega (arith, e, none, here, was)
-      ];
-    within = λ t h. elim (cases_eq t rtype) [
-        | inl same ↦
-            let here : get_or (set counts rtype (get_or counts rtype 0 + 1)) t 0 ≡ get_or counts rtype 0 + 1 = ap (λ (k : ℕ). get_or (set counts rtype (get_or counts rtype 0 + 1)) k 0) same ∙ get_or-set_same counts rtype (get_or counts rtype 0 + 1) 0 (omega (arith, l.counts_len)) in
-            omega (arith, here)
-        | inr other ↦
-            let here = get_or-set_other counts rtype t (get_or counts rtype 0 + 1) 0 other in
-            let was = l.within t h in
-            omega (arith, here, was)
-      ];
-    judged_low = omega (arith, l.judged_low, length-append records (added ∷ []));
-    limit_low = l.limit_low;
-    no_feed = l.no_feed;
-    short = l.short;
-    begun = l.begun;
-  }
+  counts_len = omega (arith, length-set counts rtype (get_or counts rtype 0 + 1), l.counts_len);
+  counts_are = λ t h. elim (cases_eq t rtype) [
+    | inl same ↦
+        let b : eqb (tiger.rtype added) t ≡ true = eq-eqb (tiger.rtype added) t (tiger_rtype added ∙ sym is ∙ sym same) in
+        let e = count_push tiger records added t in
+        let one : ◌≡◌ {A = ℕ} (cond (eqb (tiger.rtype added) t) 1 0) 1 = ap (λ (z : Bool). cond z 1 0) b in
+        let here : get_or (set counts rtype (get_or counts rtype 0 + 1)) t 0 ≡ get_or counts rtype 0 + 1 = ap (λ (k : ℕ). get_or (set counts rtype (get_or counts rtype 0 + 1)) k 0) same ∙ get_or-set_same counts rtype (get_or counts rtype 0 + 1) 0 (omega (arith, l.counts_len)) in
+        let was : get_or counts rtype 0 ≡ count_of tiger t records = l.counts_are rtype low ∙ ap (λ (k : ℕ). count_of tiger k records) (sym same) in
+        omega (arith, e, one, here, was)
+    | inr other ↦
+        let b : eqb (tiger.rtype added) t ≡ false = ne_eqb (tiger.rtype added) t (λ e. other (sym e ∙ tiger_rtype added ∙ sym is)) in
+        let e = count_push tiger records added t in
+        let none : ◌≡◌ {A = ℕ} (cond (eqb (tiger.rtype added) t) 1 0) 0 = ap (λ (z : Bool). cond z 1 0) b in
+        let here = get_or-set_other counts rtype t (get_or counts rtype 0 + 1) 0 other in
+        let was = l.counts_are t h in
+        omega (arith, e, none, here, was)
+  ];
+  within = λ t h. elim (cases_eq t rtype) [
+    | inl same ↦
+        let here : get_or (set counts rtype (get_or counts rtype 0 + 1)) t 0 ≡ get_or counts rtype 0 + 1 = ap (λ (k : ℕ). get_or (set counts rtype (get_or counts rtype 0 + 1)) k 0) same ∙ get_or-set_same counts rtype (get_or counts rtype 0 + 1) 0 (omega (arith, l.counts_len)) in
+        omega (arith, here)
+    | inr other ↦
+        let here = get_or-set_other counts rtype t (get_or counts rtype 0 + 1) 0 other in
+        let was = l.within t h in
+        omega (arith, here, was)
+  ];
+  judged_low = omega (arith, l.judged_low, length-append records (added ∷ []));
+  limit_low = l.limit_low;
+  no_feed = l.no_feed;
+  short = l.short;
+  begun = l.begun;
+}
 
 pub empty_loader : (limit : ℕ) → limit ≤ 10000000 → IsLoader [] (replicate 128 0) [] 0 0 limit
 empty_loader limit h = record {
-    counts_len = length-replicate {A = ℕ} 128 0;
-    counts_are = λ t lt. get_or-replicate {A = ℕ} 128 t 0 0 lt;
-    within = λ t lt. let e = get_or-replicate {A = ℕ} 128 t 0 0 lt in omega (arith, e);
-    judged_low = omega arith;
-    limit_low = h;
-    no_feed = All-nil (λ b. is_line_feed b ≡ false);
-    short = omega arith;
-    begun = λ lt. absurd (omega arith);
-  }
+  counts_len = length-replicate {A = ℕ} 128 0;
+  counts_are = λ t lt. get_or-replicate {A = ℕ} 128 t 0 0 lt;
+  within = λ t lt. let e = get_or-replicate {A = ℕ} 128 t 0 0 lt in omega (arith, e);
+  judged_low = omega arith;
+  limit_low = h;
+  no_feed = All-nil (λ b. is_line_feed b ≡ false);
+  short = omega arith;
+  begun = λ lt. absurd (omega arith);
+}
 
 -- ---- how many records there may be
 

@@ -51,22 +51,22 @@ pub fed_piece : {T : Type 0} (limit : ℕ) (before mid : Loaded) (piece : List �
     → WasFed limit before closed open_part → WasFed limit (with_fault result mid) closed (open_part ++ piece)
 unfolding Takes
 fed_piece limit before mid piece (Ok x) closed open_part none part takes w = record {
-    limit_is = part.limit ∙ w.limit_is;
-    comes = from_none _ _ mid.fault (part.fault ∙ none) (λ more later.
+  limit_is = part.limit ∙ w.limit_is;
+  comes = from_none _ _ mid.fault (part.fault ∙ none) (λ more later.
       ap (λ (l : List ℕ). outcome tiger limit (closed ++ l ∷ later)) (append_assoc open_part piece more) ∙ comes_of limit before closed open_part none w (piece ++ more) later ∙ takes more later);
-  }
+}
 fed_piece limit before mid piece (Err f) closed open_part none part takes w = record {
-    limit_is = part.limit ∙ w.limit_is;
-    comes = λ is more later. fault_from_outcome tiger limit _ f
+  limit_is = part.limit ∙ w.limit_is;
+  comes = λ is more later. fault_from_outcome tiger limit _ f
       (ap (λ (l : List ℕ). outcome tiger limit (closed ++ l ∷ later)) (append_assoc open_part piece more) ∙ comes_of limit before closed open_part none w (piece ++ more) later ∙ takes is more later);
-  }
+}
 
 pub fed_standing : (limit : ℕ) (l : Loaded) (piece : List ℕ) (f : LoadFault) (closed : List (List ℕ)) (open_part : List ℕ) → l.fault ≡ Some f → WasFed limit l closed open_part → WasFed limit l closed (open_part ++ piece)
 fed_standing limit l piece f closed open_part e w = record {
-    limit_is = w.limit_is;
-    comes = from_some _ _ l.fault f e (λ is more later.
+  limit_is = w.limit_is;
+  comes = from_some _ _ l.fault f e (λ is more later.
       subst (λ (b : List ℕ). FaultAt tiger limit (closed ++ b ∷ later) f) (sym (append_assoc open_part piece more)) (stands_at limit l closed open_part f e w is (piece ++ more) later));
-  }
+}
 
 -- ---- closed parts
 
@@ -77,22 +77,22 @@ pub fed_closed : {T : Type 0} (limit : ℕ) (before mid : Loaded) (result : Resu
     → WasFed limit before closed open_part → WasFed limit (with_fault result mid) (closed ++ open_part ∷ []) []
 unfolding Closes
 fed_closed limit before mid (Ok x) closed open_part none same stays closing w = record {
-    limit_is = same ∙ w.limit_is;
-    comes = from_none _ _ mid.fault (stays ∙ none) (λ more later.
+  limit_is = same ∙ w.limit_is;
+  comes = from_none _ _ mid.fault (stays ∙ none) (λ more later.
       ap (outcome tiger limit) (one_more closed open_part more later) ∙ comes_of limit before closed open_part none w [] (more ∷ later) ∙ closing more later);
-  }
+}
 fed_closed limit before mid (Err f) closed open_part none same stays closing w = record {
-    limit_is = same ∙ w.limit_is;
-    comes = λ is more later. fault_from_outcome tiger limit _ f
+  limit_is = same ∙ w.limit_is;
+  comes = λ is more later. fault_from_outcome tiger limit _ f
       (ap (outcome tiger limit) (one_more closed open_part more later) ∙ comes_of limit before closed open_part none w [] (more ∷ later) ∙ closing is (more ∷ later));
-  }
+}
 
 pub fed_closed_standing : (limit : ℕ) (l : Loaded) (f : LoadFault) (closed : List (List ℕ)) (open_part : List ℕ) → l.fault ≡ Some f → WasFed limit l closed open_part → WasFed limit l (closed ++ open_part ∷ []) []
 fed_closed_standing limit l f closed open_part e w = record {
-    limit_is = w.limit_is;
-    comes = from_some _ _ l.fault f e (λ is more later.
+  limit_is = w.limit_is;
+  comes = from_some _ _ l.fault f e (λ is more later.
       subst (λ (parts : List (List ℕ)). FaultAt tiger limit parts f) (sym (one_more closed open_part more later)) (stands_at limit l closed open_part f e w is [] (more ∷ later)));
-  }
+}
 
 -- ---- all parts
 
@@ -134,29 +134,37 @@ pub fed_read : {T : Type 0} (limit : ℕ) (before mid : Loaded) (taken : List �
     (λ _. at_end × WasFed limit (with_fault result mid) (closed ++ (open_part ++ taken) ∷ []) [])
     (λ _. (at_end × WasFed limit (with_fault result mid) (closed ++ (open_part ++ taken) ∷ []) []) ⊎ WasFed limit (with_fault result mid) closed (open_part ++ taken))
 unfolding Reads
-fed_read limit before mid taken at_end (Ok x) closed open_part none same stays reads w = (reads.0, record {
+fed_read limit before mid taken at_end (Ok x) closed open_part none same stays reads w = (
+  reads.0,
+  record {
     limit_is = same ∙ w.limit_is;
     comes = from_none _ _ mid.fault (stays ∙ none) (λ more later.
-      ap (outcome tiger limit) (append_assoc closed ((open_part ++ taken) ∷ []) (more ∷ later)) ∙ comes_of limit before closed open_part none w taken (more ∷ later) ∙ reads.1 more later);
-  })
+        ap (outcome tiger limit) (append_assoc closed ((open_part ++ taken) ∷ []) (more ∷ later)) ∙ comes_of limit before closed open_part none w taken (more ∷ later) ∙ reads.1 more later);
+  },
+)
 fed_read limit before mid taken at_end (Err f) closed open_part none same stays reads w = go f reads
   where
     anywhere : (g : LoadFault) → (IsOfLines g → ⊥) → WasFed limit (record mid { fault = Some g }) closed (open_part ++ taken)
     anywhere g h = record { limit_is = same ∙ w.limit_is; comes = λ is. absurd (h is) }
+
     of_lines : (g : LoadFault) → (at_end × ((later : List (List ℕ)) → to_come before taken later ≡ Err g)) ⊎ ((more : List ℕ) (later : List (List ℕ)) → to_come before (taken ++ more) later ≡ Err g)
-      → (at_end × WasFed limit (record mid { fault = Some g }) (closed ++ (open_part ++ taken) ∷ []) []) ⊎ WasFed limit (record mid { fault = Some g }) closed (open_part ++ taken)
-    of_lines g (inl p) = inl (p.0, record {
+        → (at_end × WasFed limit (record mid { fault = Some g }) (closed ++ (open_part ++ taken) ∷ []) []) ⊎ WasFed limit (record mid { fault = Some g }) closed (open_part ++ taken)
+    of_lines g (inl p) = inl (
+      p.0,
+      record {
         limit_is = same ∙ w.limit_is;
         comes = λ is more later. fault_from_outcome tiger limit _ g
-          (ap (outcome tiger limit) (append_assoc closed ((open_part ++ taken) ∷ []) (more ∷ later)) ∙ comes_of limit before closed open_part none w taken (more ∷ later) ∙ p.1 (more ∷ later));
-      })
+            (ap (outcome tiger limit) (append_assoc closed ((open_part ++ taken) ∷ []) (more ∷ later)) ∙ comes_of limit before closed open_part none w taken (more ∷ later) ∙ p.1 (more ∷ later));
+      },
+    )
     of_lines g (inr p) = inr (record {
-        limit_is = same ∙ w.limit_is;
-        comes = λ is more later. fault_from_outcome tiger limit _ g
+      limit_is = same ∙ w.limit_is;
+      comes = λ is more later. fault_from_outcome tiger limit _ g
           (ap (λ (l : List ℕ). outcome tiger limit (closed ++ l ∷ later)) (append_assoc open_part taken more) ∙ comes_of limit before closed open_part none w (taken ++ more) later ∙ p more later);
-      })
+    })
+
     go : (g : LoadFault) → (IsOfLines g → (at_end × ((later : List (List ℕ)) → to_come before taken later ≡ Err g)) ⊎ ((more : List ℕ) (later : List (List ℕ)) → to_come before (taken ++ more) later ≡ Err g))
-      → (at_end × WasFed limit (record mid { fault = Some g }) (closed ++ (open_part ++ taken) ∷ []) []) ⊎ WasFed limit (record mid { fault = Some g }) closed (open_part ++ taken)
+        → (at_end × WasFed limit (record mid { fault = Some g }) (closed ++ (open_part ++ taken) ∷ []) []) ⊎ WasFed limit (record mid { fault = Some g }) closed (open_part ++ taken)
     go faults.Device h = inr (anywhere faults.Device (λ is. is))
     go faults.Memory h = inr (anywhere faults.Memory (λ is. is))
     go (faults.UnknownType a b) h = of_lines _ (h tt)

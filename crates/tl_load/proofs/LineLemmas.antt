@@ -50,6 +50,7 @@ without_return_front a c z = go (eqb (get_or (a ++ c ∷ z) (length (a ++ c ∷ 
   where
     len : length (a ++ c ∷ z) - 1 ≡ length a + length z
     len = omega (arith, length-append a (c ∷ z))
+
     go : (b : Bool) → (y : List ℕ) × (cond b (take (length (a ++ c ∷ z) - 1) (a ++ c ∷ z)) (a ++ c ∷ z) ≡ a ++ y)
     go true = (take (length z) (c ∷ z), ap (λ (k : ℕ). take k (a ++ c ∷ z)) len ∙ take_past a (c ∷ z) (length z))
     go false = (c ∷ z, refl)
@@ -78,7 +79,8 @@ last_is b a = refl
 
 pub first_line : (b : ℕ) (a more : List ℕ) → IsWithoutLineFeed (b ∷ a) → BeginsWith (b ∷ a) ((b ∷ a) ++ more)
 first_line b a [] h = record {
-  more = []; rest = [];
+  more = [];
+  rest = [];
   first = ap lines (append-nil (b ∷ a)) ∙ lines_rest (b ∷ a) h ∙ last_is b a ∙ ap (λ (l : List ℕ). without_return l ∷ []) (sym (append-nil (b ∷ a)));
 }
 first_line b a (c ∷ more) h = go (eqb c 10) refl (λ e. first_line b (a ++ c ∷ []) more (without_feed_cons (b ∷ a) c h e))
@@ -90,7 +92,8 @@ first_line b a (c ∷ more) h = go (eqb c 10) refl (λ e. first_line b (a ++ c �
     go false e later =
         let next = later e in
         record {
-          more = c ∷ next.more; rest = next.rest;
+          more = c ∷ next.more;
+          rest = next.rest;
           first = ap lines (sym (append_assoc (b ∷ a) (c ∷ []) more)) ∙ next.first ∙ ap (λ (l : List ℕ). without_return l ∷ next.rest) (append_assoc (b ∷ a) (c ∷ []) next.more);
         }
 

@@ -95,9 +95,9 @@ count_push judge records r t = sum_by-append (λ s. cond (eqb (judge.rtype s) t)
 
 pub within_push : {R : Type 0} (judge : Judge R) (limit : ℕ) (records : List R) (r : R) → IsWithinLimit judge limit records → count_of judge (judge.rtype r) records < limit → IsWithinLimit judge limit (records ++ r ∷ [])
 within_push judge limit records r h room t = elim (cases_eq (judge.rtype r) t) [
-      | inl same ↦ let e = count_push judge records r t in let b = eq-eqb (judge.rtype r) t same in let le : count_of judge t records < limit = subst (λ (u : ℕ). count_of judge u records < limit) same room in rw (e, b) (omega arith)
-      | inr other ↦ let e = count_push judge records r t in let b = ne_eqb (judge.rtype r) t other in let le = h t in rw (e, b) (omega arith)
-    ]
+  | inl same ↦ let e = count_push judge records r t in let b = eq-eqb (judge.rtype r) t same in let le : count_of judge t records < limit = subst (λ (u : ℕ). count_of judge u records < limit) same room in rw (e, b) (omega arith)
+  | inr other ↦ let e = count_push judge records r t in let b = ne_eqb (judge.rtype r) t other in let le = h t in rw (e, b) (omega arith)
+]
 
 -- a list within the limit has room for its next record
 pub room_before : {R : Type 0} (judge : Judge R) (limit : ℕ) (records : List R) (r : R) (more : List R) → IsWithinLimit judge limit (records ++ r ∷ more) → count_of judge (judge.rtype r) records < limit
@@ -171,24 +171,32 @@ pub stops_err : {R : Type 0} (judge : Judge R) (limit : ℕ) (records : List R) 
 unfolding reading
 stops_err judge limit records [] fault h e = absurd cc
 stops_err {R} judge limit records (x ∷ lines) fault h e = elim (bind_err (next judge limit records x) (λ more. reading judge limit more lines) fault e) [
-      | inl here ↦ record {
-          before = []; line = x; after = lines; found = []; split = refl; well = refl;
-          within = subst (IsWithinLimit judge limit) (sym (append-nil records)) h;
-          fault_is = subst (λ (rs : List R). IsFaultOf judge limit rs x fault) (sym (append-nil records)) (next_err judge limit records x fault here);
-        }
-      | inr b ↦
-          let t = next_ok judge limit records x b.0 b.1 in
-          let mid : IsWithinLimit judge limit b.0 = subst (IsWithinLimit judge limit) (sym t.after) (within_push judge limit records t.found h t.room) in
-          let rest = stops_err judge limit b.0 lines fault mid b.2 in
-          let joined : b.0 ++ rest.found ≡ records ++ t.found ∷ rest.found = ap (λ (z : List R). z ++ rest.found) t.after ∙ append_assoc records (t.found ∷ []) rest.found in
-          record {
-            before = x ∷ rest.before; line = rest.line; after = rest.after; found = t.found ∷ rest.found;
-            split = ap (λ (z : List PlacedLine). x ∷ z) rest.split;
-            well = ap (λ (z : Result R LineFault). z ∷ map (λ (l : PlacedLine). judge.verdict l.bytes) rest.before) t.verdict ∙ ap (λ (z : List (Result R LineFault)). Ok t.found ∷ z) rest.well;
-            within = subst (IsWithinLimit judge limit) joined rest.within;
-            fault_is = subst (λ (rs : List R). IsFaultOf judge limit rs rest.line fault) joined rest.fault_is;
-          }
-    ]
+  | inl here ↦ record {
+    before = [];
+    line = x;
+    after = lines;
+    found = [];
+    split = refl;
+    well = refl;
+    within = subst (IsWithinLimit judge limit) (sym (append-nil records)) h;
+    fault_is = subst (λ (rs : List R). IsFaultOf judge limit rs x fault) (sym (append-nil records)) (next_err judge limit records x fault here);
+  }
+  | inr b ↦
+      let t = next_ok judge limit records x b.0 b.1 in
+      let mid : IsWithinLimit judge limit b.0 = subst (IsWithinLimit judge limit) (sym t.after) (within_push judge limit records t.found h t.room) in
+      let rest = stops_err judge limit b.0 lines fault mid b.2 in
+      let joined : b.0 ++ rest.found ≡ records ++ t.found ∷ rest.found = ap (λ (z : List R). z ++ rest.found) t.after ∙ append_assoc records (t.found ∷ []) rest.found in
+      record {
+        before = x ∷ rest.before;
+        line = rest.line;
+        after = rest.after;
+        found = t.found ∷ rest.found;
+        split = ap (λ (z : List PlacedLine). x ∷ z) rest.split;
+        well = ap (λ (z : Result R LineFault). z ∷ map (λ (l : PlacedLine). judge.verdict l.bytes) rest.before) t.verdict ∙ ap (λ (z : List (Result R LineFault)). Ok t.found ∷ z) rest.well;
+        within = subst (IsWithinLimit judge limit) joined rest.within;
+        fault_is = subst (λ (rs : List R). IsFaultOf judge limit rs rest.line fault) joined rest.fault_is;
+      }
+]
 
 -- ---- parts
 
@@ -238,14 +246,14 @@ one_verdict {R} judge limit parts = go (outcome judge limit parts) refl
   where
     go : (r : Result (List R) LoadFault) → outcome judge limit parts ≡ r → IsSpelled judge limit parts ⊎ IsFaulty judge limit parts
     go (Ok records) e = inl (record {
-        records = records;
-        accepts = accepts_from_outcome judge limit parts records e;
-        only = λ others s. verdicts_same others records (sym s ∙ (accepts_from_outcome judge limit parts records e).spells);
-        none = λ fault f. never_both _ records fault e (outcome_from_fault judge limit parts fault f);
-      })
+      records = records;
+      accepts = accepts_from_outcome judge limit parts records e;
+      only = λ others s. verdicts_same others records (sym s ∙ (accepts_from_outcome judge limit parts records e).spells);
+      none = λ fault f. never_both _ records fault e (outcome_from_fault judge limit parts fault f);
+    })
     go (Err fault) e = inr (record {
-        fault = fault;
-        at = fault_from_outcome judge limit parts fault e;
-        only = λ other f. err_is other fault (sym (outcome_from_fault judge limit parts other f) ∙ e);
-        none = λ records a. never_both _ records fault (outcome_from_accepts judge limit parts records a) e;
-      })
+      fault = fault;
+      at = fault_from_outcome judge limit parts fault e;
+      only = λ other f. err_is other fault (sym (outcome_from_fault judge limit parts other f) ∙ e);
+      none = λ records a. never_both _ records fault (outcome_from_accepts judge limit parts records a) e;
+    })

@@ -51,10 +51,10 @@ place_not_device part line fault told is = subst IsNotDevice (sym is) (at_place 
 pub fed_nothing : (limit : ℕ) (records : List Record) (unfinished : List ℕ) → records ≡ [] → unfinished ≡ [] → WasFed limit (record { records = records; parts = 0; judged = 0; unfinished = unfinished; limit = limit; fault = None }) [] []
 unfolding to_come lines_from_part
 fed_nothing limit records unfinished e u = record {
-    limit_is = refl;
-    comes = λ more later. ap (λ (r : List Record). reading tiger limit r (numbered 1 1 (lines more) ++ lines_from_part 2 later)) (sym e)
+  limit_is = refl;
+  comes = λ more later. ap (λ (r : List Record). reading tiger limit r (numbered 1 1 (lines more) ++ lines_from_part 2 later)) (sym e)
       ∙ ap (λ (b : List ℕ). reading tiger limit records (numbered 1 1 (lines (b ++ more)) ++ lines_from_part 2 later)) (sym u);
-  }
+}
 
 -- ---- bytes of a line
 
@@ -105,7 +105,7 @@ pub ends_line : {T : Type 0} (before mid after : Loaded) (bytes line : List ℕ)
 unfolding Takes Judges to_come
 ends_line before mid after bytes line (Ok x) same part is h judges count empty = λ more later.
     let step : next tiger before.limit before.records (next_place before (without_return (before.unfinished ++ bytes))) ≡ Ok after.records =
-      ap (λ (l : List ℕ). next tiger before.limit before.records (next_place before l)) (sym is) ∙ sym (next_before mid before line same) ∙ judges in
+    ap (λ (l : List ℕ). next tiger before.limit before.records (next_place before l)) (sym is) ∙ sym (next_before mid before line same) ∙ judges in
     let limits : before.limit ≡ after.limit = sym same.limit ∙ sym part.limit in
     let numbers : before.judged + 1 + 1 ≡ after.judged + 1 = omega (arith, same.judged, count) in
     let places : before.parts ≡ after.parts = sym same.parts ∙ sym part.parts in
@@ -115,7 +115,7 @@ ends_line before mid after bytes line (Ok x) same part is h judges count empty =
     ∙ cc
 ends_line before mid after bytes line (Err f) same part is h judges count empty = λ of_lines more later.
     let step : next tiger before.limit before.records (next_place before (without_return (before.unfinished ++ bytes))) ≡ Err f =
-      ap (λ (l : List ℕ). next tiger before.limit before.records (next_place before l)) (sym is) ∙ sym (next_before mid before line same) ∙ judges of_lines in
+    ap (λ (l : List ℕ). next tiger before.limit before.records (next_place before l)) (sym is) ∙ sym (next_before mid before line same) ∙ judges of_lines in
     to_come_line before bytes more later h
     ∙ ap (λ (r : Result (List Record) LoadFault). r >>= λ records. reading tiger before.limit records (numbered (before.parts + 1) (before.judged + 1 + 1) (lines more) ++ lines_from_part (before.parts + 1 + 1) later)) step
 
@@ -147,7 +147,7 @@ long_line before bytes line c z fault split long h e more later =
     let front = without_return_front line c (z ++ begins.more) in
     let regroup : whole ++ begins.more ≡ line ++ c ∷ (z ++ begins.more) = ap (λ (l : List ℕ). l ++ begins.more) split ∙ append_assoc line (c ∷ z) begins.more in
     let first : lines (u ++ (bytes ++ more)) ≡ (line ++ front.0) ∷ begins.rest =
-      ap lines (sym (append_assoc u bytes more)) ∙ begins.first ∙ ap (λ (l : List ℕ). without_return l ∷ begins.rest) regroup ∙ ap (λ (l : List ℕ). l ∷ begins.rest) front.1 in
+    ap lines (sym (append_assoc u bytes more)) ∙ begins.first ∙ ap (λ (l : List ℕ). without_return l ∷ begins.rest) regroup ∙ ap (λ (l : List ℕ). l ∷ begins.rest) front.1 in
     let settled : judged (line ++ front.0) ≡ Err fault = judged_settles line front.0 long ∙ e in
     ap (λ (l : List (List ℕ)). reading tiger before.limit before.records (numbered (before.parts + 1) (before.judged + 1) l ++ lines_from_part (before.parts + 1 + 1) later)) first
     ∙ reading_line before (line ++ front.0) begins.rest (lines_from_part (before.parts + 1 + 1) later)
@@ -165,6 +165,7 @@ refuses {T} before mid after bytes line (c ∷ z) result same split some long h 
   where
     fault : (f : LineFault) × (judged line ≡ Err f)
     fault = err_of (judged line) (judged_long line long)
+
     go : (r : Result T LoadFault) → MatchResult r (λ _. ⊥) (λ f. IsOfLines f → fault_at (before.parts + 1) (before.judged + 1) fault.0 ≡ f) → Takes before bytes r after × IsErr r
     go (Ok x) q = absurd q
     go (Err f) q = ((λ is more later. long_line before bytes line c z fault.0 split long h fault.1 more later ∙ ap (λ (g : LoadFault). Err g) (q is)), refl)
@@ -174,9 +175,9 @@ pub judged_short : {T : Type 0} (mid after : Loaded) (line : List ℕ) (result :
 unfolding Judges
 judged_short mid after line (Err f) h = tt
 judged_short mid after line (Ok x) h = elim (cases_lt 228 (length line)) [
-      | inl long ↦ let fault = err_of (judged line) (judged_long line long) in let e = next_of_fault mid line fault.0 fault.1 in absurd cc
-      | inr short ↦ short
-    ]
+  | inl long ↦ let fault = err_of (judged line) (judged_long line long) in let e = next_of_fault mid line fault.0 fault.1 in absurd cc
+  | inr short ↦ short
+]
 
 pub ends_used : {T : Type 0} (before mid after : Loaded) (bytes line : List ℕ) (result : Result T LoadFault) → IsBefore mid before → line ≡ without_return bytes → before.unfinished ≡ [] → Judges mid line result after
     → OnOk result (length after.records ≡ length mid.records + 1) → OnOk result (bytes_used before + length bytes + 1 ≤ bytes_used after)
@@ -241,6 +242,7 @@ ends_part {T} before mid after line result same some h is judges = go result jud
         to_come_end before later
         ∙ ap (λ (l : List (List ℕ)). reading tiger before.limit before.records (numbered (before.parts + 1) (before.judged + 1) l ++ lines_from_part (before.parts + 1 + 1) later)) (lines_rest before.unfinished h ∙ last_of before.unfinished some ∙ ap (λ (l : List ℕ). l ∷ []) (sym is))
         ∙ reading_line before line [] (lines_from_part (before.parts + 1 + 1) later)
+
     go : (r : Result T LoadFault) → Judges mid line r after → Ends before r after
     go (Ok x) j = λ later. first later ∙ ap (λ (r : Result (List Record) LoadFault). r >>= λ records. reading tiger before.limit records (lines_from_part (before.parts + 1 + 1) later)) (sym (next_before mid before line same) ∙ j)
     go (Err f) j = λ is_of later. first later ∙ ap (λ (r : Result (List Record) LoadFault). r >>= λ records. reading tiger before.limit records (lines_from_part (before.parts + 1 + 1) later)) (sym (next_before mid before line same) ∙ j is_of)

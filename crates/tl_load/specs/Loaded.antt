@@ -38,8 +38,8 @@ IsFaultHowever limit closed open_part fault = (more : List ℕ) (later : List (L
 pub record WasFed (limit : ℕ) (l : Loaded) (closed : List (List ℕ)) (open_part : List ℕ) : Type 0 where
   pub limit_is : l.limit ≡ limit
   pub comes : MatchOption l.fault
-    ((more : List ℕ) (later : List (List ℕ)) → outcome tiger limit (closed ++ (open_part ++ more) ∷ later) ≡ to_come l more later)
-    (λ f. IsOfLines f → IsFaultHowever limit closed open_part f)
+      ((more : List ℕ) (later : List (List ℕ)) → outcome tiger limit (closed ++ (open_part ++ more) ∷ later) ≡ to_come l more later)
+      (λ f. IsOfLines f → IsFaultHowever limit closed open_part f)
 
 -- all parts, where the open one is one if bytes were fed into it
 abbrev pub all_parts : List (List ℕ) → List ℕ → List (List ℕ)

@@ -12,11 +12,9 @@ use tl_layout::Layout;
 /// or they spell none and exactly one fault is at them.
 pub fn spelled_or_one_fault()
     ensures { (judge : Judge Record) (limit : ℕ) (parts : List (List ℕ)) → IsSpelled judge limit parts ⊎ IsFaulty judge limit parts }
-{
-}
+{}
 
 /// A line that begins with the layout's type is judged as a record exactly where it has that record.
 pub fn line_has_record<L: Layout>()
     ensures { (line : List ℕ) (r : L) → take 1 line ≡ L.RTYPE ∷ [] → (judged_as L.LEN L.reading line ≡ Ok r ↔ IsLineOf L.RTYPE L.LEN L.Spells line r) }
-{
-}
+{}

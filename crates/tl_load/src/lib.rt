@@ -8,6 +8,8 @@ mod laws;
 mod line;
 mod loader;
 mod source;
+#[cfg(test)]
+mod tests;
 
 pub use bytes::first_bad;
 pub use fault::{LineFault, LoadFault};

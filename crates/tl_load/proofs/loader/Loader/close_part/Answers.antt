@@ -13,4 +13,4 @@ pub returns-clause-closes : goal.returns-clause-closes
 returns-clause-closes c =
     let view = c.self.view_is in let part = c.in_ok-end_last_line.ensures.same_part in
     closes _ _ _ _ c.args.self.now c.end_last_line.new.self _ c.in_ok-end_last_line.ensures.ends
-      (ap (λ (l : Loaded). l.records) view) (ap (λ (k : ℕ). k + 1) (ap (λ (l : Loaded). l.parts) view ∙ part.parts)) refl (ap (λ (l : Loaded). l.unfinished) view ∙ c.in_ok-end_last_line.ensures.none_left) (ap (λ (l : Loaded). l.limit) view ∙ part.limit)
+    (ap (λ (l : Loaded). l.records) view) (ap (λ (k : ℕ). k + 1) (ap (λ (l : Loaded). l.parts) view ∙ part.parts)) refl (ap (λ (l : Loaded). l.unfinished) view ∙ c.in_ok-end_last_line.ensures.none_left) (ap (λ (l : Loaded). l.limit) view ∙ part.limit)

@@ -11,5 +11,5 @@ returns-clause-takes c =
     let line = c.without_carriage_return.ensures ∙ ap without_return (c.as_slice.ensures.value ∙ ap (λ v. v.items) c.take-line.ensures.value ∙ kept ∙ sym (append-nil c.args.self.now.unfinished)) in
     let no_feed = subst IsWithoutLineFeed (kept ∙ sym (append-nil c.args.self.now.unfinished)) c.self.invariant.no_feed in
     ends_line c.args.self.now _ c.judge_next.new.self [] _ c.judge_next.result
-      (record { records = ap (λ (l : Loaded). l.records) view; parts = ap (λ (l : Loaded). l.parts) view; judged = ap (λ (l : Loaded). l.judged) view; limit = ap (λ (l : Loaded). l.limit) view })
-      c.judge_next.ensures.same_part line no_feed c.judge_next.ensures.judges c.judge_next.ensures.judged (c.judge_next.ensures.unfinished ∙ c.take-line.ensures.after)
+    (record { records = ap (λ (l : Loaded). l.records) view; parts = ap (λ (l : Loaded). l.parts) view; judged = ap (λ (l : Loaded). l.judged) view; limit = ap (λ (l : Loaded). l.limit) view })
+    c.judge_next.ensures.same_part line no_feed c.judge_next.ensures.judges c.judge_next.ensures.judged (c.judge_next.ensures.unfinished ∙ c.take-line.ensures.after)

@@ -18,5 +18,5 @@ returns-clause-ends c =
     let no_feed = subst IsWithoutLineFeed kept c.self.invariant.no_feed in
     let some : 0 < length c.args.self.now.unfinished = subst (λ (l : List ℕ). 0 < length l) kept (some_is c.self.inside.line.items (sym c.is_empty.ensures ∙ c.if-is_empty.false)) in
     ends_part c.args.self.now _ c.judge_next.new.self _ c.judge_next.result
-      (record { records = ap (λ (l : Loaded). l.records) view; parts = ap (λ (l : Loaded). l.parts) view; judged = ap (λ (l : Loaded). l.judged) view; limit = ap (λ (l : Loaded). l.limit) view })
-      some no_feed line c.judge_next.ensures.judges
+    (record { records = ap (λ (l : Loaded). l.records) view; parts = ap (λ (l : Loaded). l.parts) view; judged = ap (λ (l : Loaded). l.judged) view; limit = ap (λ (l : Loaded). l.limit) view })
+    some no_feed line c.judge_next.ensures.judges

@@ -11,15 +11,15 @@ returns-then-is_empty-clause-takes c =
     let none : c.args.self.now.unfinished ≡ [] = sym (ap (λ (l : Loaded). l.unfinished) c.self.view_is) ∙ empty_is c.self.inside.line.items (sym c.is_empty.ensures ∙ c.if-is_empty.true) in
     let joined : c.args.self.now.unfinished ++ c.args.bytes.now ≡ c.args.bytes.now = ap (λ (l : List ℕ). l ++ c.args.bytes.now) none in
     ends_line c.args.self.now c.args.self.now c.judge_next.new.self c.args.bytes.now _ c.judge_next.result
-      (record { records = refl; parts = refl; judged = refl; limit = refl })
-      c.judge_next.ensures.same_part (c.without_carriage_return.ensures ∙ ap without_return (sym joined)) (subst IsWithoutLineFeed (sym joined) c.requires.no_feed)
-      c.judge_next.ensures.judges c.judge_next.ensures.judged (c.judge_next.ensures.unfinished ∙ none)
+    (record { records = refl; parts = refl; judged = refl; limit = refl })
+    c.judge_next.ensures.same_part (c.without_carriage_return.ensures ∙ ap without_return (sym joined)) (subst IsWithoutLineFeed (sym joined) c.requires.no_feed)
+    c.judge_next.ensures.judges c.judge_next.ensures.judged (c.judge_next.ensures.unfinished ∙ none)
 
 pub returns-then-is_empty-clause-used : goal.returns-then-is_empty-clause-used
 returns-then-is_empty-clause-used c =
     let none : c.args.self.now.unfinished ≡ [] = sym (ap (λ (l : Loaded). l.unfinished) c.self.view_is) ∙ empty_is c.self.inside.line.items (sym c.is_empty.ensures ∙ c.if-is_empty.true) in
     ends_used c.args.self.now c.args.self.now c.judge_next.new.self c.args.bytes.now _ c.judge_next.result
-      (record { records = refl; parts = refl; judged = refl; limit = refl }) c.without_carriage_return.ensures none c.judge_next.ensures.judges c.judge_next.ensures.one_more
+    (record { records = refl; parts = refl; judged = refl; limit = refl }) c.without_carriage_return.ensures none c.judge_next.ensures.judges c.judge_next.ensures.one_more
 
 pub returns-in_err-hold-clause-takes : goal.returns-in_err-hold-clause-takes
 returns-in_err-hold-clause-takes c =

@@ -8,8 +8,8 @@ pub returns-in-Ok-clause-takes : goal.returns-in-Ok-clause-takes
 returns-in-Ok-clause-takes c =
     let view = c.self.view_is in
     holds_more _ _ c.args.self.now _ c.args.bytes.now
-      (record { records = ap (λ (l : Loaded). l.records) view; parts = ap (λ (l : Loaded). l.parts) view; judged = ap (λ (l : Loaded). l.judged) view; limit = ap (λ (l : Loaded). l.limit) view })
-      (c.in-Ok.ensures.ok ∙ ap (λ (l : List ℕ). l ++ c.args.bytes.now) (ap (λ (l : Loaded). l.unfinished) view))
+    (record { records = ap (λ (l : Loaded). l.records) view; parts = ap (λ (l : Loaded). l.parts) view; judged = ap (λ (l : Loaded). l.judged) view; limit = ap (λ (l : Loaded). l.limit) view })
+    (c.in-Ok.ensures.ok ∙ ap (λ (l : List ℕ). l ++ c.args.bytes.now) (ap (λ (l : Loaded). l.unfinished) view))
 
 pub returns-in-Ok-clause-most : goal.returns-in-Ok-clause-most
 returns-in-Ok-clause-most c =

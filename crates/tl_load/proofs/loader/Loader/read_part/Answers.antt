@@ -10,6 +10,10 @@ pub returns-clause-fed : goal.returns-clause-fed
 returns-clause-fed g c =
     let none : c.args.self.now.fault ≡ None = sym (ap (λ (l : Loaded). l.fault) c.self.view_is) ∙ none_is c.self.inside.fault c.in_default.not-Some in
     let e = c.read_to_end-outcome.ensures in
-    let r = e.reads in
-    (r.0, r.1, r.2, λ limit closed open_part w. rw (c.keep.ensures.same, c.keep.ensures.kept)
-      (fed_read limit c.args.self.now c.read_to_end-outcome.new.self r.0 (IsAtEnd (g.R.Source.remaining c.read_to_end-outcome.new.source)) c.read_to_end-outcome.result closed open_part none e.limit e.fault r.3 w))
+    let r = e.reads in (
+      r.0,
+      r.1,
+      r.2,
+      λ limit closed open_part w. rw (c.keep.ensures.same, c.keep.ensures.kept)
+          (fed_read limit c.args.self.now c.read_to_end-outcome.new.self r.0 (IsAtEnd (g.R.Source.remaining c.read_to_end-outcome.new.source)) c.read_to_end-outcome.result closed open_part none e.limit e.fault r.3 w),
+    )

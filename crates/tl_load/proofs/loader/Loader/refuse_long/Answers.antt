@@ -21,12 +21,12 @@ both c =
     let fits : length c.take-line.result.items + length (take n bytes) ≤ 229 = omega (arith, len, same, short, length-take n bytes) in
     let line : c.as_slice.result.now ≡ c.take-line.result.items ++ take n bytes = c.as_slice.ensures.value ∙ on_ok_of c.try_extend_from_slice.result (c.try_extend_from_slice.ensures.variant.1 fits) c.try_extend_from_slice.ensures.ok in
     let split : c.args.self.now.unfinished ++ bytes ≡ c.as_slice.result.now ++ drop n bytes =
-      ap (λ (l : List ℕ). l ++ bytes) (sym kept) ∙ ap (λ (l : List ℕ). c.take-line.result.items ++ l) (sym (take-append-drop n bytes)) ∙ sym (append_assoc c.take-line.result.items (take n bytes) (drop n bytes)) ∙ ap (λ (l : List ℕ). l ++ drop n bytes) (sym line) in
+    ap (λ (l : List ℕ). l ++ bytes) (sym kept) ∙ ap (λ (l : List ℕ). c.take-line.result.items ++ l) (sym (take-append-drop n bytes)) ∙ sym (append_assoc c.take-line.result.items (take n bytes) (drop n bytes)) ∙ ap (λ (l : List ℕ). l ++ drop n bytes) (sym line) in
     let no_feed = subst IsWithoutLineFeed (ap (λ (l : Loaded). l.unfinished) view) c.self.invariant.no_feed in
     refuses c.args.self.now _ c.judge_next.new.self bytes _ (drop n bytes) c.judge_next.result
-      (record { records = ap (λ (l : Loaded). l.records) view; parts = ap (λ (l : Loaded). l.parts) view; judged = ap (λ (l : Loaded). l.judged) view; limit = ap (λ (l : Loaded). l.limit) view })
-      split (omega (arith, len, same, short, c.requires.too_long, length-drop n bytes))
-      (rw line (omega (arith, len, same, short, c.requires.too_long, length-take n bytes, length-append c.take-line.result.items (take n bytes)))) (All-append (λ b. is_line_feed b ≡ false) c.args.self.now.unfinished bytes no_feed c.requires.no_feed) c.judge_next.ensures.judges
+    (record { records = ap (λ (l : Loaded). l.records) view; parts = ap (λ (l : Loaded). l.parts) view; judged = ap (λ (l : Loaded). l.judged) view; limit = ap (λ (l : Loaded). l.limit) view })
+    split (omega (arith, len, same, short, c.requires.too_long, length-drop n bytes))
+    (rw line (omega (arith, len, same, short, c.requires.too_long, length-take n bytes, length-append c.take-line.result.items (take n bytes)))) (All-append (λ b. is_line_feed b ≡ false) c.args.self.now.unfinished bytes no_feed c.requires.no_feed) c.judge_next.ensures.judges
 
 pub returns-clause-takes : goal.returns-clause-takes
 returns-clause-takes c = (both c).0

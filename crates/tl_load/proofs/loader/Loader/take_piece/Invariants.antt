@@ -6,7 +6,7 @@ abbrev pub invariant-loop-end : goal.invariant-loop-end
 invariant-loop-end l = record {
   leaves : Leaves l.initial.self l.piece l.self l.rest;
   same_part : IsSamePart l.initial.self l.self;
-  used : bytes_used l.initial.self + length l.piece ≤ bytes_used l.self + length l.rest
+  used : bytes_used l.initial.self + length l.piece ≤ bytes_used l.self + length l.rest;
 }
 
 abbrev pub decreases-loop-end : goal.decreases-loop-end
