@@ -30,7 +30,7 @@ none_bad line e k d lt =
     let le = ltb-false _ _ e in
     not-false (is_allowed (get_or line k d)) (fails_before_first (λ b. not (is_allowed b)) line k d (omega arith))
 
-bad_none : (line : List ℕ) → AreAllowed line → ltb (first_bad line) (length line) ≡ false
+pub bad_none : (line : List ℕ) → AreAllowed line → ltb (first_bad line) (length line) ≡ false
 unfolding AreAllowed
 bad_none line h =
     let at_end = position_or_len_is (λ b. not (is_allowed b)) line (length line) 0 (omega arith) (λ k lt. not_from_true _ (h k 0 lt)) (λ lt. absurd (omega arith)) in
