@@ -5,3 +5,4 @@ pub mod Outcome
 pub mod LineOf
 pub mod Choice
 pub mod Loaded
+pub mod Countdown

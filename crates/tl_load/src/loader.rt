@@ -210,8 +210,8 @@ impl Loader {
         if self.line.is_empty() {
             return Ok(());
         }
-        let line = self.line.take();
-        self.judge_next(without_carriage_return(line.as_slice()))
+        let tail = self.line.take();
+        self.judge_next(without_carriage_return(tail.as_slice()))
     }
 
     // Ends the open part, and opens the next one.
@@ -328,11 +328,13 @@ impl Loader {
         // The device is at fault exactly where the source failed in this call.
         ensures device { self.old.fault ≡ None → R.failed source.new ≡ (if is_device result then R.failed source.old + 1 else R.failed source.old) }
     {
-        if let Some(fault) = self.fault {
-            return Err(fault);
+        match self.fault {
+            Some(fault) => Err(fault),
+            None => {
+                let outcome = self.read_to_end(source);
+                self.keep(outcome)
+            }
         }
-        let outcome = self.read_to_end(source);
-        self.keep(outcome)
     }
 
     /// Ends the open part, if bytes were fed into it, and answers the records of all parts, in the order of their lines.

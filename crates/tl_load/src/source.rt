@@ -1,6 +1,8 @@
 //! Where bytes come from.
 
-ghost use Rattle.std.specs.Prelude.{◌≡◌, ◌≢◌, ◌≤◌, ◌<◌, ◌+◌, ℕ, List, Option, Some, length, IfOk, is_ok, if◌then◌else◌};
+ghost use Rattle.std.specs.Prelude.{◌≡◌, ◌≢◌, ◌≤◌, ◌<◌, ◌+◌, ℕ, List, Option, Some, length, IfOk, is_ok, IsTrue, ◌↔◌, if◌then◌else◌};
+ghost use Rattle.std.specs.Result.{IsErr};
+ghost use Rattle.tl_load.specs.Countdown.{counted_down};
 ghost use Rattle.std.specs.Io.KnownBytes.{ReadConsumes};
 
 use std::io::Read;
@@ -78,8 +80,8 @@ impl<'a> SlowSource<'a> {
     /// other; for `None` none does.
     pub fn new(bytes: &'a [u8], most: usize, failing: Option<u64>) -> Self
         requires { 0 < most }
-        ensures failures { result.failures ≡ 0 }
-        ensures bytes { result.bytes.now ≡ bytes.now }
+        ensures failures { ⟦<SlowSource<'a> as Source>⟧.failed result ≡ 0 }
+        ensures bytes { ⟦<SlowSource<'a> as Source>⟧.remaining result ≡ Some bytes.now }
         ensures most { result.most ≡ most }
         ensures failing { result.reads_to_failure ≡ failing }
     {
@@ -93,17 +95,20 @@ impl<'a> SlowSource<'a> {
 }
 
 // Counts a read down, and says whether it is the one that fails.
-fn is_failing_read(reads_to_failure: &mut Option<u64>) -> bool {
+fn is_failing_read(reads_to_failure: &mut Option<u64>) -> bool
+    ensures fails { IsTrue result ↔ (reads_to_failure.old ≡ Some 1) }
+    ensures counted { reads_to_failure.new ≡ counted_down reads_to_failure.old }
+{
     match *reads_to_failure {
-        Some(1) => {
-            *reads_to_failure = None;
-            true
-        }
         Some(reads) if reads > 1 => {
             *reads_to_failure = Some(reads - 1);
             false
         }
-        _ => false,
+        Some(reads) => {
+            *reads_to_failure = None;
+            reads == 1
+        }
+        None => false,
     }
 }
 
@@ -116,7 +121,18 @@ impl Source for SlowSource<'_> {
         self.failures
     }
 
-    fn read(&mut self, buf: &mut [u8]) -> Result<usize, DeviceFault> {
+    fn read(&mut self, buf: &mut [u8]) -> Result<usize, DeviceFault>
+        requires { self.old.failures < u64.MAX }
+        ensures failures { self.new.failures ≡ (if is_ok result then self.old.failures else self.old.failures + 1) }
+        ensures bound { IfOk result (λ n. n ≤ length buf.new) }
+        ensures bytes { ReadConsumes (Some self.old.bytes.now) (Some self.new.bytes.now) result buf.new }
+        // No more than the most that a read gives.
+        ensures few { IfOk result (λ n. n ≤ self.old.most) }
+        // The read that is to fail does, and no other.
+        ensures fails { IsErr result ↔ (self.old.reads_to_failure ≡ Some 1) }
+        ensures counted { self.new.reads_to_failure ≡ counted_down self.old.reads_to_failure }
+        ensures most { self.new.most ≡ self.old.most }
+    {
         if is_failing_read(&mut self.reads_to_failure) {
             self.failures += 1;
             return Err(DeviceFault);

@@ -14,7 +14,7 @@ pub returns-clause-ends : goal.returns-clause-ends
 returns-clause-ends c =
     let view = c.self.view_is in
     let kept : c.self.inside.line.items ≡ c.args.self.now.unfinished = ap (λ (l : Loaded). l.unfinished) view in
-    let line = c.without_carriage_return.ensures ∙ ap without_return (c.as_slice.ensures.value ∙ ap (λ v. v.items) c.take-line.ensures.value ∙ kept) in
+    let line = c.without_carriage_return.ensures ∙ ap without_return (c.as_slice.ensures.value ∙ ap (λ v. v.items) c.take-tail.ensures.value ∙ kept) in
     let no_feed = subst IsWithoutLineFeed kept c.self.invariant.no_feed in
     let some : 0 < length c.args.self.now.unfinished = subst (λ (l : List ℕ). 0 < length l) kept (some_is c.self.inside.line.items (sym c.is_empty.ensures ∙ c.if-is_empty.false)) in
     ends_part c.args.self.now _ c.judge_next.new.self _ c.judge_next.result

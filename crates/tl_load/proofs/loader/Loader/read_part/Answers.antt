@@ -3,12 +3,11 @@ use Rattle.std.specs.Prelude.{Option, Some, None}
 use Rattle.std.specs.Io.KnownBytes.{IsAtEnd}
 use Rattle.tl_load.specs.Loaded.{Loaded}
 use Rattle.tl_load.proofs.Histories.{fed_read}
-use Rattle.tl_load.proofs.Views.{none_is}
 use Rattle.tl_load.proofs.loader.Loader.read_part.Goals as goal
 
-pub returns-clause-fed : goal.returns-clause-fed
-returns-clause-fed g c =
-    let none : c.args.self.now.fault ≡ None = sym (ap (λ (l : Loaded). l.fault) c.self.view_is) ∙ none_is c.self.inside.fault c.in_default.not-Some in
+pub returns-in-None-clause-fed : goal.returns-in-None-clause-fed
+returns-in-None-clause-fed g c =
+    let none : c.args.self.now.fault ≡ None = sym (ap (λ (l : Loaded). l.fault) c.self.view_is) ∙ c.in-None.is in
     let e = c.read_to_end-outcome.ensures in
     let r = e.reads in (
       r.0,
