@@ -1,18 +1,20 @@
 -- What the fields of a line spell and what they are read as is one and the same; what is read is in range; and the
 -- canonical texts spell their values.
-use Rattle.std.proofs.Common.{◌≡◌, ℕ, zero, suc, ◌+◌, ◌-◌, ◌^◌, ◌<◌, ◌≤◌, List, length, drop, Bool, true, false, cond, nat_eq, Option, Some, None, unwrap_or, Result, Ok, Err, refl, sym, ap, ◌∙◌, subst, arith, inl, inr, lit<, ℤ, pos, negsuc, unsigned_abs}
+use Rattle.std.proofs.Common.{◌≡◌, ℕ, zero, suc, ◌+◌, ◌-◌, ◌^◌, ◌<◌, ◌≤◌, List, length, drop, Bool, true, false, cond, nat_eq, Option, Some, None, unwrap_or, IfSome, Result, Ok, Err, refl, sym, ap, ◌∙◌, subst, arith, inl, inr, lit<, ℤ, pos, negsuc, unsigned_abs}
 use Rattle.std.proofs.lemmas.List.{length-drop, length-take-le}
 use Rattle.std.proofs.lemmas.Bool.{eqb-true, eqb-false, ne_eqb}
 use Rattle.std.proofs.Math.Nat.{one-le-pow}
-use Rattle.tl_layout.specs.Bytes.{columns}
+use Rattle.tl_layout.specs.Bytes.{columns, IsText}
+use Rattle.std.specs.List.{list_all}
+use Rattle.tl_layout.specs.ByteLaws.{blanks_are_text}
 use Rattle.tl_layout.specs.Numbers.{IsNumber, IsNumberOrNone}
 use Rattle.tl_layout.specs.Coordinates.{Coordinates, IsOnMap}
-use Rattle.tl_layout.specs.NumberField.{number_of, number_text}
+use Rattle.tl_layout.specs.NumberField.{is_blank, number_of, number_text}
 use Rattle.tl_layout.specs.NumberLaws.{number_found, number_only}
 use Rattle.tl_layout.specs.NumberTextLaws.{number_below, number_text_spells}
 use Rattle.tl_layout.specs.CoordinateField.{IsCoordinateField, coordinate_of, coordinate_text}
-use Rattle.tl_layout.specs.CoordinateLaws.{coordinate_found, coordinate_only, coordinate_within, blank_found, blank_only, coordinate_text_spells}
-use Rattle.tl_layout.specs.FieldReading.{and_then, SpellsNumber, SpellsNumberOrNone, SpellsPoint, SpellsPointOrNone, demanded_number, possible_number, number_at, number_or_none_at, point_or_none, pair_of, point_or_none_at, demanded_point, point_at}
+use Rattle.tl_layout.specs.CoordinateLaws.{coordinate_found, coordinate_only, coordinate_within, blank_found, blank_only, coordinate_text_spells, coordinate_text_is_text}
+use Rattle.tl_layout.specs.FieldReading.{and_then, SpellsNumber, SpellsNumberOrNone, SpellsPoint, SpellsPointOrNone, demanded_number, possible_number, number_at, number_or_none_at, point_or_none, pair_of, point_or_none_at, demanded_point, point_at, long_text, lat_text}
 use Rattle.tl_layout.specs.declared.coordinate.Coordinate.{Coordinate}
 use Rattle.tl_layout.specs.declared.coordinate.Coordinate.TheVariants.{Malformed, Blank, Value}
 use Rattle.tl_layout.specs.declared.fault.FieldFault.{FieldFault}
@@ -189,3 +191,22 @@ columns_len first last line f o l =
 pub number_read_in_range : (first last : ℕ) (line : List ℕ) (n : ℕ) → number_of (columns first last line) ≡ Some n → 1 ≤ first → first ≤ last → last ≤ length line → 0 < n → IsNumber (last + 1 - first) n
 number_read_in_range first last line n h f o l p =
     number_fits (last + 1 - first) n (columns first last line) (columns_len first last line f o l) (number_found (columns first last line) n h, p)
+
+-- a point or none that is spelt lies on the map, if it is one
+pub point_or_none_on_map : (long lat : List ℕ) (point : Option Coordinates) → SpellsPointOrNone long lat point → IfSome point IsOnMap
+point_or_none_on_map long lat None h = tt
+point_or_none_on_map long lat (Some point) h = point_on_map long lat point h
+
+-- the canonical texts of a point or none fit their columns
+pub long_text_is_text : (point : Option Coordinates) → IsText 10 (long_text point)
+long_text_is_text None = blanks_are_text 10
+long_text_is_text (Some point) = coordinate_text_is_text 9 point.long
+
+pub lat_text_is_text : (point : Option Coordinates) → IsText 9 (lat_text point)
+lat_text_is_text None = blanks_are_text 9
+lat_text_is_text (Some point) = coordinate_text_is_text 8 point.lat
+
+-- fields that hold those texts spell the point, or none
+pub point_or_none_again : (point : Option Coordinates) (long lat : List ℕ) → long ≡ long_text point → lat ≡ lat_text point → IfSome point IsOnMap → SpellsPointOrNone long lat point
+point_or_none_again None long lat e e' h = inl (ap (list_all is_blank) e, ap (list_all is_blank) e')
+point_or_none_again (Some point) long lat e e' h = point_again point long lat e e' h

@@ -1,8 +1,8 @@
 -- Number fields and pairs of coordinates in the columns of a line: what they spell, and what they are read as.
-use Rattle.std.specs.Prelude.{ℕ, zero, suc, ◌+◌, ◌<◌, ◌==◌, ◌⊎◌, List, ◌++◌, replicate, Option, Some, None, Result, Ok, Err, if◌then◌else◌, ℤ, pos, unsigned_abs}
+use Rattle.std.specs.Prelude.{◌≡◌, ◌++◌, ℕ, zero, suc, ◌+◌, ◌<◌, ◌==◌, ◌⊎◌, List, replicate, Option, Some, None, unwrap_or, Result, Ok, Err, if◌then◌else◌, ℤ, pos, unsigned_abs}
 use Rattle.tl_layout.specs.Bytes.{columns}
 use Rattle.tl_layout.specs.Coordinates.{Coordinates}
-use Rattle.tl_layout.specs.NumberField.{IsNumberField, number_of}
+use Rattle.tl_layout.specs.NumberField.{IsNumberField, number_of, number_text}
 use Rattle.tl_layout.specs.CoordinateField.{IsCoordinateField, IsBlankField, coordinate_of, coordinate_text}
 use Rattle.tl_layout.specs.declared.coordinate.Coordinate.{Coordinate}
 use Rattle.tl_layout.specs.declared.coordinate.Coordinate.TheVariants.{Malformed, Blank, Value}
@@ -95,11 +95,34 @@ demanded_point column (Some point) = Ok point
 unfoldable pub point_at : ℕ → List ℕ → Result Coordinates FieldFault
 point_at column line = point_or_none_at column line >>= demanded_point column
 
--- a longitude of a sign and nine digits, and a latitude of a sign and eight
-unfoldable pub point_text : Coordinates → List ℕ
-point_text point = coordinate_text 9 point.long ++ coordinate_text 8 point.lat
+-- the canonical text of a longitude: a sign and nine digits, or blanks where there is no point
+abbrev pub long_text : Option Coordinates → List ℕ
+long_text None = replicate 10 32
+long_text (Some point) = coordinate_text 9 point.long
 
--- a point, or 19 blanks
-unfoldable pub point_or_blanks_text : Option Coordinates → List ℕ
-point_or_blanks_text None = replicate 19 32
-point_or_blanks_text (Some point) = point_text point
+-- the canonical text of a latitude: a sign and eight digits, or blanks where there is no point
+abbrev pub lat_text : Option Coordinates → List ℕ
+lat_text None = replicate 9 32
+lat_text (Some point) = coordinate_text 8 point.lat
+
+-- the canonical text of a place for a point: the point, or two zeros where it is unused
+abbrev pub point_place_text : Option Coordinates → List ℕ
+point_place_text None = coordinate_text 9 (pos 0) ++ coordinate_text 8 (pos 0)
+point_place_text (Some point) = coordinate_text 9 point.long ++ coordinate_text 8 point.lat
+
+-- the place for a point that begins in this column of a line
+abbrev pub SpellsPointPlace : List ℕ → ℕ → Option Coordinates → Type 0
+SpellsPointPlace line column place = SpellsPointOrNone (columns column (column + 9) line) (columns (column + 10) (column + 18) line) place
+
+-- the place for a number that begins in this column of a line and is eight columns wide
+abbrev pub SpellsNumberPlace : List ℕ → ℕ → Option ℕ → Type 0
+SpellsNumberPlace line column place = SpellsNumberOrNone (columns column (column + 7) line) place
+
+-- the canonical text of such a place
+abbrev pub number_place_text : Option ℕ → List ℕ
+number_place_text place = number_text 8 (unwrap_or place 0)
+
+-- A function of the code answered what reading gives, seen by view.
+abbrev pub Gives : {X Y : Type 0} → (X → Y) → Result X FieldFault → Result Y FieldFault → Type 0
+Gives view (Ok x) reading = reading ≡ Ok (view x)
+Gives view (Err e) reading = reading ≡ Err e

@@ -11,6 +11,8 @@ pub mod Coordinates
 pub mod Numbers
 pub mod FieldReading
 pub mod FieldLaws
+pub mod Places
+pub mod PlaceLaws
 pub mod PolygonSide
 pub mod Names
 pub mod Pairs
@@ -21,3 +23,17 @@ pub mod Type1
 pub mod Type1Laws
 pub mod TypeI
 pub mod TypeILaws
+pub mod Type5
+pub mod Type5Laws
+pub mod Type6
+pub mod Type6Laws
+pub mod Type7
+pub mod Type7Laws
+pub mod Type8
+pub mod Type8Laws
+pub mod TypeP
+pub mod TypePLaws
+pub mod Type2
+pub mod Type2Laws
+pub mod Type4
+pub mod Type4Laws

@@ -6,6 +6,7 @@ ghost use Rattle.tl_layout.specs.Numbers.{IsNumber, IsNumberOrNone};
 ghost use Rattle.tl_layout.specs.NumberField.{number_text};
 ghost use Rattle.tl_layout.specs.CoordinateField.{coordinate_text};
 ghost use Rattle.tl_layout.specs.Columns.{joined};
+ghost use Rattle.tl_layout.specs.Places.{gap};
 ghost use Rattle.tl_layout.specs.FieldReading.{number_at, number_or_none_at, point_at, point_or_none_at, bad_point};
 
 use crate::coordinate::{Coordinate, put_coordinate, read_coordinate};
@@ -75,6 +76,17 @@ fn bad_point(column: usize) -> FieldFault
 {
     FieldFault {
         kind: FieldKind::BadPoint,
+        column: column as u16,
+    }
+}
+
+/// That a used place stands after an unused one, told at this column.
+pub fn gap(column: usize) -> FieldFault
+    requires { column ≤ 228 }
+    ensures { result ≡ gap column }
+{
+    FieldFault {
+        kind: FieldKind::GapInRecord,
         column: column as u16,
     }
 }

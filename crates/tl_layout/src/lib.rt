@@ -8,6 +8,7 @@ mod layout;
 mod name;
 mod number;
 mod pair;
+mod place;
 mod point;
 mod ranges;
 mod record_type;

@@ -1,10 +1,11 @@
 //! Writing fields into the columns of a line, counted from 1 as in the column tables, from left to right.
 
-ghost use Rattle.std.specs.Prelude.{◌≡◌, ◌+◌, ◌-◌, ◌≤◌, ◌<◌, [], ◌∷◌, ◌++◌, length, take, replicate, codes};
+ghost use Rattle.std.specs.Prelude.{◌≡◌, ◌+◌, ◌-◌, ◌≤◌, ◌<◌, [], ◌∷◌, ◌++◌, length, take, replicate, codes, IfSome, pos};
 ghost use Rattle.tl_layout.specs.Bytes.{IsText};
 ghost use Rattle.tl_layout.specs.NumberField.{number_text};
 ghost use Rattle.tl_layout.specs.CoordinateField.{coordinate_text};
 ghost use Rattle.tl_layout.specs.Coordinates.{IsOnMap};
+ghost use Rattle.tl_layout.specs.FieldReading.{long_text, lat_text};
 ghost use Rattle.tl_layout.specs.Columns.{joined};
 
 use crate::coordinate::put_coordinate;
@@ -77,4 +78,32 @@ pub fn write_point(out: &mut [u8], column: usize, point: &Point)
 {
     write_coordinate(out, column, column + 9, point.long());
     write_coordinate(out, column + 10, column + 18, point.lat());
+}
+
+/// Writes a pair of zeros into the 19 columns from this one on.
+pub fn write_zeros(out: &mut [u8], column: usize)
+    requires from_one { 1 ≤ column }
+    requires within { column + 18 ≤ length out.old }
+    ensures { take (column + 18) out.new
+        ≡ joined (take (column - 1) out.old) (coordinate_text 9 (pos 0) ∷ coordinate_text 8 (pos 0) ∷ []) }
+{
+    write_coordinate(out, column, column + 9, 0);
+    write_coordinate(out, column + 10, column + 18, 0);
+}
+
+/// Writes the pair of coordinates of a point into the 19 columns from this one on, blanks where there is none.
+pub fn write_point_or_blanks(out: &mut [u8], column: usize, point: &Option<Point>)
+    requires from_one { 1 ≤ column }
+    requires within { column + 18 ≤ length out.old }
+    ensures written { take (column + 18) out.new
+        ≡ joined (take (column - 1) out.old) (long_text point.now ∷ lat_text point.now ∷ []) }
+    ensures on_map { IfSome point.now IsOnMap }
+{
+    match point {
+        Some(point) => write_point(out, column, point),
+        None => {
+            write_blanks(out, column, column + 9);
+            write_blanks(out, column + 10, column + 18);
+        }
+    }
 }
