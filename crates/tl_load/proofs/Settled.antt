@@ -5,9 +5,16 @@ use Rattle.std.proofs.lemmas.Bool.{lt-ltb}
 use Rattle.std.proofs.lemmas.List.{length-append}
 use Rattle.tl_layout.specs.declared.fault.FieldFault.{FieldFault}
 use Rattle.tl_layout.specs.declared.record_type.Record.{Record}
-use Rattle.tl_layout.specs.declared.record_type.Record.TheVariants.{One, I}
+use Rattle.tl_layout.specs.declared.record_type.Record.TheVariants.{One, Two, Four, Five, Six, Seven, Eight, I, P}
 use Rattle.tl_layout.specs.Type1.{type_1_reading}
+use Rattle.tl_layout.specs.Type2.{type_2_reading}
+use Rattle.tl_layout.specs.Type4.{type_4_reading}
+use Rattle.tl_layout.specs.Type5.{type_5_reading}
+use Rattle.tl_layout.specs.Type6.{type_6_reading}
+use Rattle.tl_layout.specs.Type7.{type_7_reading}
+use Rattle.tl_layout.specs.Type8.{type_8_reading}
 use Rattle.tl_layout.specs.TypeI.{type_i_reading}
+use Rattle.tl_layout.specs.TypeP.{type_p_reading}
 use Rattle.tl_load.specs.declared.fault.LineFault.{LineFault}
 use Rattle.tl_load.specs.declared.fault.LineFault.TheVariants as line_faults
 use Rattle.tl_load.specs.LineOf.{judged_as, judged_full, filled}
@@ -19,13 +26,20 @@ too_long len reading wrap line low long = ap (λ (b : Bool). as_record wrap (con
 
 -- what a line of more than 228 bytes is refused as, by its first byte
 long_fault : ℕ → Result Record LineFault
-long_fault rtype = cond (eqb rtype 49) (Err line_faults.LineTooLong) (cond (eqb rtype 73) (Err line_faults.LineTooLong) (Err line_faults.UnknownType))
+long_fault rtype = cond (eqb rtype 49) (Err line_faults.LineTooLong) (cond (eqb rtype 50) (Err line_faults.LineTooLong) (cond (eqb rtype 52) (Err line_faults.LineTooLong) (cond (eqb rtype 53) (Err line_faults.LineTooLong) (cond (eqb rtype 54) (Err line_faults.LineTooLong) (cond (eqb rtype 55) (Err line_faults.LineTooLong) (cond (eqb rtype 56) (Err line_faults.LineTooLong) (cond (eqb rtype 73) (Err line_faults.LineTooLong) (cond (eqb rtype 80) (Err line_faults.LineTooLong) (Err line_faults.UnknownType)))))))))
 
 long_by : (rtype : ℕ) (line : List ℕ) → 228 < length line → judged_by rtype line ≡ long_fault rtype
 unfolding judged_by long_fault
 long_by rtype line long =
-    let one = too_long 228 type_1_reading One line (lit≤ tt) long in
-    let i = too_long 127 type_i_reading I line (lit≤ tt) long in
+    let e49 = too_long 228 type_1_reading One line (lit≤ tt) long in
+    let e50 = too_long 208 type_2_reading Two line (lit≤ tt) long in
+    let e52 = too_long 58 type_4_reading Four line (lit≤ tt) long in
+    let e53 = too_long 56 type_5_reading Five line (lit≤ tt) long in
+    let e54 = too_long 76 type_6_reading Six line (lit≤ tt) long in
+    let e55 = too_long 74 type_7_reading Seven line (lit≤ tt) long in
+    let e56 = too_long 36 type_8_reading Eight line (lit≤ tt) long in
+    let e73 = too_long 127 type_i_reading I line (lit≤ tt) long in
+    let e80 = too_long 45 type_p_reading P line (lit≤ tt) long in
     cc
 
 err_cond : (b : Bool) (x y : Result Record LineFault) → IsErr x → IsErr y → IsErr (cond b x y)
@@ -34,9 +48,7 @@ err_cond false x y p q = q
 
 err_long : (rtype : ℕ) → IsErr (long_fault rtype)
 unfolding long_fault
-err_long rtype =
-    err_cond (eqb rtype 49) (Err line_faults.LineTooLong) (cond (eqb rtype 73) (Err line_faults.LineTooLong) (Err line_faults.UnknownType)) refl
-    (err_cond (eqb rtype 73) (Err line_faults.LineTooLong) (Err line_faults.UnknownType) refl refl)
+err_long rtype = err_cond (eqb rtype 49) (Err line_faults.LineTooLong) (cond (eqb rtype 50) (Err line_faults.LineTooLong) (cond (eqb rtype 52) (Err line_faults.LineTooLong) (cond (eqb rtype 53) (Err line_faults.LineTooLong) (cond (eqb rtype 54) (Err line_faults.LineTooLong) (cond (eqb rtype 55) (Err line_faults.LineTooLong) (cond (eqb rtype 56) (Err line_faults.LineTooLong) (cond (eqb rtype 73) (Err line_faults.LineTooLong) (cond (eqb rtype 80) (Err line_faults.LineTooLong) (Err line_faults.UnknownType))))))))) refl (err_cond (eqb rtype 50) (Err line_faults.LineTooLong) (cond (eqb rtype 52) (Err line_faults.LineTooLong) (cond (eqb rtype 53) (Err line_faults.LineTooLong) (cond (eqb rtype 54) (Err line_faults.LineTooLong) (cond (eqb rtype 55) (Err line_faults.LineTooLong) (cond (eqb rtype 56) (Err line_faults.LineTooLong) (cond (eqb rtype 73) (Err line_faults.LineTooLong) (cond (eqb rtype 80) (Err line_faults.LineTooLong) (Err line_faults.UnknownType)))))))) refl (err_cond (eqb rtype 52) (Err line_faults.LineTooLong) (cond (eqb rtype 53) (Err line_faults.LineTooLong) (cond (eqb rtype 54) (Err line_faults.LineTooLong) (cond (eqb rtype 55) (Err line_faults.LineTooLong) (cond (eqb rtype 56) (Err line_faults.LineTooLong) (cond (eqb rtype 73) (Err line_faults.LineTooLong) (cond (eqb rtype 80) (Err line_faults.LineTooLong) (Err line_faults.UnknownType))))))) refl (err_cond (eqb rtype 53) (Err line_faults.LineTooLong) (cond (eqb rtype 54) (Err line_faults.LineTooLong) (cond (eqb rtype 55) (Err line_faults.LineTooLong) (cond (eqb rtype 56) (Err line_faults.LineTooLong) (cond (eqb rtype 73) (Err line_faults.LineTooLong) (cond (eqb rtype 80) (Err line_faults.LineTooLong) (Err line_faults.UnknownType)))))) refl (err_cond (eqb rtype 54) (Err line_faults.LineTooLong) (cond (eqb rtype 55) (Err line_faults.LineTooLong) (cond (eqb rtype 56) (Err line_faults.LineTooLong) (cond (eqb rtype 73) (Err line_faults.LineTooLong) (cond (eqb rtype 80) (Err line_faults.LineTooLong) (Err line_faults.UnknownType))))) refl (err_cond (eqb rtype 55) (Err line_faults.LineTooLong) (cond (eqb rtype 56) (Err line_faults.LineTooLong) (cond (eqb rtype 73) (Err line_faults.LineTooLong) (cond (eqb rtype 80) (Err line_faults.LineTooLong) (Err line_faults.UnknownType)))) refl (err_cond (eqb rtype 56) (Err line_faults.LineTooLong) (cond (eqb rtype 73) (Err line_faults.LineTooLong) (cond (eqb rtype 80) (Err line_faults.LineTooLong) (Err line_faults.UnknownType))) refl (err_cond (eqb rtype 73) (Err line_faults.LineTooLong) (cond (eqb rtype 80) (Err line_faults.LineTooLong) (Err line_faults.UnknownType)) refl (err_cond (eqb rtype 80) (Err line_faults.LineTooLong) (Err line_faults.UnknownType) refl refl))))))))
 
 is_err_along : (x y : Result Record LineFault) → x ≡ y → IsErr y → IsErr x
 is_err_along x y e h = rw e h

@@ -7,7 +7,7 @@ ghost use Rattle.tl_load.specs.Choice.{judged, type_of};
 
 use crate::bytes::first_bad;
 use crate::fault::LineFault;
-use tl_layout::{Layout, Rec1, RecI, Record};
+use tl_layout::{Layout, Rec1, Rec2, Rec4, Rec5, Rec6, Rec7, Rec8, RecI, RecP, Record};
 
 /// The record of a line, or its fault. The line has neither LF nor the CR before it.
 #[tactic(auto, unfolding(crate::specs::Choice::judged, crate::specs::Choice::judged_by))]
@@ -15,14 +15,15 @@ pub(crate) fn judge_line(line: &[u8]) -> Result<Record, LineFault>
     ensures { result ≡ judged line.now }
 {
     match line {
-        [b'1', ..] => match judge_as::<Rec1>(line) {
-            Ok(found) => Ok(Record::One(found)),
-            Err(fault) => Err(fault),
-        },
-        [b'I', ..] => match judge_as::<RecI>(line) {
-            Ok(found) => Ok(Record::I(found)),
-            Err(fault) => Err(fault),
-        },
+        [b'1', ..] => judge_as::<Rec1>(line).map(Record::One),
+        [b'2', ..] => judge_as::<Rec2>(line).map(Record::Two),
+        [b'4', ..] => judge_as::<Rec4>(line).map(Record::Four),
+        [b'5', ..] => judge_as::<Rec5>(line).map(Record::Five),
+        [b'6', ..] => judge_as::<Rec6>(line).map(Record::Six),
+        [b'7', ..] => judge_as::<Rec7>(line).map(Record::Seven),
+        [b'8', ..] => judge_as::<Rec8>(line).map(Record::Eight),
+        [b'I', ..] => judge_as::<RecI>(line).map(Record::I),
+        [b'P', ..] => judge_as::<RecP>(line).map(Record::P),
         _ => Err(LineFault::UnknownType),
     }
 }
