@@ -37,3 +37,5 @@ pub mod Type2
 pub mod Type2Laws
 pub mod Type4
 pub mod Type4Laws
+pub mod RecordText
+pub mod RecordLaws
