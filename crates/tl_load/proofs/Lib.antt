@@ -8,3 +8,4 @@ pub mod Histories
 pub mod ReadSteps
 pub mod Filling
 pub mod LineLaws
+pub mod TextLemmas

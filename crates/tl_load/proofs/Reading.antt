@@ -225,7 +225,7 @@ outcome_from_fault {R} judge limit parts fault f =
     ∙ ap (λ (z : Result (List R) LoadFault). z >>= λ more. reading judge limit more f.after) (next_faulty judge limit f.records f.line fault f.fault_is)
 
 -- the same line is judged one way
-verdicts_same : {R : Type 0} (a b : List R) → ◌≡◌ {A = List (Result R LineFault)} (map (λ (r : R). Ok r) a) (map (λ (r : R). Ok r) b) → a ≡ b
+pub verdicts_same : {R : Type 0} (a b : List R) → ◌≡◌ {A = List (Result R LineFault)} (map (λ (r : R). Ok r) a) (map (λ (r : R). Ok r) b) → a ≡ b
 verdicts_same [] [] e = refl
 verdicts_same [] (y ∷ b) e = absurd cc
 verdicts_same (x ∷ a) [] e = absurd cc

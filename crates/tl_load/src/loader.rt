@@ -9,7 +9,7 @@ ghost use Rattle.tl_load.specs.Outcome.{Accepts, FaultAt};
 ghost use Rattle.tl_load.specs.Loaded.{Takes, Ends, Closes, Reads, FedPart, Judges, Adds, IsSamePart, IsNotDevice, is_device, IsOfLines, IsFaultHowever, WasFed, with_fault, all_parts, bytes_used};
 
 use crate::fault::LoadFault;
-use crate::judge::{judge_line, record_type};
+use crate::judge::judge_line;
 use crate::line::without_carriage_return;
 use crate::source::Source;
 use arrayvec::ArrayVec;
@@ -91,7 +91,7 @@ impl Loader {
         ensures one_more { OnOk result (length self.new.records ≡ length self.old.records + 1) }
         ensures no_device { IfErr result IsNotDevice }
     {
-        let rtype = record_type(&added);
+        let rtype = added.record_type();
         let count = self.counts[rtype as usize];
         if self.limit <= count {
             return Err(LoadFault::TooManyRecords { rtype });
