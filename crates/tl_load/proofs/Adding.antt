@@ -12,7 +12,7 @@ use Rattle.tl_load.specs.Lines.{is_line_feed}
 use Rattle.tl_load.specs.Outcome.{count_of, with_record}
 use Rattle.tl_layout.specs.RecordText.{type_of}
 use Rattle.tl_load.specs.Choice.{tiger}
-use Rattle.tl_load.specs.Loaded.{IsLoader}
+use Rattle.tl_load.specs.Steps.{IsLoader}
 use Rattle.tl_load.proofs.Reading.{count_push}
 
 tiger_rtype : (r : Record) → tiger.rtype r ≡ type_of r

@@ -8,7 +8,8 @@ use Rattle.tl_load.specs.Lines.{lines}
 use Rattle.tl_load.specs.Places.{PlacedLine, numbered, lines_from_part, placed_lines}
 use Rattle.tl_load.specs.Outcome.{Accepts, FaultAt, reading, outcome}
 use Rattle.tl_load.specs.Choice.{tiger}
-use Rattle.tl_load.specs.Loaded.{Loaded, IsSamePart, IsOfLines, to_come, IsFaultHowever, WasFed, all_parts, Takes, Ends, Closes, Reads, FedPart, with_fault}
+use Rattle.tl_load.specs.Loaded.{Loaded, IsOfLines, to_come, IsFaultHowever, WasFed, all_parts, FedPart}
+use Rattle.tl_load.specs.Steps.{IsSamePart, Takes, Ends, Closes, Reads, with_fault}
 use Rattle.tl_load.proofs.Reading.{accepts_from_outcome, fault_from_outcome}
 use Rattle.tl_load.proofs.LineLemmas.{lines_none}
 

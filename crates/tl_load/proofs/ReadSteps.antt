@@ -3,7 +3,8 @@ use Rattle.std.proofs.Common.{◌≡◌, ℕ, ◌+◌, ◌≤◌, ◌<◌, List,
 use Rattle.std.specs.Io.KnownBytes.{Consumes, Keeps}
 use Rattle.tl_load.specs.declared.fault.LoadFault.{LoadFault}
 use Rattle.tl_load.specs.declared.fault.LoadFault.TheVariants as faults
-use Rattle.tl_load.specs.Loaded.{Loaded, IsOfLines, to_come, Takes, Fed, Closes, Reads}
+use Rattle.tl_load.specs.Loaded.{Loaded, IsOfLines, to_come}
+use Rattle.tl_load.specs.Steps.{Takes, Fed, Closes, Reads}
 
 pub consumes_nil : (a : Option (List ℕ)) → Consumes a a []
 consumes_nil None = tt

@@ -257,3 +257,10 @@ one_verdict {R} judge limit parts = go (outcome judge limit parts) refl
       only = λ other f. err_is other fault (sym (outcome_from_fault judge limit parts other f) ∙ e);
       none = λ records a. never_both _ records fault (outcome_from_accepts judge limit parts records a) e;
     })
+
+-- parts spell one list, and no fault is at them then
+pub accepted_once : {R : Type 0} (judge : Judge R) (limit : ℕ) (parts : List (List ℕ)) (a b : List R) → Accepts judge limit parts a → Accepts judge limit parts b → a ≡ b
+accepted_once judge limit parts a b p q = verdicts_same a b (sym p.spells ∙ q.spells)
+
+pub accepted_no_fault : {R : Type 0} (judge : Judge R) (limit : ℕ) (parts : List (List ℕ)) (records : List R) (fault : LoadFault) → Accepts judge limit parts records → FaultAt judge limit parts fault → ⊥
+accepted_no_fault judge limit parts records fault p q = never_both _ records fault (outcome_from_accepts judge limit parts records p) (outcome_from_fault judge limit parts fault q)

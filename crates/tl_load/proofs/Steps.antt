@@ -16,7 +16,8 @@ use Rattle.tl_load.specs.Places.{PlacedLine, numbered, lines_from_part, placed_l
 use Rattle.tl_load.specs.Verdicts.{fault_at, field_fault_at}
 use Rattle.tl_load.specs.Outcome.{FaultAt, ◌>>=◌, after_verdict, with_record, next, reading, outcome}
 use Rattle.tl_load.specs.Choice.{tiger, judged}
-use Rattle.tl_load.specs.Loaded.{Loaded, IsSamePart, IsOfLines, to_come, IsFaultHowever, WasFed, Takes, Leaves, Ends, Closes, next_place, Judges, Adds, IsNotDevice, bytes_used}
+use Rattle.tl_load.specs.Loaded.{Loaded, IsOfLines, to_come, IsFaultHowever, WasFed, IsNotDevice}
+use Rattle.tl_load.specs.Steps.{IsSamePart, Takes, Leaves, Ends, Closes, next_place, Judges, Adds, bytes_used}
 use Rattle.tl_load.proofs.LineLemmas.{lines_line, lines_rest, lines_none, first_line_of, without_return_front, without_return_length}
 use Rattle.tl_load.proofs.Settled.{judged_long, judged_settles}
 

@@ -6,3 +6,4 @@ pub mod LineOf
 pub mod Choice
 pub mod Loaded
 pub mod Countdown
+pub mod Steps
