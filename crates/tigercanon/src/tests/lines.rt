@@ -146,7 +146,7 @@ fn tells_long_lines_by_their_type(rt: HostRuntime) -> Result<(), Fail> {
     let lines = [
         (b'1', 230, "refused 2 LineTooLong 1 1"),
         (b'1', 229, "refused 2 LineTooLong 1 1"),
-        (b'1', 228, "refused 4 BadNumber 1 1 16"),
+        (b'1', 228, "refused 5 BadPoint 1 1 191"),
         (b'A', 400, "refused 1 UnknownType 1 1"),
         (b'I', 100_000, "refused 2 LineTooLong 1 1"),
     ];
