@@ -1,10 +1,14 @@
 //! The record layouts of TIGER/Line 2006: each record type as a value, read from a line and written canonically.
 #![tactic(auto)]
 
+mod coordinate;
 mod fault;
+mod field;
 mod layout;
 mod name;
+mod number;
 mod pair;
+mod place;
 mod point;
 mod ranges;
 mod record_type;
@@ -19,6 +23,7 @@ mod type7;
 mod type8;
 mod type_i;
 mod type_p;
+mod writing;
 
 pub use fault::{DeviceFault, FieldFault, FieldKind};
 pub use layout::Layout;

@@ -48,3 +48,10 @@ impl Point {
         self.lat
     }
 }
+
+/// The point at longitude 0 and one millionth of a degree north: it only fills arrays, and stands for no place of a map.
+impl Default for Point {
+    fn default() -> Point {
+        Point::new(0, 1)
+    }
+}
