@@ -31,18 +31,25 @@ fn append_line(text: &mut Vec<u8>, line: &Record) -> Result<(), AllocError>
     ensures { OnOk result (text.new.items ≡ text.old.items ++ (spelling_of line.now ++ 10 ∷ [])) }
 {
     let mut bytes = [0; 228];
-    let len = line.len();
+    let len = line.line_len();
     line.put(&mut bytes[..len]);
     text.extend_from_slice(&bytes[..len])?;
     text.push(b'\n')?;
     Ok(())
 }
 
+/// The length of the canonical text of records, or the greatest length that there is.
+fn text_len(records: &[Record]) -> usize {
+    records
+        .iter()
+        .fold(0usize, |len, record| len.saturating_add(record.line_len() + 1))
+}
+
 /// The canonical text of records.
 fn text(alloc: Global, records: &[Record]) -> Result<Vec<u8>, AllocError>
     ensures { IfOk result (λ text. text.items ≡ text_of records.now) }
 {
-    let mut text = Vec::new(alloc);
+    let mut text = Vec::with_capacity(alloc, text_len(records))?;
     for record in records {
         append_line(&mut text, record)?;
     }
