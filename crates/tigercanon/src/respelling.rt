@@ -40,9 +40,10 @@ fn append_line(text: &mut Vec<u8>, line: &Record) -> Result<(), AllocError>
 
 /// The length of the canonical text of records, or the greatest length that there is.
 fn text_len(records: &[Record]) -> usize {
-    records
-        .iter()
-        .fold(0usize, |len, record| len.saturating_add(record.line_len() + 1))
+    records.iter().fold(
+        0usize,
+        |len, record| len.saturating_add(record.line_len() + 1),
+    )
 }
 
 /// The canonical text of records.
