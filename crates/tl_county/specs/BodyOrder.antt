@@ -1,0 +1,43 @@
+-- The orders of names, of landmarks and of a landmark's polygons, field by field; bytes are ordered as numbers.
+use Rattle.std.specs.Prelude.{ℕ, List, Option, Some, None}
+use Rattle.std.specs.declared.cmp.Ordering.{Ordering}
+use Rattle.std.specs.declared.cmp.Ordering.TheVariants.{Less, Equal, Greater}
+use Rattle.std.specs.Ordering.{nat_cmp, ordering_then}
+use Rattle.std.specs.Cmp.Lexicographic.{slice_cmp}
+use Rattle.tl_layout.specs.Coordinates.{Coordinates}
+use Rattle.tl_layout.specs.Fields.{Fields8}
+use Rattle.tl_layout.specs.declared.name.FeatureName.{FeatureName}
+use Rattle.tl_layout.specs.declared.type5.Body5.{Body5}
+use Rattle.tl_layout.specs.declared.type7.Body7.{Body7}
+use Rattle.tl_county.specs.PointOrder.{point_cmp}
+
+-- bytes by their first difference, a beginning first
+abbrev pub bytes_cmp : List ℕ → List ℕ → Ordering
+bytes_cmp = slice_cmp nat_cmp
+
+-- FEDIRP, FENAME, FETYPE, FEDIRS
+abbrev pub feature_name_cmp : FeatureName → FeatureName → Ordering
+feature_name_cmp a b = ordering_then (bytes_cmp a.fedirp b.fedirp) (ordering_then (bytes_cmp a.fename b.fename) (ordering_then (bytes_cmp a.fetype b.fetype) (bytes_cmp a.fedirs b.fedirs)))
+
+-- FILE, then the name: the 43 bytes of a type 5 body
+abbrev pub name_body_cmp : Body5 → Body5 → Ordering
+name_body_cmp a b = ordering_then (bytes_cmp a.file b.file) (feature_name_cmp a.name b.name)
+
+-- none first
+abbrev pub optional_point_cmp : Option Coordinates → Option Coordinates → Ordering
+optional_point_cmp None None = Equal
+optional_point_cmp None (Some q) = Less
+optional_point_cmp (Some p) None = Greater
+optional_point_cmp (Some p) (Some q) = point_cmp p q
+
+-- FILE, SOURCE, CFCC, LANAME, then the point, none first
+abbrev pub landmark_body_cmp : Body7 → Body7 → Ordering
+landmark_body_cmp a b = ordering_then (bytes_cmp a.file b.file) (ordering_then (bytes_cmp a.source b.source) (ordering_then (bytes_cmp a.cfcc b.cfcc) (ordering_then (bytes_cmp a.laname b.laname) (optional_point_cmp a.point b.point))))
+
+-- POLYID, CENID, FILE
+abbrev pub polygon_link_cmp : Fields8 → Fields8 → Ordering
+polygon_link_cmp a b = ordering_then (nat_cmp a.polyid b.polyid) (ordering_then (bytes_cmp a.cenid b.cenid) (bytes_cmp a.file b.file))
+
+-- LAND, then POLYID, CENID, FILE
+abbrev pub link_cmp : Fields8 → Fields8 → Ordering
+link_cmp a b = ordering_then (nat_cmp a.land b.land) (polygon_link_cmp a b)

@@ -1,0 +1,24 @@
+-- A chain: a type 1 record with all records of its TLID.
+use Rattle.std.specs.Prelude.{ℕ, List, Option}
+use Rattle.tl_layout.specs.Coordinates.{Coordinates}
+use Rattle.tl_layout.specs.PolygonSide.{PolygonSide}
+use Rattle.tl_layout.specs.declared.ranges.Ranges.{Ranges}
+use Rattle.tl_layout.specs.declared.type1.Body1.{Body1}
+use Rattle.tl_layout.specs.declared.type_i.BodyI.{BodyI}
+
+-- all of a chain but its TLID
+pub record Chain : Type 0 where
+  -- the content of its type 1 record
+  pub body : Body1
+  -- from the start node to the end node
+  pub points : List Coordinates
+  -- the FEATs of its further names, in order
+  pub feats : List ℕ
+  -- its further address ranges, in order
+  pub ranges : List Ranges
+  -- the content of its type I record
+  pub link_body : BodyI
+  pub start_node : Option ℕ
+  pub end_node : Option ℕ
+  pub left : PolygonSide
+  pub right : PolygonSide

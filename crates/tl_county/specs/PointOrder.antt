@@ -1,0 +1,14 @@
+-- The order of points and of point lists.
+use Rattle.std.specs.Prelude.{List}
+use Rattle.std.specs.declared.cmp.Ordering.{Ordering}
+use Rattle.std.specs.Ordering.{int_cmp, ordering_then}
+use Rattle.std.specs.Cmp.Lexicographic.{slice_cmp}
+use Rattle.tl_layout.specs.Coordinates.{Coordinates}
+
+-- by longitude, then by latitude, as numbers
+abbrev pub point_cmp : Coordinates → Coordinates → Ordering
+point_cmp p q = ordering_then (int_cmp p.long q.long) (int_cmp p.lat q.lat)
+
+-- by the first difference, a beginning first
+abbrev pub points_cmp : List Coordinates → List Coordinates → Ordering
+points_cmp = slice_cmp point_cmp
