@@ -34,10 +34,17 @@ optional_point_cmp (Some p) (Some q) = point_cmp p q
 abbrev pub landmark_body_cmp : Body7 → Body7 → Ordering
 landmark_body_cmp a b = ordering_then (bytes_cmp a.file b.file) (ordering_then (bytes_cmp a.source b.source) (ordering_then (bytes_cmp a.cfcc b.cfcc) (ordering_then (bytes_cmp a.laname b.laname) (optional_point_cmp a.point b.point))))
 
+-- a link of a landmark without its LAND: POLYID, CENID, FILE
+abbrev pub LinkPart : Type 0
+LinkPart = ℕ × List ℕ × List ℕ
+
+abbrev pub link_part : Fields8 → LinkPart
+link_part link = (link.polyid, link.cenid, link.file)
+
 -- POLYID, CENID, FILE
-abbrev pub polygon_link_cmp : Fields8 → Fields8 → Ordering
-polygon_link_cmp a b = ordering_then (nat_cmp a.polyid b.polyid) (ordering_then (bytes_cmp a.cenid b.cenid) (bytes_cmp a.file b.file))
+abbrev pub link_part_cmp : LinkPart → LinkPart → Ordering
+link_part_cmp p q = ordering_then (nat_cmp p.0 q.0) (ordering_then (bytes_cmp p.1 q.1) (bytes_cmp p.2 q.2))
 
 -- LAND, then POLYID, CENID, FILE
 abbrev pub link_cmp : Fields8 → Fields8 → Ordering
-link_cmp a b = ordering_then (nat_cmp a.land b.land) (polygon_link_cmp a b)
+link_cmp a b = ordering_then (nat_cmp a.land b.land) (link_part_cmp (link_part a) (link_part b))
