@@ -1,6 +1,6 @@
 -- Keys that an order tells apart: how often they stand in a list, and their images by pairs.
-use Rattle.std.proofs.Common.{◌≡◌, ◌≢◌, ◌⊎◌, ◌<◌, ◌≤◌, ◌+◌, ℕ, suc, List, [], ◌∷◌, ◌++◌, Bool, true, false, cond, map, filter, length, Ordering, Less, Equal, Greater, IsTrue, is_eq, sym, refl, ap, ◌∙◌, subst, inl, inr, arith, IsPermutation, count_by, nat_cmp}
-use Rattle.std.proofs.lemmas.Bool.{false≢true, ltb-true, lt-ltb}
+use Rattle.std.proofs.Common.{◌≡◌, ◌≢◌, ◌⊎◌, ◌<◌, ◌≤◌, ◌+◌, ℕ, suc, nat_lt, ◌||◌, List, [], ◌∷◌, ◌++◌, Bool, true, false, cond, map, filter, length, Ordering, Less, Equal, Greater, IsTrue, is_eq, sym, refl, ap, ◌∙◌, subst, inl, inr, arith, IsPermutation, count_by, nat_cmp}
+use Rattle.std.proofs.lemmas.Bool.{false≢true, ltb-true, lt-ltb, false_from_ne_true}
 use Rattle.std.proofs.lemmas.Cmp.{tied_itself, nat_cmp_total}
 use Rattle.std.proofs.lemmas.Map.Lookups.{exact_unsigned}
 use Rattle.std.proofs.lemmas.List.Sums.{length-filter}
@@ -8,7 +8,7 @@ use Rattle.std.proofs.lemmas.List.Sorted.{sum_by-IsPermutation, IsPermutation-ma
 use Rattle.std.specs.Cmp.{IsTotalOrder}
 use Rattle.std.specs.List.{AllByRecursion}
 use Rattle.std.specs.List.Sorted.{IsStrictlySortedBy}
-use Rattle.tl_county.specs.Orders.{times, stands_in}
+use Rattle.tl_county.specs.Orders.{times, stands_in, has_repeat}
 use Rattle.tl_county.specs.Renumbering.{image, swapped, joined, is_named, to_itself, ArePaired}
 
 -- an order that tells any two keys apart
@@ -226,3 +226,65 @@ module _ {K : Type 0} {cmp : K → K → Ordering} (o : IsKeyOrder cmp) where
   pub rights-followed : (ps qs : List (K × K)) → rights (followed ps qs) ≡ map (image cmp qs) (rights ps)
   rights-followed [] qs = refl
   rights-followed (p ∷ ps) qs = ap (λ ys. image cmp qs p.1 ∷ ys) (rights-followed ps qs)
+
+  pub differ : (x y : K) → (x ≡ y → ⊥) → is_eq (cmp x y) ≡ false
+  differ x y h = false_from_ne_true (is_eq (cmp x y)) (λ e. h (same-true x y e))
+
+  pub differ_apart : (x y : K) → is_eq (cmp x y) ≡ false → x ≡ y → ⊥
+  differ_apart x y f e = false≢true (sym f ∙ subst (λ z. is_eq (cmp x z) ≡ true) e (same-itself x))
+
+  pub image-injective : (ps : List (K × K)) (x y : K) → IsApart cmp (rights ps) → Known cmp (lefts ps) x → Known cmp (lefts ps) y → image cmp ps x ≡ image cmp ps y → x ≡ y
+  image-injective ps x y a k l e = sym (image-back ps x a k) ∙ ap (image cmp (swapped ps)) e ∙ image-back ps y a l
+
+  -- a number stands in a list as often as its image among the images
+  pub times-images : (ps : List (K × K)) (x : K) → IsApart cmp (rights ps) → Known cmp (lefts ps) x → (ts : List K) → AllByRecursion (Known cmp (lefts ps)) ts → times cmp (image cmp ps x) (map (image cmp ps) ts) ≡ times cmp x ts
+  times-images ps x a k [] h = refl
+  times-images ps x a k (t ∷ ts) h = go (same_or_not x t) (times-images ps x a k ts h.1)
+    where
+      go : (x ≡ t) ⊎ (is_eq (cmp x t) ≡ false) → times cmp (image cmp ps x) (map (image cmp ps) ts) ≡ times cmp x ts → times cmp (image cmp ps x) (image cmp ps t ∷ map (image cmp ps) ts) ≡ times cmp x (t ∷ ts)
+      go (inl e) ih = times-yes (image cmp ps x) (image cmp ps t) (map (image cmp ps) ts) (ap (image cmp ps) e) ∙ ap suc ih ∙ sym (times-yes x t ts e)
+      go (inr ne) ih =
+          let apart : is_eq (cmp (image cmp ps x) (image cmp ps t)) ≡ false = differ (image cmp ps x) (image cmp ps t) (λ e. differ_apart x t ne (image-injective ps x t a k h.0 e)) in
+          times-no (image cmp ps x) (image cmp ps t) (map (image cmp ps) ts) apart ∙ ih ∙ sym (times-no x t ts ne)
+
+  pub has_repeat-images : (ps : List (K × K)) → IsApart cmp (rights ps) → (ts : List K) → AllByRecursion (Known cmp (lefts ps)) ts → has_repeat cmp (map (image cmp ps) ts) ≡ has_repeat cmp ts
+  has_repeat-images ps a [] h = refl
+  has_repeat-images ps a (t ∷ ts) h = λ i. nat_lt 0 (times-images ps t a h.0 ts h.1 i) || has_repeat-images ps a ts h.1 i
+
+  -- the number, or 0
+  abbrev pub kept : Bool → ℕ → ℕ
+  kept b n = cond b n 0
+
+  pub times-filter : (f : K → Bool) (k : K) (ls : List K) → times cmp k (filter f ls) ≡ cond (f k) (times cmp k ls) 0
+  times-filter f k [] = go (f k)
+    where
+      go : (b : Bool) → 0 ≡ kept b 0
+      go true = refl
+      go false = refl
+  times-filter f k (l ∷ ls) = go (f l) refl (same_or_not k l) (times-filter f k ls)
+    where
+      yes : (b : Bool) → b ≡ true → (m n : ℕ) → suc (cond b m 0) ≡ cond b (suc m) 0
+      yes true e m n = refl
+      yes false e m n = absurd (false≢true e)
+      none : (b : Bool) → b ≡ false → (m n : ℕ) → cond b m 0 ≡ cond b n 0
+      none true e m n = absurd (false≢true (sym e))
+      none false e m n = refl
+      go : (b : Bool) → f l ≡ b → (k ≡ l) ⊎ (is_eq (cmp k l) ≡ false) → times cmp k (filter f ls) ≡ cond (f k) (times cmp k ls) 0 → times cmp k (cond b (l ∷ filter f ls) (filter f ls)) ≡ cond (f k) (times cmp k (l ∷ ls)) 0
+      go true e (inl k_is_l) ih = times-yes k l (filter f ls) k_is_l ∙ ap suc ih ∙ yes (f k) (ap f k_is_l ∙ e) (times cmp k ls) 0 ∙ ap (λ n. cond (f k) n 0) (sym (times-yes k l ls k_is_l))
+      go true e (inr ne) ih = times-no k l (filter f ls) ne ∙ ih ∙ ap (λ n. cond (f k) n 0) (sym (times-no k l ls ne))
+      go false e (inl k_is_l) ih = ih ∙ none (f k) (ap f k_is_l ∙ e) (times cmp k ls) (times cmp k (l ∷ ls))
+      go false e (inr ne) ih = ih ∙ ap (λ n. cond (f k) n 0) (sym (times-no k l ls ne))
+
+  pub apart-filter : (f : K → Bool) (ls : List K) → IsApart cmp ls → IsApart cmp (filter f ls)
+  apart-filter f ls a k = go (f k) (times-filter f k ls)
+    where
+      go : (b : Bool) → times cmp k (filter f ls) ≡ cond b (times cmp k ls) 0 → times cmp k (filter f ls) ≤ 1
+      go true e = omega (arith, a k)
+      go false e = omega arith
+
+  pub stands_in-filter : (f : K → Bool) (k : K) (ls : List K) → Known cmp ls k → stands_in cmp k (filter f ls) ≡ f k
+  stands_in-filter f k ls l = ap (nat_lt 0) (times-filter f k ls) ∙ go (f k)
+    where
+      go : (b : Bool) → nat_lt 0 (cond b (times cmp k ls) 0) ≡ b
+      go true = lt-ltb 0 (times cmp k ls) l
+      go false = refl

@@ -1,1 +1,5 @@
+pub mod Lists
 pub mod Keys
+pub mod KeyOrders
+pub mod Distinct
+pub mod Sameness
