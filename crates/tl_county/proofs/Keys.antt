@@ -1,9 +1,11 @@
 -- Keys that an order tells apart: how often they stand in a list, and their images by pairs.
-use Rattle.std.proofs.Common.{◌≡◌, ◌≢◌, ◌⊎◌, ◌<◌, ◌≤◌, ◌+◌, ℕ, suc, nat_lt, ◌||◌, List, [], ◌∷◌, ◌++◌, Bool, true, false, cond, map, filter, length, Ordering, Less, Equal, Greater, IsTrue, is_eq, sym, refl, ap, ◌∙◌, subst, inl, inr, arith, IsPermutation, count_by, nat_cmp}
+use Rattle.std.proofs.Common.{◌≡◌, ◌≢◌, ◌⊎◌, ◌<◌, ◌≤◌, ◌+◌, ℕ, zero, suc, nat_lt, length-append, ◌||◌, List, [], ◌∷◌, ◌++◌, Bool, true, false, cond, map, filter, length, Ordering, Less, Equal, Greater, IsTrue, is_eq, is_gt, sym, refl, ap, ◌∙◌, subst, inl, inr, arith, IsPermutation, count_by, nat_cmp}
 use Rattle.std.proofs.lemmas.Bool.{false≢true, ltb-true, lt-ltb, false_from_ne_true}
 use Rattle.std.proofs.lemmas.Cmp.{tied_itself, nat_cmp_total}
+use Rattle.std.specs.Ordering.{ordering_reverse}
 use Rattle.std.proofs.lemmas.Map.Lookups.{exact_unsigned}
 use Rattle.std.proofs.lemmas.List.Sums.{length-filter}
+use Rattle.std.proofs.lemmas.List.Elements.{filter-append}
 use Rattle.std.proofs.lemmas.List.Sorted.{sum_by-IsPermutation, IsPermutation-map, IsPermutation-trans, IsPermutation-sym}
 use Rattle.std.specs.Cmp.{IsTotalOrder}
 use Rattle.std.specs.List.{AllByRecursion}
@@ -288,3 +290,41 @@ module _ {K : Type 0} {cmp : K → K → Ordering} (o : IsKeyOrder cmp) where
       go : (b : Bool) → nat_lt 0 (cond b (times cmp k ls) 0) ≡ b
       go true = lt-ltb 0 (times cmp k ls) l
       go false = refl
+
+  -- neither is greater
+  pub order_antisymm : (x y : K) → is_gt (cmp x y) ≡ false → is_gt (cmp y x) ≡ false → x ≡ y
+  order_antisymm x y f g = o.exact x y (go (cmp x y) (cmp y x) (o.total.antisymm x y) f g)
+    where
+      go : (a b : Ordering) → a ≡ ordering_reverse b → is_gt a ≡ false → is_gt b ≡ false → a ≡ Equal
+      go Less Less e f g = cc
+      go Less Equal e f g = cc
+      go Less Greater e f g = absurd (false≢true (sym g))
+      go Equal b e f g = refl
+      go Greater b e f g = absurd (false≢true (sym f))
+
+  pub order_total : (x y : K) → is_gt (cmp x y) ≡ true → is_gt (cmp y x) ≡ false
+  order_total x y f = go (cmp x y) (cmp y x) (o.total.antisymm x y) f
+    where
+      go : (a b : Ordering) → a ≡ ordering_reverse b → is_gt a ≡ true → is_gt b ≡ false
+      go a Less e f = refl
+      go a Equal e f = refl
+      go a Greater e f = absurd (false≢true (ap is_gt (sym e) ∙ f))
+
+  pub order_itself : (x : K) → is_gt (cmp x x) ≡ false
+  order_itself x = ap is_gt (tied_itself o.total x)
+
+  pub times-append : (k : K) (xs ys : List K) → times cmp k (xs ++ ys) ≡ times cmp k xs + times cmp k ys
+  times-append k xs ys = ap length (filter-append (λ x. is_eq (cmp k x)) xs ys) ∙ length-append (filter (λ x. is_eq (cmp k x)) xs) (filter (λ x. is_eq (cmp k x)) ys)
+
+  pub known-append : (k : K) (xs ys : List K) → Known cmp (xs ++ ys) k → Known cmp xs k ⊎ Known cmp ys k
+  known-append k xs ys h = go (times cmp k xs) refl
+    where
+      go : (n : ℕ) → times cmp k xs ≡ n → Known cmp xs k ⊎ Known cmp ys k
+      go zero e = inr (omega (arith, times-append k xs ys))
+      go (suc n) e = inl (omega (arith, e))
+
+  pub known-left : (k : K) (xs ys : List K) → Known cmp xs k → Known cmp (xs ++ ys) k
+  known-left k xs ys h = omega (arith, times-append k xs ys)
+
+  pub known-right : (k : K) (xs ys : List K) → Known cmp ys k → Known cmp (xs ++ ys) k
+  known-right k xs ys h = omega (arith, times-append k xs ys)

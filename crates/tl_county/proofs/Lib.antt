@@ -3,3 +3,5 @@ pub mod Keys
 pub mod KeyOrders
 pub mod Distinct
 pub mod Sameness
+pub mod FirstFault
+pub mod LinkFaults

@@ -2,5 +2,7 @@
 #![tactic(auto)]
 
 mod fault;
+mod laws;
 
 pub use fault::{LinkFault, LinkedType};
+pub use laws::{linked_or_one_first_broken_rule, renamings_compose, sameness_is_an_equivalence};

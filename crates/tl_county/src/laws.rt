@@ -1,0 +1,38 @@
+//! Laws of the definitions in `specs/`. The functions do nothing; their contracts are the laws.
+
+ghost use Rattle.std.specs.Prelude.{◌≡◌, ◌⊎◌, List};
+ghost use Rattle.tl_county.specs.County.{County};
+ghost use Rattle.tl_county.specs.LinkRules.{IsFirstBrokenRule, IsLinked};
+ghost use Rattle.tl_county.specs.declared.fault.LinkFault.{LinkFault};
+ghost use Rattle.tl_layout.specs.declared.record_type.Record.{Record};
+ghost use Rattle.tl_county.specs.CountyRules.{IsCounty};
+ghost use Rattle.tl_county.specs.Renumbering.{AreSame, Carries, Renumbering, identity, inverse, then};
+
+/// Being the same is an equivalence of counties.
+pub fn sameness_is_an_equivalence()
+    ensures reflexive { (a : County) → AreSame a a }
+    ensures symmetric { (a b : County) → IsCounty a → IsCounty b → AreSame a b → AreSame b a }
+    ensures transitive { (a b c : County) → IsCounty a → IsCounty b → AreSame a b → AreSame b c → AreSame a c }
+{
+}
+
+/// The identity carries a county onto itself, the inverse of a renaming carries back, and two renamings in a row carry
+/// on.
+pub fn renamings_compose()
+    ensures identity { (a : County) → Carries (identity a) a a }
+    ensures inverse { (r : Renumbering) (a b : County) → IsCounty a → IsCounty b → Carries r a b → Carries (inverse r) b a }
+    ensures then { (r next : Renumbering) (a b c : County) →
+        IsCounty a → IsCounty b → Carries r a b → Carries next b c → Carries (then r next) a c }
+{
+}
+
+/// A list of records is linked or has a first broken rule, never both, and never two.
+pub fn linked_or_one_first_broken_rule()
+    ensures either { (records : List Record) →
+        IsLinked records ⊎ ((fault : LinkFault) × IsFirstBrokenRule records fault) }
+    ensures not_both { (records : List Record) (fault : LinkFault) →
+        IsLinked records → IsFirstBrokenRule records fault → ⊥ }
+    ensures only_one { (records : List Record) (fault other : LinkFault) →
+        IsFirstBrokenRule records fault → IsFirstBrokenRule records other → fault ≡ other }
+{
+}
