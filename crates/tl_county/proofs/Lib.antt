@@ -5,3 +5,4 @@ pub mod Distinct
 pub mod Sameness
 pub mod FirstFault
 pub mod LinkFaults
+pub mod Members
