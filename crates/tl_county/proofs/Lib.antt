@@ -6,3 +6,4 @@ pub mod Sameness
 pub mod FirstFault
 pub mod LinkFaults
 pub mod Members
+pub mod Carried

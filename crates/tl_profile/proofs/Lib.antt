@@ -1,1 +1,2 @@
 pub mod ProfileFaults
+pub mod SameProfile

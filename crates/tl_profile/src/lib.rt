@@ -2,5 +2,7 @@
 #![tactic(auto)]
 
 mod fault;
+mod laws;
 
 pub use fault::ProfileFault;
+pub use laws::{in_profile_or_one_first_broken_clause, same_counties_agree_on_the_profile};
