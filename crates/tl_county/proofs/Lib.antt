@@ -7,3 +7,4 @@ pub mod FirstFault
 pub mod LinkFaults
 pub mod Members
 pub mod Carried
+pub mod InOrder
