@@ -334,7 +334,7 @@ images_on {K} {cmp} o ps qs olds mids news g h k l =
     let next : (j : K) → Known cmp (rights ps) j → Known cmp (lefts qs) j = λ j m. known-permutation o j (lefts qs) mids h.left (known-permutation_to o j (rights ps) mids g.right m) in
     sym (ap (λ es. image cmp es k) (joined-followed o ps qs next) ∙ image-followed o ps qs k (known-permutation o k (lefts ps) olds g.left l))
 
-image-keeps : (qs : List (PolygonKey × PolygonKey)) → AllByRecursion (λ p. p.0.0 ≡ p.1.0) qs → (k : PolygonKey) → (image key_cmp qs k).0 ≡ k.0
+pub image-keeps : (qs : List (PolygonKey × PolygonKey)) → AllByRecursion (λ p. p.0.0 ≡ p.1.0) qs → (k : PolygonKey) → (image key_cmp qs k).0 ≡ k.0
 image-keeps [] h k = refl
 image-keeps (q ∷ qs) h k = go (same_or_not key_keys k q.0) (image-keeps qs h.1 k)
   where

@@ -1,7 +1,6 @@
 -- The orders of names, of landmarks and of a landmark's polygons, field by field; bytes are ordered as numbers.
-use Rattle.std.specs.Prelude.{ℕ, List, Option, Some, None}
+use Rattle.std.specs.Prelude.{ℕ, List, Option, option_to_list}
 use Rattle.std.specs.declared.cmp.Ordering.{Ordering}
-use Rattle.std.specs.declared.cmp.Ordering.TheVariants.{Less, Equal, Greater}
 use Rattle.std.specs.Ordering.{nat_cmp, ordering_then}
 use Rattle.std.specs.Cmp.Lexicographic.{slice_cmp}
 use Rattle.tl_layout.specs.Coordinates.{Coordinates}
@@ -9,7 +8,7 @@ use Rattle.tl_layout.specs.Fields.{Fields8}
 use Rattle.tl_layout.specs.declared.name.FeatureName.{FeatureName}
 use Rattle.tl_layout.specs.declared.type5.Body5.{Body5}
 use Rattle.tl_layout.specs.declared.type7.Body7.{Body7}
-use Rattle.tl_county.specs.PointOrder.{point_cmp}
+use Rattle.tl_county.specs.PointOrder.{points_cmp}
 
 -- bytes by their first difference, a beginning first
 abbrev pub bytes_cmp : List ℕ → List ℕ → Ordering
@@ -23,12 +22,9 @@ feature_name_cmp a b = ordering_then (bytes_cmp a.fedirp b.fedirp) (ordering_the
 abbrev pub name_body_cmp : Body5 → Body5 → Ordering
 name_body_cmp a b = ordering_then (bytes_cmp a.file b.file) (feature_name_cmp a.name b.name)
 
--- none first
+-- a point or none as a list of one point or none, so none comes first
 abbrev pub optional_point_cmp : Option Coordinates → Option Coordinates → Ordering
-optional_point_cmp None None = Equal
-optional_point_cmp None (Some q) = Less
-optional_point_cmp (Some p) None = Greater
-optional_point_cmp (Some p) (Some q) = point_cmp p q
+optional_point_cmp o p = points_cmp (option_to_list o) (option_to_list p)
 
 -- FILE, SOURCE, CFCC, LANAME, then the point, none first
 abbrev pub landmark_body_cmp : Body7 → Body7 → Ordering

@@ -1,2 +1,3 @@
 pub mod Growth
 pub mod Counting
+pub mod SameNumbers
