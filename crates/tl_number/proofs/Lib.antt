@@ -1,3 +1,5 @@
 pub mod Growth
 pub mod Counting
 pub mod SameNumbers
+pub mod UsesOrder
+pub mod SameNames
