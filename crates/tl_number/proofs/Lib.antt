@@ -3,3 +3,4 @@ pub mod Counting
 pub mod SameNumbers
 pub mod UsesOrder
 pub mod SameNames
+pub mod SameLandmarks
