@@ -4,3 +4,4 @@ pub mod SameNumbers
 pub mod UsesOrder
 pub mod SameNames
 pub mod SameLandmarks
+pub mod Rigid
