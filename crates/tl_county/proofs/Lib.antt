@@ -8,3 +8,4 @@ pub mod LinkFaults
 pub mod Members
 pub mod Carried
 pub mod InOrder
+pub mod Numbers
