@@ -9,3 +9,4 @@ pub mod Members
 pub mod Carried
 pub mod InOrder
 pub mod Numbers
+pub mod LinkedCounty
