@@ -5,3 +5,4 @@ pub mod UsesOrder
 pub mod SameNames
 pub mod SameLandmarks
 pub mod Rigid
+pub mod Grouping
