@@ -27,7 +27,7 @@ use Rattle.tl_county.proofs.Members.{among-map, among-pieces, among_known}
 use Rattle.tl_county.proofs.Numbers.{all_themselves, times-of_number, only_one, of_number-among, times-in_order, all-in_order, from_in_order, strict_from_order, distinct-strict}
 
 -- of two tests that don't both hold, the second fails where the first holds
-needed : (a b : Bool) → (a && not b) ≡ false → a ≡ true → b ≡ true
+pub needed : (a b : Bool) → (a && not b) ≡ false → a ≡ true → b ≡ true
 needed a true e t = refl
 needed true false e t = absurd (false≢true (sym e))
 needed false false e t = absurd (false≢true t)

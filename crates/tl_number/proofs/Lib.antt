@@ -6,3 +6,4 @@ pub mod SameNames
 pub mod SameLandmarks
 pub mod Rigid
 pub mod Grouping
+pub mod Repacked
