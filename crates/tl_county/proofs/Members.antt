@@ -1,8 +1,8 @@
 -- Elements of a list: under a permutation, in a map, and where a test finds one.
-use Rattle.std.proofs.Common.{◌≡◌, ◌⊎◌, ◌<◌, ◌≤◌, ◌+◌, ℕ, zero, suc, List, [], ◌∷◌, ◌++◌, map, flat_map, filter, length, get_or, Bool, true, false, cond, ◌&&◌, ◌||◌, sym, refl, ap, ◌∙◌, subst, inl, inr, arith, IsPermutation, Contains, Ordering, is_eq}
+use Rattle.std.proofs.Common.{◌≡◌, ◌⊎◌, ◌<◌, ◌≤◌, ◌+◌, ℕ, zero, suc, List, [], ◌∷◌, ◌++◌, map, flat_map, filter, length, get_or, Bool, true, false, cond, ◌&&◌, ◌||◌, sym, refl, ap, ◌∙◌, subst, inl, inr, arith, IsPermutation, Contains, Ordering, is_eq, filter_map, Option, Some, None}
 use Rattle.std.proofs.lemmas.Bool.{false≢true, or_cases, or_left, or_right}
 use Rattle.std.proofs.lemmas.List.Sorted.{Contains-permutation}
-use Rattle.std.specs.List.{list_any, AllByRecursion}
+use Rattle.std.specs.List.{list_any, AllByRecursion, cons_option}
 use Rattle.tl_county.proofs.FirstFault.{Among, all_among}
 use Rattle.tl_county.proofs.Keys.{IsKeyOrder, Known, known-here, known-later, known-append, known-left, known-right, known_cases}
 
@@ -77,3 +77,22 @@ module _ {K : Type 0} {cmp : K → K → Ordering} (o : IsKeyOrder cmp) where
       go : (k ≡ j) ⊎ (Known cmp ks k × (is_eq (cmp k j) ≡ false)) → (Known cmp ks k → Among k ks) → Among k (j ∷ ks)
       go (inl e) ih = inl e
       go (inr r) ih = inr (ih r.0)
+
+-- the elements of a filtered map
+pub in_filter_map : {X Y : Type 0} (h : X → Option Y) (y : Y) (xs : List X) → Among y (filter_map h xs) → (x : X) × Among x xs × (h x ≡ Some y)
+in_filter_map h y [] m = absurd m
+in_filter_map {X} {Y} h y (x ∷ xs) m = go (h x) refl m (in_filter_map h y xs)
+  where
+    go : (o : Option Y) → h x ≡ o → Among y (cons_option o (filter_map h xs)) → (Among y (filter_map h xs) → (z : X) × Among z xs × (h z ≡ Some y)) → (z : X) × Among z (x ∷ xs) × (h z ≡ Some y)
+    go None e n ih = let r : (z : X) × Among z xs × (h z ≡ Some y) = ih n in (r.0, inr r.1, r.2)
+    go (Some w) e (inl f) ih = (x, inl refl, e ∙ ap Some (sym f))
+    go (Some w) e (inr n) ih = let r : (z : X) × Among z xs × (h z ≡ Some y) = ih n in (r.0, inr r.1, r.2)
+
+pub to_filter_map : {X Y : Type 0} (h : X → Option Y) (x : X) (y : Y) (xs : List X) → Among x xs → h x ≡ Some y → Among y (filter_map h xs)
+to_filter_map h x y [] m e = absurd m
+to_filter_map h x y (z ∷ xs) (inl f) e = subst (λ o. Among y (cons_option o (filter_map h xs))) (sym (ap h (sym f) ∙ e)) (inl refl)
+to_filter_map {X} {Y} h x y (z ∷ xs) (inr m) e = go (h z) (to_filter_map h x y xs m e)
+  where
+    go : (o : Option Y) → Among y (filter_map h xs) → Among y (cons_option o (filter_map h xs))
+    go None n = n
+    go (Some w) n = inr n

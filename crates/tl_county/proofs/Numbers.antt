@@ -113,3 +113,18 @@ module _ {K : Type 0} {cmp : K → K → Ordering} (o : IsKeyOrder cmp) where
 
   pub distinct-strict : (ks : List K) → IsStrictlySortedBy cmp (distinct cmp ks)
   distinct-strict ks = strict_from_order (distinct cmp ks) (distinct-in_order ks) (apart-distinct o ks)
+
+to_put : {X : Type 0} (by : X → X → Ordering) (x y : X) (ys : List X) → Among x (y ∷ ys) → Among x (put_in_order by y ys)
+to_put by x y [] m = m
+to_put {X} by x y (z ∷ ys) m = go (is_gt (by y z)) m (to_put by x y ys)
+  where
+    go : (b : Bool) → Among x (y ∷ z ∷ ys) → (Among x (y ∷ ys) → Among x (put_in_order by y ys)) → Among x (cond b (z ∷ put_in_order by y ys) (y ∷ z ∷ ys))
+    go true (inl e) ih = inr (ih (inl e))
+    go true (inr (inl e)) ih = inl e
+    go true (inr (inr n)) ih = inr (ih (inr n))
+    go false n ih = n
+
+pub to_in_order : {X : Type 0} (by : X → X → Ordering) (xs : List X) (x : X) → Among x xs → Among x (in_order by xs)
+to_in_order by [] x m = m
+to_in_order by (y ∷ xs) x (inl e) = to_put by x y (in_order by xs) (inl e)
+to_in_order by (y ∷ xs) x (inr m) = to_put by x y (in_order by xs) (inr (to_in_order by xs x m))

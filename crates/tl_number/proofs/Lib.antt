@@ -7,3 +7,4 @@ pub mod SameLandmarks
 pub mod Rigid
 pub mod Grouping
 pub mod Repacked
+pub mod RepackedPolygons
