@@ -1,7 +1,7 @@
 //! Laws of the definitions in `specs/`. The functions do nothing; their contracts are the laws.
 
 ghost use Rattle.std.specs.Prelude.{◌≡◌, ◌⊎◌, List};
-ghost use Rattle.tl_county.specs.County.{County};
+ghost use Rattle.tl_county.specs.County.{County, county_of};
 ghost use Rattle.tl_county.specs.LinkRules.{IsFirstBrokenRule, IsLinked};
 ghost use Rattle.tl_county.specs.declared.fault.LinkFault.{LinkFault};
 ghost use Rattle.tl_layout.specs.declared.record_type.Record.{Record};
@@ -34,5 +34,11 @@ pub fn linked_or_one_first_broken_rule()
         IsLinked records → IsFirstBrokenRule records fault → ⊥ }
     ensures only_one { (records : List Record) (fault other : LinkFault) →
         IsFirstBrokenRule records fault → IsFirstBrokenRule records other → fault ≡ other }
+{
+}
+
+/// In the county of a linked list of records the numbers ascend, and each number that a part names is there.
+pub fn linked_records_have_a_well_formed_county()
+    ensures { (records : List Record) → IsLinked records → IsCounty (county_of records) }
 {
 }

@@ -5,4 +5,7 @@ mod fault;
 mod laws;
 
 pub use fault::{LinkFault, LinkedType};
-pub use laws::{linked_or_one_first_broken_rule, renamings_compose, sameness_is_an_equivalence};
+pub use laws::{
+    linked_or_one_first_broken_rule, linked_records_have_a_well_formed_county, renamings_compose,
+    sameness_is_an_equivalence,
+};

@@ -8,3 +8,4 @@ pub mod Rigid
 pub mod Grouping
 pub mod Repacked
 pub mod RepackedPolygons
+pub mod Uniqueness

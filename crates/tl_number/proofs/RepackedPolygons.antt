@@ -24,7 +24,7 @@ use Rattle.tl_county.proofs.Keys.{IsKeyOrder, Known, IsApart, nat_keys, times-ye
 use Rattle.tl_county.proofs.LinkedCounty.{keys-county}
 use Rattle.tl_county.proofs.Members.{among-map, among-unmap, among_known, known_is_among, in_filter_map, to_filter_map}
 use Rattle.tl_county.proofs.Numbers.{times-in_order, from_in_order, to_in_order}
-use Rattle.tl_number.specs.Canonical.{IsCanonical, StandsInOrder, IsPacked, by_type}
+use Rattle.tl_number.specs.Canonical.{IsTidyList, StandsInOrder, IsPacked, by_type}
 use Rattle.tl_number.specs.Packing.{Typed, type_after_type, packed_body, packed_p, p_polyid, packed, packed_by_type}
 use Rattle.tl_number.specs.Tidy.{IsTidy}
 use Rattle.tl_number.proofs.Repacked.{ones_back, twos_back, fours_back, fives_back, sixes_back, sevens_back, is_back}
@@ -172,5 +172,5 @@ tidy_is_packed records linked order full tidy = order.types ∙ ap type_after_ty
       ps = sym (ps_back records linked order tidy) i;
     }
 
-pub canonical_is_packed : (records : List Record) → IsCanonical records → records ≡ packed (county_of records)
-canonical_is_packed records h = tidy_is_packed records h.linked h.order h.packed h.tidy
+pub tidy_list_is_packed : (records : List Record) → IsTidyList records → records ≡ packed (county_of records)
+tidy_list_is_packed records h = tidy_is_packed records h.linked h.order h.packed h.numbers

@@ -6,7 +6,10 @@ use Rattle.tl_layout.specs.Fields.{Fields1, Fields2, Fields4, Fields5, Fields6, 
 use Rattle.tl_layout.specs.declared.record_type.Record.{Record}
 use Rattle.tl_county.specs.BodyOrder.{landmark_body_cmp, link_cmp}
 use Rattle.tl_county.specs.ByType.{ones, twos, fours, fives, sixes, sevens, eights, is, ps, of_number}
-use Rattle.tl_county.specs.County.{county_of, one_tlid, two_tlid, two_rtsq, four_tlid, four_rtsq, five_feat, six_tlid, six_rtsq, seven_land, i_tlid}
+use Rattle.std.specs.List.{AllByRecursion}
+use Rattle.tl_county.specs.CountyRules.{tlids}
+use Rattle.tl_county.specs.Renumbering.{Renumbering, image}
+use Rattle.tl_county.specs.County.{County, county_of, one_tlid, two_tlid, two_rtsq, four_tlid, four_rtsq, five_feat, six_tlid, six_rtsq, seven_land, i_tlid}
 use Rattle.tl_county.specs.LinkRules.{IsLinked}
 use Rattle.tl_county.specs.Orders.{IsInOrder}
 use Rattle.tl_number.specs.Growth.{up_to}
@@ -59,10 +62,19 @@ pub record IsPacked (records : List Record) : Type 0 where
   pub four_rtsqs : (tlid : ℕ) → map four_rtsq (of_number four_tlid tlid (fours records)) ≡ up_to (length (of_number four_tlid tlid (fours records)))
   pub six_rtsqs : (tlid : ℕ) → map six_rtsq (of_number six_tlid tlid (sixes records)) ≡ up_to (length (of_number six_tlid tlid (sixes records)))
 
--- A canonical list of records. Only `least` speaks of the choice of TLIDs and directions.
-pub record IsCanonical (records : List Record) : Type 0 where
+-- A list of records in the canonical order, packing and numbering, but for the choice of TLIDs and directions.
+pub record IsTidyList (records : List Record) : Type 0 where
   pub linked : IsLinked records
   pub order : StandsInOrder records
   pub packed : IsPacked records
-  pub tidy : IsTidy (county_of records)
+  pub numbers : IsTidy (county_of records)
+
+-- A canonical list of records. Only `least` speaks of the choice of TLIDs and directions.
+pub record IsCanonical (records : List Record) : Type 0 where
+  pub tidy : IsTidyList records
   pub least : IsLeast (county_of records)
+
+-- the renaming keeps each TLID of the county and turns no chain
+pub record KeepsChainNumbers (r : Renumbering) (county : County) : Type 0 where
+  pub keeps : AllByRecursion (λ tlid. image nat_cmp r.chains tlid ≡ tlid) (tlids county)
+  pub turns_none : r.turned ≡ []
