@@ -1,8 +1,8 @@
 -- Of faults that stand in a finite list, either none is there or exactly one is the first.
-use Rattle.std.proofs.Common.{◌≡◌, ◌⊎◌, ℕ, List, [], ◌∷◌, ◌++◌, map, flat_map, Bool, true, false, is_eq, is_gt, sym, refl, ap, ◌∙◌, subst, inl, inr, nat_cmp}
-use Rattle.std.proofs.lemmas.Bool.{false≢true}
+use Rattle.std.proofs.Common.{◌≡◌, ◌⊎◌, ℕ, List, [], ◌∷◌, ◌++◌, map, flat_map, Bool, true, false, not, ◌&&◌, ◌||◌, is_eq, is_gt, sym, refl, ap, ◌∙◌, subst, inl, inr, nat_cmp}
+use Rattle.std.proofs.lemmas.Bool.{false≢true, and_parts, or_cases, not-true}
 use Rattle.std.proofs.lemmas.Cmp.{upto}
-use Rattle.std.specs.List.{AllByRecursion}
+use Rattle.std.specs.List.{AllByRecursion, list_all}
 use Rattle.tl_county.specs.FirstOf.{IsFirst, place_cmp}
 use Rattle.tl_county.specs.Orders.{times}
 use Rattle.tl_county.proofs.Keys.{IsKeyOrder, Known, known_cases, order_antisymm, order_total, order_itself}
@@ -81,3 +81,38 @@ module _ {F : Type 0} (there : F → Bool) (place : F → List (List ℕ)) where
 
   pub one_first : (at : List (List ℕ) → F) → ((f : F) → at (place f) ≡ f) → (f g : F) → IsFirst there place f → IsFirst there place g → f ≡ g
   one_first at back f g h k = sym (back f) ∙ ap at (order_antisymm place_keys (place f) (place g) (h.least g k.there) (k.least f h.there)) ∙ back g
+
+  -- the same by computing, over a list in which each fault that is there stands
+  abbrev pub none_there : List F → Bool
+  none_there cs = list_all (λ c. not (there c)) cs
+
+  abbrev pub least_there : F → List F → Bool
+  least_there f cs = there f && list_all (λ c. not (there c) || not (is_gt (place_cmp (place f) (place c)))) cs
+
+  none_by : (cs : List F) → none_there cs ≡ true → AllByRecursion (λ c. there c ≡ false) cs
+  none_by [] e = tt
+  none_by (c ∷ cs) e =
+      let both = and_parts (not (there c)) (list_all (λ d. not (there d)) cs) e in
+      (not-true (there c) both.0, none_by cs both.1)
+
+  least_by : (f : F) (cs : List F) → list_all (λ c. not (there c) || not (is_gt (place_cmp (place f) (place c)))) cs ≡ true → AllByRecursion (λ c. there c ≡ true → is_gt (place_cmp (place f) (place c)) ≡ false) cs
+  least_by f [] e = tt
+  least_by f (c ∷ cs) e =
+      let both = and_parts (not (there c) || not (is_gt (place_cmp (place f) (place c)))) (list_all (λ d. not (there d) || not (is_gt (place_cmp (place f) (place d)))) cs) e in
+      ((λ t. at (or_cases (not (there c)) (not (is_gt (place_cmp (place f) (place c)))) both.0) t), least_by f cs both.1)
+    where
+      at : (not (there c) ≡ true) ⊎ (not (is_gt (place_cmp (place f) (place c))) ≡ true) → there c ≡ true → is_gt (place_cmp (place f) (place c)) ≡ false
+      at (inl g) t = absurd (false≢true (sym (not-true (there c) g) ∙ t))
+      at (inr g) t = not-true (is_gt (place_cmp (place f) (place c))) g
+
+  pub none_computed : (cs : List F) → ((f : F) → there f ≡ true → Among f cs) → none_there cs ≡ true → (f : F) → there f ≡ false
+  none_computed cs all e f = go (there f) refl
+    where
+      go : (b : Bool) → there f ≡ b → there f ≡ false
+      go true t = all_among (λ c. there c ≡ false) f cs (none_by cs e) (all f t)
+      go false t = t
+
+  pub first_computed : (cs : List F) → ((f : F) → there f ≡ true → Among f cs) → (f : F) → least_there f cs ≡ true → IsFirst there place f
+  first_computed cs all f e =
+      let both = and_parts (there f) (list_all (λ c. not (there c) || not (is_gt (place_cmp (place f) (place c)))) cs) e in
+      record { there = both.0; least = λ g t. all_among (λ c. there c ≡ true → is_gt (place_cmp (place f) (place c)) ≡ false) g cs (least_by f cs both.1) (all g t) t }

@@ -10,3 +10,6 @@ pub mod Carried
 pub mod InOrder
 pub mod Numbers
 pub mod LinkedCounty
+pub mod Samples
+pub mod Rows
+pub mod Reordered

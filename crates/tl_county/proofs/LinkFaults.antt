@@ -12,7 +12,7 @@ use Rattle.tl_county.specs.County.{two_tlid, two_rtsq, four_tlid, four_rtsq, fiv
 use Rattle.tl_county.specs.LinkRules.{chain_tlids, linked_tlids, rtsqs, named_feats, is_broken, fault_place, type_place, IsLinked, IsFirstBrokenRule}
 use Rattle.tl_county.specs.Orders.{times, stands_in, has_repeat}
 use Rattle.tl_county.specs.PolygonKeys.{PolygonKey, key_cmp}
-use Rattle.tl_county.proofs.FirstFault.{Among, among_left, among_right, known_among, first_or_none, not_first, one_first}
+use Rattle.tl_county.proofs.FirstFault.{Among, among_left, among_right, known_among, first_or_none, not_first, one_first, none_there, least_there, none_computed, first_computed}
 use Rattle.tl_county.proofs.Keys.{Known, nat_keys, times-yes, times-no, same_or_not, differ_apart, known-append}
 use Rattle.tl_county.proofs.KeyOrders.{key_keys}
 
@@ -65,16 +65,13 @@ fault_at-place (PolygonUnknown cenid polyid) = refl
 fault_at-place Memory = refl
 
 -- Among these each broken rule stands with its place.
-abbrev chain_faults : (ℕ → LinkFault) → List ℕ → List LinkFault
-chain_faults f = map f
-
-abbrev name_faults : List Fields4 → List LinkFault
+abbrev pub name_faults : List Fields4 → List LinkFault
 name_faults = flat_map (λ r. map (NameUnknown r.tlid) r.feats)
 
-abbrev type_faults : LinkedType → List Record → List LinkFault
+abbrev pub type_faults : LinkedType → List Record → List LinkFault
 type_faults t records = map (NoChain t) (linked_tlids t records) ++ map (SequenceBroken t) (linked_tlids t records)
 
-abbrev faults_11_to_15 : List Record → List LinkFault
+abbrev pub faults_11_to_15 : List Record → List LinkFault
 faults_11_to_15 records =
     map ChainTwice (chain_tlids records)
     ++ (type_faults Two records
@@ -84,7 +81,7 @@ faults_11_to_15 records =
     ++ (map LinkMissing (chain_tlids records)
     ++ map LinkTwice (map i_tlid (is records)))))))
 
-abbrev faults_16_to_20 : List Record → List LinkFault
+abbrev pub faults_16_to_20 : List Record → List LinkFault
 faults_16_to_20 records =
     map NameTwice (map five_feat (fives records))
     ++ (name_faults (fours records)
@@ -140,7 +137,7 @@ some : (n : ℕ) (b : Bool) → (nat_lt 0 n && b) ≡ true → 0 < n
 some n b e = ltb-true 0 n (and_parts (nat_lt 0 n) b e).0
 
 -- the faults among which each broken rule stands
-abbrev all_faults : List Record → List LinkFault
+abbrev pub all_faults : List Record → List LinkFault
 all_faults records = faults_11_to_15 records ++ faults_16_to_20 records
 
 first_half : (records : List Record) (f : LinkFault) → Among f (faults_11_to_15 records) → Among f (all_faults records)
@@ -158,7 +155,7 @@ sequence_among I tlid records e = absurd (false≢true e)
 skip_types : (records : List Record) (f : LinkFault) → Among f (map LinkMissing (chain_tlids records) ++ map LinkTwice (map i_tlid (is records))) → Among f (faults_11_to_15 records)
 skip_types records f h = among_right f (map ChainTwice (chain_tlids records)) _ (among_right f (type_faults Two records) _ (among_right f (type_faults Four records) _ (among_right f (type_faults Six records) _ (among_right f (type_faults I records) _ h))))
 
-broken_among : (records : List Record) (f : LinkFault) → is_broken records f ≡ true → Among f (all_faults records)
+pub broken_among : (records : List Record) (f : LinkFault) → is_broken records f ≡ true → Among f (all_faults records)
 broken_among records (ChainTwice tlid) e = first_half records (ChainTwice tlid) (among_left (ChainTwice tlid) (map ChainTwice (chain_tlids records)) _ (known_among nat_keys ChainTwice tlid (chain_tlids records) (some_above (times nat_cmp tlid (chain_tlids records)) e)))
 broken_among records (NoChain t tlid) e = first_half records (NoChain t tlid) (among_types t (NoChain t tlid) records (type_among_no_chain t tlid records (some (times nat_cmp tlid (linked_tlids t records)) (not (stands_in nat_cmp tlid (chain_tlids records))) e)))
 broken_among records (SequenceBroken t tlid) e = first_half records (SequenceBroken t tlid) (among_types t (SequenceBroken t tlid) records (type_among_sequence t tlid records (sequence_among t tlid records e)))
@@ -179,3 +176,10 @@ linked_has_none records fault linked h = not_first (is_broken records) fault_pla
 
 pub one_first_rule : (records : List Record) (f g : LinkFault) → IsFirstBrokenRule records f → IsFirstBrokenRule records g → f ≡ g
 one_first_rule records = one_first (is_broken records) fault_place fault_at fault_at-place
+
+-- by computing, for given records
+pub linked_computed : (records : List Record) → none_there (is_broken records) fault_place (all_faults records) ≡ true → IsLinked records
+linked_computed records e = none_computed (is_broken records) fault_place (all_faults records) (broken_among records) e
+
+pub first_rule_computed : (records : List Record) (fault : LinkFault) → least_there (is_broken records) fault_place fault (all_faults records) ≡ true → IsFirstBrokenRule records fault
+first_rule_computed records fault e = first_computed (is_broken records) fault_place (all_faults records) (broken_among records) fault e

@@ -65,3 +65,7 @@ all_filter P test (x ∷ xs) a = go (test x) (all_filter P test xs a.1)
     go : (b : Bool) → AllByRecursion P (filter test xs) → AllByRecursion P (cond b (x ∷ filter test xs) (filter test xs))
     go true h = (a.0, h)
     go false h = h
+
+pub flat_map_agree : {X Y : Type 0} (f g : X → List Y) → ((x : X) → f x ≡ g x) → (xs : List X) → flat_map f xs ≡ flat_map g xs
+flat_map_agree f g h [] = refl
+flat_map_agree f g h (x ∷ xs) = λ i. h x i ++ flat_map_agree f g h xs i

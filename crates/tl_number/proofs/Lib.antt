@@ -9,3 +9,4 @@ pub mod Grouping
 pub mod Repacked
 pub mod RepackedPolygons
 pub mod Uniqueness
+pub mod Rows

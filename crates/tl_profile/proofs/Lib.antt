@@ -1,2 +1,3 @@
 pub mod ProfileFaults
 pub mod SameProfile
+pub mod Rows

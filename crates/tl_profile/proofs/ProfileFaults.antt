@@ -8,7 +8,7 @@ use Rattle.tl_county.specs.County.{County}
 use Rattle.tl_county.specs.CountyRules.{polygons_along}
 use Rattle.tl_county.specs.Orders.{stands_in}
 use Rattle.tl_county.specs.PolygonKeys.{PolygonKey, key_cmp}
-use Rattle.tl_county.proofs.FirstFault.{Among, among_left, among_right, first_or_none, not_first, one_first}
+use Rattle.tl_county.proofs.FirstFault.{Among, among_left, among_right, first_or_none, not_first, one_first, none_there, least_there, none_computed, first_computed}
 use Rattle.tl_county.proofs.KeyOrders.{key_keys}
 use Rattle.tl_county.proofs.Keys.{same-true}
 use Rattle.tl_county.proofs.Members.{any_among, among-map, among-pieces}
@@ -42,16 +42,16 @@ fault_at-place (PolygonWithoutChain cenid polyid) = refl
 fault_at-place Memory = refl
 
 -- Among these each broken clause stands with its place.
-abbrev reverse_faults : County → List ProfileFault
+abbrev pub reverse_faults : County → List ProfileFault
 reverse_faults county = map (λ e. OwnReverse e.0) county.chains
 
-abbrev shape_faults : County → List ProfileFault
+abbrev pub shape_faults : County → List ProfileFault
 shape_faults county = flat_map (λ e. map (λ d. SameShape e.0 d.0) county.chains) county.chains
 
-abbrev polygon_faults : County → List ProfileFault
+abbrev pub polygon_faults : County → List ProfileFault
 polygon_faults county = map (λ e. PolygonWithoutChain e.0.0 e.0.1) county.polygons
 
-abbrev all_faults : County → List ProfileFault
+abbrev pub all_faults : County → List ProfileFault
 all_faults county = reverse_faults county ++ (shape_faults county ++ polygon_faults county)
 
 -- a chain that is its own reverse
@@ -87,7 +87,7 @@ body_entry county key h =
     let both : (is_eq (key_cmp key r.0.0) ≡ true) × (is_some r.0.1 ≡ true) = and_parts (is_eq (key_cmp key r.0.0)) (is_some r.0.1) r.2 in
     (r.0, r.1, same-true key_keys key r.0.0 both.0, both.1)
 
-broken_among : (county : County) (f : ProfileFault) → is_broken county f ≡ true → Among f (all_faults county)
+pub broken_among : (county : County) (f : ProfileFault) → is_broken county f ≡ true → Among f (all_faults county)
 broken_among county (OwnReverse tlid) h =
     let r = own_reverse_entry county tlid h in
     among_left (OwnReverse tlid) (reverse_faults county) (shape_faults county ++ polygon_faults county) (subst (λ t. Among (OwnReverse t) (reverse_faults county)) (sym r.2) (among-map (λ e. OwnReverse e.0) r.0 county.chains r.1))
@@ -112,3 +112,10 @@ profile_has_none county fault within h = not_first (is_broken county) fault_plac
 
 pub one_first_clause : (county : County) (f g : ProfileFault) → IsFirstBrokenClause county f → IsFirstBrokenClause county g → f ≡ g
 one_first_clause county = one_first (is_broken county) fault_place fault_at fault_at-place
+
+-- by computing, for a given county
+pub profile_computed : (county : County) → none_there (is_broken county) fault_place (all_faults county) ≡ true → IsInProfile county
+profile_computed county e = none_computed (is_broken county) fault_place (all_faults county) (broken_among county) e
+
+pub first_clause_computed : (county : County) (fault : ProfileFault) → least_there (is_broken county) fault_place fault (all_faults county) ≡ true → IsFirstBrokenClause county fault
+first_clause_computed county fault e = first_computed (is_broken county) fault_place (all_faults county) (broken_among county) fault e
