@@ -13,3 +13,4 @@ pub mod LinkedCounty
 pub mod Samples
 pub mod Rows
 pub mod Reordered
+pub mod SameCounty

@@ -10,3 +10,4 @@ pub mod CountyRules
 pub mod Renumbering
 pub mod FirstOf
 pub mod LinkRules
+pub mod Repacked
