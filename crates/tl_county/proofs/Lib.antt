@@ -14,3 +14,4 @@ pub mod Samples
 pub mod Rows
 pub mod Reordered
 pub mod SameCounty
+pub mod Repacking

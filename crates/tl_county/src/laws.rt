@@ -1,8 +1,9 @@
 //! Laws of the definitions in `specs/`. The functions do nothing; their contracts are the laws.
 
-ghost use Rattle.std.specs.Prelude.{◌≡◌, ◌⊎◌, List};
+ghost use Rattle.std.specs.Prelude.{◌≡◌, ◌⊎◌, IsPermutation, List, map};
 ghost use Rattle.tl_county.specs.County.{County, county_of};
 ghost use Rattle.tl_county.specs.LinkRules.{IsFirstBrokenRule, IsLinked};
+ghost use Rattle.tl_county.specs.Repacked.{AreRepacked, KeepsSequence, Sequence, resequenced};
 ghost use Rattle.tl_county.specs.declared.fault.LinkFault.{LinkFault};
 ghost use Rattle.tl_layout.specs.declared.record_type.Record.{Record};
 ghost use Rattle.tl_county.specs.CountyRules.{IsCounty};
@@ -40,5 +41,17 @@ pub fn linked_or_one_first_broken_rule()
 /// In the county of a linked list of records the numbers ascend, and each number that a part names is there.
 pub fn linked_records_have_a_well_formed_county()
     ensures { (records : List Record) → IsLinked records → IsCounty (county_of records) }
+{
+}
+
+/// The county doesn't depend on the order of the records, on the packing of types 2 and 4, nor on which RTSQs keep the
+/// order of a chain's records.
+pub fn the_county_is_what_the_records_say()
+    ensures reordered { (records others : List Record) →
+        IsPermutation records others → IsLinked records → IsLinked others × (county_of others ≡ county_of records) }
+    ensures repacked { (records others : List Record) →
+        AreRepacked records others → county_of records ≡ county_of others }
+    ensures resequenced { (sequence : Sequence) (records : List Record) →
+        KeepsSequence sequence → county_of (map (resequenced sequence) records) ≡ county_of records }
 {
 }
