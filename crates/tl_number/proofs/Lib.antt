@@ -10,3 +10,4 @@ pub mod Repacked
 pub mod RepackedPolygons
 pub mod Uniqueness
 pub mod Rows
+pub mod Accepted
