@@ -25,12 +25,12 @@ impl Model for Renaming {
     ghost Value = { Renumbering };
 
     ghost view = { λ r. record {
-        chains = r.chains.items;
-        names = r.names.items;
-        polygons = r.polygons.items;
-        lands = r.lands.items;
-        nodes = r.nodes.items;
-        turned = r.turned.items;
+      chains = r.chains.items;
+      names = r.names.items;
+      polygons = r.polygons.items;
+      lands = r.lands.items;
+      nodes = r.nodes.items;
+      turned = r.turned.items;
     } };
 }
 
@@ -45,12 +45,12 @@ impl Renaming {
         turned: Vec<u64>,
     ) -> Renaming
         ensures { result ≡ record {
-            chains = chains.items;
-            names = names.items;
-            polygons = polygons.items;
-            lands = lands.items;
-            nodes = nodes.items;
-            turned = turned.items;
+          chains = chains.items;
+          names = names.items;
+          polygons = polygons.items;
+          lands = lands.items;
+          nodes = nodes.items;
+          turned = turned.items;
         } }
     {
         Renaming {

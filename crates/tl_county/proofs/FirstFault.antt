@@ -1,10 +1,9 @@
 -- Of faults that stand in a finite list, either none is there or exactly one is the first.
-use Rattle.std.proofs.Common.{◌≡◌, ◌⊎◌, ℕ, List, [], ◌∷◌, ◌++◌, map, flat_map, Bool, true, false, not, ◌&&◌, ◌||◌, is_eq, is_gt, sym, refl, ap, ◌∙◌, subst, inl, inr, nat_cmp}
+use Rattle.std.proofs.Common.{◌≡◌, ◌⊎◌, ℕ, List, [], ◌∷◌, ◌++◌, map, Bool, true, false, not, ◌&&◌, ◌||◌, is_eq, is_gt, sym, refl, ap, ◌∙◌, subst, inl, inr}
 use Rattle.std.proofs.lemmas.Bool.{false≢true, and_parts, or_cases, not-true}
 use Rattle.std.proofs.lemmas.Cmp.{upto}
 use Rattle.std.specs.List.{AllByRecursion, list_all}
 use Rattle.tl_county.specs.FirstOf.{IsFirst, place_cmp}
-use Rattle.tl_county.specs.Orders.{times}
 use Rattle.tl_county.proofs.Keys.{IsKeyOrder, Known, known_cases, order_antisymm, order_total, order_itself}
 use Rattle.tl_county.proofs.KeyOrders.{bytes_keys, lists_keys}
 use Rattle.std.proofs.Common.{Ordering, arith}
@@ -59,6 +58,7 @@ module _ {F : Type 0} (there : F → Bool) (place : F → List (List ℕ)) where
       pick : there c ≡ true → (f : F) → IsLeastOf cs f → (b : Bool) → is_gt (place_cmp (place c) (place f)) ≡ b → (g : F) × IsLeastOf (c ∷ cs) g
       pick t f h false e = (c, (t, ((λ u. order_itself place_keys (place c)), lower c f e cs h.1)))
       pick t f h true e = (f, (h.0, ((λ u. order_total place_keys (place c) (place f) e), h.1)))
+
       go : (b : Bool) → there c ≡ b → AllByRecursion (λ d. there d ≡ false) cs ⊎ ((f : F) × IsLeastOf cs f) → AllByRecursion (λ d. there d ≡ false) (c ∷ cs) ⊎ ((f : F) × IsLeastOf (c ∷ cs) f)
       go true t (inl none) = inr (c, (t, ((λ u. order_itself place_keys (place c)), vacuous c cs none)))
       go true t (inr p) = inr (pick t p.0 p.1 (is_gt (place_cmp (place c) (place p.0))) refl)
@@ -72,6 +72,7 @@ module _ {F : Type 0} (there : F → Bool) (place : F → List (List ℕ)) where
       none : AllByRecursion (λ c. there c ≡ false) cs → (f : F) (b : Bool) → there f ≡ b → there f ≡ false
       none h f true e = all_among (λ c. there c ≡ false) f cs h (all f e)
       none h f false e = e
+
       go : AllByRecursion (λ c. there c ≡ false) cs ⊎ ((f : F) × IsLeastOf cs f) → ((f : F) → there f ≡ false) ⊎ ((f : F) × IsFirst there place f)
       go (inl h) = inl (λ f. none h f (there f) refl)
       go (inr p) = inr (p.0, record { there = p.1.0; least = λ g t. all_among (λ c. there c ≡ true → is_gt (place_cmp (place p.0) (place c)) ≡ false) g cs p.1.1 (all g t) t })

@@ -1,7 +1,6 @@
 -- The orders of this crate tell any two values apart.
-use Rattle.std.proofs.Common.{◌≡◌, ℕ, List, [], ◌∷◌, Ordering, Less, Equal, Greater, refl, ap, sym, ◌∙◌, nat_cmp, int_cmp, ℤ, Option, Some, None, option_to_list}
-use Rattle.std.specs.Ordering.{ordering_then, on, then_cmp}
-use Rattle.std.specs.Cmp.{IsTotalOrder}
+use Rattle.std.proofs.Common.{◌≡◌, List, [], ◌∷◌, Ordering, Less, Equal, Greater, refl, ap, nat_cmp, int_cmp, Option, Some, None, option_to_list}
+use Rattle.std.specs.Ordering.{ordering_then}
 use Rattle.std.specs.Cmp.Lexicographic.{slice_cmp}
 use Rattle.std.proofs.lemmas.Cmp.{nat_cmp_total, int_cmp_total, nat_list_cmp_total, lists_total, then_total, on_total}
 use Rattle.std.proofs.lemmas.Map.Lookups.{exact_unsigned, exact_signed, exact_bytes, exact_pairs}

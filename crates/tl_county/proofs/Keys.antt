@@ -1,17 +1,17 @@
 -- Keys that an order tells apart: how often they stand in a list, and their images by pairs.
-use Rattle.std.proofs.Common.{◌≡◌, ◌≢◌, ◌⊎◌, ◌<◌, ◌≤◌, ◌+◌, ℕ, zero, suc, nat_lt, length-append, ◌||◌, List, [], ◌∷◌, ◌++◌, Bool, true, false, cond, map, filter, length, Ordering, Less, Equal, Greater, IsTrue, is_eq, is_gt, sym, refl, ap, ◌∙◌, subst, inl, inr, arith, IsPermutation, count_by, nat_cmp}
-use Rattle.std.proofs.lemmas.Bool.{false≢true, ltb-true, lt-ltb, false_from_ne_true}
+use Rattle.std.proofs.Common.{◌≡◌, ◌⊎◌, ◌<◌, ◌≤◌, ◌+◌, ℕ, zero, suc, nat_lt, length-append, ◌||◌, List, [], ◌∷◌, ◌++◌, Bool, true, false, cond, map, filter, length, Ordering, Less, Equal, Greater, is_eq, is_gt, sym, refl, ap, ◌∙◌, subst, inl, inr, arith, IsPermutation, nat_cmp}
+use Rattle.std.proofs.lemmas.Bool.{false≢true, lt-ltb, false_from_ne_true}
 use Rattle.std.proofs.lemmas.Cmp.{tied_itself, nat_cmp_total}
 use Rattle.std.specs.Ordering.{ordering_reverse}
 use Rattle.std.proofs.lemmas.Map.Lookups.{exact_unsigned}
 use Rattle.std.proofs.lemmas.List.Sums.{length-filter}
 use Rattle.std.proofs.lemmas.List.Elements.{filter-append}
-use Rattle.std.proofs.lemmas.List.Sorted.{sum_by-IsPermutation, IsPermutation-map, IsPermutation-trans, IsPermutation-sym}
+use Rattle.std.proofs.lemmas.List.Sorted.{sum_by-IsPermutation}
 use Rattle.std.specs.Cmp.{IsTotalOrder}
 use Rattle.std.specs.List.{AllByRecursion}
 use Rattle.std.specs.List.Sorted.{IsStrictlySortedBy}
 use Rattle.tl_county.specs.Orders.{times, stands_in, has_repeat}
-use Rattle.tl_county.specs.Renumbering.{image, swapped, joined, is_named, to_itself, ArePaired}
+use Rattle.tl_county.specs.Renumbering.{image, swapped, joined, is_named, to_itself}
 
 -- an order that tells any two keys apart
 pub record IsKeyOrder {K : Type 0} (cmp : K → K → Ordering) : Type 0 where
@@ -159,6 +159,7 @@ module _ {K : Type 0} {cmp : K → K → Ordering} (o : IsKeyOrder cmp) where
       there : (v : K) → Known cmp (rights ps) v → (v ≡ p.1) ⊎ (is_eq (cmp v p.1) ≡ false) → image cmp (swapped (p ∷ ps)) v ≡ image cmp (swapped ps) v
       there v l (inl e) = absurd (omega (arith, times-yes v p.1 (rights ps) e, a v))
       there v l (inr ne) = image-no (p.1, p.0) (swapped ps) v ne
+
       go : (x ≡ p.0) ⊎ (Known cmp (lefts ps) x × (is_eq (cmp x p.0) ≡ false)) → (Known cmp (lefts ps) x → image cmp (swapped ps) (image cmp ps x) ≡ x) → image cmp (swapped (p ∷ ps)) (image cmp (p ∷ ps) x) ≡ x
       go (inl e) ih = ap (image cmp (swapped (p ∷ ps))) (image-yes p ps x e) ∙ image-yes (p.1, p.0) (swapped ps) p.1 refl ∙ sym e
       go (inr r) ih =
@@ -199,6 +200,7 @@ module _ {K : Type 0} {cmp : K → K → Ordering} (o : IsKeyOrder cmp) where
       other : (k : K) → Known cmp (lefts qs) k → (k ≡ q.0) ⊎ (is_eq (cmp k q.0) ≡ false) → image cmp (q ∷ qs) k ≡ image cmp qs k
       other k l (inl e) = absurd (omega (arith, times-yes k q.0 (lefts qs) e, a k))
       other k l (inr ne) = image-no q qs k ne
+
       rest : map (image cmp (q ∷ qs)) (lefts qs) ≡ map (image cmp qs) (lefts qs)
       rest = map_agree (image cmp (q ∷ qs)) (image cmp qs) (lefts qs) (λ k l. other k l (same_or_not k q.0))
 
@@ -268,9 +270,11 @@ module _ {K : Type 0} {cmp : K → K → Ordering} (o : IsKeyOrder cmp) where
       yes : (b : Bool) → b ≡ true → (m n : ℕ) → suc (cond b m 0) ≡ cond b (suc m) 0
       yes true e m n = refl
       yes false e m n = absurd (false≢true e)
+
       none : (b : Bool) → b ≡ false → (m n : ℕ) → cond b m 0 ≡ cond b n 0
       none true e m n = absurd (false≢true (sym e))
       none false e m n = refl
+
       go : (b : Bool) → f l ≡ b → (k ≡ l) ⊎ (is_eq (cmp k l) ≡ false) → times cmp k (filter f ls) ≡ cond (f k) (times cmp k ls) 0 → times cmp k (cond b (l ∷ filter f ls) (filter f ls)) ≡ cond (f k) (times cmp k (l ∷ ls)) 0
       go true e (inl k_is_l) ih = times-yes k l (filter f ls) k_is_l ∙ ap suc ih ∙ yes (f k) (ap f k_is_l ∙ e) (times cmp k ls) 0 ∙ ap (λ n. cond (f k) n 0) (sym (times-yes k l ls k_is_l))
       go true e (inr ne) ih = times-no k l (filter f ls) ne ∙ ih ∙ ap (λ n. cond (f k) n 0) (sym (times-no k l ls ne))

@@ -1,17 +1,17 @@
 -- Each list of records is linked or has exactly one first broken rule.
-use Rattle.std.proofs.Common.{◌≡◌, ◌⊎◌, ◌<◌, ◌≤◌, ℕ, zero, suc, nat_lt, ◌==◌, eqb, List, [], ◌∷◌, ◌++◌, map, flat_map, filter, Bool, true, false, cond, not, ◌&&◌, is_eq, sym, refl, ap, ◌∙◌, subst, inl, inr, nat_cmp, arith}
+use Rattle.std.proofs.Common.{◌≡◌, ◌⊎◌, ◌<◌, ℕ, zero, suc, nat_lt, ◌==◌, List, [], ◌∷◌, ◌++◌, map, flat_map, Bool, true, false, cond, not, ◌&&◌, is_eq, sym, refl, ap, ◌∙◌, subst, inl, inr, nat_cmp, arith}
 use Rattle.std.proofs.lemmas.Bool.{false≢true, ltb-true, and_parts, ne_eqb, eqb-true}
-use Rattle.tl_layout.specs.Fields.{Fields4, FieldsP, Fields8}
+use Rattle.tl_layout.specs.Fields.{Fields4}
 use Rattle.tl_layout.specs.declared.record_type.Record.{Record}
 use Rattle.tl_county.specs.declared.fault.LinkFault.{LinkFault}
 use Rattle.tl_county.specs.declared.fault.LinkFault.TheVariants.{ChainTwice, NoChain, SequenceBroken, LinkMissing, LinkTwice, NameTwice, NameUnknown, PolygonTwice, LandUnknown, PolygonUnknown, Memory}
 use Rattle.tl_county.specs.declared.fault.LinkedType.{LinkedType}
 use Rattle.tl_county.specs.declared.fault.LinkedType.TheVariants.{Two, Four, Six, I}
-use Rattle.tl_county.specs.ByType.{ones, twos, fours, fives, sixes, sevens, eights, is, ps, of_number}
+use Rattle.tl_county.specs.ByType.{twos, fours, fives, sixes, eights, is, ps, of_number}
 use Rattle.tl_county.specs.County.{two_tlid, two_rtsq, four_tlid, four_rtsq, five_feat, six_tlid, six_rtsq, eight_land, eight_key, i_tlid, p_key}
-use Rattle.tl_county.specs.LinkRules.{chain_tlids, linked_tlids, rtsqs, named_feats, is_broken, fault_place, type_place, IsLinked, IsFirstBrokenRule}
+use Rattle.tl_county.specs.LinkRules.{chain_tlids, linked_tlids, rtsqs, named_feats, is_broken, fault_place, IsLinked, IsFirstBrokenRule}
 use Rattle.tl_county.specs.Orders.{times, stands_in, has_repeat}
-use Rattle.tl_county.specs.PolygonKeys.{PolygonKey, key_cmp}
+use Rattle.tl_county.specs.PolygonKeys.{key_cmp}
 use Rattle.tl_county.proofs.FirstFault.{Among, among_left, among_right, known_among, first_or_none, not_first, one_first, none_there, least_there, none_computed, first_computed}
 use Rattle.tl_county.proofs.Keys.{Known, nat_keys, times-yes, times-no, same_or_not, differ_apart, known-append}
 use Rattle.tl_county.proofs.KeyOrders.{key_keys}
@@ -111,9 +111,11 @@ name_among x y (r ∷ rs) h = go (r.tlid == x) refl h (name_among x y rs)
   where
     here : r.tlid ≡ x → Known nat_cmp r.feats y → Among (NameUnknown x y) (map (NameUnknown r.tlid) r.feats)
     here e k = subst (λ t. Among (NameUnknown t y) (map (NameUnknown r.tlid) r.feats)) e (known_among nat_keys (NameUnknown r.tlid) y r.feats k)
+
     split : r.tlid ≡ x → Known nat_cmp r.feats y ⊎ Known nat_cmp (flat_map (λ q. q.feats) (of_number four_tlid x rs)) y → (Known nat_cmp (flat_map (λ q. q.feats) (of_number four_tlid x rs)) y → Among (NameUnknown x y) (name_faults rs)) → Among (NameUnknown x y) (name_faults (r ∷ rs))
     split e (inl k) ih = among_left (NameUnknown x y) (map (NameUnknown r.tlid) r.feats) (name_faults rs) (here e k)
     split e (inr k) ih = among_right (NameUnknown x y) (map (NameUnknown r.tlid) r.feats) (name_faults rs) (ih k)
+
     go : (b : Bool) → (r.tlid == x) ≡ b → Known nat_cmp (flat_map (λ q. q.feats) (cond b (r ∷ of_number four_tlid x rs) (of_number four_tlid x rs))) y → (Known nat_cmp (flat_map (λ q. q.feats) (of_number four_tlid x rs)) y → Among (NameUnknown x y) (name_faults rs)) → Among (NameUnknown x y) (name_faults (r ∷ rs))
     go true e k ih = split (eqb-true r.tlid x e) (known-append nat_keys y r.feats (flat_map (λ q. q.feats) (of_number four_tlid x rs)) k) ih
     go false e k ih = among_right (NameUnknown x y) (map (NameUnknown r.tlid) r.feats) (name_faults rs) (ih k)

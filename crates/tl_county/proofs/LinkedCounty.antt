@@ -1,27 +1,27 @@
 -- The county of a linked list of records: its numbers ascend, and each number that it names is there.
-use Rattle.std.proofs.Common.{◌≡◌, ◌⊎◌, ◌<◌, ◌≤◌, ◌+◌, ℕ, zero, suc, nat_lt, List, [], ◌∷◌, ◌++◌, map, flat_map, filter, length, Bool, true, false, not, ◌&&◌, IsTrue, sym, refl, ap, ◌∙◌, subst, inl, inr, arith, nat_cmp, map-id, append-nil}
+use Rattle.std.proofs.Common.{◌≡◌, ◌<◌, ◌≤◌, ℕ, nat_lt, List, [], ◌∷◌, ◌++◌, map, flat_map, Bool, true, false, not, ◌&&◌, IsTrue, sym, refl, ap, ◌∙◌, subst, arith, nat_cmp, map-id}
 use Rattle.std.proofs.lemmas.Bool.{false≢true, ltb-true, ltb-false, lt-ltb}
 use Rattle.std.proofs.lemmas.Cmp.{nat_cmp_total, on_total}
 use Rattle.std.specs.List.{AllByRecursion}
 use Rattle.std.specs.List.Sorted.{IsStrictlySortedBy}
 use Rattle.std.specs.Ordering.{on}
-use Rattle.tl_layout.specs.Fields.{Fields1, Fields4, Fields5, Fields7, Fields8, FieldsI, FieldsP}
+use Rattle.tl_layout.specs.Fields.{Fields1, Fields4, Fields5, Fields7, Fields8, FieldsI}
 use Rattle.tl_layout.specs.declared.record_type.Record.{Record}
 use Rattle.tl_county.specs.declared.fault.LinkFault.TheVariants.{ChainTwice, LinkMissing, LinkTwice, NameTwice, NameUnknown, LandUnknown, PolygonUnknown}
 use Rattle.tl_county.specs.BodyOrder.{landmark_body_cmp, link_cmp}
-use Rattle.tl_county.specs.ByType.{ones, twos, fours, fives, sixes, sevens, eights, is, ps, of_number}
+use Rattle.tl_county.specs.ByType.{ones, fours, fives, sevens, eights, is, ps, of_number}
 use Rattle.tl_county.specs.Chain.{Chain}
-use Rattle.tl_county.specs.County.{County, one_tlid, four_tlid, four_rtsq, five_feat, seven_land, eight_land, eight_key, i_tlid, p_key, further_names, chain_of, chains_of, names_of, side_keys, polygon_body, polygons_of, landmarks_of, county_of}
+use Rattle.tl_county.specs.County.{one_tlid, four_tlid, four_rtsq, five_feat, seven_land, eight_land, eight_key, i_tlid, p_key, further_names, chain_of, chains_of, side_keys, polygon_body, county_of}
 use Rattle.tl_county.specs.CountyRules.{IsCounty, tlids, feats, polygon_keys, lands, chain_polygons, link_key, AllStandIn, AllKeysStandIn}
 use Rattle.tl_county.specs.LinkRules.{IsLinked, chain_tlids, named_feats}
 use Rattle.tl_county.specs.Orders.{times, stands_in, in_order, distinct}
 use Rattle.tl_county.specs.PolygonKeys.{PolygonKey, key_cmp}
 use Rattle.tl_county.proofs.Carried.{among-unpieces}
 use Rattle.tl_county.proofs.Distinct.{known-distinct}
-use Rattle.tl_county.proofs.FirstFault.{Among, all_among}
+use Rattle.tl_county.proofs.FirstFault.{Among}
 use Rattle.tl_county.proofs.InOrder.{in_order-in_order, in_order-map}
 use Rattle.tl_county.proofs.KeyOrders.{key_keys, landmark_body_keys, link_keys}
-use Rattle.tl_county.proofs.Keys.{Known, IsApart, nat_keys, known-left, known-right}
+use Rattle.tl_county.proofs.Keys.{Known, IsApart, nat_keys, known-left}
 use Rattle.tl_county.proofs.Lists.{map-map, all_weaker, all_everywhere, all_map, all_joined}
 use Rattle.tl_county.proofs.Members.{among-map, among-pieces, among_known}
 use Rattle.tl_county.proofs.Numbers.{all_themselves, times-of_number, only_one, of_number-among, times-in_order, all-in_order, from_in_order, strict_from_order, distinct-strict}
@@ -98,9 +98,9 @@ module _ (records : List Record) (linked : IsLinked records) where
   chains_all : (P : ℕ × Chain → Type 0) → ((r : Fields1) (link : FieldsI) → Among link (is records) → P (r.tlid, chain_of records r link)) → AllByRecursion P (chains_of records)
   chains_all P h = all_joined P (λ r. map (λ link. (r.tlid, chain_of records r link)) (of_number i_tlid r.tlid (is records))) (in_order (on one_tlid nat_cmp) (ones records))
       (all_everywhere (λ r. AllByRecursion P (map (λ link. (r.tlid, chain_of records r link)) (of_number i_tlid r.tlid (is records))))
-        (λ r. all_map P (λ link. (r.tlid, chain_of records r link)) (of_number i_tlid r.tlid (is records))
-          (all_weaker (λ link. Among link (is records)) (λ link. P (r.tlid, chain_of records r link)) (h r) (of_number i_tlid r.tlid (is records)) (of_number-among i_tlid r.tlid (is records))))
-        (in_order (on one_tlid nat_cmp) (ones records)))
+      (λ r. all_map P (λ link. (r.tlid, chain_of records r link)) (of_number i_tlid r.tlid (is records))
+      (all_weaker (λ link. Among link (is records)) (λ link. P (r.tlid, chain_of records r link)) (h r) (of_number i_tlid r.tlid (is records)) (of_number-among i_tlid r.tlid (is records))))
+      (in_order (on one_tlid nat_cmp) (ones records)))
 
   land_stands : (link : Fields8) → Among link (eights records) → IsTrue (stands_in nat_cmp link.land (lands (county_of records)))
   land_stands link m =
@@ -122,7 +122,7 @@ module _ (records : List Record) (linked : IsLinked records) where
       polygons = subst (IsStrictlySortedBy key_cmp) (sym keys-county) (distinct-strict key_keys all_keys);
       landmarks = subst (IsStrictlySortedBy nat_cmp) (sym lands-county) (distinct-strict nat_keys (map seven_land (sevens records)));
       bodies = all_map (λ entry. _) (λ land. (land, in_order landmark_body_cmp (map (λ (r : Fields7). r.body) (of_number seven_land land (sevens records))))) (distinct nat_cmp (map seven_land (sevens records)))
-        (all_everywhere (λ land. _) (λ land. in_order-in_order landmark_body_keys.total (map (λ (r : Fields7). r.body) (of_number seven_land land (sevens records)))) (distinct nat_cmp (map seven_land (sevens records))));
+          (all_everywhere (λ land. _) (λ land. in_order-in_order landmark_body_keys.total (map (λ (r : Fields7). r.body) (of_number seven_land land (sevens records)))) (distinct nat_cmp (map seven_land (sevens records))));
       links = in_order-in_order link_keys.total (eights records);
     };
     closed = record {

@@ -1,10 +1,10 @@
 -- Elements of a list: under a permutation, in a map, and where a test finds one.
-use Rattle.std.proofs.Common.{◌≡◌, ◌⊎◌, ◌<◌, ◌≤◌, ◌+◌, ℕ, zero, suc, List, [], ◌∷◌, ◌++◌, map, flat_map, filter, length, get_or, Bool, true, false, cond, ◌&&◌, ◌||◌, sym, refl, ap, ◌∙◌, subst, inl, inr, arith, IsPermutation, Contains, Ordering, is_eq, filter_map, Option, Some, None}
+use Rattle.std.proofs.Common.{◌≡◌, ◌⊎◌, ◌<◌, ℕ, zero, suc, List, [], ◌∷◌, ◌++◌, map, flat_map, length, get_or, Bool, true, false, sym, refl, ap, ◌∙◌, subst, inl, inr, arith, IsPermutation, Contains, Ordering, is_eq, filter_map, Option, Some, None}
 use Rattle.std.proofs.lemmas.Bool.{false≢true, or_cases, or_left, or_right}
 use Rattle.std.proofs.lemmas.List.Sorted.{Contains-permutation}
-use Rattle.std.specs.List.{list_any, AllByRecursion, cons_option}
-use Rattle.tl_county.proofs.FirstFault.{Among, all_among}
-use Rattle.tl_county.proofs.Keys.{IsKeyOrder, Known, known-here, known-later, known-append, known-left, known-right, known_cases}
+use Rattle.std.specs.List.{list_any, cons_option}
+use Rattle.tl_county.proofs.FirstFault.{Among}
+use Rattle.tl_county.proofs.Keys.{IsKeyOrder, Known, known-here, known-later, known_cases}
 
 pub contains-among : {X : Type 0} (x : X) (xs : List X) → Among x xs → Contains xs x
 contains-among x [] h = absurd h
@@ -43,6 +43,7 @@ among-pieces f x y (z ∷ xs) (inl e) k = among-left' (subst (λ w. Among y (f w
     left [] zs h = absurd h
     left (w ∷ ys) zs (inl e) = inl e
     left (w ∷ ys) zs (inr h) = inr (left ys zs h)
+
     among-left' : Among y (f z) → Among y (f z ++ flat_map f xs)
     among-left' h = left (f z) (flat_map f xs) h
 among-pieces f x y (z ∷ xs) (inr h) k = right (f z) (among-pieces f x y xs h k)

@@ -1,6 +1,6 @@
 -- Elements by their numbers: how many have one, and lists that ascend strictly.
-use Rattle.std.proofs.Common.{◌≡◌, ◌⊎◌, ◌<◌, ◌≤◌, ◌+◌, ℕ, zero, suc, ◌==◌, List, [], ◌∷◌, ◌++◌, map, flat_map, filter, length, Bool, true, false, cond, Ordering, Less, Equal, Greater, is_eq, is_gt, sym, refl, ap, ◌∙◌, subst, inl, inr, arith, nat_cmp}
-use Rattle.std.proofs.lemmas.Bool.{false≢true, true≢false, eq-eqb, ne_eqb, cases_eq, eqb-true}
+use Rattle.std.proofs.Common.{◌≡◌, ◌⊎◌, ◌≤◌, ℕ, suc, ◌==◌, List, [], ◌∷◌, map, filter, length, Bool, true, false, cond, Ordering, Less, Equal, Greater, is_eq, is_gt, sym, refl, ap, ◌∙◌, inl, inr, arith, nat_cmp}
+use Rattle.std.proofs.lemmas.Bool.{true≢false, eq-eqb, ne_eqb, cases_eq, eqb-true}
 use Rattle.std.specs.List.{AllByRecursion}
 use Rattle.std.specs.List.Sorted.{IsStrictlySortedBy}
 use Rattle.tl_county.specs.ByType.{of_number}
@@ -8,9 +8,8 @@ use Rattle.tl_county.specs.Orders.{times, IsInOrder, put_in_order, in_order, dis
 use Rattle.tl_county.proofs.Distinct.{count-put, apart-distinct}
 use Rattle.tl_county.proofs.FirstFault.{Among, all_among}
 use Rattle.tl_county.proofs.InOrder.{put-in_order}
-use Rattle.tl_county.proofs.Keys.{IsKeyOrder, Known, IsApart, nat_keys, times-yes, times-no, apart_tail, same-itself, differ_apart, differ}
+use Rattle.tl_county.proofs.Keys.{IsKeyOrder, IsApart, nat_keys, times-yes, times-no, apart_tail, differ}
 use Rattle.tl_county.proofs.Lists.{all_weaker}
-use Rattle.tl_county.proofs.Members.{among_known}
 
 pub all_themselves : {X : Type 0} (xs : List X) → AllByRecursion (λ x. Among x xs) xs
 all_themselves [] = tt
@@ -95,6 +94,7 @@ module _ {K : Type 0} {cmp : K → K → Ordering} (o : IsKeyOrder cmp) where
     where
       none : times cmp k ks ≤ 0
       none = omega (arith, times-yes o k k ks refl, a k)
+
       each : (js : List K) → AllByRecursion (λ j. is_gt (cmp k j) ≡ false) js → times cmp k js ≤ 0 → AllByRecursion (λ j. cmp k j ≡ Less) js
       each [] g n = tt
       each (j ∷ js) g n = go (is_eq (cmp k j)) refl (each js g.1)

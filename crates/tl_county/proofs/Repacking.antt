@@ -1,5 +1,5 @@
 -- The county depends on the packing of types 2 and 4 and on RTSQs only by what stands in order.
-use Rattle.std.proofs.Common.{◌≡◌, ◌⊎◌, ◌<◌, ◌≤◌, ℕ, zero, suc, nat_lt, ◌==◌, List, [], ◌∷◌, ◌++◌, map, flat_map, filter, filter_map, Bool, true, false, cond, Option, Some, None, option_map, Ordering, Less, Equal, Greater, is_eq, is_gt, sym, refl, ap, ap₂, ◌∙◌, subst, inl, inr, nat_cmp}
+use Rattle.std.proofs.Common.{◌≡◌, ◌⊎◌, ◌<◌, ℕ, ◌==◌, List, [], ◌∷◌, ◌++◌, map, flat_map, filter, filter_map, Bool, true, false, cond, Option, Some, None, option_map, Ordering, Less, Equal, Greater, is_eq, is_gt, sym, refl, ap, ap₂, ◌∙◌, inl, inr, nat_cmp}
 use Rattle.std.proofs.lemmas.Bool.{lt-ltb, cases_order}
 use Rattle.std.proofs.lemmas.Cmp.{tied_itself, nat_cmp_total}
 use Rattle.std.specs.List.{AllByRecursion, cons_option}
@@ -7,13 +7,12 @@ use Rattle.std.specs.Ordering.{on, ordering_reverse}
 use Rattle.tl_layout.specs.Fields.{Fields1, Fields2, Fields4, Fields5, Fields6, Fields7, FieldsI, FieldsP}
 use Rattle.tl_layout.specs.declared.record_type.Record.{Record}
 use Rattle.tl_layout.specs.declared.record_type.Record.TheVariants.{One, Two, Four, Five, Six, Seven, Eight, I, P}
-use Rattle.tl_county.specs.declared.fault.LinkedType.{LinkedType}
 use Rattle.tl_county.specs.declared.fault.LinkedType.TheVariants.{Two as Type2, Four as Type4, Six as Type6}
 use Rattle.tl_county.specs.BodyOrder.{landmark_body_cmp, link_cmp}
-use Rattle.tl_county.specs.ByType.{as_one, as_two, as_four, as_five, as_six, as_seven, as_eight, as_i, as_p, ones, twos, fours, fives, sixes, sevens, eights, is, ps, of_number}
-use Rattle.tl_county.specs.County.{County, one_tlid, two_tlid, two_rtsq, four_tlid, four_rtsq, five_feat, six_tlid, six_rtsq, seven_land, i_tlid, p_key, shape_points, further_names, further_ranges, chain_of, chains_of, side_keys, first, polygons_of, landmarks_of, county_of}
+use Rattle.tl_county.specs.ByType.{as_one, as_two, as_four, as_five, as_six, as_seven, as_eight, as_i, as_p, ones, twos, fours, sixes, is, of_number}
+use Rattle.tl_county.specs.County.{one_tlid, two_tlid, two_rtsq, four_tlid, four_rtsq, five_feat, six_tlid, six_rtsq, seven_land, i_tlid, p_key, chain_of, chains_of, side_keys, first, polygons_of, county_of}
 use Rattle.tl_county.specs.Orders.{put_in_order, in_order, distinct}
-use Rattle.tl_county.specs.PolygonKeys.{PolygonKey, key_cmp}
+use Rattle.tl_county.specs.PolygonKeys.{key_cmp}
 use Rattle.tl_county.specs.Repacked.{AreRepacked, Sequence, resequenced, KeepsSequence}
 use Rattle.tl_county.proofs.Lists.{map-map, flat_map_agree, map_agree_everywhere}
 use Rattle.tl_county.proofs.Numbers.{all-in_order, of_number-all}
@@ -29,8 +28,8 @@ module _ (xs ys : List Record) (s : AreRepacked xs ys) where
   chains_same : chains_of xs ≡ chains_of ys
   chains_same =
       flat_map_agree (λ r. map (λ link. (r.tlid, chain_of xs r link)) (of_number i_tlid r.tlid (is xs))) (λ r. map (λ link. (r.tlid, chain_of ys r link)) (of_number i_tlid r.tlid (is ys)))
-        (λ r. map_agree_everywhere (λ link. (r.tlid, chain_of xs r link)) (λ link. (r.tlid, chain_of ys r link)) (λ link i. (r.tlid, chain_same r link i)) (of_number i_tlid r.tlid (is xs)) ∙ ap (λ ls. map (λ link. (r.tlid, chain_of ys r link)) (of_number i_tlid r.tlid ls)) s.is)
-        (in_order (on one_tlid nat_cmp) (ones xs))
+      (λ r. map_agree_everywhere (λ link. (r.tlid, chain_of xs r link)) (λ link. (r.tlid, chain_of ys r link)) (λ link i. (r.tlid, chain_same r link i)) (of_number i_tlid r.tlid (is xs)) ∙ ap (λ ls. map (λ link. (r.tlid, chain_of ys r link)) (of_number i_tlid r.tlid ls)) s.is)
+      (in_order (on one_tlid nat_cmp) (ones xs))
       ∙ ap (λ rs. flat_map (λ r. map (λ link. (r.tlid, chain_of ys r link)) (of_number i_tlid r.tlid (is ys))) (in_order (on one_tlid nat_cmp) rs)) s.ones
 
   polygons_same : polygons_of xs ≡ polygons_of ys
@@ -98,8 +97,8 @@ sequence_kept : {X : Type 0} (tlid rtsq : X → ℕ) (f : X → X) (new : ℕ �
 sequence_kept {X} tlid rtsq f new kt kr up n xs =
     ap (in_order (on rtsq nat_cmp)) (number-kept tlid f kt n xs)
     ∙ order-changed (on rtsq nat_cmp) f (λ x. tlid x ≡ n)
-        (λ x y p q. ap is_gt (ap₂ nat_cmp (kr x ∙ ap (λ m. new m (rtsq x)) p) (kr y ∙ ap (λ m. new m (rtsq y)) q)) ∙ rising (new n) (up n) (rtsq x) (rtsq y))
-        (of_number tlid n xs) (of_number-all tlid n xs)
+    (λ x y p q. ap is_gt (ap₂ nat_cmp (kr x ∙ ap (λ m. new m (rtsq x)) p) (kr y ∙ ap (λ m. new m (rtsq y)) q)) ∙ rising (new n) (up n) (rtsq x) (rtsq y))
+    (of_number tlid n xs) (of_number-all tlid n xs)
 
 flat_map-kept : {X Y : Type 0} (c : X → List Y) (f : X → X) → ((x : X) → c (f x) ≡ c x) → (xs : List X) → flat_map c (map f xs) ≡ flat_map c xs
 flat_map-kept c f k [] = refl
@@ -158,14 +157,14 @@ module _ (q : Sequence) (up : KeepsSequence q) (xs : List Record) where
   unfolding new_two new_four new_six
   resequenced-repacked = record {
     points = λ n. ap (λ rs. flat_map (λ (r : Fields2). r.points) (in_order (on two_rtsq nat_cmp) (of_number two_tlid n rs))) (select-changed as_two (resequenced q) new_two news_two xs)
-      ∙ ap (flat_map (λ (r : Fields2). r.points)) (sequence_kept two_tlid two_rtsq new_two (q Type2) (λ r. refl) (λ r. refl) (up Type2) n (twos xs))
-      ∙ flat_map-kept (λ (r : Fields2). r.points) new_two (λ r. refl) (in_order (on two_rtsq nat_cmp) (of_number two_tlid n (twos xs)));
+        ∙ ap (flat_map (λ (r : Fields2). r.points)) (sequence_kept two_tlid two_rtsq new_two (q Type2) (λ r. refl) (λ r. refl) (up Type2) n (twos xs))
+        ∙ flat_map-kept (λ (r : Fields2). r.points) new_two (λ r. refl) (in_order (on two_rtsq nat_cmp) (of_number two_tlid n (twos xs)));
     names = λ n. ap (λ rs. flat_map (λ (r : Fields4). r.feats) (in_order (on four_rtsq nat_cmp) (of_number four_tlid n rs))) (select-changed as_four (resequenced q) new_four news_four xs)
-      ∙ ap (flat_map (λ (r : Fields4). r.feats)) (sequence_kept four_tlid four_rtsq new_four (q Type4) (λ r. refl) (λ r. refl) (up Type4) n (fours xs))
-      ∙ flat_map-kept (λ (r : Fields4). r.feats) new_four (λ r. refl) (in_order (on four_rtsq nat_cmp) (of_number four_tlid n (fours xs)));
+        ∙ ap (flat_map (λ (r : Fields4). r.feats)) (sequence_kept four_tlid four_rtsq new_four (q Type4) (λ r. refl) (λ r. refl) (up Type4) n (fours xs))
+        ∙ flat_map-kept (λ (r : Fields4). r.feats) new_four (λ r. refl) (in_order (on four_rtsq nat_cmp) (of_number four_tlid n (fours xs)));
     ranges = λ n. ap (λ rs. map (λ (r : Fields6). r.ranges) (in_order (on six_rtsq nat_cmp) (of_number six_tlid n rs))) (select-changed as_six (resequenced q) new_six news_six xs)
-      ∙ ap (map (λ (r : Fields6). r.ranges)) (sequence_kept six_tlid six_rtsq new_six (q Type6) (λ r. refl) (λ r. refl) (up Type6) n (sixes xs))
-      ∙ map-map (λ (r : Fields6). r.ranges) new_six (in_order (on six_rtsq nat_cmp) (of_number six_tlid n (sixes xs)));
+        ∙ ap (map (λ (r : Fields6). r.ranges)) (sequence_kept six_tlid six_rtsq new_six (q Type6) (λ r. refl) (λ r. refl) (up Type6) n (sixes xs))
+        ∙ map-map (λ (r : Fields6). r.ranges) new_six (in_order (on six_rtsq nat_cmp) (of_number six_tlid n (sixes xs)));
     ones = select-kept as_one (resequenced q) keeps_one xs;
     fives = select-kept as_five (resequenced q) keeps_five xs;
     sevens = select-kept as_seven (resequenced q) keeps_seven xs;

@@ -1,13 +1,11 @@
 -- What the definitions say of the samples: their counties, which renamings carry, and which refusal a list of records has.
-use Rattle.std.proofs.Common.{◌≡◌, ℕ, List, [], ◌∷◌, ◌++◌, map, length, Bool, true, false, Option, Some, None, sym, refl, ap, ◌∙◌, subst, arith, nat_cmp, IsPermutation, codes, ◌==◌, ◌&&◌, ◌⊎◌, inl, inr, slice_index}
-use Rattle.std.proofs.lemmas.Bool.{false≢true, true≢false}
+use Rattle.std.proofs.Common.{◌≡◌, ℕ, List, [], ◌∷◌, ◌++◌, map, length, Bool, true, false, Some, sym, refl, ap, ◌∙◌, arith, IsPermutation, codes, ◌==◌, ◌&&◌, ◌⊎◌, inl, inr, slice_index}
+use Rattle.std.proofs.lemmas.Bool.{false≢true}
 use Rattle.std.proofs.lemmas.List.Sorted.{IsPermutation-refl, length_permutation}
-use Rattle.tl_layout.specs.declared.record_type.Record.{Record}
-use Rattle.tl_layout.specs.declared.record_type.Record.TheVariants.{One, Two, Seven}
 use Rattle.tl_layout.specs.declared.type7.Body7.{Body7}
 use Rattle.tl_county.specs.declared.fault.LinkFault.TheVariants.{ChainTwice, SequenceBroken, NameUnknown, PolygonUnknown}
 use Rattle.tl_county.specs.declared.fault.LinkedType.TheVariants.{Two as Type2}
-use Rattle.tl_county.specs.County.{County, county_of}
+use Rattle.tl_county.specs.County.{county_of}
 use Rattle.tl_county.specs.CountyRules.{polygon_keys, nodes}
 use Rattle.tl_county.specs.LinkRules.{IsLinked, IsFirstBrokenRule}
 use Rattle.tl_county.specs.Chain.{Chain}
@@ -15,7 +13,7 @@ use Rattle.tl_county.specs.Renumbering.{Renumbering, Carries, AreSame, carried_c
 use Rattle.tl_county.specs.Turned.{turned_body, turned_if}
 use Rattle.tl_county.proofs.Members.{among-permutation}
 use Rattle.tl_county.proofs.LinkFaults.{linked_computed, first_rule_computed}
-use Rattle.tl_county.proofs.Samples.{filled, right, street, ranges_back, east_end, street_there, street_back, west_end, link_body, no_side, file, cenid_1, cenid_2, there, back, back_wrong, back_shaped, there_shaped, canonical_shaped, between_ends, points_up, two_polygons, named, canonical_there, schools, landmark, in_polygon, polygon, four, two, chain_there, link, meeting}
+use Rattle.tl_county.proofs.Samples.{filled, right, street, ranges_back, east_end, street_there, street_back, west_end, link_body, no_side, cenid_1, cenid_2, there, back, back_wrong, back_shaped, there_shaped, canonical_shaped, points_up, two_polygons, named, schools, landmark, in_polygon, four, two, chain_there, meeting}
 
 -- the county of one chain
 pub county_there : county_of there ≡ record {

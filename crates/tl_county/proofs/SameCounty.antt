@@ -1,26 +1,24 @@
 -- The county doesn't depend on the order of the records, on the packing of types 2 and 4, nor on the choice of RTSQs.
-use Rattle.std.proofs.Common.{◌≡◌, ◌⊎◌, ◌<◌, ◌≤◌, ℕ, zero, suc, nat_lt, ◌==◌, List, [], ◌∷◌, ◌++◌, map, flat_map, filter, filter_map, length, Bool, true, false, cond, not, ◌&&◌, Ordering, Less, Equal, Greater, is_eq, is_gt, sym, refl, ap, ap₂, ◌∙◌, subst, inl, inr, arith, nat_cmp, IsPermutation}
-use Rattle.std.proofs.lemmas.Bool.{false≢true, ltb-true, ltb-false, lt-ltb}
+use Rattle.std.proofs.Common.{◌≡◌, ◌⊎◌, ◌≤◌, ℕ, nat_lt, ◌==◌, List, [], ◌∷◌, ◌++◌, map, flat_map, filter, length, false, not, ◌&&◌, is_eq, sym, refl, ap, ap₂, ◌∙◌, subst, inl, inr, arith, nat_cmp, IsPermutation}
+use Rattle.std.proofs.lemmas.Bool.{ltb-false}
 use Rattle.std.specs.Ordering.{on}
-use Rattle.tl_layout.specs.Fields.{Fields1, Fields2, Fields4, Fields5, Fields6, Fields7, Fields8, FieldsI, FieldsP}
+use Rattle.tl_layout.specs.Fields.{Fields1, Fields2, Fields4, Fields5, Fields6, Fields7, FieldsI, FieldsP}
 use Rattle.tl_layout.specs.declared.record_type.Record.{Record}
-use Rattle.tl_county.specs.declared.fault.LinkFault.{LinkFault}
 use Rattle.tl_county.specs.declared.fault.LinkFault.TheVariants.{ChainTwice, NoChain, SequenceBroken, LinkMissing, LinkTwice, NameTwice, NameUnknown, PolygonTwice, LandUnknown, PolygonUnknown, Memory}
 use Rattle.tl_county.specs.declared.fault.LinkedType.{LinkedType}
 use Rattle.tl_county.specs.declared.fault.LinkedType.TheVariants.{Two, Four, Six, I}
-use Rattle.tl_county.specs.BodyOrder.{landmark_body_cmp, link_cmp}
+use Rattle.tl_county.specs.BodyOrder.{landmark_body_cmp}
 use Rattle.tl_county.specs.ByType.{as_one, as_two, as_four, as_five, as_six, as_seven, as_eight, as_i, as_p, ones, twos, fours, fives, sixes, sevens, eights, is, ps, of_number}
-use Rattle.tl_county.specs.County.{County, one_tlid, two_tlid, two_rtsq, four_tlid, four_rtsq, five_feat, six_tlid, six_rtsq, seven_land, eight_land, eight_key, i_tlid, p_key, shape_points, further_names, further_ranges, chain_of, chains_of, names_of, side_keys, first, polygon_body, polygons_of, landmarks_of, county_of}
-use Rattle.tl_county.specs.LinkRules.{chain_tlids, linked_tlids, rtsqs, named_feats, is_broken, IsLinked}
+use Rattle.tl_county.specs.County.{one_tlid, two_tlid, two_rtsq, four_tlid, four_rtsq, five_feat, six_tlid, six_rtsq, seven_land, eight_land, eight_key, i_tlid, p_key, chain_of, chains_of, side_keys, first, polygon_body, polygons_of, landmarks_of, county_of}
+use Rattle.tl_county.specs.LinkRules.{chain_tlids, linked_tlids, rtsqs, named_feats, IsLinked}
 use Rattle.tl_county.specs.Orders.{times, stands_in, has_repeat, in_order, distinct}
 use Rattle.tl_county.specs.PolygonKeys.{PolygonKey, key_cmp}
-use Rattle.tl_county.specs.Repacked.{AreRepacked, Sequence, resequenced, KeepsSequence}
 use Rattle.tl_county.proofs.Carried.{among-unpieces}
 use Rattle.tl_county.proofs.Distinct.{has_repeat-apart, apart_from_no_repeat}
 use Rattle.tl_county.proofs.FirstFault.{Among}
 use Rattle.tl_county.proofs.KeyOrders.{key_keys, landmark_body_keys, link_keys}
-use Rattle.tl_county.proofs.Keys.{Known, IsApart, nat_keys, known-left, known-right, known-append}
-use Rattle.tl_county.proofs.Lists.{map-map, flat_map_agree, map_agree_everywhere}
+use Rattle.tl_county.proofs.Keys.{Known, nat_keys, known-left, known-right, known-append}
+use Rattle.tl_county.proofs.Lists.{flat_map_agree, map_agree_everywhere}
 use Rattle.tl_county.proofs.Members.{among-pieces, among_known, known_is_among, among-map, among-unmap}
 use Rattle.tl_county.proofs.Numbers.{times-of_number, count-map}
 use Rattle.tl_county.proofs.Reordered.{SameElements, from_permutation, same-filter_map, same-filter, same-map, times-same, few_same, apart-same, numbered_same, ordered_same, stands_alike, distinct_same}
@@ -99,7 +97,7 @@ module _ (xs ys : List Record) (p : IsPermutation xs ys) (linked : IsLinked xs) 
   repeat_same : {X : Type 0} (f g : X → ℕ) (n : ℕ) (us vs : List X) → SameElements us vs → has_repeat nat_cmp (map g (of_number f n us)) ≡ false → has_repeat nat_cmp (map g (of_number f n vs)) ≡ false
   repeat_same f g n us vs s e = has_repeat-apart nat_keys (map g (of_number f n vs))
       (apart-same nat_cmp (map g (of_number f n us)) (map g (of_number f n vs)) (same-map g (of_number f n us) (of_number f n vs) (same-filter (λ x. f x == n) us vs s))
-        (apart_from_no_repeat nat_keys (map g (of_number f n us)) e))
+      (apart_from_no_repeat nat_keys (map g (of_number f n us)) e))
 
   sequence_same : (t : LinkedType) (n : ℕ) → has_repeat nat_cmp (rtsqs t n xs) ≡ false → has_repeat nat_cmp (rtsqs t n ys) ≡ false
   sequence_same Two n e = repeat_same two_tlid two_rtsq n (twos xs) (twos ys) s_twos e
@@ -134,23 +132,23 @@ module _ (xs ys : List Record) (p : IsPermutation xs ys) (linked : IsLinked xs) 
   links_same : (n : ℕ) → of_number i_tlid n (is xs) ≡ of_number i_tlid n (is ys)
   links_same n = few_same (of_number i_tlid n (is xs)) (of_number i_tlid n (is ys))
       (let t : times nat_cmp n (map i_tlid (is xs)) ≡ length (of_number i_tlid n (is xs)) = times-of_number i_tlid n (is xs) in
-       let u : times nat_cmp n (map i_tlid (is xs)) ≤ 1 = ltb-false 1 (times nat_cmp n (map i_tlid (is xs))) (linked (LinkTwice n)) in omega arith)
+      let u : times nat_cmp n (map i_tlid (is xs)) ≤ 1 = ltb-false 1 (times nat_cmp n (map i_tlid (is xs))) (linked (LinkTwice n)) in omega arith)
       (same-filter (λ l. l.tlid == n) (is xs) (is ys) s_is)
 
   chains_same : chains_of xs ≡ chains_of ys
   chains_same =
       flat_map_agree (λ r. map (λ link. (r.tlid, chain_of xs r link)) (of_number i_tlid r.tlid (is xs))) (λ r. map (λ link. (r.tlid, chain_of ys r link)) (of_number i_tlid r.tlid (is ys)))
-        (λ r. map_agree_everywhere (λ link. (r.tlid, chain_of xs r link)) (λ link. (r.tlid, chain_of ys r link)) (λ link i. (r.tlid, chain_same r link i)) (of_number i_tlid r.tlid (is xs)) ∙ ap (map (λ link. (r.tlid, chain_of ys r link))) (links_same r.tlid))
-        (in_order (on one_tlid nat_cmp) (ones xs))
+      (λ r. map_agree_everywhere (λ link. (r.tlid, chain_of xs r link)) (λ link. (r.tlid, chain_of ys r link)) (λ link i. (r.tlid, chain_same r link i)) (of_number i_tlid r.tlid (is xs)) ∙ ap (map (λ link. (r.tlid, chain_of ys r link))) (links_same r.tlid))
+      (in_order (on one_tlid nat_cmp) (ones xs))
       ∙ ap (flat_map (λ r. map (λ link. (r.tlid, chain_of ys r link)) (of_number i_tlid r.tlid (is ys))))
-          (numbered_same one_tlid (ones xs) (ones ys) s_ones (λ n. ltb-false 1 (times nat_cmp n (chain_tlids xs)) (linked (ChainTwice n))))
+      (numbered_same one_tlid (ones xs) (ones ys) s_ones (λ n. ltb-false 1 (times nat_cmp n (chain_tlids xs)) (linked (ChainTwice n))))
 
   body_same : (k : PolygonKey) → polygon_body xs k ≡ polygon_body ys k
   body_same k = ap (λ qs. first (map (λ (q : FieldsP). q.body) qs))
       (few_same (filter (λ q. is_eq (key_cmp k (p_key q))) (ps xs)) (filter (λ q. is_eq (key_cmp k (p_key q))) (ps ys))
-        (let t : times key_cmp k (map p_key (ps xs)) ≡ length (filter (λ q. is_eq (key_cmp k (p_key q))) (ps xs)) = count-map (λ j. is_eq (key_cmp k j)) p_key (ps xs) in
-         let u : times key_cmp k (map p_key (ps xs)) ≤ 1 = ltb-false 1 (times key_cmp k (map p_key (ps xs))) (linked (PolygonTwice k.0 k.1)) in omega arith)
-        (same-filter (λ q. is_eq (key_cmp k (p_key q))) (ps xs) (ps ys) s_ps))
+      (let t : times key_cmp k (map p_key (ps xs)) ≡ length (filter (λ q. is_eq (key_cmp k (p_key q))) (ps xs)) = count-map (λ j. is_eq (key_cmp k j)) p_key (ps xs) in
+      let u : times key_cmp k (map p_key (ps xs)) ≤ 1 = ltb-false 1 (times key_cmp k (map p_key (ps xs))) (linked (PolygonTwice k.0 k.1)) in omega arith)
+      (same-filter (λ q. is_eq (key_cmp k (p_key q))) (ps xs) (ps ys) s_ps))
 
   polygons_same : polygons_of xs ≡ polygons_of ys
   polygons_same =
@@ -160,10 +158,10 @@ module _ (xs ys : List Record) (p : IsPermutation xs ys) (linked : IsLinked xs) 
   landmarks_same : landmarks_of xs ≡ landmarks_of ys
   landmarks_same =
       map_agree_everywhere (λ land. (land, in_order landmark_body_cmp (map (λ (q : Fields7). q.body) (of_number seven_land land (sevens xs))))) (λ land. (land, in_order landmark_body_cmp (map (λ (q : Fields7). q.body) (of_number seven_land land (sevens ys)))))
-        (λ land i. (land, ordered_same landmark_body_keys (map (λ (q : Fields7). q.body) (of_number seven_land land (sevens xs))) (map (λ (q : Fields7). q.body) (of_number seven_land land (sevens ys))) (same-map (λ (q : Fields7). q.body) (of_number seven_land land (sevens xs)) (of_number seven_land land (sevens ys)) (same-filter (λ q. q.land == land) (sevens xs) (sevens ys) s_sevens)) i))
-        (distinct nat_cmp (map seven_land (sevens xs)))
+      (λ land i. (land, ordered_same landmark_body_keys (map (λ (q : Fields7). q.body) (of_number seven_land land (sevens xs))) (map (λ (q : Fields7). q.body) (of_number seven_land land (sevens ys))) (same-map (λ (q : Fields7). q.body) (of_number seven_land land (sevens xs)) (of_number seven_land land (sevens ys)) (same-filter (λ q. q.land == land) (sevens xs) (sevens ys) s_sevens)) i))
+      (distinct nat_cmp (map seven_land (sevens xs)))
       ∙ ap (map (λ land. (land, in_order landmark_body_cmp (map (λ (q : Fields7). q.body) (of_number seven_land land (sevens ys))))))
-          (distinct_same nat_keys (map seven_land (sevens xs)) (map seven_land (sevens ys)) (λ n. ap (nat_lt 0) (sym (land_times n))))
+      (distinct_same nat_keys (map seven_land (sevens xs)) (map seven_land (sevens ys)) (λ n. ap (nat_lt 0) (sym (land_times n))))
 
   pub reordered-county : county_of ys ≡ county_of xs
   reordered-county = λ i. record {

@@ -1,27 +1,21 @@
 -- Sameness is reflexive, symmetric and transitive: the identity, the inverse and the composition of renamings carry.
-use Rattle.std.proofs.Common.{◌≡◌, ◌⊎◌, ◌<◌, ◌≤◌, ◌+◌, ℕ, zero, suc, nat_lt, List, [], ◌∷◌, ◌++◌, Bool, true, false, cond, not, map, filter, flat_map, length, Ordering, Less, Equal, Greater, IsTrue, is_eq, sym, refl, ap, ◌∙◌, subst, inl, inr, arith, IsPermutation, nat_cmp, Option, Some, None, option_map, option_to_list, map-id, reverse}
-use Rattle.std.proofs.lemmas.Bool.{ltb-true, ltb-false, lt-ltb, le-ltb, or_from}
+use Rattle.std.proofs.Common.{◌≡◌, ◌⊎◌, ℕ, nat_lt, List, [], ◌∷◌, Bool, true, false, map, filter, Ordering, IsTrue, is_eq, sym, refl, ap, ◌∙◌, subst, inl, inr, IsPermutation, nat_cmp, Option, Some, None, option_map, option_to_list, map-id}
+use Rattle.std.proofs.lemmas.Bool.{ltb-true, lt-ltb}
 use Rattle.std.proofs.lemmas.List.{reverse-reverse}
 use Rattle.std.proofs.lemmas.List.Sorted.{IsPermutation-refl, IsPermutation-map, IsPermutation-trans, IsPermutation-sym}
 use Rattle.std.specs.List.{AllByRecursion}
-use Rattle.std.specs.List.Sorted.{IsStrictlySortedBy}
 use Rattle.tl_layout.specs.Fields.{Fields8}
-use Rattle.tl_layout.specs.PolygonSide.{PolygonSide}
-use Rattle.tl_layout.specs.declared.ranges.Ranges.{Ranges}
-use Rattle.tl_layout.specs.declared.type5.Body5.{Body5}
-use Rattle.tl_layout.specs.declared.type7.Body7.{Body7}
-use Rattle.tl_layout.specs.declared.type_p.BodyP.{BodyP}
 use Rattle.tl_county.specs.Chain.{Chain}
 use Rattle.tl_county.specs.County.{County}
-use Rattle.tl_county.specs.CountyRules.{IsCounty, IsAscending, IsClosed, tlids, feats, polygon_keys, lands, nodes, nodes_along, chain_nodes, chain_polygons, link_key, AllStandIn, AllKeysStandIn}
-use Rattle.tl_county.specs.Orders.{times, stands_in, has_repeat, distinct}
+use Rattle.tl_county.specs.CountyRules.{IsCounty, IsClosed, tlids, feats, polygon_keys, lands, nodes, nodes_along, chain_nodes, chain_polygons, link_key, AllStandIn, AllKeysStandIn}
+use Rattle.tl_county.specs.Orders.{times, stands_in, has_repeat}
 use Rattle.tl_county.specs.PolygonKeys.{PolygonKey, key_cmp, key_on, key_under}
-use Rattle.tl_county.specs.Renumbering.{Renumbering, image, turns, renumbered_polygon, renumbered_side, renumbered, carried_chain, carried_name, carried_polygon, carried_landmark, carried_link, ArePaired, NumbersArePaired, Carries, AreSame, to_itself, identity, swapped, is_named, inverse, joined, exactly_one, then}
+use Rattle.tl_county.specs.Renumbering.{Renumbering, image, turns, renumbered_polygon, renumbered_side, renumbered, carried_chain, carried_name, carried_polygon, carried_landmark, carried_link, ArePaired, Carries, AreSame, to_itself, identity, swapped, is_named, inverse, joined, exactly_one, then}
 use Rattle.tl_county.specs.Turned.{turned_ranges, turned, turned_if}
-use Rattle.tl_county.proofs.Lists.{map_itself, map-map, map_agree_all, all_weaker, all_both, all_everywhere, all_map, all_unmap, all_left, all_right, all_pieces, all_filter}
-use Rattle.tl_county.proofs.Keys.{IsKeyOrder, IsApart, Known, nat_keys, lefts, rights, filter_all, times-yes, times-no, same_or_not, apart_from_sorted, apart-permutation, known-permutation, known-permutation_to, all_known, known_all, image-known, times-images, has_repeat-images, apart-filter, stands_in-filter, image-back, image-yes, image-no, rights-swapped, lefts-swapped, image-to_itself, lefts-to_itself, rights-to_itself, images-lefts, followed, joined-followed, image-followed, lefts-followed, rights-followed}
+use Rattle.tl_county.proofs.Lists.{map_itself, map-map, map_agree_all, all_weaker, all_map, all_unmap, all_left, all_right, all_pieces, all_filter}
+use Rattle.tl_county.proofs.Keys.{IsKeyOrder, IsApart, Known, nat_keys, lefts, rights, filter_all, same_or_not, apart_from_sorted, apart-permutation, known-permutation, known-permutation_to, all_known, image-known, times-images, has_repeat-images, apart-filter, stands_in-filter, image-back, image-yes, image-no, rights-swapped, lefts-swapped, image-to_itself, lefts-to_itself, rights-to_itself, images-lefts, followed, joined-followed, image-followed, lefts-followed, rights-followed}
 use Rattle.tl_county.proofs.KeyOrders.{key_keys}
-use Rattle.tl_county.proofs.Distinct.{apart-distinct, known-distinct, known_from_distinct, has_repeat-apart, apart_from_no_repeat}
+use Rattle.tl_county.proofs.Distinct.{apart-distinct, known-distinct, has_repeat-apart}
 
 -- turning twice is nothing
 pub turned-turned : (c : Chain) → turned (turned c) ≡ c
@@ -105,11 +99,11 @@ module _ (q r p : Renumbering) (a : County) (f : Follows q r p a) where
       let one : renumbered q (turned_if (turns q y) (renumbered r (turned_if (turns r x) c))) ≡ turned_if (turns q y) (renumbered q (renumbered r (turned_if (turns r x) c))) = renumbered-turned_if q (turns q y) (renumbered r (turned_if (turns r x) c)) in
       let two : renumbered q (renumbered r (turned_if (turns r x) c)) ≡ turned_if (turns r x) (renumbered q (renumbered r c)) = ap (renumbered q) (renumbered-turned_if r (turns r x) c) ∙ renumbered-turned_if q (turns r x) (renumbered r c) in
       let all : renumbered q (turned_if (turns q y) (renumbered r (turned_if (turns r x) c))) ≡ renumbered p (turned_if (turns p x) c) =
-          one ∙ ap (turned_if (turns q y)) two
-          ∙ ap (λ d. turned_if (turns q y) (turned_if (turns r x) d)) (follow_chain x c h)
-          ∙ turned_if-twice (turns r x) (turns q y) (renumbered p c)
-          ∙ ap (λ b. turned_if b (renumbered p c)) (f.turned x h.tlid)
-          ∙ sym (renumbered-turned_if p (turns p x) c) in
+      one ∙ ap (turned_if (turns q y)) two
+      ∙ ap (λ d. turned_if (turns q y) (turned_if (turns r x) d)) (follow_chain x c h)
+      ∙ turned_if-twice (turns r x) (turns q y) (renumbered p c)
+      ∙ ap (λ b. turned_if b (renumbered p c)) (f.turned x h.tlid)
+      ∙ sym (renumbered-turned_if p (turns p x) c) in
       λ i. (f.chains x h.tlid i, all i)
 
 -- a number on the left of entries is known among those numbers
@@ -118,18 +112,21 @@ keys_known {K} {V} {cmp} o es = all_unmap (Known cmp (map (λ d. d.0) es)) (λ (
 
 all_chains : (a : County) (es : List (ℕ × Chain)) → AllByRecursion (λ e. Known nat_cmp (tlids a) e.0) es → AllByRecursion (λ e. AllStandIn (feats a) e.1.feats) es → AllByRecursion (λ e. AllKeysStandIn (polygon_keys a) (chain_polygons e.1)) es → AllByRecursion (λ e. AllByRecursion (Known nat_cmp (nodes a)) (chain_nodes e.1)) es → AllByRecursion (IsChainOf a) es
 all_chains a [] t n s d = tt
-all_chains a (e ∷ es) t n s d = (record {
+all_chains a (e ∷ es) t n s d = (
+  record {
     tlid = t.0;
     names = all_weaker (λ m. IsTrue (stands_in nat_cmp m (feats a))) (Known nat_cmp (feats a)) (λ m h. ltb-true 0 (times nat_cmp m (feats a)) h) e.1.feats n.0;
     sides = all_weaker (λ k. IsTrue (stands_in key_cmp k (polygon_keys a))) (Known key_cmp (polygon_keys a)) (λ k h. ltb-true 0 (times key_cmp k (polygon_keys a)) h) (chain_polygons e.1) s.0;
     nodes = d.0;
-  }, all_chains a es t.1 n.1 s.1 d.1)
+  },
+  all_chains a es t.1 n.1 s.1 d.1,
+)
 
 -- the chains of a county have its numbers
 pub chains_are : (a : County) → IsClosed a → AllByRecursion (IsChainOf a) a.chains
 chains_are a h = all_chains a a.chains (keys_known nat_keys a.chains) h.names h.sides
     (all_pieces (Known nat_cmp (nodes a)) (λ e. chain_nodes e.1) a.chains
-      (all_known nat_keys (Known nat_cmp (nodes a)) (nodes_along a.chains) (λ k l. known-distinct nat_keys (nodes_along a.chains) k l)))
+    (all_known nat_keys (Known nat_cmp (nodes a)) (nodes_along a.chains) (λ k l. known-distinct nat_keys (nodes_along a.chains) k l)))
 
 -- a link whose polygon and landmark are the county's
 pub record IsLinkOf (a : County) (link : Fields8) : Type 0 where
@@ -291,9 +288,9 @@ module _ (r : Renumbering) (a b : County) (ca : IsCounty a) (cb : IsCounty b) (h
   turned_known_back : AllByRecursion (λ t. IsTrue (stands_in nat_cmp t (tlids b))) (map (image nat_cmp r.chains) (filter (is_named nat_cmp r.chains) r.turned))
   turned_known_back = subst (λ ts. AllByRecursion (λ t. IsTrue (stands_in nat_cmp t (tlids b))) (map (image nat_cmp r.chains) ts)) (sym all_named)
       (all_map (λ t. IsTrue (stands_in nat_cmp t (tlids b))) (image nat_cmp r.chains) r.turned
-        (all_weaker (Known nat_cmp (lefts r.chains)) (λ t. IsTrue (stands_in nat_cmp (image nat_cmp r.chains t) (tlids b)))
-          (λ t k. lt-ltb 0 (times nat_cmp (image nat_cmp r.chains t) (tlids b)) (known-permutation_to nat_keys (image nat_cmp r.chains t) (rights r.chains) (tlids b) h.numbers.chains.right (image-known nat_keys r.chains t k)))
-          r.turned named_turned))
+      (all_weaker (Known nat_cmp (lefts r.chains)) (λ t. IsTrue (stands_in nat_cmp (image nat_cmp r.chains t) (tlids b)))
+      (λ t k. lt-ltb 0 (times nat_cmp (image nat_cmp r.chains t) (tlids b)) (known-permutation_to nat_keys (image nat_cmp r.chains t) (rights r.chains) (tlids b) h.numbers.chains.right (image-known nat_keys r.chains t k)))
+      r.turned named_turned))
 
   pub inverse_carries : Carries (inverse r) b a
   inverse_carries =
@@ -386,7 +383,7 @@ module _ (r q : Renumbering) (a b c : County) (ca : IsCounty a) (cb : IsCounty b
           nodes = paired_on nat_keys r.nodes q.nodes (nodes a) (nodes b) (nodes c) (apart-distinct nat_keys (nodes_along b.chains)) h.numbers.nodes k.numbers.nodes;
           cenids = subst (AllByRecursion (λ p. p.0.0 ≡ p.1.0)) (sym (joined-followed key_keys r.polygons q.polygons key_named)) (cenids_on r.polygons q.polygons h.numbers.cenids k.numbers.cenids);
           turned_known = subst (AllByRecursion (λ t. IsTrue (stands_in nat_cmp t (tlids a)))) (sym turned_of_then)
-            (all_filter (λ t. IsTrue (stands_in nat_cmp t (tlids a))) g_turned (lefts r.chains)
+              (all_filter (λ t. IsTrue (stands_in nat_cmp t (tlids a))) g_turned (lefts r.chains)
               (all_known nat_keys (λ t. IsTrue (stands_in nat_cmp t (tlids a))) (lefts r.chains) (λ t l. lt-ltb 0 (times nat_cmp t (tlids a)) (known-permutation_to nat_keys t (lefts r.chains) (tlids a) h.numbers.chains.left l))));
           turned_once = ap (has_repeat nat_cmp) turned_of_then ∙ has_repeat-apart nat_keys (filter g_turned (lefts r.chains)) (apart-filter nat_keys g_turned (lefts r.chains) (apart-permutation nat_keys (lefts r.chains) (tlids a) h.numbers.chains.left (apart_from_sorted nat_keys (tlids a) ca.ascending.chains)));
         };

@@ -1,17 +1,13 @@
 -- Small counties on which the definitions are tried.
-use Rattle.std.proofs.Common.{ℕ, ◌-◌, ◌+◌, ◌*◌, List, [], ◌∷◌, ◌++◌, length, replicate, codes, Option, Some, None, ℤ, pos, negsuc}
+use Rattle.std.proofs.Common.{ℕ, ◌-◌, ◌+◌, ◌*◌, List, [], ◌∷◌, ◌++◌, length, replicate, codes, Option, Some, None, pos, negsuc}
 use Rattle.tl_layout.specs.Coordinates.{Coordinates}
 use Rattle.tl_layout.specs.PolygonSide.{PolygonSide}
-use Rattle.tl_layout.specs.Fields.{Fields1, Fields2, Fields4, Fields5, Fields6, Fields7, Fields8, FieldsI, FieldsP}
-use Rattle.tl_layout.specs.declared.pair.LeftRight.{LeftRight}
 use Rattle.tl_layout.specs.declared.ranges.Ranges.{Ranges}
 use Rattle.tl_layout.specs.declared.type1.Body1.{Body1}
 use Rattle.tl_layout.specs.declared.type5.Body5.{Body5}
-use Rattle.tl_layout.specs.declared.type7.Body7.{Body7}
 use Rattle.tl_layout.specs.declared.type_i.BodyI.{BodyI}
-use Rattle.tl_layout.specs.declared.type_p.BodyP.{BodyP}
 use Rattle.tl_layout.specs.declared.record_type.Record.{Record}
-use Rattle.tl_layout.specs.declared.record_type.Record.TheVariants.{One, Two, Four, Five, Six, Seven, Eight, I, P}
+use Rattle.tl_layout.specs.declared.record_type.Record.TheVariants.{One, Two, Four, Five, Seven, Eight, I, P}
 
 abbrev pub blanks : ℕ → List ℕ
 blanks n = replicate n 32
@@ -50,7 +46,6 @@ file = codes "01001"
 abbrev pub link_body : BodyI
 link_body = record { file = file; source = blanks 10; ftseg = blanks 17; rs_i1 = blanks 10; rs_i2 = blanks 10; rs_i3 = blanks 10 }
 
-
 -- a street with its ranges, tracts and blocks, all else of it fixed
 abbrev pub street : Ranges → List ℕ → List ℕ → List ℕ → List ℕ → Body1
 street ranges tractl tractr blockl blockr = record {
@@ -76,18 +71,28 @@ street ranges tractl tractr blockl blockr = record {
 -- odd addresses 101 to 199 on the left, even ones 100 to 198 on the right
 abbrev pub ranges_there : Ranges
 ranges_there = record {
-  fraddl = right 11 (codes "101"); toaddl = right 11 (codes "199");
-  fraddr = right 11 (codes "100"); toaddr = right 11 (codes "198");
-  friaddl = codes "0"; toiaddl = codes "1"; friaddr = codes " "; toiaddr = codes " ";
+  fraddl = right 11 (codes "101");
+  toaddl = right 11 (codes "199");
+  fraddr = right 11 (codes "100");
+  toaddr = right 11 (codes "198");
+  friaddl = codes "0";
+  toiaddl = codes "1";
+  friaddr = codes " ";
+  toiaddr = codes " ";
   zip = record { left = codes "36003"; right = codes "36006" };
 }
 
 -- the same ranges, seen from the other end
 abbrev pub ranges_back : Ranges
 ranges_back = record {
-  fraddl = right 11 (codes "198"); toaddl = right 11 (codes "100");
-  fraddr = right 11 (codes "199"); toaddr = right 11 (codes "101");
-  friaddl = codes " "; toiaddl = codes " "; friaddr = codes "1"; toiaddr = codes "0";
+  fraddl = right 11 (codes "198");
+  toaddl = right 11 (codes "100");
+  fraddr = right 11 (codes "199");
+  toaddr = right 11 (codes "101");
+  friaddl = codes " ";
+  toiaddl = codes " ";
+  friaddr = codes "1";
+  toiaddr = codes "0";
   zip = record { left = codes "36006"; right = codes "36003" };
 }
 

@@ -1,5 +1,5 @@
 -- The ten rules by which records fit together. Each says where it is broken, by counts over the whole list.
-use Rattle.std.specs.Prelude.{ℕ, ◌≡◌, List, [], ◌∷◌, ◌++◌, map, flat_map, Bool, true, false, not, ◌&&◌, nat_lt}
+use Rattle.std.specs.Prelude.{ℕ, ◌≡◌, List, [], ◌∷◌, ◌++◌, map, flat_map, Bool, false, not, ◌&&◌, nat_lt}
 use Rattle.std.specs.Ordering.{nat_cmp}
 use Rattle.tl_layout.specs.declared.record_type.Record.{Record}
 use Rattle.tl_county.specs.declared.fault.LinkFault.{LinkFault}

@@ -1,5 +1,5 @@
 -- A renaming of a county's numbers, and that it carries one county onto another.
-use Rattle.std.specs.Prelude.{ℕ, ◌≡◌, List, [], ◌∷◌, map, flat_map, filter, Bool, cond, not, false, Option, Some, None, option_map, IsTrue, IsPermutation}
+use Rattle.std.specs.Prelude.{ℕ, ◌≡◌, List, [], ◌∷◌, map, filter, Bool, cond, not, false, Option, Some, None, option_map, IsTrue, IsPermutation}
 use Rattle.std.specs.List.{AllByRecursion}
 use Rattle.std.specs.declared.cmp.Ordering.{Ordering}
 use Rattle.std.specs.Ordering.{is_eq, nat_cmp}

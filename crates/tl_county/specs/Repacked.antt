@@ -1,5 +1,5 @@
 -- Lists of records that differ only in what isn't part of the map: the packing of types 2 and 4, and the RTSQs.
-use Rattle.std.specs.Prelude.{ℕ, ◌≡◌, ◌<◌, List, map}
+use Rattle.std.specs.Prelude.{ℕ, ◌≡◌, ◌<◌, List}
 use Rattle.tl_layout.specs.declared.record_type.Record.{Record}
 use Rattle.tl_layout.specs.declared.record_type.Record.TheVariants.{One, Two, Four, Five, Six, Seven, Eight, I, P}
 use Rattle.tl_county.specs.declared.fault.LinkedType.{LinkedType}

@@ -1,6 +1,5 @@
 -- A chain seen from its other end: what was left is right, and what was the start is the end.
-use Rattle.std.specs.Prelude.{ℕ, List, map, reverse, Bool, cond}
-use Rattle.tl_layout.specs.declared.pair.LeftRight.{LeftRight}
+use Rattle.std.specs.Prelude.{map, reverse, Bool, cond}
 use Rattle.tl_layout.specs.declared.ranges.Ranges.{Ranges}
 use Rattle.tl_layout.specs.declared.type1.Body1.{Body1}
 use Rattle.tl_layout.specs.declared.type1.NativeAreas.{NativeAreas}

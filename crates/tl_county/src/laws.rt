@@ -17,8 +17,7 @@ pub fn sameness_is_an_equivalence()
     ensures reflexive { (a : County) → AreSame a a }
     ensures symmetric { (a b : County) → IsCounty a → IsCounty b → AreSame a b → AreSame b a }
     ensures transitive { (a b c : County) → IsCounty a → IsCounty b → AreSame a b → AreSame b c → AreSame a c }
-{
-}
+{}
 
 /// The identity carries a county onto itself, the inverse of a renaming carries back, and two renamings in a row carry
 /// on.
@@ -27,8 +26,7 @@ pub fn renamings_compose()
     ensures inverse { (r : Renumbering) (a b : County) → IsCounty a → IsCounty b → Carries r a b → Carries (inverse r) b a }
     ensures then { (r next : Renumbering) (a b c : County) →
         IsCounty a → IsCounty b → Carries r a b → Carries next b c → Carries (then r next) a c }
-{
-}
+{}
 
 /// A list of records is linked or has a first broken rule, never both, and never two.
 pub fn linked_or_one_first_broken_rule()
@@ -38,14 +36,12 @@ pub fn linked_or_one_first_broken_rule()
         IsLinked records → IsFirstBrokenRule records fault → ⊥ }
     ensures only_one { (records : List Record) (fault other : LinkFault) →
         IsFirstBrokenRule records fault → IsFirstBrokenRule records other → fault ≡ other }
-{
-}
+{}
 
 /// In the county of a linked list of records the numbers ascend, and each number that a part names is there.
 pub fn linked_records_have_a_well_formed_county()
     ensures { (records : List Record) → IsLinked records → IsCounty (county_of records) }
-{
-}
+{}
 
 /// The county doesn't depend on the order of the records, on the packing of types 2 and 4, nor on which RTSQs keep the
 /// order of a chain's records.
@@ -56,8 +52,7 @@ pub fn the_county_is_what_the_records_say()
         AreRepacked records others → county_of records ≡ county_of others }
     ensures resequenced { (sequence : Sequence) (records : List Record) →
         KeepsSequence sequence → county_of (map (resequenced sequence) records) ≡ county_of records }
-{
-}
+{}
 
 /// A turn exchanges what is seen from the start with what is seen from the end, and left with right; the rest stays, and
 /// turning twice changes nothing.
@@ -70,5 +65,4 @@ pub fn a_turn_exchanges_ends_and_sides()
     ensures kept { (c : Chain) → ((turned c).feats ≡ c.feats) × ((turned c).link_body ≡ c.link_body)
         × ((turned c).body.name ≡ c.body.name) × ((turned c).body.cfcc ≡ c.body.cfcc) }
     ensures twice { (c : Chain) → turned (turned c) ≡ c }
-{
-}
+{}

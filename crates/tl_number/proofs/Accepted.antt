@@ -1,6 +1,6 @@
 -- Each list of records is accepted or has one refusal; two accepted lists have one canonical list exactly if their counties
 -- are the same.
-use Rattle.std.proofs.Common.{◌≡◌, ◌⊎◌, List, sym, refl, ap, ◌∙◌, subst, inl, inr}
+use Rattle.std.proofs.Common.{◌≡◌, ◌⊎◌, List, ap, subst, inl, inr}
 use Rattle.tl_layout.specs.declared.record_type.Record.{Record}
 use Rattle.tl_county.specs.County.{county_of}
 use Rattle.tl_county.specs.LinkRules.{IsLinked, IsFirstBrokenRule}
@@ -14,7 +14,6 @@ use Rattle.tl_profile.specs.declared.fault.ProfileFault.{ProfileFault}
 use Rattle.tl_profile.proofs.ProfileFaults.{profile_or_first, profile_has_none, one_first_clause}
 use Rattle.tl_profile.proofs.SameProfile.{same_in_profile}
 use Rattle.tl_number.specs.Accepted.{IsAccepted, Refusal, Unlinked, OutOfProfile, IsRefusal, IsCanonicalOf}
-use Rattle.tl_number.specs.Canonical.{IsCanonical}
 use Rattle.tl_number.proofs.Uniqueness.{unique}
 
 pub accepted_or_refused : (records : List Record) → IsAccepted records ⊎ ((refusal : Refusal) × IsRefusal records refusal)
@@ -23,6 +22,7 @@ accepted_or_refused records = go (linked_or_first records)
     profile : IsLinked records → IsInProfile (county_of records) ⊎ ((fault : ProfileFault) × IsFirstBrokenClause (county_of records) fault) → IsAccepted records ⊎ ((refusal : Refusal) × IsRefusal records refusal)
     profile linked (inl within) = inl (record { linked = linked; profile = within })
     profile linked (inr f) = inr (OutOfProfile f.0, (linked, f.1))
+
     go : IsLinked records ⊎ ((fault : LinkFault) × IsFirstBrokenRule records fault) → IsAccepted records ⊎ ((refusal : Refusal) × IsRefusal records refusal)
     go (inl linked) = profile linked (profile_or_first (county_of records))
     go (inr f) = inr (Unlinked f.0, f.1)

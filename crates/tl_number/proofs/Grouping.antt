@@ -1,7 +1,7 @@
 -- A list that ascends by a number is its elements number by number; and a list in pieces is put together again.
-use Rattle.std.proofs.Common.{◌≡◌, ◌⊎◌, ◌<◌, ◌≤◌, ◌+◌, ℕ, zero, suc, ◌==◌, List, [], ◌∷◌, ◌++◌, map, flat_map, filter, length, length-append, take, drop, Bool, true, false, cond, Ordering, Less, Equal, Greater, is_gt, is_eq, sym, refl, ap, ap₂, ◌∙◌, subst, inl, inr, arith, nat_cmp, add-one, append-nil}
-use Rattle.std.proofs.lemmas.Bool.{false≢true, ne_eqb, eq-eqb, eqb-true}
-use Rattle.std.proofs.lemmas.Cmp.{ranked, nat_cmp_total}
+use Rattle.std.proofs.Common.{◌≡◌, ◌⊎◌, ◌<◌, ◌≤◌, ◌+◌, ℕ, zero, suc, List, [], ◌∷◌, ◌++◌, map, flat_map, filter, length, length-append, take, drop, Bool, true, false, cond, Ordering, Less, Equal, Greater, is_gt, is_eq, sym, refl, ap, ap₂, ◌∙◌, subst, inl, inr, arith, nat_cmp, add-one, append-nil}
+use Rattle.std.proofs.lemmas.Bool.{false≢true, ne_eqb, eq-eqb}
+use Rattle.std.proofs.lemmas.Cmp.{ranked}
 use Rattle.std.specs.List.{AllByRecursion, range_with_len}
 use Rattle.std.specs.List.Sorted.{IsStrictlySortedBy}
 use Rattle.std.specs.Ordering.{on, MatchOrdering, ordering_then}
@@ -10,8 +10,7 @@ use Rattle.tl_county.specs.Orders.{IsInOrder}
 use Rattle.tl_county.proofs.Keys.{Known, nat_keys, known_cases, known_all}
 use Rattle.tl_county.proofs.Lists.{all_weaker, all_filter}
 use Rattle.tl_number.specs.Canonical.{AreFull}
-use Rattle.tl_number.specs.Growth.{up_to}
-use Rattle.tl_number.specs.Packing.{pieces, in_pieces, with_rtsqs}
+use Rattle.tl_number.specs.Packing.{pieces, with_rtsqs}
 
 below : (m n : ℕ) → nat_cmp m n ≡ Less → m < n
 below m n e = ranked m n Less (sym e)
@@ -124,8 +123,8 @@ pieces-joined n one ((x ∷ l) ∷ m ∷ ls) f (suc room) h =
     let rest : List _ = flat_map (λ l. l) (m ∷ ls) in
     let full : length (x ∷ l) ≡ n = f.0 in
     ap₂ (λ ys zs. ys ∷ pieces n room zs)
-      (subst (λ k. take k ((x ∷ l) ++ rest) ≡ x ∷ l) full (take_front (x ∷ l) rest))
-      (subst (λ k. drop k ((x ∷ l) ++ rest) ≡ rest) full (drop_front (x ∷ l) rest))
+    (subst (λ k. take k ((x ∷ l) ++ rest) ≡ x ∷ l) full (take_front (x ∷ l) rest))
+    (subst (λ k. drop k ((x ∷ l) ++ rest) ≡ rest) full (drop_front (x ∷ l) rest))
     ∙ ap (λ ys. (x ∷ l) ∷ ys) (pieces-joined n one (m ∷ ls) f.1 room (let t : length (l ++ rest) ≡ length l + length rest = length-append l rest in omega (arith, h)))
 
 -- records with the RTSQs 1, 2, 3, .. are their contents with RTSQs

@@ -1,13 +1,12 @@
 -- Numbers by first appearance are determined: two numberings of one list of keys that tell the same keys apart are equal.
-use Rattle.std.proofs.Common.{◌≡◌, ◌⊎◌, ◌<◌, ◌≤◌, ◌+◌, ℕ, zero, suc, max, List, [], ◌∷◌, map, sym, refl, ap, ◌∙◌, subst, inl, inr, arith}
+use Rattle.std.proofs.Common.{◌≡◌, ◌⊎◌, ◌<◌, ◌≤◌, ◌+◌, ℕ, max, List, [], ◌∷◌, map, sym, ◌∙◌, subst, inl, inr, arith}
 use Rattle.std.proofs.lemmas.Bool.{cases_lt}
-use Rattle.std.specs.List.{AllByRecursion, range_with_len}
-use Rattle.tl_number.specs.Growth.{GrowsFrom, Grows, up_to}
+use Rattle.std.specs.List.{AllByRecursion}
+use Rattle.tl_number.specs.Growth.{GrowsFrom, Grows}
 
 module _ {K : Type 0} (f g : K → ℕ) (Dom : K → Type 0)
-  (forth : (k j : K) → Dom k → Dom j → f k ≡ f j → g k ≡ g j)
-  (back : (k j : K) → Dom k → Dom j → g k ≡ g j → f k ≡ f j) where
-
+    (forth : (k j : K) → Dom k → Dom j → f k ≡ f j → g k ≡ g j)
+    (back : (k j : K) → Dom k → Dom j → g k ≡ g j → f k ≡ f j) where
   -- each number up to m is that of some key, and both numberings agree there
   abbrev pub Covers : ℕ → Type 0
   Covers m = (i : ℕ) → 1 ≤ i → i ≤ m → (k : K) × Dom k × (f k ≡ i) × (g k ≡ i)
@@ -30,6 +29,7 @@ module _ {K : Type 0} (f g : K → ℕ) (Dom : K → Type 0)
           let e : f j.0 ≡ f k = back j.0 k j.1 d.0 j.3 in
           absurd (omega (arith, e, j.2, lt, le))
       at (inl lt) (inl gt) = omega (arith, p.1, q.1)
+
       same : f k ≡ g k
       same = at (cases_lt m (f k)) (cases_lt m (g k))
 

@@ -1,36 +1,34 @@
 -- A canonical list of records is the packing of its county: chains, names and landmarks.
-use Rattle.std.proofs.Common.{◌≡◌, ◌⊎◌, ◌<◌, ◌≤◌, ◌+◌, ℕ, zero, suc, ◌==◌, List, [], ◌∷◌, ◌++◌, map, flat_map, filter, length, Bool, true, false, cond, Ordering, Less, Equal, Greater, is_gt, sym, refl, ap, ap₂, ◌∙◌, subst, inl, inr, arith, nat_cmp, append-nil, map-id}
+use Rattle.std.proofs.Common.{◌≡◌, ℕ, ◌==◌, List, [], ◌∷◌, ◌++◌, map, flat_map, length, false, is_gt, sym, refl, ap, ap₂, ◌∙◌, subst, arith, nat_cmp, map-id}
 use Rattle.std.proofs.lemmas.Cmp.{tied_itself, nat_cmp_total}
-use Rattle.std.proofs.lemmas.List.{length-map, map-append}
+use Rattle.std.proofs.lemmas.List.{map-append}
 use Rattle.std.specs.List.{AllByRecursion}
 use Rattle.std.specs.List.Sorted.{IsStrictlySortedBy}
 use Rattle.std.specs.Ordering.{on, then_cmp}
 use Rattle.tl_layout.specs.Coordinates.{Coordinates}
-use Rattle.tl_layout.specs.Fields.{Fields1, Fields2, Fields4, Fields5, Fields6, Fields7, Fields8, FieldsI, FieldsP}
+use Rattle.tl_layout.specs.Fields.{Fields1, Fields2, Fields4, Fields5, Fields6, Fields7, FieldsI}
 use Rattle.tl_layout.specs.declared.ranges.Ranges.{Ranges}
 use Rattle.tl_layout.specs.declared.record_type.Record.{Record}
-use Rattle.tl_layout.specs.declared.type7.Body7.{Body7}
 use Rattle.tl_county.specs.BodyOrder.{landmark_body_cmp}
-use Rattle.tl_county.specs.ByType.{ones, twos, fours, fives, sixes, sevens, eights, is, ps, of_number}
+use Rattle.tl_county.specs.ByType.{ones, twos, fours, fives, sixes, sevens, is, ps, of_number}
 use Rattle.tl_county.specs.Chain.{Chain}
-use Rattle.tl_county.specs.County.{County, one_tlid, two_tlid, two_rtsq, four_tlid, four_rtsq, five_feat, six_tlid, six_rtsq, seven_land, i_tlid, shape_points, further_names, further_ranges, chain_of, chains_of, names_of, landmarks_of, county_of}
+use Rattle.tl_county.specs.County.{one_tlid, two_tlid, two_rtsq, four_tlid, four_rtsq, five_feat, six_tlid, six_rtsq, seven_land, i_tlid, shape_points, further_names, chain_of, chains_of, names_of, landmarks_of}
 use Rattle.tl_county.specs.LinkRules.{IsLinked, chain_tlids, linked_tlids}
 use Rattle.tl_county.specs.declared.fault.LinkFault.TheVariants.{NoChain}
 use Rattle.tl_county.specs.declared.fault.LinkedType.{LinkedType}
 use Rattle.tl_county.specs.declared.fault.LinkedType.TheVariants.{Two, Four, Six, I}
 use Rattle.tl_county.specs.Orders.{times, stands_in, IsInOrder, in_order, distinct}
 use Rattle.tl_county.proofs.Distinct.{known-distinct}
-use Rattle.tl_county.proofs.FirstFault.{Among}
 use Rattle.tl_county.proofs.InOrder.{in_order-itself}
 use Rattle.tl_county.proofs.Keys.{Known, nat_keys, all_known}
 use Rattle.tl_county.proofs.LinkedCounty.{needed, apart_chains, the_link}
-use Rattle.tl_county.proofs.Lists.{map-map, map_agree_all, all_weaker, all_unmap, map_itself}
+use Rattle.tl_county.proofs.Lists.{map-map, map_agree_all, all_unmap}
 use Rattle.tl_county.proofs.Numbers.{of_number-all, distinct-strict, strict_from_order}
 use Rattle.std.proofs.lemmas.Bool.{ltb-true, lt-ltb}
 use Rattle.tl_county.proofs.InOrder.{in_order-map}
-use Rattle.tl_number.specs.Canonical.{AreFull, StandsInOrder, IsPacked, seven_cmp}
+use Rattle.tl_number.specs.Canonical.{StandsInOrder, IsPacked, seven_cmp}
 use Rattle.tl_number.specs.Growth.{up_to}
-use Rattle.tl_number.specs.Packing.{pieces, in_pieces, with_rtsqs, first_point, last_point, without_last, inner_points, packed_one, packed_twos, packed_fours, packed_sixes, packed_i, packed_five, packed_sevens}
+use Rattle.tl_number.specs.Packing.{in_pieces, with_rtsqs, last_point, without_last, packed_one, packed_twos, packed_fours, packed_sixes, packed_i, packed_five, packed_sevens}
 use Rattle.tl_number.proofs.Counting.{up_to-strict}
 use Rattle.tl_number.proofs.Grouping.{in_order-weaker, then-first, then-second, in_order-filter, in_order-from_strict, grouped, pieces-joined, rtsqs-back}
 
@@ -83,9 +81,9 @@ module _ (records : List Record) (linked : IsLinked records) where
   each_link f g h (r ∷ rs) =
       map-append f (map (λ link. (r.tlid, chain_of records r link)) (of_number i_tlid r.tlid (is records))) (flat_map chain_entries rs)
       ∙ ap₂ (λ ys zs. ys ++ zs)
-          (map-map f (λ link. (r.tlid, chain_of records r link)) (of_number i_tlid r.tlid (is records))
-            ∙ map_agree_all (λ link. f (r.tlid, chain_of records r link)) g (λ link. link.tlid ≡ r.tlid) (h r) (of_number i_tlid r.tlid (is records)) (of_number-all i_tlid r.tlid (is records)))
-          (each_link f g h rs)
+      (map-map f (λ link. (r.tlid, chain_of records r link)) (of_number i_tlid r.tlid (is records))
+      ∙ map_agree_all (λ link. f (r.tlid, chain_of records r link)) g (λ link. link.tlid ≡ r.tlid) (h r) (of_number i_tlid r.tlid (is records)) (of_number-all i_tlid r.tlid (is records)))
+      (each_link f g h rs)
       ∙ sym (map-append g (of_number i_tlid r.tlid (is records)) (flat_map (λ q. of_number i_tlid q.tlid (is records)) rs))
 
   module _ (order : StandsInOrder records) (full : IsPacked records) where
@@ -148,7 +146,7 @@ module _ (records : List Record) (linked : IsLinked records) where
         ap (flat_map packed_twos) chains_are
         ∙ each_chain_list packed_twos (λ r. of_number two_tlid r.tlid (twos records)) twos_of (ones records) ones_known
         ∙ by_chain two_tlid (twos records) (in_order-weaker (then_cmp (on two_tlid nat_cmp) (on two_rtsq nat_cmp)) (on two_tlid nat_cmp) (λ x y. then-first (nat_cmp x.tlid y.tlid) (nat_cmp x.rtsq y.rtsq)) (twos records) order.twos)
-            (all_unmap (Known nat_cmp (chain_tlids records)) two_tlid (twos records) (linked_known Two))
+        (all_unmap (Known nat_cmp (chain_tlids records)) two_tlid (twos records) (linked_known Two))
 
     four_pieces : (n : ℕ) → in_pieces 5 (further_names records n) ≡ map (λ (r : Fields4). r.feats) (of_number four_tlid n (fours records))
     four_pieces n =
@@ -168,7 +166,7 @@ module _ (records : List Record) (linked : IsLinked records) where
         ap (flat_map packed_fours) chains_are
         ∙ each_chain_list packed_fours (λ r. of_number four_tlid r.tlid (fours records)) fours_of (ones records) ones_known
         ∙ by_chain four_tlid (fours records) (in_order-weaker (then_cmp (on four_tlid nat_cmp) (on four_rtsq nat_cmp)) (on four_tlid nat_cmp) (λ x y. then-first (nat_cmp x.tlid y.tlid) (nat_cmp x.rtsq y.rtsq)) (fours records) order.fours)
-            (all_unmap (Known nat_cmp (chain_tlids records)) four_tlid (fours records) (linked_known Four))
+        (all_unmap (Known nat_cmp (chain_tlids records)) four_tlid (fours records) (linked_known Four))
 
     sixes_of : (r : Fields1) (link : FieldsI) → packed_sixes (r.tlid, chain_of records r link) ≡ of_number six_tlid r.tlid (sixes records)
     sixes_of r link =
@@ -182,7 +180,7 @@ module _ (records : List Record) (linked : IsLinked records) where
         ap (flat_map packed_sixes) chains_are
         ∙ each_chain_list packed_sixes (λ r. of_number six_tlid r.tlid (sixes records)) sixes_of (ones records) ones_known
         ∙ by_chain six_tlid (sixes records) (in_order-weaker (then_cmp (on six_tlid nat_cmp) (on six_rtsq nat_cmp)) (on six_tlid nat_cmp) (λ x y. then-first (nat_cmp x.tlid y.tlid) (nat_cmp x.rtsq y.rtsq)) (sixes records) order.sixes)
-            (all_unmap (Known nat_cmp (chain_tlids records)) six_tlid (sixes records) (linked_known Six))
+        (all_unmap (Known nat_cmp (chain_tlids records)) six_tlid (sixes records) (linked_known Six))
 
     pub fives_back : map packed_five (names_of records) ≡ fives records
     fives_back =
@@ -214,5 +212,5 @@ module _ (records : List Record) (linked : IsLinked records) where
         flat_map-map packed_sevens (λ land. (land, in_order landmark_body_cmp (map (λ (r : Fields7). r.body) (of_number seven_land land (sevens records))))) ls
         ∙ flat_map-agree (λ land. packed_sevens (land, in_order landmark_body_cmp (map (λ (r : Fields7). r.body) (of_number seven_land land (sevens records))))) (λ land. of_number seven_land land (sevens records)) sevens_of ls
         ∙ grouped seven_land (sevens records) (in_order-weaker seven_cmp (on seven_land nat_cmp) (λ x y. then-first (nat_cmp x.land y.land) (landmark_body_cmp x.body y.body)) (sevens records) order.sevens) ls
-            (distinct-strict nat_keys (map seven_land (sevens records)))
-            (all_unmap (Known nat_cmp ls) seven_land (sevens records) (all_known nat_keys (Known nat_cmp ls) (map seven_land (sevens records)) (known-distinct nat_keys (map seven_land (sevens records)))))
+        (distinct-strict nat_keys (map seven_land (sevens records)))
+        (all_unmap (Known nat_cmp ls) seven_land (sevens records) (all_known nat_keys (Known nat_cmp ls) (map seven_land (sevens records)) (known-distinct nat_keys (map seven_land (sevens records)))))

@@ -1,6 +1,6 @@
 -- The type P records of a canonical list are the packing of its county's polygons; so the list is the packing of its county.
-use Rattle.std.proofs.Common.{◌≡◌, ◌⊎◌, ◌<◌, ◌≤◌, ◌+◌, ℕ, zero, suc, List, [], ◌∷◌, ◌++◌, map, flat_map, filter, filter_map, length, Bool, true, false, cond, Option, Some, None, IsTrue, Ordering, Less, Equal, Greater, is_gt, is_eq, sym, refl, ap, ap₂, ◌∙◌, subst, inl, inr, arith, nat_cmp}
-use Rattle.std.proofs.lemmas.Bool.{false≢true, true≢false, ltb-true, ltb-false}
+use Rattle.std.proofs.Common.{◌≡◌, ◌⊎◌, ◌≤◌, ℕ, suc, List, [], ◌∷◌, ◌++◌, map, flat_map, filter, filter_map, Bool, true, false, cond, Option, Some, None, IsTrue, Ordering, Less, Equal, Greater, is_gt, is_eq, sym, refl, ap, ◌∙◌, subst, inl, inr, arith, nat_cmp}
+use Rattle.std.proofs.lemmas.Bool.{true≢false, ltb-true, ltb-false}
 use Rattle.std.proofs.lemmas.Cmp.{nat_cmp_total, on_total}
 use Rattle.std.specs.List.{AllByRecursion, cons_option}
 use Rattle.std.specs.List.Sorted.{IsStrictlySortedBy}
@@ -10,7 +10,7 @@ use Rattle.tl_layout.specs.declared.record_type.Record.{Record}
 use Rattle.tl_layout.specs.declared.type_p.BodyP.{BodyP}
 use Rattle.tl_county.specs.ByType.{ps, is, eights}
 use Rattle.tl_county.specs.BodyOrder.{link_cmp}
-use Rattle.tl_county.specs.County.{County, p_key, side_keys, first, polygon_body, polygons_of, county_of}
+use Rattle.tl_county.specs.County.{p_key, side_keys, first, polygon_body, polygons_of, county_of}
 use Rattle.tl_county.specs.CountyRules.{polygon_keys, polygons_along}
 use Rattle.tl_county.specs.LinkRules.{IsLinked}
 use Rattle.tl_county.specs.declared.fault.LinkFault.TheVariants.{PolygonTwice}
@@ -19,13 +19,13 @@ use Rattle.tl_county.specs.PolygonKeys.{PolygonKey, key_cmp}
 use Rattle.tl_county.proofs.Distinct.{known-distinct, apart-distinct}
 use Rattle.tl_county.proofs.FirstFault.{Among, all_among}
 use Rattle.tl_county.proofs.InOrder.{in_order-itself, in_order-in_order, strict-equal}
-use Rattle.tl_county.proofs.KeyOrders.{key_keys, link_keys}
+use Rattle.tl_county.proofs.KeyOrders.{key_keys}
 use Rattle.tl_county.proofs.Keys.{IsKeyOrder, Known, IsApart, nat_keys, times-yes, times-no, times-cons, same_or_not, same-true, same-itself, apart_tail, known_all, known-right}
 use Rattle.tl_county.proofs.LinkedCounty.{keys-county}
 use Rattle.tl_county.proofs.Members.{among-map, among-unmap, among_known, known_is_among, in_filter_map, to_filter_map}
 use Rattle.tl_county.proofs.Numbers.{times-in_order, from_in_order, to_in_order}
 use Rattle.tl_number.specs.Canonical.{IsTidyList, StandsInOrder, IsPacked, by_type}
-use Rattle.tl_number.specs.Packing.{Typed, type_after_type, packed_body, packed_p, p_polyid, packed, packed_by_type}
+use Rattle.tl_number.specs.Packing.{type_after_type, packed_body, packed_p, p_polyid, packed, packed_by_type}
 use Rattle.tl_number.specs.Tidy.{IsTidy}
 use Rattle.tl_number.proofs.Repacked.{ones_back, twos_back, fours_back, fives_back, sixes_back, sevens_back, is_back}
 
@@ -39,6 +39,7 @@ strict_from_keys {X} {K} {cmp} o f key (x ∷ xs) h a one = (each xs h.0 (λ y m
     lower Less g n = refl
     lower Equal g n = absurd (n refl)
     lower Greater g n = absurd (true≢false g)
+
     differ : (y : X) → Among y xs → nat_cmp (f x) (f y) ≡ Equal → ⊥
     differ y m e =
         let same : key x ≡ key y = one x y (inl refl) (inr m) (nat_keys.exact (f x) (f y) e) in
@@ -46,6 +47,7 @@ strict_from_keys {X} {K} {cmp} o f key (x ∷ xs) h a one = (each xs h.0 (λ y m
         let t : times cmp (key y) (key x ∷ map key xs) ≡ suc (times cmp (key y) (map key xs)) = times-yes o (key y) (key x) (map key xs) (sym same) in
         let u : times cmp (key y) (map key (x ∷ xs)) ≤ 1 = a (key y) in
         omega arith
+
     each : (ys : List X) → AllByRecursion (λ y. is_gt (nat_cmp (f x) (f y)) ≡ false) ys → ((y : X) → Among y ys → Among y xs) → AllByRecursion (λ y. nat_cmp (f x) (f y) ≡ Less) ys
     each [] g i = tt
     each (y ∷ ys) g i = (lower (nat_cmp (f x) (f y)) g.0 (differ y (i y (inl refl))), each ys g.1 (λ z m. i z (inr m)))
@@ -88,6 +90,7 @@ few_keys g k (d ∷ ds) = go (g d) (few_keys g k ds) (same_or_not key_keys k d)
   where
     rest : List FieldsP
     rest = filter_map packed_p (map (λ key. (key, g key)) ds)
+
     go : (o : Option BodyP) → times key_cmp k (map p_key (filter_map packed_p (map (λ key. (key, g key)) ds))) ≤ times key_cmp k ds → (k ≡ d) ⊎ (is_eq (key_cmp k d) ≡ false) → times key_cmp k (map p_key (cons_option (packed_body d o) (filter_map packed_p (map (λ key. (key, g key)) ds)))) ≤ times key_cmp k (d ∷ ds)
     go None ih c = let t : times key_cmp k ds ≤ times key_cmp k (d ∷ ds) = times-cons key_keys k d ds in omega arith
     go (Some b) ih (inl e) =
@@ -124,19 +127,19 @@ module _ (records : List Record) (linked : IsLinked records) (order : StandsInOr
       let known : Known key_cmp all_keys (p_key r) = known-right key_keys (p_key r) (flat_map side_keys (is records)) (map p_key (ps records)) (among_known key_keys (p_key r) (map p_key (ps records)) (among-map p_key r (ps records) m)) in
       let there : Among (p_key r) (distinct key_cmp all_keys) = known_is_among key_keys (p_key r) (distinct key_cmp all_keys) (known-distinct key_keys all_keys (p_key r) known) in
       to_filter_map packed_p (p_key r, polygon_body records (p_key r)) r (polygons_of records)
-        (among-map (λ key. (key, polygon_body records key)) (p_key r) (distinct key_cmp all_keys) there)
-        (ap (packed_body (p_key r)) (body_found r (ps records) ps_apart m))
+      (among-map (λ key. (key, polygon_body records key)) (p_key r) (distinct key_cmp all_keys) there)
+      (ap (packed_body (p_key r)) (body_found r (ps records) ps_apart m))
 
   -- a POLYID of type P stands under one CENID
   one_cenid : (x y : FieldsP) → Among x (ps records) → Among y (ps records) → x.polyid ≡ y.polyid → p_key x ≡ p_key y
   one_cenid x y m n e =
       let side : (z : FieldsP) → Among z (ps records) → Among (p_key z) (polygons_along (county_of records).chains) =
-          λ z l. let known : Known key_cmp all_keys (p_key z) = known-right key_keys (p_key z) (flat_map side_keys (is records)) (map p_key (ps records)) (among_known key_keys (p_key z) (map p_key (ps records)) (among-map p_key z (ps records) l)) in
-            let listed : Known key_cmp (polygon_keys (county_of records)) (p_key z) = subst (λ ks. Known key_cmp ks (p_key z)) (sym (keys-county records linked)) (known-distinct key_keys all_keys (p_key z) known) in
-            known_is_among key_keys (p_key z) (polygons_along (county_of records).chains) (ltb-true 0 (times key_cmp (p_key z) (polygons_along (county_of records).chains)) (known_all key_keys (λ k. IsTrue (stands_in key_cmp k (polygons_along (county_of records).chains))) (polygon_keys (county_of records)) tidy.on_sides (p_key z) listed)) in
+      λ z l. let known : Known key_cmp all_keys (p_key z) = known-right key_keys (p_key z) (flat_map side_keys (is records)) (map p_key (ps records)) (among_known key_keys (p_key z) (map p_key (ps records)) (among-map p_key z (ps records) l)) in
+      let listed : Known key_cmp (polygon_keys (county_of records)) (p_key z) = subst (λ ks. Known key_cmp ks (p_key z)) (sym (keys-county records linked)) (known-distinct key_keys all_keys (p_key z) known) in
+      known_is_among key_keys (p_key z) (polygons_along (county_of records).chains) (ltb-true 0 (times key_cmp (p_key z) (polygons_along (county_of records).chains)) (known_all key_keys (λ k. IsTrue (stands_in key_cmp k (polygons_along (county_of records).chains))) (polygon_keys (county_of records)) tidy.on_sides (p_key z) listed)) in
       all_among (λ other. (p_key x).1 ≡ other.1 → p_key x ≡ other) (p_key y) (polygons_along (county_of records).chains)
-        (all_among (λ key. AllByRecursion (λ other. key.1 ≡ other.1 → key ≡ other) (polygons_along (county_of records).chains)) (p_key x) (polygons_along (county_of records).chains) tidy.one_cenid (side x m))
-        (side y n) e
+      (all_among (λ key. AllByRecursion (λ other. key.1 ≡ other.1 → key ≡ other) (polygons_along (county_of records).chains)) (p_key x) (polygons_along (county_of records).chains) tidy.one_cenid (side x m))
+      (side y n) e
 
   packed_apart : IsApart key_cmp (map p_key (in_order (on p_polyid nat_cmp) packed_ps))
   packed_apart k =
@@ -150,10 +153,10 @@ module _ (records : List Record) (linked : IsLinked records) (order : StandsInOr
       let sorted : List FieldsP = in_order (on p_polyid nat_cmp) packed_ps in
       let inside : (z : FieldsP) → Among z (in_order (on p_polyid nat_cmp) packed_ps) → Among z (ps records) = λ z m. from_packed z (from_in_order (on p_polyid nat_cmp) packed_ps z m) in
       strict-equal nat_cmp_total p_polyid (in_order (on p_polyid nat_cmp) packed_ps) (ps records)
-        (strict_from_keys key_keys p_polyid p_key (in_order (on p_polyid nat_cmp) packed_ps) (in_order-in_order (on_total p_polyid nat_cmp_total) packed_ps) packed_apart (λ x y m n. one_cenid x y (inside x m) (inside y n)))
-        (strict_from_keys key_keys p_polyid p_key (ps records) order.ps ps_apart one_cenid)
-        inside
-        (λ z m. to_in_order (on p_polyid nat_cmp) packed_ps z (to_packed z m))
+      (strict_from_keys key_keys p_polyid p_key (in_order (on p_polyid nat_cmp) packed_ps) (in_order-in_order (on_total p_polyid nat_cmp_total) packed_ps) packed_apart (λ x y m n. one_cenid x y (inside x m) (inside y n)))
+      (strict_from_keys key_keys p_polyid p_key (ps records) order.ps ps_apart one_cenid)
+      inside
+      (λ z m. to_in_order (on p_polyid nat_cmp) packed_ps z (to_packed z m))
 
 -- A canonical list is the packing of its county, whatever its choice of TLIDs and directions.
 pub tidy_is_packed : (records : List Record) → IsLinked records → StandsInOrder records → IsPacked records → IsTidy (county_of records) → records ≡ packed (county_of records)

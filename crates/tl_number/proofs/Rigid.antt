@@ -1,34 +1,31 @@
 -- Tidy counties that are carried onto each other with every TLID kept and nothing turned are equal; and of counties that
 -- are least besides, any renaming that carries one onto the other is such a one.
-use Rattle.std.proofs.Common.{◌≡◌, ◌⊎◌, ◌<◌, ◌≤◌, ◌+◌, ℕ, zero, suc, List, [], ◌∷◌, ◌++◌, map, flat_map, length, reverse, Bool, true, false, Option, Some, None, option_map, option_to_list, IsTrue, Ordering, Less, Equal, Greater, sym, refl, ap, ap₂, ◌∙◌, subst, inl, inr, nat_cmp, IsPermutation, map-id}
+use Rattle.std.proofs.Common.{◌≡◌, ℕ, List, map, length, reverse, Bool, true, false, Option, Some, None, option_map, option_to_list, IsTrue, Ordering, Less, Equal, Greater, sym, refl, ap, ◌∙◌, subst, nat_cmp, IsPermutation, map-id}
 use Rattle.std.proofs.lemmas.Bool.{ltb-true}
 use Rattle.std.proofs.lemmas.Cmp.{nat_cmp_total}
 use Rattle.std.proofs.lemmas.List.{reverse-reverse, length-map}
-use Rattle.std.specs.Cmp.{IsTotalOrder}
 use Rattle.std.specs.List.{AllByRecursion}
 use Rattle.std.specs.List.Sorted.{IsStrictlySortedBy}
-use Rattle.std.specs.Ordering.{on, ordering_reverse}
-use Rattle.tl_layout.specs.Coordinates.{Coordinates}
-use Rattle.tl_layout.specs.PolygonSide.{PolygonSide}
+use Rattle.std.specs.Ordering.{ordering_reverse}
 use Rattle.tl_layout.specs.declared.type_p.BodyP.{BodyP}
 use Rattle.tl_county.specs.Chain.{Chain}
 use Rattle.tl_county.specs.County.{County}
-use Rattle.tl_county.specs.CountyRules.{IsCounty, IsAscending, IsClosed, tlids, feats, polygon_keys, lands, polygons_along, chain_nodes, chain_polygons, AllKeysStandIn}
+use Rattle.tl_county.specs.CountyRules.{IsCounty, tlids, polygon_keys, polygons_along, chain_nodes, chain_polygons}
 use Rattle.tl_county.specs.Orders.{stands_in, times}
 use Rattle.tl_county.specs.PointOrder.{points_cmp}
 use Rattle.tl_county.specs.PolygonKeys.{PolygonKey, key_cmp, key_on, key_under}
-use Rattle.tl_county.specs.Renumbering.{Renumbering, Carries, AreSame, image, turns, renumbered, renumbered_side, renumbered_polygon, carried_chain, carried_polygon}
+use Rattle.tl_county.specs.Renumbering.{Renumbering, Carries, image, turns, renumbered, renumbered_polygon, carried_chain, carried_polygon}
 use Rattle.tl_county.specs.Turned.{turned_if}
 use Rattle.tl_county.proofs.FirstFault.{Among, all_among}
 use Rattle.tl_county.proofs.InOrder.{strict-permutation, strict-map, strict-unmap}
 use Rattle.tl_county.proofs.KeyOrders.{key_keys, points_keys}
-use Rattle.tl_county.proofs.Keys.{IsKeyOrder, Known, nat_keys, known_all, all_known}
-use Rattle.tl_county.proofs.Lists.{map-map, map_agree_all, all_weaker, all_both, all_pieces, all_left, all_right, all_unmap}
+use Rattle.tl_county.proofs.Keys.{Known, nat_keys, known_all}
+use Rattle.tl_county.proofs.Lists.{map-map, map_agree_all, all_weaker, all_both, all_pieces, all_left, all_right}
 use Rattle.tl_county.proofs.Members.{among-permutation, among-map}
 use Rattle.tl_county.proofs.Sameness.{keys_known}
 use Rattle.tl_number.specs.Growth.{up_to}
 use Rattle.tl_number.specs.Tidy.{IsTidy, IsLeast, entry_points}
-use Rattle.tl_number.proofs.Counting.{map-equal_all, up_to-strict}
+use Rattle.tl_number.proofs.Counting.{map-equal_all}
 use Rattle.tl_number.proofs.SameNumbers.{kept_entry, KeepsChains, nodes_kept, polygons_kept, all_themselves}
 use Rattle.tl_number.proofs.SameNames.{names_equal, feats_kept}
 use Rattle.tl_number.proofs.SameLandmarks.{landmarks_equal, links_equal}
@@ -46,13 +43,16 @@ abbrev IsFixed : Renumbering → ℕ × Chain → Type 0
 IsFixed r e = AllByRecursion (λ y. image nat_cmp r.names y ≡ y) e.1.feats × (AllByRecursion (λ n. n ≡ image nat_cmp r.nodes n) (chain_nodes e.1) × AllByRecursion (λ k. k ≡ image key_cmp r.polygons k) (chain_polygons e.1))
 
 chain_fixed : (r : Renumbering) (e : ℕ × Chain) → IsFixed r e → kept_entry r e ≡ e
-chain_fixed r e h = λ i. (e.0, record e.1 {
+chain_fixed r e h = λ i. (
+  e.0,
+  record e.1 {
     feats = (map_agree_all (image nat_cmp r.names) (λ y. y) (λ y. image nat_cmp r.names y ≡ y) (λ y s. s) e.1.feats h.0 ∙ map-id e.1.feats) i;
     start_node = node_fixed (image nat_cmp r.nodes) e.1.start_node (all_left (λ n. n ≡ image nat_cmp r.nodes n) (option_to_list e.1.start_node) (option_to_list e.1.end_node) h.1.0) i;
     end_node = node_fixed (image nat_cmp r.nodes) e.1.end_node (all_right (λ n. n ≡ image nat_cmp r.nodes n) (option_to_list e.1.start_node) (option_to_list e.1.end_node) h.1.0) i;
     left = side_fixed r e.1.left.cenid e.1.left.polyid (all_left (λ k. k ≡ image key_cmp r.polygons k) (key_on e.1.left) (key_on e.1.right) h.1.1) i;
     right = side_fixed r e.1.right.cenid e.1.right.polyid (all_right (λ k. k ≡ image key_cmp r.polygons k) (key_on e.1.left) (key_on e.1.right) h.1.1) i;
-  })
+  },
+)
 
 module _ (r : Renumbering) (a b : County) (h : Carries r a b) (wa : IsCounty a) (wb : IsCounty b) (ta : IsTidy a) (tb : IsTidy b) where
   -- where the chains are kept, all is
@@ -75,9 +75,9 @@ module _ (r : Renumbering) (a b : County) (h : Carries r a b) (wa : IsCounty a) 
     polygons_equal =
         let same : map (carried_polygon r) a.polygons ≡ a.polygons = map_agree_all (carried_polygon r) (λ d. d) (λ d. Known key_cmp (polygon_keys a) d.0) (λ d k i. (polygon_fixed d.0 k i, d.1)) a.polygons (keys_known key_keys a.polygons) ∙ map-id a.polygons in
         strict-permutation key_keys.total (λ (d : PolygonKey × Option BodyP). d.0) a.polygons b.polygons
-          (strict-map key_cmp (λ (d : PolygonKey × Option BodyP). d.0) a.polygons wa.ascending.polygons)
-          (strict-map key_cmp (λ (d : PolygonKey × Option BodyP). d.0) b.polygons wb.ascending.polygons)
-          (subst (λ ds. IsPermutation ds b.polygons) same h.polygons)
+        (strict-map key_cmp (λ (d : PolygonKey × Option BodyP). d.0) a.polygons wa.ascending.polygons)
+        (strict-map key_cmp (λ (d : PolygonKey × Option BodyP). d.0) b.polygons wb.ascending.polygons)
+        (subst (λ ds. IsPermutation ds b.polygons) same h.polygons)
 
     pub kept_equal : a ≡ b
     kept_equal = λ i. record {
@@ -92,12 +92,12 @@ module _ (r : Renumbering) (a b : County) (h : Carries r a b) (wa : IsCounty a) 
   pub rigid : ((n : ℕ) → Known nat_cmp (tlids a) n → image nat_cmp r.chains n ≡ n) → ((n : ℕ) → Known nat_cmp (tlids a) n → turns r n ≡ false) → a ≡ b
   rigid keeps still =
       let same : map (carried_chain r) a.chains ≡ map (kept_entry r) a.chains = map_agree_all (carried_chain r) (kept_entry r) (λ c. Known nat_cmp (tlids a) c.0)
-            (λ c k i. (keeps c.0 k i, ap (λ t. renumbered r (turned_if t c.1)) (still c.0 k) i)) a.chains (keys_known nat_keys a.chains) in
+      (λ c k i. (keeps c.0 k i, ap (λ t. renumbered r (turned_if t c.1)) (still c.0 k) i)) a.chains (keys_known nat_keys a.chains) in
       let tl : map (λ (c : ℕ × Chain). c.0) (map (kept_entry r) a.chains) ≡ tlids a = map-map (λ (c : ℕ × Chain). c.0) (kept_entry r) a.chains in
       kept_equal (sym (strict-permutation nat_cmp_total (λ (c : ℕ × Chain). c.0) (map (kept_entry r) a.chains) b.chains
-        (strict-map nat_cmp (λ (c : ℕ × Chain). c.0) (map (kept_entry r) a.chains) (subst (IsStrictlySortedBy nat_cmp) (sym tl) wa.ascending.chains))
-        (strict-map nat_cmp (λ (c : ℕ × Chain). c.0) b.chains wb.ascending.chains)
-        (subst (λ cs. IsPermutation cs b.chains) same h.chains)))
+      (strict-map nat_cmp (λ (c : ℕ × Chain). c.0) (map (kept_entry r) a.chains) (subst (IsStrictlySortedBy nat_cmp) (sym tl) wa.ascending.chains))
+      (strict-map nat_cmp (λ (c : ℕ × Chain). c.0) b.chains wb.ascending.chains)
+      (subst (λ cs. IsPermutation cs b.chains) same h.chains)))
 
   -- Counties that are least leave no choice of directions and TLIDs.
   module _ (la : IsLeast a) (lb : IsLeast b) where
@@ -123,14 +123,14 @@ module _ (r : Renumbering) (a b : County) (h : Carries r a b) (wa : IsCounty a) 
     carried_is =
         let points : map entry_points (map (carried_chain r) a.chains) ≡ map entry_points a.chains = map-map entry_points (carried_chain r) a.chains ∙ map_agree_all (λ c. entry_points (carried_chain r c)) entry_points (λ c. turns r c.0 ≡ false) (λ c f. ap (λ t. (turned_if t c.1).points) f) a.chains none_turned in
         strict-permutation points_keys.total entry_points (map (carried_chain r) a.chains) b.chains
-          (strict-map points_cmp entry_points (map (carried_chain r) a.chains) (subst (IsStrictlySortedBy points_cmp) (sym points) (strict-unmap points_cmp entry_points a.chains la.ascending)))
-          lb.ascending h.chains
+        (strict-map points_cmp entry_points (map (carried_chain r) a.chains) (subst (IsStrictlySortedBy points_cmp) (sym points) (strict-unmap points_cmp entry_points a.chains la.ascending)))
+        lb.ascending h.chains
 
     images_kept : AllByRecursion (λ c. image nat_cmp r.chains c.0 ≡ c.0) a.chains
     images_kept =
         let len : length a.chains ≡ length b.chains = sym (length-map a.chains (carried_chain r)) ∙ ap length carried_is in
         let left : map (λ (c : ℕ × Chain). image nat_cmp r.chains c.0) a.chains ≡ map (λ (c : ℕ × Chain). c.0) a.chains =
-            sym (map-map (λ (c : ℕ × Chain). c.0) (carried_chain r) a.chains) ∙ ap (map (λ (c : ℕ × Chain). c.0)) carried_is ∙ tb.tlids ∙ ap up_to (sym len) ∙ sym ta.tlids in
+        sym (map-map (λ (c : ℕ × Chain). c.0) (carried_chain r) a.chains) ∙ ap (map (λ (c : ℕ × Chain). c.0)) carried_is ∙ tb.tlids ∙ ap up_to (sym len) ∙ sym ta.tlids in
         map-equal_all (λ (c : ℕ × Chain). image nat_cmp r.chains c.0) (λ (c : ℕ × Chain). c.0) a.chains left
 
     keeps_chains : KeepsChains r a b

@@ -1,16 +1,15 @@
 -- What the canonical form says of the samples: which lists are canonical, and that the samples are carried onto them.
-use Rattle.std.proofs.Common.{◌≡◌, ◌<◌, ℕ, List, [], ◌∷◌, map, Bool, true, false, cond, Option, Some, None, sym, refl, ap, ◌∙◌, subst, arith, nat_cmp, IsPermutation, lit≤, ◌==◌, slice_index}
+use Rattle.std.proofs.Common.{◌≡◌, [], ◌∷◌, refl, ap, arith, lit≤, ◌==◌, slice_index}
 use Rattle.std.proofs.lemmas.Bool.{true≢false}
-use Rattle.std.proofs.lemmas.List.Sorted.{IsPermutation-refl, IsPermutation-swap}
+use Rattle.std.proofs.lemmas.List.Sorted.{IsPermutation-refl}
 use Rattle.std.specs.List.Sorted.{IsStrictlySortedBy}
-use Rattle.tl_layout.specs.declared.record_type.Record.{Record}
-use Rattle.tl_county.specs.County.{County, county_of}
-use Rattle.tl_county.specs.Renumbering.{Renumbering, Carries, AreSame}
+use Rattle.tl_county.specs.County.{county_of}
+use Rattle.tl_county.specs.Renumbering.{Renumbering, AreSame}
 use Rattle.tl_county.proofs.LinkFaults.{linked_computed}
-use Rattle.tl_county.proofs.Samples.{there, back, canonical_there, there_shaped, back_shaped, canonical_shaped, two_polygons, canonical_polygons, named, canonical_named, schools, canonical_schools, meeting, canonical_meeting, cenid_1, cenid_2}
-use Rattle.tl_number.specs.Canonical.{IsCanonical, IsTidyList, StandsInOrder, IsPacked}
+use Rattle.tl_county.proofs.Samples.{there, canonical_there, canonical_shaped, canonical_polygons, canonical_named, canonical_schools, canonical_meeting}
+use Rattle.tl_number.specs.Canonical.{IsCanonical}
 use Rattle.tl_number.specs.Packing.{packed}
-use Rattle.tl_number.specs.Tidy.{IsTidy, IsLeast}
+use Rattle.tl_number.specs.Tidy.{IsTidy}
 
 -- the packing of these counties
 pub packed_there : packed (county_of canonical_there) ≡ canonical_there
@@ -79,7 +78,9 @@ polygons_are_canonical = record {
     order = record { types = refl; ones = (tt, tt); twos = tt; fours = tt; fives = tt; sixes = tt; sevens = tt; eights = tt; is = (tt, tt); ps = tt };
     packed = record { points = λ n. tt; feats = λ n. tt; two_rtsqs = λ n. refl; four_rtsqs = λ n. refl; six_rtsqs = λ n. refl };
     numbers = record {
-      tlids = refl; feats = refl; lands = refl;
+      tlids = refl;
+      feats = refl;
+      lands = refl;
       nodes = (lit≤ tt, lit≤ tt, (lit≤ tt, lit≤ tt, tt));
       polygons = (lit≤ tt, lit≤ tt, (lit≤ tt, lit≤ tt, tt));
       one_cenid = ((λ e. refl, (λ e. absurd (omega (arith, e)), tt)), ((λ e. absurd (omega (arith, e)), (λ e. refl, tt)), tt));
@@ -100,7 +101,9 @@ meeting_is_canonical = record {
     order = record { types = refl; ones = ((refl, tt), (tt, tt)); twos = tt; fours = tt; fives = tt; sixes = tt; sevens = tt; eights = tt; is = ((refl, tt), (tt, tt)); ps = tt };
     packed = record { points = λ n. tt; feats = λ n. tt; two_rtsqs = λ n. refl; four_rtsqs = λ n. refl; six_rtsqs = λ n. refl };
     numbers = record {
-      tlids = refl; feats = refl; lands = refl;
+      tlids = refl;
+      feats = refl;
+      lands = refl;
       nodes = (lit≤ tt, lit≤ tt, (lit≤ tt, lit≤ tt, (lit≤ tt, lit≤ tt, (lit≤ tt, lit≤ tt, tt))));
       polygons = (lit≤ tt, lit≤ tt, (lit≤ tt, lit≤ tt, tt));
       one_cenid = ((λ e. refl, (λ e. refl, tt)), ((λ e. refl, (λ e. refl, tt)), tt));
@@ -121,7 +124,9 @@ schools_are_canonical = record {
     order = record { types = refl; ones = (tt, tt); twos = tt; fours = tt; fives = tt; sixes = tt; sevens = ((refl, (refl, (refl, tt))), ((refl, (refl, tt)), ((refl, tt), (tt, tt)))); eights = ((refl, tt), (tt, tt)); is = (tt, tt); ps = tt };
     packed = record { points = λ n. tt; feats = λ n. tt; two_rtsqs = λ n. refl; four_rtsqs = λ n. refl; six_rtsqs = λ n. refl };
     numbers = record {
-      tlids = refl; feats = refl; lands = refl;
+      tlids = refl;
+      feats = refl;
+      lands = refl;
       nodes = (lit≤ tt, lit≤ tt, (lit≤ tt, lit≤ tt, tt));
       polygons = (lit≤ tt, lit≤ tt, (lit≤ tt, lit≤ tt, tt));
       one_cenid = ((λ e. refl, (λ e. absurd (omega (arith, e)), tt)), ((λ e. absurd (omega (arith, e)), (λ e. refl, tt)), tt));
@@ -136,9 +141,13 @@ schools_are_canonical = record {
 -- two names that tie in their content stand in the order of their uses
 pub named_are_canonical : IsTidy (county_of (canonical_named (1 ∷ 2 ∷ [])))
 named_are_canonical = record {
-  tlids = refl; feats = refl; lands = refl;
+  tlids = refl;
+  feats = refl;
+  lands = refl;
   nodes = (lit≤ tt, lit≤ tt, (lit≤ tt, lit≤ tt, tt));
-  polygons = tt; one_cenid = tt; on_sides = tt;
+  polygons = tt;
+  one_cenid = tt;
+  on_sides = tt;
   names = ((refl, tt), (tt, tt));
   landmarks = tt;
 }
@@ -146,9 +155,13 @@ named_are_canonical = record {
 -- the name without a use comes first
 pub unused_first : IsTidy (county_of (canonical_named (2 ∷ 2 ∷ [])))
 unused_first = record {
-  tlids = refl; feats = refl; lands = refl;
+  tlids = refl;
+  feats = refl;
+  lands = refl;
   nodes = (lit≤ tt, lit≤ tt, (lit≤ tt, lit≤ tt, tt));
-  polygons = tt; one_cenid = tt; on_sides = tt;
+  polygons = tt;
+  one_cenid = tt;
+  on_sides = tt;
   names = ((refl, tt), (tt, tt));
   landmarks = tt;
 }

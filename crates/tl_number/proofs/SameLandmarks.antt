@@ -1,26 +1,24 @@
 -- Of two tidy counties, one carried onto the other with each TLID kept and no chain turned, the landmarks and their links
 -- are equal: landmarks stand in the order of their bodies and links.
-use Rattle.std.proofs.Common.{◌≡◌, ◌⊎◌, ◌<◌, ◌≤◌, ◌+◌, ℕ, zero, suc, ◌==◌, List, [], ◌∷◌, ◌++◌, map, flat_map, filter, length, Bool, true, false, cond, ◌&&◌, IsTrue, Ordering, Less, Equal, Greater, is_eq, is_gt, sym, refl, ap, ap₂, ◌∙◌, subst, inl, inr, arith, nat_cmp, IsPermutation, count_by}
-use Rattle.std.proofs.lemmas.Bool.{false≢true, ltb-true, eqb-true, eqb-false, eq-eqb, ne_eqb, cases_eq}
+use Rattle.std.proofs.Common.{◌≡◌, ◌⊎◌, ◌<◌, ℕ, zero, suc, ◌==◌, List, [], ◌∷◌, map, filter, length, Bool, true, false, cond, ◌&&◌, IsTrue, Ordering, Less, Equal, Greater, is_eq, is_gt, sym, refl, ap, ◌∙◌, subst, inl, inr, arith, nat_cmp, IsPermutation}
+use Rattle.std.proofs.lemmas.Bool.{false≢true, ltb-true, eqb-true, eq-eqb, ne_eqb, cases_eq}
 use Rattle.std.proofs.lemmas.Cmp.{tied_itself, nat_cmp_total}
-use Rattle.std.proofs.lemmas.List.{map-append, length-map}
+use Rattle.std.proofs.lemmas.List.{length-map}
 use Rattle.std.proofs.lemmas.List.Sums.{length-filter}
 use Rattle.std.proofs.lemmas.List.Sorted.{IsPermutation-map, sum_by-IsPermutation}
 use Rattle.std.specs.List.{AllByRecursion}
-use Rattle.std.specs.List.Sorted.{IsStrictlySortedBy}
 use Rattle.std.specs.Ordering.{ordering_then}
 use Rattle.tl_layout.specs.Fields.{Fields8}
 use Rattle.tl_layout.specs.declared.type7.Body7.{Body7}
-use Rattle.tl_county.specs.BodyOrder.{landmark_body_cmp, LinkPart, link_part, link_part_cmp, link_cmp}
+use Rattle.tl_county.specs.BodyOrder.{LinkPart, link_part, link_part_cmp, link_cmp}
 use Rattle.tl_county.specs.County.{County}
-use Rattle.tl_county.specs.CountyRules.{IsAscending, IsClosed, lands, polygon_keys, polygons_along, link_key}
+use Rattle.tl_county.specs.CountyRules.{IsAscending, IsClosed, lands, polygon_keys, link_key}
 use Rattle.tl_county.specs.Orders.{stands_in, times, IsInOrder}
 use Rattle.tl_county.specs.PolygonKeys.{PolygonKey, key_cmp}
 use Rattle.tl_county.specs.Renumbering.{Renumbering, Carries, image, carried_landmark, carried_link}
-use Rattle.tl_county.proofs.FirstFault.{Among, all_among}
 use Rattle.tl_county.proofs.InOrder.{in_order-equal, in_order-permutation, in_order-map}
-use Rattle.tl_county.proofs.KeyOrders.{key_keys, landmark_body_keys, link_part_keys, link_keys, pair_keys, lists_keys}
-use Rattle.tl_county.proofs.Keys.{IsKeyOrder, Known, IsApart, nat_keys, lefts, rights, apart-permutation, known-permutation, image-injective, apart_from_sorted, known_all, differ, same-true, same-itself}
+use Rattle.tl_county.proofs.KeyOrders.{landmark_body_keys, link_part_keys, link_keys, pair_keys, lists_keys}
+use Rattle.tl_county.proofs.Keys.{IsKeyOrder, Known, IsApart, nat_keys, lefts, rights, apart-permutation, known-permutation, image-injective, apart_from_sorted, known_all, differ}
 use Rattle.tl_county.proofs.Lists.{map-map, map_agree_all, all_weaker, all_map}
 use Rattle.tl_county.proofs.Sameness.{keys_known}
 use Rattle.tl_number.specs.Growth.{up_to}
@@ -62,6 +60,7 @@ links_of-in_order (x ∷ xs) h y = go (x.land == y) refl (links_of-in_order xs h
   where
     below : (o : Ordering) (z : Fields8) → o ≡ Equal → is_gt (ordering_then o (link_part_cmp (link_part x) (link_part z))) ≡ false → is_gt (link_part_cmp (link_part x) (link_part z)) ≡ false
     below o z e f = sym (ap (λ q. is_gt (ordering_then q (link_part_cmp (link_part x) (link_part z)))) e) ∙ f
+
     each : x.land ≡ y → (zs : List Fields8) → AllByRecursion (λ z. is_gt (link_cmp x z) ≡ false) zs → AllByRecursion (λ p. is_gt (link_part_cmp (link_part x) p) ≡ false) (links_of zs y)
     each e [] a = tt
     each e (z ∷ zs) a = at (z.land == y) refl (each e zs a.1)
@@ -69,6 +68,7 @@ links_of-in_order (x ∷ xs) h y = go (x.land == y) refl (links_of-in_order xs h
         at : (b : Bool) → (z.land == y) ≡ b → AllByRecursion (λ p. is_gt (link_part_cmp (link_part x) p) ≡ false) (links_of zs y) → AllByRecursion (λ p. is_gt (link_part_cmp (link_part x) p) ≡ false) (map link_part (cond b (z ∷ filter (λ l. l.land == y) zs) (filter (λ l. l.land == y) zs)))
         at true f ih = (below (nat_cmp x.land z.land) z (ap (nat_cmp x.land) (eqb-true z.land y f ∙ sym e) ∙ tied_itself nat_cmp_total x.land) a.0, ih)
         at false f ih = ih
+
     go : (b : Bool) → (x.land == y) ≡ b → IsInOrder link_part_cmp (links_of xs y) → IsInOrder link_part_cmp (map link_part (cond b (x ∷ filter (λ l. l.land == y) xs) (filter (λ l. l.land == y) xs)))
     go true e ih = (each (eqb-true x.land y e) xs h.0, ih)
     go false e ih = ih
@@ -83,10 +83,12 @@ times-land (x ∷ xs) k = go (cases_eq x.land k.land) (times-land xs k)
     step true false e ih = cc
     step false true e ih = cc
     step false false e ih = ih
+
     other : (o : Ordering) → is_eq o ≡ false → is_eq (ordering_then o (link_part_cmp (link_part k) (link_part x))) ≡ false
     other Less e = refl
     other Equal e = absurd (false≢true (sym e))
     other Greater e = refl
+
     go : (x.land ≡ k.land) ⊎ (x.land ≡ k.land → ⊥) → times link_cmp k xs ≡ length (filter (is_link k.land (link_part k)) xs) → times link_cmp k (x ∷ xs) ≡ length (filter (is_link k.land (link_part k)) (x ∷ xs))
     go (inl e) ih = step (is_eq (link_cmp k x)) (is_link k.land (link_part k) x)
         (ap (λ o. is_eq (ordering_then o (link_part_cmp (link_part k) (link_part x)))) (ap (nat_cmp k.land) e ∙ tied_itself nat_cmp_total k.land)
@@ -109,6 +111,7 @@ count-relanded f Dom inj (x ∷ xs) a y d k = go (cases_eq x.land y) (count-rela
     step true false e ih = cc
     step false true e ih = cc
     step false false e ih = ih
+
     go : (x.land ≡ y) ⊎ (x.land ≡ y → ⊥) → length (filter (is_link (f y) k) (map (relanded f) xs)) ≡ length (filter (is_link y k) xs) → length (filter (is_link (f y) k) (map (relanded f) (x ∷ xs))) ≡ length (filter (is_link y k) (x ∷ xs))
     go (inl e) ih = step (f x.land == f y) (x.land == y) (eq-eqb (f x.land) (f y) (ap f e) ∙ sym (eq-eqb x.land y e)) ih
     go (inr ne) ih = step (f x.land == f y) (x.land == y) (ne_eqb (f x.land) (f y) (λ e. ne (inj x.land y a.0 d e)) ∙ sym (ne_eqb x.land y ne)) ih
@@ -123,7 +126,7 @@ no_links known (x ∷ xs) a y e k = go (cases_eq x.land y) (no_links known xs a.
     go (inr ne) ih = ap (λ b. length (cond (b && is_eq (link_part_cmp k (link_part x))) (x ∷ filter (is_link y k) xs) (filter (is_link y k) xs))) (ne_eqb x.land y ne) ∙ ih
 
 module _ (r : Renumbering) (a b : County) (h : Carries r a b) (aa : IsAscending a) (ab : IsAscending b) (ca : IsClosed a) (cb : IsClosed b) (ta : IsTidy a) (tb : IsTidy b)
-  (fixed : (k : PolygonKey) → Known key_cmp (polygon_keys a) k → image key_cmp r.polygons k ≡ k) where
+    (fixed : (k : PolygonKey) → Known key_cmp (polygon_keys a) k → image key_cmp r.polygons k ≡ k) where
   f_land : ℕ → ℕ
   f_land = image nat_cmp r.lands
 
@@ -147,31 +150,31 @@ module _ (r : Renumbering) (a b : County) (h : Carries r a b) (aa : IsAscending 
   links_kept y d = in_order-equal link_part_keys (links_of b.links (f_land y)) (links_of a.links y)
       (links_of-in_order b.links ab.links (f_land y)) (links_of-in_order a.links aa.links y)
       (λ k. times-links b.links (f_land y) k
-        ∙ sym (count-permutation (is_link (f_land y) k) (map (carried_link r) a.links) b.links h.links)
-        ∙ ap (λ ls. length (filter (is_link (f_land y) k) ls)) links_carried
-        ∙ count-relanded f_land (Known nat_cmp (lands a)) land_injective a.links lands_known y d k
-        ∙ sym (times-links a.links y k))
+      ∙ sym (count-permutation (is_link (f_land y) k) (map (carried_link r) a.links) b.links h.links)
+      ∙ ap (λ ls. length (filter (is_link (f_land y) k) ls)) links_carried
+      ∙ count-relanded f_land (Known nat_cmp (lands a)) land_injective a.links lands_known y d k
+      ∙ sym (times-links a.links y k))
 
   keys_same : map (landmark_key a.links) a.landmarks ≡ map (landmark_key b.links) b.landmarks
   unfolding f_land
   keys_same =
       let carried : map (landmark_key b.links) (map (carried_landmark r) a.landmarks) ≡ map (landmark_key a.links) a.landmarks =
-          map-map (landmark_key b.links) (carried_landmark r) a.landmarks
-          ∙ map_agree_all (λ d. landmark_key b.links (carried_landmark r d)) (landmark_key a.links) (λ d. Known nat_cmp (lands a) d.0) (λ d k i. (d.1, links_kept d.0 k i)) a.landmarks (keys_known nat_keys a.landmarks) in
+      map-map (landmark_key b.links) (carried_landmark r) a.landmarks
+      ∙ map_agree_all (λ d. landmark_key b.links (carried_landmark r d)) (landmark_key a.links) (λ d. Known nat_cmp (lands a) d.0) (λ d k i. (d.1, links_kept d.0 k i)) a.landmarks (keys_known nat_keys a.landmarks) in
       in_order-permutation landmark_key_keys (map (landmark_key a.links) a.landmarks) (map (landmark_key b.links) b.landmarks)
-        (in_order-map landmark_key_cmp (landmark_key a.links) a.landmarks ta.landmarks)
-        (in_order-map landmark_key_cmp (landmark_key b.links) b.landmarks tb.landmarks)
-        (subst (λ ks. IsPermutation ks (map (landmark_key b.links) b.landmarks)) carried
-          (IsPermutation-map (landmark_key b.links) (map (carried_landmark r) a.landmarks) b.landmarks h.landmarks))
+      (in_order-map landmark_key_cmp (landmark_key a.links) a.landmarks ta.landmarks)
+      (in_order-map landmark_key_cmp (landmark_key b.links) b.landmarks tb.landmarks)
+      (subst (λ ks. IsPermutation ks (map (landmark_key b.links) b.landmarks)) carried
+      (IsPermutation-map (landmark_key b.links) (map (carried_landmark r) a.landmarks) b.landmarks h.landmarks))
 
   pub landmarks_equal : a.landmarks ≡ b.landmarks
   landmarks_equal =
       let len : length a.landmarks ≡ length b.landmarks = sym (length-map a.landmarks (landmark_key a.links)) ∙ ap length keys_same ∙ length-map b.landmarks (landmark_key b.links) in
       let left : map (λ (d : ℕ × List Body7). d.0) a.landmarks ≡ map (λ (d : ℕ × List Body7). d.0) b.landmarks = ta.lands ∙ ap up_to len ∙ sym tb.lands in
       let right : map (λ (d : ℕ × List Body7). d.1) a.landmarks ≡ map (λ (d : ℕ × List Body7). d.1) b.landmarks =
-          sym (map-map (λ (k : LandmarkKey). k.0) (landmark_key a.links) a.landmarks)
-          ∙ ap (map (λ (k : LandmarkKey). k.0)) keys_same
-          ∙ map-map (λ (k : LandmarkKey). k.0) (landmark_key b.links) b.landmarks in
+      sym (map-map (λ (k : LandmarkKey). k.0) (landmark_key a.links) a.landmarks)
+      ∙ ap (map (λ (k : LandmarkKey). k.0)) keys_same
+      ∙ map-map (λ (k : LandmarkKey). k.0) (landmark_key b.links) b.landmarks in
       entries_equal a.landmarks b.landmarks left right
 
   same_links : (y : ℕ) → Known nat_cmp (lands a) y → links_of a.links y ≡ links_of b.links y
@@ -179,8 +182,8 @@ module _ (r : Renumbering) (a b : County) (h : Carries r a b) (aa : IsAscending 
       let keys : map (landmark_key a.links) a.landmarks ≡ map (landmark_key b.links) a.landmarks = keys_same ∙ ap (map (landmark_key b.links)) (sym landmarks_equal) in
       let each : AllByRecursion (λ d. landmark_key a.links d ≡ landmark_key b.links d) a.landmarks = map-equal_all (landmark_key a.links) (landmark_key b.links) a.landmarks keys in
       let all : AllByRecursion (λ n. links_of a.links n ≡ links_of b.links n) (lands a) =
-          all_map (λ n. links_of a.links n ≡ links_of b.links n) (λ (d : ℕ × List Body7). d.0) a.landmarks
-            (all_weaker (λ d. landmark_key a.links d ≡ landmark_key b.links d) (λ d. links_of a.links d.0 ≡ links_of b.links d.0) (λ d same. ap (λ (key : LandmarkKey). key.1) same) a.landmarks each) in
+      all_map (λ n. links_of a.links n ≡ links_of b.links n) (λ (d : ℕ × List Body7). d.0) a.landmarks
+      (all_weaker (λ d. landmark_key a.links d ≡ landmark_key b.links d) (λ d. links_of a.links d.0 ≡ links_of b.links d.0) (λ d same. ap (λ (key : LandmarkKey). key.1) same) a.landmarks each) in
       known_all nat_keys (λ n. links_of a.links n ≡ links_of b.links n) (lands a) all y k
 
   links_count : (k : Fields8) (n : ℕ) → times nat_cmp k.land (lands a) ≡ n → length (filter (is_link k.land (link_part k)) a.links) ≡ length (filter (is_link k.land (link_part k)) b.links)

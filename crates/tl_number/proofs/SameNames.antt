@@ -1,7 +1,7 @@
 -- Of two tidy counties, one carried onto the other with each TLID kept and no chain turned, the names and the FEATs of
 -- chains are equal: names stand in the order of content and uses, and their uses give the chains' lists back.
-use Rattle.std.proofs.Common.{◌≡◌, ◌⊎◌, ◌<◌, ◌≤◌, ◌+◌, ℕ, zero, suc, ◌==◌, List, [], ◌∷◌, ◌++◌, map, flat_map, filter, length, Bool, true, false, cond, IsTrue, sym, refl, ap, ap₂, ◌∙◌, subst, inl, inr, arith, nat_cmp, IsPermutation}
-use Rattle.std.proofs.lemmas.Bool.{ltb-true, eqb-true, eq-eqb, ne_eqb, cases_eq}
+use Rattle.std.proofs.Common.{◌≡◌, ◌⊎◌, ℕ, suc, ◌==◌, List, [], ◌∷◌, ◌++◌, map, filter, length, Bool, true, false, cond, IsTrue, sym, refl, ap, ap₂, ◌∙◌, subst, inl, inr, nat_cmp, IsPermutation}
+use Rattle.std.proofs.lemmas.Bool.{ltb-true, eq-eqb, ne_eqb, cases_eq}
 use Rattle.std.proofs.lemmas.List.{map-append, length-map}
 use Rattle.std.proofs.lemmas.List.Sorted.{IsPermutation-map}
 use Rattle.std.specs.List.{AllByRecursion}
@@ -9,15 +9,15 @@ use Rattle.std.specs.List.Sorted.{IsStrictlySortedBy}
 use Rattle.tl_layout.specs.declared.type5.Body5.{Body5}
 use Rattle.tl_county.specs.Chain.{Chain}
 use Rattle.tl_county.specs.County.{County}
-use Rattle.tl_county.specs.CountyRules.{IsClosed, tlids, feats, AllStandIn}
+use Rattle.tl_county.specs.CountyRules.{IsClosed, feats, AllStandIn}
 use Rattle.tl_county.specs.Orders.{stands_in, times}
 use Rattle.tl_county.specs.Renumbering.{Renumbering, Carries, image, carried_name}
-use Rattle.tl_county.proofs.FirstFault.{Among, all_among}
+use Rattle.tl_county.proofs.FirstFault.{Among}
 use Rattle.tl_county.proofs.InOrder.{in_order-permutation, in_order-map}
 use Rattle.tl_county.proofs.KeyOrders.{name_body_keys, pair_keys, lists_keys}
 use Rattle.tl_county.proofs.Keys.{IsKeyOrder, Known, IsApart, nat_keys, lefts, rights, apart-permutation, known-permutation, image-injective, apart_from_sorted, known_all}
-use Rattle.tl_county.proofs.Lists.{map-map, map_agree_all, all_weaker, all_map, all_unmap, all_append, all_pieces, all_left, all_right}
-use Rattle.tl_county.proofs.Members.{among-map, among-unmap}
+use Rattle.tl_county.proofs.Lists.{map-map, map_agree_all, all_weaker, all_map, all_append, all_left, all_right}
+use Rattle.tl_county.proofs.Members.{among-unmap}
 use Rattle.tl_county.proofs.Sameness.{keys_known}
 use Rattle.tl_number.specs.Growth.{up_to}
 use Rattle.tl_number.specs.Tidy.{IsTidy}
@@ -68,6 +68,7 @@ uses_of-renamed f Dom inj (u ∷ us) a y d = go (cases_eq u.1 y) (uses_of-rename
     step true false e ih = cc
     step false true e ih = cc
     step false false e ih = ih
+
     go : (u.1 ≡ y) ⊎ (u.1 ≡ y → ⊥) → uses_of (map (renamed_use f) us) (f y) ≡ uses_of us y → uses_of (map (renamed_use f) (u ∷ us)) (f y) ≡ uses_of (u ∷ us) y
     go (inl e) ih = step (f u.1 == f y) (u.1 == y) (eq-eqb (f u.1) (f y) (ap f e) ∙ sym (eq-eqb u.1 y e)) ih
     go (inr ne) ih = step (f u.1 == f y) (u.1 == y) (ne_eqb (f u.1) (f y) (λ e. ne (inj u.1 y a.0 d e)) ∙ sym (ne_eqb u.1 y ne)) ih
@@ -90,8 +91,8 @@ module _ (r : Renumbering) (a b : County) (h : Carries r a b) (ca : IsClosed a) 
   uses_known : AllByRecursion (λ u. Known nat_cmp (feats a) u.1) (all_uses a.chains)
   uses_known = all_uses-all (Known nat_cmp (feats a)) a.chains
       (all_weaker (λ c. AllStandIn (feats a) c.1.feats) (λ c. AllByRecursion (Known nat_cmp (feats a)) c.1.feats)
-        (λ c g. all_weaker (λ n. IsTrue (stands_in nat_cmp n (feats a))) (Known nat_cmp (feats a)) (λ n t. ltb-true 0 (times nat_cmp n (feats a)) t) c.1.feats g)
-        a.chains ca.names)
+      (λ c g. all_weaker (λ n. IsTrue (stands_in nat_cmp n (feats a))) (Known nat_cmp (feats a)) (λ n t. ltb-true 0 (times nat_cmp n (feats a)) t) c.1.feats g)
+      a.chains ca.names)
 
   uses_kept : (y : ℕ) → Known nat_cmp (feats a) y → uses_of (all_uses b.chains) (f_name y) ≡ uses_of (all_uses a.chains) y
   uses_kept y d = ap (λ us. uses_of us (f_name y)) uses_b ∙ uses_of-renamed f_name (Known nat_cmp (feats a)) name_injective (all_uses a.chains) uses_known y d
@@ -107,13 +108,13 @@ module _ (r : Renumbering) (a b : County) (h : Carries r a b) (ca : IsClosed a) 
   unfolding keys_a keys_b f_name
   keys_same =
       let carried : map (name_key (all_uses b.chains)) (map (carried_name r) a.names) ≡ map (name_key (all_uses a.chains)) a.names =
-          map-map (name_key (all_uses b.chains)) (carried_name r) a.names
-          ∙ map_agree_all (λ d. name_key (all_uses b.chains) (carried_name r d)) (name_key (all_uses a.chains)) (λ d. Known nat_cmp (feats a) d.0) (λ d k i. (d.1, uses_kept d.0 k i)) a.names (keys_known nat_keys a.names) in
+      map-map (name_key (all_uses b.chains)) (carried_name r) a.names
+      ∙ map_agree_all (λ d. name_key (all_uses b.chains) (carried_name r d)) (name_key (all_uses a.chains)) (λ d. Known nat_cmp (feats a) d.0) (λ d k i. (d.1, uses_kept d.0 k i)) a.names (keys_known nat_keys a.names) in
       in_order-permutation name_key_keys (map (name_key (all_uses a.chains)) a.names) (map (name_key (all_uses b.chains)) b.names)
-        (in_order-map name_key_cmp (name_key (all_uses a.chains)) a.names ta.names)
-        (in_order-map name_key_cmp (name_key (all_uses b.chains)) b.names tb.names)
-        (subst (λ ks. IsPermutation ks (map (name_key (all_uses b.chains)) b.names)) carried
-          (IsPermutation-map (name_key (all_uses b.chains)) (map (carried_name r) a.names) b.names h.names))
+      (in_order-map name_key_cmp (name_key (all_uses a.chains)) a.names ta.names)
+      (in_order-map name_key_cmp (name_key (all_uses b.chains)) b.names tb.names)
+      (subst (λ ks. IsPermutation ks (map (name_key (all_uses b.chains)) b.names)) carried
+      (IsPermutation-map (name_key (all_uses b.chains)) (map (carried_name r) a.names) b.names h.names))
 
   pub names_equal : a.names ≡ b.names
   unfolding keys_a keys_b
@@ -121,9 +122,9 @@ module _ (r : Renumbering) (a b : County) (h : Carries r a b) (ca : IsClosed a) 
       let len : length a.names ≡ length b.names = sym (length-map a.names (name_key (all_uses a.chains))) ∙ ap length keys_same ∙ length-map b.names (name_key (all_uses b.chains)) in
       let left : map (λ (d : ℕ × Body5). d.0) a.names ≡ map (λ (d : ℕ × Body5). d.0) b.names = ta.feats ∙ ap up_to len ∙ sym tb.feats in
       let right : map (λ (d : ℕ × Body5). d.1) a.names ≡ map (λ (d : ℕ × Body5). d.1) b.names =
-          sym (map-map (λ (k : NameKey). k.0) (name_key (all_uses a.chains)) a.names)
-          ∙ ap (map (λ (k : NameKey). k.0)) keys_same
-          ∙ map-map (λ (k : NameKey). k.0) (name_key (all_uses b.chains)) b.names in
+      sym (map-map (λ (k : NameKey). k.0) (name_key (all_uses a.chains)) a.names)
+      ∙ ap (map (λ (k : NameKey). k.0)) keys_same
+      ∙ map-map (λ (k : NameKey). k.0) (name_key (all_uses b.chains)) b.names in
       entries_equal a.names b.names left right
 
   -- so each FEAT has the same uses in both
@@ -133,8 +134,8 @@ module _ (r : Renumbering) (a b : County) (h : Carries r a b) (ca : IsClosed a) 
       let keys : map (name_key (all_uses a.chains)) a.names ≡ map (name_key (all_uses b.chains)) a.names = keys_same ∙ ap (map (name_key (all_uses b.chains))) (sym names_equal) in
       let each : AllByRecursion (λ d. name_key (all_uses a.chains) d ≡ name_key (all_uses b.chains) d) a.names = map-equal_all (name_key (all_uses a.chains)) (name_key (all_uses b.chains)) a.names keys in
       let uses : AllByRecursion (λ n. uses_of (all_uses a.chains) n ≡ uses_of (all_uses b.chains) n) (feats a) =
-          all_map (λ n. uses_of (all_uses a.chains) n ≡ uses_of (all_uses b.chains) n) (λ (d : ℕ × Body5). d.0) a.names
-            (all_weaker (λ d. name_key (all_uses a.chains) d ≡ name_key (all_uses b.chains) d) (λ d. uses_of (all_uses a.chains) d.0 ≡ uses_of (all_uses b.chains) d.0) (λ d same. ap (λ (key : NameKey). key.1) same) a.names each) in
+      all_map (λ n. uses_of (all_uses a.chains) n ≡ uses_of (all_uses b.chains) n) (λ (d : ℕ × Body5). d.0) a.names
+      (all_weaker (λ d. name_key (all_uses a.chains) d ≡ name_key (all_uses b.chains) d) (λ d. uses_of (all_uses a.chains) d.0 ≡ uses_of (all_uses b.chains) d.0) (λ d same. ap (λ (key : NameKey). key.1) same) a.names each) in
       known_all nat_keys (λ n. uses_of (all_uses a.chains) n ≡ uses_of (all_uses b.chains) n) (feats a) uses y k
 
   uses_apart : IsApart use_cmp (map (λ u. u.0) (all_uses a.chains))

@@ -1,21 +1,21 @@
 -- Of two tidy counties, one carried onto the other with each TLID kept and no chain turned, the nodes and the polygons
 -- on sides have equal numbers: they are numbered by first appearance along the same chains.
-use Rattle.std.proofs.Common.{◌≡◌, ◌⊎◌, ◌<◌, ◌≤◌, ◌+◌, ℕ, zero, suc, max, List, [], ◌∷◌, ◌++◌, map, flat_map, Bool, true, false, Option, Some, None, option_map, option_to_list, IsTrue, sym, refl, ap, ap₂, ◌∙◌, subst, inl, inr, arith, nat_cmp, IsPermutation, map-id}
+use Rattle.std.proofs.Common.{◌≡◌, ℕ, List, [], ◌∷◌, ◌++◌, map, IsTrue, sym, refl, ap, ap₂, ◌∙◌, subst, inl, inr, nat_cmp, map-id}
 use Rattle.std.proofs.lemmas.Bool.{ltb-true}
 use Rattle.std.proofs.lemmas.List.{map-append}
 use Rattle.std.specs.List.{AllByRecursion}
 use Rattle.tl_county.specs.Chain.{Chain}
 use Rattle.tl_county.specs.County.{County}
-use Rattle.tl_county.specs.CountyRules.{IsAscending, IsClosed, tlids, feats, polygon_keys, lands, nodes, nodes_along, polygons_along, chain_nodes, chain_polygons, AllKeysStandIn}
+use Rattle.tl_county.specs.CountyRules.{IsAscending, IsClosed, polygon_keys, nodes, nodes_along, polygons_along, chain_nodes, chain_polygons}
 use Rattle.tl_county.specs.Orders.{stands_in, times}
-use Rattle.tl_county.specs.PolygonKeys.{PolygonKey, key_cmp, key_on, key_under}
-use Rattle.tl_county.specs.Renumbering.{Renumbering, Carries, image, renumbered, renumbered_side, renumbered_polygon}
+use Rattle.tl_county.specs.PolygonKeys.{PolygonKey, key_cmp}
+use Rattle.tl_county.specs.Renumbering.{Renumbering, Carries, image, renumbered}
 use Rattle.tl_county.proofs.Carried.{chain_nodes-renumbered, chain_polygons-renumbered}
 use Rattle.tl_county.proofs.Distinct.{apart-distinct, known-distinct}
 use Rattle.tl_county.proofs.FirstFault.{Among, all_among}
 use Rattle.tl_county.proofs.KeyOrders.{key_keys}
-use Rattle.tl_county.proofs.Keys.{IsKeyOrder, Known, IsApart, nat_keys, lefts, rights, apart-permutation, known-permutation, image-injective, apart_from_sorted, all_known}
-use Rattle.tl_county.proofs.Lists.{map-map, all_weaker, all_pieces, all_joined}
+use Rattle.tl_county.proofs.Keys.{Known, nat_keys, lefts, rights, apart-permutation, known-permutation, image-injective, apart_from_sorted, all_known}
+use Rattle.tl_county.proofs.Lists.{map-map, all_weaker, all_joined}
 use Rattle.tl_county.proofs.Members.{among-map}
 use Rattle.tl_county.proofs.Sameness.{image-keeps}
 use Rattle.tl_number.specs.Growth.{Grows}
@@ -78,8 +78,8 @@ module _ (r : Renumbering) (a b : County) (h : Carries r a b) (asc : IsAscending
   polygon_back k j m n same =
       let images : image key_cmp r.polygons k ≡ image key_cmp r.polygons j = one_cenid_of (polygons_along b.chains) tb.one_cenid (image key_cmp r.polygons k) (image key_cmp r.polygons j) (image_among k m) (image_among j n) same in
       ap (λ i. i.1) (image-injective key_keys r.polygons k j
-        (apart-permutation key_keys (rights r.polygons) (polygon_keys b) h.numbers.polygons.right (apart_from_sorted key_keys (polygon_keys b) asc.polygons))
-        (polygon_known k m) (polygon_known j n) images)
+      (apart-permutation key_keys (rights r.polygons) (polygon_keys b) h.numbers.polygons.right (apart_from_sorted key_keys (polygon_keys b) asc.polygons))
+      (polygon_known k m) (polygon_known j n) images)
 
   polyids_kept : AllByRecursion (λ k. k.1 ≡ (image key_cmp r.polygons k).1) (polygons_along a.chains)
   polyids_kept = grown (λ k. k.1) (λ k. (image key_cmp r.polygons k).1) (λ k. Among k (polygons_along a.chains)) polygon_forth polygon_back

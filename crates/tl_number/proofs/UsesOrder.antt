@@ -1,15 +1,14 @@
 -- Uses of names: each stands once in the list of all uses, and a name's uses are those under its FEAT.
-use Rattle.std.proofs.Common.{◌≡◌, ◌⊎◌, ◌<◌, ◌≤◌, ◌+◌, ℕ, zero, suc, ◌==◌, List, [], ◌∷◌, ◌++◌, map, flat_map, filter, Bool, true, false, cond, Ordering, Less, Equal, Greater, sym, refl, ap, ap₂, ◌∙◌, subst, inl, inr, arith, nat_cmp}
-use Rattle.std.proofs.lemmas.Bool.{eqb-true, eq-eqb, ne_eqb, cases_eq}
+use Rattle.std.proofs.Common.{◌≡◌, ◌<◌, ℕ, suc, ◌==◌, List, [], ◌∷◌, ◌++◌, map, filter, Bool, true, false, cond, Ordering, Less, sym, refl, ap, ◌∙◌, subst, inl, inr, arith, nat_cmp}
+use Rattle.std.proofs.lemmas.Bool.{eqb-true, eq-eqb}
 use Rattle.std.proofs.lemmas.Cmp.{tied_itself, nat_cmp_total}
-use Rattle.std.proofs.lemmas.List.{map-append}
 use Rattle.std.specs.List.{AllByRecursion}
 use Rattle.std.specs.List.Sorted.{IsStrictlySortedBy}
 use Rattle.std.specs.Ordering.{ordering_then}
 use Rattle.tl_county.specs.Chain.{Chain}
 use Rattle.tl_county.proofs.FirstFault.{Among}
 use Rattle.tl_county.proofs.KeyOrders.{pair_keys}
-use Rattle.tl_county.proofs.Keys.{IsKeyOrder, IsApart, nat_keys, times-yes, apart_tail, Known}
+use Rattle.tl_county.proofs.Keys.{IsKeyOrder, IsApart, nat_keys, times-yes, apart_tail}
 use Rattle.tl_county.proofs.Members.{among_known, among-map}
 use Rattle.tl_number.specs.Uses.{Use, use_cmp, uses_from, all_uses, uses_of}
 use Rattle.tl_number.proofs.Counting.{less}

@@ -2,14 +2,14 @@
 use Rattle.std.specs.Prelude.{ℕ, ◌≡◌, ◌≤◌, List, [], ◌∷◌, map, length, ⊤}
 use Rattle.std.specs.declared.cmp.Ordering.{Ordering}
 use Rattle.std.specs.Ordering.{nat_cmp, on, then_cmp, ordering_then}
-use Rattle.tl_layout.specs.Fields.{Fields1, Fields2, Fields4, Fields5, Fields6, Fields7, Fields8, FieldsI, FieldsP}
+use Rattle.tl_layout.specs.Fields.{Fields7}
 use Rattle.tl_layout.specs.declared.record_type.Record.{Record}
 use Rattle.tl_county.specs.BodyOrder.{landmark_body_cmp, link_cmp}
 use Rattle.tl_county.specs.ByType.{ones, twos, fours, fives, sixes, sevens, eights, is, ps, of_number}
 use Rattle.std.specs.List.{AllByRecursion}
 use Rattle.tl_county.specs.CountyRules.{tlids}
 use Rattle.tl_county.specs.Renumbering.{Renumbering, image}
-use Rattle.tl_county.specs.County.{County, county_of, one_tlid, two_tlid, two_rtsq, four_tlid, four_rtsq, five_feat, six_tlid, six_rtsq, seven_land, i_tlid}
+use Rattle.tl_county.specs.County.{County, county_of, one_tlid, two_tlid, two_rtsq, four_tlid, four_rtsq, five_feat, six_tlid, six_rtsq, i_tlid}
 use Rattle.tl_county.specs.LinkRules.{IsLinked}
 use Rattle.tl_county.specs.Orders.{IsInOrder}
 use Rattle.tl_number.specs.Growth.{up_to}

@@ -1,5 +1,5 @@
 -- A county whose numbers are those of the canonical form.
-use Rattle.std.specs.Prelude.{ℕ, ◌≡◌, List, map, length, reverse, IsTrue, All}
+use Rattle.std.specs.Prelude.{ℕ, ◌≡◌, List, map, length, reverse}
 use Rattle.std.specs.List.{AllByRecursion}
 use Rattle.std.specs.List.Sorted.{IsStrictlySortedBy}
 use Rattle.std.specs.declared.cmp.Ordering.TheVariants.{Less}

@@ -12,23 +12,20 @@ ghost use Rattle.tl_number.specs.Packing.{packed};
 /// directions.
 pub fn tidy_lists_are_the_packing_of_their_county()
     ensures { (records : List Record) → IsTidyList records → records ≡ packed (county_of records) }
-{
-}
+{}
 
 /// Two such lists are equal if a renaming that keeps each TLID and turns no chain carries the county of the one onto that
 /// of the other.
 pub fn tidy_lists_with_one_choice_are_equal()
     ensures { (r : Renumbering) (xs ys : List Record) →
         IsTidyList xs → IsTidyList ys → Carries r (county_of xs) (county_of ys) → KeepsChainNumbers r (county_of xs) → xs ≡ ys }
-{
-}
+{}
 
 /// Two canonical lists of records whose counties are the same are equal.
 pub fn canonical_lists_of_one_county_are_equal()
     ensures { (xs ys : List Record) →
         IsCanonical xs → IsCanonical ys → AreSame (county_of xs) (county_of ys) → xs ≡ ys }
-{
-}
+{}
 
 /// A list of records is accepted or has a refusal, never both, and never two.
 pub fn accepted_or_one_refusal()
@@ -36,8 +33,7 @@ pub fn accepted_or_one_refusal()
     ensures not_both { (records : List Record) (refusal : Refusal) → IsAccepted records → IsRefusal records refusal → ⊥ }
     ensures only_one { (records : List Record) (refusal other : Refusal) →
         IsRefusal records refusal → IsRefusal records other → refusal ≡ other }
-{
-}
+{}
 
 /// Canonical lists of two accepted lists are equal exactly if the counties of these are the same; and a canonical list is
 /// accepted and its own canonical list.
@@ -47,5 +43,4 @@ pub fn one_canonical_list_exactly_for_one_map()
     ensures equal { (xs ys c d : List Record) →
         IsCanonicalOf xs c → IsCanonicalOf ys d → c ≡ d → AreSame (county_of xs) (county_of ys) }
     ensures itself { (xs c : List Record) → IsCanonicalOf xs c → IsCanonicalOf c c }
-{
-}
+{}

@@ -1,5 +1,5 @@
 -- Each county is in the profile or has exactly one first broken clause.
-use Rattle.std.proofs.Common.{◌≡◌, ◌⊎◌, ◌<◌, ℕ, zero, suc, nat_lt, ◌==◌, List, [], ◌∷◌, ◌++◌, map, flat_map, Bool, true, false, cond, not, ◌&&◌, is_eq, is_some, reverse, sym, refl, ap, ap₂, ◌∙◌, subst, inl, inr, Option, nat_cmp}
+use Rattle.std.proofs.Common.{◌≡◌, ◌⊎◌, ℕ, zero, suc, nat_lt, ◌==◌, List, [], ◌∷◌, ◌++◌, map, flat_map, true, cond, not, ◌&&◌, is_eq, is_some, reverse, sym, refl, ap₂, subst, Option}
 use Rattle.std.proofs.lemmas.Bool.{false≢true, and_parts, eqb-true}
 use Rattle.std.specs.List.{list_any}
 use Rattle.tl_layout.specs.declared.type_p.BodyP.{BodyP}

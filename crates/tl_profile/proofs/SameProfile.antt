@@ -1,6 +1,6 @@
 -- If two counties are the same and one is in the profile, so is the other.
-use Rattle.std.proofs.Common.{◌≡◌, ◌⊎◌, ◌<◌, ℕ, zero, suc, nat_lt, ◌==◌, List, [], ◌∷◌, ◌++◌, map, flat_map, Bool, true, false, cond, not, ◌&&◌, ◌||◌, is_eq, is_some, reverse, sym, refl, ap, ap₂, ◌∙◌, subst, inl, inr, Option, nat_cmp, IsPermutation, arith}
-use Rattle.std.proofs.lemmas.Bool.{false≢true, true≢false, and_parts, and_from, and_left, and_right, or_cases, or_left, or_right, eqb-true, eq-eqb, ltb-true, lt-ltb, cases_order, false_from_ne_true, not_from_false, true_from_ne_false}
+use Rattle.std.proofs.Common.{◌≡◌, ◌⊎◌, ◌<◌, ℕ, nat_lt, ◌==◌, List, map, Bool, true, false, not, ◌&&◌, is_eq, is_some, reverse, sym, refl, ap, ◌∙◌, subst, inl, inr, Option, nat_cmp, arith}
+use Rattle.std.proofs.lemmas.Bool.{false≢true, and_parts, and_from, or_cases, or_left, or_right, eq-eqb, ltb-true, lt-ltb, cases_order, false_from_ne_true}
 use Rattle.std.proofs.lemmas.List.{reverse-reverse}
 use Rattle.std.proofs.lemmas.List.Sorted.{IsPermutation-sym}
 use Rattle.std.specs.List.{list_any}
@@ -10,7 +10,6 @@ use Rattle.tl_county.specs.Chain.{Chain}
 use Rattle.tl_county.specs.County.{County}
 use Rattle.tl_county.specs.CountyRules.{IsCounty, polygons_along, chain_polygons}
 use Rattle.tl_county.specs.Orders.{stands_in, times}
-use Rattle.tl_county.specs.PointOrder.{points_cmp}
 use Rattle.tl_county.specs.PolygonKeys.{PolygonKey, key_cmp}
 use Rattle.tl_county.specs.Renumbering.{Renumbering, Carries, AreSame, image, turns, carried_chain, carried_polygon, renumbered}
 use Rattle.tl_county.specs.Turned.{turned_if}
@@ -20,9 +19,8 @@ use Rattle.tl_county.proofs.KeyOrders.{key_keys, points_keys}
 use Rattle.tl_county.proofs.Keys.{Known, same-true, same-itself}
 use Rattle.tl_county.proofs.Sameness.{same-symmetric}
 use Rattle.tl_county.proofs.Members.{among-permutation, among-map, among-unmap, among-pieces, among_any, among_known, known_is_among}
-use Rattle.tl_profile.specs.declared.fault.ProfileFault.{ProfileFault}
 use Rattle.tl_profile.specs.declared.fault.ProfileFault.TheVariants.{OwnReverse, SameShape, PolygonWithoutChain, Memory}
-use Rattle.tl_profile.specs.Profile.{same_points, same_shape, is_own_reverse, are_one_shape, has_body, is_broken, IsInProfile}
+use Rattle.tl_profile.specs.Profile.{same_points, same_shape, is_own_reverse, are_one_shape, has_body, IsInProfile}
 use Rattle.tl_profile.proofs.ProfileFaults.{own_reverse_entry, AreOneShape, one_shape_entries, body_entry}
 
 -- one shape, forward or reversed

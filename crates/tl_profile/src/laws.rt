@@ -15,12 +15,10 @@ pub fn in_profile_or_one_first_broken_clause()
         IsInProfile county → IsFirstBrokenClause county fault → ⊥ }
     ensures only_one { (county : County) (fault other : ProfileFault) →
         IsFirstBrokenClause county fault → IsFirstBrokenClause county other → fault ≡ other }
-{
-}
+{}
 
 /// Of two counties that are the same both are in the profile or neither.
 pub fn same_counties_agree_on_the_profile()
     ensures forth { (a b : County) → AreSame a b → IsInProfile a → IsInProfile b }
     ensures back { (a b : County) → IsCounty a → IsCounty b → AreSame a b → IsInProfile b → IsInProfile a }
-{
-}
+{}
