@@ -1,5 +1,5 @@
 -- What the definitions say of the samples: their counties, which renamings carry, and which refusal a list of records has.
-use Rattle.std.proofs.Common.{◌≡◌, ℕ, List, [], ◌∷◌, ◌++◌, map, length, Bool, true, false, Some, sym, refl, ap, ◌∙◌, arith, IsPermutation, codes, ◌==◌, ◌&&◌, ◌⊎◌, inl, inr, slice_index}
+use Rattle.std.proofs.Common.{◌≡◌, ℕ, List, [], ◌∷◌, ◌++◌, map, length, Bool, true, false, Some, sym, refl, ap, ◌∙◌, arith, IsPermutation, codes, ◌==◌, ◌&&◌, ◌⊎◌, inl, inr, slice_index, lit<, nat_cmp}
 use Rattle.std.proofs.lemmas.Bool.{false≢true}
 use Rattle.std.proofs.lemmas.List.Sorted.{IsPermutation-refl, length_permutation}
 use Rattle.tl_layout.specs.declared.type7.Body7.{Body7}
@@ -9,11 +9,11 @@ use Rattle.tl_county.specs.County.{county_of}
 use Rattle.tl_county.specs.CountyRules.{polygon_keys, nodes}
 use Rattle.tl_county.specs.LinkRules.{IsLinked, IsFirstBrokenRule}
 use Rattle.tl_county.specs.Chain.{Chain}
-use Rattle.tl_county.specs.Renumbering.{Renumbering, Carries, AreSame, carried_chain, renumbered, turns}
+use Rattle.tl_county.specs.Renumbering.{Renumbering, Carries, AreSame, carried_chain, renumbered, turns, image}
 use Rattle.tl_county.specs.Turned.{turned_body, turned_if}
 use Rattle.tl_county.proofs.Members.{among-permutation}
 use Rattle.tl_county.proofs.LinkFaults.{linked_computed, first_rule_computed}
-use Rattle.tl_county.proofs.Samples.{filled, right, street, ranges_back, east_end, street_there, street_back, west_end, link_body, no_side, cenid_1, cenid_2, there, back, back_wrong, back_shaped, there_shaped, canonical_shaped, points_up, two_polygons, named, schools, landmark, in_polygon, four, two, chain_there, meeting}
+use Rattle.tl_county.proofs.Samples.{filled, right, street, ranges_back, east_end, street_there, street_back, west_end, link_body, no_side, cenid_1, cenid_2, there, back, back_wrong, back_shaped, there_shaped, canonical_shaped, points_up, two_polygons, named, schools, landmark, in_polygon, four, two, chain_there, meeting, old_mill}
 
 -- the county of one chain
 pub county_there : county_of there ≡ record {
@@ -127,3 +127,61 @@ pub wrong_addresses : AreSame (county_of there) (county_of back_wrong) → ⊥
 wrong_addresses s =
     let e : wrong_entry ≡ carried_chain s.by (500, there_chain) = only (carried_chain s.by (500, there_chain)) wrong_entry s.carries.chains in
     false≢true (sym (address_differs s.by (turns s.by 500)) ∙ ap (λ (d : ℕ × Chain). address d.1) (sym e))
+
+-- Two names that only their uses tell apart may be exchanged: the order in which a chain names them is the one difference.
+abbrev exchanged_names : Renumbering
+exchanged_names = record {
+  chains = (500, 500) ∷ [];
+  names = (8, 9) ∷ (9, 8) ∷ [];
+  polygons = [];
+  lands = [];
+  nodes = (11, 11) ∷ (12, 12) ∷ [];
+  turned = [];
+}
+
+exchanged : {X : Type 0} (x y : X) → IsPermutation (x ∷ y ∷ []) (y ∷ x ∷ [])
+exchanged x y = record { moves = (0, 1) ∷ []; below = (lit< tt, lit< tt, tt); is = refl }
+
+pub exchanged_names_carry : Carries exchanged_names (county_of (named (8 ∷ 9 ∷ []))) (county_of (named (9 ∷ 8 ∷ [])))
+exchanged_names_carry = record {
+  numbers = record {
+    chains = record { left = IsPermutation-refl (500 ∷ []); right = IsPermutation-refl (500 ∷ []) };
+    names = record { left = IsPermutation-refl (8 ∷ 9 ∷ []); right = exchanged 9 8 };
+    polygons = record { left = IsPermutation-refl []; right = IsPermutation-refl [] };
+    lands = record { left = IsPermutation-refl []; right = IsPermutation-refl [] };
+    nodes = record { left = IsPermutation-refl (11 ∷ 12 ∷ []); right = IsPermutation-refl (11 ∷ 12 ∷ []) };
+    cenids = tt;
+    turned_known = tt;
+    turned_once = refl;
+  };
+  chains = IsPermutation-refl (county_of (named (9 ∷ 8 ∷ []))).chains;
+  names = exchanged (9, old_mill) (8, old_mill);
+  polygons = IsPermutation-refl [];
+  landmarks = IsPermutation-refl [];
+  links = IsPermutation-refl [];
+}
+
+-- A chain with one name twice is no renaming of a chain with two names.
+feats_of : Chain → List ℕ
+feats_of c = c.feats
+
+abbrev named_chain : List ℕ → Chain
+named_chain names = record { body = street_there; points = west_end ∷ east_end ∷ []; feats = names; ranges = []; link_body = link_body; start_node = Some 11; end_node = Some 12; left = no_side; right = no_side }
+
+twice_at : (r : Renumbering) (b : Bool) → feats_of (renumbered r (turned_if b (named_chain (8 ∷ 8 ∷ [])))) ≡ image nat_cmp r.names 8 ∷ image nat_cmp r.names 8 ∷ []
+unfolding feats_of
+twice_at r true = refl
+twice_at r false = refl
+
+pub one_name_twice : AreSame (county_of (named (8 ∷ 8 ∷ []))) (county_of (named (8 ∷ 9 ∷ []))) → ⊥
+unfolding feats_of
+one_name_twice s =
+    let e : (500, named_chain (8 ∷ 9 ∷ [])) ≡ carried_chain s.by (500, named_chain (8 ∷ 8 ∷ [])) = only (carried_chain s.by (500, named_chain (8 ∷ 8 ∷ []))) (500, named_chain (8 ∷ 9 ∷ [])) s.carries.chains in
+    let names : 8 ∷ 9 ∷ [] ≡ image nat_cmp s.by.names 8 ∷ image nat_cmp s.by.names 8 ∷ [] = ap (λ (d : ℕ × Chain). feats_of d.1) e ∙ twice_at s.by (turns s.by 500) in
+    let first : 8 ≡ image nat_cmp s.by.names 8 = ap (λ ns. slice_index ns 0) names in
+    let second : 9 ≡ image nat_cmp s.by.names 8 = ap (λ ns. slice_index ns 1) names in
+    omega arith
+
+-- exchanging two landmarks of one content that are linked alike changes nothing
+pub schools_alike : county_of (schools 30 31) ≡ county_of (schools 31 30)
+schools_alike = refl

@@ -112,12 +112,16 @@ module _ (records : List Record) (linked : IsLinked records) (order : StandsInOr
   ps_apart : IsApart key_cmp (map p_key (ps records))
   ps_apart k = ltb-false 1 (times key_cmp k (map p_key (ps records))) (linked (PolygonTwice k.0 k.1))
 
+  -- a listed polygon has the content that is found for its key
+  listed_body : (key : PolygonKey) (e : PolygonKey × Option BodyP) → e ≡ (key, polygon_body records key) → polygon_body records e.0 ≡ e.1
+  listed_body key e h = ap (λ (x : PolygonKey × Option BodyP). polygon_body records x.0) h ∙ sym (ap (λ (x : PolygonKey × Option BodyP). x.1) h)
+
   from_packed : (z : FieldsP) → Among z packed_ps → Among z (ps records)
   from_packed z m =
       let e = in_filter_map packed_p z (polygons_of records) m in
       let d = among-unmap (λ key. (key, polygon_body records key)) e.0 (distinct key_cmp all_keys) e.1 in
       let p = packed_key e.0.0 e.0.1 z e.2 in
-      let found : polygon_body records e.0.0 ≡ Some p.0 = ap (polygon_body records) (ap (λ (x : PolygonKey × Option BodyP). x.0) d.2) ∙ sym (ap (λ (x : PolygonKey × Option BodyP). x.1) d.2) ∙ p.1 in
+      let found : polygon_body records e.0.0 ≡ Some p.0 = listed_body d.0 e.0 d.2 ∙ p.1 in
       let r = first_body e.0.0 p.0 (ps records) found in
       let same : z ≡ r.0 = p.2 ∙ (λ i. record { cenid = (r.2 i).0; polyid = (r.2 i).1; body = sym r.3 i }) in
       subst (λ y. Among y (ps records)) (sym same) r.1

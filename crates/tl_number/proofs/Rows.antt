@@ -1,13 +1,15 @@
 -- What the canonical form says of the samples: which lists are canonical, and that the samples are carried onto them.
-use Rattle.std.proofs.Common.{◌≡◌, [], ◌∷◌, refl, ap, arith, lit≤, ◌==◌, slice_index}
+use Rattle.std.proofs.Common.{◌≡◌, [], ◌∷◌, refl, ap, arith, lit≤, ◌==◌, slice_index, Bool, true, false, cond, map, length, ℕ, List}
 use Rattle.std.proofs.lemmas.Bool.{true≢false}
 use Rattle.std.proofs.lemmas.List.Sorted.{IsPermutation-refl}
 use Rattle.std.specs.List.Sorted.{IsStrictlySortedBy}
+use Rattle.tl_layout.specs.Fields.{Fields2}
+use Rattle.tl_number.specs.Growth.{up_to}
 use Rattle.tl_county.specs.County.{county_of}
 use Rattle.tl_county.specs.Renumbering.{Renumbering, AreSame}
 use Rattle.tl_county.proofs.LinkFaults.{linked_computed}
-use Rattle.tl_county.proofs.Samples.{there, canonical_there, canonical_shaped, canonical_polygons, canonical_named, canonical_schools, canonical_meeting}
-use Rattle.tl_number.specs.Canonical.{IsCanonical}
+use Rattle.tl_county.proofs.Samples.{there, canonical_there, canonical_shaped, canonical_polygons, canonical_named, canonical_schools, canonical_meeting, points_up}
+use Rattle.tl_number.specs.Canonical.{IsCanonical, AreFull}
 use Rattle.tl_number.specs.Packing.{packed}
 use Rattle.tl_number.specs.Tidy.{IsTidy}
 
@@ -164,4 +166,34 @@ unused_first = record {
   on_sides = tt;
   names = ((refl, tt), (tt, tt));
   landmarks = tt;
+}
+
+-- eleven shape points: ten in the first record, one in the second
+abbrev first_two : Fields2
+first_two = record { tlid = 1; rtsq = 1; points = points_up (1 ∷ 2 ∷ 3 ∷ 4 ∷ 5 ∷ 6 ∷ 7 ∷ 8 ∷ 9 ∷ 10 ∷ []) }
+
+abbrev second_two : Fields2
+second_two = record { tlid = 1; rtsq = 2; points = points_up (11 ∷ []) }
+
+abbrev shaped_twos : Bool → List Fields2
+shaped_twos here = cond here (first_two ∷ cond here (second_two ∷ []) []) (cond here (second_two ∷ []) [])
+
+shaped_full : (here : Bool) → AreFull 10 (map (λ (r : Fields2). r.points) (shaped_twos here))
+shaped_full true = (refl, (lit≤ tt, lit≤ tt))
+shaped_full false = tt
+
+shaped_rtsqs : (here : Bool) → map (λ (r : Fields2). r.rtsq) (shaped_twos here) ≡ up_to (length (shaped_twos here))
+shaped_rtsqs true = refl
+shaped_rtsqs false = refl
+
+pub shaped_is_canonical : IsCanonical canonical_shaped
+unfolding IsStrictlySortedBy
+shaped_is_canonical = record {
+  tidy = record {
+    linked = linked_computed canonical_shaped refl;
+    order = record { types = refl; ones = (tt, tt); twos = ((refl, tt), (tt, tt)); fours = tt; fives = tt; sixes = tt; sevens = tt; eights = tt; is = (tt, tt); ps = tt };
+    packed = record { points = λ n. shaped_full (1 == n); feats = λ n. tt; two_rtsqs = λ n. shaped_rtsqs (1 == n); four_rtsqs = λ n. refl; six_rtsqs = λ n. refl };
+    numbers = record { tlids = refl; feats = refl; lands = refl; nodes = (lit≤ tt, lit≤ tt, (lit≤ tt, lit≤ tt, tt)); polygons = tt; one_cenid = tt; on_sides = tt; names = tt; landmarks = tt };
+  };
+  least = record { directions = (refl, tt); ascending = (tt, tt) };
 }
