@@ -1,0 +1,17 @@
+pub mod Lists
+pub mod Keys
+pub mod KeyOrders
+pub mod Distinct
+pub mod Sameness
+pub mod FirstFault
+pub mod LinkFaults
+pub mod Members
+pub mod Carried
+pub mod InOrder
+pub mod Numbers
+pub mod LinkedCounty
+pub mod Samples
+pub mod Rows
+pub mod Reordered
+pub mod SameCounty
+pub mod Repacking

@@ -1,0 +1,177 @@
+-- The county depends on the packing of types 2 and 4 and on RTSQs only by what stands in order.
+use Rattle.std.proofs.Common.{◌≡◌, ◌⊎◌, ◌<◌, ℕ, ◌==◌, List, [], ◌∷◌, ◌++◌, map, flat_map, filter, filter_map, Bool, true, false, cond, Option, Some, None, option_map, Ordering, Less, Equal, Greater, is_eq, is_gt, sym, refl, ap, ap₂, ◌∙◌, inl, inr, nat_cmp}
+use Rattle.std.proofs.lemmas.Bool.{lt-ltb, cases_order}
+use Rattle.std.proofs.lemmas.Cmp.{tied_itself, nat_cmp_total}
+use Rattle.std.specs.List.{AllByRecursion, cons_option}
+use Rattle.std.specs.Ordering.{on, ordering_reverse}
+use Rattle.tl_layout.specs.Fields.{Fields1, Fields2, Fields4, Fields5, Fields6, Fields7, FieldsI, FieldsP}
+use Rattle.tl_layout.specs.declared.record_type.Record.{Record}
+use Rattle.tl_layout.specs.declared.record_type.Record.TheVariants.{One, Two, Four, Five, Six, Seven, Eight, I, P}
+use Rattle.tl_county.specs.declared.fault.LinkedType.TheVariants.{Two as Type2, Four as Type4, Six as Type6}
+use Rattle.tl_county.specs.BodyOrder.{landmark_body_cmp, link_cmp}
+use Rattle.tl_county.specs.ByType.{as_one, as_two, as_four, as_five, as_six, as_seven, as_eight, as_i, as_p, ones, twos, fours, sixes, is, of_number}
+use Rattle.tl_county.specs.County.{one_tlid, two_tlid, two_rtsq, four_tlid, four_rtsq, five_feat, six_tlid, six_rtsq, seven_land, i_tlid, p_key, chain_of, chains_of, side_keys, first, polygons_of, county_of}
+use Rattle.tl_county.specs.Orders.{put_in_order, in_order, distinct}
+use Rattle.tl_county.specs.PolygonKeys.{key_cmp}
+use Rattle.tl_county.specs.Repacked.{AreRepacked, Sequence, resequenced, KeepsSequence}
+use Rattle.tl_county.proofs.Lists.{map-map, flat_map_agree, map_agree_everywhere}
+use Rattle.tl_county.proofs.Numbers.{all-in_order, of_number-all}
+
+module _ (xs ys : List Record) (s : AreRepacked xs ys) where
+  chain_same : (r : Fields1) (link : FieldsI) → chain_of xs r link ≡ chain_of ys r link
+  chain_same r link = λ i. record (chain_of xs r link) {
+    points = r.start ∷ (s.points r.tlid i ++ (r.end ∷ []));
+    feats = s.names r.tlid i;
+    ranges = s.ranges r.tlid i;
+  }
+
+  chains_same : chains_of xs ≡ chains_of ys
+  chains_same =
+      flat_map_agree (λ r. map (λ link. (r.tlid, chain_of xs r link)) (of_number i_tlid r.tlid (is xs))) (λ r. map (λ link. (r.tlid, chain_of ys r link)) (of_number i_tlid r.tlid (is ys)))
+      (λ r. map_agree_everywhere (λ link. (r.tlid, chain_of xs r link)) (λ link. (r.tlid, chain_of ys r link)) (λ link i. (r.tlid, chain_same r link i)) (of_number i_tlid r.tlid (is xs)) ∙ ap (λ ls. map (λ link. (r.tlid, chain_of ys r link)) (of_number i_tlid r.tlid ls)) s.is)
+      (in_order (on one_tlid nat_cmp) (ones xs))
+      ∙ ap (λ rs. flat_map (λ r. map (λ link. (r.tlid, chain_of ys r link)) (of_number i_tlid r.tlid (is ys))) (in_order (on one_tlid nat_cmp) rs)) s.ones
+
+  polygons_same : polygons_of xs ≡ polygons_of ys
+  polygons_same = ap₂ (λ ls qs. map (λ k. (k, first (map (λ (q : FieldsP). q.body) (filter (λ q. is_eq (key_cmp k (p_key q))) qs)))) (distinct key_cmp (flat_map side_keys ls ++ map p_key qs))) s.is s.ps
+
+  pub repacked-county : county_of xs ≡ county_of ys
+  repacked-county = λ i. record {
+    chains = chains_same i;
+    names = map (λ (r : Fields5). (r.feat, r.body)) (in_order (on five_feat nat_cmp) (s.fives i));
+    polygons = polygons_same i;
+    landmarks = map (λ land. (land, in_order landmark_body_cmp (map (λ (r : Fields7). r.body) (of_number seven_land land (s.sevens i))))) (distinct nat_cmp (map seven_land (s.sevens i)));
+    links = in_order link_cmp (s.eights i);
+  }
+
+-- lists changed element by element
+select-kept : {X Y : Type 0} (h : X → Option Y) (g : X → X) → ((x : X) → h (g x) ≡ h x) → (xs : List X) → filter_map h (map g xs) ≡ filter_map h xs
+select-kept h g k [] = refl
+select-kept h g k (x ∷ xs) = ap₂ cons_option (k x) (select-kept h g k xs)
+
+select-changed : {X Y : Type 0} (h : X → Option Y) (g : X → X) (f : Y → Y) → ((x : X) → h (g x) ≡ option_map f (h x)) → (xs : List X) → filter_map h (map g xs) ≡ map f (filter_map h xs)
+select-changed h g f k [] = refl
+select-changed {X} {Y} h g f k (x ∷ xs) = ap₂ cons_option (k x) (select-changed h g f k xs) ∙ go (h x)
+  where
+    go : (o : Option Y) → cons_option (option_map f o) (map f (filter_map h xs)) ≡ map f (cons_option o (filter_map h xs))
+    go None = refl
+    go (Some y) = refl
+
+number-kept : {X : Type 0} (number : X → ℕ) (f : X → X) → ((x : X) → number (f x) ≡ number x) → (n : ℕ) (xs : List X) → of_number number n (map f xs) ≡ map f (of_number number n xs)
+number-kept number f k n [] = refl
+number-kept number f k n (x ∷ xs) = ap₂ (λ b ys. cond b (f x ∷ ys) ys) (ap (λ m. m == n) (k x)) (number-kept number f k n xs) ∙ go (number x == n)
+  where
+    go : (b : Bool) → cond b (f x ∷ map f (of_number number n xs)) (map f (of_number number n xs)) ≡ map f (cond b (x ∷ of_number number n xs) (of_number number n xs))
+    go true = refl
+    go false = refl
+
+put-changed : {X : Type 0} (by : X → X → Ordering) (f : X → X) (Q : X → Type 0) → ((x y : X) → Q x → Q y → is_gt (by (f x) (f y)) ≡ is_gt (by x y)) → (x : X) → Q x → (ys : List X) → AllByRecursion Q ys → put_in_order by (f x) (map f ys) ≡ map f (put_in_order by x ys)
+put-changed by f Q k x p [] a = refl
+put-changed by f Q k x p (y ∷ ys) a = ap₂ (λ b zs. cond b (f y ∷ zs) (f x ∷ f y ∷ map f ys)) (k x y p a.0) (put-changed by f Q k x p ys a.1) ∙ go (is_gt (by x y))
+  where
+    go : (b : Bool) → cond b (f y ∷ map f (put_in_order by x ys)) (f x ∷ f y ∷ map f ys) ≡ map f (cond b (y ∷ put_in_order by x ys) (x ∷ y ∷ ys))
+    go true = refl
+    go false = refl
+
+order-changed : {X : Type 0} (by : X → X → Ordering) (f : X → X) (Q : X → Type 0) → ((x y : X) → Q x → Q y → is_gt (by (f x) (f y)) ≡ is_gt (by x y)) → (xs : List X) → AllByRecursion Q xs → in_order by (map f xs) ≡ map f (in_order by xs)
+order-changed by f Q k [] a = refl
+order-changed by f Q k (x ∷ xs) a = ap (put_in_order by (f x)) (order-changed by f Q k xs a.1) ∙ put-changed by f Q k x a.0 (in_order by xs) (all-in_order Q by xs a.1)
+
+less : (m n : ℕ) → m < n → nat_cmp m n ≡ Less
+less m n h = ap (λ b. cond b Less (cond (m == n) Equal Greater)) (lt-ltb m n h)
+
+greater : (m n : ℕ) → n < m → nat_cmp m n ≡ Greater
+greater m n h = nat_cmp_total.antisymm m n ∙ ap ordering_reverse (less n m h)
+
+-- numbers that rise with others are in their order
+rising : (f : ℕ → ℕ) → ((i j : ℕ) → i < j → f i < f j) → (i j : ℕ) → is_gt (nat_cmp (f i) (f j)) ≡ is_gt (nat_cmp i j)
+rising f up i j = go (cases_order i j)
+  where
+    go : (i ≡ j) ⊎ ((i < j) ⊎ (j < i)) → is_gt (nat_cmp (f i) (f j)) ≡ is_gt (nat_cmp i j)
+    go (inl e) = ap is_gt (ap (nat_cmp (f i)) (ap f (sym e)) ∙ tied_itself nat_cmp_total (f i) ∙ sym (ap (nat_cmp i) (sym e) ∙ tied_itself nat_cmp_total i))
+    go (inr (inl lt)) = ap is_gt (less (f i) (f j) (up i j lt) ∙ sym (less i j lt))
+    go (inr (inr gt)) = ap is_gt (greater (f i) (f j) (up j i gt) ∙ sym (greater i j gt))
+
+-- one type of records in order, under new RTSQs
+sequence_kept : {X : Type 0} (tlid rtsq : X → ℕ) (f : X → X) (new : ℕ → ℕ → ℕ) → ((x : X) → tlid (f x) ≡ tlid x) → ((x : X) → rtsq (f x) ≡ new (tlid x) (rtsq x)) → ((n i j : ℕ) → i < j → new n i < new n j) → (n : ℕ) (xs : List X) → in_order (on rtsq nat_cmp) (of_number tlid n (map f xs)) ≡ map f (in_order (on rtsq nat_cmp) (of_number tlid n xs))
+sequence_kept {X} tlid rtsq f new kt kr up n xs =
+    ap (in_order (on rtsq nat_cmp)) (number-kept tlid f kt n xs)
+    ∙ order-changed (on rtsq nat_cmp) f (λ x. tlid x ≡ n)
+    (λ x y p q. ap is_gt (ap₂ nat_cmp (kr x ∙ ap (λ m. new m (rtsq x)) p) (kr y ∙ ap (λ m. new m (rtsq y)) q)) ∙ rising (new n) (up n) (rtsq x) (rtsq y))
+    (of_number tlid n xs) (of_number-all tlid n xs)
+
+flat_map-kept : {X Y : Type 0} (c : X → List Y) (f : X → X) → ((x : X) → c (f x) ≡ c x) → (xs : List X) → flat_map c (map f xs) ≡ flat_map c xs
+flat_map-kept c f k [] = refl
+flat_map-kept c f k (x ∷ xs) = λ i. k x i ++ flat_map-kept c f k xs i
+
+module _ (q : Sequence) (up : KeepsSequence q) (xs : List Record) where
+  new_two : Fields2 → Fields2
+  new_two r = record r { rtsq = q Type2 r.tlid r.rtsq }
+
+  new_four : Fields4 → Fields4
+  new_four r = record r { rtsq = q Type4 r.tlid r.rtsq }
+
+  new_six : Fields6 → Fields6
+  new_six r = record r { rtsq = q Type6 r.tlid r.rtsq }
+
+  keeps_one : (r : Record) → as_one (resequenced q r) ≡ as_one r
+  keeps_one (One r) = refl
+  keeps_one _ = refl
+
+  keeps_five : (r : Record) → as_five (resequenced q r) ≡ as_five r
+  keeps_five (Five r) = refl
+  keeps_five _ = refl
+
+  keeps_seven : (r : Record) → as_seven (resequenced q r) ≡ as_seven r
+  keeps_seven (Seven r) = refl
+  keeps_seven _ = refl
+
+  keeps_eight : (r : Record) → as_eight (resequenced q r) ≡ as_eight r
+  keeps_eight (Eight r) = refl
+  keeps_eight _ = refl
+
+  keeps_i : (r : Record) → as_i (resequenced q r) ≡ as_i r
+  keeps_i (I r) = refl
+  keeps_i _ = refl
+
+  keeps_p : (r : Record) → as_p (resequenced q r) ≡ as_p r
+  keeps_p (P r) = refl
+  keeps_p _ = refl
+
+  news_two : (r : Record) → as_two (resequenced q r) ≡ option_map new_two (as_two r)
+  unfolding new_two
+  news_two (Two r) = refl
+  news_two _ = refl
+
+  news_four : (r : Record) → as_four (resequenced q r) ≡ option_map new_four (as_four r)
+  unfolding new_four
+  news_four (Four r) = refl
+  news_four _ = refl
+
+  news_six : (r : Record) → as_six (resequenced q r) ≡ option_map new_six (as_six r)
+  unfolding new_six
+  news_six (Six r) = refl
+  news_six _ = refl
+
+  pub resequenced-repacked : AreRepacked (map (resequenced q) xs) xs
+  unfolding new_two new_four new_six
+  resequenced-repacked = record {
+    points = λ n. ap (λ rs. flat_map (λ (r : Fields2). r.points) (in_order (on two_rtsq nat_cmp) (of_number two_tlid n rs))) (select-changed as_two (resequenced q) new_two news_two xs)
+        ∙ ap (flat_map (λ (r : Fields2). r.points)) (sequence_kept two_tlid two_rtsq new_two (q Type2) (λ r. refl) (λ r. refl) (up Type2) n (twos xs))
+        ∙ flat_map-kept (λ (r : Fields2). r.points) new_two (λ r. refl) (in_order (on two_rtsq nat_cmp) (of_number two_tlid n (twos xs)));
+    names = λ n. ap (λ rs. flat_map (λ (r : Fields4). r.feats) (in_order (on four_rtsq nat_cmp) (of_number four_tlid n rs))) (select-changed as_four (resequenced q) new_four news_four xs)
+        ∙ ap (flat_map (λ (r : Fields4). r.feats)) (sequence_kept four_tlid four_rtsq new_four (q Type4) (λ r. refl) (λ r. refl) (up Type4) n (fours xs))
+        ∙ flat_map-kept (λ (r : Fields4). r.feats) new_four (λ r. refl) (in_order (on four_rtsq nat_cmp) (of_number four_tlid n (fours xs)));
+    ranges = λ n. ap (λ rs. map (λ (r : Fields6). r.ranges) (in_order (on six_rtsq nat_cmp) (of_number six_tlid n rs))) (select-changed as_six (resequenced q) new_six news_six xs)
+        ∙ ap (map (λ (r : Fields6). r.ranges)) (sequence_kept six_tlid six_rtsq new_six (q Type6) (λ r. refl) (λ r. refl) (up Type6) n (sixes xs))
+        ∙ map-map (λ (r : Fields6). r.ranges) new_six (in_order (on six_rtsq nat_cmp) (of_number six_tlid n (sixes xs)));
+    ones = select-kept as_one (resequenced q) keeps_one xs;
+    fives = select-kept as_five (resequenced q) keeps_five xs;
+    sevens = select-kept as_seven (resequenced q) keeps_seven xs;
+    eights = select-kept as_eight (resequenced q) keeps_eight xs;
+    is = select-kept as_i (resequenced q) keeps_i xs;
+    ps = select-kept as_p (resequenced q) keeps_p xs;
+  }
+
+  pub resequenced-county : county_of (map (resequenced q) xs) ≡ county_of xs
+  resequenced-county = repacked-county (map (resequenced q) xs) xs resequenced-repacked

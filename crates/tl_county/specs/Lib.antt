@@ -1,0 +1,10 @@
+pub mod Orders
+pub mod PolygonKeys
+pub mod BodyOrder
+pub mod ByType
+pub mod County
+pub mod CountyRules
+pub mod Renumbering
+pub mod FirstOf
+pub mod LinkRules
+pub mod Repacked

@@ -1,0 +1,78 @@
+-- The ten rules by which records fit together. Each says where it is broken, by counts over the whole list.
+use Rattle.std.specs.Prelude.{ℕ, ◌≡◌, List, [], ◌∷◌, ◌++◌, map, flat_map, Bool, false, not, ◌&&◌, nat_lt}
+use Rattle.std.specs.Ordering.{nat_cmp}
+use Rattle.tl_layout.specs.declared.record_type.Record.{Record}
+use Rattle.tl_county.specs.declared.fault.LinkFault.{LinkFault}
+use Rattle.tl_county.specs.declared.fault.LinkFault.TheVariants.{ChainTwice, NoChain, SequenceBroken, LinkMissing, LinkTwice, NameTwice, NameUnknown, PolygonTwice, LandUnknown, PolygonUnknown, Memory}
+use Rattle.tl_county.specs.declared.fault.LinkedType.{LinkedType}
+use Rattle.tl_county.specs.declared.fault.LinkedType.TheVariants.{Two, Four, Six, I}
+use Rattle.tl_county.specs.ByType.{ones, twos, fours, fives, sixes, sevens, eights, is, ps, of_number}
+use Rattle.tl_county.specs.County.{one_tlid, two_tlid, two_rtsq, four_tlid, four_rtsq, five_feat, six_tlid, six_rtsq, seven_land, eight_land, eight_key, i_tlid, p_key, side_keys}
+use Rattle.tl_county.specs.FirstOf.{IsFirst}
+use Rattle.tl_county.specs.Orders.{times, stands_in, has_repeat}
+use Rattle.tl_county.specs.PolygonKeys.{key_cmp}
+
+-- the TLIDs of the type 1 records
+abbrev pub chain_tlids : List Record → List ℕ
+chain_tlids records = map one_tlid (ones records)
+
+-- the TLIDs of the records of a type that belong to chains
+abbrev pub linked_tlids : LinkedType → List Record → List ℕ
+linked_tlids Two records = map two_tlid (twos records)
+linked_tlids Four records = map four_tlid (fours records)
+linked_tlids Six records = map six_tlid (sixes records)
+linked_tlids I records = map i_tlid (is records)
+
+-- the RTSQs of a chain's records of a type
+abbrev pub rtsqs : LinkedType → ℕ → List Record → List ℕ
+rtsqs Two tlid records = map two_rtsq (of_number two_tlid tlid (twos records))
+rtsqs Four tlid records = map four_rtsq (of_number four_tlid tlid (fours records))
+rtsqs Six tlid records = map six_rtsq (of_number six_tlid tlid (sixes records))
+rtsqs I tlid records = []
+
+-- the FEATs that a chain's type 4 records name
+abbrev pub named_feats : ℕ → List Record → List ℕ
+named_feats tlid records = flat_map (λ r. r.feats) (of_number four_tlid tlid (fours records))
+
+-- whether a rule is broken at a place
+abbrev pub is_broken : List Record → LinkFault → Bool
+is_broken records (ChainTwice tlid) = nat_lt 1 (times nat_cmp tlid (chain_tlids records))
+is_broken records (NoChain rtype tlid) = stands_in nat_cmp tlid (linked_tlids rtype records) && not (stands_in nat_cmp tlid (chain_tlids records))
+is_broken records (SequenceBroken rtype tlid) = has_repeat nat_cmp (rtsqs rtype tlid records)
+is_broken records (LinkMissing tlid) = stands_in nat_cmp tlid (chain_tlids records) && not (stands_in nat_cmp tlid (map i_tlid (is records)))
+is_broken records (LinkTwice tlid) = nat_lt 1 (times nat_cmp tlid (map i_tlid (is records)))
+is_broken records (NameTwice feat) = nat_lt 1 (times nat_cmp feat (map five_feat (fives records)))
+is_broken records (NameUnknown tlid feat) = stands_in nat_cmp feat (named_feats tlid records) && not (stands_in nat_cmp feat (map five_feat (fives records)))
+is_broken records (PolygonTwice cenid polyid) = nat_lt 1 (times key_cmp (cenid, polyid) (map p_key (ps records)))
+is_broken records (LandUnknown land) = stands_in nat_cmp land (map eight_land (eights records)) && not (stands_in nat_cmp land (map seven_land (sevens records)))
+is_broken records (PolygonUnknown cenid polyid) = stands_in key_cmp (cenid, polyid) (map eight_key (eights records)) && not (stands_in key_cmp (cenid, polyid) (flat_map side_keys (is records) ++ map p_key (ps records)))
+is_broken records Memory = false
+
+-- record types in the order 2, 4, 6, I
+abbrev pub type_place : LinkedType → ℕ
+type_place Two = 2
+type_place Four = 4
+type_place Six = 6
+type_place I = 7
+
+-- the rule's number, and then the place: the type, the TLID, the FEAT; or the CENID's bytes, the POLYID
+abbrev pub fault_place : LinkFault → List (List ℕ)
+fault_place (ChainTwice tlid) = (11 ∷ []) ∷ (tlid ∷ []) ∷ []
+fault_place (NoChain rtype tlid) = (12 ∷ []) ∷ (type_place rtype ∷ []) ∷ (tlid ∷ []) ∷ []
+fault_place (SequenceBroken rtype tlid) = (13 ∷ []) ∷ (type_place rtype ∷ []) ∷ (tlid ∷ []) ∷ []
+fault_place (LinkMissing tlid) = (14 ∷ []) ∷ (tlid ∷ []) ∷ []
+fault_place (LinkTwice tlid) = (15 ∷ []) ∷ (tlid ∷ []) ∷ []
+fault_place (NameTwice feat) = (16 ∷ []) ∷ (feat ∷ []) ∷ []
+fault_place (NameUnknown tlid feat) = (17 ∷ []) ∷ (tlid ∷ []) ∷ (feat ∷ []) ∷ []
+fault_place (PolygonTwice cenid polyid) = (18 ∷ []) ∷ cenid ∷ (polyid ∷ []) ∷ []
+fault_place (LandUnknown land) = (19 ∷ []) ∷ (land ∷ []) ∷ []
+fault_place (PolygonUnknown cenid polyid) = (20 ∷ []) ∷ cenid ∷ (polyid ∷ []) ∷ []
+fault_place Memory = (9 ∷ []) ∷ []
+
+-- no rule is broken anywhere
+abbrev pub IsLinked : List Record → Type 0
+IsLinked records = (fault : LinkFault) → is_broken records fault ≡ false
+
+-- this rule is broken at this place, no rule of a lesser number is broken, and this one at no lesser place
+abbrev pub IsFirstBrokenRule : List Record → LinkFault → Type 0
+IsFirstBrokenRule records = IsFirst (is_broken records) fault_place

@@ -1,0 +1,163 @@
+-- A renaming of a county's numbers, and that it carries one county onto another.
+use Rattle.std.specs.Prelude.{ℕ, ◌≡◌, List, [], ◌∷◌, map, filter, Bool, cond, not, false, Option, Some, None, option_map, IsTrue, IsPermutation}
+use Rattle.std.specs.List.{AllByRecursion}
+use Rattle.std.specs.declared.cmp.Ordering.{Ordering}
+use Rattle.std.specs.Ordering.{is_eq, nat_cmp}
+use Rattle.tl_layout.specs.Fields.{Fields8}
+use Rattle.tl_layout.specs.PolygonSide.{PolygonSide}
+use Rattle.tl_layout.specs.declared.type5.Body5.{Body5}
+use Rattle.tl_layout.specs.declared.type7.Body7.{Body7}
+use Rattle.tl_layout.specs.declared.type_p.BodyP.{BodyP}
+use Rattle.tl_shape.specs.Chain.{Chain}
+use Rattle.tl_county.specs.County.{County}
+use Rattle.tl_county.specs.CountyRules.{tlids, feats, polygon_keys, lands, nodes, link_key}
+use Rattle.tl_county.specs.Orders.{stands_in, has_repeat}
+use Rattle.tl_county.specs.PolygonKeys.{PolygonKey, key_cmp}
+use Rattle.tl_shape.specs.Turned.{turned_if}
+
+-- Each old number with its new one, kind by kind, and the old TLIDs of the chains that are turned.
+pub record Renumbering : Type 0 where
+  pub chains : List (ℕ × ℕ)
+  pub names : List (ℕ × ℕ)
+  pub polygons : List (PolygonKey × PolygonKey)
+  pub lands : List (ℕ × ℕ)
+  pub nodes : List (ℕ × ℕ)
+  pub turned : List ℕ
+
+-- the new number of an old one, and itself if no pair names it
+abbrev pub image : {K : Type 0} → (K → K → Ordering) → List (K × K) → K → K
+image cmp [] x = x
+image cmp (pair ∷ pairs) x = cond (is_eq (cmp x pair.0)) pair.1 (image cmp pairs x)
+
+-- whether the renaming turns the chain of this old TLID
+abbrev pub turns : Renumbering → ℕ → Bool
+turns r tlid = stands_in nat_cmp tlid r.turned
+
+-- a side with a polygon
+abbrev pub side_of : PolygonKey → PolygonSide
+side_of key = record { cenid = key.0; polyid = Some key.1 }
+
+-- the side under its new number; a side without a polygon stays as it is
+abbrev pub renumbered_polygon : Renumbering → List ℕ → Option ℕ → PolygonSide
+renumbered_polygon r cenid None = record { cenid = cenid; polyid = None }
+renumbered_polygon r cenid (Some polyid) = side_of (image key_cmp r.polygons (cenid, polyid))
+
+abbrev pub renumbered_side : Renumbering → PolygonSide → PolygonSide
+renumbered_side r side = renumbered_polygon r side.cenid side.polyid
+
+-- the chain with its names, nodes and polygons under their new numbers
+abbrev pub renumbered : Renumbering → Chain → Chain
+renumbered r c = record {
+  body = c.body;
+  points = c.points;
+  feats = map (image nat_cmp r.names) c.feats;
+  ranges = c.ranges;
+  link_body = c.link_body;
+  start_node = option_map (image nat_cmp r.nodes) c.start_node;
+  end_node = option_map (image nat_cmp r.nodes) c.end_node;
+  left = renumbered_side r c.left;
+  right = renumbered_side r c.right;
+}
+
+-- each part of a county under its new number
+abbrev pub carried_chain : Renumbering → ℕ × Chain → ℕ × Chain
+carried_chain r entry = (image nat_cmp r.chains entry.0, renumbered r (turned_if (turns r entry.0) entry.1))
+
+abbrev pub carried_name : Renumbering → ℕ × Body5 → ℕ × Body5
+carried_name r entry = (image nat_cmp r.names entry.0, entry.1)
+
+abbrev pub carried_polygon : Renumbering → PolygonKey × Option BodyP → PolygonKey × Option BodyP
+carried_polygon r entry = (image key_cmp r.polygons entry.0, entry.1)
+
+abbrev pub carried_landmark : Renumbering → ℕ × List Body7 → ℕ × List Body7
+carried_landmark r entry = (image nat_cmp r.lands entry.0, entry.1)
+
+abbrev pub carried_link : Renumbering → Fields8 → Fields8
+carried_link r link = record {
+  file = link.file;
+  cenid = (image key_cmp r.polygons (link_key link)).0;
+  polyid = (image key_cmp r.polygons (link_key link)).1;
+  land = image nat_cmp r.lands link.land;
+}
+
+-- the pairs name each old number once on the left and each new number once on the right, and no other
+pub record ArePaired {K : Type 0} (pairs : List (K × K)) (olds news : List K) : Type 0 where
+  pub left : IsPermutation (map (λ pair. pair.0) pairs) olds
+  pub right : IsPermutation (map (λ pair. pair.1) pairs) news
+
+-- each number of the one county has its number in the other; a polygon keeps its CENID; each turned TLID is told once
+pub record NumbersArePaired (r : Renumbering) (a b : County) : Type 0 where
+  pub chains : ArePaired r.chains (tlids a) (tlids b)
+  pub names : ArePaired r.names (feats a) (feats b)
+  pub polygons : ArePaired r.polygons (polygon_keys a) (polygon_keys b)
+  pub lands : ArePaired r.lands (lands a) (lands b)
+  pub nodes : ArePaired r.nodes (nodes a) (nodes b)
+  pub cenids : AllByRecursion (λ pair. pair.0.0 ≡ pair.1.0) r.polygons
+  pub turned_known : AllByRecursion (λ tlid. IsTrue (stands_in nat_cmp tlid (tlids a))) r.turned
+  pub turned_once : has_repeat nat_cmp r.turned ≡ false
+
+-- under its new numbers each part of a is a part of b, and b has no other
+pub record Carries (r : Renumbering) (a b : County) : Type 0 where
+  pub numbers : NumbersArePaired r a b
+  pub chains : IsPermutation (map (carried_chain r) a.chains) b.chains
+  pub names : IsPermutation (map (carried_name r) a.names) b.names
+  pub polygons : IsPermutation (map (carried_polygon r) a.polygons) b.polygons
+  pub landmarks : IsPermutation (map (carried_landmark r) a.landmarks) b.landmarks
+  pub links : IsPermutation (map (carried_link r) a.links) b.links
+
+-- two counties are the same if some renaming carries one onto the other
+pub record AreSame (a b : County) : Type 0 where
+  pub by : Renumbering
+  pub carries : Carries by a b
+
+-- each number is its own new number, and no chain is turned
+abbrev pub to_itself : {K : Type 0} → List K → List (K × K)
+to_itself = map (λ n. (n, n))
+
+abbrev pub identity : County → Renumbering
+identity a = record {
+  chains = to_itself (tlids a);
+  names = to_itself (feats a);
+  polygons = to_itself (polygon_keys a);
+  lands = to_itself (lands a);
+  nodes = to_itself (nodes a);
+  turned = [];
+}
+
+-- each pair the other way round
+abbrev pub swapped : {K : Type 0} → List (K × K) → List (K × K)
+swapped = map (λ pair. (pair.1, pair.0))
+
+-- whether a pair names the number on its left
+abbrev pub is_named : {K : Type 0} → (K → K → Ordering) → List (K × K) → K → Bool
+is_named cmp pairs x = stands_in cmp x (map (λ pair. pair.0) pairs)
+
+-- back from the new numbers to the old ones; it turns the images of the chains that were turned, and of no TLID that has none
+abbrev pub inverse : Renumbering → Renumbering
+inverse r = record {
+  chains = swapped r.chains;
+  names = swapped r.names;
+  polygons = swapped r.polygons;
+  lands = swapped r.lands;
+  nodes = swapped r.nodes;
+  turned = map (image nat_cmp r.chains) (filter (is_named nat_cmp r.chains) r.turned);
+}
+
+-- first by some pairs and then by others; a number whose image the others don't name is left out
+abbrev pub joined : {K : Type 0} → (K → K → Ordering) → List (K × K) → List (K × K) → List (K × K)
+joined cmp firsts nexts = map (λ pair. (pair.0, image cmp nexts pair.1)) (filter (λ pair. is_named cmp nexts pair.1) firsts)
+
+-- one of two, and not both
+abbrev pub exactly_one : Bool → Bool → Bool
+exactly_one a b = cond a (not b) b
+
+-- first one renaming and then the next; it turns the chains that exactly one of the two turns
+abbrev pub then : Renumbering → Renumbering → Renumbering
+then r next = record {
+  chains = joined nat_cmp r.chains next.chains;
+  names = joined nat_cmp r.names next.names;
+  polygons = joined key_cmp r.polygons next.polygons;
+  lands = joined nat_cmp r.lands next.lands;
+  nodes = joined nat_cmp r.nodes next.nodes;
+  turned = filter (λ tlid. exactly_one (turns r tlid) (turns next (image nat_cmp r.chains tlid))) (map (λ pair. pair.0) (joined nat_cmp r.chains next.chains));
+}

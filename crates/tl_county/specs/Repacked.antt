@@ -1,0 +1,41 @@
+-- Lists of records that differ only in what isn't part of the map: the packing of types 2 and 4, and the RTSQs.
+use Rattle.std.specs.Prelude.{ℕ, ◌≡◌, ◌<◌, List}
+use Rattle.tl_layout.specs.declared.record_type.Record.{Record}
+use Rattle.tl_layout.specs.declared.record_type.Record.TheVariants.{One, Two, Four, Five, Six, Seven, Eight, I, P}
+use Rattle.tl_county.specs.declared.fault.LinkedType.{LinkedType}
+use Rattle.tl_county.specs.declared.fault.LinkedType.TheVariants.{Two as Type2, Four as Type4, Six as Type6}
+use Rattle.tl_county.specs.ByType.{ones, fives, sevens, eights, is, ps}
+use Rattle.tl_county.specs.County.{shape_points, further_names, further_ranges}
+
+-- Each chain has the same shape points, names and ranges, joined in the order of its RTSQs, however they are packed into
+-- records; the other records are the same.
+pub record AreRepacked (xs ys : List Record) : Type 0 where
+  pub points : (tlid : ℕ) → shape_points xs tlid ≡ shape_points ys tlid
+  pub names : (tlid : ℕ) → further_names xs tlid ≡ further_names ys tlid
+  pub ranges : (tlid : ℕ) → further_ranges xs tlid ≡ further_ranges ys tlid
+  pub ones : ones xs ≡ ones ys
+  pub fives : fives xs ≡ fives ys
+  pub sevens : sevens xs ≡ sevens ys
+  pub eights : eights xs ≡ eights ys
+  pub is : is xs ≡ is ys
+  pub ps : ps xs ≡ ps ys
+
+-- a new RTSQ for each old one of a chain in a record type
+abbrev pub Sequence : Type 0
+Sequence = LinkedType → ℕ → ℕ → ℕ
+
+-- the record with its new RTSQ
+abbrev pub resequenced : Sequence → Record → Record
+resequenced sequence (Two r) = Two (record r { rtsq = sequence Type2 r.tlid r.rtsq })
+resequenced sequence (Four r) = Four (record r { rtsq = sequence Type4 r.tlid r.rtsq })
+resequenced sequence (Six r) = Six (record r { rtsq = sequence Type6 r.tlid r.rtsq })
+resequenced sequence (One r) = One r
+resequenced sequence (Five r) = Five r
+resequenced sequence (Seven r) = Seven r
+resequenced sequence (Eight r) = Eight r
+resequenced sequence (I r) = I r
+resequenced sequence (P r) = P r
+
+-- the new RTSQs of a chain stand in the order of the old ones
+abbrev pub KeepsSequence : Sequence → Type 0
+KeepsSequence sequence = (rtype : LinkedType) (tlid old later : ℕ) → old < later → sequence rtype tlid old < sequence rtype tlid later

@@ -1,0 +1,69 @@
+//! Laws of the definitions in `specs/`. The functions do nothing; their contracts are the laws.
+
+ghost use Rattle.std.specs.Prelude.{◌≡◌, ◌⊎◌, IsPermutation, List, map, reverse};
+ghost use Rattle.tl_shape.specs.Chain.{Chain};
+ghost use Rattle.tl_county.specs.County.{County, county_of};
+ghost use Rattle.tl_county.specs.LinkRules.{IsFirstBrokenRule, IsLinked};
+ghost use Rattle.tl_county.specs.Repacked.{AreRepacked, KeepsSequence, Sequence, resequenced};
+ghost use Rattle.tl_layout.specs.Turned.{turned_ranges};
+ghost use Rattle.tl_shape.specs.Turned.{turned};
+ghost use Rattle.tl_county.specs.declared.fault.LinkFault.{LinkFault};
+ghost use Rattle.tl_layout.specs.declared.ranges.Ranges.{Ranges};
+ghost use Rattle.tl_layout.specs.declared.record_type.Record.{Record};
+ghost use Rattle.tl_county.specs.CountyRules.{IsCounty};
+ghost use Rattle.tl_county.specs.Renumbering.{AreSame, Carries, Renumbering, identity, inverse, then};
+
+/// Being the same is an equivalence of counties.
+pub fn sameness_is_an_equivalence()
+    ensures reflexive { (a : County) → AreSame a a }
+    ensures symmetric { (a b : County) → IsCounty a → IsCounty b → AreSame a b → AreSame b a }
+    ensures transitive { (a b c : County) → IsCounty a → IsCounty b → AreSame a b → AreSame b c → AreSame a c }
+{}
+
+/// The identity carries a county onto itself, the inverse of a renaming carries back, and two renamings in a row carry
+/// on.
+pub fn renamings_compose()
+    ensures identity { (a : County) → Carries (identity a) a a }
+    ensures inverse { (r : Renumbering) (a b : County) → IsCounty a → IsCounty b → Carries r a b → Carries (inverse r) b a }
+    ensures then { (r next : Renumbering) (a b c : County) →
+        IsCounty a → IsCounty b → Carries r a b → Carries next b c → Carries (then r next) a c }
+{}
+
+/// A list of records is linked or has a first broken rule, never both, and never two.
+pub fn linked_or_one_first_broken_rule()
+    ensures either { (records : List Record) →
+        IsLinked records ⊎ ((fault : LinkFault) × IsFirstBrokenRule records fault) }
+    ensures not_both { (records : List Record) (fault : LinkFault) →
+        IsLinked records → IsFirstBrokenRule records fault → ⊥ }
+    ensures only_one { (records : List Record) (fault other : LinkFault) →
+        IsFirstBrokenRule records fault → IsFirstBrokenRule records other → fault ≡ other }
+{}
+
+/// In the county of a linked list of records the numbers ascend, and each number that a part names is there.
+pub fn linked_records_have_a_well_formed_county()
+    ensures { (records : List Record) → IsLinked records → IsCounty (county_of records) }
+{}
+
+/// The county doesn't depend on the order of the records, on the packing of types 2 and 4, nor on which RTSQs keep the
+/// order of a chain's records.
+pub fn the_county_is_what_the_records_say()
+    ensures reordered { (records others : List Record) →
+        IsPermutation records others → IsLinked records → IsLinked others × (county_of others ≡ county_of records) }
+    ensures repacked { (records others : List Record) →
+        AreRepacked records others → county_of records ≡ county_of others }
+    ensures resequenced { (sequence : Sequence) (records : List Record) →
+        KeepsSequence sequence → county_of (map (resequenced sequence) records) ≡ county_of records }
+{}
+
+/// A turn exchanges what is seen from the start with what is seen from the end, and left with right; the rest stays, and
+/// turning twice changes nothing.
+pub fn a_turn_exchanges_ends_and_sides()
+    ensures ends { (c : Chain) → ((turned c).points ≡ reverse c.points)
+        × ((turned c).start_node ≡ c.end_node) × ((turned c).end_node ≡ c.start_node) }
+    ensures sides { (c : Chain) → ((turned c).left ≡ c.right) × ((turned c).right ≡ c.left) }
+    ensures addresses { (r : Ranges) → ((turned_ranges r).fraddl ≡ r.toaddr) × ((turned_ranges r).toaddl ≡ r.fraddr)
+        × ((turned_ranges r).fraddr ≡ r.toaddl) × ((turned_ranges r).toaddr ≡ r.fraddl) }
+    ensures kept { (c : Chain) → ((turned c).feats ≡ c.feats) × ((turned c).link_body ≡ c.link_body)
+        × ((turned c).body.name ≡ c.body.name) × ((turned c).body.cfcc ≡ c.body.cfcc) }
+    ensures twice { (c : Chain) → turned (turned c) ≡ c }
+{}

@@ -1,0 +1,13 @@
+pub mod Growth
+pub mod Counting
+pub mod SameNumbers
+pub mod UsesOrder
+pub mod SameNames
+pub mod SameLandmarks
+pub mod Rigid
+pub mod Grouping
+pub mod Repacked
+pub mod RepackedPolygons
+pub mod Uniqueness
+pub mod Rows
+pub mod Accepted

@@ -1,0 +1,183 @@
+-- The type P records of a canonical list are the packing of its county's polygons; so the list is the packing of its county.
+use Rattle.std.proofs.Common.{◌≡◌, ◌⊎◌, ◌≤◌, ℕ, suc, List, [], ◌∷◌, ◌++◌, map, flat_map, filter, filter_map, Bool, true, false, cond, Option, Some, None, IsTrue, Ordering, Less, Equal, Greater, is_gt, is_eq, sym, refl, ap, ◌∙◌, subst, inl, inr, arith, nat_cmp}
+use Rattle.std.proofs.lemmas.Bool.{true≢false, ltb-true, ltb-false}
+use Rattle.std.proofs.lemmas.Cmp.{nat_cmp_total, on_total}
+use Rattle.std.specs.List.{AllByRecursion, cons_option}
+use Rattle.std.specs.List.Sorted.{IsStrictlySortedBy}
+use Rattle.std.specs.Ordering.{on}
+use Rattle.tl_layout.specs.Fields.{FieldsP}
+use Rattle.tl_layout.specs.declared.record_type.Record.{Record}
+use Rattle.tl_layout.specs.declared.type_p.BodyP.{BodyP}
+use Rattle.tl_county.specs.ByType.{ps, is, eights}
+use Rattle.tl_county.specs.BodyOrder.{link_cmp}
+use Rattle.tl_county.specs.County.{p_key, side_keys, first, polygon_body, polygons_of, county_of}
+use Rattle.tl_county.specs.CountyRules.{polygon_keys, polygons_along}
+use Rattle.tl_county.specs.LinkRules.{IsLinked}
+use Rattle.tl_county.specs.declared.fault.LinkFault.TheVariants.{PolygonTwice}
+use Rattle.tl_county.specs.Orders.{times, stands_in, IsInOrder, in_order, distinct}
+use Rattle.tl_county.specs.PolygonKeys.{PolygonKey, key_cmp}
+use Rattle.tl_county.proofs.Distinct.{known-distinct, apart-distinct}
+use Rattle.tl_county.proofs.FirstFault.{Among, all_among}
+use Rattle.tl_county.proofs.InOrder.{in_order-itself, in_order-in_order, strict-equal}
+use Rattle.tl_county.proofs.KeyOrders.{key_keys}
+use Rattle.tl_county.proofs.Keys.{IsKeyOrder, Known, IsApart, nat_keys, times-yes, times-no, times-cons, same_or_not, same-true, same-itself, apart_tail, known_all, known-right}
+use Rattle.tl_county.proofs.LinkedCounty.{keys-county}
+use Rattle.tl_county.proofs.Members.{among-map, among-unmap, among_known, known_is_among, in_filter_map, to_filter_map}
+use Rattle.tl_county.proofs.Numbers.{times-in_order, from_in_order, to_in_order}
+use Rattle.tl_number.specs.Canonical.{IsTidyList, StandsInOrder, IsPacked, by_type}
+use Rattle.tl_number.specs.Packing.{type_after_type, packed_body, packed_p, p_polyid, packed, packed_by_type}
+use Rattle.tl_number.specs.Tidy.{IsTidy}
+use Rattle.tl_number.proofs.Repacked.{ones_back, twos_back, fours_back, fives_back, sixes_back, sevens_back, is_back}
+
+-- in order by a number, where equal numbers mean equal keys and no key stands twice
+strict_from_keys : {X K : Type 0} {cmp : K → K → Ordering} (o : IsKeyOrder cmp) (f : X → ℕ) (key : X → K) (xs : List X) → IsInOrder (on f nat_cmp) xs → IsApart cmp (map key xs) → ((x y : X) → Among x xs → Among y xs → f x ≡ f y → key x ≡ key y) → IsStrictlySortedBy (on f nat_cmp) xs
+unfolding IsStrictlySortedBy
+strict_from_keys o f key [] h a one = tt
+strict_from_keys {X} {K} {cmp} o f key (x ∷ xs) h a one = (each xs h.0 (λ y m. m), strict_from_keys o f key xs h.1 (apart_tail o (key x) (map key xs) a) (λ y z m n. one y z (inr m) (inr n)))
+  where
+    lower : (c : Ordering) → is_gt c ≡ false → (c ≡ Equal → ⊥) → c ≡ Less
+    lower Less g n = refl
+    lower Equal g n = absurd (n refl)
+    lower Greater g n = absurd (true≢false g)
+
+    differ : (y : X) → Among y xs → nat_cmp (f x) (f y) ≡ Equal → ⊥
+    differ y m e =
+        let same : key x ≡ key y = one x y (inl refl) (inr m) (nat_keys.exact (f x) (f y) e) in
+        let l : Known cmp (map key xs) (key y) = among_known o (key y) (map key xs) (among-map key y xs m) in
+        let t : times cmp (key y) (key x ∷ map key xs) ≡ suc (times cmp (key y) (map key xs)) = times-yes o (key y) (key x) (map key xs) (sym same) in
+        let u : times cmp (key y) (map key (x ∷ xs)) ≤ 1 = a (key y) in
+        omega arith
+
+    each : (ys : List X) → AllByRecursion (λ y. is_gt (nat_cmp (f x) (f y)) ≡ false) ys → ((y : X) → Among y ys → Among y xs) → AllByRecursion (λ y. nat_cmp (f x) (f y) ≡ Less) ys
+    each [] g i = tt
+    each (y ∷ ys) g i = (lower (nat_cmp (f x) (f y)) g.0 (differ y (i y (inl refl))), each ys g.1 (λ z m. i z (inr m)))
+
+-- the content found for a key is that of a record of the key
+first_body : (key : PolygonKey) (b : BodyP) (rs : List FieldsP) → first (map (λ (r : FieldsP). r.body) (filter (λ r. is_eq (key_cmp key (p_key r))) rs)) ≡ Some b → (r : FieldsP) × Among r rs × (key ≡ p_key r) × (r.body ≡ b)
+first_body key b [] e = cc
+first_body key b (r ∷ rs) e = go (is_eq (key_cmp key (p_key r))) refl e (first_body key b rs)
+  where
+    go : (t : Bool) → is_eq (key_cmp key (p_key r)) ≡ t → first (map (λ (q : FieldsP). q.body) (cond t (r ∷ filter (λ q. is_eq (key_cmp key (p_key q))) rs) (filter (λ q. is_eq (key_cmp key (p_key q))) rs))) ≡ Some b → (first (map (λ (q : FieldsP). q.body) (filter (λ q. is_eq (key_cmp key (p_key q))) rs)) ≡ Some b → (q : FieldsP) × Among q rs × (key ≡ p_key q) × (q.body ≡ b)) → (q : FieldsP) × Among q (r ∷ rs) × (key ≡ p_key q) × (q.body ≡ b)
+    go true t e ih = (r, inl refl, same-true key_keys key (p_key r) t, (let s : r.body ≡ b = cc in s))
+    go false t e ih = let q : (q : FieldsP) × Among q rs × (key ≡ p_key q) × (q.body ≡ b) = ih e in (q.0, inr q.1, q.2, q.3)
+
+body_found : (r : FieldsP) (rs : List FieldsP) → IsApart key_cmp (map p_key rs) → Among r rs → first (map (λ (q : FieldsP). q.body) (filter (λ q. is_eq (key_cmp (p_key r) (p_key q))) rs)) ≡ Some r.body
+body_found r [] a m = absurd m
+body_found r (q ∷ rs) a (inl e) =
+    let yes : is_eq (key_cmp (p_key r) (p_key q)) ≡ true = subst (λ s. is_eq (key_cmp (p_key r) (p_key s)) ≡ true) e (same-itself key_keys (p_key r)) in
+    ap (λ b. first (map (λ (s : FieldsP). s.body) (cond b (q ∷ filter (λ s. is_eq (key_cmp (p_key r) (p_key s))) rs) (filter (λ s. is_eq (key_cmp (p_key r) (p_key s))) rs)))) yes ∙ ap (λ (s : FieldsP). Some s.body) (sym e)
+body_found r (q ∷ rs) a (inr m) = go (same_or_not key_keys (p_key r) (p_key q)) (body_found r rs (apart_tail key_keys (p_key q) (map p_key rs) a) m)
+  where
+    go : (p_key r ≡ p_key q) ⊎ (is_eq (key_cmp (p_key r) (p_key q)) ≡ false) → first (map (λ (s : FieldsP). s.body) (filter (λ s. is_eq (key_cmp (p_key r) (p_key s))) rs)) ≡ Some r.body → first (map (λ (s : FieldsP). s.body) (filter (λ s. is_eq (key_cmp (p_key r) (p_key s))) (q ∷ rs))) ≡ Some r.body
+    go (inl e) ih = absurd (
+        let l : Known key_cmp (map p_key rs) (p_key r) = among_known key_keys (p_key r) (map p_key rs) (among-map p_key r rs m) in
+        let t : times key_cmp (p_key r) (p_key q ∷ map p_key rs) ≡ suc (times key_cmp (p_key r) (map p_key rs)) = times-yes key_keys (p_key r) (p_key q) (map p_key rs) e in
+        let u : times key_cmp (p_key r) (map p_key (q ∷ rs)) ≤ 1 = a (p_key r) in
+        omega arith)
+    go (inr ne) ih = ap (λ b. first (map (λ (s : FieldsP). s.body) (cond b (q ∷ filter (λ s. is_eq (key_cmp (p_key r) (p_key s))) rs) (filter (λ s. is_eq (key_cmp (p_key r) (p_key s))) rs)))) ne ∙ ih
+
+-- the packed record of a polygon has its key
+packed_key : (key : PolygonKey) (o : Option BodyP) (z : FieldsP) → packed_body key o ≡ Some z → (b : BodyP) × (o ≡ Some b) × (z ≡ record { cenid = key.0; polyid = key.1; body = b })
+packed_key key None z e = cc
+packed_key key (Some b) z e = (b, refl, (let s : record { cenid = key.0; polyid = key.1; body = b } ≡ z = some-same (record { cenid = key.0; polyid = key.1; body = b }) z e in sym s))
+  where
+    some-same : (x y : FieldsP) → Some x ≡ Some y → x ≡ y
+    some-same x y e = cc
+
+few_keys : (g : PolygonKey → Option BodyP) (k : PolygonKey) (ds : List PolygonKey) → times key_cmp k (map p_key (filter_map packed_p (map (λ key. (key, g key)) ds))) ≤ times key_cmp k ds
+few_keys g k [] = omega arith
+few_keys g k (d ∷ ds) = go (g d) (few_keys g k ds) (same_or_not key_keys k d)
+  where
+    rest : List FieldsP
+    rest = filter_map packed_p (map (λ key. (key, g key)) ds)
+
+    go : (o : Option BodyP) → times key_cmp k (map p_key (filter_map packed_p (map (λ key. (key, g key)) ds))) ≤ times key_cmp k ds → (k ≡ d) ⊎ (is_eq (key_cmp k d) ≡ false) → times key_cmp k (map p_key (cons_option (packed_body d o) (filter_map packed_p (map (λ key. (key, g key)) ds)))) ≤ times key_cmp k (d ∷ ds)
+    go None ih c = let t : times key_cmp k ds ≤ times key_cmp k (d ∷ ds) = times-cons key_keys k d ds in omega arith
+    go (Some b) ih (inl e) =
+        let t : times key_cmp k (d ∷ ds) ≡ suc (times key_cmp k ds) = times-yes key_keys k d ds e in
+        let u : times key_cmp k (d ∷ map p_key (filter_map packed_p (map (λ key. (key, g key)) ds))) ≡ suc (times key_cmp k (map p_key (filter_map packed_p (map (λ key. (key, g key)) ds)))) = times-yes key_keys k d (map p_key (filter_map packed_p (map (λ key. (key, g key)) ds))) e in
+        omega arith
+    go (Some b) ih (inr ne) =
+        let t : times key_cmp k (d ∷ ds) ≡ times key_cmp k ds = times-no key_keys k d ds ne in
+        let u : times key_cmp k (d ∷ map p_key (filter_map packed_p (map (λ key. (key, g key)) ds))) ≡ times key_cmp k (map p_key (filter_map packed_p (map (λ key. (key, g key)) ds))) = times-no key_keys k d (map p_key (filter_map packed_p (map (λ key. (key, g key)) ds))) ne in
+        omega arith
+
+module _ (records : List Record) (linked : IsLinked records) (order : StandsInOrder records) (tidy : IsTidy (county_of records)) where
+  abbrev all_keys : List PolygonKey
+  all_keys = flat_map side_keys (is records) ++ map p_key (ps records)
+
+  abbrev packed_ps : List FieldsP
+  packed_ps = filter_map packed_p (polygons_of records)
+
+  ps_apart : IsApart key_cmp (map p_key (ps records))
+  ps_apart k = ltb-false 1 (times key_cmp k (map p_key (ps records))) (linked (PolygonTwice k.0 k.1))
+
+  -- a listed polygon has the content that is found for its key
+  listed_body : (key : PolygonKey) (e : PolygonKey × Option BodyP) → e ≡ (key, polygon_body records key) → polygon_body records e.0 ≡ e.1
+  listed_body key e h = ap (λ (x : PolygonKey × Option BodyP). polygon_body records x.0) h ∙ sym (ap (λ (x : PolygonKey × Option BodyP). x.1) h)
+
+  from_packed : (z : FieldsP) → Among z packed_ps → Among z (ps records)
+  from_packed z m =
+      let e = in_filter_map packed_p z (polygons_of records) m in
+      let d = among-unmap (λ key. (key, polygon_body records key)) e.0 (distinct key_cmp all_keys) e.1 in
+      let p = packed_key e.0.0 e.0.1 z e.2 in
+      let found : polygon_body records e.0.0 ≡ Some p.0 = listed_body d.0 e.0 d.2 ∙ p.1 in
+      let r = first_body e.0.0 p.0 (ps records) found in
+      let same : z ≡ r.0 = p.2 ∙ (λ i. record { cenid = (r.2 i).0; polyid = (r.2 i).1; body = sym r.3 i }) in
+      subst (λ y. Among y (ps records)) (sym same) r.1
+
+  to_packed : (r : FieldsP) → Among r (ps records) → Among r packed_ps
+  to_packed r m =
+      let known : Known key_cmp all_keys (p_key r) = known-right key_keys (p_key r) (flat_map side_keys (is records)) (map p_key (ps records)) (among_known key_keys (p_key r) (map p_key (ps records)) (among-map p_key r (ps records) m)) in
+      let there : Among (p_key r) (distinct key_cmp all_keys) = known_is_among key_keys (p_key r) (distinct key_cmp all_keys) (known-distinct key_keys all_keys (p_key r) known) in
+      to_filter_map packed_p (p_key r, polygon_body records (p_key r)) r (polygons_of records)
+      (among-map (λ key. (key, polygon_body records key)) (p_key r) (distinct key_cmp all_keys) there)
+      (ap (packed_body (p_key r)) (body_found r (ps records) ps_apart m))
+
+  -- a POLYID of type P stands under one CENID
+  one_cenid : (x y : FieldsP) → Among x (ps records) → Among y (ps records) → x.polyid ≡ y.polyid → p_key x ≡ p_key y
+  one_cenid x y m n e =
+      let side : (z : FieldsP) → Among z (ps records) → Among (p_key z) (polygons_along (county_of records).chains) =
+      λ z l. let known : Known key_cmp all_keys (p_key z) = known-right key_keys (p_key z) (flat_map side_keys (is records)) (map p_key (ps records)) (among_known key_keys (p_key z) (map p_key (ps records)) (among-map p_key z (ps records) l)) in
+      let listed : Known key_cmp (polygon_keys (county_of records)) (p_key z) = subst (λ ks. Known key_cmp ks (p_key z)) (sym (keys-county records linked)) (known-distinct key_keys all_keys (p_key z) known) in
+      known_is_among key_keys (p_key z) (polygons_along (county_of records).chains) (ltb-true 0 (times key_cmp (p_key z) (polygons_along (county_of records).chains)) (known_all key_keys (λ k. IsTrue (stands_in key_cmp k (polygons_along (county_of records).chains))) (polygon_keys (county_of records)) tidy.on_sides (p_key z) listed)) in
+      all_among (λ other. (p_key x).1 ≡ other.1 → p_key x ≡ other) (p_key y) (polygons_along (county_of records).chains)
+      (all_among (λ key. AllByRecursion (λ other. key.1 ≡ other.1 → key ≡ other) (polygons_along (county_of records).chains)) (p_key x) (polygons_along (county_of records).chains) tidy.one_cenid (side x m))
+      (side y n) e
+
+  packed_apart : IsApart key_cmp (map p_key (in_order (on p_polyid nat_cmp) packed_ps))
+  packed_apart k =
+      let s : times key_cmp k (map p_key (in_order (on p_polyid nat_cmp) packed_ps)) ≡ times key_cmp k (map p_key packed_ps) = times-in_order key_cmp p_key (on p_polyid nat_cmp) packed_ps k in
+      let t : times key_cmp k (map p_key packed_ps) ≤ times key_cmp k (distinct key_cmp all_keys) = few_keys (polygon_body records) k (distinct key_cmp all_keys) in
+      let u : times key_cmp k (distinct key_cmp all_keys) ≤ 1 = apart-distinct key_keys all_keys k in
+      omega arith
+
+  pub ps_back : in_order (on p_polyid nat_cmp) packed_ps ≡ ps records
+  ps_back =
+      let sorted : List FieldsP = in_order (on p_polyid nat_cmp) packed_ps in
+      let inside : (z : FieldsP) → Among z (in_order (on p_polyid nat_cmp) packed_ps) → Among z (ps records) = λ z m. from_packed z (from_in_order (on p_polyid nat_cmp) packed_ps z m) in
+      strict-equal nat_cmp_total p_polyid (in_order (on p_polyid nat_cmp) packed_ps) (ps records)
+      (strict_from_keys key_keys p_polyid p_key (in_order (on p_polyid nat_cmp) packed_ps) (in_order-in_order (on_total p_polyid nat_cmp_total) packed_ps) packed_apart (λ x y m n. one_cenid x y (inside x m) (inside y n)))
+      (strict_from_keys key_keys p_polyid p_key (ps records) order.ps ps_apart one_cenid)
+      inside
+      (λ z m. to_in_order (on p_polyid nat_cmp) packed_ps z (to_packed z m))
+
+-- A canonical list is the packing of its county, whatever its choice of TLIDs and directions.
+pub tidy_is_packed : (records : List Record) → IsLinked records → StandsInOrder records → IsPacked records → IsTidy (county_of records) → records ≡ packed (county_of records)
+tidy_is_packed records linked order full tidy = order.types ∙ ap type_after_type same
+  where
+    same : by_type records ≡ packed_by_type (county_of records)
+    same = λ i. record {
+      ones = sym (ones_back records linked order full) i;
+      twos = sym (twos_back records linked order full) i;
+      fours = sym (fours_back records linked order full) i;
+      fives = sym (fives_back records linked order full) i;
+      sixes = sym (sixes_back records linked order full) i;
+      sevens = sym (sevens_back records linked order full) i;
+      eights = sym (in_order-itself link_cmp (eights records) order.eights) i;
+      is = sym (is_back records linked order full) i;
+      ps = sym (ps_back records linked order tidy) i;
+    }
+
+pub tidy_list_is_packed : (records : List Record) → IsTidyList records → records ≡ packed (county_of records)
+tidy_list_is_packed records h = tidy_is_packed records h.linked h.order h.packed h.numbers

@@ -1,0 +1,11 @@
+use Rattle.tl_number.proofs.Accepted.{same_one_canonical, one_canonical_same, canonical_of_itself}
+use Rattle.tl_number.proofs.laws.one_canonical_list_exactly_for_one_map.Goals as goal
+
+pub returns-clause-same : goal.returns-clause-same
+returns-clause-same c = same_one_canonical
+
+pub returns-clause-equal : goal.returns-clause-equal
+returns-clause-equal c = one_canonical_same
+
+pub returns-clause-itself : goal.returns-clause-itself
+returns-clause-itself c = canonical_of_itself

@@ -1,0 +1,31 @@
+-- Lists of records as a whole: which are accepted, why another is refused, and what the canonical list of one is.
+use Rattle.std.specs.Prelude.{List}
+use Rattle.tl_layout.specs.declared.record_type.Record.{Record}
+use Rattle.tl_county.specs.County.{county_of}
+use Rattle.tl_county.specs.LinkRules.{IsLinked, IsFirstBrokenRule}
+use Rattle.tl_county.specs.Renumbering.{AreSame}
+use Rattle.tl_county.specs.declared.fault.LinkFault.{LinkFault}
+use Rattle.tl_profile.specs.Profile.{IsInProfile, IsFirstBrokenClause}
+use Rattle.tl_profile.specs.declared.fault.ProfileFault.{ProfileFault}
+use Rattle.tl_number.specs.Canonical.{IsCanonical}
+
+-- the records fit together, and their county is in the profile
+pub record IsAccepted (records : List Record) : Type 0 where
+  pub linked : IsLinked records
+  pub profile : IsInProfile (county_of records)
+
+-- why records that were read are refused
+pub data Refusal : Type 0 where
+  Unlinked : LinkFault → Refusal
+  OutOfProfile : ProfileFault → Refusal
+
+-- the first broken rule, or of records that fit together the first broken clause of the profile
+abbrev pub IsRefusal : List Record → Refusal → Type 0
+IsRefusal records (Unlinked fault) = IsFirstBrokenRule records fault
+IsRefusal records (OutOfProfile fault) = IsLinked records × IsFirstBrokenClause (county_of records) fault
+
+-- an accepted list, and a canonical list whose county is the same
+pub record IsCanonicalOf (records answer : List Record) : Type 0 where
+  pub accepted : IsAccepted records
+  pub canonical : IsCanonical answer
+  pub same : AreSame (county_of records) (county_of answer)

@@ -1,0 +1,46 @@
+//! Laws of the definitions in `specs/`. The functions do nothing; their contracts are the laws.
+
+ghost use Rattle.std.specs.Prelude.{◌≡◌, ◌⊎◌, List};
+ghost use Rattle.tl_county.specs.County.{county_of};
+ghost use Rattle.tl_county.specs.Renumbering.{AreSame, Carries, Renumbering};
+ghost use Rattle.tl_layout.specs.declared.record_type.Record.{Record};
+ghost use Rattle.tl_number.specs.Accepted.{IsAccepted, IsCanonicalOf, IsRefusal, Refusal};
+ghost use Rattle.tl_number.specs.Canonical.{IsCanonical, IsTidyList, KeepsChainNumbers};
+ghost use Rattle.tl_number.specs.Packing.{packed};
+
+/// A list in the canonical order, packing and numbering is the packing of its county, whatever the choice of TLIDs and
+/// directions.
+pub fn tidy_lists_are_the_packing_of_their_county()
+    ensures { (records : List Record) → IsTidyList records → records ≡ packed (county_of records) }
+{}
+
+/// Two such lists are equal if a renaming that keeps each TLID and turns no chain carries the county of the one onto that
+/// of the other.
+pub fn tidy_lists_with_one_choice_are_equal()
+    ensures { (r : Renumbering) (xs ys : List Record) →
+        IsTidyList xs → IsTidyList ys → Carries r (county_of xs) (county_of ys) → KeepsChainNumbers r (county_of xs) → xs ≡ ys }
+{}
+
+/// Two canonical lists of records whose counties are the same are equal.
+pub fn canonical_lists_of_one_county_are_equal()
+    ensures { (xs ys : List Record) →
+        IsCanonical xs → IsCanonical ys → AreSame (county_of xs) (county_of ys) → xs ≡ ys }
+{}
+
+/// A list of records is accepted or has a refusal, never both, and never two.
+pub fn accepted_or_one_refusal()
+    ensures either { (records : List Record) → IsAccepted records ⊎ ((refusal : Refusal) × IsRefusal records refusal) }
+    ensures not_both { (records : List Record) (refusal : Refusal) → IsAccepted records → IsRefusal records refusal → ⊥ }
+    ensures only_one { (records : List Record) (refusal other : Refusal) →
+        IsRefusal records refusal → IsRefusal records other → refusal ≡ other }
+{}
+
+/// Canonical lists of two accepted lists are equal exactly if the counties of these are the same; and a canonical list is
+/// accepted and its own canonical list.
+pub fn one_canonical_list_exactly_for_one_map()
+    ensures same { (xs ys c d : List Record) →
+        IsCanonicalOf xs c → IsCanonicalOf ys d → AreSame (county_of xs) (county_of ys) → c ≡ d }
+    ensures equal { (xs ys c d : List Record) →
+        IsCanonicalOf xs c → IsCanonicalOf ys d → c ≡ d → AreSame (county_of xs) (county_of ys) }
+    ensures itself { (xs c : List Record) → IsCanonicalOf xs c → IsCanonicalOf c c }
+{}

@@ -1,0 +1,3 @@
+pub mod ProfileFaults
+pub mod SameProfile
+pub mod Rows

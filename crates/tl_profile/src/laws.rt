@@ -1,0 +1,24 @@
+//! Laws of the definitions in `specs/`. The functions do nothing; their contracts are the laws.
+
+ghost use Rattle.std.specs.Prelude.{◌≡◌, ◌⊎◌};
+ghost use Rattle.tl_county.specs.County.{County};
+ghost use Rattle.tl_county.specs.CountyRules.{IsCounty};
+ghost use Rattle.tl_county.specs.Renumbering.{AreSame};
+ghost use Rattle.tl_profile.specs.Profile.{IsFirstBrokenClause, IsInProfile};
+ghost use Rattle.tl_profile.specs.declared.fault.ProfileFault.{ProfileFault};
+
+/// A county is in the profile or has a first broken clause, never both, and never two.
+pub fn in_profile_or_one_first_broken_clause()
+    ensures either { (county : County) →
+        IsInProfile county ⊎ ((fault : ProfileFault) × IsFirstBrokenClause county fault) }
+    ensures not_both { (county : County) (fault : ProfileFault) →
+        IsInProfile county → IsFirstBrokenClause county fault → ⊥ }
+    ensures only_one { (county : County) (fault other : ProfileFault) →
+        IsFirstBrokenClause county fault → IsFirstBrokenClause county other → fault ≡ other }
+{}
+
+/// Of two counties that are the same both are in the profile or neither.
+pub fn same_counties_agree_on_the_profile()
+    ensures forth { (a b : County) → AreSame a b → IsInProfile a → IsInProfile b }
+    ensures back { (a b : County) → IsCounty a → IsCounty b → AreSame a b → IsInProfile b → IsInProfile a }
+{}

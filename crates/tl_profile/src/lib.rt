@@ -1,0 +1,8 @@
+//! The profile: the counties whose chains can be told apart by their points alone.
+#![tactic(auto)]
+
+mod fault;
+mod laws;
+
+pub use fault::ProfileFault;
+pub use laws::{in_profile_or_one_first_broken_clause, same_counties_agree_on_the_profile};
