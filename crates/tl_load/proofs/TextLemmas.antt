@@ -50,7 +50,7 @@ judged_full_line rtype len reading line r is e =
     ∙ ap (λ (b : Bool). cond b (Err (line_faults.BadByte (first_bad line + 1))) (of_reading (reading line))) (bad_none line is.text.allowed)
     ∙ ap of_reading e
 
-by_first : (rtype : ℕ) (line : List ℕ) → take 1 line ≡ rtype ∷ [] → judged line ≡ judged_by rtype line
+pub by_first : (rtype : ℕ) (line : List ℕ) → take 1 line ≡ rtype ∷ [] → judged line ≡ judged_by rtype line
 unfolding judged
 by_first rtype [] e = absurd cc
 by_first rtype (b ∷ line) e = let same : b ≡ rtype = cc in ap (λ (t : ℕ). judged_by t (b ∷ line)) same
