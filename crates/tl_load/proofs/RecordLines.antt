@@ -1,8 +1,7 @@
 -- A line is judged as the record that it has.
-use Rattle.std.proofs.Common.{◌≡◌, ℕ, Bool, true, false, cond, List, [], ◌∷◌, take, Result, Ok, Err, refl, sym, ap, subst, ◌∙◌, eqb}
+use Rattle.std.proofs.Common.{◌≡◌, ℕ, Bool, true, false, cond, List, [], ◌∷◌, take, Result, Ok, Err, refl, sym, ap, ◌∙◌, eqb}
 use Rattle.std.proofs.lemmas.Bool.{eqb-true}
 use Rattle.tl_layout.specs.RecordText.{type_of}
-use Rattle.tl_layout.specs.declared.fault.FieldFault.{FieldFault}
 use Rattle.tl_layout.specs.declared.record_type.Record.{Record}
 use Rattle.tl_layout.specs.declared.record_type.Record.TheVariants.{One, Two, Four, Five, Six, Seven, Eight, I, P}
 use Rattle.tl_layout.specs.Type1.{type_1_reading, SpellsType1}
@@ -25,8 +24,8 @@ use Rattle.tl_layout.specs.TypeILaws.{type_i_reads_spelled, type_i_spelled_is_re
 use Rattle.tl_layout.specs.TypePLaws.{type_p_reads_spelled, type_p_spelled_is_read}
 use Rattle.tl_load.specs.declared.fault.LineFault.{LineFault}
 use Rattle.tl_load.specs.declared.fault.LineFault.TheVariants as line_faults
-use Rattle.tl_load.specs.LineOf.{IsLineOf, judged_as}
-use Rattle.tl_load.specs.Choice.{as_record, judged_by, judged, tiger}
+use Rattle.tl_load.specs.LineOf.{judged_as}
+use Rattle.tl_load.specs.Choice.{as_record, judged_by, judged}
 use Rattle.tl_load.specs.RecordLine.{HasRecord}
 use Rattle.tl_load.proofs.LineLaws.{Reading, judged_is_line, line_is_judged}
 use Rattle.tl_load.proofs.TextLemmas.{by_first}
