@@ -9,3 +9,4 @@ pub mod ReadSteps
 pub mod Filling
 pub mod LineLaws
 pub mod TextLemmas
+pub mod RecordLines

@@ -1,15 +1,14 @@
 -- Going over the lines finds the records that they spell, or the first fault.
-use Rattle.std.proofs.Common.{◌≡◌, ℕ, zero, suc, ◌+◌, ◌<◌, ◌≤◌, Bool, true, false, cond, List, [], ◌∷◌, ◌++◌, map, Result, Ok, Err, refl, sym, ap, subst, ◌∙◌, append_assoc, append-nil, arith, inl, inr, eqb, leb, ◌⊎◌, ◌+◌}
-use Rattle.std.specs.Prelude.{count_by, MatchResult}
+use Rattle.std.proofs.Common.{◌≡◌, ℕ, ◌+◌, ◌<◌, ◌≤◌, Bool, true, false, cond, List, [], ◌∷◌, ◌++◌, map, Result, Ok, Err, refl, sym, ap, subst, ◌∙◌, append_assoc, append-nil, arith, inl, inr, eqb, leb, ◌⊎◌, ◌+◌}
+use Rattle.std.specs.Prelude.{MatchResult}
 use Rattle.std.proofs.lemmas.Bool.{leb-true, leb-false, le-leb, lt-leb, eq-eqb, cases_eq, ne_eqb}
 use Rattle.std.proofs.lemmas.List.Sums.{sum_by-append}
-use Rattle.std.proofs.lemmas.List.{map-append}
 use Rattle.tl_load.specs.declared.fault.LineFault.{LineFault}
 use Rattle.tl_load.specs.declared.fault.LoadFault.{LoadFault}
 use Rattle.tl_load.specs.declared.fault.LoadFault.TheVariants as faults
 use Rattle.tl_load.specs.Places.{PlacedLine, placed_lines}
 use Rattle.tl_load.specs.Verdicts.{Judge, fault_at}
-use Rattle.tl_load.specs.Outcome.{count_of, IsWithinLimit, AreJudged, Spells, Accepts, IsFaultOf, FaultAt, IsSpelled, IsFaulty, ◌>>=◌, after_verdict, next, reading, outcome}
+use Rattle.tl_load.specs.Outcome.{count_of, IsWithinLimit, AreJudged, Accepts, IsFaultOf, FaultAt, IsSpelled, IsFaulty, ◌>>=◌, after_verdict, next, reading, outcome}
 
 -- ---- steps
 

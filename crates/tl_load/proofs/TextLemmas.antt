@@ -1,9 +1,8 @@
 -- The canonical text of records is read as these records.
-use Rattle.std.proofs.Common.{◌≡◌, ℕ, suc, ◌+◌, ◌-◌, ◌<◌, ◌≤◌, Bool, true, false, cond, List, [], ◌∷◌, ◌++◌, length, get_or, take, drop, map, Result, Ok, Err, refl, sym, ap, subst, ◌∙◌, append_assoc, append-nil, arith, eqb, ltb}
+use Rattle.std.proofs.Common.{◌≡◌, ℕ, suc, ◌+◌, ◌-◌, ◌<◌, Bool, true, false, cond, List, [], ◌∷◌, length, get_or, take, map, Result, Ok, Err, refl, sym, ap, subst, ◌∙◌, append_assoc, append-nil, arith, eqb}
 use Rattle.std.specs.Prelude.{All}
-use Rattle.std.specs.List.{flat_map}
 use Rattle.std.proofs.lemmas.Bool.{le-ltb, false_from_ne_true, eqb-true}
-use Rattle.tl_layout.specs.Bytes.{is_allowed, AreAllowed, IsText, IsLine}
+use Rattle.tl_layout.specs.Bytes.{is_allowed, AreAllowed, IsLine}
 use Rattle.tl_layout.specs.RecordText.{type_of, len_of, spelling_of, FitsRecord, text_of}
 use Rattle.tl_layout.specs.RecordLaws.{spelling_is_line}
 use Rattle.tl_layout.specs.declared.fault.FieldFault.{FieldFault}
@@ -29,7 +28,7 @@ use Rattle.tl_layout.specs.TypeILaws.{type_i_reads_spelling}
 use Rattle.tl_layout.specs.TypePLaws.{type_p_reads_spelling}
 use Rattle.tl_load.specs.declared.fault.LineFault.{LineFault}
 use Rattle.tl_load.specs.declared.fault.LineFault.TheVariants as line_faults
-use Rattle.tl_load.specs.Lines.{is_line_feed, IsWithoutLineFeed, without_return, lines}
+use Rattle.tl_load.specs.Lines.{IsWithoutLineFeed, without_return, lines}
 use Rattle.tl_load.specs.Places.{PlacedLine, numbered, lines_from_part, placed_lines}
 use Rattle.tl_load.specs.Outcome.{AreJudged, Spells}
 use Rattle.tl_load.specs.LineOf.{filled, first_bad, of_reading, judged_full, judged_as}
@@ -50,7 +49,7 @@ judged_full_line rtype len reading line r is e =
     ∙ ap (λ (b : Bool). cond b (Err (line_faults.BadByte (first_bad line + 1))) (of_reading (reading line))) (bad_none line is.text.allowed)
     ∙ ap of_reading e
 
-by_first : (rtype : ℕ) (line : List ℕ) → take 1 line ≡ rtype ∷ [] → judged line ≡ judged_by rtype line
+pub by_first : (rtype : ℕ) (line : List ℕ) → take 1 line ≡ rtype ∷ [] → judged line ≡ judged_by rtype line
 unfolding judged
 by_first rtype [] e = absurd cc
 by_first rtype (b ∷ line) e = let same : b ≡ rtype = cc in ap (λ (t : ℕ). judged_by t (b ∷ line)) same

@@ -7,3 +7,4 @@ pub mod Choice
 pub mod Loaded
 pub mod Countdown
 pub mod Steps
+pub mod RecordLine

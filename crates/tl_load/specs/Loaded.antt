@@ -1,11 +1,11 @@
 -- A loader as contracts see it, and what it was fed.
-use Rattle.std.specs.Prelude.{◌≡◌, ℕ, ◌+◌, ◌-◌, ◌*◌, ◌^◌, ◌<◌, ◌≤◌, slice_index, Bool, true, false, List, [], ◌∷◌, ◌++◌, length, Option, Some, MatchOption, Result, Ok, Err, MatchResult, ◌⊎◌}
+use Rattle.std.specs.Prelude.{◌≡◌, ℕ, ◌+◌, Bool, true, false, List, [], ◌∷◌, ◌++◌, Option, MatchOption, Result, Ok, Err, MatchResult, ◌⊎◌}
 use Rattle.tl_layout.specs.declared.record_type.Record.{Record}
 use Rattle.tl_load.specs.declared.fault.LoadFault.{LoadFault}
 use Rattle.tl_load.specs.declared.fault.LoadFault.TheVariants as faults
-use Rattle.tl_load.specs.Lines.{IsWithoutLineFeed, lines}
-use Rattle.tl_load.specs.Places.{PlacedLine, numbered, lines_from_part}
-use Rattle.tl_load.specs.Outcome.{FaultAt, count_of, with_record, next, reading, outcome}
+use Rattle.tl_load.specs.Lines.{lines}
+use Rattle.tl_load.specs.Places.{numbered, lines_from_part}
+use Rattle.tl_load.specs.Outcome.{FaultAt, reading, outcome}
 use Rattle.tl_load.specs.Choice.{tiger}
 
 -- the records so far, the number of closed parts, the lines of the open part that were judged,

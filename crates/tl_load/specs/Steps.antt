@@ -1,5 +1,5 @@
 -- What the loader's own steps do to its value.
-use Rattle.std.specs.Prelude.{◌≡◌, ℕ, ◌+◌, ◌-◌, ◌*◌, ◌^◌, ◌<◌, ◌≤◌, slice_index, List, [], ◌∷◌, ◌++◌, length, Option, Some, Result, Ok, Err, MatchResult, ◌⊎◌}
+use Rattle.std.specs.Prelude.{◌≡◌, ℕ, ◌+◌, ◌-◌, ◌*◌, ◌^◌, ◌<◌, ◌≤◌, slice_index, List, [], ◌∷◌, ◌++◌, length, Some, Result, Ok, Err, MatchResult, ◌⊎◌}
 use Rattle.tl_layout.specs.declared.record_type.Record.{Record}
 use Rattle.tl_load.specs.declared.fault.LoadFault.{LoadFault}
 use Rattle.tl_load.specs.Lines.{IsWithoutLineFeed}

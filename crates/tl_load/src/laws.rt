@@ -6,6 +6,7 @@ ghost use Rattle.tl_layout.specs.RecordText.{FitsRecord, text_of};
 ghost use Rattle.tl_load.specs.Choice.{tiger};
 ghost use Rattle.tl_load.specs.Verdicts.{Judge};
 ghost use Rattle.tl_load.specs.Outcome.{IsSpelled, IsFaulty, Spells};
+ghost use Rattle.tl_load.specs.RecordLine.{HasRecord};
 ghost use Rattle.tl_load.specs.LineOf.{IsLineOf, judged_as};
 
 use tl_layout::Layout;
@@ -19,6 +20,11 @@ pub fn spelled_or_one_fault()
 /// A line that begins with the layout's type is judged as a record exactly where it has that record.
 pub fn line_has_record<L: Layout>()
     ensures { (line : List ℕ) (r : L) → take 1 line ≡ L.RTYPE ∷ [] → (judged_as L.LEN L.reading line ≡ Ok r ↔ IsLineOf L.RTYPE L.LEN L.Spells line r) }
+{}
+
+/// A line is judged as a record exactly where it has that record, each column read by the column table of its type.
+pub fn line_is_judged_as_its_record()
+    ensures { (line : List ℕ) (found : Record) → (tiger.verdict line ≡ Ok found ↔ HasRecord line found) }
 {}
 
 /// The canonical text of records, as one part, spells these records and no others.

@@ -2,7 +2,7 @@
 
 use crate::{
     Counted, LoadFault, Loader, SlowSource, Source, first_bad, line_has_record,
-    spelled_or_one_fault, text_spells_its_records,
+    line_is_judged_as_its_record, spelled_or_one_fault, text_spells_its_records,
 };
 use std::alloc::{AllocError, Global};
 use std::process::Abort;
@@ -296,6 +296,7 @@ fn bad_bytes_are_found(rt: HostRuntime) {
         }
     }
     line_has_record::<RecI>();
+    line_is_judged_as_its_record();
     spelled_or_one_fault();
     text_spells_its_records();
 }

@@ -1,7 +1,3 @@
-use Rattle.std.proofs.Common.{◌≡◌, ℕ, ◌+◌, List, [], ◌∷◌, ◌++◌, get_or, set, sym, ap, subst, ◌∙◌}
-use Rattle.tl_layout.specs.declared.record_type.Record.{Record}
-use Rattle.tl_load.specs.Loaded.{Loaded}
-use Rattle.tl_load.specs.Steps.{IsLoader}
 use Rattle.tl_load.proofs.Adding.{adds_full, adds_room, counted}
 use Rattle.tl_load.proofs.loader.Loader.add_record.Goals as goal
 

@@ -1,4 +1,4 @@
-use Rattle.std.proofs.Common.{ℕ, ◌+◌, ◌≤◌, length}
+use Rattle.std.proofs.Common.{◌+◌, ◌≤◌, length}
 use Rattle.tl_load.specs.Steps.{Leaves, IsSamePart, bytes_used}
 use Rattle.tl_load.proofs.loader.Loader.take_piece.Given as goal
 
