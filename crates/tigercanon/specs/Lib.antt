@@ -2,3 +2,4 @@ pub mod Files
 pub mod Respelling
 pub mod Statuses
 pub mod Outcomes
+pub mod Sets

@@ -8,6 +8,7 @@ mod command_line;
 mod fault;
 mod files;
 mod jobs;
+mod laws;
 mod planning;
 mod refusal;
 mod respelling;
@@ -17,6 +18,7 @@ pub use command_line::{Job, Plan, PlanFault};
 pub use fault::Fault;
 pub use files::Opened;
 pub use jobs::{run, tell};
+pub use laws::{accepted_or_one_refusal, one_canonical_text};
 pub use planning::plan;
 pub use respelling::respell;
 
