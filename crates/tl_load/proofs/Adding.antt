@@ -1,17 +1,17 @@
 -- A record is added and counted.
-use Rattle.std.proofs.Common.{◌≡◌, ℕ, suc, ◌+◌, ◌-◌, ◌<◌, ◌≤◌, Bool, true, false, cond, List, [], ◌∷◌, ◌++◌, length, get_or, set, replicate, Result, Ok, Err, refl, sym, ap, subst, ◌∙◌, arith, lit<, eqb, leb, inl, inr, ◌⊎◌}
+use Rattle.std.proofs.Common.{◌≡◌, ℕ, ◌+◌, ◌<◌, ◌≤◌, Bool, true, false, cond, List, [], ◌∷◌, ◌++◌, length, get_or, set, replicate, Ok, Err, refl, sym, ap, ◌∙◌, arith, lit<, eqb, inl, inr}
 use Rattle.std.proofs.lemmas.Bool.{cases_eq, eq-eqb, ne_eqb, le-leb, lt-leb}
 use Rattle.std.proofs.lemmas.List.{length-append, length-set, get_or-set_same, get_or-set_other, get_or-replicate, length-replicate}
 use Rattle.std.proofs.lemmas.List.Elements.{All-nil}
 use Rattle.std.proofs.lemmas.List.Sums.{sum_by-append}
 use Rattle.tl_layout.specs.declared.record_type.Record.{Record}
 use Rattle.tl_layout.specs.declared.record_type.Record.TheVariants.{One, Two, Four, Five, Six, Seven, Eight, I, P}
-use Rattle.tl_load.specs.declared.fault.LoadFault.{LoadFault}
 use Rattle.tl_load.specs.declared.fault.LoadFault.TheVariants as faults
 use Rattle.tl_load.specs.Lines.{is_line_feed}
 use Rattle.tl_load.specs.Outcome.{count_of, with_record}
-use Rattle.tl_load.specs.Choice.{tiger, type_of}
-use Rattle.tl_load.specs.Loaded.{IsLoader}
+use Rattle.tl_layout.specs.RecordText.{type_of}
+use Rattle.tl_load.specs.Choice.{tiger}
+use Rattle.tl_load.specs.Steps.{IsLoader}
 use Rattle.tl_load.proofs.Reading.{count_push}
 
 tiger_rtype : (r : Record) → tiger.rtype r ≡ type_of r

@@ -1,11 +1,10 @@
 -- A line that is filled with blanks.
-use Rattle.std.proofs.Common.{◌≡◌, ℕ, suc, ◌+◌, ◌-◌, ◌<◌, ◌≤◌, Bool, true, false, cond, List, [], ◌∷◌, ◌++◌, length, get_or, take, drop, replicate, Option, Some, None, refl, sym, ap, subst, ◌∙◌, append-nil, arith, ltb}
-use Rattle.std.specs.Prelude.{not, All, IsTrue, position}
-use Rattle.std.specs.List.{position_or_len}
-use Rattle.std.proofs.lemmas.Bool.{ltb-false, not-false, cases_Bool}
-use Rattle.std.proofs.lemmas.List.{length-append, length-replicate, take_all, take-replicate, drop-replicate}
+use Rattle.std.proofs.Common.{◌≡◌, ℕ, ◌+◌, ◌-◌, ◌≤◌, Bool, true, false, cond, List, [], ◌∷◌, ◌++◌, length, get_or, take, replicate, Option, Some, None, refl, ap, ◌∙◌, append-nil, arith, ltb}
+use Rattle.std.specs.Prelude.{not, position}
+use Rattle.std.proofs.lemmas.Bool.{ltb-false, not-false}
+use Rattle.std.proofs.lemmas.List.{length-append, length-replicate, take-replicate}
 use Rattle.std.proofs.lemmas.List.Sums.{fails_before_first}
-use Rattle.tl_layout.specs.Bytes.{is_allowed, AreAllowed, IsText, IsLine}
+use Rattle.tl_layout.specs.Bytes.{is_allowed, AreAllowed, IsLine}
 use Rattle.tl_load.specs.LineOf.{filled, first_bad}
 use Rattle.tl_load.proofs.LineLemmas.{take_past}
 

@@ -1,14 +1,14 @@
 -- What a loader was fed, after each call.
-use Rattle.std.proofs.Common.{◌≡◌, ℕ, suc, ◌+◌, ◌-◌, ◌*◌, ◌<◌, ◌≤◌, Bool, true, false, List, [], ◌∷◌, ◌++◌, length, Option, Some, None, Result, Ok, Err, refl, sym, ap, subst, ◌∙◌, append_assoc, append-nil, arith, inl, inr, ◌⊎◌}
-use Rattle.std.specs.Prelude.{MatchOption, MatchResult, IfErr, IfOk}
-use Rattle.tl_layout.specs.declared.record_type.Record.{Record}
+use Rattle.std.proofs.Common.{◌≡◌, ℕ, ◌+◌, List, [], ◌∷◌, ◌++◌, Option, Some, None, Result, Ok, Err, refl, sym, ap, subst, ◌∙◌, append_assoc, append-nil, inl, inr, ◌⊎◌}
+use Rattle.std.specs.Prelude.{MatchOption, MatchResult, IfErr}
 use Rattle.tl_load.specs.declared.fault.LoadFault.{LoadFault}
 use Rattle.tl_load.specs.declared.fault.LoadFault.TheVariants as faults
 use Rattle.tl_load.specs.Lines.{lines}
 use Rattle.tl_load.specs.Places.{PlacedLine, numbered, lines_from_part, placed_lines}
 use Rattle.tl_load.specs.Outcome.{Accepts, FaultAt, reading, outcome}
 use Rattle.tl_load.specs.Choice.{tiger}
-use Rattle.tl_load.specs.Loaded.{Loaded, IsSamePart, IsOfLines, to_come, IsFaultHowever, WasFed, all_parts, Takes, Ends, Closes, Reads, FedPart, with_fault}
+use Rattle.tl_load.specs.Loaded.{Loaded, IsOfLines, to_come, IsFaultHowever, WasFed, all_parts}
+use Rattle.tl_load.specs.Steps.{IsSamePart, Takes, Ends, Closes, Reads, with_fault}
 use Rattle.tl_load.proofs.Reading.{accepts_from_outcome, fault_from_outcome}
 use Rattle.tl_load.proofs.LineLemmas.{lines_none}
 

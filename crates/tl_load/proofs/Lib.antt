@@ -8,3 +8,5 @@ pub mod Histories
 pub mod ReadSteps
 pub mod Filling
 pub mod LineLaws
+pub mod TextLemmas
+pub mod RecordLines

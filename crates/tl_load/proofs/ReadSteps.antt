@@ -1,9 +1,10 @@
 -- What a source gives goes into the open part.
-use Rattle.std.proofs.Common.{◌≡◌, ℕ, ◌+◌, ◌≤◌, ◌<◌, List, [], ◌∷◌, ◌++◌, length, Option, Some, None, Result, Ok, Err, refl, sym, ap, subst, ◌∙◌, append_assoc, append-nil, arith, inl, inr, ◌⊎◌}
+use Rattle.std.proofs.Common.{◌≡◌, ℕ, List, [], ◌∷◌, ◌++◌, Option, Some, None, Result, Ok, Err, refl, sym, ap, subst, ◌∙◌, append_assoc, append-nil, inl, inr}
 use Rattle.std.specs.Io.KnownBytes.{Consumes, Keeps}
 use Rattle.tl_load.specs.declared.fault.LoadFault.{LoadFault}
 use Rattle.tl_load.specs.declared.fault.LoadFault.TheVariants as faults
-use Rattle.tl_load.specs.Loaded.{Loaded, IsOfLines, to_come, Takes, Fed, Closes, Reads}
+use Rattle.tl_load.specs.Loaded.{Loaded, to_come}
+use Rattle.tl_load.specs.Steps.{Takes, Fed, Closes, Reads}
 
 pub consumes_nil : (a : Option (List ℕ)) → Consumes a a []
 consumes_nil None = tt

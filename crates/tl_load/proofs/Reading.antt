@@ -1,15 +1,14 @@
 -- Going over the lines finds the records that they spell, or the first fault.
-use Rattle.std.proofs.Common.{◌≡◌, ℕ, zero, suc, ◌+◌, ◌<◌, ◌≤◌, Bool, true, false, cond, List, [], ◌∷◌, ◌++◌, map, Result, Ok, Err, refl, sym, ap, subst, ◌∙◌, append_assoc, append-nil, arith, inl, inr, eqb, leb, ◌⊎◌, ◌+◌}
-use Rattle.std.specs.Prelude.{count_by, MatchResult}
+use Rattle.std.proofs.Common.{◌≡◌, ℕ, ◌+◌, ◌<◌, ◌≤◌, Bool, true, false, cond, List, [], ◌∷◌, ◌++◌, map, Result, Ok, Err, refl, sym, ap, subst, ◌∙◌, append_assoc, append-nil, arith, inl, inr, eqb, leb, ◌⊎◌, ◌+◌}
+use Rattle.std.specs.Prelude.{MatchResult}
 use Rattle.std.proofs.lemmas.Bool.{leb-true, leb-false, le-leb, lt-leb, eq-eqb, cases_eq, ne_eqb}
 use Rattle.std.proofs.lemmas.List.Sums.{sum_by-append}
-use Rattle.std.proofs.lemmas.List.{map-append}
 use Rattle.tl_load.specs.declared.fault.LineFault.{LineFault}
 use Rattle.tl_load.specs.declared.fault.LoadFault.{LoadFault}
 use Rattle.tl_load.specs.declared.fault.LoadFault.TheVariants as faults
 use Rattle.tl_load.specs.Places.{PlacedLine, placed_lines}
 use Rattle.tl_load.specs.Verdicts.{Judge, fault_at}
-use Rattle.tl_load.specs.Outcome.{count_of, IsWithinLimit, AreJudged, Spells, Accepts, IsFaultOf, FaultAt, IsSpelled, IsFaulty, ◌>>=◌, after_verdict, next, reading, outcome}
+use Rattle.tl_load.specs.Outcome.{count_of, IsWithinLimit, AreJudged, Accepts, IsFaultOf, FaultAt, IsSpelled, IsFaulty, ◌>>=◌, after_verdict, next, reading, outcome}
 
 -- ---- steps
 
@@ -225,7 +224,7 @@ outcome_from_fault {R} judge limit parts fault f =
     ∙ ap (λ (z : Result (List R) LoadFault). z >>= λ more. reading judge limit more f.after) (next_faulty judge limit f.records f.line fault f.fault_is)
 
 -- the same line is judged one way
-verdicts_same : {R : Type 0} (a b : List R) → ◌≡◌ {A = List (Result R LineFault)} (map (λ (r : R). Ok r) a) (map (λ (r : R). Ok r) b) → a ≡ b
+pub verdicts_same : {R : Type 0} (a b : List R) → ◌≡◌ {A = List (Result R LineFault)} (map (λ (r : R). Ok r) a) (map (λ (r : R). Ok r) b) → a ≡ b
 verdicts_same [] [] e = refl
 verdicts_same [] (y ∷ b) e = absurd cc
 verdicts_same (x ∷ a) [] e = absurd cc
@@ -257,3 +256,10 @@ one_verdict {R} judge limit parts = go (outcome judge limit parts) refl
       only = λ other f. err_is other fault (sym (outcome_from_fault judge limit parts other f) ∙ e);
       none = λ records a. never_both _ records fault (outcome_from_accepts judge limit parts records a) e;
     })
+
+-- parts spell one list, and no fault is at them then
+pub accepted_once : {R : Type 0} (judge : Judge R) (limit : ℕ) (parts : List (List ℕ)) (a b : List R) → Accepts judge limit parts a → Accepts judge limit parts b → a ≡ b
+accepted_once judge limit parts a b p q = verdicts_same a b (sym p.spells ∙ q.spells)
+
+pub accepted_no_fault : {R : Type 0} (judge : Judge R) (limit : ℕ) (parts : List (List ℕ)) (records : List R) (fault : LoadFault) → Accepts judge limit parts records → FaultAt judge limit parts fault → ⊥
+accepted_no_fault judge limit parts records fault p q = never_both _ records fault (outcome_from_accepts judge limit parts records p) (outcome_from_fault judge limit parts fault q)

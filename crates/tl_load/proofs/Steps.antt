@@ -1,5 +1,5 @@
 -- What comes of a loader stays the same while it takes bytes.
-use Rattle.std.proofs.Common.{◌≡◌, ℕ, suc, ◌+◌, ◌-◌, ◌<◌, ◌≤◌, Bool, true, false, cond, List, [], ◌∷◌, ◌++◌, length, take, Option, Some, None, Result, Ok, Err, refl, sym, ap, subst, ◌∙◌, append_assoc, append-nil, arith, inl, inr, ◌⊎◌}
+use Rattle.std.proofs.Common.{◌≡◌, ℕ, ◌+◌, ◌<◌, ◌≤◌, List, [], ◌∷◌, ◌++◌, length, None, Result, Ok, Err, refl, sym, ap, subst, ◌∙◌, append_assoc, append-nil, arith, inl, inr}
 use Rattle.std.proofs.lemmas.List.{length-append}
 use Rattle.tl_layout.specs.declared.record_type.Record.{Record}
 use Rattle.std.specs.Prelude.{OnOk, MatchResult}
@@ -10,13 +10,13 @@ use Rattle.tl_layout.specs.declared.fault.FieldKind.TheVariants as kinds
 use Rattle.tl_load.specs.declared.fault.LineFault.{LineFault}
 use Rattle.tl_load.specs.declared.fault.LineFault.TheVariants as line_faults
 use Rattle.tl_load.specs.declared.fault.LoadFault.{LoadFault}
-use Rattle.tl_load.specs.declared.fault.LoadFault.TheVariants as faults
 use Rattle.tl_load.specs.Lines.{IsWithoutLineFeed, without_return, last_line, lines}
-use Rattle.tl_load.specs.Places.{PlacedLine, numbered, lines_from_part, placed_lines}
+use Rattle.tl_load.specs.Places.{PlacedLine, numbered, lines_from_part}
 use Rattle.tl_load.specs.Verdicts.{fault_at, field_fault_at}
-use Rattle.tl_load.specs.Outcome.{FaultAt, ◌>>=◌, after_verdict, with_record, next, reading, outcome}
+use Rattle.tl_load.specs.Outcome.{◌>>=◌, after_verdict, next, reading}
 use Rattle.tl_load.specs.Choice.{tiger, judged}
-use Rattle.tl_load.specs.Loaded.{Loaded, IsSamePart, IsOfLines, to_come, IsFaultHowever, WasFed, Takes, Leaves, Ends, Closes, next_place, Judges, Adds, IsNotDevice, bytes_used}
+use Rattle.tl_load.specs.Loaded.{Loaded, IsOfLines, to_come, WasFed, IsNotDevice}
+use Rattle.tl_load.specs.Steps.{IsSamePart, Takes, Leaves, Ends, Closes, next_place, Judges, Adds, bytes_used}
 use Rattle.tl_load.proofs.LineLemmas.{lines_line, lines_rest, lines_none, first_line_of, without_return_front, without_return_length}
 use Rattle.tl_load.proofs.Settled.{judged_long, judged_settles}
 

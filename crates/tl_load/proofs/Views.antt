@@ -1,12 +1,10 @@
 -- Small facts for the loader's answers.
-use Rattle.std.proofs.Common.{◌≡◌, ℕ, suc, ◌+◌, ◌-◌, ◌<◌, ◌≤◌, Bool, true, false, List, [], ◌∷◌, ◌++◌, length, get_or, take, drop, Result, Ok, Err, Option, Some, None, refl, sym, ap, subst, ◌∙◌, arith, eqb, append_assoc}
-use Rattle.std.specs.Prelude.{OnOk, IsOk, MatchOption, All}
-use Rattle.std.proofs.lemmas.Bool.{eqb-true, ne_eqb, false_from_ne_true}
-use Rattle.std.proofs.lemmas.List.{take-append-drop, length-take, get_or-take, get_or_default, drop_more, take_all, length-drop, take_rest}
-use Rattle.memchr.specs.Find.{IsFirstByte, Nowhere, NoneBefore, Passes, is_byte}
+use Rattle.std.proofs.Common.{◌≡◌, ℕ, ◌+◌, ◌-◌, ◌<◌, ◌≤◌, true, false, List, [], ◌∷◌, ◌++◌, length, get_or, take, drop, Result, Ok, Err, Option, Some, None, refl, sym, ap, subst, ◌∙◌, arith, eqb}
+use Rattle.std.specs.Prelude.{OnOk, IsOk}
+use Rattle.std.proofs.lemmas.Bool.{eqb-true, false_from_ne_true}
+use Rattle.std.proofs.lemmas.List.{take-append-drop, length-take, get_or-take, get_or_default, drop_more, take_all, take_rest}
+use Rattle.memchr.specs.Find.{Nowhere, Passes, is_byte}
 use Rattle.tl_load.specs.Lines.{is_line_feed, IsWithoutLineFeed}
-use Rattle.tl_load.specs.Loaded.{Loaded}
-use Rattle.tl_load.proofs.Steps.{IsBefore}
 
 pub empty_is : (l : List ℕ) → eqb (length l) 0 ≡ true → l ≡ []
 empty_is [] h = refl

@@ -1,5 +1,6 @@
 -- The choice of the layout by a line's first byte.
 use Rattle.std.specs.Prelude.{ℕ, List, [], ◌∷◌, ◌==◌, Result, Ok, Err, if◌then◌else◌}
+use Rattle.tl_layout.specs.RecordText.{type_of}
 use Rattle.tl_layout.specs.Type1.{type_1_reading}
 use Rattle.tl_layout.specs.Type2.{type_2_reading}
 use Rattle.tl_layout.specs.Type4.{type_4_reading}
@@ -15,18 +16,6 @@ use Rattle.tl_load.specs.declared.fault.LineFault.{LineFault}
 use Rattle.tl_load.specs.declared.fault.LineFault.TheVariants as line_faults
 use Rattle.tl_load.specs.LineOf.{judged_as}
 use Rattle.tl_load.specs.Verdicts.{Judge}
-
--- the type of a record, the byte in column 1
-unfoldable pub type_of : Record → ℕ
-type_of (One _) = 49
-type_of (Two _) = 50
-type_of (Four _) = 52
-type_of (Five _) = 53
-type_of (Six _) = 54
-type_of (Seven _) = 55
-type_of (Eight _) = 56
-type_of (I _) = 73
-type_of (P _) = 80
 
 -- the record of one layout, as a record of any type
 abbrev pub as_record : {R : Type 0} → (R → Record) → Result R LineFault → Result Record LineFault

@@ -6,3 +6,5 @@ pub mod LineOf
 pub mod Choice
 pub mod Loaded
 pub mod Countdown
+pub mod Steps
+pub mod RecordLine

@@ -1,5 +1,5 @@
 -- Which records a set of parts spells, and which fault is at it.
-use Rattle.std.specs.Prelude.{◌≡◌, ℕ, ◌≤◌, nat_le, ◌==◌, List, [], ◌∷◌, ◌++◌, Result, Ok, Err, MatchResult, map, count_by, if◌then◌else◌, ◌⊎◌}
+use Rattle.std.specs.Prelude.{◌≡◌, ℕ, ◌≤◌, nat_le, ◌==◌, List, [], ◌∷◌, ◌++◌, Result, Ok, Err, MatchResult, map, count_by, if◌then◌else◌}
 use Rattle.tl_load.specs.declared.fault.LineFault.{LineFault}
 use Rattle.tl_load.specs.declared.fault.LoadFault.{LoadFault}
 use Rattle.tl_load.specs.declared.fault.LoadFault.TheVariants as faults

@@ -1,6 +1,5 @@
 -- How lines are judged, and what a line's fault is told as.
 use Rattle.std.specs.Prelude.{ℕ, List, Result}
-use Rattle.tl_layout.specs.declared.fault.FieldFault.{FieldFault}
 use Rattle.tl_layout.specs.declared.fault.FieldKind.{FieldKind}
 use Rattle.tl_layout.specs.declared.fault.FieldKind.TheVariants as kinds
 use Rattle.tl_load.specs.declared.fault.LineFault.{LineFault}

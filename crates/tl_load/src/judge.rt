@@ -1,9 +1,9 @@
 //! What a line is judged as.
 
-ghost use Rattle.std.specs.Prelude.{◌≡◌, ◌≤◌, ◌<◌, [], ◌∷◌, take, length, replicate};
+ghost use Rattle.std.specs.Prelude.{◌≡◌, ◌≤◌, [], ◌∷◌, take, length, replicate};
 ghost use Rattle.tl_layout.specs.Bytes.{IsLine};
 ghost use Rattle.tl_load.specs.LineOf.{filled, judged_as, judged_full};
-ghost use Rattle.tl_load.specs.Choice.{judged, type_of};
+ghost use Rattle.tl_load.specs.Choice.{judged};
 
 use crate::bytes::first_bad;
 use crate::fault::LineFault;
@@ -76,24 +76,5 @@ fn judge_full<L: Layout>(line: &[u8]) -> Result<L, LineFault>
     match L::take(line) {
         Ok(found) => Ok(found),
         Err(fault) => Err(LineFault::Field(fault)),
-    }
-}
-
-/// The type of a record, the byte in column 1 of its line.
-#[tactic(auto, unfolding(crate::specs::Choice::type_of))]
-pub fn record_type(of: &Record) -> u8
-    ensures rtype { result ≡ type_of of.now }
-    ensures ascii { result < 128 }
-{
-    match of {
-        Record::One(_) => b'1',
-        Record::Two(_) => b'2',
-        Record::Four(_) => b'4',
-        Record::Five(_) => b'5',
-        Record::Six(_) => b'6',
-        Record::Seven(_) => b'7',
-        Record::Eight(_) => b'8',
-        Record::I(_) => b'I',
-        Record::P(_) => b'P',
     }
 }

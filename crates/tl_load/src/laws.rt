@@ -1,9 +1,12 @@
 //! Laws of the definitions, each the contract of a function that does nothing.
 
-ghost use Rattle.std.specs.Prelude.{◌≡◌, ◌↔◌, ◌⊎◌, ℕ, List, [], ◌∷◌, take, Ok};
+ghost use Rattle.std.specs.Prelude.{◌≡◌, ◌↔◌, ◌⊎◌, ℕ, List, [], ◌∷◌, take, All, Ok};
 ghost use Rattle.tl_layout.specs.declared.record_type.Record.{Record};
+ghost use Rattle.tl_layout.specs.RecordText.{FitsRecord, text_of};
+ghost use Rattle.tl_load.specs.Choice.{tiger};
 ghost use Rattle.tl_load.specs.Verdicts.{Judge};
-ghost use Rattle.tl_load.specs.Outcome.{IsSpelled, IsFaulty};
+ghost use Rattle.tl_load.specs.Outcome.{IsSpelled, IsFaulty, Spells};
+ghost use Rattle.tl_load.specs.RecordLine.{HasRecord};
 ghost use Rattle.tl_load.specs.LineOf.{IsLineOf, judged_as};
 
 use tl_layout::Layout;
@@ -17,4 +20,15 @@ pub fn spelled_or_one_fault()
 /// A line that begins with the layout's type is judged as a record exactly where it has that record.
 pub fn line_has_record<L: Layout>()
     ensures { (line : List ℕ) (r : L) → take 1 line ≡ L.RTYPE ∷ [] → (judged_as L.LEN L.reading line ≡ Ok r ↔ IsLineOf L.RTYPE L.LEN L.Spells line r) }
+{}
+
+/// A line is judged as a record exactly where it has that record, each column read by the column table of its type.
+pub fn line_is_judged_as_its_record()
+    ensures { (line : List ℕ) (found : Record) → (tiger.verdict line ≡ Ok found ↔ HasRecord line found) }
+{}
+
+/// The canonical text of records, as one part, spells these records and no others.
+pub fn text_spells_its_records()
+    ensures spells { (records : List Record) → All FitsRecord records → Spells tiger (text_of records ∷ []) records }
+    ensures only { (records others : List Record) → All FitsRecord records → Spells tiger (text_of records ∷ []) others → others ≡ records }
 {}

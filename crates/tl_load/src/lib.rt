@@ -13,7 +13,8 @@ mod tests;
 
 pub use bytes::first_bad;
 pub use fault::{LineFault, LoadFault};
-pub use judge::record_type;
-pub use laws::{line_has_record, spelled_or_one_fault};
+pub use laws::{
+    line_has_record, line_is_judged_as_its_record, spelled_or_one_fault, text_spells_its_records,
+};
 pub use loader::Loader;
 pub use source::{Counted, SlowSource, Source};

@@ -4,12 +4,14 @@ ghost use Rattle.std.specs.Prelude.{◌≡◌, ◌≢◌, ◌≤◌, ◌<◌, �
 ghost use Rattle.std.specs.Result.{IsErr};
 ghost use Rattle.tl_load.specs.Lines.{IsWithoutLineFeed};
 ghost use Rattle.std.specs.Io.KnownBytes.{Consumes, IsAtEnd};
+ghost use Rattle.tl_layout.specs.declared.record_type.Record.{Record};
 ghost use Rattle.tl_load.specs.Choice.{tiger};
 ghost use Rattle.tl_load.specs.Outcome.{Accepts, FaultAt};
-ghost use Rattle.tl_load.specs.Loaded.{Takes, Ends, Closes, Reads, FedPart, Judges, Adds, IsSamePart, IsNotDevice, is_device, IsOfLines, IsFaultHowever, WasFed, with_fault, all_parts, bytes_used};
+ghost use Rattle.tl_load.specs.Loaded.{FedPart, IsNotDevice, is_device, IsOfLines, IsFaultHowever, WasFed, all_parts};
+ghost use Rattle.tl_load.specs.Steps.{Takes, Ends, Closes, Reads, Judges, Adds, IsSamePart, with_fault, bytes_used};
 
 use crate::fault::LoadFault;
-use crate::judge::{judge_line, record_type};
+use crate::judge::judge_line;
 use crate::line::without_carriage_return;
 use crate::source::Source;
 use arrayvec::ArrayVec;
@@ -41,7 +43,8 @@ pub struct Loader {
 }
 
 impl Model for Loader {
-    ghost use Rattle.tl_load.specs.Loaded.{Loaded, IsLoader};
+    ghost use Rattle.tl_load.specs.Loaded.{Loaded};
+    ghost use Rattle.tl_load.specs.Steps.{IsLoader};
 
     ghost Value = { Loaded };
 
@@ -91,7 +94,7 @@ impl Loader {
         ensures one_more { OnOk result (length self.new.records ≡ length self.old.records + 1) }
         ensures no_device { IfErr result IsNotDevice }
     {
-        let rtype = record_type(&added);
+        let rtype = added.record_type();
         let count = self.counts[rtype as usize];
         if self.limit <= count {
             return Err(LoadFault::TooManyRecords { rtype });
@@ -342,6 +345,9 @@ impl Loader {
         // The parts spell these records, with at most limit of each type.
         ensures loaded { (limit : ℕ) (closed : List (List ℕ)) (open_part : List ℕ) → WasFed limit self closed open_part
             → IfOk result (λ records. Accepts tiger limit (all_parts closed open_part) records.items) }
+        // Where they spell records, these are the ones, and no fault of the lines comes.
+        ensures only { (limit : ℕ) (closed : List (List ℕ)) (open_part : List ℕ) (records : List Record) → WasFed limit self closed open_part
+            → Accepts tiger limit (all_parts closed open_part) records → MatchResult result (λ found. found.items ≡ records) (λ f. IsOfLines f → ⊥) }
         // Or this fault is at them.
         ensures fault { (limit : ℕ) (closed : List (List ℕ)) (open_part : List ℕ) → WasFed limit self closed open_part
             → IfErr result (λ f. IsOfLines f → FaultAt tiger limit (all_parts closed open_part) f) }

@@ -1,13 +1,13 @@
 //! Worked cases of the loader: sets as the Census publishes them, ends of lines, broken lines and failing sources.
 
 use crate::{
-    Counted, LoadFault, Loader, SlowSource, Source, first_bad, line_has_record, record_type,
-    spelled_or_one_fault,
+    Counted, LoadFault, Loader, SlowSource, Source, first_bad, line_has_record,
+    line_is_judged_as_its_record, spelled_or_one_fault, text_spells_its_records,
 };
 use std::alloc::{AllocError, Global};
 use std::process::Abort;
 use std::test::Fail;
-use tl_layout::{Layout, RecI, Record};
+use tl_layout::{RecI, Record};
 
 /// A chain and its link, with blank VERSION and coordinates without sign, and their canonical spellings.
 const CHAIN: &[u8] =
@@ -56,23 +56,14 @@ fn fault_of(rt: &impl Abort, alloc: Global, parts: &[&[u8]], most: usize) -> Opt
     load(rt, alloc, parts, most).err()
 }
 
-/// The canonical text of records of types 1 and I.
+/// The canonical text of records.
 fn spelled(alloc: Global, records: &[Record]) -> Result<Vec<u8>, AllocError> {
     let mut text = Vec::new(alloc);
     for record in records {
-        match record {
-            Record::One(chain) => {
-                let mut line = [0; 228];
-                chain.put(&mut line);
-                text.extend_from_slice(&line)?;
-            }
-            Record::I(link) => {
-                let mut line = [0; 127];
-                link.put(&mut line);
-                text.extend_from_slice(&line)?;
-            }
-            _ => {}
-        }
+        let mut line = [0; 228];
+        let len = record.line_len();
+        record.put(&mut line[..len]);
+        text.extend_from_slice(&line[..len])?;
         text.push(b'\n')?;
     }
     Ok(text)
@@ -278,8 +269,8 @@ fn a_reader_is_a_source(rt: HostRuntime) -> Result<(), Fail> {
     assert_eq!(rt; source.failures(), 0);
     let records = loader.finish().expect(&rt, "the set is well formed");
     assert_eq!(rt; records.len(), 2);
-    assert_eq!(rt; record_type(&records[0]), b'1');
-    assert_eq!(rt; record_type(&records[1]), b'I');
+    assert_eq!(rt; records[0].record_type(), b'1');
+    assert_eq!(rt; records[1].record_type(), b'I');
     Ok(())
 }
 
@@ -305,5 +296,7 @@ fn bad_bytes_are_found(rt: HostRuntime) {
         }
     }
     line_has_record::<RecI>();
+    line_is_judged_as_its_record();
     spelled_or_one_fault();
+    text_spells_its_records();
 }

@@ -1,4 +1,4 @@
-use Rattle.std.proofs.Common.{◌≡◌, ℕ, ◌<◌, Bool, true, false, get_or}
+use Rattle.std.proofs.Common.{◌≡◌, ℕ, ◌<◌, true, false, get_or}
 use Rattle.tl_layout.specs.Bytes.{is_allowed}
 use Rattle.tl_load.proofs.bytes.is_clean.Given as goal
 

@@ -1,4 +1,4 @@
-use Rattle.std.proofs.Common.{◌≡◌, ◌<◌, ℕ, List, [], ◌∷◌, ◌++◌, length, arith, refl, sym, ap, subst, ◌∙◌}
+use Rattle.std.proofs.Common.{◌≡◌, ◌<◌, ℕ, List, length, refl, sym, ap, subst, ◌∙◌}
 use Rattle.tl_load.specs.Lines.{IsWithoutLineFeed, without_return}
 use Rattle.tl_load.specs.Loaded.{Loaded}
 use Rattle.tl_load.proofs.Steps.{ends_empty, ends_part}

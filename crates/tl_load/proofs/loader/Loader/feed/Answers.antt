@@ -1,5 +1,5 @@
-use Rattle.std.proofs.Common.{◌≡◌, ℕ, List, ◌++◌, refl, sym, ap, subst, ◌∙◌}
-use Rattle.std.specs.Prelude.{Option, Some, None, IfErr}
+use Rattle.std.proofs.Common.{◌≡◌, ℕ, List, ◌++◌, sym, ap, ◌∙◌}
+use Rattle.std.specs.Prelude.{None}
 use Rattle.tl_load.specs.Loaded.{Loaded, WasFed}
 use Rattle.tl_load.proofs.Histories.{fed_piece, told_at, with_fault_told}
 use Rattle.tl_load.proofs.Views.{none_is}

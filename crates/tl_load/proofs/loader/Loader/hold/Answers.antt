@@ -1,4 +1,4 @@
-use Rattle.std.proofs.Common.{◌≡◌, ℕ, List, ◌++◌, refl, sym, ap, ◌∙◌, arith}
+use Rattle.std.proofs.Common.{ℕ, List, ◌++◌, refl, ap, ◌∙◌, arith}
 use Rattle.tl_load.specs.Loaded.{Loaded}
 use Rattle.tl_load.proofs.Adding.{most_records}
 use Rattle.tl_load.proofs.Steps.{holds_more}

@@ -1,4 +1,4 @@
-use Rattle.std.proofs.Common.{◌≡◌, refl, sym, ap, subst, ◌∙◌, arith}
+use Rattle.std.proofs.Common.{sym}
 use Rattle.tl_load.proofs.Steps.{judges_record, judges_fault, place_not_device}
 use Rattle.tl_load.proofs.loader.Loader.judge_next.Goals as goal
 

@@ -1,4 +1,4 @@
-use Rattle.std.proofs.Common.{◌≡◌, ◌≤◌, refl, sym, ap, subst, ◌∙◌, arith, lit≤}
+use Rattle.std.proofs.Common.{lit≤}
 use Rattle.tl_load.proofs.Adding.{empty_loader}
 use Rattle.tl_load.proofs.Steps.{fed_nothing}
 use Rattle.tl_load.proofs.loader.Loader.new.Goals as goal

@@ -1,7 +1,7 @@
-use Rattle.std.proofs.Common.{◌≡◌, ℕ, ◌+◌, ◌≤◌, ◌<◌, List, [], ◌∷◌, ◌++◌, length, take, refl, sym, ap, subst, ◌∙◌, arith}
+use Rattle.std.proofs.Common.{◌≡◌, ℕ, ◌≤◌, ◌<◌, [], ◌++◌, length, take, refl, ap, ◌∙◌, arith}
 use Rattle.std.proofs.lemmas.Result.{err_from_is_err_and}
-use Rattle.std.proofs.lemmas.List.{length-append, length-take, append-nil}
-use Rattle.tl_load.specs.Loaded.{Loaded, bytes_used}
+use Rattle.std.proofs.lemmas.List.{length-append, length-take}
+use Rattle.tl_load.specs.Steps.{bytes_used}
 use Rattle.tl_load.proofs.Adding.{most_records}
 use Rattle.tl_load.proofs.ReadSteps.{consumes_nil, consumes_then, consumes_kept, consumes_none, fed_none, fed_more, reads_failed, reads_closed, reads_fault}
 use Rattle.tl_load.proofs.loader.Loader.read_to_end.Goals as goal

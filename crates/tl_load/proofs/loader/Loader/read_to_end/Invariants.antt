@@ -1,6 +1,6 @@
-use Rattle.std.proofs.Common.{◌≡◌, ℕ, ◌+◌, ◌-◌, ◌≤◌, List, length, Ok}
+use Rattle.std.proofs.Common.{◌≡◌, ℕ, ◌+◌, ◌-◌, ◌≤◌, List, length}
 use Rattle.std.specs.Io.KnownBytes.{Consumes}
-use Rattle.tl_load.specs.Loaded.{IsSamePart, Fed, bytes_used}
+use Rattle.tl_load.specs.Steps.{IsSamePart, Fed, bytes_used}
 use Rattle.tl_load.proofs.loader.Loader.read_to_end.Given as goal
 
 abbrev pub invariant-loop-count : goal.invariant-loop-count

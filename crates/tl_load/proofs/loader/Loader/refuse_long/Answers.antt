@@ -1,9 +1,10 @@
-use Rattle.std.proofs.Common.{◌≡◌, ◌<◌, ◌≤◌, ℕ, ◌+◌, ◌-◌, List, [], ◌∷◌, ◌++◌, length, take, drop, arith, refl, sym, ap, subst, ◌∙◌, append_assoc}
+use Rattle.std.proofs.Common.{◌≡◌, ◌≤◌, ℕ, ◌+◌, ◌-◌, List, ◌++◌, length, take, drop, arith, sym, ap, subst, ◌∙◌, append_assoc}
 use Rattle.std.proofs.lemmas.List.{take-append-drop, length-append, length-take, length-drop}
 use Rattle.std.proofs.lemmas.List.Elements.{All-append}
 use Rattle.std.specs.Prelude.{false}
 use Rattle.tl_load.specs.Lines.{is_line_feed, IsWithoutLineFeed}
-use Rattle.tl_load.specs.Loaded.{Loaded, Takes}
+use Rattle.tl_load.specs.Loaded.{Loaded}
+use Rattle.tl_load.specs.Steps.{Takes}
 use Rattle.std.specs.Result.{IsErr}
 use Rattle.tl_load.proofs.Steps.{refuses}
 use Rattle.tl_load.proofs.Views.{on_ok_of}

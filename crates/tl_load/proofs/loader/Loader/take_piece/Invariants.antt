@@ -1,5 +1,5 @@
-use Rattle.std.proofs.Common.{ℕ, ◌+◌, ◌≤◌, length}
-use Rattle.tl_load.specs.Loaded.{Leaves, IsSamePart, bytes_used}
+use Rattle.std.proofs.Common.{◌+◌, ◌≤◌, length}
+use Rattle.tl_load.specs.Steps.{Leaves, IsSamePart, bytes_used}
 use Rattle.tl_load.proofs.loader.Loader.take_piece.Given as goal
 
 abbrev pub invariant-loop-end : goal.invariant-loop-end
