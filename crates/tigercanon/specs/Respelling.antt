@@ -3,6 +3,7 @@ use Rattle.std.specs.Prelude.{◌≡◌, ℕ, List}
 use Rattle.tl_layout.specs.declared.record_type.Record.{Record}
 use Rattle.tl_layout.specs.RecordText.{text_of}
 use Rattle.tl_load.specs.declared.fault.LoadFault.{LoadFault}
+use Rattle.tl_load.specs.declared.fault.LoadFault.TheVariants.{Memory as LoadMemory}
 use Rattle.tl_load.specs.Choice.{tiger}
 use Rattle.tl_load.specs.Loaded.{IsOfLines}
 use Rattle.tl_load.specs.Outcome.{Accepts, FaultAt}
@@ -32,3 +33,9 @@ IsOfSet Memory = ⊥
 abbrev pub TellsFirstFault : List (List ℕ) → Fault → Type 0
 TellsFirstFault parts (Load fault) = IsOfLines fault → IsFirstFault parts fault
 TellsFirstFault parts Memory = Unit {0}
+
+-- the fault is want of memory
+abbrev pub IsWantOfMemory : Fault → Type 0
+IsWantOfMemory (Load LoadMemory) = Unit {0}
+IsWantOfMemory (Load _) = ⊥
+IsWantOfMemory Memory = Unit {0}

@@ -1,8 +1,9 @@
 //! Records in canonical spelling, in the order of their lines.
 
-ghost use Rattle.std.specs.Prelude.{◌≡◌, ◌≢◌, Err, [], ◌∷◌, ◌++◌, map, OnOk, IfOk, IfErr};
-ghost use Rattle.tigercanon.specs.Respelling.{record_limit, IsRespelt, IsFirstFault, TellsFirstFault};
+ghost use Rattle.std.specs.Prelude.{◌≡◌, ◌≢◌, Err, List, [], ◌∷◌, ◌++◌, map, OnOk, IfOk, IfErr};
+ghost use Rattle.tigercanon.specs.Respelling.{record_limit, IsRespelt, IsFirstFault, TellsFirstFault, IsWantOfMemory};
 ghost use Rattle.tl_layout.specs.RecordText.{spelling_of, text_of};
+ghost use Rattle.tl_layout.specs.declared.record_type.Record.{Record};
 ghost use Rattle.tl_load.specs.Choice.{tiger};
 ghost use Rattle.tl_load.specs.Loaded.{IsOfLines, IsNotDevice};
 ghost use Rattle.tl_load.specs.Outcome.{Accepts};
@@ -68,6 +69,8 @@ pub fn respell(alloc: Global, parts: &[&[u8]]) -> Result<Vec<u8>, Fault>
     ensures respelt { IfOk result (λ text. IsRespelt (map (λ p. p.now) parts.now) text.items) }
     ensures faulty { IfErr result (TellsFirstFault (map (λ p. p.now) parts.now)) }
     ensures no_device { result ≢ Err (Fault.Load LoadFault.Device) }
+    // Where the parts spell records, nothing but want of memory is told.
+    ensures succeeds { (records : List Record) → Accepts tiger record_limit (map (λ p. p.now) parts.now) records → IfErr result IsWantOfMemory }
 {
     let records = load(alloc, parts)?;
     Ok(text(alloc, &records)?)
