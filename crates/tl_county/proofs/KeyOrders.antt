@@ -6,7 +6,7 @@ use Rattle.std.proofs.lemmas.Cmp.{nat_cmp_total, int_cmp_total, nat_list_cmp_tot
 use Rattle.std.proofs.lemmas.Map.Lookups.{exact_unsigned, exact_signed, exact_bytes, exact_pairs}
 use Rattle.tl_layout.specs.Coordinates.{Coordinates}
 use Rattle.tl_county.specs.PolygonKeys.{PolygonKey, key_cmp}
-use Rattle.tl_county.specs.PointOrder.{point_cmp, points_cmp}
+use Rattle.tl_shape.specs.PointOrder.{point_cmp, points_cmp}
 use Rattle.tl_layout.specs.Fields.{Fields8}
 use Rattle.tl_layout.specs.declared.name.FeatureName.{FeatureName}
 use Rattle.tl_layout.specs.declared.type5.Body5.{Body5}

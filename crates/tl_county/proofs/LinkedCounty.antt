@@ -10,7 +10,7 @@ use Rattle.tl_layout.specs.declared.record_type.Record.{Record}
 use Rattle.tl_county.specs.declared.fault.LinkFault.TheVariants.{ChainTwice, LinkMissing, LinkTwice, NameTwice, NameUnknown, LandUnknown, PolygonUnknown}
 use Rattle.tl_county.specs.BodyOrder.{landmark_body_cmp, link_cmp}
 use Rattle.tl_county.specs.ByType.{ones, fours, fives, sevens, eights, is, ps, of_number}
-use Rattle.tl_county.specs.Chain.{Chain}
+use Rattle.tl_shape.specs.Chain.{Chain}
 use Rattle.tl_county.specs.County.{one_tlid, four_tlid, four_rtsq, five_feat, seven_land, eight_land, eight_key, i_tlid, p_key, further_names, chain_of, chains_of, side_keys, polygon_body, county_of}
 use Rattle.tl_county.specs.CountyRules.{IsCounty, tlids, feats, polygon_keys, lands, chain_polygons, link_key, AllStandIn, AllKeysStandIn}
 use Rattle.tl_county.specs.LinkRules.{IsLinked, chain_tlids, named_feats}

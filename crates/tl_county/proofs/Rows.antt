@@ -8,9 +8,10 @@ use Rattle.tl_county.specs.declared.fault.LinkedType.TheVariants.{Two as Type2}
 use Rattle.tl_county.specs.County.{county_of}
 use Rattle.tl_county.specs.CountyRules.{polygon_keys, nodes}
 use Rattle.tl_county.specs.LinkRules.{IsLinked, IsFirstBrokenRule}
-use Rattle.tl_county.specs.Chain.{Chain}
+use Rattle.tl_shape.specs.Chain.{Chain}
 use Rattle.tl_county.specs.Renumbering.{Renumbering, Carries, AreSame, carried_chain, renumbered, turns, image}
-use Rattle.tl_county.specs.Turned.{turned_body, turned_if}
+use Rattle.tl_layout.specs.Turned.{turned_body}
+use Rattle.tl_shape.specs.Turned.{turned_if}
 use Rattle.tl_county.proofs.Members.{among-permutation}
 use Rattle.tl_county.proofs.LinkFaults.{linked_computed, first_rule_computed}
 use Rattle.tl_county.proofs.Samples.{filled, right, street, ranges_back, east_end, street_there, street_back, west_end, link_body, no_side, cenid_1, cenid_2, there, back, back_wrong, back_shaped, there_shaped, canonical_shaped, points_up, two_polygons, named, schools, landmark, in_polygon, four, two, chain_there, meeting, old_mill}

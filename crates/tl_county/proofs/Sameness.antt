@@ -5,13 +5,14 @@ use Rattle.std.proofs.lemmas.List.{reverse-reverse}
 use Rattle.std.proofs.lemmas.List.Sorted.{IsPermutation-refl, IsPermutation-map, IsPermutation-trans, IsPermutation-sym}
 use Rattle.std.specs.List.{AllByRecursion}
 use Rattle.tl_layout.specs.Fields.{Fields8}
-use Rattle.tl_county.specs.Chain.{Chain}
+use Rattle.tl_shape.specs.Chain.{Chain}
 use Rattle.tl_county.specs.County.{County}
 use Rattle.tl_county.specs.CountyRules.{IsCounty, IsClosed, tlids, feats, polygon_keys, lands, nodes, nodes_along, chain_nodes, chain_polygons, link_key, AllStandIn, AllKeysStandIn}
 use Rattle.tl_county.specs.Orders.{times, stands_in, has_repeat}
 use Rattle.tl_county.specs.PolygonKeys.{PolygonKey, key_cmp, key_on, key_under}
 use Rattle.tl_county.specs.Renumbering.{Renumbering, image, turns, renumbered_polygon, renumbered_side, renumbered, carried_chain, carried_name, carried_polygon, carried_landmark, carried_link, ArePaired, Carries, AreSame, to_itself, identity, swapped, is_named, inverse, joined, exactly_one, then}
-use Rattle.tl_county.specs.Turned.{turned_ranges, turned, turned_if}
+use Rattle.tl_layout.specs.Turned.{turned_ranges}
+use Rattle.tl_shape.specs.Turned.{turned, turned_if}
 use Rattle.tl_county.proofs.Lists.{map_itself, map-map, map_agree_all, all_weaker, all_map, all_unmap, all_left, all_right, all_pieces, all_filter}
 use Rattle.tl_county.proofs.Keys.{IsKeyOrder, IsApart, Known, nat_keys, lefts, rights, filter_all, same_or_not, apart_from_sorted, apart-permutation, known-permutation, known-permutation_to, all_known, image-known, times-images, has_repeat-images, apart-filter, stands_in-filter, image-back, image-yes, image-no, rights-swapped, lefts-swapped, image-to_itself, lefts-to_itself, rights-to_itself, images-lefts, followed, joined-followed, image-followed, lefts-followed, rights-followed}
 use Rattle.tl_county.proofs.KeyOrders.{key_keys}

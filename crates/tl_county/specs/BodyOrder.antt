@@ -8,7 +8,7 @@ use Rattle.tl_layout.specs.Fields.{Fields8}
 use Rattle.tl_layout.specs.declared.name.FeatureName.{FeatureName}
 use Rattle.tl_layout.specs.declared.type5.Body5.{Body5}
 use Rattle.tl_layout.specs.declared.type7.Body7.{Body7}
-use Rattle.tl_county.specs.PointOrder.{points_cmp}
+use Rattle.tl_shape.specs.PointOrder.{points_cmp}
 
 -- bytes by their first difference, a beginning first
 abbrev pub bytes_cmp : List ℕ → List ℕ → Ordering

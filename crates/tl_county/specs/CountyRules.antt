@@ -5,7 +5,7 @@ use Rattle.std.specs.List.Sorted.{IsStrictlySortedBy}
 use Rattle.std.specs.Ordering.{nat_cmp}
 use Rattle.tl_layout.specs.Fields.{Fields8}
 use Rattle.tl_county.specs.BodyOrder.{landmark_body_cmp, link_cmp}
-use Rattle.tl_county.specs.Chain.{Chain}
+use Rattle.tl_shape.specs.Chain.{Chain}
 use Rattle.tl_county.specs.County.{County}
 use Rattle.tl_county.specs.Orders.{IsInOrder, stands_in, distinct}
 use Rattle.tl_county.specs.PolygonKeys.{PolygonKey, key_cmp, key_on}

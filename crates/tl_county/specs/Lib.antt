@@ -1,9 +1,6 @@
 pub mod Orders
-pub mod PointOrder
 pub mod PolygonKeys
 pub mod BodyOrder
-pub mod Chain
-pub mod Turned
 pub mod ByType
 pub mod County
 pub mod CountyRules

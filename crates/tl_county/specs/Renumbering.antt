@@ -8,12 +8,12 @@ use Rattle.tl_layout.specs.PolygonSide.{PolygonSide}
 use Rattle.tl_layout.specs.declared.type5.Body5.{Body5}
 use Rattle.tl_layout.specs.declared.type7.Body7.{Body7}
 use Rattle.tl_layout.specs.declared.type_p.BodyP.{BodyP}
-use Rattle.tl_county.specs.Chain.{Chain}
+use Rattle.tl_shape.specs.Chain.{Chain}
 use Rattle.tl_county.specs.County.{County}
 use Rattle.tl_county.specs.CountyRules.{tlids, feats, polygon_keys, lands, nodes, link_key}
 use Rattle.tl_county.specs.Orders.{stands_in, has_repeat}
 use Rattle.tl_county.specs.PolygonKeys.{PolygonKey, key_cmp}
-use Rattle.tl_county.specs.Turned.{turned_if}
+use Rattle.tl_shape.specs.Turned.{turned_if}
 
 -- Each old number with its new one, kind by kind, and the old TLIDs of the chains that are turned.
 pub record Renumbering : Type 0 where

@@ -1,11 +1,12 @@
 //! Laws of the definitions in `specs/`. The functions do nothing; their contracts are the laws.
 
 ghost use Rattle.std.specs.Prelude.{◌≡◌, ◌⊎◌, IsPermutation, List, map, reverse};
-ghost use Rattle.tl_county.specs.Chain.{Chain};
+ghost use Rattle.tl_shape.specs.Chain.{Chain};
 ghost use Rattle.tl_county.specs.County.{County, county_of};
 ghost use Rattle.tl_county.specs.LinkRules.{IsFirstBrokenRule, IsLinked};
 ghost use Rattle.tl_county.specs.Repacked.{AreRepacked, KeepsSequence, Sequence, resequenced};
-ghost use Rattle.tl_county.specs.Turned.{turned, turned_ranges};
+ghost use Rattle.tl_layout.specs.Turned.{turned_ranges};
+ghost use Rattle.tl_shape.specs.Turned.{turned};
 ghost use Rattle.tl_county.specs.declared.fault.LinkFault.{LinkFault};
 ghost use Rattle.tl_layout.specs.declared.ranges.Ranges.{Ranges};
 ghost use Rattle.tl_layout.specs.declared.record_type.Record.{Record};

@@ -1,5 +1,5 @@
 -- What bytes a line may hold, and the bytes of a column.
-use Rattle.std.specs.Prelude.{◌≡◌, ℕ, ◌-◌, ◌≤◌, ◌<◌, List, [], ◌∷◌, length, Bool, nat_le, nat_lt, ◌&&◌, ◌||◌, IsTrue, slice_range, All}
+use Rattle.std.specs.Prelude.{◌≡◌, ℕ, ◌-◌, List, [], ◌∷◌, length, Bool, nat_le, nat_lt, ◌&&◌, ◌||◌, IsTrue, slice_range, All}
 
 -- a byte that a line may hold: printable ASCII, or the upper half of Latin-1 from its no-break space on
 abbrev pub is_allowed : ℕ → Bool

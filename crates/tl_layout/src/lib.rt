@@ -1,15 +1,20 @@
 //! The record layouts of TIGER/Line 2006: each record type as a value, read from a line and written canonically.
 #![tactic(auto)]
 
+mod coordinate;
 mod fault;
+mod field;
 mod layout;
 mod name;
+mod number;
 mod pair;
+mod place;
 mod point;
 mod ranges;
 mod record_type;
 mod side;
 mod text;
+mod turn;
 mod type1;
 mod type2;
 mod type4;
@@ -19,6 +24,7 @@ mod type7;
 mod type8;
 mod type_i;
 mod type_p;
+mod writing;
 
 pub use fault::{DeviceFault, FieldFault, FieldKind};
 pub use layout::Layout;
@@ -29,6 +35,7 @@ pub use ranges::Ranges;
 pub use record_type::Record;
 pub use side::Side;
 pub use text::Text;
+pub use turn::Turn;
 pub use type_i::{BodyI, RecI};
 pub use type_p::{BodyP, RecP};
 pub use type1::{Body1, GeographicEntities, NativeAreas, Rec1};

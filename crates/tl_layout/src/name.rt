@@ -1,6 +1,12 @@
 //! The name of a feature, as record types 1 and 5 hold it.
 
+ghost use Rattle.std.specs.Prelude.{◌≡◌, ◌+◌, ◌-◌, ◌≤◌, length, take};
+ghost use Rattle.tl_layout.specs.Bytes.{AreAllowed};
+ghost use Rattle.tl_layout.specs.Columns.{joined};
+
+use crate::field::text_at;
 use crate::text::Text;
+use crate::writing::write_text;
 
 /// A feature's name: 38 bytes (record type 1, columns 18-55; record type 5, columns 19-56).
 #[derive(Clone, Copy, Debug, PartialEq, Eq)]
@@ -13,4 +19,36 @@ pub struct FeatureName {
     pub fetype: Text<4>,
     /// Direction after the name (FEDIRS).
     pub fedirs: Text<2>,
+}
+
+impl FeatureName {
+    ghost use Rattle.tl_layout.specs.Names.{FitsName, name_at, name_texts};
+
+    /// The name that begins in this column of a line.
+    pub(crate) fn at(line: &[u8], first: usize) -> FeatureName
+        requires allowed { AreAllowed line.now }
+        requires from_one { 1 ≤ first }
+        requires within { (first + 37 ≤ length line.now) × (first ≤ 191) }
+        ensures { result ≡ name_at first line.now }
+    {
+        FeatureName {
+            fedirp: text_at(line, first, first + 1),
+            fename: text_at(line, first + 2, first + 31),
+            fetype: text_at(line, first + 32, first + 35),
+            fedirs: text_at(line, first + 36, first + 37),
+        }
+    }
+
+    /// Writes the name from this column on.
+    pub(crate) fn put(&self, out: &mut [u8], first: usize)
+        requires from_one { 1 ≤ first }
+        requires within { (first + 37 ≤ length out.old) × (first ≤ 191) }
+        ensures written { take (first + 37) out.new ≡ joined (take (first - 1) out.old) (name_texts self.now) }
+        ensures fits { FitsName self.now }
+    {
+        write_text(out, first, first + 1, &self.fedirp);
+        write_text(out, first + 2, first + 31, &self.fename);
+        write_text(out, first + 32, first + 35, &self.fetype);
+        write_text(out, first + 36, first + 37, &self.fedirs);
+    }
 }

@@ -1,10 +1,44 @@
 //! A field that stands once for the left and once for the right side of a chain.
 
+ghost use Rattle.std.specs.Prelude.{◌≡◌, ◌+◌, ◌-◌, ◌*◌, ◌≤◌, length, take};
+ghost use Rattle.tl_layout.specs.Bytes.{AreAllowed};
+ghost use Rattle.tl_layout.specs.Columns.{joined};
+
+use crate::field::text_at;
 use crate::text::Text;
+use crate::writing::write_text;
 
 /// The left and the right field of one name, seen from the start node to the end node.
 #[derive(Clone, Copy, Debug, PartialEq, Eq)]
 pub struct LeftRight<const N: usize> {
     pub left: Text<N>,
     pub right: Text<N>,
+}
+
+impl<const N: usize> LeftRight<N> {
+    ghost use Rattle.tl_layout.specs.Pairs.{FitsPair, pair_at, pair_texts};
+
+    /// The pair that begins in this column of a line.
+    pub(crate) fn at(line: &[u8], first: usize) -> LeftRight<N>
+        requires allowed { AreAllowed line.now }
+        requires from_one { 1 ≤ first }
+        requires within { (first + 2 * N ≤ length line.now + 1) × (first + 2 * N ≤ 229) }
+        ensures { result ≡ pair_at N first line.now }
+    {
+        LeftRight {
+            left: text_at(line, first, first + N - 1),
+            right: text_at(line, first + N, first + 2 * N - 1),
+        }
+    }
+
+    /// Writes the pair from this column on.
+    pub(crate) fn put(&self, out: &mut [u8], first: usize)
+        requires from_one { 1 ≤ first }
+        requires within { (first + 2 * N ≤ length out.old + 1) × (first + 2 * N ≤ 229) }
+        ensures written { take (first + 2 * N - 1) out.new ≡ joined (take (first - 1) out.old) (pair_texts N self.now) }
+        ensures fits { FitsPair N self.now }
+    {
+        write_text(out, first, first + N - 1, &self.left);
+        write_text(out, first + N, first + 2 * N - 1, &self.right);
+    }
 }

@@ -6,8 +6,8 @@ ghost use Rattle.tl_layout.specs.Coordinates.{Coordinates, IsOnMap};
 use std::marker::Model;
 
 /// A point of the map, in millionths of a degree: a longitude of magnitude at most 999,999,999 and a latitude of
-/// magnitude at most 99,999,999, not both 0.
-#[derive(Clone, Copy, Debug, PartialEq, Eq)]
+/// magnitude at most 99,999,999, not both 0. Points are ordered by longitude, then by latitude, as numbers.
+#[derive(Clone, Copy, Debug, PartialEq, Eq, PartialOrd, Ord)]
 pub struct Point {
     long: i32,
     lat: i32,
@@ -46,5 +46,16 @@ impl Point {
         ensures on_map { IsOnMap self.now }
     {
         self.lat
+    }
+}
+
+/// The point at longitude 0 and one millionth of a degree north: it only fills arrays, and stands for no place of a map.
+impl Default for Point {
+    ghost use Rattle.std.specs.Prelude.{◌≡◌, pos};
+
+    ghost is_default = { λ p. p ≡ record { long = pos 0; lat = pos 1 } };
+
+    fn default() -> Point {
+        Point::new(0, 1)
     }
 }

@@ -1,7 +1,8 @@
 //! The polygon on one side of a chain.
 
-ghost use Rattle.std.specs.Prelude.{◌≡◌, List, ℕ, Option};
-ghost use Rattle.tl_layout.specs.PolygonSide.{PolygonSide, FitsSide};
+ghost use Rattle.std.specs.Prelude.{◌≡◌};
+ghost use Rattle.tl_layout.specs.Numbers.{IsNumberOrNone};
+ghost use Rattle.tl_layout.specs.PolygonSide.{PolygonSide};
 
 use crate::text::Text;
 use std::marker::Model;
@@ -19,7 +20,32 @@ impl Model for Side {
 
     ghost view = { λ s. record { cenid = s.cenid; polyid = s.polyid } };
 
-    ghost invariant = { λ s. FitsSide (record { cenid = s.cenid; polyid = s.polyid }) };
+    ghost invariant = { λ s. IsNumberOrNone 10 s.polyid };
 
     ghost inverse = { λ s. record { cenid = s.cenid; polyid = s.polyid } };
+}
+
+impl Side {
+    /// The side with this CENID, and with the polygon of this POLYID or none.
+    pub fn new(cenid: Text<5>, polyid: Option<u64>) -> Side
+        requires { IsNumberOrNone 10 polyid }
+        ensures { result ≡ record { cenid = cenid; polyid = polyid } }
+    {
+        Side { cenid, polyid }
+    }
+
+    /// The CENID (CENIDL or CENIDR).
+    pub fn cenid(&self) -> &Text<5>
+        ensures { result.now ≡ self.now.cenid }
+    {
+        &self.cenid
+    }
+
+    /// The POLYID, or none (POLYIDL or POLYIDR).
+    pub fn polyid(&self) -> Option<u64>
+        ensures value { result ≡ self.now.polyid }
+        ensures in_range { IsNumberOrNone 10 result }
+    {
+        self.polyid
+    }
 }

@@ -1,10 +1,19 @@
 //! Record type 1: a chain's basic data.
 
+ghost use Rattle.std.specs.Prelude.{◌≡◌, ◌≤◌, length, take};
+ghost use Rattle.tl_layout.specs.Bytes.{IsText};
+ghost use Rattle.tl_layout.specs.Columns.{joined};
+ghost use Rattle.tl_layout.specs.Numbers.{IsNumber};
+
+use crate::fault::FieldFault;
+use crate::field::{read_number, read_point, text_at};
+use crate::layout::Layout;
 use crate::name::FeatureName;
 use crate::pair::LeftRight;
 use crate::point::Point;
 use crate::ranges::Ranges;
 use crate::text::Text;
+use crate::writing::{write_head, write_number, write_point, write_text};
 use std::marker::Model;
 
 /// The American Indian, Alaska Native and Hawaiian Home Land areas beside a chain (columns 117-128).
@@ -78,4 +87,187 @@ impl Model for Rec1 {
     ghost invariant = { λ r. IsNumber 10 r.tlid };
 
     ghost inverse = { λ r. record { tlid = r.tlid; body = r.body; start = r.start; end = r.end } };
+}
+
+impl GeographicEntities {
+    ghost use Rattle.tl_layout.specs.Type1.{FitsEntities, entities_at, entities_texts};
+
+    /// The geographic entities in the columns of a full line.
+    fn at(line: &[u8]) -> GeographicEntities
+        requires { IsText 228 line.now }
+        ensures { result ≡ entities_at line.now }
+    {
+        GeographicEntities {
+            state: LeftRight::at(line, 131),
+            county: LeftRight::at(line, 135),
+            cousub: LeftRight::at(line, 141),
+            submcd: LeftRight::at(line, 151),
+            place: LeftRight::at(line, 161),
+            tract: LeftRight::at(line, 171),
+            block: LeftRight::at(line, 183),
+        }
+    }
+
+    /// Writes the geographic entities into columns 131 to 190.
+    fn put(&self, out: &mut [u8])
+        requires { 190 ≤ length out.old }
+        ensures written { take 190 out.new ≡ joined (take 130 out.old) (entities_texts self.now) }
+        ensures fits { FitsEntities self.now }
+    {
+        self.state.put(out, 131);
+        self.county.put(out, 135);
+        self.cousub.put(out, 141);
+        self.submcd.put(out, 151);
+        self.place.put(out, 161);
+        self.tract.put(out, 171);
+        self.block.put(out, 183);
+    }
+}
+
+impl Body1 {
+    ghost use Rattle.tl_layout.specs.Type1.{FitsBody1, body_1_at, body_1_texts};
+
+    /// The content in the columns of a full line.
+    fn at(line: &[u8]) -> Body1
+        requires { IsText 228 line.now }
+        ensures { result ≡ body_1_at line.now }
+    {
+        Body1 {
+            side1: text_at(line, 16, 16),
+            source: text_at(line, 17, 17),
+            name: FeatureName::at(line, 18),
+            cfcc: text_at(line, 56, 58),
+            ranges: Ranges::at(line, 59),
+            native_areas: NativeAreas {
+                aianhhfp: LeftRight::at(line, 117),
+                aihhtli: LeftRight::at(line, 127),
+            },
+            census1: text_at(line, 129, 129),
+            census2: text_at(line, 130, 130),
+            entities: GeographicEntities::at(line),
+        }
+    }
+
+    /// Writes the content into columns 16 to 190.
+    fn put(&self, out: &mut [u8])
+        requires { 190 ≤ length out.old }
+        ensures written { take 190 out.new ≡ joined (take 15 out.old) (body_1_texts self.now) }
+        ensures fits { FitsBody1 self.now }
+    {
+        write_text(out, 16, 16, &self.side1);
+        write_text(out, 17, 17, &self.source);
+        self.name.put(out, 18);
+        write_text(out, 56, 58, &self.cfcc);
+        self.ranges.put(out, 59);
+        self.native_areas.aianhhfp.put(out, 117);
+        self.native_areas.aihhtli.put(out, 127);
+        write_text(out, 129, 129, &self.census1);
+        write_text(out, 130, 130, &self.census2);
+        self.entities.put(out);
+    }
+}
+
+impl Rec1 {
+    ghost use Rattle.tl_layout.specs.Type1.{type_1_reading};
+
+    /// The record of these fields. The TLID is from 1 to 9,999,999,999.
+    pub fn new(tlid: u64, body: Body1, start: Point, end: Point) -> Rec1
+        requires { IsNumber 10 tlid }
+        ensures { result ≡ record { tlid = tlid; body = body; start = start; end = end } }
+    {
+        Rec1 {
+            tlid,
+            body,
+            start,
+            end,
+        }
+    }
+
+    /// Number of the chain (TLID), from 1 to 9,999,999,999.
+    pub fn tlid(&self) -> u64
+        ensures value { result ≡ self.now.tlid }
+        ensures in_range { IsNumber 10 result }
+    {
+        self.tlid
+    }
+
+    /// All but the TLID and the two points.
+    pub fn body(&self) -> &Body1
+        ensures { result.now ≡ self.now.body }
+    {
+        &self.body
+    }
+
+    /// The chain's first point (FRLONG, FRLAT).
+    pub fn start(&self) -> Point
+        ensures { result ≡ self.now.start }
+    {
+        self.start
+    }
+
+    /// The chain's last point (TOLONG, TOLAT).
+    pub fn end(&self) -> Point
+        ensures { result ≡ self.now.end }
+    {
+        self.end
+    }
+
+    /// What a full line is read as.
+    #[tactic(auto, unfolding(crate::specs::Type1::type_1_reading, crate::specs::FieldReading::and_then))]
+    fn read(line: &[u8]) -> Result<Rec1, FieldFault>
+        requires { IsText 228 line.now }
+        ensures { result ≡ type_1_reading line.now }
+    {
+        let tlid = read_number(line, 6, 15)?;
+        let start = read_point(line, 191)?;
+        let end = read_point(line, 210)?;
+        Ok(Rec1::new(tlid, Body1::at(line), start, end))
+    }
+}
+
+impl Layout for Rec1 {
+    ghost use Rattle.std.specs.Prelude.{ℕ, List};
+    ghost use Rattle.std.proofs.Common.{lit≤};
+    ghost use Rattle.tl_layout.specs.Type1.{FitsType1, SpellsType1, type_1_reading, type_1_spelling};
+    ghost use Rattle.tl_layout.specs.Type1Laws.{type_1_spelling_is_line, type_1_reads_spelling, type_1_reads_spelled, type_1_spelled_is_read};
+
+    const LEN: usize = 228;
+
+    ghost LEN = { 228 };
+
+    const RTYPE: u8 = b'1';
+
+    ghost RTYPE = { 49 };
+
+    ghost Fits = { FitsType1 };
+
+    ghost Spells = { SpellsType1 };
+
+    ghost reading = { type_1_reading };
+
+    ghost spelling = { type_1_spelling };
+
+    #[tactic(auto, using(crate::specs::Type1Laws::type_1_reads_spelled))]
+    fn take(line: &[u8]) -> Result<Rec1, FieldFault> {
+        Rec1::read(line)
+    }
+
+    #[tactic(auto, unfolding(crate::specs::Type1::type_1_spelling))]
+    fn put(&self, out: &mut [u8]) {
+        write_head(out, b'1');
+        write_number(out, 6, 15, self.tlid);
+        self.body.put(out);
+        write_point(out, 191, &self.start);
+        write_point(out, 210, &self.end);
+    }
+
+    ghost bounded = { (lit≤ tt, lit≤ tt) };
+
+    ghost spelling_is_line = { type_1_spelling_is_line };
+
+    ghost reads_spelling = { type_1_reads_spelling };
+
+    ghost reads_spelled = { type_1_reads_spelled };
+
+    ghost spelled_is_read = { type_1_spelled_is_read };
 }

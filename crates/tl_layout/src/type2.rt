@@ -1,6 +1,19 @@
 //! Record type 2: shape points of a chain.
 
+ghost use Rattle.std.specs.Prelude.{◌≡◌, ◌≤◌, ◌++◌, length, take, false};
+ghost use Rattle.std.specs.List.{AllByRecursion};
+ghost use Rattle.tl_layout.specs.Bytes.{IsText};
+ghost use Rattle.tl_layout.specs.Coordinates.{IsOnMap};
+ghost use Rattle.tl_layout.specs.Numbers.{IsNumber};
+ghost use Rattle.tl_layout.specs.FieldReading.{Gives, point_or_none_at, point_place_text};
+ghost use Rattle.tl_layout.specs.Places.{places_reading, places_text};
+
+use crate::fault::FieldFault;
+use crate::field::{gap, read_number, read_point_or_none};
+use crate::layout::Layout;
+use crate::place::write_points;
 use crate::point::Point;
+use crate::writing::{write_head, write_number};
 use arrayvec::ArrayVec;
 use std::marker::Model;
 
@@ -21,4 +34,125 @@ impl Model for Rec2 {
     ghost view = { λ r. record { tlid = r.tlid; rtsq = r.rtsq; points = r.points.items } };
 
     ghost invariant = { λ r. IsNumber 10 r.tlid × IsNumber 3 r.rtsq };
+}
+
+/// The points in the ten places of a full line.
+fn read_points(line: &[u8]) -> Result<ArrayVec<Point, 10>, FieldFault>
+    requires { IsText 208 line.now }
+    ensures { Gives (λ points. points.items) result (places_reading (λ column. point_or_none_at column line.now) 19 false 10 19) }
+{
+    let mut points = ArrayVec::new();
+    let mut unused = false;
+    for place in 0..10 {
+        let column = 19 + 19 * place;
+        let point = match read_point_or_none(line, column) {
+            Ok(point) => point,
+            Err(fault) => return Err(fault),
+        };
+        match point {
+            None => unused = true,
+            Some(point) => {
+                if unused {
+                    return Err(gap(column));
+                }
+                points.push(point);
+            }
+        }
+    }
+    Ok(points)
+}
+
+impl Rec2 {
+    ghost use Rattle.tl_layout.specs.Type2.{type_2_reading};
+
+    /// The record of these fields.
+    pub fn new(tlid: u64, rtsq: u16, points: ArrayVec<Point, 10>) -> Rec2
+        requires tlid { IsNumber 10 tlid }
+        requires rtsq { IsNumber 3 rtsq }
+        ensures { result ≡ record { tlid = tlid; rtsq = rtsq; points = points.items } }
+    {
+        Rec2 { tlid, rtsq, points }
+    }
+
+    /// Number of the chain (TLID), from 1 to 9,999,999,999.
+    pub fn tlid(&self) -> u64
+        ensures value { result ≡ self.now.tlid }
+        ensures in_range { IsNumber 10 result }
+    {
+        self.tlid
+    }
+
+    /// Place of the record among those of its chain (RTSQ), from 1 to 999.
+    pub fn rtsq(&self) -> u16
+        ensures value { result ≡ self.now.rtsq }
+        ensures in_range { IsNumber 3 result }
+    {
+        self.rtsq
+    }
+
+    /// The used places, from left to right.
+    pub fn points(&self) -> &[Point]
+        ensures value { result.now ≡ self.now.points }
+        ensures len { length result.now ≤ 10 }
+    {
+        self.points.as_slice()
+    }
+
+    /// What a full line is read as.
+    #[tactic(auto, unfolding(crate::specs::Type2::type_2_reading, crate::specs::FieldReading::and_then))]
+    fn read(line: &[u8]) -> Result<Rec2, FieldFault>
+        requires { IsText 208 line.now }
+        ensures { result ≡ type_2_reading line.now }
+    {
+        let tlid = read_number(line, 6, 15)?;
+        let rtsq = read_number(line, 16, 18)?;
+        let points = read_points(line)?;
+        Ok(Rec2::new(tlid, rtsq as u16, points))
+    }
+}
+
+impl Layout for Rec2 {
+    ghost use Rattle.std.specs.Prelude.{ℕ, List};
+    ghost use Rattle.std.proofs.Common.{lit≤};
+    ghost use Rattle.tl_layout.specs.Type2.{FitsType2, SpellsType2, type_2_reading, type_2_spelling};
+    ghost use Rattle.tl_layout.specs.Type2Laws.{type_2_spelling_is_line, type_2_reads_spelling, type_2_reads_spelled, type_2_spelled_is_read};
+
+    const LEN: usize = 208;
+
+    ghost LEN = { 208 };
+
+    const RTYPE: u8 = b'2';
+
+    ghost RTYPE = { 50 };
+
+    ghost Fits = { FitsType2 };
+
+    ghost Spells = { SpellsType2 };
+
+    ghost reading = { type_2_reading };
+
+    ghost spelling = { type_2_spelling };
+
+    #[tactic(auto, using(crate::specs::Type2Laws::type_2_reads_spelled))]
+    fn take(line: &[u8]) -> Result<Rec2, FieldFault> {
+        Rec2::read(line)
+    }
+
+    #[tactic(auto, unfolding(crate::specs::Type2::type_2_spelling))]
+    fn put(&self, out: &mut [u8]) {
+        write_head(out, b'2');
+        write_number(out, 6, 15, self.tlid);
+        write_number(out, 16, 18, u64::from(self.rtsq));
+        write_points(out, self.points.as_slice());
+    }
+
+    ghost bounded = { (lit≤ tt, lit≤ tt) };
+
+    ghost spelling_is_line = { type_2_spelling_is_line };
+
+    ghost reads_spelling = { type_2_reads_spelling };
+
+    ghost reads_spelled = { type_2_reads_spelled };
+
+    ghost spelled_is_read = { type_2_spelled_is_read };
 }

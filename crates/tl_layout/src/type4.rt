@@ -1,5 +1,17 @@
 //! Record type 4: further names of a chain.
 
+ghost use Rattle.std.specs.Prelude.{◌≡◌, ◌+◌, ◌≤◌, length, false};
+ghost use Rattle.std.specs.List.{AllByRecursion};
+ghost use Rattle.tl_layout.specs.Bytes.{IsText};
+ghost use Rattle.tl_layout.specs.Numbers.{IsNumber};
+ghost use Rattle.tl_layout.specs.FieldReading.{Gives, number_or_none_at};
+ghost use Rattle.tl_layout.specs.Places.{places_reading};
+
+use crate::fault::FieldFault;
+use crate::field::{gap, read_number, read_number_or_none};
+use crate::layout::Layout;
+use crate::place::write_feats;
+use crate::writing::{write_head, write_number};
 use arrayvec::ArrayVec;
 use std::marker::Model;
 
@@ -21,4 +33,127 @@ impl Model for Rec4 {
     ghost view = { λ r. record { tlid = r.tlid; rtsq = r.rtsq; feats = r.feats.items } };
 
     ghost invariant = { λ r. IsNumber 10 r.tlid × IsNumber 3 r.rtsq × AllByRecursion (IsNumber 8) r.feats.items };
+}
+
+/// The FEATs in the five places of a full line.
+fn read_feats(line: &[u8]) -> Result<ArrayVec<u32, 5>, FieldFault>
+    requires { IsText 58 line.now }
+    ensures { Gives (λ feats. feats.items) result (places_reading (λ column. number_or_none_at column (column + 7) line.now) 8 false 5 19) }
+{
+    let mut feats = ArrayVec::new();
+    let mut unused = false;
+    for place in 0..5 {
+        let column = 19 + 8 * place;
+        let feat = match read_number_or_none(line, column, column + 7) {
+            Ok(feat) => feat,
+            Err(fault) => return Err(fault),
+        };
+        match feat {
+            None => unused = true,
+            Some(feat) => {
+                if unused {
+                    return Err(gap(column));
+                }
+                feats.push(feat as u32);
+            }
+        }
+    }
+    Ok(feats)
+}
+
+impl Rec4 {
+    ghost use Rattle.tl_layout.specs.Type4.{type_4_reading};
+
+    /// The record of these fields.
+    pub fn new(tlid: u64, rtsq: u16, feats: ArrayVec<u32, 5>) -> Rec4
+        requires tlid { IsNumber 10 tlid }
+        requires rtsq { IsNumber 3 rtsq }
+        requires feats { AllByRecursion (IsNumber 8) feats.items }
+        ensures { result ≡ record { tlid = tlid; rtsq = rtsq; feats = feats.items } }
+    {
+        Rec4 { tlid, rtsq, feats }
+    }
+
+    /// Number of the chain (TLID), from 1 to 9,999,999,999.
+    pub fn tlid(&self) -> u64
+        ensures value { result ≡ self.now.tlid }
+        ensures in_range { IsNumber 10 result }
+    {
+        self.tlid
+    }
+
+    /// Place of the record among those of its chain (RTSQ), from 1 to 999.
+    pub fn rtsq(&self) -> u16
+        ensures value { result ≡ self.now.rtsq }
+        ensures in_range { IsNumber 3 result }
+    {
+        self.rtsq
+    }
+
+    /// The used places, from left to right.
+    pub fn feats(&self) -> &[u32]
+        ensures value { result.now ≡ self.now.feats }
+        ensures len { length result.now ≤ 5 }
+        ensures in_range { AllByRecursion (IsNumber 8) result.now }
+    {
+        self.feats.as_slice()
+    }
+
+    /// What a full line is read as.
+    #[tactic(auto, unfolding(crate::specs::Type4::type_4_reading, crate::specs::FieldReading::and_then))]
+    fn read(line: &[u8]) -> Result<Rec4, FieldFault>
+        requires { IsText 58 line.now }
+        ensures { result ≡ type_4_reading line.now }
+    {
+        let tlid = read_number(line, 6, 15)?;
+        let rtsq = read_number(line, 16, 18)?;
+        let feats = read_feats(line)?;
+        Ok(Rec4::new(tlid, rtsq as u16, feats))
+    }
+}
+
+impl Layout for Rec4 {
+    ghost use Rattle.std.specs.Prelude.{ℕ, List};
+    ghost use Rattle.std.proofs.Common.{lit≤};
+    ghost use Rattle.tl_layout.specs.Type4.{FitsType4, SpellsType4, type_4_reading, type_4_spelling};
+    ghost use Rattle.tl_layout.specs.Type4Laws.{type_4_spelling_is_line, type_4_reads_spelling, type_4_reads_spelled, type_4_spelled_is_read};
+
+    const LEN: usize = 58;
+
+    ghost LEN = { 58 };
+
+    const RTYPE: u8 = b'4';
+
+    ghost RTYPE = { 52 };
+
+    ghost Fits = { FitsType4 };
+
+    ghost Spells = { SpellsType4 };
+
+    ghost reading = { type_4_reading };
+
+    ghost spelling = { type_4_spelling };
+
+    #[tactic(auto, using(crate::specs::Type4Laws::type_4_reads_spelled))]
+    fn take(line: &[u8]) -> Result<Rec4, FieldFault> {
+        Rec4::read(line)
+    }
+
+    #[tactic(auto, unfolding(crate::specs::Type4::type_4_spelling))]
+    fn put(&self, out: &mut [u8]) {
+        write_head(out, b'4');
+        write_number(out, 6, 15, self.tlid);
+        write_number(out, 16, 18, u64::from(self.rtsq));
+        write_feats(out, self.feats.as_slice());
+    }
+
+    ghost bounded = { (lit≤ tt, lit≤ tt) };
+
+    ghost spelling_is_line = { type_4_spelling_is_line };
+
+    ghost reads_spelling = { type_4_reads_spelling };
+
+    ghost reads_spelled = { type_4_reads_spelled };
+
+    ghost spelled_is_read = { type_4_spelled_is_read };
 }

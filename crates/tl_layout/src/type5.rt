@@ -1,7 +1,15 @@
 //! Record type 5: the name of a feature.
 
+ghost use Rattle.std.specs.Prelude.{◌≡◌};
+ghost use Rattle.tl_layout.specs.Bytes.{IsText};
+ghost use Rattle.tl_layout.specs.Numbers.{IsNumber};
+
+use crate::fault::FieldFault;
+use crate::field::{read_number, text_at};
+use crate::layout::Layout;
 use crate::name::FeatureName;
 use crate::text::Text;
+use crate::writing::{write_head, write_number, write_text};
 use std::marker::Model;
 
 /// The content of a record of type 5: all but its FEAT, 43 bytes.
@@ -31,4 +39,92 @@ impl Model for Rec5 {
     ghost invariant = { λ r. IsNumber 8 r.feat };
 
     ghost inverse = { λ r. record { feat = r.feat; body = r.body } };
+}
+
+impl Rec5 {
+    ghost use Rattle.tl_layout.specs.Type5.{type_5_reading};
+
+    /// The record of these fields.
+    pub fn new(feat: u32, body: Body5) -> Rec5
+        requires { IsNumber 8 feat }
+        ensures { result ≡ record { feat = feat; body = body } }
+    {
+        Rec5 { feat, body }
+    }
+
+    /// Number of the feature (FEAT), from 1 to 99,999,999.
+    pub fn feat(&self) -> u32
+        ensures value { result ≡ self.now.feat }
+        ensures in_range { IsNumber 8 result }
+    {
+        self.feat
+    }
+
+    /// All but the FEAT.
+    pub fn body(&self) -> &Body5
+        ensures { result.now ≡ self.now.body }
+    {
+        &self.body
+    }
+
+    /// What a full line is read as.
+    #[tactic(auto, unfolding(crate::specs::Type5::type_5_reading, crate::specs::FieldReading::and_then))]
+    fn read(line: &[u8]) -> Result<Rec5, FieldFault>
+        requires { IsText 56 line.now }
+        ensures { result ≡ type_5_reading line.now }
+    {
+        let feat = read_number(line, 11, 18)?;
+        let body = Body5 {
+            file: text_at(line, 6, 10),
+            name: FeatureName::at(line, 19),
+        };
+        Ok(Rec5::new(feat as u32, body))
+    }
+}
+
+impl Layout for Rec5 {
+    ghost use Rattle.std.specs.Prelude.{ℕ, List};
+    ghost use Rattle.std.proofs.Common.{lit≤};
+    ghost use Rattle.tl_layout.specs.Type5.{FitsType5, SpellsType5, type_5_reading, type_5_spelling};
+    ghost use Rattle.tl_layout.specs.Type5Laws.{type_5_spelling_is_line, type_5_reads_spelling, type_5_reads_spelled, type_5_spelled_is_read};
+
+    const LEN: usize = 56;
+
+    ghost LEN = { 56 };
+
+    const RTYPE: u8 = b'5';
+
+    ghost RTYPE = { 53 };
+
+    ghost Fits = { FitsType5 };
+
+    ghost Spells = { SpellsType5 };
+
+    ghost reading = { type_5_reading };
+
+    ghost spelling = { type_5_spelling };
+
+    #[tactic(auto, using(crate::specs::Type5Laws::type_5_reads_spelled))]
+    fn take(line: &[u8]) -> Result<Rec5, FieldFault> {
+        Rec5::read(line)
+    }
+
+    #[tactic(auto, unfolding(crate::specs::Type5::type_5_spelling))]
+    fn put(&self, out: &mut [u8]) {
+        let body = &self.body;
+        write_head(out, b'5');
+        write_text(out, 6, 10, &body.file);
+        write_number(out, 11, 18, u64::from(self.feat));
+        body.name.put(out, 19);
+    }
+
+    ghost bounded = { (lit≤ tt, lit≤ tt) };
+
+    ghost spelling_is_line = { type_5_spelling_is_line };
+
+    ghost reads_spelling = { type_5_reads_spelling };
+
+    ghost reads_spelled = { type_5_reads_spelled };
+
+    ghost spelled_is_read = { type_5_spelled_is_read };
 }

@@ -1,7 +1,15 @@
 //! Record type 7: a landmark.
 
+ghost use Rattle.std.specs.Prelude.{◌≡◌};
+ghost use Rattle.tl_layout.specs.Bytes.{IsText};
+ghost use Rattle.tl_layout.specs.Numbers.{IsNumber};
+
+use crate::fault::FieldFault;
+use crate::field::{read_number, read_point_or_none, text_at};
+use crate::layout::Layout;
 use crate::point::Point;
 use crate::text::Text;
+use crate::writing::{write_blanks, write_head, write_number, write_point_or_blanks, write_text};
 use std::marker::Model;
 
 /// The content of a record of type 7: all but its LAND.
@@ -37,4 +45,100 @@ impl Model for Rec7 {
     ghost invariant = { λ r. IsNumber 10 r.land };
 
     ghost inverse = { λ r. record { land = r.land; body = r.body } };
+}
+
+impl Rec7 {
+    ghost use Rattle.tl_layout.specs.Type7.{type_7_reading};
+
+    /// The record of these fields.
+    pub fn new(land: u64, body: Body7) -> Rec7
+        requires { IsNumber 10 land }
+        ensures { result ≡ record { land = land; body = body } }
+    {
+        Rec7 { land, body }
+    }
+
+    /// Number of the landmark (LAND), from 1 to 9,999,999,999.
+    pub fn land(&self) -> u64
+        ensures value { result ≡ self.now.land }
+        ensures in_range { IsNumber 10 result }
+    {
+        self.land
+    }
+
+    /// All but the LAND.
+    pub fn body(&self) -> &Body7
+        ensures { result.now ≡ self.now.body }
+    {
+        &self.body
+    }
+
+    /// What a full line is read as.
+    #[tactic(auto, unfolding(crate::specs::Type7::type_7_reading, crate::specs::FieldReading::and_then))]
+    fn read(line: &[u8]) -> Result<Rec7, FieldFault>
+        requires { IsText 74 line.now }
+        ensures { result ≡ type_7_reading line.now }
+    {
+        let land = read_number(line, 11, 20)?;
+        let point = read_point_or_none(line, 55)?;
+        let body = Body7 {
+            file: text_at(line, 6, 10),
+            source: text_at(line, 21, 21),
+            cfcc: text_at(line, 22, 24),
+            laname: text_at(line, 25, 54),
+            point,
+        };
+        Ok(Rec7::new(land, body))
+    }
+}
+
+impl Layout for Rec7 {
+    ghost use Rattle.std.specs.Prelude.{ℕ, List};
+    ghost use Rattle.std.proofs.Common.{lit≤};
+    ghost use Rattle.tl_layout.specs.Type7.{FitsType7, SpellsType7, type_7_reading, type_7_spelling};
+    ghost use Rattle.tl_layout.specs.Type7Laws.{type_7_spelling_is_line, type_7_reads_spelling, type_7_reads_spelled, type_7_spelled_is_read};
+
+    const LEN: usize = 74;
+
+    ghost LEN = { 74 };
+
+    const RTYPE: u8 = b'7';
+
+    ghost RTYPE = { 55 };
+
+    ghost Fits = { FitsType7 };
+
+    ghost Spells = { SpellsType7 };
+
+    ghost reading = { type_7_reading };
+
+    ghost spelling = { type_7_spelling };
+
+    #[tactic(auto, using(crate::specs::Type7Laws::type_7_reads_spelled))]
+    fn take(line: &[u8]) -> Result<Rec7, FieldFault> {
+        Rec7::read(line)
+    }
+
+    #[tactic(auto, unfolding(crate::specs::Type7::type_7_spelling))]
+    fn put(&self, out: &mut [u8]) {
+        let body = &self.body;
+        write_head(out, b'7');
+        write_text(out, 6, 10, &body.file);
+        write_number(out, 11, 20, self.land);
+        write_text(out, 21, 21, &body.source);
+        write_text(out, 22, 24, &body.cfcc);
+        write_text(out, 25, 54, &body.laname);
+        write_point_or_blanks(out, 55, &body.point);
+        write_blanks(out, 74, 74);
+    }
+
+    ghost bounded = { (lit≤ tt, lit≤ tt) };
+
+    ghost spelling_is_line = { type_7_spelling_is_line };
+
+    ghost reads_spelling = { type_7_reads_spelling };
+
+    ghost reads_spelled = { type_7_reads_spelled };
+
+    ghost spelled_is_read = { type_7_spelled_is_read };
 }

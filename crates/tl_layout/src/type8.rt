@@ -1,6 +1,14 @@
 //! Record type 8: a polygon of a landmark.
 
+ghost use Rattle.std.specs.Prelude.{◌≡◌};
+ghost use Rattle.tl_layout.specs.Bytes.{IsText};
+ghost use Rattle.tl_layout.specs.Numbers.{IsNumber};
+
+use crate::fault::FieldFault;
+use crate::field::{read_number, text_at};
+use crate::layout::Layout;
 use crate::text::Text;
+use crate::writing::{write_blanks, write_head, write_number, write_text};
 use std::marker::Model;
 
 /// A polygon that belongs to a landmark (record type 8, 36 bytes).
@@ -23,4 +31,111 @@ impl Model for Rec8 {
     ghost invariant = { λ r. IsNumber 10 r.polyid × IsNumber 10 r.land };
 
     ghost inverse = { λ r. record { file = r.file; cenid = r.cenid; polyid = r.polyid; land = r.land } };
+}
+
+impl Rec8 {
+    ghost use Rattle.tl_layout.specs.Type8.{type_8_reading};
+
+    /// The record of these fields.
+    pub fn new(file: Text<5>, cenid: Text<5>, polyid: u64, land: u64) -> Rec8
+        requires polyid { IsNumber 10 polyid }
+        requires land { IsNumber 10 land }
+        ensures { result ≡ record { file = file; cenid = cenid; polyid = polyid; land = land } }
+    {
+        Rec8 {
+            file,
+            cenid,
+            polyid,
+            land,
+        }
+    }
+
+    /// State and county of the file (FILE).
+    pub fn file(&self) -> &Text<5>
+        ensures { result.now ≡ self.now.file }
+    {
+        &self.file
+    }
+
+    /// CENID of the polygon (CENID).
+    pub fn cenid(&self) -> &Text<5>
+        ensures { result.now ≡ self.now.cenid }
+    {
+        &self.cenid
+    }
+
+    /// POLYID of the polygon (POLYID), from 1 to 9,999,999,999.
+    pub fn polyid(&self) -> u64
+        ensures value { result ≡ self.now.polyid }
+        ensures in_range { IsNumber 10 result }
+    {
+        self.polyid
+    }
+
+    /// Number of the landmark (LAND), from 1 to 9,999,999,999.
+    pub fn land(&self) -> u64
+        ensures value { result ≡ self.now.land }
+        ensures in_range { IsNumber 10 result }
+    {
+        self.land
+    }
+
+    /// What a full line is read as.
+    #[tactic(auto, unfolding(crate::specs::Type8::type_8_reading, crate::specs::FieldReading::and_then))]
+    fn read(line: &[u8]) -> Result<Rec8, FieldFault>
+        requires { IsText 36 line.now }
+        ensures { result ≡ type_8_reading line.now }
+    {
+        let polyid = read_number(line, 16, 25)?;
+        let land = read_number(line, 26, 35)?;
+        Ok(Rec8::new(text_at(line, 6, 10), text_at(line, 11, 15), polyid, land))
+    }
+}
+
+impl Layout for Rec8 {
+    ghost use Rattle.std.specs.Prelude.{ℕ, List};
+    ghost use Rattle.std.proofs.Common.{lit≤};
+    ghost use Rattle.tl_layout.specs.Type8.{FitsType8, SpellsType8, type_8_reading, type_8_spelling};
+    ghost use Rattle.tl_layout.specs.Type8Laws.{type_8_spelling_is_line, type_8_reads_spelling, type_8_reads_spelled, type_8_spelled_is_read};
+
+    const LEN: usize = 36;
+
+    ghost LEN = { 36 };
+
+    const RTYPE: u8 = b'8';
+
+    ghost RTYPE = { 56 };
+
+    ghost Fits = { FitsType8 };
+
+    ghost Spells = { SpellsType8 };
+
+    ghost reading = { type_8_reading };
+
+    ghost spelling = { type_8_spelling };
+
+    #[tactic(auto, using(crate::specs::Type8Laws::type_8_reads_spelled))]
+    fn take(line: &[u8]) -> Result<Rec8, FieldFault> {
+        Rec8::read(line)
+    }
+
+    #[tactic(auto, unfolding(crate::specs::Type8::type_8_spelling))]
+    fn put(&self, out: &mut [u8]) {
+        write_head(out, b'8');
+        write_text(out, 6, 10, &self.file);
+        write_text(out, 11, 15, &self.cenid);
+        write_number(out, 16, 25, self.polyid);
+        write_number(out, 26, 35, self.land);
+        write_blanks(out, 36, 36);
+    }
+
+    ghost bounded = { (lit≤ tt, lit≤ tt) };
+
+    ghost spelling_is_line = { type_8_spelling_is_line };
+
+    ghost reads_spelling = { type_8_reads_spelling };
+
+    ghost reads_spelled = { type_8_reads_spelled };
+
+    ghost spelled_is_read = { type_8_spelled_is_read };
 }

@@ -1,7 +1,17 @@
 //! Record type I: the nodes of a chain and the polygons beside it.
 
+ghost use Rattle.std.specs.Prelude.{◌≡◌, ◌≤◌, ◌<◌, ℕ, List, Option, Result, Ok, Err, length};
+ghost use Rattle.tl_layout.specs.Bytes.{IsLine};
+ghost use Rattle.tl_layout.specs.Numbers.{IsNumber, IsNumberOrNone};
+ghost use Rattle.tl_layout.specs.Bytes.{IsText};
+ghost use Rattle.tl_layout.specs.TypeI.{body_i_at, type_i_reading};
+
+use crate::fault::FieldFault;
+use crate::field::{read_number, read_number_or_none, text_at};
+use crate::layout::Layout;
 use crate::side::Side;
 use crate::text::Text;
+use crate::writing::{write_head, write_number, write_text};
 use std::marker::Model;
 
 /// The content of a record of type I: all but its TLID, its nodes and its sides.
@@ -43,4 +53,164 @@ impl Model for RecI {
     ghost invariant = { λ r. IsNumber 10 r.tlid × IsNumberOrNone 10 r.start_node × IsNumberOrNone 10 r.end_node };
 
     ghost inverse = { λ r. record { tlid = r.tlid; body = r.body; start_node = r.start_node; end_node = r.end_node; left = r.left; right = r.right } };
+}
+
+impl BodyI {
+    /// The content in the columns of a full line.
+    fn at(line: &[u8]) -> BodyI
+        requires { IsText 127 line.now }
+        ensures { result ≡ body_i_at line.now }
+    {
+        BodyI {
+            file: text_at(line, 6, 10),
+            source: text_at(line, 71, 80),
+            ftseg: text_at(line, 81, 97),
+            rs_i1: text_at(line, 98, 107),
+            rs_i2: text_at(line, 108, 117),
+            rs_i3: text_at(line, 118, 127),
+        }
+    }
+}
+
+impl RecI {
+    /// The record of these fields: numbers from 1 to 9,999,999,999, or none where there is no node.
+    pub fn new(
+        tlid: u64,
+        body: BodyI,
+        start_node: Option<u64>,
+        end_node: Option<u64>,
+        left: Side,
+        right: Side,
+    ) -> RecI
+        requires tlid { IsNumber 10 tlid }
+        requires nodes { IsNumberOrNone 10 start_node × IsNumberOrNone 10 end_node }
+        ensures { result ≡ record { tlid = tlid; body = body; start_node = start_node; end_node = end_node; left = left; right = right } }
+    {
+        RecI {
+            tlid,
+            body,
+            start_node,
+            end_node,
+            left,
+            right,
+        }
+    }
+
+    /// Number of the chain (TLID), from 1 to 9,999,999,999.
+    pub fn tlid(&self) -> u64
+        ensures value { result ≡ self.now.tlid }
+        ensures in_range { IsNumber 10 result }
+    {
+        self.tlid
+    }
+
+    /// All but the TLID, the nodes and the sides.
+    pub fn body(&self) -> &BodyI
+        ensures { result.now ≡ self.now.body }
+    {
+        &self.body
+    }
+
+    /// Number of the node where the chain starts (TZIDS), from 1 to 9,999,999,999, or none.
+    pub fn start_node(&self) -> Option<u64>
+        ensures value { result ≡ self.now.start_node }
+        ensures in_range { IsNumberOrNone 10 result }
+    {
+        self.start_node
+    }
+
+    /// Number of the node where the chain ends (TZIDE), from 1 to 9,999,999,999, or none.
+    pub fn end_node(&self) -> Option<u64>
+        ensures value { result ≡ self.now.end_node }
+        ensures in_range { IsNumberOrNone 10 result }
+    {
+        self.end_node
+    }
+
+    /// What stands on the left side (CENIDL, POLYIDL).
+    pub fn left(&self) -> &Side
+        ensures { result.now ≡ self.now.left }
+    {
+        &self.left
+    }
+
+    /// What stands on the right side (CENIDR, POLYIDR).
+    pub fn right(&self) -> &Side
+        ensures { result.now ≡ self.now.right }
+    {
+        &self.right
+    }
+
+    /// What a full line is read as.
+    #[tactic(auto, unfolding(crate::specs::TypeI::type_i_reading, crate::specs::FieldReading::and_then))]
+    fn read(line: &[u8]) -> Result<RecI, FieldFault>
+        requires { IsText 127 line.now }
+        ensures { result ≡ type_i_reading line.now }
+    {
+        let tlid = read_number(line, 11, 20)?;
+        let start_node = read_number_or_none(line, 21, 30)?;
+        let end_node = read_number_or_none(line, 31, 40)?;
+        let left_polyid = read_number_or_none(line, 46, 55)?;
+        let right_polyid = read_number_or_none(line, 61, 70)?;
+        let left = Side::new(text_at(line, 41, 45), left_polyid);
+        let right = Side::new(text_at(line, 56, 60), right_polyid);
+        Ok(RecI::new(tlid, BodyI::at(line), start_node, end_node, left, right))
+    }
+}
+
+impl Layout for RecI {
+    ghost use Rattle.std.specs.Prelude.{ℕ, List};
+    ghost use Rattle.tl_layout.specs.TypeI.{FitsTypeI, SpellsTypeI, type_i_reading, type_i_spelling};
+    ghost use Rattle.tl_layout.specs.TypeILaws.{type_i_spelling_is_line, type_i_reads_spelling, type_i_reads_spelled, type_i_spelled_is_read};
+    ghost use Rattle.std.proofs.Common.{lit≤};
+
+    const LEN: usize = 127;
+
+    ghost LEN = { 127 };
+
+    const RTYPE: u8 = b'I';
+
+    ghost RTYPE = { 73 };
+
+    ghost Fits = { FitsTypeI };
+
+    ghost Spells = { SpellsTypeI };
+
+    ghost reading = { type_i_reading };
+
+    ghost spelling = { type_i_spelling };
+
+    #[tactic(auto, using(crate::specs::TypeILaws::type_i_reads_spelled, crate::specs::TypeILaws::type_i_spelled_is_read))]
+    fn take(line: &[u8]) -> Result<RecI, FieldFault> {
+        RecI::read(line)
+    }
+
+    #[tactic(auto, unfolding(crate::specs::TypeI::type_i_spelling))]
+    fn put(&self, out: &mut [u8]) {
+        let body = &self.body;
+        write_head(out, b'I');
+        write_text(out, 6, 10, &body.file);
+        write_number(out, 11, 20, self.tlid);
+        write_number(out, 21, 30, self.start_node.unwrap_or(0));
+        write_number(out, 31, 40, self.end_node.unwrap_or(0));
+        write_text(out, 41, 45, self.left.cenid());
+        write_number(out, 46, 55, self.left.polyid().unwrap_or(0));
+        write_text(out, 56, 60, self.right.cenid());
+        write_number(out, 61, 70, self.right.polyid().unwrap_or(0));
+        write_text(out, 71, 80, &body.source);
+        write_text(out, 81, 97, &body.ftseg);
+        write_text(out, 98, 107, &body.rs_i1);
+        write_text(out, 108, 117, &body.rs_i2);
+        write_text(out, 118, 127, &body.rs_i3);
+    }
+
+    ghost bounded = { (lit≤ tt, lit≤ tt) };
+
+    ghost spelling_is_line = { type_i_spelling_is_line };
+
+    ghost reads_spelling = { type_i_reads_spelling };
+
+    ghost reads_spelled = { type_i_reads_spelled };
+
+    ghost spelled_is_read = { type_i_spelled_is_read };
 }

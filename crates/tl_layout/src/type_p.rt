@@ -1,7 +1,15 @@
 //! Record type P: a polygon's inner point.
 
+ghost use Rattle.std.specs.Prelude.{◌≡◌};
+ghost use Rattle.tl_layout.specs.Bytes.{IsText};
+ghost use Rattle.tl_layout.specs.Numbers.{IsNumber};
+
+use crate::fault::FieldFault;
+use crate::field::{read_number, read_point_or_none, text_at};
+use crate::layout::Layout;
 use crate::point::Point;
 use crate::text::Text;
+use crate::writing::{write_head, write_number, write_point_or_blanks, write_text};
 use std::marker::Model;
 
 /// The content of a record of type P: all but the polygon's key.
@@ -34,4 +42,107 @@ impl Model for RecP {
     ghost invariant = { λ r. IsNumber 10 r.polyid };
 
     ghost inverse = { λ r. record { cenid = r.cenid; polyid = r.polyid; body = r.body } };
+}
+
+impl RecP {
+    ghost use Rattle.tl_layout.specs.TypeP.{type_p_reading};
+
+    /// The record of these fields.
+    pub fn new(cenid: Text<5>, polyid: u64, body: BodyP) -> RecP
+        requires { IsNumber 10 polyid }
+        ensures { result ≡ record { cenid = cenid; polyid = polyid; body = body } }
+    {
+        RecP {
+            cenid,
+            polyid,
+            body,
+        }
+    }
+
+    /// CENID of the polygon (CENID).
+    pub fn cenid(&self) -> &Text<5>
+        ensures { result.now ≡ self.now.cenid }
+    {
+        &self.cenid
+    }
+
+    /// POLYID of the polygon (POLYID), from 1 to 9,999,999,999.
+    pub fn polyid(&self) -> u64
+        ensures value { result ≡ self.now.polyid }
+        ensures in_range { IsNumber 10 result }
+    {
+        self.polyid
+    }
+
+    /// All but the polygon's key.
+    pub fn body(&self) -> &BodyP
+        ensures { result.now ≡ self.now.body }
+    {
+        &self.body
+    }
+
+    /// What a full line is read as.
+    #[tactic(auto, unfolding(crate::specs::TypeP::type_p_reading, crate::specs::FieldReading::and_then))]
+    fn read(line: &[u8]) -> Result<RecP, FieldFault>
+        requires { IsText 45 line.now }
+        ensures { result ≡ type_p_reading line.now }
+    {
+        let polyid = read_number(line, 16, 25)?;
+        let point = read_point_or_none(line, 26)?;
+        let body = BodyP {
+            file: text_at(line, 6, 10),
+            point,
+            water: text_at(line, 45, 45),
+        };
+        Ok(RecP::new(text_at(line, 11, 15), polyid, body))
+    }
+}
+
+impl Layout for RecP {
+    ghost use Rattle.std.specs.Prelude.{ℕ, List};
+    ghost use Rattle.std.proofs.Common.{lit≤};
+    ghost use Rattle.tl_layout.specs.TypeP.{FitsTypeP, SpellsTypeP, type_p_reading, type_p_spelling};
+    ghost use Rattle.tl_layout.specs.TypePLaws.{type_p_spelling_is_line, type_p_reads_spelling, type_p_reads_spelled, type_p_spelled_is_read};
+
+    const LEN: usize = 45;
+
+    ghost LEN = { 45 };
+
+    const RTYPE: u8 = b'P';
+
+    ghost RTYPE = { 80 };
+
+    ghost Fits = { FitsTypeP };
+
+    ghost Spells = { SpellsTypeP };
+
+    ghost reading = { type_p_reading };
+
+    ghost spelling = { type_p_spelling };
+
+    #[tactic(auto, using(crate::specs::TypePLaws::type_p_reads_spelled))]
+    fn take(line: &[u8]) -> Result<RecP, FieldFault> {
+        RecP::read(line)
+    }
+
+    #[tactic(auto, unfolding(crate::specs::TypeP::type_p_spelling))]
+    fn put(&self, out: &mut [u8]) {
+        let body = &self.body;
+        write_head(out, b'P');
+        write_text(out, 6, 10, &body.file);
+        write_text(out, 11, 15, &self.cenid);
+        write_number(out, 16, 25, self.polyid);
+        write_point_or_blanks(out, 26, &body.point);
+        write_text(out, 45, 45, &body.water);
+    }
+
+    ghost bounded = { (lit≤ tt, lit≤ tt) };
+
+    ghost spelling_is_line = { type_p_spelling_is_line };
+
+    ghost reads_spelling = { type_p_reads_spelling };
+
+    ghost reads_spelled = { type_p_reads_spelled };
+
+    ghost spelled_is_read = { type_p_spelled_is_read };
 }

@@ -11,3 +11,4 @@ pub mod RepackedPolygons
 pub mod Uniqueness
 pub mod Rows
 pub mod Accepted
+pub mod Sets

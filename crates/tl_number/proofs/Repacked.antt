@@ -11,7 +11,7 @@ use Rattle.tl_layout.specs.declared.ranges.Ranges.{Ranges}
 use Rattle.tl_layout.specs.declared.record_type.Record.{Record}
 use Rattle.tl_county.specs.BodyOrder.{landmark_body_cmp}
 use Rattle.tl_county.specs.ByType.{ones, twos, fours, fives, sixes, sevens, is, ps, of_number}
-use Rattle.tl_county.specs.Chain.{Chain}
+use Rattle.tl_shape.specs.Chain.{Chain}
 use Rattle.tl_county.specs.County.{one_tlid, two_tlid, two_rtsq, four_tlid, four_rtsq, five_feat, six_tlid, six_rtsq, seven_land, i_tlid, shape_points, further_names, chain_of, chains_of, names_of, landmarks_of}
 use Rattle.tl_county.specs.LinkRules.{IsLinked, chain_tlids, linked_tlids}
 use Rattle.tl_county.specs.declared.fault.LinkFault.TheVariants.{NoChain}

@@ -8,14 +8,14 @@ use Rattle.std.specs.List.{AllByRecursion}
 use Rattle.std.specs.List.Sorted.{IsStrictlySortedBy}
 use Rattle.std.specs.Ordering.{ordering_reverse}
 use Rattle.tl_layout.specs.declared.type_p.BodyP.{BodyP}
-use Rattle.tl_county.specs.Chain.{Chain}
+use Rattle.tl_shape.specs.Chain.{Chain}
 use Rattle.tl_county.specs.County.{County}
 use Rattle.tl_county.specs.CountyRules.{IsCounty, tlids, polygon_keys, polygons_along, chain_nodes, chain_polygons}
 use Rattle.tl_county.specs.Orders.{stands_in, times}
-use Rattle.tl_county.specs.PointOrder.{points_cmp}
+use Rattle.tl_shape.specs.PointOrder.{points_cmp}
 use Rattle.tl_county.specs.PolygonKeys.{PolygonKey, key_cmp, key_on, key_under}
 use Rattle.tl_county.specs.Renumbering.{Renumbering, Carries, image, turns, renumbered, renumbered_polygon, carried_chain, carried_polygon}
-use Rattle.tl_county.specs.Turned.{turned_if}
+use Rattle.tl_shape.specs.Turned.{turned_if}
 use Rattle.tl_county.proofs.FirstFault.{Among, all_among}
 use Rattle.tl_county.proofs.InOrder.{strict-permutation, strict-map, strict-unmap}
 use Rattle.tl_county.proofs.KeyOrders.{key_keys, points_keys}

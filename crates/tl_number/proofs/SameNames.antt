@@ -7,7 +7,7 @@ use Rattle.std.proofs.lemmas.List.Sorted.{IsPermutation-map}
 use Rattle.std.specs.List.{AllByRecursion}
 use Rattle.std.specs.List.Sorted.{IsStrictlySortedBy}
 use Rattle.tl_layout.specs.declared.type5.Body5.{Body5}
-use Rattle.tl_county.specs.Chain.{Chain}
+use Rattle.tl_shape.specs.Chain.{Chain}
 use Rattle.tl_county.specs.County.{County}
 use Rattle.tl_county.specs.CountyRules.{IsClosed, feats, AllStandIn}
 use Rattle.tl_county.specs.Orders.{stands_in, times}

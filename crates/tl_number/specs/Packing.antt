@@ -8,7 +8,7 @@ use Rattle.tl_layout.specs.declared.record_type.Record.TheVariants.{One, Two, Fo
 use Rattle.tl_layout.specs.declared.type5.Body5.{Body5}
 use Rattle.tl_layout.specs.declared.type7.Body7.{Body7}
 use Rattle.tl_layout.specs.declared.type_p.BodyP.{BodyP}
-use Rattle.tl_county.specs.Chain.{Chain}
+use Rattle.tl_shape.specs.Chain.{Chain}
 use Rattle.tl_county.specs.County.{County}
 use Rattle.tl_county.specs.Orders.{in_order}
 use Rattle.tl_county.specs.PolygonKeys.{PolygonKey}

@@ -5,11 +5,11 @@ use Rattle.std.specs.List.Sorted.{IsStrictlySortedBy}
 use Rattle.std.specs.declared.cmp.Ordering.TheVariants.{Less}
 use Rattle.std.specs.Ordering.{on}
 use Rattle.tl_layout.specs.Coordinates.{Coordinates}
-use Rattle.tl_county.specs.Chain.{Chain}
+use Rattle.tl_shape.specs.Chain.{Chain}
 use Rattle.tl_county.specs.County.{County}
 use Rattle.tl_county.specs.CountyRules.{tlids, feats, lands, polygon_keys, nodes_along, polygons_along, AllKeysStandIn}
 use Rattle.tl_county.specs.Orders.{IsInOrder}
-use Rattle.tl_county.specs.PointOrder.{points_cmp}
+use Rattle.tl_shape.specs.PointOrder.{points_cmp}
 use Rattle.tl_county.specs.PolygonKeys.{PolygonKey}
 use Rattle.tl_number.specs.Growth.{Grows, up_to}
 use Rattle.tl_number.specs.Uses.{all_uses, name_key, name_key_cmp, landmark_key, landmark_key_cmp}

@@ -1,12 +1,13 @@
 //! Laws of the definitions in `specs/`. The functions do nothing; their contracts are the laws.
 
-ghost use Rattle.std.specs.Prelude.{◌≡◌, ◌⊎◌, List};
+ghost use Rattle.std.specs.Prelude.{◌≡◌, ◌⊎◌, ℕ, List};
 ghost use Rattle.tl_county.specs.County.{county_of};
 ghost use Rattle.tl_county.specs.Renumbering.{AreSame, Carries, Renumbering};
 ghost use Rattle.tl_layout.specs.declared.record_type.Record.{Record};
 ghost use Rattle.tl_number.specs.Accepted.{IsAccepted, IsCanonicalOf, IsRefusal, Refusal};
 ghost use Rattle.tl_number.specs.Canonical.{IsCanonical, IsTidyList, KeepsChainNumbers};
 ghost use Rattle.tl_number.specs.Packing.{packed};
+ghost use Rattle.tl_number.specs.Sets.{IsAcceptedSet, IsCanonicalText, IsSetRefusal, SetRefusal};
 
 /// A list in the canonical order, packing and numbering is the packing of its county, whatever the choice of TLIDs and
 /// directions.
@@ -43,4 +44,22 @@ pub fn one_canonical_list_exactly_for_one_map()
     ensures equal { (xs ys c d : List Record) →
         IsCanonicalOf xs c → IsCanonicalOf ys d → c ≡ d → AreSame (county_of xs) (county_of ys) }
     ensures itself { (xs c : List Record) → IsCanonicalOf xs c → IsCanonicalOf c c }
+{}
+
+/// A set of parts is accepted or has a refusal, never both, and never two.
+pub fn accepted_set_or_one_refusal()
+    ensures either { (parts : List (List ℕ)) →
+        ((records : List Record) × IsAcceptedSet parts records) ⊎ ((refusal : SetRefusal) × IsSetRefusal parts refusal) }
+    ensures not_both { (parts : List (List ℕ)) (records : List Record) (refusal : SetRefusal) →
+        IsAcceptedSet parts records → IsSetRefusal parts refusal → ⊥ }
+    ensures only_one { (parts : List (List ℕ)) (refusal other : SetRefusal) →
+        IsSetRefusal parts refusal → IsSetRefusal parts other → refusal ≡ other }
+{}
+
+/// Two sets that have canonical texts have equal ones exactly if their counties are the same.
+pub fn one_canonical_text_exactly_for_one_map()
+    ensures same { (p q : List (List ℕ)) (t u : List ℕ) (h : IsCanonicalText p t) (k : IsCanonicalText q u) →
+        AreSame (county_of h.records) (county_of k.records) → t ≡ u }
+    ensures equal { (p q : List (List ℕ)) (t u : List ℕ) (h : IsCanonicalText p t) (k : IsCanonicalText q u) →
+        t ≡ u → AreSame (county_of h.records) (county_of k.records) }
 {}

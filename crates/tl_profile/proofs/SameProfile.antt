@@ -6,13 +6,13 @@ use Rattle.std.proofs.lemmas.List.Sorted.{IsPermutation-sym}
 use Rattle.std.specs.List.{list_any}
 use Rattle.tl_layout.specs.Coordinates.{Coordinates}
 use Rattle.tl_layout.specs.declared.type_p.BodyP.{BodyP}
-use Rattle.tl_county.specs.Chain.{Chain}
+use Rattle.tl_shape.specs.Chain.{Chain}
 use Rattle.tl_county.specs.County.{County}
 use Rattle.tl_county.specs.CountyRules.{IsCounty, polygons_along, chain_polygons}
 use Rattle.tl_county.specs.Orders.{stands_in, times}
 use Rattle.tl_county.specs.PolygonKeys.{PolygonKey, key_cmp}
 use Rattle.tl_county.specs.Renumbering.{Renumbering, Carries, AreSame, image, turns, carried_chain, carried_polygon, renumbered}
-use Rattle.tl_county.specs.Turned.{turned_if}
+use Rattle.tl_shape.specs.Turned.{turned_if}
 use Rattle.tl_county.proofs.Carried.{chain_polygons-renumbered, among-unpieces, among-turned}
 use Rattle.tl_county.proofs.FirstFault.{Among}
 use Rattle.tl_county.proofs.KeyOrders.{key_keys, points_keys}

@@ -1,0 +1,70 @@
+-- Slices of bytes as the parts of a set.
+use Rattle.std.proofs.Common.{◌≡◌, ℕ, suc, ◌<◌, ◌+◌, List, [], ◌∷◌, ◌++◌, length, take, drop, get_or, map, Bor, ap, sym, ◌∙◌, subst, append-nil, append_assoc}
+use Rattle.std.proofs.Math.Seq.{drop-cons}
+use Rattle.std.proofs.lemmas.List.{take_more, take-append-drop, map-append}
+use Rattle.tl_load.proofs.LineLemmas.{lines_none}
+use Rattle.tl_load.specs.Lines.{lines}
+use Rattle.tl_load.specs.Places.{numbered, lines_from_part}
+use Rattle.tl_load.specs.Loaded.{IsFaultHowever}
+use Rattle.tl_load.specs.declared.fault.LoadFault.{LoadFault}
+use Rattle.tigercanon.specs.Respelling.{record_limit, IsFirstFault}
+
+abbrev pub parts_of : List (Bor (List ℕ)) → List (List ℕ)
+parts_of slices = map (λ p. p.now) slices
+
+-- the parts before one, that part, and those after it
+parts_around : (slices : List (Bor (List ℕ))) (i : ℕ) (d : Bor (List ℕ)) → i < length slices
+    → parts_of (take i slices) ++ (get_or slices i d).now ∷ parts_of (drop (suc i) slices) ≡ parts_of slices
+parts_around slices i d within =
+    sym (map-append (λ p. p.now) (take i slices) (get_or slices i d ∷ drop (suc i) slices))
+    ∙ ap parts_of (ap (λ rest. take i slices ++ rest) (sym (drop-cons slices i d within)) ∙ take-append-drop i slices)
+
+-- the parts up to one more
+pub parts_so_far : (slices : List (Bor (List ℕ))) (i : ℕ) (d : Bor (List ℕ)) → i < length slices
+    → parts_of (take i slices) ++ (get_or slices i d).now ∷ [] ≡ parts_of (take (i + 1) slices)
+parts_so_far slices i d within =
+    sym (ap parts_of (take_more slices i d within) ∙ map-append (λ p. p.now) (take i slices) (get_or slices i d ∷ []))
+
+-- an empty part has no lines
+lines_of_empty_part : (n : ℕ) → numbered n 1 (lines []) ≡ []
+unfolding numbered
+lines_of_empty_part n = ap (numbered n 1) lines_none
+
+-- one empty part more changes no line
+lines_with_empty_part : (n : ℕ) (parts : List (List ℕ)) → lines_from_part n (parts ++ [] ∷ []) ≡ lines_from_part n parts
+unfolding lines_from_part
+lines_with_empty_part n [] = ap (λ ls. ls ++ []) (lines_of_empty_part n)
+lines_with_empty_part n (part ∷ parts) = ap (λ ls. numbered n 1 (lines part) ++ ls) (lines_with_empty_part (n + 1) parts)
+
+-- and no fault
+without_empty_part : (parts : List (List ℕ)) (f : LoadFault) → IsFirstFault (parts ++ [] ∷ []) f → IsFirstFault parts f
+without_empty_part parts f at = record {
+  before = at.before;
+  line = at.line;
+  after = at.after;
+  records = at.records;
+  split = sym (lines_with_empty_part 1 parts) ∙ at.split;
+  well = at.well;
+  within = at.within;
+  fault_is = at.fault_is;
+}
+
+-- a fault that stays however the open part and the set go on is that of the slices, of which the open part is one
+pub fault_of_all : (slices : List (Bor (List ℕ))) (i : ℕ) (d : Bor (List ℕ)) (f : LoadFault) → i < length slices
+    → IsFaultHowever record_limit (parts_of (take i slices)) (get_or slices i d).now f → IsFirstFault (parts_of slices) f
+fault_of_all slices i d f within however =
+    let all : parts_of (take i slices) ++ ((get_or slices i d).now ++ []) ∷ parts_of (drop (suc i) slices) ≡ parts_of slices =
+    ap (λ part. parts_of (take i slices) ++ part ∷ parts_of (drop (suc i) slices)) (append-nil (get_or slices i d).now) ∙ parts_around slices i d within in
+    subst (λ ps. IsFirstFault ps f) all (however [] (parts_of (drop (suc i) slices)))
+
+-- the same where that part is closed: the next one and those after it go on, or nothing does
+fault_of_rest : (closed rest : List (List ℕ)) (f : LoadFault) → IsFaultHowever record_limit closed [] f → IsFirstFault (closed ++ rest) f
+fault_of_rest closed [] f however = subst (λ ps. IsFirstFault ps f) (sym (append-nil closed)) (without_empty_part closed f (however [] []))
+fault_of_rest closed (part ∷ rest) f however = however part rest
+
+pub fault_of_closed : (slices : List (Bor (List ℕ))) (i : ℕ) (d : Bor (List ℕ)) (f : LoadFault) → i < length slices
+    → IsFaultHowever record_limit (parts_of (take i slices) ++ (get_or slices i d).now ∷ []) [] f → IsFirstFault (parts_of slices) f
+fault_of_closed slices i d f within however =
+    let closed = parts_of (take i slices) in
+    subst (λ ps. IsFirstFault ps f) (append_assoc closed ((get_or slices i d).now ∷ []) (parts_of (drop (suc i) slices)) ∙ parts_around slices i d within)
+    (fault_of_rest (closed ++ (get_or slices i d).now ∷ []) (parts_of (drop (suc i) slices)) f however)

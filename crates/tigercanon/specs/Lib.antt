@@ -1,0 +1,4 @@
+pub mod Files
+pub mod Respelling
+pub mod Statuses
+pub mod Outcomes

@@ -1,0 +1,43 @@
+//! What a whole call can answer in place of its result.
+
+ghost use Rattle.std.specs.Prelude.{◌≡◌};
+ghost use Rattle.tigercanon.specs.declared.fault.Fault.TheVariants.{Load, Memory};
+
+use std::alloc::{AllocError, AllocFailed};
+use thiserror::Error;
+use tl_load::LoadFault;
+
+/// Why a whole call refused its set.
+#[derive(Clone, Copy, Debug, PartialEq, Eq, Error)]
+pub enum Fault {
+    /// Loading refused it: the first faulty line, or what kept the parts from being read.
+    #[error(transparent)]
+    Load(LoadFault),
+    /// There was no memory for the answer.
+    #[error("out of memory")]
+    Memory,
+}
+
+impl From<LoadFault> for Fault {
+    ghost from_gives = { λ fault made. made ≡ Load fault };
+
+    fn from(fault: LoadFault) -> Fault {
+        Fault::Load(fault)
+    }
+}
+
+impl From<AllocError> for Fault {
+    ghost from_gives = { λ _ made. made ≡ Memory };
+
+    fn from(_error: AllocError) -> Fault {
+        Fault::Memory
+    }
+}
+
+impl<T: Drop> From<AllocFailed<T>> for Fault {
+    ghost from_gives = { λ _ made. made ≡ Memory };
+
+    fn from(_error: AllocFailed<T>) -> Fault {
+        Fault::Memory
+    }
+}

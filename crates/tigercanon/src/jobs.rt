@@ -1,0 +1,96 @@
+//! What the program does, over files that are open already.
+
+ghost use Rattle.std.specs.Prelude.{◌≡◌, ◌∷◌, [], Contains, OnOk, IfOk, IfErr, IsErrOf, map};
+ghost use Rattle.std.specs.Io.KnownBytes.{Keeps};
+ghost use Rattle.tigercanon.specs.Files.{IsMissing};
+ghost use Rattle.tigercanon.specs.Respelling.{IsRespelt, TellsFirstFault};
+ghost use Rattle.tigercanon.specs.Statuses.{plan_status_of};
+ghost use Rattle.tigercanon.specs.Outcomes.{PrintsWhole, PrintsPart, AreRefused, Leaves};
+
+use crate::command_line::{Job, PlanFault};
+use crate::fault::Fault;
+use crate::files::{Opened, read_set};
+use crate::refusal::Refusal;
+use crate::respelling::respell;
+use crate::writing::write_text;
+use std::alloc::Global;
+use std::io::{Read, Write};
+use tl_load::LoadFault;
+
+/// Reads the files of a set whole, and then prints its records in canonical spelling.
+fn respell_set<R: Read + Drop, W: Write>(
+    alloc: Global,
+    files: Vec<Opened<R>>,
+    out: &mut W,
+) -> Result<(), Refusal>
+    ensures done { OnOk result (PrintsWhole R.remaining files.items (W.contents out.old) (W.contents out.new)) }
+    ensures stopped { IfErr result (Leaves R.remaining files.items (W.contents out.old) (W.contents out.new)) }
+    ensures missing { IsMissing files.items → IsErrOf result (Refusal.Set (Fault.Load LoadFault.Device)) }
+{
+    let parts = read_set(alloc, files)?;
+    let text = respell_parts(alloc, &parts)?;
+    write_text(out, &text)?;
+    Ok(())
+}
+
+/// As [`respell`], of parts that own their bytes.
+fn respell_parts(alloc: Global, parts: &[Vec<u8>]) -> Result<Vec<u8>, Fault>
+    ensures respelt { IfOk result (λ text. IsRespelt (map (λ part. part.items) parts.now) text.items) }
+    ensures faulty { IfErr result (TellsFirstFault (map (λ part. part.items) parts.now)) }
+{
+    let slices: Vec<&[u8]> = parts.iter().map(|part| part.as_slice()).collect(alloc)?;
+    respell(alloc, &slices)
+}
+
+/// Does a job over the files of its sets, and answers the exit status: 0 where it is done, 3 where the set is
+/// refused, 4 where a device failed, 5 where memory was lacking.
+///
+/// What is asked for goes to `out`, and nothing goes there before the set is accepted. A refusal is one line on `err`,
+/// and a failure of `err` changes nothing.
+pub fn run<R: Read + Drop, W: Write, E: Write>(
+    alloc: Global,
+    job: Job,
+    first: Vec<Opened<R>>,
+    _second: Vec<Opened<R>>,
+    out: &mut W,
+    err: &mut E,
+) -> u8
+    ensures statuses { Contains (0 ∷ 3 ∷ 4 ∷ 5 ∷ []) result }
+    ensures done { result ≡ 0 → PrintsWhole R.remaining first.items (W.contents out.old) (W.contents out.new) }
+
+    // A set that isn't accepted leaves nothing behind.
+    ensures refused { result ≡ 3 → AreRefused R.remaining first.items }
+    ensures silent { result ≡ 3 → Keeps (W.contents out.old) (W.contents out.new) }
+    ensures memory { result ≡ 5 → Keeps (W.contents out.old) (W.contents out.new) }
+
+    ensures device { result ≡ 4 → PrintsPart R.remaining first.items (W.contents out.old) (W.contents out.new) }
+    ensures missing { IsMissing first.items → result ≡ 4 }
+    ensures missing_silent { IsMissing first.items → Keeps (W.contents out.old) (W.contents out.new) }
+{
+    let done = match job {
+        Job::Respell => respell_set(alloc, first, out),
+    };
+    match done {
+        Ok(()) => 0,
+        Err(refusal) => {
+            let _ = writeln!(err, "{refusal}");
+            refusal.status()
+        }
+    }
+}
+
+/// Tells on `err` why a command line is no plan, and answers the exit status: 2 for the usage, 5 for want of memory.
+pub fn tell<E: Write>(fault: &PlanFault, err: &mut E) -> u8
+    ensures { result ≡ plan_status_of fault.now }
+{
+    match fault {
+        PlanFault::Usage(text) => {
+            let _ = write!(err, "{text}");
+            2
+        }
+        PlanFault::Memory => {
+            let _ = writeln!(err, "{fault}");
+            5
+        }
+    }
+}

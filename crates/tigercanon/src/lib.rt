@@ -1,0 +1,24 @@
+//! Whole calls over a county's record files, and the command line that makes them.
+//!
+//! [`respell`] gives records in canonical spelling. [`plan`] reads a command line, and [`run`] does what was planned,
+//! over files that somebody else opened; the crate `tigercanon_main` is the program around the two.
+#![tactic(auto)]
+
+mod command_line;
+mod fault;
+mod files;
+mod jobs;
+mod planning;
+mod refusal;
+mod respelling;
+mod writing;
+
+pub use command_line::{Job, Plan, PlanFault};
+pub use fault::Fault;
+pub use files::Opened;
+pub use jobs::{run, tell};
+pub use planning::plan;
+pub use respelling::respell;
+
+#[cfg(test)]
+mod tests;

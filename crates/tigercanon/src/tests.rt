@@ -1,0 +1,7 @@
+//! The library's calls on worked examples, and jobs over files and devices that fail.
+
+mod devices;
+mod jobs;
+mod lines;
+mod plans;
+mod sets;

@@ -1,0 +1,4 @@
+pub mod NumberLemmas
+pub mod Writes
+pub mod PlaceSteps
+pub mod PlaceWrites

@@ -1,0 +1,16 @@
+-- Number fields: the steps of the loops that read and write them.
+use Rattle.std.proofs.Common.{◌<◌, ◌+◌, ◌*◌, ◌^◌, ℕ, arith, add-one, lit<}
+use Rattle.std.proofs.Math.Nat.{pow-succ', pow-le-pow_right}
+
+-- one more digit keeps below one more power of ten
+pub digit_more : (v d i : ℕ) → v < 10 ^ i → d < 10 → 10 * v + d < 10 ^ (i + 1)
+digit_more v d i h g = rw (add-one, pow-succ' 10 i) (omega arith)
+
+-- nineteen digits fit 64 bits, with a digit more as well while there are fewer
+pub digit_fits : (v d i : ℕ) → v < 10 ^ i → d < 10 → i < 19 → 10 * v + d < 2 ^ 64
+digit_fits v d i h g k =
+    let below = digit_more v d i h g in
+    let most = pow-le-pow_right {n = 10} (lit< tt) {i = i + 1} {j = 19} (omega arith) in
+    omega arith
+
+pub ruleset stepping = (digit_more)

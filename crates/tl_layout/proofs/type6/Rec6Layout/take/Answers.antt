@@ -1,0 +1,6 @@
+use Rattle.std.proofs.Common.{◌∙◌}
+use Rattle.tl_layout.specs.Type6Laws.{type_6_spelled_is_read}
+use Rattle.tl_layout.proofs.type6.Rec6Layout.take.Goals as goal
+
+pub returns-clause-only : goal.returns-clause-only
+returns-clause-only c r spelled = c.read.ensures ∙ type_6_spelled_is_read c.args.line.now r c.requires spelled

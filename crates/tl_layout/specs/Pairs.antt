@@ -1,0 +1,17 @@
+-- A field that stands once for the left and once for the right side of a chain.
+use Rattle.std.specs.Prelude.{ℕ, ◌+◌, ◌-◌, ◌*◌, List, [], ◌∷◌}
+use Rattle.tl_layout.specs.Bytes.{IsText, columns}
+use Rattle.tl_layout.specs.declared.pair.LeftRight.{LeftRight}
+
+-- both fields have their width
+pub record FitsPair (N : ℕ) (pair : LeftRight N) : Type 0 where
+  pub left : IsText N pair.left
+  pub right : IsText N pair.right
+
+-- the pair of that width that begins in this column of a line
+abbrev pub pair_at : (N : ℕ) → ℕ → List ℕ → LeftRight N
+pair_at N first line = record { left = columns first (first + N - 1) line; right = columns (first + N) (first + 2 * N - 1) line }
+
+-- the texts of a pair
+abbrev pub pair_texts : (N : ℕ) → LeftRight N → List (List ℕ)
+pair_texts N pair = pair.left ∷ pair.right ∷ []

@@ -1,0 +1,56 @@
+-- What a chain's fields are when it is seen from its other end: what was left is right, and what was the start is the end.
+use Rattle.std.specs.Prelude.{◌≡◌, ℕ}
+use Rattle.tl_layout.specs.declared.pair.LeftRight.{LeftRight}
+use Rattle.tl_layout.specs.declared.ranges.Ranges.{Ranges}
+use Rattle.tl_layout.specs.declared.type1.Body1.{Body1}
+use Rattle.tl_layout.specs.declared.type1.NativeAreas.{NativeAreas}
+use Rattle.tl_layout.specs.declared.type1.GeographicEntities.{GeographicEntities}
+
+-- the left field is exchanged with the right one
+abbrev pub exchanged : {N : ℕ} → LeftRight N → LeftRight N
+exchanged pair = record { left = pair.right; right = pair.left }
+
+-- The address at the left start is that at the right end, and so on: each field takes the value of its partner.
+abbrev pub turned_ranges : Ranges → Ranges
+turned_ranges ranges =
+    record {
+      fraddl = ranges.toaddr;
+      toaddl = ranges.fraddr;
+      fraddr = ranges.toaddl;
+      toaddr = ranges.fraddl;
+      friaddl = ranges.toiaddr;
+      toiaddl = ranges.friaddr;
+      friaddr = ranges.toiaddl;
+      toiaddr = ranges.friaddl;
+      zip = exchanged ranges.zip;
+    }
+
+abbrev pub turned_areas : NativeAreas → NativeAreas
+turned_areas areas = record { aianhhfp = exchanged areas.aianhhfp; aihhtli = exchanged areas.aihhtli }
+
+abbrev pub turned_entities : GeographicEntities → GeographicEntities
+turned_entities entities =
+    record {
+      state = exchanged entities.state;
+      county = exchanged entities.county;
+      cousub = exchanged entities.cousub;
+      submcd = exchanged entities.submcd;
+      place = exchanged entities.place;
+      tract = exchanged entities.tract;
+      block = exchanged entities.block;
+    }
+
+-- SIDE1, SOURCE, the name, CFCC, CENSUS1 and CENSUS2 stay
+abbrev pub turned_body : Body1 → Body1
+turned_body body =
+    record {
+      side1 = body.side1;
+      source = body.source;
+      name = body.name;
+      cfcc = body.cfcc;
+      ranges = turned_ranges body.ranges;
+      native_areas = turned_areas body.native_areas;
+      census1 = body.census1;
+      census2 = body.census2;
+      entities = turned_entities body.entities;
+    }

@@ -1,0 +1,124 @@
+//! Fields of a line by their columns, counted from 1 as in the column tables.
+
+ghost use Rattle.std.specs.Prelude.{◌≡◌, ◌+◌, ◌-◌, ◌≤◌, ◌<◌, ◌++◌, length, take, IfOk};
+ghost use Rattle.tl_layout.specs.Bytes.{AreAllowed, IsText, columns};
+ghost use Rattle.tl_layout.specs.Numbers.{IsNumber, IsNumberOrNone};
+ghost use Rattle.tl_layout.specs.NumberField.{number_text};
+ghost use Rattle.tl_layout.specs.CoordinateField.{coordinate_text};
+ghost use Rattle.tl_layout.specs.Columns.{joined};
+ghost use Rattle.tl_layout.specs.Places.{gap};
+ghost use Rattle.tl_layout.specs.FieldReading.{number_at, number_or_none_at, point_at, point_or_none_at, bad_point};
+
+use crate::coordinate::{Coordinate, put_coordinate, read_coordinate};
+use crate::fault::{FieldFault, FieldKind};
+use crate::number::{number, put_number};
+use crate::point::Point;
+use crate::text::Text;
+
+/// The opaque bytes of these columns.
+pub fn text_at<const N: usize>(line: &[u8], first: usize, last: usize) -> Text<N>
+    requires allowed { AreAllowed line.now }
+    requires from_one { 1 ≤ first }
+    requires within { (last ≤ length line.now) × (last ≤ 228) }
+    requires width { last + 1 ≡ first + N }
+    ensures { result ≡ columns first last line.now }
+{
+    Text::from_slice(&line[first - 1..last])
+}
+
+/// The number in these columns, where one is demanded.
+#[tactic(auto, unfolding(crate::specs::FieldReading::number_at))]
+pub fn read_number(line: &[u8], first: usize, last: usize) -> Result<u64, FieldFault>
+    requires from_one { 1 ≤ first }
+    requires ordered { first ≤ last }
+    requires within { (last ≤ length line.now) × (last ≤ 228) }
+    requires short { last < first + 19 }
+    ensures value { result ≡ number_at first last line.now }
+    ensures in_range { IfOk result (IsNumber (last + 1 - first)) }
+{
+    match number(&line[first - 1..last]) {
+        Some(number) if number > 0 => Ok(number),
+        _ => Err(FieldFault {
+            kind: FieldKind::BadNumber,
+            column: first as u16,
+        }),
+    }
+}
+
+/// The number in these columns, where there may be none.
+#[tactic(auto, unfolding(crate::specs::FieldReading::number_or_none_at))]
+pub fn read_number_or_none(
+    line: &[u8],
+    first: usize,
+    last: usize,
+) -> Result<Option<u64>, FieldFault>
+    requires from_one { 1 ≤ first }
+    requires ordered { first ≤ last }
+    requires within { (last ≤ length line.now) × (last ≤ 228) }
+    requires short { last < first + 19 }
+    ensures value { result ≡ number_or_none_at first last line.now }
+    ensures in_range { IfOk result (IsNumberOrNone (last + 1 - first)) }
+{
+    match number(&line[first - 1..last]) {
+        Some(0) => Ok(None),
+        Some(number) => Ok(Some(number)),
+        None => Err(FieldFault {
+            kind: FieldKind::BadNumber,
+            column: first as u16,
+        }),
+    }
+}
+
+/// That a point is bad, told at this column.
+fn bad_point(column: usize) -> FieldFault
+    requires { column ≤ 228 }
+    ensures { result ≡ bad_point column }
+{
+    FieldFault {
+        kind: FieldKind::BadPoint,
+        column: column as u16,
+    }
+}
+
+/// That a used place stands after an unused one, told at this column.
+pub fn gap(column: usize) -> FieldFault
+    requires { column ≤ 228 }
+    ensures { result ≡ gap column }
+{
+    FieldFault {
+        kind: FieldKind::GapInRecord,
+        column: column as u16,
+    }
+}
+
+/// The pair of coordinates that begins at this column, where there may be none.
+#[tactic(auto, using(crate::specs::CoordinateLaws::coordinate_read_within), unfolding(crate::specs::FieldReading::point_or_none_at, crate::specs::FieldReading::point_or_none))]
+pub fn read_point_or_none(line: &[u8], column: usize) -> Result<Option<Point>, FieldFault>
+    requires from_one { 1 ≤ column }
+    requires within { (column + 18 ≤ length line.now) × (column ≤ 210) }
+    ensures { result ≡ point_or_none_at column line.now }
+{
+    let long = read_coordinate(&line[column - 1..column + 9], 999_999_999);
+    let lat = read_coordinate(&line[column + 9..column + 18], 99_999_999);
+    match (long, lat) {
+        (Coordinate::Malformed, _) => Err(bad_point(column)),
+        (_, Coordinate::Malformed) => Err(bad_point(column + 10)),
+        (Coordinate::Blank, Coordinate::Blank) => Ok(None),
+        (Coordinate::Value(0), Coordinate::Value(0)) => Ok(None),
+        (Coordinate::Value(long), Coordinate::Value(lat)) => Ok(Some(Point::new(long, lat))),
+        _ => Err(bad_point(column)),
+    }
+}
+
+/// The point in the pair of coordinates that begins at this column, where one is demanded.
+#[tactic(auto, unfolding(crate::specs::FieldReading::point_at, crate::specs::FieldReading::and_then))]
+pub fn read_point(line: &[u8], column: usize) -> Result<Point, FieldFault>
+    requires from_one { 1 ≤ column }
+    requires within { (column + 18 ≤ length line.now) × (column ≤ 210) }
+    ensures { result ≡ point_at column line.now }
+{
+    match read_point_or_none(line, column)? {
+        Some(point) => Ok(point),
+        None => Err(bad_point(column)),
+    }
+}

@@ -1,0 +1,71 @@
+//! Number fields.
+
+ghost use Rattle.std.specs.Prelude.{◌≡◌, ◌≤◌, length};
+ghost use Rattle.std.specs.List.{list_all};
+ghost use Rattle.tl_layout.specs.NumberField.{is_blank, drop_blanks, number_after, number_of, number_text};
+
+/// What is left of a field behind the blanks in front.
+pub fn trim_start(field: &[u8]) -> &[u8]
+    ensures value { result.now ≡ drop_blanks field.now }
+    ensures len { length result.now ≤ length field.now }
+{
+    let mut rest = field;
+    while let [b' ', after @ ..] = rest {
+        rest = after;
+    }
+    rest
+}
+
+/// Whether there are blanks alone.
+pub fn is_blank(field: &[u8]) -> bool
+    ensures { result ≡ list_all is_blank field.now }
+{
+    field.iter().all(|byte| *byte == b' ')
+}
+
+/// The number of digits that nothing but blanks may follow.
+#[tactic(auto, using(crate::proofs::NumberLemmas::stepping), unfolding(crate::specs::NumberField::number_after))]
+pub fn digits(field: &[u8]) -> Option<u64>
+    requires { length field.now ≤ 19 }
+    ensures { result ≡ number_after 0 field.now }
+{
+    let mut value = 0;
+    for (i, byte) in field.iter().enumerate() {
+        if *byte < b'0' || *byte > b'9' {
+            return if is_blank(&field[i..]) {
+                Some(value)
+            } else {
+                None
+            };
+        }
+        value = 10 * value + u64::from(*byte - b'0');
+    }
+    Some(value)
+}
+
+/// The number that a field spells, 0 where it spells none.
+#[tactic(auto, unfolding(crate::specs::NumberField::number_of))]
+pub fn number(field: &[u8]) -> Option<u64>
+    requires { length field.now ≤ 19 }
+    ensures { result ≡ number_of field.now }
+{
+    digits(trim_start(field))
+}
+
+/// Writes a number right justified, blanks for 0.
+#[tactic(auto, unfolding(crate::specs::NumberField::number_text))]
+pub fn put_number(out: &mut [u8], number: u64)
+    ensures { out.new ≡ number_text (length out.old) number }
+{
+    let mut left = number;
+    let mut i = out.len();
+    while i > 0 {
+        i -= 1;
+        out[i] = if left == 0 {
+            b' '
+        } else {
+            b'0' + (left % 10) as u8
+        };
+        left /= 10;
+    }
+}

@@ -1,0 +1,85 @@
+//! Turning: what a chain's fields are when it is seen from its other end.
+
+ghost use Rattle.std.specs.Prelude.{◌≡◌, refl};
+ghost use Rattle.tl_layout.specs.Turned.{exchanged, turned_ranges, turned_areas, turned_entities, turned_body};
+
+use crate::pair::LeftRight;
+use crate::ranges::Ranges;
+use crate::type1::{Body1, GeographicEntities, NativeAreas};
+use std::mem::swap;
+
+/// What can be seen from the other end of its chain.
+pub trait Turn {
+    /// The value as it is seen from the other end.
+    ghost turned: { Self → Self };
+
+    /// Turns the value: each field that has a partner takes its partner's value, and every other field stays.
+    fn turn(&mut self)
+        ensures { self.new ≡ turned self.old };
+
+    /// Turning twice gives the value back.
+    ghost turns_back: { (x : Self) → turned (turned x) ≡ x };
+}
+
+impl<const N: usize> LeftRight<N> {
+    /// Exchanges left and right.
+    fn exchange(&mut self)
+        ensures { self.new ≡ exchanged self.old }
+    {
+        swap(&mut self.left, &mut self.right);
+    }
+}
+
+/// FRADDL is exchanged with TOADDR, TOADDL with FRADDR, and the flags alike; ZIPL is exchanged with ZIPR.
+impl Turn for Ranges {
+    ghost turned = { turned_ranges };
+
+    fn turn(&mut self) {
+        swap(&mut self.fraddl, &mut self.toaddr);
+        swap(&mut self.toaddl, &mut self.fraddr);
+        swap(&mut self.friaddl, &mut self.toiaddr);
+        swap(&mut self.toiaddl, &mut self.friaddr);
+        self.zip.exchange();
+    }
+
+    ghost turns_back = { λ _. refl };
+}
+
+impl NativeAreas {
+    /// Exchanges left and right.
+    fn exchange(&mut self)
+        ensures { self.new ≡ turned_areas self.old }
+    {
+        self.aianhhfp.exchange();
+        self.aihhtli.exchange();
+    }
+}
+
+impl GeographicEntities {
+    /// Exchanges left and right.
+    fn exchange(&mut self)
+        ensures { self.new ≡ turned_entities self.old }
+    {
+        self.state.exchange();
+        self.county.exchange();
+        self.cousub.exchange();
+        self.submcd.exchange();
+        self.place.exchange();
+        self.tract.exchange();
+        self.block.exchange();
+    }
+}
+
+/// The address ranges are turned, and each field of the left is exchanged with that of the right. SIDE1, SOURCE, the
+/// name, CFCC, CENSUS1 and CENSUS2 stay.
+impl Turn for Body1 {
+    ghost turned = { turned_body };
+
+    fn turn(&mut self) {
+        self.ranges.turn();
+        self.native_areas.exchange();
+        self.entities.exchange();
+    }
+
+    ghost turns_back = { λ _. refl };
+}

@@ -1,0 +1,109 @@
+//! Writing fields into the columns of a line, counted from 1 as in the column tables, from left to right.
+
+ghost use Rattle.std.specs.Prelude.{◌≡◌, ◌+◌, ◌-◌, ◌≤◌, ◌<◌, [], ◌∷◌, ◌++◌, length, take, replicate, codes, IfSome, pos};
+ghost use Rattle.tl_layout.specs.Bytes.{IsText};
+ghost use Rattle.tl_layout.specs.NumberField.{number_text};
+ghost use Rattle.tl_layout.specs.CoordinateField.{coordinate_text};
+ghost use Rattle.tl_layout.specs.Coordinates.{IsOnMap};
+ghost use Rattle.tl_layout.specs.FieldReading.{long_text, lat_text};
+ghost use Rattle.tl_layout.specs.Columns.{joined};
+
+use crate::coordinate::put_coordinate;
+use crate::number::put_number;
+use crate::point::Point;
+use crate::text::Text;
+
+/// Writes the record type and the version, which is 2006.
+#[tactic(auto, using(crate::proofs::Writes::head_written))]
+pub fn write_head(out: &mut [u8], rtype: u8)
+    requires { 5 ≤ length out.old }
+    ensures { take 5 out.new ≡ rtype ∷ codes "2006" }
+{
+    out[0] = rtype;
+    out[1..5].copy_from_slice(b"2006");
+}
+
+/// Writes opaque bytes into these columns.
+#[tactic(auto, using(crate::proofs::Writes::columns_written))]
+pub fn write_text<const N: usize>(out: &mut [u8], first: usize, last: usize, text: &Text<N>)
+    requires from_one { 1 ≤ first }
+    requires within { last ≤ length out.old }
+    requires width { last + 1 ≡ first + N }
+    ensures written { take last out.new ≡ take (first - 1) out.old ++ text.now }
+    ensures text { IsText N text.now }
+{
+    out[first - 1..last].copy_from_slice(text.as_bytes());
+}
+
+/// Writes a number right justified into these columns, blanks for 0.
+#[tactic(auto, using(crate::proofs::Writes::columns_written))]
+pub fn write_number(out: &mut [u8], first: usize, last: usize, number: u64)
+    requires from_one { 1 ≤ first }
+    requires ordered { first ≤ last + 1 }
+    requires within { last ≤ length out.old }
+    ensures { take last out.new ≡ take (first - 1) out.old ++ number_text (last + 1 - first) number }
+{
+    put_number(&mut out[first - 1..last], number);
+}
+
+/// Writes blanks into these columns.
+#[tactic(auto, using(crate::proofs::Writes::columns_written))]
+pub fn write_blanks(out: &mut [u8], first: usize, last: usize)
+    requires from_one { 1 ≤ first }
+    requires ordered { first ≤ last + 1 }
+    requires within { last ≤ length out.old }
+    ensures { take last out.new ≡ take (first - 1) out.old ++ replicate (last + 1 - first) 32 }
+{
+    out[first - 1..last].fill(b' ');
+}
+
+/// Writes a coordinate of a sign and digits into these columns.
+#[tactic(auto, using(crate::proofs::Writes::columns_written))]
+fn write_coordinate(out: &mut [u8], first: usize, last: usize, value: i32)
+    requires from_one { 1 ≤ first }
+    requires ordered { first ≤ last }
+    requires within { last ≤ length out.old }
+    ensures { take last out.new ≡ take (first - 1) out.old ++ coordinate_text (last - first) value }
+{
+    put_coordinate(&mut out[first - 1..last], value);
+}
+
+/// Writes the pair of coordinates of a point into the 19 columns from this one on.
+pub fn write_point(out: &mut [u8], column: usize, point: &Point)
+    requires from_one { 1 ≤ column }
+    requires within { column + 18 ≤ length out.old }
+    ensures written { take (column + 18) out.new
+        ≡ joined (take (column - 1) out.old) (coordinate_text 9 point.now.long ∷ coordinate_text 8 point.now.lat ∷ []) }
+    ensures on_map { IsOnMap point.now }
+{
+    write_coordinate(out, column, column + 9, point.long());
+    write_coordinate(out, column + 10, column + 18, point.lat());
+}
+
+/// Writes a pair of zeros into the 19 columns from this one on.
+pub fn write_zeros(out: &mut [u8], column: usize)
+    requires from_one { 1 ≤ column }
+    requires within { column + 18 ≤ length out.old }
+    ensures { take (column + 18) out.new
+        ≡ joined (take (column - 1) out.old) (coordinate_text 9 (pos 0) ∷ coordinate_text 8 (pos 0) ∷ []) }
+{
+    write_coordinate(out, column, column + 9, 0);
+    write_coordinate(out, column + 10, column + 18, 0);
+}
+
+/// Writes the pair of coordinates of a point into the 19 columns from this one on, blanks where there is none.
+pub fn write_point_or_blanks(out: &mut [u8], column: usize, point: &Option<Point>)
+    requires from_one { 1 ≤ column }
+    requires within { column + 18 ≤ length out.old }
+    ensures written { take (column + 18) out.new
+        ≡ joined (take (column - 1) out.old) (long_text point.now ∷ lat_text point.now ∷ []) }
+    ensures on_map { IfSome point.now IsOnMap }
+{
+    match point {
+        Some(point) => write_point(out, column, point),
+        None => {
+            write_blanks(out, column, column + 9);
+            write_blanks(out, column + 10, column + 18);
+        }
+    }
+}

@@ -1,0 +1,45 @@
+-- A line that is filled with blanks.
+use Rattle.std.proofs.Common.{◌≡◌, ℕ, suc, ◌+◌, ◌-◌, ◌<◌, ◌≤◌, Bool, true, false, cond, List, [], ◌∷◌, ◌++◌, length, get_or, take, drop, replicate, Option, Some, None, refl, sym, ap, subst, ◌∙◌, append-nil, arith, ltb}
+use Rattle.std.specs.Prelude.{not, All, IsTrue, position}
+use Rattle.std.specs.List.{position_or_len}
+use Rattle.std.proofs.lemmas.Bool.{ltb-false, not-false, cases_Bool}
+use Rattle.std.proofs.lemmas.List.{length-append, length-replicate, take_all, take-replicate, drop-replicate}
+use Rattle.std.proofs.lemmas.List.Sums.{fails_before_first}
+use Rattle.tl_layout.specs.Bytes.{is_allowed, AreAllowed, IsText, IsLine}
+use Rattle.tl_load.specs.LineOf.{filled, first_bad}
+use Rattle.tl_load.proofs.LineLemmas.{take_past}
+
+pub take_filled : (len most : ℕ) (line : List ℕ) → length line ≤ len → len ≤ most → take len (filled most line) ≡ filled len line
+take_filled len most line short low =
+    let n : len ≡ length line + (len - length line) = omega arith in
+    ap (λ (k : ℕ). take k (filled most line)) n ∙ take_past line (replicate (most - length line) 32) (len - length line)
+    ∙ ap (λ (l : List ℕ). line ++ l) (take-replicate (len - length line) (most - length line) 32 (omega arith))
+
+pub filled_full : (len : ℕ) (line : List ℕ) → length line ≡ len → filled len line ≡ line
+filled_full len line e =
+    let none : len - length line ≡ 0 = omega arith in
+    ap (λ (k : ℕ). line ++ replicate k 32) none ∙ append-nil line
+
+pub length_filled : (len : ℕ) (line : List ℕ) → length line ≤ len → length (filled len line) ≡ len
+length_filled len line short = omega (arith, length-append line (replicate (len - length line) 32), length-replicate {A = ℕ} (len - length line) 32)
+
+pub begins_filled : (rtype len : ℕ) (line : List ℕ) → take 1 line ≡ rtype ∷ [] → take 1 (filled len line) ≡ rtype ∷ []
+begins_filled rtype len [] e = absurd cc
+begins_filled rtype len (b ∷ line) e = e
+
+none_from : (n m : ℕ) → ◌≡◌ {A = Option ℕ} None (cond (ltb n m) (Some n) None) → ltb n m ≡ false
+none_from n m e = go (ltb n m) e
+  where
+    go : (b : Bool) → ◌≡◌ {A = Option ℕ} None (cond b (Some n) None) → b ≡ false
+    go true h = absurd cc
+    go false h = refl
+
+-- where no byte is bad, each is allowed
+pub allowed_by : (line : List ℕ) → None ≡ position (λ b. not (is_allowed b)) line → AreAllowed line
+unfolding AreAllowed
+allowed_by line e k d lt =
+    let le = ltb-false _ _ (none_from (first_bad line) (length line) e) in
+    not-false (is_allowed (get_or line k d)) (fails_before_first (λ b. not (is_allowed b)) line k d (omega arith))
+
+pub is_line_by : (rtype len : ℕ) (line : List ℕ) → take 1 line ≡ rtype ∷ [] → length line ≡ len → None ≡ position (λ b. not (is_allowed b)) line → IsLine rtype len line
+is_line_by rtype len line begins full e = record { begins = begins; text = record { len = full; allowed = allowed_by line e } }

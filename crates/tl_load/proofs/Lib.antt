@@ -1,0 +1,11 @@
+pub mod Reading
+pub mod LineLemmas
+pub mod Settled
+pub mod Adding
+pub mod Steps
+pub mod Views
+pub mod Histories
+pub mod ReadSteps
+pub mod Filling
+pub mod LineLaws
+pub mod TextLemmas

@@ -1,0 +1,64 @@
+-- A line of more than 228 bytes is refused, whatever follows them.
+use Rattle.std.proofs.Common.{◌≡◌, ℕ, ◌+◌, ◌<◌, ◌≤◌, Bool, true, false, cond, List, [], ◌∷◌, ◌++◌, length, Result, Ok, Err, refl, sym, ap, ◌∙◌, arith, eqb, ltb, lit≤}
+use Rattle.std.specs.Result.{IsErr}
+use Rattle.std.proofs.lemmas.Bool.{lt-ltb}
+use Rattle.std.proofs.lemmas.List.{length-append}
+use Rattle.tl_layout.specs.declared.fault.FieldFault.{FieldFault}
+use Rattle.tl_layout.specs.declared.record_type.Record.{Record}
+use Rattle.tl_layout.specs.declared.record_type.Record.TheVariants.{One, Two, Four, Five, Six, Seven, Eight, I, P}
+use Rattle.tl_layout.specs.Type1.{type_1_reading}
+use Rattle.tl_layout.specs.Type2.{type_2_reading}
+use Rattle.tl_layout.specs.Type4.{type_4_reading}
+use Rattle.tl_layout.specs.Type5.{type_5_reading}
+use Rattle.tl_layout.specs.Type6.{type_6_reading}
+use Rattle.tl_layout.specs.Type7.{type_7_reading}
+use Rattle.tl_layout.specs.Type8.{type_8_reading}
+use Rattle.tl_layout.specs.TypeI.{type_i_reading}
+use Rattle.tl_layout.specs.TypeP.{type_p_reading}
+use Rattle.tl_load.specs.declared.fault.LineFault.{LineFault}
+use Rattle.tl_load.specs.declared.fault.LineFault.TheVariants as line_faults
+use Rattle.tl_load.specs.LineOf.{judged_as, judged_full, filled}
+use Rattle.tl_load.specs.Choice.{as_record, judged_by, judged}
+
+too_long : {R : Type 0} (len : ℕ) (reading : List ℕ → Result R FieldFault) (wrap : R → Record) (line : List ℕ) → len ≤ 228 → 228 < length line → as_record wrap (judged_as len reading line) ≡ Err line_faults.LineTooLong
+unfolding judged_as
+too_long len reading wrap line low long = ap (λ (b : Bool). as_record wrap (cond b (Err line_faults.LineTooLong) (judged_full reading (filled len line)))) (lt-ltb len (length line) (omega arith))
+
+-- what a line of more than 228 bytes is refused as, by its first byte
+long_fault : ℕ → Result Record LineFault
+long_fault rtype = cond (eqb rtype 49) (Err line_faults.LineTooLong) (cond (eqb rtype 50) (Err line_faults.LineTooLong) (cond (eqb rtype 52) (Err line_faults.LineTooLong) (cond (eqb rtype 53) (Err line_faults.LineTooLong) (cond (eqb rtype 54) (Err line_faults.LineTooLong) (cond (eqb rtype 55) (Err line_faults.LineTooLong) (cond (eqb rtype 56) (Err line_faults.LineTooLong) (cond (eqb rtype 73) (Err line_faults.LineTooLong) (cond (eqb rtype 80) (Err line_faults.LineTooLong) (Err line_faults.UnknownType)))))))))
+
+long_by : (rtype : ℕ) (line : List ℕ) → 228 < length line → judged_by rtype line ≡ long_fault rtype
+unfolding judged_by long_fault
+long_by rtype line long =
+    let e49 = too_long 228 type_1_reading One line (lit≤ tt) long in
+    let e50 = too_long 208 type_2_reading Two line (lit≤ tt) long in
+    let e52 = too_long 58 type_4_reading Four line (lit≤ tt) long in
+    let e53 = too_long 56 type_5_reading Five line (lit≤ tt) long in
+    let e54 = too_long 76 type_6_reading Six line (lit≤ tt) long in
+    let e55 = too_long 74 type_7_reading Seven line (lit≤ tt) long in
+    let e56 = too_long 36 type_8_reading Eight line (lit≤ tt) long in
+    let e73 = too_long 127 type_i_reading I line (lit≤ tt) long in
+    let e80 = too_long 45 type_p_reading P line (lit≤ tt) long in
+    cc
+
+err_cond : (b : Bool) (x y : Result Record LineFault) → IsErr x → IsErr y → IsErr (cond b x y)
+err_cond true x y p q = p
+err_cond false x y p q = q
+
+err_long : (rtype : ℕ) → IsErr (long_fault rtype)
+unfolding long_fault
+err_long rtype = err_cond (eqb rtype 49) (Err line_faults.LineTooLong) (cond (eqb rtype 50) (Err line_faults.LineTooLong) (cond (eqb rtype 52) (Err line_faults.LineTooLong) (cond (eqb rtype 53) (Err line_faults.LineTooLong) (cond (eqb rtype 54) (Err line_faults.LineTooLong) (cond (eqb rtype 55) (Err line_faults.LineTooLong) (cond (eqb rtype 56) (Err line_faults.LineTooLong) (cond (eqb rtype 73) (Err line_faults.LineTooLong) (cond (eqb rtype 80) (Err line_faults.LineTooLong) (Err line_faults.UnknownType))))))))) refl (err_cond (eqb rtype 50) (Err line_faults.LineTooLong) (cond (eqb rtype 52) (Err line_faults.LineTooLong) (cond (eqb rtype 53) (Err line_faults.LineTooLong) (cond (eqb rtype 54) (Err line_faults.LineTooLong) (cond (eqb rtype 55) (Err line_faults.LineTooLong) (cond (eqb rtype 56) (Err line_faults.LineTooLong) (cond (eqb rtype 73) (Err line_faults.LineTooLong) (cond (eqb rtype 80) (Err line_faults.LineTooLong) (Err line_faults.UnknownType)))))))) refl (err_cond (eqb rtype 52) (Err line_faults.LineTooLong) (cond (eqb rtype 53) (Err line_faults.LineTooLong) (cond (eqb rtype 54) (Err line_faults.LineTooLong) (cond (eqb rtype 55) (Err line_faults.LineTooLong) (cond (eqb rtype 56) (Err line_faults.LineTooLong) (cond (eqb rtype 73) (Err line_faults.LineTooLong) (cond (eqb rtype 80) (Err line_faults.LineTooLong) (Err line_faults.UnknownType))))))) refl (err_cond (eqb rtype 53) (Err line_faults.LineTooLong) (cond (eqb rtype 54) (Err line_faults.LineTooLong) (cond (eqb rtype 55) (Err line_faults.LineTooLong) (cond (eqb rtype 56) (Err line_faults.LineTooLong) (cond (eqb rtype 73) (Err line_faults.LineTooLong) (cond (eqb rtype 80) (Err line_faults.LineTooLong) (Err line_faults.UnknownType)))))) refl (err_cond (eqb rtype 54) (Err line_faults.LineTooLong) (cond (eqb rtype 55) (Err line_faults.LineTooLong) (cond (eqb rtype 56) (Err line_faults.LineTooLong) (cond (eqb rtype 73) (Err line_faults.LineTooLong) (cond (eqb rtype 80) (Err line_faults.LineTooLong) (Err line_faults.UnknownType))))) refl (err_cond (eqb rtype 55) (Err line_faults.LineTooLong) (cond (eqb rtype 56) (Err line_faults.LineTooLong) (cond (eqb rtype 73) (Err line_faults.LineTooLong) (cond (eqb rtype 80) (Err line_faults.LineTooLong) (Err line_faults.UnknownType)))) refl (err_cond (eqb rtype 56) (Err line_faults.LineTooLong) (cond (eqb rtype 73) (Err line_faults.LineTooLong) (cond (eqb rtype 80) (Err line_faults.LineTooLong) (Err line_faults.UnknownType))) refl (err_cond (eqb rtype 73) (Err line_faults.LineTooLong) (cond (eqb rtype 80) (Err line_faults.LineTooLong) (Err line_faults.UnknownType)) refl (err_cond (eqb rtype 80) (Err line_faults.LineTooLong) (Err line_faults.UnknownType) refl refl))))))))
+
+is_err_along : (x y : Result Record LineFault) → x ≡ y → IsErr y → IsErr x
+is_err_along x y e h = rw e h
+
+pub judged_long : (line : List ℕ) → 228 < length line → IsErr (judged line)
+unfolding judged
+judged_long [] long = absurd (omega arith)
+judged_long (b ∷ line) long = is_err_along _ _ (long_by b (b ∷ line) long) (err_long b)
+
+pub judged_settles : (line more : List ℕ) → 228 < length line → judged (line ++ more) ≡ judged line
+unfolding judged
+judged_settles [] more long = absurd (omega arith)
+judged_settles (b ∷ line) more long = long_by b (b ∷ line ++ more) (omega (arith, length-append (b ∷ line) more)) ∙ sym (long_by b (b ∷ line) long)

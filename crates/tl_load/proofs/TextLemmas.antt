@@ -1,0 +1,124 @@
+-- The canonical text of records is read as these records.
+use Rattle.std.proofs.Common.{◌≡◌, ℕ, suc, ◌+◌, ◌-◌, ◌<◌, ◌≤◌, Bool, true, false, cond, List, [], ◌∷◌, ◌++◌, length, get_or, take, drop, map, Result, Ok, Err, refl, sym, ap, subst, ◌∙◌, append_assoc, append-nil, arith, eqb, ltb}
+use Rattle.std.specs.Prelude.{All}
+use Rattle.std.specs.List.{flat_map}
+use Rattle.std.proofs.lemmas.Bool.{le-ltb, false_from_ne_true, eqb-true}
+use Rattle.tl_layout.specs.Bytes.{is_allowed, AreAllowed, IsText, IsLine}
+use Rattle.tl_layout.specs.RecordText.{type_of, len_of, spelling_of, FitsRecord, text_of}
+use Rattle.tl_layout.specs.RecordLaws.{spelling_is_line}
+use Rattle.tl_layout.specs.declared.fault.FieldFault.{FieldFault}
+use Rattle.tl_layout.specs.declared.record_type.Record.{Record}
+use Rattle.tl_layout.specs.declared.record_type.Record.TheVariants.{One, Two, Four, Five, Six, Seven, Eight, I, P}
+use Rattle.tl_layout.specs.Type1.{type_1_reading}
+use Rattle.tl_layout.specs.Type2.{type_2_reading}
+use Rattle.tl_layout.specs.Type4.{type_4_reading}
+use Rattle.tl_layout.specs.Type5.{type_5_reading}
+use Rattle.tl_layout.specs.Type6.{type_6_reading}
+use Rattle.tl_layout.specs.Type7.{type_7_reading}
+use Rattle.tl_layout.specs.Type8.{type_8_reading}
+use Rattle.tl_layout.specs.TypeI.{type_i_reading}
+use Rattle.tl_layout.specs.TypeP.{type_p_reading}
+use Rattle.tl_layout.specs.Type1Laws.{type_1_reads_spelling}
+use Rattle.tl_layout.specs.Type2Laws.{type_2_reads_spelling}
+use Rattle.tl_layout.specs.Type4Laws.{type_4_reads_spelling}
+use Rattle.tl_layout.specs.Type5Laws.{type_5_reads_spelling}
+use Rattle.tl_layout.specs.Type6Laws.{type_6_reads_spelling}
+use Rattle.tl_layout.specs.Type7Laws.{type_7_reads_spelling}
+use Rattle.tl_layout.specs.Type8Laws.{type_8_reads_spelling}
+use Rattle.tl_layout.specs.TypeILaws.{type_i_reads_spelling}
+use Rattle.tl_layout.specs.TypePLaws.{type_p_reads_spelling}
+use Rattle.tl_load.specs.declared.fault.LineFault.{LineFault}
+use Rattle.tl_load.specs.declared.fault.LineFault.TheVariants as line_faults
+use Rattle.tl_load.specs.Lines.{is_line_feed, IsWithoutLineFeed, without_return, lines}
+use Rattle.tl_load.specs.Places.{PlacedLine, numbered, lines_from_part, placed_lines}
+use Rattle.tl_load.specs.Outcome.{AreJudged, Spells}
+use Rattle.tl_load.specs.LineOf.{filled, first_bad, of_reading, judged_full, judged_as}
+use Rattle.tl_load.specs.Choice.{as_record, judged_by, judged, tiger}
+use Rattle.tl_load.proofs.LineLemmas.{lines_line, lines_none}
+use Rattle.tl_load.proofs.Filling.{filled_full}
+use Rattle.tl_load.proofs.LineLaws.{bad_none}
+use Rattle.tl_load.proofs.Reading.{verdicts_same}
+
+-- ---- a canonical line
+
+-- a full line is judged as what it is read as
+judged_full_line : {R : Type 0} (rtype len : ℕ) (reading : List ℕ → Result R FieldFault) (line : List ℕ) (r : R) → IsLine rtype len line → reading line ≡ Ok r → judged_as len reading line ≡ Ok r
+unfolding judged_as judged_full
+judged_full_line rtype len reading line r is e =
+    ap (λ (b : Bool). cond b (Err line_faults.LineTooLong) (judged_full reading (filled len line))) (le-ltb len (length line) (omega (arith, is.text.len)))
+    ∙ ap (judged_full reading) (filled_full len line is.text.len)
+    ∙ ap (λ (b : Bool). cond b (Err (line_faults.BadByte (first_bad line + 1))) (of_reading (reading line))) (bad_none line is.text.allowed)
+    ∙ ap of_reading e
+
+by_first : (rtype : ℕ) (line : List ℕ) → take 1 line ≡ rtype ∷ [] → judged line ≡ judged_by rtype line
+unfolding judged
+by_first rtype [] e = absurd cc
+by_first rtype (b ∷ line) e = let same : b ≡ rtype = cc in ap (λ (t : ℕ). judged_by t (b ∷ line)) same
+
+judged_spelling : (r : Record) → FitsRecord r → judged (spelling_of r) ≡ Ok r
+unfolding judged_by type_of len_of spelling_of FitsRecord
+judged_spelling (One r) f = let is = spelling_is_line (One r) f in by_first 49 _ is.begins ∙ ap (as_record One) (judged_full_line 49 228 type_1_reading _ r is (type_1_reads_spelling r f))
+judged_spelling (Two r) f = let is = spelling_is_line (Two r) f in by_first 50 _ is.begins ∙ ap (as_record Two) (judged_full_line 50 208 type_2_reading _ r is (type_2_reads_spelling r f))
+judged_spelling (Four r) f = let is = spelling_is_line (Four r) f in by_first 52 _ is.begins ∙ ap (as_record Four) (judged_full_line 52 58 type_4_reading _ r is (type_4_reads_spelling r f))
+judged_spelling (Five r) f = let is = spelling_is_line (Five r) f in by_first 53 _ is.begins ∙ ap (as_record Five) (judged_full_line 53 56 type_5_reading _ r is (type_5_reads_spelling r f))
+judged_spelling (Six r) f = let is = spelling_is_line (Six r) f in by_first 54 _ is.begins ∙ ap (as_record Six) (judged_full_line 54 76 type_6_reading _ r is (type_6_reads_spelling r f))
+judged_spelling (Seven r) f = let is = spelling_is_line (Seven r) f in by_first 55 _ is.begins ∙ ap (as_record Seven) (judged_full_line 55 74 type_7_reading _ r is (type_7_reads_spelling r f))
+judged_spelling (Eight r) f = let is = spelling_is_line (Eight r) f in by_first 56 _ is.begins ∙ ap (as_record Eight) (judged_full_line 56 36 type_8_reading _ r is (type_8_reads_spelling r f))
+judged_spelling (I r) f = let is = spelling_is_line (I r) f in by_first 73 _ is.begins ∙ ap (as_record I) (judged_full_line 73 127 type_i_reading _ r is (type_i_reads_spelling r f))
+judged_spelling (P r) f = let is = spelling_is_line (P r) f in by_first 80 _ is.begins ∙ ap (as_record P) (judged_full_line 80 45 type_p_reading _ r is (type_p_reads_spelling r f))
+
+-- ---- its bytes
+
+-- a byte that isn't allowed is none of a line's
+is_not : (c b : ℕ) → is_allowed c ≡ false → is_allowed b ≡ true → eqb b c ≡ false
+is_not c b bad good = false_from_ne_true (eqb b c) (λ e. let same : b ≡ c = eqb-true b c e in let again : is_allowed c ≡ true = subst (λ (x : ℕ). is_allowed x ≡ true) same good in absurd cc)
+
+no_feed : (line : List ℕ) → AreAllowed line → IsWithoutLineFeed line
+unfolding AreAllowed
+no_feed line h k d lt = is_not 10 (get_or line k d) refl (h k d lt)
+
+no_return : (line : List ℕ) → 0 < length line → AreAllowed line → without_return line ≡ line
+unfolding AreAllowed without_return
+no_return line some h = ap (λ (b : Bool). cond b (take (length line - 1) line) line) (is_not 13 (get_or line (length line - 1) 0) refl (h (length line - 1) 0 (omega arith)))
+
+some_begin : (rtype : ℕ) (line : List ℕ) → take 1 line ≡ rtype ∷ [] → 0 < length line
+some_begin rtype [] e = absurd cc
+some_begin rtype (b ∷ line) e = omega arith
+
+-- ---- the text
+
+abbrev pub AllFit : List Record → Type 0
+AllFit records = All FitsRecord records
+
+rest_fit : (r : Record) (records : List Record) → AllFit (r ∷ records) → AllFit records
+rest_fit r records h k d lt = h (suc k) d (omega arith)
+
+first_fits : (r : Record) (records : List Record) → AllFit (r ∷ records) → FitsRecord r
+first_fits r records h = h 0 r (omega arith)
+
+lines_of_text : (records : List Record) → AllFit records → lines (text_of records) ≡ map spelling_of records
+lines_of_text [] h = lines_none
+lines_of_text (r ∷ records) h =
+    let is = spelling_is_line r (first_fits r records h) in
+    ap lines (append_assoc (spelling_of r) (10 ∷ []) (text_of records))
+    ∙ lines_line (spelling_of r) (text_of records) (no_feed (spelling_of r) is.text.allowed)
+    ∙ ap (λ (l : List ℕ). l ∷ lines (text_of records)) (no_return (spelling_of r) (some_begin _ _ is.begins) is.text.allowed)
+    ∙ ap (λ (ls : List (List ℕ)). spelling_of r ∷ ls) (lines_of_text records (rest_fit r records h))
+
+judged_lines : (part line : ℕ) (records : List Record) → AllFit records → AreJudged tiger (numbered part line (map spelling_of records)) records
+unfolding numbered tiger
+judged_lines part line [] h = refl
+judged_lines part line (r ∷ records) h =
+    ap (λ (v : Result Record LineFault). v ∷ map (λ (l : PlacedLine). judged l.bytes) (numbered part (line + 1) (map spelling_of records))) (judged_spelling r (first_fits r records h))
+    ∙ ap (λ (vs : List (Result Record LineFault)). Ok r ∷ vs) (judged_lines part (line + 1) records (rest_fit r records h))
+
+one_part : (text : List ℕ) → placed_lines (text ∷ []) ≡ numbered 1 1 (lines text)
+unfolding lines_from_part
+one_part text = append-nil (numbered 1 1 (lines text))
+
+pub text_spells : (records : List Record) → AllFit records → Spells tiger (text_of records ∷ []) records
+text_spells records h =
+    subst (λ (ls : List PlacedLine). AreJudged tiger ls records) (sym (one_part (text_of records) ∙ ap (numbered 1 1) (lines_of_text records h))) (judged_lines 1 1 records h)
+
+pub text_spells_only : (records others : List Record) → AllFit records → Spells tiger (text_of records ∷ []) others → others ≡ records
+text_spells_only records others h s = verdicts_same others records (sym s ∙ text_spells records h)

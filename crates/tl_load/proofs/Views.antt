@@ -1,0 +1,47 @@
+-- Small facts for the loader's answers.
+use Rattle.std.proofs.Common.{◌≡◌, ℕ, suc, ◌+◌, ◌-◌, ◌<◌, ◌≤◌, Bool, true, false, List, [], ◌∷◌, ◌++◌, length, get_or, take, drop, Result, Ok, Err, Option, Some, None, refl, sym, ap, subst, ◌∙◌, arith, eqb, append_assoc}
+use Rattle.std.specs.Prelude.{OnOk, IsOk, MatchOption, All}
+use Rattle.std.proofs.lemmas.Bool.{eqb-true, ne_eqb, false_from_ne_true}
+use Rattle.std.proofs.lemmas.List.{take-append-drop, length-take, get_or-take, get_or_default, drop_more, take_all, length-drop, take_rest}
+use Rattle.memchr.specs.Find.{IsFirstByte, Nowhere, NoneBefore, Passes, is_byte}
+use Rattle.tl_load.specs.Lines.{is_line_feed, IsWithoutLineFeed}
+use Rattle.tl_load.specs.Loaded.{Loaded}
+use Rattle.tl_load.proofs.Steps.{IsBefore}
+
+pub empty_is : (l : List ℕ) → eqb (length l) 0 ≡ true → l ≡ []
+empty_is [] h = refl
+empty_is (x ∷ l) h = let e = eqb-true (length (x ∷ l)) 0 h in absurd (omega (arith, e))
+
+pub some_is : (l : List ℕ) → eqb (length l) 0 ≡ false → 0 < length l
+some_is [] h = absurd cc
+some_is (x ∷ l) h = omega arith
+
+pub on_ok_of : {T E P : Type 0} (r : Result T E) → IsOk r → OnOk r P → P
+on_ok_of (Ok x) h p = p
+on_ok_of (Err e) h p = absurd cc
+
+-- where no place has an LF, no byte is one
+pub no_feed_below : (bytes : List ℕ) (n : ℕ) → n ≤ length bytes → Nowhere (Passes (is_byte 10) bytes) 0 n → IsWithoutLineFeed (take n bytes)
+no_feed_below bytes n le none k d lt =
+    let low : k < n = omega (arith, length-take n bytes, lt) in
+    let at = none k (omega arith) low in
+    let same : get_or (take n bytes) k d ≡ get_or bytes k 0 = get_or-take n bytes k d low ∙ get_or_default bytes k d 0 (omega arith) in
+    subst (λ (b : ℕ). is_line_feed b ≡ false) (sym same) (false_from_ne_true _ at)
+
+pub no_feed : (bytes : List ℕ) → Nowhere (Passes (is_byte 10) bytes) 0 (length bytes) → IsWithoutLineFeed bytes
+no_feed bytes none = subst IsWithoutLineFeed (take_all (length bytes) bytes (omega arith)) (no_feed_below bytes (length bytes) (omega arith) none)
+
+-- the bytes before an LF, the LF, and the bytes after it
+pub cut_at : (bytes : List ℕ) (n : ℕ) → n < length bytes → eqb (get_or bytes n 0) 10 ≡ true → bytes ≡ take n bytes ++ 10 ∷ drop 1 (drop n bytes)
+cut_at bytes n lt h =
+    let e : drop n bytes ≡ get_or bytes n 0 ∷ drop (n + 1) bytes = drop_more bytes n 0 lt in
+    let rest : drop 1 (drop n bytes) ≡ drop (n + 1) bytes = ap (λ (l : List ℕ). drop 1 l) e in
+    sym (take-append-drop n bytes) ∙ ap (λ (l : List ℕ). take n bytes ++ l) (e ∙ ap (λ (b : ℕ). b ∷ drop (n + 1) bytes) (eqb-true _ _ h) ∙ ap (λ (l : List ℕ). 10 ∷ l) (sym rest))
+
+-- what `&bytes[1..]` is
+pub rest_of : (bytes : List ℕ) → take (length bytes - 1) (drop 1 bytes) ≡ drop 1 bytes
+rest_of bytes = take_rest bytes 1
+
+pub none_is : {A : Type 0} (o : Option A) → ((x : A) → o ≡ Some x → ⊥) → o ≡ None
+none_is None h = refl
+none_is (Some x) h = absurd (h x refl)

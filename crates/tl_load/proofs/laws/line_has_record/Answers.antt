@@ -1,0 +1,8 @@
+use Rattle.tl_load.proofs.LineLaws.{Reading, judged_is_line, line_is_judged}
+use Rattle.tl_load.proofs.laws.line_has_record.Goals as goal
+
+pub returns : goal.returns
+returns g c line r begins =
+    let laws : Reading g.L.Layout.RTYPE g.L.Layout.LEN g.L.Layout.reading g.L.Layout.Spells =
+    record { found = λ l x is e. (g.met.L.Layout.reads_spelled l x is e).1; only = λ l x is h. g.met.L.Layout.spelled_is_read l x is h } in
+    (judged_is_line _ _ _ _ laws line r begins, line_is_judged _ _ _ _ laws line r)

@@ -1,0 +1,36 @@
+-- A line of one layout, and its record.
+use Rattle.std.specs.Prelude.{◌≡◌, ℕ, ◌+◌, ◌-◌, ◌≤◌, nat_lt, List, [], ◌∷◌, ◌++◌, length, take, replicate, not, Result, Ok, Err, if◌then◌else◌}
+use Rattle.std.specs.List.{position_or_len}
+use Rattle.tl_layout.specs.Bytes.{is_allowed, AreAllowed}
+use Rattle.tl_layout.specs.declared.fault.FieldFault.{FieldFault}
+use Rattle.tl_load.specs.declared.fault.LineFault.{LineFault}
+use Rattle.tl_load.specs.declared.fault.LineFault.TheVariants as line_faults
+
+-- the line, filled with blanks to this length
+abbrev pub filled : ℕ → List ℕ → List ℕ
+filled len line = line ++ replicate (len - length line) 32
+
+-- the line has this record: it begins with the record type, it is not too long, and filled with blanks it
+-- has only allowed bytes and spells the record
+pub record IsLineOf {R : Type 0} (rtype len : ℕ) (Spells : List ℕ → R → Type 0) (line : List ℕ) (record_of : R) : Type 0 where
+  pub begins : take 1 line ≡ rtype ∷ []
+  pub short : length line ≤ len
+  pub allowed : AreAllowed (filled len line)
+  pub spells : Spells (filled len line) record_of
+
+-- the leftmost byte that isn't allowed, counted from 0, or the length where each is
+abbrev pub first_bad : List ℕ → ℕ
+first_bad line = position_or_len (λ b. not (is_allowed b)) line
+
+-- a field's fault is told as the line's
+abbrev pub of_reading : {R : Type 0} → Result R FieldFault → Result R LineFault
+of_reading (Ok r) = Ok r
+of_reading (Err fault) = Err (line_faults.Field fault)
+
+-- what a full line is judged as: its leftmost byte that isn't allowed is told, and then what its fields are read as
+unfoldable pub judged_full : {R : Type 0} → (List ℕ → Result R FieldFault) → List ℕ → Result R LineFault
+judged_full reading line = if nat_lt (first_bad line) (length line) then Err (line_faults.BadByte (first_bad line + 1)) else of_reading (reading line)
+
+-- what a line that begins with the layout's record type is judged as
+unfoldable pub judged_as : {R : Type 0} → ℕ → (List ℕ → Result R FieldFault) → List ℕ → Result R LineFault
+judged_as len reading line = if nat_lt len (length line) then Err line_faults.LineTooLong else judged_full reading (filled len line)

@@ -1,0 +1,89 @@
+-- Which records a set of parts spells, and which fault is at it.
+use Rattle.std.specs.Prelude.{◌≡◌, ℕ, ◌≤◌, nat_le, ◌==◌, List, [], ◌∷◌, ◌++◌, Result, Ok, Err, MatchResult, map, count_by, if◌then◌else◌, ◌⊎◌}
+use Rattle.tl_load.specs.declared.fault.LineFault.{LineFault}
+use Rattle.tl_load.specs.declared.fault.LoadFault.{LoadFault}
+use Rattle.tl_load.specs.declared.fault.LoadFault.TheVariants as faults
+use Rattle.tl_load.specs.Places.{PlacedLine, placed_lines}
+use Rattle.tl_load.specs.Verdicts.{Judge, fault_at}
+
+-- how many of the records are of this type
+abbrev pub count_of : {R : Type 0} → Judge R → ℕ → List R → ℕ
+count_of judge rtype records = count_by (λ r. judge.rtype r == rtype) records
+
+-- there are at most limit records of each type
+abbrev pub IsWithinLimit : {R : Type 0} → Judge R → ℕ → List R → Type 0
+IsWithinLimit judge limit records = (rtype : ℕ) → count_of judge rtype records ≤ limit
+
+-- the lines are as many as the records, and each is judged as its record
+abbrev pub AreJudged : {R : Type 0} → Judge R → List PlacedLine → List R → Type 0
+AreJudged {R} judge lines records = map (λ (l : PlacedLine). judge.verdict l.bytes) lines ≡ map (λ (r : R). Ok r) records
+
+-- the lines of the parts, part after part, are as many as the records, and each is judged as its record
+abbrev pub Spells : {R : Type 0} → Judge R → List (List ℕ) → List R → Type 0
+Spells judge parts records = AreJudged judge (placed_lines parts) records
+
+-- the parts spell these records, with at most limit of each type
+pub record Accepts {R : Type 0} (judge : Judge R) (limit : ℕ) (parts : List (List ℕ)) (records : List R) : Type 0 where
+  pub spells : Spells judge parts records
+  pub within : IsWithinLimit judge limit records
+
+-- the fault of a line that comes after these records: its own, or there are limit records of its type already
+abbrev pub IsFaultOf : {R : Type 0} → Judge R → ℕ → List R → PlacedLine → LoadFault → Type 0
+IsFaultOf judge limit records line fault = MatchResult (judge.verdict line.bytes)
+    (λ r. (limit ≤ count_of judge (judge.rtype r) records) × (fault ≡ faults.TooManyRecords (judge.rtype r)))
+    (λ f. fault ≡ fault_at line.part line.line f)
+
+-- the fault at the parts: the one of the first line that has one
+pub record FaultAt {R : Type 0} (judge : Judge R) (limit : ℕ) (parts : List (List ℕ)) (fault : LoadFault) : Type 0 where
+  pub before : List PlacedLine
+  pub line : PlacedLine
+  pub after : List PlacedLine
+  pub records : List R
+  pub split : placed_lines parts ≡ before ++ line ∷ after
+  pub well : AreJudged judge before records
+  pub within : IsWithinLimit judge limit records
+  pub fault_is : IsFaultOf judge limit records line fault
+
+-- the parts spell a list, and no fault is at them
+pub record IsSpelled {R : Type 0} (judge : Judge R) (limit : ℕ) (parts : List (List ℕ)) : Type 0 where
+  pub records : List R
+  pub accepts : Accepts judge limit parts records
+  pub only : (others : List R) → Spells judge parts others → others ≡ records
+  pub none : (fault : LoadFault) → FaultAt judge limit parts fault → ⊥
+
+-- exactly one fault is at the parts, and they spell no list within the limit
+pub record IsFaulty {R : Type 0} (judge : Judge R) (limit : ℕ) (parts : List (List ℕ)) : Type 0 where
+  pub fault : LoadFault
+  pub at : FaultAt judge limit parts fault
+  pub only : (other : LoadFault) → FaultAt judge limit parts other → other ≡ fault
+  pub none : (records : List R) → Accepts judge limit parts records → ⊥
+
+-- ---- the same by going over the lines
+
+infixl 10 ◌>>=◌
+abbrev pub ◌>>=◌ : {A B : Type 0} → Result A LoadFault → (A → Result B LoadFault) → Result B LoadFault
+(Ok x) >>= f = f x
+(Err e) >>= f = Err e
+
+-- the records with one more, or the fault that there are limit of its type already
+abbrev pub with_record : {R : Type 0} → Judge R → ℕ → List R → R → Result (List R) LoadFault
+with_record judge limit records r =
+    if nat_le limit (count_of judge (judge.rtype r) records) then Err (faults.TooManyRecords (judge.rtype r)) else Ok (records ++ r ∷ [])
+
+-- the records after a line that was judged so, or its fault
+abbrev pub after_verdict : {R : Type 0} → Judge R → ℕ → List R → PlacedLine → Result R LineFault → Result (List R) LoadFault
+after_verdict judge limit records line (Ok r) = with_record judge limit records r
+after_verdict judge limit records line (Err f) = Err (fault_at line.part line.line f)
+
+-- the records after one more line, or its fault
+unfoldable pub next : {R : Type 0} → Judge R → ℕ → List R → PlacedLine → Result (List R) LoadFault
+next judge limit records line = after_verdict judge limit records line (judge.verdict line.bytes)
+
+-- the records after the lines, or the first fault
+unfoldable pub reading : {R : Type 0} → Judge R → ℕ → List R → List PlacedLine → Result (List R) LoadFault
+reading judge limit records [] = Ok records
+reading judge limit records (line ∷ lines) = next judge limit records line >>= λ more. reading judge limit more lines
+
+-- what comes of the parts
+abbrev pub outcome : {R : Type 0} → Judge R → ℕ → List (List ℕ) → Result (List R) LoadFault
+outcome judge limit parts = reading judge limit [] (placed_lines parts)

@@ -1,0 +1,22 @@
+-- Where a line stands: the number of its part, and its own number in it, both from 1.
+use Rattle.std.specs.Prelude.{ℕ, ◌+◌, List, [], ◌∷◌, ◌++◌}
+use Rattle.tl_load.specs.Lines.{lines}
+
+pub record PlacedLine : Type 0 where
+  pub part : ℕ
+  pub line : ℕ
+  pub bytes : List ℕ
+
+-- lines of a part, the first of which has this number
+unfoldable pub numbered : ℕ → ℕ → List (List ℕ) → List PlacedLine
+numbered part line [] = []
+numbered part line (bytes ∷ more) = record { part = part; line = line; bytes = bytes } ∷ numbered part (line + 1) more
+
+-- the lines of parts, the first of which has this number
+unfoldable pub lines_from_part : ℕ → List (List ℕ) → List PlacedLine
+lines_from_part part [] = []
+lines_from_part part (bytes ∷ more) = numbered part 1 (lines bytes) ++ lines_from_part (part + 1) more
+
+-- all lines, part after part
+abbrev pub placed_lines : List (List ℕ) → List PlacedLine
+placed_lines parts = lines_from_part 1 parts

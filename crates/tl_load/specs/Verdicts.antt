@@ -1,0 +1,27 @@
+-- How lines are judged, and what a line's fault is told as.
+use Rattle.std.specs.Prelude.{ℕ, List, Result}
+use Rattle.tl_layout.specs.declared.fault.FieldFault.{FieldFault}
+use Rattle.tl_layout.specs.declared.fault.FieldKind.{FieldKind}
+use Rattle.tl_layout.specs.declared.fault.FieldKind.TheVariants as kinds
+use Rattle.tl_load.specs.declared.fault.LineFault.{LineFault}
+use Rattle.tl_load.specs.declared.fault.LineFault.TheVariants as line_faults
+use Rattle.tl_load.specs.declared.fault.LoadFault.{LoadFault}
+use Rattle.tl_load.specs.declared.fault.LoadFault.TheVariants as faults
+
+-- a judge of lines: which record a line spells, or the line's fault; and the type of a record
+pub record Judge (R : Type 0) : Type 0 where
+  pub verdict : List ℕ → Result R LineFault
+  pub rtype : R → ℕ
+
+-- a field's fault, with its place
+abbrev pub field_fault_at : ℕ → ℕ → ℕ → FieldKind → LoadFault
+field_fault_at part line column kinds.BadNumber = faults.BadNumber part line column
+field_fault_at part line column kinds.BadPoint = faults.BadPoint part line column
+field_fault_at part line column kinds.GapInRecord = faults.GapInRecord part line column
+
+-- a line's fault, with its place
+unfoldable pub fault_at : ℕ → ℕ → LineFault → LoadFault
+fault_at part line line_faults.UnknownType = faults.UnknownType part line
+fault_at part line line_faults.LineTooLong = faults.LineTooLong part line
+fault_at part line (line_faults.BadByte column) = faults.BadByte part line column
+fault_at part line (line_faults.Field fault) = field_fault_at part line fault.column fault.kind

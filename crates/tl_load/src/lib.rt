@@ -1,0 +1,18 @@
+//! Loads TIGER/Line 2006 records: lines out of pieces of bytes, each judged by its layout, and the first fault.
+#![tactic(auto)]
+
+mod bytes;
+mod fault;
+mod judge;
+mod laws;
+mod line;
+mod loader;
+mod source;
+#[cfg(test)]
+mod tests;
+
+pub use bytes::first_bad;
+pub use fault::{LineFault, LoadFault};
+pub use laws::{line_has_record, spelled_or_one_fault, text_spells_its_records};
+pub use loader::Loader;
+pub use source::{Counted, SlowSource, Source};

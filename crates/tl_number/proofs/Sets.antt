@@ -1,0 +1,68 @@
+-- Each set is accepted or has one refusal; two sets have one canonical text exactly if their counties are the same.
+use Rattle.std.proofs.Common.{◌≡◌, ◌⊎◌, ℕ, List, [], ◌∷◌, sym, ap, ◌∙◌, subst, inl, inr}
+use Rattle.tl_layout.specs.RecordText.{text_of}
+use Rattle.tl_layout.specs.declared.record_type.Record.{Record}
+use Rattle.tl_load.specs.Choice.{tiger}
+use Rattle.tl_load.specs.Outcome.{Spells, Accepts, FaultAt, IsSpelled, IsFaulty}
+use Rattle.tl_load.specs.declared.fault.LoadFault.{LoadFault}
+use Rattle.tl_load.proofs.Reading.{one_verdict}
+use Rattle.tl_load.proofs.TextLemmas.{text_spells, text_spells_only}
+use Rattle.tl_county.specs.County.{county_of}
+use Rattle.tl_county.specs.Renumbering.{AreSame}
+use Rattle.tl_number.specs.Accepted.{IsAccepted, Refusal, IsRefusal}
+use Rattle.tl_number.specs.Sets.{most_records, IsAcceptedSet, SetRefusal, Faulty, Refused, IsSetRefusal, IsCanonicalText}
+use Rattle.tl_number.proofs.Accepted.{accepted_or_refused, accepted_not_refused, one_refusal, same_one_canonical, one_canonical_same}
+
+pub set_accepted_or_refused : (parts : List (List ℕ)) → ((records : List Record) × IsAcceptedSet parts records) ⊎ ((refusal : SetRefusal) × IsSetRefusal parts refusal)
+set_accepted_or_refused parts = go (one_verdict tiger most_records parts)
+  where
+    judged : (records : List Record) → Accepts tiger most_records parts records → IsAccepted records ⊎ ((refusal : Refusal) × IsRefusal records refusal) → ((records : List Record) × IsAcceptedSet parts records) ⊎ ((refusal : SetRefusal) × IsSetRefusal parts refusal)
+    judged records spelled (inl accepted) = inl (records, record { spelled = spelled; accepted = accepted })
+    judged records spelled (inr r) = inr (Refused r.0, (records, spelled, r.1))
+
+    go : IsSpelled tiger most_records parts ⊎ IsFaulty tiger most_records parts → ((records : List Record) × IsAcceptedSet parts records) ⊎ ((refusal : SetRefusal) × IsSetRefusal parts refusal)
+    go (inl s) = judged s.records s.accepts (accepted_or_refused s.records)
+    go (inr f) = inr (Faulty f.fault, f.at)
+
+-- the records that accepted parts spell are one list, and then no line is faulty
+one_list : (parts : List (List ℕ)) (records others : List Record) → Accepts tiger most_records parts records → Accepts tiger most_records parts others → records ≡ others
+one_list parts records others a b = go (one_verdict tiger most_records parts)
+  where
+    go : IsSpelled tiger most_records parts ⊎ IsFaulty tiger most_records parts → records ≡ others
+    go (inl s) = s.only records a.spells ∙ sym (s.only others b.spells)
+    go (inr f) = absurd (f.none records a)
+
+spelled_not_faulty : (parts : List (List ℕ)) (records : List Record) (fault : LoadFault) → Accepts tiger most_records parts records → FaultAt tiger most_records parts fault → ⊥
+spelled_not_faulty parts records fault a h = go (one_verdict tiger most_records parts)
+  where
+    go : IsSpelled tiger most_records parts ⊎ IsFaulty tiger most_records parts → ⊥
+    go (inl s) = s.none fault h
+    go (inr f) = f.none records a
+
+pub accepted_set_not_refused : (parts : List (List ℕ)) (records : List Record) (refusal : SetRefusal) → IsAcceptedSet parts records → IsSetRefusal parts refusal → ⊥
+accepted_set_not_refused parts records (Faulty fault) a h = spelled_not_faulty parts records fault a.spelled h
+accepted_set_not_refused parts records (Refused refusal) a h = accepted_not_refused records refusal a.accepted (subst (λ rs. IsRefusal rs refusal) (one_list parts h.0 records h.1 a.spelled) h.2)
+
+one_fault : (parts : List (List ℕ)) (f g : LoadFault) → FaultAt tiger most_records parts f → FaultAt tiger most_records parts g → f ≡ g
+one_fault parts f g h k = go (one_verdict tiger most_records parts)
+  where
+    go : IsSpelled tiger most_records parts ⊎ IsFaulty tiger most_records parts → f ≡ g
+    go (inl s) = absurd (s.none f h)
+    go (inr t) = t.only f h ∙ sym (t.only g k)
+
+pub one_set_refusal : (parts : List (List ℕ)) (f g : SetRefusal) → IsSetRefusal parts f → IsSetRefusal parts g → f ≡ g
+one_set_refusal parts (Faulty f) (Faulty g) h k = ap Faulty (one_fault parts f g h k)
+one_set_refusal parts (Faulty f) (Refused g) h k = absurd (spelled_not_faulty parts k.0 f k.1 h)
+one_set_refusal parts (Refused f) (Faulty g) h k = absurd (spelled_not_faulty parts h.0 g h.1 k)
+one_set_refusal parts (Refused f) (Refused g) h k = ap Refused (one_refusal k.0 f g (subst (λ rs. IsRefusal rs f) (one_list parts h.0 k.0 h.1 k.1) h.2) k.2)
+
+module _ (p q : List (List ℕ)) (t u : List ℕ) (h : IsCanonicalText p t) (k : IsCanonicalText q u) where
+  pub same_one_text : AreSame (county_of h.records) (county_of k.records) → t ≡ u
+  same_one_text s = sym h.text_is ∙ ap text_of (same_one_canonical h.records k.records h.canonical k.canonical h.canonical_of k.canonical_of s) ∙ k.text_is
+
+  pub one_text_same : t ≡ u → AreSame (county_of h.records) (county_of k.records)
+  one_text_same e =
+      let texts : text_of k.canonical ≡ text_of h.canonical = k.text_is ∙ sym e ∙ sym h.text_is in
+      let spelled : Spells tiger (text_of h.canonical ∷ []) k.canonical = subst (λ bytes. Spells tiger (bytes ∷ []) k.canonical) texts (text_spells k.canonical k.fits) in
+      let lists : k.canonical ≡ h.canonical = text_spells_only h.canonical k.canonical h.fits spelled in
+      one_canonical_same h.records k.records h.canonical k.canonical h.canonical_of k.canonical_of (sym lists)

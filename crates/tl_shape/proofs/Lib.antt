@@ -1,0 +1,3 @@
+pub mod Orders
+pub mod Reversed
+pub mod InPlace

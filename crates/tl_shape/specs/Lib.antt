@@ -1,0 +1,4 @@
+pub mod PointOrder
+pub mod Chain
+pub mod Turned
+pub mod TurnLaws

@@ -1,0 +1,99 @@
+//! The points of a chain.
+
+ghost use Rattle.std.specs.Prelude.{◌≡◌, ◌+◌, ◌≤◌, ◌<◌, ◌↔◌, [], ◌∷◌, ◌++◌, List, IfOk, IsTrue, length, reverse};
+ghost use Rattle.tl_layout.specs.Coordinates.{Coordinates};
+ghost use Rattle.tl_shape.specs.PointOrder.{points_cmp};
+ghost use Rattle.std.specs.declared.cmp.Ordering.TheVariants.{Less};
+
+use std::alloc::{AllocError, Global};
+use std::cmp::Ordering;
+use std::marker::Model;
+use tl_layout::Point;
+
+/// The points of a chain from its start node to its end node, two at least (record type 1, FRLONG to TOLAT, and the shape
+/// points of record type 2 between them).
+#[derive(Debug, Drop)]
+pub struct Shape {
+    points: Vec<Point>,
+}
+
+impl Model for Shape {
+    ghost use Rattle.std.specs.Prelude.{◌≤◌, List, length};
+    ghost use Rattle.tl_layout.specs.Coordinates.{Coordinates};
+
+    ghost Value = { List Coordinates };
+
+    ghost view = { λ s. s.points.items };
+
+    ghost invariant = { λ s. 2 ≤ length s.points.items };
+}
+
+impl Shape {
+    /// The shape from `start` by the shape points `inner` to `end`.
+    pub fn new(
+        alloc: Global,
+        start: Point,
+        inner: &[Point],
+        end: Point,
+    ) -> Result<Shape, AllocError>
+        ensures { IfOk result (λ shape. shape ≡ (start ∷ inner.now) ++ end ∷ []) }
+    {
+        let mut points = Vec::new(alloc);
+        points.push(start)?;
+        points.extend_from_slice(inner)?;
+        points.push(end)?;
+        Ok(Shape { points })
+    }
+
+    /// The points, from the start node to the end node.
+    pub fn points(&self) -> &[Point]
+        ensures value { result.now ≡ self.now }
+        ensures two { 2 ≤ length self.now }
+    {
+        self.points.as_slice()
+    }
+
+    /// How the points stand to those of another shape: the first point that differs decides, by longitude and then by
+    /// latitude as numbers, and a beginning comes first.
+    pub fn cmp(&self, other: &Shape) -> Ordering
+        ensures { result ≡ points_cmp self.now other.now }
+    {
+        self.points.as_slice().cmp(other.points.as_slice())
+    }
+
+    /// How the reverse of the points stands to the points.
+    fn cmp_reverse(&self) -> Ordering
+        ensures { result ≡ points_cmp (reverse self.now) self.now }
+    {
+        let points = self.points.as_slice();
+        let len = points.len();
+        for i in 0..len {
+            match points[len - 1 - i].cmp(&points[i]) {
+                Ordering::Equal => {}
+                unequal => return unequal,
+            }
+        }
+        Ordering::Equal
+    }
+
+    /// Whether the points are the same from both ends.
+    pub fn is_own_reverse(&self) -> bool
+        ensures { IsTrue result ↔ (reverse self.now ≡ self.now) }
+    {
+        self.cmp_reverse().is_eq()
+    }
+
+    /// Whether the points come after their reverse, so that the chain is turned in the canonical form.
+    pub fn needs_turn(&self) -> bool
+        ensures { IsTrue result ↔ (points_cmp (reverse self.now) self.now ≡ Less) }
+    {
+        self.cmp_reverse().is_lt()
+    }
+
+    /// Reverses the points.
+    pub fn reverse(&mut self)
+        ensures { self.new ≡ reverse self.old }
+    {
+        self.points.reverse();
+    }
+}
