@@ -1,19 +1,25 @@
 //! Laws of what a set is. The functions do nothing; their contracts are the laws.
 
 ghost use Rattle.std.specs.Prelude.{◌≡◌, ◌⊎◌, ℕ, List};
-ghost use Rattle.tigercanon.specs.Sets.{IsAcceptedSet, SetRefusal, IsSetRefusal, IsCanonicalText, AreSameMap};
+ghost use Rattle.tl_county.specs.County.{county_of};
+ghost use Rattle.tl_county.specs.Renumbering.{AreSame};
+ghost use Rattle.tl_layout.specs.declared.record_type.Record.{Record};
+ghost use Rattle.tigercanon.specs.Sets.{IsAcceptedSet, IsCanonicalText, IsSetRefusal, SetRefusal};
 
 /// A set of parts is accepted or has a refusal, never both, and never two.
-pub fn accepted_or_one_refusal()
-    ensures either { (parts : List (List ℕ)) → IsAcceptedSet parts ⊎ ((refusal : SetRefusal) × IsSetRefusal parts refusal) }
-    ensures not_both { (parts : List (List ℕ)) (refusal : SetRefusal) → IsAcceptedSet parts → IsSetRefusal parts refusal → ⊥ }
+pub fn accepted_set_or_one_refusal()
+    ensures either { (parts : List (List ℕ)) →
+        ((records : List Record) × IsAcceptedSet parts records) ⊎ ((refusal : SetRefusal) × IsSetRefusal parts refusal) }
+    ensures not_both { (parts : List (List ℕ)) (records : List Record) (refusal : SetRefusal) →
+        IsAcceptedSet parts records → IsSetRefusal parts refusal → ⊥ }
     ensures only_one { (parts : List (List ℕ)) (refusal other : SetRefusal) →
         IsSetRefusal parts refusal → IsSetRefusal parts other → refusal ≡ other }
 {}
 
-/// Sets of one map have one canonical text, and a set has no second one.
-pub fn one_canonical_text()
-    ensures one { (parts : List (List ℕ)) (text other : List ℕ) → IsCanonicalText parts text → IsCanonicalText parts other → text ≡ other }
-    ensures same { (parts others : List (List ℕ)) (text other : List ℕ) →
-        AreSameMap parts others → IsCanonicalText parts text → IsCanonicalText others other → text ≡ other }
+/// Two sets that have canonical texts have equal ones exactly if their counties are the same.
+pub fn one_canonical_text_exactly_for_one_map()
+    ensures same { (p q : List (List ℕ)) (t u : List ℕ) (h : IsCanonicalText p t) (k : IsCanonicalText q u) →
+        AreSame (county_of h.records) (county_of k.records) → t ≡ u }
+    ensures equal { (p q : List (List ℕ)) (t u : List ℕ) (h : IsCanonicalText p t) (k : IsCanonicalText q u) →
+        t ≡ u → AreSame (county_of h.records) (county_of k.records) }
 {}

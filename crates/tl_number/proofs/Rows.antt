@@ -1,5 +1,5 @@
 -- What the canonical form says of the samples: which lists are canonical, and that the samples are carried onto them.
-use Rattle.std.proofs.Common.{◌≡◌, [], ◌∷◌, refl, ap, arith, lit≤, ◌==◌, slice_index, Bool, true, false, cond, map, length, ℕ, List}
+use Rattle.std.proofs.Common.{◌≡◌, [], ◌∷◌, refl, ap, arith, lit≤, ◌==◌, slice_index, Bool, true, false, cond, map, length, List}
 use Rattle.std.proofs.lemmas.Bool.{true≢false}
 use Rattle.std.proofs.lemmas.List.Sorted.{IsPermutation-refl}
 use Rattle.std.specs.List.Sorted.{IsStrictlySortedBy}

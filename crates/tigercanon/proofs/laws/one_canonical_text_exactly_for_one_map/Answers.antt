@@ -1,0 +1,8 @@
+use Rattle.tigercanon.proofs.Sets.{same_one_text, one_text_same}
+use Rattle.tigercanon.proofs.laws.one_canonical_text_exactly_for_one_map.Goals as goal
+
+pub returns-clause-same : goal.returns-clause-same
+returns-clause-same c = same_one_text
+
+pub returns-clause-equal : goal.returns-clause-equal
+returns-clause-equal c = one_text_same
