@@ -9,6 +9,6 @@ pub mod Grouping
 pub mod Repacked
 pub mod RepackedPolygons
 pub mod Uniqueness
-pub mod Rows
+pub mod OnSamples
 pub mod Accepted
 pub mod Sets
