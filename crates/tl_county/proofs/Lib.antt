@@ -11,7 +11,7 @@ pub mod InOrder
 pub mod Numbers
 pub mod LinkedCounty
 pub mod Samples
-pub mod Rows
+pub mod OnSamples
 pub mod Reordered
 pub mod SameCounty
 pub mod Repacking

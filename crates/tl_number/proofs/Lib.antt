@@ -9,5 +9,5 @@ pub mod Grouping
 pub mod Repacked
 pub mod RepackedPolygons
 pub mod Uniqueness
-pub mod Rows
+pub mod OnSamples
 pub mod Accepted

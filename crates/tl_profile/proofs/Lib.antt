@@ -1,3 +1,3 @@
 pub mod ProfileFaults
 pub mod SameProfile
-pub mod Rows
+pub mod OnSamples
