@@ -5,3 +5,4 @@ mod jobs;
 mod lines;
 mod plans;
 mod sets;
+mod turns;

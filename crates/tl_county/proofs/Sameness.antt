@@ -1,7 +1,6 @@
 -- Sameness is reflexive, symmetric and transitive: the identity, the inverse and the composition of renamings carry.
 use Rattle.std.proofs.Common.{◌≡◌, ◌⊎◌, ℕ, nat_lt, List, [], ◌∷◌, Bool, true, false, map, filter, Ordering, IsTrue, is_eq, sym, refl, ap, ◌∙◌, subst, inl, inr, IsPermutation, nat_cmp, Option, Some, None, option_map, option_to_list, map-id}
 use Rattle.std.proofs.lemmas.Bool.{ltb-true, lt-ltb}
-use Rattle.std.proofs.lemmas.List.{reverse-reverse}
 use Rattle.std.proofs.lemmas.List.Sorted.{IsPermutation-refl, IsPermutation-map, IsPermutation-trans, IsPermutation-sym}
 use Rattle.std.specs.List.{AllByRecursion}
 use Rattle.tl_layout.specs.Fields.{Fields8}
@@ -11,16 +10,12 @@ use Rattle.tl_county.specs.CountyRules.{IsCounty, IsClosed, tlids, feats, polygo
 use Rattle.tl_county.specs.Orders.{times, stands_in, has_repeat}
 use Rattle.tl_county.specs.PolygonKeys.{PolygonKey, key_cmp, key_on, key_under}
 use Rattle.tl_county.specs.Renumbering.{Renumbering, image, turns, renumbered_polygon, renumbered_side, renumbered, carried_chain, carried_name, carried_polygon, carried_landmark, carried_link, ArePaired, Carries, AreSame, to_itself, identity, swapped, is_named, inverse, joined, exactly_one, then}
-use Rattle.tl_layout.specs.Turned.{turned_ranges}
+use Rattle.tl_shape.specs.TurnLaws.{turned-turned}
 use Rattle.tl_shape.specs.Turned.{turned, turned_if}
 use Rattle.tl_county.proofs.Lists.{map_itself, map-map, map_agree_all, all_weaker, all_map, all_unmap, all_left, all_right, all_pieces, all_filter}
 use Rattle.tl_county.proofs.Keys.{IsKeyOrder, IsApart, Known, nat_keys, lefts, rights, filter_all, same_or_not, apart_from_sorted, apart-permutation, known-permutation, known-permutation_to, all_known, image-known, times-images, has_repeat-images, apart-filter, stands_in-filter, image-back, image-yes, image-no, rights-swapped, lefts-swapped, image-to_itself, lefts-to_itself, rights-to_itself, images-lefts, followed, joined-followed, image-followed, lefts-followed, rights-followed}
 use Rattle.tl_county.proofs.KeyOrders.{key_keys}
 use Rattle.tl_county.proofs.Distinct.{apart-distinct, known-distinct, has_repeat-apart}
-
--- turning twice is nothing
-pub turned-turned : (c : Chain) → turned (turned c) ≡ c
-turned-turned c = λ i. record c { points = reverse-reverse c.points i; ranges = (map-map turned_ranges turned_ranges c.ranges ∙ map_itself (λ r. turned_ranges (turned_ranges r)) (λ r. refl) c.ranges) i }
 
 -- numbers don't depend on the direction
 pub renumbered-turned : (r : Renumbering) (c : Chain) → renumbered r (turned c) ≡ turned (renumbered r c)

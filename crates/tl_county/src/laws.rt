@@ -1,14 +1,10 @@
 //! Laws of the definitions in `specs/`. The functions do nothing; their contracts are the laws.
 
-ghost use Rattle.std.specs.Prelude.{◌≡◌, ◌⊎◌, IsPermutation, List, map, reverse};
-ghost use Rattle.tl_shape.specs.Chain.{Chain};
+ghost use Rattle.std.specs.Prelude.{◌≡◌, ◌⊎◌, IsPermutation, List, map};
 ghost use Rattle.tl_county.specs.County.{County, county_of};
 ghost use Rattle.tl_county.specs.LinkRules.{IsFirstBrokenRule, IsLinked};
 ghost use Rattle.tl_county.specs.Repacked.{AreRepacked, KeepsSequence, Sequence, resequenced};
-ghost use Rattle.tl_layout.specs.Turned.{turned_ranges};
-ghost use Rattle.tl_shape.specs.Turned.{turned};
 ghost use Rattle.tl_county.specs.declared.fault.LinkFault.{LinkFault};
-ghost use Rattle.tl_layout.specs.declared.ranges.Ranges.{Ranges};
 ghost use Rattle.tl_layout.specs.declared.record_type.Record.{Record};
 ghost use Rattle.tl_county.specs.CountyRules.{IsCounty};
 ghost use Rattle.tl_county.specs.Renumbering.{AreSame, Carries, Renumbering, identity, inverse, then};
@@ -53,17 +49,4 @@ pub fn the_county_is_what_the_records_say()
         AreRepacked records others → county_of records ≡ county_of others }
     ensures resequenced { (sequence : Sequence) (records : List Record) →
         KeepsSequence sequence → county_of (map (resequenced sequence) records) ≡ county_of records }
-{}
-
-/// A turn exchanges what is seen from the start with what is seen from the end, and left with right; the rest stays, and
-/// turning twice changes nothing.
-pub fn a_turn_exchanges_ends_and_sides()
-    ensures ends { (c : Chain) → ((turned c).points ≡ reverse c.points)
-        × ((turned c).start_node ≡ c.end_node) × ((turned c).end_node ≡ c.start_node) }
-    ensures sides { (c : Chain) → ((turned c).left ≡ c.right) × ((turned c).right ≡ c.left) }
-    ensures addresses { (r : Ranges) → ((turned_ranges r).fraddl ≡ r.toaddr) × ((turned_ranges r).toaddl ≡ r.fraddr)
-        × ((turned_ranges r).fraddr ≡ r.toaddl) × ((turned_ranges r).toaddr ≡ r.fraddl) }
-    ensures kept { (c : Chain) → ((turned c).feats ≡ c.feats) × ((turned c).link_body ≡ c.link_body)
-        × ((turned c).body.name ≡ c.body.name) × ((turned c).body.cfcc ≡ c.body.cfcc) }
-    ensures twice { (c : Chain) → turned (turned c) ≡ c }
 {}

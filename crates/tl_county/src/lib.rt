@@ -6,7 +6,6 @@ mod laws;
 
 pub use fault::{LinkFault, LinkedType};
 pub use laws::{
-    a_turn_exchanges_ends_and_sides, linked_or_one_first_broken_rule,
-    linked_records_have_a_well_formed_county, renamings_compose, sameness_is_an_equivalence,
-    the_county_is_what_the_records_say,
+    linked_or_one_first_broken_rule, linked_records_have_a_well_formed_county, renamings_compose,
+    sameness_is_an_equivalence, the_county_is_what_the_records_say,
 };
