@@ -7,7 +7,7 @@ use Rattle.tl_county.specs.declared.fault.LinkFault.{LinkFault}
 use Rattle.tl_county.specs.declared.fault.LinkFault.TheVariants.{ChainTwice, NoChain, SequenceBroken, LinkMissing, LinkTwice, NameTwice, NameUnknown, PolygonTwice, LandUnknown, PolygonUnknown, Memory}
 use Rattle.tl_county.specs.declared.fault.LinkedType.{LinkedType}
 use Rattle.tl_county.specs.declared.fault.LinkedType.TheVariants.{Two, Four, Six, I}
-use Rattle.tl_county.specs.ByType.{twos, fours, fives, sixes, eights, is, ps, of_number}
+use Rattle.tl_layout.specs.ByType.{of_type_2, of_type_4, of_type_5, of_type_6, of_type_8, of_type_i, of_type_p, of_number}
 use Rattle.tl_county.specs.County.{two_tlid, two_rtsq, four_tlid, four_rtsq, five_feat, six_tlid, six_rtsq, eight_land, eight_key, i_tlid, p_key}
 use Rattle.tl_county.specs.LinkRules.{chain_tlids, linked_tlids, rtsqs, named_feats, is_broken, fault_place, IsLinked, IsFirstBrokenRule}
 use Rattle.tl_county.specs.Orders.{times, stands_in, has_repeat}
@@ -79,15 +79,15 @@ faults_11_to_15 records =
     ++ (type_faults Six records
     ++ (type_faults I records
     ++ (map LinkMissing (chain_tlids records)
-    ++ map LinkTwice (map i_tlid (is records)))))))
+    ++ map LinkTwice (map i_tlid (of_type_i records)))))))
 
 abbrev pub faults_16_to_20 : List Record → List LinkFault
 faults_16_to_20 records =
-    map NameTwice (map five_feat (fives records))
-    ++ (name_faults (fours records)
-    ++ (map (λ k. PolygonTwice k.0 k.1) (map p_key (ps records))
-    ++ (map LandUnknown (map eight_land (eights records))
-    ++ map (λ k. PolygonUnknown k.0 k.1) (map eight_key (eights records)))))
+    map NameTwice (map five_feat (of_type_5 records))
+    ++ (name_faults (of_type_4 records)
+    ++ (map (λ k. PolygonTwice k.0 k.1) (map p_key (of_type_p records))
+    ++ (map LandUnknown (map eight_land (of_type_8 records))
+    ++ map (λ k. PolygonUnknown k.0 k.1) (map eight_key (of_type_8 records)))))
 
 -- a chain without records of a type has no RTSQ there
 none_of_number : {X : Type 0} (f : X → ℕ) (n : ℕ) (xs : List X) → times nat_cmp n (map f xs) ≡ 0 → of_number f n xs ≡ []
@@ -149,25 +149,25 @@ second_half : (records : List Record) (f : LinkFault) → Among f (faults_16_to_
 second_half records f h = among_right f (faults_11_to_15 records) (faults_16_to_20 records) h
 
 sequence_among : (t : LinkedType) (tlid : ℕ) (records : List Record) → has_repeat nat_cmp (rtsqs t tlid records) ≡ true → Known nat_cmp (linked_tlids t records) tlid
-sequence_among Two tlid records e = repeat_known two_tlid two_rtsq tlid (twos records) e
-sequence_among Four tlid records e = repeat_known four_tlid four_rtsq tlid (fours records) e
-sequence_among Six tlid records e = repeat_known six_tlid six_rtsq tlid (sixes records) e
+sequence_among Two tlid records e = repeat_known two_tlid two_rtsq tlid (of_type_2 records) e
+sequence_among Four tlid records e = repeat_known four_tlid four_rtsq tlid (of_type_4 records) e
+sequence_among Six tlid records e = repeat_known six_tlid six_rtsq tlid (of_type_6 records) e
 sequence_among I tlid records e = absurd (false≢true e)
 
-skip_types : (records : List Record) (f : LinkFault) → Among f (map LinkMissing (chain_tlids records) ++ map LinkTwice (map i_tlid (is records))) → Among f (faults_11_to_15 records)
+skip_types : (records : List Record) (f : LinkFault) → Among f (map LinkMissing (chain_tlids records) ++ map LinkTwice (map i_tlid (of_type_i records))) → Among f (faults_11_to_15 records)
 skip_types records f h = among_right f (map ChainTwice (chain_tlids records)) _ (among_right f (type_faults Two records) _ (among_right f (type_faults Four records) _ (among_right f (type_faults Six records) _ (among_right f (type_faults I records) _ h))))
 
 pub broken_among : (records : List Record) (f : LinkFault) → is_broken records f ≡ true → Among f (all_faults records)
 broken_among records (ChainTwice tlid) e = first_half records (ChainTwice tlid) (among_left (ChainTwice tlid) (map ChainTwice (chain_tlids records)) _ (known_among nat_keys ChainTwice tlid (chain_tlids records) (some_above (times nat_cmp tlid (chain_tlids records)) e)))
 broken_among records (NoChain t tlid) e = first_half records (NoChain t tlid) (among_types t (NoChain t tlid) records (type_among_no_chain t tlid records (some (times nat_cmp tlid (linked_tlids t records)) (not (stands_in nat_cmp tlid (chain_tlids records))) e)))
 broken_among records (SequenceBroken t tlid) e = first_half records (SequenceBroken t tlid) (among_types t (SequenceBroken t tlid) records (type_among_sequence t tlid records (sequence_among t tlid records e)))
-broken_among records (LinkMissing tlid) e = first_half records (LinkMissing tlid) (skip_types records (LinkMissing tlid) (among_left (LinkMissing tlid) (map LinkMissing (chain_tlids records)) _ (known_among nat_keys LinkMissing tlid (chain_tlids records) (some (times nat_cmp tlid (chain_tlids records)) (not (stands_in nat_cmp tlid (map i_tlid (is records)))) e))))
-broken_among records (LinkTwice tlid) e = first_half records (LinkTwice tlid) (skip_types records (LinkTwice tlid) (among_right (LinkTwice tlid) (map LinkMissing (chain_tlids records)) _ (known_among nat_keys LinkTwice tlid (map i_tlid (is records)) (some_above (times nat_cmp tlid (map i_tlid (is records))) e))))
-broken_among records (NameTwice feat) e = second_half records (NameTwice feat) (among_left (NameTwice feat) (map NameTwice (map five_feat (fives records))) _ (known_among nat_keys NameTwice feat (map five_feat (fives records)) (some_above (times nat_cmp feat (map five_feat (fives records))) e)))
-broken_among records (NameUnknown tlid feat) e = second_half records (NameUnknown tlid feat) (among_right (NameUnknown tlid feat) (map NameTwice (map five_feat (fives records))) _ (among_left (NameUnknown tlid feat) (name_faults (fours records)) _ (name_among tlid feat (fours records) (some (times nat_cmp feat (named_feats tlid records)) (not (stands_in nat_cmp feat (map five_feat (fives records)))) e))))
-broken_among records (PolygonTwice cenid polyid) e = second_half records (PolygonTwice cenid polyid) (among_right (PolygonTwice cenid polyid) (map NameTwice (map five_feat (fives records))) _ (among_right (PolygonTwice cenid polyid) (name_faults (fours records)) _ (among_left (PolygonTwice cenid polyid) (map (λ k. PolygonTwice k.0 k.1) (map p_key (ps records))) _ (known_among key_keys (λ k. PolygonTwice k.0 k.1) (cenid, polyid) (map p_key (ps records)) (some_above (times key_cmp (cenid, polyid) (map p_key (ps records))) e)))))
-broken_among records (LandUnknown land) e = second_half records (LandUnknown land) (among_right (LandUnknown land) (map NameTwice (map five_feat (fives records))) _ (among_right (LandUnknown land) (name_faults (fours records)) _ (among_right (LandUnknown land) (map (λ k. PolygonTwice k.0 k.1) (map p_key (ps records))) _ (among_left (LandUnknown land) (map LandUnknown (map eight_land (eights records))) _ (known_among nat_keys LandUnknown land (map eight_land (eights records)) (some (times nat_cmp land (map eight_land (eights records))) _ e))))))
-broken_among records (PolygonUnknown cenid polyid) e = second_half records (PolygonUnknown cenid polyid) (among_right (PolygonUnknown cenid polyid) (map NameTwice (map five_feat (fives records))) _ (among_right (PolygonUnknown cenid polyid) (name_faults (fours records)) _ (among_right (PolygonUnknown cenid polyid) (map (λ k. PolygonTwice k.0 k.1) (map p_key (ps records))) _ (among_right (PolygonUnknown cenid polyid) (map LandUnknown (map eight_land (eights records))) _ (known_among key_keys (λ k. PolygonUnknown k.0 k.1) (cenid, polyid) (map eight_key (eights records)) (some (times key_cmp (cenid, polyid) (map eight_key (eights records))) _ e))))))
+broken_among records (LinkMissing tlid) e = first_half records (LinkMissing tlid) (skip_types records (LinkMissing tlid) (among_left (LinkMissing tlid) (map LinkMissing (chain_tlids records)) _ (known_among nat_keys LinkMissing tlid (chain_tlids records) (some (times nat_cmp tlid (chain_tlids records)) (not (stands_in nat_cmp tlid (map i_tlid (of_type_i records)))) e))))
+broken_among records (LinkTwice tlid) e = first_half records (LinkTwice tlid) (skip_types records (LinkTwice tlid) (among_right (LinkTwice tlid) (map LinkMissing (chain_tlids records)) _ (known_among nat_keys LinkTwice tlid (map i_tlid (of_type_i records)) (some_above (times nat_cmp tlid (map i_tlid (of_type_i records))) e))))
+broken_among records (NameTwice feat) e = second_half records (NameTwice feat) (among_left (NameTwice feat) (map NameTwice (map five_feat (of_type_5 records))) _ (known_among nat_keys NameTwice feat (map five_feat (of_type_5 records)) (some_above (times nat_cmp feat (map five_feat (of_type_5 records))) e)))
+broken_among records (NameUnknown tlid feat) e = second_half records (NameUnknown tlid feat) (among_right (NameUnknown tlid feat) (map NameTwice (map five_feat (of_type_5 records))) _ (among_left (NameUnknown tlid feat) (name_faults (of_type_4 records)) _ (name_among tlid feat (of_type_4 records) (some (times nat_cmp feat (named_feats tlid records)) (not (stands_in nat_cmp feat (map five_feat (of_type_5 records)))) e))))
+broken_among records (PolygonTwice cenid polyid) e = second_half records (PolygonTwice cenid polyid) (among_right (PolygonTwice cenid polyid) (map NameTwice (map five_feat (of_type_5 records))) _ (among_right (PolygonTwice cenid polyid) (name_faults (of_type_4 records)) _ (among_left (PolygonTwice cenid polyid) (map (λ k. PolygonTwice k.0 k.1) (map p_key (of_type_p records))) _ (known_among key_keys (λ k. PolygonTwice k.0 k.1) (cenid, polyid) (map p_key (of_type_p records)) (some_above (times key_cmp (cenid, polyid) (map p_key (of_type_p records))) e)))))
+broken_among records (LandUnknown land) e = second_half records (LandUnknown land) (among_right (LandUnknown land) (map NameTwice (map five_feat (of_type_5 records))) _ (among_right (LandUnknown land) (name_faults (of_type_4 records)) _ (among_right (LandUnknown land) (map (λ k. PolygonTwice k.0 k.1) (map p_key (of_type_p records))) _ (among_left (LandUnknown land) (map LandUnknown (map eight_land (of_type_8 records))) _ (known_among nat_keys LandUnknown land (map eight_land (of_type_8 records)) (some (times nat_cmp land (map eight_land (of_type_8 records))) _ e))))))
+broken_among records (PolygonUnknown cenid polyid) e = second_half records (PolygonUnknown cenid polyid) (among_right (PolygonUnknown cenid polyid) (map NameTwice (map five_feat (of_type_5 records))) _ (among_right (PolygonUnknown cenid polyid) (name_faults (of_type_4 records)) _ (among_right (PolygonUnknown cenid polyid) (map (λ k. PolygonTwice k.0 k.1) (map p_key (of_type_p records))) _ (among_right (PolygonUnknown cenid polyid) (map LandUnknown (map eight_land (of_type_8 records))) _ (known_among key_keys (λ k. PolygonUnknown k.0 k.1) (cenid, polyid) (map eight_key (of_type_8 records)) (some (times key_cmp (cenid, polyid) (map eight_key (of_type_8 records))) _ e))))))
 broken_among records Memory e = absurd (false≢true e)
 
 pub linked_or_first : (records : List Record) → IsLinked records ⊎ ((fault : LinkFault) × IsFirstBrokenRule records fault)

@@ -9,7 +9,7 @@ use Rattle.tl_layout.specs.Fields.{Fields1, Fields4, Fields5, Fields7, Fields8, 
 use Rattle.tl_layout.specs.declared.record_type.Record.{Record}
 use Rattle.tl_county.specs.declared.fault.LinkFault.TheVariants.{ChainTwice, LinkMissing, LinkTwice, NameTwice, NameUnknown, LandUnknown, PolygonUnknown}
 use Rattle.tl_county.specs.BodyOrder.{landmark_body_cmp, link_cmp}
-use Rattle.tl_county.specs.ByType.{ones, fours, fives, sevens, eights, is, ps, of_number}
+use Rattle.tl_layout.specs.ByType.{of_type_1, of_type_4, of_type_5, of_type_7, of_type_8, of_type_i, of_type_p, of_number}
 use Rattle.tl_shape.specs.Chain.{Chain}
 use Rattle.tl_county.specs.County.{one_tlid, four_tlid, four_rtsq, five_feat, seven_land, eight_land, eight_key, i_tlid, p_key, further_names, chain_of, chains_of, side_keys, polygon_body, county_of}
 use Rattle.tl_county.specs.CountyRules.{IsCounty, tlids, feats, polygon_keys, lands, chain_polygons, link_key, AllStandIn, AllKeysStandIn}
@@ -40,95 +40,95 @@ module _ (records : List Record) (linked : IsLinked records) where
   apart_chains n = ltb-false 1 (times nat_cmp n (chain_tlids records)) (linked (ChainTwice n))
 
   -- a chain has exactly one type I record
-  pub one_link : (n : ℕ) → Known nat_cmp (chain_tlids records) n → times nat_cmp n (map i_tlid (is records)) ≡ 1
+  pub one_link : (n : ℕ) → Known nat_cmp (chain_tlids records) n → times nat_cmp n (map i_tlid (of_type_i records)) ≡ 1
   one_link n k =
-      let some : 0 < times nat_cmp n (map i_tlid (is records)) = ltb-true 0 (times nat_cmp n (map i_tlid (is records))) (needed (stands_in nat_cmp n (chain_tlids records)) (stands_in nat_cmp n (map i_tlid (is records))) (linked (LinkMissing n)) (lt-ltb 0 (times nat_cmp n (chain_tlids records)) k)) in
-      let few : times nat_cmp n (map i_tlid (is records)) ≤ 1 = ltb-false 1 (times nat_cmp n (map i_tlid (is records))) (linked (LinkTwice n)) in
+      let some : 0 < times nat_cmp n (map i_tlid (of_type_i records)) = ltb-true 0 (times nat_cmp n (map i_tlid (of_type_i records))) (needed (stands_in nat_cmp n (chain_tlids records)) (stands_in nat_cmp n (map i_tlid (of_type_i records))) (linked (LinkMissing n)) (lt-ltb 0 (times nat_cmp n (chain_tlids records)) k)) in
+      let few : times nat_cmp n (map i_tlid (of_type_i records)) ≤ 1 = ltb-false 1 (times nat_cmp n (map i_tlid (of_type_i records))) (linked (LinkTwice n)) in
       omega arith
 
-  pub the_link : (n : ℕ) → Known nat_cmp (chain_tlids records) n → (link : FieldsI) × (of_number i_tlid n (is records) ≡ link ∷ [])
-  the_link n k = only_one (of_number i_tlid n (is records)) (sym (times-of_number i_tlid n (is records)) ∙ one_link n k)
+  pub the_link : (n : ℕ) → Known nat_cmp (chain_tlids records) n → (link : FieldsI) × (of_number i_tlid n (of_type_i records) ≡ link ∷ [])
+  the_link n k = only_one (of_number i_tlid n (of_type_i records)) (sym (times-of_number i_tlid n (of_type_i records)) ∙ one_link n k)
 
-  tlids_of : (rs : List Fields1) → AllByRecursion (λ r. Known nat_cmp (chain_tlids records) r.tlid) rs → map (λ (c : ℕ × Chain). c.0) (flat_map (λ r. map (λ link. (r.tlid, chain_of records r link)) (of_number i_tlid r.tlid (is records))) rs) ≡ map one_tlid rs
+  tlids_of : (rs : List Fields1) → AllByRecursion (λ r. Known nat_cmp (chain_tlids records) r.tlid) rs → map (λ (c : ℕ × Chain). c.0) (flat_map (λ r. map (λ link. (r.tlid, chain_of records r link)) (of_number i_tlid r.tlid (of_type_i records))) rs) ≡ map one_tlid rs
   tlids_of [] h = refl
   tlids_of (r ∷ rs) h =
       let one = the_link r.tlid h.0 in
-      let rest : List (ℕ × Chain) = flat_map (λ q. map (λ link. (q.tlid, chain_of records q link)) (of_number i_tlid q.tlid (is records))) rs in
+      let rest : List (ℕ × Chain) = flat_map (λ q. map (λ link. (q.tlid, chain_of records q link)) (of_number i_tlid q.tlid (of_type_i records))) rs in
       ap (λ ls. map (λ (c : ℕ × Chain). c.0) (map (λ link. (r.tlid, chain_of records r link)) ls ++ rest)) one.1 ∙ ap (λ ns. r.tlid ∷ ns) (tlids_of rs h.1)
 
-  ones_known : AllByRecursion (λ r. Known nat_cmp (chain_tlids records) r.tlid) (in_order (on one_tlid nat_cmp) (ones records))
-  ones_known = all-in_order (λ r. Known nat_cmp (chain_tlids records) r.tlid) (on one_tlid nat_cmp) (ones records) (each_from (λ r. Known nat_cmp (chain_tlids records) r.tlid) (ones records) (λ r m. among_known nat_keys r.tlid (chain_tlids records) (among-map one_tlid r (ones records) m)))
+  ones_known : AllByRecursion (λ r. Known nat_cmp (chain_tlids records) r.tlid) (in_order (on one_tlid nat_cmp) (of_type_1 records))
+  ones_known = all-in_order (λ r. Known nat_cmp (chain_tlids records) r.tlid) (on one_tlid nat_cmp) (of_type_1 records) (each_from (λ r. Known nat_cmp (chain_tlids records) r.tlid) (of_type_1 records) (λ r m. among_known nat_keys r.tlid (chain_tlids records) (among-map one_tlid r (of_type_1 records) m)))
 
-  pub tlids-county : tlids (county_of records) ≡ map one_tlid (in_order (on one_tlid nat_cmp) (ones records))
-  tlids-county = tlids_of (in_order (on one_tlid nat_cmp) (ones records)) ones_known
+  pub tlids-county : tlids (county_of records) ≡ map one_tlid (in_order (on one_tlid nat_cmp) (of_type_1 records))
+  tlids-county = tlids_of (in_order (on one_tlid nat_cmp) (of_type_1 records)) ones_known
 
   strict_numbers : {X : Type 0} (f : X → ℕ) (xs : List X) → ((n : ℕ) → times nat_cmp n (map f xs) ≤ 1) → IsStrictlySortedBy nat_cmp (map f (in_order (on f nat_cmp) xs))
   strict_numbers f xs few = strict_from_order nat_keys (map f (in_order (on f nat_cmp) xs))
       (in_order-map nat_cmp f (in_order (on f nat_cmp) xs) (in_order-in_order (on_total f nat_cmp_total) xs))
       (λ n. let t : times nat_cmp n (map f (in_order (on f nat_cmp) xs)) ≡ times nat_cmp n (map f xs) = times-in_order nat_cmp f (on f nat_cmp) xs n in let u : times nat_cmp n (map f xs) ≤ 1 = few n in omega arith)
 
-  pub feats-county : feats (county_of records) ≡ map five_feat (in_order (on five_feat nat_cmp) (fives records))
-  feats-county = map-map (λ (d : ℕ × _). d.0) (λ (r : Fields5). (r.feat, r.body)) (in_order (on five_feat nat_cmp) (fives records))
+  pub feats-county : feats (county_of records) ≡ map five_feat (in_order (on five_feat nat_cmp) (of_type_5 records))
+  feats-county = map-map (λ (d : ℕ × _). d.0) (λ (r : Fields5). (r.feat, r.body)) (in_order (on five_feat nat_cmp) (of_type_5 records))
 
   abbrev all_keys : List PolygonKey
-  all_keys = flat_map side_keys (is records) ++ map p_key (ps records)
+  all_keys = flat_map side_keys (of_type_i records) ++ map p_key (of_type_p records)
 
   pub keys-county : polygon_keys (county_of records) ≡ distinct key_cmp all_keys
   keys-county = map-map (λ (d : PolygonKey × _). d.0) (λ key. (key, polygon_body records key)) (distinct key_cmp all_keys) ∙ map-id (distinct key_cmp all_keys)
 
-  pub lands-county : lands (county_of records) ≡ distinct nat_cmp (map seven_land (sevens records))
-  lands-county = map-map (λ (d : ℕ × _). d.0) (λ land. (land, in_order landmark_body_cmp (map (λ (r : Fields7). r.body) (of_number seven_land land (sevens records))))) (distinct nat_cmp (map seven_land (sevens records))) ∙ map-id (distinct nat_cmp (map seven_land (sevens records)))
+  pub lands-county : lands (county_of records) ≡ distinct nat_cmp (map seven_land (of_type_7 records))
+  lands-county = map-map (λ (d : ℕ × _). d.0) (λ land. (land, in_order landmark_body_cmp (map (λ (r : Fields7). r.body) (of_number seven_land land (of_type_7 records))))) (distinct nat_cmp (map seven_land (of_type_7 records))) ∙ map-id (distinct nat_cmp (map seven_land (of_type_7 records)))
 
   -- each name of a chain has a type 5 record
   name_stands : (n y : ℕ) → Among y (further_names records n) → IsTrue (stands_in nat_cmp y (feats (county_of records)))
   name_stands n y m =
-      let r = among-unpieces (λ (q : Fields4). q.feats) y (in_order (on four_rtsq nat_cmp) (of_number four_tlid n (fours records))) m in
-      let named : Known nat_cmp (named_feats n records) y = among_known nat_keys y (named_feats n records) (among-pieces (λ (q : Fields4). q.feats) r.0 y (of_number four_tlid n (fours records)) (from_in_order (on four_rtsq nat_cmp) (of_number four_tlid n (fours records)) r.0 r.1) r.2) in
-      let t : stands_in nat_cmp y (map five_feat (fives records)) ≡ true = needed (stands_in nat_cmp y (named_feats n records)) (stands_in nat_cmp y (map five_feat (fives records))) (linked (NameUnknown n y)) (lt-ltb 0 (times nat_cmp y (named_feats n records)) named) in
-      ap (stands_in nat_cmp y) feats-county ∙ ap (nat_lt 0) (times-in_order nat_cmp five_feat (on five_feat nat_cmp) (fives records) y) ∙ t
+      let r = among-unpieces (λ (q : Fields4). q.feats) y (in_order (on four_rtsq nat_cmp) (of_number four_tlid n (of_type_4 records))) m in
+      let named : Known nat_cmp (named_feats n records) y = among_known nat_keys y (named_feats n records) (among-pieces (λ (q : Fields4). q.feats) r.0 y (of_number four_tlid n (of_type_4 records)) (from_in_order (on four_rtsq nat_cmp) (of_number four_tlid n (of_type_4 records)) r.0 r.1) r.2) in
+      let t : stands_in nat_cmp y (map five_feat (of_type_5 records)) ≡ true = needed (stands_in nat_cmp y (named_feats n records)) (stands_in nat_cmp y (map five_feat (of_type_5 records))) (linked (NameUnknown n y)) (lt-ltb 0 (times nat_cmp y (named_feats n records)) named) in
+      ap (stands_in nat_cmp y) feats-county ∙ ap (nat_lt 0) (times-in_order nat_cmp five_feat (on five_feat nat_cmp) (of_type_5 records) y) ∙ t
 
   key_stands : (k : PolygonKey) → Known key_cmp all_keys k → IsTrue (stands_in key_cmp k (polygon_keys (county_of records)))
   key_stands k l = ap (stands_in key_cmp k) keys-county ∙ lt-ltb 0 (times key_cmp k (distinct key_cmp all_keys)) (known-distinct key_keys all_keys k l)
 
-  side_stands : (link : FieldsI) → Among link (is records) → AllKeysStandIn (polygon_keys (county_of records)) (side_keys link)
+  side_stands : (link : FieldsI) → Among link (of_type_i records) → AllKeysStandIn (polygon_keys (county_of records)) (side_keys link)
   side_stands link m = each_from (λ k. IsTrue (stands_in key_cmp k (polygon_keys (county_of records)))) (side_keys link)
-      (λ k n. key_stands k (known-left key_keys k (flat_map side_keys (is records)) (map p_key (ps records)) (among_known key_keys k (flat_map side_keys (is records)) (among-pieces side_keys link k (is records) m n))))
+      (λ k n. key_stands k (known-left key_keys k (flat_map side_keys (of_type_i records)) (map p_key (of_type_p records)) (among_known key_keys k (flat_map side_keys (of_type_i records)) (among-pieces side_keys link k (of_type_i records) m n))))
 
   -- what holds of the chain of each pair of records holds of each chain of the county
-  chains_all : (P : ℕ × Chain → Type 0) → ((r : Fields1) (link : FieldsI) → Among link (is records) → P (r.tlid, chain_of records r link)) → AllByRecursion P (chains_of records)
-  chains_all P h = all_joined P (λ r. map (λ link. (r.tlid, chain_of records r link)) (of_number i_tlid r.tlid (is records))) (in_order (on one_tlid nat_cmp) (ones records))
-      (all_everywhere (λ r. AllByRecursion P (map (λ link. (r.tlid, chain_of records r link)) (of_number i_tlid r.tlid (is records))))
-      (λ r. all_map P (λ link. (r.tlid, chain_of records r link)) (of_number i_tlid r.tlid (is records))
-      (all_weaker (λ link. Among link (is records)) (λ link. P (r.tlid, chain_of records r link)) (h r) (of_number i_tlid r.tlid (is records)) (of_number-among i_tlid r.tlid (is records))))
-      (in_order (on one_tlid nat_cmp) (ones records)))
+  chains_all : (P : ℕ × Chain → Type 0) → ((r : Fields1) (link : FieldsI) → Among link (of_type_i records) → P (r.tlid, chain_of records r link)) → AllByRecursion P (chains_of records)
+  chains_all P h = all_joined P (λ r. map (λ link. (r.tlid, chain_of records r link)) (of_number i_tlid r.tlid (of_type_i records))) (in_order (on one_tlid nat_cmp) (of_type_1 records))
+      (all_everywhere (λ r. AllByRecursion P (map (λ link. (r.tlid, chain_of records r link)) (of_number i_tlid r.tlid (of_type_i records))))
+      (λ r. all_map P (λ link. (r.tlid, chain_of records r link)) (of_number i_tlid r.tlid (of_type_i records))
+      (all_weaker (λ link. Among link (of_type_i records)) (λ link. P (r.tlid, chain_of records r link)) (h r) (of_number i_tlid r.tlid (of_type_i records)) (of_number-among i_tlid r.tlid (of_type_i records))))
+      (in_order (on one_tlid nat_cmp) (of_type_1 records)))
 
-  land_stands : (link : Fields8) → Among link (eights records) → IsTrue (stands_in nat_cmp link.land (lands (county_of records)))
+  land_stands : (link : Fields8) → Among link (of_type_8 records) → IsTrue (stands_in nat_cmp link.land (lands (county_of records)))
   land_stands link m =
-      let named : Known nat_cmp (map eight_land (eights records)) link.land = among_known nat_keys link.land (map eight_land (eights records)) (among-map eight_land link (eights records) m) in
-      let t : stands_in nat_cmp link.land (map seven_land (sevens records)) ≡ true = needed (stands_in nat_cmp link.land (map eight_land (eights records))) (stands_in nat_cmp link.land (map seven_land (sevens records))) (linked (LandUnknown link.land)) (lt-ltb 0 (times nat_cmp link.land (map eight_land (eights records))) named) in
-      ap (stands_in nat_cmp link.land) lands-county ∙ lt-ltb 0 (times nat_cmp link.land (distinct nat_cmp (map seven_land (sevens records)))) (known-distinct nat_keys (map seven_land (sevens records)) link.land (ltb-true 0 (times nat_cmp link.land (map seven_land (sevens records))) t))
+      let named : Known nat_cmp (map eight_land (of_type_8 records)) link.land = among_known nat_keys link.land (map eight_land (of_type_8 records)) (among-map eight_land link (of_type_8 records) m) in
+      let t : stands_in nat_cmp link.land (map seven_land (of_type_7 records)) ≡ true = needed (stands_in nat_cmp link.land (map eight_land (of_type_8 records))) (stands_in nat_cmp link.land (map seven_land (of_type_7 records))) (linked (LandUnknown link.land)) (lt-ltb 0 (times nat_cmp link.land (map eight_land (of_type_8 records))) named) in
+      ap (stands_in nat_cmp link.land) lands-county ∙ lt-ltb 0 (times nat_cmp link.land (distinct nat_cmp (map seven_land (of_type_7 records)))) (known-distinct nat_keys (map seven_land (of_type_7 records)) link.land (ltb-true 0 (times nat_cmp link.land (map seven_land (of_type_7 records))) t))
 
-  link_key_stands : (link : Fields8) → Among link (eights records) → IsTrue (stands_in key_cmp (link_key link) (polygon_keys (county_of records)))
+  link_key_stands : (link : Fields8) → Among link (of_type_8 records) → IsTrue (stands_in key_cmp (link_key link) (polygon_keys (county_of records)))
   link_key_stands link m =
-      let named : Known key_cmp (map eight_key (eights records)) (link_key link) = among_known key_keys (link_key link) (map eight_key (eights records)) (among-map eight_key link (eights records) m) in
-      let t : stands_in key_cmp (link_key link) all_keys ≡ true = needed (stands_in key_cmp (link_key link) (map eight_key (eights records))) (stands_in key_cmp (link_key link) all_keys) (linked (PolygonUnknown link.cenid link.polyid)) (lt-ltb 0 (times key_cmp (link_key link) (map eight_key (eights records))) named) in
+      let named : Known key_cmp (map eight_key (of_type_8 records)) (link_key link) = among_known key_keys (link_key link) (map eight_key (of_type_8 records)) (among-map eight_key link (of_type_8 records) m) in
+      let t : stands_in key_cmp (link_key link) all_keys ≡ true = needed (stands_in key_cmp (link_key link) (map eight_key (of_type_8 records))) (stands_in key_cmp (link_key link) all_keys) (linked (PolygonUnknown link.cenid link.polyid)) (lt-ltb 0 (times key_cmp (link_key link) (map eight_key (of_type_8 records))) named) in
       key_stands (link_key link) (ltb-true 0 (times key_cmp (link_key link) all_keys) t)
 
   pub county-is_county : IsCounty (county_of records)
   county-is_county = record {
     ascending = record {
-      chains = subst (IsStrictlySortedBy nat_cmp) (sym tlids-county) (strict_numbers one_tlid (ones records) apart_chains);
-      names = subst (IsStrictlySortedBy nat_cmp) (sym feats-county) (strict_numbers five_feat (fives records) (λ n. ltb-false 1 (times nat_cmp n (map five_feat (fives records))) (linked (NameTwice n))));
+      chains = subst (IsStrictlySortedBy nat_cmp) (sym tlids-county) (strict_numbers one_tlid (of_type_1 records) apart_chains);
+      names = subst (IsStrictlySortedBy nat_cmp) (sym feats-county) (strict_numbers five_feat (of_type_5 records) (λ n. ltb-false 1 (times nat_cmp n (map five_feat (of_type_5 records))) (linked (NameTwice n))));
       polygons = subst (IsStrictlySortedBy key_cmp) (sym keys-county) (distinct-strict key_keys all_keys);
-      landmarks = subst (IsStrictlySortedBy nat_cmp) (sym lands-county) (distinct-strict nat_keys (map seven_land (sevens records)));
-      bodies = all_map (λ entry. _) (λ land. (land, in_order landmark_body_cmp (map (λ (r : Fields7). r.body) (of_number seven_land land (sevens records))))) (distinct nat_cmp (map seven_land (sevens records)))
-          (all_everywhere (λ land. _) (λ land. in_order-in_order landmark_body_keys.total (map (λ (r : Fields7). r.body) (of_number seven_land land (sevens records)))) (distinct nat_cmp (map seven_land (sevens records))));
-      links = in_order-in_order link_keys.total (eights records);
+      landmarks = subst (IsStrictlySortedBy nat_cmp) (sym lands-county) (distinct-strict nat_keys (map seven_land (of_type_7 records)));
+      bodies = all_map (λ entry. _) (λ land. (land, in_order landmark_body_cmp (map (λ (r : Fields7). r.body) (of_number seven_land land (of_type_7 records))))) (distinct nat_cmp (map seven_land (of_type_7 records)))
+          (all_everywhere (λ land. _) (λ land. in_order-in_order landmark_body_keys.total (map (λ (r : Fields7). r.body) (of_number seven_land land (of_type_7 records)))) (distinct nat_cmp (map seven_land (of_type_7 records))));
+      links = in_order-in_order link_keys.total (of_type_8 records);
     };
     closed = record {
       names = chains_all (λ entry. AllStandIn (feats (county_of records)) entry.1.feats) (λ r link m. each_from (λ n. IsTrue (stands_in nat_cmp n (feats (county_of records)))) (further_names records r.tlid) (name_stands r.tlid));
       sides = chains_all (λ entry. AllKeysStandIn (polygon_keys (county_of records)) (chain_polygons entry.1)) (λ r link m. side_stands link m);
-      link_lands = all-in_order (λ link. IsTrue (stands_in nat_cmp link.land (lands (county_of records)))) link_cmp (eights records) (each_from (λ link. IsTrue (stands_in nat_cmp link.land (lands (county_of records)))) (eights records) land_stands);
-      link_polygons = all-in_order (λ link. IsTrue (stands_in key_cmp (link_key link) (polygon_keys (county_of records)))) link_cmp (eights records) (each_from (λ link. IsTrue (stands_in key_cmp (link_key link) (polygon_keys (county_of records)))) (eights records) link_key_stands);
+      link_lands = all-in_order (λ link. IsTrue (stands_in nat_cmp link.land (lands (county_of records)))) link_cmp (of_type_8 records) (each_from (λ link. IsTrue (stands_in nat_cmp link.land (lands (county_of records)))) (of_type_8 records) land_stands);
+      link_polygons = all-in_order (λ link. IsTrue (stands_in key_cmp (link_key link) (polygon_keys (county_of records)))) link_cmp (of_type_8 records) (each_from (λ link. IsTrue (stands_in key_cmp (link_key link) (polygon_keys (county_of records)))) (of_type_8 records) link_key_stands);
     };
   }

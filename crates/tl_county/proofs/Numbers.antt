@@ -3,7 +3,7 @@ use Rattle.std.proofs.Common.{◌≡◌, ◌⊎◌, ◌≤◌, ℕ, suc, ◌==�
 use Rattle.std.proofs.lemmas.Bool.{true≢false, eq-eqb, ne_eqb, cases_eq, eqb-true}
 use Rattle.std.specs.List.{AllByRecursion}
 use Rattle.std.specs.List.Sorted.{IsStrictlySortedBy}
-use Rattle.tl_county.specs.ByType.{of_number}
+use Rattle.tl_layout.specs.ByType.{of_number}
 use Rattle.tl_county.specs.Orders.{times, IsInOrder, put_in_order, in_order, distinct, stands_in}
 use Rattle.tl_county.proofs.Distinct.{count-put, apart-distinct}
 use Rattle.tl_county.proofs.FirstFault.{Among, all_among}

@@ -9,7 +9,7 @@ use Rattle.tl_layout.specs.declared.record_type.Record.{Record}
 use Rattle.tl_layout.specs.declared.record_type.Record.TheVariants.{One, Two, Four, Five, Six, Seven, Eight, I, P}
 use Rattle.tl_county.specs.declared.fault.LinkedType.TheVariants.{Two as Type2, Four as Type4, Six as Type6}
 use Rattle.tl_county.specs.BodyOrder.{landmark_body_cmp, link_cmp}
-use Rattle.tl_county.specs.ByType.{as_one, as_two, as_four, as_five, as_six, as_seven, as_eight, as_i, as_p, ones, twos, fours, sixes, is, of_number}
+use Rattle.tl_layout.specs.ByType.{as_type_1, as_type_2, as_type_4, as_type_5, as_type_6, as_type_7, as_type_8, as_type_i, as_type_p, of_type_1, of_type_2, of_type_4, of_type_6, of_type_i, of_number}
 use Rattle.tl_county.specs.County.{one_tlid, two_tlid, two_rtsq, four_tlid, four_rtsq, five_feat, six_tlid, six_rtsq, seven_land, i_tlid, p_key, chain_of, chains_of, side_keys, first, polygons_of, county_of}
 use Rattle.tl_county.specs.Orders.{put_in_order, in_order, distinct}
 use Rattle.tl_county.specs.PolygonKeys.{key_cmp}
@@ -27,21 +27,21 @@ module _ (xs ys : List Record) (s : AreRepacked xs ys) where
 
   chains_same : chains_of xs ≡ chains_of ys
   chains_same =
-      flat_map_agree (λ r. map (λ link. (r.tlid, chain_of xs r link)) (of_number i_tlid r.tlid (is xs))) (λ r. map (λ link. (r.tlid, chain_of ys r link)) (of_number i_tlid r.tlid (is ys)))
-      (λ r. map_agree_everywhere (λ link. (r.tlid, chain_of xs r link)) (λ link. (r.tlid, chain_of ys r link)) (λ link i. (r.tlid, chain_same r link i)) (of_number i_tlid r.tlid (is xs)) ∙ ap (λ ls. map (λ link. (r.tlid, chain_of ys r link)) (of_number i_tlid r.tlid ls)) s.is)
-      (in_order (on one_tlid nat_cmp) (ones xs))
-      ∙ ap (λ rs. flat_map (λ r. map (λ link. (r.tlid, chain_of ys r link)) (of_number i_tlid r.tlid (is ys))) (in_order (on one_tlid nat_cmp) rs)) s.ones
+      flat_map_agree (λ r. map (λ link. (r.tlid, chain_of xs r link)) (of_number i_tlid r.tlid (of_type_i xs))) (λ r. map (λ link. (r.tlid, chain_of ys r link)) (of_number i_tlid r.tlid (of_type_i ys)))
+      (λ r. map_agree_everywhere (λ link. (r.tlid, chain_of xs r link)) (λ link. (r.tlid, chain_of ys r link)) (λ link i. (r.tlid, chain_same r link i)) (of_number i_tlid r.tlid (of_type_i xs)) ∙ ap (λ ls. map (λ link. (r.tlid, chain_of ys r link)) (of_number i_tlid r.tlid ls)) s.of_type_i)
+      (in_order (on one_tlid nat_cmp) (of_type_1 xs))
+      ∙ ap (λ rs. flat_map (λ r. map (λ link. (r.tlid, chain_of ys r link)) (of_number i_tlid r.tlid (of_type_i ys))) (in_order (on one_tlid nat_cmp) rs)) s.of_type_1
 
   polygons_same : polygons_of xs ≡ polygons_of ys
-  polygons_same = ap₂ (λ ls qs. map (λ k. (k, first (map (λ (q : FieldsP). q.body) (filter (λ q. is_eq (key_cmp k (p_key q))) qs)))) (distinct key_cmp (flat_map side_keys ls ++ map p_key qs))) s.is s.ps
+  polygons_same = ap₂ (λ ls qs. map (λ k. (k, first (map (λ (q : FieldsP). q.body) (filter (λ q. is_eq (key_cmp k (p_key q))) qs)))) (distinct key_cmp (flat_map side_keys ls ++ map p_key qs))) s.of_type_i s.of_type_p
 
   pub repacked-county : county_of xs ≡ county_of ys
   repacked-county = λ i. record {
     chains = chains_same i;
-    names = map (λ (r : Fields5). (r.feat, r.body)) (in_order (on five_feat nat_cmp) (s.fives i));
+    names = map (λ (r : Fields5). (r.feat, r.body)) (in_order (on five_feat nat_cmp) (s.of_type_5 i));
     polygons = polygons_same i;
-    landmarks = map (λ land. (land, in_order landmark_body_cmp (map (λ (r : Fields7). r.body) (of_number seven_land land (s.sevens i))))) (distinct nat_cmp (map seven_land (s.sevens i)));
-    links = in_order link_cmp (s.eights i);
+    landmarks = map (λ land. (land, in_order landmark_body_cmp (map (λ (r : Fields7). r.body) (of_number seven_land land (s.of_type_7 i))))) (distinct nat_cmp (map seven_land (s.of_type_7 i)));
+    links = in_order link_cmp (s.of_type_8 i);
   }
 
 -- lists changed element by element
@@ -114,41 +114,41 @@ module _ (q : Sequence) (up : KeepsSequence q) (xs : List Record) where
   new_six : Fields6 → Fields6
   new_six r = record r { rtsq = q Type6 r.tlid r.rtsq }
 
-  keeps_one : (r : Record) → as_one (resequenced q r) ≡ as_one r
+  keeps_one : (r : Record) → as_type_1 (resequenced q r) ≡ as_type_1 r
   keeps_one (One r) = refl
   keeps_one _ = refl
 
-  keeps_five : (r : Record) → as_five (resequenced q r) ≡ as_five r
+  keeps_five : (r : Record) → as_type_5 (resequenced q r) ≡ as_type_5 r
   keeps_five (Five r) = refl
   keeps_five _ = refl
 
-  keeps_seven : (r : Record) → as_seven (resequenced q r) ≡ as_seven r
+  keeps_seven : (r : Record) → as_type_7 (resequenced q r) ≡ as_type_7 r
   keeps_seven (Seven r) = refl
   keeps_seven _ = refl
 
-  keeps_eight : (r : Record) → as_eight (resequenced q r) ≡ as_eight r
+  keeps_eight : (r : Record) → as_type_8 (resequenced q r) ≡ as_type_8 r
   keeps_eight (Eight r) = refl
   keeps_eight _ = refl
 
-  keeps_i : (r : Record) → as_i (resequenced q r) ≡ as_i r
+  keeps_i : (r : Record) → as_type_i (resequenced q r) ≡ as_type_i r
   keeps_i (I r) = refl
   keeps_i _ = refl
 
-  keeps_p : (r : Record) → as_p (resequenced q r) ≡ as_p r
+  keeps_p : (r : Record) → as_type_p (resequenced q r) ≡ as_type_p r
   keeps_p (P r) = refl
   keeps_p _ = refl
 
-  news_two : (r : Record) → as_two (resequenced q r) ≡ option_map new_two (as_two r)
+  news_two : (r : Record) → as_type_2 (resequenced q r) ≡ option_map new_two (as_type_2 r)
   unfolding new_two
   news_two (Two r) = refl
   news_two _ = refl
 
-  news_four : (r : Record) → as_four (resequenced q r) ≡ option_map new_four (as_four r)
+  news_four : (r : Record) → as_type_4 (resequenced q r) ≡ option_map new_four (as_type_4 r)
   unfolding new_four
   news_four (Four r) = refl
   news_four _ = refl
 
-  news_six : (r : Record) → as_six (resequenced q r) ≡ option_map new_six (as_six r)
+  news_six : (r : Record) → as_type_6 (resequenced q r) ≡ option_map new_six (as_type_6 r)
   unfolding new_six
   news_six (Six r) = refl
   news_six _ = refl
@@ -156,21 +156,21 @@ module _ (q : Sequence) (up : KeepsSequence q) (xs : List Record) where
   pub resequenced-repacked : AreRepacked (map (resequenced q) xs) xs
   unfolding new_two new_four new_six
   resequenced-repacked = record {
-    points = λ n. ap (λ rs. flat_map (λ (r : Fields2). r.points) (in_order (on two_rtsq nat_cmp) (of_number two_tlid n rs))) (select-changed as_two (resequenced q) new_two news_two xs)
-        ∙ ap (flat_map (λ (r : Fields2). r.points)) (sequence_kept two_tlid two_rtsq new_two (q Type2) (λ r. refl) (λ r. refl) (up Type2) n (twos xs))
-        ∙ flat_map-kept (λ (r : Fields2). r.points) new_two (λ r. refl) (in_order (on two_rtsq nat_cmp) (of_number two_tlid n (twos xs)));
-    names = λ n. ap (λ rs. flat_map (λ (r : Fields4). r.feats) (in_order (on four_rtsq nat_cmp) (of_number four_tlid n rs))) (select-changed as_four (resequenced q) new_four news_four xs)
-        ∙ ap (flat_map (λ (r : Fields4). r.feats)) (sequence_kept four_tlid four_rtsq new_four (q Type4) (λ r. refl) (λ r. refl) (up Type4) n (fours xs))
-        ∙ flat_map-kept (λ (r : Fields4). r.feats) new_four (λ r. refl) (in_order (on four_rtsq nat_cmp) (of_number four_tlid n (fours xs)));
-    ranges = λ n. ap (λ rs. map (λ (r : Fields6). r.ranges) (in_order (on six_rtsq nat_cmp) (of_number six_tlid n rs))) (select-changed as_six (resequenced q) new_six news_six xs)
-        ∙ ap (map (λ (r : Fields6). r.ranges)) (sequence_kept six_tlid six_rtsq new_six (q Type6) (λ r. refl) (λ r. refl) (up Type6) n (sixes xs))
-        ∙ map-map (λ (r : Fields6). r.ranges) new_six (in_order (on six_rtsq nat_cmp) (of_number six_tlid n (sixes xs)));
-    ones = select-kept as_one (resequenced q) keeps_one xs;
-    fives = select-kept as_five (resequenced q) keeps_five xs;
-    sevens = select-kept as_seven (resequenced q) keeps_seven xs;
-    eights = select-kept as_eight (resequenced q) keeps_eight xs;
-    is = select-kept as_i (resequenced q) keeps_i xs;
-    ps = select-kept as_p (resequenced q) keeps_p xs;
+    points = λ n. ap (λ rs. flat_map (λ (r : Fields2). r.points) (in_order (on two_rtsq nat_cmp) (of_number two_tlid n rs))) (select-changed as_type_2 (resequenced q) new_two news_two xs)
+        ∙ ap (flat_map (λ (r : Fields2). r.points)) (sequence_kept two_tlid two_rtsq new_two (q Type2) (λ r. refl) (λ r. refl) (up Type2) n (of_type_2 xs))
+        ∙ flat_map-kept (λ (r : Fields2). r.points) new_two (λ r. refl) (in_order (on two_rtsq nat_cmp) (of_number two_tlid n (of_type_2 xs)));
+    names = λ n. ap (λ rs. flat_map (λ (r : Fields4). r.feats) (in_order (on four_rtsq nat_cmp) (of_number four_tlid n rs))) (select-changed as_type_4 (resequenced q) new_four news_four xs)
+        ∙ ap (flat_map (λ (r : Fields4). r.feats)) (sequence_kept four_tlid four_rtsq new_four (q Type4) (λ r. refl) (λ r. refl) (up Type4) n (of_type_4 xs))
+        ∙ flat_map-kept (λ (r : Fields4). r.feats) new_four (λ r. refl) (in_order (on four_rtsq nat_cmp) (of_number four_tlid n (of_type_4 xs)));
+    ranges = λ n. ap (λ rs. map (λ (r : Fields6). r.ranges) (in_order (on six_rtsq nat_cmp) (of_number six_tlid n rs))) (select-changed as_type_6 (resequenced q) new_six news_six xs)
+        ∙ ap (map (λ (r : Fields6). r.ranges)) (sequence_kept six_tlid six_rtsq new_six (q Type6) (λ r. refl) (λ r. refl) (up Type6) n (of_type_6 xs))
+        ∙ map-map (λ (r : Fields6). r.ranges) new_six (in_order (on six_rtsq nat_cmp) (of_number six_tlid n (of_type_6 xs)));
+    of_type_1 = select-kept as_type_1 (resequenced q) keeps_one xs;
+    of_type_5 = select-kept as_type_5 (resequenced q) keeps_five xs;
+    of_type_7 = select-kept as_type_7 (resequenced q) keeps_seven xs;
+    of_type_8 = select-kept as_type_8 (resequenced q) keeps_eight xs;
+    of_type_i = select-kept as_type_i (resequenced q) keeps_i xs;
+    of_type_p = select-kept as_type_p (resequenced q) keeps_p xs;
   }
 
   pub resequenced-county : county_of (map (resequenced q) xs) ≡ county_of xs

@@ -9,7 +9,7 @@ use Rattle.tl_layout.specs.declared.type5.Body5.{Body5}
 use Rattle.tl_layout.specs.declared.type7.Body7.{Body7}
 use Rattle.tl_layout.specs.declared.type_p.BodyP.{BodyP}
 use Rattle.tl_county.specs.BodyOrder.{landmark_body_cmp, link_cmp}
-use Rattle.tl_county.specs.ByType.{ones, twos, fours, fives, sixes, sevens, eights, is, ps, of_number}
+use Rattle.tl_layout.specs.ByType.{of_type_1, of_type_2, of_type_4, of_type_5, of_type_6, of_type_7, of_type_8, of_type_i, of_type_p, of_number}
 use Rattle.tl_shape.specs.Chain.{Chain}
 use Rattle.tl_county.specs.Orders.{in_order, distinct}
 use Rattle.tl_county.specs.PolygonKeys.{PolygonKey, key_cmp, key_on}
@@ -69,15 +69,15 @@ p_key r = (r.cenid, r.polyid)
 
 -- the shape points of a chain between its ends: those of its type 2 records, joined in the order of their RTSQs
 abbrev pub shape_points : List Record → ℕ → List Coordinates
-shape_points records tlid = flat_map (λ r. r.points) (in_order (on two_rtsq nat_cmp) (of_number two_tlid tlid (twos records)))
+shape_points records tlid = flat_map (λ r. r.points) (in_order (on two_rtsq nat_cmp) (of_number two_tlid tlid (of_type_2 records)))
 
 -- the further names of a chain: those of its type 4 records, joined in the order of their RTSQs
 abbrev pub further_names : List Record → ℕ → List ℕ
-further_names records tlid = flat_map (λ r. r.feats) (in_order (on four_rtsq nat_cmp) (of_number four_tlid tlid (fours records)))
+further_names records tlid = flat_map (λ r. r.feats) (in_order (on four_rtsq nat_cmp) (of_number four_tlid tlid (of_type_4 records)))
 
 -- the further address ranges of a chain: those of its type 6 records, in the order of their RTSQs
 abbrev pub further_ranges : List Record → ℕ → List Ranges
-further_ranges records tlid = map (λ r. r.ranges) (in_order (on six_rtsq nat_cmp) (of_number six_tlid tlid (sixes records)))
+further_ranges records tlid = map (λ r. r.ranges) (in_order (on six_rtsq nat_cmp) (of_number six_tlid tlid (of_type_6 records)))
 
 -- the chain of a type 1 record and the type I record of the same TLID
 abbrev pub chain_of : List Record → Fields1 → FieldsI → Chain
@@ -95,11 +95,11 @@ chain_of records r link = record {
 
 -- each type 1 record, in the order of TLIDs, with the type I record of its TLID
 abbrev pub chains_of : List Record → List (ℕ × Chain)
-chains_of records = flat_map (λ r. map (λ link. (r.tlid, chain_of records r link)) (of_number i_tlid r.tlid (is records))) (in_order (on one_tlid nat_cmp) (ones records))
+chains_of records = flat_map (λ r. map (λ link. (r.tlid, chain_of records r link)) (of_number i_tlid r.tlid (of_type_i records))) (in_order (on one_tlid nat_cmp) (of_type_1 records))
 
 -- each name, in the order of FEATs
 abbrev pub names_of : List Record → List (ℕ × Body5)
-names_of records = map (λ r. (r.feat, r.body)) (in_order (on five_feat nat_cmp) (fives records))
+names_of records = map (λ r. (r.feat, r.body)) (in_order (on five_feat nat_cmp) (of_type_5 records))
 
 -- the polygons on the sides of a chain
 abbrev pub side_keys : FieldsI → List PolygonKey
@@ -112,15 +112,15 @@ first (x ∷ xs) = Some x
 
 -- the content of a polygon's type P record, if there is one
 abbrev pub polygon_body : List Record → PolygonKey → Option BodyP
-polygon_body records key = first (map (λ r. r.body) (filter (λ r. is_eq (key_cmp key (p_key r))) (ps records)))
+polygon_body records key = first (map (λ r. r.body) (filter (λ r. is_eq (key_cmp key (p_key r))) (of_type_p records)))
 
 -- each polygon on a side or of type P, in the order of keys
 abbrev pub polygons_of : List Record → List (PolygonKey × Option BodyP)
-polygons_of records = map (λ key. (key, polygon_body records key)) (distinct key_cmp (flat_map side_keys (is records) ++ map p_key (ps records)))
+polygons_of records = map (λ key. (key, polygon_body records key)) (distinct key_cmp (flat_map side_keys (of_type_i records) ++ map p_key (of_type_p records)))
 
 -- each landmark, in the order of LANDs
 abbrev pub landmarks_of : List Record → List (ℕ × List Body7)
-landmarks_of records = map (λ land. (land, in_order landmark_body_cmp (map (λ r. r.body) (of_number seven_land land (sevens records))))) (distinct nat_cmp (map seven_land (sevens records)))
+landmarks_of records = map (λ land. (land, in_order landmark_body_cmp (map (λ r. r.body) (of_number seven_land land (of_type_7 records))))) (distinct nat_cmp (map seven_land (of_type_7 records)))
 
 -- the county of a list of records
 abbrev pub county_of : List Record → County
@@ -129,5 +129,5 @@ county_of records = record {
   names = names_of records;
   polygons = polygons_of records;
   landmarks = landmarks_of records;
-  links = in_order link_cmp (eights records);
+  links = in_order link_cmp (of_type_8 records);
 }

@@ -1,7 +1,6 @@
 pub mod Orders
 pub mod PolygonKeys
 pub mod BodyOrder
-pub mod ByType
 pub mod County
 pub mod CountyRules
 pub mod Renumbering

@@ -6,7 +6,7 @@ use Rattle.tl_county.specs.declared.fault.LinkFault.{LinkFault}
 use Rattle.tl_county.specs.declared.fault.LinkFault.TheVariants.{ChainTwice, NoChain, SequenceBroken, LinkMissing, LinkTwice, NameTwice, NameUnknown, PolygonTwice, LandUnknown, PolygonUnknown, Memory}
 use Rattle.tl_county.specs.declared.fault.LinkedType.{LinkedType}
 use Rattle.tl_county.specs.declared.fault.LinkedType.TheVariants.{Two, Four, Six, I}
-use Rattle.tl_county.specs.ByType.{ones, twos, fours, fives, sixes, sevens, eights, is, ps, of_number}
+use Rattle.tl_layout.specs.ByType.{of_type_1, of_type_2, of_type_4, of_type_5, of_type_6, of_type_7, of_type_8, of_type_i, of_type_p, of_number}
 use Rattle.tl_county.specs.County.{one_tlid, two_tlid, two_rtsq, four_tlid, four_rtsq, five_feat, six_tlid, six_rtsq, seven_land, eight_land, eight_key, i_tlid, p_key, side_keys}
 use Rattle.tl_county.specs.FirstOf.{IsFirst}
 use Rattle.tl_county.specs.Orders.{times, stands_in, has_repeat}
@@ -14,38 +14,38 @@ use Rattle.tl_county.specs.PolygonKeys.{key_cmp}
 
 -- the TLIDs of the type 1 records
 abbrev pub chain_tlids : List Record → List ℕ
-chain_tlids records = map one_tlid (ones records)
+chain_tlids records = map one_tlid (of_type_1 records)
 
 -- the TLIDs of the records of a type that belong to chains
 abbrev pub linked_tlids : LinkedType → List Record → List ℕ
-linked_tlids Two records = map two_tlid (twos records)
-linked_tlids Four records = map four_tlid (fours records)
-linked_tlids Six records = map six_tlid (sixes records)
-linked_tlids I records = map i_tlid (is records)
+linked_tlids Two records = map two_tlid (of_type_2 records)
+linked_tlids Four records = map four_tlid (of_type_4 records)
+linked_tlids Six records = map six_tlid (of_type_6 records)
+linked_tlids I records = map i_tlid (of_type_i records)
 
 -- the RTSQs of a chain's records of a type
 abbrev pub rtsqs : LinkedType → ℕ → List Record → List ℕ
-rtsqs Two tlid records = map two_rtsq (of_number two_tlid tlid (twos records))
-rtsqs Four tlid records = map four_rtsq (of_number four_tlid tlid (fours records))
-rtsqs Six tlid records = map six_rtsq (of_number six_tlid tlid (sixes records))
+rtsqs Two tlid records = map two_rtsq (of_number two_tlid tlid (of_type_2 records))
+rtsqs Four tlid records = map four_rtsq (of_number four_tlid tlid (of_type_4 records))
+rtsqs Six tlid records = map six_rtsq (of_number six_tlid tlid (of_type_6 records))
 rtsqs I tlid records = []
 
 -- the FEATs that a chain's type 4 records name
 abbrev pub named_feats : ℕ → List Record → List ℕ
-named_feats tlid records = flat_map (λ r. r.feats) (of_number four_tlid tlid (fours records))
+named_feats tlid records = flat_map (λ r. r.feats) (of_number four_tlid tlid (of_type_4 records))
 
 -- whether a rule is broken at a place
 abbrev pub is_broken : List Record → LinkFault → Bool
 is_broken records (ChainTwice tlid) = nat_lt 1 (times nat_cmp tlid (chain_tlids records))
 is_broken records (NoChain rtype tlid) = stands_in nat_cmp tlid (linked_tlids rtype records) && not (stands_in nat_cmp tlid (chain_tlids records))
 is_broken records (SequenceBroken rtype tlid) = has_repeat nat_cmp (rtsqs rtype tlid records)
-is_broken records (LinkMissing tlid) = stands_in nat_cmp tlid (chain_tlids records) && not (stands_in nat_cmp tlid (map i_tlid (is records)))
-is_broken records (LinkTwice tlid) = nat_lt 1 (times nat_cmp tlid (map i_tlid (is records)))
-is_broken records (NameTwice feat) = nat_lt 1 (times nat_cmp feat (map five_feat (fives records)))
-is_broken records (NameUnknown tlid feat) = stands_in nat_cmp feat (named_feats tlid records) && not (stands_in nat_cmp feat (map five_feat (fives records)))
-is_broken records (PolygonTwice cenid polyid) = nat_lt 1 (times key_cmp (cenid, polyid) (map p_key (ps records)))
-is_broken records (LandUnknown land) = stands_in nat_cmp land (map eight_land (eights records)) && not (stands_in nat_cmp land (map seven_land (sevens records)))
-is_broken records (PolygonUnknown cenid polyid) = stands_in key_cmp (cenid, polyid) (map eight_key (eights records)) && not (stands_in key_cmp (cenid, polyid) (flat_map side_keys (is records) ++ map p_key (ps records)))
+is_broken records (LinkMissing tlid) = stands_in nat_cmp tlid (chain_tlids records) && not (stands_in nat_cmp tlid (map i_tlid (of_type_i records)))
+is_broken records (LinkTwice tlid) = nat_lt 1 (times nat_cmp tlid (map i_tlid (of_type_i records)))
+is_broken records (NameTwice feat) = nat_lt 1 (times nat_cmp feat (map five_feat (of_type_5 records)))
+is_broken records (NameUnknown tlid feat) = stands_in nat_cmp feat (named_feats tlid records) && not (stands_in nat_cmp feat (map five_feat (of_type_5 records)))
+is_broken records (PolygonTwice cenid polyid) = nat_lt 1 (times key_cmp (cenid, polyid) (map p_key (of_type_p records)))
+is_broken records (LandUnknown land) = stands_in nat_cmp land (map eight_land (of_type_8 records)) && not (stands_in nat_cmp land (map seven_land (of_type_7 records)))
+is_broken records (PolygonUnknown cenid polyid) = stands_in key_cmp (cenid, polyid) (map eight_key (of_type_8 records)) && not (stands_in key_cmp (cenid, polyid) (flat_map side_keys (of_type_i records) ++ map p_key (of_type_p records)))
 is_broken records Memory = false
 
 -- record types in the order 2, 4, 6, I

@@ -4,7 +4,7 @@ use Rattle.tl_layout.specs.declared.record_type.Record.{Record}
 use Rattle.tl_layout.specs.declared.record_type.Record.TheVariants.{One, Two, Four, Five, Six, Seven, Eight, I, P}
 use Rattle.tl_county.specs.declared.fault.LinkedType.{LinkedType}
 use Rattle.tl_county.specs.declared.fault.LinkedType.TheVariants.{Two as Type2, Four as Type4, Six as Type6}
-use Rattle.tl_county.specs.ByType.{ones, fives, sevens, eights, is, ps}
+use Rattle.tl_layout.specs.ByType.{of_type_1, of_type_5, of_type_7, of_type_8, of_type_i, of_type_p}
 use Rattle.tl_county.specs.County.{shape_points, further_names, further_ranges}
 
 -- Each chain has the same shape points, names and ranges, joined in the order of its RTSQs, however they are packed into
@@ -13,12 +13,12 @@ pub record AreRepacked (xs ys : List Record) : Type 0 where
   pub points : (tlid : ℕ) → shape_points xs tlid ≡ shape_points ys tlid
   pub names : (tlid : ℕ) → further_names xs tlid ≡ further_names ys tlid
   pub ranges : (tlid : ℕ) → further_ranges xs tlid ≡ further_ranges ys tlid
-  pub ones : ones xs ≡ ones ys
-  pub fives : fives xs ≡ fives ys
-  pub sevens : sevens xs ≡ sevens ys
-  pub eights : eights xs ≡ eights ys
-  pub is : is xs ≡ is ys
-  pub ps : ps xs ≡ ps ys
+  pub of_type_1 : of_type_1 xs ≡ of_type_1 ys
+  pub of_type_5 : of_type_5 xs ≡ of_type_5 ys
+  pub of_type_7 : of_type_7 xs ≡ of_type_7 ys
+  pub of_type_8 : of_type_8 xs ≡ of_type_8 ys
+  pub of_type_i : of_type_i xs ≡ of_type_i ys
+  pub of_type_p : of_type_p xs ≡ of_type_p ys
 
 -- a new RTSQ for each old one of a chain in a record type
 abbrev pub Sequence : Type 0

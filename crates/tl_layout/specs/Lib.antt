@@ -40,3 +40,4 @@ pub mod Type4Laws
 pub mod RecordText
 pub mod RecordLaws
 pub mod Turned
+pub mod ByType

@@ -5,7 +5,7 @@ use Rattle.std.proofs.lemmas.Cmp.{ranked}
 use Rattle.std.specs.List.{AllByRecursion, range_with_len}
 use Rattle.std.specs.List.Sorted.{IsStrictlySortedBy}
 use Rattle.std.specs.Ordering.{on, MatchOrdering, ordering_then}
-use Rattle.tl_county.specs.ByType.{of_number}
+use Rattle.tl_layout.specs.ByType.{of_number}
 use Rattle.tl_county.specs.Orders.{IsInOrder}
 use Rattle.tl_county.proofs.Keys.{Known, nat_keys, known_cases, known_all}
 use Rattle.tl_county.proofs.Lists.{all_weaker, all_filter}

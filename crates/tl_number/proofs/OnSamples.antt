@@ -35,7 +35,7 @@ unfolding IsStrictlySortedBy
 there_is_canonical = record {
   tidy = record {
     linked = linked_computed canonical_there refl;
-    order = record { types = refl; ones = (tt, tt); twos = tt; fours = tt; fives = tt; sixes = tt; sevens = tt; eights = tt; is = (tt, tt); ps = tt };
+    order = record { types = refl; of_type_1 = (tt, tt); of_type_2 = tt; of_type_4 = tt; of_type_5 = tt; of_type_6 = tt; of_type_7 = tt; of_type_8 = tt; of_type_i = (tt, tt); of_type_p = tt };
     packed = record { points = λ n. tt; feats = λ n. tt; two_rtsqs = λ n. refl; four_rtsqs = λ n. refl; six_rtsqs = λ n. refl };
     numbers = record { tlids = refl; feats = refl; lands = refl; nodes = (lit≤ tt, lit≤ tt, (lit≤ tt, lit≤ tt, tt)); polygons = tt; one_cenid = tt; on_sides = tt; names = tt; landmarks = tt };
   };
@@ -77,7 +77,7 @@ unfolding IsStrictlySortedBy
 polygons_are_canonical = record {
   tidy = record {
     linked = linked_computed canonical_polygons refl;
-    order = record { types = refl; ones = (tt, tt); twos = tt; fours = tt; fives = tt; sixes = tt; sevens = tt; eights = tt; is = (tt, tt); ps = tt };
+    order = record { types = refl; of_type_1 = (tt, tt); of_type_2 = tt; of_type_4 = tt; of_type_5 = tt; of_type_6 = tt; of_type_7 = tt; of_type_8 = tt; of_type_i = (tt, tt); of_type_p = tt };
     packed = record { points = λ n. tt; feats = λ n. tt; two_rtsqs = λ n. refl; four_rtsqs = λ n. refl; six_rtsqs = λ n. refl };
     numbers = record {
       tlids = refl;
@@ -100,7 +100,7 @@ unfolding IsStrictlySortedBy
 meeting_is_canonical = record {
   tidy = record {
     linked = linked_computed canonical_meeting refl;
-    order = record { types = refl; ones = ((refl, tt), (tt, tt)); twos = tt; fours = tt; fives = tt; sixes = tt; sevens = tt; eights = tt; is = ((refl, tt), (tt, tt)); ps = tt };
+    order = record { types = refl; of_type_1 = ((refl, tt), (tt, tt)); of_type_2 = tt; of_type_4 = tt; of_type_5 = tt; of_type_6 = tt; of_type_7 = tt; of_type_8 = tt; of_type_i = ((refl, tt), (tt, tt)); of_type_p = tt };
     packed = record { points = λ n. tt; feats = λ n. tt; two_rtsqs = λ n. refl; four_rtsqs = λ n. refl; six_rtsqs = λ n. refl };
     numbers = record {
       tlids = refl;
@@ -123,7 +123,7 @@ unfolding IsStrictlySortedBy
 schools_are_canonical = record {
   tidy = record {
     linked = linked_computed canonical_schools refl;
-    order = record { types = refl; ones = (tt, tt); twos = tt; fours = tt; fives = tt; sixes = tt; sevens = ((refl, (refl, (refl, tt))), ((refl, (refl, tt)), ((refl, tt), (tt, tt)))); eights = ((refl, tt), (tt, tt)); is = (tt, tt); ps = tt };
+    order = record { types = refl; of_type_1 = (tt, tt); of_type_2 = tt; of_type_4 = tt; of_type_5 = tt; of_type_6 = tt; of_type_7 = ((refl, (refl, (refl, tt))), ((refl, (refl, tt)), ((refl, tt), (tt, tt)))); of_type_8 = ((refl, tt), (tt, tt)); of_type_i = (tt, tt); of_type_p = tt };
     packed = record { points = λ n. tt; feats = λ n. tt; two_rtsqs = λ n. refl; four_rtsqs = λ n. refl; six_rtsqs = λ n. refl };
     numbers = record {
       tlids = refl;
@@ -191,7 +191,7 @@ unfolding IsStrictlySortedBy
 shaped_is_canonical = record {
   tidy = record {
     linked = linked_computed canonical_shaped refl;
-    order = record { types = refl; ones = (tt, tt); twos = ((refl, tt), (tt, tt)); fours = tt; fives = tt; sixes = tt; sevens = tt; eights = tt; is = (tt, tt); ps = tt };
+    order = record { types = refl; of_type_1 = (tt, tt); of_type_2 = ((refl, tt), (tt, tt)); of_type_4 = tt; of_type_5 = tt; of_type_6 = tt; of_type_7 = tt; of_type_8 = tt; of_type_i = (tt, tt); of_type_p = tt };
     packed = record { points = λ n. shaped_full (1 == n); feats = λ n. tt; two_rtsqs = λ n. shaped_rtsqs (1 == n); four_rtsqs = λ n. refl; six_rtsqs = λ n. refl };
     numbers = record { tlids = refl; feats = refl; lands = refl; nodes = (lit≤ tt, lit≤ tt, (lit≤ tt, lit≤ tt, tt)); polygons = tt; one_cenid = tt; on_sides = tt; names = tt; landmarks = tt };
   };

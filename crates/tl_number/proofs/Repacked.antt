@@ -10,7 +10,7 @@ use Rattle.tl_layout.specs.Fields.{Fields1, Fields2, Fields4, Fields5, Fields6, 
 use Rattle.tl_layout.specs.declared.ranges.Ranges.{Ranges}
 use Rattle.tl_layout.specs.declared.record_type.Record.{Record}
 use Rattle.tl_county.specs.BodyOrder.{landmark_body_cmp}
-use Rattle.tl_county.specs.ByType.{ones, twos, fours, fives, sixes, sevens, is, ps, of_number}
+use Rattle.tl_layout.specs.ByType.{of_type_1, of_type_2, of_type_4, of_type_5, of_type_6, of_type_7, of_type_i, of_type_p, of_number}
 use Rattle.tl_shape.specs.Chain.{Chain}
 use Rattle.tl_county.specs.County.{one_tlid, two_tlid, two_rtsq, four_tlid, four_rtsq, five_feat, six_tlid, six_rtsq, seven_land, i_tlid, shape_points, further_names, chain_of, chains_of, names_of, landmarks_of}
 use Rattle.tl_county.specs.LinkRules.{IsLinked, chain_tlids, linked_tlids}
@@ -33,12 +33,12 @@ use Rattle.tl_number.proofs.Counting.{up_to-strict}
 use Rattle.tl_number.proofs.Grouping.{in_order-weaker, then-first, then-second, in_order-filter, in_order-from_strict, grouped, pieces-joined, rtsqs-back}
 
 -- the points between the ends, and the last one
-inner_back : (s : Coordinates) (ps : List Coordinates) (e : Coordinates) → without_last (ps ++ (e ∷ [])) ≡ ps
+inner_back : (s : Coordinates) (of_type_p : List Coordinates) (e : Coordinates) → without_last (of_type_p ++ (e ∷ [])) ≡ of_type_p
 inner_back s [] e = refl
 inner_back s (p ∷ []) e = refl
 inner_back s (p ∷ q ∷ ps) e = ap (λ rs. p ∷ rs) (inner_back s (q ∷ ps) e)
 
-last_back : (s : Coordinates) (ps : List Coordinates) (e : Coordinates) → last_point (s ∷ (ps ++ (e ∷ []))) ≡ e
+last_back : (s : Coordinates) (of_type_p : List Coordinates) (e : Coordinates) → last_point (s ∷ (of_type_p ++ (e ∷ []))) ≡ e
 last_back s [] e = refl
 last_back s (p ∷ ps) e = last_back p ps e
 
@@ -56,7 +56,7 @@ map_over_pieces f ls = ap (flat_map (λ l. l)) (map-id ls)
 -- In a linked list each type 1 record has one type I record, and the chains are the type 1 records with theirs.
 module _ (records : List Record) (linked : IsLinked records) where
   chain_entries : Fields1 → List (ℕ × Chain)
-  chain_entries r = map (λ link. (r.tlid, chain_of records r link)) (of_number i_tlid r.tlid (is records))
+  chain_entries r = map (λ link. (r.tlid, chain_of records r link)) (of_number i_tlid r.tlid (of_type_i records))
 
   -- a value that depends on the type 1 record alone, once for each chain
   each_chain : {Y : Type 0} (f : ℕ × Chain → Y) (g : Fields1 → Y) → ((r : Fields1) (link : FieldsI) → f (r.tlid, chain_of records r link) ≡ g r) → (rs : List Fields1) → AllByRecursion (λ r. Known nat_cmp (chain_tlids records) r.tlid) rs → map f (flat_map chain_entries rs) ≡ map g rs
@@ -75,50 +75,50 @@ module _ (records : List Record) (linked : IsLinked records) where
       ap (λ ls. flat_map f (map (λ link. (r.tlid, chain_of records r link)) ls ++ flat_map chain_entries rs)) one.1
       ∙ ap₂ (λ y ys. y ++ ys) (h r one.0) (each_chain_list f g h rs a.1)
 
-  each_link : {Y : Type 0} (f : ℕ × Chain → Y) (g : FieldsI → Y) → ((r : Fields1) (link : FieldsI) → link.tlid ≡ r.tlid → f (r.tlid, chain_of records r link) ≡ g link) → (rs : List Fields1) → map f (flat_map chain_entries rs) ≡ map g (flat_map (λ r. of_number i_tlid r.tlid (is records)) rs)
+  each_link : {Y : Type 0} (f : ℕ × Chain → Y) (g : FieldsI → Y) → ((r : Fields1) (link : FieldsI) → link.tlid ≡ r.tlid → f (r.tlid, chain_of records r link) ≡ g link) → (rs : List Fields1) → map f (flat_map chain_entries rs) ≡ map g (flat_map (λ r. of_number i_tlid r.tlid (of_type_i records)) rs)
   unfolding chain_entries
   each_link f g h [] = refl
   each_link f g h (r ∷ rs) =
-      map-append f (map (λ link. (r.tlid, chain_of records r link)) (of_number i_tlid r.tlid (is records))) (flat_map chain_entries rs)
+      map-append f (map (λ link. (r.tlid, chain_of records r link)) (of_number i_tlid r.tlid (of_type_i records))) (flat_map chain_entries rs)
       ∙ ap₂ (λ ys zs. ys ++ zs)
-      (map-map f (λ link. (r.tlid, chain_of records r link)) (of_number i_tlid r.tlid (is records))
-      ∙ map_agree_all (λ link. f (r.tlid, chain_of records r link)) g (λ link. link.tlid ≡ r.tlid) (h r) (of_number i_tlid r.tlid (is records)) (of_number-all i_tlid r.tlid (is records)))
+      (map-map f (λ link. (r.tlid, chain_of records r link)) (of_number i_tlid r.tlid (of_type_i records))
+      ∙ map_agree_all (λ link. f (r.tlid, chain_of records r link)) g (λ link. link.tlid ≡ r.tlid) (h r) (of_number i_tlid r.tlid (of_type_i records)) (of_number-all i_tlid r.tlid (of_type_i records)))
       (each_link f g h rs)
-      ∙ sym (map-append g (of_number i_tlid r.tlid (is records)) (flat_map (λ q. of_number i_tlid q.tlid (is records)) rs))
+      ∙ sym (map-append g (of_number i_tlid r.tlid (of_type_i records)) (flat_map (λ q. of_number i_tlid q.tlid (of_type_i records)) rs))
 
   module _ (order : StandsInOrder records) (full : IsPacked records) where
-    chains_are : chains_of records ≡ flat_map chain_entries (ones records)
+    chains_are : chains_of records ≡ flat_map chain_entries (of_type_1 records)
     unfolding chain_entries
-    chains_are = ap (flat_map chain_entries) (in_order-itself (on one_tlid nat_cmp) (ones records) order.ones)
+    chains_are = ap (flat_map chain_entries) (in_order-itself (on one_tlid nat_cmp) (of_type_1 records) order.of_type_1)
 
-    ones_known : AllByRecursion (λ r. Known nat_cmp (chain_tlids records) r.tlid) (ones records)
-    ones_known = all_unmap (Known nat_cmp (chain_tlids records)) one_tlid (ones records) (all_known nat_keys (Known nat_cmp (chain_tlids records)) (chain_tlids records) (λ n k. k))
+    ones_known : AllByRecursion (λ r. Known nat_cmp (chain_tlids records) r.tlid) (of_type_1 records)
+    ones_known = all_unmap (Known nat_cmp (chain_tlids records)) one_tlid (of_type_1 records) (all_known nat_keys (Known nat_cmp (chain_tlids records)) (chain_tlids records) (λ n k. k))
 
     tlids_strict : IsStrictlySortedBy nat_cmp (chain_tlids records)
-    tlids_strict = strict_from_order nat_keys (chain_tlids records) (in_order-map nat_cmp one_tlid (ones records) order.ones) (apart_chains records linked)
+    tlids_strict = strict_from_order nat_keys (chain_tlids records) (in_order-map nat_cmp one_tlid (of_type_1 records) order.of_type_1) (apart_chains records linked)
 
     -- each record of a chain's types has a chain
     linked_known : (t : LinkedType) → AllByRecursion (Known nat_cmp (chain_tlids records)) (linked_tlids t records)
     linked_known t = all_known nat_keys (Known nat_cmp (chain_tlids records)) (linked_tlids t records)
         (λ n k. ltb-true 0 (times nat_cmp n (chain_tlids records)) (needed (stands_in nat_cmp n (linked_tlids t records)) (stands_in nat_cmp n (chain_tlids records)) (linked (NoChain t n)) (lt-ltb 0 (times nat_cmp n (linked_tlids t records)) k)))
 
-    by_chain : {X : Type 0} (tlid : X → ℕ) (xs : List X) → IsInOrder (on tlid nat_cmp) xs → AllByRecursion (λ x. Known nat_cmp (chain_tlids records) (tlid x)) xs → flat_map (λ r. of_number tlid r.tlid xs) (ones records) ≡ xs
-    by_chain tlid xs h a = sym (flat_map-map (λ n. of_number tlid n xs) one_tlid (ones records)) ∙ grouped tlid xs h (chain_tlids records) tlids_strict a
+    by_chain : {X : Type 0} (tlid : X → ℕ) (xs : List X) → IsInOrder (on tlid nat_cmp) xs → AllByRecursion (λ x. Known nat_cmp (chain_tlids records) (tlid x)) xs → flat_map (λ r. of_number tlid r.tlid xs) (of_type_1 records) ≡ xs
+    by_chain tlid xs h a = sym (flat_map-map (λ n. of_number tlid n xs) one_tlid (of_type_1 records)) ∙ grouped tlid xs h (chain_tlids records) tlids_strict a
 
-    pub ones_back : map packed_one (chains_of records) ≡ ones records
+    pub ones_back : map packed_one (chains_of records) ≡ of_type_1 records
     unfolding chain_entries
     ones_back =
         ap (map packed_one) chains_are
-        ∙ each_chain packed_one (λ r. r) (λ r link i. record { tlid = r.tlid; body = r.body; start = r.start; end = last_back r.start (shape_points records r.tlid) r.end i }) (ones records) ones_known
-        ∙ map-id (ones records)
+        ∙ each_chain packed_one (λ r. r) (λ r link i. record { tlid = r.tlid; body = r.body; start = r.start; end = last_back r.start (shape_points records r.tlid) r.end i }) (of_type_1 records) ones_known
+        ∙ map-id (of_type_1 records)
 
-    pub is_back : map packed_i (chains_of records) ≡ is records
+    pub is_back : map packed_i (chains_of records) ≡ of_type_i records
     unfolding chain_entries
     is_back =
         ap (map packed_i) chains_are
-        ∙ each_link packed_i (λ link. link) (λ r link e i. record link { tlid = sym e i }) (ones records)
-        ∙ map-id (flat_map (λ r. of_number i_tlid r.tlid (is records)) (ones records))
-        ∙ by_chain i_tlid (is records) order.is (all_unmap (Known nat_cmp (chain_tlids records)) i_tlid (is records) (linked_known I))
+        ∙ each_link packed_i (λ link. link) (λ r link e i. record link { tlid = sym e i }) (of_type_1 records)
+        ∙ map-id (flat_map (λ r. of_number i_tlid r.tlid (of_type_i records)) (of_type_1 records))
+        ∙ by_chain i_tlid (of_type_i records) order.of_type_i (all_unmap (Known nat_cmp (chain_tlids records)) i_tlid (of_type_i records) (linked_known I))
 
     -- records whose RTSQs are 1, 2, 3, .. stand in the order of their RTSQs
     rtsq_order : {X : Type 0} (rtsq : X → ℕ) (xs : List X) → map rtsq xs ≡ up_to (length xs) → in_order (on rtsq nat_cmp) xs ≡ xs
@@ -127,66 +127,66 @@ module _ (records : List Record) (linked : IsLinked records) where
     joined_pieces : {X Y : Type 0} (f : X → List Y) (xs : List X) → flat_map f xs ≡ flat_map (λ l. l) (map f xs)
     joined_pieces f xs = sym (flat_map-map (λ l. l) f xs)
 
-    two_pieces : (n : ℕ) → in_pieces 10 (shape_points records n) ≡ map (λ (r : Fields2). r.points) (of_number two_tlid n (twos records))
+    two_pieces : (n : ℕ) → in_pieces 10 (shape_points records n) ≡ map (λ (r : Fields2). r.points) (of_number two_tlid n (of_type_2 records))
     two_pieces n =
-        let rs : List Fields2 = of_number two_tlid n (twos records) in
+        let rs : List Fields2 = of_number two_tlid n (of_type_2 records) in
         let e : shape_points records n ≡ flat_map (λ l. l) (map (λ (r : Fields2). r.points) rs) = ap (flat_map (λ (r : Fields2). r.points)) (rtsq_order two_rtsq rs (full.two_rtsqs n)) ∙ joined_pieces (λ (r : Fields2). r.points) rs in
         ap (in_pieces 10) e ∙ pieces-joined 10 (omega arith) (map (λ (r : Fields2). r.points) rs) (full.points n) (length (flat_map (λ l. l) (map (λ (r : Fields2). r.points) rs))) (omega arith)
 
-    twos_of : (r : Fields1) (link : FieldsI) → packed_twos (r.tlid, chain_of records r link) ≡ of_number two_tlid r.tlid (twos records)
+    twos_of : (r : Fields1) (link : FieldsI) → packed_twos (r.tlid, chain_of records r link) ≡ of_number two_tlid r.tlid (of_type_2 records)
     twos_of r link =
-        let rs : List Fields2 = of_number two_tlid r.tlid (twos records) in
+        let rs : List Fields2 = of_number two_tlid r.tlid (of_type_2 records) in
         ap (λ ps. map (λ (p : ℕ × List Coordinates). record { tlid = r.tlid; rtsq = p.0; points = p.1 }) (with_rtsqs 1 (in_pieces 10 ps))) (inner_back r.start (shape_points records r.tlid) r.end)
         ∙ ap (λ ls. map (λ (p : ℕ × List Coordinates). record { tlid = r.tlid; rtsq = p.0; points = p.1 }) (with_rtsqs 1 ls)) (two_pieces r.tlid)
-        ∙ rtsqs-back two_tlid two_rtsq (λ (q : Fields2). q.points) (λ t i ps. record { tlid = t; rtsq = i; points = ps }) (λ q. refl) r.tlid 1 rs (of_number-all two_tlid r.tlid (twos records)) (full.two_rtsqs r.tlid)
+        ∙ rtsqs-back two_tlid two_rtsq (λ (q : Fields2). q.points) (λ t i of_type_p. record { tlid = t; rtsq = i; points = of_type_p }) (λ q. refl) r.tlid 1 rs (of_number-all two_tlid r.tlid (of_type_2 records)) (full.two_rtsqs r.tlid)
 
-    pub twos_back : flat_map packed_twos (chains_of records) ≡ twos records
+    pub twos_back : flat_map packed_twos (chains_of records) ≡ of_type_2 records
     unfolding chain_entries
     twos_back =
         ap (flat_map packed_twos) chains_are
-        ∙ each_chain_list packed_twos (λ r. of_number two_tlid r.tlid (twos records)) twos_of (ones records) ones_known
-        ∙ by_chain two_tlid (twos records) (in_order-weaker (then_cmp (on two_tlid nat_cmp) (on two_rtsq nat_cmp)) (on two_tlid nat_cmp) (λ x y. then-first (nat_cmp x.tlid y.tlid) (nat_cmp x.rtsq y.rtsq)) (twos records) order.twos)
-        (all_unmap (Known nat_cmp (chain_tlids records)) two_tlid (twos records) (linked_known Two))
+        ∙ each_chain_list packed_twos (λ r. of_number two_tlid r.tlid (of_type_2 records)) twos_of (of_type_1 records) ones_known
+        ∙ by_chain two_tlid (of_type_2 records) (in_order-weaker (then_cmp (on two_tlid nat_cmp) (on two_rtsq nat_cmp)) (on two_tlid nat_cmp) (λ x y. then-first (nat_cmp x.tlid y.tlid) (nat_cmp x.rtsq y.rtsq)) (of_type_2 records) order.of_type_2)
+        (all_unmap (Known nat_cmp (chain_tlids records)) two_tlid (of_type_2 records) (linked_known Two))
 
-    four_pieces : (n : ℕ) → in_pieces 5 (further_names records n) ≡ map (λ (r : Fields4). r.feats) (of_number four_tlid n (fours records))
+    four_pieces : (n : ℕ) → in_pieces 5 (further_names records n) ≡ map (λ (r : Fields4). r.feats) (of_number four_tlid n (of_type_4 records))
     four_pieces n =
-        let rs : List Fields4 = of_number four_tlid n (fours records) in
+        let rs : List Fields4 = of_number four_tlid n (of_type_4 records) in
         let e : further_names records n ≡ flat_map (λ l. l) (map (λ (r : Fields4). r.feats) rs) = ap (flat_map (λ (r : Fields4). r.feats)) (rtsq_order four_rtsq rs (full.four_rtsqs n)) ∙ joined_pieces (λ (r : Fields4). r.feats) rs in
         ap (in_pieces 5) e ∙ pieces-joined 5 (omega arith) (map (λ (r : Fields4). r.feats) rs) (full.feats n) (length (flat_map (λ l. l) (map (λ (r : Fields4). r.feats) rs))) (omega arith)
 
-    fours_of : (r : Fields1) (link : FieldsI) → packed_fours (r.tlid, chain_of records r link) ≡ of_number four_tlid r.tlid (fours records)
+    fours_of : (r : Fields1) (link : FieldsI) → packed_fours (r.tlid, chain_of records r link) ≡ of_number four_tlid r.tlid (of_type_4 records)
     fours_of r link =
-        let rs : List Fields4 = of_number four_tlid r.tlid (fours records) in
+        let rs : List Fields4 = of_number four_tlid r.tlid (of_type_4 records) in
         ap (λ ls. map (λ (p : ℕ × List ℕ). record { tlid = r.tlid; rtsq = p.0; feats = p.1 }) (with_rtsqs 1 ls)) (four_pieces r.tlid)
-        ∙ rtsqs-back four_tlid four_rtsq (λ (q : Fields4). q.feats) (λ t i ps. record { tlid = t; rtsq = i; feats = ps }) (λ q. refl) r.tlid 1 rs (of_number-all four_tlid r.tlid (fours records)) (full.four_rtsqs r.tlid)
+        ∙ rtsqs-back four_tlid four_rtsq (λ (q : Fields4). q.feats) (λ t i of_type_p. record { tlid = t; rtsq = i; feats = of_type_p }) (λ q. refl) r.tlid 1 rs (of_number-all four_tlid r.tlid (of_type_4 records)) (full.four_rtsqs r.tlid)
 
-    pub fours_back : flat_map packed_fours (chains_of records) ≡ fours records
+    pub fours_back : flat_map packed_fours (chains_of records) ≡ of_type_4 records
     unfolding chain_entries
     fours_back =
         ap (flat_map packed_fours) chains_are
-        ∙ each_chain_list packed_fours (λ r. of_number four_tlid r.tlid (fours records)) fours_of (ones records) ones_known
-        ∙ by_chain four_tlid (fours records) (in_order-weaker (then_cmp (on four_tlid nat_cmp) (on four_rtsq nat_cmp)) (on four_tlid nat_cmp) (λ x y. then-first (nat_cmp x.tlid y.tlid) (nat_cmp x.rtsq y.rtsq)) (fours records) order.fours)
-        (all_unmap (Known nat_cmp (chain_tlids records)) four_tlid (fours records) (linked_known Four))
+        ∙ each_chain_list packed_fours (λ r. of_number four_tlid r.tlid (of_type_4 records)) fours_of (of_type_1 records) ones_known
+        ∙ by_chain four_tlid (of_type_4 records) (in_order-weaker (then_cmp (on four_tlid nat_cmp) (on four_rtsq nat_cmp)) (on four_tlid nat_cmp) (λ x y. then-first (nat_cmp x.tlid y.tlid) (nat_cmp x.rtsq y.rtsq)) (of_type_4 records) order.of_type_4)
+        (all_unmap (Known nat_cmp (chain_tlids records)) four_tlid (of_type_4 records) (linked_known Four))
 
-    sixes_of : (r : Fields1) (link : FieldsI) → packed_sixes (r.tlid, chain_of records r link) ≡ of_number six_tlid r.tlid (sixes records)
+    sixes_of : (r : Fields1) (link : FieldsI) → packed_sixes (r.tlid, chain_of records r link) ≡ of_number six_tlid r.tlid (of_type_6 records)
     sixes_of r link =
-        let rs : List Fields6 = of_number six_tlid r.tlid (sixes records) in
+        let rs : List Fields6 = of_number six_tlid r.tlid (of_type_6 records) in
         ap (λ qs. map (λ (p : ℕ × Ranges). record { tlid = r.tlid; rtsq = p.0; ranges = p.1 }) (with_rtsqs 1 (map (λ (q : Fields6). q.ranges) qs))) (rtsq_order six_rtsq rs (full.six_rtsqs r.tlid))
-        ∙ rtsqs-back six_tlid six_rtsq (λ (q : Fields6). q.ranges) (λ t i ps. record { tlid = t; rtsq = i; ranges = ps }) (λ q. refl) r.tlid 1 rs (of_number-all six_tlid r.tlid (sixes records)) (full.six_rtsqs r.tlid)
+        ∙ rtsqs-back six_tlid six_rtsq (λ (q : Fields6). q.ranges) (λ t i of_type_p. record { tlid = t; rtsq = i; ranges = of_type_p }) (λ q. refl) r.tlid 1 rs (of_number-all six_tlid r.tlid (of_type_6 records)) (full.six_rtsqs r.tlid)
 
-    pub sixes_back : flat_map packed_sixes (chains_of records) ≡ sixes records
+    pub sixes_back : flat_map packed_sixes (chains_of records) ≡ of_type_6 records
     unfolding chain_entries
     sixes_back =
         ap (flat_map packed_sixes) chains_are
-        ∙ each_chain_list packed_sixes (λ r. of_number six_tlid r.tlid (sixes records)) sixes_of (ones records) ones_known
-        ∙ by_chain six_tlid (sixes records) (in_order-weaker (then_cmp (on six_tlid nat_cmp) (on six_rtsq nat_cmp)) (on six_tlid nat_cmp) (λ x y. then-first (nat_cmp x.tlid y.tlid) (nat_cmp x.rtsq y.rtsq)) (sixes records) order.sixes)
-        (all_unmap (Known nat_cmp (chain_tlids records)) six_tlid (sixes records) (linked_known Six))
+        ∙ each_chain_list packed_sixes (λ r. of_number six_tlid r.tlid (of_type_6 records)) sixes_of (of_type_1 records) ones_known
+        ∙ by_chain six_tlid (of_type_6 records) (in_order-weaker (then_cmp (on six_tlid nat_cmp) (on six_rtsq nat_cmp)) (on six_tlid nat_cmp) (λ x y. then-first (nat_cmp x.tlid y.tlid) (nat_cmp x.rtsq y.rtsq)) (of_type_6 records) order.of_type_6)
+        (all_unmap (Known nat_cmp (chain_tlids records)) six_tlid (of_type_6 records) (linked_known Six))
 
-    pub fives_back : map packed_five (names_of records) ≡ fives records
+    pub fives_back : map packed_five (names_of records) ≡ of_type_5 records
     fives_back =
-        map-map packed_five (λ (r : Fields5). (r.feat, r.body)) (in_order (on five_feat nat_cmp) (fives records))
-        ∙ map-id (in_order (on five_feat nat_cmp) (fives records))
-        ∙ in_order-itself (on five_feat nat_cmp) (fives records) order.fives
+        map-map packed_five (λ (r : Fields5). (r.feat, r.body)) (in_order (on five_feat nat_cmp) (of_type_5 records))
+        ∙ map-id (in_order (on five_feat nat_cmp) (of_type_5 records))
+        ∙ in_order-itself (on five_feat nat_cmp) (of_type_5 records) order.of_type_5
 
     -- the bodies of one landmark are in order
     bodies_order : (n : ℕ) (xs : List Fields7) → AllByRecursion (λ r. r.land ≡ n) xs → IsInOrder seven_cmp xs → IsInOrder landmark_body_cmp (map (λ (r : Fields7). r.body) xs)
@@ -197,20 +197,20 @@ module _ (records : List Record) (linked : IsLinked records) where
         each [] l g = tt
         each (y ∷ ys) l g = (then-second (nat_cmp x.land y.land) (landmark_body_cmp x.body y.body) (ap (nat_cmp x.land) (l.0 ∙ sym a.0) ∙ tied_itself nat_cmp_total x.land) g.0, each ys l.1 g.1)
 
-    sevens_of : (n : ℕ) → packed_sevens (n, in_order landmark_body_cmp (map (λ (r : Fields7). r.body) (of_number seven_land n (sevens records)))) ≡ of_number seven_land n (sevens records)
+    sevens_of : (n : ℕ) → packed_sevens (n, in_order landmark_body_cmp (map (λ (r : Fields7). r.body) (of_number seven_land n (of_type_7 records)))) ≡ of_number seven_land n (of_type_7 records)
     sevens_of n =
-        let rs : List Fields7 = of_number seven_land n (sevens records) in
-        let all : AllByRecursion (λ r. r.land ≡ n) rs = of_number-all seven_land n (sevens records) in
-        ap (map (λ body. record { land = n; body = body })) (in_order-itself landmark_body_cmp (map (λ (r : Fields7). r.body) rs) (bodies_order n rs all (in_order-filter seven_cmp (λ r. r.land == n) (sevens records) order.sevens)))
+        let rs : List Fields7 = of_number seven_land n (of_type_7 records) in
+        let all : AllByRecursion (λ r. r.land ≡ n) rs = of_number-all seven_land n (of_type_7 records) in
+        ap (map (λ body. record { land = n; body = body })) (in_order-itself landmark_body_cmp (map (λ (r : Fields7). r.body) rs) (bodies_order n rs all (in_order-filter seven_cmp (λ r. r.land == n) (of_type_7 records) order.of_type_7)))
         ∙ map-map (λ body. record { land = n; body = body }) (λ (r : Fields7). r.body) rs
         ∙ map_agree_all (λ (r : Fields7). record { land = n; body = r.body }) (λ r. r) (λ r. r.land ≡ n) (λ r e i. record r { land = sym e i }) rs all
         ∙ map-id rs
 
-    pub sevens_back : flat_map packed_sevens (landmarks_of records) ≡ sevens records
+    pub sevens_back : flat_map packed_sevens (landmarks_of records) ≡ of_type_7 records
     sevens_back =
-        let ls : List ℕ = distinct nat_cmp (map seven_land (sevens records)) in
-        flat_map-map packed_sevens (λ land. (land, in_order landmark_body_cmp (map (λ (r : Fields7). r.body) (of_number seven_land land (sevens records))))) ls
-        ∙ flat_map-agree (λ land. packed_sevens (land, in_order landmark_body_cmp (map (λ (r : Fields7). r.body) (of_number seven_land land (sevens records))))) (λ land. of_number seven_land land (sevens records)) sevens_of ls
-        ∙ grouped seven_land (sevens records) (in_order-weaker seven_cmp (on seven_land nat_cmp) (λ x y. then-first (nat_cmp x.land y.land) (landmark_body_cmp x.body y.body)) (sevens records) order.sevens) ls
-        (distinct-strict nat_keys (map seven_land (sevens records)))
-        (all_unmap (Known nat_cmp ls) seven_land (sevens records) (all_known nat_keys (Known nat_cmp ls) (map seven_land (sevens records)) (known-distinct nat_keys (map seven_land (sevens records)))))
+        let ls : List ℕ = distinct nat_cmp (map seven_land (of_type_7 records)) in
+        flat_map-map packed_sevens (λ land. (land, in_order landmark_body_cmp (map (λ (r : Fields7). r.body) (of_number seven_land land (of_type_7 records))))) ls
+        ∙ flat_map-agree (λ land. packed_sevens (land, in_order landmark_body_cmp (map (λ (r : Fields7). r.body) (of_number seven_land land (of_type_7 records))))) (λ land. of_number seven_land land (of_type_7 records)) sevens_of ls
+        ∙ grouped seven_land (of_type_7 records) (in_order-weaker seven_cmp (on seven_land nat_cmp) (λ x y. then-first (nat_cmp x.land y.land) (landmark_body_cmp x.body y.body)) (of_type_7 records) order.of_type_7) ls
+        (distinct-strict nat_keys (map seven_land (of_type_7 records)))
+        (all_unmap (Known nat_cmp ls) seven_land (of_type_7 records) (all_known nat_keys (Known nat_cmp ls) (map seven_land (of_type_7 records)) (known-distinct nat_keys (map seven_land (of_type_7 records)))))

@@ -8,7 +8,7 @@ use Rattle.std.specs.Ordering.{on}
 use Rattle.tl_layout.specs.Fields.{FieldsP}
 use Rattle.tl_layout.specs.declared.record_type.Record.{Record}
 use Rattle.tl_layout.specs.declared.type_p.BodyP.{BodyP}
-use Rattle.tl_county.specs.ByType.{ps, is, eights}
+use Rattle.tl_layout.specs.ByType.{of_type_p, of_type_i, of_type_8}
 use Rattle.tl_county.specs.BodyOrder.{link_cmp}
 use Rattle.tl_county.specs.County.{p_key, side_keys, first, polygon_body, polygons_of, county_of}
 use Rattle.tl_county.specs.CountyRules.{polygon_keys, polygons_along}
@@ -104,41 +104,41 @@ few_keys g k (d ∷ ds) = go (g d) (few_keys g k ds) (same_or_not key_keys k d)
 
 module _ (records : List Record) (linked : IsLinked records) (order : StandsInOrder records) (tidy : IsTidy (county_of records)) where
   abbrev all_keys : List PolygonKey
-  all_keys = flat_map side_keys (is records) ++ map p_key (ps records)
+  all_keys = flat_map side_keys (of_type_i records) ++ map p_key (of_type_p records)
 
   abbrev packed_ps : List FieldsP
   packed_ps = filter_map packed_p (polygons_of records)
 
-  ps_apart : IsApart key_cmp (map p_key (ps records))
-  ps_apart k = ltb-false 1 (times key_cmp k (map p_key (ps records))) (linked (PolygonTwice k.0 k.1))
+  ps_apart : IsApart key_cmp (map p_key (of_type_p records))
+  ps_apart k = ltb-false 1 (times key_cmp k (map p_key (of_type_p records))) (linked (PolygonTwice k.0 k.1))
 
   -- a listed polygon has the content that is found for its key
   listed_body : (key : PolygonKey) (e : PolygonKey × Option BodyP) → e ≡ (key, polygon_body records key) → polygon_body records e.0 ≡ e.1
   listed_body key e h = ap (λ (x : PolygonKey × Option BodyP). polygon_body records x.0) h ∙ sym (ap (λ (x : PolygonKey × Option BodyP). x.1) h)
 
-  from_packed : (z : FieldsP) → Among z packed_ps → Among z (ps records)
+  from_packed : (z : FieldsP) → Among z packed_ps → Among z (of_type_p records)
   from_packed z m =
       let e = in_filter_map packed_p z (polygons_of records) m in
       let d = among-unmap (λ key. (key, polygon_body records key)) e.0 (distinct key_cmp all_keys) e.1 in
       let p = packed_key e.0.0 e.0.1 z e.2 in
       let found : polygon_body records e.0.0 ≡ Some p.0 = listed_body d.0 e.0 d.2 ∙ p.1 in
-      let r = first_body e.0.0 p.0 (ps records) found in
+      let r = first_body e.0.0 p.0 (of_type_p records) found in
       let same : z ≡ r.0 = p.2 ∙ (λ i. record { cenid = (r.2 i).0; polyid = (r.2 i).1; body = sym r.3 i }) in
-      subst (λ y. Among y (ps records)) (sym same) r.1
+      subst (λ y. Among y (of_type_p records)) (sym same) r.1
 
-  to_packed : (r : FieldsP) → Among r (ps records) → Among r packed_ps
+  to_packed : (r : FieldsP) → Among r (of_type_p records) → Among r packed_ps
   to_packed r m =
-      let known : Known key_cmp all_keys (p_key r) = known-right key_keys (p_key r) (flat_map side_keys (is records)) (map p_key (ps records)) (among_known key_keys (p_key r) (map p_key (ps records)) (among-map p_key r (ps records) m)) in
+      let known : Known key_cmp all_keys (p_key r) = known-right key_keys (p_key r) (flat_map side_keys (of_type_i records)) (map p_key (of_type_p records)) (among_known key_keys (p_key r) (map p_key (of_type_p records)) (among-map p_key r (of_type_p records) m)) in
       let there : Among (p_key r) (distinct key_cmp all_keys) = known_is_among key_keys (p_key r) (distinct key_cmp all_keys) (known-distinct key_keys all_keys (p_key r) known) in
       to_filter_map packed_p (p_key r, polygon_body records (p_key r)) r (polygons_of records)
       (among-map (λ key. (key, polygon_body records key)) (p_key r) (distinct key_cmp all_keys) there)
-      (ap (packed_body (p_key r)) (body_found r (ps records) ps_apart m))
+      (ap (packed_body (p_key r)) (body_found r (of_type_p records) ps_apart m))
 
   -- a POLYID of type P stands under one CENID
-  one_cenid : (x y : FieldsP) → Among x (ps records) → Among y (ps records) → x.polyid ≡ y.polyid → p_key x ≡ p_key y
+  one_cenid : (x y : FieldsP) → Among x (of_type_p records) → Among y (of_type_p records) → x.polyid ≡ y.polyid → p_key x ≡ p_key y
   one_cenid x y m n e =
-      let side : (z : FieldsP) → Among z (ps records) → Among (p_key z) (polygons_along (county_of records).chains) =
-      λ z l. let known : Known key_cmp all_keys (p_key z) = known-right key_keys (p_key z) (flat_map side_keys (is records)) (map p_key (ps records)) (among_known key_keys (p_key z) (map p_key (ps records)) (among-map p_key z (ps records) l)) in
+      let side : (z : FieldsP) → Among z (of_type_p records) → Among (p_key z) (polygons_along (county_of records).chains) =
+      λ z l. let known : Known key_cmp all_keys (p_key z) = known-right key_keys (p_key z) (flat_map side_keys (of_type_i records)) (map p_key (of_type_p records)) (among_known key_keys (p_key z) (map p_key (of_type_p records)) (among-map p_key z (of_type_p records) l)) in
       let listed : Known key_cmp (polygon_keys (county_of records)) (p_key z) = subst (λ ks. Known key_cmp ks (p_key z)) (sym (keys-county records linked)) (known-distinct key_keys all_keys (p_key z) known) in
       known_is_among key_keys (p_key z) (polygons_along (county_of records).chains) (ltb-true 0 (times key_cmp (p_key z) (polygons_along (county_of records).chains)) (known_all key_keys (λ k. IsTrue (stands_in key_cmp k (polygons_along (county_of records).chains))) (polygon_keys (county_of records)) tidy.on_sides (p_key z) listed)) in
       all_among (λ other. (p_key x).1 ≡ other.1 → p_key x ≡ other) (p_key y) (polygons_along (county_of records).chains)
@@ -152,13 +152,13 @@ module _ (records : List Record) (linked : IsLinked records) (order : StandsInOr
       let u : times key_cmp k (distinct key_cmp all_keys) ≤ 1 = apart-distinct key_keys all_keys k in
       omega arith
 
-  pub ps_back : in_order (on p_polyid nat_cmp) packed_ps ≡ ps records
+  pub ps_back : in_order (on p_polyid nat_cmp) packed_ps ≡ of_type_p records
   ps_back =
       let sorted : List FieldsP = in_order (on p_polyid nat_cmp) packed_ps in
-      let inside : (z : FieldsP) → Among z (in_order (on p_polyid nat_cmp) packed_ps) → Among z (ps records) = λ z m. from_packed z (from_in_order (on p_polyid nat_cmp) packed_ps z m) in
-      strict-equal nat_cmp_total p_polyid (in_order (on p_polyid nat_cmp) packed_ps) (ps records)
+      let inside : (z : FieldsP) → Among z (in_order (on p_polyid nat_cmp) packed_ps) → Among z (of_type_p records) = λ z m. from_packed z (from_in_order (on p_polyid nat_cmp) packed_ps z m) in
+      strict-equal nat_cmp_total p_polyid (in_order (on p_polyid nat_cmp) packed_ps) (of_type_p records)
       (strict_from_keys key_keys p_polyid p_key (in_order (on p_polyid nat_cmp) packed_ps) (in_order-in_order (on_total p_polyid nat_cmp_total) packed_ps) packed_apart (λ x y m n. one_cenid x y (inside x m) (inside y n)))
-      (strict_from_keys key_keys p_polyid p_key (ps records) order.ps ps_apart one_cenid)
+      (strict_from_keys key_keys p_polyid p_key (of_type_p records) order.of_type_p ps_apart one_cenid)
       inside
       (λ z m. to_in_order (on p_polyid nat_cmp) packed_ps z (to_packed z m))
 
@@ -168,15 +168,15 @@ tidy_is_packed records linked order full tidy = order.types ∙ ap type_after_ty
   where
     same : by_type records ≡ packed_by_type (county_of records)
     same = λ i. record {
-      ones = sym (ones_back records linked order full) i;
-      twos = sym (twos_back records linked order full) i;
-      fours = sym (fours_back records linked order full) i;
-      fives = sym (fives_back records linked order full) i;
-      sixes = sym (sixes_back records linked order full) i;
-      sevens = sym (sevens_back records linked order full) i;
-      eights = sym (in_order-itself link_cmp (eights records) order.eights) i;
-      is = sym (is_back records linked order full) i;
-      ps = sym (ps_back records linked order tidy) i;
+      of_type_1 = sym (ones_back records linked order full) i;
+      of_type_2 = sym (twos_back records linked order full) i;
+      of_type_4 = sym (fours_back records linked order full) i;
+      of_type_5 = sym (fives_back records linked order full) i;
+      of_type_6 = sym (sixes_back records linked order full) i;
+      of_type_7 = sym (sevens_back records linked order full) i;
+      of_type_8 = sym (in_order-itself link_cmp (of_type_8 records) order.of_type_8) i;
+      of_type_i = sym (is_back records linked order full) i;
+      of_type_p = sym (ps_back records linked order tidy) i;
     }
 
 pub tidy_list_is_packed : (records : List Record) → IsTidyList records → records ≡ packed (county_of records)

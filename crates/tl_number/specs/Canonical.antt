@@ -5,7 +5,7 @@ use Rattle.std.specs.Ordering.{nat_cmp, on, then_cmp, ordering_then}
 use Rattle.tl_layout.specs.Fields.{Fields7}
 use Rattle.tl_layout.specs.declared.record_type.Record.{Record}
 use Rattle.tl_county.specs.BodyOrder.{landmark_body_cmp, link_cmp}
-use Rattle.tl_county.specs.ByType.{ones, twos, fours, fives, sixes, sevens, eights, is, ps, of_number}
+use Rattle.tl_layout.specs.ByType.{of_type_1, of_type_2, of_type_4, of_type_5, of_type_6, of_type_7, of_type_8, of_type_i, of_type_p, of_number}
 use Rattle.std.specs.List.{AllByRecursion}
 use Rattle.tl_county.specs.CountyRules.{tlids}
 use Rattle.tl_county.specs.Renumbering.{Renumbering, image}
@@ -19,15 +19,15 @@ use Rattle.tl_number.specs.Tidy.{IsTidy, IsLeast}
 -- the records of each type of a list
 abbrev pub by_type : List Record → Typed
 by_type records = record {
-  ones = ones records;
-  twos = twos records;
-  fours = fours records;
-  fives = fives records;
-  sixes = sixes records;
-  sevens = sevens records;
-  eights = eights records;
-  is = is records;
-  ps = ps records;
+  of_type_1 = of_type_1 records;
+  of_type_2 = of_type_2 records;
+  of_type_4 = of_type_4 records;
+  of_type_5 = of_type_5 records;
+  of_type_6 = of_type_6 records;
+  of_type_7 = of_type_7 records;
+  of_type_8 = of_type_8 records;
+  of_type_i = of_type_i records;
+  of_type_p = of_type_p records;
 }
 
 -- by LAND, then by the body
@@ -38,15 +38,15 @@ seven_cmp a b = ordering_then (nat_cmp a.land b.land) (landmark_body_cmp a.body 
 -- then body; 8 by LAND, POLYID, CENID, FILE; P by POLYID.
 pub record StandsInOrder (records : List Record) : Type 0 where
   pub types : records ≡ type_after_type (by_type records)
-  pub ones : IsInOrder (on one_tlid nat_cmp) (ones records)
-  pub twos : IsInOrder (then_cmp (on two_tlid nat_cmp) (on two_rtsq nat_cmp)) (twos records)
-  pub fours : IsInOrder (then_cmp (on four_tlid nat_cmp) (on four_rtsq nat_cmp)) (fours records)
-  pub fives : IsInOrder (on five_feat nat_cmp) (fives records)
-  pub sixes : IsInOrder (then_cmp (on six_tlid nat_cmp) (on six_rtsq nat_cmp)) (sixes records)
-  pub sevens : IsInOrder seven_cmp (sevens records)
-  pub eights : IsInOrder link_cmp (eights records)
-  pub is : IsInOrder (on i_tlid nat_cmp) (is records)
-  pub ps : IsInOrder (on p_polyid nat_cmp) (ps records)
+  pub of_type_1 : IsInOrder (on one_tlid nat_cmp) (of_type_1 records)
+  pub of_type_2 : IsInOrder (then_cmp (on two_tlid nat_cmp) (on two_rtsq nat_cmp)) (of_type_2 records)
+  pub of_type_4 : IsInOrder (then_cmp (on four_tlid nat_cmp) (on four_rtsq nat_cmp)) (of_type_4 records)
+  pub of_type_5 : IsInOrder (on five_feat nat_cmp) (of_type_5 records)
+  pub of_type_6 : IsInOrder (then_cmp (on six_tlid nat_cmp) (on six_rtsq nat_cmp)) (of_type_6 records)
+  pub of_type_7 : IsInOrder seven_cmp (of_type_7 records)
+  pub of_type_8 : IsInOrder link_cmp (of_type_8 records)
+  pub of_type_i : IsInOrder (on i_tlid nat_cmp) (of_type_i records)
+  pub of_type_p : IsInOrder (on p_polyid nat_cmp) (of_type_p records)
 
 -- each list has n elements but for the last, which has at least one and at most n
 abbrev pub AreFull : {X : Type 0} → ℕ → List (List X) → Type 0
@@ -56,11 +56,11 @@ AreFull n (xs ∷ ys ∷ rest) = (length xs ≡ n) × AreFull n (ys ∷ rest)
 
 -- Of each chain the records of types 2 and 4 are full but for the last, and those of types 2, 4 and 6 have the RTSQs 1, 2, 3, ..
 pub record IsPacked (records : List Record) : Type 0 where
-  pub points : (tlid : ℕ) → AreFull 10 (map (λ r. r.points) (of_number two_tlid tlid (twos records)))
-  pub feats : (tlid : ℕ) → AreFull 5 (map (λ r. r.feats) (of_number four_tlid tlid (fours records)))
-  pub two_rtsqs : (tlid : ℕ) → map two_rtsq (of_number two_tlid tlid (twos records)) ≡ up_to (length (of_number two_tlid tlid (twos records)))
-  pub four_rtsqs : (tlid : ℕ) → map four_rtsq (of_number four_tlid tlid (fours records)) ≡ up_to (length (of_number four_tlid tlid (fours records)))
-  pub six_rtsqs : (tlid : ℕ) → map six_rtsq (of_number six_tlid tlid (sixes records)) ≡ up_to (length (of_number six_tlid tlid (sixes records)))
+  pub points : (tlid : ℕ) → AreFull 10 (map (λ r. r.points) (of_number two_tlid tlid (of_type_2 records)))
+  pub feats : (tlid : ℕ) → AreFull 5 (map (λ r. r.feats) (of_number four_tlid tlid (of_type_4 records)))
+  pub two_rtsqs : (tlid : ℕ) → map two_rtsq (of_number two_tlid tlid (of_type_2 records)) ≡ up_to (length (of_number two_tlid tlid (of_type_2 records)))
+  pub four_rtsqs : (tlid : ℕ) → map four_rtsq (of_number four_tlid tlid (of_type_4 records)) ≡ up_to (length (of_number four_tlid tlid (of_type_4 records)))
+  pub six_rtsqs : (tlid : ℕ) → map six_rtsq (of_number six_tlid tlid (of_type_6 records)) ≡ up_to (length (of_number six_tlid tlid (of_type_6 records)))
 
 -- A list of records in the canonical order, packing and numbering, but for the choice of TLIDs and directions.
 pub record IsTidyList (records : List Record) : Type 0 where

@@ -91,31 +91,31 @@ p_polyid r = r.polyid
 
 -- records of each type, the types in the order 1, 2, 4, 5, 6, 7, 8, I, P
 pub record Typed : Type 0 where
-  pub ones : List Fields1
-  pub twos : List Fields2
-  pub fours : List Fields4
-  pub fives : List Fields5
-  pub sixes : List Fields6
-  pub sevens : List Fields7
-  pub eights : List Fields8
-  pub is : List FieldsI
-  pub ps : List FieldsP
+  pub of_type_1 : List Fields1
+  pub of_type_2 : List Fields2
+  pub of_type_4 : List Fields4
+  pub of_type_5 : List Fields5
+  pub of_type_6 : List Fields6
+  pub of_type_7 : List Fields7
+  pub of_type_8 : List Fields8
+  pub of_type_i : List FieldsI
+  pub of_type_p : List FieldsP
 
 abbrev pub type_after_type : Typed → List Record
-type_after_type t = map One t.ones ++ (map Two t.twos ++ (map Four t.fours ++ (map Five t.fives ++ (map Six t.sixes ++ (map Seven t.sevens ++ (map Eight t.eights ++ (map I t.is ++ map P t.ps)))))))
+type_after_type t = map One t.of_type_1 ++ (map Two t.of_type_2 ++ (map Four t.of_type_4 ++ (map Five t.of_type_5 ++ (map Six t.of_type_6 ++ (map Seven t.of_type_7 ++ (map Eight t.of_type_8 ++ (map I t.of_type_i ++ map P t.of_type_p)))))))
 
 -- the records of a county: chain by chain, name by name, landmark by landmark, polygons by POLYID
 abbrev pub packed_by_type : County → Typed
 packed_by_type county = record {
-  ones = map packed_one county.chains;
-  twos = flat_map packed_twos county.chains;
-  fours = flat_map packed_fours county.chains;
-  fives = map packed_five county.names;
-  sixes = flat_map packed_sixes county.chains;
-  sevens = flat_map packed_sevens county.landmarks;
-  eights = county.links;
-  is = map packed_i county.chains;
-  ps = in_order (on p_polyid nat_cmp) (filter_map packed_p county.polygons);
+  of_type_1 = map packed_one county.chains;
+  of_type_2 = flat_map packed_twos county.chains;
+  of_type_4 = flat_map packed_fours county.chains;
+  of_type_5 = map packed_five county.names;
+  of_type_6 = flat_map packed_sixes county.chains;
+  of_type_7 = flat_map packed_sevens county.landmarks;
+  of_type_8 = county.links;
+  of_type_i = map packed_i county.chains;
+  of_type_p = in_order (on p_polyid nat_cmp) (filter_map packed_p county.polygons);
 }
 
 abbrev pub packed : County → List Record
