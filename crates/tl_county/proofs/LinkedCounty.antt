@@ -1,30 +1,36 @@
 -- The county of a linked list of records: its numbers ascend, and each number that it names is there.
-use Rattle.std.proofs.Common.{◌≡◌, ◌<◌, ◌≤◌, ℕ, nat_lt, List, [], ◌∷◌, ◌++◌, map, flat_map, Bool, true, false, not, ◌&&◌, IsTrue, sym, refl, ap, ◌∙◌, subst, arith, nat_cmp, map-id}
-use Rattle.std.proofs.lemmas.Bool.{false≢true, ltb-true, ltb-false, lt-ltb}
+use Rattle.std.proofs.Common.{◌≡◌, ◌⊎◌, ◌<◌, ◌≤◌, ◌+◌, ◌==◌, ◌||◌, ℕ, suc, nat_lt, length, length-append, filter, cond, is_eq, is_gt, is_some, inl, inr, Ordering, Option, List, [], ◌∷◌, ◌++◌, map, flat_map, Bool, true, false, not, ◌&&◌, IsTrue, sym, refl, ap, ◌∙◌, subst, arith, nat_cmp, map-id}
+use Rattle.std.proofs.lemmas.Bool.{false≢true, ltb-true, ltb-false, lt-ltb, or_left, or_right, eq-eqb}
 use Rattle.std.proofs.lemmas.Cmp.{nat_cmp_total, on_total}
+use Rattle.std.proofs.lemmas.List.{length-map}
 use Rattle.std.specs.List.{AllByRecursion}
 use Rattle.std.specs.List.Sorted.{IsStrictlySortedBy}
 use Rattle.std.specs.Ordering.{on}
 use Rattle.tl_layout.specs.Fields.{Fields1, Fields4, Fields5, Fields7, Fields8, FieldsI}
 use Rattle.tl_layout.specs.declared.record_type.Record.{Record}
-use Rattle.tl_county.specs.declared.fault.LinkFault.TheVariants.{ChainTwice, LinkMissing, LinkTwice, NameTwice, NameUnknown, LandUnknown, PolygonUnknown}
+use Rattle.tl_county.specs.declared.fault.LinkFault.TheVariants.{ChainTwice, NoChain, LinkMissing, LinkTwice, NameTwice, NameUnknown, LandUnknown, PolygonUnknown}
+use Rattle.tl_county.specs.declared.fault.LinkedType.TheVariants.{I}
+use Rattle.tl_layout.specs.Fields.{FieldsP}
+use Rattle.tl_layout.specs.declared.type7.Body7.{Body7}
+use Rattle.tl_layout.specs.declared.type_p.BodyP.{BodyP}
 use Rattle.tl_county.specs.BodyOrder.{landmark_body_cmp, link_cmp}
 use Rattle.tl_layout.specs.ByType.{of_type_1, of_type_4, of_type_5, of_type_7, of_type_8, of_type_i, of_type_p, of_number}
 use Rattle.tl_shape.specs.Chain.{Chain}
-use Rattle.tl_county.specs.County.{one_tlid, four_tlid, four_rtsq, five_feat, seven_land, eight_land, eight_key, i_tlid, p_key, further_names, chain_of, chains_of, side_keys, polygon_body, county_of}
-use Rattle.tl_county.specs.CountyRules.{IsCounty, tlids, feats, polygon_keys, lands, chain_polygons, link_key, AllStandIn, AllKeysStandIn}
+use Rattle.tl_county.specs.County.{one_tlid, four_tlid, four_rtsq, five_feat, seven_land, eight_land, eight_key, i_tlid, p_key, first, shape_points, further_names, chain_of, chains_of, side_keys, polygon_body, county_of}
+use Rattle.tl_county.specs.CountyRules.{IsCounty, IsWhole, tlids, feats, polygon_keys, lands, chain_polygons, polygons_along, link_key, AllStandIn, AllKeysStandIn}
 use Rattle.tl_county.specs.LinkRules.{IsLinked, chain_tlids, named_feats}
-use Rattle.tl_county.specs.Orders.{times, stands_in, in_order, distinct}
+use Rattle.tl_county.specs.Orders.{times, stands_in, put_in_order, in_order, distinct}
 use Rattle.tl_county.specs.PolygonKeys.{PolygonKey, key_cmp}
 use Rattle.tl_county.proofs.Carried.{among-unpieces}
-use Rattle.tl_county.proofs.Distinct.{known-distinct}
+use Rattle.tl_county.proofs.Distinct.{known-distinct, known_from_distinct}
 use Rattle.tl_county.proofs.FirstFault.{Among}
 use Rattle.tl_county.proofs.InOrder.{in_order-in_order, in_order-map}
 use Rattle.tl_county.proofs.KeyOrders.{key_keys, landmark_body_keys, link_keys}
-use Rattle.tl_county.proofs.Keys.{Known, IsApart, nat_keys, known-left}
+use Rattle.tl_county.proofs.Keys.{Known, IsApart, nat_keys, known-left, known-append, all_known, times-no}
 use Rattle.tl_county.proofs.Lists.{map-map, all_weaker, all_everywhere, all_map, all_joined}
-use Rattle.tl_county.proofs.Members.{among-map, among-pieces, among_known}
-use Rattle.tl_county.proofs.Numbers.{all_themselves, times-of_number, only_one, of_number-among, times-in_order, all-in_order, from_in_order, strict_from_order, distinct-strict}
+use Rattle.tl_county.proofs.Members.{among-map, among-unmap, among-pieces, among_known, known_is_among}
+use Rattle.tl_county.proofs.Reordered.{to_filter}
+use Rattle.tl_county.proofs.Numbers.{all_themselves, times-of_number, only_one, of_number-among, times-in_order, all-in_order, from_in_order, to_in_order, strict_from_order, distinct-strict}
 
 -- of two tests that don't both hold, the second fails where the first holds
 pub needed : (a b : Bool) → (a && not b) ≡ false → a ≡ true → b ≡ true
@@ -32,8 +38,29 @@ needed a true e t = refl
 needed true false e t = absurd (false≢true (sym e))
 needed false false e t = absurd (false≢true t)
 
-each_from : {X : Type 0} (P : X → Type 0) (xs : List X) → ((x : X) → Among x xs → P x) → AllByRecursion P xs
+pub each_from : {X : Type 0} (P : X → Type 0) (xs : List X) → ((x : X) → Among x xs → P x) → AllByRecursion P xs
 each_from P xs h = all_weaker (λ x. Among x xs) P h xs (all_themselves xs)
+
+length-put : {X : Type 0} (by : X → X → Ordering) (x : X) (ys : List X) → length (put_in_order by x ys) ≡ suc (length ys)
+length-put by x [] = refl
+length-put {X} by x (y ∷ ys) = go (is_gt (by x y)) (length-put by x ys)
+  where
+    go : (b : Bool) → length (put_in_order by x ys) ≡ suc (length ys) → length (cond b (y ∷ put_in_order by x ys) (x ∷ y ∷ ys)) ≡ suc (suc (length ys))
+    go true ih = ap suc ih
+    go false ih = refl
+
+pub length-in_order : {X : Type 0} (by : X → X → Ordering) (xs : List X) → length (in_order by xs) ≡ length xs
+length-in_order by [] = refl
+length-in_order by (x ∷ xs) = length-put by x (in_order by xs) ∙ ap suc (length-in_order by xs)
+
+-- a polygon that has a type P record has content
+some_body : (key : PolygonKey) (rs : List FieldsP) → Known key_cmp (map p_key rs) key → is_some (first (map (λ (r : FieldsP). r.body) (filter (λ r. is_eq (key_cmp key (p_key r))) rs))) ≡ true
+some_body key [] k = absurd (omega (arith, k))
+some_body key (r ∷ rs) k = go (is_eq (key_cmp key (p_key r))) refl (some_body key rs)
+  where
+    go : (b : Bool) → is_eq (key_cmp key (p_key r)) ≡ b → (Known key_cmp (map p_key rs) key → is_some (first (map (λ (q : FieldsP). q.body) (filter (λ q. is_eq (key_cmp key (p_key q))) rs))) ≡ true) → is_some (first (map (λ (q : FieldsP). q.body) (cond b (r ∷ filter (λ q. is_eq (key_cmp key (p_key q))) rs) (filter (λ q. is_eq (key_cmp key (p_key q))) rs)))) ≡ true
+    go true e ih = refl
+    go false e ih = ih (omega (arith, times-no key_keys key (p_key r) (map p_key rs) e, k))
 
 module _ (records : List Record) (linked : IsLinked records) where
   pub apart_chains : IsApart nat_cmp (chain_tlids records)
@@ -114,8 +141,52 @@ module _ (records : List Record) (linked : IsLinked records) where
       let t : stands_in key_cmp (link_key link) all_keys ≡ true = needed (stands_in key_cmp (link_key link) (map eight_key (of_type_8 records))) (stands_in key_cmp (link_key link) all_keys) (linked (PolygonUnknown link.cenid link.polyid)) (lt-ltb 0 (times key_cmp (link_key link) (map eight_key (of_type_8 records))) named) in
       key_stands (link_key link) (ltb-true 0 (times key_cmp (link_key link) all_keys) t)
 
+  -- each type I record is that of a chain of the county
+  linked_chain : (link : FieldsI) → Among link (of_type_i records) → (r : Fields1) × Among (r.tlid, chain_of records r link) (chains_of records)
+  linked_chain link m =
+      let named : Known nat_cmp (map i_tlid (of_type_i records)) link.tlid = among_known nat_keys link.tlid (map i_tlid (of_type_i records)) (among-map i_tlid link (of_type_i records) m) in
+      let t : stands_in nat_cmp link.tlid (chain_tlids records) ≡ true = needed (stands_in nat_cmp link.tlid (map i_tlid (of_type_i records))) (stands_in nat_cmp link.tlid (chain_tlids records)) (linked (NoChain I link.tlid)) (lt-ltb 0 (times nat_cmp link.tlid (map i_tlid (of_type_i records))) named) in
+      let r = among-unmap one_tlid link.tlid (of_type_1 records) (known_is_among nat_keys link.tlid (chain_tlids records) (ltb-true 0 (times nat_cmp link.tlid (chain_tlids records)) t)) in
+      let there : Among link (of_number i_tlid r.0.tlid (of_type_i records)) = to_filter (λ l. i_tlid l == r.0.tlid) link (of_type_i records) m (eq-eqb link.tlid r.0.tlid r.2) in
+      (r.0, among-pieces (λ (q : Fields1). map (λ l. (q.tlid, chain_of records q l)) (of_number i_tlid q.tlid (of_type_i records))) r.0 (r.0.tlid, chain_of records r.0 link) (in_order (on one_tlid nat_cmp) (of_type_1 records))
+          (to_in_order (on one_tlid nat_cmp) (of_type_1 records) r.0 r.1)
+          (among-map (λ l. (r.0.tlid, chain_of records r.0 l)) link (of_number i_tlid r.0.tlid (of_type_i records)) there))
+
+  polygon_whole : (key : PolygonKey) → Known key_cmp (distinct key_cmp all_keys) key → IsTrue (is_some (polygon_body records key) || stands_in key_cmp key (polygons_along (chains_of records)))
+  polygon_whole key k = go (known-append key_keys key (flat_map side_keys (of_type_i records)) (map p_key (of_type_p records)) (known_from_distinct key_keys all_keys key k))
+    where
+      go : Known key_cmp (flat_map side_keys (of_type_i records)) key ⊎ Known key_cmp (map p_key (of_type_p records)) key → IsTrue (is_some (polygon_body records key) || stands_in key_cmp key (polygons_along (chains_of records)))
+      go (inl side) =
+          let link = among-unpieces side_keys key (of_type_i records) (known_is_among key_keys key (flat_map side_keys (of_type_i records)) side) in
+          let chain = linked_chain link.0 link.1 in
+          let along : Among key (polygons_along (chains_of records)) = among-pieces (λ (entry : ℕ × Chain). chain_polygons entry.1) (chain.0.tlid, chain_of records chain.0 link.0) key (chains_of records) chain.1 link.2 in
+          or_right (is_some (polygon_body records key)) (stands_in key_cmp key (polygons_along (chains_of records))) (lt-ltb 0 (times key_cmp key (polygons_along (chains_of records))) (among_known key_keys key (polygons_along (chains_of records)) along))
+      go (inr body) = or_left (is_some (polygon_body records key)) (stands_in key_cmp key (polygons_along (chains_of records))) (some_body key (of_type_p records) body)
+
+  some_content : (land : ℕ) → Known nat_cmp (distinct nat_cmp (map seven_land (of_type_7 records))) land → 1 ≤ length (in_order landmark_body_cmp (map (λ (r : Fields7). r.body) (of_number seven_land land (of_type_7 records))))
+  some_content land k =
+      let known : 0 < times nat_cmp land (map seven_land (of_type_7 records)) = known_from_distinct nat_keys (map seven_land (of_type_7 records)) land k in
+      let bodies : List Body7 = map (λ (r : Fields7). r.body) (of_number seven_land land (of_type_7 records)) in
+      let put : length (in_order landmark_body_cmp bodies) ≡ length bodies = length-in_order landmark_body_cmp bodies in
+      let mapped : length bodies ≡ length (of_number seven_land land (of_type_7 records)) = length-map (of_number seven_land land (of_type_7 records)) (λ (r : Fields7). r.body) in
+      let counted : times nat_cmp land (map seven_land (of_type_7 records)) ≡ length (of_number seven_land land (of_type_7 records)) = times-of_number seven_land land (of_type_7 records) in
+      omega arith
+
+  some_points : (r : Fields1) → 2 ≤ length (r.start ∷ (shape_points records r.tlid ++ (r.end ∷ [])))
+  some_points r = let appended : length (shape_points records r.tlid ++ (r.end ∷ [])) ≡ length (shape_points records r.tlid) + 1 = length-append (shape_points records r.tlid) (r.end ∷ []) in omega arith
+
+  county_whole : IsWhole (county_of records)
+  county_whole = record {
+    points = chains_all (λ entry. 2 ≤ length entry.1.points) (λ r link m. some_points r);
+    bodies = all_map (λ (entry : ℕ × List Body7). 1 ≤ length entry.1) (λ land. (land, in_order landmark_body_cmp (map (λ (r : Fields7). r.body) (of_number seven_land land (of_type_7 records))))) (distinct nat_cmp (map seven_land (of_type_7 records)))
+        (all_known nat_keys (λ land. 1 ≤ length (in_order landmark_body_cmp (map (λ (r : Fields7). r.body) (of_number seven_land land (of_type_7 records))))) (distinct nat_cmp (map seven_land (of_type_7 records))) some_content);
+    polygons = all_map (λ (entry : PolygonKey × Option BodyP). IsTrue (is_some entry.1 || stands_in key_cmp entry.0 (polygons_along (chains_of records)))) (λ key. (key, polygon_body records key)) (distinct key_cmp all_keys)
+        (all_known key_keys (λ key. IsTrue (is_some (polygon_body records key) || stands_in key_cmp key (polygons_along (chains_of records)))) (distinct key_cmp all_keys) polygon_whole);
+  }
+
   pub county-is_county : IsCounty (county_of records)
   county-is_county = record {
+    whole = county_whole;
     ascending = record {
       chains = subst (IsStrictlySortedBy nat_cmp) (sym tlids-county) (strict_numbers one_tlid (of_type_1 records) apart_chains);
       names = subst (IsStrictlySortedBy nat_cmp) (sym feats-county) (strict_numbers five_feat (of_type_5 records) (λ n. ltb-false 1 (times nat_cmp n (map five_feat (of_type_5 records))) (linked (NameTwice n))));

@@ -1,5 +1,5 @@
 -- What holds of the county of each linked list of records: its numbers ascend, and each number that it names is there.
-use Rattle.std.specs.Prelude.{ℕ, List, ◌++◌, map, flat_map, IsTrue, option_to_list}
+use Rattle.std.specs.Prelude.{ℕ, List, ◌++◌, ◌≤◌, ◌||◌, map, flat_map, length, IsTrue, is_some, option_to_list}
 use Rattle.std.specs.List.{AllByRecursion}
 use Rattle.std.specs.List.Sorted.{IsStrictlySortedBy}
 use Rattle.std.specs.Ordering.{nat_cmp}
@@ -70,7 +70,14 @@ pub record IsClosed (county : County) : Type 0 where
   pub link_lands : AllByRecursion (λ link. IsTrue (stands_in nat_cmp link.land (lands county))) county.links
   pub link_polygons : AllByRecursion (λ link. IsTrue (stands_in key_cmp (link_key link) (polygon_keys county))) county.links
 
+-- a chain has a start and an end, a landmark has content, and a polygon has content or stands on a side
+pub record IsWhole (county : County) : Type 0 where
+  pub points : AllByRecursion (λ entry. 2 ≤ length entry.1.points) county.chains
+  pub bodies : AllByRecursion (λ entry. 1 ≤ length entry.1) county.landmarks
+  pub polygons : AllByRecursion (λ entry. IsTrue (is_some entry.1 || stands_in key_cmp entry.0 (polygons_along county.chains))) county.polygons
+
 -- a county as linking makes it
 pub record IsCounty (county : County) : Type 0 where
   pub ascending : IsAscending county
   pub closed : IsClosed county
+  pub whole : IsWhole county

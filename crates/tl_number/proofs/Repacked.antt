@@ -33,12 +33,12 @@ use Rattle.tl_number.proofs.Counting.{up_to-strict}
 use Rattle.tl_number.proofs.Grouping.{in_order-weaker, then-first, then-second, in_order-filter, in_order-from_strict, grouped, pieces-joined, rtsqs-back}
 
 -- the points between the ends, and the last one
-inner_back : (s : Coordinates) (of_type_p : List Coordinates) (e : Coordinates) → without_last (of_type_p ++ (e ∷ [])) ≡ of_type_p
+inner_back : (s : Coordinates) (ps : List Coordinates) (e : Coordinates) → without_last (ps ++ (e ∷ [])) ≡ ps
 inner_back s [] e = refl
 inner_back s (p ∷ []) e = refl
 inner_back s (p ∷ q ∷ ps) e = ap (λ rs. p ∷ rs) (inner_back s (q ∷ ps) e)
 
-last_back : (s : Coordinates) (of_type_p : List Coordinates) (e : Coordinates) → last_point (s ∷ (of_type_p ++ (e ∷ []))) ≡ e
+last_back : (s : Coordinates) (ps : List Coordinates) (e : Coordinates) → last_point (s ∷ (ps ++ (e ∷ []))) ≡ e
 last_back s [] e = refl
 last_back s (p ∷ ps) e = last_back p ps e
 
@@ -138,7 +138,7 @@ module _ (records : List Record) (linked : IsLinked records) where
         let rs : List Fields2 = of_number two_tlid r.tlid (of_type_2 records) in
         ap (λ ps. map (λ (p : ℕ × List Coordinates). record { tlid = r.tlid; rtsq = p.0; points = p.1 }) (with_rtsqs 1 (in_pieces 10 ps))) (inner_back r.start (shape_points records r.tlid) r.end)
         ∙ ap (λ ls. map (λ (p : ℕ × List Coordinates). record { tlid = r.tlid; rtsq = p.0; points = p.1 }) (with_rtsqs 1 ls)) (two_pieces r.tlid)
-        ∙ rtsqs-back two_tlid two_rtsq (λ (q : Fields2). q.points) (λ t i of_type_p. record { tlid = t; rtsq = i; points = of_type_p }) (λ q. refl) r.tlid 1 rs (of_number-all two_tlid r.tlid (of_type_2 records)) (full.two_rtsqs r.tlid)
+        ∙ rtsqs-back two_tlid two_rtsq (λ (q : Fields2). q.points) (λ t i content. record { tlid = t; rtsq = i; points = content }) (λ q. refl) r.tlid 1 rs (of_number-all two_tlid r.tlid (of_type_2 records)) (full.two_rtsqs r.tlid)
 
     pub twos_back : flat_map packed_twos (chains_of records) ≡ of_type_2 records
     unfolding chain_entries
@@ -158,7 +158,7 @@ module _ (records : List Record) (linked : IsLinked records) where
     fours_of r link =
         let rs : List Fields4 = of_number four_tlid r.tlid (of_type_4 records) in
         ap (λ ls. map (λ (p : ℕ × List ℕ). record { tlid = r.tlid; rtsq = p.0; feats = p.1 }) (with_rtsqs 1 ls)) (four_pieces r.tlid)
-        ∙ rtsqs-back four_tlid four_rtsq (λ (q : Fields4). q.feats) (λ t i of_type_p. record { tlid = t; rtsq = i; feats = of_type_p }) (λ q. refl) r.tlid 1 rs (of_number-all four_tlid r.tlid (of_type_4 records)) (full.four_rtsqs r.tlid)
+        ∙ rtsqs-back four_tlid four_rtsq (λ (q : Fields4). q.feats) (λ t i content. record { tlid = t; rtsq = i; feats = content }) (λ q. refl) r.tlid 1 rs (of_number-all four_tlid r.tlid (of_type_4 records)) (full.four_rtsqs r.tlid)
 
     pub fours_back : flat_map packed_fours (chains_of records) ≡ of_type_4 records
     unfolding chain_entries
@@ -172,7 +172,7 @@ module _ (records : List Record) (linked : IsLinked records) where
     sixes_of r link =
         let rs : List Fields6 = of_number six_tlid r.tlid (of_type_6 records) in
         ap (λ qs. map (λ (p : ℕ × Ranges). record { tlid = r.tlid; rtsq = p.0; ranges = p.1 }) (with_rtsqs 1 (map (λ (q : Fields6). q.ranges) qs))) (rtsq_order six_rtsq rs (full.six_rtsqs r.tlid))
-        ∙ rtsqs-back six_tlid six_rtsq (λ (q : Fields6). q.ranges) (λ t i of_type_p. record { tlid = t; rtsq = i; ranges = of_type_p }) (λ q. refl) r.tlid 1 rs (of_number-all six_tlid r.tlid (of_type_6 records)) (full.six_rtsqs r.tlid)
+        ∙ rtsqs-back six_tlid six_rtsq (λ (q : Fields6). q.ranges) (λ t i content. record { tlid = t; rtsq = i; ranges = content }) (λ q. refl) r.tlid 1 rs (of_number-all six_tlid r.tlid (of_type_6 records)) (full.six_rtsqs r.tlid)
 
     pub sixes_back : flat_map packed_sixes (chains_of records) ≡ of_type_6 records
     unfolding chain_entries
