@@ -7,3 +7,5 @@ pub mod Renumbering
 pub mod FirstOf
 pub mod LinkRules
 pub mod Repacked
+pub mod Packing
+pub mod Limits

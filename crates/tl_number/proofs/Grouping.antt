@@ -10,7 +10,7 @@ use Rattle.tl_county.specs.Orders.{IsInOrder}
 use Rattle.tl_county.proofs.Keys.{Known, nat_keys, known_cases, known_all}
 use Rattle.tl_county.proofs.Lists.{all_weaker, all_filter}
 use Rattle.tl_number.specs.Canonical.{AreFull}
-use Rattle.tl_number.specs.Packing.{pieces, with_rtsqs}
+use Rattle.tl_county.specs.Packing.{pieces, with_rtsqs}
 
 below : (m n : ℕ) → nat_cmp m n ≡ Less → m < n
 below m n e = ranked m n Less (sym e)

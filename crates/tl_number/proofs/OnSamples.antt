@@ -10,7 +10,7 @@ use Rattle.tl_county.specs.Renumbering.{Renumbering, AreSame}
 use Rattle.tl_county.proofs.LinkFaults.{linked_computed}
 use Rattle.tl_county.proofs.Samples.{there, canonical_there, canonical_shaped, canonical_polygons, canonical_named, canonical_schools, canonical_meeting, points_up}
 use Rattle.tl_number.specs.Canonical.{IsCanonical, AreFull}
-use Rattle.tl_number.specs.Packing.{packed}
+use Rattle.tl_county.specs.Packing.{packed}
 use Rattle.tl_number.specs.Tidy.{IsTidy}
 
 -- the packing of these counties

@@ -28,7 +28,7 @@ use Rattle.std.proofs.lemmas.Bool.{ltb-true, lt-ltb}
 use Rattle.tl_county.proofs.InOrder.{in_order-map}
 use Rattle.tl_number.specs.Canonical.{StandsInOrder, IsPacked, seven_cmp}
 use Rattle.tl_number.specs.Growth.{up_to}
-use Rattle.tl_number.specs.Packing.{in_pieces, with_rtsqs, last_point, without_last, packed_one, packed_twos, packed_fours, packed_sixes, packed_i, packed_five, packed_sevens}
+use Rattle.tl_county.specs.Packing.{in_pieces, with_rtsqs, last_point, without_last, packed_one, packed_twos, packed_fours, packed_sixes, packed_i, packed_five, packed_sevens}
 use Rattle.tl_number.proofs.Counting.{up_to-strict}
 use Rattle.tl_number.proofs.Grouping.{in_order-weaker, then-first, then-second, in_order-filter, in_order-from_strict, grouped, pieces-joined, rtsqs-back}
 

@@ -24,8 +24,8 @@ use Rattle.tl_county.proofs.Keys.{IsKeyOrder, Known, IsApart, nat_keys, times-ye
 use Rattle.tl_county.proofs.LinkedCounty.{keys-county}
 use Rattle.tl_county.proofs.Members.{among-map, among-unmap, among_known, known_is_among, in_filter_map, to_filter_map}
 use Rattle.tl_county.proofs.Numbers.{times-in_order, from_in_order, to_in_order}
-use Rattle.tl_number.specs.Canonical.{IsTidyList, StandsInOrder, IsPacked, by_type}
-use Rattle.tl_number.specs.Packing.{type_after_type, packed_body, packed_p, p_polyid, packed, packed_by_type}
+use Rattle.tl_number.specs.Canonical.{IsTidyList, StandsInOrder, IsPacked}
+use Rattle.tl_county.specs.Packing.{by_type, type_after_type, packed_body, packed_p, p_polyid, packed, packed_by_type}
 use Rattle.tl_number.specs.Tidy.{IsTidy}
 use Rattle.tl_number.proofs.Repacked.{ones_back, twos_back, fours_back, fives_back, sixes_back, sevens_back, is_back}
 

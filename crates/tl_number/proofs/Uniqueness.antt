@@ -8,7 +8,7 @@ use Rattle.tl_county.specs.Renumbering.{Renumbering, Carries, AreSame, image}
 use Rattle.tl_county.proofs.Keys.{nat_keys, known_all}
 use Rattle.tl_county.proofs.LinkedCounty.{county-is_county}
 use Rattle.tl_number.specs.Canonical.{IsTidyList, IsCanonical, KeepsChainNumbers}
-use Rattle.tl_number.specs.Packing.{packed}
+use Rattle.tl_county.specs.Packing.{packed}
 use Rattle.tl_number.proofs.RepackedPolygons.{tidy_list_is_packed}
 use Rattle.tl_number.proofs.Rigid.{rigid, least_equal}
 

@@ -13,22 +13,8 @@ use Rattle.tl_county.specs.County.{County, county_of, one_tlid, two_tlid, two_rt
 use Rattle.tl_county.specs.LinkRules.{IsLinked}
 use Rattle.tl_county.specs.Orders.{IsInOrder}
 use Rattle.tl_number.specs.Growth.{up_to}
-use Rattle.tl_number.specs.Packing.{Typed, type_after_type, p_polyid}
+use Rattle.tl_county.specs.Packing.{by_type, type_after_type, p_polyid}
 use Rattle.tl_number.specs.Tidy.{IsTidy, IsLeast}
-
--- the records of each type of a list
-abbrev pub by_type : List Record → Typed
-by_type records = record {
-  of_type_1 = of_type_1 records;
-  of_type_2 = of_type_2 records;
-  of_type_4 = of_type_4 records;
-  of_type_5 = of_type_5 records;
-  of_type_6 = of_type_6 records;
-  of_type_7 = of_type_7 records;
-  of_type_8 = of_type_8 records;
-  of_type_i = of_type_i records;
-  of_type_p = of_type_p records;
-}
 
 -- by LAND, then by the body
 abbrev pub seven_cmp : Fields7 → Fields7 → Ordering

@@ -6,7 +6,7 @@ ghost use Rattle.tl_county.specs.Renumbering.{AreSame, Carries, Renumbering};
 ghost use Rattle.tl_layout.specs.declared.record_type.Record.{Record};
 ghost use Rattle.tl_number.specs.Accepted.{IsAccepted, IsCanonicalOf, IsRefusal, Refusal};
 ghost use Rattle.tl_number.specs.Canonical.{IsCanonical, IsTidyList, KeepsChainNumbers};
-ghost use Rattle.tl_number.specs.Packing.{packed};
+ghost use Rattle.tl_county.specs.Packing.{packed};
 
 /// A list in the canonical order, packing and numbering is the packing of its county, whatever the choice of TLIDs and
 /// directions.

@@ -9,6 +9,7 @@ use Rattle.tl_layout.specs.declared.type5.Body5.{Body5}
 use Rattle.tl_layout.specs.declared.type7.Body7.{Body7}
 use Rattle.tl_layout.specs.declared.type_p.BodyP.{BodyP}
 use Rattle.tl_shape.specs.Chain.{Chain}
+use Rattle.tl_layout.specs.ByType.{of_type_1, of_type_2, of_type_4, of_type_5, of_type_6, of_type_7, of_type_8, of_type_i, of_type_p}
 use Rattle.tl_county.specs.County.{County}
 use Rattle.tl_county.specs.Orders.{in_order}
 use Rattle.tl_county.specs.PolygonKeys.{PolygonKey}
@@ -100,6 +101,20 @@ pub record Typed : Type 0 where
   pub of_type_8 : List Fields8
   pub of_type_i : List FieldsI
   pub of_type_p : List FieldsP
+
+-- the records of each type of a list
+abbrev pub by_type : List Record → Typed
+by_type records = record {
+  of_type_1 = of_type_1 records;
+  of_type_2 = of_type_2 records;
+  of_type_4 = of_type_4 records;
+  of_type_5 = of_type_5 records;
+  of_type_6 = of_type_6 records;
+  of_type_7 = of_type_7 records;
+  of_type_8 = of_type_8 records;
+  of_type_i = of_type_i records;
+  of_type_p = of_type_p records;
+}
 
 abbrev pub type_after_type : Typed → List Record
 type_after_type t = map One t.of_type_1 ++ (map Two t.of_type_2 ++ (map Four t.of_type_4 ++ (map Five t.of_type_5 ++ (map Six t.of_type_6 ++ (map Seven t.of_type_7 ++ (map Eight t.of_type_8 ++ (map I t.of_type_i ++ map P t.of_type_p)))))))
