@@ -15,3 +15,5 @@ pub mod OnSamples
 pub mod Reordered
 pub mod SameCounty
 pub mod Repacking
+pub mod Counted
+pub mod FitsPacked

@@ -122,12 +122,11 @@ module _ (records : List Record) (linked : IsLinked records) where
       (λ k n. key_stands k (known-left key_keys k (flat_map side_keys (of_type_i records)) (map p_key (of_type_p records)) (among_known key_keys k (flat_map side_keys (of_type_i records)) (among-pieces side_keys link k (of_type_i records) m n))))
 
   -- what holds of the chain of each pair of records holds of each chain of the county
-  chains_all : (P : ℕ × Chain → Type 0) → ((r : Fields1) (link : FieldsI) → Among link (of_type_i records) → P (r.tlid, chain_of records r link)) → AllByRecursion P (chains_of records)
+  pub chains_all : (P : ℕ × Chain → Type 0) → ((r : Fields1) (link : FieldsI) → Among r (of_type_1 records) → Among link (of_type_i records) → P (r.tlid, chain_of records r link)) → AllByRecursion P (chains_of records)
   chains_all P h = all_joined P (λ r. map (λ link. (r.tlid, chain_of records r link)) (of_number i_tlid r.tlid (of_type_i records))) (in_order (on one_tlid nat_cmp) (of_type_1 records))
-      (all_everywhere (λ r. AllByRecursion P (map (λ link. (r.tlid, chain_of records r link)) (of_number i_tlid r.tlid (of_type_i records))))
-      (λ r. all_map P (λ link. (r.tlid, chain_of records r link)) (of_number i_tlid r.tlid (of_type_i records))
-      (all_weaker (λ link. Among link (of_type_i records)) (λ link. P (r.tlid, chain_of records r link)) (h r) (of_number i_tlid r.tlid (of_type_i records)) (of_number-among i_tlid r.tlid (of_type_i records))))
-      (in_order (on one_tlid nat_cmp) (of_type_1 records)))
+      (each_from (λ r. AllByRecursion P (map (λ link. (r.tlid, chain_of records r link)) (of_number i_tlid r.tlid (of_type_i records)))) (in_order (on one_tlid nat_cmp) (of_type_1 records))
+      (λ r n. all_map P (λ link. (r.tlid, chain_of records r link)) (of_number i_tlid r.tlid (of_type_i records))
+      (all_weaker (λ link. Among link (of_type_i records)) (λ link. P (r.tlid, chain_of records r link)) (λ link. h r link (from_in_order (on one_tlid nat_cmp) (of_type_1 records) r n)) (of_number i_tlid r.tlid (of_type_i records)) (of_number-among i_tlid r.tlid (of_type_i records)))))
 
   land_stands : (link : Fields8) → Among link (of_type_8 records) → IsTrue (stands_in nat_cmp link.land (lands (county_of records)))
   land_stands link m =
@@ -177,7 +176,7 @@ module _ (records : List Record) (linked : IsLinked records) where
 
   county_whole : IsWhole (county_of records)
   county_whole = record {
-    points = chains_all (λ entry. 2 ≤ length entry.1.points) (λ r link m. some_points r);
+    points = chains_all (λ entry. 2 ≤ length entry.1.points) (λ r link n m. some_points r);
     bodies = all_map (λ (entry : ℕ × List Body7). 1 ≤ length entry.1) (λ land. (land, in_order landmark_body_cmp (map (λ (r : Fields7). r.body) (of_number seven_land land (of_type_7 records))))) (distinct nat_cmp (map seven_land (of_type_7 records)))
         (all_known nat_keys (λ land. 1 ≤ length (in_order landmark_body_cmp (map (λ (r : Fields7). r.body) (of_number seven_land land (of_type_7 records))))) (distinct nat_cmp (map seven_land (of_type_7 records))) some_content);
     polygons = all_map (λ (entry : PolygonKey × Option BodyP). IsTrue (is_some entry.1 || stands_in key_cmp entry.0 (polygons_along (chains_of records)))) (λ key. (key, polygon_body records key)) (distinct key_cmp all_keys)
@@ -197,8 +196,8 @@ module _ (records : List Record) (linked : IsLinked records) where
       links = in_order-in_order link_keys.total (of_type_8 records);
     };
     closed = record {
-      names = chains_all (λ entry. AllStandIn (feats (county_of records)) entry.1.feats) (λ r link m. each_from (λ n. IsTrue (stands_in nat_cmp n (feats (county_of records)))) (further_names records r.tlid) (name_stands r.tlid));
-      sides = chains_all (λ entry. AllKeysStandIn (polygon_keys (county_of records)) (chain_polygons entry.1)) (λ r link m. side_stands link m);
+      names = chains_all (λ entry. AllStandIn (feats (county_of records)) entry.1.feats) (λ r link n m. each_from (λ n. IsTrue (stands_in nat_cmp n (feats (county_of records)))) (further_names records r.tlid) (name_stands r.tlid));
+      sides = chains_all (λ entry. AllKeysStandIn (polygon_keys (county_of records)) (chain_polygons entry.1)) (λ r link n m. side_stands link m);
       link_lands = all-in_order (λ link. IsTrue (stands_in nat_cmp link.land (lands (county_of records)))) link_cmp (of_type_8 records) (each_from (λ link. IsTrue (stands_in nat_cmp link.land (lands (county_of records)))) (of_type_8 records) land_stands);
       link_polygons = all-in_order (λ link. IsTrue (stands_in key_cmp (link_key link) (polygon_keys (county_of records)))) link_cmp (of_type_8 records) (each_from (λ link. IsTrue (stands_in key_cmp (link_key link) (polygon_keys (county_of records)))) (of_type_8 records) link_key_stands);
     };
