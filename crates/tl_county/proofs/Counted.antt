@@ -65,8 +65,8 @@ unfolding IsStrictlySortedBy
 strict_few a b [] s h = omega arith
 strict_few a b (k ∷ ks) s h =
     let above : AllByRecursion (λ j. (k + 1 ≤ j) × (j < b)) ks =
-        all_weaker (λ j. (nat_cmp k j ≡ Less) × ((a ≤ j) × (j < b))) (λ j. (k + 1 ≤ j) × (j < b)) (λ j d. (let l : k < j = below k j d.0 in omega arith, d.1.1)) ks
-        (all_both (λ j. nat_cmp k j ≡ Less) (λ j. (a ≤ j) × (j < b)) ks s.0 h.1) in
+    all_weaker (λ j. (nat_cmp k j ≡ Less) × ((a ≤ j) × (j < b))) (λ j. (k + 1 ≤ j) × (j < b)) (λ j d. (let l : k < j = below k j d.0 in omega arith, d.1.1)) ks
+    (all_both (λ j. nat_cmp k j ≡ Less) (λ j. (a ≤ j) × (j < b)) ks s.0 h.1) in
     let rest : length ks ≤ b - (k + 1) = strict_few (k + 1) b ks s.1 above in
     let low : a ≤ k = h.0.0 in
     let high : k < b = h.0.1 in
@@ -112,11 +112,12 @@ all_in_pieces P n (suc room) (x ∷ xs) a = (all_take P n (x ∷ xs) a, all_in_p
 -- what holds of each content, and the RTSQs from i on
 pub all_with_rtsqs : {X : Type 0} (P : X → Type 0) (i : ℕ) (xs : List X) → AllByRecursion P xs → AllByRecursion (λ (entry : ℕ × X). (i ≤ entry.0) × ((entry.0 < i + length xs) × P entry.1)) (with_rtsqs i xs)
 all_with_rtsqs P i [] a = tt
-all_with_rtsqs {X} P i (x ∷ xs) a =
-    ((omega arith, (omega arith, a.0)),
-    all_weaker (λ (entry : ℕ × X). (suc i ≤ entry.0) × ((entry.0 < suc i + length xs) × P entry.1)) (λ entry. (i ≤ entry.0) × ((entry.0 < i + suc (length xs)) × P entry.1))
-    (λ entry h. (let l : suc i ≤ entry.0 = h.0 in omega arith, (let l : entry.0 < suc i + length xs = h.1.0 in omega arith, h.1.1)))
-    (with_rtsqs (suc i) xs) (all_with_rtsqs P (suc i) xs a.1))
+all_with_rtsqs {X} P i (x ∷ xs) a = (
+  (omega arith, (omega arith, a.0)),
+  all_weaker (λ (entry : ℕ × X). (suc i ≤ entry.0) × ((entry.0 < suc i + length xs) × P entry.1)) (λ entry. (i ≤ entry.0) × ((entry.0 < i + suc (length xs)) × P entry.1))
+      (λ entry h. (let l : suc i ≤ entry.0 = h.0 in omega arith, (let l : entry.0 < suc i + length xs = h.1.0 in omega arith, h.1.1)))
+      (with_rtsqs (suc i) xs) (all_with_rtsqs P (suc i) xs a.1),
+)
 
 pub length-with_rtsqs : {X : Type 0} (i : ℕ) (xs : List X) → length (with_rtsqs i xs) ≡ length xs
 length-with_rtsqs i [] = refl

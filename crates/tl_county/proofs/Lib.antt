@@ -17,3 +17,4 @@ pub mod SameCounty
 pub mod Repacking
 pub mod Counted
 pub mod FitsPacked
+pub mod FitsCounty

@@ -146,10 +146,12 @@ module _ (records : List Record) (linked : IsLinked records) where
       let named : Known nat_cmp (map i_tlid (of_type_i records)) link.tlid = among_known nat_keys link.tlid (map i_tlid (of_type_i records)) (among-map i_tlid link (of_type_i records) m) in
       let t : stands_in nat_cmp link.tlid (chain_tlids records) ≡ true = needed (stands_in nat_cmp link.tlid (map i_tlid (of_type_i records))) (stands_in nat_cmp link.tlid (chain_tlids records)) (linked (NoChain I link.tlid)) (lt-ltb 0 (times nat_cmp link.tlid (map i_tlid (of_type_i records))) named) in
       let r = among-unmap one_tlid link.tlid (of_type_1 records) (known_is_among nat_keys link.tlid (chain_tlids records) (ltb-true 0 (times nat_cmp link.tlid (chain_tlids records)) t)) in
-      let there : Among link (of_number i_tlid r.0.tlid (of_type_i records)) = to_filter (λ l. i_tlid l == r.0.tlid) link (of_type_i records) m (eq-eqb link.tlid r.0.tlid r.2) in
-      (r.0, among-pieces (λ (q : Fields1). map (λ l. (q.tlid, chain_of records q l)) (of_number i_tlid q.tlid (of_type_i records))) r.0 (r.0.tlid, chain_of records r.0 link) (in_order (on one_tlid nat_cmp) (of_type_1 records))
-          (to_in_order (on one_tlid nat_cmp) (of_type_1 records) r.0 r.1)
-          (among-map (λ l. (r.0.tlid, chain_of records r.0 l)) link (of_number i_tlid r.0.tlid (of_type_i records)) there))
+      let there : Among link (of_number i_tlid r.0.tlid (of_type_i records)) = to_filter (λ l. i_tlid l == r.0.tlid) link (of_type_i records) m (eq-eqb link.tlid r.0.tlid r.2) in (
+        r.0,
+        among-pieces (λ (q : Fields1). map (λ l. (q.tlid, chain_of records q l)) (of_number i_tlid q.tlid (of_type_i records))) r.0 (r.0.tlid, chain_of records r.0 link) (in_order (on one_tlid nat_cmp) (of_type_1 records))
+            (to_in_order (on one_tlid nat_cmp) (of_type_1 records) r.0 r.1)
+            (among-map (λ l. (r.0.tlid, chain_of records r.0 l)) link (of_number i_tlid r.0.tlid (of_type_i records)) there),
+      )
 
   polygon_whole : (key : PolygonKey) → Known key_cmp (distinct key_cmp all_keys) key → IsTrue (is_some (polygon_body records key) || stands_in key_cmp key (polygons_along (chains_of records)))
   polygon_whole key k = go (known-append key_keys key (flat_map side_keys (of_type_i records)) (map p_key (of_type_p records)) (known_from_distinct key_keys all_keys key k))

@@ -1,10 +1,14 @@
 //! Laws of the definitions in `specs/`. The functions do nothing; their contracts are the laws.
 
-ghost use Rattle.std.specs.Prelude.{◌≡◌, ◌⊎◌, IsPermutation, List, map};
+ghost use Rattle.std.specs.List.{AllByRecursion};
+ghost use Rattle.std.specs.Prelude.{◌≡◌, ◌⊎◌, IsPermutation, List, map, ℕ};
 ghost use Rattle.tl_county.specs.County.{County, county_of};
+ghost use Rattle.tl_county.specs.Limits.{HasAtMost, IsWithinLimits};
 ghost use Rattle.tl_county.specs.LinkRules.{IsFirstBrokenRule, IsLinked};
+ghost use Rattle.tl_county.specs.Packing.{by_type, packed};
 ghost use Rattle.tl_county.specs.Repacked.{AreRepacked, KeepsSequence, Sequence, resequenced};
 ghost use Rattle.tl_county.specs.declared.fault.LinkFault.{LinkFault};
+ghost use Rattle.tl_layout.specs.RecordText.{FitsRecord};
 ghost use Rattle.tl_layout.specs.declared.record_type.Record.{Record};
 ghost use Rattle.tl_county.specs.CountyRules.{IsCounty};
 ghost use Rattle.tl_county.specs.Renumbering.{AreSame, Carries, Renumbering, identity, inverse, then};
@@ -38,6 +42,19 @@ pub fn linked_or_one_first_broken_rule()
 /// In the county of a linked list of records the numbers ascend, and each number that a part names is there.
 pub fn linked_records_have_a_well_formed_county()
     ensures { (records : List Record) → IsLinked records → IsCounty (county_of records) }
+{}
+
+/// The county of linked records that fit, at most so many of each type, is within the limits of a county.
+pub fn linked_records_have_a_county_within_limits()
+    ensures { (limit : ℕ) (records : List Record) →
+        IsLinked records → AllByRecursion FitsRecord records → HasAtMost limit (by_type records) →
+        IsWithinLimits limit (county_of records) }
+{}
+
+/// A county within its limits is packed into records that fit.
+pub fn counties_within_limits_are_packed_into_records_that_fit()
+    ensures { (limit : ℕ) (county : County) →
+        IsCounty county → IsWithinLimits limit county → AllByRecursion FitsRecord (packed county) }
 {}
 
 /// The county doesn't depend on the order of the records, on the packing of types 2 and 4, nor on which RTSQs keep the

@@ -6,6 +6,7 @@ mod laws;
 
 pub use fault::{LinkFault, LinkedType};
 pub use laws::{
-    linked_or_one_first_broken_rule, linked_records_have_a_well_formed_county, renamings_compose,
-    sameness_is_an_equivalence, the_county_is_what_the_records_say,
+    counties_within_limits_are_packed_into_records_that_fit, linked_or_one_first_broken_rule,
+    linked_records_have_a_county_within_limits, linked_records_have_a_well_formed_county,
+    renamings_compose, sameness_is_an_equivalence, the_county_is_what_the_records_say,
 };
