@@ -2,3 +2,4 @@ pub mod NumberLemmas
 pub mod Writes
 pub mod PlaceSteps
 pub mod PlaceWrites
+pub mod TableSteps

@@ -41,3 +41,5 @@ pub mod RecordText
 pub mod RecordLaws
 pub mod Turned
 pub mod ByType
+pub mod Tables
+pub mod TableLaws

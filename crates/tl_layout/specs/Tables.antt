@@ -1,0 +1,47 @@
+-- The records of a set by their types, beside the list of them all.
+use Rattle.std.specs.Prelude.{◌≡◌, List, [], ◌∷◌, ◌++◌, Option, Some, None}
+use Rattle.tl_layout.specs.ByType.{as_type_1, as_type_2, as_type_4, as_type_5, as_type_6, as_type_7, as_type_8, as_type_i, as_type_p}
+use Rattle.tl_layout.specs.ByType.{of_type_1, of_type_2, of_type_4, of_type_5, of_type_6, of_type_7, of_type_8, of_type_i, of_type_p}
+use Rattle.tl_layout.specs.declared.record_type.Record.{Record}
+use Rattle.tl_layout.specs.declared.tables.Tables.{Tables}
+
+-- the table of each type holds the list's records of that type, in their order
+pub record HoldsByType (tables : Tables) (records : List Record) : Type 0 where
+  pub type_1 : tables.type_1.items ≡ of_type_1 records
+  pub type_2 : tables.type_2.items ≡ of_type_2 records
+  pub type_4 : tables.type_4.items ≡ of_type_4 records
+  pub type_5 : tables.type_5.items ≡ of_type_5 records
+  pub type_6 : tables.type_6.items ≡ of_type_6 records
+  pub type_7 : tables.type_7.items ≡ of_type_7 records
+  pub type_8 : tables.type_8.items ≡ of_type_8 records
+  pub type_i : tables.type_i.items ≡ of_type_i records
+  pub type_p : tables.type_p.items ≡ of_type_p records
+
+-- the list with one more at its end, if there is one
+abbrev pub and_then_one : {X : Type 0} → List X → Option X → List X
+and_then_one xs None = xs
+and_then_one xs (Some x) = xs ++ x ∷ []
+
+-- the record was added behind those of its type, and the other tables are as they were
+pub record AddsRecord (before : Tables) (added : Record) (after : Tables) : Type 0 where
+  pub type_1 : after.type_1.items ≡ and_then_one before.type_1.items (as_type_1 added)
+  pub type_2 : after.type_2.items ≡ and_then_one before.type_2.items (as_type_2 added)
+  pub type_4 : after.type_4.items ≡ and_then_one before.type_4.items (as_type_4 added)
+  pub type_5 : after.type_5.items ≡ and_then_one before.type_5.items (as_type_5 added)
+  pub type_6 : after.type_6.items ≡ and_then_one before.type_6.items (as_type_6 added)
+  pub type_7 : after.type_7.items ≡ and_then_one before.type_7.items (as_type_7 added)
+  pub type_8 : after.type_8.items ≡ and_then_one before.type_8.items (as_type_8 added)
+  pub type_i : after.type_i.items ≡ and_then_one before.type_i.items (as_type_i added)
+  pub type_p : after.type_p.items ≡ and_then_one before.type_p.items (as_type_p added)
+
+-- each table has the records that it had
+pub record AreSameTables (before after : Tables) : Type 0 where
+  pub type_1 : after.type_1.items ≡ before.type_1.items
+  pub type_2 : after.type_2.items ≡ before.type_2.items
+  pub type_4 : after.type_4.items ≡ before.type_4.items
+  pub type_5 : after.type_5.items ≡ before.type_5.items
+  pub type_6 : after.type_6.items ≡ before.type_6.items
+  pub type_7 : after.type_7.items ≡ before.type_7.items
+  pub type_8 : after.type_8.items ≡ before.type_8.items
+  pub type_i : after.type_i.items ≡ before.type_i.items
+  pub type_p : after.type_p.items ≡ before.type_p.items

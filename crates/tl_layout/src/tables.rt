@@ -1,0 +1,89 @@
+//! The records of a set by their types.
+
+ghost use Rattle.std.specs.Prelude.{◌≡◌, [], IfOk, OnOk, OnErr};
+ghost use Rattle.tl_layout.specs.Tables.{HoldsByType, AddsRecord, AreSameTables};
+
+use crate::record_type::Record;
+use crate::tabled::Tabled;
+use crate::type_i::RecI;
+use crate::type_p::RecP;
+use crate::type1::Rec1;
+use crate::type2::Rec2;
+use crate::type4::Rec4;
+use crate::type5::Rec5;
+use crate::type6::Rec6;
+use crate::type7::Rec7;
+use crate::type8::Rec8;
+use std::alloc::{AllocError, Global};
+
+/// The records of a set by their types: a vector for each record type, with its records in the order in which they came.
+#[derive(Debug, Drop)]
+pub struct Tables {
+    /// Chains with their two end points (record type 1).
+    pub type_1: Vec<Rec1>,
+    /// Shape points of chains (record type 2).
+    pub type_2: Vec<Rec2>,
+    /// Further names of chains (record type 4).
+    pub type_4: Vec<Rec4>,
+    /// Names of features (record type 5).
+    pub type_5: Vec<Rec5>,
+    /// Further address ranges of chains (record type 6).
+    pub type_6: Vec<Rec6>,
+    /// Landmarks (record type 7).
+    pub type_7: Vec<Rec7>,
+    /// Polygons of landmarks (record type 8).
+    pub type_8: Vec<Rec8>,
+    /// Nodes of chains and the polygons beside them (record type I).
+    pub type_i: Vec<RecI>,
+    /// Polygons' inner points (record type P).
+    pub type_p: Vec<RecP>,
+}
+
+impl Tables {
+    /// Tables without records. It takes no memory.
+    pub fn new(alloc: Global) -> Tables
+        ensures { HoldsByType result [] }
+    {
+        Tables {
+            type_1: Vec::new(alloc),
+            type_2: Vec::new(alloc),
+            type_4: Vec::new(alloc),
+            type_5: Vec::new(alloc),
+            type_6: Vec::new(alloc),
+            type_7: Vec::new(alloc),
+            type_8: Vec::new(alloc),
+            type_i: Vec::new(alloc),
+            type_p: Vec::new(alloc),
+        }
+    }
+
+    /// The records of a list by their types.
+    pub fn of(alloc: Global, records: Vec<Record>) -> Result<Tables, AllocError>
+        ensures { IfOk result (λ tables. HoldsByType tables records.items) }
+    {
+        let mut tables = Tables::new(alloc);
+        for record in records {
+            tables.add(record)?;
+        }
+        Ok(tables)
+    }
+
+    /// Adds a record to the table of its type, behind those that are there.
+    pub fn add(&mut self, added: Record) -> Result<(), AllocError>
+        ensures ok { OnOk result (AddsRecord self.old added self.new) }
+        // Where memory is refused the tables keep what they had.
+        ensures err { OnErr result (AreSameTables self.old self.new) }
+    {
+        match added {
+            Record::One(r) => r.push_into(self),
+            Record::Two(r) => r.push_into(self),
+            Record::Four(r) => r.push_into(self),
+            Record::Five(r) => r.push_into(self),
+            Record::Six(r) => r.push_into(self),
+            Record::Seven(r) => r.push_into(self),
+            Record::Eight(r) => r.push_into(self),
+            Record::I(r) => r.push_into(self),
+            Record::P(r) => r.push_into(self),
+        }
+    }
+}
