@@ -39,5 +39,6 @@ pub mod Type4
 pub mod Type4Laws
 pub mod RecordText
 pub mod RecordLaws
+pub mod Limits
 pub mod Turned
 pub mod ByType
