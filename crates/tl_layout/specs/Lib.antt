@@ -13,6 +13,13 @@ pub mod FieldReading
 pub mod FieldLaws
 pub mod Places
 pub mod PlaceLaws
+pub mod ColumnTable
+pub mod FieldFaults
+pub mod TableReading
+pub mod ValueLaws
+pub mod PlaceFaultLaws
+pub mod TableFaultLaws
+pub mod RecordTables
 pub mod PolygonSide
 pub mod Names
 pub mod Pairs
