@@ -13,6 +13,13 @@ pub mod FieldReading
 pub mod FieldLaws
 pub mod Places
 pub mod PlaceLaws
+pub mod ColumnTable
+pub mod FieldFaults
+pub mod TableReading
+pub mod ValueLaws
+pub mod PlaceFaultLaws
+pub mod TableFaultLaws
+pub mod RecordTables
 pub mod PolygonSide
 pub mod Names
 pub mod Pairs
@@ -39,6 +46,7 @@ pub mod Type4
 pub mod Type4Laws
 pub mod RecordText
 pub mod RecordLaws
+pub mod Limits
 pub mod Turned
 pub mod ByType
 pub mod Tables

@@ -34,7 +34,7 @@ pub use name::FeatureName;
 pub use pair::LeftRight;
 pub use point::Point;
 pub use ranges::Ranges;
-pub use record_type::Record;
+pub use record_type::{MOST_RECORDS, Record};
 pub use side::Side;
 pub use tabled::Tabled;
 pub use tables::Tables;

@@ -13,6 +13,9 @@ use crate::type6::Rec6;
 use crate::type7::Rec7;
 use crate::type8::Rec8;
 
+/// The most records of one type that a set may have.
+pub const MOST_RECORDS: u64 = 10_000_000;
+
 /// A record of one of the nine record types.
 #[derive(Debug, Drop)]
 pub enum Record {

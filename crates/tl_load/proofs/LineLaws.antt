@@ -54,3 +54,7 @@ line_is_judged rtype len reading Spells laws line r h =
     ap (λ (b : Bool). cond b (Err line_faults.LineTooLong) (judged_full reading (filled len line))) (le-ltb len (length line) h.short)
     ∙ ap (λ (b : Bool). cond b (Err (line_faults.BadByte (first_bad (filled len line) + 1))) (of_reading (reading (filled len line)))) (bad_none (filled len line) h.allowed)
     ∙ ap of_reading read
+
+-- a line spells only what fits
+pub line_fits : {R : Type 0} (rtype len : ℕ) (Spells : List ℕ → R → Type 0) (Fits : R → Type 0) → ((line : List ℕ) (r : R) → IsLine rtype len line → Spells line r → Fits r) → (line : List ℕ) (r : R) → IsLineOf rtype len Spells line r → Fits r
+line_fits rtype len Spells Fits fits line r h = fits (filled len line) r (full_line rtype len line h.begins h.short h.allowed) h.spells

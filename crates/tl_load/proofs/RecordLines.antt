@@ -1,7 +1,10 @@
--- A line is judged as the record that it has.
-use Rattle.std.proofs.Common.{◌≡◌, ℕ, Bool, true, false, cond, List, [], ◌∷◌, take, Result, Ok, Err, refl, sym, ap, ◌∙◌, eqb}
+-- A line is judged as the record that it has, and that record fits.
+use Rattle.std.specs.Prelude.{All}
+use Rattle.std.proofs.lemmas.List.Elements.{All-nil, All-cons}
+use Rattle.tl_layout.specs.Limits.{IsWithinLimit}
+use Rattle.std.proofs.Common.{map, ◌≡◌, ℕ, Bool, true, false, cond, List, [], ◌∷◌, take, Result, Ok, Err, refl, sym, ap, ◌∙◌, eqb}
 use Rattle.std.proofs.lemmas.Bool.{eqb-true}
-use Rattle.tl_layout.specs.RecordText.{type_of}
+use Rattle.tl_layout.specs.RecordText.{type_of, FitsRecord}
 use Rattle.tl_layout.specs.declared.record_type.Record.{Record}
 use Rattle.tl_layout.specs.declared.record_type.Record.TheVariants.{One, Two, Four, Five, Six, Seven, Eight, I, P}
 use Rattle.tl_layout.specs.Type1.{type_1_reading, SpellsType1}
@@ -25,9 +28,11 @@ use Rattle.tl_layout.specs.TypePLaws.{type_p_reads_spelled, type_p_spelled_is_re
 use Rattle.tl_load.specs.declared.fault.LineFault.{LineFault}
 use Rattle.tl_load.specs.declared.fault.LineFault.TheVariants as line_faults
 use Rattle.tl_load.specs.LineOf.{judged_as}
-use Rattle.tl_load.specs.Choice.{as_record, judged_by, judged}
+use Rattle.tl_load.specs.Choice.{as_record, judged_by, judged, tiger}
+use Rattle.tl_load.specs.Places.{PlacedLine, placed_lines}
+use Rattle.tl_load.specs.Outcome.{AreJudged, Spells, Accepts}
 use Rattle.tl_load.specs.RecordLine.{HasRecord}
-use Rattle.tl_load.proofs.LineLaws.{Reading, judged_is_line, line_is_judged}
+use Rattle.tl_load.proofs.LineLaws.{Reading, judged_is_line, line_is_judged, line_fits}
 use Rattle.tl_load.proofs.TextLemmas.{by_first}
 
 -- ---- the layouts
@@ -126,3 +131,38 @@ judged_of_record line (Seven r) h = by_first 55 line h.begins ∙ ap (as_record 
 judged_of_record line (Eight r) h = by_first 56 line h.begins ∙ ap (as_record Eight) (line_is_judged 56 36 type_8_reading SpellsType8 reading_8 line r h)
 judged_of_record line (I r) h = by_first 73 line h.begins ∙ ap (as_record I) (line_is_judged 73 127 type_i_reading SpellsTypeI reading_i line r h)
 judged_of_record line (P r) h = by_first 80 line h.begins ∙ ap (as_record P) (line_is_judged 80 45 type_p_reading SpellsTypeP reading_p line r h)
+
+-- ---- what is spelled fits
+
+-- a line has only records that fit
+pub record_fits : (line : List ℕ) (r : Record) → HasRecord line r → FitsRecord r
+unfolding HasRecord FitsRecord
+record_fits line (One r) h = line_fits 49 228 SpellsType1 _ (λ l x is s. (type_1_reads_spelled l x is (type_1_spelled_is_read l x is s)).0) line r h
+record_fits line (Two r) h = line_fits 50 208 SpellsType2 _ (λ l x is s. (type_2_reads_spelled l x is (type_2_spelled_is_read l x is s)).0) line r h
+record_fits line (Four r) h = line_fits 52 58 SpellsType4 _ (λ l x is s. (type_4_reads_spelled l x is (type_4_spelled_is_read l x is s)).0) line r h
+record_fits line (Five r) h = line_fits 53 56 SpellsType5 _ (λ l x is s. (type_5_reads_spelled l x is (type_5_spelled_is_read l x is s)).0) line r h
+record_fits line (Six r) h = line_fits 54 76 SpellsType6 _ (λ l x is s. (type_6_reads_spelled l x is (type_6_spelled_is_read l x is s)).0) line r h
+record_fits line (Seven r) h = line_fits 55 74 SpellsType7 _ (λ l x is s. (type_7_reads_spelled l x is (type_7_spelled_is_read l x is s)).0) line r h
+record_fits line (Eight r) h = line_fits 56 36 SpellsType8 _ (λ l x is s. (type_8_reads_spelled l x is (type_8_spelled_is_read l x is s)).0) line r h
+record_fits line (I r) h = line_fits 73 127 SpellsTypeI _ (λ l x is s. (type_i_reads_spelled l x is (type_i_spelled_is_read l x is s)).0) line r h
+record_fits line (P r) h = line_fits 80 45 SpellsTypeP _ (λ l x is s. (type_p_reads_spelled l x is (type_p_spelled_is_read l x is s)).0) line r h
+
+-- lines that are judged as records are judged as records that fit
+judged_fit : (lines : List PlacedLine) (records : List Record) → AreJudged tiger lines records → All FitsRecord records
+unfolding tiger
+judged_fit [] [] e = All-nil FitsRecord
+judged_fit [] (r ∷ records) e = absurd cc
+judged_fit (line ∷ lines) [] e = absurd cc
+judged_fit (line ∷ lines) (r ∷ records) e =
+    let first : judged line.bytes ≡ Ok r = cc in
+    let others : map (λ (l : PlacedLine). judged l.bytes) lines ≡ map (λ (r : Record). Ok r) records = cc in
+    All-cons FitsRecord r records (record_fits line.bytes r (record_of_judged line.bytes r first)) (judged_fit lines records others)
+
+-- parts spell only records that fit
+pub spelled_fit : (parts : List (List ℕ)) (records : List Record) → Spells tiger parts records → All FitsRecord records
+spelled_fit parts records h = judged_fit (placed_lines parts) records h
+
+-- records that are accepted within a limit are at most so many of each type
+pub accepted_within : (limit : ℕ) (parts : List (List ℕ)) (records : List Record) → Accepts tiger limit parts records → IsWithinLimit limit records
+unfolding tiger
+accepted_within limit parts records h = h.within

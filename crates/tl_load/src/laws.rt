@@ -3,9 +3,10 @@
 ghost use Rattle.std.specs.Prelude.{◌≡◌, ◌↔◌, ◌⊎◌, ℕ, List, [], ◌∷◌, take, All, Ok};
 ghost use Rattle.tl_layout.specs.declared.record_type.Record.{Record};
 ghost use Rattle.tl_layout.specs.RecordText.{FitsRecord, text_of};
+ghost use Rattle.tl_layout.specs.Limits.{IsWithinLimit};
 ghost use Rattle.tl_load.specs.Choice.{tiger};
 ghost use Rattle.tl_load.specs.Verdicts.{Judge};
-ghost use Rattle.tl_load.specs.Outcome.{IsSpelled, IsFaulty, Spells};
+ghost use Rattle.tl_load.specs.Outcome.{IsSpelled, IsFaulty, Spells, Accepts};
 ghost use Rattle.tl_load.specs.RecordLine.{HasRecord};
 ghost use Rattle.tl_load.specs.LineOf.{IsLineOf, judged_as};
 
@@ -31,4 +32,13 @@ pub fn line_is_judged_as_its_record()
 pub fn text_spells_its_records()
     ensures spells { (records : List Record) → All FitsRecord records → Spells tiger (text_of records ∷ []) records }
     ensures only { (records others : List Record) → All FitsRecord records → Spells tiger (text_of records ∷ []) others → others ≡ records }
+{}
+
+/// A line spells only records that fit: each number in its range, each text of its width, each point on the map. So
+/// all records that parts spell fit, and those that are accepted within a limit are at most so many of each type.
+pub fn spelled_records_fit()
+    ensures line { (line : List ℕ) (found : Record) → HasRecord line found → FitsRecord found }
+    ensures parts { (parts : List (List ℕ)) (records : List Record) → Spells tiger parts records → All FitsRecord records }
+    ensures within { (limit : ℕ) (parts : List (List ℕ)) (records : List Record)
+        → Accepts tiger limit parts records → IsWithinLimit limit records }
 {}

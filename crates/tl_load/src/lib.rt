@@ -14,7 +14,8 @@ mod tests;
 pub use bytes::first_bad;
 pub use fault::{LineFault, LoadFault};
 pub use laws::{
-    line_has_record, line_is_judged_as_its_record, spelled_or_one_fault, text_spells_its_records,
+    line_has_record, line_is_judged_as_its_record, spelled_or_one_fault, spelled_records_fit,
+    text_spells_its_records,
 };
 pub use loader::Loader;
 pub use source::{Counted, SlowSource, Source};

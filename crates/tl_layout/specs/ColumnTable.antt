@@ -1,0 +1,112 @@
+-- Column tables: what stands in the columns of a record type, and what it means that a line spells a record.
+use Rattle.std.specs.Prelude.{◌≡◌, ℕ, ◌+◌, ◌-◌, ◌≤◌, List, [], ◌∷◌, length, Option, IfSome, Bool, true, ◌==◌, ◌&&◌, nat_le}
+use Rattle.std.specs.List.{AllByRecursion}
+use Rattle.tl_layout.specs.Bytes.{IsText, columns}
+use Rattle.tl_layout.specs.Numbers.{IsNumber, IsNumberOrNone}
+use Rattle.tl_layout.specs.Coordinates.{Coordinates, IsOnMap}
+use Rattle.tl_layout.specs.FieldReading.{SpellsNumber, SpellsNumberOrNone, SpellsPoint, SpellsPointOrNone, SpellsPointPlace, SpellsNumberPlace}
+use Rattle.tl_layout.specs.Places.{SpellsPlaces}
+
+-- what a field holds
+pub data Kind : Type 0 where
+  -- a number, from 1 on
+  Number : Kind
+  -- a number or none
+  NumberOrNone : Kind
+  -- a point: a longitude of ten columns and a latitude of nine
+  Pair : Kind
+  -- a point or none
+  PairOrNone : Kind
+  -- five places for numbers, of eight columns each
+  NumberPlaces : Kind
+  -- ten places for points, of 19 columns each
+  PointPlaces : Kind
+  -- bytes that are kept as they are
+  Opaque : Kind
+  -- bytes that are no part of the map
+  Filler : Kind
+
+-- the values of a field
+abbrev pub ValueOf : Kind → Type 0
+ValueOf Number = ℕ
+ValueOf NumberOrNone = Option ℕ
+ValueOf Pair = Coordinates
+ValueOf PairOrNone = Option Coordinates
+ValueOf NumberPlaces = List ℕ
+ValueOf PointPlaces = List Coordinates
+ValueOf Opaque = List ℕ
+ValueOf Filler = Unit {0}
+
+-- A row of a column table: the field's first and last column, what it holds, its value in a record, and the value that it
+-- has when the chain is seen from its other end.
+pub record Row (R : Type 0) : Type 0 where
+  pub first : ℕ
+  pub last : ℕ
+  pub kind : Kind
+  pub value : R → ValueOf kind
+  pub turned : R → ValueOf kind
+
+-- a field that a turn leaves as it is
+abbrev pub row : {R : Type 0} → ℕ → ℕ → (kind : Kind) → (R → ValueOf kind) → Row R
+row first last kind value = record { first = first; last = last; kind = kind; value = value; turned = value }
+
+-- a field that a turn gives the value of its partner
+abbrev pub row_with_partner : {R : Type 0} → ℕ → ℕ → (kind : Kind) → (R → ValueOf kind) → (R → ValueOf kind) → Row R
+row_with_partner first last kind value partner = record { first = first; last = last; kind = kind; value = value; turned = partner }
+
+-- how many columns a row has
+abbrev pub width_of : {R : Type 0} → Row R → ℕ
+width_of row = row.last + 1 - row.first
+
+-- ---- what is spelled
+
+-- the columns of a field spell the value
+abbrev pub SpellsValue : List ℕ → ℕ → ℕ → (kind : Kind) → ValueOf kind → Type 0
+SpellsValue line first last Number n = SpellsNumber (columns first last line) n
+SpellsValue line first last NumberOrNone n = SpellsNumberOrNone (columns first last line) n
+SpellsValue line first last Pair point = SpellsPoint (columns first (first + 9) line) (columns (first + 10) (first + 18) line) point
+SpellsValue line first last PairOrNone point = SpellsPointOrNone (columns first (first + 9) line) (columns (first + 10) (first + 18) line) point
+SpellsValue line first last NumberPlaces numbers = SpellsPlaces (SpellsNumberPlace line) 8 5 first numbers
+SpellsValue line first last PointPlaces points = SpellsPlaces (SpellsPointPlace line) 19 10 first points
+SpellsValue line first last Opaque text = columns first last line ≡ text
+SpellsValue line first last Filler _ = Unit {0}
+
+-- the columns of a row spell the value
+abbrev pub SpellsField : {R : Type 0} → List ℕ → (row : Row R) → ValueOf row.kind → Type 0
+SpellsField line row value = SpellsValue line row.first row.last row.kind value
+
+-- a full line spells the record: the columns of each row spell what the record has there
+abbrev pub SpellsRows : {R : Type 0} → List (Row R) → List ℕ → R → Type 0
+SpellsRows table line r = AllByRecursion (λ row. SpellsField line row (row.value r)) table
+
+-- ---- what fits
+
+-- the value fits a field of that many columns
+abbrev pub FitsValue : ℕ → (kind : Kind) → ValueOf kind → Type 0
+FitsValue width Number n = IsNumber width n
+FitsValue width NumberOrNone n = IsNumberOrNone width n
+FitsValue width Pair point = IsOnMap point
+FitsValue width PairOrNone point = IfSome point IsOnMap
+FitsValue width NumberPlaces numbers = (length numbers ≤ 5) × AllByRecursion (IsNumber 8) numbers
+FitsValue width PointPlaces points = (length points ≤ 10) × AllByRecursion IsOnMap points
+FitsValue width Opaque text = IsText width text
+FitsValue width Filler _ = Unit {0}
+
+-- the record fits its columns: what it has in each row fits
+abbrev pub FitsRows : {R : Type 0} → List (Row R) → R → Type 0
+FitsRows table r = AllByRecursion (λ row. FitsValue (width_of row) row.kind (row.value r)) table
+
+-- ---- tables without gaps
+
+-- the columns suit what the field holds
+abbrev pub is_suited : ℕ → ℕ → Kind → Bool
+is_suited first last Pair = last == first + 18
+is_suited first last PairOrNone = last == first + 18
+is_suited first last NumberPlaces = last == first + 39
+is_suited first last PointPlaces = last == first + 189
+is_suited first last _ = nat_le first last
+
+-- the rows follow one another from this column on, without gap or overlap, up to the length of the line
+abbrev pub is_laid_out : {R : Type 0} → ℕ → List (Row R) → ℕ → Bool
+is_laid_out next [] len = next == len + 1
+is_laid_out next (row ∷ rows) len = row.first == next && is_suited row.first row.last row.kind && is_laid_out (row.last + 1) rows len
