@@ -6,7 +6,7 @@ use Rattle.std.proofs.lemmas.List.{length-drop, length-take}
 use Rattle.std.specs.List.{AllByRecursion, cons_option}
 use Rattle.std.specs.List.Sorted.{IsStrictlySortedBy}
 use Rattle.tl_county.specs.Orders.{times, in_order}
-use Rattle.tl_county.specs.Packing.{pieces, in_pieces, with_rtsqs}
+use Rattle.tl_county.specs.Packing.{pieces, in_pieces, numbered_from}
 use Rattle.tl_county.proofs.InOrder.{in_order-in_order}
 use Rattle.tl_county.proofs.Keys.{IsApart, nat_keys, same-itself, differ}
 use Rattle.tl_county.proofs.LinkedCounty.{length-in_order}
@@ -110,18 +110,18 @@ all_in_pieces P n (suc room) [] a = tt
 all_in_pieces P n (suc room) (x ∷ xs) a = (all_take P n (x ∷ xs) a, all_in_pieces P n room (drop n (x ∷ xs)) (all_drop P n (x ∷ xs) a))
 
 -- what holds of each content, and the RTSQs from i on
-pub all_with_rtsqs : {X : Type 0} (P : X → Type 0) (i : ℕ) (xs : List X) → AllByRecursion P xs → AllByRecursion (λ (entry : ℕ × X). (i ≤ entry.0) × ((entry.0 < i + length xs) × P entry.1)) (with_rtsqs i xs)
-all_with_rtsqs P i [] a = tt
-all_with_rtsqs {X} P i (x ∷ xs) a = (
+pub all_numbered_from : {X : Type 0} (P : X → Type 0) (i : ℕ) (xs : List X) → AllByRecursion P xs → AllByRecursion (λ (entry : ℕ × X). (i ≤ entry.0) × ((entry.0 < i + length xs) × P entry.1)) (numbered_from i xs)
+all_numbered_from P i [] a = tt
+all_numbered_from {X} P i (x ∷ xs) a = (
   (omega arith, (omega arith, a.0)),
   all_weaker (λ (entry : ℕ × X). (suc i ≤ entry.0) × ((entry.0 < suc i + length xs) × P entry.1)) (λ entry. (i ≤ entry.0) × ((entry.0 < i + suc (length xs)) × P entry.1))
       (λ entry h. (let l : suc i ≤ entry.0 = h.0 in omega arith, (let l : entry.0 < suc i + length xs = h.1.0 in omega arith, h.1.1)))
-      (with_rtsqs (suc i) xs) (all_with_rtsqs P (suc i) xs a.1),
+      (numbered_from (suc i) xs) (all_numbered_from P (suc i) xs a.1),
 )
 
-pub length-with_rtsqs : {X : Type 0} (i : ℕ) (xs : List X) → length (with_rtsqs i xs) ≡ length xs
-length-with_rtsqs i [] = refl
-length-with_rtsqs i (x ∷ xs) = ap suc (length-with_rtsqs (suc i) xs)
+pub length-numbered_from : {X : Type 0} (i : ℕ) (xs : List X) → length (numbered_from i xs) ≡ length xs
+length-numbered_from i [] = refl
+length-numbered_from i (x ∷ xs) = ap suc (length-numbered_from (suc i) xs)
 
 -- what holds of each element where it is selected holds of all that are
 pub all_selected : {X Y : Type 0} (P : X → Type 0) (Q : Y → Type 0) (h : X → Option Y) → ((x : X) (y : Y) → h x ≡ Some y → P x → Q y) → (xs : List X) → AllByRecursion P xs → AllByRecursion Q (filter_map h xs)

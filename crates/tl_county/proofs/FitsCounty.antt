@@ -33,11 +33,11 @@ use Rattle.tl_county.specs.CountyRules.{tlids}
 use Rattle.tl_county.specs.Limits.{FitsChain, FitsLink, FitsNumbers, HasRoom, HasAtMost, ContentsFit, NumbersFit, IsWithinLimits, greatest_rtsq, most_shape_points, most_names}
 use Rattle.tl_county.specs.LinkRules.{IsLinked}
 use Rattle.tl_county.specs.Orders.{times, in_order, distinct, has_repeat}
-use Rattle.tl_county.specs.Packing.{in_pieces, with_rtsqs, without_last, inner_points, packed_one, packed_twos, packed_fours, packed_five, packed_sixes, packed_sevens, packed_i, packed_body, packed_p, p_polyid, by_type, packed_by_type}
+use Rattle.tl_county.specs.Packing.{in_pieces, numbered_from, without_last, inner_points, packed_one, packed_twos, packed_fours, packed_five, packed_sixes, packed_sevens, packed_i, packed_body, packed_p, p_polyid, by_type, packed_by_type}
 use Rattle.tl_county.specs.PolygonKeys.{PolygonKey, key_cmp, key_under}
 use Rattle.tl_county.specs.declared.fault.LinkFault.TheVariants.{SequenceBroken}
 use Rattle.tl_county.specs.declared.fault.LinkedType.TheVariants as linked_types
-use Rattle.tl_county.proofs.Counted.{few_in_groups, hits_once, filter-agree, shorter_pieces, few_numbers, few_pieces, all_selected, length-with_rtsqs}
+use Rattle.tl_county.proofs.Counted.{few_in_groups, hits_once, filter-agree, shorter_pieces, few_numbers, few_pieces, all_selected, length-numbered_from}
 use Rattle.tl_county.proofs.Distinct.{apart-distinct, apart_from_no_repeat, known_from_distinct}
 use Rattle.tl_county.proofs.FirstFault.{Among, all_among}
 use Rattle.tl_county.proofs.KeyOrders.{key_keys}
@@ -304,10 +304,10 @@ module _ (records : List Record) (linked : IsLinked records) (fits : AllByRecurs
       omega arith
 
   -- lists in pieces with RTSQs are no more than the records that hold them
-  few_in_pieces : {X Y : Type 0} (width count : ℕ) (make : ℕ × List X → Y) (xs : List X) → length xs ≤ width * count → length (map make (with_rtsqs 1 (in_pieces width xs))) ≤ count
+  few_in_pieces : {X Y : Type 0} (width count : ℕ) (make : ℕ × List X → Y) (xs : List X) → length xs ≤ width * count → length (map make (numbered_from 1 (in_pieces width xs))) ≤ count
   few_in_pieces width count make xs h =
       let few : length (in_pieces width xs) ≤ count = few_pieces width count (length xs) xs h in
-      let same : length (map make (with_rtsqs 1 (in_pieces width xs))) ≡ length (in_pieces width xs) = length-map (with_rtsqs 1 (in_pieces width xs)) make ∙ length-with_rtsqs 1 (in_pieces width xs) in
+      let same : length (map make (numbered_from 1 (in_pieces width xs))) ≡ length (in_pieces width xs) = length-map (numbered_from 1 (in_pieces width xs)) make ∙ length-numbered_from 1 (in_pieces width xs) in
       omega arith
 
   chain_count : length (chains_of records) ≡ length (of_type_1 records)
@@ -345,7 +345,7 @@ module _ (records : List Record) (linked : IsLinked records) (fits : AllByRecurs
     of_type_2 = (let few : length (of_type_2 records) ≤ limit = h.of_type_2 in let own : length (flat_map packed_twos (chains_of records)) ≤ length (of_type_2 records) = few_of_chains two_tlid packed_twos (of_type_2 records) (all_chains (λ entry. length (packed_twos entry) ≤ length (of_number two_tlid entry.0 (of_type_2 records))) (λ r link f l. few_in_pieces 10 (length (of_number two_tlid r.tlid (of_type_2 records))) (λ piece. record { tlid = r.tlid; rtsq = piece.0; points = piece.1 }) (inner_points (r.start ∷ (shape_points records r.tlid ++ (r.end ∷ [])))) (inner_held r))) in omega arith);
     of_type_4 = (let few : length (of_type_4 records) ≤ limit = h.of_type_4 in let own : length (flat_map packed_fours (chains_of records)) ≤ length (of_type_4 records) = few_of_chains four_tlid packed_fours (of_type_4 records) (all_chains (λ entry. length (packed_fours entry) ≤ length (of_number four_tlid entry.0 (of_type_4 records))) (λ r link f l. few_in_pieces 5 (length (of_number four_tlid r.tlid (of_type_4 records))) (λ piece. record { tlid = r.tlid; rtsq = piece.0; feats = piece.1 }) (further_names records r.tlid) (feats_held r.tlid))) in omega arith);
     of_type_5 = (let few : length (of_type_5 records) ≤ limit = h.of_type_5 in let same : length (map packed_five (county_of records).names) ≡ length (of_type_5 records) = length-map (county_of records).names packed_five ∙ length-map (in_order (on five_feat nat_cmp) (of_type_5 records)) (λ (r : Fields5). (r.feat, r.body)) ∙ length-in_order (on five_feat nat_cmp) (of_type_5 records) in omega arith);
-    of_type_6 = (let few : length (of_type_6 records) ≤ limit = h.of_type_6 in let own : length (flat_map packed_sixes (chains_of records)) ≤ length (of_type_6 records) = few_of_chains six_tlid packed_sixes (of_type_6 records) (all_chains (λ entry. length (packed_sixes entry) ≤ length (of_number six_tlid entry.0 (of_type_6 records))) (λ r link f l. let same : length (packed_sixes (r.tlid, chain_of records r link)) ≡ length (of_number six_tlid r.tlid (of_type_6 records)) = length-map (with_rtsqs 1 (further_ranges records r.tlid)) (λ (piece : ℕ × Ranges). record { tlid = r.tlid; rtsq = piece.0; ranges = piece.1 }) ∙ length-with_rtsqs 1 (further_ranges records r.tlid) ∙ ranges_held r.tlid in omega arith)) in omega arith);
+    of_type_6 = (let few : length (of_type_6 records) ≤ limit = h.of_type_6 in let own : length (flat_map packed_sixes (chains_of records)) ≤ length (of_type_6 records) = few_of_chains six_tlid packed_sixes (of_type_6 records) (all_chains (λ entry. length (packed_sixes entry) ≤ length (of_number six_tlid entry.0 (of_type_6 records))) (λ r link f l. let same : length (packed_sixes (r.tlid, chain_of records r link)) ≡ length (of_number six_tlid r.tlid (of_type_6 records)) = length-map (numbered_from 1 (further_ranges records r.tlid)) (λ (piece : ℕ × Ranges). record { tlid = r.tlid; rtsq = piece.0; ranges = piece.1 }) ∙ length-numbered_from 1 (further_ranges records r.tlid) ∙ ranges_held r.tlid in omega arith)) in omega arith);
     of_type_7 = (let few : length (of_type_7 records) ≤ limit = h.of_type_7 in let own : length (flat_map packed_sevens (county_of records).landmarks) ≤ length (of_type_7 records) = few_sevens in omega arith);
     of_type_8 = (let few : length (of_type_8 records) ≤ limit = h.of_type_8 in let same : length (in_order link_cmp (of_type_8 records)) ≡ length (of_type_8 records) = length-in_order link_cmp (of_type_8 records) in omega arith);
     of_type_i = (let same : length (map packed_i (chains_of records)) ≡ length (of_type_1 records) = length-map (chains_of records) packed_i ∙ chain_count in let few : length (of_type_1 records) ≤ limit = h.of_type_1 in omega arith);

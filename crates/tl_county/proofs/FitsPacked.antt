@@ -27,9 +27,9 @@ use Rattle.tl_county.specs.County.{County}
 use Rattle.tl_county.specs.CountyRules.{IsWhole}
 use Rattle.tl_county.specs.Limits.{FitsChain, FitsLink, FitsNumbers, HasRoom, ContentsFit, NumbersFit, greatest_rtsq, most_shape_points, most_names}
 use Rattle.tl_county.specs.Orders.{in_order}
-use Rattle.tl_county.specs.Packing.{in_pieces, with_rtsqs, first_point, last_point, without_last, inner_points, packed_one, packed_twos, packed_fours, packed_five, packed_sixes, packed_sevens, packed_i, packed_body, packed_p, p_polyid, packed}
+use Rattle.tl_county.specs.Packing.{in_pieces, numbered_from, first_point, last_point, without_last, inner_points, packed_one, packed_twos, packed_fours, packed_five, packed_sixes, packed_sevens, packed_i, packed_body, packed_p, p_polyid, packed}
 use Rattle.tl_county.specs.PolygonKeys.{PolygonKey}
-use Rattle.tl_county.proofs.Counted.{few_pieces, short_pieces, all_in_pieces, all_with_rtsqs, all_selected}
+use Rattle.tl_county.proofs.Counted.{few_pieces, short_pieces, all_in_pieces, all_numbered_from, all_selected}
 use Rattle.tl_county.proofs.Lists.{all_weaker, all_both, all_map, all_append, all_joined}
 use Rattle.tl_county.proofs.Numbers.{all-in_order}
 
@@ -62,14 +62,14 @@ one_fits entry n two f = record {
 -- lists in pieces of a width, of which there are at most 999, as records with RTSQs
 module _ {X Y : Type 0} (width : ℕ) (P : X → Type 0) (make : ℕ × List X → Y) (Fits : Y → Type 0)
     (each : (rtsq : ℕ) (piece : List X) → IsNumber 3 rtsq → length piece ≤ width → AllByRecursion P piece → Fits (make (rtsq, piece))) where
-  pieces_fit : (xs : List X) → length xs ≤ width * greatest_rtsq → AllByRecursion P xs → AllByRecursion Fits (map make (with_rtsqs 1 (in_pieces width xs)))
+  pieces_fit : (xs : List X) → length xs ≤ width * greatest_rtsq → AllByRecursion P xs → AllByRecursion Fits (map make (numbered_from 1 (in_pieces width xs)))
   pieces_fit xs few a =
       let count : length (in_pieces width xs) ≤ greatest_rtsq = few_pieces width greatest_rtsq (length xs) xs few in
-      all_map Fits make (with_rtsqs 1 (in_pieces width xs))
+      all_map Fits make (numbered_from 1 (in_pieces width xs))
       (all_weaker (λ (entry : ℕ × List X). (1 ≤ entry.0) × ((entry.0 < 1 + length (in_pieces width xs)) × ((length entry.1 ≤ width) × AllByRecursion P entry.1))) (λ entry. Fits (make entry))
       (λ entry h. each entry.0 entry.1 ((let low : 1 ≤ entry.0 = h.0 in omega arith), (let high : entry.0 < 1 + length (in_pieces width xs) = h.1.0 in omega arith)) h.1.1.0 h.1.1.1)
-      (with_rtsqs 1 (in_pieces width xs))
-      (all_with_rtsqs (λ piece. (length piece ≤ width) × AllByRecursion P piece) 1 (in_pieces width xs)
+      (numbered_from 1 (in_pieces width xs))
+      (all_numbered_from (λ piece. (length piece ≤ width) × AllByRecursion P piece) 1 (in_pieces width xs)
       (all_both (λ piece. length piece ≤ width) (AllByRecursion P) (in_pieces width xs) (short_pieces width (length xs) xs) (all_in_pieces P width (length xs) xs a))))
 
 twos_fit : (entry : ℕ × Chain) → IsNumber 10 entry.0 → FitsChain entry.1 → HasRoom entry.1 → AllByRecursion FitsType2 (packed_twos entry)
@@ -79,10 +79,10 @@ fours_fit : (entry : ℕ × Chain) → IsNumber 10 entry.0 → FitsNumbers entry
 fours_fit entry n f room = pieces_fit 5 (IsNumber 8) (λ piece. record { tlid = entry.0; rtsq = piece.0; feats = piece.1 }) FitsType4 (λ rtsq piece r few a. record { tlid = n; rtsq = r; len = few; feats = a }) entry.1.feats room.feats f.feats
 
 sixes_fit : (entry : ℕ × Chain) → IsNumber 10 entry.0 → FitsChain entry.1 → HasRoom entry.1 → AllByRecursion FitsType6 (packed_sixes entry)
-sixes_fit entry n f room = all_map FitsType6 (λ (piece : ℕ × Ranges). record { tlid = entry.0; rtsq = piece.0; ranges = piece.1 }) (with_rtsqs 1 entry.1.ranges)
+sixes_fit entry n f room = all_map FitsType6 (λ (piece : ℕ × Ranges). record { tlid = entry.0; rtsq = piece.0; ranges = piece.1 }) (numbered_from 1 entry.1.ranges)
     (all_weaker (λ (piece : ℕ × Ranges). (1 ≤ piece.0) × ((piece.0 < 1 + length entry.1.ranges) × FitsRanges piece.1)) (λ piece. FitsType6 (record { tlid = entry.0; rtsq = piece.0; ranges = piece.1 }))
     (λ piece h. record { tlid = n; rtsq = ((let low : 1 ≤ piece.0 = h.0 in omega arith), (let high : piece.0 < 1 + length entry.1.ranges = h.1.0 in let few : length entry.1.ranges ≤ 999 = room.ranges in omega arith)); ranges = h.1.1 })
-    (with_rtsqs 1 entry.1.ranges) (all_with_rtsqs FitsRanges 1 entry.1.ranges f.ranges))
+    (numbered_from 1 entry.1.ranges) (all_numbered_from FitsRanges 1 entry.1.ranges f.ranges))
 
 i_fits : (entry : ℕ × Chain) → IsNumber 10 entry.0 → FitsChain entry.1 → FitsNumbers entry.1 → FitsTypeI (packed_i entry)
 i_fits entry n f m = record {

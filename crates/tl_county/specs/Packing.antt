@@ -24,10 +24,10 @@ pieces n (suc room) (x ∷ xs) = take n (x ∷ xs) ∷ pieces n room (drop n (x 
 abbrev pub in_pieces : {X : Type 0} → ℕ → List X → List (List X)
 in_pieces n xs = pieces n (length xs) xs
 
--- the elements with their RTSQs, from this one on
-abbrev pub with_rtsqs : {X : Type 0} → ℕ → List X → List (ℕ × X)
-with_rtsqs rtsq [] = []
-with_rtsqs rtsq (x ∷ xs) = (rtsq, x) ∷ with_rtsqs (suc rtsq) xs
+-- the elements numbered one after another, from this number on
+abbrev pub numbered_from : {X : Type 0} → ℕ → List X → List (ℕ × X)
+numbered_from n [] = []
+numbered_from n (x ∷ xs) = (n, x) ∷ numbered_from (suc n) xs
 
 -- the first and the last of a chain's points, and those between; a chain has at least two
 abbrev pub origin : Coordinates
@@ -56,13 +56,13 @@ abbrev pub packed_one : ℕ × Chain → Fields1
 packed_one entry = record { tlid = entry.0; body = entry.1.body; start = first_point entry.1.points; end = last_point entry.1.points }
 
 abbrev pub packed_twos : ℕ × Chain → List Fields2
-packed_twos entry = map (λ piece. record { tlid = entry.0; rtsq = piece.0; points = piece.1 }) (with_rtsqs 1 (in_pieces 10 (inner_points entry.1.points)))
+packed_twos entry = map (λ piece. record { tlid = entry.0; rtsq = piece.0; points = piece.1 }) (numbered_from 1 (in_pieces 10 (inner_points entry.1.points)))
 
 abbrev pub packed_fours : ℕ × Chain → List Fields4
-packed_fours entry = map (λ piece. record { tlid = entry.0; rtsq = piece.0; feats = piece.1 }) (with_rtsqs 1 (in_pieces 5 entry.1.feats))
+packed_fours entry = map (λ piece. record { tlid = entry.0; rtsq = piece.0; feats = piece.1 }) (numbered_from 1 (in_pieces 5 entry.1.feats))
 
 abbrev pub packed_sixes : ℕ × Chain → List Fields6
-packed_sixes entry = map (λ piece. record { tlid = entry.0; rtsq = piece.0; ranges = piece.1 }) (with_rtsqs 1 entry.1.ranges)
+packed_sixes entry = map (λ piece. record { tlid = entry.0; rtsq = piece.0; ranges = piece.1 }) (numbered_from 1 entry.1.ranges)
 
 abbrev pub packed_i : ℕ × Chain → FieldsI
 packed_i entry = record {

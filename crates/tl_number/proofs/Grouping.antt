@@ -10,7 +10,7 @@ use Rattle.tl_county.specs.Orders.{IsInOrder}
 use Rattle.tl_county.proofs.Keys.{Known, nat_keys, known_cases, known_all}
 use Rattle.tl_county.proofs.Lists.{all_weaker, all_filter}
 use Rattle.tl_number.specs.Canonical.{AreFull}
-use Rattle.tl_county.specs.Packing.{pieces, with_rtsqs}
+use Rattle.tl_county.specs.Packing.{pieces, numbered_from}
 
 below : (m n : ℕ) → nat_cmp m n ≡ Less → m < n
 below m n e = ranked m n Less (sym e)
@@ -128,7 +128,7 @@ pieces-joined n one ((x ∷ l) ∷ m ∷ ls) f (suc room) h =
     ∙ ap (λ ys. (x ∷ l) ∷ ys) (pieces-joined n one (m ∷ ls) f.1 room (let t : length (l ++ rest) ≡ length l + length rest = length-append l rest in omega (arith, h)))
 
 -- records with the RTSQs 1, 2, 3, .. are their contents with RTSQs
-pub rtsqs-back : {X Y : Type 0} (tlid rtsq : X → ℕ) (content : X → Y) (make : ℕ → ℕ → Y → X) → ((r : X) → make (tlid r) (rtsq r) (content r) ≡ r) → (t i : ℕ) (rs : List X) → AllByRecursion (λ r. tlid r ≡ t) rs → map rtsq rs ≡ range_with_len i (length rs) → map (λ (p : ℕ × Y). make t p.0 p.1) (with_rtsqs i (map content rs)) ≡ rs
+pub rtsqs-back : {X Y : Type 0} (tlid rtsq : X → ℕ) (content : X → Y) (make : ℕ → ℕ → Y → X) → ((r : X) → make (tlid r) (rtsq r) (content r) ≡ r) → (t i : ℕ) (rs : List X) → AllByRecursion (λ r. tlid r ≡ t) rs → map rtsq rs ≡ range_with_len i (length rs) → map (λ (p : ℕ × Y). make t p.0 p.1) (numbered_from i (map content rs)) ≡ rs
 rtsqs-back tlid rtsq content make m t i [] a e = refl
 rtsqs-back tlid rtsq content make m t i (r ∷ rs) a e =
     let here : rtsq r ≡ i = cc in

@@ -28,7 +28,7 @@ use Rattle.std.proofs.lemmas.Bool.{ltb-true, lt-ltb}
 use Rattle.tl_county.proofs.InOrder.{in_order-map}
 use Rattle.tl_number.specs.Canonical.{StandsInOrder, IsPacked, seven_cmp}
 use Rattle.tl_number.specs.Growth.{up_to}
-use Rattle.tl_county.specs.Packing.{in_pieces, with_rtsqs, last_point, without_last, packed_one, packed_twos, packed_fours, packed_sixes, packed_i, packed_five, packed_sevens}
+use Rattle.tl_county.specs.Packing.{in_pieces, numbered_from, last_point, without_last, packed_one, packed_twos, packed_fours, packed_sixes, packed_i, packed_five, packed_sevens}
 use Rattle.tl_number.proofs.Counting.{up_to-strict}
 use Rattle.tl_number.proofs.Grouping.{in_order-weaker, then-first, then-second, in_order-filter, in_order-from_strict, grouped, pieces-joined, rtsqs-back}
 
@@ -136,8 +136,8 @@ module _ (records : List Record) (linked : IsLinked records) where
     twos_of : (r : Fields1) (link : FieldsI) → packed_twos (r.tlid, chain_of records r link) ≡ of_number two_tlid r.tlid (of_type_2 records)
     twos_of r link =
         let rs : List Fields2 = of_number two_tlid r.tlid (of_type_2 records) in
-        ap (λ ps. map (λ (p : ℕ × List Coordinates). record { tlid = r.tlid; rtsq = p.0; points = p.1 }) (with_rtsqs 1 (in_pieces 10 ps))) (inner_back r.start (shape_points records r.tlid) r.end)
-        ∙ ap (λ ls. map (λ (p : ℕ × List Coordinates). record { tlid = r.tlid; rtsq = p.0; points = p.1 }) (with_rtsqs 1 ls)) (two_pieces r.tlid)
+        ap (λ ps. map (λ (p : ℕ × List Coordinates). record { tlid = r.tlid; rtsq = p.0; points = p.1 }) (numbered_from 1 (in_pieces 10 ps))) (inner_back r.start (shape_points records r.tlid) r.end)
+        ∙ ap (λ ls. map (λ (p : ℕ × List Coordinates). record { tlid = r.tlid; rtsq = p.0; points = p.1 }) (numbered_from 1 ls)) (two_pieces r.tlid)
         ∙ rtsqs-back two_tlid two_rtsq (λ (q : Fields2). q.points) (λ t i content. record { tlid = t; rtsq = i; points = content }) (λ q. refl) r.tlid 1 rs (of_number-all two_tlid r.tlid (of_type_2 records)) (full.two_rtsqs r.tlid)
 
     pub twos_back : flat_map packed_twos (chains_of records) ≡ of_type_2 records
@@ -157,7 +157,7 @@ module _ (records : List Record) (linked : IsLinked records) where
     fours_of : (r : Fields1) (link : FieldsI) → packed_fours (r.tlid, chain_of records r link) ≡ of_number four_tlid r.tlid (of_type_4 records)
     fours_of r link =
         let rs : List Fields4 = of_number four_tlid r.tlid (of_type_4 records) in
-        ap (λ ls. map (λ (p : ℕ × List ℕ). record { tlid = r.tlid; rtsq = p.0; feats = p.1 }) (with_rtsqs 1 ls)) (four_pieces r.tlid)
+        ap (λ ls. map (λ (p : ℕ × List ℕ). record { tlid = r.tlid; rtsq = p.0; feats = p.1 }) (numbered_from 1 ls)) (four_pieces r.tlid)
         ∙ rtsqs-back four_tlid four_rtsq (λ (q : Fields4). q.feats) (λ t i content. record { tlid = t; rtsq = i; feats = content }) (λ q. refl) r.tlid 1 rs (of_number-all four_tlid r.tlid (of_type_4 records)) (full.four_rtsqs r.tlid)
 
     pub fours_back : flat_map packed_fours (chains_of records) ≡ of_type_4 records
@@ -171,7 +171,7 @@ module _ (records : List Record) (linked : IsLinked records) where
     sixes_of : (r : Fields1) (link : FieldsI) → packed_sixes (r.tlid, chain_of records r link) ≡ of_number six_tlid r.tlid (of_type_6 records)
     sixes_of r link =
         let rs : List Fields6 = of_number six_tlid r.tlid (of_type_6 records) in
-        ap (λ qs. map (λ (p : ℕ × Ranges). record { tlid = r.tlid; rtsq = p.0; ranges = p.1 }) (with_rtsqs 1 (map (λ (q : Fields6). q.ranges) qs))) (rtsq_order six_rtsq rs (full.six_rtsqs r.tlid))
+        ap (λ qs. map (λ (p : ℕ × Ranges). record { tlid = r.tlid; rtsq = p.0; ranges = p.1 }) (numbered_from 1 (map (λ (q : Fields6). q.ranges) qs))) (rtsq_order six_rtsq rs (full.six_rtsqs r.tlid))
         ∙ rtsqs-back six_tlid six_rtsq (λ (q : Fields6). q.ranges) (λ t i content. record { tlid = t; rtsq = i; ranges = content }) (λ q. refl) r.tlid 1 rs (of_number-all six_tlid r.tlid (of_type_6 records)) (full.six_rtsqs r.tlid)
 
     pub sixes_back : flat_map packed_sixes (chains_of records) ≡ of_type_6 records

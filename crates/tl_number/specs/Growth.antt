@@ -1,6 +1,9 @@
 -- Numbers by first appearance.
-use Rattle.std.specs.Prelude.{ℕ, ◌+◌, ◌≤◌, max, List, [], ◌∷◌, ⊤}
+use Rattle.std.specs.Prelude.{ℕ, ◌+◌, ◌≤◌, max, List, [], ◌∷◌, ◌++◌, map, cond, ⊤}
 use Rattle.std.specs.List.{range_with_len}
+use Rattle.std.specs.declared.cmp.Ordering.{Ordering}
+use Rattle.tl_county.specs.Orders.{stands_in}
+use Rattle.tl_county.specs.Packing.{numbered_from}
 
 -- each number is at least 1 and at most one more than the greatest before it, which is at first greatest
 abbrev pub GrowsFrom : ℕ → List ℕ → Type 0
@@ -14,3 +17,16 @@ Grows = GrowsFrom 0
 -- 1, 2, 3, .. up to n
 abbrev pub up_to : ℕ → List ℕ
 up_to n = range_with_len 1 n
+
+-- the keys seen so far, and then the others in the order in which they are first seen
+abbrev pub first_seen_after : {K : Type 0} → (K → K → Ordering) → List K → List K → List K
+first_seen_after cmp seen [] = seen
+first_seen_after cmp seen (key ∷ keys) = cond (stands_in cmp key seen) (first_seen_after cmp seen keys) (first_seen_after cmp (seen ++ (key ∷ [])) keys)
+
+-- the keys in the order in which they are first seen, each once
+abbrev pub first_seen : {K : Type 0} → (K → K → Ordering) → List K → List K
+first_seen cmp keys = first_seen_after cmp [] keys
+
+-- each with its number, counted from 1
+abbrev pub numbered : {K : Type 0} → List K → List (K × ℕ)
+numbered keys = map (λ pair. (pair.1, pair.0)) (numbered_from 1 keys)

@@ -1,0 +1,121 @@
+-- Arrangements: an order and a direction for each chain of a county, and the renaming and the county that follow from them.
+use Rattle.std.specs.Prelude.{ℕ, List, map, filter, flat_map, reverse, Bool, IsPermutation}
+use Rattle.std.specs.Ordering.{is_gt, on}
+use Rattle.std.specs.declared.cmp.Ordering.{Ordering}
+use Rattle.tl_layout.specs.ByType.{of_number}
+use Rattle.tl_layout.specs.Coordinates.{Coordinates}
+use Rattle.tl_layout.specs.Fields.{Fields8}
+use Rattle.tl_layout.specs.declared.type5.Body5.{Body5}
+use Rattle.tl_layout.specs.declared.type7.Body7.{Body7}
+use Rattle.tl_layout.specs.declared.type_p.BodyP.{BodyP}
+use Rattle.tl_shape.specs.Chain.{Chain}
+use Rattle.tl_shape.specs.PointOrder.{points_cmp}
+use Rattle.tl_shape.specs.Turned.{turned_if}
+use Rattle.tl_county.specs.BodyOrder.{link_cmp}
+use Rattle.tl_county.specs.County.{County}
+use Rattle.tl_county.specs.CountyRules.{tlids, nodes_along, polygons_along, link_key}
+use Rattle.tl_county.specs.Orders.{in_order}
+use Rattle.tl_county.specs.Packing.{numbered_from}
+use Rattle.tl_county.specs.PolygonKeys.{PolygonKey, key_cmp}
+use Rattle.tl_county.specs.Renumbering.{Renumbering, image, carried_chain, carried_name, carried_polygon, carried_landmark, carried_link}
+use Rattle.std.specs.Ordering.{nat_cmp}
+use Rattle.tl_number.specs.Growth.{first_seen, numbered}
+use Rattle.tl_number.specs.Uses.{all_uses, name_key, name_key_cmp, landmark_key, landmark_key_cmp}
+
+-- TLIDs in their new order, each with whether its chain is turned
+abbrev pub Arrangement : Type 0
+Arrangement = List (ℕ × Bool)
+
+-- the TLIDs of an arrangement
+abbrev pub arranged_tlids : Arrangement → List ℕ
+arranged_tlids steps = map (λ step. step.0) steps
+
+-- it names each TLID of the county once
+abbrev pub Arranges : Arrangement → County → Type 0
+Arranges steps county = IsPermutation (arranged_tlids steps) (tlids county)
+
+-- the chain of this TLID, as it stands in the list
+abbrev pub entries_of : List (ℕ × Chain) → ℕ → List (ℕ × Chain)
+entries_of chains tlid = of_number (λ entry. entry.0) tlid chains
+
+-- the chains in their new order
+abbrev pub chains_in_order : County → Arrangement → List (ℕ × Chain)
+chains_in_order county steps = flat_map (λ step. entries_of county.chains step.0) steps
+
+-- the chains in their new order and direction, under the TLIDs 1, 2, 3, ..; all other numbers are the old ones
+abbrev pub placed : County → Arrangement → List (ℕ × Chain)
+placed county steps = numbered_from 1 (flat_map (λ step. map (λ entry. turned_if step.1 entry.1) (entries_of county.chains step.0)) steps)
+
+-- nodes in the order of their first appearance, start before end
+abbrev pub nodes_in_order : County → Arrangement → List ℕ
+nodes_in_order county steps = first_seen nat_cmp (nodes_along (placed county steps))
+
+-- polygons in the order of their first appearance, left before right
+abbrev pub polygons_in_order : County → Arrangement → List PolygonKey
+polygons_in_order county steps = first_seen key_cmp (polygons_along (placed county steps))
+
+-- a polygon's key with its new one: the CENID stays
+abbrev pub under_cenid : PolygonKey × ℕ → PolygonKey × PolygonKey
+under_cenid pair = (pair.0, (pair.0.0, pair.1))
+
+-- the keys of polygons with their new ones, in one numbering over all CENIDs
+abbrev pub new_keys : County → Arrangement → List (PolygonKey × PolygonKey)
+new_keys county steps = map under_cenid (numbered (polygons_in_order county steps))
+
+-- names in the order of their content and then of their uses under the new TLIDs
+abbrev pub names_in_order : County → Arrangement → List (ℕ × Body5)
+names_in_order county steps = in_order (on (name_key (all_uses (placed county steps))) name_key_cmp) county.names
+
+-- a link with its polygon under the new number
+abbrev pub relinked : List (PolygonKey × PolygonKey) → Fields8 → Fields8
+relinked keys link = record {
+  file = link.file;
+  cenid = (image key_cmp keys (link_key link)).0;
+  polyid = (image key_cmp keys (link_key link)).1;
+  land = link.land;
+}
+
+-- the links with their polygons under the new numbers, in order; LANDs are the old ones
+abbrev pub links_relinked : County → Arrangement → List Fields8
+links_relinked county steps = in_order link_cmp (map (relinked (new_keys county steps)) county.links)
+
+-- landmarks in the order of their bodies and then of their links under the new POLYIDs
+abbrev pub landmarks_in_order : County → Arrangement → List (ℕ × List Body7)
+landmarks_in_order county steps = in_order (on (landmark_key (links_relinked county steps)) landmark_key_cmp) county.landmarks
+
+-- the old TLIDs of the chains that are turned
+abbrev pub turned_tlids : Arrangement → List ℕ
+turned_tlids steps = arranged_tlids (filter (λ step. step.1) steps)
+
+-- the new numbers of an arrangement
+unfoldable pub renaming_of : County → Arrangement → Renumbering
+renaming_of county steps = record {
+  chains = numbered (arranged_tlids steps);
+  names = numbered (map (λ entry. entry.0) (names_in_order county steps));
+  polygons = new_keys county steps;
+  lands = numbered (map (λ entry. entry.0) (landmarks_in_order county steps));
+  nodes = numbered (nodes_in_order county steps);
+  turned = turned_tlids steps;
+}
+
+-- the county under its new numbers
+unfoldable pub arranged : County → Arrangement → County
+arranged county steps = record {
+  chains = map (carried_chain (renaming_of county steps)) (chains_in_order county steps);
+  names = map (carried_name (renaming_of county steps)) (names_in_order county steps);
+  polygons = in_order (on (λ entry. entry.0) key_cmp) (map (carried_polygon (renaming_of county steps)) county.polygons);
+  landmarks = map (carried_landmark (renaming_of county steps)) (landmarks_in_order county steps);
+  links = in_order link_cmp (map (carried_link (renaming_of county steps)) county.links);
+}
+
+-- whether a chain's points come after their reverse
+abbrev pub comes_turned : Chain → Bool
+comes_turned chain = is_gt (points_cmp chain.points (reverse chain.points))
+
+-- a chain's points or their reverse, whichever comes first
+abbrev pub least_points : ℕ × Chain → List Coordinates
+least_points entry = (turned_if (comes_turned entry.1) entry.1).points
+
+-- the arrangement in which each chain has its least points and the chains ascend by them
+abbrev pub ascending : County → Arrangement
+ascending county = map (λ entry. (entry.0, comes_turned entry.1)) (in_order (on least_points points_cmp) county.chains)
