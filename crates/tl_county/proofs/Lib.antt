@@ -18,3 +18,4 @@ pub mod Repacking
 pub mod Counted
 pub mod FitsPacked
 pub mod FitsCounty
+pub mod Permutations

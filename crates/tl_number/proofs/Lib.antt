@@ -11,3 +11,4 @@ pub mod RepackedPolygons
 pub mod Uniqueness
 pub mod OnSamples
 pub mod Accepted
+pub mod FirstSeen
