@@ -12,3 +12,4 @@ pub mod Uniqueness
 pub mod OnSamples
 pub mod Accepted
 pub mod FirstSeen
+pub mod Placed
