@@ -13,3 +13,4 @@ pub mod OnSamples
 pub mod Accepted
 pub mod FirstSeen
 pub mod Placed
+pub mod Carrying
