@@ -19,3 +19,4 @@ pub mod Counted
 pub mod FitsPacked
 pub mod FitsCounty
 pub mod Permutations
+pub mod CarriedCounty

@@ -18,6 +18,7 @@ use Rattle.tl_county.specs.Orders.{times, stands_in, has_repeat, in_order, disti
 use Rattle.tl_county.specs.PolygonKeys.{PolygonKey, key_cmp, key_on}
 use Rattle.tl_county.specs.Renumbering.{Renumbering, image, carried_chain, carried_name, carried_polygon, carried_landmark, carried_link, ArePaired, NumbersArePaired, Carries}
 use Rattle.tl_county.proofs.Carried.{among-unpieces, among-turned, among-unappend}
+use Rattle.tl_county.proofs.CarriedCounty.{nodes-turned, nodes-unturned, polygons-unturned}
 use Rattle.tl_county.proofs.Distinct.{apart-distinct, known-distinct, known_from_distinct, has_repeat-apart}
 use Rattle.tl_county.proofs.FirstFault.{Among, all_among, among_left, among_right}
 use Rattle.tl_county.proofs.KeyOrders.{key_keys}
@@ -43,31 +44,6 @@ images-numbered keys a =
     ap (map (image nat_cmp (numbered keys))) (sym (lefts-numbered keys))
     ∙ images-lefts nat_keys (numbered keys) (subst (IsApart nat_cmp) (sym (lefts-numbered keys)) a)
     ∙ rights-numbered keys
-
--- a turn keeps the members of what is told of both ends and sides
-pub nodes-turned : (n : ℕ) (b : Bool) (c : Chain) → Among n (chain_nodes c) → Among n (chain_nodes (turned_if b c))
-nodes-turned n false c h = h
-nodes-turned n true c h = go (among-unappend n (option_to_list c.start_node) (option_to_list c.end_node) h)
-  where
-    go : Among n (option_to_list c.start_node) ⊎ Among n (option_to_list c.end_node) → Among n (option_to_list c.end_node ++ option_to_list c.start_node)
-    go (inl h) = among_right n (option_to_list c.end_node) (option_to_list c.start_node) h
-    go (inr h) = among_left n (option_to_list c.end_node) (option_to_list c.start_node) h
-
-pub nodes-unturned : (n : ℕ) (b : Bool) (c : Chain) → Among n (chain_nodes (turned_if b c)) → Among n (chain_nodes c)
-nodes-unturned n false c h = h
-nodes-unturned n true c h = go (among-unappend n (option_to_list c.end_node) (option_to_list c.start_node) h)
-  where
-    go : Among n (option_to_list c.end_node) ⊎ Among n (option_to_list c.start_node) → Among n (option_to_list c.start_node ++ option_to_list c.end_node)
-    go (inl h) = among_right n (option_to_list c.start_node) (option_to_list c.end_node) h
-    go (inr h) = among_left n (option_to_list c.start_node) (option_to_list c.end_node) h
-
-pub polygons-unturned : (k : PolygonKey) (b : Bool) (c : Chain) → Among k (chain_polygons (turned_if b c)) → Among k (chain_polygons c)
-polygons-unturned k false c h = h
-polygons-unturned k true c h = go (among-unappend k (key_on c.right) (key_on c.left) h)
-  where
-    go : Among k (key_on c.right) ⊎ Among k (key_on c.left) → Among k (key_on c.left ++ key_on c.right)
-    go (inl h) = among_right k (key_on c.left) (key_on c.right) h
-    go (inr h) = among_left k (key_on c.left) (key_on c.right) h
 
 module _ (county : County) (steps : Arrangement) (is : IsCounty county) (arranges : Arranges steps county) where
   -- each placed chain is one of the county, turned or not

@@ -98,7 +98,7 @@ times-land (x ∷ xs) k = go (cases_eq x.land k.land) (times-land xs k)
         ∙ ap (λ b. b && is_eq (link_part_cmp (link_part k) (link_part x))) (sym (ne_eqb x.land k.land ne))) ih
 
 -- where renaming keeps LANDs apart, a renamed landmark has the links that it had
-count-relanded : (f : ℕ → ℕ) (Dom : ℕ → Type 0) → ((n m : ℕ) → Dom n → Dom m → f n ≡ f m → n ≡ m) → (links : List Fields8) → AllByRecursion (λ l. Dom l.land) links → (y : ℕ) → Dom y → (k : LinkPart) → length (filter (is_link (f y) k) (map (relanded f) links)) ≡ length (filter (is_link y k) links)
+pub count-relanded : (f : ℕ → ℕ) (Dom : ℕ → Type 0) → ((n m : ℕ) → Dom n → Dom m → f n ≡ f m → n ≡ m) → (links : List Fields8) → AllByRecursion (λ l. Dom l.land) links → (y : ℕ) → Dom y → (k : LinkPart) → length (filter (is_link (f y) k) (map (relanded f) links)) ≡ length (filter (is_link y k) links)
 count-relanded f Dom inj [] a y d k = refl
 count-relanded f Dom inj (x ∷ xs) a y d k = go (cases_eq x.land y) (count-relanded f Dom inj xs a.1 y d k)
   where

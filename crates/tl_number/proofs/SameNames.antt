@@ -50,7 +50,7 @@ from_uses : (P : ℕ → Type 0) (t i : ℕ) (fs : List ℕ) → AllByRecursion 
 from_uses P t i [] a = tt
 from_uses P t i (x ∷ fs) a = (a.0, from_uses P t (suc i) fs a.1)
 
-all_uses-all : (P : ℕ → Type 0) (cs : List (ℕ × Chain)) → AllByRecursion (λ c. AllByRecursion P c.1.feats) cs → AllByRecursion (λ u. P u.1) (all_uses cs)
+pub all_uses-all : (P : ℕ → Type 0) (cs : List (ℕ × Chain)) → AllByRecursion (λ c. AllByRecursion P c.1.feats) cs → AllByRecursion (λ u. P u.1) (all_uses cs)
 all_uses-all P [] a = tt
 all_uses-all P (c ∷ cs) a = all_append (λ u. P u.1) (uses_from c.0 1 c.1.feats) (all_uses cs) (uses_from-all P c.0 1 c.1.feats a.0) (all_uses-all P cs a.1)
 
@@ -59,7 +59,7 @@ from_all_uses P [] a = tt
 from_all_uses P (c ∷ cs) a = (from_uses P c.0 1 c.1.feats (all_left (λ u. P u.1) (uses_from c.0 1 c.1.feats) (all_uses cs) a), from_all_uses P cs (all_right (λ u. P u.1) (uses_from c.0 1 c.1.feats) (all_uses cs) a))
 
 -- where renaming keeps FEATs apart, a renamed name has the uses that it had
-uses_of-renamed : (f : ℕ → ℕ) (Dom : ℕ → Type 0) → ((n m : ℕ) → Dom n → Dom m → f n ≡ f m → n ≡ m) → (us : List (Use × ℕ)) → AllByRecursion (λ u. Dom u.1) us → (y : ℕ) → Dom y → uses_of (map (renamed_use f) us) (f y) ≡ uses_of us y
+pub uses_of-renamed : (f : ℕ → ℕ) (Dom : ℕ → Type 0) → ((n m : ℕ) → Dom n → Dom m → f n ≡ f m → n ≡ m) → (us : List (Use × ℕ)) → AllByRecursion (λ u. Dom u.1) us → (y : ℕ) → Dom y → uses_of (map (renamed_use f) us) (f y) ≡ uses_of us y
 uses_of-renamed f Dom inj [] a y d = refl
 uses_of-renamed f Dom inj (u ∷ us) a y d = go (cases_eq u.1 y) (uses_of-renamed f Dom inj us a.1 y d)
   where
