@@ -47,7 +47,7 @@ images-numbered keys a =
 
 module _ (county : County) (steps : Arrangement) (is : IsCounty county) (arranges : Arranges steps county) where
   -- each placed chain is one of the county, turned or not
-  from_placed : (entry : ℕ × Chain) → Among entry (placed county steps) → (e : ℕ × Chain) × Among e county.chains × ((b : Bool) × (entry.1 ≡ turned_if b e.1))
+  pub from_placed : (entry : ℕ × Chain) → Among entry (placed county steps) → (e : ℕ × Chain) × Among e county.chains × ((b : Bool) × (entry.1 ≡ turned_if b e.1))
   from_placed entry m =
       let bodies : List Chain = flat_map (λ (s : ℕ × Bool). map (λ (e : ℕ × Chain). turned_if s.1 e.1) (entries_of county.chains s.0)) steps in
       let body : Among entry.1 bodies = subst (Among entry.1) (rights-numbered_from 1 bodies) (among-map (λ (e : ℕ × Chain). e.1) entry (placed county steps) m) in

@@ -14,3 +14,4 @@ pub mod Accepted
 pub mod FirstSeen
 pub mod Placed
 pub mod Carrying
+pub mod Tidied
