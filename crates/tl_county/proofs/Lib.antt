@@ -20,3 +20,4 @@ pub mod FitsPacked
 pub mod FitsCounty
 pub mod Permutations
 pub mod CarriedCounty
+pub mod Groups
