@@ -21,3 +21,4 @@ pub mod FitsCounty
 pub mod Permutations
 pub mod CarriedCounty
 pub mod Groups
+pub mod PackedTypes
