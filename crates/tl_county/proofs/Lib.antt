@@ -22,3 +22,4 @@ pub mod Permutations
 pub mod CarriedCounty
 pub mod Groups
 pub mod PackedTypes
+pub mod PackedLinked

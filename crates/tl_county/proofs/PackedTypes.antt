@@ -31,7 +31,7 @@ module _ {Y : Type 0} (h : Record → Option Y) (t : Typed) where
       (filter_map-append h (map Eight t.of_type_8) tail_i ∙ ap₂ (λ xs ys. xs ++ ys) eg
       (filter_map-append h (map I t.of_type_i) (map P t.of_type_p) ∙ ap₂ (λ xs ys. xs ++ ys) ei ep)))))))
 
-type_1 : (t : Typed) → of_type_1 (type_after_type t) ≡ t.of_type_1
+pub type_1 : (t : Typed) → of_type_1 (type_after_type t) ≡ t.of_type_1
 type_1 t = split as_type_1 t t.of_type_1 [] [] [] [] [] [] [] []
     (selected_own as_type_1 One (λ x. refl) t.of_type_1)
     (selected_none as_type_1 Two (λ x. refl) t.of_type_2)
@@ -44,7 +44,7 @@ type_1 t = split as_type_1 t t.of_type_1 [] [] [] [] [] [] [] []
     (selected_none as_type_1 P (λ x. refl) t.of_type_p)
     ∙ append-nil t.of_type_1
 
-type_2 : (t : Typed) → of_type_2 (type_after_type t) ≡ t.of_type_2
+pub type_2 : (t : Typed) → of_type_2 (type_after_type t) ≡ t.of_type_2
 type_2 t = split as_type_2 t [] t.of_type_2 [] [] [] [] [] [] []
     (selected_none as_type_2 One (λ x. refl) t.of_type_1)
     (selected_own as_type_2 Two (λ x. refl) t.of_type_2)
@@ -57,7 +57,7 @@ type_2 t = split as_type_2 t [] t.of_type_2 [] [] [] [] [] [] []
     (selected_none as_type_2 P (λ x. refl) t.of_type_p)
     ∙ append-nil t.of_type_2
 
-type_4 : (t : Typed) → of_type_4 (type_after_type t) ≡ t.of_type_4
+pub type_4 : (t : Typed) → of_type_4 (type_after_type t) ≡ t.of_type_4
 type_4 t = split as_type_4 t [] [] t.of_type_4 [] [] [] [] [] []
     (selected_none as_type_4 One (λ x. refl) t.of_type_1)
     (selected_none as_type_4 Two (λ x. refl) t.of_type_2)
@@ -70,7 +70,7 @@ type_4 t = split as_type_4 t [] [] t.of_type_4 [] [] [] [] [] []
     (selected_none as_type_4 P (λ x. refl) t.of_type_p)
     ∙ append-nil t.of_type_4
 
-type_5 : (t : Typed) → of_type_5 (type_after_type t) ≡ t.of_type_5
+pub type_5 : (t : Typed) → of_type_5 (type_after_type t) ≡ t.of_type_5
 type_5 t = split as_type_5 t [] [] [] t.of_type_5 [] [] [] [] []
     (selected_none as_type_5 One (λ x. refl) t.of_type_1)
     (selected_none as_type_5 Two (λ x. refl) t.of_type_2)
@@ -83,7 +83,7 @@ type_5 t = split as_type_5 t [] [] [] t.of_type_5 [] [] [] [] []
     (selected_none as_type_5 P (λ x. refl) t.of_type_p)
     ∙ append-nil t.of_type_5
 
-type_6 : (t : Typed) → of_type_6 (type_after_type t) ≡ t.of_type_6
+pub type_6 : (t : Typed) → of_type_6 (type_after_type t) ≡ t.of_type_6
 type_6 t = split as_type_6 t [] [] [] [] t.of_type_6 [] [] [] []
     (selected_none as_type_6 One (λ x. refl) t.of_type_1)
     (selected_none as_type_6 Two (λ x. refl) t.of_type_2)
@@ -96,7 +96,7 @@ type_6 t = split as_type_6 t [] [] [] [] t.of_type_6 [] [] [] []
     (selected_none as_type_6 P (λ x. refl) t.of_type_p)
     ∙ append-nil t.of_type_6
 
-type_7 : (t : Typed) → of_type_7 (type_after_type t) ≡ t.of_type_7
+pub type_7 : (t : Typed) → of_type_7 (type_after_type t) ≡ t.of_type_7
 type_7 t = split as_type_7 t [] [] [] [] [] t.of_type_7 [] [] []
     (selected_none as_type_7 One (λ x. refl) t.of_type_1)
     (selected_none as_type_7 Two (λ x. refl) t.of_type_2)
@@ -109,7 +109,7 @@ type_7 t = split as_type_7 t [] [] [] [] [] t.of_type_7 [] [] []
     (selected_none as_type_7 P (λ x. refl) t.of_type_p)
     ∙ append-nil t.of_type_7
 
-type_8 : (t : Typed) → of_type_8 (type_after_type t) ≡ t.of_type_8
+pub type_8 : (t : Typed) → of_type_8 (type_after_type t) ≡ t.of_type_8
 type_8 t = split as_type_8 t [] [] [] [] [] [] t.of_type_8 [] []
     (selected_none as_type_8 One (λ x. refl) t.of_type_1)
     (selected_none as_type_8 Two (λ x. refl) t.of_type_2)
@@ -122,7 +122,7 @@ type_8 t = split as_type_8 t [] [] [] [] [] [] t.of_type_8 [] []
     (selected_none as_type_8 P (λ x. refl) t.of_type_p)
     ∙ append-nil t.of_type_8
 
-type_i : (t : Typed) → of_type_i (type_after_type t) ≡ t.of_type_i
+pub type_i : (t : Typed) → of_type_i (type_after_type t) ≡ t.of_type_i
 type_i t = split as_type_i t [] [] [] [] [] [] [] t.of_type_i []
     (selected_none as_type_i One (λ x. refl) t.of_type_1)
     (selected_none as_type_i Two (λ x. refl) t.of_type_2)
@@ -135,7 +135,7 @@ type_i t = split as_type_i t [] [] [] [] [] [] [] t.of_type_i []
     (selected_none as_type_i P (λ x. refl) t.of_type_p)
     ∙ append-nil t.of_type_i
 
-type_p : (t : Typed) → of_type_p (type_after_type t) ≡ t.of_type_p
+pub type_p : (t : Typed) → of_type_p (type_after_type t) ≡ t.of_type_p
 type_p t = split as_type_p t [] [] [] [] [] [] [] [] t.of_type_p
     (selected_none as_type_p One (λ x. refl) t.of_type_1)
     (selected_none as_type_p Two (λ x. refl) t.of_type_2)
