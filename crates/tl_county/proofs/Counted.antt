@@ -3,7 +3,7 @@ use Rattle.std.proofs.Common.{◌≡◌, ◌⊎◌, ◌+◌, ◌*◌, ◌-◌, �
 use Rattle.std.proofs.lemmas.Bool.{eq-eqb, ne_eqb, cases_eq}
 use Rattle.std.proofs.lemmas.Cmp.{nat_cmp_total, ranked}
 use Rattle.std.proofs.lemmas.List.{length-drop, length-take}
-use Rattle.std.specs.List.{AllByRecursion, cons_option}
+use Rattle.std.specs.List.{AllByRecursion, cons_option, range_with_len}
 use Rattle.std.specs.List.Sorted.{IsStrictlySortedBy}
 use Rattle.tl_county.specs.Orders.{times, in_order}
 use Rattle.tl_county.specs.Packing.{pieces, in_pieces, numbered_from}
@@ -131,3 +131,12 @@ all_selected {X} {Y} P Q h f (x ∷ xs) a = go (h x) refl (all_selected P Q h f 
     go : (o : Option Y) → h x ≡ o → AllByRecursion Q (filter_map h xs) → AllByRecursion Q (cons_option o (filter_map h xs))
     go None e ih = ih
     go (Some y) e ih = (f x y e a.0, ih)
+
+-- numbered lists
+pub lefts-numbered_from : {X : Type 0} (i : ℕ) (xs : List X) → map (λ (e : ℕ × X). e.0) (numbered_from i xs) ≡ range_with_len i (length xs)
+lefts-numbered_from i [] = refl
+lefts-numbered_from i (x ∷ xs) = ap (λ ns. i ∷ ns) (lefts-numbered_from (suc i) xs ∙ ap (λ j. range_with_len j (length xs)) (let t : suc i ≡ i + 1 = omega arith in t))
+
+pub rights-numbered_from : {X : Type 0} (i : ℕ) (xs : List X) → map (λ (e : ℕ × X). e.1) (numbered_from i xs) ≡ xs
+rights-numbered_from i [] = refl
+rights-numbered_from i (x ∷ xs) = ap (λ ys. x ∷ ys) (rights-numbered_from (suc i) xs)

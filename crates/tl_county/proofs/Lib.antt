@@ -23,3 +23,5 @@ pub mod CarriedCounty
 pub mod Groups
 pub mod PackedTypes
 pub mod PackedLinked
+pub mod PolygonBodies
+pub mod PackedCounty

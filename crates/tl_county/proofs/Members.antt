@@ -4,7 +4,7 @@ use Rattle.std.proofs.lemmas.Bool.{false≢true, or_cases, or_left, or_right}
 use Rattle.std.proofs.lemmas.List.Sorted.{Contains-permutation}
 use Rattle.std.specs.List.{list_any, cons_option}
 use Rattle.tl_county.proofs.FirstFault.{Among}
-use Rattle.tl_county.proofs.Keys.{IsKeyOrder, Known, known-here, known-later, known_cases}
+use Rattle.tl_county.proofs.Keys.{IsKeyOrder, IsApart, Known, times-yes, apart_tail, known-here, known-later, known_cases}
 
 pub contains-among : {X : Type 0} (x : X) (xs : List X) → Among x xs → Contains xs x
 contains-among x [] h = absurd h
@@ -97,3 +97,15 @@ to_filter_map {X} {Y} h x y (z ∷ xs) (inr m) e = go (h z) (to_filter_map h x y
     go : (o : Option Y) → Among y (filter_map h xs) → Among y (cons_option o (filter_map h xs))
     go None n = n
     go (Some w) n = inr n
+
+-- where no left part stands twice, entries with one left part are one
+pub one_entry : {K V : Type 0} {cmp : K → K → Ordering} (o : IsKeyOrder cmp) (es : List (K × V)) → IsApart cmp (map (λ e. e.0) es) → (p q : K × V) → Among p es → Among q es → p.0 ≡ q.0 → p ≡ q
+one_entry o [] a p q m n same = absurd m
+one_entry o (e ∷ es) a p q (inl f) (inl g) same = f ∙ sym g
+one_entry {K} {V} o (e ∷ es) a p q (inl f) (inr n) same =
+    absurd (let l = among_known o q.0 (map (λ (d : K × V). d.0) es) (among-map (λ (d : K × V). d.0) q es n) in
+    let t = times-yes o q.0 e.0 (map (λ (d : K × V). d.0) es) (sym same ∙ ap (λ (d : K × V). d.0) f) in omega (arith, a q.0, t, l))
+one_entry {K} {V} o (e ∷ es) a p q (inr m) (inl g) same =
+    absurd (let l = among_known o p.0 (map (λ (d : K × V). d.0) es) (among-map (λ (d : K × V). d.0) p es m) in
+    let t = times-yes o p.0 e.0 (map (λ (d : K × V). d.0) es) (same ∙ ap (λ (d : K × V). d.0) g) in omega (arith, a p.0, t, l))
+one_entry {K} {V} o (e ∷ es) a p q (inr m) (inr n) same = one_entry o es (apart_tail o e.0 (map (λ (d : K × V). d.0) es) a) p q m n same

@@ -178,12 +178,12 @@ module _ (c : County) (is : IsCounty c) where
           let there : Among r (packed_sevens e) = subst (λ (bs : List Body7). Among r (map (λ b. record { land = e.0; body = b }) bs)) (sym same) (inl refl) in
           among_known nat_keys e.0 (map seven_land (flat_map packed_sevens c.landmarks)) (among-map seven_land r (flat_map packed_sevens c.landmarks) (among-pieces packed_sevens e r c.landmarks m there))
 
-  land_stands : (land : ℕ) → Known nat_cmp (lands c) land → Known nat_cmp (map seven_land (of_type_7 (packed c))) land
+  pub land_stands : (land : ℕ) → Known nat_cmp (lands c) land → Known nat_cmp (map seven_land (of_type_7 (packed c))) land
   land_stands land k =
       let e = among-unmap (λ (d : ℕ × List Body7). d.0) land c.landmarks (known_is_among nat_keys land (lands c) k) in
       subst (Known nat_cmp (map seven_land (of_type_7 (packed c)))) (sym e.2) (landmark_stands e.0 e.1)
 
-  sides_along : flat_map side_keys (of_type_i (packed c)) ≡ polygons_along c.chains
+  pub sides_along : flat_map side_keys (of_type_i (packed c)) ≡ polygons_along c.chains
   sides_along = ap (flat_map side_keys) links_of_chains ∙ joined c.chains
     where
       joined : (es : List (ℕ × Chain)) → flat_map side_keys (map packed_i es) ≡ polygons_along es

@@ -31,7 +31,8 @@ use Rattle.tl_number.specs.Arrangement.{Arrangement, Arranges, arranged_tlids, e
 use Rattle.tl_number.specs.Growth.{numbered, up_to}
 use Rattle.tl_number.specs.Uses.{all_uses, name_key, name_key_cmp, landmark_key, landmark_key_cmp}
 use Rattle.tl_number.proofs.Counting.{up_to-strict}
-use Rattle.tl_number.proofs.FirstSeen.{rights-numbered_from, first_seen-apart, from_first_seen, to_first_seen}
+use Rattle.tl_county.proofs.Counted.{rights-numbered_from}
+use Rattle.tl_number.proofs.FirstSeen.{first_seen-apart, from_first_seen, to_first_seen}
 use Rattle.tl_number.proofs.Placed.{lefts-numbered, rights-numbered, steps_apart, order-permutation, placed_tlids, carried_placed, turned_apart, turned_known}
 use Rattle.tl_number.proofs.SameNumbers.{kept_entry, nodes_along-kept}
 

@@ -8,15 +8,6 @@ use Rattle.tl_county.specs.Renumbering.{image}
 use Rattle.tl_county.proofs.Keys.{IsKeyOrder, IsApart, Known, times-yes, times-no, times-append, known-left, known-right, known-append, known_cases, known-here, known-later, same_or_not, apart_tail}
 use Rattle.tl_number.specs.Growth.{GrowsFrom, Grows, first_seen_after, first_seen, numbered, up_to}
 
--- numbered lists
-pub lefts-numbered_from : {X : Type 0} (i : ℕ) (xs : List X) → map (λ (e : ℕ × X). e.0) (numbered_from i xs) ≡ range_with_len i (length xs)
-lefts-numbered_from i [] = refl
-lefts-numbered_from i (x ∷ xs) = ap (λ ns. i ∷ ns) (lefts-numbered_from (suc i) xs ∙ ap (λ j. range_with_len j (length xs)) (let t : suc i ≡ i + 1 = omega arith in t))
-
-pub rights-numbered_from : {X : Type 0} (i : ℕ) (xs : List X) → map (λ (e : ℕ × X). e.1) (numbered_from i xs) ≡ xs
-rights-numbered_from i [] = refl
-rights-numbered_from i (x ∷ xs) = ap (λ ys. x ∷ ys) (rights-numbered_from (suc i) xs)
-
 module _ {K : Type 0} {cmp : K → K → Ordering} (o : IsKeyOrder cmp) where
   -- the place of a key in a list whose first place is i
   abbrev pub place_from : ℕ → List K → K → ℕ

@@ -43,15 +43,6 @@ in_order-filter by p (x ∷ xs) h = go (p x) (in_order-filter by p xs h.1)
     go true ih = (all_filter (λ y. is_gt (by x y) ≡ false) p xs h.0, ih)
     go false ih = ih
 
-pub in_order-from_strict : {X : Type 0} (key : X → ℕ) (xs : List X) → IsStrictlySortedBy nat_cmp (map key xs) → IsInOrder (on key nat_cmp) xs
-unfolding IsStrictlySortedBy
-in_order-from_strict key [] h = tt
-in_order-from_strict key (x ∷ xs) h = (each xs h.0, in_order-from_strict key xs h.1)
-  where
-    each : (ys : List _) → AllByRecursion (λ n. nat_cmp (key x) n ≡ Less) (map key ys) → AllByRecursion (λ y. is_gt (nat_cmp (key x) (key y)) ≡ false) ys
-    each [] a = tt
-    each (y ∷ ys) a = (ap is_gt a.0, each ys a.1)
-
 module _ {X : Type 0} (key : X → ℕ) where
   no_number : (k : ℕ) (xs : List X) → AllByRecursion (λ x. k < key x) xs → of_number key k xs ≡ []
   no_number k [] a = refl

@@ -21,7 +21,8 @@ use Rattle.tl_county.proofs.Sameness.{keys_known}
 use Rattle.tl_number.specs.Arrangement.{Arrangement, Arranges, arranged_tlids, entries_of, chains_in_order, placed, under_cenid, turned_tlids, renaming_of, arranged}
 use Rattle.tl_number.specs.Growth.{numbered, up_to}
 use Rattle.tl_number.proofs.Counting.{entries_equal}
-use Rattle.tl_number.proofs.FirstSeen.{lefts-numbered_from, rights-numbered_from, place_from, place-here, place-later}
+use Rattle.tl_county.proofs.Counted.{lefts-numbered_from, rights-numbered_from}
+use Rattle.tl_number.proofs.FirstSeen.{place_from, place-here, place-later}
 use Rattle.tl_number.proofs.SameNumbers.{kept_entry}
 
 -- numbered keys as pairs

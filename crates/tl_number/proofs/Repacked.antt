@@ -19,7 +19,7 @@ use Rattle.tl_county.specs.declared.fault.LinkedType.{LinkedType}
 use Rattle.tl_county.specs.declared.fault.LinkedType.TheVariants.{Two, Four, Six, I}
 use Rattle.tl_county.specs.Orders.{times, stands_in, IsInOrder, in_order, distinct}
 use Rattle.tl_county.proofs.Distinct.{known-distinct}
-use Rattle.tl_county.proofs.InOrder.{in_order-itself}
+use Rattle.tl_county.proofs.InOrder.{in_order-itself, in_order-from_strict}
 use Rattle.tl_county.proofs.Keys.{Known, nat_keys, all_known}
 use Rattle.tl_county.proofs.LinkedCounty.{needed, apart_chains, the_link}
 use Rattle.tl_county.proofs.Lists.{map-map, map_agree_all, all_unmap}
@@ -30,7 +30,7 @@ use Rattle.tl_number.specs.Canonical.{StandsInOrder, IsPacked, seven_cmp}
 use Rattle.tl_number.specs.Growth.{up_to}
 use Rattle.tl_county.specs.Packing.{in_pieces, numbered_from, last_point, without_last, packed_one, packed_twos, packed_fours, packed_sixes, packed_i, packed_five, packed_sevens}
 use Rattle.tl_number.proofs.Counting.{up_to-strict}
-use Rattle.tl_number.proofs.Grouping.{in_order-weaker, then-first, then-second, in_order-filter, in_order-from_strict, grouped, pieces-joined, rtsqs-back}
+use Rattle.tl_number.proofs.Grouping.{in_order-weaker, then-first, then-second, in_order-filter, grouped, pieces-joined, rtsqs-back}
 
 -- the points between the ends, and the last one
 inner_back : (s : Coordinates) (ps : List Coordinates) (e : Coordinates) → without_last (ps ++ (e ∷ [])) ≡ ps

@@ -17,14 +17,14 @@ use Rattle.tl_county.proofs.InOrder.{in_order-permutation, in_order-map}
 use Rattle.tl_county.proofs.KeyOrders.{name_body_keys, pair_keys, lists_keys}
 use Rattle.tl_county.proofs.Keys.{IsKeyOrder, Known, IsApart, nat_keys, lefts, rights, apart-permutation, known-permutation, image-injective, apart_from_sorted, known_all}
 use Rattle.tl_county.proofs.Lists.{map-map, map_agree_all, all_weaker, all_map, all_append, all_left, all_right}
-use Rattle.tl_county.proofs.Members.{among-unmap}
+use Rattle.tl_county.proofs.Members.{among-unmap, one_entry}
 use Rattle.tl_county.proofs.Sameness.{keys_known}
 use Rattle.tl_number.specs.Growth.{up_to}
 use Rattle.tl_number.specs.Tidy.{IsTidy}
 use Rattle.tl_number.specs.Uses.{Use, use_cmp, uses_from, all_uses, uses_of, NameKey, name_key, name_key_cmp}
 use Rattle.tl_number.proofs.Counting.{entries_equal, map-equal_all, up_to-strict}
 use Rattle.tl_number.proofs.SameNumbers.{kept_entry, KeepsChains, all_themselves}
-use Rattle.tl_number.proofs.UsesOrder.{use_keys, all_uses-strict, one_entry, use_under, under_use}
+use Rattle.tl_number.proofs.UsesOrder.{use_keys, all_uses-strict, use_under, under_use}
 
 pub name_key_keys : IsKeyOrder name_key_cmp
 name_key_keys = pair_keys name_body_keys (lists_keys use_keys)

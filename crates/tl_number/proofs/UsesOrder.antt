@@ -53,18 +53,6 @@ unfolding IsStrictlySortedBy
 all_uses-strict [] h = tt
 all_uses-strict (c ∷ cs) h = chain_strict c.0 1 c.1.feats (all_uses cs) (after_all c.0 cs h.0) (all_uses-strict cs h.1)
 
--- where no left part stands twice, entries with one left part are one
-pub one_entry : {K V : Type 0} {cmp : K → K → Ordering} (o : IsKeyOrder cmp) (es : List (K × V)) → IsApart cmp (map (λ e. e.0) es) → (p q : K × V) → Among p es → Among q es → p.0 ≡ q.0 → p ≡ q
-one_entry o [] a p q m n same = absurd m
-one_entry o (e ∷ es) a p q (inl f) (inl g) same = f ∙ sym g
-one_entry {K} {V} o (e ∷ es) a p q (inl f) (inr n) same =
-    absurd (let l = among_known o q.0 (map (λ (d : K × V). d.0) es) (among-map (λ (d : K × V). d.0) q es n) in
-    let t = times-yes o q.0 e.0 (map (λ (d : K × V). d.0) es) (sym same ∙ ap (λ (d : K × V). d.0) f) in omega (arith, a q.0, t, l))
-one_entry {K} {V} o (e ∷ es) a p q (inr m) (inl g) same =
-    absurd (let l = among_known o p.0 (map (λ (d : K × V). d.0) es) (among-map (λ (d : K × V). d.0) p es m) in
-    let t = times-yes o p.0 e.0 (map (λ (d : K × V). d.0) es) (same ∙ ap (λ (d : K × V). d.0) g) in omega (arith, a p.0, t, l))
-one_entry {K} {V} o (e ∷ es) a p q (inr m) (inr n) same = one_entry o es (apart_tail o e.0 (map (λ (d : K × V). d.0) es) a) p q m n same
-
 -- the uses under a FEAT
 pub use_under : (us : List (Use × ℕ)) (u : Use) (f : ℕ) → Among (u, f) us → Among u (uses_of us f)
 use_under [] u f m = absurd m
