@@ -15,3 +15,4 @@ pub mod FirstSeen
 pub mod Placed
 pub mod Carrying
 pub mod Tidied
+pub mod TidyPacking
