@@ -16,3 +16,4 @@ pub mod Placed
 pub mod Carrying
 pub mod Tidied
 pub mod TidyPacking
+pub mod Ascending

@@ -128,7 +128,7 @@ module _ (county : County) (steps : Arrangement) (is : IsCounty county) (arrange
       (all_weaker (λ entry. Known nat_cmp (tlids county) entry.0) (λ entry. Known nat_cmp (arranged_tlids steps) entry.0) (λ entry k. known-permutation nat_keys entry.0 (arranged_tlids steps) (tlids county) arranges k) county.chains (keys_known nat_keys county.chains)))
 
   -- a known TLID has one chain
-  one_chain : (n : ℕ) → Known nat_cmp (tlids county) n → (entry : ℕ × Chain) × (entries_of county.chains n ≡ entry ∷ []) × (entry.0 ≡ n)
+  pub one_chain : (n : ℕ) → Known nat_cmp (tlids county) n → (entry : ℕ × Chain) × (entries_of county.chains n ≡ entry ∷ []) × (entry.0 ≡ n)
   one_chain n k =
       let once : times nat_cmp n (tlids county) ≤ 1 = apart_from_sorted nat_keys (tlids county) is.ascending.chains n in
       let count : times nat_cmp n (tlids county) ≡ length (entries_of county.chains n) = times-of_number (λ (entry : ℕ × Chain). entry.0) n county.chains in

@@ -82,8 +82,8 @@ module _ (county : County) (steps : Arrangement) (is : IsCounty county) (arrange
   nodes_grow =
       let along : List ℕ = nodes_along (placed county steps) in
       let places : map (image nat_cmp (renaming_of county steps).nodes) along ≡ map (place_from nat_keys 1 (first_seen nat_cmp along)) along =
-          ap (λ pairs. map (image nat_cmp pairs) along) (nodes_renamed county steps is arranges)
-          ∙ map_agree nat_keys (image nat_cmp (numbered (nodes_in_order county steps))) (place_from nat_keys 1 (first_seen nat_cmp along)) along (λ n k. image-numbered (nodes_in_order county steps) n (to_first_seen nat_keys along n k)) in
+      ap (λ pairs. map (image nat_cmp pairs) along) (nodes_renamed county steps is arranges)
+      ∙ map_agree nat_keys (image nat_cmp (numbered (nodes_in_order county steps))) (place_from nat_keys 1 (first_seen nat_cmp along)) along (λ n k. image-numbered (nodes_in_order county steps) n (to_first_seen nat_keys along n k)) in
       subst Grows (sym (nodes_along_arranged county steps is arranges ∙ places)) (first_seen-grows nat_keys along)
 
   -- polygons, each with the place of its first appearance
@@ -211,10 +211,10 @@ module _ (county : County) (steps : Arrangement) (is : IsCounty county) (arrange
   keys_apart k =
       let new : List PolygonKey = rights (renaming_of county steps).polygons in
       let numbers : map (λ (i : PolygonKey). i.1) new ≡ up_to (length (polygons_in_order county steps)) =
-          ap (λ (pairs : List (PolygonKey × PolygonKey)). map (λ (i : PolygonKey). i.1) (rights pairs)) (polygons_renamed county steps is arranges)
-          ∙ ap (map (λ (i : PolygonKey). i.1)) (map-map (λ (pair : PolygonKey × PolygonKey). pair.1) under_cenid (numbered (polygons_in_order county steps)))
-          ∙ map-map (λ (i : PolygonKey). i.1) (λ (pair : PolygonKey × ℕ). (pair.0.0, pair.1)) (numbered (polygons_in_order county steps))
-          ∙ rights-numbered (polygons_in_order county steps) in
+      ap (λ (pairs : List (PolygonKey × PolygonKey)). map (λ (i : PolygonKey). i.1) (rights pairs)) (polygons_renamed county steps is arranges)
+      ∙ ap (map (λ (i : PolygonKey). i.1)) (map-map (λ (pair : PolygonKey × PolygonKey). pair.1) under_cenid (numbered (polygons_in_order county steps)))
+      ∙ map-map (λ (i : PolygonKey). i.1) (λ (pair : PolygonKey × ℕ). (pair.0.0, pair.1)) (numbered (polygons_in_order county steps))
+      ∙ rights-numbered (polygons_in_order county steps) in
       let few : times nat_cmp k.1 (map (λ (i : PolygonKey). i.1) new) ≤ 1 = subst (IsApart nat_cmp) (sym numbers) (apart_from_sorted nat_keys (up_to (length (polygons_in_order county steps))) (up_to-strict (length (polygons_in_order county steps)))) k.1 in
       let told : times key_cmp k new ≤ times nat_cmp k.1 (map (λ (i : PolygonKey). i.1) new) = times-told key_keys nat_keys (λ (i : PolygonKey). i.1) k new in
       let same : times key_cmp k (polygon_keys (arranged county steps)) ≡ times key_cmp k new = times-permutation key_keys k new (polygon_keys (arranged county steps)) h.numbers.polygons.right in

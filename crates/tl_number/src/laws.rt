@@ -1,12 +1,15 @@
 //! Laws of the definitions in `specs/`. The functions do nothing; their contracts are the laws.
 
 ghost use Rattle.std.specs.Prelude.{◌≡◌, ◌⊎◌, List};
-ghost use Rattle.tl_county.specs.County.{county_of};
+ghost use Rattle.tl_county.specs.County.{County, county_of};
+ghost use Rattle.tl_county.specs.CountyRules.{AllKeysStandIn, IsCounty, polygon_keys, polygons_along};
 ghost use Rattle.tl_county.specs.Renumbering.{AreSame, Carries, Renumbering};
 ghost use Rattle.tl_layout.specs.declared.record_type.Record.{Record};
 ghost use Rattle.tl_number.specs.Accepted.{IsAccepted, IsCanonicalOf, IsRefusal, Refusal};
+ghost use Rattle.tl_number.specs.Arrangement.{Arrangement, Arranges, arranged, ascending, renaming_of};
 ghost use Rattle.tl_number.specs.Canonical.{IsCanonical, IsTidyList, KeepsChainNumbers};
 ghost use Rattle.tl_county.specs.Packing.{packed};
+ghost use Rattle.tl_number.specs.Tidy.{IsTidy};
 
 /// A list in the canonical order, packing and numbering is the packing of its county, whatever the choice of TLIDs and
 /// directions.
@@ -25,6 +28,32 @@ pub fn tidy_lists_with_one_choice_are_equal()
 pub fn canonical_lists_of_one_county_are_equal()
     ensures { (xs ys : List Record) →
         IsCanonical xs → IsCanonical ys → AreSame (county_of xs) (county_of ys) → xs ≡ ys }
+{}
+
+/// Any arrangement of a county whose polygons stand on sides gives a county that is the same, in canonical numbers for the
+/// arrangement's order and directions, and a list of records that is tidy.
+pub fn an_arrangement_gives_a_tidy_list()
+    ensures carries { (county : County) (steps : Arrangement) →
+        IsCounty county → Arranges steps county → AllKeysStandIn (polygons_along county.chains) (polygon_keys county) →
+        Carries (renaming_of county steps) county (arranged county steps) }
+    ensures county { (county : County) (steps : Arrangement) →
+        IsCounty county → Arranges steps county → AllKeysStandIn (polygons_along county.chains) (polygon_keys county) →
+        IsCounty (arranged county steps) × IsTidy (arranged county steps) }
+    ensures list { (county : County) → IsCounty county → IsTidy county → IsTidyList (packed county) }
+{}
+
+/// The county of the packing of a county is that county.
+pub fn a_packed_county_is_read_back()
+    ensures { (county : County) → IsCounty county → county_of (packed county) ≡ county }
+{}
+
+/// Each accepted list of records has exactly one canonical list: the packing of its county under the ascending
+/// arrangement.
+pub fn each_accepted_list_has_one_canonical_list()
+    ensures exists { (records : List Record) →
+        IsAccepted records →
+        IsCanonicalOf records (packed (arranged (county_of records) (ascending (county_of records)))) }
+    ensures only { (records c d : List Record) → IsCanonicalOf records c → IsCanonicalOf records d → c ≡ d }
 {}
 
 /// A list of records is accepted or has a refusal, never both, and never two.

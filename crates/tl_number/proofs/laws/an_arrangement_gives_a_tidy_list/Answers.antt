@@ -1,0 +1,13 @@
+use Rattle.tl_number.proofs.Carrying.{arrangement_carries}
+use Rattle.tl_number.proofs.Tidied.{arranged_county, arranged_tidy}
+use Rattle.tl_number.proofs.TidyPacking.{packed_tidy}
+use Rattle.tl_number.proofs.laws.an_arrangement_gives_a_tidy_list.Goals as goal
+
+pub returns-clause-carries : goal.returns-clause-carries
+returns-clause-carries c = arrangement_carries
+
+pub returns-clause-county : goal.returns-clause-county
+returns-clause-county c = λ county steps is arranges sides. (arranged_county county steps is arranges sides, arranged_tidy county steps is arranges sides)
+
+pub returns-clause-list : goal.returns-clause-list
+returns-clause-list c = packed_tidy
