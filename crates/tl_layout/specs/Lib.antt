@@ -19,6 +19,7 @@ pub mod TableReading
 pub mod ValueLaws
 pub mod PlaceFaultLaws
 pub mod TableFaultLaws
+pub mod TableLaws
 pub mod RecordTables
 pub mod PolygonSide
 pub mod Names
@@ -27,6 +28,7 @@ pub mod AddressRanges
 pub mod Fields
 pub mod GroupLaws
 pub mod Type1
+pub mod Type1Groups
 pub mod Type1Laws
 pub mod TypeI
 pub mod TypeILaws

@@ -94,23 +94,27 @@ places_text_is_text text width fits (suc count) (x ∷ xs) l =
 abbrev pub IsSpeltAnywhere : {A : Type 0} → (List ℕ → ℕ → Option A → Type 0) → (Option A → List ℕ) → (A → Type 0) → Type 0
 IsSpeltAnywhere {A} Spells text Good = (before : List ℕ) (place : Option A) (after : List ℕ) → IfSome place Good → Spells (before ++ (text place ++ after)) (length before + 1) place
 
--- the canonical text of places spells them
-pub places_again : {A : Type 0} (Spells : List ℕ → ℕ → Option A → Type 0) (text : Option A → List ℕ) (Good : A → Type 0) (width : ℕ) → ((place : Option A) → IsText width (text place)) → IsSpeltAnywhere Spells text Good → (before : List ℕ) (count column : ℕ) (xs : List A) (line : List ℕ) → column ≡ length before + 1 → line ≡ before ++ places_text text count xs → length xs ≤ count → AllByRecursion Good xs → SpellsPlaces (Spells line) width count column xs
+-- the canonical text of places spells them, wherever it stands in a line
+pub places_again : {A : Type 0} (Spells : List ℕ → ℕ → Option A → Type 0) (text : Option A → List ℕ) (Good : A → Type 0) (width : ℕ) → ((place : Option A) → IsText width (text place)) → IsSpeltAnywhere Spells text Good → (before after : List ℕ) (count column : ℕ) (xs : List A) (line : List ℕ) → column ≡ length before + 1 → line ≡ before ++ (places_text text count xs ++ after) → length xs ≤ count → AllByRecursion Good xs → SpellsPlaces (Spells line) width count column xs
 unfolding places_text
-places_again Spells text Good width fits again before zero column [] line c e l g = tt
-places_again Spells text Good width fits again before zero column (x ∷ xs) line c e l g = absurd (omega arith)
-places_again Spells text Good width fits again before (suc count) column [] line c e l g =
+places_again Spells text Good width fits again before after zero column [] line c e l g = tt
+places_again Spells text Good width fits again before after zero column (x ∷ xs) line c e l g = absurd (omega arith)
+places_again Spells text Good width fits again before after (suc count) column [] line c e l g =
+    let rest = places_text text count [] ++ after in
+    let whole = e ∙ ap (λ (t : List ℕ). before ++ t) (append_assoc (text None) (places_text text count []) after) in
     let P : List ℕ → Type 0 = λ text. Spells text column None in
-    let Q : ℕ → Type 0 = λ c. Spells (before ++ (text None ++ places_text text count [])) c None in
+    let Q : ℕ → Type 0 = λ c. Spells (before ++ (text None ++ rest)) c None in
     let len = length-append before (text None) in
     let wide = (fits None).len in
-    (subst P (sym e) (subst Q (sym c) (again before None (places_text text count []) tt)), places_again Spells text Good width fits again (before ++ text None) count (column + width) [] line (omega arith) (e ∙ sym (append_assoc before (text None) (places_text text count []))) (omega arith) tt)
-places_again Spells text Good width fits again before (suc count) column (x ∷ xs) line c e l g =
+    (subst P (sym whole) (subst Q (sym c) (again before None rest tt)), places_again Spells text Good width fits again (before ++ text None) after count (column + width) [] line (omega arith) (whole ∙ sym (append_assoc before (text None) rest)) (omega arith) tt)
+places_again Spells text Good width fits again before after (suc count) column (x ∷ xs) line c e l g =
+    let rest = places_text text count xs ++ after in
+    let whole = e ∙ ap (λ (t : List ℕ). before ++ t) (append_assoc (text (Some x)) (places_text text count xs) after) in
     let P : List ℕ → Type 0 = λ text. Spells text column (Some x) in
-    let Q : ℕ → Type 0 = λ c. Spells (before ++ (text (Some x) ++ places_text text count xs)) c (Some x) in
+    let Q : ℕ → Type 0 = λ c. Spells (before ++ (text (Some x) ++ rest)) c (Some x) in
     let len = length-append before (text (Some x)) in
     let wide = (fits (Some x)).len in
-    (subst P (sym e) (subst Q (sym c) (again before (Some x) (places_text text count xs) g.0)), places_again Spells text Good width fits again (before ++ text (Some x)) count (column + width) xs line (omega arith) (e ∙ sym (append_assoc before (text (Some x)) (places_text text count xs))) (omega arith) g.1)
+    (subst P (sym whole) (subst Q (sym c) (again before (Some x) rest g.0)), places_again Spells text Good width fits again (before ++ text (Some x)) after count (column + width) xs line (omega arith) (whole ∙ sym (append_assoc before (text (Some x)) rest)) (omega arith) g.1)
 
 -- columns hold the text that stands behind as many bytes as there are columns before
 pub columns_behind : (before text after : List ℕ) (first last : ℕ) → first ≡ length before + 1 → last ≡ length before + length text → columns first last (before ++ (text ++ after)) ≡ text
@@ -120,7 +124,7 @@ columns_behind before text after first last f l =
     rw (skip, span) (ap (take (length text)) (drop_at before (text ++ after) (length before) refl) ∙ take_at text after (length text) refl)
 
 -- a longitude and a latitude side by side
-two_parts : (before long lat after : List ℕ) → length long ≡ 10 → length lat ≡ 9 → (columns (length before + 1) (length before + 1 + 9) (before ++ ((long ++ lat) ++ after)) ≡ long) × (columns (length before + 1 + 10) (length before + 1 + 18) (before ++ ((long ++ lat) ++ after)) ≡ lat)
+pub two_parts : (before long lat after : List ℕ) → length long ≡ 10 → length lat ≡ 9 → (columns (length before + 1) (length before + 1 + 9) (before ++ ((long ++ lat) ++ after)) ≡ long) × (columns (length before + 1 + 10) (length before + 1 + 18) (before ++ ((long ++ lat) ++ after)) ≡ lat)
 two_parts before long lat after l m =
     let joined = length-append before long in
     let left = ap (λ (t : List ℕ). before ++ t) (append_assoc long lat after) in
@@ -129,7 +133,7 @@ two_parts before long lat after l m =
       ap (columns (length before + 1 + 10) (length before + 1 + 18)) (left ∙ right) ∙ columns_behind (before ++ long) lat after (length before + 1 + 10) (length before + 1 + 18) (omega arith) (omega arith),
     )
 
-pair_of_texts : (m n : ℕ) (a b : List ℕ) → IsText m a → IsText n b → IsText (m + n) (a ++ b)
+pub pair_of_texts : (m n : ℕ) (a b : List ℕ) → IsText m a → IsText n b → IsText (m + n) (a ++ b)
 unfolding AreAllowed
 pair_of_texts m n a b s t =
     let l = s.len in
