@@ -3,15 +3,18 @@ pub mod ByteLaws
 pub mod Columns
 pub mod ColumnLaws
 pub mod NumberField
+pub mod NumberReading
 pub mod NumberLaws
 pub mod NumberTextLaws
 pub mod CoordinateField
+pub mod CoordinateReading
 pub mod CoordinateLaws
 pub mod Coordinates
 pub mod Numbers
+pub mod FieldMeaning
+pub mod FieldTexts
 pub mod FieldReading
 pub mod FieldLaws
-pub mod Places
 pub mod PlaceLaws
 pub mod ColumnTable
 pub mod FieldFaults
@@ -26,7 +29,6 @@ pub mod Names
 pub mod Pairs
 pub mod AddressRanges
 pub mod Fields
-pub mod GroupLaws
 pub mod Type1
 pub mod Type1Groups
 pub mod Type1Laws

@@ -1,6 +1,5 @@
 -- The laws of a record type, from its column table.
-use Rattle.std.proofs.Common.{◌≡◌, ℕ, zero, suc, ◌+◌, ◌-◌, ◌<◌, ◌≤◌, List, [], ◌∷◌, ◌++◌, length, Bool, true, false, Option, Some, None, Result, Ok, Err, refl, sym, ap, ◌∙◌, subst, arith, codes, replicate, unwrap_or, append-nil, append_assoc, ◌&&◌, IsTrue, take, drop, lit<, nat_le, nat_eq}
-use Rattle.std.specs.List.{AllByRecursion, flat_map}
+use Rattle.std.proofs.Common.{◌≡◌, ℕ, ◌+◌, ◌-◌, ◌≤◌, List, [], ◌∷◌, ◌++◌, length, true, Some, Ok, refl, sym, ap, ◌∙◌, subst, arith, codes, unwrap_or, append_assoc, ◌&&◌, IsTrue, nat_eq}
 use Rattle.std.proofs.lemmas.Bool.{and_parts, eqb-true, leb-true}
 use Rattle.std.proofs.lemmas.List.{length-append}
 use Rattle.std.proofs.lemmas.List.Elements.{All-append, All-nil, All-cons}
@@ -11,16 +10,14 @@ use Rattle.tl_layout.specs.ColumnLaws.{joined-before, columns_of_text}
 use Rattle.tl_layout.specs.Numbers.{IsNumber}
 use Rattle.tl_layout.specs.Coordinates.{IsOnMap}
 use Rattle.tl_layout.specs.NumberTextLaws.{number_text_is_text}
-use Rattle.tl_layout.specs.CoordinateLaws.{coordinate_text_is_text}
-use Rattle.tl_layout.specs.FieldReading.{and_then, SpellsNumberPlace, SpellsPointPlace, long_text, lat_text, number_place_text, point_place_text}
+use Rattle.tl_layout.specs.FieldMeaning.{SpellsNumberPlace, SpellsPointPlace}
+use Rattle.tl_layout.specs.FieldTexts.{long_text, lat_text, number_place_text, point_place_text, value_texts, rows_texts, rows_spelling}
 use Rattle.tl_layout.specs.FieldLaws.{reads, reads_on, ok_value, number_fits, number_or_none_fits, number_again, number_or_none_again, point_on_map, point_or_none_on_map, point_or_none_again, point_again, long_text_is_text, lat_text_is_text}
-use Rattle.tl_layout.specs.Places.{places_text}
 use Rattle.tl_layout.specs.PlaceLaws.{places_len, places_each, number_place_fits, places_text_is_text, places_again, number_place_again, number_place_is_text, point_place_again, point_place_is_text, columns_behind, two_parts, pair_of_texts}
 use Rattle.tl_layout.specs.ColumnTable.{Kind, Number, NumberOrNone, Pair, PairOrNone, NumberPlaces, PointPlaces, Opaque, Filler, ValueOf, Row, width_of, SpellsValue, SpellsField, SpellsRows, FitsValue, FitsRows, is_suited, is_laid_out}
-use Rattle.tl_layout.specs.FieldFaults.{IsLeftmostFault}
-use Rattle.tl_layout.specs.TableReading.{Makes, reading_on, rows_reading, value_texts, rows_texts, rows_spelling}
+use Rattle.tl_layout.specs.TableReading.{Makes, rows_reading}
 use Rattle.tl_layout.specs.ValueLaws.{value_reading, reading_goes_on, value_found, value_only}
-use Rattle.tl_layout.specs.declared.fault.FieldFault.{FieldFault}
+use Rattle.tl_layout.specs.CoordinateReading.{within}
 
 -- ---- the values of a record
 

@@ -1,5 +1,5 @@
 -- What a chain's fields are when it is seen from its other end: what was left is right, and what was the start is the end.
-use Rattle.std.specs.Prelude.{◌≡◌, ℕ}
+use Rattle.std.specs.Prelude.{ℕ}
 use Rattle.tl_layout.specs.declared.pair.LeftRight.{LeftRight}
 use Rattle.tl_layout.specs.declared.ranges.Ranges.{Ranges}
 use Rattle.tl_layout.specs.declared.type1.Body1.{Body1}

@@ -5,7 +5,8 @@ use Rattle.tl_layout.specs.ColumnTable.{SpellsRows, FitsRows}
 use Rattle.tl_layout.specs.RecordTables.{rtype_1, table_1}
 use Rattle.tl_layout.specs.FieldReading.{◌>>=◌, number_at, point_at}
 use Rattle.tl_layout.specs.Type1Groups.{body_1_at}
-use Rattle.tl_layout.specs.TableReading.{Makes, rows_reading, rows_spelling}
+use Rattle.tl_layout.specs.TableReading.{Makes, rows_reading}
+use Rattle.tl_layout.specs.FieldTexts.{rows_spelling}
 use Rattle.tl_layout.specs.declared.fault.FieldFault.{FieldFault}
 
 -- what a record of type 1 may hold: each value fits its columns

@@ -3,7 +3,7 @@
 use Rattle.std.specs.Prelude.{ℕ, List, [], ◌∷◌, ◌++◌}
 use Rattle.tl_layout.specs.Bytes.{IsText, columns}
 use Rattle.tl_layout.specs.Coordinates.{Coordinates}
-use Rattle.tl_layout.specs.CoordinateField.{coordinate_text}
+use Rattle.tl_layout.specs.FieldTexts.{coordinate_text}
 use Rattle.tl_layout.specs.Pairs.{FitsPair, pair_at, pair_texts}
 use Rattle.tl_layout.specs.Names.{FitsName, name_at, name_texts}
 use Rattle.tl_layout.specs.AddressRanges.{FitsRanges, ranges_at, ranges_texts}

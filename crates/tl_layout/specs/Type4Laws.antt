@@ -1,11 +1,10 @@
 -- Record type 4: the laws of its column table.
-use Rattle.std.proofs.Common.{◌≡◌, ℕ, List, Ok, Err, refl, ◌↔◌}
-use Rattle.std.proofs.Common.{◌+◌, false}
+use Rattle.std.proofs.Common.{◌≡◌, ℕ, List, Ok, Err, refl, ◌↔◌, ◌+◌, false}
 use Rattle.std.specs.List.{AllByRecursion}
 use Rattle.tl_layout.specs.Bytes.{IsLine}
 use Rattle.tl_layout.specs.Numbers.{IsNumber}
-use Rattle.tl_layout.specs.FieldReading.{SpellsNumberPlace, number_or_none_at}
-use Rattle.tl_layout.specs.Places.{places_reading}
+use Rattle.tl_layout.specs.FieldMeaning.{SpellsNumberPlace}
+use Rattle.tl_layout.specs.FieldReading.{number_or_none_at, places_reading}
 use Rattle.tl_layout.specs.PlaceLaws.{places_each, number_place_fits}
 use Rattle.tl_layout.specs.ColumnTable.{NumberPlaces}
 use Rattle.tl_layout.specs.ValueLaws.{value_found}

@@ -4,7 +4,8 @@ use Rattle.tl_layout.specs.Bytes.{columns}
 use Rattle.tl_layout.specs.Fields.{FieldsI}
 use Rattle.tl_layout.specs.ColumnTable.{SpellsRows, FitsRows}
 use Rattle.tl_layout.specs.RecordTables.{rtype_i, table_i}
-use Rattle.tl_layout.specs.TableReading.{Makes, rows_reading, rows_spelling}
+use Rattle.tl_layout.specs.TableReading.{Makes, rows_reading}
+use Rattle.tl_layout.specs.FieldTexts.{rows_spelling}
 use Rattle.tl_layout.specs.declared.type_i.BodyI.{BodyI}
 use Rattle.tl_layout.specs.declared.fault.FieldFault.{FieldFault}
 

@@ -3,7 +3,8 @@ use Rattle.std.specs.Prelude.{ℕ, List, Result}
 use Rattle.tl_layout.specs.Fields.{FieldsP}
 use Rattle.tl_layout.specs.ColumnTable.{SpellsRows, FitsRows}
 use Rattle.tl_layout.specs.RecordTables.{rtype_p, table_p}
-use Rattle.tl_layout.specs.TableReading.{Makes, rows_reading, rows_spelling}
+use Rattle.tl_layout.specs.TableReading.{Makes, rows_reading}
+use Rattle.tl_layout.specs.FieldTexts.{rows_spelling}
 use Rattle.tl_layout.specs.declared.fault.FieldFault.{FieldFault}
 
 -- what a record of type P may hold: each value fits its columns

@@ -5,8 +5,10 @@ ghost use Rattle.std.specs.List.{AllByRecursion};
 ghost use Rattle.tl_layout.specs.Bytes.{IsText};
 ghost use Rattle.tl_layout.specs.Coordinates.{IsOnMap};
 ghost use Rattle.tl_layout.specs.Numbers.{IsNumber};
-ghost use Rattle.tl_layout.specs.FieldReading.{Gives, point_or_none_at, point_place_text};
-ghost use Rattle.tl_layout.specs.Places.{places_reading, places_text};
+ghost use Rattle.tl_layout.specs.FieldReading.{Gives, point_or_none_at};
+ghost use Rattle.tl_layout.specs.FieldTexts.{point_place_text};
+ghost use Rattle.tl_layout.specs.FieldReading.{places_reading};
+ghost use Rattle.tl_layout.specs.FieldTexts.{places_text};
 
 use crate::fault::FieldFault;
 use crate::field::{gap, read_number, read_point_or_none};

@@ -5,7 +5,7 @@ ghost use Rattle.std.specs.List.{AllByRecursion};
 ghost use Rattle.tl_layout.specs.Bytes.{IsText};
 ghost use Rattle.tl_layout.specs.Numbers.{IsNumber};
 ghost use Rattle.tl_layout.specs.FieldReading.{Gives, number_or_none_at};
-ghost use Rattle.tl_layout.specs.Places.{places_reading};
+ghost use Rattle.tl_layout.specs.FieldReading.{places_reading};
 
 use crate::fault::FieldFault;
 use crate::field::{gap, read_number, read_number_or_none};

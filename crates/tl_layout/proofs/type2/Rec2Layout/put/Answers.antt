@@ -4,9 +4,9 @@ use Rattle.std.proofs.Common.{List, length, ◌≤◌}
 use Rattle.std.specs.List.{AllByRecursion}
 use Rattle.tl_layout.specs.Coordinates.{Coordinates, IsOnMap}
 use Rattle.tl_layout.proofs.Writes.{behind, whole}
-use Rattle.tl_layout.specs.NumberField.{number_text}
-use Rattle.tl_layout.specs.FieldReading.{point_place_text}
-use Rattle.tl_layout.specs.Places.{places_text}
+use Rattle.tl_layout.specs.FieldTexts.{number_text}
+use Rattle.tl_layout.specs.FieldTexts.{point_place_text}
+use Rattle.tl_layout.specs.FieldTexts.{places_text}
 use Rattle.tl_layout.specs.Type2.{FitsType2, type_2_spelling}
 use Rattle.tl_layout.proofs.type2.Rec2Layout.put.Goals as goal
 

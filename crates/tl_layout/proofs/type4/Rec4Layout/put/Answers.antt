@@ -2,9 +2,9 @@
 use Rattle.std.proofs.Common.{arith, refl, ap, ◌∙◌, subst}
 use Rattle.std.proofs.Common.{ℕ, List, length, ◌≤◌}
 use Rattle.tl_layout.proofs.Writes.{behind, whole}
-use Rattle.tl_layout.specs.NumberField.{number_text}
-use Rattle.tl_layout.specs.FieldReading.{number_place_text}
-use Rattle.tl_layout.specs.Places.{places_text}
+use Rattle.tl_layout.specs.FieldTexts.{number_text}
+use Rattle.tl_layout.specs.FieldTexts.{number_place_text}
+use Rattle.tl_layout.specs.FieldTexts.{places_text}
 use Rattle.tl_layout.specs.Type4.{FitsType4, type_4_spelling}
 use Rattle.tl_layout.proofs.type4.Rec4Layout.put.Goals as goal
 

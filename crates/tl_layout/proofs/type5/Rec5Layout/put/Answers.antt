@@ -1,7 +1,7 @@
 -- One column after another was written behind the record type and the version.
 use Rattle.std.proofs.Common.{arith, refl, ap, ◌∙◌, subst}
 use Rattle.tl_layout.proofs.Writes.{behind, group_behind, whole}
-use Rattle.tl_layout.specs.NumberField.{number_text}
+use Rattle.tl_layout.specs.FieldTexts.{number_text}
 use Rattle.tl_layout.specs.Names.{name_texts}
 use Rattle.tl_layout.specs.Type5.{FitsType5, type_5_spelling}
 use Rattle.tl_layout.proofs.type5.Rec5Layout.put.Goals as goal

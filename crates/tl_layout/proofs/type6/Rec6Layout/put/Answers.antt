@@ -1,7 +1,7 @@
 -- One column after another was written behind the record type and the version.
 use Rattle.std.proofs.Common.{arith, refl, ap, ◌∙◌, subst}
 use Rattle.tl_layout.proofs.Writes.{behind, group_behind, whole}
-use Rattle.tl_layout.specs.NumberField.{number_text}
+use Rattle.tl_layout.specs.FieldTexts.{number_text}
 use Rattle.tl_layout.specs.AddressRanges.{ranges_texts}
 use Rattle.tl_layout.specs.Type6.{FitsType6, type_6_spelling}
 use Rattle.tl_layout.proofs.type6.Rec6Layout.put.Goals as goal

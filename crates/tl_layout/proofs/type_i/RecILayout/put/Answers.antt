@@ -3,7 +3,7 @@ use Rattle.std.proofs.Common.{arith, refl, ap, ◌∙◌, unwrap_or, subst}
 use Rattle.tl_layout.specs.Bytes.{IsText}
 use Rattle.tl_layout.specs.Numbers.{IsNumberOrNone}
 use Rattle.tl_layout.proofs.Writes.{behind, whole}
-use Rattle.tl_layout.specs.NumberField.{number_text}
+use Rattle.tl_layout.specs.FieldTexts.{number_text}
 use Rattle.tl_layout.specs.TypeI.{FitsTypeI, type_i_spelling}
 use Rattle.tl_layout.proofs.type_i.RecILayout.put.Goals as goal
 

@@ -1,7 +1,7 @@
 -- One column after another was written behind the record type and the version.
 use Rattle.std.proofs.Common.{arith, refl, ap, ◌∙◌, [], ◌∷◌, subst}
 use Rattle.tl_layout.proofs.Writes.{behind, group_behind, whole}
-use Rattle.tl_layout.specs.FieldReading.{long_text, lat_text}
+use Rattle.tl_layout.specs.FieldTexts.{long_text, lat_text}
 use Rattle.tl_layout.specs.TypeP.{FitsTypeP, type_p_spelling}
 use Rattle.tl_layout.proofs.type_p.RecPLayout.put.Goals as goal
 
