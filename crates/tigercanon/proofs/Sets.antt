@@ -5,6 +5,7 @@ use Rattle.tl_layout.specs.declared.record_type.Record.{Record}
 use Rattle.tl_load.specs.Choice.{tiger}
 use Rattle.tl_load.specs.Outcome.{Spells, Accepts, FaultAt, IsSpelled, IsFaulty}
 use Rattle.tl_load.specs.declared.fault.LoadFault.{LoadFault}
+use Rattle.tl_load.proofs.RecordLines.{tiger_is_sound}
 use Rattle.tl_load.proofs.Reading.{one_verdict}
 use Rattle.tl_load.proofs.TextLemmas.{text_spells, text_spells_only}
 use Rattle.tl_county.specs.County.{county_of}
@@ -15,7 +16,7 @@ use Rattle.tigercanon.specs.Sets.{IsAcceptedSet, SetRefusal, Faulty, Refused, Is
 use Rattle.tl_number.proofs.Accepted.{accepted_or_refused, accepted_not_refused, one_refusal, same_one_canonical, one_canonical_same}
 
 pub set_accepted_or_refused : (parts : List (List ℕ)) → ((records : List Record) × IsAcceptedSet parts records) ⊎ ((refusal : SetRefusal) × IsSetRefusal parts refusal)
-set_accepted_or_refused parts = go (one_verdict tiger record_limit parts)
+set_accepted_or_refused parts = go (one_verdict tiger tiger_is_sound record_limit parts)
   where
     judged : (records : List Record) → Accepts tiger record_limit parts records → IsAccepted records ⊎ ((refusal : Refusal) × IsRefusal records refusal) → ((records : List Record) × IsAcceptedSet parts records) ⊎ ((refusal : SetRefusal) × IsSetRefusal parts refusal)
     judged records spelled (inl accepted) = inl (records, record { spelled = spelled; accepted = accepted })
@@ -27,14 +28,14 @@ set_accepted_or_refused parts = go (one_verdict tiger record_limit parts)
 
 -- the records that accepted parts spell are one list, and then no line is faulty
 one_list : (parts : List (List ℕ)) (records others : List Record) → Accepts tiger record_limit parts records → Accepts tiger record_limit parts others → records ≡ others
-one_list parts records others a b = go (one_verdict tiger record_limit parts)
+one_list parts records others a b = go (one_verdict tiger tiger_is_sound record_limit parts)
   where
     go : IsSpelled tiger record_limit parts ⊎ IsFaulty tiger record_limit parts → records ≡ others
     go (inl s) = s.only records a.spells ∙ sym (s.only others b.spells)
     go (inr f) = absurd (f.none records a)
 
 spelled_not_faulty : (parts : List (List ℕ)) (records : List Record) (fault : LoadFault) → Accepts tiger record_limit parts records → FaultAt tiger record_limit parts fault → ⊥
-spelled_not_faulty parts records fault a h = go (one_verdict tiger record_limit parts)
+spelled_not_faulty parts records fault a h = go (one_verdict tiger tiger_is_sound record_limit parts)
   where
     go : IsSpelled tiger record_limit parts ⊎ IsFaulty tiger record_limit parts → ⊥
     go (inl s) = s.none fault h
@@ -45,7 +46,7 @@ accepted_set_not_refused parts records (Faulty fault) a h = spelled_not_faulty p
 accepted_set_not_refused parts records (Refused refusal) a h = accepted_not_refused records refusal a.accepted (subst (λ rs. IsRefusal rs refusal) (one_list parts h.0 records h.1 a.spelled) h.2)
 
 one_fault : (parts : List (List ℕ)) (f g : LoadFault) → FaultAt tiger record_limit parts f → FaultAt tiger record_limit parts g → f ≡ g
-one_fault parts f g h k = go (one_verdict tiger record_limit parts)
+one_fault parts f g h k = go (one_verdict tiger tiger_is_sound record_limit parts)
   where
     go : IsSpelled tiger record_limit parts ⊎ IsFaulty tiger record_limit parts → f ≡ g
     go (inl s) = absurd (s.none f h)

@@ -1,6 +1,7 @@
 -- Parts that spell records are refused for want of memory alone.
 use Rattle.std.proofs.Common.{ℕ, List}
 use Rattle.tl_layout.specs.declared.record_type.Record.{Record}
+use Rattle.tl_load.proofs.RecordLines.{tiger_is_sound}
 use Rattle.tl_load.proofs.Reading.{accepted_no_fault}
 use Rattle.tl_load.specs.Choice.{tiger}
 use Rattle.tl_load.specs.Loaded.{IsOfLines, IsNotDevice}
@@ -15,10 +16,10 @@ pub memory_alone : (parts : List (List ℕ)) (records : List Record) (f : LoadFa
     → (IsOfLines f → IsFirstFault parts f) → IsNotDevice f → IsWantOfMemory (Load f)
 memory_alone parts records Device accepts first other = other
 memory_alone parts records LoadMemory accepts first other = tt
-memory_alone parts records (UnknownType p l) accepts first other = absurd (accepted_no_fault tiger record_limit parts records _ accepts (first tt))
-memory_alone parts records (LineTooLong p l) accepts first other = absurd (accepted_no_fault tiger record_limit parts records _ accepts (first tt))
-memory_alone parts records (BadByte p l c) accepts first other = absurd (accepted_no_fault tiger record_limit parts records _ accepts (first tt))
-memory_alone parts records (BadNumber p l c) accepts first other = absurd (accepted_no_fault tiger record_limit parts records _ accepts (first tt))
-memory_alone parts records (BadPoint p l c) accepts first other = absurd (accepted_no_fault tiger record_limit parts records _ accepts (first tt))
-memory_alone parts records (GapInRecord p l c) accepts first other = absurd (accepted_no_fault tiger record_limit parts records _ accepts (first tt))
-memory_alone parts records (TooManyRecords t) accepts first other = absurd (accepted_no_fault tiger record_limit parts records _ accepts (first tt))
+memory_alone parts records (UnknownType p l) accepts first other = absurd (accepted_no_fault tiger tiger_is_sound record_limit parts records _ accepts (first tt))
+memory_alone parts records (LineTooLong p l) accepts first other = absurd (accepted_no_fault tiger tiger_is_sound record_limit parts records _ accepts (first tt))
+memory_alone parts records (BadByte p l c) accepts first other = absurd (accepted_no_fault tiger tiger_is_sound record_limit parts records _ accepts (first tt))
+memory_alone parts records (BadNumber p l c) accepts first other = absurd (accepted_no_fault tiger tiger_is_sound record_limit parts records _ accepts (first tt))
+memory_alone parts records (BadPoint p l c) accepts first other = absurd (accepted_no_fault tiger tiger_is_sound record_limit parts records _ accepts (first tt))
+memory_alone parts records (GapInRecord p l c) accepts first other = absurd (accepted_no_fault tiger tiger_is_sound record_limit parts records _ accepts (first tt))
+memory_alone parts records (TooManyRecords t) accepts first other = absurd (accepted_no_fault tiger tiger_is_sound record_limit parts records _ accepts (first tt))

@@ -3,7 +3,8 @@ use Rattle.std.proofs.Common.{◌≡◌, ℕ, suc, ◌+◌, List, [], ◌∷◌,
 use Rattle.std.proofs.lemmas.List.{append-nil}
 use Rattle.tl_layout.specs.FieldReading.{and_then}
 use Rattle.tl_layout.specs.FieldLaws.{reads_on}
-use Rattle.tl_layout.specs.Places.{gap, places_reading}
+use Rattle.tl_layout.specs.FieldFaults.{gap}
+use Rattle.tl_layout.specs.FieldReading.{places_reading}
 use Rattle.tl_layout.specs.declared.fault.FieldFault.{FieldFault}
 
 -- the items so far in front of those that are read

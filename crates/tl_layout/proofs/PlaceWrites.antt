@@ -2,7 +2,7 @@
 use Rattle.std.proofs.Common.{◌≡◌, ℕ, zero, suc, ◌<◌, ◌≤◌, List, [], ◌∷◌, ◌++◌, length, take, drop, Option, IfSome, slice_get, refl, sym, ap, ◌∙◌, append_assoc, arith, subst}
 use Rattle.std.specs.List.{AllByRecursion}
 use Rattle.std.proofs.lemmas.List.{append-nil}
-use Rattle.tl_layout.specs.Places.{places_text}
+use Rattle.tl_layout.specs.FieldTexts.{places_text}
 
 -- the text of the places from one on is that place's text, and the text of those behind it
 pub one_place : {A : Type 0} (text : Option A → List ℕ) (n place : ℕ) (xs : List A) → places_text text (suc n) (drop place xs) ≡ text (slice_get xs place) ++ places_text text n (drop (suc place) xs)

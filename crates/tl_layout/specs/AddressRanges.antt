@@ -1,5 +1,5 @@
 -- Address ranges and ZIP codes, 58 bytes.
-use Rattle.std.specs.Prelude.{ℕ, ◌+◌, List, [], ◌∷◌}
+use Rattle.std.specs.Prelude.{ℕ, ◌+◌, List, ◌∷◌}
 use Rattle.tl_layout.specs.Bytes.{IsText, columns}
 use Rattle.tl_layout.specs.Pairs.{FitsPair, pair_at, pair_texts}
 use Rattle.tl_layout.specs.declared.ranges.Ranges.{Ranges}
@@ -35,6 +35,3 @@ ranges_at first line =
 abbrev pub ranges_texts : Ranges → List (List ℕ)
 ranges_texts ranges =
     ranges.fraddl ∷ ranges.toaddl ∷ ranges.fraddr ∷ ranges.toaddr ∷ ranges.friaddl ∷ ranges.toiaddl ∷ ranges.friaddr ∷ ranges.toiaddr ∷ pair_texts 5 ranges.zip
-
-abbrev pub ranges_widths : List ℕ
-ranges_widths = 11 ∷ 11 ∷ 11 ∷ 11 ∷ 1 ∷ 1 ∷ 1 ∷ 1 ∷ 5 ∷ 5 ∷ []

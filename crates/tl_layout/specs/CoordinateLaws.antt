@@ -5,10 +5,13 @@ use Rattle.std.proofs.lemmas.Bool.{and_parts, and_from, eqb-true, ne_eqb, leb-tr
 use Rattle.std.proofs.lemmas.List.{append-nil, length_push}
 use Rattle.std.proofs.lemmas.List.Elements.{All-push, All-nil, All-cons}
 use Rattle.tl_layout.specs.Bytes.{IsText, AreAllowed, is_allowed}
-use Rattle.tl_layout.specs.NumberField.{is_blank, is_digit, value_after, drop_blanks, number_after}
+use Rattle.tl_layout.specs.NumberField.{is_blank, is_digit, value_after}
+use Rattle.tl_layout.specs.NumberReading.{drop_blanks, number_after}
 use Rattle.tl_layout.specs.NumberLaws.{number_after_found, number_after_only, digit_not_blank, splits_blanks, drop_blanks-append, drop_blanks-blanks}
 use Rattle.tl_layout.specs.NumberTextLaws.{value_after-push, digits_push, last_is_digit, tenth_below, digit_allowed}
-use Rattle.tl_layout.specs.CoordinateField.{negated, IsSigned, unsigned, plus, minus, IsCoordinateField, IsBlankField, within, magnitude_of, plus_of, minus_of, signed_of, coordinate_of, digits_text, sign_of, coordinate_text}
+use Rattle.tl_layout.specs.CoordinateField.{negated, IsSigned, unsigned, plus, minus, IsCoordinateField, IsBlankField}
+use Rattle.tl_layout.specs.CoordinateReading.{within, magnitude_of, plus_of, minus_of, signed_of, coordinate_of}
+use Rattle.tl_layout.specs.FieldTexts.{digits_text, sign_of, coordinate_text}
 use Rattle.tl_layout.specs.declared.coordinate.Coordinate.TheVariants.{Blank, Value}
 
 -- one digit or more within the limit, and behind them nothing but blanks
@@ -16,7 +19,7 @@ pub record IsMagnitude (limit : ℕ) (bytes : List ℕ) (n : ℕ) : Type 0 where
   pub first : ℕ
   pub digits : List ℕ
   pub after : List ℕ
-  pub spelt : bytes ≡ first ∷ digits ++ after
+  pub spelled : bytes ≡ first ∷ digits ++ after
   pub all_digits : list_all is_digit (first ∷ digits) ≡ true
   pub blanks_after : list_all is_blank after ≡ true
   pub value : n ≡ value_after 0 (first ∷ digits)
@@ -35,7 +38,7 @@ unfolding number_after
 magnitude_with limit byte bytes n true e h =
     let w = within_found limit n (number_after 0 (byte ∷ bytes)) h in
     let r = number_after_found (10 * 0 + (byte - 48)) bytes n (rw e at w.0) in
-    record { first = byte; digits = r.digits; after = r.after; spelt = ap (λ (l : List ℕ). byte ∷ l) r.spelt; all_digits = and_from _ _ e r.all_digits; blanks_after = r.blanks_after; value = r.value_is; within_limit = w.1 }
+    record { first = byte; digits = r.digits; after = r.after; spelled = ap (λ (l : List ℕ). byte ∷ l) r.spelled; all_digits = and_from _ _ e r.all_digits; blanks_after = r.blanks_after; value = r.value_is; within_limit = w.1 }
 magnitude_with limit byte bytes n false e h = (cc)
 
 pub magnitude_found : (limit : ℕ) (bytes : List ℕ) (n : ℕ) → magnitude_of limit bytes ≡ Some n → IsMagnitude limit bytes n
@@ -58,7 +61,7 @@ with_sign limit field sign bytes n value e m s =
       first = m.first;
       digits = m.digits;
       after = m.after;
-      spelt = b.spelt ∙ ap (λ (l : List ℕ). b.before ++ l) (e ∙ ap (λ (l : List ℕ). sign ++ l) m.spelt);
+      spelled = b.spelled ∙ ap (λ (l : List ℕ). b.before ++ l) (e ∙ ap (λ (l : List ℕ). sign ++ l) m.spelled);
       blanks_before = b.blanks_before;
       all_digits = m.all_digits;
       blanks_after = m.blanks_after;
@@ -95,7 +98,7 @@ unfolding signed_of
 signed_found limit field [] value d h = (cc)
 signed_found limit field (byte ∷ bytes) value d h = first_found limit field byte bytes value (nat_eq byte 43) refl d h
 
--- what is read is spelt so
+-- what is read is spelled so
 pub coordinate_found : (limit : ℕ) (field : List ℕ) (value : ℤ) → coordinate_of limit field ≡ Value value → IsCoordinateField limit field value
 unfolding coordinate_of
 coordinate_found limit field value h = signed_found limit field (drop_blanks field) value refl h
@@ -120,7 +123,7 @@ blank_from_rest : (limit : ℕ) (field rest : List ℕ) → drop_blanks field �
 unfolding signed_of
 blank_from_rest limit field [] d h =
     let b = splits_blanks field in
-    ap (list_all is_blank) (b.spelt ∙ ap (λ (l : List ℕ). b.before ++ l) d ∙ append-nil b.before) ∙ b.blanks_before
+    ap (list_all is_blank) (b.spelled ∙ ap (λ (l : List ℕ). b.before ++ l) d ∙ append-nil b.before) ∙ b.blanks_before
 blank_from_rest limit field (byte ∷ bytes) d h =
     absurd (second_not_blank (nat_eq byte 43) (nat_eq byte 45) (magnitude_of limit bytes) (magnitude_of limit bytes) (magnitude_of limit (byte ∷ bytes)) h)
 
@@ -145,11 +148,11 @@ signed_only limit _ first rest _ _ d (unsigned n) h =
 signed_only limit _ first rest _ _ d (plus n) h = rw h refl
 signed_only limit _ first rest _ _ d (minus n) h = rw h refl
 
--- what is spelt so is read
+-- what is spelled so is read
 pub coordinate_only : (limit : ℕ) (field : List ℕ) (value : ℤ) → IsCoordinateField limit field value → coordinate_of limit field ≡ Value value
 unfolding coordinate_of
 coordinate_only limit field value h =
-    ap (λ l. signed_of limit (drop_blanks l)) h.spelt
+    ap (λ l. signed_of limit (drop_blanks l)) h.spelled
     ∙ ap (signed_of limit) (drop_blanks-append h.before (h.sign ++ (h.first ∷ h.digits ++ h.after)) h.blanks_before)
     ∙ signed_only limit h.sign h.first (h.digits ++ h.after) _ value (and_parts (is_digit h.first) (list_all is_digit h.digits) h.all_digits).0 h.signed
     (magnitude_only limit h.first h.digits h.after h.all_digits h.blanks_after h.within)
@@ -216,7 +219,7 @@ text_spells limit (first ∷ digits) value d l v w =
       first = first;
       digits = digits;
       after = [];
-      spelt = ap (λ (l : List ℕ). sign_of value ∷ first ∷ l) (sym (append-nil digits));
+      spelled = ap (λ (l : List ℕ). sign_of value ∷ first ∷ l) (sym (append-nil digits));
       blanks_before = refl;
       all_digits = d;
       blanks_after = refl;

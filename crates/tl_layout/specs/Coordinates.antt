@@ -1,6 +1,5 @@
 -- Points of the map, in millionths of a degree.
-use Rattle.std.specs.Prelude.{◌+◌, ◌≤◌, ◌<◌, ℤ}
-use Rattle.std.specs.Prelude.{unsigned_abs}
+use Rattle.std.specs.Prelude.{◌+◌, ◌≤◌, ◌<◌, ℤ, unsigned_abs}
 
 -- a longitude and a latitude, in millionths of a degree
 pub record Coordinates : Type 0 where

@@ -1,14 +1,25 @@
 -- What is wrong with a line: which field is at fault, and what is told of it. Nothing here reads a line: a field is at fault
 -- where no value is spelled in its columns.
-use Rattle.std.specs.Prelude.{◌≡◌, ℕ, ◌+◌, ◌*◌, ◌<◌, List, [], ◌∷◌, ◌++◌, length, Option, Some, ◌⊎◌, ℤ}
+use Rattle.std.specs.Prelude.{◌≡◌, ℕ, ◌+◌, ◌*◌, ◌<◌, List, ◌∷◌, ◌++◌, length, Option, Some, ◌⊎◌, ℤ}
 use Rattle.std.specs.List.{AllByRecursion}
 use Rattle.tl_layout.specs.Bytes.{columns}
 use Rattle.tl_layout.specs.CoordinateField.{IsCoordinateField, IsBlankField}
-use Rattle.tl_layout.specs.FieldReading.{SpellsNumber, SpellsNumberOrNone, SpellsPoint, SpellsPointOrNone, SpellsPointPlace, SpellsNumberPlace, bad_number}
-use Rattle.tl_layout.specs.Places.{SpellsPlaces, gap}
+use Rattle.tl_layout.specs.FieldMeaning.{SpellsNumber, SpellsNumberOrNone, SpellsPoint, SpellsPointOrNone, SpellsPointPlace, SpellsNumberPlace, SpellsPlaces}
 use Rattle.tl_layout.specs.ColumnTable.{Kind, Number, NumberOrNone, Pair, PairOrNone, NumberPlaces, PointPlaces, Opaque, Filler, ValueOf, Row, SpellsField}
-use Rattle.tl_layout.specs.declared.fault.FieldKind.TheVariants.{BadPoint}
+use Rattle.tl_layout.specs.declared.fault.FieldKind.TheVariants.{BadPoint, BadNumber, GapInRecord}
 use Rattle.tl_layout.specs.declared.fault.FieldFault.{FieldFault}
+
+-- a bad number, told at this column
+abbrev pub bad_number : ℕ → FieldFault
+bad_number column = record { kind = BadNumber; column = column }
+
+-- a bad point, told at this column
+abbrev pub bad_point : ℕ → FieldFault
+bad_point column = record { kind = BadPoint; column = column }
+
+-- a used place after an unused one, told at this column
+abbrev pub gap : ℕ → FieldFault
+gap column = record { kind = GapInRecord; column = column }
 
 -- neither blanks alone nor a coordinate within the limit
 pub record IsMalformed (limit : ℕ) (field : List ℕ) : Type 0 where

@@ -9,12 +9,16 @@ use Rattle.std.specs.List.{list_all}
 use Rattle.tl_layout.specs.ByteLaws.{blanks_are_text}
 use Rattle.tl_layout.specs.Numbers.{IsNumber, IsNumberOrNone}
 use Rattle.tl_layout.specs.Coordinates.{Coordinates, IsOnMap}
-use Rattle.tl_layout.specs.NumberField.{is_blank, number_of, number_text}
+use Rattle.tl_layout.specs.NumberField.{is_blank}
+use Rattle.tl_layout.specs.NumberReading.{number_of}
+use Rattle.tl_layout.specs.FieldTexts.{number_text, coordinate_text, long_text, lat_text}
 use Rattle.tl_layout.specs.NumberLaws.{number_found, number_only}
 use Rattle.tl_layout.specs.NumberTextLaws.{number_below, number_text_spells}
-use Rattle.tl_layout.specs.CoordinateField.{IsCoordinateField, coordinate_of, coordinate_text}
+use Rattle.tl_layout.specs.CoordinateField.{IsCoordinateField}
+use Rattle.tl_layout.specs.CoordinateReading.{coordinate_of}
 use Rattle.tl_layout.specs.CoordinateLaws.{coordinate_found, coordinate_only, coordinate_within, blank_found, blank_only, coordinate_text_spells, coordinate_text_is_text}
-use Rattle.tl_layout.specs.FieldReading.{and_then, SpellsNumber, SpellsNumberOrNone, SpellsPoint, SpellsPointOrNone, demanded_number, possible_number, number_at, number_or_none_at, point_or_none, pair_of, point_or_none_at, demanded_point, point_at, long_text, lat_text}
+use Rattle.tl_layout.specs.FieldReading.{and_then, demanded_number, possible_number, number_at, number_or_none_at, point_or_none, pair_of, point_or_none_at, demanded_point, point_at}
+use Rattle.tl_layout.specs.FieldMeaning.{SpellsNumber, SpellsNumberOrNone, SpellsPoint, SpellsPointOrNone}
 use Rattle.tl_layout.specs.declared.coordinate.Coordinate.{Coordinate}
 use Rattle.tl_layout.specs.declared.coordinate.Coordinate.TheVariants.{Malformed, Blank, Value}
 use Rattle.tl_layout.specs.declared.fault.FieldFault.{FieldFault}
@@ -79,7 +83,7 @@ unfolding number_or_none_at
 number_or_none_at_only first last line None h = ap (possible_number first) (number_only (columns first last line) 0 h)
 number_or_none_at_only first last line (Some n) h = ap (possible_number first) (number_only (columns first last line) n h.0) ∙ possible_only first n h.1
 
--- a number that is spelt in so many columns has no more digits
+-- a number that is spelled in so many columns has no more digits
 pub number_fits : (width n : ℕ) (field : List ℕ) → length field ≡ width → SpellsNumber field n → IsNumber width n
 number_fits width n field l h = (h.1, let P : ℕ → Type 0 = λ w. n < 10 ^ w in subst P l (number_below field n h.0))
 
@@ -112,7 +116,7 @@ point_found long_field lat_field long lat point true e x y h =
 point_found long_field lat_field long lat point false e x y h =
     let some : unsigned_abs long + unsigned_abs lat ≡ 0 → ⊥ = eqb-false _ 0 e in
     let P : Option Coordinates → Type 0 = SpellsPointOrNone long_field lat_field in
-    subst P h (record { long_spelt = x; lat_spelt = y; somewhere = omega arith })
+    subst P h (record { long_spelled = x; lat_spelled = y; somewhere = omega arith })
 
 -- two answers that are Ok have one value
 pub ok_value : {A : Type 0} (x y : A) → ◌≡◌ {A = Result A FieldFault} (Ok x) (Ok y) → x ≡ y
@@ -144,7 +148,7 @@ unfolding point_or_none
 pair_only column long_field lat_field None (inl h) = rw (blank_only 999999999 long_field h.0, blank_only 99999999 lat_field h.1) refl
 pair_only column long_field lat_field None (inr h) = rw (coordinate_only 999999999 long_field (pos 0) h.0, coordinate_only 99999999 lat_field (pos 0) h.1) refl
 pair_only column long_field lat_field (Some point) h =
-    rw (coordinate_only 999999999 long_field point.long h.long_spelt, coordinate_only 99999999 lat_field point.lat h.lat_spelt) (ap Ok (point_only point.long point.lat h.somewhere))
+    rw (coordinate_only 999999999 long_field point.long h.long_spelled, coordinate_only 99999999 lat_field point.lat h.lat_spelled) (ap Ok (point_only point.long point.lat h.somewhere))
 
 pub point_or_none_at_only : (column : ℕ) (line : List ℕ) (point : Option Coordinates) → SpellsPointOrNone (columns column (column + 9) line) (columns (column + 10) (column + 18) line) point → point_or_none_at column line ≡ Ok point
 unfolding point_or_none_at
@@ -166,10 +170,10 @@ pub point_at_only : (column : ℕ) (line : List ℕ) (point : Coordinates) → S
 unfolding point_at
 point_at_only column line point h = reads_on _ _ (Some point) _ (point_or_none_at_only column line (Some point) h) refl
 
--- a point that is spelt lies on the map
+-- a point that is spelled lies on the map
 pub point_on_map : (long lat : List ℕ) (point : Coordinates) → SpellsPoint long lat point → IsOnMap point
 point_on_map long lat point h =
-    record { long = coordinate_within 999999999 long point.long h.long_spelt; lat = coordinate_within 99999999 lat point.lat h.lat_spelt; somewhere = h.somewhere }
+    record { long = coordinate_within 999999999 long point.long h.long_spelled; lat = coordinate_within 99999999 lat point.lat h.lat_spelled; somewhere = h.somewhere }
 
 -- fields that hold the canonical texts of a point spell it
 pub point_again : (point : Coordinates) (long lat : List ℕ) → long ≡ coordinate_text 9 point.long → lat ≡ coordinate_text 8 point.lat → IsOnMap point → SpellsPoint long lat point
@@ -177,8 +181,8 @@ point_again point long lat e e' h =
     let P : List ℕ → Type 0 = λ f. IsCoordinateField 999999999 f point.long in
     let Q : List ℕ → Type 0 = λ f. IsCoordinateField 99999999 f point.lat in
     record {
-      long_spelt = subst P (sym e) (coordinate_text_spells 9 999999999 point.long (lit< tt) (lit< tt) h.long);
-      lat_spelt = subst Q (sym e') (coordinate_text_spells 8 99999999 point.lat (lit< tt) (lit< tt) h.lat);
+      long_spelled = subst P (sym e) (coordinate_text_spells 9 999999999 point.long (lit< tt) (lit< tt) h.long);
+      lat_spelled = subst Q (sym e') (coordinate_text_spells 8 99999999 point.lat (lit< tt) (lit< tt) h.lat);
       somewhere = h.somewhere;
     }
 
@@ -192,7 +196,7 @@ pub number_read_in_range : (first last : ℕ) (line : List ℕ) (n : ℕ) → nu
 number_read_in_range first last line n h f o l p =
     number_fits (last + 1 - first) n (columns first last line) (columns_len first last line f o l) (number_found (columns first last line) n h, p)
 
--- a point or none that is spelt lies on the map, if it is one
+-- a point or none that is spelled lies on the map, if it is one
 pub point_or_none_on_map : (long lat : List ℕ) (point : Option Coordinates) → SpellsPointOrNone long lat point → IfSome point IsOnMap
 point_or_none_on_map long lat None h = tt
 point_or_none_on_map long lat (Some point) h = point_on_map long lat point h

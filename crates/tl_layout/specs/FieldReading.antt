@@ -1,13 +1,13 @@
 -- Number fields and pairs of coordinates in the columns of a line: what they spell, and what they are read as.
-use Rattle.std.specs.Prelude.{◌≡◌, ◌++◌, ℕ, zero, suc, ◌+◌, ◌<◌, ◌==◌, ◌⊎◌, List, replicate, Option, Some, None, unwrap_or, Result, Ok, Err, if◌then◌else◌, ℤ, pos, unsigned_abs}
+use Rattle.std.specs.Prelude.{◌≡◌, ℕ, zero, suc, ◌+◌, ◌==◌, List, Option, Some, None, Result, Ok, Err, if◌then◌else◌, ℤ, unsigned_abs, [], ◌∷◌, Bool, true, false}
 use Rattle.tl_layout.specs.Bytes.{columns}
 use Rattle.tl_layout.specs.Coordinates.{Coordinates}
-use Rattle.tl_layout.specs.NumberField.{IsNumberField, number_of, number_text}
-use Rattle.tl_layout.specs.CoordinateField.{IsCoordinateField, IsBlankField, coordinate_of, coordinate_text}
+use Rattle.tl_layout.specs.NumberReading.{number_of}
+use Rattle.tl_layout.specs.CoordinateReading.{coordinate_of}
 use Rattle.tl_layout.specs.declared.coordinate.Coordinate.{Coordinate}
 use Rattle.tl_layout.specs.declared.coordinate.Coordinate.TheVariants.{Malformed, Blank, Value}
-use Rattle.tl_layout.specs.declared.fault.FieldKind.TheVariants.{BadNumber, BadPoint}
 use Rattle.tl_layout.specs.declared.fault.FieldFault.{FieldFault}
+use Rattle.tl_layout.specs.FieldFaults.{bad_number, bad_point, gap}
 
 -- reading goes on behind what was read, and stops at the first fault
 unfoldable pub and_then : {A B : Type 0} → Result A FieldFault → (A → Result B FieldFault) → Result B FieldFault
@@ -17,35 +17,6 @@ and_then (Err e) more = Err e
 infixl 10 ◌>>=◌
 abbrev pub ◌>>=◌ : {A B : Type 0} → Result A FieldFault → (A → Result B FieldFault) → Result B FieldFault
 x >>= more = and_then x more
-
--- the field spells a number
-abbrev pub SpellsNumber : List ℕ → ℕ → Type 0
-SpellsNumber field n = IsNumberField field n × (0 < n)
-
--- the field spells the number, or none
-abbrev pub SpellsNumberOrNone : List ℕ → Option ℕ → Type 0
-SpellsNumberOrNone field None = IsNumberField field 0
-SpellsNumberOrNone field (Some n) = SpellsNumber field n
-
--- The pair spells the point: two coordinates that aren't both 0.
-pub record SpellsPoint (long lat : List ℕ) (point : Coordinates) : Type 0 where
-  pub long_spelt : IsCoordinateField 999999999 long point.long
-  pub lat_spelt : IsCoordinateField 99999999 lat point.lat
-  pub somewhere : 0 < unsigned_abs point.long + unsigned_abs point.lat
-
--- The pair spells the point, or none: both fields are blank, or both are 0.
-abbrev pub SpellsPointOrNone : List ℕ → List ℕ → Option Coordinates → Type 0
-SpellsPointOrNone long lat None =
-    (IsBlankField long × IsBlankField lat) ⊎ (IsCoordinateField 999999999 long (pos 0) × IsCoordinateField 99999999 lat (pos 0))
-SpellsPointOrNone long lat (Some point) = SpellsPoint long lat point
-
--- a bad number, told at this column
-abbrev pub bad_number : ℕ → FieldFault
-bad_number column = record { kind = BadNumber; column = column }
-
--- a bad point, told at this column
-abbrev pub bad_point : ℕ → FieldFault
-bad_point column = record { kind = BadPoint; column = column }
 
 -- a number, where one is demanded
 abbrev pub demanded_number : ℕ → Option ℕ → Result ℕ FieldFault
@@ -95,34 +66,22 @@ demanded_point column (Some point) = Ok point
 unfoldable pub point_at : ℕ → List ℕ → Result Coordinates FieldFault
 point_at column line = point_or_none_at column line >>= demanded_point column
 
--- the canonical text of a longitude: a sign and nine digits, or blanks where there is no point
-abbrev pub long_text : Option Coordinates → List ℕ
-long_text None = replicate 10 32
-long_text (Some point) = coordinate_text 9 point.long
-
--- the canonical text of a latitude: a sign and eight digits, or blanks where there is no point
-abbrev pub lat_text : Option Coordinates → List ℕ
-lat_text None = replicate 9 32
-lat_text (Some point) = coordinate_text 8 point.lat
-
--- the canonical text of a place for a point: the point, or two zeros where it is unused
-abbrev pub point_place_text : Option Coordinates → List ℕ
-point_place_text None = coordinate_text 9 (pos 0) ++ coordinate_text 8 (pos 0)
-point_place_text (Some point) = coordinate_text 9 point.long ++ coordinate_text 8 point.lat
-
--- the place for a point that begins in this column of a line
-abbrev pub SpellsPointPlace : List ℕ → ℕ → Option Coordinates → Type 0
-SpellsPointPlace line column place = SpellsPointOrNone (columns column (column + 9) line) (columns (column + 10) (column + 18) line) place
-
--- the place for a number that begins in this column of a line and is eight columns wide
-abbrev pub SpellsNumberPlace : List ℕ → ℕ → Option ℕ → Type 0
-SpellsNumberPlace line column place = SpellsNumberOrNone (columns column (column + 7) line) place
-
--- the canonical text of such a place
-abbrev pub number_place_text : Option ℕ → List ℕ
-number_place_text place = number_text 8 (unwrap_or place 0)
-
 -- A function of the code answered what reading gives, seen by view.
 abbrev pub Gives : {X Y : Type 0} → (X → Y) → Result X FieldFault → Result Y FieldFault → Type 0
 Gives view (Ok x) reading = reading ≡ Ok (view x)
 Gives view (Err e) reading = reading ≡ Err e
+
+-- one way for an unused place, another for a used one
+abbrev pub at_place : {A B : Type 0} → Option A → B → (A → B) → B
+at_place None unused used = unused
+at_place (Some x) unused used = used x
+
+-- What so many places from this column on are read as, the form of each before the gap; after_unused says whether an unused
+-- place stands before them.
+unfoldable pub places_reading : {A : Type 0} → (ℕ → Result (Option A) FieldFault) → ℕ → Bool → ℕ → ℕ → Result (List A) FieldFault
+places_reading reading width after_unused zero column = Ok []
+places_reading reading width after_unused (suc count) column = do
+  place ← reading column
+  at_place place (places_reading reading width true count (column + width)) (λ x. if after_unused then Err (gap column) else (do
+    xs ← places_reading reading width false count (column + width)
+    Ok (x ∷ xs)))

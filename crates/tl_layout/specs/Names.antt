@@ -23,6 +23,3 @@ name_at first line =
 -- the texts of a name
 abbrev pub name_texts : FeatureName → List (List ℕ)
 name_texts name = name.fedirp ∷ name.fename ∷ name.fetype ∷ name.fedirs ∷ []
-
-abbrev pub name_widths : List ℕ
-name_widths = 2 ∷ 30 ∷ 4 ∷ 2 ∷ []

@@ -3,7 +3,8 @@ use Rattle.std.proofs.Common.{◌≡◌, ℕ, ◌+◌, ◌-◌, ◌*◌, ◌≤�
 use Rattle.std.specs.List.{list_all}
 use Rattle.std.proofs.lemmas.Bool.{and_parts, and_from, eqb-true, ne_eqb, leb-true}
 use Rattle.std.proofs.lemmas.List.{append-nil}
-use Rattle.tl_layout.specs.NumberField.{is_blank, is_digit, value_after, IsNumberField, drop_blanks, number_after, number_of}
+use Rattle.tl_layout.specs.NumberField.{is_blank, is_digit, value_after, IsNumberField}
+use Rattle.tl_layout.specs.NumberReading.{drop_blanks, number_after, number_of}
 
 -- no digit is a blank
 pub digit_not_blank : (byte : ℕ) → is_digit byte ≡ true → is_blank byte ≡ false
@@ -17,17 +18,17 @@ blank_not_digit byte h = let e : byte ≡ 32 = eqb-true byte 32 h in rw e refl
 pub record IsNumberRest (n : ℕ) (bytes : List ℕ) (value : ℕ) : Type 0 where
   pub digits : List ℕ
   pub after : List ℕ
-  pub spelt : bytes ≡ digits ++ after
+  pub spelled : bytes ≡ digits ++ after
   pub all_digits : list_all is_digit digits ≡ true
   pub blanks_after : list_all is_blank after ≡ true
   pub value_is : value ≡ value_after n digits
 
 rest_with : (n byte : ℕ) (bytes : List ℕ) (value : ℕ) → is_digit byte ≡ true → IsNumberRest (10 * n + (byte - 48)) bytes value → IsNumberRest n (byte ∷ bytes) value
 rest_with n byte bytes value e r =
-    record { digits = byte ∷ r.digits; after = r.after; spelt = ap (λ (l : List ℕ). byte ∷ l) r.spelt; all_digits = and_from _ _ e r.all_digits; blanks_after = r.blanks_after; value_is = r.value_is }
+    record { digits = byte ∷ r.digits; after = r.after; spelled = ap (λ (l : List ℕ). byte ∷ l) r.spelled; all_digits = and_from _ _ e r.all_digits; blanks_after = r.blanks_after; value_is = r.value_is }
 
 no_digits : (n : ℕ) (bytes : List ℕ) (value : ℕ) (b : Bool) → list_all is_blank bytes ≡ b → cond b (Some n) None ≡ Some value → IsNumberRest n bytes value
-no_digits n bytes value true e h = record { digits = []; after = bytes; spelt = refl; all_digits = refl; blanks_after = e; value_is = (cc) }
+no_digits n bytes value true e h = record { digits = []; after = bytes; spelled = refl; all_digits = refl; blanks_after = e; value_is = (cc) }
 no_digits n bytes value false e h = (cc)
 
 one_digit : (n byte : ℕ) (bytes : List ℕ) (value : ℕ) (b : Bool) (read : Option ℕ) → is_digit byte ≡ b → (read ≡ Some value → IsNumberRest (10 * n + (byte - 48)) bytes value) → cond b read (cond (list_all is_blank (byte ∷ bytes)) (Some n) None) ≡ Some value → IsNumberRest n (byte ∷ bytes) value
@@ -36,7 +37,7 @@ one_digit n byte bytes value false read e more h = no_digits n (byte ∷ bytes) 
 
 pub number_after_found : (n : ℕ) (bytes : List ℕ) (value : ℕ) → number_after n bytes ≡ Some value → IsNumberRest n bytes value
 unfolding number_after
-number_after_found n [] value h = record { digits = []; after = []; spelt = refl; all_digits = refl; blanks_after = refl; value_is = (cc) }
+number_after_found n [] value h = record { digits = []; after = []; spelled = refl; all_digits = refl; blanks_after = refl; value_is = (cc) }
 number_after_found n (byte ∷ bytes) value h =
     one_digit n byte bytes value (is_digit byte) (number_after (10 * n + (byte - 48)) bytes) refl (λ e. number_after_found (10 * n + (byte - 48)) bytes value e) h
 
@@ -55,16 +56,16 @@ number_after_only n (byte ∷ digits) after d a =
 -- the blanks in front, and what is left behind them
 pub record SplitsBlanks (field : List ℕ) : Type 0 where
   pub before : List ℕ
-  pub spelt : field ≡ before ++ drop_blanks field
+  pub spelled : field ≡ before ++ drop_blanks field
   pub blanks_before : list_all is_blank before ≡ true
 
 blanks_with : (byte : ℕ) (bytes : List ℕ) (b : Bool) → is_blank byte ≡ b → SplitsBlanks bytes → SplitsBlanks (byte ∷ bytes)
 blanks_with byte bytes true e r =
-    record { before = byte ∷ r.before; spelt = rw e (ap (λ (l : List ℕ). byte ∷ l) r.spelt); blanks_before = and_from _ _ e r.blanks_before }
-blanks_with byte bytes false e r = record { before = []; spelt = rw e refl; blanks_before = refl }
+    record { before = byte ∷ r.before; spelled = rw e (ap (λ (l : List ℕ). byte ∷ l) r.spelled); blanks_before = and_from _ _ e r.blanks_before }
+blanks_with byte bytes false e r = record { before = []; spelled = rw e refl; blanks_before = refl }
 
 pub splits_blanks : (field : List ℕ) → SplitsBlanks field
-splits_blanks [] = record { before = []; spelt = refl; blanks_before = refl }
+splits_blanks [] = record { before = []; spelled = refl; blanks_before = refl }
 splits_blanks (byte ∷ bytes) = blanks_with byte bytes (is_blank byte) refl (splits_blanks bytes)
 
 pub drop_blanks-append : (before rest : List ℕ) → list_all is_blank before ≡ true → drop_blanks (before ++ rest) ≡ drop_blanks rest
@@ -76,13 +77,13 @@ drop_blanks-append (byte ∷ before) rest h =
 pub drop_blanks-blanks : (bytes : List ℕ) → list_all is_blank bytes ≡ true → drop_blanks bytes ≡ []
 drop_blanks-blanks bytes h = ap drop_blanks (sym (append-nil bytes)) ∙ drop_blanks-append bytes [] h
 
--- what is read is spelt so
+-- what is read is spelled so
 pub number_found : (field : List ℕ) (n : ℕ) → number_of field ≡ Some n → IsNumberField field n
 unfolding number_of
 number_found field n h =
     let s = splits_blanks field in
     let r = number_after_found 0 (drop_blanks field) n h in
-    record { before = s.before; digits = r.digits; after = r.after; spelt = s.spelt ∙ ap (λ (l : List ℕ). s.before ++ l) r.spelt; blanks_before = s.blanks_before; all_digits = r.all_digits; blanks_after = r.blanks_after; value = r.value_is }
+    record { before = s.before; digits = r.digits; after = r.after; spelled = s.spelled ∙ ap (λ (l : List ℕ). s.before ++ l) r.spelled; blanks_before = s.blanks_before; all_digits = r.all_digits; blanks_after = r.blanks_after; value = r.value_is }
 
 behind_blanks : (digits after : List ℕ) → list_all is_digit digits ≡ true → list_all is_blank after ≡ true → number_after 0 (drop_blanks (digits ++ after)) ≡ Some (value_after 0 digits)
 unfolding number_after
@@ -90,10 +91,10 @@ behind_blanks [] after d a = rw (drop_blanks-blanks after a) refl
 behind_blanks (byte ∷ digits) after d a =
     rw (digit_not_blank byte (and_parts (is_digit byte) (list_all is_digit digits) d).0) (number_after_only 0 (byte ∷ digits) after d a)
 
--- what is spelt so is read
+-- what is spelled so is read
 pub number_only : (field : List ℕ) (n : ℕ) → IsNumberField field n → number_of field ≡ Some n
 unfolding number_of
 number_only field n h =
-    ap (λ l. number_after 0 (drop_blanks l)) h.spelt
+    ap (λ l. number_after 0 (drop_blanks l)) h.spelled
     ∙ ap (number_after 0) (drop_blanks-append h.before (h.digits ++ h.after) h.blanks_before)
     ∙ behind_blanks h.digits h.after h.all_digits h.blanks_after ∙ ap Some (sym h.value)

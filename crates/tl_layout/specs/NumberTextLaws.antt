@@ -8,7 +8,8 @@ use Rattle.std.proofs.lemmas.List.Elements.{All-push, All-nil}
 use Rattle.std.proofs.lemmas.List.Folds.{list_all-append}
 use Rattle.std.proofs.Math.Nat.{pow-succ', pow-le-pow_right, mul-le-mul_left}
 use Rattle.tl_layout.specs.Bytes.{IsText, AreAllowed, is_allowed}
-use Rattle.tl_layout.specs.NumberField.{is_blank, is_digit, value_after, IsNumberField, number_text}
+use Rattle.tl_layout.specs.NumberField.{is_blank, is_digit, value_after, IsNumberField}
+use Rattle.tl_layout.specs.FieldTexts.{number_text}
 
 -- the value of digits with one more behind them
 pub value_after-push : (n : ℕ) (digits : List ℕ) (digit : ℕ) → value_after n (digits ++ digit ∷ []) ≡ 10 * value_after n digits + (digit - 48)
@@ -31,7 +32,7 @@ tenth_below width n h = let more : n < 10 * 10 ^ width = rw (← pow-succ' 10 wi
 record NumberTextParts (width n : ℕ) : Type 0 where
   before : List ℕ
   digits : List ℕ
-  spelt : number_text width n ≡ before ++ digits
+  spelled : number_text width n ≡ before ++ digits
   blanks_before : list_all is_blank before ≡ true
   all_digits : list_all is_digit digits ≡ true
   value : n ≡ value_after 0 digits
@@ -45,7 +46,7 @@ one_column width n true e p =
     record {
       before = p.before ++ 32 ∷ [];
       digits = [];
-      spelt = rw (e, p.spelt, no_digits, append-nil p.before, append-nil (p.before ++ 32 ∷ [])) refl;
+      spelled = rw (e, p.spelled, no_digits, append-nil p.before, append-nil (p.before ++ 32 ∷ [])) refl;
       blanks_before = list_all-append is_blank p.before (32 ∷ []) ∙ and_from _ _ p.blanks_before refl;
       all_digits = refl;
       value = n_is;
@@ -56,7 +57,7 @@ one_column width n false e p =
     record {
       before = p.before;
       digits = p.digits ++ (48 + n % 10) ∷ [];
-      spelt = rw (e, p.spelt, append_assoc p.before p.digits ((48 + n % 10) ∷ [])) refl;
+      spelled = rw (e, p.spelled, append_assoc p.before p.digits ((48 + n % 10) ∷ [])) refl;
       blanks_before = p.blanks_before;
       all_digits = digits_push p.digits (48 + n % 10) p.all_digits (last_is_digit n);
       value = (let v = p.value in let m = value_after-push 0 p.digits (48 + n % 10) in omega arith);
@@ -65,14 +66,14 @@ one_column width n false e p =
 
 number_text_parts : (width n : ℕ) → n < 10 ^ width → NumberTextParts width n
 unfolding number_text
-number_text_parts zero n h = record { before = []; digits = []; spelt = refl; blanks_before = refl; all_digits = refl; value = omega arith; none = λ _. refl }
+number_text_parts zero n h = record { before = []; digits = []; spelled = refl; blanks_before = refl; all_digits = refl; value = omega arith; none = λ _. refl }
 number_text_parts (suc width) n h = one_column width n (nat_eq n 0) refl (number_text_parts width (n / 10) (tenth_below width n h))
 
 -- the canonical text spells the number
 pub number_text_spells : (width n : ℕ) → n < 10 ^ width → IsNumberField (number_text width n) n
 number_text_spells width n h =
     let p = number_text_parts width n h in
-    record { before = p.before; digits = p.digits; after = []; spelt = p.spelt ∙ ap (λ (l : List ℕ). p.before ++ l) (sym (append-nil p.digits)); blanks_before = p.blanks_before; all_digits = p.all_digits; blanks_after = refl; value = p.value }
+    record { before = p.before; digits = p.digits; after = []; spelled = p.spelled ∙ ap (λ (l : List ℕ). p.before ++ l) (sym (append-nil p.digits)); blanks_before = p.blanks_before; all_digits = p.all_digits; blanks_after = refl; value = p.value }
 
 pub length-number_text : (width n : ℕ) → length (number_text width n) ≡ width
 unfolding number_text
@@ -111,7 +112,7 @@ value_below n (digit ∷ digits) d =
 pub number_below : (field : List ℕ) (n : ℕ) → IsNumberField field n → n < 10 ^ length field
 number_below field n h =
     let below = value_below 0 h.digits h.all_digits in
-    let len = ap length h.spelt ∙ length-append h.before (h.digits ++ h.after) in
+    let len = ap length h.spelled ∙ length-append h.before (h.digits ++ h.after) in
     let len_rest = length-append h.digits h.after in
     let wide : length h.digits ≤ length field = omega arith in
     let most = pow-le-pow_right {n = 10} (lit< tt) wide in

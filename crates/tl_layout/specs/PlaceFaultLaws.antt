@@ -1,9 +1,9 @@
 -- Places: reading them fails exactly at the leftmost faulty one.
-use Rattle.std.proofs.Common.{◌≡◌, ℕ, zero, suc, ◌+◌, ◌*◌, ◌<◌, List, [], ◌∷◌, length, Bool, true, false, cond, Option, Some, None, Result, Ok, Err, refl, sym, ap, ◌∙◌, subst, arith, ◌⊎◌, inl, inr}
-use Rattle.tl_layout.specs.FieldReading.{and_then}
+use Rattle.std.proofs.Common.{◌≡◌, ℕ, zero, suc, ◌+◌, ◌*◌, ◌<◌, List, [], ◌∷◌, length, Bool, true, false, cond, Option, Some, None, Result, Ok, Err, refl, sym, ap, subst, arith, ◌⊎◌, inl, inr}
+use Rattle.tl_layout.specs.FieldReading.{and_then, at_place, places_reading}
 use Rattle.tl_layout.specs.FieldLaws.{reads_on}
-use Rattle.tl_layout.specs.Places.{SpellsPlaces, gap, at_place, places_reading}
-use Rattle.tl_layout.specs.FieldFaults.{IsGap, IsPlaceFault}
+use Rattle.tl_layout.specs.FieldMeaning.{SpellsPlaces}
+use Rattle.tl_layout.specs.FieldFaults.{gap, IsGap, IsPlaceFault}
 use Rattle.tl_layout.specs.ValueLaws.{fails, fails_first, err_value}
 use Rattle.tl_layout.specs.declared.fault.FieldFault.{FieldFault}
 

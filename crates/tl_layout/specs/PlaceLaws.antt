@@ -1,4 +1,4 @@
--- Places: what is read is spelt so, what is spelt so is read, and the canonical text is a spelling.
+-- Places: what is read is spelled so, what is spelled so is read, and the canonical text is a spelling.
 use Rattle.std.proofs.Common.{◌≡◌, ℕ, zero, suc, ◌+◌, ◌*◌, ◌≤◌, List, [], ◌∷◌, ◌++◌, length, Bool, true, false, cond, Option, Some, None, Result, Ok, Err, refl, sym, ap, ◌∙◌, subst, arith, append_assoc, IsTrue, IfSome, take, drop, ◌-◌, unwrap_or, inr, lit<, lit≤, pos}
 use Rattle.std.specs.List.{AllByRecursion}
 use Rattle.std.proofs.lemmas.List.{length-append, drop_at, take_at, length-take}
@@ -8,11 +8,13 @@ use Rattle.tl_layout.specs.Bytes.{IsText, AreAllowed, is_allowed, columns}
 use Rattle.tl_layout.specs.Numbers.{IsNumber, IsNumberOrNone}
 use Rattle.tl_layout.specs.Coordinates.{Coordinates, IsOnMap}
 use Rattle.tl_layout.specs.NumberTextLaws.{number_text_is_text, number_below}
-use Rattle.tl_layout.specs.CoordinateField.{IsCoordinateField, coordinate_text}
+use Rattle.tl_layout.specs.CoordinateField.{IsCoordinateField}
+use Rattle.tl_layout.specs.FieldTexts.{coordinate_text, point_place_text, number_place_text, places_text}
 use Rattle.tl_layout.specs.CoordinateLaws.{coordinate_text_is_text, coordinate_text_spells}
-use Rattle.tl_layout.specs.FieldReading.{and_then, SpellsPointPlace, SpellsNumberPlace, point_place_text, number_place_text}
+use Rattle.tl_layout.specs.FieldReading.{and_then, at_place, places_reading}
+use Rattle.tl_layout.specs.FieldMeaning.{SpellsPointPlace, SpellsNumberPlace, SpellsPlaces}
 use Rattle.tl_layout.specs.FieldLaws.{reads, reads_on, ok_value, point_again, number_or_none_again}
-use Rattle.tl_layout.specs.Places.{SpellsPlaces, gap, at_place, places_reading, places_text}
+use Rattle.tl_layout.specs.FieldFaults.{gap}
 use Rattle.tl_layout.specs.declared.fault.FieldFault.{FieldFault}
 
 -- what places that were read hold: nothing, if an unused one stood before them
@@ -35,7 +37,7 @@ place_found Spells width count column None xs after_unused unused used s none so
     ((λ _. empty), subst P (sym empty) (s, subst Q empty r.1))
 place_found Spells width count column (Some x) xs after_unused unused used s none some h = used_found Spells width count column x xs after_unused used s some h
 
--- what is read is spelt so
+-- what is read is spelled so
 pub places_found : {A : Type 0} (reading : ℕ → Result (Option A) FieldFault) (Spells : ℕ → Option A → Type 0) → ((column : ℕ) (place : Option A) → reading column ≡ Ok place → Spells column place) → (width : ℕ) (after_unused : Bool) (count column : ℕ) (xs : List A) → places_reading reading width after_unused count column ≡ Ok xs → (after_unused ≡ true → xs ≡ []) × SpellsPlaces Spells width count column xs
 unfolding places_reading
 places_found reading Spells found width after_unused zero column xs h =
@@ -46,7 +48,7 @@ places_found reading Spells found width after_unused (suc count) column xs h =
     let r = reads (reading column) _ xs h in
     place_found Spells width count column r.value xs after_unused _ _ (found column r.value r.was) (places_found reading Spells found width true count (column + width)) (places_found reading Spells found width false count (column + width)) r.gave
 
--- what is spelt so is read
+-- what is spelled so is read
 pub places_only : {A : Type 0} (reading : ℕ → Result (Option A) FieldFault) (Spells : ℕ → Option A → Type 0) → ((column : ℕ) (place : Option A) → Spells column place → reading column ≡ Ok place) → (width : ℕ) (after_unused : Bool) (count column : ℕ) (xs : List A) → (after_unused ≡ true → xs ≡ []) → SpellsPlaces Spells width count column xs → places_reading reading width after_unused count column ≡ Ok xs
 unfolding places_reading
 places_only reading Spells only width after_unused zero column [] e s = refl
@@ -57,7 +59,7 @@ places_only reading Spells only width true (suc count) column (x ∷ xs) e s = l
 places_only reading Spells only width false (suc count) column (x ∷ xs) e s =
     reads_on (reading column) _ (Some x) _ (only column (Some x) s.0) (reads_on _ _ xs _ (places_only reading Spells only width false count (column + width) xs (λ h. (cc)) s.1) refl)
 
--- no more items are spelt than there are places
+-- no more items are spelled than there are places
 pub places_len : {A : Type 0} (Spells : ℕ → Option A → Type 0) (width count column : ℕ) (xs : List A) → SpellsPlaces Spells width count column xs → length xs ≤ count
 places_len Spells width zero column [] s = omega arith
 places_len Spells width zero column (x ∷ xs) s = absurd s
@@ -91,26 +93,30 @@ places_text_is_text text width fits (suc count) (x ∷ xs) l =
     record { len = grind arith; allowed = All-append (λ b. IsTrue (is_allowed b)) (text (Some x)) (places_text text count xs) first.allowed rest.allowed }
 
 -- a place's text spells the place wherever it stands in a line
-abbrev pub IsSpeltAnywhere : {A : Type 0} → (List ℕ → ℕ → Option A → Type 0) → (Option A → List ℕ) → (A → Type 0) → Type 0
-IsSpeltAnywhere {A} Spells text Good = (before : List ℕ) (place : Option A) (after : List ℕ) → IfSome place Good → Spells (before ++ (text place ++ after)) (length before + 1) place
+abbrev pub IsSpelledAnywhere : {A : Type 0} → (List ℕ → ℕ → Option A → Type 0) → (Option A → List ℕ) → (A → Type 0) → Type 0
+IsSpelledAnywhere {A} Spells text Good = (before : List ℕ) (place : Option A) (after : List ℕ) → IfSome place Good → Spells (before ++ (text place ++ after)) (length before + 1) place
 
--- the canonical text of places spells them
-pub places_again : {A : Type 0} (Spells : List ℕ → ℕ → Option A → Type 0) (text : Option A → List ℕ) (Good : A → Type 0) (width : ℕ) → ((place : Option A) → IsText width (text place)) → IsSpeltAnywhere Spells text Good → (before : List ℕ) (count column : ℕ) (xs : List A) (line : List ℕ) → column ≡ length before + 1 → line ≡ before ++ places_text text count xs → length xs ≤ count → AllByRecursion Good xs → SpellsPlaces (Spells line) width count column xs
+-- the canonical text of places spells them, wherever it stands in a line
+pub places_again : {A : Type 0} (Spells : List ℕ → ℕ → Option A → Type 0) (text : Option A → List ℕ) (Good : A → Type 0) (width : ℕ) → ((place : Option A) → IsText width (text place)) → IsSpelledAnywhere Spells text Good → (before after : List ℕ) (count column : ℕ) (xs : List A) (line : List ℕ) → column ≡ length before + 1 → line ≡ before ++ (places_text text count xs ++ after) → length xs ≤ count → AllByRecursion Good xs → SpellsPlaces (Spells line) width count column xs
 unfolding places_text
-places_again Spells text Good width fits again before zero column [] line c e l g = tt
-places_again Spells text Good width fits again before zero column (x ∷ xs) line c e l g = absurd (omega arith)
-places_again Spells text Good width fits again before (suc count) column [] line c e l g =
+places_again Spells text Good width fits again before after zero column [] line c e l g = tt
+places_again Spells text Good width fits again before after zero column (x ∷ xs) line c e l g = absurd (omega arith)
+places_again Spells text Good width fits again before after (suc count) column [] line c e l g =
+    let rest = places_text text count [] ++ after in
+    let whole = e ∙ ap (λ (t : List ℕ). before ++ t) (append_assoc (text None) (places_text text count []) after) in
     let P : List ℕ → Type 0 = λ text. Spells text column None in
-    let Q : ℕ → Type 0 = λ c. Spells (before ++ (text None ++ places_text text count [])) c None in
+    let Q : ℕ → Type 0 = λ c. Spells (before ++ (text None ++ rest)) c None in
     let len = length-append before (text None) in
     let wide = (fits None).len in
-    (subst P (sym e) (subst Q (sym c) (again before None (places_text text count []) tt)), places_again Spells text Good width fits again (before ++ text None) count (column + width) [] line (omega arith) (e ∙ sym (append_assoc before (text None) (places_text text count []))) (omega arith) tt)
-places_again Spells text Good width fits again before (suc count) column (x ∷ xs) line c e l g =
+    (subst P (sym whole) (subst Q (sym c) (again before None rest tt)), places_again Spells text Good width fits again (before ++ text None) after count (column + width) [] line (omega arith) (whole ∙ sym (append_assoc before (text None) rest)) (omega arith) tt)
+places_again Spells text Good width fits again before after (suc count) column (x ∷ xs) line c e l g =
+    let rest = places_text text count xs ++ after in
+    let whole = e ∙ ap (λ (t : List ℕ). before ++ t) (append_assoc (text (Some x)) (places_text text count xs) after) in
     let P : List ℕ → Type 0 = λ text. Spells text column (Some x) in
-    let Q : ℕ → Type 0 = λ c. Spells (before ++ (text (Some x) ++ places_text text count xs)) c (Some x) in
+    let Q : ℕ → Type 0 = λ c. Spells (before ++ (text (Some x) ++ rest)) c (Some x) in
     let len = length-append before (text (Some x)) in
     let wide = (fits (Some x)).len in
-    (subst P (sym e) (subst Q (sym c) (again before (Some x) (places_text text count xs) g.0)), places_again Spells text Good width fits again (before ++ text (Some x)) count (column + width) xs line (omega arith) (e ∙ sym (append_assoc before (text (Some x)) (places_text text count xs))) (omega arith) g.1)
+    (subst P (sym whole) (subst Q (sym c) (again before (Some x) rest g.0)), places_again Spells text Good width fits again (before ++ text (Some x)) after count (column + width) xs line (omega arith) (whole ∙ sym (append_assoc before (text (Some x)) rest)) (omega arith) g.1)
 
 -- columns hold the text that stands behind as many bytes as there are columns before
 pub columns_behind : (before text after : List ℕ) (first last : ℕ) → first ≡ length before + 1 → last ≡ length before + length text → columns first last (before ++ (text ++ after)) ≡ text
@@ -120,7 +126,7 @@ columns_behind before text after first last f l =
     rw (skip, span) (ap (take (length text)) (drop_at before (text ++ after) (length before) refl) ∙ take_at text after (length text) refl)
 
 -- a longitude and a latitude side by side
-two_parts : (before long lat after : List ℕ) → length long ≡ 10 → length lat ≡ 9 → (columns (length before + 1) (length before + 1 + 9) (before ++ ((long ++ lat) ++ after)) ≡ long) × (columns (length before + 1 + 10) (length before + 1 + 18) (before ++ ((long ++ lat) ++ after)) ≡ lat)
+pub two_parts : (before long lat after : List ℕ) → length long ≡ 10 → length lat ≡ 9 → (columns (length before + 1) (length before + 1 + 9) (before ++ ((long ++ lat) ++ after)) ≡ long) × (columns (length before + 1 + 10) (length before + 1 + 18) (before ++ ((long ++ lat) ++ after)) ≡ lat)
 two_parts before long lat after l m =
     let joined = length-append before long in
     let left = ap (λ (t : List ℕ). before ++ t) (append_assoc long lat after) in
@@ -129,7 +135,7 @@ two_parts before long lat after l m =
       ap (columns (length before + 1 + 10) (length before + 1 + 18)) (left ∙ right) ∙ columns_behind (before ++ long) lat after (length before + 1 + 10) (length before + 1 + 18) (omega arith) (omega arith),
     )
 
-pair_of_texts : (m n : ℕ) (a b : List ℕ) → IsText m a → IsText n b → IsText (m + n) (a ++ b)
+pub pair_of_texts : (m n : ℕ) (a b : List ℕ) → IsText m a → IsText n b → IsText (m + n) (a ++ b)
 unfolding AreAllowed
 pair_of_texts m n a b s t =
     let l = s.len in
@@ -141,7 +147,7 @@ number_good None g = tt
 number_good (Some n) g = g
 
 -- the text of a place for a point spells it
-pub point_place_again : IsSpeltAnywhere SpellsPointPlace point_place_text IsOnMap
+pub point_place_again : IsSpelledAnywhere SpellsPointPlace point_place_text IsOnMap
 point_place_again before None after g =
     let long = coordinate_text 9 (pos 0) in
     let lat = coordinate_text 8 (pos 0) in
@@ -154,7 +160,7 @@ point_place_again before (Some point) after g =
     point_again point _ _ parts.0 parts.1 g
 
 -- the text of a place for a number spells it
-pub number_place_again : IsSpeltAnywhere SpellsNumberPlace number_place_text (IsNumber 8)
+pub number_place_again : IsSpelledAnywhere SpellsNumberPlace number_place_text (IsNumber 8)
 number_place_again before place after g =
     let text = number_text_is_text 8 (unwrap_or place 0) in
     number_or_none_again 8 place _ (columns_behind before (number_place_text place) after (length before + 1) (length before + 1 + 7) refl (let l = text.len in omega arith)) (number_good place g)

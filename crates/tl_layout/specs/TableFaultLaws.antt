@@ -1,11 +1,12 @@
 -- The reading of a line by a column table fails exactly with the leftmost fault of the table.
-use Rattle.std.proofs.Common.{◌≡◌, ℕ, ◌+◌, List, [], ◌∷◌, ◌++◌, Option, Result, Ok, Err, refl, sym, ap, ◌∙◌, subst, ◌⊎◌, inl, inr}
+use Rattle.std.proofs.Common.{◌≡◌, ℕ, ◌+◌, List, [], ◌∷◌, ◌++◌, Result, Ok, Err, refl, sym, ap, ◌∙◌, subst, inl, inr}
 use Rattle.std.specs.List.{AllByRecursion}
-use Rattle.tl_layout.specs.FieldReading.{and_then, SpellsNumberPlace, SpellsPointPlace, number_at, number_or_none_at, point_at, point_or_none_at}
+use Rattle.tl_layout.specs.FieldReading.{number_at, number_or_none_at, point_at, point_or_none_at}
+use Rattle.tl_layout.specs.FieldMeaning.{SpellsNumberPlace, SpellsPointPlace}
 use Rattle.tl_layout.specs.FieldLaws.{reads_on, number_or_none_at_found, number_or_none_at_only, point_or_none_at_found, point_or_none_at_only}
-use Rattle.tl_layout.specs.ColumnTable.{Kind, Number, NumberOrNone, Pair, PairOrNone, NumberPlaces, PointPlaces, Opaque, Filler, ValueOf, SpellsValue, Row}
+use Rattle.tl_layout.specs.ColumnTable.{Kind, Number, NumberOrNone, Pair, PairOrNone, NumberPlaces, PointPlaces, Opaque, Filler, Row}
 use Rattle.tl_layout.specs.FieldFaults.{IsNumberOrNoneFault, IsPairOrNoneFault, IsValueFault, IsWellFormed, IsFieldFault, IsLeftmostFault}
-use Rattle.tl_layout.specs.TableReading.{Makes, reading_on, rows_reading}
+use Rattle.tl_layout.specs.TableReading.{Makes, rows_reading}
 use Rattle.tl_layout.specs.ValueLaws.{value_reading, reading_goes_on, value_found, value_only, fails, fails_first, nothing_spelled, number_told, number_or_none_told, point_told, point_or_none_told, one_told}
 use Rattle.tl_layout.specs.PlaceFaultLaws.{places_fault_found, places_fault_only}
 use Rattle.tl_layout.specs.declared.fault.FieldFault.{FieldFault}

@@ -1,116 +1,75 @@
 -- Record type 1, 228 bytes: a chain with its two end points.
-use Rattle.std.specs.Prelude.{◌≡◌, ℕ, List, [], ◌∷◌, ◌++◌, Result, Ok, codes}
-use Rattle.tl_layout.specs.Bytes.{IsText, columns}
-use Rattle.tl_layout.specs.Numbers.{IsNumber}
-use Rattle.tl_layout.specs.Coordinates.{Coordinates, IsOnMap}
+use Rattle.std.specs.Prelude.{ℕ, List, Result, Ok}
 use Rattle.tl_layout.specs.Fields.{Fields1}
-use Rattle.tl_layout.specs.NumberField.{number_text}
-use Rattle.tl_layout.specs.CoordinateField.{coordinate_text}
-use Rattle.tl_layout.specs.FieldReading.{◌>>=◌, SpellsNumber, SpellsPoint, number_at, point_at}
-use Rattle.tl_layout.specs.Columns.{joined}
-use Rattle.tl_layout.specs.Pairs.{FitsPair, pair_at, pair_texts}
-use Rattle.tl_layout.specs.Names.{FitsName, name_at, name_texts}
-use Rattle.tl_layout.specs.AddressRanges.{FitsRanges, ranges_at, ranges_texts}
-use Rattle.tl_layout.specs.declared.type1.NativeAreas.{NativeAreas}
-use Rattle.tl_layout.specs.declared.type1.GeographicEntities.{GeographicEntities}
-use Rattle.tl_layout.specs.declared.type1.Body1.{Body1}
+use Rattle.tl_layout.specs.ColumnTable.{SpellsRows, FitsRows}
+use Rattle.tl_layout.specs.RecordTables.{rtype_1, table_1}
+use Rattle.tl_layout.specs.FieldReading.{◌>>=◌, number_at, point_at}
+use Rattle.tl_layout.specs.Type1Groups.{body_1_at}
+use Rattle.tl_layout.specs.TableReading.{Makes, rows_reading}
+use Rattle.tl_layout.specs.FieldTexts.{rows_spelling}
 use Rattle.tl_layout.specs.declared.fault.FieldFault.{FieldFault}
 
-pub record FitsNativeAreas (areas : NativeAreas) : Type 0 where
-  pub aianhhfp : FitsPair 5 areas.aianhhfp
-  pub aihhtli : FitsPair 1 areas.aihhtli
+-- what a record of type 1 may hold: each value fits its columns
+unfoldable pub FitsType1 : Fields1 → Type 0
+FitsType1 r = FitsRows table_1 r
 
-pub record FitsEntities (entities : GeographicEntities) : Type 0 where
-  pub state : FitsPair 2 entities.state
-  pub county : FitsPair 3 entities.county
-  pub cousub : FitsPair 5 entities.cousub
-  pub submcd : FitsPair 5 entities.submcd
-  pub place : FitsPair 5 entities.place
-  pub tract : FitsPair 6 entities.tract
-  pub block : FitsPair 4 entities.block
+-- a full line spells the record, row by row of the column table
+unfoldable pub SpellsType1 : List ℕ → Fields1 → Type 0
+SpellsType1 line r = SpellsRows table_1 line r
 
--- the content has fields of their widths
-pub record FitsBody1 (body : Body1) : Type 0 where
-  pub side1 : IsText 1 body.side1
-  pub source : IsText 1 body.source
-  pub name : FitsName body.name
-  pub cfcc : IsText 3 body.cfcc
-  pub ranges : FitsRanges body.ranges
-  pub native_areas : FitsNativeAreas body.native_areas
-  pub census1 : IsText 1 body.census1
-  pub census2 : IsText 1 body.census2
-  pub entities : FitsEntities body.entities
-
--- what a record of type 1 may hold
-pub record FitsType1 (r : Fields1) : Type 0 where
-  pub tlid : IsNumber 10 r.tlid
-  pub body : FitsBody1 r.body
-  pub start : IsOnMap r.start
-  pub end : IsOnMap r.end
-
--- the geographic entities in the columns of a line
-unfoldable pub entities_at : List ℕ → GeographicEntities
-entities_at line =
+-- the record of the values of the rows
+abbrev pub make_1 : Makes table_1 Fields1
+make_1 tlid side1 source fedirp fename fetype fedirs cfcc fraddl toaddl fraddr toaddr friaddl toiaddl friaddr toiaddr zipl zipr aianhhfpl aianhhfpr aihhtlil aihhtlir census1 census2 statel stater countyl countyr cousubl cousubr submcdl submcdr placel placer tractl tractr blockl blockr start end =
     record {
-      state = pair_at 2 131 line;
-      county = pair_at 3 135 line;
-      cousub = pair_at 5 141 line;
-      submcd = pair_at 5 151 line;
-      place = pair_at 5 161 line;
-      tract = pair_at 6 171 line;
-      block = pair_at 4 183 line;
+      tlid = tlid;
+      body = record {
+        side1 = side1;
+        source = source;
+        name = record { fedirp = fedirp; fename = fename; fetype = fetype; fedirs = fedirs };
+        cfcc = cfcc;
+        ranges = record {
+          fraddl = fraddl;
+          toaddl = toaddl;
+          fraddr = fraddr;
+          toaddr = toaddr;
+          friaddl = friaddl;
+          toiaddl = toiaddl;
+          friaddr = friaddr;
+          toiaddr = toiaddr;
+          zip = record { left = zipl; right = zipr };
+        };
+        native_areas = record {
+          aianhhfp = record { left = aianhhfpl; right = aianhhfpr };
+          aihhtli = record { left = aihhtlil; right = aihhtlir };
+        };
+        census1 = census1;
+        census2 = census2;
+        entities = record {
+          state = record { left = statel; right = stater };
+          county = record { left = countyl; right = countyr };
+          cousub = record { left = cousubl; right = cousubr };
+          submcd = record { left = submcdl; right = submcdr };
+          place = record { left = placel; right = placer };
+          tract = record { left = tractl; right = tractr };
+          block = record { left = blockl; right = blockr };
+        };
+      };
+      start = start;
+      end = end;
     }
-
--- the content in the columns of a line
-unfoldable pub body_1_at : List ℕ → Body1
-body_1_at line =
-    record {
-      side1 = columns 16 16 line;
-      source = columns 17 17 line;
-      name = name_at 18 line;
-      cfcc = columns 56 58 line;
-      ranges = ranges_at 59 line;
-      native_areas = record { aianhhfp = pair_at 5 117 line; aihhtli = pair_at 1 127 line };
-      census1 = columns 129 129 line;
-      census2 = columns 130 130 line;
-      entities = entities_at line;
-    }
-
--- the line spells the record, column by column
-pub record SpellsType1 (line : List ℕ) (r : Fields1) : Type 0 where
-  pub tlid : SpellsNumber (columns 6 15 line) r.tlid
-  pub body : body_1_at line ≡ r.body
-  pub start : SpellsPoint (columns 191 200 line) (columns 201 209 line) r.start
-  pub end : SpellsPoint (columns 210 219 line) (columns 220 228 line) r.end
 
 -- what a line is read as: its fields from the left, up to the first fault
 unfoldable pub type_1_reading : List ℕ → Result Fields1 FieldFault
-type_1_reading line = do
+type_1_reading line = rows_reading table_1 make_1 line
+
+-- the canonical spelling of a record
+unfoldable pub type_1_spelling : Fields1 → List ℕ
+type_1_spelling r = rows_spelling rtype_1 table_1 r
+
+-- the same in three steps: only the number and the two points can be at fault
+unfoldable pub type_1_short_reading : List ℕ → Result Fields1 FieldFault
+type_1_short_reading line = do
   tlid ← number_at 6 15 line
   start ← point_at 191 line
   end ← point_at 210 line
   Ok (record { tlid = tlid; body = body_1_at line; start = start; end = end })
-
--- the texts of the geographic entities
-abbrev pub entities_texts : GeographicEntities → List (List ℕ)
-entities_texts entities =
-    pair_texts 2 entities.state ++ pair_texts 3 entities.county ++ pair_texts 5 entities.cousub ++ pair_texts 5 entities.submcd
-    ++ pair_texts 5 entities.place ++ pair_texts 6 entities.tract ++ pair_texts 4 entities.block
-
--- the texts of the content
-abbrev pub body_1_texts : Body1 → List (List ℕ)
-body_1_texts body =
-    body.side1 ∷ body.source ∷ (name_texts body.name ++ body.cfcc ∷ ranges_texts body.ranges ++ pair_texts 5 body.native_areas.aianhhfp
-    ++ pair_texts 1 body.native_areas.aihhtli ++ body.census1 ∷ body.census2 ∷ entities_texts body.entities)
-
--- the texts of a point
-abbrev pub point_texts : Coordinates → List (List ℕ)
-point_texts point = coordinate_text 9 point.long ∷ coordinate_text 8 point.lat ∷ []
-
--- the canonical texts of the columns
-abbrev pub type_1_texts : Fields1 → List (List ℕ)
-type_1_texts r = codes "1" ∷ codes "2006" ∷ number_text 10 r.tlid ∷ (body_1_texts r.body ++ point_texts r.start ++ point_texts r.end)
-
--- the canonical spelling of a record
-unfoldable pub type_1_spelling : Fields1 → List ℕ
-type_1_spelling r = joined [] (type_1_texts r)

@@ -1,46 +1,32 @@
 -- Record type 5, 56 bytes: the name of a feature.
-use Rattle.std.specs.Prelude.{◌≡◌, ℕ, List, [], ◌∷◌, Result, Ok, codes}
-use Rattle.tl_layout.specs.Bytes.{IsText, columns}
-use Rattle.tl_layout.specs.Numbers.{IsNumber}
+use Rattle.std.specs.Prelude.{ℕ, List, Result}
 use Rattle.tl_layout.specs.Fields.{Fields5}
-use Rattle.tl_layout.specs.NumberField.{number_text}
-use Rattle.tl_layout.specs.FieldReading.{◌>>=◌, SpellsNumber, number_at}
-use Rattle.tl_layout.specs.Columns.{joined}
-use Rattle.tl_layout.specs.Names.{FitsName, name_at, name_texts}
-use Rattle.tl_layout.specs.declared.type5.Body5.{Body5}
+use Rattle.tl_layout.specs.ColumnTable.{SpellsRows, FitsRows}
+use Rattle.tl_layout.specs.RecordTables.{rtype_5, table_5}
+use Rattle.tl_layout.specs.TableReading.{Makes, rows_reading}
+use Rattle.tl_layout.specs.FieldTexts.{rows_spelling}
 use Rattle.tl_layout.specs.declared.fault.FieldFault.{FieldFault}
 
--- the content has fields of their widths
-pub record FitsBody5 (body : Body5) : Type 0 where
-  pub file : IsText 5 body.file
-  pub name : FitsName body.name
+-- what a record of type 5 may hold: each value fits its columns
+unfoldable pub FitsType5 : Fields5 → Type 0
+FitsType5 r = FitsRows table_5 r
 
--- what a record of type 5 may hold
-pub record FitsType5 (r : Fields5) : Type 0 where
-  pub feat : IsNumber 8 r.feat
-  pub body : FitsBody5 r.body
+-- a full line spells the record, row by row of the column table
+unfoldable pub SpellsType5 : List ℕ → Fields5 → Type 0
+SpellsType5 line r = SpellsRows table_5 line r
 
--- the line spells the record, column by column
-pub record SpellsType5 (line : List ℕ) (r : Fields5) : Type 0 where
-  pub file : columns 6 10 line ≡ r.body.file
-  pub feat : SpellsNumber (columns 11 18 line) r.feat
-  pub name : name_at 19 line ≡ r.body.name
-
--- the record of a line whose number is this
-abbrev pub type_5_of : List ℕ → ℕ → Fields5
-type_5_of line feat =
-    record { feat = feat; body = record { file = columns 6 10 line; name = name_at 19 line } }
+-- the record of the values of the rows
+abbrev pub make_5 : Makes table_5 Fields5
+make_5 file feat fedirp fename fetype fedirs =
+    record {
+      feat = feat;
+      body = record { file = file; name = record { fedirp = fedirp; fename = fename; fetype = fetype; fedirs = fedirs } };
+    }
 
 -- what a line is read as: its fields from the left, up to the first fault
 unfoldable pub type_5_reading : List ℕ → Result Fields5 FieldFault
-type_5_reading line = do
-  feat ← number_at 11 18 line
-  Ok (type_5_of line feat)
-
--- the canonical texts of the columns
-abbrev pub type_5_texts : Fields5 → List (List ℕ)
-type_5_texts r = codes "5" ∷ codes "2006" ∷ r.body.file ∷ number_text 8 r.feat ∷ name_texts r.body.name
+type_5_reading line = rows_reading table_5 make_5 line
 
 -- the canonical spelling of a record
 unfoldable pub type_5_spelling : Fields5 → List ℕ
-type_5_spelling r = joined [] (type_5_texts r)
+type_5_spelling r = rows_spelling rtype_5 table_5 r

@@ -1,16 +1,16 @@
 -- For each kind of field: what its columns are read as is what they spell, and where nothing is spelled, what is told of it.
-use Rattle.std.proofs.Common.{◌≡◌, ℕ, zero, suc, ◌+◌, ◌*◌, ◌<◌, List, [], ◌∷◌, length, Bool, true, false, cond, Option, Some, None, Result, Ok, Err, refl, sym, ap, ◌∙◌, subst, arith, ◌⊎◌, inl, inr, pos}
+use Rattle.std.proofs.Common.{◌≡◌, ℕ, zero, suc, ◌+◌, List, false, Option, Some, None, Result, Ok, Err, refl, sym, ap, ◌∙◌, subst, ◌⊎◌, inl, inr, pos}
 use Rattle.tl_layout.specs.Bytes.{columns}
-use Rattle.tl_layout.specs.NumberField.{number_of}
-use Rattle.tl_layout.specs.CoordinateField.{IsCoordinateField, IsBlankField, coordinate_of}
+use Rattle.tl_layout.specs.NumberReading.{number_of}
+use Rattle.tl_layout.specs.CoordinateReading.{coordinate_of}
 use Rattle.tl_layout.specs.CoordinateLaws.{coordinate_found, coordinate_only, blank_found, blank_only}
 use Rattle.tl_layout.specs.Coordinates.{Coordinates}
-use Rattle.tl_layout.specs.FieldReading.{and_then, SpellsPointOrNone, SpellsNumberPlace, SpellsPointPlace, bad_number, bad_point, demanded_number, possible_number, number_at, number_or_none_at, pair_of, point_or_none_at, demanded_point, point_at}
-use Rattle.tl_layout.specs.FieldLaws.{reads, reads_on, ok_value, number_at_found, number_at_only, number_or_none_at_found, number_or_none_at_only, point_or_none_at_found, point_or_none_at_only, point_at_found, point_at_only}
-use Rattle.tl_layout.specs.Places.{SpellsPlaces, gap, at_place, places_reading}
+use Rattle.tl_layout.specs.FieldReading.{and_then, demanded_number, possible_number, number_at, number_or_none_at, pair_of, point_or_none_at, demanded_point, point_at, places_reading}
+use Rattle.tl_layout.specs.FieldMeaning.{SpellsPointOrNone, SpellsNumberPlace, SpellsPointPlace}
+use Rattle.tl_layout.specs.FieldFaults.{bad_number, bad_point, IsMalformed, HasMalformedLongitude, HasMalformedLatitude, IsToldOfPair}
+use Rattle.tl_layout.specs.FieldLaws.{ok_value, number_at_found, number_at_only, number_or_none_at_found, number_or_none_at_only, point_or_none_at_found, point_or_none_at_only, point_at_found, point_at_only}
 use Rattle.tl_layout.specs.PlaceLaws.{places_found, places_only}
 use Rattle.tl_layout.specs.ColumnTable.{Kind, Number, NumberOrNone, Pair, PairOrNone, NumberPlaces, PointPlaces, Opaque, Filler, ValueOf, SpellsValue}
-use Rattle.tl_layout.specs.FieldFaults.{IsMalformed, HasMalformedLongitude, HasMalformedLatitude, IsToldOfPair, IsGap, IsPlaceFault, IsNumberOrNoneFault, IsPairOrNoneFault, IsValueFault}
 use Rattle.tl_layout.specs.TableReading.{reading_on}
 use Rattle.tl_layout.specs.declared.coordinate.Coordinate.{Coordinate}
 use Rattle.tl_layout.specs.declared.coordinate.Coordinate.TheVariants.{Malformed, Blank, Value}
@@ -159,7 +159,7 @@ point_or_none_told line first fault h = pair_told line first fault _ _ refl refl
 halves_well_formed : (long lat : List ℕ) (point : Option Coordinates) → SpellsPointOrNone long lat point → (¬ IsMalformed 999999999 long) × (¬ IsMalformed 99999999 lat)
 halves_well_formed long lat None (inl h) = ((λ m. m.not_blank h.0), (λ m. m.not_blank h.1))
 halves_well_formed long lat None (inr h) = ((λ m. m.no_value (pos 0) h.0), (λ m. m.no_value (pos 0) h.1))
-halves_well_formed long lat (Some point) h = ((λ m. m.no_value point.long h.long_spelt), (λ m. m.no_value point.lat h.lat_spelt))
+halves_well_formed long lat (Some point) h = ((λ m. m.no_value point.long h.long_spelled), (λ m. m.no_value point.lat h.lat_spelled))
 
 none_told : (line : List ℕ) (first : ℕ) (fault : FieldFault) (read : Option Coordinates) → point_or_none_at first line ≡ Ok read → demanded_point first read ≡ Err fault → IsToldOfPair line first fault
 none_told line first fault None was h =

@@ -1,7 +1,8 @@
 //! Coordinates: longitudes and latitudes in millionths of a degree.
 
 ghost use Rattle.std.specs.Prelude.{◌≡◌, ◌≤◌, ◌-◌, length, IfSome};
-ghost use Rattle.tl_layout.specs.CoordinateField.{plus_of, minus_of, sign_of, magnitude_of, coordinate_of, coordinate_text, digits_text};
+ghost use Rattle.tl_layout.specs.CoordinateReading.{plus_of, minus_of, magnitude_of, coordinate_of};
+ghost use Rattle.tl_layout.specs.FieldTexts.{sign_of, coordinate_text, digits_text};
 
 use crate::number::{digits, trim_start};
 
@@ -17,7 +18,7 @@ pub enum Coordinate {
 }
 
 /// The magnitude that one digit or more spell.
-#[tactic(auto, unfolding(crate::specs::CoordinateField::magnitude_of))]
+#[tactic(auto, unfolding(crate::specs::CoordinateReading::magnitude_of))]
 fn magnitude(text: &[u8], limit: u32) -> Option<u32>
     requires { length text.now ≤ 19 }
     ensures value { result ≡ magnitude_of limit text.now }
@@ -66,7 +67,7 @@ fn minus(magnitude: Option<u32>) -> Coordinate
 }
 
 /// What a coordinate's field holds, whose magnitude may be up to the limit.
-#[tactic(auto, unfolding(crate::specs::CoordinateField::coordinate_of, crate::specs::CoordinateField::signed_of))]
+#[tactic(auto, unfolding(crate::specs::CoordinateReading::coordinate_of, crate::specs::CoordinateReading::signed_of))]
 pub fn read_coordinate(field: &[u8], limit: u32) -> Coordinate
     requires len { length field.now ≤ 19 }
     requires within { limit ≤ 999999999 }
@@ -81,7 +82,7 @@ pub fn read_coordinate(field: &[u8], limit: u32) -> Coordinate
 }
 
 /// Writes the last digits of a number, as many as there is room for.
-#[tactic(auto, unfolding(crate::specs::CoordinateField::digits_text))]
+#[tactic(auto, unfolding(crate::specs::FieldTexts::digits_text))]
 fn put_digits(out: &mut [u8], number: u32)
     ensures { out.new ≡ digits_text (length out.old) number }
 {
@@ -102,7 +103,7 @@ fn sign(value: i32) -> u8
 }
 
 /// Writes a coordinate: its sign, and digits in all columns but the first.
-#[tactic(auto, using(crate::proofs::Writes::first_then_rest), unfolding(crate::specs::CoordinateField::coordinate_text))]
+#[tactic(auto, using(crate::proofs::Writes::first_then_rest), unfolding(crate::specs::FieldTexts::coordinate_text))]
 pub fn put_coordinate(out: &mut [u8], value: i32)
     requires { 1 ≤ length out.old }
     ensures { out.new ≡ coordinate_text (length out.old - 1) value }

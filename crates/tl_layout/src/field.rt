@@ -3,11 +3,12 @@
 ghost use Rattle.std.specs.Prelude.{◌≡◌, ◌+◌, ◌-◌, ◌≤◌, ◌<◌, ◌++◌, length, take, IfOk};
 ghost use Rattle.tl_layout.specs.Bytes.{AreAllowed, IsText, columns};
 ghost use Rattle.tl_layout.specs.Numbers.{IsNumber, IsNumberOrNone};
-ghost use Rattle.tl_layout.specs.NumberField.{number_text};
-ghost use Rattle.tl_layout.specs.CoordinateField.{coordinate_text};
+ghost use Rattle.tl_layout.specs.FieldTexts.{number_text};
+ghost use Rattle.tl_layout.specs.FieldTexts.{coordinate_text};
 ghost use Rattle.tl_layout.specs.Columns.{joined};
-ghost use Rattle.tl_layout.specs.Places.{gap};
-ghost use Rattle.tl_layout.specs.FieldReading.{number_at, number_or_none_at, point_at, point_or_none_at, bad_point};
+ghost use Rattle.tl_layout.specs.FieldFaults.{gap};
+ghost use Rattle.tl_layout.specs.FieldReading.{number_at, number_or_none_at, point_at, point_or_none_at};
+ghost use Rattle.tl_layout.specs.FieldFaults.{bad_point};
 
 use crate::coordinate::{Coordinate, put_coordinate, read_coordinate};
 use crate::fault::{FieldFault, FieldKind};

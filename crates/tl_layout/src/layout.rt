@@ -1,6 +1,6 @@
 //! What every record type offers.
 
-ghost use Rattle.std.specs.Prelude.{◌≡◌, ◌≤◌, ◌<◌, ℕ, List, Result, Ok, Err, length, IfOk, IfErr, IsOk};
+ghost use Rattle.std.specs.Prelude.{◌≡◌, ◌↔◌, ◌≤◌, ◌<◌, ℕ, List, Result, Ok, Err, length, IfOk, IfErr, IsOk};
 ghost use Rattle.tl_layout.specs.Bytes.{IsLine};
 ghost use Rattle.tl_layout.specs.declared.fault.FieldFault.{FieldFault};
 
@@ -24,7 +24,10 @@ pub trait Layout: Sized {
     /// A full line spells the record: a relation, since a record has many spellings.
     ghost Spells: { List ℕ → Self → Type 0 };
 
-    /// What a full line is read as: the record, or the leftmost fault.
+    /// What is told of a full line: its leftmost field at fault, of which no value is spelled, and how it breaks its rule.
+    ghost IsFault: { List ℕ → FieldFault → Type 0 };
+
+    /// What a full line is read as: the record, or the fault.
     ghost reading: { List ℕ → Result Self FieldFault };
 
     /// The canonical spelling of the record.
@@ -35,6 +38,7 @@ pub trait Layout: Sized {
         requires { IsLine RTYPE LEN line.now }
         ensures found { IfOk result (λ r. Fits r × Spells line.now r) }
         ensures only { (r : Self) → Spells line.now r → result ≡ Ok r }
+        ensures leftmost { (fault : FieldFault) → (result ≡ Err fault ↔ IsFault line.now fault) }
         ensures exact { result ≡ reading line.now };
 
     /// Writes the canonical spelling.
@@ -57,4 +61,7 @@ pub trait Layout: Sized {
 
     /// What is spelled so is read.
     ghost spelled_is_read: { (line : List ℕ) (r : Self) → IsLine RTYPE LEN line → Spells line r → reading line ≡ Ok r };
+
+    /// What a full line fails with is its leftmost fault.
+    ghost tells_leftmost: { (line : List ℕ) (fault : FieldFault) → IsLine RTYPE LEN line → (reading line ≡ Err fault ↔ IsFault line fault) };
 }

@@ -2,7 +2,9 @@
 
 ghost use Rattle.std.specs.Prelude.{◌≡◌, ◌≤◌, length};
 ghost use Rattle.std.specs.List.{list_all};
-ghost use Rattle.tl_layout.specs.NumberField.{is_blank, drop_blanks, number_after, number_of, number_text};
+ghost use Rattle.tl_layout.specs.NumberField.{is_blank};
+ghost use Rattle.tl_layout.specs.NumberReading.{drop_blanks, number_after, number_of};
+ghost use Rattle.tl_layout.specs.FieldTexts.{number_text};
 
 /// What is left of a field behind the blanks in front.
 pub fn trim_start(field: &[u8]) -> &[u8]
@@ -24,7 +26,7 @@ pub fn is_blank(field: &[u8]) -> bool
 }
 
 /// The number of digits that nothing but blanks may follow.
-#[tactic(auto, using(crate::proofs::NumberLemmas::stepping), unfolding(crate::specs::NumberField::number_after))]
+#[tactic(auto, using(crate::proofs::NumberLemmas::stepping), unfolding(crate::specs::NumberReading::number_after))]
 pub fn digits(field: &[u8]) -> Option<u64>
     requires { length field.now ≤ 19 }
     ensures { result ≡ number_after 0 field.now }
@@ -44,7 +46,7 @@ pub fn digits(field: &[u8]) -> Option<u64>
 }
 
 /// The number that a field spells, 0 where it spells none.
-#[tactic(auto, unfolding(crate::specs::NumberField::number_of))]
+#[tactic(auto, unfolding(crate::specs::NumberReading::number_of))]
 pub fn number(field: &[u8]) -> Option<u64>
     requires { length field.now ≤ 19 }
     ensures { result ≡ number_of field.now }
@@ -53,7 +55,7 @@ pub fn number(field: &[u8]) -> Option<u64>
 }
 
 /// Writes a number right justified, blanks for 0.
-#[tactic(auto, unfolding(crate::specs::NumberField::number_text))]
+#[tactic(auto, unfolding(crate::specs::FieldTexts::number_text))]
 pub fn put_number(out: &mut [u8], number: u64)
     ensures { out.new ≡ number_text (length out.old) number }
 {

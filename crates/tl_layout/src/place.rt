@@ -3,8 +3,8 @@
 ghost use Rattle.std.specs.Prelude.{◌≡◌, ◌+◌, ◌-◌, ◌≤◌, ◌++◌, IfSome, length, take, slice_get};
 ghost use Rattle.std.specs.List.{AllByRecursion};
 ghost use Rattle.tl_layout.specs.Coordinates.{IsOnMap};
-ghost use Rattle.tl_layout.specs.FieldReading.{point_place_text, number_place_text};
-ghost use Rattle.tl_layout.specs.Places.{places_text};
+ghost use Rattle.tl_layout.specs.FieldTexts.{point_place_text, number_place_text};
+ghost use Rattle.tl_layout.specs.FieldTexts.{places_text};
 
 use crate::point::Point;
 use crate::writing::{write_number, write_point, write_zeros};

@@ -43,7 +43,7 @@ pub trait Tabled: Layout {
 
 impl Tabled for Rec1 {
     ghost use Rattle.tl_layout.specs.declared.record_type.Record.TheVariants.{One};
-    ghost use Rattle.tl_layout.specs.TableLaws.{type_1_type, type_1_spelling_is};
+    ghost use Rattle.tl_layout.specs.TabledLaws.{type_1_type, type_1_spelling_is};
 
     ghost as_record = { One };
 
@@ -62,7 +62,7 @@ impl Tabled for Rec1 {
 
 impl Tabled for Rec2 {
     ghost use Rattle.tl_layout.specs.declared.record_type.Record.TheVariants.{Two};
-    ghost use Rattle.tl_layout.specs.TableLaws.{type_2_type, type_2_spelling_is};
+    ghost use Rattle.tl_layout.specs.TabledLaws.{type_2_type, type_2_spelling_is};
 
     ghost as_record = { Two };
 
@@ -81,7 +81,7 @@ impl Tabled for Rec2 {
 
 impl Tabled for Rec4 {
     ghost use Rattle.tl_layout.specs.declared.record_type.Record.TheVariants.{Four};
-    ghost use Rattle.tl_layout.specs.TableLaws.{type_4_type, type_4_spelling_is};
+    ghost use Rattle.tl_layout.specs.TabledLaws.{type_4_type, type_4_spelling_is};
 
     ghost as_record = { Four };
 
@@ -100,7 +100,7 @@ impl Tabled for Rec4 {
 
 impl Tabled for Rec5 {
     ghost use Rattle.tl_layout.specs.declared.record_type.Record.TheVariants.{Five};
-    ghost use Rattle.tl_layout.specs.TableLaws.{type_5_type, type_5_spelling_is};
+    ghost use Rattle.tl_layout.specs.TabledLaws.{type_5_type, type_5_spelling_is};
 
     ghost as_record = { Five };
 
@@ -119,7 +119,7 @@ impl Tabled for Rec5 {
 
 impl Tabled for Rec6 {
     ghost use Rattle.tl_layout.specs.declared.record_type.Record.TheVariants.{Six};
-    ghost use Rattle.tl_layout.specs.TableLaws.{type_6_type, type_6_spelling_is};
+    ghost use Rattle.tl_layout.specs.TabledLaws.{type_6_type, type_6_spelling_is};
 
     ghost as_record = { Six };
 
@@ -138,7 +138,7 @@ impl Tabled for Rec6 {
 
 impl Tabled for Rec7 {
     ghost use Rattle.tl_layout.specs.declared.record_type.Record.TheVariants.{Seven};
-    ghost use Rattle.tl_layout.specs.TableLaws.{type_7_type, type_7_spelling_is};
+    ghost use Rattle.tl_layout.specs.TabledLaws.{type_7_type, type_7_spelling_is};
 
     ghost as_record = { Seven };
 
@@ -157,7 +157,7 @@ impl Tabled for Rec7 {
 
 impl Tabled for Rec8 {
     ghost use Rattle.tl_layout.specs.declared.record_type.Record.TheVariants.{Eight};
-    ghost use Rattle.tl_layout.specs.TableLaws.{type_8_type, type_8_spelling_is};
+    ghost use Rattle.tl_layout.specs.TabledLaws.{type_8_type, type_8_spelling_is};
 
     ghost as_record = { Eight };
 
@@ -176,7 +176,7 @@ impl Tabled for Rec8 {
 
 impl Tabled for RecI {
     ghost use Rattle.tl_layout.specs.declared.record_type.Record.TheVariants.{I};
-    ghost use Rattle.tl_layout.specs.TableLaws.{type_i_type, type_i_spelling_is};
+    ghost use Rattle.tl_layout.specs.TabledLaws.{type_i_type, type_i_spelling_is};
 
     ghost as_record = { I };
 
@@ -195,7 +195,7 @@ impl Tabled for RecI {
 
 impl Tabled for RecP {
     ghost use Rattle.tl_layout.specs.declared.record_type.Record.TheVariants.{P};
-    ghost use Rattle.tl_layout.specs.TableLaws.{type_p_type, type_p_spelling_is};
+    ghost use Rattle.tl_layout.specs.TabledLaws.{type_p_type, type_p_spelling_is};
 
     ghost as_record = { P };
 

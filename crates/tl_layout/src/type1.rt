@@ -90,7 +90,7 @@ impl Model for Rec1 {
 }
 
 impl GeographicEntities {
-    ghost use Rattle.tl_layout.specs.Type1.{FitsEntities, entities_at, entities_texts};
+    ghost use Rattle.tl_layout.specs.Type1Groups.{FitsEntities, entities_at, entities_texts};
 
     /// The geographic entities in the columns of a full line.
     fn at(line: &[u8]) -> GeographicEntities
@@ -125,7 +125,7 @@ impl GeographicEntities {
 }
 
 impl Body1 {
-    ghost use Rattle.tl_layout.specs.Type1.{FitsBody1, body_1_at, body_1_texts};
+    ghost use Rattle.tl_layout.specs.Type1Groups.{FitsBody1, body_1_at, body_1_texts};
 
     /// The content in the columns of a full line.
     fn at(line: &[u8]) -> Body1
@@ -168,7 +168,7 @@ impl Body1 {
 }
 
 impl Rec1 {
-    ghost use Rattle.tl_layout.specs.Type1.{type_1_reading};
+    ghost use Rattle.tl_layout.specs.Type1.{type_1_short_reading};
 
     /// The record of these fields. The TLID is from 1 to 9,999,999,999.
     pub fn new(tlid: u64, body: Body1, start: Point, end: Point) -> Rec1
@@ -213,10 +213,10 @@ impl Rec1 {
     }
 
     /// What a full line is read as.
-    #[tactic(auto, unfolding(crate::specs::Type1::type_1_reading, crate::specs::FieldReading::and_then))]
+    #[tactic(auto, unfolding(crate::specs::Type1::type_1_short_reading, crate::specs::FieldReading::and_then))]
     fn read(line: &[u8]) -> Result<Rec1, FieldFault>
         requires { IsText 228 line.now }
-        ensures { result ≡ type_1_reading line.now }
+        ensures { result ≡ type_1_short_reading line.now }
     {
         let tlid = read_number(line, 6, 15)?;
         let start = read_point(line, 191)?;
@@ -228,26 +228,30 @@ impl Rec1 {
 impl Layout for Rec1 {
     ghost use Rattle.std.specs.Prelude.{ℕ, List};
     ghost use Rattle.std.proofs.Common.{lit≤};
+    ghost use Rattle.tl_layout.specs.FieldFaults.{IsLeftmostFault};
+    ghost use Rattle.tl_layout.specs.RecordTables.{rtype_1, len_1, table_1};
     ghost use Rattle.tl_layout.specs.Type1.{FitsType1, SpellsType1, type_1_reading, type_1_spelling};
-    ghost use Rattle.tl_layout.specs.Type1Laws.{type_1_spelling_is_line, type_1_reads_spelling, type_1_reads_spelled, type_1_spelled_is_read};
+    ghost use Rattle.tl_layout.specs.Type1Laws.{type_1_spelling_is_line, type_1_reads_spelling, type_1_reads_spelled, type_1_spelled_is_read, type_1_leftmost};
 
     const LEN: usize = 228;
 
-    ghost LEN = { 228 };
+    ghost LEN = { len_1 };
 
     const RTYPE: u8 = b'1';
 
-    ghost RTYPE = { 49 };
+    ghost RTYPE = { rtype_1 };
 
     ghost Fits = { FitsType1 };
 
     ghost Spells = { SpellsType1 };
 
+    ghost IsFault = { IsLeftmostFault table_1 };
+
     ghost reading = { type_1_reading };
 
     ghost spelling = { type_1_spelling };
 
-    #[tactic(auto, using(crate::specs::Type1Laws::type_1_reads_spelled))]
+    #[tactic(auto, using(crate::specs::Type1Laws::type_1_reads_spelled, crate::specs::Type1Laws::type_1_reading_is_short))]
     fn take(line: &[u8]) -> Result<Rec1, FieldFault> {
         Rec1::read(line)
     }
@@ -270,4 +274,6 @@ impl Layout for Rec1 {
     ghost reads_spelled = { type_1_reads_spelled };
 
     ghost spelled_is_read = { type_1_spelled_is_read };
+
+    ghost tells_leftmost = { type_1_leftmost };
 }

@@ -5,8 +5,10 @@ ghost use Rattle.std.specs.List.{AllByRecursion};
 ghost use Rattle.tl_layout.specs.Bytes.{IsText};
 ghost use Rattle.tl_layout.specs.Coordinates.{IsOnMap};
 ghost use Rattle.tl_layout.specs.Numbers.{IsNumber};
-ghost use Rattle.tl_layout.specs.FieldReading.{Gives, point_or_none_at, point_place_text};
-ghost use Rattle.tl_layout.specs.Places.{places_reading, places_text};
+ghost use Rattle.tl_layout.specs.FieldReading.{Gives, point_or_none_at};
+ghost use Rattle.tl_layout.specs.FieldTexts.{point_place_text};
+ghost use Rattle.tl_layout.specs.FieldReading.{places_reading};
+ghost use Rattle.tl_layout.specs.FieldTexts.{places_text};
 
 use crate::fault::FieldFault;
 use crate::field::{gap, read_number, read_point_or_none};
@@ -114,20 +116,24 @@ impl Rec2 {
 impl Layout for Rec2 {
     ghost use Rattle.std.specs.Prelude.{ℕ, List};
     ghost use Rattle.std.proofs.Common.{lit≤};
+    ghost use Rattle.tl_layout.specs.FieldFaults.{IsLeftmostFault};
+    ghost use Rattle.tl_layout.specs.RecordTables.{rtype_2, len_2, table_2};
     ghost use Rattle.tl_layout.specs.Type2.{FitsType2, SpellsType2, type_2_reading, type_2_spelling};
-    ghost use Rattle.tl_layout.specs.Type2Laws.{type_2_spelling_is_line, type_2_reads_spelling, type_2_reads_spelled, type_2_spelled_is_read};
+    ghost use Rattle.tl_layout.specs.Type2Laws.{type_2_spelling_is_line, type_2_reads_spelling, type_2_reads_spelled, type_2_spelled_is_read, type_2_leftmost};
 
     const LEN: usize = 208;
 
-    ghost LEN = { 208 };
+    ghost LEN = { len_2 };
 
     const RTYPE: u8 = b'2';
 
-    ghost RTYPE = { 50 };
+    ghost RTYPE = { rtype_2 };
 
     ghost Fits = { FitsType2 };
 
     ghost Spells = { SpellsType2 };
+
+    ghost IsFault = { IsLeftmostFault table_2 };
 
     ghost reading = { type_2_reading };
 
@@ -155,4 +161,6 @@ impl Layout for Rec2 {
     ghost reads_spelled = { type_2_reads_spelled };
 
     ghost spelled_is_read = { type_2_spelled_is_read };
+
+    ghost tells_leftmost = { type_2_leftmost };
 }

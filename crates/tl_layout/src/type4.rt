@@ -5,7 +5,7 @@ ghost use Rattle.std.specs.List.{AllByRecursion};
 ghost use Rattle.tl_layout.specs.Bytes.{IsText};
 ghost use Rattle.tl_layout.specs.Numbers.{IsNumber};
 ghost use Rattle.tl_layout.specs.FieldReading.{Gives, number_or_none_at};
-ghost use Rattle.tl_layout.specs.Places.{places_reading};
+ghost use Rattle.tl_layout.specs.FieldReading.{places_reading};
 
 use crate::fault::FieldFault;
 use crate::field::{gap, read_number, read_number_or_none};
@@ -115,20 +115,24 @@ impl Rec4 {
 impl Layout for Rec4 {
     ghost use Rattle.std.specs.Prelude.{ℕ, List};
     ghost use Rattle.std.proofs.Common.{lit≤};
+    ghost use Rattle.tl_layout.specs.FieldFaults.{IsLeftmostFault};
+    ghost use Rattle.tl_layout.specs.RecordTables.{rtype_4, len_4, table_4};
     ghost use Rattle.tl_layout.specs.Type4.{FitsType4, SpellsType4, type_4_reading, type_4_spelling};
-    ghost use Rattle.tl_layout.specs.Type4Laws.{type_4_spelling_is_line, type_4_reads_spelling, type_4_reads_spelled, type_4_spelled_is_read};
+    ghost use Rattle.tl_layout.specs.Type4Laws.{type_4_spelling_is_line, type_4_reads_spelling, type_4_reads_spelled, type_4_spelled_is_read, type_4_leftmost};
 
     const LEN: usize = 58;
 
-    ghost LEN = { 58 };
+    ghost LEN = { len_4 };
 
     const RTYPE: u8 = b'4';
 
-    ghost RTYPE = { 52 };
+    ghost RTYPE = { rtype_4 };
 
     ghost Fits = { FitsType4 };
 
     ghost Spells = { SpellsType4 };
+
+    ghost IsFault = { IsLeftmostFault table_4 };
 
     ghost reading = { type_4_reading };
 
@@ -156,4 +160,6 @@ impl Layout for Rec4 {
     ghost reads_spelled = { type_4_reads_spelled };
 
     ghost spelled_is_read = { type_4_spelled_is_read };
+
+    ghost tells_leftmost = { type_4_leftmost };
 }

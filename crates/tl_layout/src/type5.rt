@@ -85,20 +85,24 @@ impl Rec5 {
 impl Layout for Rec5 {
     ghost use Rattle.std.specs.Prelude.{ℕ, List};
     ghost use Rattle.std.proofs.Common.{lit≤};
+    ghost use Rattle.tl_layout.specs.FieldFaults.{IsLeftmostFault};
+    ghost use Rattle.tl_layout.specs.RecordTables.{rtype_5, len_5, table_5};
     ghost use Rattle.tl_layout.specs.Type5.{FitsType5, SpellsType5, type_5_reading, type_5_spelling};
-    ghost use Rattle.tl_layout.specs.Type5Laws.{type_5_spelling_is_line, type_5_reads_spelling, type_5_reads_spelled, type_5_spelled_is_read};
+    ghost use Rattle.tl_layout.specs.Type5Laws.{type_5_spelling_is_line, type_5_reads_spelling, type_5_reads_spelled, type_5_spelled_is_read, type_5_leftmost};
 
     const LEN: usize = 56;
 
-    ghost LEN = { 56 };
+    ghost LEN = { len_5 };
 
     const RTYPE: u8 = b'5';
 
-    ghost RTYPE = { 53 };
+    ghost RTYPE = { rtype_5 };
 
     ghost Fits = { FitsType5 };
 
     ghost Spells = { SpellsType5 };
+
+    ghost IsFault = { IsLeftmostFault table_5 };
 
     ghost reading = { type_5_reading };
 
@@ -127,4 +131,6 @@ impl Layout for Rec5 {
     ghost reads_spelled = { type_5_reads_spelled };
 
     ghost spelled_is_read = { type_5_spelled_is_read };
+
+    ghost tells_leftmost = { type_5_leftmost };
 }

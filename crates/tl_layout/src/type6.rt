@@ -82,20 +82,24 @@ impl Rec6 {
 impl Layout for Rec6 {
     ghost use Rattle.std.specs.Prelude.{ℕ, List};
     ghost use Rattle.std.proofs.Common.{lit≤};
+    ghost use Rattle.tl_layout.specs.FieldFaults.{IsLeftmostFault};
+    ghost use Rattle.tl_layout.specs.RecordTables.{rtype_6, len_6, table_6};
     ghost use Rattle.tl_layout.specs.Type6.{FitsType6, SpellsType6, type_6_reading, type_6_spelling};
-    ghost use Rattle.tl_layout.specs.Type6Laws.{type_6_spelling_is_line, type_6_reads_spelling, type_6_reads_spelled, type_6_spelled_is_read};
+    ghost use Rattle.tl_layout.specs.Type6Laws.{type_6_spelling_is_line, type_6_reads_spelling, type_6_reads_spelled, type_6_spelled_is_read, type_6_leftmost};
 
     const LEN: usize = 76;
 
-    ghost LEN = { 76 };
+    ghost LEN = { len_6 };
 
     const RTYPE: u8 = b'6';
 
-    ghost RTYPE = { 54 };
+    ghost RTYPE = { rtype_6 };
 
     ghost Fits = { FitsType6 };
 
     ghost Spells = { SpellsType6 };
+
+    ghost IsFault = { IsLeftmostFault table_6 };
 
     ghost reading = { type_6_reading };
 
@@ -123,4 +127,6 @@ impl Layout for Rec6 {
     ghost reads_spelled = { type_6_reads_spelled };
 
     ghost spelled_is_read = { type_6_spelled_is_read };
+
+    ghost tells_leftmost = { type_6_leftmost };
 }

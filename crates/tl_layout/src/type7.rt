@@ -95,20 +95,24 @@ impl Rec7 {
 impl Layout for Rec7 {
     ghost use Rattle.std.specs.Prelude.{ℕ, List};
     ghost use Rattle.std.proofs.Common.{lit≤};
+    ghost use Rattle.tl_layout.specs.FieldFaults.{IsLeftmostFault};
+    ghost use Rattle.tl_layout.specs.RecordTables.{rtype_7, len_7, table_7};
     ghost use Rattle.tl_layout.specs.Type7.{FitsType7, SpellsType7, type_7_reading, type_7_spelling};
-    ghost use Rattle.tl_layout.specs.Type7Laws.{type_7_spelling_is_line, type_7_reads_spelling, type_7_reads_spelled, type_7_spelled_is_read};
+    ghost use Rattle.tl_layout.specs.Type7Laws.{type_7_spelling_is_line, type_7_reads_spelling, type_7_reads_spelled, type_7_spelled_is_read, type_7_leftmost};
 
     const LEN: usize = 74;
 
-    ghost LEN = { 74 };
+    ghost LEN = { len_7 };
 
     const RTYPE: u8 = b'7';
 
-    ghost RTYPE = { 55 };
+    ghost RTYPE = { rtype_7 };
 
     ghost Fits = { FitsType7 };
 
     ghost Spells = { SpellsType7 };
+
+    ghost IsFault = { IsLeftmostFault table_7 };
 
     ghost reading = { type_7_reading };
 
@@ -141,4 +145,6 @@ impl Layout for Rec7 {
     ghost reads_spelled = { type_7_reads_spelled };
 
     ghost spelled_is_read = { type_7_spelled_is_read };
+
+    ghost tells_leftmost = { type_7_leftmost };
 }

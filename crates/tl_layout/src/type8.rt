@@ -95,20 +95,24 @@ impl Rec8 {
 impl Layout for Rec8 {
     ghost use Rattle.std.specs.Prelude.{ℕ, List};
     ghost use Rattle.std.proofs.Common.{lit≤};
+    ghost use Rattle.tl_layout.specs.FieldFaults.{IsLeftmostFault};
+    ghost use Rattle.tl_layout.specs.RecordTables.{rtype_8, len_8, table_8};
     ghost use Rattle.tl_layout.specs.Type8.{FitsType8, SpellsType8, type_8_reading, type_8_spelling};
-    ghost use Rattle.tl_layout.specs.Type8Laws.{type_8_spelling_is_line, type_8_reads_spelling, type_8_reads_spelled, type_8_spelled_is_read};
+    ghost use Rattle.tl_layout.specs.Type8Laws.{type_8_spelling_is_line, type_8_reads_spelling, type_8_reads_spelled, type_8_spelled_is_read, type_8_leftmost};
 
     const LEN: usize = 36;
 
-    ghost LEN = { 36 };
+    ghost LEN = { len_8 };
 
     const RTYPE: u8 = b'8';
 
-    ghost RTYPE = { 56 };
+    ghost RTYPE = { rtype_8 };
 
     ghost Fits = { FitsType8 };
 
     ghost Spells = { SpellsType8 };
+
+    ghost IsFault = { IsLeftmostFault table_8 };
 
     ghost reading = { type_8_reading };
 
@@ -138,4 +142,6 @@ impl Layout for Rec8 {
     ghost reads_spelled = { type_8_reads_spelled };
 
     ghost spelled_is_read = { type_8_spelled_is_read };
+
+    ghost tells_leftmost = { type_8_leftmost };
 }

@@ -160,21 +160,25 @@ impl RecI {
 
 impl Layout for RecI {
     ghost use Rattle.std.specs.Prelude.{ℕ, List};
+    ghost use Rattle.tl_layout.specs.FieldFaults.{IsLeftmostFault};
+    ghost use Rattle.tl_layout.specs.RecordTables.{rtype_i, len_i, table_i};
     ghost use Rattle.tl_layout.specs.TypeI.{FitsTypeI, SpellsTypeI, type_i_reading, type_i_spelling};
-    ghost use Rattle.tl_layout.specs.TypeILaws.{type_i_spelling_is_line, type_i_reads_spelling, type_i_reads_spelled, type_i_spelled_is_read};
+    ghost use Rattle.tl_layout.specs.TypeILaws.{type_i_spelling_is_line, type_i_reads_spelling, type_i_reads_spelled, type_i_spelled_is_read, type_i_leftmost};
     ghost use Rattle.std.proofs.Common.{lit≤};
 
     const LEN: usize = 127;
 
-    ghost LEN = { 127 };
+    ghost LEN = { len_i };
 
     const RTYPE: u8 = b'I';
 
-    ghost RTYPE = { 73 };
+    ghost RTYPE = { rtype_i };
 
     ghost Fits = { FitsTypeI };
 
     ghost Spells = { SpellsTypeI };
+
+    ghost IsFault = { IsLeftmostFault table_i };
 
     ghost reading = { type_i_reading };
 
@@ -213,4 +217,6 @@ impl Layout for RecI {
     ghost reads_spelled = { type_i_reads_spelled };
 
     ghost spelled_is_read = { type_i_spelled_is_read };
+
+    ghost tells_leftmost = { type_i_leftmost };
 }

@@ -101,20 +101,24 @@ impl RecP {
 impl Layout for RecP {
     ghost use Rattle.std.specs.Prelude.{ℕ, List};
     ghost use Rattle.std.proofs.Common.{lit≤};
+    ghost use Rattle.tl_layout.specs.FieldFaults.{IsLeftmostFault};
+    ghost use Rattle.tl_layout.specs.RecordTables.{rtype_p, len_p, table_p};
     ghost use Rattle.tl_layout.specs.TypeP.{FitsTypeP, SpellsTypeP, type_p_reading, type_p_spelling};
-    ghost use Rattle.tl_layout.specs.TypePLaws.{type_p_spelling_is_line, type_p_reads_spelling, type_p_reads_spelled, type_p_spelled_is_read};
+    ghost use Rattle.tl_layout.specs.TypePLaws.{type_p_spelling_is_line, type_p_reads_spelling, type_p_reads_spelled, type_p_spelled_is_read, type_p_leftmost};
 
     const LEN: usize = 45;
 
-    ghost LEN = { 45 };
+    ghost LEN = { len_p };
 
     const RTYPE: u8 = b'P';
 
-    ghost RTYPE = { 80 };
+    ghost RTYPE = { rtype_p };
 
     ghost Fits = { FitsTypeP };
 
     ghost Spells = { SpellsTypeP };
+
+    ghost IsFault = { IsLeftmostFault table_p };
 
     ghost reading = { type_p_reading };
 
@@ -145,4 +149,6 @@ impl Layout for RecP {
     ghost reads_spelled = { type_p_reads_spelled };
 
     ghost spelled_is_read = { type_p_spelled_is_read };
+
+    ghost tells_leftmost = { type_p_leftmost };
 }

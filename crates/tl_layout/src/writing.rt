@@ -2,10 +2,10 @@
 
 ghost use Rattle.std.specs.Prelude.{◌≡◌, ◌+◌, ◌-◌, ◌≤◌, ◌<◌, [], ◌∷◌, ◌++◌, length, take, replicate, codes, IfSome, pos};
 ghost use Rattle.tl_layout.specs.Bytes.{IsText};
-ghost use Rattle.tl_layout.specs.NumberField.{number_text};
-ghost use Rattle.tl_layout.specs.CoordinateField.{coordinate_text};
+ghost use Rattle.tl_layout.specs.FieldTexts.{number_text};
+ghost use Rattle.tl_layout.specs.FieldTexts.{coordinate_text};
 ghost use Rattle.tl_layout.specs.Coordinates.{IsOnMap};
-ghost use Rattle.tl_layout.specs.FieldReading.{long_text, lat_text};
+ghost use Rattle.tl_layout.specs.FieldTexts.{long_text, lat_text};
 ghost use Rattle.tl_layout.specs.Columns.{joined};
 
 use crate::coordinate::put_coordinate;

@@ -9,6 +9,7 @@ use Rattle.tl_load.specs.Outcome.{Accepts, FaultAt, reading, outcome}
 use Rattle.tl_load.specs.Choice.{tiger}
 use Rattle.tl_load.specs.Loaded.{Loaded, IsOfLines, to_come, IsFaultHowever, WasFed, all_parts}
 use Rattle.tl_load.specs.Steps.{IsSamePart, Takes, Ends, Closes, Reads, with_fault}
+use Rattle.tl_load.proofs.RecordLines.{tiger_is_sound}
 use Rattle.tl_load.proofs.Reading.{accepts_from_outcome, fault_from_outcome}
 use Rattle.tl_load.proofs.LineLemmas.{lines_none}
 
@@ -57,7 +58,7 @@ fed_piece limit before mid piece (Ok x) closed open_part none part takes w = rec
 }
 fed_piece limit before mid piece (Err f) closed open_part none part takes w = record {
   limit_is = part.limit ∙ w.limit_is;
-  comes = λ is more later. fault_from_outcome tiger limit _ f
+  comes = λ is more later. fault_from_outcome tiger tiger_is_sound limit _ f
       (ap (λ (l : List ℕ). outcome tiger limit (closed ++ l ∷ later)) (append_assoc open_part piece more) ∙ comes_of limit before closed open_part none w (piece ++ more) later ∙ takes is more later);
 }
 
@@ -83,7 +84,7 @@ fed_closed limit before mid (Ok x) closed open_part none same stays closing w = 
 }
 fed_closed limit before mid (Err f) closed open_part none same stays closing w = record {
   limit_is = same ∙ w.limit_is;
-  comes = λ is more later. fault_from_outcome tiger limit _ f
+  comes = λ is more later. fault_from_outcome tiger tiger_is_sound limit _ f
       (ap (outcome tiger limit) (one_more closed open_part more later) ∙ comes_of limit before closed open_part none w [] (more ∷ later) ∙ closing is (more ∷ later));
 }
 
@@ -118,11 +119,11 @@ outcome_all limit l closed open_part none w = ap (reading tiger limit []) (place
 
 pub finished : (T : Type 0) (x : T) (limit : ℕ) (before after : Loaded) (closed : List (List ℕ)) (open_part : List ℕ) → before.fault ≡ None → Ends before (Ok x) after → WasFed limit before closed open_part → Accepts tiger limit (all_parts closed open_part) after.records
 unfolding Ends lines_from_part reading
-finished T x limit before after closed open_part none ends w = accepts_from_outcome tiger limit (all_parts closed open_part) after.records (outcome_all limit before closed open_part none w ∙ ends [])
+finished T x limit before after closed open_part none ends w = accepts_from_outcome tiger tiger_is_sound limit (all_parts closed open_part) after.records (outcome_all limit before closed open_part none w ∙ ends [])
 
 pub finished_fault : (T : Type 0) (limit : ℕ) (before after : Loaded) (f : LoadFault) (closed : List (List ℕ)) (open_part : List ℕ) → before.fault ≡ None → Ends {T = T} before (Err f) after → WasFed limit before closed open_part → IsOfLines f → FaultAt tiger limit (all_parts closed open_part) f
 unfolding Ends
-finished_fault T limit before after f closed open_part none ends w is = fault_from_outcome tiger limit (all_parts closed open_part) f (outcome_all limit before closed open_part none w ∙ ends is [])
+finished_fault T limit before after f closed open_part none ends w is = fault_from_outcome tiger tiger_is_sound limit (all_parts closed open_part) f (outcome_all limit before closed open_part none w ∙ ends is [])
 
 pub finished_standing : (limit : ℕ) (l : Loaded) (f : LoadFault) (closed : List (List ℕ)) (open_part : List ℕ) → l.fault ≡ Some f → WasFed limit l closed open_part → IsOfLines f → FaultAt tiger limit (all_parts closed open_part) f
 finished_standing limit l f closed open_part e w is = fault_along limit (all_parts closed open_part) _ f (placed_all closed open_part) (stands_at limit l closed open_part f e w is [] [])
@@ -153,13 +154,13 @@ fed_read limit before mid taken at_end (Err f) closed open_part none same stays 
       p.0,
       record {
         limit_is = same ∙ w.limit_is;
-        comes = λ is more later. fault_from_outcome tiger limit _ g
+        comes = λ is more later. fault_from_outcome tiger tiger_is_sound limit _ g
             (ap (outcome tiger limit) (append_assoc closed ((open_part ++ taken) ∷ []) (more ∷ later)) ∙ comes_of limit before closed open_part none w taken (more ∷ later) ∙ p.1 (more ∷ later));
       },
     )
     of_lines g (inr p) = inr (record {
       limit_is = same ∙ w.limit_is;
-      comes = λ is more later. fault_from_outcome tiger limit _ g
+      comes = λ is more later. fault_from_outcome tiger tiger_is_sound limit _ g
           (ap (λ (l : List ℕ). outcome tiger limit (closed ++ l ∷ later)) (append_assoc open_part taken more) ∙ comes_of limit before closed open_part none w (taken ++ more) later ∙ p more later);
     })
 

@@ -8,7 +8,56 @@ use Rattle.tl_load.specs.declared.fault.LoadFault.{LoadFault}
 use Rattle.tl_load.specs.declared.fault.LoadFault.TheVariants as faults
 use Rattle.tl_load.specs.Places.{PlacedLine, placed_lines}
 use Rattle.tl_load.specs.Verdicts.{Judge, fault_at}
-use Rattle.tl_load.specs.Outcome.{count_of, IsWithinLimit, AreJudged, Accepts, IsFaultOf, FaultAt, IsSpelled, IsFaulty, ◌>>=◌, after_verdict, next, reading, outcome}
+use Rattle.tl_load.specs.Outcome.{count_of, IsWithinLimit, AreSpelled, Spells, Accepts, IsFaultOf, of_line, of_limit, FaultAt, IsSpelled, IsFaulty, ◌>>=◌, after_verdict, next, reading, outcome}
+
+-- ---- verdicts
+
+-- the verdict on a line is the record that it has, or what is told of it
+pub record IsSound {R : Type 0} (judge : Judge R) : Type 0 where
+  pub has_found : (line : List ℕ) (r : R) → judge.verdict line ≡ Ok r → judge.Has line r
+  pub has_only : (line : List ℕ) (r : R) → judge.Has line r → judge.verdict line ≡ Ok r
+  pub fault_found : (line : List ℕ) (fault : LineFault) → judge.verdict line ≡ Err fault → judge.IsFault line fault
+  pub fault_only : (line : List ℕ) (fault : LineFault) → judge.IsFault line fault → judge.verdict line ≡ Err fault
+
+-- the lines are as many as the records, and each is judged as its record
+abbrev pub AreJudged : {R : Type 0} → Judge R → List PlacedLine → List R → Type 0
+AreJudged {R} judge lines records = map (λ (l : PlacedLine). judge.verdict l.bytes) lines ≡ map (λ (r : R). Ok r) records
+
+-- what the verdict on a line that comes after these records is told as
+abbrev pub IsVerdictOf : {R : Type 0} → Judge R → ℕ → List R → PlacedLine → LoadFault → Type 0
+IsVerdictOf judge limit records line fault = MatchResult (judge.verdict line.bytes)
+    (λ r. (limit ≤ count_of judge (judge.rtype r) records) × (fault ≡ faults.TooManyRecords (judge.rtype r)))
+    (λ f. fault ≡ fault_at line.part line.line f)
+
+pub spelled_judged : {R : Type 0} (judge : Judge R) → IsSound judge → (lines : List PlacedLine) (records : List R) → AreSpelled judge lines records → AreJudged judge lines records
+spelled_judged judge sound [] [] h = refl
+spelled_judged judge sound [] (r ∷ records) h = absurd h
+spelled_judged judge sound (l ∷ lines) [] h = absurd h
+spelled_judged {R} judge sound (l ∷ lines) (r ∷ records) h =
+    ap (λ (z : Result R LineFault). z ∷ map (λ (l : PlacedLine). judge.verdict l.bytes) lines) (sound.has_only l.bytes r h.0)
+    ∙ ap (λ (z : List (Result R LineFault)). Ok r ∷ z) (spelled_judged judge sound lines records h.1)
+
+pub judged_spelled : {R : Type 0} (judge : Judge R) → IsSound judge → (lines : List PlacedLine) (records : List R) → AreJudged judge lines records → AreSpelled judge lines records
+judged_spelled judge sound [] [] h = tt
+judged_spelled judge sound [] (r ∷ records) h = absurd cc
+judged_spelled judge sound (l ∷ lines) [] h = absurd cc
+judged_spelled judge sound (l ∷ lines) (r ∷ records) h =
+    let first : judge.verdict l.bytes ≡ Ok r = cc in
+    let rest : AreJudged judge lines records = cc in
+    (sound.has_found l.bytes r first, judged_spelled judge sound lines records rest)
+
+fault_verdict : {R : Type 0} (judge : Judge R) → IsSound judge → (limit : ℕ) (records : List R) (line : PlacedLine) (fault : LoadFault) → IsFaultOf judge limit records line fault → IsVerdictOf judge limit records line fault
+fault_verdict judge sound limit records line fault (of_line own h e) =
+    subst (λ v. MatchResult v (λ r. (limit ≤ count_of judge (judge.rtype r) records) × (fault ≡ faults.TooManyRecords (judge.rtype r))) (λ f. fault ≡ fault_at line.part line.line f)) (sym (sound.fault_only line.bytes own h)) e
+fault_verdict judge sound limit records line fault (of_limit r h most e) =
+    subst (λ v. MatchResult v (λ r. (limit ≤ count_of judge (judge.rtype r) records) × (fault ≡ faults.TooManyRecords (judge.rtype r))) (λ f. fault ≡ fault_at line.part line.line f)) (sym (sound.has_only line.bytes r h)) (most, e)
+
+verdict_fault : {R : Type 0} (judge : Judge R) → IsSound judge → (limit : ℕ) (records : List R) (line : PlacedLine) (fault : LoadFault) → IsVerdictOf judge limit records line fault → IsFaultOf judge limit records line fault
+verdict_fault {R} judge sound limit records line fault = go (judge.verdict line.bytes) refl
+  where
+    go : (v : Result R LineFault) → judge.verdict line.bytes ≡ v → MatchResult v (λ r. (limit ≤ count_of judge (judge.rtype r) records) × (fault ≡ faults.TooManyRecords (judge.rtype r))) (λ f. fault ≡ fault_at line.part line.line f) → IsFaultOf judge limit records line fault
+    go (Ok r) e h = of_limit r (sound.has_found line.bytes r e) h.0 h.1
+    go (Err f) e h = of_line f (sound.fault_found line.bytes f e) h
 
 -- ---- steps
 
@@ -71,7 +120,7 @@ fault_by {R} judge limit records line f (Ok r) h = go (leb limit (count_of judge
     go true t k = (leb-true _ _ t, cc)
     go false t k = absurd cc
 
-pub next_err : {R : Type 0} (judge : Judge R) (limit : ℕ) (records : List R) (line : PlacedLine) (f : LoadFault) → next judge limit records line ≡ Err f → IsFaultOf judge limit records line f
+pub next_err : {R : Type 0} (judge : Judge R) (limit : ℕ) (records : List R) (line : PlacedLine) (f : LoadFault) → next judge limit records line ≡ Err f → IsVerdictOf judge limit records line f
 unfolding next
 next_err judge limit records line f h = fault_by judge limit records line f (judge.verdict line.bytes) h
 
@@ -83,7 +132,7 @@ by_fault judge limit records line f (Ok r) h =
     ap (λ (b : Bool). cond b (Err (faults.TooManyRecords (judge.rtype r))) (Ok (records ++ r ∷ []))) (le-leb limit (count_of judge (judge.rtype r) records) h.0)
     ∙ ap (λ (z : LoadFault). Err z) (sym h.1)
 
-pub next_faulty : {R : Type 0} (judge : Judge R) (limit : ℕ) (records : List R) (line : PlacedLine) (f : LoadFault) → IsFaultOf judge limit records line f → next judge limit records line ≡ Err f
+pub next_faulty : {R : Type 0} (judge : Judge R) (limit : ℕ) (records : List R) (line : PlacedLine) (f : LoadFault) → IsVerdictOf judge limit records line f → next judge limit records line ≡ Err f
 unfolding next
 next_faulty judge limit records line f h = by_fault judge limit records line f (judge.verdict line.bytes) h
 
@@ -164,7 +213,7 @@ pub record Stops {R : Type 0} (judge : Judge R) (limit : ℕ) (records : List R)
   pub split : lines ≡ before ++ line ∷ after
   pub well : AreJudged judge before found
   pub within : IsWithinLimit judge limit (records ++ found)
-  pub fault_is : IsFaultOf judge limit (records ++ found) line fault
+  pub fault_is : IsVerdictOf judge limit (records ++ found) line fault
 
 pub stops_err : {R : Type 0} (judge : Judge R) (limit : ℕ) (records : List R) (lines : List PlacedLine) (fault : LoadFault) → IsWithinLimit judge limit records → reading judge limit records lines ≡ Err fault → Stops judge limit records lines fault
 unfolding reading
@@ -178,7 +227,7 @@ stops_err {R} judge limit records (x ∷ lines) fault h e = elim (bind_err (next
     split = refl;
     well = refl;
     within = subst (IsWithinLimit judge limit) (sym (append-nil records)) h;
-    fault_is = subst (λ (rs : List R). IsFaultOf judge limit rs x fault) (sym (append-nil records)) (next_err judge limit records x fault here);
+    fault_is = subst (λ (rs : List R). IsVerdictOf judge limit rs x fault) (sym (append-nil records)) (next_err judge limit records x fault here);
   }
   | inr b ↦
       let t = next_ok judge limit records x b.0 b.1 in
@@ -193,7 +242,7 @@ stops_err {R} judge limit records (x ∷ lines) fault h e = elim (bind_err (next
         split = ap (λ (z : List PlacedLine). x ∷ z) rest.split;
         well = ap (λ (z : Result R LineFault). z ∷ map (λ (l : PlacedLine). judge.verdict l.bytes) rest.before) t.verdict ∙ ap (λ (z : List (Result R LineFault)). Ok t.found ∷ z) rest.well;
         within = subst (IsWithinLimit judge limit) joined rest.within;
-        fault_is = subst (λ (rs : List R). IsFaultOf judge limit rs rest.line fault) joined rest.fault_is;
+        fault_is = subst (λ (rs : List R). IsVerdictOf judge limit rs rest.line fault) joined rest.fault_is;
       }
 ]
 
@@ -202,26 +251,26 @@ stops_err {R} judge limit records (x ∷ lines) fault h e = elim (bind_err (next
 no_records : {R : Type 0} (judge : Judge R) (limit : ℕ) → IsWithinLimit judge limit []
 no_records judge limit t = omega arith
 
-pub accepts_from_outcome : {R : Type 0} (judge : Judge R) (limit : ℕ) (parts : List (List ℕ)) (records : List R) → outcome judge limit parts ≡ Ok records → Accepts judge limit parts records
-accepts_from_outcome {R} judge limit parts records e =
+pub accepts_from_outcome : {R : Type 0} (judge : Judge R) → IsSound judge → (limit : ℕ) (parts : List (List ℕ)) (records : List R) → outcome judge limit parts ≡ Ok records → Accepts judge limit parts records
+accepts_from_outcome {R} judge sound limit parts records e =
     let r = reads_ok judge limit [] (placed_lines parts) records (no_records judge limit) e in
-    record { spells = subst (λ (rs : List R). AreJudged judge (placed_lines parts) rs) (sym r.all_are) r.judged; within = r.within }
+    record { spells = judged_spelled judge sound (placed_lines parts) records (subst (λ (rs : List R). AreJudged judge (placed_lines parts) rs) (sym r.all_are) r.judged); within = r.within }
 
-pub outcome_from_accepts : {R : Type 0} (judge : Judge R) (limit : ℕ) (parts : List (List ℕ)) (records : List R) → Accepts judge limit parts records → outcome judge limit parts ≡ Ok records
-outcome_from_accepts judge limit parts records a = reads_from judge limit [] (placed_lines parts) records a.spells a.within
+pub outcome_from_accepts : {R : Type 0} (judge : Judge R) → IsSound judge → (limit : ℕ) (parts : List (List ℕ)) (records : List R) → Accepts judge limit parts records → outcome judge limit parts ≡ Ok records
+outcome_from_accepts judge sound limit parts records a = reads_from judge limit [] (placed_lines parts) records (spelled_judged judge sound (placed_lines parts) records a.spells) a.within
 
-pub fault_from_outcome : {R : Type 0} (judge : Judge R) (limit : ℕ) (parts : List (List ℕ)) (fault : LoadFault) → outcome judge limit parts ≡ Err fault → FaultAt judge limit parts fault
-fault_from_outcome judge limit parts fault e =
+pub fault_from_outcome : {R : Type 0} (judge : Judge R) → IsSound judge → (limit : ℕ) (parts : List (List ℕ)) (fault : LoadFault) → outcome judge limit parts ≡ Err fault → FaultAt judge limit parts fault
+fault_from_outcome judge sound limit parts fault e =
     let s = stops_err judge limit [] (placed_lines parts) fault (no_records judge limit) e in
-    record { before = s.before; line = s.line; after = s.after; records = s.found; split = s.split; well = s.well; within = s.within; fault_is = s.fault_is }
+    record { before = s.before; line = s.line; after = s.after; records = s.found; split = s.split; well = judged_spelled judge sound s.before s.found s.well; within = s.within; fault_is = verdict_fault judge sound limit s.found s.line fault s.fault_is }
 
-pub outcome_from_fault : {R : Type 0} (judge : Judge R) (limit : ℕ) (parts : List (List ℕ)) (fault : LoadFault) → FaultAt judge limit parts fault → outcome judge limit parts ≡ Err fault
+pub outcome_from_fault : {R : Type 0} (judge : Judge R) → IsSound judge → (limit : ℕ) (parts : List (List ℕ)) (fault : LoadFault) → FaultAt judge limit parts fault → outcome judge limit parts ≡ Err fault
 unfolding reading
-outcome_from_fault {R} judge limit parts fault f =
+outcome_from_fault {R} judge sound limit parts fault f =
     ap (reading judge limit []) f.split
     ∙ reading-append judge limit [] f.before (f.line ∷ f.after)
-    ∙ ap (λ (z : Result (List R) LoadFault). z >>= λ more. reading judge limit more (f.line ∷ f.after)) (reads_from judge limit [] f.before f.records f.well f.within)
-    ∙ ap (λ (z : Result (List R) LoadFault). z >>= λ more. reading judge limit more f.after) (next_faulty judge limit f.records f.line fault f.fault_is)
+    ∙ ap (λ (z : Result (List R) LoadFault). z >>= λ more. reading judge limit more (f.line ∷ f.after)) (reads_from judge limit [] f.before f.records (spelled_judged judge sound f.before f.records f.well) f.within)
+    ∙ ap (λ (z : Result (List R) LoadFault). z >>= λ more. reading judge limit more f.after) (next_faulty judge limit f.records f.line fault (fault_verdict judge sound limit f.records f.line fault f.fault_is))
 
 -- the same line is judged one way
 pub verdicts_same : {R : Type 0} (a b : List R) → ◌≡◌ {A = List (Result R LineFault)} (map (λ (r : R). Ok r) a) (map (λ (r : R). Ok r) b) → a ≡ b
@@ -239,27 +288,31 @@ err_is x y e = cc
 never_both : {R : Type 0} (r : Result R LoadFault) (x : R) (y : LoadFault) → r ≡ Ok x → r ≡ Err y → ⊥
 never_both r x y p q = cc
 
+-- parts spell one list
+pub spelled_once : {R : Type 0} (judge : Judge R) → IsSound judge → (parts : List (List ℕ)) (a b : List R) → Spells judge parts a → Spells judge parts b → a ≡ b
+spelled_once judge sound parts a b p q = verdicts_same a b (sym (spelled_judged judge sound (placed_lines parts) a p) ∙ spelled_judged judge sound (placed_lines parts) b q)
+
 -- the parts spell a list within the limit, or exactly one fault is at them
-pub one_verdict : {R : Type 0} (judge : Judge R) (limit : ℕ) (parts : List (List ℕ)) → IsSpelled judge limit parts ⊎ IsFaulty judge limit parts
-one_verdict {R} judge limit parts = go (outcome judge limit parts) refl
+pub one_verdict : {R : Type 0} (judge : Judge R) → IsSound judge → (limit : ℕ) (parts : List (List ℕ)) → IsSpelled judge limit parts ⊎ IsFaulty judge limit parts
+one_verdict {R} judge sound limit parts = go (outcome judge limit parts) refl
   where
     go : (r : Result (List R) LoadFault) → outcome judge limit parts ≡ r → IsSpelled judge limit parts ⊎ IsFaulty judge limit parts
     go (Ok records) e = inl (record {
       records = records;
-      accepts = accepts_from_outcome judge limit parts records e;
-      only = λ others s. verdicts_same others records (sym s ∙ (accepts_from_outcome judge limit parts records e).spells);
-      none = λ fault f. never_both _ records fault e (outcome_from_fault judge limit parts fault f);
+      accepts = accepts_from_outcome judge sound limit parts records e;
+      only = λ others s. spelled_once judge sound parts others records s (accepts_from_outcome judge sound limit parts records e).spells;
+      none = λ fault f. never_both _ records fault e (outcome_from_fault judge sound limit parts fault f);
     })
     go (Err fault) e = inr (record {
       fault = fault;
-      at = fault_from_outcome judge limit parts fault e;
-      only = λ other f. err_is other fault (sym (outcome_from_fault judge limit parts other f) ∙ e);
-      none = λ records a. never_both _ records fault (outcome_from_accepts judge limit parts records a) e;
+      at = fault_from_outcome judge sound limit parts fault e;
+      only = λ other f. err_is other fault (sym (outcome_from_fault judge sound limit parts other f) ∙ e);
+      none = λ records a. never_both _ records fault (outcome_from_accepts judge sound limit parts records a) e;
     })
 
--- parts spell one list, and no fault is at them then
-pub accepted_once : {R : Type 0} (judge : Judge R) (limit : ℕ) (parts : List (List ℕ)) (a b : List R) → Accepts judge limit parts a → Accepts judge limit parts b → a ≡ b
-accepted_once judge limit parts a b p q = verdicts_same a b (sym p.spells ∙ q.spells)
+-- parts that spell a list have no fault
+pub accepted_once : {R : Type 0} (judge : Judge R) → IsSound judge → (limit : ℕ) (parts : List (List ℕ)) (a b : List R) → Accepts judge limit parts a → Accepts judge limit parts b → a ≡ b
+accepted_once judge sound limit parts a b p q = spelled_once judge sound parts a b p.spells q.spells
 
-pub accepted_no_fault : {R : Type 0} (judge : Judge R) (limit : ℕ) (parts : List (List ℕ)) (records : List R) (fault : LoadFault) → Accepts judge limit parts records → FaultAt judge limit parts fault → ⊥
-accepted_no_fault judge limit parts records fault p q = never_both _ records fault (outcome_from_accepts judge limit parts records p) (outcome_from_fault judge limit parts fault q)
+pub accepted_no_fault : {R : Type 0} (judge : Judge R) → IsSound judge → (limit : ℕ) (parts : List (List ℕ)) (records : List R) (fault : LoadFault) → Accepts judge limit parts records → FaultAt judge limit parts fault → ⊥
+accepted_no_fault judge sound limit parts records fault p q = never_both _ records fault (outcome_from_accepts judge sound limit parts records p) (outcome_from_fault judge sound limit parts fault q)

@@ -30,13 +30,14 @@ use Rattle.tl_load.specs.declared.fault.LineFault.{LineFault}
 use Rattle.tl_load.specs.declared.fault.LineFault.TheVariants as line_faults
 use Rattle.tl_load.specs.Lines.{IsWithoutLineFeed, without_return, lines}
 use Rattle.tl_load.specs.Places.{PlacedLine, numbered, lines_from_part, placed_lines}
-use Rattle.tl_load.specs.Outcome.{AreJudged, Spells}
+use Rattle.tl_load.specs.Outcome.{Spells}
+use Rattle.tl_load.proofs.RecordLines.{by_first, tiger_is_sound}
 use Rattle.tl_load.specs.LineOf.{filled, first_bad, of_reading, judged_full, judged_as}
 use Rattle.tl_load.specs.Choice.{as_record, judged_by, judged, tiger}
 use Rattle.tl_load.proofs.LineLemmas.{lines_line, lines_none}
 use Rattle.tl_load.proofs.Filling.{filled_full}
 use Rattle.tl_load.proofs.LineLaws.{bad_none}
-use Rattle.tl_load.proofs.Reading.{verdicts_same}
+use Rattle.tl_load.proofs.Reading.{AreJudged, judged_spelled, spelled_once}
 
 -- ---- a canonical line
 
@@ -48,11 +49,6 @@ judged_full_line rtype len reading line r is e =
     ∙ ap (judged_full reading) (filled_full len line is.text.len)
     ∙ ap (λ (b : Bool). cond b (Err (line_faults.BadByte (first_bad line + 1))) (of_reading (reading line))) (bad_none line is.text.allowed)
     ∙ ap of_reading e
-
-pub by_first : (rtype : ℕ) (line : List ℕ) → take 1 line ≡ rtype ∷ [] → judged line ≡ judged_by rtype line
-unfolding judged
-by_first rtype [] e = absurd cc
-by_first rtype (b ∷ line) e = let same : b ≡ rtype = cc in ap (λ (t : ℕ). judged_by t (b ∷ line)) same
 
 judged_spelling : (r : Record) → FitsRecord r → judged (spelling_of r) ≡ Ok r
 unfolding judged_by type_of len_of spelling_of FitsRecord
@@ -117,7 +113,8 @@ one_part text = append-nil (numbered 1 1 (lines text))
 
 pub text_spells : (records : List Record) → AllFit records → Spells tiger (text_of records ∷ []) records
 text_spells records h =
-    subst (λ (ls : List PlacedLine). AreJudged tiger ls records) (sym (one_part (text_of records) ∙ ap (numbered 1 1) (lines_of_text records h))) (judged_lines 1 1 records h)
+    let lines = sym (one_part (text_of records) ∙ ap (numbered 1 1) (lines_of_text records h)) in
+    judged_spelled tiger tiger_is_sound _ records (subst (λ (ls : List PlacedLine). AreJudged tiger ls records) lines (judged_lines 1 1 records h))
 
 pub text_spells_only : (records others : List Record) → AllFit records → Spells tiger (text_of records ∷ []) others → others ≡ records
-text_spells_only records others h s = verdicts_same others records (sym s ∙ text_spells records h)
+text_spells_only records others h s = spelled_once tiger tiger_is_sound (text_of records ∷ []) others records s (text_spells records h)

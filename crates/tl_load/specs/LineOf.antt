@@ -1,5 +1,5 @@
--- A line of one layout, and its record.
-use Rattle.std.specs.Prelude.{◌≡◌, ℕ, ◌+◌, ◌-◌, ◌≤◌, nat_lt, List, [], ◌∷◌, ◌++◌, length, take, replicate, not, Result, Ok, Err, if◌then◌else◌}
+-- A line of one layout: its record, and its fault.
+use Rattle.std.specs.Prelude.{◌≡◌, ℕ, ◌+◌, ◌-◌, ◌<◌, ◌≤◌, nat_lt, slice_index, true, false, List, [], ◌∷◌, ◌++◌, length, take, replicate, not, Result, Ok, Err, if◌then◌else◌}
 use Rattle.std.specs.List.{position_or_len}
 use Rattle.tl_layout.specs.Bytes.{is_allowed, AreAllowed}
 use Rattle.tl_layout.specs.declared.fault.FieldFault.{FieldFault}
@@ -17,6 +17,24 @@ pub record IsLineOf {R : Type 0} (rtype len : ℕ) (Spells : List ℕ → R → 
   pub short : length line ≤ len
   pub allowed : AreAllowed (filled len line)
   pub spells : Spells (filled len line) record_of
+
+-- the byte at this column, counted from 1, isn't allowed, and each before it is
+pub record IsLeftmostBadByte (line : List ℕ) (column : ℕ) : Type 0 where
+  pub place : ℕ
+  pub within : place < length line
+  pub bad : is_allowed (slice_index line place) ≡ false
+  pub allowed_before : (before : ℕ) → before < place → is_allowed (slice_index line before) ≡ true
+  pub told : column ≡ place + 1
+
+-- What is told of a line of one layout: that it is too long; else, filled with blanks, its leftmost byte that isn't allowed;
+-- else, if all bytes are, the fault of its fields.
+abbrev pub IsFaultIn : ℕ → (List ℕ → FieldFault → Type 0) → List ℕ → LineFault → Type 0
+IsFaultIn len IsFieldFault line line_faults.UnknownType = ⊥
+IsFaultIn len IsFieldFault line line_faults.LineTooLong = len < length line
+IsFaultIn len IsFieldFault line (line_faults.BadByte column) = (length line ≤ len) × IsLeftmostBadByte (filled len line) column
+IsFaultIn len IsFieldFault line (line_faults.Field fault) = (length line ≤ len) × AreAllowed (filled len line) × IsFieldFault (filled len line) fault
+
+-- ---- what a line is judged as
 
 -- the leftmost byte that isn't allowed, counted from 0, or the length where each is
 abbrev pub first_bad : List ℕ → ℕ

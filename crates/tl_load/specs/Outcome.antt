@@ -1,5 +1,6 @@
 -- Which records a set of parts spells, and which fault is at it.
-use Rattle.std.specs.Prelude.{◌≡◌, ℕ, ◌≤◌, nat_le, ◌==◌, List, [], ◌∷◌, ◌++◌, Result, Ok, Err, MatchResult, map, count_by, if◌then◌else◌}
+use Rattle.std.specs.Prelude.{◌≡◌, ℕ, ◌≤◌, nat_le, ◌==◌, List, [], ◌∷◌, ◌++◌, Result, Ok, Err, count_by, if◌then◌else◌}
+use Rattle.std.specs.List.{AllZip}
 use Rattle.tl_load.specs.declared.fault.LineFault.{LineFault}
 use Rattle.tl_load.specs.declared.fault.LoadFault.{LoadFault}
 use Rattle.tl_load.specs.declared.fault.LoadFault.TheVariants as faults
@@ -14,24 +15,24 @@ count_of judge rtype records = count_by (λ r. judge.rtype r == rtype) records
 abbrev pub IsWithinLimit : {R : Type 0} → Judge R → ℕ → List R → Type 0
 IsWithinLimit judge limit records = (rtype : ℕ) → count_of judge rtype records ≤ limit
 
--- the lines are as many as the records, and each is judged as its record
-abbrev pub AreJudged : {R : Type 0} → Judge R → List PlacedLine → List R → Type 0
-AreJudged {R} judge lines records = map (λ (l : PlacedLine). judge.verdict l.bytes) lines ≡ map (λ (r : R). Ok r) records
+-- the lines are as many as the records, and each has its record
+abbrev pub AreSpelled : {R : Type 0} → Judge R → List PlacedLine → List R → Type 0
+AreSpelled judge lines records = AllZip (λ (line : PlacedLine) r. judge.Has line.bytes r) lines records
 
--- the lines of the parts, part after part, are as many as the records, and each is judged as its record
+-- the lines of the parts, part after part, are as many as the records, and each has its record
 abbrev pub Spells : {R : Type 0} → Judge R → List (List ℕ) → List R → Type 0
-Spells judge parts records = AreJudged judge (placed_lines parts) records
+Spells judge parts records = AreSpelled judge (placed_lines parts) records
 
 -- the parts spell these records, with at most limit of each type
 pub record Accepts {R : Type 0} (judge : Judge R) (limit : ℕ) (parts : List (List ℕ)) (records : List R) : Type 0 where
   pub spells : Spells judge parts records
   pub within : IsWithinLimit judge limit records
 
--- the fault of a line that comes after these records: its own, or there are limit records of its type already
-abbrev pub IsFaultOf : {R : Type 0} → Judge R → ℕ → List R → PlacedLine → LoadFault → Type 0
-IsFaultOf judge limit records line fault = MatchResult (judge.verdict line.bytes)
-    (λ r. (limit ≤ count_of judge (judge.rtype r) records) × (fault ≡ faults.TooManyRecords (judge.rtype r)))
-    (λ f. fault ≡ fault_at line.part line.line f)
+-- the fault of a line that comes after these records: its own, told with its place, or it has a record of whose type there are
+-- limit already
+pub data IsFaultOf {R : Type 0} (judge : Judge R) (limit : ℕ) (records : List R) (line : PlacedLine) (fault : LoadFault) : Type 0 where
+  of_line : (own : LineFault) → judge.IsFault line.bytes own → fault ≡ fault_at line.part line.line own → IsFaultOf judge limit records line fault
+  of_limit : (r : R) → judge.Has line.bytes r → limit ≤ count_of judge (judge.rtype r) records → fault ≡ faults.TooManyRecords (judge.rtype r) → IsFaultOf judge limit records line fault
 
 -- the fault at the parts: the one of the first line that has one
 pub record FaultAt {R : Type 0} (judge : Judge R) (limit : ℕ) (parts : List (List ℕ)) (fault : LoadFault) : Type 0 where
@@ -40,7 +41,7 @@ pub record FaultAt {R : Type 0} (judge : Judge R) (limit : ℕ) (parts : List (L
   pub after : List PlacedLine
   pub records : List R
   pub split : placed_lines parts ≡ before ++ line ∷ after
-  pub well : AreJudged judge before records
+  pub well : AreSpelled judge before records
   pub within : IsWithinLimit judge limit records
   pub fault_is : IsFaultOf judge limit records line fault
 

@@ -1,5 +1,10 @@
--- The record of a line, column by column.
-use Rattle.std.specs.Prelude.{ℕ, List}
+-- What a line spells, and what is told of a faulty one: by the column tables, and with no reading of it.
+use Rattle.std.specs.Prelude.{◌≡◌, ℕ, List, [], ◌∷◌, take}
+use Rattle.std.specs.List.{AllByRecursion}
+use Rattle.tl_layout.specs.FieldFaults.{IsLeftmostFault}
+use Rattle.tl_layout.specs.RecordTables.{rtype_1, rtype_2, rtype_4, rtype_5, rtype_6, rtype_7, rtype_8, rtype_i, rtype_p}
+use Rattle.tl_layout.specs.RecordTables.{len_1, len_2, len_4, len_5, len_6, len_7, len_8, len_i, len_p}
+use Rattle.tl_layout.specs.RecordTables.{table_1, table_2, table_4, table_5, table_6, table_7, table_8, table_i, table_p}
 use Rattle.tl_layout.specs.declared.record_type.Record.{Record}
 use Rattle.tl_layout.specs.declared.record_type.Record.TheVariants.{One, Two, Four, Five, Six, Seven, Eight, I, P}
 use Rattle.tl_layout.specs.Type1.{SpellsType1}
@@ -11,17 +16,41 @@ use Rattle.tl_layout.specs.Type7.{SpellsType7}
 use Rattle.tl_layout.specs.Type8.{SpellsType8}
 use Rattle.tl_layout.specs.TypeI.{SpellsTypeI}
 use Rattle.tl_layout.specs.TypeP.{SpellsTypeP}
-use Rattle.tl_load.specs.LineOf.{IsLineOf}
+use Rattle.tl_load.specs.LineOf.{IsLineOf, IsFaultIn}
+use Rattle.tl_load.specs.declared.fault.LineFault.{LineFault}
+use Rattle.tl_load.specs.declared.fault.LineFault.TheVariants as line_faults
 
 -- the line has this record: it begins with the record's type and isn't longer than its layout, and filled with blanks
 -- it has only allowed bytes and each of its columns spells the record's field
 unfoldable pub HasRecord : List ℕ → Record → Type 0
-HasRecord line (One r) = IsLineOf 49 228 SpellsType1 line r
-HasRecord line (Two r) = IsLineOf 50 208 SpellsType2 line r
-HasRecord line (Four r) = IsLineOf 52 58 SpellsType4 line r
-HasRecord line (Five r) = IsLineOf 53 56 SpellsType5 line r
-HasRecord line (Six r) = IsLineOf 54 76 SpellsType6 line r
-HasRecord line (Seven r) = IsLineOf 55 74 SpellsType7 line r
-HasRecord line (Eight r) = IsLineOf 56 36 SpellsType8 line r
-HasRecord line (I r) = IsLineOf 73 127 SpellsTypeI line r
-HasRecord line (P r) = IsLineOf 80 45 SpellsTypeP line r
+HasRecord line (One r) = IsLineOf rtype_1 len_1 SpellsType1 line r
+HasRecord line (Two r) = IsLineOf rtype_2 len_2 SpellsType2 line r
+HasRecord line (Four r) = IsLineOf rtype_4 len_4 SpellsType4 line r
+HasRecord line (Five r) = IsLineOf rtype_5 len_5 SpellsType5 line r
+HasRecord line (Six r) = IsLineOf rtype_6 len_6 SpellsType6 line r
+HasRecord line (Seven r) = IsLineOf rtype_7 len_7 SpellsType7 line r
+HasRecord line (Eight r) = IsLineOf rtype_8 len_8 SpellsType8 line r
+HasRecord line (I r) = IsLineOf rtype_i len_i SpellsTypeI line r
+HasRecord line (P r) = IsLineOf rtype_p len_p SpellsTypeP line r
+
+-- the record types of this project
+abbrev pub record_types : List ℕ
+record_types = rtype_1 ∷ rtype_2 ∷ rtype_4 ∷ rtype_5 ∷ rtype_6 ∷ rtype_7 ∷ rtype_8 ∷ rtype_i ∷ rtype_p ∷ []
+
+-- the line's first byte is this record type
+abbrev pub BeginsWith : ℕ → List ℕ → Type 0
+BeginsWith rtype line = take 1 line ≡ rtype ∷ []
+
+-- The fault of a line: it begins with no record type, in which case that is told; or it begins with one, and is at fault as a
+-- line of that type.
+pub data IsFaultOfLine (line : List ℕ) (fault : LineFault) : Type 0 where
+  of_no_type : AllByRecursion (λ rtype. ¬ BeginsWith rtype line) record_types → fault ≡ line_faults.UnknownType → IsFaultOfLine line fault
+  of_type_1 : BeginsWith rtype_1 line → IsFaultIn len_1 (IsLeftmostFault table_1) line fault → IsFaultOfLine line fault
+  of_type_2 : BeginsWith rtype_2 line → IsFaultIn len_2 (IsLeftmostFault table_2) line fault → IsFaultOfLine line fault
+  of_type_4 : BeginsWith rtype_4 line → IsFaultIn len_4 (IsLeftmostFault table_4) line fault → IsFaultOfLine line fault
+  of_type_5 : BeginsWith rtype_5 line → IsFaultIn len_5 (IsLeftmostFault table_5) line fault → IsFaultOfLine line fault
+  of_type_6 : BeginsWith rtype_6 line → IsFaultIn len_6 (IsLeftmostFault table_6) line fault → IsFaultOfLine line fault
+  of_type_7 : BeginsWith rtype_7 line → IsFaultIn len_7 (IsLeftmostFault table_7) line fault → IsFaultOfLine line fault
+  of_type_8 : BeginsWith rtype_8 line → IsFaultIn len_8 (IsLeftmostFault table_8) line fault → IsFaultOfLine line fault
+  of_type_i : BeginsWith rtype_i line → IsFaultIn len_i (IsLeftmostFault table_i) line fault → IsFaultOfLine line fault
+  of_type_p : BeginsWith rtype_p line → IsFaultIn len_p (IsLeftmostFault table_p) line fault → IsFaultOfLine line fault

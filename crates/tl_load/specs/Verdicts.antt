@@ -1,4 +1,4 @@
--- How lines are judged, and what a line's fault is told as.
+-- Judges of lines, and what a line's fault is told as.
 use Rattle.std.specs.Prelude.{ℕ, List, Result}
 use Rattle.tl_layout.specs.declared.fault.FieldKind.{FieldKind}
 use Rattle.tl_layout.specs.declared.fault.FieldKind.TheVariants as kinds
@@ -7,10 +7,13 @@ use Rattle.tl_load.specs.declared.fault.LineFault.TheVariants as line_faults
 use Rattle.tl_load.specs.declared.fault.LoadFault.{LoadFault}
 use Rattle.tl_load.specs.declared.fault.LoadFault.TheVariants as faults
 
--- a judge of lines: which record a line spells, or the line's fault; and the type of a record
-pub record Judge (R : Type 0) : Type 0 where
-  pub verdict : List ℕ → Result R LineFault
+-- A judge of lines: which record a line has, what is told of a faulty one, and the type of a record. The verdict is how both
+-- are found; that it finds just them is a law.
+pub record Judge (R : Type 0) : Type 1 where
+  pub Has : List ℕ → R → Type 0
+  pub IsFault : List ℕ → LineFault → Type 0
   pub rtype : R → ℕ
+  pub verdict : List ℕ → Result R LineFault
 
 -- a field's fault, with its place
 abbrev pub field_fault_at : ℕ → ℕ → ℕ → FieldKind → LoadFault

@@ -1,31 +1,37 @@
 //! Laws of the definitions, each the contract of a function that does nothing.
 
-ghost use Rattle.std.specs.Prelude.{◌≡◌, ◌↔◌, ◌⊎◌, ℕ, List, [], ◌∷◌, take, All, Ok};
+ghost use Rattle.std.specs.Prelude.{◌≡◌, ◌↔◌, ◌⊎◌, ℕ, List, [], ◌∷◌, take, All, Ok, Err};
 ghost use Rattle.tl_layout.specs.declared.record_type.Record.{Record};
 ghost use Rattle.tl_layout.specs.RecordText.{FitsRecord, text_of};
 ghost use Rattle.tl_layout.specs.Limits.{IsWithinLimit};
+ghost use Rattle.tl_load.specs.declared.fault.LineFault.{LineFault};
 ghost use Rattle.tl_load.specs.Choice.{tiger};
-ghost use Rattle.tl_load.specs.Verdicts.{Judge};
 ghost use Rattle.tl_load.specs.Outcome.{IsSpelled, IsFaulty, Spells, Accepts};
-ghost use Rattle.tl_load.specs.RecordLine.{HasRecord};
-ghost use Rattle.tl_load.specs.LineOf.{IsLineOf, judged_as};
+ghost use Rattle.tl_load.specs.RecordLine.{HasRecord, IsFaultOfLine};
+ghost use Rattle.tl_load.specs.LineOf.{IsLineOf, IsFaultIn, judged_as};
 
 use tl_layout::Layout;
 
-/// However lines are judged, parts either spell one list of records with at most limit of each type and have no fault,
-/// or they spell none and exactly one fault is at them.
+/// Parts either spell one list of records with at most limit of each type and have no fault, or they spell none and exactly
+/// one fault is at them.
 pub fn spelled_or_one_fault()
-    ensures { (judge : Judge Record) (limit : ℕ) (parts : List (List ℕ)) → IsSpelled judge limit parts ⊎ IsFaulty judge limit parts }
+    ensures { (limit : ℕ) (parts : List (List ℕ)) → IsSpelled tiger limit parts ⊎ IsFaulty tiger limit parts }
 {}
 
-/// A line that begins with the layout's type is judged as a record exactly where it has that record.
+/// A line that begins with the layout's type is judged as a record exactly where it has that record, and is judged to have a
+/// fault exactly where that is told of it.
 pub fn line_has_record<L: Layout>()
-    ensures { (line : List ℕ) (r : L) → take 1 line ≡ L.RTYPE ∷ [] → (judged_as L.LEN L.reading line ≡ Ok r ↔ IsLineOf L.RTYPE L.LEN L.Spells line r) }
+    ensures has_record { (line : List ℕ) (r : L) → take 1 line ≡ L.RTYPE ∷ []
+        → (judged_as L.LEN L.reading line ≡ Ok r ↔ IsLineOf L.RTYPE L.LEN L.Spells line r) }
+    ensures has_fault { (line : List ℕ) (fault : LineFault) → take 1 line ≡ L.RTYPE ∷ []
+        → (judged_as L.LEN L.reading line ≡ Err fault ↔ IsFaultIn L.LEN L.IsFault line fault) }
 {}
 
-/// A line is judged as a record exactly where it has that record, each column read by the column table of its type.
+/// A line is judged as a record exactly where it has that record, each column read by the column table of its type; and it
+/// is judged to have a fault exactly where that is told of it, the leftmost field at fault by the table.
 pub fn line_is_judged_as_its_record()
-    ensures { (line : List ℕ) (found : Record) → (tiger.verdict line ≡ Ok found ↔ HasRecord line found) }
+    ensures has_record { (line : List ℕ) (found : Record) → (tiger.verdict line ≡ Ok found ↔ HasRecord line found) }
+    ensures has_fault { (line : List ℕ) (fault : LineFault) → (tiger.verdict line ≡ Err fault ↔ IsFaultOfLine line fault) }
 {}
 
 /// The canonical text of records, as one part, spells these records and no others.

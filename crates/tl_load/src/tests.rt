@@ -1,5 +1,7 @@
 //! Worked cases of the loader: sets as the Census publishes them, ends of lines, broken lines and failing sources.
 
+mod fields;
+
 use crate::{
     Counted, LoadFault, Loader, SlowSource, Source, first_bad, line_has_record,
     line_is_judged_as_its_record, spelled_or_one_fault, text_spells_its_records,

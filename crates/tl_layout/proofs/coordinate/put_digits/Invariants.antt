@@ -1,5 +1,5 @@
 use Rattle.std.proofs.Common.{◌≡◌, ◌≤◌, ◌++◌, length, drop}
-use Rattle.tl_layout.specs.CoordinateField.{digits_text}
+use Rattle.tl_layout.specs.FieldTexts.{digits_text}
 use Rattle.tl_layout.proofs.coordinate.put_digits.Given as goal
 
 abbrev pub invariant-loop-i : goal.invariant-loop-i

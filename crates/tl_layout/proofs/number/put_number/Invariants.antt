@@ -1,5 +1,5 @@
 use Rattle.std.proofs.Common.{◌≡◌, ◌≤◌, ◌++◌, length, drop}
-use Rattle.tl_layout.specs.NumberField.{number_text}
+use Rattle.tl_layout.specs.FieldTexts.{number_text}
 use Rattle.tl_layout.proofs.number.put_number.Given as goal
 
 abbrev pub invariant-loop-i : goal.invariant-loop-i

@@ -1,5 +1,5 @@
 use Rattle.std.proofs.Common.{◌≡◌, ◌≤◌, length}
-use Rattle.tl_layout.specs.NumberField.{drop_blanks}
+use Rattle.tl_layout.specs.NumberReading.{drop_blanks}
 use Rattle.tl_layout.proofs.number.trim_start.Given as goal
 
 abbrev pub invariant-loop-rest : goal.invariant-loop-rest

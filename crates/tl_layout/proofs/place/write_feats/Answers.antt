@@ -1,8 +1,8 @@
 -- One place after another was written.
 use Rattle.std.proofs.Common.{◌≡◌, ◌+◌, ◌*◌, ◌-◌, ◌++◌, ℕ, suc, slice_get, unwrap_or, take, ap, ◌∙◌, subst, arith}
-use Rattle.tl_layout.specs.NumberField.{number_text}
-use Rattle.tl_layout.specs.FieldReading.{number_place_text}
-use Rattle.tl_layout.specs.Places.{places_text}
+use Rattle.tl_layout.specs.FieldTexts.{number_text}
+use Rattle.tl_layout.specs.FieldTexts.{number_place_text}
+use Rattle.tl_layout.specs.FieldTexts.{places_text}
 use Rattle.tl_layout.proofs.PlaceWrites.{place_written, all_written, at_columns}
 use Rattle.tl_layout.proofs.place.write_feats.Goals as goal
 

@@ -1,8 +1,8 @@
 -- One place after another was written.
 use Rattle.std.proofs.Common.{◌≡◌, ◌+◌, ◌*◌, ◌-◌, ◌++◌, ℕ, suc, Option, IfSome, slice_get, take, ap, subst, arith, below_more}
 use Rattle.tl_layout.specs.Coordinates.{IsOnMap}
-use Rattle.tl_layout.specs.FieldReading.{point_place_text}
-use Rattle.tl_layout.specs.Places.{places_text}
+use Rattle.tl_layout.specs.FieldTexts.{point_place_text}
+use Rattle.tl_layout.specs.FieldTexts.{places_text}
 use Rattle.tl_layout.proofs.PlaceWrites.{place_written, all_written, at_columns, each_from_places}
 use Rattle.tl_layout.proofs.place.write_points.Goals as goal
 

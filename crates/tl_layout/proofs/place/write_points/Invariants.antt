@@ -1,7 +1,7 @@
 use Rattle.std.proofs.Common.{◌≡◌, ◌+◌, ◌*◌, ◌++◌, ◌<◌, ℕ, IfSome, slice_get, take, drop}
 use Rattle.tl_layout.specs.Coordinates.{IsOnMap}
-use Rattle.tl_layout.specs.FieldReading.{point_place_text}
-use Rattle.tl_layout.specs.Places.{places_text}
+use Rattle.tl_layout.specs.FieldTexts.{point_place_text}
+use Rattle.tl_layout.specs.FieldTexts.{places_text}
 use Rattle.tl_layout.proofs.place.write_points.Given as goal
 
 abbrev pub invariant-loop-place : goal.invariant-loop-place

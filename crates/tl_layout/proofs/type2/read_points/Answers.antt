@@ -1,7 +1,7 @@
 -- Each place was read as the reading of all places says.
 use Rattle.std.proofs.Common.{◌≡◌, ◌+◌, ◌*◌, ◌-◌, ℕ, suc, length, Bool, true, false, Ok, Err, sym, ◌∙◌, ap, subst, arith}
 use Rattle.tl_layout.specs.FieldReading.{point_or_none_at}
-use Rattle.tl_layout.specs.Places.{places_reading}
+use Rattle.tl_layout.specs.FieldReading.{places_reading}
 use Rattle.tl_layout.proofs.PlaceSteps.{with_front, after_none, after_some, at_gap, at_fault, at_end, at_start}
 use Rattle.tl_layout.proofs.type2.read_points.Goals as goal
 use Rattle.tl_layout.proofs.type2.read_points.Goals.{in-None, in-Some+else-unused}

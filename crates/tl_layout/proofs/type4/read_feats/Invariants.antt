@@ -1,7 +1,7 @@
 -- What was read so far, with what is read of the rest behind it, is what is read of all places.
 use Rattle.std.proofs.Common.{◌≡◌, ◌≤◌, ◌+◌, ◌*◌, ℕ, length, false}
 use Rattle.tl_layout.specs.FieldReading.{number_or_none_at}
-use Rattle.tl_layout.specs.Places.{places_reading}
+use Rattle.tl_layout.specs.FieldReading.{places_reading}
 use Rattle.tl_layout.proofs.PlaceSteps.{with_front}
 use Rattle.tl_layout.proofs.type4.read_feats.Given as goal
 

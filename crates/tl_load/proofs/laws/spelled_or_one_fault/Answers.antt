@@ -1,5 +1,7 @@
+use Rattle.tl_load.specs.Choice.{tiger}
+use Rattle.tl_load.proofs.RecordLines.{tiger_is_sound}
 use Rattle.tl_load.proofs.Reading.{one_verdict}
 use Rattle.tl_load.proofs.laws.spelled_or_one_fault.Goals as goal
 
 pub returns : goal.returns
-returns c judge limit parts = one_verdict judge limit parts
+returns c limit parts = one_verdict tiger tiger_is_sound limit parts

@@ -1,5 +1,5 @@
 use Rattle.std.proofs.Common.{refl}
-use Rattle.tl_layout.specs.Type1.{body_1_at}
+use Rattle.tl_layout.specs.Type1Groups.{body_1_at}
 use Rattle.tl_layout.proofs.type1.Body1.at.Goals as goal
 
 pub returns : goal.returns

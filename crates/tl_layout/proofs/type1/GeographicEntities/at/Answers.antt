@@ -1,5 +1,5 @@
 use Rattle.std.proofs.Common.{refl}
-use Rattle.tl_layout.specs.Type1.{entities_at}
+use Rattle.tl_layout.specs.Type1Groups.{entities_at}
 use Rattle.tl_layout.proofs.type1.GeographicEntities.at.Goals as goal
 
 pub returns : goal.returns

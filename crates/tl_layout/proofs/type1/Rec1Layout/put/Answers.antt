@@ -1,7 +1,9 @@
 -- One column after another was written behind the record type and the version.
 use Rattle.std.proofs.Common.{arith, refl, ap, subst, ◌∙◌}
 use Rattle.tl_layout.proofs.Writes.{behind, group_behind, whole}
-use Rattle.tl_layout.specs.Type1.{FitsType1, body_1_texts, point_texts, type_1_spelling}
+use Rattle.tl_layout.specs.Type1.{FitsType1, type_1_spelling}
+use Rattle.tl_layout.specs.Type1Groups.{body_1_texts, point_texts}
+use Rattle.tl_layout.specs.Type1Laws.{type_1_fits}
 use Rattle.tl_layout.proofs.type1.Rec1Layout.put.Goals as goal
 
 pub returns-clause-spelling : goal.returns-clause-spelling
@@ -15,5 +17,4 @@ returns-clause-spelling c =
     whole 228 c.write_point-2.new.out _ (omega arith) end ∙ ap type_1_spelling c.self.view_is
 
 pub returns-clause-fits : goal.returns-clause-fits
-returns-clause-fits c =
-    subst FitsType1 c.self.view_is (record { tlid = c.self.invariant; body = c.put.ensures.fits; start = c.write_point.ensures.on_map; end = c.write_point-2.ensures.on_map })
+returns-clause-fits c = subst FitsType1 c.self.view_is (type_1_fits _ c.self.invariant c.put.ensures.fits c.write_point.ensures.on_map c.write_point-2.ensures.on_map)

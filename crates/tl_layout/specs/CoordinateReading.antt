@@ -1,0 +1,35 @@
+-- How a coordinate is read.
+use Rattle.std.specs.Prelude.{ℕ, ◌==◌, List, [], ◌∷◌, nat_le, Option, Some, None, if◌then◌else◌, pos}
+use Rattle.tl_layout.specs.NumberField.{is_digit}
+use Rattle.tl_layout.specs.NumberReading.{drop_blanks, number_after}
+use Rattle.tl_layout.specs.declared.coordinate.Coordinate.{Coordinate}
+use Rattle.tl_layout.specs.declared.coordinate.Coordinate.TheVariants.{Malformed, Blank, Value}
+use Rattle.tl_layout.specs.CoordinateField.{negated}
+
+-- the number, if it is within the limit
+abbrev pub within : ℕ → Option ℕ → Option ℕ
+within limit None = None
+within limit (Some n) = if nat_le n limit then Some n else None
+
+-- the magnitude that one digit or more spell, in front of nothing but blanks
+unfoldable pub magnitude_of : ℕ → List ℕ → Option ℕ
+magnitude_of limit [] = None
+magnitude_of limit (byte ∷ bytes) = if is_digit byte then within limit (number_after 0 (byte ∷ bytes)) else None
+
+abbrev pub plus_of : Option ℕ → Coordinate
+plus_of None = Malformed
+plus_of (Some n) = Value (pos n)
+
+abbrev pub minus_of : Option ℕ → Coordinate
+minus_of None = Malformed
+minus_of (Some n) = Value (negated n)
+
+-- the coordinate of a sign, or none, and a magnitude
+unfoldable pub signed_of : ℕ → List ℕ → Coordinate
+signed_of limit [] = Blank
+signed_of limit (byte ∷ bytes) =
+    if byte == 43 then plus_of (magnitude_of limit bytes) else (if byte == 45 then minus_of (magnitude_of limit bytes) else plus_of (magnitude_of limit (byte ∷ bytes)))
+
+-- what a coordinate's field is read as
+unfoldable pub coordinate_of : ℕ → List ℕ → Coordinate
+coordinate_of limit field = signed_of limit (drop_blanks field)
