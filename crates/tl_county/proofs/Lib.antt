@@ -13,6 +13,7 @@ pub mod LinkedCounty
 pub mod Samples
 pub mod OnSamples
 pub mod Reordered
+pub mod KeyedLists
 pub mod SameCounty
 pub mod Repacking
 pub mod Counted

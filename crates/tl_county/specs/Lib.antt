@@ -1,4 +1,6 @@
 pub mod Orders
+pub mod Keyed
+pub mod SequenceKeys
 pub mod PolygonKeys
 pub mod BodyOrder
 pub mod County
