@@ -1,12 +1,12 @@
 //! Lists of what has a key, in the order of their keys.
 
-ghost use Rattle.std.specs.Prelude.{◌≡◌, List, map, filter, not, false, OnOk, IsPermutation};
+ghost use Rattle.std.specs.Prelude.{◌≡◌, List, map, filter, not, false, Some, OnOk, IfOk, IfSome, IsPermutation, slice_get, is_some};
 ghost use Rattle.std.specs.Ordering.{on, is_eq, is_gt, is_lt};
 ghost use Rattle.std.specs.declared.cmp.Ordering.TheVariants.{Equal};
 ghost use Rattle.tl_county.specs.Keyed.{IsLeastPassing, is_repeated, is_unknown};
-ghost use Rattle.tl_county.specs.Orders.{IsInOrder};
+ghost use Rattle.tl_county.specs.Orders.{IsInOrder, stands_in};
 
-use std::alloc::AllocError;
+use std::alloc::{AllocError, Global};
 use std::cmp::Ordering;
 
 /// What orders records of one type. Two keys that compare as equal are the same key.
@@ -110,4 +110,24 @@ pub fn split_group<K: Key, T: Keyed<K>>(items: &[T], key: K) -> (&[T], &[T])
     let from = from_key(items, key);
     let later = after_key(from, key);
     (&from[..from.len() - later.len()], later)
+}
+
+/// The keys of the items, one after the other.
+pub fn keys_of<K: Ord + Copy, T: Keyed<K>>(alloc: Global, items: &[T]) -> Result<Vec<K>, AllocError>
+    ensures { IfOk result (λ keys. keys.items ≡ map T.key_of items.now) }
+{
+    let mut keys = Vec::with_capacity(alloc, items.len())?;
+    for item in items {
+        keys.push(item.key())?;
+    }
+    Ok(keys)
+}
+
+/// The place of a key in a list of keys in order, from 0, or none where it doesn't stand there.
+pub fn place_of<K: Key>(keys: &[K], key: K) -> Option<usize>
+    requires { IsInOrder K.cmp keys.now }
+    ensures found { IfSome result (λ place. slice_get keys.now place ≡ Some key) }
+    ensures known { is_some result ≡ stands_in K.cmp key keys.now }
+{
+    keys.binary_search(&key).ok()
 }

@@ -2,13 +2,16 @@
 #![tactic(auto)]
 
 mod fault;
+mod gathered;
 mod keyed;
 mod laws;
 mod record_keys;
+mod rules;
 
 pub use fault::{LinkFault, LinkedType};
 pub use keyed::{
-    Key, Keyed, after_key, from_key, least_repeated, least_unknown, put_in_order, split_group,
+    Key, Keyed, after_key, from_key, keys_of, least_repeated, least_unknown, place_of,
+    put_in_order, split_group,
 };
 pub use laws::{
     counties_within_limits_are_packed_into_records_that_fit, linked_or_one_first_broken_rule,

@@ -158,6 +158,17 @@ impl Keyed<u64> for RecI {
 }
 
 /// By the polygon's key.
+impl Keyed<PolygonKey> for Rec8 {
+    ghost use Rattle.tl_county.specs.County.{eight_key};
+
+    ghost key_of = { eight_key };
+
+    fn key(&self) -> PolygonKey {
+        (*self.cenid().as_bytes(), self.polyid())
+    }
+}
+
+/// By the polygon's key.
 impl Keyed<PolygonKey> for RecP {
     ghost use Rattle.tl_county.specs.County.{p_key};
 
