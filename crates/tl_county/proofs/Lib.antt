@@ -13,6 +13,10 @@ pub mod LinkedCounty
 pub mod Samples
 pub mod OnSamples
 pub mod Reordered
+pub mod KeyedLists
+pub mod RuleOrders
+pub mod RuleTests
+pub mod GatheredLists
 pub mod SameCounty
 pub mod Repacking
 pub mod Counted

@@ -17,16 +17,16 @@ use Rattle.tl_county.proofs.Keys.{Known, nat_keys, times-yes, times-no, same_or_
 use Rattle.tl_county.proofs.KeyOrders.{key_keys}
 
 -- the fault at a place
-abbrev part : List (List ℕ) → ℕ → List ℕ
+abbrev pub part : List (List ℕ) → ℕ → List ℕ
 part [] i = []
 part (p ∷ ps) zero = p
 part (p ∷ ps) (suc i) = part ps i
 
-abbrev head_of : List ℕ → ℕ
+abbrev pub head_of : List ℕ → ℕ
 head_of [] = 0
 head_of (n ∷ ns) = n
 
-abbrev number : List (List ℕ) → ℕ → ℕ
+abbrev pub number : List (List ℕ) → ℕ → ℕ
 number place i = head_of (part place i)
 
 abbrev type_at : ℕ → LinkedType

@@ -1,4 +1,8 @@
 pub mod Orders
+pub mod Keyed
+pub mod SequenceKeys
+pub mod RuleOrder
+pub mod OrderedTables
 pub mod PolygonKeys
 pub mod BodyOrder
 pub mod County

@@ -1,0 +1,44 @@
+-- The rules one after the other: which hold, and which is the first that is broken.
+use Rattle.std.specs.Prelude.{ℕ, ◌≡◌, ◌+◌, ◌<◌, ◌≤◌, List, true, false, Option, MatchOption}
+use Rattle.std.specs.Ordering.{is_gt}
+use Rattle.tl_layout.specs.declared.record_type.Record.{Record}
+use Rattle.tl_county.specs.declared.fault.LinkFault.{LinkFault}
+use Rattle.tl_county.specs.declared.fault.LinkFault.TheVariants.{ChainTwice, NoChain, SequenceBroken, LinkMissing, LinkTwice, NameTwice, NameUnknown, PolygonTwice, LandUnknown, PolygonUnknown, Memory}
+use Rattle.tl_county.specs.declared.fault.LinkedType.{LinkedType}
+use Rattle.tl_county.specs.declared.fault.LinkedType.TheVariants.{Two, Four, Six, I}
+use Rattle.tl_county.specs.FirstOf.{place_cmp}
+use Rattle.tl_county.specs.LinkRules.{is_broken, fault_place}
+
+-- the place of a fault's rule among the rules as they are told; rules 12 and 13 count once for each record type
+abbrev pub rule_place : LinkFault → ℕ
+rule_place (ChainTwice tlid) = 0
+rule_place (NoChain Two tlid) = 1
+rule_place (NoChain Four tlid) = 2
+rule_place (NoChain Six tlid) = 3
+rule_place (NoChain I tlid) = 4
+rule_place (SequenceBroken Two tlid) = 5
+rule_place (SequenceBroken Four tlid) = 6
+rule_place (SequenceBroken Six tlid) = 7
+rule_place (SequenceBroken I tlid) = 8
+rule_place (LinkMissing tlid) = 9
+rule_place (LinkTwice tlid) = 10
+rule_place (NameTwice feat) = 11
+rule_place (NameUnknown tlid feat) = 12
+rule_place (PolygonTwice cenid polyid) = 13
+rule_place (LandUnknown land) = 14
+rule_place (PolygonUnknown cenid polyid) = 15
+rule_place Memory = 16
+
+-- of the rules from this place on, none before the other place is broken
+abbrev pub RulesHold : List Record → ℕ → ℕ → Type 0
+RulesHold records low high = (fault : LinkFault) → low ≤ rule_place fault → rule_place fault < high → is_broken records fault ≡ false
+
+-- of the rules from this place on, this is the first that is broken, at its least place
+pub record IsFirstFrom (records : List Record) (low : ℕ) (fault : LinkFault) : Type 0 where
+  pub from : low ≤ rule_place fault
+  pub broken : is_broken records fault ≡ true
+  pub least : (other : LinkFault) → low ≤ rule_place other → is_broken records other ≡ true → is_gt (place_cmp (fault_place fault) (fault_place other)) ≡ false
+
+-- what was found of the rules from the one place to the other: the first that is broken, or that they hold
+abbrev pub Settles : List Record → ℕ → ℕ → Option LinkFault → Type 0
+Settles records low high found = MatchOption found (RulesHold records low high) (IsFirstFrom records low)

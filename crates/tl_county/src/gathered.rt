@@ -1,0 +1,108 @@
+//! Tables put in order, and what linking gathers from them.
+
+ghost use Rattle.std.specs.Prelude.{◌≡◌, ◌++◌, map, flat_map, OnOk, IfOk, IsPermutation};
+ghost use Rattle.tl_county.specs.County.{eight_key, p_key, side_keys};
+ghost use Rattle.tl_county.specs.OrderedTables.{typed_of, AreInOrder, ArePermuted};
+ghost use Rattle.tl_county.specs.Orders.{IsInOrder, distinct};
+ghost use Rattle.tl_county.specs.PolygonKeys.{key_cmp, key_on};
+ghost use Rattle.tl_county.specs.SequenceKeys.{sequence_cmp, uses_of};
+
+use crate::keyed::{Keyed, keys_of, put_in_order};
+use crate::record_keys::{LandmarkKey, LinkKey, PolygonKey};
+use std::alloc::{AllocError, Global};
+use tl_layout::{Rec1, Rec2, Rec4, Rec5, Rec6, Rec7, Rec8, RecI, RecP, Side, Tables};
+
+/// Puts each table in the order of its records' numbers.
+pub(crate) fn order_tables(tables: &mut Tables) -> Result<(), AllocError>
+    ensures in_order { OnOk result (AreInOrder (typed_of tables.new)) }
+    ensures same { OnOk result (ArePermuted (typed_of tables.old) (typed_of tables.new)) }
+{
+    put_in_order::<u64, Rec1>(&mut tables.type_1)?;
+    put_in_order::<(u64, u16), Rec2>(&mut tables.type_2)?;
+    put_in_order::<(u64, u16), Rec4>(&mut tables.type_4)?;
+    put_in_order::<u32, Rec5>(&mut tables.type_5)?;
+    put_in_order::<(u64, u16), Rec6>(&mut tables.type_6)?;
+    put_in_order::<LandmarkKey, Rec7>(&mut tables.type_7)?;
+    put_in_order::<LinkKey, Rec8>(&mut tables.type_8)?;
+    put_in_order::<u64, RecI>(&mut tables.type_i)?;
+    put_in_order::<PolygonKey, RecP>(&mut tables.type_p)?;
+    Ok(())
+}
+
+/// Adds the FEATs that a record of type 4 names, each with its TLID.
+fn push_uses(uses: &mut Vec<(u64, u32)>, names: &Rec4) -> Result<(), AllocError>
+    ensures { OnOk result (uses.new.items ≡ uses.old.items ++ uses_of names.now) }
+{
+    let tlid = names.tlid();
+    for feat in names.feats() {
+        uses.push((tlid, *feat))?;
+    }
+    Ok(())
+}
+
+/// Each FEAT that a record of type 4 names with its TLID, in order.
+pub(crate) fn uses_in_order(alloc: Global, names: &[Rec4]) -> Result<Vec<(u64, u32)>, AllocError>
+    ensures in_order { IfOk result (λ uses. IsInOrder sequence_cmp uses.items) }
+    ensures same { IfOk result (λ uses. IsPermutation (flat_map uses_of names.now) uses.items) }
+{
+    let mut uses = Vec::new(alloc);
+    for record4 in names {
+        push_uses(&mut uses, record4)?;
+    }
+    put_in_order::<(u64, u32), (u64, u32)>(&mut uses)?;
+    Ok(uses)
+}
+
+/// The polygons of the records of type 8, in order.
+pub(crate) fn linked_polygons(alloc: Global, links: &[Rec8]) -> Result<Vec<PolygonKey>, AllocError>
+    ensures in_order { IfOk result (λ keys. IsInOrder key_cmp keys.items) }
+    ensures same { IfOk result (λ keys. IsPermutation (map eight_key links.now) keys.items) }
+{
+    let mut keys = keys_of::<PolygonKey, Rec8>(alloc, links)?;
+    put_in_order::<PolygonKey, PolygonKey>(&mut keys)?;
+    Ok(keys)
+}
+
+/// Adds the polygon on a side, if there is one.
+fn push_side(keys: &mut Vec<PolygonKey>, side: &Side) -> Result<(), AllocError>
+    ensures { OnOk result (keys.new.items ≡ keys.old.items ++ key_on side.now) }
+{
+    if let Some(polyid) = side.polyid() {
+        let cenid = *side.cenid().as_bytes();
+        keys.push((cenid, polyid))?;
+    }
+    Ok(())
+}
+
+/// The polygons on sides, chain after chain, and then those of type P.
+fn gather_polygons(
+    alloc: Global,
+    sides: &[RecI],
+    points: &[RecP],
+) -> Result<Vec<PolygonKey>, AllocError>
+    ensures { IfOk result (λ keys. keys.items ≡ flat_map side_keys sides.now ++ map p_key points.now) }
+{
+    let mut keys = Vec::new(alloc);
+    for link in sides {
+        push_side(&mut keys, link.left())?;
+        push_side(&mut keys, link.right())?;
+    }
+    for point in points {
+        keys.push(point.key())?;
+    }
+    Ok(keys)
+}
+
+/// The polygons on sides and of type P, in order and each once.
+pub(crate) fn polygon_keys(
+    alloc: Global,
+    sides: &[RecI],
+    points: &[RecP],
+) -> Result<Vec<PolygonKey>, AllocError>
+    ensures { IfOk result (λ keys. keys.items ≡ distinct key_cmp (flat_map side_keys sides.now ++ map p_key points.now)) }
+{
+    let mut keys = gather_polygons(alloc, sides, points)?;
+    put_in_order::<PolygonKey, PolygonKey>(&mut keys)?;
+    keys.dedup_by(|later, kept| later.cmp(&kept).is_eq());
+    Ok(keys)
+}

@@ -1,0 +1,133 @@
+//! Lists of what has a key, in the order of their keys.
+
+ghost use Rattle.std.specs.Prelude.{◌≡◌, List, map, filter, not, false, Some, OnOk, IfOk, IfSome, IsPermutation, slice_get, is_some};
+ghost use Rattle.std.specs.Ordering.{on, is_eq, is_gt, is_lt};
+ghost use Rattle.std.specs.declared.cmp.Ordering.TheVariants.{Equal};
+ghost use Rattle.tl_county.specs.Keyed.{IsLeastPassing, is_repeated, is_unknown};
+ghost use Rattle.tl_county.specs.Orders.{IsInOrder, stands_in};
+
+use std::alloc::{AllocError, Global};
+use std::cmp::Ordering;
+
+/// What orders records of one type. Two keys that compare as equal are the same key.
+pub trait Key: Ord + Copy {
+    /// Keys that compare as equal are the same.
+    ghost exact: { (x y : Self) → Self.Ord.cmp x y ≡ Equal → x ≡ y };
+}
+
+/// What has a key, as a record has its number.
+pub trait Keyed<K: Ord + Copy> {
+    /// The key.
+    ghost key_of: { Self → K };
+
+    /// The key.
+    fn key(&self) -> K
+        ensures { result ≡ key_of self.now };
+}
+
+/// Puts the items in the order of their keys, in linear time where they are in order already.
+pub fn put_in_order<K: Ord + Copy, T: Keyed<K>>(items: &mut Vec<T>) -> Result<(), AllocError>
+    ensures permutation { IsPermutation items.old.items items.new.items }
+    ensures in_order { OnOk result (IsInOrder (on T.key_of K.cmp) items.new.items) }
+{
+    items.sort_by_key(|item| item.key())
+}
+
+/// The least key that stands twice among items in order.
+pub fn least_repeated<K: Key, T: Keyed<K>>(items: &[T]) -> Option<K>
+    requires { IsInOrder (on T.key_of K.cmp) items.now }
+    ensures { IsLeastPassing K.cmp (is_repeated K.cmp (map T.key_of items.now)) result }
+{
+    let mut rest = items;
+    while let Some((first, later)) = rest.split_first() {
+        if let Some((second, _)) = later.split_first() {
+            if second.key().cmp(&first.key()).is_eq() {
+                return Some(first.key());
+            }
+        }
+        rest = later;
+    }
+    None
+}
+
+/// The least key of the items that none of `known` has, both in order.
+pub fn least_unknown<K: Key, A: Keyed<K>, B: Keyed<K>>(items: &[A], known: &[B]) -> Option<K>
+    requires items { IsInOrder (on A.key_of K.cmp) items.now }
+    requires known { IsInOrder (on B.key_of K.cmp) known.now }
+    ensures { IsLeastPassing K.cmp (is_unknown K.cmp (map A.key_of items.now) (map B.key_of known.now)) result }
+{
+    let mut asked = items;
+    let mut known = known;
+    while let Some((first, later)) = asked.split_first() {
+        match known.split_first() {
+            None => return Some(first.key()),
+            Some((least, others)) => match first.key().cmp(&least.key()) {
+                Ordering::Less => return Some(first.key()),
+                Ordering::Equal => asked = later,
+                Ordering::Greater => known = others,
+            },
+        }
+    }
+    None
+}
+
+/// The items from the first on whose key isn't below this one; items in order.
+pub fn from_key<K: Key, T: Keyed<K>>(items: &[T], key: K) -> &[T]
+    requires { IsInOrder (on T.key_of K.cmp) items.now }
+    ensures { result.now ≡ filter (λ item. not (is_lt (K.cmp (T.key_of item) key))) items.now }
+{
+    let mut rest = items;
+    while let Some((first, later)) = rest.split_first() {
+        if first.key().cmp(&key).is_ge() {
+            break;
+        }
+        rest = later;
+    }
+    rest
+}
+
+/// The items from the first on whose key is above this one; items in order.
+pub fn after_key<K: Key, T: Keyed<K>>(items: &[T], key: K) -> &[T]
+    requires { IsInOrder (on T.key_of K.cmp) items.now }
+    ensures { result.now ≡ filter (λ item. is_gt (K.cmp (T.key_of item) key)) items.now }
+{
+    let mut rest = items;
+    while let Some((first, later)) = rest.split_first() {
+        if first.key().cmp(&key).is_gt() {
+            break;
+        }
+        rest = later;
+    }
+    rest
+}
+
+/// The items of this key, and those of greater keys; items in order.
+pub fn split_group<K: Key, T: Keyed<K>>(items: &[T], key: K) -> (&[T], &[T])
+    requires { IsInOrder (on T.key_of K.cmp) items.now }
+    ensures group { result.0.now ≡ filter (λ item. is_eq (K.cmp (T.key_of item) key)) items.now }
+    ensures later { result.1.now ≡ filter (λ item. is_gt (K.cmp (T.key_of item) key)) items.now }
+{
+    let from = from_key(items, key);
+    let later = after_key(from, key);
+    (&from[..from.len() - later.len()], later)
+}
+
+/// The keys of the items, one after the other.
+pub fn keys_of<K: Ord + Copy, T: Keyed<K>>(alloc: Global, items: &[T]) -> Result<Vec<K>, AllocError>
+    ensures { IfOk result (λ keys. keys.items ≡ map T.key_of items.now) }
+{
+    let mut keys = Vec::with_capacity(alloc, items.len())?;
+    for item in items {
+        keys.push(item.key())?;
+    }
+    Ok(keys)
+}
+
+/// The place of a key in a list of keys in order, from 0, or none where it doesn't stand there.
+pub fn place_of<K: Key>(keys: &[K], key: K) -> Option<usize>
+    requires { IsInOrder K.cmp keys.now }
+    ensures found { IfSome result (λ place. slice_get keys.now place ≡ Some key) }
+    ensures known { is_some result ≡ stands_in K.cmp key keys.now }
+{
+    keys.binary_search(&key).ok()
+}

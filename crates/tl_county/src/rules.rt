@@ -1,0 +1,141 @@
+//! The rules by which records fit together, over tables in order.
+
+ghost use Rattle.std.specs.Prelude.{◌≡◌, List, map, flat_map, ◌++◌, MatchResult, IfOk, OnOk, IsPermutation};
+ghost use Rattle.std.specs.Ordering.{nat_cmp};
+ghost use Rattle.tl_county.specs.County.{eight_key, five_feat, p_key, side_keys};
+ghost use Rattle.tl_county.specs.Keyed.{IsLeastPassing};
+ghost use Rattle.tl_county.specs.PolygonKeys.{key_cmp};
+ghost use Rattle.tl_county.specs.SequenceKeys.{is_unnamed, sequence_cmp, uses_of};
+ghost use Rattle.tl_layout.specs.declared.record_type.Record.{Record};
+ghost use Rattle.tl_county.specs.OrderedTables.{typed_of, AreInOrder};
+ghost use Rattle.tl_county.specs.Orders.{IsInOrder, distinct};
+ghost use Rattle.tl_county.specs.Packing.{by_type};
+ghost use Rattle.tl_county.specs.RuleOrder.{RulesHold, IsFirstFrom};
+
+use crate::fault::{LinkFault, LinkedType};
+use crate::keyed::{least_repeated, least_unknown, place_of};
+use crate::record_keys::PolygonKey;
+use tl_layout::{Rec1, Rec2, Rec4, Rec5, Rec6, Rec7, Rec8, RecI, RecP, Tables};
+
+/// Rules 11 and 12: no TLID has two records of type 1, and each record of types 2, 4, 6 and I has its chain.
+fn check_chains(tables: &Tables) -> Result<(), LinkFault>
+    requires { AreInOrder (typed_of tables.now) }
+    ensures { (records : List Record) → by_type records ≡ typed_of tables.now → MatchResult result (λ _. RulesHold records 0 5) (IsFirstFrom records 0) }
+{
+    if let Some(tlid) = least_repeated::<u64, Rec1>(&tables.type_1) {
+        return Err(LinkFault::ChainTwice { tlid });
+    }
+    if let Some(tlid) = least_unknown::<u64, Rec2, Rec1>(&tables.type_2, &tables.type_1) {
+        let rtype = LinkedType::Two;
+        return Err(LinkFault::NoChain { rtype, tlid });
+    }
+    if let Some(tlid) = least_unknown::<u64, Rec4, Rec1>(&tables.type_4, &tables.type_1) {
+        let rtype = LinkedType::Four;
+        return Err(LinkFault::NoChain { rtype, tlid });
+    }
+    if let Some(tlid) = least_unknown::<u64, Rec6, Rec1>(&tables.type_6, &tables.type_1) {
+        let rtype = LinkedType::Six;
+        return Err(LinkFault::NoChain { rtype, tlid });
+    }
+    if let Some(tlid) = least_unknown::<u64, RecI, Rec1>(&tables.type_i, &tables.type_1) {
+        let rtype = LinkedType::I;
+        return Err(LinkFault::NoChain { rtype, tlid });
+    }
+    Ok(())
+}
+
+/// Rule 13: no RTSQ stands twice for a chain in a record type.
+fn check_sequences(tables: &Tables) -> Result<(), LinkFault>
+    requires { AreInOrder (typed_of tables.now) }
+    ensures { (records : List Record) → by_type records ≡ typed_of tables.now → MatchResult result (λ _. RulesHold records 5 9) (IsFirstFrom records 5) }
+{
+    if let Some((tlid, _)) = least_repeated::<(u64, u16), Rec2>(&tables.type_2) {
+        let rtype = LinkedType::Two;
+        return Err(LinkFault::SequenceBroken { rtype, tlid });
+    }
+    if let Some((tlid, _)) = least_repeated::<(u64, u16), Rec4>(&tables.type_4) {
+        let rtype = LinkedType::Four;
+        return Err(LinkFault::SequenceBroken { rtype, tlid });
+    }
+    if let Some((tlid, _)) = least_repeated::<(u64, u16), Rec6>(&tables.type_6) {
+        let rtype = LinkedType::Six;
+        return Err(LinkFault::SequenceBroken { rtype, tlid });
+    }
+    Ok(())
+}
+
+/// Rules 14 and 15: each record of type 1 has its record of type I, and no TLID has two.
+fn check_links(tables: &Tables) -> Result<(), LinkFault>
+    requires { AreInOrder (typed_of tables.now) }
+    ensures { (records : List Record) → by_type records ≡ typed_of tables.now → MatchResult result (λ _. RulesHold records 9 11) (IsFirstFrom records 9) }
+{
+    if let Some(tlid) = least_unknown::<u64, Rec1, RecI>(&tables.type_1, &tables.type_i) {
+        return Err(LinkFault::LinkMissing { tlid });
+    }
+    if let Some(tlid) = least_repeated::<u64, RecI>(&tables.type_i) {
+        return Err(LinkFault::LinkTwice { tlid });
+    }
+    Ok(())
+}
+
+/// The least use of a FEAT that isn't among `feats`, as TLID and FEAT; uses and FEATs in order.
+fn least_unnamed(uses: &[(u64, u32)], feats: &[u32]) -> Option<(u64, u32)>
+    requires uses { IsInOrder sequence_cmp uses.now }
+    requires feats { IsInOrder nat_cmp feats.now }
+    ensures { IsLeastPassing sequence_cmp (is_unnamed uses.now feats.now) result }
+{
+    let mut rest = uses;
+    while let Some((first, later)) = rest.split_first() {
+        if !place_of(feats, first.1).is_some() {
+            return Some(*first);
+        }
+        rest = later;
+    }
+    None
+}
+
+/// Rules 16 and 17: no FEAT has two records of type 5, and each FEAT that a record of type 4 names has one. The uses are
+/// those of the records of type 4, and the FEATs those of the records of type 5, both in order.
+fn check_names(tables: &Tables, uses: &[(u64, u32)], feats: &[u32]) -> Result<(), LinkFault>
+    requires tables { AreInOrder (typed_of tables.now) }
+    requires uses { IsInOrder sequence_cmp uses.now × IsPermutation (flat_map uses_of tables.now.type_4.items) uses.now }
+    requires feats { feats.now ≡ map five_feat tables.now.type_5.items }
+    ensures { (records : List Record) → by_type records ≡ typed_of tables.now → MatchResult result (λ _. RulesHold records 11 13) (IsFirstFrom records 11) }
+{
+    if let Some(feat) = least_repeated::<u32, Rec5>(&tables.type_5) {
+        return Err(LinkFault::NameTwice { feat });
+    }
+    if let Some((tlid, feat)) = least_unnamed(uses, feats) {
+        return Err(LinkFault::NameUnknown { tlid, feat });
+    }
+    Ok(())
+}
+
+/// Rules 18 to 20: no polygon has two records of type P, each landmark of a record of type 8 has a record of type 7, and
+/// each polygon of one stands on a side or has a record of type P. The linked polygons are those of the records of type 8,
+/// and the polygons are the keys on sides and of type P, both in order.
+fn check_landmarks(
+    tables: &Tables,
+    linked: &[PolygonKey],
+    polygons: &[PolygonKey],
+) -> Result<(), LinkFault>
+    requires tables { AreInOrder (typed_of tables.now) }
+    requires linked { IsInOrder key_cmp linked.now × IsPermutation (map eight_key tables.now.type_8.items) linked.now }
+    requires polygons { polygons.now ≡ distinct key_cmp (flat_map side_keys tables.now.type_i.items ++ map p_key tables.now.type_p.items) }
+    ensures { (records : List Record) → by_type records ≡ typed_of tables.now → MatchResult result (λ _. RulesHold records 13 16) (IsFirstFrom records 13) }
+{
+    if let Some(key) = least_repeated::<PolygonKey, RecP>(&tables.type_p) {
+        let cenid = key.0;
+        let polyid = key.1;
+        return Err(LinkFault::PolygonTwice { cenid, polyid });
+    }
+    if let Some(land) = least_unknown::<u64, Rec8, Rec7>(&tables.type_8, &tables.type_7) {
+        return Err(LinkFault::LandUnknown { land });
+    }
+    if let Some(key) = least_unknown::<PolygonKey, PolygonKey, PolygonKey>(linked, polygons) {
+        let cenid = key.0;
+        let polyid = key.1;
+        return Err(LinkFault::PolygonUnknown { cenid, polyid });
+    }
+    Ok(())
+}
