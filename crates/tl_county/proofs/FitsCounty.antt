@@ -8,18 +8,10 @@ use Rattle.tl_layout.specs.Bytes.{IsText}
 use Rattle.tl_layout.specs.ByType.{as_type_1, as_type_2, as_type_4, as_type_5, as_type_6, as_type_7, as_type_8, as_type_i, as_type_p, of_type_1, of_type_2, of_type_4, of_type_5, of_type_6, of_type_7, of_type_8, of_type_i, of_type_p, of_number}
 use Rattle.tl_layout.specs.Coordinates.{Coordinates, IsOnMap}
 use Rattle.tl_layout.specs.Fields.{Fields1, Fields2, Fields4, Fields5, Fields6, Fields7, Fields8, FieldsI, FieldsP}
+use Rattle.tl_layout.specs.Limits.{IsWithinLimit}
 use Rattle.tl_layout.specs.Numbers.{IsNumber, IsNumberOrNone}
-use Rattle.tl_layout.specs.PolygonSide.{PolygonSide, FitsSide}
+use Rattle.tl_layout.specs.PolygonSide.{PolygonSide}
 use Rattle.tl_layout.specs.RecordText.{FitsRecord}
-use Rattle.tl_layout.specs.Type1.{FitsType1}
-use Rattle.tl_layout.specs.Type2.{FitsType2}
-use Rattle.tl_layout.specs.Type4.{FitsType4}
-use Rattle.tl_layout.specs.Type5.{FitsBody5, FitsType5}
-use Rattle.tl_layout.specs.Type6.{FitsType6}
-use Rattle.tl_layout.specs.Type7.{FitsBody7, FitsType7}
-use Rattle.tl_layout.specs.Type8.{FitsType8}
-use Rattle.tl_layout.specs.TypeI.{FitsTypeI}
-use Rattle.tl_layout.specs.TypeP.{FitsBodyP, FitsTypeP}
 use Rattle.tl_layout.specs.declared.ranges.Ranges.{Ranges}
 use Rattle.tl_layout.specs.declared.record_type.Record.{Record}
 use Rattle.tl_layout.specs.declared.record_type.Record.TheVariants.{One, Two, Four, Five, Six, Seven, Eight, I, P}
@@ -30,7 +22,7 @@ use Rattle.tl_shape.specs.Chain.{Chain}
 use Rattle.tl_county.specs.BodyOrder.{landmark_body_cmp, link_cmp}
 use Rattle.tl_county.specs.County.{one_tlid, two_tlid, two_rtsq, four_tlid, four_rtsq, five_feat, six_tlid, six_rtsq, seven_land, p_key, first, side_keys, shape_points, further_names, further_ranges, chain_of, chains_of, polygon_body, county_of}
 use Rattle.tl_county.specs.CountyRules.{tlids}
-use Rattle.tl_county.specs.Limits.{FitsChain, FitsLink, FitsNumbers, HasRoom, HasAtMost, ContentsFit, NumbersFit, IsWithinLimits, greatest_rtsq, most_shape_points, most_names}
+use Rattle.tl_county.specs.Limits.{FitsName, FitsLandmark, FitsPolygon, FitsChain, FitsLink, FitsNumbers, HasRoom, ContentsFit, NumbersFit, IsWithinLimits, greatest_rtsq, most_shape_points, most_names}
 use Rattle.tl_county.specs.LinkRules.{IsLinked}
 use Rattle.tl_county.specs.Orders.{times, in_order, distinct, has_repeat}
 use Rattle.tl_county.specs.Packing.{in_pieces, numbered_from, without_last, inner_points, packed_one, packed_twos, packed_fours, packed_five, packed_sixes, packed_sevens, packed_i, packed_body, packed_p, p_polyid, by_type, packed_by_type}
@@ -38,59 +30,61 @@ use Rattle.tl_county.specs.PolygonKeys.{PolygonKey, key_cmp, key_under}
 use Rattle.tl_county.specs.declared.fault.LinkFault.TheVariants.{SequenceBroken}
 use Rattle.tl_county.specs.declared.fault.LinkedType.TheVariants as linked_types
 use Rattle.tl_county.proofs.Counted.{few_in_groups, hits_once, filter-agree, shorter_pieces, few_numbers, few_pieces, all_selected, length-numbered_from}
+use Rattle.tl_county.proofs.TypeCounts.{HasAtMost, by_type_within, packed_within}
 use Rattle.tl_county.proofs.Distinct.{apart-distinct, apart_from_no_repeat, known_from_distinct}
+use Rattle.tl_county.proofs.FieldsFit.{Fit1, Fit2, Fit4, Fit5, Fit6, Fit7, Fit8, FitI, FitP, named_1, named_2, named_4, named_5, named_6, named_7, named_8, named_i, named_p, left_cenid_fits, right_cenid_fits, polygon_cenid_fits}
 use Rattle.tl_county.proofs.FirstFault.{Among, all_among}
 use Rattle.tl_county.proofs.KeyOrders.{key_keys}
-use Rattle.tl_county.proofs.Keys.{IsApart, nat_keys, apart_from_sorted, all_known, known_all, Known, same_or_not, differ, differ_apart}
+use Rattle.tl_county.proofs.Keys.{IsApart, nat_keys, apart_from_sorted, all_known, known_all, Known, same_or_not, same-true, differ, differ_apart}
 use Rattle.tl_county.proofs.LinkedCounty.{chains_all, length-in_order, tlids-county, county-is_county, each_from}
 use Rattle.tl_county.proofs.Lists.{all_weaker, all_both, all_map, all_append, all_joined, all_filter, all_everywhere}
 use Rattle.tl_county.proofs.Members.{known_is_among, among-unmap}
 use Rattle.tl_county.proofs.Numbers.{all-in_order, count-map}
 
 -- the records of one type fit
-fits_1 : (x : Record) (y : Fields1) → as_type_1 x ≡ Some y → FitsRecord x → FitsType1 y
+fits_1 : (x : Record) (y : Fields1) → as_type_1 x ≡ Some y → FitsRecord x → Fit1 y
 unfolding FitsRecord
-fits_1 (One r) y e h = subst FitsType1 (let same : r ≡ y = cc in same) h
+fits_1 (One r) y e h = subst Fit1 (let same : r ≡ y = cc in same) (named_1 r h)
 fits_1 _ y e h = cc
 
-fits_2 : (x : Record) (y : Fields2) → as_type_2 x ≡ Some y → FitsRecord x → FitsType2 y
+fits_2 : (x : Record) (y : Fields2) → as_type_2 x ≡ Some y → FitsRecord x → Fit2 y
 unfolding FitsRecord
-fits_2 (Two r) y e h = subst FitsType2 (let same : r ≡ y = cc in same) h
+fits_2 (Two r) y e h = subst Fit2 (let same : r ≡ y = cc in same) (named_2 r h)
 fits_2 _ y e h = cc
 
-fits_4 : (x : Record) (y : Fields4) → as_type_4 x ≡ Some y → FitsRecord x → FitsType4 y
+fits_4 : (x : Record) (y : Fields4) → as_type_4 x ≡ Some y → FitsRecord x → Fit4 y
 unfolding FitsRecord
-fits_4 (Four r) y e h = subst FitsType4 (let same : r ≡ y = cc in same) h
+fits_4 (Four r) y e h = subst Fit4 (let same : r ≡ y = cc in same) (named_4 r h)
 fits_4 _ y e h = cc
 
-fits_5 : (x : Record) (y : Fields5) → as_type_5 x ≡ Some y → FitsRecord x → FitsType5 y
+fits_5 : (x : Record) (y : Fields5) → as_type_5 x ≡ Some y → FitsRecord x → Fit5 y
 unfolding FitsRecord
-fits_5 (Five r) y e h = subst FitsType5 (let same : r ≡ y = cc in same) h
+fits_5 (Five r) y e h = subst Fit5 (let same : r ≡ y = cc in same) (named_5 r h)
 fits_5 _ y e h = cc
 
-fits_6 : (x : Record) (y : Fields6) → as_type_6 x ≡ Some y → FitsRecord x → FitsType6 y
+fits_6 : (x : Record) (y : Fields6) → as_type_6 x ≡ Some y → FitsRecord x → Fit6 y
 unfolding FitsRecord
-fits_6 (Six r) y e h = subst FitsType6 (let same : r ≡ y = cc in same) h
+fits_6 (Six r) y e h = subst Fit6 (let same : r ≡ y = cc in same) (named_6 r h)
 fits_6 _ y e h = cc
 
-fits_7 : (x : Record) (y : Fields7) → as_type_7 x ≡ Some y → FitsRecord x → FitsType7 y
+fits_7 : (x : Record) (y : Fields7) → as_type_7 x ≡ Some y → FitsRecord x → Fit7 y
 unfolding FitsRecord
-fits_7 (Seven r) y e h = subst FitsType7 (let same : r ≡ y = cc in same) h
+fits_7 (Seven r) y e h = subst Fit7 (let same : r ≡ y = cc in same) (named_7 r h)
 fits_7 _ y e h = cc
 
-fits_8 : (x : Record) (y : Fields8) → as_type_8 x ≡ Some y → FitsRecord x → FitsType8 y
+fits_8 : (x : Record) (y : Fields8) → as_type_8 x ≡ Some y → FitsRecord x → Fit8 y
 unfolding FitsRecord
-fits_8 (Eight r) y e h = subst FitsType8 (let same : r ≡ y = cc in same) h
+fits_8 (Eight r) y e h = subst Fit8 (let same : r ≡ y = cc in same) (named_8 r h)
 fits_8 _ y e h = cc
 
-fits_i : (x : Record) (y : FieldsI) → as_type_i x ≡ Some y → FitsRecord x → FitsTypeI y
+fits_i : (x : Record) (y : FieldsI) → as_type_i x ≡ Some y → FitsRecord x → FitI y
 unfolding FitsRecord
-fits_i (I r) y e h = subst FitsTypeI (let same : r ≡ y = cc in same) h
+fits_i (I r) y e h = subst FitI (let same : r ≡ y = cc in same) (named_i r h)
 fits_i _ y e h = cc
 
-fits_p : (x : Record) (y : FieldsP) → as_type_p x ≡ Some y → FitsRecord x → FitsTypeP y
+fits_p : (x : Record) (y : FieldsP) → as_type_p x ≡ Some y → FitsRecord x → FitP y
 unfolding FitsRecord
-fits_p (P r) y e h = subst FitsTypeP (let same : r ≡ y = cc in same) h
+fits_p (P r) y e h = subst FitP (let same : r ≡ y = cc in same) (named_p r h)
 fits_p _ y e h = cc
 
 -- what holds of each content holds of those that are joined in the order of their RTSQs
@@ -136,61 +130,68 @@ few_packed : (key : PolygonKey) (bodies : List BodyP) (rest : List FieldsP) (n :
 few_packed key [] rest n h = omega arith
 few_packed key (body ∷ bodies) rest n h = omega arith
 
+-- the contents of a polygon's records fit beside its CENID
+bodies_of_key : (key : PolygonKey) (rs : List FieldsP) → AllByRecursion FitP rs → AllByRecursion (λ r. FitsPolygon key.0 r.body) (filter (λ r. is_eq (key_cmp key (p_key r))) rs)
+bodies_of_key key [] a = tt
+bodies_of_key key (r ∷ rs) a = go (is_eq (key_cmp key (p_key r))) refl (bodies_of_key key rs a.1)
+  where
+    go : (b : Bool) → is_eq (key_cmp key (p_key r)) ≡ b → AllByRecursion (λ q. FitsPolygon key.0 q.body) (filter (λ q. is_eq (key_cmp key (p_key q))) rs) → AllByRecursion (λ q. FitsPolygon key.0 q.body) (cond b (r ∷ filter (λ q. is_eq (key_cmp key (p_key q))) rs) (filter (λ q. is_eq (key_cmp key (p_key q))) rs))
+    go true e ih = (subst (λ (k : PolygonKey). FitsPolygon k.0 r.body) (sym (same-true key_keys key (p_key r) e)) a.0.body, ih)
+    go false e ih = ih
+
 module _ (records : List Record) (linked : IsLinked records) (fits : AllByRecursion FitsRecord records) where
-  fit_1 : AllByRecursion FitsType1 (of_type_1 records)
-  fit_1 = all_selected FitsRecord FitsType1 as_type_1 fits_1 records fits
+  fit_1 : AllByRecursion Fit1 (of_type_1 records)
+  fit_1 = all_selected FitsRecord Fit1 as_type_1 fits_1 records fits
 
-  fit_2 : AllByRecursion FitsType2 (of_type_2 records)
-  fit_2 = all_selected FitsRecord FitsType2 as_type_2 fits_2 records fits
+  fit_2 : AllByRecursion Fit2 (of_type_2 records)
+  fit_2 = all_selected FitsRecord Fit2 as_type_2 fits_2 records fits
 
-  fit_4 : AllByRecursion FitsType4 (of_type_4 records)
-  fit_4 = all_selected FitsRecord FitsType4 as_type_4 fits_4 records fits
+  fit_4 : AllByRecursion Fit4 (of_type_4 records)
+  fit_4 = all_selected FitsRecord Fit4 as_type_4 fits_4 records fits
 
-  fit_5 : AllByRecursion FitsType5 (of_type_5 records)
-  fit_5 = all_selected FitsRecord FitsType5 as_type_5 fits_5 records fits
+  fit_5 : AllByRecursion Fit5 (of_type_5 records)
+  fit_5 = all_selected FitsRecord Fit5 as_type_5 fits_5 records fits
 
-  fit_6 : AllByRecursion FitsType6 (of_type_6 records)
-  fit_6 = all_selected FitsRecord FitsType6 as_type_6 fits_6 records fits
+  fit_6 : AllByRecursion Fit6 (of_type_6 records)
+  fit_6 = all_selected FitsRecord Fit6 as_type_6 fits_6 records fits
 
-  fit_7 : AllByRecursion FitsType7 (of_type_7 records)
-  fit_7 = all_selected FitsRecord FitsType7 as_type_7 fits_7 records fits
+  fit_7 : AllByRecursion Fit7 (of_type_7 records)
+  fit_7 = all_selected FitsRecord Fit7 as_type_7 fits_7 records fits
 
-  fit_8 : AllByRecursion FitsType8 (of_type_8 records)
-  fit_8 = all_selected FitsRecord FitsType8 as_type_8 fits_8 records fits
+  fit_8 : AllByRecursion Fit8 (of_type_8 records)
+  fit_8 = all_selected FitsRecord Fit8 as_type_8 fits_8 records fits
 
-  fit_i : AllByRecursion FitsTypeI (of_type_i records)
-  fit_i = all_selected FitsRecord FitsTypeI as_type_i fits_i records fits
+  fit_i : AllByRecursion FitI (of_type_i records)
+  fit_i = all_selected FitsRecord FitI as_type_i fits_i records fits
 
-  fit_p : AllByRecursion FitsTypeP (of_type_p records)
-  fit_p = all_selected FitsRecord FitsTypeP as_type_p fits_p records fits
+  fit_p : AllByRecursion FitP (of_type_p records)
+  fit_p = all_selected FitsRecord FitP as_type_p fits_p records fits
 
   shape_points_fit : (tlid : ℕ) → AllByRecursion IsOnMap (shape_points records tlid)
-  shape_points_fit tlid = all_joined_in_order IsOnMap (λ (r : Fields2). r.points) (on two_rtsq nat_cmp) (λ r. two_tlid r == tlid) (of_type_2 records) (all_weaker FitsType2 (λ r. AllByRecursion IsOnMap r.points) (λ r f. f.points) (of_type_2 records) fit_2)
+  shape_points_fit tlid = all_joined_in_order IsOnMap (λ (r : Fields2). r.points) (on two_rtsq nat_cmp) (λ r. two_tlid r == tlid) (of_type_2 records) (all_weaker Fit2 (λ r. AllByRecursion IsOnMap r.points) (λ r f. f.points) (of_type_2 records) fit_2)
 
   names_fit : (tlid : ℕ) → AllByRecursion (IsNumber 8) (further_names records tlid)
-  names_fit tlid = all_joined_in_order (IsNumber 8) (λ (r : Fields4). r.feats) (on four_rtsq nat_cmp) (λ r. four_tlid r == tlid) (of_type_4 records) (all_weaker FitsType4 (λ r. AllByRecursion (IsNumber 8) r.feats) (λ r f. f.feats) (of_type_4 records) fit_4)
+  names_fit tlid = all_joined_in_order (IsNumber 8) (λ (r : Fields4). r.feats) (on four_rtsq nat_cmp) (λ r. four_tlid r == tlid) (of_type_4 records) (all_weaker Fit4 (λ r. AllByRecursion (IsNumber 8) r.feats) (λ r f. f.feats) (of_type_4 records) fit_4)
 
   ranges_fit : (tlid : ℕ) → AllByRecursion FitsRanges (further_ranges records tlid)
   ranges_fit tlid = all_map FitsRanges (λ (r : Fields6). r.ranges) (in_order (on six_rtsq nat_cmp) (of_number six_tlid tlid (of_type_6 records)))
-      (all-in_order (λ r. FitsRanges r.ranges) (on six_rtsq nat_cmp) (of_number six_tlid tlid (of_type_6 records)) (all_filter (λ r. FitsRanges r.ranges) (λ r. six_tlid r == tlid) (of_type_6 records) (all_weaker FitsType6 (λ r. FitsRanges r.ranges) (λ r f. f.ranges) (of_type_6 records) fit_6)))
+      (all-in_order (λ r. FitsRanges r.ranges) (on six_rtsq nat_cmp) (of_number six_tlid tlid (of_type_6 records)) (all_filter (λ r. FitsRanges r.ranges) (λ r. six_tlid r == tlid) (of_type_6 records) (all_weaker Fit6 (λ r. FitsRanges r.ranges) (λ r f. f.ranges) (of_type_6 records) fit_6)))
 
-  chain_fits : (r : Fields1) (link : FieldsI) → FitsType1 r → FitsTypeI link → FitsChain (chain_of records r link)
+  chain_fits : (r : Fields1) (link : FieldsI) → Fit1 r → FitI link → FitsChain (chain_of records r link)
   chain_fits r link f l = record {
     body = f.body;
     points = (f.start, all_append IsOnMap (shape_points records r.tlid) (r.end ∷ []) (shape_points_fit r.tlid) (f.end, tt));
     ranges = ranges_fit r.tlid;
-    link_body = l.body;
-    left = l.left.cenid;
-    right = l.right.cenid;
+    link = l.content;
   }
 
-  numbers_fit : (r : Fields1) (link : FieldsI) → FitsTypeI link → FitsNumbers (chain_of records r link)
+  numbers_fit : (r : Fields1) (link : FieldsI) → FitI link → FitsNumbers (chain_of records r link)
   numbers_fit r link l = record {
     feats = names_fit r.tlid;
     start_node = l.start_node;
     end_node = l.end_node;
-    left = l.left.polyid;
-    right = l.right.polyid;
+    left = l.left_polyid;
+    right = l.right_polyid;
   }
 
   -- each polygon's key fits
@@ -198,10 +199,10 @@ module _ (records : List Record) (linked : IsLinked records) (fits : AllByRecurs
   keys_fit = known_all key_keys (λ (key : PolygonKey). IsText 5 key.0 × IsNumber 10 key.1) (flat_map side_keys (of_type_i records) ++ map p_key (of_type_p records))
       (all_append (λ (key : PolygonKey). IsText 5 key.0 × IsNumber 10 key.1) (flat_map side_keys (of_type_i records)) (map p_key (of_type_p records))
       (all_joined (λ (key : PolygonKey). IsText 5 key.0 × IsNumber 10 key.1) side_keys (of_type_i records)
-      (all_weaker FitsTypeI (λ link. AllByRecursion (λ (key : PolygonKey). IsText 5 key.0 × IsNumber 10 key.1) (side_keys link))
-      (λ link f. all_append (λ (key : PolygonKey). IsText 5 key.0 × IsNumber 10 key.1) (key_under link.left.cenid link.left.polyid) (key_under link.right.cenid link.right.polyid) (key_fits link.left.cenid link.left.polyid f.left.cenid f.left.polyid) (key_fits link.right.cenid link.right.polyid f.right.cenid f.right.polyid))
+      (all_weaker FitI (λ link. AllByRecursion (λ (key : PolygonKey). IsText 5 key.0 × IsNumber 10 key.1) (side_keys link))
+      (λ link f. all_append (λ (key : PolygonKey). IsText 5 key.0 × IsNumber 10 key.1) (key_under link.left.cenid link.left.polyid) (key_under link.right.cenid link.right.polyid) (key_fits link.left.cenid link.left.polyid (left_cenid_fits link.body link.left.cenid link.right.cenid f.content) f.left_polyid) (key_fits link.right.cenid link.right.polyid (right_cenid_fits link.body link.left.cenid link.right.cenid f.content) f.right_polyid))
       (of_type_i records) fit_i))
-      (all_map (λ (key : PolygonKey). IsText 5 key.0 × IsNumber 10 key.1) p_key (of_type_p records) (all_weaker FitsTypeP (λ r. IsText 5 r.cenid × IsNumber 10 r.polyid) (λ r f. (f.cenid, f.polyid)) (of_type_p records) fit_p)))
+      (all_map (λ (key : PolygonKey). IsText 5 key.0 × IsNumber 10 key.1) p_key (of_type_p records) (all_weaker FitP (λ r. IsText 5 r.cenid × IsNumber 10 r.polyid) (λ r f. (polygon_cenid_fits r.cenid r.body f.body, f.polyid)) (of_type_p records) fit_p)))
 
   abbrev keys : List PolygonKey
   keys = flat_map side_keys (of_type_i records) ++ map p_key (of_type_p records)
@@ -209,45 +210,44 @@ module _ (records : List Record) (linked : IsLinked records) (fits : AllByRecurs
   all_keys_fit : AllByRecursion (λ key. IsText 5 key.0 × IsNumber 10 key.1) (distinct key_cmp keys)
   all_keys_fit = all_known key_keys (λ key. IsText 5 key.0 × IsNumber 10 key.1) (distinct key_cmp keys) (λ key k. keys_fit key (known_from_distinct key_keys keys key k))
 
-  polygon_body_fits : (key : PolygonKey) → IfSome (polygon_body records key) FitsBodyP
-  polygon_body_fits key = first_of FitsBodyP (map (λ (r : FieldsP). r.body) (filter (λ r. is_eq (key_cmp key (p_key r))) (of_type_p records)))
-      (all_map FitsBodyP (λ (r : FieldsP). r.body) (filter (λ r. is_eq (key_cmp key (p_key r))) (of_type_p records))
-      (all_filter (λ r. FitsBodyP r.body) (λ r. is_eq (key_cmp key (p_key r))) (of_type_p records) (all_weaker FitsTypeP (λ r. FitsBodyP r.body) (λ r f. f.body) (of_type_p records) fit_p)))
+  polygon_body_fits : (key : PolygonKey) → IfSome (polygon_body records key) (FitsPolygon key.0)
+  polygon_body_fits key = first_of (FitsPolygon key.0) (map (λ (r : FieldsP). r.body) (filter (λ r. is_eq (key_cmp key (p_key r))) (of_type_p records)))
+      (all_map (FitsPolygon key.0) (λ (r : FieldsP). r.body) (filter (λ r. is_eq (key_cmp key (p_key r))) (of_type_p records)) (bodies_of_key key (of_type_p records) fit_p))
 
-  bodies_fit : (land : ℕ) → AllByRecursion FitsBody7 (in_order landmark_body_cmp (map (λ (r : Fields7). r.body) (of_number seven_land land (of_type_7 records))))
-  bodies_fit land = all-in_order FitsBody7 landmark_body_cmp (map (λ (r : Fields7). r.body) (of_number seven_land land (of_type_7 records)))
-      (all_map FitsBody7 (λ (r : Fields7). r.body) (of_number seven_land land (of_type_7 records))
-      (all_filter (λ r. FitsBody7 r.body) (λ r. seven_land r == land) (of_type_7 records) (all_weaker FitsType7 (λ r. FitsBody7 r.body) (λ r f. f.body) (of_type_7 records) fit_7)))
+  bodies_fit : (land : ℕ) → AllByRecursion FitsLandmark (in_order landmark_body_cmp (map (λ (r : Fields7). r.body) (of_number seven_land land (of_type_7 records))))
+  bodies_fit land = all-in_order FitsLandmark landmark_body_cmp (map (λ (r : Fields7). r.body) (of_number seven_land land (of_type_7 records)))
+      (all_map FitsLandmark (λ (r : Fields7). r.body) (of_number seven_land land (of_type_7 records))
+      (all_filter (λ r. FitsLandmark r.body) (λ r. seven_land r == land) (of_type_7 records) (all_weaker Fit7 (λ r. FitsLandmark r.body) (λ r f. f.body) (of_type_7 records) fit_7)))
 
   land_fits : (land : ℕ) → Known nat_cmp (distinct nat_cmp (map seven_land (of_type_7 records))) land → IsNumber 10 land
-  land_fits land k = known_all nat_keys (IsNumber 10) (map seven_land (of_type_7 records)) (all_map (IsNumber 10) seven_land (of_type_7 records) (all_weaker FitsType7 (λ r. IsNumber 10 r.land) (λ r f. f.land) (of_type_7 records) fit_7)) land (known_from_distinct nat_keys (map seven_land (of_type_7 records)) land k)
+  land_fits land k = known_all nat_keys (IsNumber 10) (map seven_land (of_type_7 records)) (all_map (IsNumber 10) seven_land (of_type_7 records) (all_weaker Fit7 (λ r. IsNumber 10 r.land) (λ r f. f.land) (of_type_7 records) fit_7)) land (known_from_distinct nat_keys (map seven_land (of_type_7 records)) land k)
 
   abbrev landmark_at : ℕ → ℕ × List Body7
   landmark_at land = (land, in_order landmark_body_cmp (map (λ (r : Fields7). r.body) (of_number seven_land land (of_type_7 records))))
 
   -- what is known of a type 1 record and the type I record of its chain
-  all_chains : (Q : ℕ × Chain → Type 0) → ((r : Fields1) (link : FieldsI) → FitsType1 r → FitsTypeI link → Q (r.tlid, chain_of records r link)) → AllByRecursion Q (chains_of records)
-  all_chains Q h = chains_all records linked Q (λ r link m n. h r link (all_among FitsType1 r (of_type_1 records) fit_1 m) (all_among FitsTypeI link (of_type_i records) fit_i n))
+  all_chains : (Q : ℕ × Chain → Type 0) → ((r : Fields1) (link : FieldsI) → Fit1 r → FitI link → Q (r.tlid, chain_of records r link)) → AllByRecursion Q (chains_of records)
+  all_chains Q h = chains_all records linked Q (λ r link m n. h r link (all_among Fit1 r (of_type_1 records) fit_1 m) (all_among FitI link (of_type_i records) fit_i n))
 
   contents : ContentsFit (county_of records)
   contents = record {
     chains = all_chains (λ entry. FitsChain entry.1) chain_fits;
-    names = all_map (λ (entry : ℕ × Body5). FitsBody5 entry.1) (λ (r : Fields5). (r.feat, r.body)) (in_order (on five_feat nat_cmp) (of_type_5 records)) (all-in_order (λ r. FitsBody5 r.body) (on five_feat nat_cmp) (of_type_5 records) (all_weaker FitsType5 (λ r. FitsBody5 r.body) (λ r f. f.body) (of_type_5 records) fit_5));
+    names = all_map (λ (entry : ℕ × Body5). FitsName entry.1) (λ (r : Fields5). (r.feat, r.body)) (in_order (on five_feat nat_cmp) (of_type_5 records)) (all-in_order (λ r. FitsName r.body) (on five_feat nat_cmp) (of_type_5 records) (all_weaker Fit5 (λ r. FitsName r.body) (λ r f. f.body) (of_type_5 records) fit_5));
     cenids = all_map (λ (entry : PolygonKey × Option BodyP). IsText 5 entry.0.0) (λ key. (key, polygon_body records key)) (distinct key_cmp keys) (all_weaker (λ key. IsText 5 key.0 × IsNumber 10 key.1) (λ key. IsText 5 key.0) (λ key f. f.0) (distinct key_cmp keys) all_keys_fit);
-    polygons = all_map (λ (entry : PolygonKey × Option BodyP). IfSome entry.1 FitsBodyP) (λ key. (key, polygon_body records key)) (distinct key_cmp keys) (all_everywhere (λ key. IfSome (polygon_body records key) FitsBodyP) polygon_body_fits (distinct key_cmp keys));
-    landmarks = all_map (λ (entry : ℕ × List Body7). AllByRecursion FitsBody7 entry.1) landmark_at (distinct nat_cmp (map seven_land (of_type_7 records))) (all_everywhere (λ land. AllByRecursion FitsBody7 (landmark_at land).1) bodies_fit (distinct nat_cmp (map seven_land (of_type_7 records))));
-    links = all-in_order FitsLink link_cmp (of_type_8 records) (all_weaker FitsType8 FitsLink (λ link f. record { file = f.file; cenid = f.cenid }) (of_type_8 records) fit_8);
+    polygons = all_map (λ (entry : PolygonKey × Option BodyP). IfSome entry.1 (FitsPolygon entry.0.0)) (λ key. (key, polygon_body records key)) (distinct key_cmp keys) (all_everywhere (λ key. IfSome (polygon_body records key) (FitsPolygon key.0)) polygon_body_fits (distinct key_cmp keys));
+    landmarks = all_map (λ (entry : ℕ × List Body7). AllByRecursion FitsLandmark entry.1) landmark_at (distinct nat_cmp (map seven_land (of_type_7 records))) (all_everywhere (λ land. AllByRecursion FitsLandmark (landmark_at land).1) bodies_fit (distinct nat_cmp (map seven_land (of_type_7 records))));
+    links = all-in_order FitsLink link_cmp (of_type_8 records) (all_weaker Fit8 FitsLink (λ link f. record { file = f.file; cenid = f.cenid }) (of_type_8 records) fit_8);
   }
 
   numbers : NumbersFit (county_of records)
   numbers = record {
     chains = all_chains (λ entry. IsNumber 10 entry.0) (λ r link f l. f.tlid);
     named = all_chains (λ entry. FitsNumbers entry.1) (λ r link f l. numbers_fit r link l);
-    names = all_map (λ (entry : ℕ × Body5). IsNumber 8 entry.0) (λ (r : Fields5). (r.feat, r.body)) (in_order (on five_feat nat_cmp) (of_type_5 records)) (all-in_order (λ r. IsNumber 8 r.feat) (on five_feat nat_cmp) (of_type_5 records) (all_weaker FitsType5 (λ r. IsNumber 8 r.feat) (λ r f. f.feat) (of_type_5 records) fit_5));
+    names = all_map (λ (entry : ℕ × Body5). IsNumber 8 entry.0) (λ (r : Fields5). (r.feat, r.body)) (in_order (on five_feat nat_cmp) (of_type_5 records)) (all-in_order (λ r. IsNumber 8 r.feat) (on five_feat nat_cmp) (of_type_5 records) (all_weaker Fit5 (λ r. IsNumber 8 r.feat) (λ r f. f.feat) (of_type_5 records) fit_5));
     polygons = all_map (λ (entry : PolygonKey × Option BodyP). IsNumber 10 entry.0.1) (λ key. (key, polygon_body records key)) (distinct key_cmp keys) (all_weaker (λ key. IsText 5 key.0 × IsNumber 10 key.1) (λ key. IsNumber 10 key.1) (λ key f. f.1) (distinct key_cmp keys) all_keys_fit);
     landmarks = all_map (λ (entry : ℕ × List Body7). IsNumber 10 entry.0) landmark_at (distinct nat_cmp (map seven_land (of_type_7 records))) (all_known nat_keys (IsNumber 10) (distinct nat_cmp (map seven_land (of_type_7 records))) land_fits);
-    link_polygons = all-in_order (λ link. IsNumber 10 link.polyid) link_cmp (of_type_8 records) (all_weaker FitsType8 (λ link. IsNumber 10 link.polyid) (λ link f. f.polyid) (of_type_8 records) fit_8);
-    link_lands = all-in_order (λ link. IsNumber 10 link.land) link_cmp (of_type_8 records) (all_weaker FitsType8 (λ link. IsNumber 10 link.land) (λ link f. f.land) (of_type_8 records) fit_8);
+    link_polygons = all-in_order (λ link. IsNumber 10 link.polyid) link_cmp (of_type_8 records) (all_weaker Fit8 (λ link. IsNumber 10 link.polyid) (λ link f. f.polyid) (of_type_8 records) fit_8);
+    link_lands = all-in_order (λ link. IsNumber 10 link.land) link_cmp (of_type_8 records) (all_weaker Fit8 (λ link. IsNumber 10 link.land) (λ link f. f.land) (of_type_8 records) fit_8);
   }
 
   -- a chain has no more records of a type than there are RTSQs
@@ -261,13 +261,13 @@ module _ (records : List Record) (linked : IsLinked records) (fits : AllByRecurs
       omega arith
 
   few_twos : (n : ℕ) → length (of_number two_tlid n (of_type_2 records)) ≤ greatest_rtsq
-  few_twos n = few_records two_tlid two_rtsq n (of_type_2 records) (all_weaker FitsType2 (λ r. IsNumber 3 r.rtsq) (λ r f. f.rtsq) (of_type_2 records) fit_2) (linked (SequenceBroken linked_types.Two n))
+  few_twos n = few_records two_tlid two_rtsq n (of_type_2 records) (all_weaker Fit2 (λ r. IsNumber 3 r.rtsq) (λ r f. f.rtsq) (of_type_2 records) fit_2) (linked (SequenceBroken linked_types.Two n))
 
   few_fours : (n : ℕ) → length (of_number four_tlid n (of_type_4 records)) ≤ greatest_rtsq
-  few_fours n = few_records four_tlid four_rtsq n (of_type_4 records) (all_weaker FitsType4 (λ r. IsNumber 3 r.rtsq) (λ r f. f.rtsq) (of_type_4 records) fit_4) (linked (SequenceBroken linked_types.Four n))
+  few_fours n = few_records four_tlid four_rtsq n (of_type_4 records) (all_weaker Fit4 (λ r. IsNumber 3 r.rtsq) (λ r f. f.rtsq) (of_type_4 records) fit_4) (linked (SequenceBroken linked_types.Four n))
 
   few_sixes : (n : ℕ) → length (of_number six_tlid n (of_type_6 records)) ≤ greatest_rtsq
-  few_sixes n = few_records six_tlid six_rtsq n (of_type_6 records) (all_weaker FitsType6 (λ r. IsNumber 3 r.rtsq) (λ r f. f.rtsq) (of_type_6 records) fit_6) (linked (SequenceBroken linked_types.Six n))
+  few_sixes n = few_records six_tlid six_rtsq n (of_type_6 records) (all_weaker Fit6 (λ r. IsNumber 3 r.rtsq) (λ r f. f.rtsq) (of_type_6 records) fit_6) (linked (SequenceBroken linked_types.Six n))
 
   -- the records of a chain hold its lists
   held : {X Y : Type 0} (width : ℕ) (tlid rtsq : X → ℕ) (content : X → List Y) (n : ℕ) (xs : List X) → AllByRecursion (λ x. length (content x) ≤ width) xs → length (flat_map content (in_order (on rtsq nat_cmp) (of_number tlid n xs))) ≤ width * length (of_number tlid n xs)
@@ -276,10 +276,10 @@ module _ (records : List Record) (linked : IsLinked records) (fits : AllByRecurs
       (length-joined width content (in_order (on rtsq nat_cmp) (of_number tlid n xs)) (all-in_order (λ x. length (content x) ≤ width) (on rtsq nat_cmp) (of_number tlid n xs) (all_filter (λ x. length (content x) ≤ width) (λ x. tlid x == n) xs a)))
 
   points_held : (n : ℕ) → length (shape_points records n) ≤ 10 * length (of_number two_tlid n (of_type_2 records))
-  points_held n = held 10 two_tlid two_rtsq (λ (r : Fields2). r.points) n (of_type_2 records) (all_weaker FitsType2 (λ r. length r.points ≤ 10) (λ r f. f.len) (of_type_2 records) fit_2)
+  points_held n = held 10 two_tlid two_rtsq (λ (r : Fields2). r.points) n (of_type_2 records) (all_weaker Fit2 (λ r. length r.points ≤ 10) (λ r f. f.len) (of_type_2 records) fit_2)
 
   feats_held : (n : ℕ) → length (further_names records n) ≤ 5 * length (of_number four_tlid n (of_type_4 records))
-  feats_held n = held 5 four_tlid four_rtsq (λ (r : Fields4). r.feats) n (of_type_4 records) (all_weaker FitsType4 (λ r. length r.feats ≤ 5) (λ r f. f.len) (of_type_4 records) fit_4)
+  feats_held n = held 5 four_tlid four_rtsq (λ (r : Fields4). r.feats) n (of_type_4 records) (all_weaker Fit4 (λ r. length r.feats ≤ 5) (λ r f. f.len) (of_type_4 records) fit_4)
 
   ranges_held : (n : ℕ) → length (further_ranges records n) ≡ length (of_number six_tlid n (of_type_6 records))
   ranges_held n = length-map (in_order (on six_rtsq nat_cmp) (of_number six_tlid n (of_type_6 records))) (λ (r : Fields6). r.ranges) ∙ length-in_order (on six_rtsq nat_cmp) (of_number six_tlid n (of_type_6 records))
@@ -352,5 +352,5 @@ module _ (records : List Record) (linked : IsLinked records) (fits : AllByRecurs
     of_type_p = (let few : length (of_type_p records) ≤ limit = h.of_type_p in let own : length (filter_map packed_p (county_of records).polygons) ≤ length (of_type_p records) = few_ps in let same : length (in_order (on p_polyid nat_cmp) (filter_map packed_p (county_of records).polygons)) ≡ length (filter_map packed_p (county_of records).polygons) = length-in_order (on p_polyid nat_cmp) (filter_map packed_p (county_of records).polygons) in omega arith);
   }
 
-  pub county-within_limits : (limit : ℕ) → HasAtMost limit (by_type records) → IsWithinLimits limit (county_of records)
-  county-within_limits limit h = record { contents = contents; numbers = numbers; room = room; counts = counts limit h }
+  pub county-within_limits : (limit : ℕ) → IsWithinLimit limit records → IsWithinLimits limit (county_of records)
+  county-within_limits limit h = record { contents = contents; numbers = numbers; room = room; counts = packed_within limit (county_of records) (counts limit (by_type_within limit records h)) }

@@ -29,3 +29,5 @@ pub mod PackedTypes
 pub mod PackedLinked
 pub mod PolygonBodies
 pub mod PackedCounty
+pub mod TypeCounts
+pub mod FieldsFit

@@ -1,19 +1,24 @@
 -- The limits of a county: what its contents and its numbers may be, and how many records it takes.
-use Rattle.std.specs.Prelude.{ℕ, ◌≤◌, length, IfSome}
+use Rattle.std.specs.Prelude.{ℕ, ◌≤◌, List, length, None, IfSome}
 use Rattle.std.specs.List.{AllByRecursion}
 use Rattle.tl_layout.specs.AddressRanges.{FitsRanges}
 use Rattle.tl_layout.specs.Bytes.{IsText}
 use Rattle.tl_layout.specs.Coordinates.{IsOnMap}
 use Rattle.tl_layout.specs.Fields.{Fields8}
+use Rattle.tl_layout.specs.Limits.{IsWithinLimit}
 use Rattle.tl_layout.specs.Numbers.{IsNumber, IsNumberOrNone}
-use Rattle.tl_layout.specs.Type1.{FitsBody1}
-use Rattle.tl_layout.specs.Type5.{FitsBody5}
-use Rattle.tl_layout.specs.Type7.{FitsBody7}
-use Rattle.tl_layout.specs.TypeI.{FitsBodyI}
-use Rattle.tl_layout.specs.TypeP.{FitsBodyP}
+use Rattle.tl_layout.specs.Type1Groups.{FitsBody1}
+use Rattle.tl_layout.specs.Type5.{FitsType5}
+use Rattle.tl_layout.specs.Type7.{FitsType7}
+use Rattle.tl_layout.specs.TypeI.{FitsTypeI}
+use Rattle.tl_layout.specs.TypeP.{FitsTypeP}
+use Rattle.tl_layout.specs.declared.type5.Body5.{Body5}
+use Rattle.tl_layout.specs.declared.type7.Body7.{Body7}
+use Rattle.tl_layout.specs.declared.type_i.BodyI.{BodyI}
+use Rattle.tl_layout.specs.declared.type_p.BodyP.{BodyP}
 use Rattle.tl_shape.specs.Chain.{Chain}
 use Rattle.tl_county.specs.County.{County}
-use Rattle.tl_county.specs.Packing.{Typed, inner_points, packed_by_type}
+use Rattle.tl_county.specs.Packing.{inner_points, packed}
 
 -- the greatest RTSQ; so a chain has no more records of type 2, 4 or 6
 abbrev pub greatest_rtsq : ℕ
@@ -26,14 +31,33 @@ most_shape_points = 9990
 abbrev pub most_names : ℕ
 most_names = 4995
 
+-- A content fits if a record of it does; the number, which is no content, is here 1.
+abbrev pub FitsName : Body5 → Type 0
+FitsName body = FitsType5 (record { feat = 1; body = body })
+
+abbrev pub FitsLandmark : Body7 → Type 0
+FitsLandmark body = FitsType7 (record { land = 1; body = body })
+
+abbrev pub FitsPolygon : List ℕ → BodyP → Type 0
+FitsPolygon cenid body = FitsTypeP (record { cenid = cenid; polyid = 1; body = body })
+
+-- the content of a record of type I, with the CENIDs of both sides
+abbrev pub FitsLinkContent : BodyI → List ℕ → List ℕ → Type 0
+FitsLinkContent body left right = FitsTypeI (record {
+  tlid = 1;
+  body = body;
+  start_node = None;
+  end_node = None;
+  left = record { cenid = left; polyid = None };
+  right = record { cenid = right; polyid = None };
+})
+
 -- what a chain may hold, apart from its numbers
 pub record FitsChain (chain : Chain) : Type 0 where
   pub body : FitsBody1 chain.body
   pub points : AllByRecursion IsOnMap chain.points
   pub ranges : AllByRecursion FitsRanges chain.ranges
-  pub link_body : FitsBodyI chain.link_body
-  pub left : IsText 5 chain.left.cenid
-  pub right : IsText 5 chain.right.cenid
+  pub link : FitsLinkContent chain.link_body chain.left.cenid chain.right.cenid
 
 -- its lists are no longer than records with an RTSQ of their own can hold
 pub record HasRoom (chain : Chain) : Type 0 where
@@ -49,10 +73,10 @@ pub record FitsLink (link : Fields8) : Type 0 where
 -- all of a county but its numbers fits the fields of its records
 pub record ContentsFit (county : County) : Type 0 where
   pub chains : AllByRecursion (λ entry. FitsChain entry.1) county.chains
-  pub names : AllByRecursion (λ entry. FitsBody5 entry.1) county.names
+  pub names : AllByRecursion (λ entry. FitsName entry.1) county.names
   pub cenids : AllByRecursion (λ entry. IsText 5 entry.0.0) county.polygons
-  pub polygons : AllByRecursion (λ entry. IfSome entry.1 FitsBodyP) county.polygons
-  pub landmarks : AllByRecursion (λ entry. AllByRecursion FitsBody7 entry.1) county.landmarks
+  pub polygons : AllByRecursion (λ entry. IfSome entry.1 (FitsPolygon entry.0.0)) county.polygons
+  pub landmarks : AllByRecursion (λ entry. AllByRecursion FitsLandmark entry.1) county.landmarks
   pub links : AllByRecursion FitsLink county.links
 
 -- the numbers that a chain names fit their fields
@@ -73,22 +97,10 @@ pub record NumbersFit (county : County) : Type 0 where
   pub link_polygons : AllByRecursion (λ link. IsNumber 10 link.polyid) county.links
   pub link_lands : AllByRecursion (λ link. IsNumber 10 link.land) county.links
 
--- at most limit records of each type
-pub record HasAtMost (limit : ℕ) (records : Typed) : Type 0 where
-  pub of_type_1 : length records.of_type_1 ≤ limit
-  pub of_type_2 : length records.of_type_2 ≤ limit
-  pub of_type_4 : length records.of_type_4 ≤ limit
-  pub of_type_5 : length records.of_type_5 ≤ limit
-  pub of_type_6 : length records.of_type_6 ≤ limit
-  pub of_type_7 : length records.of_type_7 ≤ limit
-  pub of_type_8 : length records.of_type_8 ≤ limit
-  pub of_type_i : length records.of_type_i ≤ limit
-  pub of_type_p : length records.of_type_p ≤ limit
-
 -- A county that comes of records within their limits: its contents and numbers fit, its chains' lists have room, and its
 -- canonical packing has at most limit records of each type.
 pub record IsWithinLimits (limit : ℕ) (county : County) : Type 0 where
   pub contents : ContentsFit county
   pub numbers : NumbersFit county
   pub room : AllByRecursion (λ entry. HasRoom entry.1) county.chains
-  pub counts : HasAtMost limit (packed_by_type county)
+  pub counts : IsWithinLimit limit (packed county)

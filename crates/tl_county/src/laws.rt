@@ -3,11 +3,12 @@
 ghost use Rattle.std.specs.List.{AllByRecursion};
 ghost use Rattle.std.specs.Prelude.{◌≡◌, ◌⊎◌, IsPermutation, List, map, ℕ};
 ghost use Rattle.tl_county.specs.County.{County, county_of};
-ghost use Rattle.tl_county.specs.Limits.{HasAtMost, IsWithinLimits};
+ghost use Rattle.tl_county.specs.Limits.{IsWithinLimits};
 ghost use Rattle.tl_county.specs.LinkRules.{IsFirstBrokenRule, IsLinked};
-ghost use Rattle.tl_county.specs.Packing.{by_type, packed};
+ghost use Rattle.tl_county.specs.Packing.{packed};
 ghost use Rattle.tl_county.specs.Repacked.{AreRepacked, KeepsSequence, Sequence, resequenced};
 ghost use Rattle.tl_county.specs.declared.fault.LinkFault.{LinkFault};
+ghost use Rattle.tl_layout.specs.Limits.{IsWithinLimit};
 ghost use Rattle.tl_layout.specs.RecordText.{FitsRecord};
 ghost use Rattle.tl_layout.specs.declared.record_type.Record.{Record};
 ghost use Rattle.tl_county.specs.CountyRules.{IsCounty};
@@ -47,7 +48,7 @@ pub fn linked_records_have_a_well_formed_county()
 /// The county of linked records that fit, at most so many of each type, is within the limits of a county.
 pub fn linked_records_have_a_county_within_limits()
     ensures { (limit : ℕ) (records : List Record) →
-        IsLinked records → AllByRecursion FitsRecord records → HasAtMost limit (by_type records) →
+        IsLinked records → AllByRecursion FitsRecord records → IsWithinLimit limit records →
         IsWithinLimits limit (county_of records) }
 {}
 

@@ -1,0 +1,210 @@
+-- What fits the columns of a record type, by names: its numbers and its content.
+use Rattle.std.proofs.Common.{ℕ, ◌≤◌, List, length, arith, lit<}
+use Rattle.std.specs.List.{AllByRecursion}
+use Rattle.tl_layout.specs.AddressRanges.{FitsRanges}
+use Rattle.tl_layout.specs.Bytes.{IsText}
+use Rattle.tl_layout.specs.Coordinates.{IsOnMap}
+use Rattle.tl_layout.specs.Fields.{Fields1, Fields2, Fields4, Fields5, Fields6, Fields7, Fields8, FieldsI, FieldsP}
+use Rattle.tl_layout.specs.Numbers.{IsNumber, IsNumberOrNone}
+use Rattle.tl_layout.specs.Type1.{FitsType1}
+use Rattle.tl_layout.specs.Type1Groups.{FitsBody1}
+use Rattle.tl_layout.specs.Type1Laws.{type_1_fits}
+use Rattle.tl_layout.specs.Type2.{FitsType2}
+use Rattle.tl_layout.specs.Type4.{FitsType4}
+use Rattle.tl_layout.specs.Type5.{FitsType5}
+use Rattle.tl_layout.specs.Type6.{FitsType6}
+use Rattle.tl_layout.specs.Type7.{FitsType7}
+use Rattle.tl_layout.specs.Type8.{FitsType8}
+use Rattle.tl_layout.specs.TypeI.{FitsTypeI}
+use Rattle.tl_layout.specs.TypeP.{FitsTypeP}
+use Rattle.tl_layout.specs.declared.type_i.BodyI.{BodyI}
+use Rattle.tl_layout.specs.declared.type_p.BodyP.{BodyP}
+use Rattle.tl_county.specs.Limits.{FitsName, FitsLandmark, FitsPolygon, FitsLinkContent}
+
+pub record Fit1 (r : Fields1) : Type 0 where
+  pub tlid : IsNumber 10 r.tlid
+  pub body : FitsBody1 r.body
+  pub start : IsOnMap r.start
+  pub end : IsOnMap r.end
+
+pub record Fit2 (r : Fields2) : Type 0 where
+  pub tlid : IsNumber 10 r.tlid
+  pub rtsq : IsNumber 3 r.rtsq
+  pub len : length r.points ≤ 10
+  pub points : AllByRecursion IsOnMap r.points
+
+pub record Fit4 (r : Fields4) : Type 0 where
+  pub tlid : IsNumber 10 r.tlid
+  pub rtsq : IsNumber 3 r.rtsq
+  pub len : length r.feats ≤ 5
+  pub feats : AllByRecursion (IsNumber 8) r.feats
+
+pub record Fit5 (r : Fields5) : Type 0 where
+  pub feat : IsNumber 8 r.feat
+  pub body : FitsName r.body
+
+pub record Fit6 (r : Fields6) : Type 0 where
+  pub tlid : IsNumber 10 r.tlid
+  pub rtsq : IsNumber 3 r.rtsq
+  pub ranges : FitsRanges r.ranges
+
+pub record Fit7 (r : Fields7) : Type 0 where
+  pub land : IsNumber 10 r.land
+  pub body : FitsLandmark r.body
+
+pub record Fit8 (r : Fields8) : Type 0 where
+  pub file : IsText 5 r.file
+  pub cenid : IsText 5 r.cenid
+  pub polyid : IsNumber 10 r.polyid
+  pub land : IsNumber 10 r.land
+
+pub record FitI (r : FieldsI) : Type 0 where
+  pub tlid : IsNumber 10 r.tlid
+  pub start_node : IsNumberOrNone 10 r.start_node
+  pub end_node : IsNumberOrNone 10 r.end_node
+  pub left_polyid : IsNumberOrNone 10 r.left.polyid
+  pub right_polyid : IsNumberOrNone 10 r.right.polyid
+  pub content : FitsLinkContent r.body r.left.cenid r.right.cenid
+
+pub record FitP (r : FieldsP) : Type 0 where
+  pub polyid : IsNumber 10 r.polyid
+  pub body : FitsPolygon r.cenid r.body
+
+pub named_1 : (r : Fields1) → FitsType1 r → Fit1 r
+unfolding FitsType1
+named_1 r h = record {
+  tlid = h.0;
+  body = record {
+    side1 = h.1.0;
+    source = h.1.1.0;
+    name = record { fedirp = h.1.1.1.0; fename = h.1.1.1.1.0; fetype = h.1.1.1.1.1.0; fedirs = h.1.1.1.1.1.1.0 };
+    cfcc = h.1.1.1.1.1.1.1.0;
+    ranges = record {
+      fraddl = h.1.1.1.1.1.1.1.1.0;
+      toaddl = h.1.1.1.1.1.1.1.1.1.0;
+      fraddr = h.1.1.1.1.1.1.1.1.1.1.0;
+      toaddr = h.1.1.1.1.1.1.1.1.1.1.1.0;
+      friaddl = h.1.1.1.1.1.1.1.1.1.1.1.1.0;
+      toiaddl = h.1.1.1.1.1.1.1.1.1.1.1.1.1.0;
+      friaddr = h.1.1.1.1.1.1.1.1.1.1.1.1.1.1.0;
+      toiaddr = h.1.1.1.1.1.1.1.1.1.1.1.1.1.1.1.0;
+      zip = record { left = h.1.1.1.1.1.1.1.1.1.1.1.1.1.1.1.1.0; right = h.1.1.1.1.1.1.1.1.1.1.1.1.1.1.1.1.1.0 };
+    };
+    native_areas = record { aianhhfp = record { left = h.1.1.1.1.1.1.1.1.1.1.1.1.1.1.1.1.1.1.0; right = h.1.1.1.1.1.1.1.1.1.1.1.1.1.1.1.1.1.1.1.0 }; aihhtli = record { left = h.1.1.1.1.1.1.1.1.1.1.1.1.1.1.1.1.1.1.1.1.0; right = h.1.1.1.1.1.1.1.1.1.1.1.1.1.1.1.1.1.1.1.1.1.0 } };
+    census1 = h.1.1.1.1.1.1.1.1.1.1.1.1.1.1.1.1.1.1.1.1.1.1.0;
+    census2 = h.1.1.1.1.1.1.1.1.1.1.1.1.1.1.1.1.1.1.1.1.1.1.1.0;
+    entities = record {
+      state = record { left = h.1.1.1.1.1.1.1.1.1.1.1.1.1.1.1.1.1.1.1.1.1.1.1.1.0; right = h.1.1.1.1.1.1.1.1.1.1.1.1.1.1.1.1.1.1.1.1.1.1.1.1.1.0 };
+      county = record { left = h.1.1.1.1.1.1.1.1.1.1.1.1.1.1.1.1.1.1.1.1.1.1.1.1.1.1.0; right = h.1.1.1.1.1.1.1.1.1.1.1.1.1.1.1.1.1.1.1.1.1.1.1.1.1.1.1.0 };
+      cousub = record { left = h.1.1.1.1.1.1.1.1.1.1.1.1.1.1.1.1.1.1.1.1.1.1.1.1.1.1.1.1.0; right = h.1.1.1.1.1.1.1.1.1.1.1.1.1.1.1.1.1.1.1.1.1.1.1.1.1.1.1.1.1.0 };
+      submcd = record { left = h.1.1.1.1.1.1.1.1.1.1.1.1.1.1.1.1.1.1.1.1.1.1.1.1.1.1.1.1.1.1.0; right = h.1.1.1.1.1.1.1.1.1.1.1.1.1.1.1.1.1.1.1.1.1.1.1.1.1.1.1.1.1.1.1.0 };
+      place = record { left = h.1.1.1.1.1.1.1.1.1.1.1.1.1.1.1.1.1.1.1.1.1.1.1.1.1.1.1.1.1.1.1.1.0; right = h.1.1.1.1.1.1.1.1.1.1.1.1.1.1.1.1.1.1.1.1.1.1.1.1.1.1.1.1.1.1.1.1.1.0 };
+      tract = record { left = h.1.1.1.1.1.1.1.1.1.1.1.1.1.1.1.1.1.1.1.1.1.1.1.1.1.1.1.1.1.1.1.1.1.1.0; right = h.1.1.1.1.1.1.1.1.1.1.1.1.1.1.1.1.1.1.1.1.1.1.1.1.1.1.1.1.1.1.1.1.1.1.1.0 };
+      block = record { left = h.1.1.1.1.1.1.1.1.1.1.1.1.1.1.1.1.1.1.1.1.1.1.1.1.1.1.1.1.1.1.1.1.1.1.1.1.0; right = h.1.1.1.1.1.1.1.1.1.1.1.1.1.1.1.1.1.1.1.1.1.1.1.1.1.1.1.1.1.1.1.1.1.1.1.1.1.0 };
+    };
+  };
+  start = h.1.1.1.1.1.1.1.1.1.1.1.1.1.1.1.1.1.1.1.1.1.1.1.1.1.1.1.1.1.1.1.1.1.1.1.1.1.1.0;
+  end = h.1.1.1.1.1.1.1.1.1.1.1.1.1.1.1.1.1.1.1.1.1.1.1.1.1.1.1.1.1.1.1.1.1.1.1.1.1.1.1.0;
+}
+
+pub columns_1 : (r : Fields1) → Fit1 r → FitsType1 r
+columns_1 r f = type_1_fits r f.tlid f.body f.start f.end
+
+pub named_2 : (r : Fields2) → FitsType2 r → Fit2 r
+unfolding FitsType2
+named_2 r h = record { tlid = h.0; rtsq = h.1.0; len = h.1.1.0.0; points = h.1.1.0.1 }
+
+pub columns_2 : (r : Fields2) → Fit2 r → FitsType2 r
+unfolding FitsType2
+columns_2 r f = (f.tlid, (f.rtsq, ((f.len, f.points), tt)))
+
+pub named_4 : (r : Fields4) → FitsType4 r → Fit4 r
+unfolding FitsType4
+named_4 r h = record { tlid = h.0; rtsq = h.1.0; len = h.1.1.0.0; feats = h.1.1.0.1 }
+
+pub columns_4 : (r : Fields4) → Fit4 r → FitsType4 r
+unfolding FitsType4
+columns_4 r f = (f.tlid, (f.rtsq, ((f.len, f.feats), tt)))
+
+-- content that fits beside the number 1 fits beside another that does
+pub named_5 : (r : Fields5) → FitsType5 r → Fit5 r
+unfolding FitsType5
+named_5 r h = record { feat = h.1.0; body = (h.0, ((omega arith, lit< tt), h.1.1)) }
+
+pub columns_5 : (r : Fields5) → Fit5 r → FitsType5 r
+unfolding FitsType5
+columns_5 r f = (f.body.0, (f.feat, f.body.1.1))
+
+pub named_6 : (r : Fields6) → FitsType6 r → Fit6 r
+unfolding FitsType6
+named_6 r h = record {
+  tlid = h.0;
+  rtsq = h.1.0;
+  ranges = record {
+    fraddl = h.1.1.0;
+    toaddl = h.1.1.1.0;
+    fraddr = h.1.1.1.1.0;
+    toaddr = h.1.1.1.1.1.0;
+    friaddl = h.1.1.1.1.1.1.0;
+    toiaddl = h.1.1.1.1.1.1.1.0;
+    friaddr = h.1.1.1.1.1.1.1.1.0;
+    toiaddr = h.1.1.1.1.1.1.1.1.1.0;
+    zip = record { left = h.1.1.1.1.1.1.1.1.1.1.0; right = h.1.1.1.1.1.1.1.1.1.1.1.0 };
+  };
+}
+
+pub columns_6 : (r : Fields6) → Fit6 r → FitsType6 r
+unfolding FitsType6
+columns_6 r f = (f.tlid, (f.rtsq, (f.ranges.fraddl, (f.ranges.toaddl, (f.ranges.fraddr, (f.ranges.toaddr, (f.ranges.friaddl, (f.ranges.toiaddl, (f.ranges.friaddr, (f.ranges.toiaddr, (f.ranges.zip.left, (f.ranges.zip.right, tt))))))))))))
+
+pub named_7 : (r : Fields7) → FitsType7 r → Fit7 r
+unfolding FitsType7
+named_7 r h = record { land = h.1.0; body = (h.0, ((omega arith, lit< tt), h.1.1)) }
+
+pub columns_7 : (r : Fields7) → Fit7 r → FitsType7 r
+unfolding FitsType7
+columns_7 r f = (f.body.0, (f.land, f.body.1.1))
+
+pub named_8 : (r : Fields8) → FitsType8 r → Fit8 r
+unfolding FitsType8
+named_8 r h = record { file = h.0; cenid = h.1.0; polyid = h.1.1.0; land = h.1.1.1.0 }
+
+pub columns_8 : (r : Fields8) → Fit8 r → FitsType8 r
+unfolding FitsType8
+columns_8 r f = (f.file, (f.cenid, (f.polyid, (f.land, (tt, tt)))))
+
+pub named_i : (r : FieldsI) → FitsTypeI r → FitI r
+unfolding FitsTypeI
+named_i r h = record {
+  tlid = h.1.0;
+  start_node = h.1.1.0;
+  end_node = h.1.1.1.0;
+  left_polyid = h.1.1.1.1.1.0;
+  right_polyid = h.1.1.1.1.1.1.1.0;
+  content = (h.0, ((omega arith, lit< tt), (tt, (tt, (h.1.1.1.1.0, (tt, (h.1.1.1.1.1.1.0, (tt, h.1.1.1.1.1.1.1.1))))))));
+}
+
+pub columns_i : (r : FieldsI) → FitI r → FitsTypeI r
+unfolding FitsTypeI
+columns_i r f = (f.content.0, (f.tlid, (f.start_node, (f.end_node, (f.content.1.1.1.1.0, (f.left_polyid, (f.content.1.1.1.1.1.1.0, (f.right_polyid, f.content.1.1.1.1.1.1.1.1))))))))
+
+pub named_p : (r : FieldsP) → FitsTypeP r → FitP r
+unfolding FitsTypeP
+named_p r h = record { polyid = h.1.1.0; body = (h.0, (h.1.0, ((omega arith, lit< tt), h.1.1.1))) }
+
+pub columns_p : (r : FieldsP) → FitP r → FitsTypeP r
+unfolding FitsTypeP
+columns_p r f = (f.body.0, (f.body.1.0, (f.polyid, f.body.1.1.1)))
+
+-- the CENIDs of content that fits
+pub left_cenid_fits : (body : BodyI) (left right : List ℕ) → FitsLinkContent body left right → IsText 5 left
+unfolding FitsTypeI
+left_cenid_fits body left right h = h.1.1.1.1.0
+
+pub right_cenid_fits : (body : BodyI) (left right : List ℕ) → FitsLinkContent body left right → IsText 5 right
+unfolding FitsTypeI
+right_cenid_fits body left right h = h.1.1.1.1.1.1.0
+
+pub polygon_cenid_fits : (cenid : List ℕ) (body : BodyP) → FitsPolygon cenid body → IsText 5 cenid
+unfolding FitsTypeP
+polygon_cenid_fits cenid body h = h.1.0
