@@ -95,6 +95,13 @@ FitsValue width Filler _ = Unit {0}
 abbrev pub FitsRows : {R : Type 0} → List (Row R) → R → Type 0
 FitsRows table r = AllByRecursion (λ row. FitsValue (width_of row) row.kind (row.value r)) table
 
+-- ---- what is turned
+
+-- the other record is the record of the chain seen from its other end: it has in each row the value of the partner there, or
+-- the same value where the row has none
+abbrev pub TurnsRows : {R : Type 0} → List (Row R) → R → R → Type 0
+TurnsRows table r other = AllByRecursion (λ row. row.value other ≡ row.turned r) table
+
 -- ---- tables without gaps
 
 -- the columns suit what the field holds

@@ -1,5 +1,6 @@
 -- What a chain's fields are when it is seen from its other end: what was left is right, and what was the start is the end.
 use Rattle.std.specs.Prelude.{ℕ}
+use Rattle.tl_layout.specs.Fields.{Fields1, Fields6, FieldsI}
 use Rattle.tl_layout.specs.declared.pair.LeftRight.{LeftRight}
 use Rattle.tl_layout.specs.declared.ranges.Ranges.{Ranges}
 use Rattle.tl_layout.specs.declared.type1.Body1.{Body1}
@@ -53,4 +54,22 @@ turned_body body =
       census1 = body.census1;
       census2 = body.census2;
       entities = turned_entities body.entities;
+    }
+
+-- the records of a chain that is seen from its other end: the points and the nodes are exchanged, and the sides
+abbrev pub turned_type_1 : Fields1 → Fields1
+turned_type_1 r = record { tlid = r.tlid; body = turned_body r.body; start = r.end; end = r.start }
+
+abbrev pub turned_type_6 : Fields6 → Fields6
+turned_type_6 r = record { tlid = r.tlid; rtsq = r.rtsq; ranges = turned_ranges r.ranges }
+
+abbrev pub turned_type_i : FieldsI → FieldsI
+turned_type_i r =
+    record {
+      tlid = r.tlid;
+      body = r.body;
+      start_node = r.end_node;
+      end_node = r.start_node;
+      left = r.right;
+      right = r.left;
     }

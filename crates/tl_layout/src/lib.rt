@@ -4,6 +4,7 @@
 mod coordinate;
 mod fault;
 mod field;
+mod laws;
 mod layout;
 mod name;
 mod number;
@@ -29,6 +30,7 @@ mod type_p;
 mod writing;
 
 pub use fault::{DeviceFault, FieldFault, FieldKind};
+pub use laws::a_turn_exchanges_partners;
 pub use layout::Layout;
 pub use name::FeatureName;
 pub use pair::LeftRight;

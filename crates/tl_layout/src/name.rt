@@ -24,6 +24,27 @@ pub struct FeatureName {
 impl FeatureName {
     ghost use Rattle.tl_layout.specs.Names.{FitsName, name_at, name_texts};
 
+    /// The name of these fields, each of bytes that a line may hold.
+    pub(crate) fn new(
+        fedirp: [u8; 2],
+        fename: [u8; 30],
+        fetype: [u8; 4],
+        fedirs: [u8; 2],
+    ) -> FeatureName
+        requires fedirp { AreAllowed fedirp }
+        requires fename { AreAllowed fename }
+        requires fetype { AreAllowed fetype }
+        requires fedirs { AreAllowed fedirs }
+        ensures { result ≡ record { fedirp = fedirp; fename = fename; fetype = fetype; fedirs = fedirs } }
+    {
+        FeatureName {
+            fedirp: Text::new(fedirp),
+            fename: Text::new(fename),
+            fetype: Text::new(fetype),
+            fedirs: Text::new(fedirs),
+        }
+    }
+
     /// The name that begins in this column of a line.
     pub(crate) fn at(line: &[u8], first: usize) -> FeatureName
         requires allowed { AreAllowed line.now }

@@ -18,6 +18,18 @@ pub struct LeftRight<const N: usize> {
 impl<const N: usize> LeftRight<N> {
     ghost use Rattle.tl_layout.specs.Pairs.{FitsPair, pair_at, pair_texts};
 
+    /// The pair of these fields, both of bytes that a line may hold.
+    pub(crate) fn new(left: [u8; N], right: [u8; N]) -> LeftRight<N>
+        requires left { AreAllowed left }
+        requires right { AreAllowed right }
+        ensures { result ≡ record { left = left.entry; right = right.entry } }
+    {
+        LeftRight {
+            left: Text::new(left),
+            right: Text::new(right),
+        }
+    }
+
     /// The pair that begins in this column of a line.
     pub(crate) fn at(line: &[u8], first: usize) -> LeftRight<N>
         requires allowed { AreAllowed line.now }

@@ -1,7 +1,7 @@
 //! Address ranges and ZIP codes, as record types 1 and 6 hold them.
 
 ghost use Rattle.std.specs.Prelude.{◌≡◌, ◌+◌, ◌-◌, ◌≤◌, length, take};
-ghost use Rattle.tl_layout.specs.Bytes.{AreAllowed};
+ghost use Rattle.tl_layout.specs.Bytes.{AreAllowed, IsText};
 ghost use Rattle.tl_layout.specs.Columns.{joined};
 
 use crate::field::text_at;
@@ -34,6 +34,135 @@ pub struct Ranges {
 
 impl Ranges {
     ghost use Rattle.tl_layout.specs.AddressRanges.{FitsRanges, ranges_at, ranges_texts};
+
+    /// The ranges of these fields, each of bytes that a line may hold.
+    pub fn new(
+        fraddl: [u8; 11],
+        toaddl: [u8; 11],
+        fraddr: [u8; 11],
+        toaddr: [u8; 11],
+        friaddl: [u8; 1],
+        toiaddl: [u8; 1],
+        friaddr: [u8; 1],
+        toiaddr: [u8; 1],
+        zipl: [u8; 5],
+        zipr: [u8; 5],
+    ) -> Ranges
+        requires fraddl { AreAllowed fraddl }
+        requires toaddl { AreAllowed toaddl }
+        requires fraddr { AreAllowed fraddr }
+        requires toaddr { AreAllowed toaddr }
+        requires friaddl { AreAllowed friaddl }
+        requires toiaddl { AreAllowed toiaddl }
+        requires friaddr { AreAllowed friaddr }
+        requires toiaddr { AreAllowed toiaddr }
+        requires zipl { AreAllowed zipl }
+        requires zipr { AreAllowed zipr }
+        ensures { result
+            ≡ record {
+              fraddl = fraddl;
+              toaddl = toaddl;
+              fraddr = fraddr;
+              toaddr = toaddr;
+              friaddl = friaddl;
+              toiaddl = toiaddl;
+              friaddr = friaddr;
+              toiaddr = toiaddr;
+              zip = record { left = zipl; right = zipr };
+            } }
+    {
+        Ranges {
+            fraddl: Text::new(fraddl),
+            toaddl: Text::new(toaddl),
+            fraddr: Text::new(fraddr),
+            toaddr: Text::new(toaddr),
+            friaddl: Text::new(friaddl),
+            toiaddl: Text::new(toiaddl),
+            friaddr: Text::new(friaddr),
+            toiaddr: Text::new(toiaddr),
+            zip: LeftRight::new(zipl, zipr),
+        }
+    }
+
+    /// Start address, left (FRADDL).
+    pub fn fraddl(&self) -> [u8; 11]
+        ensures value { result ≡ self.now.fraddl }
+        ensures text { IsText 11 result }
+    {
+        self.fraddl.bytes()
+    }
+
+    /// End address, left (TOADDL).
+    pub fn toaddl(&self) -> [u8; 11]
+        ensures value { result ≡ self.now.toaddl }
+        ensures text { IsText 11 result }
+    {
+        self.toaddl.bytes()
+    }
+
+    /// Start address, right (FRADDR).
+    pub fn fraddr(&self) -> [u8; 11]
+        ensures value { result ≡ self.now.fraddr }
+        ensures text { IsText 11 result }
+    {
+        self.fraddr.bytes()
+    }
+
+    /// End address, right (TOADDR).
+    pub fn toaddr(&self) -> [u8; 11]
+        ensures value { result ≡ self.now.toaddr }
+        ensures text { IsText 11 result }
+    {
+        self.toaddr.bytes()
+    }
+
+    /// Start imputed address flag, left (FRIADDL).
+    pub fn friaddl(&self) -> [u8; 1]
+        ensures value { result ≡ self.now.friaddl }
+        ensures text { IsText 1 result }
+    {
+        self.friaddl.bytes()
+    }
+
+    /// End imputed address flag, left (TOIADDL).
+    pub fn toiaddl(&self) -> [u8; 1]
+        ensures value { result ≡ self.now.toiaddl }
+        ensures text { IsText 1 result }
+    {
+        self.toiaddl.bytes()
+    }
+
+    /// Start imputed address flag, right (FRIADDR).
+    pub fn friaddr(&self) -> [u8; 1]
+        ensures value { result ≡ self.now.friaddr }
+        ensures text { IsText 1 result }
+    {
+        self.friaddr.bytes()
+    }
+
+    /// End imputed address flag, right (TOIADDR).
+    pub fn toiaddr(&self) -> [u8; 1]
+        ensures value { result ≡ self.now.toiaddr }
+        ensures text { IsText 1 result }
+    {
+        self.toiaddr.bytes()
+    }
+
+    /// ZIP code, left (ZIPL).
+    pub fn zipl(&self) -> [u8; 5]
+        ensures value { result ≡ self.now.zip.left }
+        ensures text { IsText 5 result }
+    {
+        self.zip.left.bytes()
+    }
+
+    /// ZIP code, right (ZIPR).
+    pub fn zipr(&self) -> [u8; 5]
+        ensures value { result ≡ self.now.zip.right }
+        ensures text { IsText 5 result }
+    {
+        self.zip.right.bytes()
+    }
 
     /// The ranges that begin in this column of a line.
     pub(crate) fn at(line: &[u8], first: usize) -> Ranges

@@ -1,6 +1,7 @@
 //! The polygon on one side of a chain.
 
 ghost use Rattle.std.specs.Prelude.{◌≡◌};
+ghost use Rattle.tl_layout.specs.Bytes.{AreAllowed, IsText};
 ghost use Rattle.tl_layout.specs.Numbers.{IsNumberOrNone};
 ghost use Rattle.tl_layout.specs.PolygonSide.{PolygonSide};
 
@@ -26,8 +27,17 @@ impl Model for Side {
 }
 
 impl Side {
+    /// The side with this CENID, of bytes that a line may hold, and with the polygon of this POLYID or none.
+    pub fn new(cenid: [u8; 5], polyid: Option<u64>) -> Side
+        requires cenid { AreAllowed cenid }
+        requires polyid { IsNumberOrNone 10 polyid }
+        ensures { result ≡ record { cenid = cenid; polyid = polyid } }
+    {
+        Side::of(Text::new(cenid), polyid)
+    }
+
     /// The side with this CENID, and with the polygon of this POLYID or none.
-    pub fn new(cenid: Text<5>, polyid: Option<u64>) -> Side
+    pub(crate) fn of(cenid: Text<5>, polyid: Option<u64>) -> Side
         requires { IsNumberOrNone 10 polyid }
         ensures { result ≡ record { cenid = cenid; polyid = polyid } }
     {
@@ -35,7 +45,15 @@ impl Side {
     }
 
     /// The CENID (CENIDL or CENIDR).
-    pub fn cenid(&self) -> &Text<5>
+    pub fn cenid(&self) -> [u8; 5]
+        ensures value { result ≡ self.now.cenid }
+        ensures text { IsText 5 result }
+    {
+        self.cenid.bytes()
+    }
+
+    /// The CENID, where it stands.
+    pub(crate) fn cenid_text(&self) -> &Text<5>
         ensures { result.now ≡ self.now.cenid }
     {
         &self.cenid

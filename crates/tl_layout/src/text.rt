@@ -41,6 +41,14 @@ impl<const N: usize> Text<N> {
     }
 
     /// The bytes of the field.
+    pub fn bytes(&self) -> [u8; N]
+        ensures value { result ≡ self.now }
+        ensures text { IsText N result }
+    {
+        self.bytes
+    }
+
+    /// The bytes of the field, where they stand.
     pub fn as_bytes(&self) -> &[u8; N]
         ensures value { result.now ≡ self.now }
         ensures text { IsText N self.now }

@@ -1,7 +1,7 @@
 //! Record type 1: a chain's basic data.
 
 ghost use Rattle.std.specs.Prelude.{◌≡◌, ◌≤◌, length, take};
-ghost use Rattle.tl_layout.specs.Bytes.{IsText};
+ghost use Rattle.tl_layout.specs.Bytes.{AreAllowed, IsText};
 ghost use Rattle.tl_layout.specs.Columns.{joined};
 ghost use Rattle.tl_layout.specs.Numbers.{IsNumber};
 
@@ -74,6 +74,389 @@ pub struct Rec1 {
     body: Body1,
     start: Point,
     end: Point,
+}
+
+impl GeographicEntities {
+    /// The geographic entities of these fields, each of bytes that a line may hold.
+    fn new(
+        statel: [u8; 2],
+        stater: [u8; 2],
+        countyl: [u8; 3],
+        countyr: [u8; 3],
+        cousubl: [u8; 5],
+        cousubr: [u8; 5],
+        submcdl: [u8; 5],
+        submcdr: [u8; 5],
+        placel: [u8; 5],
+        placer: [u8; 5],
+        tractl: [u8; 6],
+        tractr: [u8; 6],
+        blockl: [u8; 4],
+        blockr: [u8; 4],
+    ) -> GeographicEntities
+        requires statel { AreAllowed statel }
+        requires stater { AreAllowed stater }
+        requires countyl { AreAllowed countyl }
+        requires countyr { AreAllowed countyr }
+        requires cousubl { AreAllowed cousubl }
+        requires cousubr { AreAllowed cousubr }
+        requires submcdl { AreAllowed submcdl }
+        requires submcdr { AreAllowed submcdr }
+        requires placel { AreAllowed placel }
+        requires placer { AreAllowed placer }
+        requires tractl { AreAllowed tractl }
+        requires tractr { AreAllowed tractr }
+        requires blockl { AreAllowed blockl }
+        requires blockr { AreAllowed blockr }
+        ensures { result
+            ≡ record {
+              state = record { left = statel; right = stater };
+              county = record { left = countyl; right = countyr };
+              cousub = record { left = cousubl; right = cousubr };
+              submcd = record { left = submcdl; right = submcdr };
+              place = record { left = placel; right = placer };
+              tract = record { left = tractl; right = tractr };
+              block = record { left = blockl; right = blockr };
+            } }
+    {
+        GeographicEntities {
+            state: LeftRight::new(statel, stater),
+            county: LeftRight::new(countyl, countyr),
+            cousub: LeftRight::new(cousubl, cousubr),
+            submcd: LeftRight::new(submcdl, submcdr),
+            place: LeftRight::new(placel, placer),
+            tract: LeftRight::new(tractl, tractr),
+            block: LeftRight::new(blockl, blockr),
+        }
+    }
+}
+
+impl Body1 {
+    /// The content of these fields, each of bytes that a line may hold, with the address ranges and ZIP codes.
+    pub fn new(
+        side1: [u8; 1],
+        source: [u8; 1],
+        fedirp: [u8; 2],
+        fename: [u8; 30],
+        fetype: [u8; 4],
+        fedirs: [u8; 2],
+        cfcc: [u8; 3],
+        ranges: Ranges,
+        aianhhfpl: [u8; 5],
+        aianhhfpr: [u8; 5],
+        aihhtlil: [u8; 1],
+        aihhtlir: [u8; 1],
+        census1: [u8; 1],
+        census2: [u8; 1],
+        statel: [u8; 2],
+        stater: [u8; 2],
+        countyl: [u8; 3],
+        countyr: [u8; 3],
+        cousubl: [u8; 5],
+        cousubr: [u8; 5],
+        submcdl: [u8; 5],
+        submcdr: [u8; 5],
+        placel: [u8; 5],
+        placer: [u8; 5],
+        tractl: [u8; 6],
+        tractr: [u8; 6],
+        blockl: [u8; 4],
+        blockr: [u8; 4],
+    ) -> Body1
+        requires side1 { AreAllowed side1 }
+        requires source { AreAllowed source }
+        requires fedirp { AreAllowed fedirp }
+        requires fename { AreAllowed fename }
+        requires fetype { AreAllowed fetype }
+        requires fedirs { AreAllowed fedirs }
+        requires cfcc { AreAllowed cfcc }
+        requires aianhhfpl { AreAllowed aianhhfpl }
+        requires aianhhfpr { AreAllowed aianhhfpr }
+        requires aihhtlil { AreAllowed aihhtlil }
+        requires aihhtlir { AreAllowed aihhtlir }
+        requires census1 { AreAllowed census1 }
+        requires census2 { AreAllowed census2 }
+        requires statel { AreAllowed statel }
+        requires stater { AreAllowed stater }
+        requires countyl { AreAllowed countyl }
+        requires countyr { AreAllowed countyr }
+        requires cousubl { AreAllowed cousubl }
+        requires cousubr { AreAllowed cousubr }
+        requires submcdl { AreAllowed submcdl }
+        requires submcdr { AreAllowed submcdr }
+        requires placel { AreAllowed placel }
+        requires placer { AreAllowed placer }
+        requires tractl { AreAllowed tractl }
+        requires tractr { AreAllowed tractr }
+        requires blockl { AreAllowed blockl }
+        requires blockr { AreAllowed blockr }
+        ensures { result
+            ≡ record {
+              side1 = side1;
+              source = source;
+              name = record { fedirp = fedirp; fename = fename; fetype = fetype; fedirs = fedirs };
+              cfcc = cfcc;
+              ranges = ranges;
+              native_areas = record {
+                aianhhfp = record { left = aianhhfpl; right = aianhhfpr };
+                aihhtli = record { left = aihhtlil; right = aihhtlir };
+              };
+              census1 = census1;
+              census2 = census2;
+              entities = record {
+                state = record { left = statel; right = stater };
+                county = record { left = countyl; right = countyr };
+                cousub = record { left = cousubl; right = cousubr };
+                submcd = record { left = submcdl; right = submcdr };
+                place = record { left = placel; right = placer };
+                tract = record { left = tractl; right = tractr };
+                block = record { left = blockl; right = blockr };
+              };
+            } }
+    {
+        let native_areas = NativeAreas {
+            aianhhfp: LeftRight::new(aianhhfpl, aianhhfpr),
+            aihhtli: LeftRight::new(aihhtlil, aihhtlir),
+        };
+        let entities = GeographicEntities::new(
+            statel, stater, countyl, countyr, cousubl, cousubr, submcdl, submcdr, placel, placer,
+            tractl, tractr, blockl, blockr,
+        );
+        Body1 {
+            side1: Text::new(side1),
+            source: Text::new(source),
+            name: FeatureName::new(fedirp, fename, fetype, fedirs),
+            cfcc: Text::new(cfcc),
+            ranges,
+            native_areas,
+            census1: Text::new(census1),
+            census2: Text::new(census2),
+            entities,
+        }
+    }
+
+    /// One-sided chain indicator (SIDE1).
+    pub fn side1(&self) -> [u8; 1]
+        ensures value { result ≡ self.now.side1 }
+        ensures text { IsText 1 result }
+    {
+        self.side1.bytes()
+    }
+
+    /// Source of the chain (SOURCE).
+    pub fn source(&self) -> [u8; 1]
+        ensures value { result ≡ self.now.source }
+        ensures text { IsText 1 result }
+    {
+        self.source.bytes()
+    }
+
+    /// Direction before the name (FEDIRP).
+    pub fn fedirp(&self) -> [u8; 2]
+        ensures value { result ≡ self.now.name.fedirp }
+        ensures text { IsText 2 result }
+    {
+        self.name.fedirp.bytes()
+    }
+
+    /// The name itself (FENAME).
+    pub fn fename(&self) -> [u8; 30]
+        ensures value { result ≡ self.now.name.fename }
+        ensures text { IsText 30 result }
+    {
+        self.name.fename.bytes()
+    }
+
+    /// Type of the feature, as `St` (FETYPE).
+    pub fn fetype(&self) -> [u8; 4]
+        ensures value { result ≡ self.now.name.fetype }
+        ensures text { IsText 4 result }
+    {
+        self.name.fetype.bytes()
+    }
+
+    /// Direction after the name (FEDIRS).
+    pub fn fedirs(&self) -> [u8; 2]
+        ensures value { result ≡ self.now.name.fedirs }
+        ensures text { IsText 2 result }
+    {
+        self.name.fedirs.bytes()
+    }
+
+    /// Census feature class code (CFCC).
+    pub fn cfcc(&self) -> [u8; 3]
+        ensures value { result ≡ self.now.cfcc }
+        ensures text { IsText 3 result }
+    {
+        self.cfcc.bytes()
+    }
+
+    /// Address ranges and ZIP codes (FRADDL to ZIPR).
+    pub fn ranges(&self) -> Ranges
+        ensures { result ≡ self.now.ranges }
+    {
+        self.ranges
+    }
+
+    /// FIPS 55 code of the American Indian, Alaska Native or Hawaiian Home Land area, left (AIANHHFPL).
+    pub fn aianhhfpl(&self) -> [u8; 5]
+        ensures value { result ≡ self.now.native_areas.aianhhfp.left }
+        ensures text { IsText 5 result }
+    {
+        self.native_areas.aianhhfp.left.bytes()
+    }
+
+    /// FIPS 55 code of the American Indian, Alaska Native or Hawaiian Home Land area, right (AIANHHFPR).
+    pub fn aianhhfpr(&self) -> [u8; 5]
+        ensures value { result ≡ self.now.native_areas.aianhhfp.right }
+        ensures text { IsText 5 result }
+    {
+        self.native_areas.aianhhfp.right.bytes()
+    }
+
+    /// Trust land indicator, left (AIHHTLIL).
+    pub fn aihhtlil(&self) -> [u8; 1]
+        ensures value { result ≡ self.now.native_areas.aihhtli.left }
+        ensures text { IsText 1 result }
+    {
+        self.native_areas.aihhtli.left.bytes()
+    }
+
+    /// Trust land indicator, right (AIHHTLIR).
+    pub fn aihhtlir(&self) -> [u8; 1]
+        ensures value { result ≡ self.now.native_areas.aihhtli.right }
+        ensures text { IsText 1 result }
+    {
+        self.native_areas.aihhtli.right.bytes()
+    }
+
+    /// Reserved for the Census Bureau (CENSUS1).
+    pub fn census1(&self) -> [u8; 1]
+        ensures value { result ≡ self.now.census1 }
+        ensures text { IsText 1 result }
+    {
+        self.census1.bytes()
+    }
+
+    /// Reserved for the Census Bureau (CENSUS2).
+    pub fn census2(&self) -> [u8; 1]
+        ensures value { result ≡ self.now.census2 }
+        ensures text { IsText 1 result }
+    {
+        self.census2.bytes()
+    }
+
+    /// State, left (STATEL).
+    pub fn statel(&self) -> [u8; 2]
+        ensures value { result ≡ self.now.entities.state.left }
+        ensures text { IsText 2 result }
+    {
+        self.entities.state.left.bytes()
+    }
+
+    /// State, right (STATER).
+    pub fn stater(&self) -> [u8; 2]
+        ensures value { result ≡ self.now.entities.state.right }
+        ensures text { IsText 2 result }
+    {
+        self.entities.state.right.bytes()
+    }
+
+    /// County, left (COUNTYL).
+    pub fn countyl(&self) -> [u8; 3]
+        ensures value { result ≡ self.now.entities.county.left }
+        ensures text { IsText 3 result }
+    {
+        self.entities.county.left.bytes()
+    }
+
+    /// County, right (COUNTYR).
+    pub fn countyr(&self) -> [u8; 3]
+        ensures value { result ≡ self.now.entities.county.right }
+        ensures text { IsText 3 result }
+    {
+        self.entities.county.right.bytes()
+    }
+
+    /// County subdivision, left (COUSUBL).
+    pub fn cousubl(&self) -> [u8; 5]
+        ensures value { result ≡ self.now.entities.cousub.left }
+        ensures text { IsText 5 result }
+    {
+        self.entities.cousub.left.bytes()
+    }
+
+    /// County subdivision, right (COUSUBR).
+    pub fn cousubr(&self) -> [u8; 5]
+        ensures value { result ≡ self.now.entities.cousub.right }
+        ensures text { IsText 5 result }
+    {
+        self.entities.cousub.right.bytes()
+    }
+
+    /// Subminor civil division, left (SUBMCDL).
+    pub fn submcdl(&self) -> [u8; 5]
+        ensures value { result ≡ self.now.entities.submcd.left }
+        ensures text { IsText 5 result }
+    {
+        self.entities.submcd.left.bytes()
+    }
+
+    /// Subminor civil division, right (SUBMCDR).
+    pub fn submcdr(&self) -> [u8; 5]
+        ensures value { result ≡ self.now.entities.submcd.right }
+        ensures text { IsText 5 result }
+    {
+        self.entities.submcd.right.bytes()
+    }
+
+    /// Place, left (PLACEL).
+    pub fn placel(&self) -> [u8; 5]
+        ensures value { result ≡ self.now.entities.place.left }
+        ensures text { IsText 5 result }
+    {
+        self.entities.place.left.bytes()
+    }
+
+    /// Place, right (PLACER).
+    pub fn placer(&self) -> [u8; 5]
+        ensures value { result ≡ self.now.entities.place.right }
+        ensures text { IsText 5 result }
+    {
+        self.entities.place.right.bytes()
+    }
+
+    /// Census tract, left (TRACTL).
+    pub fn tractl(&self) -> [u8; 6]
+        ensures value { result ≡ self.now.entities.tract.left }
+        ensures text { IsText 6 result }
+    {
+        self.entities.tract.left.bytes()
+    }
+
+    /// Census tract, right (TRACTR).
+    pub fn tractr(&self) -> [u8; 6]
+        ensures value { result ≡ self.now.entities.tract.right }
+        ensures text { IsText 6 result }
+    {
+        self.entities.tract.right.bytes()
+    }
+
+    /// Census block, left (BLOCKL).
+    pub fn blockl(&self) -> [u8; 4]
+        ensures value { result ≡ self.now.entities.block.left }
+        ensures text { IsText 4 result }
+    {
+        self.entities.block.left.bytes()
+    }
+
+    /// Census block, right (BLOCKR).
+    pub fn blockr(&self) -> [u8; 4]
+        ensures value { result ≡ self.now.entities.block.right }
+        ensures text { IsText 4 result }
+    {
+        self.entities.block.right.bytes()
+    }
 }
 
 impl Model for Rec1 {

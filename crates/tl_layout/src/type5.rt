@@ -1,7 +1,7 @@
 //! Record type 5: the name of a feature.
 
 ghost use Rattle.std.specs.Prelude.{◌≡◌};
-ghost use Rattle.tl_layout.specs.Bytes.{IsText};
+ghost use Rattle.tl_layout.specs.Bytes.{AreAllowed, IsText};
 ghost use Rattle.tl_layout.specs.Numbers.{IsNumber};
 
 use crate::fault::FieldFault;
@@ -26,6 +26,73 @@ pub struct Body5 {
 pub struct Rec5 {
     feat: u32,
     body: Body5,
+}
+
+impl Body5 {
+    /// The content of these fields, each of bytes that a line may hold.
+    pub fn new(
+        file: [u8; 5],
+        fedirp: [u8; 2],
+        fename: [u8; 30],
+        fetype: [u8; 4],
+        fedirs: [u8; 2],
+    ) -> Body5
+        requires file { AreAllowed file }
+        requires fedirp { AreAllowed fedirp }
+        requires fename { AreAllowed fename }
+        requires fetype { AreAllowed fetype }
+        requires fedirs { AreAllowed fedirs }
+        ensures { result
+            ≡ record {
+              file = file;
+              name = record { fedirp = fedirp; fename = fename; fetype = fetype; fedirs = fedirs };
+            } }
+    {
+        Body5 {
+            file: Text::new(file),
+            name: FeatureName::new(fedirp, fename, fetype, fedirs),
+        }
+    }
+
+    /// State and county of the file (FILE).
+    pub fn file(&self) -> [u8; 5]
+        ensures value { result ≡ self.now.file }
+        ensures text { IsText 5 result }
+    {
+        self.file.bytes()
+    }
+
+    /// Direction before the name (FEDIRP).
+    pub fn fedirp(&self) -> [u8; 2]
+        ensures value { result ≡ self.now.name.fedirp }
+        ensures text { IsText 2 result }
+    {
+        self.name.fedirp.bytes()
+    }
+
+    /// The name itself (FENAME).
+    pub fn fename(&self) -> [u8; 30]
+        ensures value { result ≡ self.now.name.fename }
+        ensures text { IsText 30 result }
+    {
+        self.name.fename.bytes()
+    }
+
+    /// Type of the feature, as `St` (FETYPE).
+    pub fn fetype(&self) -> [u8; 4]
+        ensures value { result ≡ self.now.name.fetype }
+        ensures text { IsText 4 result }
+    {
+        self.name.fetype.bytes()
+    }
+
+    /// Direction after the name (FEDIRS).
+    pub fn fedirs(&self) -> [u8; 2]
+        ensures value { result ≡ self.now.name.fedirs }
+        ensures text { IsText 2 result }
+    {
+        self.name.fedirs.bytes()
+    }
 }
 
 impl Model for Rec5 {

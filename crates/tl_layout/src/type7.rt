@@ -1,7 +1,7 @@
 //! Record type 7: a landmark.
 
 ghost use Rattle.std.specs.Prelude.{◌≡◌};
-ghost use Rattle.tl_layout.specs.Bytes.{IsText};
+ghost use Rattle.tl_layout.specs.Bytes.{AreAllowed, IsText};
 ghost use Rattle.tl_layout.specs.Numbers.{IsNumber};
 
 use crate::fault::FieldFault;
@@ -32,6 +32,71 @@ pub struct Body7 {
 pub struct Rec7 {
     land: u64,
     body: Body7,
+}
+
+impl Body7 {
+    /// The content of these fields, each of bytes that a line may hold, with the landmark's point or none.
+    pub fn new(
+        file: [u8; 5],
+        source: [u8; 1],
+        cfcc: [u8; 3],
+        laname: [u8; 30],
+        point: Option<Point>,
+    ) -> Body7
+        requires file { AreAllowed file }
+        requires source { AreAllowed source }
+        requires cfcc { AreAllowed cfcc }
+        requires laname { AreAllowed laname }
+        ensures { result
+            ≡ record { file = file; source = source; cfcc = cfcc; laname = laname; point = point } }
+    {
+        Body7 {
+            file: Text::new(file),
+            source: Text::new(source),
+            cfcc: Text::new(cfcc),
+            laname: Text::new(laname),
+            point,
+        }
+    }
+
+    /// State and county of the file (FILE).
+    pub fn file(&self) -> [u8; 5]
+        ensures value { result ≡ self.now.file }
+        ensures text { IsText 5 result }
+    {
+        self.file.bytes()
+    }
+
+    /// Source of the landmark (SOURCE).
+    pub fn source(&self) -> [u8; 1]
+        ensures value { result ≡ self.now.source }
+        ensures text { IsText 1 result }
+    {
+        self.source.bytes()
+    }
+
+    /// Census feature class code (CFCC).
+    pub fn cfcc(&self) -> [u8; 3]
+        ensures value { result ≡ self.now.cfcc }
+        ensures text { IsText 3 result }
+    {
+        self.cfcc.bytes()
+    }
+
+    /// Name of the landmark (LANAME).
+    pub fn laname(&self) -> [u8; 30]
+        ensures value { result ≡ self.now.laname }
+        ensures text { IsText 30 result }
+    {
+        self.laname.bytes()
+    }
+
+    /// Where the landmark is, if that is told (LALONG, LALAT).
+    pub fn point(&self) -> Option<Point>
+        ensures { result ≡ self.now.point }
+    {
+        self.point
+    }
 }
 
 impl Model for Rec7 {

@@ -1,7 +1,7 @@
 //! Record type 8: a polygon of a landmark.
 
 ghost use Rattle.std.specs.Prelude.{◌≡◌};
-ghost use Rattle.tl_layout.specs.Bytes.{IsText};
+ghost use Rattle.tl_layout.specs.Bytes.{AreAllowed, IsText};
 ghost use Rattle.tl_layout.specs.Numbers.{IsNumber};
 
 use crate::fault::FieldFault;
@@ -37,31 +37,35 @@ impl Rec8 {
     ghost use Rattle.tl_layout.specs.Type8.{type_8_reading};
 
     /// The record of these fields.
-    pub fn new(file: Text<5>, cenid: Text<5>, polyid: u64, land: u64) -> Rec8
+    pub fn new(file: [u8; 5], cenid: [u8; 5], polyid: u64, land: u64) -> Rec8
+        requires file { AreAllowed file }
+        requires cenid { AreAllowed cenid }
         requires polyid { IsNumber 10 polyid }
         requires land { IsNumber 10 land }
         ensures { result ≡ record { file = file; cenid = cenid; polyid = polyid; land = land } }
     {
         Rec8 {
-            file,
-            cenid,
+            file: Text::new(file),
+            cenid: Text::new(cenid),
             polyid,
             land,
         }
     }
 
     /// State and county of the file (FILE).
-    pub fn file(&self) -> &Text<5>
-        ensures { result.now ≡ self.now.file }
+    pub fn file(&self) -> [u8; 5]
+        ensures value { result ≡ self.now.file }
+        ensures text { IsText 5 result }
     {
-        &self.file
+        self.file.bytes()
     }
 
     /// CENID of the polygon (CENID).
-    pub fn cenid(&self) -> &Text<5>
-        ensures { result.now ≡ self.now.cenid }
+    pub fn cenid(&self) -> [u8; 5]
+        ensures value { result ≡ self.now.cenid }
+        ensures text { IsText 5 result }
     {
-        &self.cenid
+        self.cenid.bytes()
     }
 
     /// POLYID of the polygon (POLYID), from 1 to 9,999,999,999.
@@ -88,7 +92,12 @@ impl Rec8 {
     {
         let polyid = read_number(line, 16, 25)?;
         let land = read_number(line, 26, 35)?;
-        Ok(Rec8::new(text_at(line, 6, 10), text_at(line, 11, 15), polyid, land))
+        Ok(Rec8 {
+            file: text_at(line, 6, 10),
+            cenid: text_at(line, 11, 15),
+            polyid,
+            land,
+        })
     }
 }
 

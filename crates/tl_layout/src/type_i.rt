@@ -3,7 +3,7 @@
 ghost use Rattle.std.specs.Prelude.{◌≡◌, ◌≤◌, ◌<◌, ℕ, List, Option, Result, Ok, Err, length};
 ghost use Rattle.tl_layout.specs.Bytes.{IsLine};
 ghost use Rattle.tl_layout.specs.Numbers.{IsNumber, IsNumberOrNone};
-ghost use Rattle.tl_layout.specs.Bytes.{IsText};
+ghost use Rattle.tl_layout.specs.Bytes.{AreAllowed, IsText};
 ghost use Rattle.tl_layout.specs.TypeI.{body_i_at, type_i_reading};
 
 use crate::fault::FieldFault;
@@ -56,6 +56,89 @@ impl Model for RecI {
 }
 
 impl BodyI {
+    /// The content of these fields, each of bytes that a line may hold.
+    pub fn new(
+        file: [u8; 5],
+        source: [u8; 10],
+        ftseg: [u8; 17],
+        rs_i1: [u8; 10],
+        rs_i2: [u8; 10],
+        rs_i3: [u8; 10],
+    ) -> BodyI
+        requires file { AreAllowed file }
+        requires source { AreAllowed source }
+        requires ftseg { AreAllowed ftseg }
+        requires rs_i1 { AreAllowed rs_i1 }
+        requires rs_i2 { AreAllowed rs_i2 }
+        requires rs_i3 { AreAllowed rs_i3 }
+        ensures { result
+            ≡ record {
+              file = file;
+              source = source;
+              ftseg = ftseg;
+              rs_i1 = rs_i1;
+              rs_i2 = rs_i2;
+              rs_i3 = rs_i3;
+            } }
+    {
+        BodyI {
+            file: Text::new(file),
+            source: Text::new(source),
+            ftseg: Text::new(ftseg),
+            rs_i1: Text::new(rs_i1),
+            rs_i2: Text::new(rs_i2),
+            rs_i3: Text::new(rs_i3),
+        }
+    }
+
+    /// State and county of the file (FILE).
+    pub fn file(&self) -> [u8; 5]
+        ensures value { result ≡ self.now.file }
+        ensures text { IsText 5 result }
+    {
+        self.file.bytes()
+    }
+
+    /// Source of the chain's coordinates (SOURCE).
+    pub fn source(&self) -> [u8; 10]
+        ensures value { result ≡ self.now.source }
+        ensures text { IsText 10 result }
+    {
+        self.source.bytes()
+    }
+
+    /// Feature segment (FTSEG).
+    pub fn ftseg(&self) -> [u8; 17]
+        ensures value { result ≡ self.now.ftseg }
+        ensures text { IsText 17 result }
+    {
+        self.ftseg.bytes()
+    }
+
+    /// Reserved (RS_I1).
+    pub fn rs_i1(&self) -> [u8; 10]
+        ensures value { result ≡ self.now.rs_i1 }
+        ensures text { IsText 10 result }
+    {
+        self.rs_i1.bytes()
+    }
+
+    /// Reserved (RS_I2).
+    pub fn rs_i2(&self) -> [u8; 10]
+        ensures value { result ≡ self.now.rs_i2 }
+        ensures text { IsText 10 result }
+    {
+        self.rs_i2.bytes()
+    }
+
+    /// Reserved (RS_I3).
+    pub fn rs_i3(&self) -> [u8; 10]
+        ensures value { result ≡ self.now.rs_i3 }
+        ensures text { IsText 10 result }
+    {
+        self.rs_i3.bytes()
+    }
+
     /// The content in the columns of a full line.
     fn at(line: &[u8]) -> BodyI
         requires { IsText 127 line.now }
@@ -152,8 +235,8 @@ impl RecI {
         let end_node = read_number_or_none(line, 31, 40)?;
         let left_polyid = read_number_or_none(line, 46, 55)?;
         let right_polyid = read_number_or_none(line, 61, 70)?;
-        let left = Side::new(text_at(line, 41, 45), left_polyid);
-        let right = Side::new(text_at(line, 56, 60), right_polyid);
+        let left = Side::of(text_at(line, 41, 45), left_polyid);
+        let right = Side::of(text_at(line, 56, 60), right_polyid);
         Ok(RecI::new(tlid, BodyI::at(line), start_node, end_node, left, right))
     }
 }
@@ -197,9 +280,9 @@ impl Layout for RecI {
         write_number(out, 11, 20, self.tlid);
         write_number(out, 21, 30, self.start_node.unwrap_or(0));
         write_number(out, 31, 40, self.end_node.unwrap_or(0));
-        write_text(out, 41, 45, self.left.cenid());
+        write_text(out, 41, 45, self.left.cenid_text());
         write_number(out, 46, 55, self.left.polyid().unwrap_or(0));
-        write_text(out, 56, 60, self.right.cenid());
+        write_text(out, 56, 60, self.right.cenid_text());
         write_number(out, 61, 70, self.right.polyid().unwrap_or(0));
         write_text(out, 71, 80, &body.source);
         write_text(out, 81, 97, &body.ftseg);

@@ -1,7 +1,7 @@
 //! Record type P: a polygon's inner point.
 
 ghost use Rattle.std.specs.Prelude.{◌≡◌};
-ghost use Rattle.tl_layout.specs.Bytes.{IsText};
+ghost use Rattle.tl_layout.specs.Bytes.{AreAllowed, IsText};
 ghost use Rattle.tl_layout.specs.Numbers.{IsNumber};
 
 use crate::fault::FieldFault;
@@ -31,6 +31,44 @@ pub struct RecP {
     body: BodyP,
 }
 
+impl BodyP {
+    /// The content of these fields, each of bytes that a line may hold, with the polygon's inner point or none.
+    pub fn new(file: [u8; 5], point: Option<Point>, water: [u8; 1]) -> BodyP
+        requires file { AreAllowed file }
+        requires water { AreAllowed water }
+        ensures { result ≡ record { file = file; point = point; water = water } }
+    {
+        BodyP {
+            file: Text::new(file),
+            point,
+            water: Text::new(water),
+        }
+    }
+
+    /// State and county of the file (FILE).
+    pub fn file(&self) -> [u8; 5]
+        ensures value { result ≡ self.now.file }
+        ensures text { IsText 5 result }
+    {
+        self.file.bytes()
+    }
+
+    /// A point inside the polygon, if one is told (POLYLONG, POLYLAT).
+    pub fn point(&self) -> Option<Point>
+        ensures { result ≡ self.now.point }
+    {
+        self.point
+    }
+
+    /// Whether the polygon is water (WATER).
+    pub fn water(&self) -> [u8; 1]
+        ensures value { result ≡ self.now.water }
+        ensures text { IsText 1 result }
+    {
+        self.water.bytes()
+    }
+}
+
 impl Model for RecP {
     ghost use Rattle.tl_layout.specs.Fields.{FieldsP};
     ghost use Rattle.tl_layout.specs.Numbers.{IsNumber};
@@ -48,22 +86,24 @@ impl RecP {
     ghost use Rattle.tl_layout.specs.TypeP.{type_p_reading};
 
     /// The record of these fields.
-    pub fn new(cenid: Text<5>, polyid: u64, body: BodyP) -> RecP
-        requires { IsNumber 10 polyid }
+    pub fn new(cenid: [u8; 5], polyid: u64, body: BodyP) -> RecP
+        requires cenid { AreAllowed cenid }
+        requires polyid { IsNumber 10 polyid }
         ensures { result ≡ record { cenid = cenid; polyid = polyid; body = body } }
     {
         RecP {
-            cenid,
+            cenid: Text::new(cenid),
             polyid,
             body,
         }
     }
 
     /// CENID of the polygon (CENID).
-    pub fn cenid(&self) -> &Text<5>
-        ensures { result.now ≡ self.now.cenid }
+    pub fn cenid(&self) -> [u8; 5]
+        ensures value { result ≡ self.now.cenid }
+        ensures text { IsText 5 result }
     {
-        &self.cenid
+        self.cenid.bytes()
     }
 
     /// POLYID of the polygon (POLYID), from 1 to 9,999,999,999.
@@ -94,7 +134,11 @@ impl RecP {
             point,
             water: text_at(line, 45, 45),
         };
-        Ok(RecP::new(text_at(line, 11, 15), polyid, body))
+        Ok(RecP {
+            cenid: text_at(line, 11, 15),
+            polyid,
+            body,
+        })
     }
 }
 

@@ -1,5 +1,6 @@
 -- The order of points and of point lists.
-use Rattle.std.specs.Prelude.{List}
+use Rattle.std.specs.Prelude.{◌≡◌, List, reverse}
+use Rattle.std.specs.declared.cmp.Ordering.TheVariants.{Less}
 use Rattle.std.specs.declared.cmp.Ordering.{Ordering}
 use Rattle.std.specs.Ordering.{int_cmp, ordering_then}
 use Rattle.std.specs.Cmp.Lexicographic.{slice_cmp}
@@ -12,3 +13,7 @@ point_cmp p q = ordering_then (int_cmp p.long q.long) (int_cmp p.lat q.lat)
 -- by the first difference, a beginning first
 abbrev pub points_cmp : List Coordinates → List Coordinates → Ordering
 points_cmp = slice_cmp point_cmp
+
+-- the points come after their reverse
+abbrev pub ComeAfterReverse : List Coordinates → Type 0
+ComeAfterReverse points = points_cmp (reverse points) points ≡ Less

@@ -2,8 +2,7 @@
 
 ghost use Rattle.std.specs.Prelude.{◌≡◌, ◌+◌, ◌≤◌, ◌<◌, ◌↔◌, [], ◌∷◌, ◌++◌, List, IfOk, IsTrue, length, reverse};
 ghost use Rattle.tl_layout.specs.Coordinates.{Coordinates};
-ghost use Rattle.tl_shape.specs.PointOrder.{points_cmp};
-ghost use Rattle.std.specs.declared.cmp.Ordering.TheVariants.{Less};
+ghost use Rattle.tl_shape.specs.PointOrder.{points_cmp, ComeAfterReverse};
 
 use std::alloc::{AllocError, Global};
 use std::cmp::Ordering;
@@ -85,7 +84,7 @@ impl Shape {
 
     /// Whether the points come after their reverse, so that the chain is turned in the canonical form.
     pub fn needs_turn(&self) -> bool
-        ensures { IsTrue result ↔ (points_cmp (reverse self.now) self.now ≡ Less) }
+        ensures { IsTrue result ↔ ComeAfterReverse self.now }
     {
         self.cmp_reverse().is_lt()
     }

@@ -33,3 +33,9 @@ fn orders_and_directions(rt: HostRuntime) -> Result<(), Fail> {
     assert!(rt; shape_of(rt.alloc(), &[a, b, a])?.is_own_reverse());
     Ok(())
 }
+
+#[test]
+fn laws_can_be_called() {
+    point_lists_are_totally_ordered();
+    each_chain_has_one_turned_chain();
+}
