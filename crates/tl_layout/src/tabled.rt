@@ -20,7 +20,7 @@ use crate::type8::Rec8;
 use std::alloc::AllocError;
 
 /// A record type among the nine: its records as records of any type, and the table that they belong into.
-pub trait Tabled: Layout {
+pub trait Tabled: Layout + Drop {
     /// The record as one of any type.
     ghost as_record: { Self → Record };
 

@@ -1,10 +1,12 @@
 pub mod Reading
 pub mod LineLemmas
+pub mod Runs
 pub mod Settled
-pub mod Adding
+pub mod Counts
 pub mod Steps
 pub mod Views
 pub mod Histories
+pub mod Listed
 pub mod ReadSteps
 pub mod Filling
 pub mod LineLaws

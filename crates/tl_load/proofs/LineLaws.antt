@@ -126,3 +126,8 @@ judged_fault_only rtype len reading IsFault tells line (line_faults.Field fault)
     ap (λ (b : Bool). cond b (Err line_faults.LineTooLong) (judged_full reading (filled len line))) (le-ltb len (length line) h.0)
     ∙ ap (λ (b : Bool). cond b (Err (line_faults.BadByte (first_bad (filled len line) + 1))) (of_reading (reading (filled len line)))) (bad_none (filled len line) h.1)
     ∙ ap of_reading read
+
+-- a line that has a record isn't longer than its layout
+pub judged_short : {R : Type 0} (len : ℕ) (reading : List ℕ → Result R FieldFault) (line : List ℕ) (r : R) → judged_as len reading line ≡ Ok r → length line ≤ len
+unfolding judged_as
+judged_short len reading line r e = ltb-false _ _ (chosen (ltb len (length line)) line_faults.LineTooLong (judged_full reading (filled len line)) r e).0

@@ -1,47 +1,45 @@
--- What a source gives goes into the open part.
-use Rattle.std.proofs.Common.{◌≡◌, ℕ, List, [], ◌∷◌, ◌++◌, Option, Some, None, Result, Ok, Err, refl, sym, ap, subst, ◌∙◌, append_assoc, append-nil, inl, inr}
+-- What a source gives, and how it is counted.
+use Rattle.std.proofs.Common.{◌≡◌, ℕ, ◌+◌, ◌%◌, ◌^◌, List, [], ◌++◌, length, Option, Some, None, Result, Ok, Err, refl, sym, ap, subst, ◌∙◌, append_assoc, append-nil, add_assoc, arith}
 use Rattle.std.specs.Io.KnownBytes.{Consumes, Keeps}
-use Rattle.tl_load.specs.declared.fault.LoadFault.{LoadFault}
-use Rattle.tl_load.specs.declared.fault.LoadFault.TheVariants as faults
-use Rattle.tl_load.specs.Loaded.{Loaded, to_come}
-use Rattle.tl_load.specs.Steps.{Takes, Fed, Closes, Reads}
+use Rattle.std.proofs.Math.Nat.{mod-add-mod}
+use Rattle.std.proofs.lemmas.List.{length-append}
+use Rattle.tl_load.specs.Sources.{RoseBy, Gave}
 
-pub consumes_nil : (a : Option (List ℕ)) → Consumes a a []
+consumes_nil : (a : Option (List ℕ)) → Consumes a a []
 consumes_nil None = tt
 consumes_nil (Some x) = refl
 
-pub consumes_then : (a b c : Option (List ℕ)) (x y : List ℕ) → Consumes a b x → Consumes b c y → Consumes a c (x ++ y)
+consumes_then : (a b c : Option (List ℕ)) (x y : List ℕ) → Consumes a b x → Consumes b c y → Consumes a c (x ++ y)
 consumes_then None b c x y p q = tt
 consumes_then (Some s) None c x y p q = absurd p
 consumes_then (Some s) (Some t) None x y p q = absurd q
 consumes_then (Some s) (Some t) (Some u) x y p q = p ∙ ap (λ (l : List ℕ). x ++ l) q ∙ sym (append_assoc x y u)
 
-pub consumes_kept : (a b c : Option (List ℕ)) (x : List ℕ) → Consumes a b x → Keeps b c → Consumes a c x
+consumes_kept : (a b c : Option (List ℕ)) (x : List ℕ) → Consumes a b x → Keeps b c → Consumes a c x
 consumes_kept None b c x p q = tt
 consumes_kept (Some s) None c x p q = absurd p
 consumes_kept (Some s) (Some t) None x p q = absurd q
 consumes_kept (Some s) (Some t) (Some u) x p q = p ∙ ap (λ (l : List ℕ). x ++ l) (sym q)
 
-pub consumes_none : (a b c : Option (List ℕ)) (x y : List ℕ) → y ≡ [] → Consumes a b x → Consumes b c y → Consumes a c x
-consumes_none a b c x y none p q = subst (Consumes a c) (ap (λ (l : List ℕ). x ++ l) none ∙ append-nil x) (consumes_then a b c x y p q)
+rose_then : (a b c m n : ℕ) → RoseBy m a b → RoseBy n b c → RoseBy (m + n) a c
+rose_then a b c m n p q =
+    q ∙ sym (mod-add-mod b (2 ^ 64) n) ∙ ap (λ (k : ℕ). (k + n) % 2 ^ 64) p ∙ mod-add-mod (a + m) (2 ^ 64) n ∙ ap (λ (k : ℕ). k % 2 ^ 64) (add_assoc a m n)
 
-pub fed_none : (l : Loaded) → Fed l [] l
-unfolding Fed
-fed_none l more later = refl
+module _ {R : Type 0} (remaining : R → Option (List ℕ)) (given : R → ℕ) where
+  pub gave_none : (s : R) → Gave remaining given s s []
+  gave_none s = record { bytes = consumes_nil (remaining s); counted = ap (λ (k : ℕ). k % 2 ^ 64) (omega arith) }
 
-pub fed_more : (T : Type 0) (x : T) (a b c : Loaded) (taken bytes : List ℕ) → Fed a taken b → Takes b bytes (Ok x) c → Fed a (taken ++ bytes) c
-unfolding Fed Takes
-fed_more T x a b c taken bytes p q more later = ap (λ (l : List ℕ). to_come a l later) (append_assoc taken bytes more) ∙ p (bytes ++ more) later ∙ q more later
+  pub gave_more : (a b c : R) (taken bytes : List ℕ) → Gave remaining given a b taken → Consumes (remaining b) (remaining c) bytes → RoseBy (length bytes) (given b) (given c) → Gave remaining given a c (taken ++ bytes)
+  gave_more a b c taken bytes p q r = record {
+    bytes = consumes_then (remaining a) (remaining b) (remaining c) taken bytes p.bytes q;
+    counted = subst (λ (k : ℕ). RoseBy k (given a) (given c)) (sym (length-append taken bytes)) (rose_then (given a) (given b) (given c) (length taken) (length bytes) p.counted r);
+  }
 
-pub reads_failed : (T : Type 0) (a b : Loaded) (taken : List ℕ) (at_end : Type 0) → Reads {T = T} a taken at_end (Err faults.Device) b
-unfolding Reads
-reads_failed T a b taken at_end is = absurd is
+  pub gave_same : (a b c : R) (taken : List ℕ) → Gave remaining given a b taken → Consumes (remaining b) (remaining c) [] → RoseBy 0 (given b) (given c) → Gave remaining given a c taken
+  gave_same a b c taken p q r = subst (Gave remaining given a c) (append-nil taken) (gave_more a b c taken [] p q r)
 
-pub reads_closed : {T : Type 0} (a b c : Loaded) (taken : List ℕ) (at_end : Type 0) (result : Result T LoadFault) → Fed a taken b → Closes b result c → at_end → Reads a taken at_end result c
-unfolding Reads Fed Closes
-reads_closed a b c taken at_end (Ok x) p q e = (e, λ more later. ap (λ (l : List ℕ). to_come a l (more ∷ later)) (sym (append-nil taken)) ∙ p [] (more ∷ later) ∙ q more later)
-reads_closed a b c taken at_end (Err f) p q e = λ is. inl (e, λ later. ap (λ (l : List ℕ). to_come a l later) (sym (append-nil taken)) ∙ p [] later ∙ q is later)
-
-pub reads_fault : (T : Type 0) (a b c : Loaded) (taken bytes : List ℕ) (at_end : Type 0) (f : LoadFault) → Fed a taken b → Takes {T = T} b bytes (Err f) c → Reads {T = T} a (taken ++ bytes) at_end (Err f) c
-unfolding Reads Fed Takes
-reads_fault T a b c taken bytes at_end f p q is = inr (λ more later. ap (λ (l : List ℕ). to_come a l later) (append_assoc taken bytes more) ∙ p (bytes ++ more) later ∙ q is more later)
+  pub gave_kept : (a b c : R) (taken : List ℕ) → Gave remaining given a b taken → Keeps (remaining b) (remaining c) → RoseBy 0 (given b) (given c) → Gave remaining given a c taken
+  gave_kept a b c taken p q r = record {
+    bytes = consumes_kept (remaining a) (remaining b) (remaining c) taken p.bytes q;
+    counted = subst (λ (k : ℕ). RoseBy k (given a) (given c)) (omega arith) (rose_then (given a) (given b) (given c) (length taken) 0 p.counted r);
+  }

@@ -1,6 +1,7 @@
 -- The canonical text of records is read as these records.
-use Rattle.std.proofs.Common.{◌≡◌, ℕ, suc, ◌+◌, ◌-◌, ◌<◌, Bool, true, false, cond, List, [], ◌∷◌, length, get_or, take, map, Result, Ok, Err, refl, sym, ap, subst, ◌∙◌, append_assoc, append-nil, arith, eqb}
+use Rattle.std.proofs.Common.{◌≡◌, ℕ, suc, ◌+◌, ◌-◌, ◌<◌, Bool, true, false, cond, List, [], ◌∷◌, ◌++◌, length, get_or, take, map, Result, Ok, Err, refl, sym, ap, subst, ◌∙◌, append_assoc, append-nil, arith, eqb}
 use Rattle.std.specs.Prelude.{All}
+use Rattle.std.proofs.lemmas.Grind.{flat_map-append}
 use Rattle.std.proofs.lemmas.Bool.{le-ltb, false_from_ne_true, eqb-true}
 use Rattle.tl_layout.specs.Bytes.{is_allowed, AreAllowed, IsLine}
 use Rattle.tl_layout.specs.RecordText.{type_of, len_of, spelling_of, FitsRecord, text_of}
@@ -118,3 +119,7 @@ text_spells records h =
 
 pub text_spells_only : (records others : List Record) → AllFit records → Spells tiger (text_of records ∷ []) others → others ≡ records
 text_spells_only records others h s = spelled_once tiger tiger_is_sound (text_of records ∷ []) others records s (text_spells records h)
+
+-- the text of records and one more
+pub text_of-snoc : (records : List Record) (added : Record) → text_of (records ++ added ∷ []) ≡ text_of records ++ (spelling_of added ++ 10 ∷ [])
+text_of-snoc records added = flat_map-append (λ x. spelling_of x ++ 10 ∷ []) records (added ∷ []) ∙ ap (λ (t : List ℕ). text_of records ++ t) (append-nil (spelling_of added ++ 10 ∷ []))

@@ -14,6 +14,10 @@ pub some_is : (l : List ℕ) → eqb (length l) 0 ≡ false → 0 < length l
 some_is [] h = absurd cc
 some_is (x ∷ l) h = omega arith
 
+pub on_ok_by : {T E P : Type 0} (r : Result T E) → P → OnOk r P
+on_ok_by (Ok x) p = p
+on_ok_by (Err e) p = tt
+
 pub on_ok_of : {T E P : Type 0} (r : Result T E) → IsOk r → OnOk r P → P
 on_ok_of (Ok x) h p = p
 on_ok_of (Err e) h p = absurd cc

@@ -5,6 +5,7 @@ pub mod Outcome
 pub mod LineOf
 pub mod Choice
 pub mod Loaded
-pub mod Countdown
+pub mod Keeping
+pub mod Sources
 pub mod Steps
 pub mod RecordLine

@@ -1,11 +1,11 @@
 -- A loader as contracts see it, and what it was fed.
-use Rattle.std.specs.Prelude.{◌≡◌, ℕ, ◌+◌, Bool, true, false, List, [], ◌∷◌, ◌++◌, Option, MatchOption, Result, Ok, Err, MatchResult, ◌⊎◌}
+use Rattle.std.specs.Prelude.{◌≡◌, ℕ, ◌<◌, Bool, true, false, List, [], ◌∷◌, ◌++◌, length, All, Option, MatchOption, Result, Ok, Err, MatchResult, ◌⊎◌}
+use Rattle.std.specs.List.{flat_map}
 use Rattle.tl_layout.specs.declared.record_type.Record.{Record}
 use Rattle.tl_load.specs.declared.fault.LoadFault.{LoadFault}
 use Rattle.tl_load.specs.declared.fault.LoadFault.TheVariants as faults
-use Rattle.tl_load.specs.Lines.{lines}
-use Rattle.tl_load.specs.Places.{numbered, lines_from_part}
-use Rattle.tl_load.specs.Outcome.{FaultAt, reading, outcome}
+use Rattle.tl_load.specs.Lines.{IsWithoutLineFeed}
+use Rattle.tl_load.specs.Outcome.{Accepts, FaultAt}
 use Rattle.tl_load.specs.Choice.{tiger}
 
 -- the records so far, the number of closed parts, the lines of the open part that were judged,
@@ -24,22 +24,47 @@ IsOfLines faults.Device = ⊥
 IsOfLines faults.Memory = ⊥
 IsOfLines _ = Unit {0}
 
--- what comes of the loader's value, if these bytes follow in its open part, and then these parts
-unfoldable pub to_come : Loaded → List ℕ → List (List ℕ) → Result (List Record) LoadFault
-to_come l more later =
-    reading tiger l.limit l.records (numbered (l.parts + 1) (l.judged + 1) (lines (l.unfinished ++ more)) ++ lines_from_part (l.parts + 1 + 1) later)
-
 -- the fault at these closed parts and this open part, however it goes on
 abbrev pub IsFaultHowever : ℕ → List (List ℕ) → List ℕ → LoadFault → Type 0
 IsFaultHowever limit closed open_part fault = (more : List ℕ) (later : List (List ℕ)) → FaultAt tiger limit (closed ++ (open_part ++ more) ∷ later) fault
 
--- the loader was fed these closed parts and these bytes of the open part: what comes of the parts, however they go on,
--- is what comes of the loader's value, and a standing fault of the lines is the fault of them all
+-- lines, each with the LF that ends it
+abbrev pub with_line_feeds : List (List ℕ) → List ℕ
+with_line_feeds lines = flat_map (λ line. line ++ 10 ∷ []) lines
+
+-- the bytes are lines that LF has ended, and then bytes that none has
+pub record AreLines (bytes : List ℕ) (ended : List (List ℕ)) (unfinished : List ℕ) : Type 0 where
+  pub bytes_are : bytes ≡ with_line_feeds ended ++ unfinished
+  pub each_ended : All IsWithoutLineFeed ended
+  pub not_ended : IsWithoutLineFeed unfinished
+
+-- the loader, in which no fault stands, was fed these closed parts and these bytes of the open part: its records are
+-- those of all lines that have ended, and it keeps the bytes of the one that hasn't
+pub record HasLoaded (limit : ℕ) (l : Loaded) (closed : List (List ℕ)) (open_part : List ℕ) : Type 0 where
+  pub ended : List (List ℕ)
+  pub lines_are : AreLines open_part ended l.unfinished
+  pub parts_are : l.parts ≡ length closed
+  pub judged_are : l.judged ≡ length ended
+  pub accepts : Accepts tiger limit (closed ++ with_line_feeds ended ∷ []) l.records
+
+-- the loader was fed these closed parts and these bytes of the open part; a standing fault of the lines is that of them all,
+-- however they go on
 pub record WasFed (limit : ℕ) (l : Loaded) (closed : List (List ℕ)) (open_part : List ℕ) : Type 0 where
   pub limit_is : l.limit ≡ limit
-  pub comes : MatchOption l.fault
-      ((more : List ℕ) (later : List (List ℕ)) → outcome tiger limit (closed ++ (open_part ++ more) ∷ later) ≡ to_come l more later)
-      (λ f. IsOfLines f → IsFaultHowever limit closed open_part f)
+  pub comes : MatchOption l.fault (HasLoaded limit l closed open_part) (λ f. IsOfLines f → IsFaultHowever limit closed open_part f)
+
+-- no line that has ended is faulty, and the one that hasn't has fewer than 230 bytes
+pub record IsWellSoFar (limit : ℕ) (closed : List (List ℕ)) (open_part : List ℕ) : Type 0 where
+  pub ended : List (List ℕ)
+  pub unfinished : List ℕ
+  pub lines_are : AreLines open_part ended unfinished
+  pub records : List Record
+  pub accepts : Accepts tiger limit (closed ++ with_line_feeds ended ∷ []) records
+  pub short : length unfinished < 230
+
+-- after these bytes too no line that has ended is faulty, and the open one is short
+abbrev pub IsWellAfter : {L : Type 0} → (ℕ → L → List (List ℕ) → List ℕ → Type 0) → L → List ℕ → Type 0
+IsWellAfter Fed l bytes = (limit : ℕ) (closed : List (List ℕ)) (open_part : List ℕ) → Fed limit l closed open_part → IsWellSoFar limit closed (open_part ++ bytes)
 
 -- all parts, where the open one is one if bytes were fed into it
 abbrev pub all_parts : List (List ℕ) → List ℕ → List (List ℕ)
@@ -61,7 +86,7 @@ is_device (Ok _) = false
 is_device (Err f) = is_device_fault f
 
 -- the loader was fed the bytes into its open part, which was closed at their end, or in which a fault came
-abbrev pub FedPart : {T : Type 0} → Loaded → List ℕ → Type 0 → Result T LoadFault → Loaded → Type 0
-FedPart before taken at_end result after = (limit : ℕ) (closed : List (List ℕ)) (open_part : List ℕ) → WasFed limit before closed open_part → MatchResult result
-    (λ _. at_end × WasFed limit after (closed ++ (open_part ++ taken) ∷ []) [])
-    (λ _. (at_end × WasFed limit after (closed ++ (open_part ++ taken) ∷ []) []) ⊎ WasFed limit after closed (open_part ++ taken))
+abbrev pub FedPart : {L T : Type 0} → (ℕ → L → List (List ℕ) → List ℕ → Type 0) → L → List ℕ → Type 0 → Result T LoadFault → L → Type 0
+FedPart Fed before taken at_end result after = (limit : ℕ) (closed : List (List ℕ)) (open_part : List ℕ) → Fed limit before closed open_part → MatchResult result
+    (λ _. at_end × Fed limit after (closed ++ (open_part ++ taken) ∷ []) [])
+    (λ _. (at_end × Fed limit after (closed ++ (open_part ++ taken) ∷ []) []) ⊎ Fed limit after closed (open_part ++ taken))

@@ -3,34 +3,15 @@
 ghost use Rattle.std.specs.Prelude.{◌≡◌, ◌≤◌, [], ◌∷◌, take, length, replicate};
 ghost use Rattle.tl_layout.specs.Bytes.{IsLine};
 ghost use Rattle.tl_load.specs.LineOf.{filled, judged_as, judged_full};
-ghost use Rattle.tl_load.specs.Choice.{judged};
 
 use crate::bytes::first_bad;
 use crate::fault::LineFault;
-use tl_layout::{Layout, Rec1, Rec2, Rec4, Rec5, Rec6, Rec7, Rec8, RecI, RecP, Record};
+use tl_layout::Layout;
 
-/// The record of a line, or its fault. The line has neither LF nor the CR before it.
-#[tactic(auto, unfolding(crate::specs::Choice::judged, crate::specs::Choice::judged_by))]
-pub(crate) fn judge_line(line: &[u8]) -> Result<Record, LineFault>
-    ensures { result ≡ judged line.now }
-{
-    match line {
-        [b'1', ..] => judge_as::<Rec1>(line).map(Record::One),
-        [b'2', ..] => judge_as::<Rec2>(line).map(Record::Two),
-        [b'4', ..] => judge_as::<Rec4>(line).map(Record::Four),
-        [b'5', ..] => judge_as::<Rec5>(line).map(Record::Five),
-        [b'6', ..] => judge_as::<Rec6>(line).map(Record::Six),
-        [b'7', ..] => judge_as::<Rec7>(line).map(Record::Seven),
-        [b'8', ..] => judge_as::<Rec8>(line).map(Record::Eight),
-        [b'I', ..] => judge_as::<RecI>(line).map(Record::I),
-        [b'P', ..] => judge_as::<RecP>(line).map(Record::P),
-        _ => Err(LineFault::UnknownType),
-    }
-}
-
-/// The record of a line that begins with the layout's type, or its fault. A short line is filled with blanks.
+/// The record of a line that begins with the layout's type, or its fault. The line has neither LF nor the CR before it;
+/// a short one is filled with blanks.
 #[tactic(auto, unfolding(crate::specs::LineOf::judged_as))]
-fn judge_as<L: Layout>(line: &[u8]) -> Result<L, LineFault>
+pub(crate) fn judge_line<L: Layout>(line: &[u8]) -> Result<L, LineFault>
     requires { take 1 line.now ≡ L.RTYPE ∷ [] }
     ensures { result ≡ judged_as L.LEN L.reading line.now }
 {

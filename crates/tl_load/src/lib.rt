@@ -4,18 +4,22 @@
 mod bytes;
 mod fault;
 mod judge;
+mod keeper;
 mod laws;
 mod line;
 mod loader;
+mod loader_into;
 mod source;
 #[cfg(test)]
 mod tests;
 
 pub use bytes::first_bad;
 pub use fault::{LineFault, LoadFault};
+pub use keeper::{CanonicalText, Keeper};
 pub use laws::{
     line_has_record, line_is_judged_as_its_record, spelled_or_one_fault, spelled_records_fit,
     text_spells_its_records,
 };
 pub use loader::Loader;
+pub use loader_into::LoaderInto;
 pub use source::{Counted, SlowSource, Source};

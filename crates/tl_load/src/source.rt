@@ -1,17 +1,24 @@
 //! Where bytes come from.
 
-ghost use Rattle.std.specs.Prelude.{◌≡◌, ◌≢◌, ◌≤◌, ◌<◌, ◌+◌, ℕ, List, Option, Some, length, IfOk, is_ok, IsTrue, ◌↔◌, if◌then◌else◌};
+ghost use Rattle.std.specs.Prelude.{◌≡◌, ◌≤◌, ◌<◌, ◌+◌, ℕ, List, Option, Some, length, IfOk, MatchResult, is_ok, IsTrue, ◌↔◌, if◌then◌else◌, min};
 ghost use Rattle.std.specs.Result.{IsErr};
-ghost use Rattle.tl_load.specs.Countdown.{counted_down};
+ghost use Rattle.tl_load.specs.Sources.{RoseBy, counted_down};
 ghost use Rattle.std.specs.Io.KnownBytes.{ReadConsumes};
 
 use std::io::Read;
+use std::marker::Model;
 use tl_layout::DeviceFault;
 
 /// A device that bytes are read from, and that may fail.
 pub trait Source {
     /// How many reads have failed.
     ghost failed: { Self → ℕ };
+
+    /// How many reads were made, modulo 2^64.
+    ghost reads: { Self → ℕ };
+
+    /// How many bytes they gave, modulo 2^64.
+    ghost given: { Self → ℕ };
 
     /// The bytes that reads will give from here on, where they are known.
     ghost remaining: { Self → Option (List ℕ) };
@@ -24,6 +31,8 @@ pub trait Source {
     fn read(&mut self, buf: &mut [u8]) -> Result<usize, DeviceFault>
         requires { failed self.old < u64.MAX }
         ensures failures { failed self.new ≡ (if is_ok result then failed self.old else failed self.old + 1) }
+        ensures reads { RoseBy 1 (reads self.old) (reads self.new) }
+        ensures given { MatchResult result (λ n. RoseBy n (given self.old) (given self.new)) (λ _. RoseBy 0 (given self.old) (given self.new)) }
         ensures bound { IfOk result (λ n. n ≤ length buf.new) }
         ensures bytes { ReadConsumes (remaining self.old) (remaining self.new) result buf.new };
 }
@@ -32,6 +41,8 @@ pub trait Source {
 #[derive(Drop)]
 pub struct Counted<T> {
     inner: T,
+    reads: u64,
+    given: u64,
     failures: u64,
 }
 
@@ -41,12 +52,21 @@ impl<T: Read> Counted<T> {
         ensures failures { ⟦<Counted<T> as Source>⟧.failed result ≡ 0 }
         ensures bytes { ⟦<Counted<T> as Source>⟧.remaining result ≡ T.remaining inner }
     {
-        Counted { inner, failures: 0 }
+        Counted {
+            inner,
+            reads: 0,
+            given: 0,
+            failures: 0,
+        }
     }
 }
 
 impl<T: Read> Source for Counted<T> {
     ghost failed = { λ s. s.failures };
+
+    ghost reads = { λ s. s.reads };
+
+    ghost given = { λ s. s.given };
 
     ghost remaining = { λ s. T.remaining s.inner };
 
@@ -55,8 +75,12 @@ impl<T: Read> Source for Counted<T> {
     }
 
     fn read(&mut self, buf: &mut [u8]) -> Result<usize, DeviceFault> {
+        self.reads = self.reads.wrapping_add(1);
         match self.inner.read(buf) {
-            Ok(count) => Ok(count),
+            Ok(count) => {
+                self.given = self.given.wrapping_add(count as u64);
+                Ok(count)
+            }
             Err(_) => {
                 self.failures += 1;
                 Err(DeviceFault)
@@ -71,8 +95,20 @@ pub struct SlowSource<'a> {
     bytes: &'a [u8],
     most: usize,
     reads_to_failure: Option<u64>,
+    reads: u64,
+    given: u64,
     failures: u64,
-    ghost gives: { 0 < most },
+}
+
+impl<'a> Model for SlowSource<'a> {
+    ghost use Rattle.std.specs.Prelude.{◌<◌};
+    ghost use Rattle.tl_load.specs.Sources.{LentBytes};
+
+    ghost Value = { LentBytes };
+
+    ghost view = { λ s. record { left = s.bytes.now; most = s.most; failing = s.reads_to_failure; reads = s.reads; given = s.given; failures = s.failures } };
+
+    ghost invariant = { λ s. 0 < s.most };
 }
 
 impl<'a> SlowSource<'a> {
@@ -80,15 +116,14 @@ impl<'a> SlowSource<'a> {
     /// other; for `None` none does.
     pub fn new(bytes: &'a [u8], most: usize, failing: Option<u64>) -> Self
         requires { 0 < most }
-        ensures failures { ⟦<SlowSource<'a> as Source>⟧.failed result ≡ 0 }
-        ensures bytes { ⟦<SlowSource<'a> as Source>⟧.remaining result ≡ Some bytes.now }
-        ensures most { result.most ≡ most }
-        ensures failing { result.reads_to_failure ≡ failing }
+        ensures { result ≡ record { left = bytes.now; most = most; failing = failing; reads = 0; given = 0; failures = 0 } }
     {
         SlowSource {
             bytes,
             most,
             reads_to_failure: failing,
+            reads: 0,
+            given: 0,
             failures: 0,
         }
     }
@@ -115,7 +150,11 @@ fn is_failing_read(reads_to_failure: &mut Option<u64>) -> bool
 impl Source for SlowSource<'_> {
     ghost failed = { λ s. s.failures };
 
-    ghost remaining = { λ s. Some s.bytes.now };
+    ghost reads = { λ s. s.reads };
+
+    ghost given = { λ s. s.given };
+
+    ghost remaining = { λ s. Some s.left };
 
     fn failures(&self) -> u64 {
         self.failures
@@ -124,24 +163,28 @@ impl Source for SlowSource<'_> {
     fn read(&mut self, buf: &mut [u8]) -> Result<usize, DeviceFault>
         requires { self.old.failures < u64.MAX }
         ensures failures { self.new.failures ≡ (if is_ok result then self.old.failures else self.old.failures + 1) }
+        ensures reads { RoseBy 1 self.old.reads self.new.reads }
+        ensures given { MatchResult result (λ n. RoseBy n self.old.given self.new.given) (λ _. RoseBy 0 self.old.given self.new.given) }
         ensures bound { IfOk result (λ n. n ≤ length buf.new) }
-        ensures bytes { ReadConsumes (Some self.old.bytes.now) (Some self.new.bytes.now) result buf.new }
-        // No more than the most that a read gives.
-        ensures few { IfOk result (λ n. n ≤ self.old.most) }
+        ensures bytes { ReadConsumes (Some self.old.left) (Some self.new.left) result buf.new }
+        // As many as a read gives, as the buffer takes, or as are left, whichever is least.
+        ensures count { IfOk result (λ n. n ≡ min self.old.most (min (length buf.old) (length self.old.left))) }
         // The read that is to fail does, and no other.
-        ensures fails { IsErr result ↔ (self.old.reads_to_failure ≡ Some 1) }
-        ensures counted { self.new.reads_to_failure ≡ counted_down self.old.reads_to_failure }
+        ensures fails { IsErr result ↔ (self.old.failing ≡ Some 1) }
+        ensures counted { self.new.failing ≡ counted_down self.old.failing }
         ensures most { self.new.most ≡ self.old.most }
     {
+        self.reads = self.reads.wrapping_add(1);
         if is_failing_read(&mut self.reads_to_failure) {
             self.failures += 1;
             return Err(DeviceFault);
         }
-        let count = self.most.min(buf.len()).min(self.bytes.len());
+        let count = self.most.min(buf.len().min(self.bytes.len()));
         let (front, rest) = self.bytes.split_at(count);
         let taken = &mut buf[..count];
         taken.copy_from_slice(front);
         self.bytes = rest;
+        self.given = self.given.wrapping_add(count as u64);
         Ok(count)
     }
 }

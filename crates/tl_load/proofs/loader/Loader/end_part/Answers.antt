@@ -1,26 +1,17 @@
-use Rattle.std.proofs.Common.{◌≡◌, ℕ, List, [], ◌∷◌, ◌++◌, sym, ap, ◌∙◌}
-use Rattle.std.specs.Prelude.{None}
-use Rattle.tl_load.specs.Loaded.{Loaded, WasFed}
-use Rattle.tl_load.proofs.Histories.{fed_closed, fed_closed_standing, told_at, with_fault_told, stands_at}
-use Rattle.tl_load.proofs.Views.{none_is}
+use Rattle.std.proofs.Common.{◌≡◌, ℕ, List, [], ◌∷◌, ◌++◌, Result, Ok, Err, sym, ap, subst, ◌∙◌}
+use Rattle.tl_load.specs.Loaded.{WasFed}
+use Rattle.tl_load.specs.Keeping.{WasFedInto}
+use Rattle.tl_load.proofs.Listed.{holds_list, into_of, of_into, listed_after, at_fault}
 use Rattle.tl_load.proofs.loader.Loader.end_part.Goals as goal
 
-pub returns-in-Some-clause-fed : goal.returns-in-Some-clause-fed
-returns-in-Some-clause-fed c limit closed open_part w = fed_closed_standing limit c.args.self.now c.in-Some.fault closed open_part (sym (ap (λ (l : Loaded). l.fault) c.self.view_is) ∙ c.in-Some.is) w
+fed : (c : goal.After-end_part) (limit : ℕ) (closed : List (List ℕ)) (open_part : List ℕ) → WasFed limit c.args.self.now closed open_part → WasFedInto holds_list limit c.self.inside.inner closed open_part
+fed c limit closed open_part w = into_of limit c.self.inside.inner closed open_part c.self.invariant (rw (← c.self.view_is) at w)
 
-pub returns-in-Some-clause-fault : goal.returns-in-Some-clause-fault
-returns-in-Some-clause-fault c limit closed open_part w =
-    let stands = sym (ap (λ (l : Loaded). l.fault) c.self.view_is) ∙ c.in-Some.is in
-    stands_at limit c.args.self.now _ _ c.in-Some.fault stands (fed_closed_standing limit c.args.self.now c.in-Some.fault closed open_part stands w)
-
-goes_on : (c : goal.After-keep) (limit : ℕ) (closed : List (List ℕ)) (open_part : List ℕ) → WasFed limit c.args.self.now closed open_part → WasFed limit c.keep.new.self (closed ++ open_part ∷ []) []
-goes_on c limit closed open_part w =
-    let none : c.args.self.now.fault ≡ None = sym (ap (λ (l : Loaded). l.fault) c.self.view_is) ∙ none_is c.self.inside.fault c.in_default.not-Some in
-    rw c.keep.ensures.kept (fed_closed limit c.args.self.now c.close_part-outcome.new.self c.close_part-outcome.result closed open_part none c.close_part-outcome.ensures.limit c.close_part-outcome.ensures.fault c.close_part-outcome.ensures.closes w)
+pub invariant_of-self : goal.invariant_of-self
+invariant_of-self c = listed_after c.self.inside.inner c.end_part.new.self c.end_part.result c.self.invariant c.end_part.ensures.kept c.end_part.ensures.told (λ f e. (at_fault _ c.self.inside.inner.fault f e c.end_part.ensures.stood).0)
 
 pub returns-clause-fed : goal.returns-clause-fed
-returns-clause-fed c = goes_on c
+returns-clause-fed c limit closed open_part w = of_into limit c.end_part.new.self (closed ++ open_part ∷ []) [] (c.end_part.ensures.fed limit closed open_part (fed c limit closed open_part w))
 
 pub returns-clause-fault : goal.returns-clause-fault
-returns-clause-fault c limit closed open_part w =
-    rw c.keep.ensures.same (told_at limit c.keep.new.self _ _ c.close_part-outcome.result (rw c.keep.ensures.kept (with_fault_told c.close_part-outcome.result c.close_part-outcome.new.self)) (goes_on c limit closed open_part w))
+returns-clause-fault c limit closed open_part w = c.end_part.ensures.fault limit closed open_part (fed c limit closed open_part w)

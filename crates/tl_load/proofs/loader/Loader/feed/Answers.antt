@@ -1,18 +1,27 @@
-use Rattle.std.proofs.Common.{◌≡◌, ℕ, List, ◌++◌, sym, ap, ◌∙◌}
-use Rattle.std.specs.Prelude.{None}
-use Rattle.tl_load.specs.Loaded.{Loaded, WasFed}
-use Rattle.tl_load.proofs.Histories.{fed_piece, told_at, with_fault_told}
-use Rattle.tl_load.proofs.Views.{none_is}
+use Rattle.std.proofs.Common.{◌≡◌, ℕ, List, [], ◌∷◌, ◌++◌, Result, Ok, Err, sym, ap, subst, ◌∙◌}
+use Rattle.tl_load.specs.Loaded.{WasFed}
+use Rattle.tl_load.specs.Keeping.{WasFedInto}
+use Rattle.tl_load.proofs.Listed.{holds_list, into_of, of_into, listed_after, at_fault}
+use Rattle.std.specs.Prelude.{OnOk}
+use Rattle.tl_load.specs.declared.fault.LoadFault.{LoadFault}
+use Rattle.tl_load.specs.Loaded.{IsWellAfter}
 use Rattle.tl_load.proofs.loader.Loader.feed.Goals as goal
 
-goes_on : (c : goal.After-keep) (limit : ℕ) (closed : List (List ℕ)) (open_part : List ℕ) → WasFed limit c.args.self.now closed open_part → WasFed limit c.keep.new.self closed (open_part ++ c.args.piece.now)
-goes_on c limit closed open_part w =
-    let none : c.args.self.now.fault ≡ None = sym (ap (λ (l : Loaded). l.fault) c.self.view_is) ∙ none_is c.self.inside.fault c.in_default.not-Some in
-    rw c.keep.ensures.kept (fed_piece limit c.args.self.now c.take_piece-outcome.new.self c.args.piece.now c.take_piece-outcome.result closed open_part none c.take_piece-outcome.ensures.same_part c.take_piece-outcome.ensures.takes w)
+fed : (c : goal.After-feed) (limit : ℕ) (closed : List (List ℕ)) (open_part : List ℕ) → WasFed limit c.args.self.now closed open_part → WasFedInto holds_list limit c.self.inside.inner closed open_part
+fed c limit closed open_part w = into_of limit c.self.inside.inner closed open_part c.self.invariant (rw (← c.self.view_is) at w)
+
+pub invariant_of-self : goal.invariant_of-self
+invariant_of-self c = listed_after c.self.inside.inner c.feed.new.self c.feed.result c.self.invariant c.feed.ensures.kept c.feed.ensures.told (λ f e. (at_fault _ c.self.inside.inner.fault f e c.feed.ensures.stood).0)
 
 pub returns-clause-fed : goal.returns-clause-fed
-returns-clause-fed c = goes_on c
+returns-clause-fed c limit closed open_part w = of_into limit c.feed.new.self closed (open_part ++ c.args.piece.now) (c.feed.ensures.fed limit closed open_part (fed c limit closed open_part w))
 
 pub returns-clause-fault : goal.returns-clause-fault
-returns-clause-fault c limit closed open_part w =
-    rw c.keep.ensures.same (told_at limit c.keep.new.self _ _ c.take_piece-outcome.result (rw c.keep.ensures.kept (with_fault_told c.take_piece-outcome.result c.take_piece-outcome.new.self)) (goes_on c limit closed open_part w))
+returns-clause-fault c limit closed open_part w = c.feed.ensures.fault limit closed open_part (fed c limit closed open_part w)
+
+well : (c : goal.After-feed) (r : Result (Unit {0}) LoadFault) → OnOk r (IsWellAfter (WasFedInto holds_list) c.self.inside.inner c.args.piece.now) → OnOk r (IsWellAfter WasFed c.args.self.now c.args.piece.now)
+well c (Ok x) h = λ limit closed open_part w. h limit closed open_part (fed c limit closed open_part w)
+well c (Err f) h = tt
+
+pub returns-clause-well : goal.returns-clause-well
+returns-clause-well c = well c c.feed.result c.feed.ensures.well

@@ -9,4 +9,7 @@ copied bytes front back buf n le f b =
     rw (take_at front buf n len, f, b) (sym (take-append-drop n bytes))
 
 pub returns-clause-bytes : goal.returns-clause-bytes
-returns-clause-bytes c = (copied _ _ _ _ _ (omega arith) (c.copy_from_slice.ensures.after ∙ c.split_at.ensures.front) c.split_at.ensures.back, λ none some. c.split_at.ensures.back ∙ drop_all c.min-count.result c.args.self.now.bytes.now (omega arith))
+returns-clause-bytes c = rw (← c.self.view_is) (
+  copied c.self.inside.bytes.now _ _ _ _ (omega arith) (c.copy_from_slice.ensures.after ∙ c.split_at.ensures.front) c.split_at.ensures.back,
+  λ none some. c.split_at.ensures.back ∙ drop_all c.min-count.result c.self.inside.bytes.now (omega arith),
+)

@@ -1,0 +1,73 @@
+-- A loader over a keeper: what it keeps, seen together with the list of records that the keeper holds.
+use Rattle.std.specs.Prelude.{◌≡◌, ℕ, ◌+◌, ◌*◌, ◌^◌, ◌-◌, ◌<◌, ◌≤◌, List, [], ◌∷◌, length, slice_index, Option, MatchOption, Result, OnOk}
+use Rattle.tl_layout.specs.declared.record_type.Record.{Record}
+use Rattle.tl_load.specs.declared.fault.LoadFault.{LoadFault}
+use Rattle.tl_load.specs.Lines.{IsWithoutLineFeed}
+use Rattle.tl_load.specs.Outcome.{count_of}
+use Rattle.tl_load.specs.Choice.{tiger}
+use Rattle.tl_load.specs.Loaded.{Loaded, IsOfLines, HasLoaded, IsFaultHowever}
+
+-- what was kept so far, how many records of each type, by the byte in column 1, the number of closed parts, the lines of the
+-- open part that were judged, the bytes of its unfinished line, the limit of records of one type, and the standing fault
+pub record LoadedInto (K : Type 0) : Type 0 where
+  pub kept : K
+  pub counts : List ℕ
+  pub parts : ℕ
+  pub judged : ℕ
+  pub unfinished : List ℕ
+  pub limit : ℕ
+  pub fault : Option LoadFault
+
+-- the loader, if these records were kept
+abbrev pub seen : {K : Type 0} → LoadedInto K → List Record → Loaded
+seen l records = record { records = records; parts = l.parts; judged = l.judged; unfinished = l.unfinished; limit = l.limit; fault = l.fault }
+
+-- so many records of each type there are
+abbrev pub AreCounted : List ℕ → List Record → Type 0
+AreCounted counts records = (t : ℕ) → t < 128 → slice_index counts t ≡ count_of tiger t records
+
+-- these records were kept, and counted
+pub record AreKept {K : Type 0} (holds : K → List Record → Type 0) (l : LoadedInto K) (records : List Record) : Type 0 where
+  pub held : holds l.kept records
+  pub counted : AreCounted l.counts records
+
+-- the loader was fed these closed parts and these bytes of the open part, and their records were kept
+pub record WasFedInto {K : Type 0} (holds : K → List Record → Type 0) (limit : ℕ) (l : LoadedInto K) (closed : List (List ℕ)) (open_part : List ℕ) : Type 0 where
+  pub limit_is : l.limit ≡ limit
+  pub comes : MatchOption l.fault
+      ((records : List Record) × AreKept holds l records × HasLoaded limit (seen l records) closed open_part)
+      (λ f. IsOfLines f → IsFaultHowever limit closed open_part f)
+
+-- some list of records was kept
+abbrev pub HasSome : {K : Type 0} → (K → List Record → Type 0) → LoadedInto K → Type 0
+HasSome holds l = (records : List Record) × AreKept holds l records
+
+-- the records of all nine types
+abbrev pub total : List ℕ → ℕ
+total counts = slice_index counts 49 + slice_index counts 50 + slice_index counts 52 + slice_index counts 53 + slice_index counts 54
+    + slice_index counts 55 + slice_index counts 56 + slice_index counts 73 + slice_index counts 80
+
+-- the most bytes that were fed, if each line that was judged had 230 with its end
+abbrev pub bytes_used : {K : Type 0} → LoadedInto K → ℕ
+bytes_used l = 230 * total l.counts + length l.unfinished
+
+-- the fields of a loader fit one another
+pub record IsLoader (counts : List ℕ) (unfinished : List ℕ) (parts judged limit : ℕ) : Type 0 where
+  pub counts_len : length counts ≡ 128
+  pub within : (t : ℕ) → t < 128 → slice_index counts t ≤ limit
+  pub judged_low : judged ≤ total counts
+  pub limit_low : limit ≤ 10000000
+  pub no_feed : IsWithoutLineFeed unfinished
+  pub short : length unfinished ≤ 229
+  pub begun : 0 < length unfinished → parts < 2 ^ 64 - 1
+
+-- what only the end of a part and a fault change
+pub record IsSamePart {K : Type 0} (before after : LoadedInto K) : Type 0 where
+  pub parts : after.parts ≡ before.parts
+  pub limit : after.limit ≡ before.limit
+  pub fault : after.fault ≡ before.fault
+
+-- a step of loaders, whatever list was kept before it: where it was `Ok`, a list is kept after it
+abbrev pub Lifts : {K T : Type 0} → (K → List Record → Type 0) → (Loaded → Result T LoadFault → Loaded → Type 0) → LoadedInto K → Result T LoadFault → LoadedInto K → Type 0
+Lifts holds Step before result after = (records : List Record) → AreKept holds before records
+    → (more : List Record) × OnOk result (AreKept holds after more) × Step (seen before records) result (seen after more)

@@ -1,0 +1,81 @@
+//! What becomes of the records that a loader takes.
+
+ghost use Rattle.std.specs.Prelude.{◌≡◌, List, [], ◌∷◌, ◌++◌, OnOk};
+ghost use Rattle.tl_layout.specs.RecordText.{text_of};
+ghost use Rattle.tl_layout.specs.Tables.{HoldsByType};
+ghost use Rattle.tl_layout.specs.declared.record_type.Record.{Record};
+
+use std::alloc::{AllocError, Global};
+use tl_layout::{Layout, Record, Tabled, Tables};
+
+/// Where a loader puts its records.
+pub trait Keeper: Drop + Sized {
+    /// These records were kept, in this order. A keeper may forget part of it, as tables forget how types follow one another.
+    ghost holds: { Self → List Record → Type 0 };
+
+    /// A keeper without records. It takes no memory.
+    fn empty(alloc: Global) -> Self
+        ensures { holds result [] };
+
+    /// Keeps one more record, behind those that were kept. Once memory was refused nothing is said of what is kept.
+    fn keep<L: Tabled>(&mut self, found: L) -> Result<(), AllocError>
+        ensures { (records : List Record) → holds self.old records → OnOk result (holds self.new (records ++ L.as_record found ∷ [])) };
+}
+
+/// The records in the order of their lines.
+impl Keeper for Vec<Record> {
+    ghost holds = { λ kept records. kept.items ≡ records };
+
+    fn empty(alloc: Global) -> Vec<Record> {
+        Vec::new(alloc)
+    }
+
+    fn keep<L: Tabled>(&mut self, found: L) -> Result<(), AllocError> {
+        Ok(self.push(found.into_record())?)
+    }
+}
+
+/// The records of each type in the order of their lines.
+impl Keeper for Tables {
+    ghost holds = { HoldsByType };
+
+    fn empty(alloc: Global) -> Tables {
+        Tables::new(alloc)
+    }
+
+    fn keep<L: Tabled>(&mut self, found: L) -> Result<(), AllocError> {
+        found.push_into(self)
+    }
+}
+
+/// The canonical text of records: their canonical spellings in the order of their lines, each followed by LF.
+#[derive(Drop)]
+pub struct CanonicalText {
+    /// The bytes of the text.
+    pub bytes: Vec<u8>,
+}
+
+// Appends the line of one record: its canonical spelling and LF.
+fn append_line<L: Layout>(text: &mut Vec<u8>, found: &L) -> Result<(), AllocError>
+    ensures { OnOk result (text.new.items ≡ text.old.items ++ (L.spelling found.now ++ 10 ∷ [])) }
+{
+    let mut line = [0; 228];
+    let len = L::LEN;
+    found.put(&mut line[..len]);
+    text.extend_from_slice(&line[..len])?;
+    Ok(text.push(b'\n')?)
+}
+
+impl Keeper for CanonicalText {
+    ghost holds = { λ text records. text.bytes.items ≡ text_of records };
+
+    fn empty(alloc: Global) -> CanonicalText {
+        CanonicalText {
+            bytes: Vec::new(alloc),
+        }
+    }
+
+    fn keep<L: Tabled>(&mut self, found: L) -> Result<(), AllocError> {
+        append_line(&mut self.bytes, &found)
+    }
+}

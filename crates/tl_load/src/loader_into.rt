@@ -1,0 +1,434 @@
+//! The loader over any keeper: lines out of pieces of bytes, each judged when it ends, and its record kept.
+
+ghost use Rattle.std.specs.Prelude.{◌≡◌, ◌≤◌, ◌<◌, ◌+◌, ◌*◌, ℕ, List, [], ◌∷◌, ◌++◌, None, Some, length, take, replicate, IfSome, Err, MatchResult, IfOk, IfErr, OnOk, is_ok, if◌then◌else◌};
+ghost use Rattle.std.specs.Result.{IsErr};
+ghost use Rattle.std.specs.Io.KnownBytes.{IsAtEnd};
+ghost use Rattle.tl_layout.specs.declared.record_type.Record.{Record};
+ghost use Rattle.tl_load.specs.Choice.{tiger, judged, as_record};
+ghost use Rattle.tl_load.specs.Lines.{IsWithoutLineFeed};
+ghost use Rattle.tl_load.specs.LineOf.{judged_as};
+ghost use Rattle.tl_load.specs.Outcome.{Accepts, FaultAt};
+ghost use Rattle.tl_load.specs.Loaded.{FedPart, IsNotDevice, is_device, IsOfLines, IsFaultHowever, IsWellAfter, all_parts};
+ghost use Rattle.tl_load.specs.Keeping.{WasFedInto, HasSome, IsSamePart, Lifts, total, bytes_used};
+ghost use Rattle.tl_load.specs.Sources.{Gave, StopsThere};
+ghost use Rattle.tl_load.specs.Steps.{Takes, Ends, Closes, Judges, JudgesAs, Adds, Reads, TakesWell, with_fault};
+ghost use Rattle.tl_load.specs.declared.fault.LineFault.TheVariants.{UnknownType};
+
+use crate::fault::{LineFault, LoadFault};
+use crate::judge::judge_line;
+use crate::keeper::Keeper;
+use crate::line::without_carriage_return;
+use crate::source::Source;
+use arrayvec::ArrayVec;
+use memchr::memchr;
+use std::alloc::Global;
+use std::marker::Model;
+use tl_layout::{Rec1, Rec2, Rec4, Rec5, Rec6, Rec7, Rec8, RecI, RecP, Tabled};
+
+/// The most bytes of an unfinished line that are kept: a line of 228 bytes and a CR.
+const LINE_BYTES: usize = 229;
+
+/// The bytes of a read.
+const READ_BYTES: usize = 4096;
+
+/// The most records of one type.
+pub(crate) const MOST_RECORDS: u64 = 10_000_000;
+
+/// Takes the bytes of a set of parts, one part after the other and each in any pieces, and judges each line when it
+/// ends. Its record goes to a [`Keeper`], and the loader itself keeps the unfinished line alone. After a fault every call
+/// answers that fault.
+#[derive(Drop)]
+pub struct LoaderInto<K> {
+    kept: K,
+    counts: [u64; 128],
+    line: ArrayVec<u8, 229>,
+    parts: u64,
+    judged: u64,
+    limit: u64,
+    fault: Option<LoadFault>,
+}
+
+impl<K> Model for LoaderInto<K> {
+    ghost use Rattle.tl_load.specs.Keeping.{LoadedInto, IsLoader};
+
+    ghost Value = { LoadedInto K };
+
+    ghost view = { λ l. record { kept = l.kept; counts = l.counts; parts = l.parts; judged = l.judged; unfinished = l.line.items; limit = l.limit; fault = l.fault } };
+
+    ghost invariant = { λ l. IsLoader l.counts l.line.items l.parts l.judged l.limit };
+}
+
+// No record of any type.
+fn no_counts() -> [u64; 128]
+    ensures { result ≡ replicate 128 0 }
+{
+    [0; 128]
+}
+
+impl<K: Keeper> LoaderInto<K> {
+    /// A loader that was fed nothing, for at most 10,000,000 records of each type. It takes no memory.
+    pub fn new(alloc: Global) -> LoaderInto<K>
+        ensures fed { WasFedInto K.holds 10000000 result [] [] }
+        ensures parts { result.parts ≡ 0 }
+        ensures fault { result.fault ≡ None }
+    {
+        LoaderInto::with_limit(alloc, MOST_RECORDS)
+    }
+
+    /// A loader that was fed nothing, for at most `limit` records of each type, from 1 to 10,000,000. It takes no memory.
+    pub fn with_limit(alloc: Global, limit: u64) -> LoaderInto<K>
+        requires some { 1 ≤ limit }
+        requires most { limit ≤ 10000000 }
+        ensures fed { WasFedInto K.holds limit result [] [] }
+        ensures parts { result.parts ≡ 0 }
+        ensures fault { result.fault ≡ None }
+    {
+        LoaderInto {
+            kept: K::empty(alloc),
+            counts: no_counts(),
+            line: ArrayVec::new(),
+            parts: 0,
+            judged: 0,
+            limit,
+            fault: None,
+        }
+    }
+
+    /// The number of closed parts.
+    pub fn parts(&self) -> u64
+        ensures { result ≡ self.now.parts }
+    {
+        self.parts
+    }
+
+    // Keeps the record of a line, and counts it.
+    fn add<L: Tabled>(&mut self, found: L) -> Result<(), LoadFault>
+        ensures adds { Lifts K.holds (Adds (L.as_record found)) self.old result self.new }
+        ensures same_part { IsSamePart self.old self.new }
+        ensures unfinished { self.new.unfinished ≡ self.old.unfinished }
+        ensures judged { OnOk result (self.new.judged ≡ self.old.judged + 1) }
+        ensures one_more { OnOk result (total self.new.counts ≡ total self.old.counts + 1) }
+        ensures no_device { IfErr result IsNotDevice }
+    {
+        let rtype = L::RTYPE;
+        let count = self.counts[rtype as usize];
+        if self.limit <= count {
+            return Err(LoadFault::TooManyRecords { rtype });
+        }
+        match self.kept.keep(found) {
+            Ok(()) => {
+                self.counts[rtype as usize] = count + 1;
+                self.judged += 1;
+                Ok(())
+            }
+            Err(_) => Err(LoadFault::Memory),
+        }
+    }
+
+    // Judges the next line by the layout of its type.
+    fn judge_as<L: Tabled>(&mut self, line: &[u8]) -> Result<(), LoadFault>
+        requires room { self.old.parts < u64.MAX }
+        requires begins { take 1 line.now ≡ L.RTYPE ∷ [] }
+        ensures judges { Lifts K.holds (JudgesAs line.now (as_record L.as_record (judged_as L.LEN L.reading line.now))) self.old result self.new }
+        ensures short { OnOk result (length line.now ≤ 228) }
+        ensures same_part { IsSamePart self.old self.new }
+        ensures unfinished { self.new.unfinished ≡ self.old.unfinished }
+        ensures judged { OnOk result (self.new.judged ≡ self.old.judged + 1) }
+        ensures one_more { OnOk result (total self.new.counts ≡ total self.old.counts + 1) }
+        ensures no_device { IfErr result IsNotDevice }
+    {
+        match judge_line::<L>(line) {
+            Ok(found) => self.add(found),
+            Err(fault) => Err(fault.at(self.parts + 1, self.judged + 1)),
+        }
+    }
+
+    // Refuses a line whose first byte is no record type.
+    fn refuse_unknown(&mut self, line: &[u8]) -> Result<(), LoadFault>
+        requires room { self.old.parts < u64.MAX }
+        requires unknown { judged line.now ≡ Err UnknownType }
+        ensures judges { Lifts K.holds (Judges line.now) self.old result self.new }
+        ensures refused { IsErr result }
+        ensures unchanged { self.new ≡ self.old }
+        ensures no_device { IfErr result IsNotDevice }
+    {
+        Err(LineFault::UnknownType.at(self.parts + 1, self.judged + 1))
+    }
+
+    // Judges the next line, which has neither LF nor the CR before it, by its first byte.
+    #[tactic(auto, unfolding(crate::specs::Choice::judged, crate::specs::Choice::judged_by))]
+    fn judge_next(&mut self, line: &[u8]) -> Result<(), LoadFault>
+        requires { self.old.parts < u64.MAX }
+        ensures judges { Lifts K.holds (Judges line.now) self.old result self.new }
+        ensures short { OnOk result (length line.now ≤ 228) }
+        ensures same_part { IsSamePart self.old self.new }
+        ensures unfinished { self.new.unfinished ≡ self.old.unfinished }
+        ensures judged { OnOk result (self.new.judged ≡ self.old.judged + 1) }
+        ensures one_more { OnOk result (total self.new.counts ≡ total self.old.counts + 1) }
+        ensures no_device { IfErr result IsNotDevice }
+    {
+        match line {
+            [b'1', ..] => self.judge_as::<Rec1>(line),
+            [b'2', ..] => self.judge_as::<Rec2>(line),
+            [b'4', ..] => self.judge_as::<Rec4>(line),
+            [b'5', ..] => self.judge_as::<Rec5>(line),
+            [b'6', ..] => self.judge_as::<Rec6>(line),
+            [b'7', ..] => self.judge_as::<Rec7>(line),
+            [b'8', ..] => self.judge_as::<Rec8>(line),
+            [b'I', ..] => self.judge_as::<RecI>(line),
+            [b'P', ..] => self.judge_as::<RecP>(line),
+            _ => self.refuse_unknown(line),
+        }
+    }
+
+    // The 230th byte of a line has come: what came of the line is judged, and is too long or of no known type.
+    fn refuse_long(&mut self, bytes: &[u8]) -> Result<(), LoadFault>
+        requires room { self.old.parts < u64.MAX }
+        requires too_long { 229 < length self.old.unfinished + length bytes.now }
+        requires no_feed { IsWithoutLineFeed bytes.now }
+        ensures takes { Lifts K.holds (Takes bytes.now) self.old result self.new }
+        ensures same_part { IsSamePart self.old self.new }
+        ensures refused { IsErr result }
+        ensures no_device { IfErr result IsNotDevice }
+    {
+        let mut line = self.line.take();
+        let rest = LINE_BYTES - line.len();
+        let _ = line.try_extend_from_slice(&bytes[..rest]);
+        self.judge_next(line.as_slice())
+    }
+
+    // Keeps bytes of a line that no LF has ended yet.
+    fn hold(&mut self, bytes: &[u8]) -> Result<(), LoadFault>
+        requires room { self.old.parts < u64.MAX }
+        requires no_feed { IsWithoutLineFeed bytes.now }
+        ensures takes { Lifts K.holds (Takes bytes.now) self.old result self.new }
+        ensures same_part { IsSamePart self.old self.new }
+        ensures used { OnOk result (bytes_used self.new ≡ bytes_used self.old + length bytes.now) }
+        ensures most { OnOk result (bytes_used self.new ≤ 20700000229) }
+        ensures short { OnOk result (length self.new.unfinished < 230) }
+        ensures no_device { IfErr result IsNotDevice }
+    {
+        match self.line.try_extend_from_slice(bytes) {
+            Ok(()) => Ok(()),
+            Err(_) => self.refuse_long(bytes),
+        }
+    }
+
+    // An LF came after bytes that were kept: they are a line.
+    fn end_held_line(&mut self) -> Result<(), LoadFault>
+        requires { self.old.parts < u64.MAX }
+        ensures takes { Lifts K.holds (Takes (10 ∷ [])) self.old result self.new }
+        ensures same_part { IsSamePart self.old self.new }
+        ensures used { OnOk result (bytes_used self.old + 1 ≤ bytes_used self.new) }
+        ensures no_device { IfErr result IsNotDevice }
+    {
+        let line = self.line.take();
+        self.judge_next(without_carriage_return(line.as_slice()))
+    }
+
+    // Takes the bytes before an LF, and the LF. They are judged where they lie, unless a line was begun.
+    fn end_line(&mut self, bytes: &[u8]) -> Result<(), LoadFault>
+        requires room { self.old.parts < u64.MAX }
+        requires no_feed { IsWithoutLineFeed bytes.now }
+        ensures takes { Lifts K.holds (Takes (bytes.now ++ 10 ∷ [])) self.old result self.new }
+        ensures same_part { IsSamePart self.old self.new }
+        ensures used { OnOk result (bytes_used self.old + length bytes.now + 1 ≤ bytes_used self.new) }
+        ensures no_device { IfErr result IsNotDevice }
+    {
+        if self.line.is_empty() {
+            return self.judge_next(without_carriage_return(bytes));
+        }
+        self.hold(bytes)?;
+        self.end_held_line()
+    }
+
+    // Takes a piece of the open part.
+    fn take_piece(&mut self, piece: &[u8]) -> Result<(), LoadFault>
+        requires { self.old.parts < u64.MAX }
+        ensures takes { Lifts K.holds (Takes piece.now) self.old result self.new }
+        ensures same_part { IsSamePart self.old self.new }
+        ensures used { OnOk result (bytes_used self.old + length piece.now ≤ bytes_used self.new) }
+        ensures most { OnOk result (bytes_used self.new ≤ 20700000229) }
+        ensures short { OnOk result (length self.new.unfinished < 230) }
+        ensures no_device { IfErr result IsNotDevice }
+    {
+        // From here on the loader's invariant is known: no LF stands in what is unfinished.
+        let _ = &self.line;
+        let mut rest = piece;
+        while let Some(end) = memchr(b'\n', rest) {
+            let (line, more) = rest.split_at(end);
+            self.end_line(line)?;
+            rest = &more[1..];
+        }
+        self.hold(rest)
+    }
+
+    // Judges what is left of the open part.
+    fn end_last_line(&mut self) -> Result<(), LoadFault>
+        ensures ends { Lifts K.holds Ends self.old result self.new }
+        ensures same_part { IsSamePart self.old self.new }
+        ensures none_left { OnOk result (self.new.unfinished ≡ []) }
+        ensures no_device { IfErr result IsNotDevice }
+    {
+        if self.line.is_empty() {
+            return Ok(());
+        }
+        let tail = self.line.take();
+        self.judge_next(without_carriage_return(tail.as_slice()))
+    }
+
+    // Ends the open part, and opens the next one.
+    fn close_part(&mut self) -> Result<(), LoadFault>
+        requires { self.old.parts < u64.MAX }
+        ensures closes { Lifts K.holds Closes self.old result self.new }
+        ensures limit { self.new.limit ≡ self.old.limit }
+        ensures fault { self.new.fault ≡ self.old.fault }
+        ensures parts { self.new.parts ≡ (if is_ok result then self.old.parts + 1 else self.old.parts) }
+        ensures no_device { IfErr result IsNotDevice }
+    {
+        self.end_last_line()?;
+        self.parts += 1;
+        self.judged = 0;
+        Ok(())
+    }
+
+    // Feeds what the source gives until it gives nothing, and closes the part.
+    fn read_to_end<R: Source>(&mut self, source: &mut R) -> Result<(), LoadFault>
+        requires parts { self.old.parts < u64.MAX }
+        requires failures { R.failed source.old < u64.MAX }
+        ensures reads { (taken : List ℕ) × Gave R.remaining R.given source.old source.new taken × (length taken ≤ 20700004325)
+            × Lifts K.holds (Reads taken (IsAtEnd (R.remaining source.new))) self.old result self.new }
+        ensures stops { StopsThere R.remaining R.given R.reads source.old source.new (TakesWell K.holds self.old) }
+        ensures limit { self.new.limit ≡ self.old.limit }
+        ensures fault { self.new.fault ≡ self.old.fault }
+        ensures parts { self.new.parts ≡ (if is_ok result then self.old.parts + 1 else self.old.parts) }
+        ensures failures { R.failed source.new ≡ (if is_device result then R.failed source.old + 1 else R.failed source.old) }
+    {
+        // From here on the loader's invariant is known.
+        let _ = &self.line;
+        let mut buffer = [0; READ_BYTES];
+        loop {
+            let count = match source.read(&mut buffer) {
+                Ok(count) => count,
+                Err(_) => return Err(LoadFault::Device),
+            };
+            if count == 0 {
+                return self.close_part();
+            }
+            self.take_piece(&buffer[..count])?;
+        }
+    }
+
+    // Keeps the fault of a step: it stands from now on.
+    fn stand(&mut self, outcome: Result<(), LoadFault>) -> Result<(), LoadFault>
+        ensures same { result ≡ outcome }
+        ensures stands { self.new ≡ with_fault outcome self.old }
+    {
+        match outcome {
+            Ok(()) => Ok(()),
+            Err(fault) => {
+                self.fault = Some(fault);
+                Err(fault)
+            }
+        }
+    }
+
+    /// Takes a piece of the open part. A fault is the one of every set that goes on like this.
+    pub fn feed(&mut self, piece: &[u8]) -> Result<(), LoadFault>
+        requires { self.old.parts < u64.MAX }
+        // What was fed before is followed by the piece.
+        ensures fed { (limit : ℕ) (closed : List (List ℕ)) (open_part : List ℕ) → WasFedInto K.holds limit self.old closed open_part → WasFedInto K.holds limit self.new closed (open_part ++ piece.now) }
+        // A fault of the lines is the fault of the parts, however they go on.
+        ensures fault { (limit : ℕ) (closed : List (List ℕ)) (open_part : List ℕ) → WasFedInto K.holds limit self.old closed open_part
+            → IfErr result (λ f. IsOfLines f → IsFaultHowever limit closed (open_part ++ piece.now) f) }
+        // Each line is judged when it ends, or when its 230th byte comes.
+        ensures well { OnOk result (IsWellAfter (WasFedInto K.holds) self.old piece.now) }
+        ensures ok { OnOk result (self.new.fault ≡ None) }
+        ensures told { IfErr result (λ f. self.new.fault ≡ Some f) }
+        // After a fault nothing changes.
+        ensures stood { IfSome self.old.fault (λ f. (result ≡ Err f) × (self.new ≡ self.old)) }
+        ensures parts { self.new.parts ≡ self.old.parts }
+        ensures device { self.old.fault ≡ None → IfErr result IsNotDevice }
+        // What is kept goes on to be a list of records.
+        ensures kept { HasSome K.holds self.old → OnOk result (HasSome K.holds self.new) }
+    {
+        if let Some(fault) = self.fault {
+            return Err(fault);
+        }
+        let outcome = self.take_piece(piece);
+        self.stand(outcome)
+    }
+
+    /// Ends the open part.
+    pub fn end_part(&mut self) -> Result<(), LoadFault>
+        requires { self.old.parts < u64.MAX }
+        // The open part is closed, and nothing was fed since.
+        ensures fed { (limit : ℕ) (closed : List (List ℕ)) (open_part : List ℕ) → WasFedInto K.holds limit self.old closed open_part → WasFedInto K.holds limit self.new (closed ++ open_part ∷ []) [] }
+        // A fault of the lines is the fault of the closed parts, whatever follows.
+        ensures fault { (limit : ℕ) (closed : List (List ℕ)) (open_part : List ℕ) → WasFedInto K.holds limit self.old closed open_part
+            → IfErr result (λ f. IsOfLines f → IsFaultHowever limit (closed ++ open_part ∷ []) [] f) }
+        ensures ok { OnOk result (self.new.fault ≡ None) }
+        ensures told { IfErr result (λ f. self.new.fault ≡ Some f) }
+        // After a fault nothing changes.
+        ensures stood { IfSome self.old.fault (λ f. (result ≡ Err f) × (self.new ≡ self.old)) }
+        ensures parts { self.new.parts ≡ (if is_ok result then self.old.parts + 1 else self.old.parts) }
+        ensures device { self.old.fault ≡ None → IfErr result IsNotDevice }
+        ensures kept { HasSome K.holds self.old → OnOk result (HasSome K.holds self.new) }
+    {
+        if let Some(fault) = self.fault {
+            return Err(fault);
+        }
+        let outcome = self.close_part();
+        self.stand(outcome)
+    }
+
+    /// Reads a source to its end into the open part, and ends the part. The source is read by 4,096 bytes at most,
+    /// and no further than the read that brought a fault.
+    pub fn read_part<R: Source>(&mut self, source: &mut R) -> Result<(), LoadFault>
+        requires parts { self.old.parts < u64.MAX }
+        requires failures { R.failed source.old < u64.MAX }
+        // What the source gave went into the open part, and no endless source keeps the call from its return.
+        ensures fed { (taken : List ℕ) × Gave R.remaining R.given source.old source.new taken × (length taken ≤ 20700004325)
+            × FedPart (WasFedInto K.holds) self.old taken (IsAtEnd (R.remaining source.new)) result self.new }
+        // Nothing is read past the read that brought a fault.
+        ensures stops { self.old.fault ≡ None
+            → StopsThere R.remaining R.given R.reads source.old source.new (IsWellAfter (WasFedInto K.holds) self.old) }
+        ensures ok { OnOk result (self.new.fault ≡ None) }
+        ensures told { IfErr result (λ f. self.new.fault ≡ Some f) }
+        // After a fault nothing changes, and nothing is read.
+        ensures stood { IfSome self.old.fault (λ f. (result ≡ Err f) × (self.new ≡ self.old) × (source.new ≡ source.old)) }
+        ensures parts { self.new.parts ≡ (if is_ok result then self.old.parts + 1 else self.old.parts) }
+        // The device is at fault exactly where the source failed in this call.
+        ensures device { self.old.fault ≡ None → R.failed source.new ≡ (if is_device result then R.failed source.old + 1 else R.failed source.old) }
+        ensures kept { HasSome K.holds self.old → OnOk result (HasSome K.holds self.new) }
+    {
+        match self.fault {
+            Some(fault) => Err(fault),
+            None => {
+                let outcome = self.read_to_end(source);
+                self.stand(outcome)
+            }
+        }
+    }
+
+    /// Ends the open part, if bytes were fed into it, and answers what was kept of all parts.
+    pub fn finish(mut self) -> Result<K, LoadFault>
+        // What is kept are the records that the parts spell, with at most limit of each type.
+        ensures loaded { (limit : ℕ) (closed : List (List ℕ)) (open_part : List ℕ) → WasFedInto K.holds limit self closed open_part
+            → IfOk result (λ kept. (records : List Record) × K.holds kept records × Accepts tiger limit (all_parts closed open_part) records) }
+        // Where they spell records, these are the ones, and no fault of the lines comes.
+        ensures only { (limit : ℕ) (closed : List (List ℕ)) (open_part : List ℕ) (records : List Record) → WasFedInto K.holds limit self closed open_part
+            → Accepts tiger limit (all_parts closed open_part) records → MatchResult result (λ kept. K.holds kept records) (λ f. IsOfLines f → ⊥) }
+        // Or this fault is at them.
+        ensures fault { (limit : ℕ) (closed : List (List ℕ)) (open_part : List ℕ) → WasFedInto K.holds limit self closed open_part
+            → IfErr result (λ f. IsOfLines f → FaultAt tiger limit (all_parts closed open_part) f) }
+        ensures stood { IfSome self.fault (λ f. result ≡ Err f) }
+        ensures device { self.fault ≡ None → IfErr result IsNotDevice }
+    {
+        if let Some(fault) = self.fault {
+            return Err(fault);
+        }
+        self.end_last_line()?;
+        Ok(self.kept)
+    }
+}
