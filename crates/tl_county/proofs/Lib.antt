@@ -17,8 +17,10 @@ pub mod KeyedLists
 pub mod RuleOrders
 pub mod RuleTests
 pub mod GatheredLists
+pub mod EntryLists
 pub mod SameCounty
 pub mod Repacking
 pub mod Counted
 pub mod FitsPacked
 pub mod FitsCounty
+pub mod Groups
