@@ -40,7 +40,7 @@ pub filter-agree : {X : Type 0} (p q : X → Bool) → ((x : X) → p x ≡ q x)
 filter-agree p q h [] = refl
 filter-agree p q h (x ∷ xs) = λ i. cond (h x i) (x ∷ filter-agree p q h xs i) (filter-agree p q h xs i)
 
-eq_test : (a b : ℕ) → (a == b) ≡ is_eq (nat_cmp a b)
+pub eq_test : (a b : ℕ) → (a == b) ≡ is_eq (nat_cmp a b)
 eq_test a b = go (cases_eq a b)
   where
     go : (a ≡ b) ⊎ (a ≡ b → ⊥) → (a == b) ≡ is_eq (nat_cmp a b)

@@ -1,107 +1,137 @@
--- Records that are made entry by entry: those of one number are those of one entry, and they stand in order.
-use Rattle.std.proofs.Common.{◌≡◌, ◌⊎◌, ◌<◌, ◌≤◌, ◌+◌, ◌==◌, ℕ, zero, suc, List, [], ◌∷◌, ◌++◌, map, flat_map, filter, filter_map, length, Bool, true, false, cond, Option, Some, None, Ordering, Less, Equal, is_eq, is_gt, sym, refl, ap, ap₂, ◌∙◌, subst, inl, inr, arith, nat_cmp, append-nil}
-use Rattle.std.proofs.lemmas.Bool.{eq-eqb, ne_eqb}
-use Rattle.std.proofs.lemmas.Cmp.{tied_itself, nat_cmp_total}
-use Rattle.std.proofs.lemmas.List.Elements.{filter-append, filter_map-append}
-use Rattle.std.specs.List.{AllByRecursion, cons_option}
+-- Groups of records of one number, taken one after the other from records in the order of their numbers.
+use Rattle.std.proofs.Common.{◌≡◌, ◌⊎◌, ◌==◌, ℕ, List, [], ◌∷◌, ◌++◌, map, filter, Bool, true, false, cond, Ordering, Less, Equal, Greater, is_eq, is_gt, sym, refl, ap, ◌∙◌, subst, inl, inr, nat_cmp, append_assoc, Option}
+use Rattle.std.proofs.lemmas.Bool.{false≢true}
+use Rattle.std.specs.List.{AllByRecursion}
 use Rattle.std.specs.List.Sorted.{IsStrictlySortedBy}
-use Rattle.std.specs.Ordering.{ordering_then}
+use Rattle.std.specs.Ordering.{ordering_reverse}
 use Rattle.tl_layout.specs.ByType.{of_number}
-use Rattle.tl_county.specs.Orders.{times, IsInOrder}
-use Rattle.tl_county.proofs.FirstFault.{Among}
-use Rattle.tl_county.proofs.Keys.{IsApart, Known, nat_keys, same_or_not, times-yes, times-no, apart_tail, differ_apart, filter_all}
-use Rattle.tl_county.proofs.Lists.{all_weaker, all_append, all_everywhere}
-use Rattle.tl_county.proofs.Members.{among_known, among-map}
+use Rattle.tl_layout.specs.Fields.{Fields1, Fields2, Fields4, Fields6, Fields7, Fields8, FieldsI, FieldsP}
+use Rattle.tl_layout.specs.declared.type7.Body7.{Body7}
+use Rattle.tl_layout.specs.declared.type_p.BodyP.{BodyP}
+use Rattle.tl_shape.specs.Chain.{Chain}
+use Rattle.tl_county.specs.LandmarkParts.{LandmarkParts}
+use Rattle.tl_county.specs.Building.{chain_with, chains_along, landmark_of, polygon_body_of}
+use Rattle.tl_county.specs.County.{one_tlid, two_tlid, four_tlid, six_tlid, seven_land, eight_land, p_key, first}
+use Rattle.tl_county.specs.PolygonKeys.{PolygonKey, key_cmp}
+use Rattle.tl_county.proofs.Counted.{filter-agree, eq_test}
+use Rattle.tl_county.proofs.KeyOrders.{key_keys}
+use Rattle.tl_county.proofs.Keys.{IsKeyOrder, nat_keys, same_or_not}
 
--- the selection of what was wrapped
-pub selected_own : {X Y : Type 0} (h : X → Option Y) (wrap : Y → X) → ((y : Y) → h (wrap y) ≡ Some y) → (ys : List Y) → filter_map h (map wrap ys) ≡ ys
-selected_own h wrap e [] = refl
-selected_own h wrap e (y ∷ ys) = λ i. cons_option (e y i) (selected_own h wrap e ys i)
+eq_reversed : (a b : Ordering) → a ≡ ordering_reverse b → is_eq a ≡ is_eq b
+eq_reversed a Less e = ap is_eq e
+eq_reversed a Equal e = ap is_eq e
+eq_reversed a Greater e = ap is_eq e
 
-pub selected_none : {X Y Z : Type 0} (h : X → Option Y) (wrap : Z → X) → ((z : Z) → h (wrap z) ≡ None) → (zs : List Z) → filter_map h (map wrap zs) ≡ []
-selected_none h wrap e [] = refl
-selected_none h wrap e (z ∷ zs) = λ i. cons_option (e z i) (selected_none h wrap e zs i)
+module _ {X K : Type 0} {cmp : K → K → Ordering} (o : IsKeyOrder cmp) (key : X → K) where
+  -- the items of a key, whichever way it is compared
+  pub group-flipped : (k : K) (xs : List X) → filter (λ x. is_eq (cmp (key x) k)) xs ≡ filter (λ x. is_eq (cmp k (key x))) xs
+  group-flipped k xs = filter-agree (λ x. is_eq (cmp (key x) k)) (λ x. is_eq (cmp k (key x))) (λ x. eq_reversed (cmp (key x) k) (cmp k (key x)) (o.total.antisymm (key x) k)) xs
 
--- two lists in order, of which nothing of the first is greater than anything of the second
-pub in_order-append : {X : Type 0} (by : X → X → Ordering) (xs ys : List X) → IsInOrder by xs → IsInOrder by ys → AllByRecursion (λ x. AllByRecursion (λ y. is_gt (by x y) ≡ false) ys) xs → IsInOrder by (xs ++ ys)
-in_order-append by [] ys g h a = h
-in_order-append by (x ∷ xs) ys g h a = (all_append (λ y. is_gt (by x y) ≡ false) xs ys g.0 a.0, in_order-append by xs ys g.1 h a.1)
-
-module _ {V X : Type 0} (key : X → ℕ) (pack : ℕ × V → List X) (own : (e : ℕ × V) → AllByRecursion (λ x. key x ≡ e.0) (pack e)) where
-  own_group : (n : ℕ) (e : ℕ × V) → n ≡ e.0 → of_number key n (pack e) ≡ pack e
-  own_group n e same = filter_all (λ x. key x == n) (pack e) (all_weaker (λ x. key x ≡ e.0) (λ x. (key x == n) ≡ true) (λ x f. eq-eqb (key x) n (f ∙ sym same)) (pack e) (own e))
-
-  none_of : (n : ℕ) (xs : List X) → AllByRecursion (λ x. key x ≡ n → ⊥) xs → of_number key n xs ≡ []
-  none_of n [] a = refl
-  none_of n (x ∷ xs) a = ap (λ b. cond b (x ∷ of_number key n xs) (of_number key n xs)) (ne_eqb (key x) n a.0) ∙ none_of n xs a.1
-
-  other_group : (n : ℕ) (e : ℕ × V) → is_eq (nat_cmp n e.0) ≡ false → of_number key n (pack e) ≡ []
-  other_group n e ne = none_of n (pack e) (all_weaker (λ x. key x ≡ e.0) (λ x. key x ≡ n → ⊥) (λ x f g. differ_apart nat_keys n e.0 ne (sym g ∙ f)) (pack e) (own e))
-
-  -- no entry of this number, none of its records
-  pub no_group : (n : ℕ) (es : List (ℕ × V)) → times nat_cmp n (map (λ (e : ℕ × V). e.0) es) ≡ 0 → of_number key n (flat_map pack es) ≡ []
-  no_group n [] h = refl
-  no_group n (e ∷ es) h = go (same_or_not nat_keys n e.0) (no_group n es)
+  -- later groups stand among the later items
+  pub group-later : (k j : K) → cmp k j ≡ Less → (xs : List X) → filter (λ x. is_eq (cmp (key x) j)) (filter (λ x. is_gt (cmp (key x) k)) xs) ≡ filter (λ x. is_eq (cmp (key x) j)) xs
+  group-later k j less [] = refl
+  group-later k j less (x ∷ xs) = go (is_gt (cmp (key x) k)) refl (group-later k j less xs)
     where
-      go : (n ≡ e.0) ⊎ (is_eq (nat_cmp n e.0) ≡ false) → (times nat_cmp n (map (λ (d : ℕ × V). d.0) es) ≡ 0 → of_number key n (flat_map pack es) ≡ []) → of_number key n (pack e ++ flat_map pack es) ≡ []
-      go (inl same) ih = absurd (omega (arith, h, times-yes nat_keys n e.0 (map (λ (d : ℕ × V). d.0) es) same))
-      go (inr ne) ih = filter-append (λ x. key x == n) (pack e) (flat_map pack es) ∙ ap₂ (λ xs ys. xs ++ ys) (other_group n e ne) (ih (sym (times-no nat_keys n e.0 (map (λ (d : ℕ × V). d.0) es) ne) ∙ h))
-
-  first_group : (n : ℕ) (e : ℕ × V) (es : List (ℕ × V)) → n ≡ e.0 → IsApart nat_cmp (map (λ (d : ℕ × V). d.0) (e ∷ es)) → of_number key n (pack e ++ flat_map pack es) ≡ pack e
-  first_group n e es same apart =
-      let few : times nat_cmp n (e.0 ∷ map (λ (d : ℕ × V). d.0) es) ≤ 1 = apart n in
-      let none : times nat_cmp n (map (λ (d : ℕ × V). d.0) es) ≡ 0 = omega (arith, few, times-yes nat_keys n e.0 (map (λ (d : ℕ × V). d.0) es) same) in
-      filter-append (λ x. key x == n) (pack e) (flat_map pack es) ∙ ap₂ (λ xs ys. xs ++ ys) (own_group n e same) (no_group n es none) ∙ append-nil (pack e)
-
-  later_group : (n : ℕ) (e : ℕ × V) (es : List (ℕ × V)) → is_eq (nat_cmp n e.0) ≡ false → of_number key n (pack e ++ flat_map pack es) ≡ of_number key n (flat_map pack es)
-  later_group n e es ne = filter-append (λ x. key x == n) (pack e) (flat_map pack es) ∙ ap (λ xs. xs ++ of_number key n (flat_map pack es)) (other_group n e ne)
-
-  -- the records of an entry's number are its records
-  pub group_of : (es : List (ℕ × V)) → IsApart nat_cmp (map (λ (e : ℕ × V). e.0) es) → (e : ℕ × V) → Among e es → of_number key e.0 (flat_map pack es) ≡ pack e
-  group_of [] apart e m = absurd m
-  group_of (d ∷ es) apart e m = go m (same_or_not nat_keys e.0 d.0) (group_of es (apart_tail nat_keys d.0 (map (λ (f : ℕ × V). f.0) es) apart) e)
-    where
-      go : (e ≡ d) ⊎ Among e es → (e.0 ≡ d.0) ⊎ (is_eq (nat_cmp e.0 d.0) ≡ false) → (Among e es → of_number key e.0 (flat_map pack es) ≡ pack e) → of_number key e.0 (pack d ++ flat_map pack es) ≡ pack e
-      go (inl same) f ih = first_group e.0 d es (ap (λ (x : ℕ × V). x.0) same) apart ∙ ap pack (sym same)
-      go (inr l) (inl same) ih = absurd (
-          let there : 0 < times nat_cmp e.0 (map (λ (f : ℕ × V). f.0) es) = among_number e es l in
-          let few : times nat_cmp e.0 (d.0 ∷ map (λ (f : ℕ × V). f.0) es) ≤ 1 = apart e.0 in
-          omega (arith, there, few, times-yes nat_keys e.0 d.0 (map (λ (f : ℕ × V). f.0) es) same))
+      above : key x ≡ j → is_gt (cmp (key x) k) ≡ true
+      above e = subst (λ i. is_gt (cmp i k) ≡ true) (sym e) (at (cmp j k) (cmp k j) (o.total.antisymm j k) less)
         where
-          among_number : (f : ℕ × V) (fs : List (ℕ × V)) → Among f fs → 0 < times nat_cmp f.0 (map (λ (x : ℕ × V). x.0) fs)
-          among_number f fs k = among_known nat_keys f.0 (map (λ (x : ℕ × V). x.0) fs) (among-map (λ (x : ℕ × V). x.0) f fs k)
-      go (inr l) (inr ne) ih = later_group e.0 d es ne ∙ ih l
+          at : (a b : Ordering) → a ≡ ordering_reverse b → b ≡ Less → is_gt a ≡ true
+          at a b f g = ap is_gt (f ∙ ap ordering_reverse g)
 
-  -- what holds of no records and of each entry's records holds of the records of any number
-  pub group_holds : (Q : List X → Type 0) → Q [] → (es : List (ℕ × V)) → IsApart nat_cmp (map (λ (e : ℕ × V). e.0) es) → AllByRecursion (λ e. Q (pack e)) es → (n : ℕ) → Q (of_number key n (flat_map pack es))
-  group_holds Q none [] apart a n = none
-  group_holds Q none (e ∷ es) apart a n = go (same_or_not nat_keys n e.0) (group_holds Q none es (apart_tail nat_keys e.0 (map (λ (d : ℕ × V). d.0) es) apart) a.1 n)
-    where
-      go : (n ≡ e.0) ⊎ (is_eq (nat_cmp n e.0) ≡ false) → Q (of_number key n (flat_map pack es)) → Q (of_number key n (pack e ++ flat_map pack es))
-      go (inl same) ih = subst Q (sym (first_group n e es same apart)) a.0
-      go (inr ne) ih = subst Q (sym (later_group n e es ne)) ih
+      apart : is_gt (cmp (key x) k) ≡ false → is_eq (cmp (key x) j) ≡ false
+      apart f = at (same_or_not o (key x) j)
+        where
+          at : (key x ≡ j) ⊎ (is_eq (cmp (key x) j) ≡ false) → is_eq (cmp (key x) j) ≡ false
+          at (inl e) = absurd (false≢true (sym f ∙ above e))
+          at (inr n) = n
 
-  -- entries that ascend, each with records in an order of their own: all together are in order by number and then so
-  module _ (sub : X → X → Ordering) where
-    abbrev pub by_number : X → X → Ordering
-    by_number x y = ordering_then (nat_cmp (key x) (key y)) (sub x y)
+      go : (b : Bool) → is_gt (cmp (key x) k) ≡ b → filter (λ y. is_eq (cmp (key y) j)) (filter (λ y. is_gt (cmp (key y) k)) xs) ≡ filter (λ y. is_eq (cmp (key y) j)) xs → filter (λ y. is_eq (cmp (key y) j)) (cond b (x ∷ filter (λ y. is_gt (cmp (key y) k)) xs) (filter (λ y. is_gt (cmp (key y) k)) xs)) ≡ filter (λ y. is_eq (cmp (key y) j)) (x ∷ xs)
+      go true e ih = ap (λ l. cond (is_eq (cmp (key x) j)) (x ∷ l) l) ih
+      go false e ih = ih ∙ ap (λ b. cond b (x ∷ filter (λ y. is_eq (cmp (key y) j)) xs) (filter (λ y. is_eq (cmp (key y) j)) xs)) (sym (apart e))
 
-    within : (e : ℕ × V) (xs : List X) → AllByRecursion (λ x. key x ≡ e.0) xs → IsInOrder sub xs → IsInOrder by_number xs
-    within e [] a h = tt
-    within e (x ∷ xs) a h = (each xs a.1 h.0, within e xs a.1 h.1)
-      where
-        each : (ys : List X) → AllByRecursion (λ y. key y ≡ e.0) ys → AllByRecursion (λ y. is_gt (sub x y) ≡ false) ys → AllByRecursion (λ y. is_gt (by_number x y) ≡ false) ys
-        each [] b g = tt
-        each (y ∷ ys) b g = (ap (λ o. is_gt (ordering_then o (sub x y))) (ap₂ nat_cmp a.0 b.0 ∙ tied_itself nat_cmp_total e.0) ∙ g.0, each ys b.1 g.1)
+-- by numbers
+module _ {X : Type 0} (number : X → ℕ) where
+  pub group-of_number : (n : ℕ) (xs : List X) → filter (λ x. is_eq (nat_cmp (number x) n)) xs ≡ of_number number n xs
+  group-of_number n xs = sym (filter-agree (λ x. number x == n) (λ x. is_eq (nat_cmp (number x) n)) (λ x. eq_test (number x) n) xs)
 
-    above : (e : ℕ × V) (es : List (ℕ × V)) → AllByRecursion (λ n. nat_cmp e.0 n ≡ Less) (map (λ (d : ℕ × V). d.0) es) → AllByRecursion (λ y. nat_cmp e.0 (key y) ≡ Less) (flat_map pack es)
-    above e [] a = tt
-    above e (d ∷ es) a = all_append (λ y. nat_cmp e.0 (key y) ≡ Less) (pack d) (flat_map pack es) (all_weaker (λ y. key y ≡ d.0) (λ y. nat_cmp e.0 (key y) ≡ Less) (λ y f. ap (nat_cmp e.0) f ∙ a.0) (pack d) (own d)) (above e es a.1)
+  pub number-later : (k j : ℕ) → nat_cmp k j ≡ Less → (xs : List X) → of_number number j (filter (λ x. is_gt (nat_cmp (number x) k)) xs) ≡ of_number number j xs
+  number-later k j less xs = sym (group-of_number j (filter (λ x. is_gt (nat_cmp (number x) k)) xs)) ∙ group-later nat_keys number k j less xs ∙ group-of_number j xs
 
-    pub groups_in_order : (es : List (ℕ × V)) → IsStrictlySortedBy nat_cmp (map (λ (e : ℕ × V). e.0) es) → AllByRecursion (λ e. IsInOrder sub (pack e)) es → IsInOrder by_number (flat_map pack es)
-    unfolding IsStrictlySortedBy
-    groups_in_order [] s a = tt
-    groups_in_order (e ∷ es) s a = in_order-append by_number (pack e) (flat_map pack es) (within e (pack e) (own e) a.0) (groups_in_order es s.1 a.1)
-        (all_weaker (λ x. key x ≡ e.0) (λ x. AllByRecursion (λ y. is_gt (by_number x y) ≡ false) (flat_map pack es))
-        (λ x f. all_weaker (λ y. nat_cmp e.0 (key y) ≡ Less) (λ y. is_gt (by_number x y) ≡ false) (λ y l. ap (λ o. is_gt (ordering_then o (sub x y))) (ap (λ n. nat_cmp n (key y)) f ∙ l)) (flat_map pack es) (above e es s.0))
-        (pack e) (own e))
+-- what comes later of records of a number
+abbrev pub later_than : {X : Type 0} → (X → ℕ) → ℕ → List X → List X
+later_than number n xs = filter (λ x. is_gt (nat_cmp (number x) n)) xs
+
+-- the chains of later TLIDs don't need the records of earlier ones
+pub chains_along-later : (n : ℕ) (twos : List Fields2) (fours : List Fields4) (sixes : List Fields6) (rs : List Fields1) (links : List FieldsI) → AllByRecursion (λ m. nat_cmp n m ≡ Less) (map one_tlid rs) → chains_along (later_than two_tlid n twos) (later_than four_tlid n fours) (later_than six_tlid n sixes) rs links ≡ chains_along twos fours sixes rs links
+chains_along-later n twos fours sixes [] links h = refl
+chains_along-later n twos fours sixes (r ∷ rs) [] h = refl
+chains_along-later n twos fours sixes (r ∷ rs) (link ∷ links) h =
+    λ i. chain_with r link (number-later two_tlid n r.tlid h.0 twos i) (number-later four_tlid n r.tlid h.0 fours i) (number-later six_tlid n r.tlid h.0 sixes i) ∷ chains_along-later n twos fours sixes rs links h.1 i
+
+pub landmarks-later : (n : ℕ) (sevens : List Fields7) (eights : List Fields8) (lands : List ℕ) → AllByRecursion (λ m. nat_cmp n m ≡ Less) lands → map (landmark_of (later_than seven_land n sevens) (later_than eight_land n eights)) lands ≡ map (landmark_of sevens eights) lands
+landmarks-later n sevens eights [] h = refl
+landmarks-later n sevens eights (land ∷ lands) h =
+    λ i. record { bodies = map (λ (r : Fields7). r.body) (number-later seven_land n land h.0 sevens i); links = number-later eight_land n land h.0 eights i } ∷ landmarks-later n sevens eights lands h.1 i
+
+pub polygons-later : (key : PolygonKey) (points : List FieldsP) (keys : List PolygonKey) → AllByRecursion (λ j. key_cmp key j ≡ Less) keys → map (polygon_body_of (filter (λ r. is_gt (key_cmp (p_key r) key)) points)) keys ≡ map (polygon_body_of points) keys
+polygons-later key points [] h = refl
+polygons-later key points (j ∷ keys) h =
+    let same = sym (group-flipped key_keys p_key j (filter (λ r. is_gt (key_cmp (p_key r) key)) points)) ∙ group-later key_keys p_key key j h.0 points ∙ group-flipped key_keys p_key j points in
+    λ i. first (map (λ (r : FieldsP). r.body) (same i)) ∷ polygons-later key points keys h.1 i
+
+-- a walk has one element more behind it
+pub one_done : {X : Type 0} (done : List X) (x y : X) (ahead others whole : List X) → done ++ (x ∷ ahead) ≡ whole → y ≡ x → others ≡ ahead → (done ++ (y ∷ [])) ++ others ≡ whole
+one_done done x y ahead others whole e f g = append_assoc done (y ∷ []) others ∙ (λ i. done ++ (f i ∷ g i)) ∙ e
+
+pub strict_head : {K : Type 0} (cmp : K → K → Ordering) (k : K) (ks : List K) → IsStrictlySortedBy cmp (k ∷ ks) → AllByRecursion (λ j. cmp k j ≡ Less) ks
+unfolding IsStrictlySortedBy
+strict_head cmp k ks h = h.0
+
+pub strict_tail : {K : Type 0} (cmp : K → K → Ordering) (k : K) (ks : List K) → IsStrictlySortedBy cmp (k ∷ ks) → IsStrictlySortedBy cmp ks
+unfolding IsStrictlySortedBy
+strict_tail cmp k ks h = h.1
+
+-- a step of the walk along the chains
+module _ (done whole : List Chain) (head : Fields1) (later heads : List Fields1) (link : FieldsI) (others links : List FieldsI) (twos shape : List Fields2) (fours named : List Fields4) (sixes ranged : List Fields6) (tlid : ℕ) where
+  pub chains-step : (chain : Chain) → tlid ≡ head.tlid
+      → shape ≡ filter (λ x. is_eq (nat_cmp (two_tlid x) tlid)) twos → named ≡ filter (λ x. is_eq (nat_cmp (four_tlid x) tlid)) fours → ranged ≡ filter (λ x. is_eq (nat_cmp (six_tlid x) tlid)) sixes
+      → chain ≡ chain_with head link shape named ranged
+      → heads ≡ head ∷ later → links ≡ link ∷ others
+      → IsStrictlySortedBy nat_cmp (map one_tlid heads)
+      → done ++ chains_along twos fours sixes heads links ≡ whole
+      → (done ++ (chain ∷ [])) ++ chains_along (later_than two_tlid tlid twos) (later_than four_tlid tlid fours) (later_than six_tlid tlid sixes) later others ≡ whole
+  chains-step chain e shape_is named_is ranged_is chain_is heads_are links_are ascending before =
+      one_done done (chain_with head link (of_number two_tlid head.tlid twos) (of_number four_tlid head.tlid fours) (of_number six_tlid head.tlid sixes)) chain
+      (chains_along twos fours sixes later others) (chains_along (later_than two_tlid tlid twos) (later_than four_tlid tlid fours) (later_than six_tlid tlid sixes) later others) whole
+      ((λ i. done ++ chains_along twos fours sixes (sym heads_are i) (sym links_are i)) ∙ before)
+      (chain_is ∙ (λ i. chain_with head link
+      ((shape_is ∙ group-of_number two_tlid tlid twos ∙ ap (λ n. of_number two_tlid n twos) e) i)
+      ((named_is ∙ group-of_number four_tlid tlid fours ∙ ap (λ n. of_number four_tlid n fours) e) i)
+      ((ranged_is ∙ group-of_number six_tlid tlid sixes ∙ ap (λ n. of_number six_tlid n sixes) e) i)))
+      (chains_along-later tlid twos fours sixes later others
+      (subst (λ n. AllByRecursion (λ m. nat_cmp n m ≡ Less) (map one_tlid later)) (sym e) (strict_head nat_cmp head.tlid (map one_tlid later) (subst (λ l. IsStrictlySortedBy nat_cmp (map one_tlid l)) heads_are ascending))))
+
+-- a step of the walk along the landmarks
+pub landmarks-step : (done whole : List LandmarkParts) (land : ℕ) (later lands : List ℕ) (sevens group : List Fields7) (eights linked : List Fields8) (bodies : List Body7) (landmark : LandmarkParts)
+    → group ≡ filter (λ x. is_eq (nat_cmp (seven_land x) land)) sevens → linked ≡ filter (λ x. is_eq (nat_cmp (eight_land x) land)) eights
+    → bodies ≡ map (λ (r : Fields7). r.body) group → landmark ≡ record { bodies = bodies; links = linked }
+    → lands ≡ land ∷ later → IsStrictlySortedBy nat_cmp lands
+    → done ++ map (landmark_of sevens eights) lands ≡ whole
+    → (done ++ (landmark ∷ [])) ++ map (landmark_of (later_than seven_land land sevens) (later_than eight_land land eights)) later ≡ whole
+landmarks-step done whole land later lands sevens group eights linked bodies landmark group_is linked_is bodies_are landmark_is lands_are ascending before =
+    one_done done (landmark_of sevens eights land) landmark (map (landmark_of sevens eights) later) (map (landmark_of (later_than seven_land land sevens) (later_than eight_land land eights)) later) whole
+    (ap (λ l. done ++ map (landmark_of sevens eights) l) (sym lands_are) ∙ before)
+    (landmark_is ∙ (λ i. record { bodies = (bodies_are ∙ ap (map (λ (r : Fields7). r.body)) (group_is ∙ group-of_number seven_land land sevens)) i; links = (linked_is ∙ group-of_number eight_land land eights) i }))
+    (landmarks-later land sevens eights later (strict_head nat_cmp land later (subst (IsStrictlySortedBy nat_cmp) lands_are ascending)))
+
+-- a step of the walk along the polygons
+pub polygons-step : (done whole : List (Option BodyP)) (key : PolygonKey) (later keys : List PolygonKey) (points group : List FieldsP) (body : Option BodyP)
+    → group ≡ filter (λ r. is_eq (key_cmp (p_key r) key)) points → body ≡ first (map (λ (r : FieldsP). r.body) group)
+    → keys ≡ key ∷ later → IsStrictlySortedBy key_cmp keys
+    → done ++ map (polygon_body_of points) keys ≡ whole
+    → (done ++ (body ∷ [])) ++ map (polygon_body_of (filter (λ r. is_gt (key_cmp (p_key r) key)) points)) later ≡ whole
+polygons-step done whole key later keys points group body group_is body_is keys_are ascending before =
+    one_done done (polygon_body_of points key) body (map (polygon_body_of points) later) (map (polygon_body_of (filter (λ r. is_gt (key_cmp (p_key r) key)) points)) later) whole
+    (ap (λ l. done ++ map (polygon_body_of points) l) (sym keys_are) ∙ before)
+    (body_is ∙ ap (λ l. first (map (λ (r : FieldsP). r.body) l)) (group_is ∙ group-flipped key_keys p_key key points))
+    (polygons-later key points later (strict_head key_cmp key later (subst (IsStrictlySortedBy key_cmp) keys_are ascending)))

@@ -17,6 +17,7 @@ pub mod KeyedLists
 pub mod RuleOrders
 pub mod RuleTests
 pub mod GatheredLists
+pub mod EntryLists
 pub mod SameCounty
 pub mod Repacking
 pub mod Counted
@@ -31,3 +32,4 @@ pub mod PolygonBodies
 pub mod PackedCounty
 pub mod TypeCounts
 pub mod FieldsFit
+pub mod PackedGroups

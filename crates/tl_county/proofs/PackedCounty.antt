@@ -24,7 +24,7 @@ use Rattle.tl_county.proofs.Carried.{among-unpieces}
 use Rattle.tl_county.proofs.Counted.{rights-numbered_from}
 use Rattle.tl_county.proofs.Distinct.{known-distinct, known_from_distinct}
 use Rattle.tl_county.proofs.FirstFault.{Among, all_among}
-use Rattle.tl_county.proofs.Groups.{group_of}
+use Rattle.tl_county.proofs.PackedGroups.{group_of}
 use Rattle.tl_county.proofs.InOrder.{in_order-itself, in_order-from_strict, strict-equal}
 use Rattle.tl_county.proofs.KeyOrders.{key_keys}
 use Rattle.tl_county.proofs.Keys.{IsKeyOrder, IsApart, Known, nat_keys, known_all, known-append, apart_from_sorted}

@@ -24,7 +24,7 @@ use Rattle.tl_county.specs.declared.fault.LinkedType.TheVariants.{Two, Four, Six
 use Rattle.tl_county.proofs.Counted.{all_in_pieces, all_numbered_from}
 use Rattle.tl_county.proofs.Distinct.{has_repeat-apart}
 use Rattle.tl_county.proofs.FirstFault.{Among, all_among, among_left, among_right}
-use Rattle.tl_county.proofs.Groups.{group_holds}
+use Rattle.tl_county.proofs.PackedGroups.{group_holds}
 use Rattle.tl_county.proofs.KeyOrders.{key_keys}
 use Rattle.tl_county.proofs.Keys.{IsApart, Known, nat_keys, known_all, known-left, known-right, known-here, times-yes, times-no, times-cons, same_or_not, apart_from_sorted}
 use Rattle.tl_county.proofs.LinkedCounty.{needed, each_from}

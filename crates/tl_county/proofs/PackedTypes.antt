@@ -5,7 +5,7 @@ use Rattle.tl_layout.specs.ByType.{as_type_1, as_type_2, as_type_4, as_type_5, a
 use Rattle.tl_layout.specs.declared.record_type.Record.{Record}
 use Rattle.tl_layout.specs.declared.record_type.Record.TheVariants.{One, Two, Four, Five, Six, Seven, Eight, I, P}
 use Rattle.tl_county.specs.Packing.{Typed, by_type, type_after_type}
-use Rattle.tl_county.proofs.Groups.{selected_own, selected_none}
+use Rattle.tl_county.proofs.PackedGroups.{selected_own, selected_none}
 
 -- what is selected of records type after type is what is selected of each type
 module _ {Y : Type 0} (h : Record → Option Y) (t : Typed) where

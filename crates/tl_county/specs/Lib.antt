@@ -3,6 +3,10 @@ pub mod Keyed
 pub mod SequenceKeys
 pub mod RuleOrder
 pub mod OrderedTables
+pub mod Entries
+pub mod LandmarkParts
+pub mod KeptCounty
+pub mod Building
 pub mod PolygonKeys
 pub mod BodyOrder
 pub mod County

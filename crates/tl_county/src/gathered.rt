@@ -68,7 +68,7 @@ fn push_side(keys: &mut Vec<PolygonKey>, side: &Side) -> Result<(), AllocError>
     ensures { OnOk result (keys.new.items ≡ keys.old.items ++ key_on side.now) }
 {
     if let Some(polyid) = side.polyid() {
-        let cenid = *side.cenid().as_bytes();
+        let cenid = side.cenid();
         keys.push((cenid, polyid))?;
     }
     Ok(())

@@ -1,21 +1,26 @@
 //! One county: what a list of records says of the map, when the records fit together, and when two counties are the same map.
 #![tactic(auto)]
 
+mod building;
 mod fault;
 mod gathered;
 mod keyed;
+mod landmark;
 mod laws;
 mod record_keys;
 mod rules;
+mod table;
 
 pub use fault::{LinkFault, LinkedType};
 pub use keyed::{
     Key, Keyed, after_key, from_key, keys_of, least_repeated, least_unknown, place_of,
     put_in_order, split_group,
 };
+pub use landmark::Landmark;
 pub use laws::{
     counties_within_limits_are_packed_into_records_that_fit, linked_or_one_first_broken_rule,
     linked_records_have_a_county_within_limits, linked_records_have_a_well_formed_county,
     renamings_compose, sameness_is_an_equivalence, the_county_is_what_the_records_say,
 };
 pub use record_keys::PolygonKey;
+pub use table::Table;

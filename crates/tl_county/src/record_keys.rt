@@ -164,7 +164,7 @@ impl Keyed<PolygonKey> for Rec8 {
     ghost key_of = { eight_key };
 
     fn key(&self) -> PolygonKey {
-        (*self.cenid().as_bytes(), self.polyid())
+        (self.cenid(), self.polyid())
     }
 }
 
@@ -175,7 +175,7 @@ impl Keyed<PolygonKey> for RecP {
     ghost key_of = { p_key };
 
     fn key(&self) -> PolygonKey {
-        (*self.cenid().as_bytes(), self.polyid())
+        (self.cenid(), self.polyid())
     }
 }
 
@@ -198,7 +198,7 @@ impl Keyed<LinkKey> for Rec8 {
     ghost key_of = { link_sequence };
 
     fn key(&self) -> LinkKey {
-        let ids = (*self.cenid().as_bytes(), *self.file().as_bytes());
+        let ids = (self.cenid(), self.file());
         (self.land(), (self.polyid(), ids))
     }
 }

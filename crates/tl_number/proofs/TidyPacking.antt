@@ -17,7 +17,7 @@ use Rattle.tl_county.specs.CountyRules.{IsCounty}
 use Rattle.tl_county.specs.Orders.{IsInOrder, in_order}
 use Rattle.tl_county.specs.Packing.{pieces, in_pieces, numbered_from, inner_points, packed_one, packed_twos, packed_fours, packed_five, packed_sixes, packed_sevens, packed_i, packed_p, p_polyid, type_after_type, packed_by_type, packed}
 use Rattle.tl_county.proofs.Counted.{lefts-numbered_from, rights-numbered_from, length-numbered_from}
-use Rattle.tl_county.proofs.Groups.{group_holds, groups_in_order}
+use Rattle.tl_county.proofs.PackedGroups.{group_holds, groups_in_order}
 use Rattle.tl_county.proofs.InOrder.{in_order-from_strict, in_order-in_order}
 use Rattle.tl_county.proofs.Lists.{map-map, map_agree_everywhere, all_weaker, all_everywhere}
 use Rattle.tl_county.proofs.PackedCounty.{packed_county}

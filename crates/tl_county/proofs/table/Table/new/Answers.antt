@@ -1,0 +1,11 @@
+use Rattle.std.proofs.Common.{◌≡◌, sym, ap, ◌∙◌, subst}
+use Rattle.std.specs.List.Sorted.{IsStrictlySortedBy}
+use Rattle.tl_county.specs.Entries.{entry_keys, entry_values}
+use Rattle.tl_county.proofs.EntryLists.{keys-zip, values-zip}
+use Rattle.tl_county.proofs.table.Table.new.Goals as goal
+
+pub returns-clause-keys : goal.returns-clause-keys
+returns-clause-keys g c = keys-zip c.args.keys.items c.args.values.items c.requires.same_length
+
+pub returns-clause-values : goal.returns-clause-values
+returns-clause-values g c = values-zip c.args.keys.items c.args.values.items c.requires.same_length

@@ -1,0 +1,38 @@
+-- The parts of a county, of the groups of records that have one number.
+use Rattle.std.specs.Prelude.{ℕ, List, [], ◌∷◌, ◌++◌, map, flat_map, filter, Option}
+use Rattle.std.specs.Ordering.{is_eq}
+use Rattle.tl_layout.specs.ByType.{of_number}
+use Rattle.tl_layout.specs.Fields.{Fields1, Fields2, Fields4, Fields6, Fields7, Fields8, FieldsI, FieldsP}
+use Rattle.tl_layout.specs.declared.type_p.BodyP.{BodyP}
+use Rattle.tl_shape.specs.Chain.{Chain}
+use Rattle.tl_county.specs.County.{two_tlid, four_tlid, six_tlid, seven_land, eight_land, p_key, first}
+use Rattle.tl_county.specs.LandmarkParts.{LandmarkParts}
+use Rattle.tl_county.specs.PolygonKeys.{PolygonKey, key_cmp}
+
+-- the chain of its records, those of types 2, 4 and 6 in the order of their RTSQs
+abbrev pub chain_with : Fields1 → FieldsI → List Fields2 → List Fields4 → List Fields6 → Chain
+chain_with r link twos fours sixes = record {
+  body = r.body;
+  points = r.start ∷ (flat_map (λ q. q.points) twos ++ (r.end ∷ []));
+  feats = flat_map (λ q. q.feats) fours;
+  ranges = map (λ q. q.ranges) sixes;
+  link_body = link.body;
+  start_node = link.start_node;
+  end_node = link.end_node;
+  left = link.left;
+  right = link.right;
+}
+
+-- the chains of records of type 1 and I side by side, with the records of types 2, 4 and 6 of their TLIDs
+abbrev pub chains_along : List Fields2 → List Fields4 → List Fields6 → List Fields1 → List FieldsI → List Chain
+chains_along twos fours sixes [] links = []
+chains_along twos fours sixes (r ∷ rs) [] = []
+chains_along twos fours sixes (r ∷ rs) (link ∷ links) = chain_with r link (of_number two_tlid r.tlid twos) (of_number four_tlid r.tlid fours) (of_number six_tlid r.tlid sixes) ∷ chains_along twos fours sixes rs links
+
+-- the content of a polygon's record of type P, if there is one
+abbrev pub polygon_body_of : List FieldsP → PolygonKey → Option BodyP
+polygon_body_of points key = first (map (λ r. r.body) (filter (λ r. is_eq (key_cmp key (p_key r))) points))
+
+-- the landmark of a LAND: the contents of its records of type 7, and its records of type 8
+abbrev pub landmark_of : List Fields7 → List Fields8 → ℕ → LandmarkParts
+landmark_of landmarks links land = record { bodies = map (λ r. r.body) (of_number seven_land land landmarks); links = of_number eight_land land links }

@@ -1,0 +1,16 @@
+-- Entries: values under keys.
+use Rattle.std.specs.Prelude.{List, [], ◌∷◌, map, cond, Option, Some, None}
+use Rattle.std.specs.declared.cmp.Ordering.{Ordering}
+use Rattle.std.specs.Ordering.{is_eq}
+
+-- the keys of entries, and their values
+abbrev pub entry_keys : {K V : Type 0} → List (K × V) → List K
+entry_keys = map (λ entry. entry.0)
+
+abbrev pub entry_values : {K V : Type 0} → List (K × V) → List V
+entry_values = map (λ entry. entry.1)
+
+-- the value under a key, or none where the key doesn't stand there
+abbrev pub value_under : {K V : Type 0} → (K → K → Ordering) → K → List (K × V) → Option V
+value_under cmp key [] = None
+value_under cmp key (entry ∷ entries) = cond (is_eq (cmp key entry.0)) (Some entry.1) (value_under cmp key entries)

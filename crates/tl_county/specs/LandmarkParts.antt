@@ -1,0 +1,9 @@
+-- A landmark as contracts see it.
+use Rattle.std.specs.Prelude.{List}
+use Rattle.tl_layout.specs.Fields.{Fields8}
+use Rattle.tl_layout.specs.declared.type7.Body7.{Body7}
+
+-- the contents of a landmark's records of type 7, and its records of type 8
+pub record LandmarkParts : Type 0 where
+  pub bodies : List Body7
+  pub links : List Fields8
