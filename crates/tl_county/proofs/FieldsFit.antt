@@ -208,3 +208,8 @@ right_cenid_fits body left right h = h.1.1.1.1.1.1.0
 pub polygon_cenid_fits : (cenid : List ℕ) (body : BodyP) → FitsPolygon cenid body → IsText 5 cenid
 unfolding FitsTypeP
 polygon_cenid_fits cenid body h = h.1.0
+
+-- content of type I fits with its sides exchanged
+pub link_content_turned : (body : BodyI) (left right : List ℕ) → FitsLinkContent body left right → FitsLinkContent body right left
+unfolding FitsTypeI
+link_content_turned body left right h = (h.0, (h.1.0, (h.1.1.0, (h.1.1.1.0, (h.1.1.1.1.1.1.0, (tt, (h.1.1.1.1.0, (tt, h.1.1.1.1.1.1.1.1))))))))

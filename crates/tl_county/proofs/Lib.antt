@@ -33,3 +33,4 @@ pub mod PackedCounty
 pub mod TypeCounts
 pub mod FieldsFit
 pub mod PackedGroups
+pub mod CarriedLimits
