@@ -17,3 +17,4 @@ pub mod Carrying
 pub mod Tidied
 pub mod TidyPacking
 pub mod Ascending
+pub mod TidyNumbers

@@ -1,9 +1,12 @@
 //! Laws of the definitions in `specs/`. The functions do nothing; their contracts are the laws.
 
-ghost use Rattle.std.specs.Prelude.{◌≡◌, ◌⊎◌, List};
+ghost use Rattle.std.specs.List.{AllByRecursion};
+ghost use Rattle.std.specs.Prelude.{◌≡◌, ◌≤◌, ◌⊎◌, List, ℕ};
 ghost use Rattle.tl_county.specs.County.{County, county_of};
 ghost use Rattle.tl_county.specs.CountyRules.{AllKeysStandIn, IsCounty, polygon_keys, polygons_along};
 ghost use Rattle.tl_county.specs.Renumbering.{AreSame, Carries, Renumbering};
+ghost use Rattle.tl_layout.specs.Limits.{IsWithinLimit};
+ghost use Rattle.tl_layout.specs.RecordText.{FitsRecord};
 ghost use Rattle.tl_layout.specs.declared.record_type.Record.{Record};
 ghost use Rattle.tl_number.specs.Accepted.{IsAccepted, IsCanonicalOf, IsRefusal, Refusal};
 ghost use Rattle.tl_number.specs.Arrangement.{Arrangement, Arranges, arranged, ascending, renaming_of};
@@ -54,6 +57,14 @@ pub fn each_accepted_list_has_one_canonical_list()
         IsAccepted records →
         IsCanonicalOf records (packed (arranged (county_of records) (ascending (county_of records)))) }
     ensures only { (records c d : List Record) → IsCanonicalOf records c → IsCanonicalOf records d → c ≡ d }
+{}
+
+/// The canonical list of records that fit, of which there are at most limit of each type, is made of records that fit, at
+/// most limit of each type.
+pub fn canonical_lists_keep_the_limits()
+    ensures { (limit : ℕ) (records canonical : List Record) →
+        limit ≤ 10000000 → AllByRecursion FitsRecord records → IsWithinLimit limit records →
+        IsCanonicalOf records canonical → AllByRecursion FitsRecord canonical × IsWithinLimit limit canonical }
 {}
 
 /// A list of records is accepted or has a refusal, never both, and never two.

@@ -5,7 +5,7 @@ mod laws;
 
 pub use laws::{
     a_packed_county_is_read_back, accepted_or_one_refusal, an_arrangement_gives_a_tidy_list,
-    canonical_lists_of_one_county_are_equal, each_accepted_list_has_one_canonical_list,
-    one_canonical_list_exactly_for_one_map, tidy_lists_are_the_packing_of_their_county,
-    tidy_lists_with_one_choice_are_equal,
+    canonical_lists_keep_the_limits, canonical_lists_of_one_county_are_equal,
+    each_accepted_list_has_one_canonical_list, one_canonical_list_exactly_for_one_map,
+    tidy_lists_are_the_packing_of_their_county, tidy_lists_with_one_choice_are_equal,
 };
