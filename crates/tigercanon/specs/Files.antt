@@ -1,7 +1,10 @@
 -- What the files of a set hold.
-use Rattle.std.specs.Prelude.{◌≡◌, ℕ, List, [], ◌∷◌, Option, Some, None, IfSome, slice_get, Contains, ◌⊎◌}
+use Rattle.std.specs.Prelude.{◌≡◌, ℕ, List, [], ◌∷◌, ◌++◌, Option, Some, None, IfSome, slice_get, Contains, ◌⊎◌}
+use Rattle.tl_layout.specs.declared.record_type.Record.{Record}
+use Rattle.tl_load.specs.Keeping.{LoadedInto, WasFedInto}
 use Rattle.tigercanon.specs.declared.files.Opened.{Opened}
 use Rattle.tigercanon.specs.declared.files.Opened.TheVariants.{Found, Absent, Failed}
+use Rattle.tigercanon.specs.Respelling.{record_limit}
 
 -- a set lacks a file that it needs: the first isn't there, or one couldn't be opened
 abbrev pub IsMissing : {R : Type 0} → List (Opened R) → Type 0
@@ -19,3 +22,13 @@ AreHeld remaining [] [] = Unit
 AreHeld remaining [] (part ∷ parts) = ⊥
 AreHeld remaining (file ∷ files) [] = ⊥
 AreHeld remaining (file ∷ files) (part ∷ parts) = IfSome (bytes_of remaining file) (λ bytes. part ≡ bytes) × AreHeld remaining files parts
+
+-- a loader that was fed closed parts was fed one more, which has these bytes, where they are known
+abbrev pub TakesPart : {K : Type 0} → (K → List Record → Type 0) → LoadedInto K → LoadedInto K → Option (List ℕ) → Type 0
+TakesPart holds before after known = (closed : List (List ℕ)) → WasFedInto holds record_limit before closed []
+    → (part : List ℕ) × IfSome known (λ bytes. part ≡ bytes) × WasFedInto holds record_limit after (closed ++ part ∷ []) []
+
+-- a loader that was fed nothing was fed what the files hold
+abbrev pub TakesFiles : {K R : Type 0} → (K → List Record → Type 0) → LoadedInto K → LoadedInto K → (R → Option (List ℕ)) → List (Opened R) → Type 0
+TakesFiles holds before after remaining files = WasFedInto holds record_limit before [] []
+    → (parts : List (List ℕ)) × AreHeld remaining files parts × WasFedInto holds record_limit after parts []

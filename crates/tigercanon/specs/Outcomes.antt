@@ -1,5 +1,5 @@
 -- What a job over files printed, or why it printed nothing.
-use Rattle.std.specs.Prelude.{ℕ, List, take, Option, ◌⊎◌}
+use Rattle.std.specs.Prelude.{ℕ, ◌<◌, List, length, take, Option, ◌⊎◌}
 use Rattle.std.specs.Io.KnownBytes.{Appends, Keeps}
 use Rattle.tl_load.specs.declared.fault.LoadFault.{LoadFault}
 use Rattle.tl_load.specs.Loaded.{IsOfLines}
@@ -23,11 +23,12 @@ pub record PrintsWhole {R : Type 0} (remaining : R → Option (List ℕ)) (files
   pub respelt : AreRespelt remaining files text
   pub printed : Appends old new text
 
--- the writer got the first so many bytes of the respelt text
+-- the writer got the first so many bytes of the respelt text, and not all of them
 pub record PrintsBeginning {R : Type 0} (remaining : R → Option (List ℕ)) (files : List (Opened R)) (written : ℕ) (old new : Option (List ℕ)) : Type 0 where
   pub text : List ℕ
   pub respelt : AreRespelt remaining files text
   pub printed : Appends old new (take written text)
+  pub short : written < length text
 
 -- the first faulty line of what the files hold has this fault
 pub record AreFaulty {R : Type 0} (remaining : R → Option (List ℕ)) (files : List (Opened R)) (fault : LoadFault) : Type 0 where
@@ -49,6 +50,6 @@ Leaves remaining files old new (Output stopped) = PrintsBeginning remaining file
 abbrev pub AreRefused : {R : Type 0} → (R → Option (List ℕ)) → List (Opened R) → Type 0
 AreRefused remaining files = (fault : LoadFault) × AreFaulty remaining files fault
 
--- nothing was printed, or the beginning of the respelt text
+-- nothing was printed, or a beginning of the respelt text that isn't all of it
 abbrev pub PrintsPart : {R : Type 0} → (R → Option (List ℕ)) → List (Opened R) → Option (List ℕ) → Option (List ℕ) → Type 0
 PrintsPart remaining files old new = Keeps old new ⊎ ((written : ℕ) × PrintsBeginning remaining files written old new)

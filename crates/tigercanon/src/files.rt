@@ -1,13 +1,18 @@
 //! The files of a set, as opening them went, and what they hold.
 
-ghost use Rattle.std.specs.Prelude.{◌≡◌, ◌<◌, IfOk, IfErr, IfSome, IsErrOf, IsTrue, ◌↔◌, map, vec_len};
-ghost use Rattle.tigercanon.specs.Files.{IsMissing, AreHeld, bytes_of};
-ghost use Rattle.tigercanon.specs.Respelling.{IsOfSet};
+ghost use Rattle.std.specs.Prelude.{◌≡◌, None, ◌<◌, ◌≤◌, ◌+◌, ℕ, List, length, OnOk, IfOk, IfErr, IfSome, MatchResult, IsErrOf, IsTrue, ◌↔◌, vec_len};
+ghost use Rattle.tigercanon.specs.Files.{IsMissing, AreHeld, TakesPart, TakesFiles, bytes_of};
+ghost use Rattle.tigercanon.specs.Outcomes.{TellsFault};
+ghost use Rattle.tigercanon.specs.Respelling.{record_limit};
+ghost use Rattle.tl_layout.specs.declared.record_type.Record.{Record};
+ghost use Rattle.tl_load.specs.Choice.{tiger};
+ghost use Rattle.tl_load.specs.Loaded.{IsNotDevice};
+ghost use Rattle.tl_load.specs.Outcome.{Accepts};
 
 use crate::fault::Fault;
 use std::alloc::{AllocError, Global};
 use std::io::Read;
-use tl_load::LoadFault;
+use tl_load::{Counted, Keeper, LoadFault, LoaderInto, Source};
 
 /// A file as opening it went.
 #[derive(Drop)]
@@ -35,51 +40,106 @@ fn room(alloc: Global) -> Result<Vec<u8>, AllocError>
     vec![in alloc; 0u8; 65536]
 }
 
-/// All that the reader has left. No failing read is tried again, an interrupted one included.
-fn read_whole<R: Read>(alloc: Global, reader: &mut R) -> Result<Vec<u8>, Fault>
-    ensures all { IfOk result (λ bytes. IfSome (R.remaining reader.old) (λ all. bytes.items ≡ all)) }
-    ensures other { IfErr result (λ f. ¬ IsOfSet f) }
+/// Reads on to the source's end, and keeps nothing: a line is faulty already, and what can't be read is told before it.
+fn read_on<S: Source>(source: &mut S, room: &mut [u8]) -> Result<(), LoadFault>
+    requires { S.failed source.old < u64.MAX }
+    ensures ok { OnOk result (S.failed source.new ≡ S.failed source.old) }
+    ensures err { IfErr result (λ f. (f ≡ LoadFault.Device) × (S.failed source.new ≡ S.failed source.old + 1)) }
 {
-    let mut bytes = Vec::new(alloc);
-    let mut piece = room(alloc)?;
     for _ in 0..u64::MAX {
-        match reader.read(&mut piece) {
-            Ok(0) => return Ok(bytes),
-            Ok(count) => bytes.extend_from_slice(&piece[..count])?,
-            Err(_) => return Err(Fault::Load(LoadFault::Device)),
+        match source.read(room) {
+            Ok(0) => return Ok(()),
+            Ok(_) => {}
+            Err(_) => return Err(LoadFault::Device),
         }
     }
-    Err(Fault::Load(LoadFault::Device))
+    Ok(())
 }
 
-/// What the file holds; one that isn't there holds nothing.
-fn bytes_of<R: Read + Drop>(alloc: Global, file: Opened<R>) -> Result<Vec<u8>, Fault>
-    ensures all { IfOk result (λ bytes. IfSome (bytes_of R.remaining file) (λ all. bytes.items ≡ all)) }
-    ensures other { IfErr result (λ f. ¬ IsOfSet f) }
+/// Reads a source to its end as the next part. What is wrong with its lines is left to the loader to tell.
+fn load_source<K: Keeper, S: Source>(
+    loader: &mut LoaderInto<K>,
+    source: &mut S,
+    room: &mut [u8],
+) -> Result<(), LoadFault>
+    requires parts { loader.old.parts < u64.MAX }
+    requires some_room { 0 < length room.old }
+    requires failures { S.failed source.old < u64.MAX }
+    requires no_device { IfSome loader.old.fault IsNotDevice }
+    ensures fed { OnOk result (TakesPart K.holds loader.old loader.new (S.remaining source.old)) }
+    ensures parts { loader.new.parts ≤ loader.old.parts + 1 }
+    ensures no_device { OnOk result (IfSome loader.new.fault IsNotDevice) }
+    // The device is told exactly where the source failed.
+    ensures device { MatchResult result (λ _. S.failed source.new ≡ S.failed source.old)
+        (λ f. (f ≡ LoadFault.Device) × (S.failed source.new ≡ S.failed source.old + 1)) }
 {
-    match file {
-        Opened::Found(mut reader) => read_whole(alloc, &mut reader),
-        Opened::Absent => Ok(Vec::new(alloc)),
-        Opened::Failed => Err(Fault::Load(LoadFault::Device)),
+    match loader.read_part_by(source, room) {
+        Ok(()) => Ok(()),
+        Err(fault) => match fault {
+            LoadFault::Device => Err(fault),
+            _ => read_on(source, room),
+        },
     }
 }
 
-/// The files of a set, each read whole, in order: the parts of the set. What couldn't be opened is told before anything
-/// is read.
-pub(crate) fn read_set<R: Read + Drop>(
+/// Reads a file to its end as the next part; one that isn't there is an empty part.
+fn load_file<K: Keeper, R: Read + Drop>(
+    loader: &mut LoaderInto<K>,
+    file: Opened<R>,
+    room: &mut [u8],
+) -> Result<(), LoadFault>
+    requires parts { loader.old.parts < u64.MAX }
+    requires some_room { 0 < length room.old }
+    requires no_device { IfSome loader.old.fault IsNotDevice }
+    ensures fed { OnOk result (TakesPart K.holds loader.old loader.new (bytes_of R.remaining file)) }
+    ensures parts { loader.new.parts ≤ loader.old.parts + 1 }
+    ensures no_device { OnOk result (IfSome loader.new.fault IsNotDevice) }
+    ensures device { IfErr result (λ f. f ≡ LoadFault.Device) }
+{
+    match file {
+        Opened::Found(reader) => load_source(loader, &mut Counted::new(reader), room),
+        Opened::Absent => {
+            let _ = loader.end_part();
+            Ok(())
+        }
+        Opened::Failed => Err(LoadFault::Device),
+    }
+}
+
+/// Reads the files of a set to their ends, in order.
+fn feed_files<K: Keeper, R: Read + Drop>(
+    loader: &mut LoaderInto<K>,
+    files: Vec<Opened<R>>,
+    room: &mut [u8],
+) -> Result<(), LoadFault>
+    requires new { loader.old.parts ≡ 0 }
+    requires no_fault { loader.old.fault ≡ None }
+    requires some_room { 0 < length room.old }
+    ensures fed { OnOk result (TakesFiles K.holds loader.old loader.new R.remaining files.items) }
+    ensures device { IfErr result (λ f. f ≡ LoadFault.Device) }
+{
+    for file in files {
+        load_file(loader, file, room)?;
+    }
+    Ok(())
+}
+
+/// What a keeper makes of the records of a set of files, each read to its end, in order. What couldn't be opened is told
+/// before anything is read, and what can't be read before what is wrong.
+pub(crate) fn load_files<K: Keeper, R: Read + Drop>(
     alloc: Global,
     files: Vec<Opened<R>>,
-) -> Result<Vec<Vec<u8>>, Fault>
+) -> Result<K, Fault>
     ensures missing { IsMissing files.items → IsErrOf result (Fault.Load LoadFault.Device) }
-    ensures parts { IfOk result (λ parts. AreHeld R.remaining files.items (map (λ part. part.items) parts.items)) }
-    ensures other { IfErr result (λ f. ¬ IsOfSet f) }
+    ensures loaded { IfOk result (λ kept. (parts : List (List ℕ)) × AreHeld R.remaining files.items parts
+        × (records : List Record) × K.holds kept records × Accepts tiger record_limit parts records) }
+    ensures faulty { IfErr result (TellsFault R.remaining files.items) }
 {
     if is_missing_a_file(&files) {
         return Err(Fault::Load(LoadFault::Device));
     }
-    let mut parts = Vec::new(alloc);
-    for file in files {
-        parts.push(bytes_of(alloc, file)?)?;
-    }
-    Ok(parts)
+    let mut room = room(alloc)?;
+    let mut loader = LoaderInto::<K>::new(alloc);
+    feed_files(&mut loader, files, &mut room)?;
+    Ok(loader.finish()?)
 }

@@ -1,23 +1,21 @@
 //! What the program does, over files that are open already.
 
-ghost use Rattle.std.specs.Prelude.{◌≡◌, ◌∷◌, [], Contains, OnOk, IfOk, IfErr, IsErrOf, map};
+ghost use Rattle.std.specs.Prelude.{◌≡◌, ◌∷◌, [], Contains, OnOk, IfErr, IsErrOf};
 ghost use Rattle.std.specs.Io.KnownBytes.{Keeps};
 ghost use Rattle.tigercanon.specs.Files.{IsMissing};
-ghost use Rattle.tigercanon.specs.Respelling.{IsRespelt, TellsFirstFault};
 ghost use Rattle.tigercanon.specs.Statuses.{plan_status_of};
 ghost use Rattle.tigercanon.specs.Outcomes.{PrintsWhole, PrintsPart, AreRefused, Leaves};
 
 use crate::command_line::{Job, PlanFault};
 use crate::fault::Fault;
-use crate::files::{Opened, read_set};
+use crate::files::{Opened, load_files};
 use crate::refusal::Refusal;
-use crate::respelling::respell;
 use crate::writing::write_text;
 use std::alloc::Global;
 use std::io::{Read, Write};
-use tl_load::LoadFault;
+use tl_load::{CanonicalText, LoadFault};
 
-/// Reads the files of a set whole, and then prints its records in canonical spelling.
+/// Prints the records of a set of files in canonical spelling, once all of it is read and judged.
 fn respell_set<R: Read + Drop, W: Write>(
     alloc: Global,
     files: Vec<Opened<R>>,
@@ -27,19 +25,9 @@ fn respell_set<R: Read + Drop, W: Write>(
     ensures stopped { IfErr result (Leaves R.remaining files.items (W.contents out.old) (W.contents out.new)) }
     ensures missing { IsMissing files.items → IsErrOf result (Refusal.Set (Fault.Load LoadFault.Device)) }
 {
-    let parts = read_set(alloc, files)?;
-    let text = respell_parts(alloc, &parts)?;
-    write_text(out, &text)?;
+    let text: CanonicalText = load_files(alloc, files)?;
+    write_text(out, &text.bytes)?;
     Ok(())
-}
-
-/// As [`respell`], of parts that own their bytes.
-fn respell_parts(alloc: Global, parts: &[Vec<u8>]) -> Result<Vec<u8>, Fault>
-    ensures respelt { IfOk result (λ text. IsRespelt (map (λ part. part.items) parts.now) text.items) }
-    ensures faulty { IfErr result (TellsFirstFault (map (λ part. part.items) parts.now)) }
-{
-    let slices: Vec<&[u8]> = parts.iter().map(|part| part.as_slice()).collect(alloc)?;
-    respell(alloc, &slices)
 }
 
 /// Does a job over the files of its sets, and answers the exit status: 0 where it is done, 3 where the set is

@@ -293,10 +293,15 @@ impl<K: Keeper> LoaderInto<K> {
     }
 
     // Feeds what the source gives until it gives nothing, and closes the part.
-    fn read_to_end<R: Source>(&mut self, source: &mut R) -> Result<(), LoadFault>
+    fn read_to_end<R: Source>(
+        &mut self,
+        source: &mut R,
+        room: &mut [u8],
+    ) -> Result<(), LoadFault>
         requires parts { self.old.parts < u64.MAX }
+        requires some_room { 0 < length room.old }
         requires failures { R.failed source.old < u64.MAX }
-        ensures reads { (taken : List ℕ) × Gave R.remaining R.given source.old source.new taken × (length taken ≤ 20700004325)
+        ensures reads { (taken : List ℕ) × Gave R.remaining R.given source.old source.new taken × (length taken < 20700000230 + length room.old)
             × Lifts K.holds (Reads taken (IsAtEnd (R.remaining source.new))) self.old result self.new }
         ensures stops { StopsThere R.remaining R.given R.reads source.old source.new (TakesWell K.holds self.old) }
         ensures limit { self.new.limit ≡ self.old.limit }
@@ -306,16 +311,15 @@ impl<K: Keeper> LoaderInto<K> {
     {
         // From here on the loader's invariant is known.
         let _ = &self.line;
-        let mut buffer = [0; READ_BYTES];
         loop {
-            let count = match source.read(&mut buffer) {
+            let count = match source.read(room) {
                 Ok(count) => count,
                 Err(_) => return Err(LoadFault::Device),
             };
             if count == 0 {
                 return self.close_part();
             }
-            self.take_piece(&buffer[..count])?;
+            self.take_piece(&room[..count])?;
         }
     }
 
@@ -402,10 +406,38 @@ impl<K: Keeper> LoaderInto<K> {
         ensures device { self.old.fault ≡ None → R.failed source.new ≡ (if is_device result then R.failed source.old + 1 else R.failed source.old) }
         ensures kept { HasSome K.holds self.old → OnOk result (HasSome K.holds self.new) }
     {
+        let mut room = [0; READ_BYTES];
+        self.read_part_by(source, &mut room)
+    }
+
+    /// As [`LoaderInto::read_part`], through a buffer of the caller's: by at most its length at a time.
+    pub fn read_part_by<R: Source>(
+        &mut self,
+        source: &mut R,
+        room: &mut [u8],
+    ) -> Result<(), LoadFault>
+        requires parts { self.old.parts < u64.MAX }
+        requires some_room { 0 < length room.old }
+        requires failures { R.failed source.old < u64.MAX }
+        // What the source gave went into the open part, and no endless source keeps the call from its return.
+        ensures fed { (taken : List ℕ) × Gave R.remaining R.given source.old source.new taken × (length taken < 20700000230 + length room.old)
+            × FedPart (WasFedInto K.holds) self.old taken (IsAtEnd (R.remaining source.new)) result self.new }
+        // Nothing is read past the read that brought a fault.
+        ensures stops { self.old.fault ≡ None
+            → StopsThere R.remaining R.given R.reads source.old source.new (IsWellAfter (WasFedInto K.holds) self.old) }
+        ensures ok { OnOk result (self.new.fault ≡ None) }
+        ensures told { IfErr result (λ f. self.new.fault ≡ Some f) }
+        // After a fault nothing changes, and nothing is read.
+        ensures stood { IfSome self.old.fault (λ f. (result ≡ Err f) × (self.new ≡ self.old) × (source.new ≡ source.old)) }
+        ensures parts { self.new.parts ≡ (if is_ok result then self.old.parts + 1 else self.old.parts) }
+        // The device is at fault exactly where the source failed in this call.
+        ensures device { self.old.fault ≡ None → R.failed source.new ≡ (if is_device result then R.failed source.old + 1 else R.failed source.old) }
+        ensures kept { HasSome K.holds self.old → OnOk result (HasSome K.holds self.new) }
+    {
         match self.fault {
             Some(fault) => Err(fault),
             None => {
-                let outcome = self.read_to_end(source);
+                let outcome = self.read_to_end(source, room);
                 self.stand(outcome)
             }
         }

@@ -5,7 +5,7 @@ use Rattle.tl_load.specs.Keeping.{WasFedInto}
 use Rattle.tl_load.proofs.ReadSteps.{gave_none}
 use Rattle.tl_load.specs.Steps.{Reads}
 use Rattle.tl_load.proofs.Histories.{fed_read, well_after, some_after}
-use Rattle.tl_load.proofs.loader_into.LoaderInto.read_part.Goals as goal
+use Rattle.tl_load.proofs.loader_into.LoaderInto.read_part_by.Goals as goal
 
 pub returns-in-Some-clause-fed : goal.returns-in-Some-clause-fed
 returns-in-Some-clause-fed g c = ([], gave_none _ _ _, omega arith, λ limit closed open_part w. inr (subst (λ (b : List ℕ). WasFedInto g.K.Keeper.holds limit c.args.self.now closed b) (sym (append-nil open_part)) w))
