@@ -24,3 +24,7 @@ pub mod Counted
 pub mod FitsPacked
 pub mod FitsCounty
 pub mod Groups
+pub mod TypedRecords
+pub mod SameRules
+pub mod LinkedTables
+pub mod BuiltTables
