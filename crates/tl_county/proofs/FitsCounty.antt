@@ -110,7 +110,7 @@ first_of : {X : Type 0} (Q : X → Type 0) (xs : List X) → AllByRecursion Q xs
 first_of Q [] a = tt
 first_of Q (x ∷ xs) a = a.0
 
-flat_map-map : {X Y Z : Type 0} (f : Y → List Z) (g : X → Y) (xs : List X) → flat_map f (map g xs) ≡ flat_map (λ x. f (g x)) xs
+pub flat_map-map : {X Y Z : Type 0} (f : Y → List Z) (g : X → Y) (xs : List X) → flat_map f (map g xs) ≡ flat_map (λ x. f (g x)) xs
 flat_map-map f g [] = refl
 flat_map-map f g (x ∷ xs) = ap (λ zs. f (g x) ++ zs) (flat_map-map f g xs)
 

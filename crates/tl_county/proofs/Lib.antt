@@ -34,3 +34,7 @@ pub mod TypeCounts
 pub mod FieldsFit
 pub mod PackedGroups
 pub mod CarriedLimits
+pub mod TypedRecords
+pub mod SameRules
+pub mod LinkedTables
+pub mod BuiltTables

@@ -1,11 +1,15 @@
 -- The parts of a county, of the groups of records that have one number.
 use Rattle.std.specs.Prelude.{ℕ, List, [], ◌∷◌, ◌++◌, map, flat_map, filter, Option}
-use Rattle.std.specs.Ordering.{is_eq}
+use Rattle.std.specs.List.{zip}
+use Rattle.std.specs.Ordering.{is_eq, nat_cmp}
 use Rattle.tl_layout.specs.ByType.{of_number}
 use Rattle.tl_layout.specs.Fields.{Fields1, Fields2, Fields4, Fields6, Fields7, Fields8, FieldsI, FieldsP}
 use Rattle.tl_layout.specs.declared.type_p.BodyP.{BodyP}
 use Rattle.tl_shape.specs.Chain.{Chain}
-use Rattle.tl_county.specs.County.{two_tlid, four_tlid, six_tlid, seven_land, eight_land, p_key, first}
+use Rattle.tl_county.specs.County.{County, one_tlid, two_tlid, four_tlid, six_tlid, seven_land, eight_land, p_key, side_keys, first}
+use Rattle.tl_county.specs.KeptCounty.{county_with}
+use Rattle.tl_county.specs.Orders.{distinct}
+use Rattle.tl_county.specs.Packing.{Typed}
 use Rattle.tl_county.specs.LandmarkParts.{LandmarkParts}
 use Rattle.tl_county.specs.PolygonKeys.{PolygonKey, key_cmp}
 
@@ -36,3 +40,15 @@ polygon_body_of points key = first (map (λ r. r.body) (filter (λ r. is_eq (key
 -- the landmark of a LAND: the contents of its records of type 7, and its records of type 8
 abbrev pub landmark_of : List Fields7 → List Fields8 → ℕ → LandmarkParts
 landmark_of landmarks links land = record { bodies = map (λ r. r.body) (of_number seven_land land landmarks); links = of_number eight_land land links }
+
+-- the landmarks of records by type, in the order of their LANDs
+abbrev pub landmarks_along : Typed → List (ℕ × LandmarkParts)
+landmarks_along t = map (λ land. (land, landmark_of t.of_type_7 t.of_type_8 land)) (distinct nat_cmp (map seven_land t.of_type_7))
+
+-- the county of records by type, in the order of their numbers
+abbrev pub county_along : Typed → County
+county_along t = county_with
+    (zip (map one_tlid t.of_type_1) (chains_along t.of_type_2 t.of_type_4 t.of_type_6 t.of_type_1 t.of_type_i))
+    (map (λ r. (r.feat, r.body)) t.of_type_5)
+    (map (λ key. (key, polygon_body_of t.of_type_p key)) (distinct key_cmp (flat_map side_keys t.of_type_i ++ map p_key t.of_type_p)))
+    (landmarks_along t)

@@ -7,6 +7,8 @@ pub mod Entries
 pub mod LandmarkParts
 pub mod KeptCounty
 pub mod Building
+pub mod TheCounty
+pub mod CountyProps
 pub mod PolygonKeys
 pub mod BodyOrder
 pub mod County

@@ -1,5 +1,9 @@
 //! How records can fail to fit together.
 
+use std::alloc::AllocError;
+use std::fmt;
+use thiserror::Error;
+
 /// A record type whose records belong to a chain.
 #[derive(Clone, Copy, Debug, PartialEq, Eq)]
 pub enum LinkedType {
@@ -13,29 +17,63 @@ pub enum LinkedType {
     I,
 }
 
+/// The number of the record type, as it stands in column 1.
+impl fmt::Display for LinkedType {
+    fn fmt<W: fmt::Write>(&self, f: &mut fmt::Formatter<W>) -> fmt::Result {
+        match self {
+            LinkedType::Two => write!(f, "2"),
+            LinkedType::Four => write!(f, "4"),
+            LinkedType::Six => write!(f, "6"),
+            LinkedType::I => write!(f, "I"),
+        }
+    }
+}
+
 /// The first rule that a list of records breaks, with the least place at which it is broken.
-#[derive(Clone, Copy, Debug, PartialEq, Eq)]
+#[derive(Clone, Copy, Debug, PartialEq, Eq, Error)]
 pub enum LinkFault {
     /// Two records of type 1 have one TLID (11).
+    #[error("two records of type 1 have the TLID {tlid}")]
     ChainTwice { tlid: u64 },
     /// A record of type 2, 4, 6 or I has the TLID of no record of type 1 (12).
+    #[error("a record of type {rtype} has the TLID {tlid}, which no record of type 1 has")]
     NoChain { rtype: LinkedType, tlid: u64 },
     /// An RTSQ stands twice for a chain in one record type (13).
+    #[error("an RTSQ stands twice among the records of type {rtype} of the TLID {tlid}")]
     SequenceBroken { rtype: LinkedType, tlid: u64 },
     /// A record of type 1 has no record of type I (14).
+    #[error("the TLID {tlid} has no record of type I")]
     LinkMissing { tlid: u64 },
     /// Two records of type I have one TLID (15).
+    #[error("two records of type I have the TLID {tlid}")]
     LinkTwice { tlid: u64 },
     /// Two records of type 5 have one FEAT (16).
+    #[error("two records of type 5 have the FEAT {feat}")]
     NameTwice { feat: u32 },
     /// A record of type 4 names a FEAT that no record of type 5 has (17).
+    #[error("the chain with the TLID {tlid} names the FEAT {feat}, which no record of type 5 has")]
     NameUnknown { tlid: u64, feat: u32 },
     /// Two records of type P are of one polygon (18).
+    #[error("two records of type P have the POLYID {polyid} under the CENID {cenid:?}")]
     PolygonTwice { cenid: [u8; 5], polyid: u64 },
     /// A record of type 8 has a LAND that no record of type 7 has (19).
+    #[error("a record of type 8 has the LAND {land}, which no record of type 7 has")]
     LandUnknown { land: u64 },
     /// The polygon of a record of type 8 is on no side and has no record of type P (20).
+    #[error("a record of type 8 has the POLYID {polyid} under the CENID {cenid:?}, which stands on no side and has no record of type P")]
     PolygonUnknown { cenid: [u8; 5], polyid: u64 },
     /// There was no memory (9).
+    #[error("there is not enough memory")]
     Memory,
+}
+
+impl From<AllocError> for LinkFault {
+    ghost use Rattle.std.specs.Prelude.{◌≡◌};
+    ghost use Rattle.tl_county.specs.declared.fault.LinkFault.TheVariants.{Memory};
+
+    ghost from_gives = { λ _ fault. fault ≡ Memory };
+
+    fn from(_error: AllocError) -> LinkFault {
+        LinkFault::Memory
+    }
 }

@@ -2,15 +2,18 @@
 #![tactic(auto)]
 
 mod building;
+mod county;
 mod fault;
 mod gathered;
 mod keyed;
 mod landmark;
 mod laws;
+mod linking;
 mod record_keys;
 mod rules;
 mod table;
 
+pub use county::County;
 pub use fault::{LinkFault, LinkedType};
 pub use keyed::{
     Key, Keyed, after_key, from_key, keys_of, least_repeated, least_unknown, place_of,
@@ -22,5 +25,6 @@ pub use laws::{
     linked_records_have_a_county_within_limits, linked_records_have_a_well_formed_county,
     renamings_compose, sameness_is_an_equivalence, the_county_is_what_the_records_say,
 };
+pub use linking::{link, link_tables};
 pub use record_keys::PolygonKey;
 pub use table::Table;

@@ -18,7 +18,7 @@ use crate::record_keys::PolygonKey;
 use tl_layout::{Rec1, Rec2, Rec4, Rec5, Rec6, Rec7, Rec8, RecI, RecP, Tables};
 
 /// Rules 11 and 12: no TLID has two records of type 1, and each record of types 2, 4, 6 and I has its chain.
-fn check_chains(tables: &Tables) -> Result<(), LinkFault>
+pub(crate) fn check_chains(tables: &Tables) -> Result<(), LinkFault>
     requires { AreInOrder (typed_of tables.now) }
     ensures { (records : List Record) → by_type records ≡ typed_of tables.now → MatchResult result (λ _. RulesHold records 0 5) (IsFirstFrom records 0) }
 {
@@ -45,7 +45,7 @@ fn check_chains(tables: &Tables) -> Result<(), LinkFault>
 }
 
 /// Rule 13: no RTSQ stands twice for a chain in a record type.
-fn check_sequences(tables: &Tables) -> Result<(), LinkFault>
+pub(crate) fn check_sequences(tables: &Tables) -> Result<(), LinkFault>
     requires { AreInOrder (typed_of tables.now) }
     ensures { (records : List Record) → by_type records ≡ typed_of tables.now → MatchResult result (λ _. RulesHold records 5 9) (IsFirstFrom records 5) }
 {
@@ -65,7 +65,7 @@ fn check_sequences(tables: &Tables) -> Result<(), LinkFault>
 }
 
 /// Rules 14 and 15: each record of type 1 has its record of type I, and no TLID has two.
-fn check_links(tables: &Tables) -> Result<(), LinkFault>
+pub(crate) fn check_links(tables: &Tables) -> Result<(), LinkFault>
     requires { AreInOrder (typed_of tables.now) }
     ensures { (records : List Record) → by_type records ≡ typed_of tables.now → MatchResult result (λ _. RulesHold records 9 11) (IsFirstFrom records 9) }
 {
@@ -96,7 +96,11 @@ fn least_unnamed(uses: &[(u64, u32)], feats: &[u32]) -> Option<(u64, u32)>
 
 /// Rules 16 and 17: no FEAT has two records of type 5, and each FEAT that a record of type 4 names has one. The uses are
 /// those of the records of type 4, and the FEATs those of the records of type 5, both in order.
-fn check_names(tables: &Tables, uses: &[(u64, u32)], feats: &[u32]) -> Result<(), LinkFault>
+pub(crate) fn check_names(
+    tables: &Tables,
+    uses: &[(u64, u32)],
+    feats: &[u32],
+) -> Result<(), LinkFault>
     requires tables { AreInOrder (typed_of tables.now) }
     requires uses { IsInOrder sequence_cmp uses.now × IsPermutation (flat_map uses_of tables.now.type_4.items) uses.now }
     requires feats { feats.now ≡ map five_feat tables.now.type_5.items }
@@ -114,7 +118,7 @@ fn check_names(tables: &Tables, uses: &[(u64, u32)], feats: &[u32]) -> Result<()
 /// Rules 18 to 20: no polygon has two records of type P, each landmark of a record of type 8 has a record of type 7, and
 /// each polygon of one stands on a side or has a record of type P. The linked polygons are those of the records of type 8,
 /// and the polygons are the keys on sides and of type P, both in order.
-fn check_landmarks(
+pub(crate) fn check_landmarks(
     tables: &Tables,
     linked: &[PolygonKey],
     polygons: &[PolygonKey],

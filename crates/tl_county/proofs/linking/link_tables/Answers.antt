@@ -1,0 +1,24 @@
+use Rattle.std.proofs.Common.{◌≡◌, ◌∙◌}
+use Rattle.tl_county.specs.OrderedTables.{typed_of}
+use Rattle.tl_county.specs.Packing.{type_after_type}
+use Rattle.tl_county.proofs.BuiltTables.{held, also_linked, also_first, same_county}
+use Rattle.tl_county.proofs.TypedRecords.{by_type-after}
+use Rattle.tl_county.proofs.linking.link_tables.Goals as goal
+
+pub build_county-requires-clause-linked : goal.build_county-requires-clause-linked
+build_county-requires-clause-linked c =
+    let u = typed_of c.order_tables.new.tables in
+    c.in_default.ensures.linked (type_after_type u) (by_type-after u)
+
+pub returns-clause-linked : goal.returns-clause-linked
+returns-clause-linked c records h =
+    let u = typed_of c.order_tables.new.tables in
+    let linked = c.in_default.ensures.linked (type_after_type u) (by_type-after u) in (
+      also_linked records (typed_of c.args.tables) u (held c.args.tables records h) c.in_ok-order_tables.ensures.same linked,
+      c.in_ok-build_county.ensures ∙ same_county records (typed_of c.args.tables) u (held c.args.tables records h) c.in_ok-order_tables.ensures.same linked,
+    )
+
+pub returns-in-Err-clause-broken : goal.returns-in-Err-clause-broken
+returns-in-Err-clause-broken c ne records h =
+    let u = typed_of c.order_tables.new.tables in
+    also_first records (typed_of c.args.tables) u (held c.args.tables records h) c.in_ok-order_tables.ensures.same _ (c.in-Err.ensures.broken ne (type_after_type u) (by_type-after u))

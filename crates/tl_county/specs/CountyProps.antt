@@ -1,0 +1,14 @@
+-- That a county is one is a fact with at most one proof.
+use Rattle.std.specs.Prelude.{List, [], ◌∷◌}
+use Rattle.std.specs.declared.cmp.Ordering.{Ordering}
+use Rattle.std.proofs.Props.{props}
+use Rattle.tl_county.specs.County.{County}
+use Rattle.tl_county.specs.CountyRules.{IsCounty}
+use Rattle.tl_county.specs.Orders.{IsInOrder}
+
+pub IsInOrder-prop : {X : Type 0} (cmp : X → X → Ordering) (xs : List X) → IsProp (IsInOrder cmp xs)
+IsInOrder-prop cmp [] = hlevel props
+IsInOrder-prop cmp (x ∷ xs) = let rest : IsProp (IsInOrder cmp xs) = IsInOrder-prop cmp xs in hlevel (props, rest)
+
+pub IsCounty-prop : (c : County) → IsProp (IsCounty c)
+IsCounty-prop c = hlevel (props, IsInOrder-prop)

@@ -1,0 +1,171 @@
+//! Linking: records become a county, or the first rule that they break is told.
+
+ghost use Rattle.std.specs.Prelude.{◌≡◌, ◌≢◌, ◌++◌, List, map, flat_map, OnOk, IfOk, IfErr};
+ghost use Rattle.tl_layout.specs.declared.record_type.Record.{Record};
+ghost use Rattle.tl_layout.specs.Tables.{HoldsByType};
+ghost use Rattle.tl_county.specs.Building.{county_along, landmarks_along};
+ghost use Rattle.tl_county.specs.County.{county_of, five_feat, p_key, side_keys};
+ghost use Rattle.tl_county.specs.LinkRules.{IsFirstBrokenRule, IsLinked};
+ghost use Rattle.tl_county.specs.OrderedTables.{typed_of, AreInOrder};
+ghost use Rattle.tl_county.specs.Orders.{distinct};
+ghost use Rattle.tl_county.specs.Packing.{by_type, type_after_type};
+ghost use Rattle.tl_county.specs.TheCounty.{the_county};
+ghost use Rattle.tl_county.specs.PolygonKeys.{key_cmp};
+ghost use Rattle.tl_county.specs.declared.fault.LinkFault.TheVariants.{Memory};
+
+use crate::building::{
+    chains_of_records, landmarks_of, lands_of, name_bodies, nodes_of, polygon_bodies,
+};
+use crate::county::County;
+use crate::fault::LinkFault;
+use crate::gathered::{linked_polygons, order_tables, polygon_keys, uses_in_order};
+use crate::keyed::keys_of;
+use crate::landmark::Landmark;
+use crate::record_keys::PolygonKey;
+use crate::rules::{check_chains, check_landmarks, check_links, check_names, check_sequences};
+use crate::table::Table;
+use std::alloc::{AllocError, Global};
+use tl_layout::{Body5, BodyP, Rec1, Rec5, Record, Tables};
+use tl_shape::Chain;
+
+/// The ten rules, over tables in order, with their FEATs and their polygons in order.
+fn check_rules(
+    alloc: Global,
+    tables: &Tables,
+    feats: &[u32],
+    polygons: &[PolygonKey],
+) -> Result<(), LinkFault>
+    requires tables { AreInOrder (typed_of tables.now) }
+    requires feats { feats.now ≡ map five_feat tables.now.type_5.items }
+    requires polygons { polygons.now ≡ distinct key_cmp (flat_map side_keys tables.now.type_i.items ++ map p_key tables.now.type_p.items) }
+    ensures linked { OnOk result ((records : List Record) → by_type records ≡ typed_of tables.now → IsLinked records) }
+    ensures broken { IfErr result (λ fault. fault ≢ Memory → (records : List Record) → by_type records ≡ typed_of tables.now → IsFirstBrokenRule records fault) }
+{
+    if let Err(fault) = check_chains(tables) {
+        return Err(fault);
+    }
+    if let Err(fault) = check_sequences(tables) {
+        return Err(fault);
+    }
+    if let Err(fault) = check_links(tables) {
+        return Err(fault);
+    }
+    let Ok(uses) = uses_in_order(alloc, &tables.type_4) else {
+        return Err(LinkFault::Memory);
+    };
+    if let Err(fault) = check_names(tables, &uses, feats) {
+        return Err(fault);
+    }
+    let Ok(linked) = linked_polygons(alloc, &tables.type_8) else {
+        return Err(LinkFault::Memory);
+    };
+    check_landmarks(tables, &linked, polygons)
+}
+
+/// The chains of tables in order, under their TLIDs.
+fn build_chains(alloc: Global, tables: &Tables) -> Result<Table<u64, Chain>, AllocError>
+    requires tables { AreInOrder (typed_of tables.now) }
+    requires linked { IsLinked (type_after_type (typed_of tables.now)) }
+    ensures { IfOk result (λ chains. chains ≡ (county_along (typed_of tables.now)).chains) }
+{
+    let tlids = keys_of::<u64, Rec1>(alloc, &tables.type_1)?;
+    let chains = chains_of_records(
+        alloc,
+        &tables.type_1,
+        &tables.type_i,
+        &tables.type_2,
+        &tables.type_4,
+        &tables.type_6,
+    )?;
+    Ok(Table::new(tlids, chains))
+}
+
+/// The names of tables in order, under their FEATs.
+fn build_names(
+    alloc: Global,
+    tables: &Tables,
+    feats: Vec<u32>,
+) -> Result<Table<u32, Body5>, AllocError>
+    requires tables { AreInOrder (typed_of tables.now) }
+    requires linked { IsLinked (type_after_type (typed_of tables.now)) }
+    requires feats { feats.items ≡ map five_feat tables.now.type_5.items }
+    ensures { IfOk result (λ names. names ≡ (county_along (typed_of tables.now)).names) }
+{
+    let bodies = name_bodies(alloc, &tables.type_5)?;
+    Ok(Table::new(feats, bodies))
+}
+
+/// The polygons of tables in order, under their keys.
+fn build_polygons(
+    alloc: Global,
+    tables: &Tables,
+    keys: Vec<PolygonKey>,
+) -> Result<Table<PolygonKey, Option<BodyP>>, AllocError>
+    requires tables { AreInOrder (typed_of tables.now) }
+    requires keys { keys.items ≡ distinct key_cmp (flat_map side_keys tables.now.type_i.items ++ map p_key tables.now.type_p.items) }
+    ensures { IfOk result (λ polygons. polygons ≡ (county_along (typed_of tables.now)).polygons) }
+{
+    let bodies = polygon_bodies(alloc, &keys, &tables.type_p)?;
+    Ok(Table::new(keys, bodies))
+}
+
+/// The landmarks of tables in order, under their LANDs.
+fn build_landmarks(alloc: Global, tables: &Tables) -> Result<Table<u64, Landmark>, AllocError>
+    requires tables { AreInOrder (typed_of tables.now) }
+    ensures { IfOk result (λ landmarks. landmarks ≡ landmarks_along (typed_of tables.now)) }
+{
+    let lands = lands_of(alloc, &tables.type_7)?;
+    let landmarks = landmarks_of(alloc, &lands, &tables.type_7, &tables.type_8)?;
+    Ok(Table::new(lands, landmarks))
+}
+
+/// The county of linked records, their tables in order.
+fn build_county(
+    alloc: Global,
+    tables: &Tables,
+    feats: Vec<u32>,
+    polygons: Vec<PolygonKey>,
+) -> Result<County, AllocError>
+    requires tables { AreInOrder (typed_of tables.now) }
+    requires linked { IsLinked (type_after_type (typed_of tables.now)) }
+    requires feats { feats.items ≡ map five_feat tables.now.type_5.items }
+    requires polygons { polygons.items ≡ distinct key_cmp (flat_map side_keys tables.now.type_i.items ++ map p_key tables.now.type_p.items) }
+    ensures { IfOk result (λ county. the_county county ≡ county_of (type_after_type (typed_of tables.now))) }
+{
+    let chains = build_chains(alloc, tables)?;
+    let nodes = nodes_of(alloc, chains.values())?;
+    let names = build_names(alloc, tables, feats)?;
+    let polygons = build_polygons(alloc, tables, polygons)?;
+    let landmarks = build_landmarks(alloc, tables)?;
+    Ok(County {
+        chains,
+        names,
+        polygons,
+        landmarks,
+        nodes,
+    })
+}
+
+/// The county of tables of records, or the first rule that the records break. The tables' order has no meaning.
+pub fn link_tables(alloc: Global, tables: Tables) -> Result<County, LinkFault>
+    ensures linked { IfOk result (λ county. (records : List Record) → HoldsByType tables records → IsLinked records × (the_county county ≡ county_of records)) }
+    ensures broken { IfErr result (λ fault. fault ≢ Memory → (records : List Record) → HoldsByType tables records → IsFirstBrokenRule records fault) }
+{
+    let mut tables = tables;
+    order_tables(&mut tables)?;
+    let feats = keys_of::<u32, Rec5>(alloc, &tables.type_5)?;
+    let polygons = polygon_keys(alloc, &tables.type_i, &tables.type_p)?;
+    if let Err(fault) = check_rules(alloc, &tables, &feats, &polygons) {
+        return Err(fault);
+    }
+    Ok(build_county(alloc, &tables, feats, polygons)?)
+}
+
+/// The county of a list of records, or the first rule that the records break. The list's order has no meaning.
+pub fn link(alloc: Global, records: Vec<Record>) -> Result<County, LinkFault>
+    ensures linked { IfOk result (λ county. IsLinked records.items × (the_county county ≡ county_of records.items)) }
+    ensures broken { IfErr result (λ fault. fault ≢ Memory → IsFirstBrokenRule records.items fault) }
+{
+    let tables = Tables::of(alloc, records)?;
+    link_tables(alloc, tables)
+}
