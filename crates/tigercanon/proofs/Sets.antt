@@ -1,11 +1,15 @@
 -- Each set is accepted or has one refusal; two sets have one canonical text exactly if their counties are the same.
-use Rattle.std.proofs.Common.{◌≡◌, ◌⊎◌, ℕ, List, [], ◌∷◌, sym, ap, ◌∙◌, subst, inl, inr}
-use Rattle.tl_layout.specs.RecordText.{text_of}
+use Rattle.std.proofs.Common.{◌≡◌, ◌⊎◌, ℕ, List, [], ◌∷◌, refl, sym, ap, ◌∙◌, subst, inl, inr, lit≤}
+use Rattle.std.specs.Prelude.{All}
+use Rattle.std.specs.List.{AllByRecursion}
+use Rattle.std.proofs.lemmas.List.Elements.{All-from_recursion, recursion_from_All}
+use Rattle.tl_layout.specs.Limits.{IsWithinLimit}
+use Rattle.tl_layout.specs.RecordText.{FitsRecord, text_of}
 use Rattle.tl_layout.specs.declared.record_type.Record.{Record}
 use Rattle.tl_load.specs.Choice.{tiger}
 use Rattle.tl_load.specs.Outcome.{Spells, Accepts, FaultAt, IsSpelled, IsFaulty}
 use Rattle.tl_load.specs.declared.fault.LoadFault.{LoadFault}
-use Rattle.tl_load.proofs.RecordLines.{tiger_is_sound}
+use Rattle.tl_load.proofs.RecordLines.{tiger_is_sound, spelled_fit, accepted_within}
 use Rattle.tl_load.proofs.Reading.{one_verdict}
 use Rattle.tl_load.proofs.TextLemmas.{text_spells, text_spells_only}
 use Rattle.tl_county.specs.County.{county_of}
@@ -13,7 +17,10 @@ use Rattle.tl_county.specs.Renumbering.{AreSame}
 use Rattle.tl_number.specs.Accepted.{IsAccepted, Refusal, IsRefusal}
 use Rattle.tigercanon.specs.Respelling.{record_limit}
 use Rattle.tigercanon.specs.Sets.{IsAcceptedSet, SetRefusal, Faulty, Refused, IsSetRefusal, IsCanonicalText}
-use Rattle.tl_number.proofs.Accepted.{accepted_or_refused, accepted_not_refused, one_refusal, same_one_canonical, one_canonical_same}
+use Rattle.tl_number.proofs.Accepted.{accepted_or_refused, accepted_not_refused, one_refusal, same_one_canonical, one_canonical_same, canonical_of_itself}
+use Rattle.tl_number.proofs.Ascending.{canonical_list, canonical_exists}
+use Rattle.tl_number.proofs.TidyNumbers.{canonical_within}
+use Rattle.tl_county.proofs.Sameness.{same-reflexive}
 
 pub set_accepted_or_refused : (parts : List (List ℕ)) → ((records : List Record) × IsAcceptedSet parts records) ⊎ ((refusal : SetRefusal) × IsSetRefusal parts refusal)
 set_accepted_or_refused parts = go (one_verdict tiger tiger_is_sound record_limit parts)
@@ -58,6 +65,13 @@ one_set_refusal parts (Faulty f) (Refused g) h k = absurd (spelled_not_faulty pa
 one_set_refusal parts (Refused f) (Faulty g) h k = absurd (spelled_not_faulty parts h.0 g h.1 k)
 one_set_refusal parts (Refused f) (Refused g) h k = ap Refused (one_refusal k.0 f g (subst (λ rs. IsRefusal rs f) (one_list parts h.0 k.0 h.1 k.1) h.2) k.2)
 
+-- what is printed of a canonical list fits, and keeps the limit
+fitting : (parts : List (List ℕ)) (text : List ℕ) (h : IsCanonicalText parts text) → All FitsRecord h.canonical × IsWithinLimit record_limit h.canonical
+fitting parts text h =
+    let read : AllByRecursion FitsRecord h.records = recursion_from_All FitsRecord h.records (spelled_fit parts h.records h.spelled.spells) in
+    let kept = canonical_within record_limit (lit≤ tt) h.records h.canonical_of.accepted read (accepted_within record_limit parts h.records h.spelled) h.canonical h.canonical_of in
+    (All-from_recursion FitsRecord h.canonical kept.0, kept.1)
+
 module _ (p q : List (List ℕ)) (t u : List ℕ) (h : IsCanonicalText p t) (k : IsCanonicalText q u) where
   pub same_one_text : AreSame (county_of h.records) (county_of k.records) → t ≡ u
   same_one_text s = sym h.text_is ∙ ap text_of (same_one_canonical h.records k.records h.canonical k.canonical h.canonical_of k.canonical_of s) ∙ k.text_is
@@ -65,6 +79,40 @@ module _ (p q : List (List ℕ)) (t u : List ℕ) (h : IsCanonicalText p t) (k :
   pub one_text_same : t ≡ u → AreSame (county_of h.records) (county_of k.records)
   one_text_same e =
       let texts : text_of k.canonical ≡ text_of h.canonical = k.text_is ∙ sym e ∙ sym h.text_is in
-      let spelled : Spells tiger (text_of h.canonical ∷ []) k.canonical = subst (λ bytes. Spells tiger (bytes ∷ []) k.canonical) texts (text_spells k.canonical k.fits) in
-      let lists : k.canonical ≡ h.canonical = text_spells_only h.canonical k.canonical h.fits spelled in
+      let spelled : Spells tiger (text_of h.canonical ∷ []) k.canonical = subst (λ bytes. Spells tiger (bytes ∷ []) k.canonical) texts (text_spells k.canonical (fitting q u k).0) in
+      let lists : k.canonical ≡ h.canonical = text_spells_only h.canonical k.canonical (fitting p t h).0 spelled in
       one_canonical_same h.records k.records h.canonical k.canonical h.canonical_of k.canonical_of (sym lists)
+
+-- an accepted set has one canonical text
+pub canonical_text : (parts : List (List ℕ)) (records : List Record) → IsAcceptedSet parts records → (text : List ℕ) × IsCanonicalText parts text
+canonical_text parts records a = (text_of (canonical_list records), record {
+  records = records;
+  canonical = canonical_list records;
+  spelled = a.spelled;
+  canonical_of = canonical_exists records a.accepted;
+  text_is = refl;
+})
+
+pub one_text : (parts : List (List ℕ)) (t u : List ℕ) → IsCanonicalText parts t → IsCanonicalText parts u → t ≡ u
+one_text parts t u h k = same_one_text parts parts t u h k (subst (λ (rs : List Record). AreSame (county_of h.records) (county_of rs)) (one_list parts h.records k.records h.spelled k.spelled) (same-reflexive (county_of h.records)))
+
+-- as one part it is accepted, of the same map, and its own canonical text
+module _ (parts : List (List ℕ)) (text : List ℕ) (h : IsCanonicalText parts text) where
+  pub text_accepted : IsAcceptedSet (text ∷ []) h.canonical
+  unfolding tiger
+  text_accepted = record {
+    spelled = record {
+      spells = subst (λ bytes. Spells tiger (bytes ∷ []) h.canonical) h.text_is (text_spells h.canonical (fitting parts text h).0);
+      within = (fitting parts text h).1;
+    };
+    accepted = (canonical_of_itself h.records h.canonical h.canonical_of).accepted;
+  }
+
+  pub text_itself : IsCanonicalText (text ∷ []) text
+  text_itself = record {
+    records = h.canonical;
+    canonical = h.canonical;
+    spelled = text_accepted.spelled;
+    canonical_of = canonical_of_itself h.records h.canonical h.canonical_of;
+    text_is = h.text_is;
+  }

@@ -1,6 +1,6 @@
 -- Sets of parts, each a list of bytes: which are accepted, why another is refused, and the canonical text of one.
-use Rattle.std.specs.Prelude.{ℕ, ◌≡◌, List, All}
-use Rattle.tl_layout.specs.RecordText.{FitsRecord, text_of}
+use Rattle.std.specs.Prelude.{ℕ, ◌≡◌, List}
+use Rattle.tl_layout.specs.RecordText.{text_of}
 use Rattle.tl_layout.specs.declared.record_type.Record.{Record}
 use Rattle.tl_load.specs.Choice.{tiger}
 use Rattle.tl_load.specs.Outcome.{Accepts}
@@ -28,5 +28,4 @@ pub record IsCanonicalText (parts : List (List ℕ)) (text : List ℕ) : Type 0 
   pub canonical : List Record
   pub spelled : Accepts tiger record_limit parts records
   pub canonical_of : IsCanonicalOf records canonical
-  pub fits : All FitsRecord canonical
   pub text_is : text_of canonical ≡ text

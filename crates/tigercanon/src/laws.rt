@@ -1,6 +1,6 @@
 //! Laws of what a set is. The functions do nothing; their contracts are the laws.
 
-ghost use Rattle.std.specs.Prelude.{◌≡◌, ◌⊎◌, ℕ, List};
+ghost use Rattle.std.specs.Prelude.{◌≡◌, ◌⊎◌, [], ◌∷◌, ℕ, List};
 ghost use Rattle.tl_county.specs.County.{county_of};
 ghost use Rattle.tl_county.specs.Renumbering.{AreSame};
 ghost use Rattle.tl_layout.specs.declared.record_type.Record.{Record};
@@ -22,4 +22,23 @@ pub fn one_canonical_text_exactly_for_one_map()
         AreSame (county_of h.records) (county_of k.records) → t ≡ u }
     ensures equal { (p q : List (List ℕ)) (t u : List ℕ) (h : IsCanonicalText p t) (k : IsCanonicalText q u) →
         t ≡ u → AreSame (county_of h.records) (county_of k.records) }
+{}
+
+/// An accepted set has exactly one canonical text.
+pub fn an_accepted_set_has_one_canonical_text()
+    ensures exists { (parts : List (List ℕ)) (records : List Record) →
+        IsAcceptedSet parts records → (text : List ℕ) × IsCanonicalText parts text }
+    ensures only { (parts : List (List ℕ)) (text other : List ℕ) →
+        IsCanonicalText parts text → IsCanonicalText parts other → text ≡ other }
+{}
+
+/// A canonical text, as one part, is an accepted set whose county is the same as that of the set that it is the text of,
+/// and it is its own canonical text.
+pub fn a_canonical_text_is_its_own()
+    ensures accepted { (parts : List (List ℕ)) (text : List ℕ) (h : IsCanonicalText parts text) →
+        IsAcceptedSet (text ∷ []) h.canonical }
+    ensures same { (parts : List (List ℕ)) (text : List ℕ) (h : IsCanonicalText parts text) →
+        AreSame (county_of h.records) (county_of h.canonical) }
+    ensures itself { (parts : List (List ℕ)) (text : List ℕ) →
+        IsCanonicalText parts text → IsCanonicalText (text ∷ []) text }
 {}

@@ -18,7 +18,10 @@ pub use command_line::{Job, Plan, PlanFault};
 pub use fault::Fault;
 pub use files::Opened;
 pub use jobs::{run, tell};
-pub use laws::{accepted_set_or_one_refusal, one_canonical_text_exactly_for_one_map};
+pub use laws::{
+    a_canonical_text_is_its_own, accepted_set_or_one_refusal,
+    an_accepted_set_has_one_canonical_text, one_canonical_text_exactly_for_one_map,
+};
 pub use planning::plan;
 pub use respelling::respell;
 

@@ -1,0 +1,11 @@
+use Rattle.tigercanon.proofs.Sets.{text_accepted, text_itself}
+use Rattle.tigercanon.proofs.laws.a_canonical_text_is_its_own.Goals as goal
+
+pub returns-clause-accepted : goal.returns-clause-accepted
+returns-clause-accepted c = text_accepted
+
+pub returns-clause-same : goal.returns-clause-same
+returns-clause-same c = λ parts text h. h.canonical_of.same
+
+pub returns-clause-itself : goal.returns-clause-itself
+returns-clause-itself c = text_itself
