@@ -40,7 +40,7 @@ pub bad_none : (line : List ℕ) → AreAllowed line → ltb (first_bad line) (l
 unfolding AreAllowed
 bad_none line h =
     let at_end = position_or_len_is (λ b. not (is_allowed b)) line (length line) 0 (omega arith) (λ k lt. not_from_true _ (h k 0 lt))
-        (λ lt. absurd (omega arith)) in
+    (λ lt. absurd (omega arith)) in
     le-ltb _ _ (omega arith)
 
 full_line : (rtype len : ℕ) (line : List ℕ) → take 1 line ≡ rtype ∷ [] → length line ≤ len → AreAllowed (filled len line)
@@ -55,11 +55,16 @@ unfolding judged_as judged_full
 judged_is_line rtype len reading Spells laws line r begins e =
     let a = chosen (ltb len (length line)) line_faults.LineTooLong (judged_full reading (filled len line)) r e in
     let b = chosen (ltb (first_bad (filled len line)) (length (filled len line))) (line_faults.BadByte (first_bad (filled len line) + 1))
-        (of_reading (reading (filled len line))) r a.1 in
+    (of_reading (reading (filled len line))) r a.1 in
     let short : length line ≤ len = ltb-false _ _ a.0 in
     let allowed = none_bad (filled len line) b.0 in
-    record { begins = begins; short = short; allowed = allowed; spells =
-        laws.found (filled len line) r (full_line rtype len line begins short allowed) (was_read _ r b.1) }
+    record {
+      begins = begins;
+      short = short;
+      allowed = allowed;
+      spells =
+          laws.found (filled len line) r (full_line rtype len line begins short allowed) (was_read _ r b.1);
+    }
 
 pub line_is_judged : {R : Type 0} (rtype len : ℕ) (reading : List ℕ → Result R FieldFault) (Spells : List ℕ → R → Type 0)
     → Reading rtype len reading Spells → (line : List ℕ) (r : R) → IsLineOf rtype len Spells line r → judged_as len reading line ≡ Ok r
@@ -68,7 +73,7 @@ line_is_judged rtype len reading Spells laws line r h =
     let read = laws.only (filled len line) r (full_line rtype len line h.begins h.short h.allowed) h.spells in
     ap (λ (b : Bool). cond b (Err line_faults.LineTooLong) (judged_full reading (filled len line))) (le-ltb len (length line) h.short)
     ∙ ap (λ (b : Bool). cond b (Err (line_faults.BadByte (first_bad (filled len line) + 1))) (of_reading (reading (filled len line))))
-        (bad_none (filled len line) h.allowed)
+    (bad_none (filled len line) h.allowed)
     ∙ ap of_reading read
 
 -- a line spells only what fits
@@ -97,7 +102,7 @@ bad_only : (bytes : List ℕ) (column : ℕ) (h : IsLeftmostBadByte bytes column
 bad_only bytes column h =
     let within = h.within in
     position_or_len_is (λ b. not (is_allowed b)) bytes h.place 0 (omega arith) (λ k lt. not_from_true _ (h.allowed_before k lt))
-        (λ lt. ap not h.bad)
+    (λ lt. ap not h.bad)
 
 line_err : {A : Type 0} (x y : LineFault) → ◌≡◌ {A = Result A LineFault} (Err x) (Err y) → x ≡ y
 line_err x y e = cc
@@ -124,7 +129,7 @@ judged_fault_found {R} rtype len reading IsFault tells line fault begins = go (l
     full false t short e =
         let allowed = none_bad (filled len line) t in
         read_fails len IsFault line (reading (filled len line)) fault short allowed
-            (λ f failed. (tells (filled len line) f (full_line rtype len line begins short allowed)).0 failed) e
+        (λ f failed. (tells (filled len line) f (full_line rtype len line begins short allowed)).0 failed) e
 
     go : (b : Bool) → ltb len (length line) ≡ b → cond b (Err line_faults.LineTooLong) (judged_full reading (filled len line)) ≡ Err fault
         → IsFaultIn len IsFault line fault
@@ -146,13 +151,13 @@ judged_fault_only rtype len reading IsFault tells line (line_faults.BadByte colu
     let same : first_bad (filled len line) + 1 ≡ column = omega arith in
     ap (λ (b : Bool). cond b (Err line_faults.LineTooLong) (judged_full reading (filled len line))) (le-ltb len (length line) h.0)
     ∙ ap (λ (b : Bool). cond b (Err (line_faults.BadByte (first_bad (filled len line) + 1))) (of_reading (reading (filled len line))))
-        (lt-ltb (first_bad (filled len line)) (length (filled len line)) (omega arith))
+    (lt-ltb (first_bad (filled len line)) (length (filled len line)) (omega arith))
     ∙ ap (λ (c : ℕ). Err (line_faults.BadByte c)) same
 judged_fault_only rtype len reading IsFault tells line (line_faults.Field fault) begins h =
     let read = (tells (filled len line) fault (full_line rtype len line begins h.0 h.1)).1 h.2 in
     ap (λ (b : Bool). cond b (Err line_faults.LineTooLong) (judged_full reading (filled len line))) (le-ltb len (length line) h.0)
     ∙ ap (λ (b : Bool). cond b (Err (line_faults.BadByte (first_bad (filled len line) + 1))) (of_reading (reading (filled len line))))
-        (bad_none (filled len line) h.1)
+    (bad_none (filled len line) h.1)
     ∙ ap of_reading read
 
 -- a line that has a record isn't longer than its layout

@@ -93,8 +93,12 @@ first_line b a (c ∷ more) h = go (eqb c 10) refl (λ e. first_line b (a ++ c �
         → BeginsWith (b ∷ a) ((b ∷ a) ++ c ∷ more)
     go true e _ =
         let is : c ≡ 10 = eqb-true c 10 e in
-        record { more = []; rest = lines more; first = ap (λ (k : ℕ). lines ((b ∷ a) ++ k ∷ more)) is ∙ lines_line (b ∷ a) more h
-            ∙ ap (λ (l : List ℕ). without_return l ∷ lines more) (sym (append-nil (b ∷ a))) }
+        record {
+          more = [];
+          rest = lines more;
+          first = ap (λ (k : ℕ). lines ((b ∷ a) ++ k ∷ more)) is ∙ lines_line (b ∷ a) more h
+              ∙ ap (λ (l : List ℕ). without_return l ∷ lines more) (sym (append-nil (b ∷ a)));
+        }
     go false e later =
         let next = later e in
         record {

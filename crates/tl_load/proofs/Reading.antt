@@ -54,10 +54,10 @@ fault_verdict : {R : Type 0} (judge : Judge R) → IsSound judge → (limit : �
     → IsFaultOf judge limit records line fault → IsVerdictOf judge limit records line fault
 fault_verdict judge sound limit records line fault (of_line own h e) =
     subst (λ v. MatchResult v (λ r. (limit ≤ count_of judge (judge.rtype r) records) × (fault ≡ faults.TooManyRecords (judge.rtype r)))
-        (λ f. fault ≡ fault_at line.part line.line f)) (sym (sound.fault_only line.bytes own h)) e
+    (λ f. fault ≡ fault_at line.part line.line f)) (sym (sound.fault_only line.bytes own h)) e
 fault_verdict judge sound limit records line fault (of_limit r h most e) =
     subst (λ v. MatchResult v (λ r. (limit ≤ count_of judge (judge.rtype r) records) × (fault ≡ faults.TooManyRecords (judge.rtype r)))
-        (λ f. fault ≡ fault_at line.part line.line f)) (sym (sound.has_only line.bytes r h)) (most, e)
+    (λ f. fault ≡ fault_at line.part line.line f)) (sym (sound.has_only line.bytes r h)) (most, e)
 
 verdict_fault : {R : Type 0} (judge : Judge R) → IsSound judge → (limit : ℕ) (records : List R) (line : PlacedLine) (fault : LoadFault)
     → IsVerdictOf judge limit records line fault → IsFaultOf judge limit records line fault
@@ -97,7 +97,7 @@ unfolding reading
 reading-append judge limit records [] b = refl
 reading-append judge limit records (x ∷ a) b =
     bind_same (next judge limit records x) (λ more. reading judge limit more (a ++ b))
-        (λ more. reading judge limit more a >>= λ rest. reading judge limit rest b) (λ more. reading-append judge limit more a b)
+    (λ more. reading judge limit more a >>= λ rest. reading judge limit rest b) (λ more. reading-append judge limit more a b)
     ∙ sym (bind_assoc (next judge limit records x) (λ more. reading judge limit more a) (λ rest. reading judge limit rest b))
 
 -- ---- one line
@@ -129,12 +129,12 @@ unfolding next
 next_from judge limit records line r e h =
     ap (after_verdict judge limit records line) e
     ∙ ap (λ (b : Bool). cond b (Err (faults.TooManyRecords (judge.rtype r))) (Ok (records ++ r ∷ [])))
-        (lt-leb limit (count_of judge (judge.rtype r) records) h)
+    (lt-leb limit (count_of judge (judge.rtype r) records) h)
 
 fault_by : {R : Type 0} (judge : Judge R) (limit : ℕ) (records : List R) (line : PlacedLine) (f : LoadFault) (v : Result R LineFault)
     → after_verdict judge limit records line v ≡ Err f
     → MatchResult v (λ r. (limit ≤ count_of judge (judge.rtype r) records) × (f ≡ faults.TooManyRecords (judge.rtype r)))
-        (λ k. f ≡ fault_at line.part line.line k)
+    (λ k. f ≡ fault_at line.part line.line k)
 fault_by judge limit records line f (Err k) h = cc
 fault_by {R} judge limit records line f (Ok r) h = go (leb limit (count_of judge (judge.rtype r) records)) refl h
   where
@@ -151,12 +151,12 @@ next_err judge limit records line f h = fault_by judge limit records line f (jud
 
 by_fault : {R : Type 0} (judge : Judge R) (limit : ℕ) (records : List R) (line : PlacedLine) (f : LoadFault) (v : Result R LineFault)
     → MatchResult v (λ r. (limit ≤ count_of judge (judge.rtype r) records) × (f ≡ faults.TooManyRecords (judge.rtype r)))
-        (λ k. f ≡ fault_at line.part line.line k)
+    (λ k. f ≡ fault_at line.part line.line k)
     → after_verdict judge limit records line v ≡ Err f
 by_fault judge limit records line f (Err k) h = ap (λ (z : LoadFault). Err z) (sym h)
 by_fault judge limit records line f (Ok r) h =
     ap (λ (b : Bool). cond b (Err (faults.TooManyRecords (judge.rtype r))) (Ok (records ++ r ∷ [])))
-        (le-leb limit (count_of judge (judge.rtype r) records) h.0)
+    (le-leb limit (count_of judge (judge.rtype r) records) h.0)
     ∙ ap (λ (z : LoadFault). Err z) (sym h.1)
 
 pub next_faulty : {R : Type 0} (judge : Judge R) (limit : ℕ) (records : List R) (line : PlacedLine) (f : LoadFault)
@@ -217,7 +217,7 @@ reads_ok {R} judge limit records (x ∷ lines) all h e =
     let b = bind_ok (next judge limit records x) (λ more. reading judge limit more lines) all e in
     let t = next_ok judge limit records x b.0 b.1 in
     let mid : IsWithinLimit judge limit b.0 =
-        subst (IsWithinLimit judge limit) (sym t.after) (within_push judge limit records t.found h t.room) in
+    subst (IsWithinLimit judge limit) (sym t.after) (within_push judge limit records t.found h t.room) in
     let rest = reads_ok judge limit b.0 lines all mid b.2 in
     record {
       found = t.found ∷ rest.found;
@@ -258,36 +258,36 @@ unfolding reading
 stops_err judge limit records [] fault h e = absurd cc
 stops_err {R} judge limit records (x ∷ lines) fault h e =
     elim (bind_err (next judge limit records x) (λ more. reading judge limit more lines) fault e) [
-  | inl here ↦ record {
-    before = [];
-    line = x;
-    after = lines;
-    found = [];
-    split = refl;
-    well = refl;
-    within = subst (IsWithinLimit judge limit) (sym (append-nil records)) h;
-    fault_is = subst (λ (rs : List R). IsVerdictOf judge limit rs x fault) (sym (append-nil records))
-        (next_err judge limit records x fault here);
-  }
-  | inr b ↦
-      let t = next_ok judge limit records x b.0 b.1 in
-      let mid : IsWithinLimit judge limit b.0 =
-          subst (IsWithinLimit judge limit) (sym t.after) (within_push judge limit records t.found h t.room) in
-      let rest = stops_err judge limit b.0 lines fault mid b.2 in
-      let joined : b.0 ++ rest.found ≡ records ++ t.found ∷ rest.found = ap (λ (z : List R). z ++ rest.found) t.after
-          ∙ append_assoc records (t.found ∷ []) rest.found in
-      record {
-        before = x ∷ rest.before;
-        line = rest.line;
-        after = rest.after;
-        found = t.found ∷ rest.found;
-        split = ap (λ (z : List PlacedLine). x ∷ z) rest.split;
-        well = ap (λ (z : Result R LineFault). z ∷ map (λ (l : PlacedLine). judge.verdict l.bytes) rest.before) t.verdict
-            ∙ ap (λ (z : List (Result R LineFault)). Ok t.found ∷ z) rest.well;
-        within = subst (IsWithinLimit judge limit) joined rest.within;
-        fault_is = subst (λ (rs : List R). IsVerdictOf judge limit rs rest.line fault) joined rest.fault_is;
+      | inl here ↦ record {
+        before = [];
+        line = x;
+        after = lines;
+        found = [];
+        split = refl;
+        well = refl;
+        within = subst (IsWithinLimit judge limit) (sym (append-nil records)) h;
+        fault_is = subst (λ (rs : List R). IsVerdictOf judge limit rs x fault) (sym (append-nil records))
+            (next_err judge limit records x fault here);
       }
-]
+      | inr b ↦
+          let t = next_ok judge limit records x b.0 b.1 in
+          let mid : IsWithinLimit judge limit b.0 =
+          subst (IsWithinLimit judge limit) (sym t.after) (within_push judge limit records t.found h t.room) in
+          let rest = stops_err judge limit b.0 lines fault mid b.2 in
+          let joined : b.0 ++ rest.found ≡ records ++ t.found ∷ rest.found = ap (λ (z : List R). z ++ rest.found) t.after
+          ∙ append_assoc records (t.found ∷ []) rest.found in
+          record {
+            before = x ∷ rest.before;
+            line = rest.line;
+            after = rest.after;
+            found = t.found ∷ rest.found;
+            split = ap (λ (z : List PlacedLine). x ∷ z) rest.split;
+            well = ap (λ (z : Result R LineFault). z ∷ map (λ (l : PlacedLine). judge.verdict l.bytes) rest.before) t.verdict
+                ∙ ap (λ (z : List (Result R LineFault)). Ok t.found ∷ z) rest.well;
+            within = subst (IsWithinLimit judge limit) joined rest.within;
+            fault_is = subst (λ (rs : List R). IsVerdictOf judge limit rs rest.line fault) joined rest.fault_is;
+          }
+    ]
 
 -- ---- parts
 
@@ -298,8 +298,11 @@ pub accepts_from_outcome : {R : Type 0} (judge : Judge R) → IsSound judge → 
     → outcome judge limit parts ≡ Ok records → Accepts judge limit parts records
 accepts_from_outcome {R} judge sound limit parts records e =
     let r = reads_ok judge limit [] (placed_lines parts) records (no_records judge limit) e in
-    record { spells = judged_spelled judge sound (placed_lines parts) records
-        (subst (λ (rs : List R). AreJudged judge (placed_lines parts) rs) (sym r.all_are) r.judged); within = r.within }
+    record {
+      spells = judged_spelled judge sound (placed_lines parts) records
+          (subst (λ (rs : List R). AreJudged judge (placed_lines parts) rs) (sym r.all_are) r.judged);
+      within = r.within;
+    }
 
 pub outcome_from_accepts : {R : Type 0} (judge : Judge R) → IsSound judge → (limit : ℕ) (parts : List (List ℕ)) (records : List R)
     → Accepts judge limit parts records → outcome judge limit parts ≡ Ok records
@@ -310,9 +313,18 @@ pub fault_from_outcome : {R : Type 0} (judge : Judge R) → IsSound judge → (l
     → outcome judge limit parts ≡ Err fault → FaultAt judge limit parts fault
 fault_from_outcome judge sound limit parts fault e =
     let s = stops_err judge limit [] (placed_lines parts) fault (no_records judge limit) e in
-    record { before = s.before; line = s.line; after = s.after; records = s.found; split = s.split; well =
-        judged_spelled judge sound s.before s.found s.well; within = s.within; fault_is =
-        verdict_fault judge sound limit s.found s.line fault s.fault_is }
+    record {
+      before = s.before;
+      line = s.line;
+      after = s.after;
+      records = s.found;
+      split = s.split;
+      well =
+          judged_spelled judge sound s.before s.found s.well;
+      within = s.within;
+      fault_is =
+          verdict_fault judge sound limit s.found s.line fault s.fault_is;
+    }
 
 pub outcome_from_fault : {R : Type 0} (judge : Judge R) → IsSound judge → (limit : ℕ) (parts : List (List ℕ)) (fault : LoadFault)
     → FaultAt judge limit parts fault → outcome judge limit parts ≡ Err fault
@@ -321,9 +333,9 @@ outcome_from_fault {R} judge sound limit parts fault f =
     ap (reading judge limit []) f.split
     ∙ reading-append judge limit [] f.before (f.line ∷ f.after)
     ∙ ap (λ (z : Result (List R) LoadFault). z >>= λ more. reading judge limit more (f.line ∷ f.after))
-        (reads_from judge limit [] f.before f.records (spelled_judged judge sound f.before f.records f.well) f.within)
+    (reads_from judge limit [] f.before f.records (spelled_judged judge sound f.before f.records f.well) f.within)
     ∙ ap (λ (z : Result (List R) LoadFault). z >>= λ more. reading judge limit more f.after)
-        (next_faulty judge limit f.records f.line fault (fault_verdict judge sound limit f.records f.line fault f.fault_is))
+    (next_faulty judge limit f.records f.line fault (fault_verdict judge sound limit f.records f.line fault f.fault_is))
 
 -- the same line is judged one way
 pub verdicts_same : {R : Type 0} (a b : List R) → ◌≡◌ {A = List (Result R LineFault)} (map (λ (r : R). Ok r) a) (map (λ (r : R). Ok r) b)

@@ -184,7 +184,7 @@ not_so b t line h = ne_eqb b t (λ e. h (ap (λ (x : ℕ). x ∷ []) e))
 fails_by : {R : Type 0} (b t : ℕ) (line : List ℕ) (wrap : R → Record) (v : Result R LineFault) (rest : Result Record LineFault)
     (fault : LineFault) → cond (eqb b t) (as_record wrap v) rest ≡ Err fault
     → (BeginsWith t (b ∷ line) → v ≡ Err fault → IsFaultOfLine (b ∷ line) fault)
-        → (¬ BeginsWith t (b ∷ line) → rest ≡ Err fault → IsFaultOfLine (b ∷ line) fault) → IsFaultOfLine (b ∷ line) fault
+    → (¬ BeginsWith t (b ∷ line) → rest ≡ Err fault → IsFaultOfLine (b ∷ line) fault) → IsFaultOfLine (b ∷ line) fault
 fails_by {R} b t line wrap v rest fault h here later = go (eqb b t) refl h
   where
     go : (x : Bool) → eqb b t ≡ x → cond x (as_record wrap v) rest ≡ Err fault → IsFaultOfLine (b ∷ line) fault
@@ -199,32 +199,32 @@ fault_by_first : (b : ℕ) (line : List ℕ) (fault : LineFault) → judged_by b
 unfolding judged_by
 fault_by_first b line fault e =
     fails_by b rtype_1 line One (judged_as len_1 type_1_reading (b ∷ line)) _ fault e
-        (λ begins failed. of_type_1 begins
-        (judged_fault_found rtype_1 len_1 type_1_reading _ type_1_leftmost (b ∷ line) fault begins failed)) (λ n0 e0.
+    (λ begins failed. of_type_1 begins
+    (judged_fault_found rtype_1 len_1 type_1_reading _ type_1_leftmost (b ∷ line) fault begins failed)) (λ n0 e0.
     fails_by b rtype_2 line Two (judged_as len_2 type_2_reading (b ∷ line)) _ fault e0
-        (λ begins failed. of_type_2 begins
-        (judged_fault_found rtype_2 len_2 type_2_reading _ type_2_leftmost (b ∷ line) fault begins failed)) (λ n1 e1.
+    (λ begins failed. of_type_2 begins
+    (judged_fault_found rtype_2 len_2 type_2_reading _ type_2_leftmost (b ∷ line) fault begins failed)) (λ n1 e1.
     fails_by b rtype_4 line Four (judged_as len_4 type_4_reading (b ∷ line)) _ fault e1
-        (λ begins failed. of_type_4 begins
-        (judged_fault_found rtype_4 len_4 type_4_reading _ type_4_leftmost (b ∷ line) fault begins failed)) (λ n2 e2.
+    (λ begins failed. of_type_4 begins
+    (judged_fault_found rtype_4 len_4 type_4_reading _ type_4_leftmost (b ∷ line) fault begins failed)) (λ n2 e2.
     fails_by b rtype_5 line Five (judged_as len_5 type_5_reading (b ∷ line)) _ fault e2
-        (λ begins failed. of_type_5 begins
-        (judged_fault_found rtype_5 len_5 type_5_reading _ type_5_leftmost (b ∷ line) fault begins failed)) (λ n3 e3.
+    (λ begins failed. of_type_5 begins
+    (judged_fault_found rtype_5 len_5 type_5_reading _ type_5_leftmost (b ∷ line) fault begins failed)) (λ n3 e3.
     fails_by b rtype_6 line Six (judged_as len_6 type_6_reading (b ∷ line)) _ fault e3
-        (λ begins failed. of_type_6 begins
-        (judged_fault_found rtype_6 len_6 type_6_reading _ type_6_leftmost (b ∷ line) fault begins failed)) (λ n4 e4.
+    (λ begins failed. of_type_6 begins
+    (judged_fault_found rtype_6 len_6 type_6_reading _ type_6_leftmost (b ∷ line) fault begins failed)) (λ n4 e4.
     fails_by b rtype_7 line Seven (judged_as len_7 type_7_reading (b ∷ line)) _ fault e4
-        (λ begins failed. of_type_7 begins
-        (judged_fault_found rtype_7 len_7 type_7_reading _ type_7_leftmost (b ∷ line) fault begins failed)) (λ n5 e5.
+    (λ begins failed. of_type_7 begins
+    (judged_fault_found rtype_7 len_7 type_7_reading _ type_7_leftmost (b ∷ line) fault begins failed)) (λ n5 e5.
     fails_by b rtype_8 line Eight (judged_as len_8 type_8_reading (b ∷ line)) _ fault e5
-        (λ begins failed. of_type_8 begins
-        (judged_fault_found rtype_8 len_8 type_8_reading _ type_8_leftmost (b ∷ line) fault begins failed)) (λ n6 e6.
+    (λ begins failed. of_type_8 begins
+    (judged_fault_found rtype_8 len_8 type_8_reading _ type_8_leftmost (b ∷ line) fault begins failed)) (λ n6 e6.
     fails_by b rtype_i line I (judged_as len_i type_i_reading (b ∷ line)) _ fault e6
-        (λ begins failed. of_type_i begins
-        (judged_fault_found rtype_i len_i type_i_reading _ type_i_leftmost (b ∷ line) fault begins failed)) (λ n7 e7.
+    (λ begins failed. of_type_i begins
+    (judged_fault_found rtype_i len_i type_i_reading _ type_i_leftmost (b ∷ line) fault begins failed)) (λ n7 e7.
     fails_by b rtype_p line P (judged_as len_p type_p_reading (b ∷ line)) _ fault e7
-        (λ begins failed. of_type_p begins
-        (judged_fault_found rtype_p len_p type_p_reading _ type_p_leftmost (b ∷ line) fault begins failed)) (λ n8 e8.
+    (λ begins failed. of_type_p begins
+    (judged_fault_found rtype_p len_p type_p_reading _ type_p_leftmost (b ∷ line) fault begins failed)) (λ n8 e8.
     of_no_type (n0, (n1, (n2, (n3, (n4, (n5, (n6, (n7, (n8, tt))))))))) (no_type_told fault e8))))))))))
 
 empty_has_no_type : AllByRecursion (λ (rtype : ℕ). ¬ BeginsWith rtype []) record_types
@@ -241,9 +241,17 @@ unknown_judged : (line : List ℕ) → AllByRecursion (λ (rtype : ℕ). ¬ Begi
 unfolding judged judged_by
 unknown_judged [] h = refl
 unknown_judged (b ∷ line) h =
-    rw (not_so b rtype_1 line h.0, not_so b rtype_2 line h.1.0, not_so b rtype_4 line h.1.1.0, not_so b rtype_5 line h.1.1.1.0,
-        not_so b rtype_6 line h.1.1.1.1.0, not_so b rtype_7 line h.1.1.1.1.1.0, not_so b rtype_8 line h.1.1.1.1.1.1.0,
-        not_so b rtype_i line h.1.1.1.1.1.1.1.0, not_so b rtype_p line h.1.1.1.1.1.1.1.1.0) refl
+    rw (
+      not_so b rtype_1 line h.0,
+      not_so b rtype_2 line h.1.0,
+      not_so b rtype_4 line h.1.1.0,
+      not_so b rtype_5 line h.1.1.1.0,
+      not_so b rtype_6 line h.1.1.1.1.0,
+      not_so b rtype_7 line h.1.1.1.1.1.0,
+      not_so b rtype_8 line h.1.1.1.1.1.1.0,
+      not_so b rtype_i line h.1.1.1.1.1.1.1.0,
+      not_so b rtype_p line h.1.1.1.1.1.1.1.1.0,
+    ) refl
 
 -- the fault that is told of a line is the one that it is judged to have
 pub judged_of_fault : (line : List ℕ) (fault : LineFault) → IsFaultOfLine line fault → judged line ≡ Err fault
@@ -271,8 +279,13 @@ judged_of_fault line fault (of_type_p begins h) = by_first rtype_p line begins
 -- the judge of TIGER/Line 2006 finds just the records that lines have, and just what is told of faulty ones
 pub tiger_is_sound : IsSound tiger
 unfolding tiger
-tiger_is_sound = record { has_found = record_of_judged; has_only = judged_of_record; fault_found = fault_of_judged; fault_only =
-    judged_of_fault }
+tiger_is_sound = record {
+  has_found = record_of_judged;
+  has_only = judged_of_record;
+  fault_found = fault_of_judged;
+  fault_only =
+      judged_of_fault;
+}
 
 -- ---- what is spelled fits
 
