@@ -114,7 +114,13 @@ type_1_fits r tlid f start end = (
                                                                     f.entities.place.right,
                                                                     (
                                                                       f.entities.tract.left,
-                                                                      (f.entities.tract.right, (f.entities.block.left, (f.entities.block.right, (start, (end, tt))))),
+                                                                      (
+                                                                        f.entities.tract.right,
+                                                                        (
+                                                                          f.entities.block.left,
+                                                                          (f.entities.block.right, (start, (end, tt))),
+                                                                        ),
+                                                                      ),
                                                                     ),
                                                                   ),
                                                                 ),

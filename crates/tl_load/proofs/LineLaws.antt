@@ -161,6 +161,8 @@ judged_fault_only rtype len reading IsFault tells line (line_faults.Field fault)
     ∙ ap of_reading read
 
 -- a line that has a record isn't longer than its layout
-pub judged_short : {R : Type 0} (len : ℕ) (reading : List ℕ → Result R FieldFault) (line : List ℕ) (r : R) → judged_as len reading line ≡ Ok r → length line ≤ len
+pub judged_short : {R : Type 0} (len : ℕ) (reading : List ℕ → Result R FieldFault) (line : List ℕ) (r : R)
+    → judged_as len reading line ≡ Ok r → length line ≤ len
 unfolding judged_as
-judged_short len reading line r e = ltb-false _ _ (chosen (ltb len (length line)) line_faults.LineTooLong (judged_full reading (filled len line)) r e).0
+judged_short len reading line r e =
+    ltb-false _ _ (chosen (ltb len (length line)) line_faults.LineTooLong (judged_full reading (filled len line)) r e).0
