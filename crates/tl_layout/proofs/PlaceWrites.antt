@@ -1,11 +1,13 @@
 -- Writing places one after another.
-use Rattle.std.proofs.Common.{◌≡◌, ℕ, zero, suc, ◌<◌, ◌≤◌, List, [], ◌∷◌, ◌++◌, length, take, drop, Option, IfSome, slice_get, refl, sym, ap, ◌∙◌, append_assoc, arith, subst}
+use Rattle.std.proofs.Common.{◌≡◌, ℕ, zero, suc, ◌<◌, ◌≤◌, List, [], ◌∷◌, ◌++◌, length, take, drop, Option, IfSome, slice_get}
+use Rattle.std.proofs.Common.{refl, sym, ap, ◌∙◌, append_assoc, arith, subst}
 use Rattle.std.specs.List.{AllByRecursion}
 use Rattle.std.proofs.lemmas.List.{append-nil}
 use Rattle.tl_layout.specs.FieldTexts.{places_text}
 
 -- the text of the places from one on is that place's text, and the text of those behind it
-pub one_place : {A : Type 0} (text : Option A → List ℕ) (n place : ℕ) (xs : List A) → places_text text (suc n) (drop place xs) ≡ text (slice_get xs place) ++ places_text text n (drop (suc place) xs)
+pub one_place : {A : Type 0} (text : Option A → List ℕ) (n place : ℕ) (xs : List A)
+    → places_text text (suc n) (drop place xs) ≡ text (slice_get xs place) ++ places_text text n (drop (suc place) xs)
 unfolding places_text
 one_place text n zero [] = refl
 one_place text n zero (x ∷ xs) = refl
@@ -13,7 +15,9 @@ one_place text n (suc place) [] = refl
 one_place text n (suc place) (x ∷ xs) = one_place text n place xs
 
 -- a place was written behind those before it
-pub place_written : {A : Type 0} (text : Option A → List ℕ) (n place next : ℕ) (xs : List A) (before after all : List ℕ) → before ++ places_text text (suc n) (drop place xs) ≡ all → after ≡ before ++ text (slice_get xs place) → next ≡ suc place → after ++ places_text text n (drop next xs) ≡ all
+pub place_written : {A : Type 0} (text : Option A → List ℕ) (n place next : ℕ) (xs : List A) (before after all : List ℕ)
+    → before ++ places_text text (suc n) (drop place xs) ≡ all → after ≡ before ++ text (slice_get xs place) → next ≡ suc place
+    → after ++ places_text text n (drop next xs) ≡ all
 place_written text n place next xs before after all h w e =
     let P : ℕ → Type 0 = λ k. after ++ places_text text n (drop k xs) ≡ all in
     subst P (sym e) (ap (λ (l : List ℕ). l ++ places_text text n (drop (suc place) xs)) w
@@ -21,16 +25,19 @@ place_written text n place next xs before after all h w e =
     ∙ (ap (λ (l : List ℕ). before ++ l) (sym (one_place text n place xs)) ∙ h)))
 
 -- all places were written
-pub all_written : {A : Type 0} (text : Option A → List ℕ) (xs : List A) (after all : List ℕ) → after ++ places_text text 0 xs ≡ all → after ≡ all
+pub all_written : {A : Type 0} (text : Option A → List ℕ) (xs : List A) (after all : List ℕ) → after ++ places_text text 0 xs ≡ all
+    → after ≡ all
 unfolding places_text
 all_written text xs after all h = sym (append-nil after) ∙ h
 
 -- what holds at each of the first places holds of each item, if there are no more items
-pub each_from_places : {A : Type 0} (P : A → Type 0) (n : ℕ) (xs : List A) → length xs ≤ n → ((k : ℕ) → k < n → IfSome (slice_get xs k) P) → AllByRecursion P xs
+pub each_from_places : {A : Type 0} (P : A → Type 0) (n : ℕ) (xs : List A) → length xs ≤ n → ((k : ℕ) → k < n → IfSome (slice_get xs k) P)
+    → AllByRecursion P xs
 each_from_places P n [] l h = tt
 each_from_places P zero (x ∷ xs) l h = absurd (omega arith)
 each_from_places P (suc n) (x ∷ xs) l h = (h 0 (omega arith), each_from_places P n xs (omega arith) (λ k b. h (suc k) (omega arith)))
 
 -- the same columns, and the same text
-pub at_columns : (last last' first first' : ℕ) (new old text text' : List ℕ) → take last new ≡ take first old ++ text → last ≡ last' → first ≡ first' → text ≡ text' → take last' new ≡ take first' old ++ text'
+pub at_columns : (last last' first first' : ℕ) (new old text text' : List ℕ) → take last new ≡ take first old ++ text → last ≡ last'
+    → first ≡ first' → text ≡ text' → take last' new ≡ take first' old ++ text'
 at_columns last last' first first' new old text text' h a b c = (cc)

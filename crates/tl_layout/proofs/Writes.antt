@@ -6,18 +6,21 @@ use Rattle.tl_layout.specs.Columns.{joined}
 use borrow.Rule.Slice.PartMut.{put_mid}
 
 -- the first place was written, and then all others
-pub first_then_rest : (out : List ℕ) (first : ℕ) (rest : List ℕ) → 1 ≤ length out → put_mid 1 (length out - 1) (slice_set out 0 first) rest ≡ first ∷ rest
+pub first_then_rest : (out : List ℕ) (first : ℕ) (rest : List ℕ) → 1 ≤ length out
+    → put_mid 1 (length out - 1) (slice_set out 0 first) rest ≡ first ∷ rest
 first_then_rest [] first rest h = absurd (omega arith)
 first_then_rest (x ∷ xs) first rest h =
     let none : drop (length (x ∷ xs) - 1) xs ≡ [] = drop_all (length (x ∷ xs) - 1) xs (omega arith) in
     ap (λ (left : List ℕ). first ∷ (rest ++ left)) none ∙ ap (λ (l : List ℕ). first ∷ l) (append-nil rest)
 
 -- What stands up to the last column, after columns were written behind what stood before them.
-pub columns_written : (first last k : ℕ) (old text : List ℕ) → first - 1 ≤ length old → last ≡ (first - 1) + length text → take last (put_mid (first - 1) k old text) ≡ take (first - 1) old ++ text
+pub columns_written : (first last k : ℕ) (old text : List ℕ) → first - 1 ≤ length old → last ≡ (first - 1) + length text
+    → take last (put_mid (first - 1) k old text) ≡ take (first - 1) old ++ text
 columns_written first last k old text f l = take-put_mid (first - 1) k old text last l f
 
 -- the record type was written, and then the four bytes behind it
-pub head_written : (out : List ℕ) (rtype : ℕ) (version : List ℕ) → 5 ≤ length out → version ≡ codes "2006" → take 5 (put_mid 1 4 (slice_set out 0 rtype) version) ≡ rtype ∷ codes "2006"
+pub head_written : (out : List ℕ) (rtype : ℕ) (version : List ℕ) → 5 ≤ length out → version ≡ codes "2006"
+    → take 5 (put_mid 1 4 (slice_set out 0 rtype) version) ≡ rtype ∷ codes "2006"
 head_written [] rtype version h e = absurd (omega arith)
 head_written (x ∷ xs) rtype version h e =
     let five : 5 ≡ 1 + length (codes "2006") = omega arith in

@@ -34,4 +34,5 @@ ranges_at first line =
 -- the texts of the ranges
 abbrev pub ranges_texts : Ranges → List (List ℕ)
 ranges_texts ranges =
-    ranges.fraddl ∷ ranges.toaddl ∷ ranges.fraddr ∷ ranges.toaddr ∷ ranges.friaddl ∷ ranges.toiaddl ∷ ranges.friaddr ∷ ranges.toiaddr ∷ pair_texts 5 ranges.zip
+    ranges.fraddl ∷ ranges.toaddl ∷ ranges.fraddr ∷ ranges.toaddr
+    ∷ ranges.friaddl ∷ ranges.toiaddl ∷ ranges.friaddr ∷ ranges.toiaddr ∷ pair_texts 5 ranges.zip

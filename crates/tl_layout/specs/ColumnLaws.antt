@@ -9,10 +9,12 @@ use Rattle.tl_layout.specs.Columns.{joined}
 pub joined-before : (before : List ℕ) (texts : List (List ℕ)) → joined before texts ≡ before ++ joined [] texts
 joined-before before [] = sym (append-nil before)
 joined-before before (text ∷ texts) =
-    joined-before (before ++ text) texts ∙ (append_assoc before text (joined [] texts) ∙ ap (λ (l : List ℕ). before ++ l) (sym (joined-before text texts)))
+    joined-before (before ++ text) texts ∙ (append_assoc before text (joined [] texts)
+    ∙ ap (λ (l : List ℕ). before ++ l) (sym (joined-before text texts)))
 
 -- columns of a line are a text of their width
-pub columns_text : (first last len : ℕ) (line : List ℕ) → IsText len line → 1 ≤ first → first ≤ last + 1 → last ≤ len → IsText (last + 1 - first) (columns first last line)
+pub columns_text : (first last len : ℕ) (line : List ℕ) → IsText len line → 1 ≤ first → first ≤ last + 1 → last ≤ len
+    → IsText (last + 1 - first) (columns first last line)
 unfolding AreAllowed
 columns_text first last len line t f l m =
     let line_len = t.len in
@@ -20,15 +22,18 @@ columns_text first last len line t f l m =
     let shorter : last - (first - 1) ≤ length (drop (first - 1) line) = omega arith in
     record {
       len = length-take-le (last - (first - 1)) (drop (first - 1) line) shorter ∙ omega arith;
-      allowed = All-take (λ b. IsTrue (is_allowed b)) (last - (first - 1)) (drop (first - 1) line) (All-drop (λ b. IsTrue (is_allowed b)) (first - 1) line t.allowed);
+      allowed = All-take (λ b. IsTrue (is_allowed b)) (last - (first - 1)) (drop (first - 1) line)
+          (All-drop (λ b. IsTrue (is_allowed b)) (first - 1) line t.allowed);
     }
 
 -- columns of allowed bytes are a text of their width
-pub columns_of_width : (first last width : ℕ) (line : List ℕ) → AreAllowed line → 1 ≤ first → last ≤ length line → last + 1 ≡ first + width → IsText width (columns first last line)
+pub columns_of_width : (first last width : ℕ) (line : List ℕ) → AreAllowed line → 1 ≤ first → last ≤ length line → last + 1 ≡ first + width
+    → IsText width (columns first last line)
 columns_of_width first last width line a f l w =
     let same : last + 1 - first ≡ width = omega arith in
     rw same at (columns_text first last (length line) line (record { len = refl; allowed = a }) f (omega arith) l)
 
 -- columns of a text are a text of their width
-pub columns_of_text : (len : ℕ) (line : List ℕ) → IsText len line → (first last width : ℕ) → 1 ≤ first → last ≤ len → last + 1 ≡ first + width → IsText width (columns first last line)
+pub columns_of_text : (len : ℕ) (line : List ℕ) → IsText len line → (first last width : ℕ) → 1 ≤ first → last ≤ len
+    → last + 1 ≡ first + width → IsText width (columns first last line)
 columns_of_text len line t first last width f l w = columns_of_width first last width line t.allowed f (let e = t.len in omega arith) w

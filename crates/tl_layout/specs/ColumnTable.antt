@@ -4,7 +4,8 @@ use Rattle.std.specs.List.{AllByRecursion}
 use Rattle.tl_layout.specs.Bytes.{IsText, columns}
 use Rattle.tl_layout.specs.Numbers.{IsNumber, IsNumberOrNone}
 use Rattle.tl_layout.specs.Coordinates.{Coordinates, IsOnMap}
-use Rattle.tl_layout.specs.FieldMeaning.{SpellsNumber, SpellsNumberOrNone, SpellsPoint, SpellsPointOrNone, SpellsPointPlace, SpellsNumberPlace, SpellsPlaces}
+use Rattle.tl_layout.specs.FieldMeaning.{SpellsNumber, SpellsNumberOrNone, SpellsPoint, SpellsPointOrNone, SpellsPointPlace}
+use Rattle.tl_layout.specs.FieldMeaning.{SpellsNumberPlace, SpellsPlaces}
 
 -- what a field holds
 pub data Kind : Type 0 where
@@ -64,7 +65,8 @@ abbrev pub SpellsValue : List ℕ → ℕ → ℕ → (kind : Kind) → ValueOf 
 SpellsValue line first last Number n = SpellsNumber (columns first last line) n
 SpellsValue line first last NumberOrNone n = SpellsNumberOrNone (columns first last line) n
 SpellsValue line first last Pair point = SpellsPoint (columns first (first + 9) line) (columns (first + 10) (first + 18) line) point
-SpellsValue line first last PairOrNone point = SpellsPointOrNone (columns first (first + 9) line) (columns (first + 10) (first + 18) line) point
+SpellsValue line first last PairOrNone point =
+    SpellsPointOrNone (columns first (first + 9) line) (columns (first + 10) (first + 18) line) point
 SpellsValue line first last NumberPlaces numbers = SpellsPlaces (SpellsNumberPlace line) 8 5 first numbers
 SpellsValue line first last PointPlaces points = SpellsPlaces (SpellsPointPlace line) 19 10 first points
 SpellsValue line first last Opaque text = columns first last line ≡ text

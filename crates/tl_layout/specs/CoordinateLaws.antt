@@ -1,5 +1,7 @@
 -- What coordinates' fields spell and what they are read as is one and the same, and the canonical text is among the spellings.
-use Rattle.std.proofs.Common.{◌≡◌, ℕ, zero, suc, ◌+◌, ◌-◌, ◌*◌, ◌/◌, ◌%◌, ◌^◌, ◌<◌, ◌≤◌, List, [], ◌∷◌, ◌++◌, length, Bool, true, false, cond, nat_eq, nat_le, Option, Some, None, refl, sym, ap, ◌∙◌, subst, arith, IsTrue, ℤ, pos, negsuc, unsigned_abs}
+use Rattle.std.proofs.Common.{◌≡◌, ℕ, zero, suc, ◌+◌, ◌-◌, ◌*◌, ◌/◌, ◌%◌, ◌^◌, ◌<◌, ◌≤◌, List, [], ◌∷◌, ◌++◌, length, Bool, true}
+use Rattle.std.proofs.Common.{false, cond, nat_eq, nat_le, Option, Some, None, refl, sym, ap, ◌∙◌, subst, arith, IsTrue, ℤ, pos}
+use Rattle.std.proofs.Common.{negsuc, unsigned_abs}
 use Rattle.std.specs.List.{list_all}
 use Rattle.std.proofs.lemmas.Bool.{and_parts, and_from, eqb-true, ne_eqb, leb-true, le-leb}
 use Rattle.std.proofs.lemmas.List.{append-nil, length_push}
@@ -7,7 +9,8 @@ use Rattle.std.proofs.lemmas.List.Elements.{All-push, All-nil, All-cons}
 use Rattle.tl_layout.specs.Bytes.{IsText, AreAllowed, is_allowed}
 use Rattle.tl_layout.specs.NumberField.{is_blank, is_digit, value_after}
 use Rattle.tl_layout.specs.NumberReading.{drop_blanks, number_after}
-use Rattle.tl_layout.specs.NumberLaws.{number_after_found, number_after_only, digit_not_blank, splits_blanks, drop_blanks-append, drop_blanks-blanks}
+use Rattle.tl_layout.specs.NumberLaws.{number_after_found, number_after_only, digit_not_blank, splits_blanks, drop_blanks-append}
+use Rattle.tl_layout.specs.NumberLaws.{drop_blanks-blanks}
 use Rattle.tl_layout.specs.NumberTextLaws.{value_after-push, digits_push, last_is_digit, tenth_below, digit_allowed}
 use Rattle.tl_layout.specs.CoordinateField.{negated, IsSigned, unsigned, plus, minus, IsCoordinateField, IsBlankField}
 use Rattle.tl_layout.specs.CoordinateReading.{within, magnitude_of, plus_of, minus_of, signed_of, coordinate_of}
@@ -33,12 +36,23 @@ within_found : (limit n : ℕ) (read : Option ℕ) → within limit read ≡ Som
 within_found limit n None h = (cc)
 within_found limit n (Some v) h = let r = cond_within limit v n (nat_le v limit) refl h in (ap Some r.0, r.1)
 
-magnitude_with : (limit byte : ℕ) (bytes : List ℕ) (n : ℕ) (b : Bool) → is_digit byte ≡ b → cond b (within limit (number_after 0 (byte ∷ bytes))) None ≡ Some n → IsMagnitude limit (byte ∷ bytes) n
+magnitude_with : (limit byte : ℕ) (bytes : List ℕ) (n : ℕ) (b : Bool) → is_digit byte ≡ b
+    → cond b (within limit (number_after 0 (byte ∷ bytes))) None ≡ Some n → IsMagnitude limit (byte ∷ bytes) n
 unfolding number_after
 magnitude_with limit byte bytes n true e h =
     let w = within_found limit n (number_after 0 (byte ∷ bytes)) h in
     let r = number_after_found (10 * 0 + (byte - 48)) bytes n (rw e at w.0) in
-    record { first = byte; digits = r.digits; after = r.after; spelled = ap (λ (l : List ℕ). byte ∷ l) r.spelled; all_digits = and_from _ _ e r.all_digits; blanks_after = r.blanks_after; value = r.value_is; within_limit = w.1 }
+    record {
+      first = byte;
+      digits = r.digits;
+      after = r.after;
+      spelled = ap (λ (l : List ℕ). byte ∷ l) r.spelled;
+      all_digits =
+          and_from _ _ e r.all_digits;
+      blanks_after = r.blanks_after;
+      value = r.value_is;
+      within_limit = w.1;
+    }
 magnitude_with limit byte bytes n false e h = (cc)
 
 pub magnitude_found : (limit : ℕ) (bytes : List ℕ) (n : ℕ) → magnitude_of limit bytes ≡ Some n → IsMagnitude limit bytes n
@@ -46,13 +60,17 @@ unfolding magnitude_of
 magnitude_found limit [] n h = (cc)
 magnitude_found limit (byte ∷ bytes) n h = magnitude_with limit byte bytes n (is_digit byte) refl h
 
-pub magnitude_only : (limit : ℕ) (first : ℕ) (digits after : List ℕ) → list_all is_digit (first ∷ digits) ≡ true → list_all is_blank after ≡ true → value_after 0 (first ∷ digits) ≤ limit → magnitude_of limit (first ∷ digits ++ after) ≡ Some (value_after 0 (first ∷ digits))
+pub magnitude_only : (limit : ℕ) (first : ℕ) (digits after : List ℕ) → list_all is_digit (first ∷ digits) ≡ true
+    → list_all is_blank after ≡ true → value_after 0 (first ∷ digits) ≤ limit
+    → magnitude_of limit (first ∷ digits ++ after) ≡ Some (value_after 0 (first ∷ digits))
 unfolding magnitude_of
 magnitude_only limit first digits after d a w =
-    rw (and_parts (is_digit first) (list_all is_digit digits) d).0 (ap (within limit) (number_after_only 0 (first ∷ digits) after d a) ∙ rw (le-leb _ _ w) refl)
+    rw (and_parts (is_digit first) (list_all is_digit digits) d).0 (ap (within limit) (number_after_only 0 (first ∷ digits) after d a)
+    ∙ rw (le-leb _ _ w) refl)
 
 -- a sign and a magnitude behind blanks are a coordinate
-with_sign : (limit : ℕ) (field sign bytes : List ℕ) (n : ℕ) (value : ℤ) → drop_blanks field ≡ sign ++ bytes → IsMagnitude limit bytes n → IsSigned sign n value → IsCoordinateField limit field value
+with_sign : (limit : ℕ) (field sign bytes : List ℕ) (n : ℕ) (value : ℤ) → drop_blanks field ≡ sign ++ bytes → IsMagnitude limit bytes n
+    → IsSigned sign n value → IsCoordinateField limit field value
 with_sign limit field sign bytes n value e m s =
     let b = splits_blanks field in
     record {
@@ -69,37 +87,50 @@ with_sign limit field sign bytes n value e m s =
       within = (let P : ℕ → Type 0 = λ v. v ≤ limit in subst P m.value m.within_limit);
     }
 
-plus_found : (limit : ℕ) (field sign bytes : List ℕ) (value : ℤ) (read : Option ℕ) → magnitude_of limit bytes ≡ read → drop_blanks field ≡ sign ++ bytes → ((n : ℕ) → IsSigned sign n (pos n)) → plus_of read ≡ Value value → IsCoordinateField limit field value
+plus_found : (limit : ℕ) (field sign bytes : List ℕ) (value : ℤ) (read : Option ℕ) → magnitude_of limit bytes ≡ read
+    → drop_blanks field ≡ sign ++ bytes → ((n : ℕ) → IsSigned sign n (pos n)) → plus_of read ≡ Value value
+    → IsCoordinateField limit field value
 plus_found limit field sign bytes value None r e s h = (cc)
 plus_found limit field sign bytes value (Some n) r e s h =
     let same : pos n ≡ value = (cc) in
     let P : ℤ → Type 0 = λ v. IsCoordinateField limit field v in
     subst P same (with_sign limit field sign bytes n (pos n) e (magnitude_found limit bytes n r) (s n))
 
-minus_found : (limit : ℕ) (field bytes : List ℕ) (value : ℤ) (read : Option ℕ) → magnitude_of limit bytes ≡ read → drop_blanks field ≡ (45 ∷ []) ++ bytes → minus_of read ≡ Value value → IsCoordinateField limit field value
+minus_found : (limit : ℕ) (field bytes : List ℕ) (value : ℤ) (read : Option ℕ) → magnitude_of limit bytes ≡ read
+    → drop_blanks field ≡ (45 ∷ []) ++ bytes → minus_of read ≡ Value value → IsCoordinateField limit field value
 minus_found limit field bytes value None r e h = (cc)
 minus_found limit field bytes value (Some n) r e h =
     let same : negated n ≡ value = (cc) in
     let P : ℤ → Type 0 = λ v. IsCoordinateField limit field v in
     subst P same (with_sign limit field (45 ∷ []) bytes n (negated n) e (magnitude_found limit bytes n r) (minus n))
 
-second_found : (limit : ℕ) (field : List ℕ) (byte : ℕ) (bytes : List ℕ) (value : ℤ) (b : Bool) → nat_eq byte 45 ≡ b → drop_blanks field ≡ byte ∷ bytes → cond b (minus_of (magnitude_of limit bytes)) (plus_of (magnitude_of limit (byte ∷ bytes))) ≡ Value value → IsCoordinateField limit field value
+second_found : (limit : ℕ) (field : List ℕ) (byte : ℕ) (bytes : List ℕ) (value : ℤ) (b : Bool) → nat_eq byte 45 ≡ b
+    → drop_blanks field ≡ byte ∷ bytes
+    → cond b (minus_of (magnitude_of limit bytes)) (plus_of (magnitude_of limit (byte ∷ bytes))) ≡ Value value
+    → IsCoordinateField limit field value
 second_found limit field byte bytes value true e d h =
     minus_found limit field bytes value (magnitude_of limit bytes) refl (d ∙ ap (λ b. b ∷ bytes) (eqb-true byte 45 e)) h
-second_found limit field byte bytes value false e d h = plus_found limit field [] (byte ∷ bytes) value (magnitude_of limit (byte ∷ bytes)) refl d unsigned h
+second_found limit field byte bytes value false e d h =
+    plus_found limit field [] (byte ∷ bytes) value (magnitude_of limit (byte ∷ bytes)) refl d unsigned h
 
-first_found : (limit : ℕ) (field : List ℕ) (byte : ℕ) (bytes : List ℕ) (value : ℤ) (b : Bool) → nat_eq byte 43 ≡ b → drop_blanks field ≡ byte ∷ bytes → cond b (plus_of (magnitude_of limit bytes)) (cond (nat_eq byte 45) (minus_of (magnitude_of limit bytes)) (plus_of (magnitude_of limit (byte ∷ bytes)))) ≡ Value value → IsCoordinateField limit field value
+first_found : (limit : ℕ) (field : List ℕ) (byte : ℕ) (bytes : List ℕ) (value : ℤ) (b : Bool) → nat_eq byte 43 ≡ b
+    → drop_blanks field ≡ byte ∷ bytes
+    → cond b (plus_of (magnitude_of limit bytes))
+    (cond (nat_eq byte 45) (minus_of (magnitude_of limit bytes)) (plus_of (magnitude_of limit (byte ∷ bytes)))) ≡ Value value
+    → IsCoordinateField limit field value
 first_found limit field byte bytes value true e d h =
     plus_found limit field (43 ∷ []) bytes value (magnitude_of limit bytes) refl (d ∙ ap (λ b. b ∷ bytes) (eqb-true byte 43 e)) plus h
 first_found limit field byte bytes value false e d h = second_found limit field byte bytes value (nat_eq byte 45) refl d h
 
-signed_found : (limit : ℕ) (field rest : List ℕ) (value : ℤ) → drop_blanks field ≡ rest → signed_of limit rest ≡ Value value → IsCoordinateField limit field value
+signed_found : (limit : ℕ) (field rest : List ℕ) (value : ℤ) → drop_blanks field ≡ rest → signed_of limit rest ≡ Value value
+    → IsCoordinateField limit field value
 unfolding signed_of
 signed_found limit field [] value d h = (cc)
 signed_found limit field (byte ∷ bytes) value d h = first_found limit field byte bytes value (nat_eq byte 43) refl d h
 
 -- what is read is spelled so
-pub coordinate_found : (limit : ℕ) (field : List ℕ) (value : ℤ) → coordinate_of limit field ≡ Value value → IsCoordinateField limit field value
+pub coordinate_found : (limit : ℕ) (field : List ℕ) (value : ℤ) → coordinate_of limit field ≡ Value value
+    → IsCoordinateField limit field value
 unfolding coordinate_of
 coordinate_found limit field value h = signed_found limit field (drop_blanks field) value refl h
 
@@ -119,13 +150,15 @@ second_not_blank : (b c : Bool) (x y z : Option ℕ) → cond b (plus_of x) (con
 second_not_blank true c x y z h = plus_not_blank x h
 second_not_blank false c x y z h = third_not_blank c y z h
 
-blank_from_rest : (limit : ℕ) (field rest : List ℕ) → drop_blanks field ≡ rest → signed_of limit rest ≡ Blank → list_all is_blank field ≡ true
+blank_from_rest : (limit : ℕ) (field rest : List ℕ) → drop_blanks field ≡ rest → signed_of limit rest ≡ Blank
+    → list_all is_blank field ≡ true
 unfolding signed_of
 blank_from_rest limit field [] d h =
     let b = splits_blanks field in
     ap (list_all is_blank) (b.spelled ∙ ap (λ (l : List ℕ). b.before ++ l) d ∙ append-nil b.before) ∙ b.blanks_before
 blank_from_rest limit field (byte ∷ bytes) d h =
-    absurd (second_not_blank (nat_eq byte 43) (nat_eq byte 45) (magnitude_of limit bytes) (magnitude_of limit bytes) (magnitude_of limit (byte ∷ bytes)) h)
+    absurd (second_not_blank (nat_eq byte 43) (nat_eq byte 45) (magnitude_of limit bytes) (magnitude_of limit bytes)
+    (magnitude_of limit (byte ∷ bytes)) h)
 
 -- only blanks are read as a blank field
 pub blank_found : (limit : ℕ) (field : List ℕ) → coordinate_of limit field ≡ Blank → IsBlankField field
@@ -140,7 +173,8 @@ blank_only limit field h = rw (drop_blanks-blanks field h) refl
 digit_above : (byte : ℕ) → is_digit byte ≡ true → 48 ≤ byte
 digit_above byte h = leb-true 48 byte (and_parts _ _ h).0
 
-signed_only : (limit : ℕ) (sign : List ℕ) (first : ℕ) (rest : List ℕ) (n : ℕ) (value : ℤ) → is_digit first ≡ true → IsSigned sign n value → magnitude_of limit (first ∷ rest) ≡ Some n → signed_of limit (drop_blanks (sign ++ (first ∷ rest))) ≡ Value value
+signed_only : (limit : ℕ) (sign : List ℕ) (first : ℕ) (rest : List ℕ) (n : ℕ) (value : ℤ) → is_digit first ≡ true → IsSigned sign n value
+    → magnitude_of limit (first ∷ rest) ≡ Some n → signed_of limit (drop_blanks (sign ++ (first ∷ rest))) ≡ Value value
 unfolding signed_of
 signed_only limit _ first rest _ _ d (unsigned n) h =
     let above = digit_above first d in
@@ -149,12 +183,14 @@ signed_only limit _ first rest _ _ d (plus n) h = rw h refl
 signed_only limit _ first rest _ _ d (minus n) h = rw h refl
 
 -- what is spelled so is read
-pub coordinate_only : (limit : ℕ) (field : List ℕ) (value : ℤ) → IsCoordinateField limit field value → coordinate_of limit field ≡ Value value
+pub coordinate_only : (limit : ℕ) (field : List ℕ) (value : ℤ) → IsCoordinateField limit field value
+    → coordinate_of limit field ≡ Value value
 unfolding coordinate_of
 coordinate_only limit field value h =
     ap (λ l. signed_of limit (drop_blanks l)) h.spelled
     ∙ ap (signed_of limit) (drop_blanks-append h.before (h.sign ++ (h.first ∷ h.digits ++ h.after)) h.blanks_before)
-    ∙ signed_only limit h.sign h.first (h.digits ++ h.after) _ value (and_parts (is_digit h.first) (list_all is_digit h.digits) h.all_digits).0 h.signed
+    ∙ signed_only limit h.sign h.first (h.digits ++ h.after) _ value
+    (and_parts (is_digit h.first) (list_all is_digit h.digits) h.all_digits).0 h.signed
     (magnitude_only limit h.first h.digits h.after h.all_digits h.blanks_after h.within)
 
 abs_of_negated : (n : ℕ) → unsigned_abs (negated n) ≡ n
@@ -173,7 +209,8 @@ coordinate_within limit field value h = let e = abs_of_signed h.sign _ value h.s
 pub length-digits_text : (width n : ℕ) → length (digits_text width n) ≡ width
 unfolding digits_text
 length-digits_text zero n = refl
-length-digits_text (suc width) n = let l = length-digits_text width (n / 10) in let m = length_push (digits_text width (n / 10)) (48 + n % 10) in omega arith
+length-digits_text (suc width) n = let l = length-digits_text width (n / 10) in let m =
+    length_push (digits_text width (n / 10)) (48 + n % 10) in omega arith
 
 digits_text_allowed : (width n : ℕ) → AreAllowed (digits_text width n)
 unfolding AreAllowed digits_text
@@ -183,7 +220,8 @@ digits_text_allowed (suc width) n = All-push (λ b. IsTrue (is_allowed b)) _ _ (
 digits_text_digits : (width n : ℕ) → list_all is_digit (digits_text width n) ≡ true
 unfolding digits_text
 digits_text_digits zero n = refl
-digits_text_digits (suc width) n = digits_push (digits_text width (n / 10)) (48 + n % 10) (digits_text_digits width (n / 10)) (last_is_digit n)
+digits_text_digits (suc width) n =
+    digits_push (digits_text width (n / 10)) (48 + n % 10) (digits_text_digits width (n / 10)) (last_is_digit n)
 
 digits_text_value : (width n : ℕ) → n < 10 ^ width → value_after 0 (digits_text width n) ≡ n
 unfolding digits_text
@@ -203,14 +241,16 @@ unfolding coordinate_text AreAllowed
 coordinate_text_is_text width value =
     record {
       len = ap suc (length-digits_text width (unsigned_abs value));
-      allowed = All-cons (λ b. IsTrue (is_allowed b)) (sign_of value) (digits_text width (unsigned_abs value)) (sign_allowed value) (digits_text_allowed width (unsigned_abs value));
+      allowed = All-cons (λ b. IsTrue (is_allowed b)) (sign_of value) (digits_text width (unsigned_abs value)) (sign_allowed value)
+          (digits_text_allowed width (unsigned_abs value));
     }
 
 sign_is_signed : (value : ℤ) → IsSigned (sign_of value ∷ []) (unsigned_abs value) value
 sign_is_signed (pos n) = plus n
 sign_is_signed (negsuc n) = minus (suc n)
 
-text_spells : (limit : ℕ) (text : List ℕ) (value : ℤ) → list_all is_digit text ≡ true → 0 < length text → value_after 0 text ≡ unsigned_abs value → unsigned_abs value ≤ limit → IsCoordinateField limit (sign_of value ∷ text) value
+text_spells : (limit : ℕ) (text : List ℕ) (value : ℤ) → list_all is_digit text ≡ true → 0 < length text
+    → value_after 0 text ≡ unsigned_abs value → unsigned_abs value ≤ limit → IsCoordinateField limit (sign_of value ∷ text) value
 text_spells limit [] value d l v w = absurd (omega arith)
 text_spells limit (first ∷ digits) value d l v w =
     record {
@@ -228,10 +268,12 @@ text_spells limit (first ∷ digits) value d l v w =
     }
 
 -- the canonical text spells the coordinate
-pub coordinate_text_spells : (width limit : ℕ) (value : ℤ) → 0 < width → limit < 10 ^ width → unsigned_abs value ≤ limit → IsCoordinateField limit (coordinate_text width value) value
+pub coordinate_text_spells : (width limit : ℕ) (value : ℤ) → 0 < width → limit < 10 ^ width → unsigned_abs value ≤ limit
+    → IsCoordinateField limit (coordinate_text width value) value
 unfolding coordinate_text
 coordinate_text_spells width limit value wide most h =
-    text_spells limit (digits_text width (unsigned_abs value)) value (digits_text_digits width (unsigned_abs value)) (let l = length-digits_text width (unsigned_abs value) in omega arith) (digits_text_value width (unsigned_abs value) (omega arith)) h
+    text_spells limit (digits_text width (unsigned_abs value)) value (digits_text_digits width (unsigned_abs value)) (let l =
+    length-digits_text width (unsigned_abs value) in omega arith) (digits_text_value width (unsigned_abs value) (omega arith)) h
 
 -- what is read is within its limit
 pub coordinate_read_within : (limit : ℕ) (field : List ℕ) (value : ℤ) → coordinate_of limit field ≡ Value value → unsigned_abs value ≤ limit

@@ -28,7 +28,8 @@ minus_of (Some n) = Value (negated n)
 unfoldable pub signed_of : ℕ → List ℕ → Coordinate
 signed_of limit [] = Blank
 signed_of limit (byte ∷ bytes) =
-    if byte == 43 then plus_of (magnitude_of limit bytes) else (if byte == 45 then minus_of (magnitude_of limit bytes) else plus_of (magnitude_of limit (byte ∷ bytes)))
+    if byte == 43 then plus_of (magnitude_of limit bytes) else
+    (if byte == 45 then minus_of (magnitude_of limit bytes) else plus_of (magnitude_of limit (byte ∷ bytes)))
 
 -- what a coordinate's field is read as
 unfoldable pub coordinate_of : ℕ → List ℕ → Coordinate

@@ -4,8 +4,10 @@ use Rattle.std.specs.Prelude.{◌≡◌, ℕ, ◌+◌, ◌*◌, ◌<◌, List, �
 use Rattle.std.specs.List.{AllByRecursion}
 use Rattle.tl_layout.specs.Bytes.{columns}
 use Rattle.tl_layout.specs.CoordinateField.{IsCoordinateField, IsBlankField}
-use Rattle.tl_layout.specs.FieldMeaning.{SpellsNumber, SpellsNumberOrNone, SpellsPoint, SpellsPointOrNone, SpellsPointPlace, SpellsNumberPlace, SpellsPlaces}
-use Rattle.tl_layout.specs.ColumnTable.{Kind, Number, NumberOrNone, Pair, PairOrNone, NumberPlaces, PointPlaces, Opaque, Filler, ValueOf, Row, SpellsField}
+use Rattle.tl_layout.specs.FieldMeaning.{SpellsNumber, SpellsNumberOrNone, SpellsPoint, SpellsPointOrNone, SpellsPointPlace}
+use Rattle.tl_layout.specs.FieldMeaning.{SpellsNumberPlace, SpellsPlaces}
+use Rattle.tl_layout.specs.ColumnTable.{Kind, Number, NumberOrNone, Pair, PairOrNone, NumberPlaces, PointPlaces, Opaque, Filler}
+use Rattle.tl_layout.specs.ColumnTable.{ValueOf, Row, SpellsField}
 use Rattle.tl_layout.specs.declared.fault.FieldKind.TheVariants.{BadPoint, BadNumber, GapInRecord}
 use Rattle.tl_layout.specs.declared.fault.FieldFault.{FieldFault}
 
@@ -69,7 +71,8 @@ pub record IsGap {A : Type 0} (Spells : ℕ → Option A → Type 0) (column bef
 
 -- The leftmost faulty place of so many from this column on: the places before it spell items, and it is malformed itself, or
 -- it is used after an unused one.
-pub record IsPlaceFault {A : Type 0} (Spells : ℕ → Option A → Type 0) (IsFormFault : ℕ → FieldFault → Type 0) (width count first : ℕ) (fault : FieldFault) : Type 0 where
+pub record IsPlaceFault {A : Type 0} (Spells : ℕ → Option A → Type 0) (IsFormFault : ℕ → FieldFault → Type 0) (width count first : ℕ)
+    (fault : FieldFault) : Type 0 where
   pub before : ℕ
   pub is_place : before < count
   pub items : List A
@@ -82,7 +85,8 @@ IsValueFault line first last Number fault = IsNumberFault line first last fault
 IsValueFault line first last NumberOrNone fault = IsNumberOrNoneFault line first last fault
 IsValueFault line first last Pair fault = IsPairFault line first fault
 IsValueFault line first last PairOrNone fault = IsPairOrNoneFault line first fault
-IsValueFault line first last NumberPlaces fault = IsPlaceFault (SpellsNumberPlace line) (λ column. IsNumberOrNoneFault line column (column + 7)) 8 5 first fault
+IsValueFault line first last NumberPlaces fault =
+    IsPlaceFault (SpellsNumberPlace line) (λ column. IsNumberOrNoneFault line column (column + 7)) 8 5 first fault
 IsValueFault line first last PointPlaces fault = IsPlaceFault (SpellsPointPlace line) (IsPairOrNoneFault line) 19 10 first fault
 IsValueFault line first last Opaque fault = ⊥
 IsValueFault line first last Filler fault = ⊥

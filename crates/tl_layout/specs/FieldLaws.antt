@@ -1,6 +1,8 @@
 -- What the fields of a line spell and what they are read as is one and the same; what is read is in range; and the
 -- canonical texts spell their values.
-use Rattle.std.proofs.Common.{◌≡◌, ℕ, zero, suc, ◌+◌, ◌-◌, ◌^◌, ◌<◌, ◌≤◌, List, length, drop, Bool, true, false, cond, nat_eq, Option, Some, None, unwrap_or, IfSome, Result, Ok, Err, refl, sym, ap, ◌∙◌, subst, arith, inl, inr, lit<, ℤ, pos, negsuc, unsigned_abs}
+use Rattle.std.proofs.Common.{◌≡◌, ℕ, zero, suc, ◌+◌, ◌-◌, ◌^◌, ◌<◌, ◌≤◌, List, length, drop, Bool, true, false, cond, nat_eq}
+use Rattle.std.proofs.Common.{Option, Some, None, unwrap_or, IfSome, Result, Ok, Err, refl, sym, ap, ◌∙◌, subst, arith, inl, inr}
+use Rattle.std.proofs.Common.{lit<, ℤ, pos, negsuc, unsigned_abs}
 use Rattle.std.proofs.lemmas.List.{length-drop, length-take-le}
 use Rattle.std.proofs.lemmas.Bool.{eqb-true, eqb-false, ne_eqb}
 use Rattle.std.proofs.Math.Nat.{one-le-pow}
@@ -16,8 +18,10 @@ use Rattle.tl_layout.specs.NumberLaws.{number_found, number_only}
 use Rattle.tl_layout.specs.NumberTextLaws.{number_below, number_text_spells}
 use Rattle.tl_layout.specs.CoordinateField.{IsCoordinateField}
 use Rattle.tl_layout.specs.CoordinateReading.{coordinate_of}
-use Rattle.tl_layout.specs.CoordinateLaws.{coordinate_found, coordinate_only, coordinate_within, blank_found, blank_only, coordinate_text_spells, coordinate_text_is_text}
-use Rattle.tl_layout.specs.FieldReading.{and_then, demanded_number, possible_number, number_at, number_or_none_at, point_or_none, pair_of, point_or_none_at, demanded_point, point_at}
+use Rattle.tl_layout.specs.CoordinateLaws.{coordinate_found, coordinate_only, coordinate_within, blank_found, blank_only}
+use Rattle.tl_layout.specs.CoordinateLaws.{coordinate_text_spells, coordinate_text_is_text}
+use Rattle.tl_layout.specs.FieldReading.{and_then, demanded_number, possible_number, number_at, number_or_none_at, point_or_none}
+use Rattle.tl_layout.specs.FieldReading.{pair_of, point_or_none_at, demanded_point, point_at}
 use Rattle.tl_layout.specs.FieldMeaning.{SpellsNumber, SpellsNumberOrNone, SpellsPoint, SpellsPointOrNone}
 use Rattle.tl_layout.specs.declared.coordinate.Coordinate.{Coordinate}
 use Rattle.tl_layout.specs.declared.coordinate.Coordinate.TheVariants.{Malformed, Blank, Value}
@@ -29,17 +33,20 @@ pub record Reads {A B : Type 0} (first : Result A FieldFault) (more : A → Resu
   pub was : first ≡ Ok value
   pub gave : more value ≡ Ok answer
 
-pub reads : {A B : Type 0} (first : Result A FieldFault) (more : A → Result B FieldFault) (answer : B) → and_then first more ≡ Ok answer → Reads first more answer
+pub reads : {A B : Type 0} (first : Result A FieldFault) (more : A → Result B FieldFault) (answer : B) → and_then first more ≡ Ok answer
+    → Reads first more answer
 unfolding and_then
 reads (Ok x) more answer h = record { value = x; was = refl; gave = h }
 reads (Err e) more answer h = (cc)
 
 -- reading goes on with what was read
-pub reads_on : {A B : Type 0} (first : Result A FieldFault) (more : A → Result B FieldFault) (value : A) (answer : Result B FieldFault) → first ≡ Ok value → more value ≡ answer → and_then first more ≡ answer
+pub reads_on : {A B : Type 0} (first : Result A FieldFault) (more : A → Result B FieldFault) (value : A) (answer : Result B FieldFault)
+    → first ≡ Ok value → more value ≡ answer → and_then first more ≡ answer
 unfolding and_then
 reads_on first more value answer was gave = rw was gave
 
-demanded_found : (column n : ℕ) (field : List ℕ) (read : Option ℕ) → number_of field ≡ read → demanded_number column read ≡ Ok n → SpellsNumber field n
+demanded_found : (column n : ℕ) (field : List ℕ) (read : Option ℕ) → number_of field ≡ read → demanded_number column read ≡ Ok n
+    → SpellsNumber field n
 demanded_found column n field None r h = (cc)
 demanded_found column n field (Some zero) r h = (cc)
 demanded_found column n field (Some (suc m)) r h =
@@ -59,7 +66,8 @@ pub number_at_only : (first last : ℕ) (line : List ℕ) (n : ℕ) → SpellsNu
 unfolding number_at
 number_at_only first last line n h = ap (demanded_number first) (number_only (columns first last line) n h.0) ∙ demanded_only first n h.1
 
-possible_found : (column : ℕ) (n : Option ℕ) (field : List ℕ) (read : Option ℕ) → number_of field ≡ read → possible_number column read ≡ Ok n → SpellsNumberOrNone field n
+possible_found : (column : ℕ) (n : Option ℕ) (field : List ℕ) (read : Option ℕ) → number_of field ≡ read
+    → possible_number column read ≡ Ok n → SpellsNumberOrNone field n
 possible_found column n field None r h = (cc)
 possible_found column n field (Some zero) r h =
     let same : None ≡ n = (cc) in
@@ -70,7 +78,8 @@ possible_found column n field (Some (suc m)) r h =
     let P : Option ℕ → Type 0 = SpellsNumberOrNone field in
     subst P same (number_found field (suc m) r, omega arith)
 
-pub number_or_none_at_found : (first last : ℕ) (line : List ℕ) (n : Option ℕ) → number_or_none_at first last line ≡ Ok n → SpellsNumberOrNone (columns first last line) n
+pub number_or_none_at_found : (first last : ℕ) (line : List ℕ) (n : Option ℕ) → number_or_none_at first last line ≡ Ok n
+    → SpellsNumberOrNone (columns first last line) n
 unfolding number_or_none_at
 number_or_none_at_found first last line n h = possible_found first n (columns first last line) (number_of (columns first last line)) refl h
 
@@ -78,16 +87,19 @@ possible_only : (column n : ℕ) → 0 < n → possible_number column (Some n) �
 possible_only column zero h = absurd (omega arith)
 possible_only column (suc n) h = refl
 
-pub number_or_none_at_only : (first last : ℕ) (line : List ℕ) (n : Option ℕ) → SpellsNumberOrNone (columns first last line) n → number_or_none_at first last line ≡ Ok n
+pub number_or_none_at_only : (first last : ℕ) (line : List ℕ) (n : Option ℕ) → SpellsNumberOrNone (columns first last line) n
+    → number_or_none_at first last line ≡ Ok n
 unfolding number_or_none_at
 number_or_none_at_only first last line None h = ap (possible_number first) (number_only (columns first last line) 0 h)
-number_or_none_at_only first last line (Some n) h = ap (possible_number first) (number_only (columns first last line) n h.0) ∙ possible_only first n h.1
+number_or_none_at_only first last line (Some n) h = ap (possible_number first) (number_only (columns first last line) n h.0)
+    ∙ possible_only first n h.1
 
 -- a number that is spelled in so many columns has no more digits
 pub number_fits : (width n : ℕ) (field : List ℕ) → length field ≡ width → SpellsNumber field n → IsNumber width n
 number_fits width n field l h = (h.1, let P : ℕ → Type 0 = λ w. n < 10 ^ w in subst P l (number_below field n h.0))
 
-pub number_or_none_fits : (width : ℕ) (n : Option ℕ) (field : List ℕ) → length field ≡ width → SpellsNumberOrNone field n → IsNumberOrNone width n
+pub number_or_none_fits : (width : ℕ) (n : Option ℕ) (field : List ℕ) → length field ≡ width → SpellsNumberOrNone field n
+    → IsNumberOrNone width n
 number_or_none_fits width None field l h = tt
 number_or_none_fits width (Some n) field l h = number_fits width n field l h
 
@@ -95,7 +107,8 @@ number_or_none_fits width (Some n) field l h = number_fits width n field l h
 pub number_again : (width n : ℕ) (field : List ℕ) → field ≡ number_text width n → IsNumber width n → SpellsNumber field n
 number_again width n field e h = let P : List ℕ → Type 0 = λ f. SpellsNumber f n in subst P (sym e) (number_text_spells width n h.1, h.0)
 
-pub number_or_none_again : (width : ℕ) (n : Option ℕ) (field : List ℕ) → field ≡ number_text width (unwrap_or n 0) → IsNumberOrNone width n → SpellsNumberOrNone field n
+pub number_or_none_again : (width : ℕ) (n : Option ℕ) (field : List ℕ) → field ≡ number_text width (unwrap_or n 0) → IsNumberOrNone width n
+    → SpellsNumberOrNone field n
 number_or_none_again width None field e h =
     let P : List ℕ → Type 0 = λ f. SpellsNumberOrNone f None in
     subst P (sym e) (number_text_spells width 0 (one-le-pow width 10 (lit< tt)))
@@ -106,7 +119,10 @@ both_zero : (value : ℤ) → unsigned_abs value ≡ 0 → value ≡ pos 0
 both_zero (pos n) h = ap pos h
 both_zero (negsuc n) h = (cc)
 
-point_found : (long_field lat_field : List ℕ) (long lat : ℤ) (point : Option Coordinates) (b : Bool) → nat_eq (unsigned_abs long + unsigned_abs lat) 0 ≡ b → IsCoordinateField 999999999 long_field long → IsCoordinateField 99999999 lat_field lat → cond b None (Some (record { long = long; lat = lat })) ≡ point → SpellsPointOrNone long_field lat_field point
+point_found : (long_field lat_field : List ℕ) (long lat : ℤ) (point : Option Coordinates) (b : Bool)
+    → nat_eq (unsigned_abs long + unsigned_abs lat) 0 ≡ b → IsCoordinateField 999999999 long_field long
+    → IsCoordinateField 99999999 lat_field lat → cond b None (Some (record { long = long; lat = lat })) ≡ point
+    → SpellsPointOrNone long_field lat_field point
 point_found long_field lat_field long lat point true e x y h =
     let none : unsigned_abs long + unsigned_abs lat ≡ 0 = eqb-true _ 0 e in
     let P : Option Coordinates → Type 0 = SpellsPointOrNone long_field lat_field in
@@ -122,7 +138,9 @@ point_found long_field lat_field long lat point false e x y h =
 pub ok_value : {A : Type 0} (x y : A) → ◌≡◌ {A = Result A FieldFault} (Ok x) (Ok y) → x ≡ y
 ok_value x y h = (cc)
 
-pair_found : (column : ℕ) (long_field lat_field : List ℕ) (point : Option Coordinates) (long lat : Coordinate) → coordinate_of 999999999 long_field ≡ long → coordinate_of 99999999 lat_field ≡ lat → pair_of column long lat ≡ Ok point → SpellsPointOrNone long_field lat_field point
+pair_found : (column : ℕ) (long_field lat_field : List ℕ) (point : Option Coordinates) (long lat : Coordinate)
+    → coordinate_of 999999999 long_field ≡ long → coordinate_of 99999999 lat_field ≡ lat → pair_of column long lat ≡ Ok point
+    → SpellsPointOrNone long_field lat_field point
 unfolding point_or_none
 pair_found column long_field lat_field point Malformed lat x y h = (cc)
 pair_found column long_field lat_field point Blank Malformed x y h = (cc)
@@ -133,9 +151,11 @@ pair_found column long_field lat_field point Blank Blank x y h =
 pair_found column long_field lat_field point Blank (Value lat) x y h = (cc)
 pair_found column long_field lat_field point (Value long) Blank x y h = (cc)
 pair_found column long_field lat_field point (Value long) (Value lat) x y h =
-    point_found long_field lat_field long lat point (nat_eq (unsigned_abs long + unsigned_abs lat) 0) refl (coordinate_found 999999999 long_field long x) (coordinate_found 99999999 lat_field lat y) (ok_value _ point h)
+    point_found long_field lat_field long lat point (nat_eq (unsigned_abs long + unsigned_abs lat) 0) refl
+    (coordinate_found 999999999 long_field long x) (coordinate_found 99999999 lat_field lat y) (ok_value _ point h)
 
-pub point_or_none_at_found : (column : ℕ) (line : List ℕ) (point : Option Coordinates) → point_or_none_at column line ≡ Ok point → SpellsPointOrNone (columns column (column + 9) line) (columns (column + 10) (column + 18) line) point
+pub point_or_none_at_found : (column : ℕ) (line : List ℕ) (point : Option Coordinates) → point_or_none_at column line ≡ Ok point
+    → SpellsPointOrNone (columns column (column + 9) line) (columns (column + 10) (column + 18) line) point
 unfolding point_or_none_at
 point_or_none_at_found column line point h = pair_found column _ _ point _ _ refl refl h
 
@@ -143,22 +163,29 @@ point_only : (long lat : ℤ) → 0 < unsigned_abs long + unsigned_abs lat → p
 unfolding point_or_none
 point_only long lat h = rw (ne_eqb (unsigned_abs long + unsigned_abs lat) 0 (λ e. omega arith)) refl
 
-pair_only : (column : ℕ) (long_field lat_field : List ℕ) (point : Option Coordinates) → SpellsPointOrNone long_field lat_field point → pair_of column (coordinate_of 999999999 long_field) (coordinate_of 99999999 lat_field) ≡ Ok point
+pair_only : (column : ℕ) (long_field lat_field : List ℕ) (point : Option Coordinates) → SpellsPointOrNone long_field lat_field point
+    → pair_of column (coordinate_of 999999999 long_field) (coordinate_of 99999999 lat_field) ≡ Ok point
 unfolding point_or_none
 pair_only column long_field lat_field None (inl h) = rw (blank_only 999999999 long_field h.0, blank_only 99999999 lat_field h.1) refl
-pair_only column long_field lat_field None (inr h) = rw (coordinate_only 999999999 long_field (pos 0) h.0, coordinate_only 99999999 lat_field (pos 0) h.1) refl
+pair_only column long_field lat_field None (inr h) =
+    rw (coordinate_only 999999999 long_field (pos 0) h.0, coordinate_only 99999999 lat_field (pos 0) h.1) refl
 pair_only column long_field lat_field (Some point) h =
-    rw (coordinate_only 999999999 long_field point.long h.long_spelled, coordinate_only 99999999 lat_field point.lat h.lat_spelled) (ap Ok (point_only point.long point.lat h.somewhere))
+    rw (coordinate_only 999999999 long_field point.long h.long_spelled, coordinate_only 99999999 lat_field point.lat h.lat_spelled)
+    (ap Ok (point_only point.long point.lat h.somewhere))
 
-pub point_or_none_at_only : (column : ℕ) (line : List ℕ) (point : Option Coordinates) → SpellsPointOrNone (columns column (column + 9) line) (columns (column + 10) (column + 18) line) point → point_or_none_at column line ≡ Ok point
+pub point_or_none_at_only : (column : ℕ) (line : List ℕ) (point : Option Coordinates)
+    → SpellsPointOrNone (columns column (column + 9) line) (columns (column + 10) (column + 18) line) point
+    → point_or_none_at column line ≡ Ok point
 unfolding point_or_none_at
 point_or_none_at_only column line point h = pair_only column _ _ point h
 
-demanded_point_found : (column : ℕ) (read : Option Coordinates) (point : Coordinates) → demanded_point column read ≡ Ok point → read ≡ Some point
+demanded_point_found : (column : ℕ) (read : Option Coordinates) (point : Coordinates) → demanded_point column read ≡ Ok point
+    → read ≡ Some point
 demanded_point_found column None point h = (cc)
 demanded_point_found column (Some p) point h = (cc)
 
-pub point_at_found : (column : ℕ) (line : List ℕ) (point : Coordinates) → point_at column line ≡ Ok point → SpellsPoint (columns column (column + 9) line) (columns (column + 10) (column + 18) line) point
+pub point_at_found : (column : ℕ) (line : List ℕ) (point : Coordinates) → point_at column line ≡ Ok point
+    → SpellsPoint (columns column (column + 9) line) (columns (column + 10) (column + 18) line) point
 unfolding point_at
 point_at_found column line point h =
     let r = reads (point_or_none_at column line) (demanded_point column) point h in
@@ -166,17 +193,24 @@ point_at_found column line point h =
     let P : Option Coordinates → Type 0 = SpellsPointOrNone (columns column (column + 9) line) (columns (column + 10) (column + 18) line) in
     subst P same (point_or_none_at_found column line r.value r.was)
 
-pub point_at_only : (column : ℕ) (line : List ℕ) (point : Coordinates) → SpellsPoint (columns column (column + 9) line) (columns (column + 10) (column + 18) line) point → point_at column line ≡ Ok point
+pub point_at_only : (column : ℕ) (line : List ℕ) (point : Coordinates)
+    → SpellsPoint (columns column (column + 9) line) (columns (column + 10) (column + 18) line) point → point_at column line ≡ Ok point
 unfolding point_at
 point_at_only column line point h = reads_on _ _ (Some point) _ (point_or_none_at_only column line (Some point) h) refl
 
 -- a point that is spelled lies on the map
 pub point_on_map : (long lat : List ℕ) (point : Coordinates) → SpellsPoint long lat point → IsOnMap point
 point_on_map long lat point h =
-    record { long = coordinate_within 999999999 long point.long h.long_spelled; lat = coordinate_within 99999999 lat point.lat h.lat_spelled; somewhere = h.somewhere }
+    record {
+      long = coordinate_within 999999999 long point.long h.long_spelled;
+      lat =
+          coordinate_within 99999999 lat point.lat h.lat_spelled;
+      somewhere = h.somewhere;
+    }
 
 -- fields that hold the canonical texts of a point spell it
-pub point_again : (point : Coordinates) (long lat : List ℕ) → long ≡ coordinate_text 9 point.long → lat ≡ coordinate_text 8 point.lat → IsOnMap point → SpellsPoint long lat point
+pub point_again : (point : Coordinates) (long lat : List ℕ) → long ≡ coordinate_text 9 point.long → lat ≡ coordinate_text 8 point.lat
+    → IsOnMap point → SpellsPoint long lat point
 point_again point long lat e e' h =
     let P : List ℕ → Type 0 = λ f. IsCoordinateField 999999999 f point.long in
     let Q : List ℕ → Type 0 = λ f. IsCoordinateField 99999999 f point.lat in
@@ -186,15 +220,18 @@ point_again point long lat e e' h =
       somewhere = h.somewhere;
     }
 
-pub columns_len : (first last : ℕ) (line : List ℕ) → 1 ≤ first → first ≤ last → last ≤ length line → length (columns first last line) ≡ last + 1 - first
+pub columns_len : (first last : ℕ) (line : List ℕ) → 1 ≤ first → first ≤ last → last ≤ length line
+    → length (columns first last line) ≡ last + 1 - first
 columns_len first last line f o l =
     let dropped = length-drop (first - 1) line in
     length-take-le (last - (first - 1)) (drop (first - 1) line) (omega arith) ∙ omega arith
 
 -- what is read has no more digits than columns
-pub number_read_in_range : (first last : ℕ) (line : List ℕ) (n : ℕ) → number_of (columns first last line) ≡ Some n → 1 ≤ first → first ≤ last → last ≤ length line → 0 < n → IsNumber (last + 1 - first) n
+pub number_read_in_range : (first last : ℕ) (line : List ℕ) (n : ℕ) → number_of (columns first last line) ≡ Some n → 1 ≤ first
+    → first ≤ last → last ≤ length line → 0 < n → IsNumber (last + 1 - first) n
 number_read_in_range first last line n h f o l p =
-    number_fits (last + 1 - first) n (columns first last line) (columns_len first last line f o l) (number_found (columns first last line) n h, p)
+    number_fits (last + 1 - first) n (columns first last line) (columns_len first last line f o l)
+    (number_found (columns first last line) n h, p)
 
 -- a point or none that is spelled lies on the map, if it is one
 pub point_or_none_on_map : (long lat : List ℕ) (point : Option Coordinates) → SpellsPointOrNone long lat point → IfSome point IsOnMap
@@ -211,6 +248,7 @@ lat_text_is_text None = blanks_are_text 9
 lat_text_is_text (Some point) = coordinate_text_is_text 8 point.lat
 
 -- fields that hold those texts spell the point, or none
-pub point_or_none_again : (point : Option Coordinates) (long lat : List ℕ) → long ≡ long_text point → lat ≡ lat_text point → IfSome point IsOnMap → SpellsPointOrNone long lat point
+pub point_or_none_again : (point : Option Coordinates) (long lat : List ℕ) → long ≡ long_text point → lat ≡ lat_text point
+    → IfSome point IsOnMap → SpellsPointOrNone long lat point
 point_or_none_again None long lat e e' h = inl (ap (list_all is_blank) e, ap (list_all is_blank) e')
 point_or_none_again (Some point) long lat e e' h = point_again point long lat e e' h

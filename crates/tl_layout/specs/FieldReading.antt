@@ -1,5 +1,6 @@
 -- Number fields and pairs of coordinates in the columns of a line: what they spell, and what they are read as.
-use Rattle.std.specs.Prelude.{◌≡◌, ℕ, zero, suc, ◌+◌, ◌==◌, List, Option, Some, None, Result, Ok, Err, if◌then◌else◌, ℤ, unsigned_abs, [], ◌∷◌, Bool, true, false}
+use Rattle.std.specs.Prelude.{◌≡◌, ℕ, zero, suc, ◌+◌, ◌==◌, List, Option, Some, None, Result, Ok, Err, if◌then◌else◌, ℤ}
+use Rattle.std.specs.Prelude.{unsigned_abs, [], ◌∷◌, Bool, true, false}
 use Rattle.tl_layout.specs.Bytes.{columns}
 use Rattle.tl_layout.specs.Coordinates.{Coordinates}
 use Rattle.tl_layout.specs.NumberReading.{number_of}
@@ -56,7 +57,8 @@ pair_of column (Value long) (Value lat) = Ok (point_or_none long lat)
 -- what the pair that begins at this column is read as, where there may be none
 unfoldable pub point_or_none_at : ℕ → List ℕ → Result (Option Coordinates) FieldFault
 point_or_none_at column line =
-    pair_of column (coordinate_of 999999999 (columns column (column + 9) line)) (coordinate_of 99999999 (columns (column + 10) (column + 18) line))
+    pair_of column (coordinate_of 999999999 (columns column (column + 9) line))
+    (coordinate_of 99999999 (columns (column + 10) (column + 18) line))
 
 abbrev pub demanded_point : ℕ → Option Coordinates → Result Coordinates FieldFault
 demanded_point column None = Err (bad_point column)

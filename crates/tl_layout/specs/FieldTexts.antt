@@ -1,9 +1,11 @@
 -- The canonical texts of values, and of the columns of a record.
-use Rattle.std.specs.Prelude.{ℕ, zero, suc, ◌+◌, ◌/◌, ◌%◌, ◌==◌, List, [], ◌∷◌, ◌++◌, Option, Some, None, if◌then◌else◌, ℤ, pos, negsuc, unsigned_abs, replicate, unwrap_or, codes}
+use Rattle.std.specs.Prelude.{ℕ, zero, suc, ◌+◌, ◌/◌, ◌%◌, ◌==◌, List, [], ◌∷◌, ◌++◌, Option, Some, None, if◌then◌else◌, ℤ, pos}
+use Rattle.std.specs.Prelude.{negsuc, unsigned_abs, replicate, unwrap_or, codes}
 use Rattle.std.specs.List.{flat_map}
 use Rattle.tl_layout.specs.Coordinates.{Coordinates}
 use Rattle.tl_layout.specs.Columns.{joined}
-use Rattle.tl_layout.specs.ColumnTable.{Kind, Number, NumberOrNone, Pair, PairOrNone, NumberPlaces, PointPlaces, Opaque, Filler, ValueOf, Row, width_of}
+use Rattle.tl_layout.specs.ColumnTable.{Kind, Number, NumberOrNone, Pair, PairOrNone, NumberPlaces, PointPlaces, Opaque, Filler}
+use Rattle.tl_layout.specs.ColumnTable.{ValueOf, Row, width_of}
 
 -- a number right justified in that many columns: its digits end at the last one, and blanks stand before them
 unfoldable pub number_text : ℕ → ℕ → List ℕ

@@ -1,5 +1,6 @@
 -- The canonical text of a number is a spelling of it, of the field's width and of allowed bytes.
-use Rattle.std.proofs.Common.{◌≡◌, ℕ, zero, suc, ◌+◌, ◌-◌, ◌*◌, ◌/◌, ◌%◌, ◌^◌, ◌<◌, ◌≤◌, List, [], ◌∷◌, ◌++◌, length, Bool, true, false, cond, nat_eq, nat_le, refl, sym, ap, ◌∙◌, arith, append_assoc, IsTrue, lit<}
+use Rattle.std.proofs.Common.{◌≡◌, ℕ, zero, suc, ◌+◌, ◌-◌, ◌*◌, ◌/◌, ◌%◌, ◌^◌, ◌<◌, ◌≤◌, List, [], ◌∷◌, ◌++◌, length, Bool, true}
+use Rattle.std.proofs.Common.{false, cond, nat_eq, nat_le, refl, sym, ap, ◌∙◌, arith, append_assoc, IsTrue, lit<}
 use Rattle.std.specs.List.{list_all}
 use Rattle.std.proofs.lemmas.Bool.{and_parts, and_from, eqb-true, eqb-false, le-leb, leb-true}
 use Rattle.std.proofs.lemmas.Bool.Decides.{nat_tests}
@@ -12,7 +13,8 @@ use Rattle.tl_layout.specs.NumberField.{is_blank, is_digit, value_after, IsNumbe
 use Rattle.tl_layout.specs.FieldTexts.{number_text}
 
 -- the value of digits with one more behind them
-pub value_after-push : (n : ℕ) (digits : List ℕ) (digit : ℕ) → value_after n (digits ++ digit ∷ []) ≡ 10 * value_after n digits + (digit - 48)
+pub value_after-push : (n : ℕ) (digits : List ℕ) (digit : ℕ)
+    → value_after n (digits ++ digit ∷ []) ≡ 10 * value_after n digits + (digit - 48)
 value_after-push n [] digit = refl
 value_after-push n (d ∷ digits) digit = value_after-push (10 * n + (d - 48)) digits digit
 
@@ -21,7 +23,8 @@ pub last_is_digit : (n : ℕ) → is_digit (48 + n % 10) ≡ true
 last_is_digit n = and_from _ _ (le-leb 48 (48 + n % 10) (omega arith)) (le-leb (48 + n % 10) 57 (omega arith))
 
 -- digits pass with one more behind them
-pub digits_push : (digits : List ℕ) (digit : ℕ) → list_all is_digit digits ≡ true → is_digit digit ≡ true → list_all is_digit (digits ++ digit ∷ []) ≡ true
+pub digits_push : (digits : List ℕ) (digit : ℕ) → list_all is_digit digits ≡ true → is_digit digit ≡ true
+    → list_all is_digit (digits ++ digit ∷ []) ≡ true
 digits_push digits digit h e = list_all-append is_digit digits (digit ∷ []) ∙ and_from _ _ h (and_from _ _ e refl)
 
 -- one digit fewer is below one power of ten less
@@ -66,19 +69,32 @@ one_column width n false e p =
 
 number_text_parts : (width n : ℕ) → n < 10 ^ width → NumberTextParts width n
 unfolding number_text
-number_text_parts zero n h = record { before = []; digits = []; spelled = refl; blanks_before = refl; all_digits = refl; value = omega arith; none = λ _. refl }
+number_text_parts zero n h =
+    record { before = []; digits = []; spelled = refl; blanks_before = refl; all_digits = refl; value = omega arith; none = λ _. refl }
 number_text_parts (suc width) n h = one_column width n (nat_eq n 0) refl (number_text_parts width (n / 10) (tenth_below width n h))
 
 -- the canonical text spells the number
 pub number_text_spells : (width n : ℕ) → n < 10 ^ width → IsNumberField (number_text width n) n
 number_text_spells width n h =
     let p = number_text_parts width n h in
-    record { before = p.before; digits = p.digits; after = []; spelled = p.spelled ∙ ap (λ (l : List ℕ). p.before ++ l) (sym (append-nil p.digits)); blanks_before = p.blanks_before; all_digits = p.all_digits; blanks_after = refl; value = p.value }
+    record {
+      before = p.before;
+      digits = p.digits;
+      after = [];
+      spelled = p.spelled
+          ∙ ap (λ (l : List ℕ). p.before ++ l) (sym (append-nil p.digits));
+      blanks_before = p.blanks_before;
+      all_digits =
+          p.all_digits;
+      blanks_after = refl;
+      value = p.value;
+    }
 
 pub length-number_text : (width n : ℕ) → length (number_text width n) ≡ width
 unfolding number_text
 length-number_text zero n = refl
-length-number_text (suc width) n = let l = length-number_text width (n / 10) in let m = length_push (number_text width (n / 10)) (cond (nat_eq n 0) 32 (48 + n % 10)) in omega arith
+length-number_text (suc width) n = let l = length-number_text width (n / 10) in let m =
+    length_push (number_text width (n / 10)) (cond (nat_eq n 0) 32 (48 + n % 10)) in omega arith
 
 -- a digit is an allowed byte
 pub digit_allowed : (n : ℕ) → is_allowed (48 + n % 10) ≡ true
@@ -91,7 +107,8 @@ digit_or_blank_allowed n false = digit_allowed n
 number_text_allowed : (width n : ℕ) → AreAllowed (number_text width n)
 unfolding AreAllowed number_text
 number_text_allowed zero n = All-nil (λ b. IsTrue (is_allowed b))
-number_text_allowed (suc width) n = All-push (λ b. IsTrue (is_allowed b)) _ _ (number_text_allowed width (n / 10)) (digit_or_blank_allowed n (nat_eq n 0))
+number_text_allowed (suc width) n =
+    All-push (λ b. IsTrue (is_allowed b)) _ _ (number_text_allowed width (n / 10)) (digit_or_blank_allowed n (nat_eq n 0))
 
 -- the canonical text has the field's width, and allowed bytes
 pub number_text_is_text : (width n : ℕ) → IsText width (number_text width n)

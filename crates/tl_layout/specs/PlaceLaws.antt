@@ -1,5 +1,7 @@
 -- Places: what is read is spelled so, what is spelled so is read, and the canonical text is a spelling.
-use Rattle.std.proofs.Common.{◌≡◌, ℕ, zero, suc, ◌+◌, ◌*◌, ◌≤◌, List, [], ◌∷◌, ◌++◌, length, Bool, true, false, cond, Option, Some, None, Result, Ok, Err, refl, sym, ap, ◌∙◌, subst, arith, append_assoc, IsTrue, IfSome, take, drop, ◌-◌, unwrap_or, inr, lit<, lit≤, pos}
+use Rattle.std.proofs.Common.{◌≡◌, ℕ, zero, suc, ◌+◌, ◌*◌, ◌≤◌, List, [], ◌∷◌, ◌++◌, length, Bool, true, false, cond, Option}
+use Rattle.std.proofs.Common.{Some, None, Result, Ok, Err, refl, sym, ap, ◌∙◌, subst, arith, append_assoc, IsTrue, IfSome, take}
+use Rattle.std.proofs.Common.{drop, ◌-◌, unwrap_or, inr, lit<, lit≤, pos}
 use Rattle.std.specs.List.{AllByRecursion}
 use Rattle.std.proofs.lemmas.List.{length-append, drop_at, take_at, length-take}
 use Rattle.std.proofs.lemmas.List.Elements.{All-append, All-nil}
@@ -21,24 +23,37 @@ use Rattle.tl_layout.specs.declared.fault.FieldFault.{FieldFault}
 abbrev Found : {A : Type 0} → (ℕ → Option A → Type 0) → ℕ → Bool → ℕ → ℕ → List A → Type 0
 Found Spells width after_unused count column xs = (after_unused ≡ true → xs ≡ []) × SpellsPlaces Spells width count column xs
 
-used_found : {A : Type 0} (Spells : ℕ → Option A → Type 0) (width count column : ℕ) (x : A) (xs : List A) (after_unused : Bool) (rest : Result (List A) FieldFault) → Spells column (Some x) → ((ys : List A) → rest ≡ Ok ys → Found Spells width false count (column + width) ys) → cond after_unused (Err (gap column)) (and_then rest (λ ys. Ok (x ∷ ys))) ≡ Ok xs → Found Spells width after_unused (suc count) column xs
+used_found : {A : Type 0} (Spells : ℕ → Option A → Type 0) (width count column : ℕ) (x : A) (xs : List A) (after_unused : Bool)
+    (rest : Result (List A) FieldFault) → Spells column (Some x)
+    → ((ys : List A) → rest ≡ Ok ys → Found Spells width false count (column + width) ys)
+    → cond after_unused (Err (gap column)) (and_then rest (λ ys. Ok (x ∷ ys))) ≡ Ok xs
+    → Found Spells width after_unused (suc count) column xs
 used_found Spells width count column x xs true rest s more h = (cc)
 used_found Spells width count column x xs false rest s more h =
     let r = reads rest (λ ys. Ok (x ∷ ys)) xs h in
     let P : List _ → Type 0 = λ zs. Found Spells width false (suc count) column zs in
     subst P (ok_value (x ∷ r.value) xs r.gave) ((λ e. (cc)), (s, (more r.value r.was).1))
 
-place_found : {A : Type 0} (Spells : ℕ → Option A → Type 0) (width count column : ℕ) (place : Option A) (xs : List A) (after_unused : Bool) (unused used : Result (List A) FieldFault) → Spells column place → ((ys : List A) → unused ≡ Ok ys → Found Spells width true count (column + width) ys) → ((ys : List A) → used ≡ Ok ys → Found Spells width false count (column + width) ys) → at_place place unused (λ x. cond after_unused (Err (gap column)) (and_then used (λ ys. Ok (x ∷ ys)))) ≡ Ok xs → Found Spells width after_unused (suc count) column xs
+place_found : {A : Type 0} (Spells : ℕ → Option A → Type 0) (width count column : ℕ) (place : Option A) (xs : List A) (after_unused : Bool)
+    (unused used : Result (List A) FieldFault) → Spells column place
+    → ((ys : List A) → unused ≡ Ok ys → Found Spells width true count (column + width) ys)
+    → ((ys : List A) → used ≡ Ok ys → Found Spells width false count (column + width) ys)
+    → at_place place unused (λ x. cond after_unused (Err (gap column)) (and_then used (λ ys. Ok (x ∷ ys)))) ≡ Ok xs
+    → Found Spells width after_unused (suc count) column xs
 place_found Spells width count column None xs after_unused unused used s none some h =
     let r = none xs h in
     let empty : xs ≡ [] = r.0 refl in
     let P : List _ → Type 0 = λ zs. SpellsPlaces Spells width (suc count) column zs in
     let Q : List _ → Type 0 = λ zs. SpellsPlaces Spells width count (column + width) zs in
     ((λ _. empty), subst P (sym empty) (s, subst Q empty r.1))
-place_found Spells width count column (Some x) xs after_unused unused used s none some h = used_found Spells width count column x xs after_unused used s some h
+place_found Spells width count column (Some x) xs after_unused unused used s none some h =
+    used_found Spells width count column x xs after_unused used s some h
 
 -- what is read is spelled so
-pub places_found : {A : Type 0} (reading : ℕ → Result (Option A) FieldFault) (Spells : ℕ → Option A → Type 0) → ((column : ℕ) (place : Option A) → reading column ≡ Ok place → Spells column place) → (width : ℕ) (after_unused : Bool) (count column : ℕ) (xs : List A) → places_reading reading width after_unused count column ≡ Ok xs → (after_unused ≡ true → xs ≡ []) × SpellsPlaces Spells width count column xs
+pub places_found : {A : Type 0} (reading : ℕ → Result (Option A) FieldFault) (Spells : ℕ → Option A → Type 0)
+    → ((column : ℕ) (place : Option A) → reading column ≡ Ok place → Spells column place)
+    → (width : ℕ) (after_unused : Bool) (count column : ℕ) (xs : List A) → places_reading reading width after_unused count column ≡ Ok xs
+    → (after_unused ≡ true → xs ≡ []) × SpellsPlaces Spells width count column xs
 unfolding places_reading
 places_found reading Spells found width after_unused zero column xs h =
     let empty : [] ≡ xs = ok_value [] xs h in
@@ -46,35 +61,46 @@ places_found reading Spells found width after_unused zero column xs h =
     ((λ _. sym empty), subst P empty tt)
 places_found reading Spells found width after_unused (suc count) column xs h =
     let r = reads (reading column) _ xs h in
-    place_found Spells width count column r.value xs after_unused _ _ (found column r.value r.was) (places_found reading Spells found width true count (column + width)) (places_found reading Spells found width false count (column + width)) r.gave
+    place_found Spells width count column r.value xs after_unused _ _ (found column r.value r.was)
+    (places_found reading Spells found width true count (column + width))
+    (places_found reading Spells found width false count (column + width)) r.gave
 
 -- what is spelled so is read
-pub places_only : {A : Type 0} (reading : ℕ → Result (Option A) FieldFault) (Spells : ℕ → Option A → Type 0) → ((column : ℕ) (place : Option A) → Spells column place → reading column ≡ Ok place) → (width : ℕ) (after_unused : Bool) (count column : ℕ) (xs : List A) → (after_unused ≡ true → xs ≡ []) → SpellsPlaces Spells width count column xs → places_reading reading width after_unused count column ≡ Ok xs
+pub places_only : {A : Type 0} (reading : ℕ → Result (Option A) FieldFault) (Spells : ℕ → Option A → Type 0)
+    → ((column : ℕ) (place : Option A) → Spells column place → reading column ≡ Ok place)
+    → (width : ℕ) (after_unused : Bool) (count column : ℕ) (xs : List A) → (after_unused ≡ true → xs ≡ [])
+    → SpellsPlaces Spells width count column xs → places_reading reading width after_unused count column ≡ Ok xs
 unfolding places_reading
 places_only reading Spells only width after_unused zero column [] e s = refl
 places_only reading Spells only width after_unused zero column (x ∷ xs) e s = absurd s
 places_only reading Spells only width after_unused (suc count) column [] e s =
-    reads_on (reading column) _ None _ (only column None s.0) (places_only reading Spells only width true count (column + width) [] (λ _. refl) s.1)
+    reads_on (reading column) _ None _ (only column None s.0)
+    (places_only reading Spells only width true count (column + width) [] (λ _. refl) s.1)
 places_only reading Spells only width true (suc count) column (x ∷ xs) e s = let no : x ∷ xs ≡ [] = e refl in (cc)
 places_only reading Spells only width false (suc count) column (x ∷ xs) e s =
-    reads_on (reading column) _ (Some x) _ (only column (Some x) s.0) (reads_on _ _ xs _ (places_only reading Spells only width false count (column + width) xs (λ h. (cc)) s.1) refl)
+    reads_on (reading column) _ (Some x) _ (only column (Some x) s.0)
+    (reads_on _ _ xs _ (places_only reading Spells only width false count (column + width) xs (λ h. (cc)) s.1) refl)
 
 -- no more items are spelled than there are places
-pub places_len : {A : Type 0} (Spells : ℕ → Option A → Type 0) (width count column : ℕ) (xs : List A) → SpellsPlaces Spells width count column xs → length xs ≤ count
+pub places_len : {A : Type 0} (Spells : ℕ → Option A → Type 0) (width count column : ℕ) (xs : List A)
+    → SpellsPlaces Spells width count column xs → length xs ≤ count
 places_len Spells width zero column [] s = omega arith
 places_len Spells width zero column (x ∷ xs) s = absurd s
 places_len Spells width (suc count) column [] s = omega arith
 places_len Spells width (suc count) column (x ∷ xs) s = let l = places_len Spells width count (column + width) xs s.1 in omega arith
 
 -- each item has what its place gives
-pub places_each : {A : Type 0} (Spells : ℕ → Option A → Type 0) (P : A → Type 0) → ((column : ℕ) (x : A) → Spells column (Some x) → P x) → (width count column : ℕ) (xs : List A) → SpellsPlaces Spells width count column xs → AllByRecursion P xs
+pub places_each : {A : Type 0} (Spells : ℕ → Option A → Type 0) (P : A → Type 0) → ((column : ℕ) (x : A) → Spells column (Some x) → P x)
+    → (width count column : ℕ) (xs : List A) → SpellsPlaces Spells width count column xs → AllByRecursion P xs
 places_each Spells P each width zero column [] s = tt
 places_each Spells P each width zero column (x ∷ xs) s = absurd s
 places_each Spells P each width (suc count) column [] s = tt
-places_each Spells P each width (suc count) column (x ∷ xs) s = (each column x s.0, places_each Spells P each width count (column + width) xs s.1)
+places_each Spells P each width (suc count) column (x ∷ xs) s =
+    (each column x s.0, places_each Spells P each width count (column + width) xs s.1)
 
 -- texts of places are a text of their widths together
-pub places_text_is_text : {A : Type 0} (text : Option A → List ℕ) (width : ℕ) → ((place : Option A) → IsText width (text place)) → (count : ℕ) (xs : List A) → length xs ≤ count → IsText (count * width) (places_text text count xs)
+pub places_text_is_text : {A : Type 0} (text : Option A → List ℕ) (width : ℕ) → ((place : Option A) → IsText width (text place))
+    → (count : ℕ) (xs : List A) → length xs ≤ count → IsText (count * width) (places_text text count xs)
 unfolding places_text AreAllowed
 places_text_is_text text width fits zero xs l = record { len = omega arith; allowed = All-nil (λ b. IsTrue (is_allowed b)) }
 places_text_is_text text width fits (suc count) [] l =
@@ -83,21 +109,34 @@ places_text_is_text text width fits (suc count) [] l =
     let first_len = first.len in
     let rest_len = rest.len in
     let e = length-append (text None) (places_text text count []) in
-    record { len = grind arith; allowed = All-append (λ b. IsTrue (is_allowed b)) (text None) (places_text text count []) first.allowed rest.allowed }
+    record {
+      len = grind arith;
+      allowed =
+          All-append (λ b. IsTrue (is_allowed b)) (text None) (places_text text count []) first.allowed rest.allowed;
+    }
 places_text_is_text text width fits (suc count) (x ∷ xs) l =
     let rest = places_text_is_text text width fits count xs (omega arith) in
     let first = fits (Some x) in
     let first_len = first.len in
     let rest_len = rest.len in
     let e = length-append (text (Some x)) (places_text text count xs) in
-    record { len = grind arith; allowed = All-append (λ b. IsTrue (is_allowed b)) (text (Some x)) (places_text text count xs) first.allowed rest.allowed }
+    record {
+      len = grind arith;
+      allowed =
+          All-append (λ b. IsTrue (is_allowed b)) (text (Some x)) (places_text text count xs) first.allowed rest.allowed;
+    }
 
 -- a place's text spells the place wherever it stands in a line
 abbrev pub IsSpelledAnywhere : {A : Type 0} → (List ℕ → ℕ → Option A → Type 0) → (Option A → List ℕ) → (A → Type 0) → Type 0
-IsSpelledAnywhere {A} Spells text Good = (before : List ℕ) (place : Option A) (after : List ℕ) → IfSome place Good → Spells (before ++ (text place ++ after)) (length before + 1) place
+IsSpelledAnywhere {A} Spells text Good = (before : List ℕ) (place : Option A) (after : List ℕ) → IfSome place Good
+    → Spells (before ++ (text place ++ after)) (length before + 1) place
 
 -- the canonical text of places spells them, wherever it stands in a line
-pub places_again : {A : Type 0} (Spells : List ℕ → ℕ → Option A → Type 0) (text : Option A → List ℕ) (Good : A → Type 0) (width : ℕ) → ((place : Option A) → IsText width (text place)) → IsSpelledAnywhere Spells text Good → (before after : List ℕ) (count column : ℕ) (xs : List A) (line : List ℕ) → column ≡ length before + 1 → line ≡ before ++ (places_text text count xs ++ after) → length xs ≤ count → AllByRecursion Good xs → SpellsPlaces (Spells line) width count column xs
+pub places_again : {A : Type 0} (Spells : List ℕ → ℕ → Option A → Type 0) (text : Option A → List ℕ) (Good : A → Type 0) (width : ℕ)
+    → ((place : Option A) → IsText width (text place)) → IsSpelledAnywhere Spells text Good
+    → (before after : List ℕ) (count column : ℕ) (xs : List A) (line : List ℕ) → column ≡ length before + 1
+    → line ≡ before ++ (places_text text count xs ++ after) → length xs ≤ count → AllByRecursion Good xs
+    → SpellsPlaces (Spells line) width count column xs
 unfolding places_text
 places_again Spells text Good width fits again before after zero column [] line c e l g = tt
 places_again Spells text Good width fits again before after zero column (x ∷ xs) line c e l g = absurd (omega arith)
@@ -107,32 +146,43 @@ places_again Spells text Good width fits again before after (suc count) column [
     let P : List ℕ → Type 0 = λ text. Spells text column None in
     let Q : ℕ → Type 0 = λ c. Spells (before ++ (text None ++ rest)) c None in
     let len = length-append before (text None) in
-    let wide = (fits None).len in
-    (subst P (sym whole) (subst Q (sym c) (again before None rest tt)), places_again Spells text Good width fits again (before ++ text None) after count (column + width) [] line (omega arith) (whole ∙ sym (append_assoc before (text None) rest)) (omega arith) tt)
+    let wide = (fits None).len in (
+      subst P (sym whole) (subst Q (sym c) (again before None rest tt)),
+      places_again Spells text Good width fits again (before ++ text None) after count (column + width) [] line (omega arith) (whole
+          ∙ sym (append_assoc before (text None) rest)) (omega arith) tt,
+    )
 places_again Spells text Good width fits again before after (suc count) column (x ∷ xs) line c e l g =
     let rest = places_text text count xs ++ after in
     let whole = e ∙ ap (λ (t : List ℕ). before ++ t) (append_assoc (text (Some x)) (places_text text count xs) after) in
     let P : List ℕ → Type 0 = λ text. Spells text column (Some x) in
     let Q : ℕ → Type 0 = λ c. Spells (before ++ (text (Some x) ++ rest)) c (Some x) in
     let len = length-append before (text (Some x)) in
-    let wide = (fits (Some x)).len in
-    (subst P (sym whole) (subst Q (sym c) (again before (Some x) rest g.0)), places_again Spells text Good width fits again (before ++ text (Some x)) after count (column + width) xs line (omega arith) (whole ∙ sym (append_assoc before (text (Some x)) rest)) (omega arith) g.1)
+    let wide = (fits (Some x)).len in (
+      subst P (sym whole) (subst Q (sym c) (again before (Some x) rest g.0)),
+      places_again Spells text Good width fits again (before ++ text (Some x)) after count (column + width) xs line (omega arith) (whole
+          ∙ sym (append_assoc before (text (Some x)) rest)) (omega arith) g.1,
+    )
 
 -- columns hold the text that stands behind as many bytes as there are columns before
-pub columns_behind : (before text after : List ℕ) (first last : ℕ) → first ≡ length before + 1 → last ≡ length before + length text → columns first last (before ++ (text ++ after)) ≡ text
+pub columns_behind : (before text after : List ℕ) (first last : ℕ) → first ≡ length before + 1 → last ≡ length before + length text
+    → columns first last (before ++ (text ++ after)) ≡ text
 columns_behind before text after first last f l =
     let skip : first - 1 ≡ length before = omega arith in
     let span : last - length before ≡ length text = omega arith in
     rw (skip, span) (ap (take (length text)) (drop_at before (text ++ after) (length before) refl) ∙ take_at text after (length text) refl)
 
 -- a longitude and a latitude side by side
-pub two_parts : (before long lat after : List ℕ) → length long ≡ 10 → length lat ≡ 9 → (columns (length before + 1) (length before + 1 + 9) (before ++ ((long ++ lat) ++ after)) ≡ long) × (columns (length before + 1 + 10) (length before + 1 + 18) (before ++ ((long ++ lat) ++ after)) ≡ lat)
+pub two_parts : (before long lat after : List ℕ) → length long ≡ 10 → length lat ≡ 9
+    → (columns (length before + 1) (length before + 1 + 9) (before ++ ((long ++ lat) ++ after)) ≡ long)
+    × (columns (length before + 1 + 10) (length before + 1 + 18) (before ++ ((long ++ lat) ++ after)) ≡ lat)
 two_parts before long lat after l m =
     let joined = length-append before long in
     let left = ap (λ (t : List ℕ). before ++ t) (append_assoc long lat after) in
     let right = sym (append_assoc before long (lat ++ after)) in (
-      ap (columns (length before + 1) (length before + 1 + 9)) left ∙ columns_behind before long (lat ++ after) (length before + 1) (length before + 1 + 9) refl (omega arith),
-      ap (columns (length before + 1 + 10) (length before + 1 + 18)) (left ∙ right) ∙ columns_behind (before ++ long) lat after (length before + 1 + 10) (length before + 1 + 18) (omega arith) (omega arith),
+      ap (columns (length before + 1) (length before + 1 + 9)) left
+          ∙ columns_behind before long (lat ++ after) (length before + 1) (length before + 1 + 9) refl (omega arith),
+      ap (columns (length before + 1 + 10) (length before + 1 + 18)) (left ∙ right)
+          ∙ columns_behind (before ++ long) lat after (length before + 1 + 10) (length before + 1 + 18) (omega arith) (omega arith),
     )
 
 pub pair_of_texts : (m n : ℕ) (a b : List ℕ) → IsText m a → IsText n b → IsText (m + n) (a ++ b)
@@ -154,16 +204,21 @@ point_place_again before None after g =
     let long_is = two_parts before long lat after (coordinate_text_is_text 9 (pos 0)).len (coordinate_text_is_text 8 (pos 0)).len in
     let P : List ℕ → Type 0 = λ f. IsCoordinateField 999999999 f (pos 0) in
     let Q : List ℕ → Type 0 = λ f. IsCoordinateField 99999999 f (pos 0) in
-    inr (subst P (sym long_is.0) (coordinate_text_spells 9 999999999 (pos 0) (lit< tt) (lit< tt) (lit≤ tt)), subst Q (sym long_is.1) (coordinate_text_spells 8 99999999 (pos 0) (lit< tt) (lit< tt) (lit≤ tt)))
+    inr (
+      subst P (sym long_is.0) (coordinate_text_spells 9 999999999 (pos 0) (lit< tt) (lit< tt) (lit≤ tt)),
+      subst Q (sym long_is.1) (coordinate_text_spells 8 99999999 (pos 0) (lit< tt) (lit< tt) (lit≤ tt)),
+    )
 point_place_again before (Some point) after g =
-    let parts = two_parts before (coordinate_text 9 point.long) (coordinate_text 8 point.lat) after (coordinate_text_is_text 9 point.long).len (coordinate_text_is_text 8 point.lat).len in
+    let parts = two_parts before (coordinate_text 9 point.long) (coordinate_text 8 point.lat) after
+    (coordinate_text_is_text 9 point.long).len (coordinate_text_is_text 8 point.lat).len in
     point_again point _ _ parts.0 parts.1 g
 
 -- the text of a place for a number spells it
 pub number_place_again : IsSpelledAnywhere SpellsNumberPlace number_place_text (IsNumber 8)
 number_place_again before place after g =
     let text = number_text_is_text 8 (unwrap_or place 0) in
-    number_or_none_again 8 place _ (columns_behind before (number_place_text place) after (length before + 1) (length before + 1 + 7) refl (let l = text.len in omega arith)) (number_good place g)
+    number_or_none_again 8 place _ (columns_behind before (number_place_text place) after (length before + 1) (length before + 1 + 7) refl
+    (let l = text.len in omega arith)) (number_good place g)
 
 pub point_place_is_text : (place : Option Coordinates) → IsText 19 (point_place_text place)
 point_place_is_text None = pair_of_texts 10 9 _ _ (coordinate_text_is_text 9 (pos 0)) (coordinate_text_is_text 8 (pos 0))

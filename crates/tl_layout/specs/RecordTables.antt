@@ -2,7 +2,8 @@
 -- Each begins with the record type in column 1 and the version in columns 2 to 5, which the tables leave out; a longitude and
 -- the latitude behind it are one row. Where a turn of the chain exchanges a field with another one, the other's value follows.
 use Rattle.std.specs.Prelude.{ℕ, List, [], ◌∷◌}
-use Rattle.tl_layout.specs.ColumnTable.{Number, NumberOrNone, Pair, PairOrNone, NumberPlaces, PointPlaces, Opaque, Filler, Row, row, row_with_partner}
+use Rattle.tl_layout.specs.ColumnTable.{Number, NumberOrNone, Pair, PairOrNone, NumberPlaces, PointPlaces, Opaque, Filler, Row}
+use Rattle.tl_layout.specs.ColumnTable.{row, row_with_partner}
 use Rattle.tl_layout.specs.Fields.{Fields1, Fields2, Fields4, Fields5, Fields6, Fields7, Fields8, FieldsI, FieldsP}
 
 -- Record type 1, 228 bytes: a chain with its two end points.

@@ -3,6 +3,8 @@ use Rattle.std.specs.Prelude.{ℕ, List, [], ◌∷◌, ◌++◌}
 use Rattle.std.specs.List.{flat_map}
 use Rattle.tl_layout.specs.declared.record_type.Record.{Record}
 use Rattle.tl_layout.specs.declared.record_type.Record.TheVariants.{One, Two, Four, Five, Six, Seven, Eight, I, P}
+use Rattle.tl_layout.specs.RecordTables.{rtype_1, rtype_2, rtype_4, rtype_5, rtype_6, rtype_7, rtype_8, rtype_i, rtype_p}
+use Rattle.tl_layout.specs.RecordTables.{len_1, len_2, len_4, len_5, len_6, len_7, len_8, len_i, len_p}
 use Rattle.tl_layout.specs.Type1.{FitsType1, type_1_spelling}
 use Rattle.tl_layout.specs.Type2.{FitsType2, type_2_spelling}
 use Rattle.tl_layout.specs.Type4.{FitsType4, type_4_spelling}
@@ -15,27 +17,27 @@ use Rattle.tl_layout.specs.TypeP.{FitsTypeP, type_p_spelling}
 
 -- the type of a record, the byte in column 1 of its line
 unfoldable pub type_of : Record → ℕ
-type_of (One _) = 49
-type_of (Two _) = 50
-type_of (Four _) = 52
-type_of (Five _) = 53
-type_of (Six _) = 54
-type_of (Seven _) = 55
-type_of (Eight _) = 56
-type_of (I _) = 73
-type_of (P _) = 80
+type_of (One _) = rtype_1
+type_of (Two _) = rtype_2
+type_of (Four _) = rtype_4
+type_of (Five _) = rtype_5
+type_of (Six _) = rtype_6
+type_of (Seven _) = rtype_7
+type_of (Eight _) = rtype_8
+type_of (I _) = rtype_i
+type_of (P _) = rtype_p
 
 -- the length of a record's line
 unfoldable pub len_of : Record → ℕ
-len_of (One _) = 228
-len_of (Two _) = 208
-len_of (Four _) = 58
-len_of (Five _) = 56
-len_of (Six _) = 76
-len_of (Seven _) = 74
-len_of (Eight _) = 36
-len_of (I _) = 127
-len_of (P _) = 45
+len_of (One _) = len_1
+len_of (Two _) = len_2
+len_of (Four _) = len_4
+len_of (Five _) = len_5
+len_of (Six _) = len_6
+len_of (Seven _) = len_7
+len_of (Eight _) = len_8
+len_of (I _) = len_i
+len_of (P _) = len_p
 
 -- what a record may hold
 unfoldable pub FitsRecord : Record → Type 0

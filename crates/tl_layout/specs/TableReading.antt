@@ -2,7 +2,8 @@
 use Rattle.std.specs.Prelude.{ℕ, ◌+◌, List, [], ◌∷◌, false, Result, Ok}
 use Rattle.tl_layout.specs.Bytes.{columns}
 use Rattle.tl_layout.specs.FieldReading.{◌>>=◌, number_at, number_or_none_at, point_at, point_or_none_at, places_reading}
-use Rattle.tl_layout.specs.ColumnTable.{Kind, Number, NumberOrNone, Pair, PairOrNone, NumberPlaces, PointPlaces, Opaque, Filler, ValueOf, Row}
+use Rattle.tl_layout.specs.ColumnTable.{Kind, Number, NumberOrNone, Pair, PairOrNone, NumberPlaces, PointPlaces, Opaque, Filler}
+use Rattle.tl_layout.specs.ColumnTable.{ValueOf, Row}
 use Rattle.tl_layout.specs.declared.fault.FieldFault.{FieldFault}
 
 -- what makes a record of the values of rows, from the left
@@ -16,7 +17,8 @@ reading_on line first last Number more = number_at first last line >>= more
 reading_on line first last NumberOrNone more = number_or_none_at first last line >>= more
 reading_on line first last Pair more = point_at first line >>= more
 reading_on line first last PairOrNone more = point_or_none_at first line >>= more
-reading_on line first last NumberPlaces more = places_reading (λ column. number_or_none_at column (column + 7) line) 8 false 5 first >>= more
+reading_on line first last NumberPlaces more =
+    places_reading (λ column. number_or_none_at column (column + 7) line) 8 false 5 first >>= more
 reading_on line first last PointPlaces more = places_reading (λ column. point_or_none_at column line) 19 false 10 first >>= more
 reading_on line first last Opaque more = more (columns first last line)
 reading_on line first last Filler more = more tt

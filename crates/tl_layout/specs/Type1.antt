@@ -19,7 +19,10 @@ SpellsType1 line r = SpellsRows table_1 line r
 
 -- the record of the values of the rows
 abbrev pub make_1 : Makes table_1 Fields1
-make_1 tlid side1 source fedirp fename fetype fedirs cfcc fraddl toaddl fraddr toaddr friaddl toiaddl friaddr toiaddr zipl zipr aianhhfpl aianhhfpr aihhtlil aihhtlir census1 census2 statel stater countyl countyr cousubl cousubr submcdl submcdr placel placer tractl tractr blockl blockr start end =
+make_1 tlid side1 source fedirp fename fetype fedirs cfcc
+    fraddl toaddl fraddr toaddr friaddl toiaddl friaddr toiaddr zipl zipr
+    aianhhfpl aianhhfpr aihhtlil aihhtlir census1 census2 statel stater countyl countyr cousubl cousubr submcdl submcdr placel placer
+    tractl tractr blockl blockr start end =
     record {
       tlid = tlid;
       body = record {

@@ -23,7 +23,8 @@ pub type_1_reads_spelling : (r : Fields1) → FitsType1 r → type_1_reading (ty
 unfolding FitsType1 type_1_reading type_1_spelling
 type_1_reads_spelling r f = table_reads_spelling rtype_1 len_1 table_1 make_1 is_table r f
 
-pub type_1_reads_spelled : (line : List ℕ) (r : Fields1) → IsLine rtype_1 len_1 line → type_1_reading line ≡ Ok r → FitsType1 r × SpellsType1 line r
+pub type_1_reads_spelled : (line : List ℕ) (r : Fields1) → IsLine rtype_1 len_1 line → type_1_reading line ≡ Ok r
+    → FitsType1 r × SpellsType1 line r
 unfolding FitsType1 SpellsType1 type_1_reading
 type_1_reads_spelled line r l h = table_reads_spelled rtype_1 len_1 table_1 make_1 is_table line r l h
 
@@ -31,7 +32,8 @@ pub type_1_spelled_is_read : (line : List ℕ) (r : Fields1) → IsLine rtype_1 
 unfolding SpellsType1 type_1_reading
 type_1_spelled_is_read line r l s = table_spelled_is_read rtype_1 len_1 table_1 make_1 is_table line r l s
 
-pub type_1_leftmost : (line : List ℕ) (fault : FieldFault) → IsLine rtype_1 len_1 line → type_1_reading line ≡ Err fault ↔ IsLeftmostFault table_1 line fault
+pub type_1_leftmost : (line : List ℕ) (fault : FieldFault) → IsLine rtype_1 len_1 line
+    → type_1_reading line ≡ Err fault ↔ IsLeftmostFault table_1 line fault
 unfolding type_1_reading
 type_1_leftmost line fault l = (leftmost_found table_1 make_1 line fault, leftmost_only table_1 make_1 line fault)
 
@@ -42,4 +44,115 @@ type_1_reading_is_short line = refl
 -- what fits in groups fits the columns
 pub type_1_fits : (r : Fields1) → IsNumber 10 r.tlid → FitsBody1 r.body → IsOnMap r.start → IsOnMap r.end → FitsType1 r
 unfolding FitsType1
-type_1_fits r tlid f start end = (tlid, (f.side1, (f.source, (f.name.fedirp, (f.name.fename, (f.name.fetype, (f.name.fedirs, (f.cfcc, (f.ranges.fraddl, (f.ranges.toaddl, (f.ranges.fraddr, (f.ranges.toaddr, (f.ranges.friaddl, (f.ranges.toiaddl, (f.ranges.friaddr, (f.ranges.toiaddr, (f.ranges.zip.left, (f.ranges.zip.right, (f.native_areas.aianhhfp.left, (f.native_areas.aianhhfp.right, (f.native_areas.aihhtli.left, (f.native_areas.aihhtli.right, (f.census1, (f.census2, (f.entities.state.left, (f.entities.state.right, (f.entities.county.left, (f.entities.county.right, (f.entities.cousub.left, (f.entities.cousub.right, (f.entities.submcd.left, (f.entities.submcd.right, (f.entities.place.left, (f.entities.place.right, (f.entities.tract.left, (f.entities.tract.right, (f.entities.block.left, (f.entities.block.right, (start, (end, tt))))))))))))))))))))))))))))))))))))))))
+type_1_fits r tlid f start end = (
+  tlid,
+  (
+    f.side1,
+    (
+      f.source,
+      (
+        f.name.fedirp,
+        (
+          f.name.fename,
+          (
+            f.name.fetype,
+            (
+              f.name.fedirs,
+              (
+                f.cfcc,
+                (
+                  f.ranges.fraddl,
+                  (
+                    f.ranges.toaddl,
+                    (
+                      f.ranges.fraddr,
+                      (
+                        f.ranges.toaddr,
+                        (
+                          f.ranges.friaddl,
+                          (
+                            f.ranges.toiaddl,
+                            (
+                              f.ranges.friaddr,
+                              (
+                                f.ranges.toiaddr,
+                                (
+                                  f.ranges.zip.left,
+                                  (
+                                    f.ranges.zip.right,
+                                    (
+                                      f.native_areas.aianhhfp.left,
+                                      (
+                                        f.native_areas.aianhhfp.right,
+                                        (
+                                          f.native_areas.aihhtli.left,
+                                          (
+                                            f.native_areas.aihhtli.right,
+                                            (
+                                              f.census1,
+                                              (
+                                                f.census2,
+                                                (
+                                                  f.entities.state.left,
+                                                  (
+                                                    f.entities.state.right,
+                                                    (
+                                                      f.entities.county.left,
+                                                      (
+                                                        f.entities.county.right,
+                                                        (
+                                                          f.entities.cousub.left,
+                                                          (
+                                                            f.entities.cousub.right,
+                                                            (
+                                                              f.entities.submcd.left,
+                                                              (
+                                                                f.entities.submcd.right,
+                                                                (
+                                                                  f.entities.place.left,
+                                                                  (
+                                                                    f.entities.place.right,
+                                                                    (
+                                                                      f.entities.tract.left,
+                                                                      (
+                                                                        f.entities.tract.right,
+                                                                        (
+                                                                          f.entities.block.left,
+                                                                          (f.entities.block.right, (start, (end, tt))),
+                                                                        ),
+                                                                      ),
+                                                                    ),
+                                                                  ),
+                                                                ),
+                                                              ),
+                                                            ),
+                                                          ),
+                                                        ),
+                                                      ),
+                                                    ),
+                                                  ),
+                                                ),
+                                              ),
+                                            ),
+                                          ),
+                                        ),
+                                      ),
+                                    ),
+                                  ),
+                                ),
+                              ),
+                            ),
+                          ),
+                        ),
+                      ),
+                    ),
+                  ),
+                ),
+              ),
+            ),
+          ),
+        ),
+      ),
+    ),
+  ),
+)

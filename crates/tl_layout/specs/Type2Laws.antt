@@ -20,7 +20,8 @@ pub type_2_reads_spelling : (r : Fields2) → FitsType2 r → type_2_reading (ty
 unfolding FitsType2 type_2_reading type_2_spelling
 type_2_reads_spelling r f = table_reads_spelling rtype_2 len_2 table_2 make_2 is_table r f
 
-pub type_2_reads_spelled : (line : List ℕ) (r : Fields2) → IsLine rtype_2 len_2 line → type_2_reading line ≡ Ok r → FitsType2 r × SpellsType2 line r
+pub type_2_reads_spelled : (line : List ℕ) (r : Fields2) → IsLine rtype_2 len_2 line → type_2_reading line ≡ Ok r
+    → FitsType2 r × SpellsType2 line r
 unfolding FitsType2 SpellsType2 type_2_reading
 type_2_reads_spelled line r l h = table_reads_spelled rtype_2 len_2 table_2 make_2 is_table line r l h
 
@@ -28,6 +29,7 @@ pub type_2_spelled_is_read : (line : List ℕ) (r : Fields2) → IsLine rtype_2 
 unfolding SpellsType2 type_2_reading
 type_2_spelled_is_read line r l s = table_spelled_is_read rtype_2 len_2 table_2 make_2 is_table line r l s
 
-pub type_2_leftmost : (line : List ℕ) (fault : FieldFault) → IsLine rtype_2 len_2 line → type_2_reading line ≡ Err fault ↔ IsLeftmostFault table_2 line fault
+pub type_2_leftmost : (line : List ℕ) (fault : FieldFault) → IsLine rtype_2 len_2 line
+    → type_2_reading line ≡ Err fault ↔ IsLeftmostFault table_2 line fault
 unfolding type_2_reading
 type_2_leftmost line fault l = (leftmost_found table_2 make_2 line fault, leftmost_only table_2 make_2 line fault)

@@ -27,7 +27,8 @@ pub type_4_reads_spelling : (r : Fields4) → FitsType4 r → type_4_reading (ty
 unfolding FitsType4 type_4_reading type_4_spelling
 type_4_reads_spelling r f = table_reads_spelling rtype_4 len_4 table_4 make_4 is_table r f
 
-pub type_4_reads_spelled : (line : List ℕ) (r : Fields4) → IsLine rtype_4 len_4 line → type_4_reading line ≡ Ok r → FitsType4 r × SpellsType4 line r
+pub type_4_reads_spelled : (line : List ℕ) (r : Fields4) → IsLine rtype_4 len_4 line → type_4_reading line ≡ Ok r
+    → FitsType4 r × SpellsType4 line r
 unfolding FitsType4 SpellsType4 type_4_reading
 type_4_reads_spelled line r l h = table_reads_spelled rtype_4 len_4 table_4 make_4 is_table line r l h
 
@@ -35,10 +36,13 @@ pub type_4_spelled_is_read : (line : List ℕ) (r : Fields4) → IsLine rtype_4 
 unfolding SpellsType4 type_4_reading
 type_4_spelled_is_read line r l s = table_spelled_is_read rtype_4 len_4 table_4 make_4 is_table line r l s
 
-pub type_4_leftmost : (line : List ℕ) (fault : FieldFault) → IsLine rtype_4 len_4 line → type_4_reading line ≡ Err fault ↔ IsLeftmostFault table_4 line fault
+pub type_4_leftmost : (line : List ℕ) (fault : FieldFault) → IsLine rtype_4 len_4 line
+    → type_4_reading line ≡ Err fault ↔ IsLeftmostFault table_4 line fault
 unfolding type_4_reading
 type_4_leftmost line fault l = (leftmost_found table_4 make_4 line fault, leftmost_only table_4 make_4 line fault)
 
 -- FEATs that are read are in range
-pub feats_in_range : (line : List ℕ) (feats : List ℕ) → places_reading (λ column. number_or_none_at column (column + 7) line) 8 false 5 19 ≡ Ok feats → AllByRecursion (IsNumber 8) feats
-feats_in_range line feats was = places_each (SpellsNumberPlace line) (IsNumber 8) (number_place_fits line) 8 5 19 feats (value_found line 19 58 NumberPlaces feats was)
+pub feats_in_range : (line : List ℕ) (feats : List ℕ)
+    → places_reading (λ column. number_or_none_at column (column + 7) line) 8 false 5 19 ≡ Ok feats → AllByRecursion (IsNumber 8) feats
+feats_in_range line feats was =
+    places_each (SpellsNumberPlace line) (IsNumber 8) (number_place_fits line) 8 5 19 feats (value_found line 19 58 NumberPlaces feats was)

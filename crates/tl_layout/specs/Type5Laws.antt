@@ -20,7 +20,8 @@ pub type_5_reads_spelling : (r : Fields5) → FitsType5 r → type_5_reading (ty
 unfolding FitsType5 type_5_reading type_5_spelling
 type_5_reads_spelling r f = table_reads_spelling rtype_5 len_5 table_5 make_5 is_table r f
 
-pub type_5_reads_spelled : (line : List ℕ) (r : Fields5) → IsLine rtype_5 len_5 line → type_5_reading line ≡ Ok r → FitsType5 r × SpellsType5 line r
+pub type_5_reads_spelled : (line : List ℕ) (r : Fields5) → IsLine rtype_5 len_5 line → type_5_reading line ≡ Ok r
+    → FitsType5 r × SpellsType5 line r
 unfolding FitsType5 SpellsType5 type_5_reading
 type_5_reads_spelled line r l h = table_reads_spelled rtype_5 len_5 table_5 make_5 is_table line r l h
 
@@ -28,6 +29,7 @@ pub type_5_spelled_is_read : (line : List ℕ) (r : Fields5) → IsLine rtype_5 
 unfolding SpellsType5 type_5_reading
 type_5_spelled_is_read line r l s = table_spelled_is_read rtype_5 len_5 table_5 make_5 is_table line r l s
 
-pub type_5_leftmost : (line : List ℕ) (fault : FieldFault) → IsLine rtype_5 len_5 line → type_5_reading line ≡ Err fault ↔ IsLeftmostFault table_5 line fault
+pub type_5_leftmost : (line : List ℕ) (fault : FieldFault) → IsLine rtype_5 len_5 line
+    → type_5_reading line ≡ Err fault ↔ IsLeftmostFault table_5 line fault
 unfolding type_5_reading
 type_5_leftmost line fault l = (leftmost_found table_5 make_5 line fault, leftmost_only table_5 make_5 line fault)

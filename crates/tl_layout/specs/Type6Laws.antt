@@ -20,7 +20,8 @@ pub type_6_reads_spelling : (r : Fields6) → FitsType6 r → type_6_reading (ty
 unfolding FitsType6 type_6_reading type_6_spelling
 type_6_reads_spelling r f = table_reads_spelling rtype_6 len_6 table_6 make_6 is_table r f
 
-pub type_6_reads_spelled : (line : List ℕ) (r : Fields6) → IsLine rtype_6 len_6 line → type_6_reading line ≡ Ok r → FitsType6 r × SpellsType6 line r
+pub type_6_reads_spelled : (line : List ℕ) (r : Fields6) → IsLine rtype_6 len_6 line → type_6_reading line ≡ Ok r
+    → FitsType6 r × SpellsType6 line r
 unfolding FitsType6 SpellsType6 type_6_reading
 type_6_reads_spelled line r l h = table_reads_spelled rtype_6 len_6 table_6 make_6 is_table line r l h
 
@@ -28,6 +29,7 @@ pub type_6_spelled_is_read : (line : List ℕ) (r : Fields6) → IsLine rtype_6 
 unfolding SpellsType6 type_6_reading
 type_6_spelled_is_read line r l s = table_spelled_is_read rtype_6 len_6 table_6 make_6 is_table line r l s
 
-pub type_6_leftmost : (line : List ℕ) (fault : FieldFault) → IsLine rtype_6 len_6 line → type_6_reading line ≡ Err fault ↔ IsLeftmostFault table_6 line fault
+pub type_6_leftmost : (line : List ℕ) (fault : FieldFault) → IsLine rtype_6 len_6 line
+    → type_6_reading line ≡ Err fault ↔ IsLeftmostFault table_6 line fault
 unfolding type_6_reading
 type_6_leftmost line fault l = (leftmost_found table_6 make_6 line fault, leftmost_only table_6 make_6 line fault)

@@ -20,7 +20,8 @@ pub type_7_reads_spelling : (r : Fields7) → FitsType7 r → type_7_reading (ty
 unfolding FitsType7 type_7_reading type_7_spelling
 type_7_reads_spelling r f = table_reads_spelling rtype_7 len_7 table_7 make_7 is_table r f
 
-pub type_7_reads_spelled : (line : List ℕ) (r : Fields7) → IsLine rtype_7 len_7 line → type_7_reading line ≡ Ok r → FitsType7 r × SpellsType7 line r
+pub type_7_reads_spelled : (line : List ℕ) (r : Fields7) → IsLine rtype_7 len_7 line → type_7_reading line ≡ Ok r
+    → FitsType7 r × SpellsType7 line r
 unfolding FitsType7 SpellsType7 type_7_reading
 type_7_reads_spelled line r l h = table_reads_spelled rtype_7 len_7 table_7 make_7 is_table line r l h
 
@@ -28,6 +29,7 @@ pub type_7_spelled_is_read : (line : List ℕ) (r : Fields7) → IsLine rtype_7 
 unfolding SpellsType7 type_7_reading
 type_7_spelled_is_read line r l s = table_spelled_is_read rtype_7 len_7 table_7 make_7 is_table line r l s
 
-pub type_7_leftmost : (line : List ℕ) (fault : FieldFault) → IsLine rtype_7 len_7 line → type_7_reading line ≡ Err fault ↔ IsLeftmostFault table_7 line fault
+pub type_7_leftmost : (line : List ℕ) (fault : FieldFault) → IsLine rtype_7 len_7 line
+    → type_7_reading line ≡ Err fault ↔ IsLeftmostFault table_7 line fault
 unfolding type_7_reading
 type_7_leftmost line fault l = (leftmost_found table_7 make_7 line fault, leftmost_only table_7 make_7 line fault)

@@ -20,7 +20,8 @@ pub type_8_reads_spelling : (r : Fields8) → FitsType8 r → type_8_reading (ty
 unfolding FitsType8 type_8_reading type_8_spelling
 type_8_reads_spelling r f = table_reads_spelling rtype_8 len_8 table_8 make_8 is_table r f
 
-pub type_8_reads_spelled : (line : List ℕ) (r : Fields8) → IsLine rtype_8 len_8 line → type_8_reading line ≡ Ok r → FitsType8 r × SpellsType8 line r
+pub type_8_reads_spelled : (line : List ℕ) (r : Fields8) → IsLine rtype_8 len_8 line → type_8_reading line ≡ Ok r
+    → FitsType8 r × SpellsType8 line r
 unfolding FitsType8 SpellsType8 type_8_reading
 type_8_reads_spelled line r l h = table_reads_spelled rtype_8 len_8 table_8 make_8 is_table line r l h
 
@@ -28,6 +29,7 @@ pub type_8_spelled_is_read : (line : List ℕ) (r : Fields8) → IsLine rtype_8 
 unfolding SpellsType8 type_8_reading
 type_8_spelled_is_read line r l s = table_spelled_is_read rtype_8 len_8 table_8 make_8 is_table line r l s
 
-pub type_8_leftmost : (line : List ℕ) (fault : FieldFault) → IsLine rtype_8 len_8 line → type_8_reading line ≡ Err fault ↔ IsLeftmostFault table_8 line fault
+pub type_8_leftmost : (line : List ℕ) (fault : FieldFault) → IsLine rtype_8 len_8 line
+    → type_8_reading line ≡ Err fault ↔ IsLeftmostFault table_8 line fault
 unfolding type_8_reading
 type_8_leftmost line fault l = (leftmost_found table_8 make_8 line fault, leftmost_only table_8 make_8 line fault)

@@ -20,7 +20,8 @@ pub type_i_reads_spelling : (r : FieldsI) → FitsTypeI r → type_i_reading (ty
 unfolding FitsTypeI type_i_reading type_i_spelling
 type_i_reads_spelling r f = table_reads_spelling rtype_i len_i table_i make_i is_table r f
 
-pub type_i_reads_spelled : (line : List ℕ) (r : FieldsI) → IsLine rtype_i len_i line → type_i_reading line ≡ Ok r → FitsTypeI r × SpellsTypeI line r
+pub type_i_reads_spelled : (line : List ℕ) (r : FieldsI) → IsLine rtype_i len_i line → type_i_reading line ≡ Ok r
+    → FitsTypeI r × SpellsTypeI line r
 unfolding FitsTypeI SpellsTypeI type_i_reading
 type_i_reads_spelled line r l h = table_reads_spelled rtype_i len_i table_i make_i is_table line r l h
 
@@ -28,6 +29,7 @@ pub type_i_spelled_is_read : (line : List ℕ) (r : FieldsI) → IsLine rtype_i 
 unfolding SpellsTypeI type_i_reading
 type_i_spelled_is_read line r l s = table_spelled_is_read rtype_i len_i table_i make_i is_table line r l s
 
-pub type_i_leftmost : (line : List ℕ) (fault : FieldFault) → IsLine rtype_i len_i line → type_i_reading line ≡ Err fault ↔ IsLeftmostFault table_i line fault
+pub type_i_leftmost : (line : List ℕ) (fault : FieldFault) → IsLine rtype_i len_i line
+    → type_i_reading line ≡ Err fault ↔ IsLeftmostFault table_i line fault
 unfolding type_i_reading
 type_i_leftmost line fault l = (leftmost_found table_i make_i line fault, leftmost_only table_i make_i line fault)

@@ -20,7 +20,8 @@ pub type_p_reads_spelling : (r : FieldsP) → FitsTypeP r → type_p_reading (ty
 unfolding FitsTypeP type_p_reading type_p_spelling
 type_p_reads_spelling r f = table_reads_spelling rtype_p len_p table_p make_p is_table r f
 
-pub type_p_reads_spelled : (line : List ℕ) (r : FieldsP) → IsLine rtype_p len_p line → type_p_reading line ≡ Ok r → FitsTypeP r × SpellsTypeP line r
+pub type_p_reads_spelled : (line : List ℕ) (r : FieldsP) → IsLine rtype_p len_p line → type_p_reading line ≡ Ok r
+    → FitsTypeP r × SpellsTypeP line r
 unfolding FitsTypeP SpellsTypeP type_p_reading
 type_p_reads_spelled line r l h = table_reads_spelled rtype_p len_p table_p make_p is_table line r l h
 
@@ -28,6 +29,7 @@ pub type_p_spelled_is_read : (line : List ℕ) (r : FieldsP) → IsLine rtype_p 
 unfolding SpellsTypeP type_p_reading
 type_p_spelled_is_read line r l s = table_spelled_is_read rtype_p len_p table_p make_p is_table line r l s
 
-pub type_p_leftmost : (line : List ℕ) (fault : FieldFault) → IsLine rtype_p len_p line → type_p_reading line ≡ Err fault ↔ IsLeftmostFault table_p line fault
+pub type_p_leftmost : (line : List ℕ) (fault : FieldFault) → IsLine rtype_p len_p line
+    → type_p_reading line ≡ Err fault ↔ IsLeftmostFault table_p line fault
 unfolding type_p_reading
 type_p_leftmost line fault l = (leftmost_found table_p make_p line fault, leftmost_only table_p make_p line fault)

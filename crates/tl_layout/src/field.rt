@@ -12,6 +12,7 @@ ghost use Rattle.tl_layout.specs.FieldFaults.{bad_point};
 
 use crate::coordinate::{Coordinate, put_coordinate, read_coordinate};
 use crate::fault::{FieldFault, FieldKind};
+use crate::layout::LONGEST_LINE;
 use crate::number::{number, put_number};
 use crate::point::Point;
 use crate::text::Text;
@@ -20,7 +21,7 @@ use crate::text::Text;
 pub fn text_at<const N: usize>(line: &[u8], first: usize, last: usize) -> Text<N>
     requires allowed { AreAllowed line.now }
     requires from_one { 1 ≤ first }
-    requires within { (last ≤ length line.now) × (last ≤ 228) }
+    requires within { (last ≤ length line.now) × (last ≤ LONGEST_LINE) }
     requires width { last + 1 ≡ first + N }
     ensures { result ≡ columns first last line.now }
 {
@@ -32,7 +33,7 @@ pub fn text_at<const N: usize>(line: &[u8], first: usize, last: usize) -> Text<N
 pub fn read_number(line: &[u8], first: usize, last: usize) -> Result<u64, FieldFault>
     requires from_one { 1 ≤ first }
     requires ordered { first ≤ last }
-    requires within { (last ≤ length line.now) × (last ≤ 228) }
+    requires within { (last ≤ length line.now) × (last ≤ LONGEST_LINE) }
     requires short { last < first + 19 }
     ensures value { result ≡ number_at first last line.now }
     ensures in_range { IfOk result (IsNumber (last + 1 - first)) }
@@ -55,7 +56,7 @@ pub fn read_number_or_none(
 ) -> Result<Option<u64>, FieldFault>
     requires from_one { 1 ≤ first }
     requires ordered { first ≤ last }
-    requires within { (last ≤ length line.now) × (last ≤ 228) }
+    requires within { (last ≤ length line.now) × (last ≤ LONGEST_LINE) }
     requires short { last < first + 19 }
     ensures value { result ≡ number_or_none_at first last line.now }
     ensures in_range { IfOk result (IsNumberOrNone (last + 1 - first)) }
@@ -72,7 +73,7 @@ pub fn read_number_or_none(
 
 /// That a point is bad, told at this column.
 fn bad_point(column: usize) -> FieldFault
-    requires { column ≤ 228 }
+    requires { column ≤ LONGEST_LINE }
     ensures { result ≡ bad_point column }
 {
     FieldFault {
@@ -83,7 +84,7 @@ fn bad_point(column: usize) -> FieldFault
 
 /// That a used place stands after an unused one, told at this column.
 pub fn gap(column: usize) -> FieldFault
-    requires { column ≤ 228 }
+    requires { column ≤ LONGEST_LINE }
     ensures { result ≡ gap column }
 {
     FieldFault {
@@ -96,7 +97,7 @@ pub fn gap(column: usize) -> FieldFault
 #[tactic(auto, using(crate::specs::CoordinateLaws::coordinate_read_within), unfolding(crate::specs::FieldReading::point_or_none_at, crate::specs::FieldReading::point_or_none))]
 pub fn read_point_or_none(line: &[u8], column: usize) -> Result<Option<Point>, FieldFault>
     requires from_one { 1 ≤ column }
-    requires within { (column + 18 ≤ length line.now) × (column ≤ 210) }
+    requires within { (column + 18 ≤ length line.now) × (column + 18 ≤ LONGEST_LINE) }
     ensures { result ≡ point_or_none_at column line.now }
 {
     let long = read_coordinate(&line[column - 1..column + 9], 999_999_999);
@@ -115,7 +116,7 @@ pub fn read_point_or_none(line: &[u8], column: usize) -> Result<Option<Point>, F
 #[tactic(auto, unfolding(crate::specs::FieldReading::point_at, crate::specs::FieldReading::and_then))]
 pub fn read_point(line: &[u8], column: usize) -> Result<Point, FieldFault>
     requires from_one { 1 ≤ column }
-    requires within { (column + 18 ≤ length line.now) × (column ≤ 210) }
+    requires within { (column + 18 ≤ length line.now) × (column + 18 ≤ LONGEST_LINE) }
     ensures { result ≡ point_at column line.now }
 {
     match read_point_or_none(line, column)? {

@@ -3,8 +3,12 @@
 ghost use Rattle.std.specs.Prelude.{◌≡◌, ◌↔◌, ◌≤◌, ◌<◌, ℕ, List, Result, Ok, Err, length, IfOk, IfErr, IsOk};
 ghost use Rattle.tl_layout.specs.Bytes.{IsLine};
 ghost use Rattle.tl_layout.specs.declared.fault.FieldFault.{FieldFault};
+ghost use Rattle.tl_layout.specs.declared.layout.TheConstants.{LONGEST_LINE};
 
 use crate::fault::FieldFault;
+
+/// Length of the longest full line, in bytes: that of record type 1.
+pub const LONGEST_LINE: usize = 228;
 
 /// A record type: how a line spells its records, and the one canonical spelling of each.
 pub trait Layout: Sized {
@@ -47,8 +51,8 @@ pub trait Layout: Sized {
         ensures spelling { out.new ≡ spelling self.now }
         ensures fits { Fits self.now };
 
-    /// No line is longer than 228 bytes, and none is empty.
-    ghost bounded: { (1 ≤ LEN) × (LEN ≤ 228) };
+    /// No line is longer than the longest one, and none is empty.
+    ghost bounded: { (1 ≤ LEN) × (LEN ≤ LONGEST_LINE) };
 
     /// The canonical spelling is a full line.
     ghost spelling_is_line: { (r : Self) → Fits r → IsLine RTYPE LEN (spelling r) };

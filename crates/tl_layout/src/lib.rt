@@ -31,7 +31,7 @@ mod writing;
 
 pub use fault::{DeviceFault, FieldFault, FieldKind};
 pub use laws::a_turn_exchanges_partners;
-pub use layout::Layout;
+pub use layout::{LONGEST_LINE, Layout};
 pub use name::FeatureName;
 pub use pair::LeftRight;
 pub use point::Point;

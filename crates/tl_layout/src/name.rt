@@ -5,6 +5,7 @@ ghost use Rattle.tl_layout.specs.Bytes.{AreAllowed};
 ghost use Rattle.tl_layout.specs.Columns.{joined};
 
 use crate::field::text_at;
+use crate::layout::LONGEST_LINE;
 use crate::text::Text;
 use crate::writing::write_text;
 
@@ -49,7 +50,7 @@ impl FeatureName {
     pub(crate) fn at(line: &[u8], first: usize) -> FeatureName
         requires allowed { AreAllowed line.now }
         requires from_one { 1 ≤ first }
-        requires within { (first + 37 ≤ length line.now) × (first ≤ 191) }
+        requires within { (first + 37 ≤ length line.now) × (first + 37 ≤ LONGEST_LINE) }
         ensures { result ≡ name_at first line.now }
     {
         FeatureName {
@@ -63,7 +64,7 @@ impl FeatureName {
     /// Writes the name from this column on.
     pub(crate) fn put(&self, out: &mut [u8], first: usize)
         requires from_one { 1 ≤ first }
-        requires within { (first + 37 ≤ length out.old) × (first ≤ 191) }
+        requires within { (first + 37 ≤ length out.old) × (first + 37 ≤ LONGEST_LINE) }
         ensures written { take (first + 37) out.new ≡ joined (take (first - 1) out.old) (name_texts self.now) }
         ensures fits { FitsName self.now }
     {

@@ -5,6 +5,7 @@ ghost use Rattle.tl_layout.specs.Bytes.{AreAllowed};
 ghost use Rattle.tl_layout.specs.Columns.{joined};
 
 use crate::field::text_at;
+use crate::layout::LONGEST_LINE;
 use crate::text::Text;
 use crate::writing::write_text;
 
@@ -34,7 +35,7 @@ impl<const N: usize> LeftRight<N> {
     pub(crate) fn at(line: &[u8], first: usize) -> LeftRight<N>
         requires allowed { AreAllowed line.now }
         requires from_one { 1 ≤ first }
-        requires within { (first + 2 * N ≤ length line.now + 1) × (first + 2 * N ≤ 229) }
+        requires within { (first + 2 * N ≤ length line.now + 1) × (first + 2 * N ≤ LONGEST_LINE + 1) }
         ensures { result ≡ pair_at N first line.now }
     {
         LeftRight {
@@ -46,7 +47,7 @@ impl<const N: usize> LeftRight<N> {
     /// Writes the pair from this column on.
     pub(crate) fn put(&self, out: &mut [u8], first: usize)
         requires from_one { 1 ≤ first }
-        requires within { (first + 2 * N ≤ length out.old + 1) × (first + 2 * N ≤ 229) }
+        requires within { (first + 2 * N ≤ length out.old + 1) × (first + 2 * N ≤ LONGEST_LINE + 1) }
         ensures written { take (first + 2 * N - 1) out.new ≡ joined (take (first - 1) out.old) (pair_texts N self.now) }
         ensures fits { FitsPair N self.now }
     {

@@ -2,7 +2,7 @@
 
 ghost use Rattle.std.specs.Prelude.{◌≡◌, ◌≤◌, ◌<◌, length};
 
-use crate::layout::Layout;
+use crate::layout::{LONGEST_LINE, Layout};
 use crate::type_i::RecI;
 use crate::type_p::RecP;
 use crate::type1::Rec1;
@@ -65,7 +65,7 @@ impl Record {
     #[tactic(auto, unfolding(crate::specs::RecordText::len_of))]
     pub fn line_len(&self) -> usize
         ensures value { result ≡ len_of self.now }
-        ensures bound { result ≤ 228 }
+        ensures bound { result ≤ LONGEST_LINE }
     {
         match self {
             Record::One(_) => Rec1::LEN,

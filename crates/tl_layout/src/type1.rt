@@ -1,6 +1,7 @@
 //! Record type 1: a chain's basic data.
 
 ghost use Rattle.std.specs.Prelude.{◌≡◌, ◌≤◌, length, take};
+ghost use Rattle.tl_layout.specs.RecordTables.{len_1};
 ghost use Rattle.tl_layout.specs.Bytes.{AreAllowed, IsText};
 ghost use Rattle.tl_layout.specs.Columns.{joined};
 ghost use Rattle.tl_layout.specs.Numbers.{IsNumber};
@@ -477,7 +478,7 @@ impl GeographicEntities {
 
     /// The geographic entities in the columns of a full line.
     fn at(line: &[u8]) -> GeographicEntities
-        requires { IsText 228 line.now }
+        requires { IsText len_1 line.now }
         ensures { result ≡ entities_at line.now }
     {
         GeographicEntities {
@@ -512,7 +513,7 @@ impl Body1 {
 
     /// The content in the columns of a full line.
     fn at(line: &[u8]) -> Body1
-        requires { IsText 228 line.now }
+        requires { IsText len_1 line.now }
         ensures { result ≡ body_1_at line.now }
     {
         Body1 {
@@ -598,7 +599,7 @@ impl Rec1 {
     /// What a full line is read as.
     #[tactic(auto, unfolding(crate::specs::Type1::type_1_short_reading, crate::specs::FieldReading::and_then))]
     fn read(line: &[u8]) -> Result<Rec1, FieldFault>
-        requires { IsText 228 line.now }
+        requires { IsText len_1 line.now }
         ensures { result ≡ type_1_short_reading line.now }
     {
         let tlid = read_number(line, 6, 15)?;
@@ -612,7 +613,7 @@ impl Layout for Rec1 {
     ghost use Rattle.std.specs.Prelude.{ℕ, List};
     ghost use Rattle.std.proofs.Common.{lit≤};
     ghost use Rattle.tl_layout.specs.FieldFaults.{IsLeftmostFault};
-    ghost use Rattle.tl_layout.specs.RecordTables.{rtype_1, len_1, table_1};
+    ghost use Rattle.tl_layout.specs.RecordTables.{rtype_1, table_1};
     ghost use Rattle.tl_layout.specs.Type1.{FitsType1, SpellsType1, type_1_reading, type_1_spelling};
     ghost use Rattle.tl_layout.specs.Type1Laws.{type_1_spelling_is_line, type_1_reads_spelling, type_1_reads_spelled, type_1_spelled_is_read, type_1_leftmost};
 

@@ -2,6 +2,7 @@
 
 ghost use Rattle.std.specs.Prelude.{◌≡◌, ◌≤◌, ◌++◌, length, take, false};
 ghost use Rattle.std.specs.List.{AllByRecursion};
+ghost use Rattle.tl_layout.specs.RecordTables.{len_2};
 ghost use Rattle.tl_layout.specs.Bytes.{IsText};
 ghost use Rattle.tl_layout.specs.Coordinates.{IsOnMap};
 ghost use Rattle.tl_layout.specs.Numbers.{IsNumber};
@@ -40,7 +41,7 @@ impl Model for Rec2 {
 
 /// The points in the ten places of a full line.
 fn read_points(line: &[u8]) -> Result<ArrayVec<Point, 10>, FieldFault>
-    requires { IsText 208 line.now }
+    requires { IsText len_2 line.now }
     ensures { Gives (λ points. points.items) result (places_reading (λ column. point_or_none_at column line.now) 19 false 10 19) }
 {
     let mut points = ArrayVec::new();
@@ -103,7 +104,7 @@ impl Rec2 {
     /// What a full line is read as.
     #[tactic(auto, unfolding(crate::specs::Type2::type_2_reading, crate::specs::FieldReading::and_then))]
     fn read(line: &[u8]) -> Result<Rec2, FieldFault>
-        requires { IsText 208 line.now }
+        requires { IsText len_2 line.now }
         ensures { result ≡ type_2_reading line.now }
     {
         let tlid = read_number(line, 6, 15)?;
@@ -117,7 +118,7 @@ impl Layout for Rec2 {
     ghost use Rattle.std.specs.Prelude.{ℕ, List};
     ghost use Rattle.std.proofs.Common.{lit≤};
     ghost use Rattle.tl_layout.specs.FieldFaults.{IsLeftmostFault};
-    ghost use Rattle.tl_layout.specs.RecordTables.{rtype_2, len_2, table_2};
+    ghost use Rattle.tl_layout.specs.RecordTables.{rtype_2, table_2};
     ghost use Rattle.tl_layout.specs.Type2.{FitsType2, SpellsType2, type_2_reading, type_2_spelling};
     ghost use Rattle.tl_layout.specs.Type2Laws.{type_2_spelling_is_line, type_2_reads_spelling, type_2_reads_spelled, type_2_spelled_is_read, type_2_leftmost};
 

@@ -2,6 +2,7 @@
 
 ghost use Rattle.std.specs.Prelude.{◌≡◌, ◌+◌, ◌≤◌, length, false};
 ghost use Rattle.std.specs.List.{AllByRecursion};
+ghost use Rattle.tl_layout.specs.RecordTables.{len_4};
 ghost use Rattle.tl_layout.specs.Bytes.{IsText};
 ghost use Rattle.tl_layout.specs.Numbers.{IsNumber};
 ghost use Rattle.tl_layout.specs.FieldReading.{Gives, number_or_none_at};
@@ -37,7 +38,7 @@ impl Model for Rec4 {
 
 /// The FEATs in the five places of a full line.
 fn read_feats(line: &[u8]) -> Result<ArrayVec<u32, 5>, FieldFault>
-    requires { IsText 58 line.now }
+    requires { IsText len_4 line.now }
     ensures { Gives (λ feats. feats.items) result (places_reading (λ column. number_or_none_at column (column + 7) line.now) 8 false 5 19) }
 {
     let mut feats = ArrayVec::new();
@@ -102,7 +103,7 @@ impl Rec4 {
     /// What a full line is read as.
     #[tactic(auto, unfolding(crate::specs::Type4::type_4_reading, crate::specs::FieldReading::and_then))]
     fn read(line: &[u8]) -> Result<Rec4, FieldFault>
-        requires { IsText 58 line.now }
+        requires { IsText len_4 line.now }
         ensures { result ≡ type_4_reading line.now }
     {
         let tlid = read_number(line, 6, 15)?;
@@ -116,7 +117,7 @@ impl Layout for Rec4 {
     ghost use Rattle.std.specs.Prelude.{ℕ, List};
     ghost use Rattle.std.proofs.Common.{lit≤};
     ghost use Rattle.tl_layout.specs.FieldFaults.{IsLeftmostFault};
-    ghost use Rattle.tl_layout.specs.RecordTables.{rtype_4, len_4, table_4};
+    ghost use Rattle.tl_layout.specs.RecordTables.{rtype_4, table_4};
     ghost use Rattle.tl_layout.specs.Type4.{FitsType4, SpellsType4, type_4_reading, type_4_spelling};
     ghost use Rattle.tl_layout.specs.Type4Laws.{type_4_spelling_is_line, type_4_reads_spelling, type_4_reads_spelled, type_4_spelled_is_read, type_4_leftmost};
 

@@ -1,6 +1,7 @@
 //! Record type 5: the name of a feature.
 
 ghost use Rattle.std.specs.Prelude.{◌≡◌};
+ghost use Rattle.tl_layout.specs.RecordTables.{len_5};
 ghost use Rattle.tl_layout.specs.Bytes.{AreAllowed, IsText};
 ghost use Rattle.tl_layout.specs.Numbers.{IsNumber};
 
@@ -137,7 +138,7 @@ impl Rec5 {
     /// What a full line is read as.
     #[tactic(auto, unfolding(crate::specs::Type5::type_5_reading, crate::specs::FieldReading::and_then))]
     fn read(line: &[u8]) -> Result<Rec5, FieldFault>
-        requires { IsText 56 line.now }
+        requires { IsText len_5 line.now }
         ensures { result ≡ type_5_reading line.now }
     {
         let feat = read_number(line, 11, 18)?;
@@ -153,7 +154,7 @@ impl Layout for Rec5 {
     ghost use Rattle.std.specs.Prelude.{ℕ, List};
     ghost use Rattle.std.proofs.Common.{lit≤};
     ghost use Rattle.tl_layout.specs.FieldFaults.{IsLeftmostFault};
-    ghost use Rattle.tl_layout.specs.RecordTables.{rtype_5, len_5, table_5};
+    ghost use Rattle.tl_layout.specs.RecordTables.{rtype_5, table_5};
     ghost use Rattle.tl_layout.specs.Type5.{FitsType5, SpellsType5, type_5_reading, type_5_spelling};
     ghost use Rattle.tl_layout.specs.Type5Laws.{type_5_spelling_is_line, type_5_reads_spelling, type_5_reads_spelled, type_5_spelled_is_read, type_5_leftmost};
 

@@ -1,6 +1,7 @@
 //! Record type 6: further address ranges of a chain.
 
 ghost use Rattle.std.specs.Prelude.{◌≡◌};
+ghost use Rattle.tl_layout.specs.RecordTables.{len_6};
 ghost use Rattle.tl_layout.specs.Bytes.{IsText};
 ghost use Rattle.tl_layout.specs.Numbers.{IsNumber};
 
@@ -70,7 +71,7 @@ impl Rec6 {
     /// What a full line is read as.
     #[tactic(auto, unfolding(crate::specs::Type6::type_6_reading, crate::specs::FieldReading::and_then))]
     fn read(line: &[u8]) -> Result<Rec6, FieldFault>
-        requires { IsText 76 line.now }
+        requires { IsText len_6 line.now }
         ensures { result ≡ type_6_reading line.now }
     {
         let tlid = read_number(line, 6, 15)?;
@@ -83,7 +84,7 @@ impl Layout for Rec6 {
     ghost use Rattle.std.specs.Prelude.{ℕ, List};
     ghost use Rattle.std.proofs.Common.{lit≤};
     ghost use Rattle.tl_layout.specs.FieldFaults.{IsLeftmostFault};
-    ghost use Rattle.tl_layout.specs.RecordTables.{rtype_6, len_6, table_6};
+    ghost use Rattle.tl_layout.specs.RecordTables.{rtype_6, table_6};
     ghost use Rattle.tl_layout.specs.Type6.{FitsType6, SpellsType6, type_6_reading, type_6_spelling};
     ghost use Rattle.tl_layout.specs.Type6Laws.{type_6_spelling_is_line, type_6_reads_spelling, type_6_reads_spelled, type_6_spelled_is_read, type_6_leftmost};
 

@@ -1,6 +1,7 @@
 //! Record type 7: a landmark.
 
 ghost use Rattle.std.specs.Prelude.{◌≡◌};
+ghost use Rattle.tl_layout.specs.RecordTables.{len_7};
 ghost use Rattle.tl_layout.specs.Bytes.{AreAllowed, IsText};
 ghost use Rattle.tl_layout.specs.Numbers.{IsNumber};
 
@@ -141,7 +142,7 @@ impl Rec7 {
     /// What a full line is read as.
     #[tactic(auto, unfolding(crate::specs::Type7::type_7_reading, crate::specs::FieldReading::and_then))]
     fn read(line: &[u8]) -> Result<Rec7, FieldFault>
-        requires { IsText 74 line.now }
+        requires { IsText len_7 line.now }
         ensures { result ≡ type_7_reading line.now }
     {
         let land = read_number(line, 11, 20)?;
@@ -161,7 +162,7 @@ impl Layout for Rec7 {
     ghost use Rattle.std.specs.Prelude.{ℕ, List};
     ghost use Rattle.std.proofs.Common.{lit≤};
     ghost use Rattle.tl_layout.specs.FieldFaults.{IsLeftmostFault};
-    ghost use Rattle.tl_layout.specs.RecordTables.{rtype_7, len_7, table_7};
+    ghost use Rattle.tl_layout.specs.RecordTables.{rtype_7, table_7};
     ghost use Rattle.tl_layout.specs.Type7.{FitsType7, SpellsType7, type_7_reading, type_7_spelling};
     ghost use Rattle.tl_layout.specs.Type7Laws.{type_7_spelling_is_line, type_7_reads_spelling, type_7_reads_spelled, type_7_spelled_is_read, type_7_leftmost};
 

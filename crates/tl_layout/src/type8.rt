@@ -1,6 +1,7 @@
 //! Record type 8: a polygon of a landmark.
 
 ghost use Rattle.std.specs.Prelude.{◌≡◌};
+ghost use Rattle.tl_layout.specs.RecordTables.{len_8};
 ghost use Rattle.tl_layout.specs.Bytes.{AreAllowed, IsText};
 ghost use Rattle.tl_layout.specs.Numbers.{IsNumber};
 
@@ -87,7 +88,7 @@ impl Rec8 {
     /// What a full line is read as.
     #[tactic(auto, unfolding(crate::specs::Type8::type_8_reading, crate::specs::FieldReading::and_then))]
     fn read(line: &[u8]) -> Result<Rec8, FieldFault>
-        requires { IsText 36 line.now }
+        requires { IsText len_8 line.now }
         ensures { result ≡ type_8_reading line.now }
     {
         let polyid = read_number(line, 16, 25)?;
@@ -105,7 +106,7 @@ impl Layout for Rec8 {
     ghost use Rattle.std.specs.Prelude.{ℕ, List};
     ghost use Rattle.std.proofs.Common.{lit≤};
     ghost use Rattle.tl_layout.specs.FieldFaults.{IsLeftmostFault};
-    ghost use Rattle.tl_layout.specs.RecordTables.{rtype_8, len_8, table_8};
+    ghost use Rattle.tl_layout.specs.RecordTables.{rtype_8, table_8};
     ghost use Rattle.tl_layout.specs.Type8.{FitsType8, SpellsType8, type_8_reading, type_8_spelling};
     ghost use Rattle.tl_layout.specs.Type8Laws.{type_8_spelling_is_line, type_8_reads_spelling, type_8_reads_spelled, type_8_spelled_is_read, type_8_leftmost};
 

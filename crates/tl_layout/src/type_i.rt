@@ -1,6 +1,7 @@
 //! Record type I: the nodes of a chain and the polygons beside it.
 
 ghost use Rattle.std.specs.Prelude.{◌≡◌, ◌≤◌, ◌<◌, ℕ, List, Option, Result, Ok, Err, length};
+ghost use Rattle.tl_layout.specs.RecordTables.{len_i};
 ghost use Rattle.tl_layout.specs.Bytes.{IsLine};
 ghost use Rattle.tl_layout.specs.Numbers.{IsNumber, IsNumberOrNone};
 ghost use Rattle.tl_layout.specs.Bytes.{AreAllowed, IsText};
@@ -141,7 +142,7 @@ impl BodyI {
 
     /// The content in the columns of a full line.
     fn at(line: &[u8]) -> BodyI
-        requires { IsText 127 line.now }
+        requires { IsText len_i line.now }
         ensures { result ≡ body_i_at line.now }
     {
         BodyI {
@@ -227,7 +228,7 @@ impl RecI {
     /// What a full line is read as.
     #[tactic(auto, unfolding(crate::specs::TypeI::type_i_reading, crate::specs::FieldReading::and_then))]
     fn read(line: &[u8]) -> Result<RecI, FieldFault>
-        requires { IsText 127 line.now }
+        requires { IsText len_i line.now }
         ensures { result ≡ type_i_reading line.now }
     {
         let tlid = read_number(line, 11, 20)?;
@@ -244,7 +245,7 @@ impl RecI {
 impl Layout for RecI {
     ghost use Rattle.std.specs.Prelude.{ℕ, List};
     ghost use Rattle.tl_layout.specs.FieldFaults.{IsLeftmostFault};
-    ghost use Rattle.tl_layout.specs.RecordTables.{rtype_i, len_i, table_i};
+    ghost use Rattle.tl_layout.specs.RecordTables.{rtype_i, table_i};
     ghost use Rattle.tl_layout.specs.TypeI.{FitsTypeI, SpellsTypeI, type_i_reading, type_i_spelling};
     ghost use Rattle.tl_layout.specs.TypeILaws.{type_i_spelling_is_line, type_i_reads_spelling, type_i_reads_spelled, type_i_spelled_is_read, type_i_leftmost};
     ghost use Rattle.std.proofs.Common.{lit≤};

@@ -1,6 +1,7 @@
 //! Record type P: a polygon's inner point.
 
 ghost use Rattle.std.specs.Prelude.{◌≡◌};
+ghost use Rattle.tl_layout.specs.RecordTables.{len_p};
 ghost use Rattle.tl_layout.specs.Bytes.{AreAllowed, IsText};
 ghost use Rattle.tl_layout.specs.Numbers.{IsNumber};
 
@@ -124,7 +125,7 @@ impl RecP {
     /// What a full line is read as.
     #[tactic(auto, unfolding(crate::specs::TypeP::type_p_reading, crate::specs::FieldReading::and_then))]
     fn read(line: &[u8]) -> Result<RecP, FieldFault>
-        requires { IsText 45 line.now }
+        requires { IsText len_p line.now }
         ensures { result ≡ type_p_reading line.now }
     {
         let polyid = read_number(line, 16, 25)?;
@@ -146,7 +147,7 @@ impl Layout for RecP {
     ghost use Rattle.std.specs.Prelude.{ℕ, List};
     ghost use Rattle.std.proofs.Common.{lit≤};
     ghost use Rattle.tl_layout.specs.FieldFaults.{IsLeftmostFault};
-    ghost use Rattle.tl_layout.specs.RecordTables.{rtype_p, len_p, table_p};
+    ghost use Rattle.tl_layout.specs.RecordTables.{rtype_p, table_p};
     ghost use Rattle.tl_layout.specs.TypeP.{FitsTypeP, SpellsTypeP, type_p_reading, type_p_spelling};
     ghost use Rattle.tl_layout.specs.TypePLaws.{type_p_spelling_is_line, type_p_reads_spelling, type_p_reads_spelled, type_p_spelled_is_read, type_p_leftmost};
 

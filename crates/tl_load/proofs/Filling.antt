@@ -1,5 +1,6 @@
 -- A line that is filled with blanks.
-use Rattle.std.proofs.Common.{◌≡◌, ℕ, ◌+◌, ◌-◌, ◌≤◌, Bool, true, false, cond, List, [], ◌∷◌, ◌++◌, length, get_or, take, replicate, Option, Some, None, refl, ap, ◌∙◌, append-nil, arith, ltb}
+use Rattle.std.proofs.Common.{◌≡◌, ℕ, ◌+◌, ◌-◌, ◌≤◌, Bool, true, false, cond, List, [], ◌∷◌, ◌++◌, length, get_or, take}
+use Rattle.std.proofs.Common.{replicate, Option, Some, None, refl, ap, ◌∙◌, append-nil, arith, ltb}
 use Rattle.std.specs.Prelude.{not, position}
 use Rattle.std.proofs.lemmas.Bool.{ltb-false, not-false}
 use Rattle.std.proofs.lemmas.List.{length-append, length-replicate, take-replicate}
@@ -20,7 +21,8 @@ filled_full len line e =
     ap (λ (k : ℕ). line ++ replicate k 32) none ∙ append-nil line
 
 pub length_filled : (len : ℕ) (line : List ℕ) → length line ≤ len → length (filled len line) ≡ len
-length_filled len line short = omega (arith, length-append line (replicate (len - length line) 32), length-replicate {A = ℕ} (len - length line) 32)
+length_filled len line short =
+    omega (arith, length-append line (replicate (len - length line) 32), length-replicate {A = ℕ} (len - length line) 32)
 
 pub begins_filled : (rtype len : ℕ) (line : List ℕ) → take 1 line ≡ rtype ∷ [] → take 1 (filled len line) ≡ rtype ∷ []
 begins_filled rtype len [] e = absurd cc
@@ -40,5 +42,6 @@ allowed_by line e k d lt =
     let le = ltb-false _ _ (none_from (first_bad line) (length line) e) in
     not-false (is_allowed (get_or line k d)) (fails_before_first (λ b. not (is_allowed b)) line k d (omega arith))
 
-pub is_line_by : (rtype len : ℕ) (line : List ℕ) → take 1 line ≡ rtype ∷ [] → length line ≡ len → None ≡ position (λ b. not (is_allowed b)) line → IsLine rtype len line
+pub is_line_by : (rtype len : ℕ) (line : List ℕ) → take 1 line ≡ rtype ∷ [] → length line ≡ len
+    → None ≡ position (λ b. not (is_allowed b)) line → IsLine rtype len line
 is_line_by rtype len line begins full e = record { begins = begins; text = record { len = full; allowed = allowed_by line e } }

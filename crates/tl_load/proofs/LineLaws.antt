@@ -1,5 +1,6 @@
 -- What a line is judged as, and the record that it spells, are one.
-use Rattle.std.proofs.Common.{◌≡◌, ℕ, ◌+◌, ◌≤◌, Bool, true, false, cond, List, [], ◌∷◌, length, get_or, take, Result, Ok, Err, refl, ap, ◌∙◌, arith, ltb}
+use Rattle.std.proofs.Common.{◌≡◌, ℕ, ◌+◌, ◌≤◌, Bool, true, false, cond, List, [], ◌∷◌, length, get_or, take, Result, Ok, Err}
+use Rattle.std.proofs.Common.{refl, ap, ◌∙◌, arith, ltb}
 use Rattle.std.specs.Prelude.{not}
 use Rattle.std.proofs.Common.{◌<◌, subst, ◌↔◌}
 use Rattle.std.proofs.lemmas.Bool.{ltb-true, ltb-false, lt-ltb, le-ltb, not_from_true, not-false, not-true}
@@ -18,7 +19,8 @@ pub record Reading {R : Type 0} (rtype len : ℕ) (reading : List ℕ → Result
 
 -- what a layout promises of its reading and of what is told of a faulty line
 abbrev pub TellsFaults : {R : Type 0} → ℕ → ℕ → (List ℕ → Result R FieldFault) → (List ℕ → FieldFault → Type 0) → Type 0
-TellsFaults rtype len reading IsFault = (line : List ℕ) (fault : FieldFault) → IsLine rtype len line → (reading line ≡ Err fault ↔ IsFault line fault)
+TellsFaults rtype len reading IsFault = (line : List ℕ) (fault : FieldFault) → IsLine rtype len line
+    → (reading line ≡ Err fault ↔ IsFault line fault)
 
 chosen : {A : Type 0} (b : Bool) (x : LineFault) (y : Result A LineFault) (r : A) → cond b (Err x) y ≡ Ok r → (b ≡ false) × (y ≡ Ok r)
 chosen true x y r e = absurd cc
@@ -37,31 +39,47 @@ none_bad line e k d lt =
 pub bad_none : (line : List ℕ) → AreAllowed line → ltb (first_bad line) (length line) ≡ false
 unfolding AreAllowed
 bad_none line h =
-    let at_end = position_or_len_is (λ b. not (is_allowed b)) line (length line) 0 (omega arith) (λ k lt. not_from_true _ (h k 0 lt)) (λ lt. absurd (omega arith)) in
+    let at_end = position_or_len_is (λ b. not (is_allowed b)) line (length line) 0 (omega arith) (λ k lt. not_from_true _ (h k 0 lt))
+    (λ lt. absurd (omega arith)) in
     le-ltb _ _ (omega arith)
 
-full_line : (rtype len : ℕ) (line : List ℕ) → take 1 line ≡ rtype ∷ [] → length line ≤ len → AreAllowed (filled len line) → IsLine rtype len (filled len line)
-full_line rtype len line begins short allowed = record { begins = begins_filled rtype len line begins; text = record { len = length_filled len line short; allowed = allowed } }
+full_line : (rtype len : ℕ) (line : List ℕ) → take 1 line ≡ rtype ∷ [] → length line ≤ len → AreAllowed (filled len line)
+    → IsLine rtype len (filled len line)
+full_line rtype len line begins short allowed =
+    record { begins = begins_filled rtype len line begins; text = record { len = length_filled len line short; allowed = allowed } }
 
-pub judged_is_line : {R : Type 0} (rtype len : ℕ) (reading : List ℕ → Result R FieldFault) (Spells : List ℕ → R → Type 0) → Reading rtype len reading Spells → (line : List ℕ) (r : R) → take 1 line ≡ rtype ∷ [] → judged_as len reading line ≡ Ok r → IsLineOf rtype len Spells line r
+pub judged_is_line : {R : Type 0} (rtype len : ℕ) (reading : List ℕ → Result R FieldFault) (Spells : List ℕ → R → Type 0)
+    → Reading rtype len reading Spells → (line : List ℕ) (r : R) → take 1 line ≡ rtype ∷ [] → judged_as len reading line ≡ Ok r
+    → IsLineOf rtype len Spells line r
 unfolding judged_as judged_full
 judged_is_line rtype len reading Spells laws line r begins e =
     let a = chosen (ltb len (length line)) line_faults.LineTooLong (judged_full reading (filled len line)) r e in
-    let b = chosen (ltb (first_bad (filled len line)) (length (filled len line))) (line_faults.BadByte (first_bad (filled len line) + 1)) (of_reading (reading (filled len line))) r a.1 in
+    let b = chosen (ltb (first_bad (filled len line)) (length (filled len line))) (line_faults.BadByte (first_bad (filled len line) + 1))
+    (of_reading (reading (filled len line))) r a.1 in
     let short : length line ≤ len = ltb-false _ _ a.0 in
     let allowed = none_bad (filled len line) b.0 in
-    record { begins = begins; short = short; allowed = allowed; spells = laws.found (filled len line) r (full_line rtype len line begins short allowed) (was_read _ r b.1) }
+    record {
+      begins = begins;
+      short = short;
+      allowed = allowed;
+      spells =
+          laws.found (filled len line) r (full_line rtype len line begins short allowed) (was_read _ r b.1);
+    }
 
-pub line_is_judged : {R : Type 0} (rtype len : ℕ) (reading : List ℕ → Result R FieldFault) (Spells : List ℕ → R → Type 0) → Reading rtype len reading Spells → (line : List ℕ) (r : R) → IsLineOf rtype len Spells line r → judged_as len reading line ≡ Ok r
+pub line_is_judged : {R : Type 0} (rtype len : ℕ) (reading : List ℕ → Result R FieldFault) (Spells : List ℕ → R → Type 0)
+    → Reading rtype len reading Spells → (line : List ℕ) (r : R) → IsLineOf rtype len Spells line r → judged_as len reading line ≡ Ok r
 unfolding judged_as judged_full
 line_is_judged rtype len reading Spells laws line r h =
     let read = laws.only (filled len line) r (full_line rtype len line h.begins h.short h.allowed) h.spells in
     ap (λ (b : Bool). cond b (Err line_faults.LineTooLong) (judged_full reading (filled len line))) (le-ltb len (length line) h.short)
-    ∙ ap (λ (b : Bool). cond b (Err (line_faults.BadByte (first_bad (filled len line) + 1))) (of_reading (reading (filled len line)))) (bad_none (filled len line) h.allowed)
+    ∙ ap (λ (b : Bool). cond b (Err (line_faults.BadByte (first_bad (filled len line) + 1))) (of_reading (reading (filled len line))))
+    (bad_none (filled len line) h.allowed)
     ∙ ap of_reading read
 
 -- a line spells only what fits
-pub line_fits : {R : Type 0} (rtype len : ℕ) (Spells : List ℕ → R → Type 0) (Fits : R → Type 0) → ((line : List ℕ) (r : R) → IsLine rtype len line → Spells line r → Fits r) → (line : List ℕ) (r : R) → IsLineOf rtype len Spells line r → Fits r
+pub line_fits : {R : Type 0} (rtype len : ℕ) (Spells : List ℕ → R → Type 0) (Fits : R → Type 0)
+    → ((line : List ℕ) (r : R) → IsLine rtype len line → Spells line r → Fits r) → (line : List ℕ) (r : R)
+    → IsLineOf rtype len Spells line r → Fits r
 line_fits rtype len Spells Fits fits line r h = fits (filled len line) r (full_line rtype len line h.begins h.short h.allowed) h.spells
 
 -- ---- faults
@@ -75,40 +93,53 @@ bad_found bytes lt = record {
   place = first_bad bytes;
   within = lt;
   bad = bad_is bytes lt;
-  allowed_before = λ before h. not-false (is_allowed (get_or bytes before 0)) (fails_before_first (λ b. not (is_allowed b)) bytes before 0 h);
+  allowed_before = λ before h. not-false (is_allowed (get_or bytes before 0))
+      (fails_before_first (λ b. not (is_allowed b)) bytes before 0 h);
   told = refl;
 }
 
 bad_only : (bytes : List ℕ) (column : ℕ) (h : IsLeftmostBadByte bytes column) → first_bad bytes ≡ h.place
 bad_only bytes column h =
     let within = h.within in
-    position_or_len_is (λ b. not (is_allowed b)) bytes h.place 0 (omega arith) (λ k lt. not_from_true _ (h.allowed_before k lt)) (λ lt. ap not h.bad)
+    position_or_len_is (λ b. not (is_allowed b)) bytes h.place 0 (omega arith) (λ k lt. not_from_true _ (h.allowed_before k lt))
+    (λ lt. ap not h.bad)
 
 line_err : {A : Type 0} (x y : LineFault) → ◌≡◌ {A = Result A LineFault} (Err x) (Err y) → x ≡ y
 line_err x y e = cc
 
-read_fails : {R : Type 0} (len : ℕ) (IsFault : List ℕ → FieldFault → Type 0) (line : List ℕ) (read : Result R FieldFault) (fault : LineFault) → length line ≤ len → AreAllowed (filled len line)
+read_fails : {R : Type 0} (len : ℕ) (IsFault : List ℕ → FieldFault → Type 0) (line : List ℕ) (read : Result R FieldFault)
+    (fault : LineFault) → length line ≤ len → AreAllowed (filled len line)
     → ((f : FieldFault) → read ≡ Err f → IsFault (filled len line) f) → of_reading read ≡ Err fault → IsFaultIn len IsFault line fault
 read_fails len IsFault line (Ok r) fault short allowed found e = absurd cc
-read_fails {R} len IsFault line (Err f) fault short allowed found e = subst (IsFaultIn len IsFault line) (line_err {A = R} (line_faults.Field f) fault e) (short, allowed, found f refl)
+read_fails {R} len IsFault line (Err f) fault short allowed found e =
+    subst (IsFaultIn len IsFault line) (line_err {A = R} (line_faults.Field f) fault e) (short, allowed, found f refl)
 
 -- the fault that a line of a layout is judged to have is told of it
-pub judged_fault_found : {R : Type 0} (rtype len : ℕ) (reading : List ℕ → Result R FieldFault) (IsFault : List ℕ → FieldFault → Type 0) → TellsFaults rtype len reading IsFault → (line : List ℕ) (fault : LineFault) → take 1 line ≡ rtype ∷ [] → judged_as len reading line ≡ Err fault → IsFaultIn len IsFault line fault
+pub judged_fault_found : {R : Type 0} (rtype len : ℕ) (reading : List ℕ → Result R FieldFault) (IsFault : List ℕ → FieldFault → Type 0)
+    → TellsFaults rtype len reading IsFault → (line : List ℕ) (fault : LineFault) → take 1 line ≡ rtype ∷ []
+    → judged_as len reading line ≡ Err fault → IsFaultIn len IsFault line fault
 unfolding judged_as judged_full
 judged_fault_found {R} rtype len reading IsFault tells line fault begins = go (ltb len (length line)) refl
   where
-    full : (b : Bool) → ltb (first_bad (filled len line)) (length (filled len line)) ≡ b → length line ≤ len → cond b (Err (line_faults.BadByte (first_bad (filled len line) + 1))) (of_reading (reading (filled len line))) ≡ Err fault → IsFaultIn len IsFault line fault
-    full true t short e = subst (IsFaultIn len IsFault line) (line_err {A = R} _ fault e) (short, bad_found (filled len line) (ltb-true _ _ t))
+    full : (b : Bool) → ltb (first_bad (filled len line)) (length (filled len line)) ≡ b → length line ≤ len
+        → cond b (Err (line_faults.BadByte (first_bad (filled len line) + 1))) (of_reading (reading (filled len line))) ≡ Err fault
+        → IsFaultIn len IsFault line fault
+    full true t short e =
+        subst (IsFaultIn len IsFault line) (line_err {A = R} _ fault e) (short, bad_found (filled len line) (ltb-true _ _ t))
     full false t short e =
         let allowed = none_bad (filled len line) t in
-        read_fails len IsFault line (reading (filled len line)) fault short allowed (λ f failed. (tells (filled len line) f (full_line rtype len line begins short allowed)).0 failed) e
+        read_fails len IsFault line (reading (filled len line)) fault short allowed
+        (λ f failed. (tells (filled len line) f (full_line rtype len line begins short allowed)).0 failed) e
 
-    go : (b : Bool) → ltb len (length line) ≡ b → cond b (Err line_faults.LineTooLong) (judged_full reading (filled len line)) ≡ Err fault → IsFaultIn len IsFault line fault
+    go : (b : Bool) → ltb len (length line) ≡ b → cond b (Err line_faults.LineTooLong) (judged_full reading (filled len line)) ≡ Err fault
+        → IsFaultIn len IsFault line fault
     go true t e = subst (IsFaultIn len IsFault line) (line_err {A = R} _ fault e) (ltb-true _ _ t)
     go false t e = full (ltb (first_bad (filled len line)) (length (filled len line))) refl (ltb-false _ _ t) e
 
 -- the fault that is told of a line of a layout is the one that it is judged to have
-pub judged_fault_only : {R : Type 0} (rtype len : ℕ) (reading : List ℕ → Result R FieldFault) (IsFault : List ℕ → FieldFault → Type 0) → TellsFaults rtype len reading IsFault → (line : List ℕ) (fault : LineFault) → take 1 line ≡ rtype ∷ [] → IsFaultIn len IsFault line fault → judged_as len reading line ≡ Err fault
+pub judged_fault_only : {R : Type 0} (rtype len : ℕ) (reading : List ℕ → Result R FieldFault) (IsFault : List ℕ → FieldFault → Type 0)
+    → TellsFaults rtype len reading IsFault → (line : List ℕ) (fault : LineFault) → take 1 line ≡ rtype ∷ []
+    → IsFaultIn len IsFault line fault → judged_as len reading line ≡ Err fault
 unfolding judged_as judged_full
 judged_fault_only rtype len reading IsFault tells line line_faults.UnknownType begins h = absurd h
 judged_fault_only rtype len reading IsFault tells line line_faults.LineTooLong begins h =
@@ -119,15 +150,19 @@ judged_fault_only rtype len reading IsFault tells line (line_faults.BadByte colu
     let told = h.1.told in
     let same : first_bad (filled len line) + 1 ≡ column = omega arith in
     ap (λ (b : Bool). cond b (Err line_faults.LineTooLong) (judged_full reading (filled len line))) (le-ltb len (length line) h.0)
-    ∙ ap (λ (b : Bool). cond b (Err (line_faults.BadByte (first_bad (filled len line) + 1))) (of_reading (reading (filled len line)))) (lt-ltb (first_bad (filled len line)) (length (filled len line)) (omega arith))
+    ∙ ap (λ (b : Bool). cond b (Err (line_faults.BadByte (first_bad (filled len line) + 1))) (of_reading (reading (filled len line))))
+    (lt-ltb (first_bad (filled len line)) (length (filled len line)) (omega arith))
     ∙ ap (λ (c : ℕ). Err (line_faults.BadByte c)) same
 judged_fault_only rtype len reading IsFault tells line (line_faults.Field fault) begins h =
     let read = (tells (filled len line) fault (full_line rtype len line begins h.0 h.1)).1 h.2 in
     ap (λ (b : Bool). cond b (Err line_faults.LineTooLong) (judged_full reading (filled len line))) (le-ltb len (length line) h.0)
-    ∙ ap (λ (b : Bool). cond b (Err (line_faults.BadByte (first_bad (filled len line) + 1))) (of_reading (reading (filled len line)))) (bad_none (filled len line) h.1)
+    ∙ ap (λ (b : Bool). cond b (Err (line_faults.BadByte (first_bad (filled len line) + 1))) (of_reading (reading (filled len line))))
+    (bad_none (filled len line) h.1)
     ∙ ap of_reading read
 
 -- a line that has a record isn't longer than its layout
-pub judged_short : {R : Type 0} (len : ℕ) (reading : List ℕ → Result R FieldFault) (line : List ℕ) (r : R) → judged_as len reading line ≡ Ok r → length line ≤ len
+pub judged_short : {R : Type 0} (len : ℕ) (reading : List ℕ → Result R FieldFault) (line : List ℕ) (r : R)
+    → judged_as len reading line ≡ Ok r → length line ≤ len
 unfolding judged_as
-judged_short len reading line r e = ltb-false _ _ (chosen (ltb len (length line)) line_faults.LineTooLong (judged_full reading (filled len line)) r e).0
+judged_short len reading line r e =
+    ltb-false _ _ (chosen (ltb len (length line)) line_faults.LineTooLong (judged_full reading (filled len line)) r e).0

@@ -1,5 +1,6 @@
 -- The lines of bytes that come one after the other.
-use Rattle.std.proofs.Common.{◌≡◌, ℕ, suc, ◌+◌, ◌-◌, ◌<◌, ◌≤◌, Bool, true, false, cond, List, [], ◌∷◌, ◌++◌, length, take, get_or, refl, sym, ap, ◌∙◌, append_assoc, append-nil, arith, eqb}
+use Rattle.std.proofs.Common.{◌≡◌, ℕ, suc, ◌+◌, ◌-◌, ◌<◌, ◌≤◌, Bool, true, false, cond, List, [], ◌∷◌, ◌++◌, length, take, get_or}
+use Rattle.std.proofs.Common.{refl, sym, ap, ◌∙◌, append_assoc, append-nil, arith, eqb}
 use Rattle.std.specs.List.{slice_split}
 use Rattle.std.proofs.lemmas.List.Splits.{slice_split_at, slice_split_none, length-slice_split}
 use Rattle.std.proofs.lemmas.List.Elements.{All-append, All-nil, All-cons}
@@ -15,7 +16,8 @@ cons_of (x ∷ xs) h = (x, xs, refl)
 first_piece : (bytes : List ℕ) → (first : List ℕ) × (rest : List (List ℕ)) × (slice_split is_line_feed bytes ≡ first ∷ rest)
 first_piece bytes = cons_of (slice_split is_line_feed bytes) (omega (arith, length-slice_split is_line_feed bytes))
 
-line_then : (a : List ℕ) (pieces : List (List ℕ)) (first : List ℕ) (rest : List (List ℕ)) → pieces ≡ first ∷ rest → lines_of_pieces (a ∷ pieces) ≡ without_return a ∷ lines_of_pieces pieces
+line_then : (a : List ℕ) (pieces : List (List ℕ)) (first : List ℕ) (rest : List (List ℕ)) → pieces ≡ first ∷ rest
+    → lines_of_pieces (a ∷ pieces) ≡ without_return a ∷ lines_of_pieces pieces
 unfolding lines_of_pieces
 line_then a [] first rest e = absurd cc
 line_then a (x ∷ xs) first rest e = refl
@@ -64,7 +66,9 @@ without_return_length a = go (eqb (get_or a (length a - 1) 0) 13)
     go false = omega arith
 
 without_feed_cons : (a : List ℕ) (c : ℕ) → IsWithoutLineFeed a → is_line_feed c ≡ false → IsWithoutLineFeed (a ++ c ∷ [])
-without_feed_cons a c h n = All-append (λ b. is_line_feed b ≡ false) a (c ∷ []) h (All-cons (λ b. is_line_feed b ≡ false) c [] n (All-nil (λ b. is_line_feed b ≡ false)))
+without_feed_cons a c h n =
+    All-append (λ b. is_line_feed b ≡ false) a (c ∷ []) h
+    (All-cons (λ b. is_line_feed b ≡ false) c [] n (All-nil (λ b. is_line_feed b ≡ false)))
 
 -- whatever follows, the first line begins so
 pub record BeginsWith (a bytes : List ℕ) : Type 0 where
@@ -80,20 +84,28 @@ pub first_line : (b : ℕ) (a more : List ℕ) → IsWithoutLineFeed (b ∷ a) �
 first_line b a [] h = record {
   more = [];
   rest = [];
-  first = ap lines (append-nil (b ∷ a)) ∙ lines_rest (b ∷ a) h ∙ last_is b a ∙ ap (λ (l : List ℕ). without_return l ∷ []) (sym (append-nil (b ∷ a)));
+  first = ap lines (append-nil (b ∷ a)) ∙ lines_rest (b ∷ a) h ∙ last_is b a
+      ∙ ap (λ (l : List ℕ). without_return l ∷ []) (sym (append-nil (b ∷ a)));
 }
 first_line b a (c ∷ more) h = go (eqb c 10) refl (λ e. first_line b (a ++ c ∷ []) more (without_feed_cons (b ∷ a) c h e))
   where
-    go : (t : Bool) → eqb c 10 ≡ t → (is_line_feed c ≡ false → BeginsWith (b ∷ a ++ c ∷ []) ((b ∷ a ++ c ∷ []) ++ more)) → BeginsWith (b ∷ a) ((b ∷ a) ++ c ∷ more)
+    go : (t : Bool) → eqb c 10 ≡ t → (is_line_feed c ≡ false → BeginsWith (b ∷ a ++ c ∷ []) ((b ∷ a ++ c ∷ []) ++ more))
+        → BeginsWith (b ∷ a) ((b ∷ a) ++ c ∷ more)
     go true e _ =
         let is : c ≡ 10 = eqb-true c 10 e in
-        record { more = []; rest = lines more; first = ap (λ (k : ℕ). lines ((b ∷ a) ++ k ∷ more)) is ∙ lines_line (b ∷ a) more h ∙ ap (λ (l : List ℕ). without_return l ∷ lines more) (sym (append-nil (b ∷ a))) }
+        record {
+          more = [];
+          rest = lines more;
+          first = ap (λ (k : ℕ). lines ((b ∷ a) ++ k ∷ more)) is ∙ lines_line (b ∷ a) more h
+              ∙ ap (λ (l : List ℕ). without_return l ∷ lines more) (sym (append-nil (b ∷ a)));
+        }
     go false e later =
         let next = later e in
         record {
           more = c ∷ next.more;
           rest = next.rest;
-          first = ap lines (sym (append_assoc (b ∷ a) (c ∷ []) more)) ∙ next.first ∙ ap (λ (l : List ℕ). without_return l ∷ next.rest) (append_assoc (b ∷ a) (c ∷ []) next.more);
+          first = ap lines (sym (append_assoc (b ∷ a) (c ∷ []) more)) ∙ next.first
+              ∙ ap (λ (l : List ℕ). without_return l ∷ next.rest) (append_assoc (b ∷ a) (c ∷ []) next.more);
         }
 
 pub first_line_of : (a more : List ℕ) → 0 < length a → IsWithoutLineFeed a → BeginsWith a (a ++ more)

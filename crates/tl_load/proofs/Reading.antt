@@ -1,5 +1,6 @@
 -- Going over the lines finds the records that they spell, or the first fault.
-use Rattle.std.proofs.Common.{◌≡◌, ℕ, ◌+◌, ◌<◌, ◌≤◌, Bool, true, false, cond, List, [], ◌∷◌, ◌++◌, map, Result, Ok, Err, refl, sym, ap, subst, ◌∙◌, append_assoc, append-nil, arith, inl, inr, eqb, leb, ◌⊎◌, ◌+◌}
+use Rattle.std.proofs.Common.{◌≡◌, ℕ, ◌+◌, ◌<◌, ◌≤◌, Bool, true, false, cond, List, [], ◌∷◌, ◌++◌, map, Result, Ok, Err, refl}
+use Rattle.std.proofs.Common.{sym, ap, subst, ◌∙◌, append_assoc, append-nil, arith, inl, inr, eqb, leb, ◌⊎◌, ◌+◌}
 use Rattle.std.specs.Prelude.{MatchResult}
 use Rattle.std.proofs.lemmas.Bool.{leb-true, leb-false, le-leb, lt-leb, eq-eqb, cases_eq, ne_eqb}
 use Rattle.std.proofs.lemmas.List.Sums.{sum_by-append}
@@ -8,7 +9,8 @@ use Rattle.tl_load.specs.declared.fault.LoadFault.{LoadFault}
 use Rattle.tl_load.specs.declared.fault.LoadFault.TheVariants as faults
 use Rattle.tl_load.specs.Places.{PlacedLine, placed_lines}
 use Rattle.tl_load.specs.Verdicts.{Judge, fault_at}
-use Rattle.tl_load.specs.Outcome.{count_of, IsWithinLimit, AreSpelled, Spells, Accepts, IsFaultOf, of_line, of_limit, FaultAt, IsSpelled, IsFaulty, ◌>>=◌, after_verdict, next, reading, outcome}
+use Rattle.tl_load.specs.Outcome.{count_of, IsWithinLimit, AreSpelled, Spells, Accepts, IsFaultOf, of_line, of_limit, FaultAt}
+use Rattle.tl_load.specs.Outcome.{IsSpelled, IsFaulty, ◌>>=◌, after_verdict, next, reading, outcome}
 
 -- ---- verdicts
 
@@ -29,7 +31,8 @@ IsVerdictOf judge limit records line fault = MatchResult (judge.verdict line.byt
     (λ r. (limit ≤ count_of judge (judge.rtype r) records) × (fault ≡ faults.TooManyRecords (judge.rtype r)))
     (λ f. fault ≡ fault_at line.part line.line f)
 
-pub spelled_judged : {R : Type 0} (judge : Judge R) → IsSound judge → (lines : List PlacedLine) (records : List R) → AreSpelled judge lines records → AreJudged judge lines records
+pub spelled_judged : {R : Type 0} (judge : Judge R) → IsSound judge → (lines : List PlacedLine) (records : List R)
+    → AreSpelled judge lines records → AreJudged judge lines records
 spelled_judged judge sound [] [] h = refl
 spelled_judged judge sound [] (r ∷ records) h = absurd h
 spelled_judged judge sound (l ∷ lines) [] h = absurd h
@@ -37,7 +40,8 @@ spelled_judged {R} judge sound (l ∷ lines) (r ∷ records) h =
     ap (λ (z : Result R LineFault). z ∷ map (λ (l : PlacedLine). judge.verdict l.bytes) lines) (sound.has_only l.bytes r h.0)
     ∙ ap (λ (z : List (Result R LineFault)). Ok r ∷ z) (spelled_judged judge sound lines records h.1)
 
-pub judged_spelled : {R : Type 0} (judge : Judge R) → IsSound judge → (lines : List PlacedLine) (records : List R) → AreJudged judge lines records → AreSpelled judge lines records
+pub judged_spelled : {R : Type 0} (judge : Judge R) → IsSound judge → (lines : List PlacedLine) (records : List R)
+    → AreJudged judge lines records → AreSpelled judge lines records
 judged_spelled judge sound [] [] h = tt
 judged_spelled judge sound [] (r ∷ records) h = absurd cc
 judged_spelled judge sound (l ∷ lines) [] h = absurd cc
@@ -46,22 +50,29 @@ judged_spelled judge sound (l ∷ lines) (r ∷ records) h =
     let rest : AreJudged judge lines records = cc in
     (sound.has_found l.bytes r first, judged_spelled judge sound lines records rest)
 
-fault_verdict : {R : Type 0} (judge : Judge R) → IsSound judge → (limit : ℕ) (records : List R) (line : PlacedLine) (fault : LoadFault) → IsFaultOf judge limit records line fault → IsVerdictOf judge limit records line fault
+fault_verdict : {R : Type 0} (judge : Judge R) → IsSound judge → (limit : ℕ) (records : List R) (line : PlacedLine) (fault : LoadFault)
+    → IsFaultOf judge limit records line fault → IsVerdictOf judge limit records line fault
 fault_verdict judge sound limit records line fault (of_line own h e) =
-    subst (λ v. MatchResult v (λ r. (limit ≤ count_of judge (judge.rtype r) records) × (fault ≡ faults.TooManyRecords (judge.rtype r))) (λ f. fault ≡ fault_at line.part line.line f)) (sym (sound.fault_only line.bytes own h)) e
+    subst (λ v. MatchResult v (λ r. (limit ≤ count_of judge (judge.rtype r) records) × (fault ≡ faults.TooManyRecords (judge.rtype r)))
+    (λ f. fault ≡ fault_at line.part line.line f)) (sym (sound.fault_only line.bytes own h)) e
 fault_verdict judge sound limit records line fault (of_limit r h most e) =
-    subst (λ v. MatchResult v (λ r. (limit ≤ count_of judge (judge.rtype r) records) × (fault ≡ faults.TooManyRecords (judge.rtype r))) (λ f. fault ≡ fault_at line.part line.line f)) (sym (sound.has_only line.bytes r h)) (most, e)
+    subst (λ v. MatchResult v (λ r. (limit ≤ count_of judge (judge.rtype r) records) × (fault ≡ faults.TooManyRecords (judge.rtype r)))
+    (λ f. fault ≡ fault_at line.part line.line f)) (sym (sound.has_only line.bytes r h)) (most, e)
 
-verdict_fault : {R : Type 0} (judge : Judge R) → IsSound judge → (limit : ℕ) (records : List R) (line : PlacedLine) (fault : LoadFault) → IsVerdictOf judge limit records line fault → IsFaultOf judge limit records line fault
+verdict_fault : {R : Type 0} (judge : Judge R) → IsSound judge → (limit : ℕ) (records : List R) (line : PlacedLine) (fault : LoadFault)
+    → IsVerdictOf judge limit records line fault → IsFaultOf judge limit records line fault
 verdict_fault {R} judge sound limit records line fault = go (judge.verdict line.bytes) refl
   where
-    go : (v : Result R LineFault) → judge.verdict line.bytes ≡ v → MatchResult v (λ r. (limit ≤ count_of judge (judge.rtype r) records) × (fault ≡ faults.TooManyRecords (judge.rtype r))) (λ f. fault ≡ fault_at line.part line.line f) → IsFaultOf judge limit records line fault
+    go : (v : Result R LineFault) → judge.verdict line.bytes ≡ v
+        → MatchResult v (λ r. (limit ≤ count_of judge (judge.rtype r) records) × (fault ≡ faults.TooManyRecords (judge.rtype r)))
+        (λ f. fault ≡ fault_at line.part line.line f) → IsFaultOf judge limit records line fault
     go (Ok r) e h = of_limit r (sound.has_found line.bytes r e) h.0 h.1
     go (Err f) e h = of_line f (sound.fault_found line.bytes f e) h
 
 -- ---- steps
 
-bind_assoc : {A B C : Type 0} (r : Result A LoadFault) (f : A → Result B LoadFault) (g : B → Result C LoadFault) → ((r >>= f) >>= g) ≡ (r >>= λ x. f x >>= g)
+bind_assoc : {A B C : Type 0} (r : Result A LoadFault) (f : A → Result B LoadFault) (g : B → Result C LoadFault)
+    → ((r >>= f) >>= g) ≡ (r >>= λ x. f x >>= g)
 bind_assoc (Ok x) f g = refl
 bind_assoc (Err e) f g = refl
 
@@ -69,20 +80,24 @@ bind_same : {A B : Type 0} (r : Result A LoadFault) (f g : A → Result B LoadFa
 bind_same (Ok x) f g h = h x
 bind_same (Err e) f g h = refl
 
-bind_ok : {A B : Type 0} (r : Result A LoadFault) (f : A → Result B LoadFault) (y : B) → (r >>= f) ≡ Ok y → (x : A) × (r ≡ Ok x) × (f x ≡ Ok y)
+bind_ok : {A B : Type 0} (r : Result A LoadFault) (f : A → Result B LoadFault) (y : B) → (r >>= f) ≡ Ok y
+    → (x : A) × (r ≡ Ok x) × (f x ≡ Ok y)
 bind_ok (Ok x) f y e = (x, refl, e)
 bind_ok (Err d) f y e = absurd cc
 
-bind_err : {A B : Type 0} (r : Result A LoadFault) (f : A → Result B LoadFault) (y : LoadFault) → (r >>= f) ≡ Err y → (r ≡ Err y) ⊎ ((x : A) × (r ≡ Ok x) × (f x ≡ Err y))
+bind_err : {A B : Type 0} (r : Result A LoadFault) (f : A → Result B LoadFault) (y : LoadFault) → (r >>= f) ≡ Err y
+    → (r ≡ Err y) ⊎ ((x : A) × (r ≡ Ok x) × (f x ≡ Err y))
 bind_err (Ok x) f y e = inr (x, refl, e)
 bind_err {A} {B} (Err d) f y e = let same : d ≡ y = cc in inl (ap (λ (z : LoadFault). Err z) same)
 
 -- lines after lines
-pub reading-append : {R : Type 0} (judge : Judge R) (limit : ℕ) (records : List R) (a b : List PlacedLine) → reading judge limit records (a ++ b) ≡ (reading judge limit records a >>= λ more. reading judge limit more b)
+pub reading-append : {R : Type 0} (judge : Judge R) (limit : ℕ) (records : List R) (a b : List PlacedLine)
+    → reading judge limit records (a ++ b) ≡ (reading judge limit records a >>= λ more. reading judge limit more b)
 unfolding reading
 reading-append judge limit records [] b = refl
 reading-append judge limit records (x ∷ a) b =
-    bind_same (next judge limit records x) (λ more. reading judge limit more (a ++ b)) (λ more. reading judge limit more a >>= λ rest. reading judge limit rest b) (λ more. reading-append judge limit more a b)
+    bind_same (next judge limit records x) (λ more. reading judge limit more (a ++ b))
+    (λ more. reading judge limit more a >>= λ rest. reading judge limit rest b) (λ more. reading-append judge limit more a b)
     ∙ sym (bind_assoc (next judge limit records x) (λ more. reading judge limit more a) (λ rest. reading judge limit rest b))
 
 -- ---- one line
@@ -93,62 +108,79 @@ pub record Takes_one {R : Type 0} (judge : Judge R) (limit : ℕ) (records : Lis
   pub room : count_of judge (judge.rtype found) records < limit
   pub after : more ≡ records ++ found ∷ []
 
-takes_by : {R : Type 0} (judge : Judge R) (limit : ℕ) (records : List R) (line : PlacedLine) (more : List R) (v : Result R LineFault) → judge.verdict line.bytes ≡ v → after_verdict judge limit records line v ≡ Ok more → Takes_one judge limit records line more
+takes_by : {R : Type 0} (judge : Judge R) (limit : ℕ) (records : List R) (line : PlacedLine) (more : List R) (v : Result R LineFault)
+    → judge.verdict line.bytes ≡ v → after_verdict judge limit records line v ≡ Ok more → Takes_one judge limit records line more
 takes_by judge limit records line more (Err f) e h = absurd cc
 takes_by {R} judge limit records line more (Ok r) e h = go (leb limit (count_of judge (judge.rtype r) records)) refl h
   where
-    go : (b : Bool) → leb limit (count_of judge (judge.rtype r) records) ≡ b → cond b (Err (faults.TooManyRecords (judge.rtype r))) (Ok (records ++ r ∷ [])) ≡ Ok more → Takes_one judge limit records line more
+    go : (b : Bool) → leb limit (count_of judge (judge.rtype r) records) ≡ b
+        → cond b (Err (faults.TooManyRecords (judge.rtype r))) (Ok (records ++ r ∷ [])) ≡ Ok more → Takes_one judge limit records line more
     go true t k = absurd cc
     go false t k = record { found = r; verdict = e; room = leb-false _ _ t; after = cc }
 
-pub next_ok : {R : Type 0} (judge : Judge R) (limit : ℕ) (records : List R) (line : PlacedLine) (more : List R) → next judge limit records line ≡ Ok more → Takes_one judge limit records line more
+pub next_ok : {R : Type 0} (judge : Judge R) (limit : ℕ) (records : List R) (line : PlacedLine) (more : List R)
+    → next judge limit records line ≡ Ok more → Takes_one judge limit records line more
 unfolding next
 next_ok judge limit records line more h = takes_by judge limit records line more (judge.verdict line.bytes) refl h
 
-pub next_from : {R : Type 0} (judge : Judge R) (limit : ℕ) (records : List R) (line : PlacedLine) (r : R) → judge.verdict line.bytes ≡ Ok r → count_of judge (judge.rtype r) records < limit → next judge limit records line ≡ Ok (records ++ r ∷ [])
+pub next_from : {R : Type 0} (judge : Judge R) (limit : ℕ) (records : List R) (line : PlacedLine) (r : R) → judge.verdict line.bytes ≡ Ok r
+    → count_of judge (judge.rtype r) records < limit → next judge limit records line ≡ Ok (records ++ r ∷ [])
 unfolding next
 next_from judge limit records line r e h =
     ap (after_verdict judge limit records line) e
-    ∙ ap (λ (b : Bool). cond b (Err (faults.TooManyRecords (judge.rtype r))) (Ok (records ++ r ∷ []))) (lt-leb limit (count_of judge (judge.rtype r) records) h)
+    ∙ ap (λ (b : Bool). cond b (Err (faults.TooManyRecords (judge.rtype r))) (Ok (records ++ r ∷ [])))
+    (lt-leb limit (count_of judge (judge.rtype r) records) h)
 
-fault_by : {R : Type 0} (judge : Judge R) (limit : ℕ) (records : List R) (line : PlacedLine) (f : LoadFault) (v : Result R LineFault) → after_verdict judge limit records line v ≡ Err f
-    → MatchResult v (λ r. (limit ≤ count_of judge (judge.rtype r) records) × (f ≡ faults.TooManyRecords (judge.rtype r))) (λ k. f ≡ fault_at line.part line.line k)
+fault_by : {R : Type 0} (judge : Judge R) (limit : ℕ) (records : List R) (line : PlacedLine) (f : LoadFault) (v : Result R LineFault)
+    → after_verdict judge limit records line v ≡ Err f
+    → MatchResult v (λ r. (limit ≤ count_of judge (judge.rtype r) records) × (f ≡ faults.TooManyRecords (judge.rtype r)))
+    (λ k. f ≡ fault_at line.part line.line k)
 fault_by judge limit records line f (Err k) h = cc
 fault_by {R} judge limit records line f (Ok r) h = go (leb limit (count_of judge (judge.rtype r) records)) refl h
   where
-    go : (b : Bool) → leb limit (count_of judge (judge.rtype r) records) ≡ b → cond b (Err (faults.TooManyRecords (judge.rtype r))) (Ok (records ++ r ∷ [])) ≡ Err f → (limit ≤ count_of judge (judge.rtype r) records) × (f ≡ faults.TooManyRecords (judge.rtype r))
+    go : (b : Bool) → leb limit (count_of judge (judge.rtype r) records) ≡ b
+        → cond b (Err (faults.TooManyRecords (judge.rtype r))) (Ok (records ++ r ∷ [])) ≡ Err f
+        → (limit ≤ count_of judge (judge.rtype r) records) × (f ≡ faults.TooManyRecords (judge.rtype r))
     go true t k = (leb-true _ _ t, cc)
     go false t k = absurd cc
 
-pub next_err : {R : Type 0} (judge : Judge R) (limit : ℕ) (records : List R) (line : PlacedLine) (f : LoadFault) → next judge limit records line ≡ Err f → IsVerdictOf judge limit records line f
+pub next_err : {R : Type 0} (judge : Judge R) (limit : ℕ) (records : List R) (line : PlacedLine) (f : LoadFault)
+    → next judge limit records line ≡ Err f → IsVerdictOf judge limit records line f
 unfolding next
 next_err judge limit records line f h = fault_by judge limit records line f (judge.verdict line.bytes) h
 
 by_fault : {R : Type 0} (judge : Judge R) (limit : ℕ) (records : List R) (line : PlacedLine) (f : LoadFault) (v : Result R LineFault)
-    → MatchResult v (λ r. (limit ≤ count_of judge (judge.rtype r) records) × (f ≡ faults.TooManyRecords (judge.rtype r))) (λ k. f ≡ fault_at line.part line.line k)
+    → MatchResult v (λ r. (limit ≤ count_of judge (judge.rtype r) records) × (f ≡ faults.TooManyRecords (judge.rtype r)))
+    (λ k. f ≡ fault_at line.part line.line k)
     → after_verdict judge limit records line v ≡ Err f
 by_fault judge limit records line f (Err k) h = ap (λ (z : LoadFault). Err z) (sym h)
 by_fault judge limit records line f (Ok r) h =
-    ap (λ (b : Bool). cond b (Err (faults.TooManyRecords (judge.rtype r))) (Ok (records ++ r ∷ []))) (le-leb limit (count_of judge (judge.rtype r) records) h.0)
+    ap (λ (b : Bool). cond b (Err (faults.TooManyRecords (judge.rtype r))) (Ok (records ++ r ∷ [])))
+    (le-leb limit (count_of judge (judge.rtype r) records) h.0)
     ∙ ap (λ (z : LoadFault). Err z) (sym h.1)
 
-pub next_faulty : {R : Type 0} (judge : Judge R) (limit : ℕ) (records : List R) (line : PlacedLine) (f : LoadFault) → IsVerdictOf judge limit records line f → next judge limit records line ≡ Err f
+pub next_faulty : {R : Type 0} (judge : Judge R) (limit : ℕ) (records : List R) (line : PlacedLine) (f : LoadFault)
+    → IsVerdictOf judge limit records line f → next judge limit records line ≡ Err f
 unfolding next
 next_faulty judge limit records line f h = by_fault judge limit records line f (judge.verdict line.bytes) h
 
 -- ---- counts
 
-pub count_push : {R : Type 0} (judge : Judge R) (records : List R) (r : R) (t : ℕ) → count_of judge t (records ++ r ∷ []) ≡ count_of judge t records + cond (eqb (judge.rtype r) t) 1 0
+pub count_push : {R : Type 0} (judge : Judge R) (records : List R) (r : R) (t : ℕ)
+    → count_of judge t (records ++ r ∷ []) ≡ count_of judge t records + cond (eqb (judge.rtype r) t) 1 0
 count_push judge records r t = sum_by-append (λ s. cond (eqb (judge.rtype s) t) 1 0) records (r ∷ []) ∙ omega arith
 
-pub within_push : {R : Type 0} (judge : Judge R) (limit : ℕ) (records : List R) (r : R) → IsWithinLimit judge limit records → count_of judge (judge.rtype r) records < limit → IsWithinLimit judge limit (records ++ r ∷ [])
+pub within_push : {R : Type 0} (judge : Judge R) (limit : ℕ) (records : List R) (r : R) → IsWithinLimit judge limit records
+    → count_of judge (judge.rtype r) records < limit → IsWithinLimit judge limit (records ++ r ∷ [])
 within_push judge limit records r h room t = elim (cases_eq (judge.rtype r) t) [
-  | inl same ↦ let e = count_push judge records r t in let b = eq-eqb (judge.rtype r) t same in let le : count_of judge t records < limit = subst (λ (u : ℕ). count_of judge u records < limit) same room in rw (e, b) (omega arith)
+  | inl same ↦ let e = count_push judge records r t in let b = eq-eqb (judge.rtype r) t same in let le : count_of judge t records < limit =
+      subst (λ (u : ℕ). count_of judge u records < limit) same room in rw (e, b) (omega arith)
   | inr other ↦ let e = count_push judge records r t in let b = ne_eqb (judge.rtype r) t other in let le = h t in rw (e, b) (omega arith)
 ]
 
 -- a list within the limit has room for its next record
-pub room_before : {R : Type 0} (judge : Judge R) (limit : ℕ) (records : List R) (r : R) (more : List R) → IsWithinLimit judge limit (records ++ r ∷ more) → count_of judge (judge.rtype r) records < limit
+pub room_before : {R : Type 0} (judge : Judge R) (limit : ℕ) (records : List R) (r : R) (more : List R)
+    → IsWithinLimit judge limit (records ++ r ∷ more) → count_of judge (judge.rtype r) records < limit
 room_before judge limit records r more h =
     let e = sum_by-append (λ s. cond (eqb (judge.rtype s) (judge.rtype r)) 1 0) records (r ∷ more) in
     let b = eq-eqb (judge.rtype r) (judge.rtype r) refl in
@@ -157,7 +189,8 @@ room_before judge limit records r more h =
     let one : count_of judge (judge.rtype r) (r ∷ []) ≡ 0 + 1 = ap (λ (z : Bool). 0 + cond z 1 0) b in
     omega (arith, e, first, one, all)
 
-pub within_front : {R : Type 0} (judge : Judge R) (limit : ℕ) (a b : List R) → IsWithinLimit judge limit (a ++ b) → IsWithinLimit judge limit a
+pub within_front : {R : Type 0} (judge : Judge R) (limit : ℕ) (a b : List R) → IsWithinLimit judge limit (a ++ b)
+    → IsWithinLimit judge limit a
 within_front judge limit a b h t =
     let e = sum_by-append (λ s. cond (eqb (judge.rtype s) t) 1 0) a b in
     let all = h t in omega (arith, e, all)
@@ -174,7 +207,8 @@ pub record Reads {R : Type 0} (judge : Judge R) (limit : ℕ) (records : List R)
 ok_is : {R E : Type 0} (x y : R) → ◌≡◌ {A = Result R E} (Ok x) (Ok y) → x ≡ y
 ok_is x y e = cc
 
-pub reads_ok : {R : Type 0} (judge : Judge R) (limit : ℕ) (records : List R) (lines : List PlacedLine) (all : List R) → IsWithinLimit judge limit records → reading judge limit records lines ≡ Ok all → Reads judge limit records lines all
+pub reads_ok : {R : Type 0} (judge : Judge R) (limit : ℕ) (records : List R) (lines : List PlacedLine) (all : List R)
+    → IsWithinLimit judge limit records → reading judge limit records lines ≡ Ok all → Reads judge limit records lines all
 unfolding reading
 reads_ok {R} judge limit records [] all h e =
     let same : records ≡ all = ok_is records all e in
@@ -182,16 +216,19 @@ reads_ok {R} judge limit records [] all h e =
 reads_ok {R} judge limit records (x ∷ lines) all h e =
     let b = bind_ok (next judge limit records x) (λ more. reading judge limit more lines) all e in
     let t = next_ok judge limit records x b.0 b.1 in
-    let mid : IsWithinLimit judge limit b.0 = subst (IsWithinLimit judge limit) (sym t.after) (within_push judge limit records t.found h t.room) in
+    let mid : IsWithinLimit judge limit b.0 =
+    subst (IsWithinLimit judge limit) (sym t.after) (within_push judge limit records t.found h t.room) in
     let rest = reads_ok judge limit b.0 lines all mid b.2 in
     record {
       found = t.found ∷ rest.found;
-      judged = ap (λ (z : Result R LineFault). z ∷ map (λ (l : PlacedLine). judge.verdict l.bytes) lines) t.verdict ∙ ap (λ (z : List (Result R LineFault)). Ok t.found ∷ z) rest.judged;
+      judged = ap (λ (z : Result R LineFault). z ∷ map (λ (l : PlacedLine). judge.verdict l.bytes) lines) t.verdict
+          ∙ ap (λ (z : List (Result R LineFault)). Ok t.found ∷ z) rest.judged;
       all_are = rest.all_are ∙ ap (λ (z : List R). z ++ rest.found) t.after ∙ append_assoc records (t.found ∷ []) rest.found;
       within = rest.within;
     }
 
-pub reads_from : {R : Type 0} (judge : Judge R) (limit : ℕ) (records : List R) (lines : List PlacedLine) (found : List R) → AreJudged judge lines found → IsWithinLimit judge limit (records ++ found) → reading judge limit records lines ≡ Ok (records ++ found)
+pub reads_from : {R : Type 0} (judge : Judge R) (limit : ℕ) (records : List R) (lines : List PlacedLine) (found : List R)
+    → AreJudged judge lines found → IsWithinLimit judge limit (records ++ found) → reading judge limit records lines ≡ Ok (records ++ found)
 unfolding reading
 reads_from judge limit records [] [] e h = ap (λ (z : List _). Ok z) (sym (append-nil records))
 reads_from judge limit records [] (r ∷ found) e h = absurd cc
@@ -215,65 +252,94 @@ pub record Stops {R : Type 0} (judge : Judge R) (limit : ℕ) (records : List R)
   pub within : IsWithinLimit judge limit (records ++ found)
   pub fault_is : IsVerdictOf judge limit (records ++ found) line fault
 
-pub stops_err : {R : Type 0} (judge : Judge R) (limit : ℕ) (records : List R) (lines : List PlacedLine) (fault : LoadFault) → IsWithinLimit judge limit records → reading judge limit records lines ≡ Err fault → Stops judge limit records lines fault
+pub stops_err : {R : Type 0} (judge : Judge R) (limit : ℕ) (records : List R) (lines : List PlacedLine) (fault : LoadFault)
+    → IsWithinLimit judge limit records → reading judge limit records lines ≡ Err fault → Stops judge limit records lines fault
 unfolding reading
 stops_err judge limit records [] fault h e = absurd cc
-stops_err {R} judge limit records (x ∷ lines) fault h e = elim (bind_err (next judge limit records x) (λ more. reading judge limit more lines) fault e) [
-  | inl here ↦ record {
-    before = [];
-    line = x;
-    after = lines;
-    found = [];
-    split = refl;
-    well = refl;
-    within = subst (IsWithinLimit judge limit) (sym (append-nil records)) h;
-    fault_is = subst (λ (rs : List R). IsVerdictOf judge limit rs x fault) (sym (append-nil records)) (next_err judge limit records x fault here);
-  }
-  | inr b ↦
-      let t = next_ok judge limit records x b.0 b.1 in
-      let mid : IsWithinLimit judge limit b.0 = subst (IsWithinLimit judge limit) (sym t.after) (within_push judge limit records t.found h t.room) in
-      let rest = stops_err judge limit b.0 lines fault mid b.2 in
-      let joined : b.0 ++ rest.found ≡ records ++ t.found ∷ rest.found = ap (λ (z : List R). z ++ rest.found) t.after ∙ append_assoc records (t.found ∷ []) rest.found in
-      record {
-        before = x ∷ rest.before;
-        line = rest.line;
-        after = rest.after;
-        found = t.found ∷ rest.found;
-        split = ap (λ (z : List PlacedLine). x ∷ z) rest.split;
-        well = ap (λ (z : Result R LineFault). z ∷ map (λ (l : PlacedLine). judge.verdict l.bytes) rest.before) t.verdict ∙ ap (λ (z : List (Result R LineFault)). Ok t.found ∷ z) rest.well;
-        within = subst (IsWithinLimit judge limit) joined rest.within;
-        fault_is = subst (λ (rs : List R). IsVerdictOf judge limit rs rest.line fault) joined rest.fault_is;
+stops_err {R} judge limit records (x ∷ lines) fault h e =
+    elim (bind_err (next judge limit records x) (λ more. reading judge limit more lines) fault e) [
+      | inl here ↦ record {
+        before = [];
+        line = x;
+        after = lines;
+        found = [];
+        split = refl;
+        well = refl;
+        within = subst (IsWithinLimit judge limit) (sym (append-nil records)) h;
+        fault_is = subst (λ (rs : List R). IsVerdictOf judge limit rs x fault) (sym (append-nil records))
+            (next_err judge limit records x fault here);
       }
-]
+      | inr b ↦
+          let t = next_ok judge limit records x b.0 b.1 in
+          let mid : IsWithinLimit judge limit b.0 =
+          subst (IsWithinLimit judge limit) (sym t.after) (within_push judge limit records t.found h t.room) in
+          let rest = stops_err judge limit b.0 lines fault mid b.2 in
+          let joined : b.0 ++ rest.found ≡ records ++ t.found ∷ rest.found = ap (λ (z : List R). z ++ rest.found) t.after
+          ∙ append_assoc records (t.found ∷ []) rest.found in
+          record {
+            before = x ∷ rest.before;
+            line = rest.line;
+            after = rest.after;
+            found = t.found ∷ rest.found;
+            split = ap (λ (z : List PlacedLine). x ∷ z) rest.split;
+            well = ap (λ (z : Result R LineFault). z ∷ map (λ (l : PlacedLine). judge.verdict l.bytes) rest.before) t.verdict
+                ∙ ap (λ (z : List (Result R LineFault)). Ok t.found ∷ z) rest.well;
+            within = subst (IsWithinLimit judge limit) joined rest.within;
+            fault_is = subst (λ (rs : List R). IsVerdictOf judge limit rs rest.line fault) joined rest.fault_is;
+          }
+    ]
 
 -- ---- parts
 
 no_records : {R : Type 0} (judge : Judge R) (limit : ℕ) → IsWithinLimit judge limit []
 no_records judge limit t = omega arith
 
-pub accepts_from_outcome : {R : Type 0} (judge : Judge R) → IsSound judge → (limit : ℕ) (parts : List (List ℕ)) (records : List R) → outcome judge limit parts ≡ Ok records → Accepts judge limit parts records
+pub accepts_from_outcome : {R : Type 0} (judge : Judge R) → IsSound judge → (limit : ℕ) (parts : List (List ℕ)) (records : List R)
+    → outcome judge limit parts ≡ Ok records → Accepts judge limit parts records
 accepts_from_outcome {R} judge sound limit parts records e =
     let r = reads_ok judge limit [] (placed_lines parts) records (no_records judge limit) e in
-    record { spells = judged_spelled judge sound (placed_lines parts) records (subst (λ (rs : List R). AreJudged judge (placed_lines parts) rs) (sym r.all_are) r.judged); within = r.within }
+    record {
+      spells = judged_spelled judge sound (placed_lines parts) records
+          (subst (λ (rs : List R). AreJudged judge (placed_lines parts) rs) (sym r.all_are) r.judged);
+      within = r.within;
+    }
 
-pub outcome_from_accepts : {R : Type 0} (judge : Judge R) → IsSound judge → (limit : ℕ) (parts : List (List ℕ)) (records : List R) → Accepts judge limit parts records → outcome judge limit parts ≡ Ok records
-outcome_from_accepts judge sound limit parts records a = reads_from judge limit [] (placed_lines parts) records (spelled_judged judge sound (placed_lines parts) records a.spells) a.within
+pub outcome_from_accepts : {R : Type 0} (judge : Judge R) → IsSound judge → (limit : ℕ) (parts : List (List ℕ)) (records : List R)
+    → Accepts judge limit parts records → outcome judge limit parts ≡ Ok records
+outcome_from_accepts judge sound limit parts records a =
+    reads_from judge limit [] (placed_lines parts) records (spelled_judged judge sound (placed_lines parts) records a.spells) a.within
 
-pub fault_from_outcome : {R : Type 0} (judge : Judge R) → IsSound judge → (limit : ℕ) (parts : List (List ℕ)) (fault : LoadFault) → outcome judge limit parts ≡ Err fault → FaultAt judge limit parts fault
+pub fault_from_outcome : {R : Type 0} (judge : Judge R) → IsSound judge → (limit : ℕ) (parts : List (List ℕ)) (fault : LoadFault)
+    → outcome judge limit parts ≡ Err fault → FaultAt judge limit parts fault
 fault_from_outcome judge sound limit parts fault e =
     let s = stops_err judge limit [] (placed_lines parts) fault (no_records judge limit) e in
-    record { before = s.before; line = s.line; after = s.after; records = s.found; split = s.split; well = judged_spelled judge sound s.before s.found s.well; within = s.within; fault_is = verdict_fault judge sound limit s.found s.line fault s.fault_is }
+    record {
+      before = s.before;
+      line = s.line;
+      after = s.after;
+      records = s.found;
+      split = s.split;
+      well =
+          judged_spelled judge sound s.before s.found s.well;
+      within = s.within;
+      fault_is =
+          verdict_fault judge sound limit s.found s.line fault s.fault_is;
+    }
 
-pub outcome_from_fault : {R : Type 0} (judge : Judge R) → IsSound judge → (limit : ℕ) (parts : List (List ℕ)) (fault : LoadFault) → FaultAt judge limit parts fault → outcome judge limit parts ≡ Err fault
+pub outcome_from_fault : {R : Type 0} (judge : Judge R) → IsSound judge → (limit : ℕ) (parts : List (List ℕ)) (fault : LoadFault)
+    → FaultAt judge limit parts fault → outcome judge limit parts ≡ Err fault
 unfolding reading
 outcome_from_fault {R} judge sound limit parts fault f =
     ap (reading judge limit []) f.split
     ∙ reading-append judge limit [] f.before (f.line ∷ f.after)
-    ∙ ap (λ (z : Result (List R) LoadFault). z >>= λ more. reading judge limit more (f.line ∷ f.after)) (reads_from judge limit [] f.before f.records (spelled_judged judge sound f.before f.records f.well) f.within)
-    ∙ ap (λ (z : Result (List R) LoadFault). z >>= λ more. reading judge limit more f.after) (next_faulty judge limit f.records f.line fault (fault_verdict judge sound limit f.records f.line fault f.fault_is))
+    ∙ ap (λ (z : Result (List R) LoadFault). z >>= λ more. reading judge limit more (f.line ∷ f.after))
+    (reads_from judge limit [] f.before f.records (spelled_judged judge sound f.before f.records f.well) f.within)
+    ∙ ap (λ (z : Result (List R) LoadFault). z >>= λ more. reading judge limit more f.after)
+    (next_faulty judge limit f.records f.line fault (fault_verdict judge sound limit f.records f.line fault f.fault_is))
 
 -- the same line is judged one way
-pub verdicts_same : {R : Type 0} (a b : List R) → ◌≡◌ {A = List (Result R LineFault)} (map (λ (r : R). Ok r) a) (map (λ (r : R). Ok r) b) → a ≡ b
+pub verdicts_same : {R : Type 0} (a b : List R) → ◌≡◌ {A = List (Result R LineFault)} (map (λ (r : R). Ok r) a) (map (λ (r : R). Ok r) b)
+    → a ≡ b
 verdicts_same [] [] e = refl
 verdicts_same [] (y ∷ b) e = absurd cc
 verdicts_same (x ∷ a) [] e = absurd cc
@@ -289,11 +355,14 @@ never_both : {R : Type 0} (r : Result R LoadFault) (x : R) (y : LoadFault) → r
 never_both r x y p q = cc
 
 -- parts spell one list
-pub spelled_once : {R : Type 0} (judge : Judge R) → IsSound judge → (parts : List (List ℕ)) (a b : List R) → Spells judge parts a → Spells judge parts b → a ≡ b
-spelled_once judge sound parts a b p q = verdicts_same a b (sym (spelled_judged judge sound (placed_lines parts) a p) ∙ spelled_judged judge sound (placed_lines parts) b q)
+pub spelled_once : {R : Type 0} (judge : Judge R) → IsSound judge → (parts : List (List ℕ)) (a b : List R) → Spells judge parts a
+    → Spells judge parts b → a ≡ b
+spelled_once judge sound parts a b p q =
+    verdicts_same a b (sym (spelled_judged judge sound (placed_lines parts) a p) ∙ spelled_judged judge sound (placed_lines parts) b q)
 
 -- the parts spell a list within the limit, or exactly one fault is at them
-pub one_verdict : {R : Type 0} (judge : Judge R) → IsSound judge → (limit : ℕ) (parts : List (List ℕ)) → IsSpelled judge limit parts ⊎ IsFaulty judge limit parts
+pub one_verdict : {R : Type 0} (judge : Judge R) → IsSound judge → (limit : ℕ) (parts : List (List ℕ))
+    → IsSpelled judge limit parts ⊎ IsFaulty judge limit parts
 one_verdict {R} judge sound limit parts = go (outcome judge limit parts) refl
   where
     go : (r : Result (List R) LoadFault) → outcome judge limit parts ≡ r → IsSpelled judge limit parts ⊎ IsFaulty judge limit parts
@@ -311,8 +380,12 @@ one_verdict {R} judge sound limit parts = go (outcome judge limit parts) refl
     })
 
 -- parts that spell a list have no fault
-pub accepted_once : {R : Type 0} (judge : Judge R) → IsSound judge → (limit : ℕ) (parts : List (List ℕ)) (a b : List R) → Accepts judge limit parts a → Accepts judge limit parts b → a ≡ b
+pub accepted_once : {R : Type 0} (judge : Judge R) → IsSound judge → (limit : ℕ) (parts : List (List ℕ)) (a b : List R)
+    → Accepts judge limit parts a → Accepts judge limit parts b → a ≡ b
 accepted_once judge sound limit parts a b p q = spelled_once judge sound parts a b p.spells q.spells
 
-pub accepted_no_fault : {R : Type 0} (judge : Judge R) → IsSound judge → (limit : ℕ) (parts : List (List ℕ)) (records : List R) (fault : LoadFault) → Accepts judge limit parts records → FaultAt judge limit parts fault → ⊥
-accepted_no_fault judge sound limit parts records fault p q = never_both _ records fault (outcome_from_accepts judge sound limit parts records p) (outcome_from_fault judge sound limit parts fault q)
+pub accepted_no_fault : {R : Type 0} (judge : Judge R) → IsSound judge
+    → (limit : ℕ) (parts : List (List ℕ)) (records : List R) (fault : LoadFault) → Accepts judge limit parts records
+    → FaultAt judge limit parts fault → ⊥
+accepted_no_fault judge sound limit parts records fault p q =
+    never_both _ records fault (outcome_from_accepts judge sound limit parts records p) (outcome_from_fault judge sound limit parts fault q)

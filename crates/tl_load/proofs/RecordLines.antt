@@ -35,7 +35,8 @@ use Rattle.tl_load.specs.Choice.{as_record, judged_by, judged, tiger}
 use Rattle.tl_load.specs.Places.{PlacedLine, placed_lines}
 use Rattle.tl_load.specs.Outcome.{AreSpelled, Spells, Accepts}
 use Rattle.tl_load.proofs.Reading.{IsSound}
-use Rattle.tl_load.specs.RecordLine.{HasRecord, record_types, BeginsWith, IsFaultOfLine, of_no_type, of_type_1, of_type_2, of_type_4, of_type_5, of_type_6, of_type_7, of_type_8, of_type_i, of_type_p}
+use Rattle.tl_load.specs.RecordLine.{HasRecord, record_types, BeginsWith, IsFaultOfLine, of_no_type, of_type_1, of_type_2}
+use Rattle.tl_load.specs.RecordLine.{of_type_4, of_type_5, of_type_6, of_type_7, of_type_8, of_type_i, of_type_p}
 use Rattle.tl_load.proofs.LineLaws.{Reading, judged_is_line, line_is_judged, line_fits, judged_fault_found, judged_fault_only}
 
 -- ---- the layouts
@@ -75,7 +76,8 @@ by_first rtype (b ∷ line) e = let same : b ≡ rtype = cc in ap (λ (t : ℕ).
 -- ---- the choice
 
 -- what one layout answers is of its type
-typed_record : {R : Type 0} (rtype t : ℕ) (wrap : R → Record) → ((x : R) → type_of (wrap x) ≡ t) → (v : Result R LineFault) (rest : Result Record LineFault) (r : Record)
+typed_record : {R : Type 0} (rtype t : ℕ) (wrap : R → Record) → ((x : R) → type_of (wrap x) ≡ t)
+    → (v : Result R LineFault) (rest : Result Record LineFault) (r : Record)
     → cond (eqb rtype t) (as_record wrap v) rest ≡ Ok r → (rest ≡ Ok r → type_of r ≡ rtype) → type_of r ≡ rtype
 typed_record {R} rtype t wrap typed v rest r e later = go (eqb rtype t) refl v e
   where
@@ -101,7 +103,8 @@ typed_by rtype line r e =
     typed_record rtype rtype_p P (λ x. refl) (judged_as len_p type_p_reading line) _ r e7 (λ e8.
     absurd (no_record r e8))))))))))
 
-unwrapped : {R : Type 0} (wrap : R → Record) → ((x y : R) → wrap x ≡ wrap y → x ≡ y) → (v : Result R LineFault) (r : R) → as_record wrap v ≡ Ok (wrap r) → v ≡ Ok r
+unwrapped : {R : Type 0} (wrap : R → Record) → ((x y : R) → wrap x ≡ wrap y → x ≡ y) → (v : Result R LineFault) (r : R)
+    → as_record wrap v ≡ Ok (wrap r) → v ≡ Ok r
 unwrapped {R} wrap apart (Ok x) r e = let same : wrap x ≡ wrap r = cc in ap (λ (z : R). Ok z) (apart x r same)
 unwrapped wrap apart (Err f) r e = absurd cc
 
@@ -111,15 +114,24 @@ first_byte b line = refl
 -- a line that begins with the type of its record
 has_record : (line : List ℕ) (r : Record) → take 1 line ≡ type_of r ∷ [] → judged_by (type_of r) line ≡ Ok r → HasRecord line r
 unfolding judged_by type_of HasRecord
-has_record line (One r) begins e = judged_is_line rtype_1 len_1 type_1_reading SpellsType1 reading_1 line r begins (unwrapped One (λ x y h. cc) _ r e)
-has_record line (Two r) begins e = judged_is_line rtype_2 len_2 type_2_reading SpellsType2 reading_2 line r begins (unwrapped Two (λ x y h. cc) _ r e)
-has_record line (Four r) begins e = judged_is_line rtype_4 len_4 type_4_reading SpellsType4 reading_4 line r begins (unwrapped Four (λ x y h. cc) _ r e)
-has_record line (Five r) begins e = judged_is_line rtype_5 len_5 type_5_reading SpellsType5 reading_5 line r begins (unwrapped Five (λ x y h. cc) _ r e)
-has_record line (Six r) begins e = judged_is_line rtype_6 len_6 type_6_reading SpellsType6 reading_6 line r begins (unwrapped Six (λ x y h. cc) _ r e)
-has_record line (Seven r) begins e = judged_is_line rtype_7 len_7 type_7_reading SpellsType7 reading_7 line r begins (unwrapped Seven (λ x y h. cc) _ r e)
-has_record line (Eight r) begins e = judged_is_line rtype_8 len_8 type_8_reading SpellsType8 reading_8 line r begins (unwrapped Eight (λ x y h. cc) _ r e)
-has_record line (I r) begins e = judged_is_line rtype_i len_i type_i_reading SpellsTypeI reading_i line r begins (unwrapped I (λ x y h. cc) _ r e)
-has_record line (P r) begins e = judged_is_line rtype_p len_p type_p_reading SpellsTypeP reading_p line r begins (unwrapped P (λ x y h. cc) _ r e)
+has_record line (One r) begins e =
+    judged_is_line rtype_1 len_1 type_1_reading SpellsType1 reading_1 line r begins (unwrapped One (λ x y h. cc) _ r e)
+has_record line (Two r) begins e =
+    judged_is_line rtype_2 len_2 type_2_reading SpellsType2 reading_2 line r begins (unwrapped Two (λ x y h. cc) _ r e)
+has_record line (Four r) begins e =
+    judged_is_line rtype_4 len_4 type_4_reading SpellsType4 reading_4 line r begins (unwrapped Four (λ x y h. cc) _ r e)
+has_record line (Five r) begins e =
+    judged_is_line rtype_5 len_5 type_5_reading SpellsType5 reading_5 line r begins (unwrapped Five (λ x y h. cc) _ r e)
+has_record line (Six r) begins e =
+    judged_is_line rtype_6 len_6 type_6_reading SpellsType6 reading_6 line r begins (unwrapped Six (λ x y h. cc) _ r e)
+has_record line (Seven r) begins e =
+    judged_is_line rtype_7 len_7 type_7_reading SpellsType7 reading_7 line r begins (unwrapped Seven (λ x y h. cc) _ r e)
+has_record line (Eight r) begins e =
+    judged_is_line rtype_8 len_8 type_8_reading SpellsType8 reading_8 line r begins (unwrapped Eight (λ x y h. cc) _ r e)
+has_record line (I r) begins e =
+    judged_is_line rtype_i len_i type_i_reading SpellsTypeI reading_i line r begins (unwrapped I (λ x y h. cc) _ r e)
+has_record line (P r) begins e =
+    judged_is_line rtype_p len_p type_p_reading SpellsTypeP reading_p line r begins (unwrapped P (λ x y h. cc) _ r e)
 
 pub record_of_judged : (line : List ℕ) (r : Record) → judged line ≡ Ok r → HasRecord line r
 unfolding judged
@@ -130,15 +142,24 @@ record_of_judged (b ∷ line) r e =
 
 pub judged_of_record : (line : List ℕ) (r : Record) → HasRecord line r → judged line ≡ Ok r
 unfolding judged_by HasRecord
-judged_of_record line (One r) h = by_first rtype_1 line h.begins ∙ ap (as_record One) (line_is_judged rtype_1 len_1 type_1_reading SpellsType1 reading_1 line r h)
-judged_of_record line (Two r) h = by_first rtype_2 line h.begins ∙ ap (as_record Two) (line_is_judged rtype_2 len_2 type_2_reading SpellsType2 reading_2 line r h)
-judged_of_record line (Four r) h = by_first rtype_4 line h.begins ∙ ap (as_record Four) (line_is_judged rtype_4 len_4 type_4_reading SpellsType4 reading_4 line r h)
-judged_of_record line (Five r) h = by_first rtype_5 line h.begins ∙ ap (as_record Five) (line_is_judged rtype_5 len_5 type_5_reading SpellsType5 reading_5 line r h)
-judged_of_record line (Six r) h = by_first rtype_6 line h.begins ∙ ap (as_record Six) (line_is_judged rtype_6 len_6 type_6_reading SpellsType6 reading_6 line r h)
-judged_of_record line (Seven r) h = by_first rtype_7 line h.begins ∙ ap (as_record Seven) (line_is_judged rtype_7 len_7 type_7_reading SpellsType7 reading_7 line r h)
-judged_of_record line (Eight r) h = by_first rtype_8 line h.begins ∙ ap (as_record Eight) (line_is_judged rtype_8 len_8 type_8_reading SpellsType8 reading_8 line r h)
-judged_of_record line (I r) h = by_first rtype_i line h.begins ∙ ap (as_record I) (line_is_judged rtype_i len_i type_i_reading SpellsTypeI reading_i line r h)
-judged_of_record line (P r) h = by_first rtype_p line h.begins ∙ ap (as_record P) (line_is_judged rtype_p len_p type_p_reading SpellsTypeP reading_p line r h)
+judged_of_record line (One r) h = by_first rtype_1 line h.begins
+    ∙ ap (as_record One) (line_is_judged rtype_1 len_1 type_1_reading SpellsType1 reading_1 line r h)
+judged_of_record line (Two r) h = by_first rtype_2 line h.begins
+    ∙ ap (as_record Two) (line_is_judged rtype_2 len_2 type_2_reading SpellsType2 reading_2 line r h)
+judged_of_record line (Four r) h = by_first rtype_4 line h.begins
+    ∙ ap (as_record Four) (line_is_judged rtype_4 len_4 type_4_reading SpellsType4 reading_4 line r h)
+judged_of_record line (Five r) h = by_first rtype_5 line h.begins
+    ∙ ap (as_record Five) (line_is_judged rtype_5 len_5 type_5_reading SpellsType5 reading_5 line r h)
+judged_of_record line (Six r) h = by_first rtype_6 line h.begins
+    ∙ ap (as_record Six) (line_is_judged rtype_6 len_6 type_6_reading SpellsType6 reading_6 line r h)
+judged_of_record line (Seven r) h = by_first rtype_7 line h.begins
+    ∙ ap (as_record Seven) (line_is_judged rtype_7 len_7 type_7_reading SpellsType7 reading_7 line r h)
+judged_of_record line (Eight r) h = by_first rtype_8 line h.begins
+    ∙ ap (as_record Eight) (line_is_judged rtype_8 len_8 type_8_reading SpellsType8 reading_8 line r h)
+judged_of_record line (I r) h = by_first rtype_i line h.begins
+    ∙ ap (as_record I) (line_is_judged rtype_i len_i type_i_reading SpellsTypeI reading_i line r h)
+judged_of_record line (P r) h = by_first rtype_p line h.begins
+    ∙ ap (as_record P) (line_is_judged rtype_p len_p type_p_reading SpellsTypeP reading_p line r h)
 
 -- ---- faults
 
@@ -160,29 +181,50 @@ not_so : (b t : ℕ) (line : List ℕ) → ¬ BeginsWith t (b ∷ line) → eqb 
 not_so b t line h = ne_eqb b t (λ e. h (ap (λ (x : ℕ). x ∷ []) e))
 
 -- what a line fails with that begins with one type, or with another
-fails_by : {R : Type 0} (b t : ℕ) (line : List ℕ) (wrap : R → Record) (v : Result R LineFault) (rest : Result Record LineFault) (fault : LineFault) → cond (eqb b t) (as_record wrap v) rest ≡ Err fault
-    → (BeginsWith t (b ∷ line) → v ≡ Err fault → IsFaultOfLine (b ∷ line) fault) → (¬ BeginsWith t (b ∷ line) → rest ≡ Err fault → IsFaultOfLine (b ∷ line) fault) → IsFaultOfLine (b ∷ line) fault
+fails_by : {R : Type 0} (b t : ℕ) (line : List ℕ) (wrap : R → Record) (v : Result R LineFault) (rest : Result Record LineFault)
+    (fault : LineFault) → cond (eqb b t) (as_record wrap v) rest ≡ Err fault
+    → (BeginsWith t (b ∷ line) → v ≡ Err fault → IsFaultOfLine (b ∷ line) fault)
+    → (¬ BeginsWith t (b ∷ line) → rest ≡ Err fault → IsFaultOfLine (b ∷ line) fault) → IsFaultOfLine (b ∷ line) fault
 fails_by {R} b t line wrap v rest fault h here later = go (eqb b t) refl h
   where
     go : (x : Bool) → eqb b t ≡ x → cond x (as_record wrap v) rest ≡ Err fault → IsFaultOfLine (b ∷ line) fault
     go true e k = here (begins_so b t line e) (unwrapped_err wrap v fault k)
     go false e k = later (begins_otherwise b t line e) k
 
-no_type_told : (fault : LineFault) → ◌≡◌ {A = Result Record LineFault} (Err line_faults.UnknownType) (Err fault) → fault ≡ line_faults.UnknownType
+no_type_told : (fault : LineFault) → ◌≡◌ {A = Result Record LineFault} (Err line_faults.UnknownType) (Err fault)
+    → fault ≡ line_faults.UnknownType
 no_type_told fault e = cc
 
 fault_by_first : (b : ℕ) (line : List ℕ) (fault : LineFault) → judged_by b (b ∷ line) ≡ Err fault → IsFaultOfLine (b ∷ line) fault
 unfolding judged_by
 fault_by_first b line fault e =
-    fails_by b rtype_1 line One (judged_as len_1 type_1_reading (b ∷ line)) _ fault e (λ begins failed. of_type_1 begins (judged_fault_found rtype_1 len_1 type_1_reading _ type_1_leftmost (b ∷ line) fault begins failed)) (λ n0 e0.
-    fails_by b rtype_2 line Two (judged_as len_2 type_2_reading (b ∷ line)) _ fault e0 (λ begins failed. of_type_2 begins (judged_fault_found rtype_2 len_2 type_2_reading _ type_2_leftmost (b ∷ line) fault begins failed)) (λ n1 e1.
-    fails_by b rtype_4 line Four (judged_as len_4 type_4_reading (b ∷ line)) _ fault e1 (λ begins failed. of_type_4 begins (judged_fault_found rtype_4 len_4 type_4_reading _ type_4_leftmost (b ∷ line) fault begins failed)) (λ n2 e2.
-    fails_by b rtype_5 line Five (judged_as len_5 type_5_reading (b ∷ line)) _ fault e2 (λ begins failed. of_type_5 begins (judged_fault_found rtype_5 len_5 type_5_reading _ type_5_leftmost (b ∷ line) fault begins failed)) (λ n3 e3.
-    fails_by b rtype_6 line Six (judged_as len_6 type_6_reading (b ∷ line)) _ fault e3 (λ begins failed. of_type_6 begins (judged_fault_found rtype_6 len_6 type_6_reading _ type_6_leftmost (b ∷ line) fault begins failed)) (λ n4 e4.
-    fails_by b rtype_7 line Seven (judged_as len_7 type_7_reading (b ∷ line)) _ fault e4 (λ begins failed. of_type_7 begins (judged_fault_found rtype_7 len_7 type_7_reading _ type_7_leftmost (b ∷ line) fault begins failed)) (λ n5 e5.
-    fails_by b rtype_8 line Eight (judged_as len_8 type_8_reading (b ∷ line)) _ fault e5 (λ begins failed. of_type_8 begins (judged_fault_found rtype_8 len_8 type_8_reading _ type_8_leftmost (b ∷ line) fault begins failed)) (λ n6 e6.
-    fails_by b rtype_i line I (judged_as len_i type_i_reading (b ∷ line)) _ fault e6 (λ begins failed. of_type_i begins (judged_fault_found rtype_i len_i type_i_reading _ type_i_leftmost (b ∷ line) fault begins failed)) (λ n7 e7.
-    fails_by b rtype_p line P (judged_as len_p type_p_reading (b ∷ line)) _ fault e7 (λ begins failed. of_type_p begins (judged_fault_found rtype_p len_p type_p_reading _ type_p_leftmost (b ∷ line) fault begins failed)) (λ n8 e8.
+    fails_by b rtype_1 line One (judged_as len_1 type_1_reading (b ∷ line)) _ fault e
+    (λ begins failed. of_type_1 begins
+    (judged_fault_found rtype_1 len_1 type_1_reading _ type_1_leftmost (b ∷ line) fault begins failed)) (λ n0 e0.
+    fails_by b rtype_2 line Two (judged_as len_2 type_2_reading (b ∷ line)) _ fault e0
+    (λ begins failed. of_type_2 begins
+    (judged_fault_found rtype_2 len_2 type_2_reading _ type_2_leftmost (b ∷ line) fault begins failed)) (λ n1 e1.
+    fails_by b rtype_4 line Four (judged_as len_4 type_4_reading (b ∷ line)) _ fault e1
+    (λ begins failed. of_type_4 begins
+    (judged_fault_found rtype_4 len_4 type_4_reading _ type_4_leftmost (b ∷ line) fault begins failed)) (λ n2 e2.
+    fails_by b rtype_5 line Five (judged_as len_5 type_5_reading (b ∷ line)) _ fault e2
+    (λ begins failed. of_type_5 begins
+    (judged_fault_found rtype_5 len_5 type_5_reading _ type_5_leftmost (b ∷ line) fault begins failed)) (λ n3 e3.
+    fails_by b rtype_6 line Six (judged_as len_6 type_6_reading (b ∷ line)) _ fault e3
+    (λ begins failed. of_type_6 begins
+    (judged_fault_found rtype_6 len_6 type_6_reading _ type_6_leftmost (b ∷ line) fault begins failed)) (λ n4 e4.
+    fails_by b rtype_7 line Seven (judged_as len_7 type_7_reading (b ∷ line)) _ fault e4
+    (λ begins failed. of_type_7 begins
+    (judged_fault_found rtype_7 len_7 type_7_reading _ type_7_leftmost (b ∷ line) fault begins failed)) (λ n5 e5.
+    fails_by b rtype_8 line Eight (judged_as len_8 type_8_reading (b ∷ line)) _ fault e5
+    (λ begins failed. of_type_8 begins
+    (judged_fault_found rtype_8 len_8 type_8_reading _ type_8_leftmost (b ∷ line) fault begins failed)) (λ n6 e6.
+    fails_by b rtype_i line I (judged_as len_i type_i_reading (b ∷ line)) _ fault e6
+    (λ begins failed. of_type_i begins
+    (judged_fault_found rtype_i len_i type_i_reading _ type_i_leftmost (b ∷ line) fault begins failed)) (λ n7 e7.
+    fails_by b rtype_p line P (judged_as len_p type_p_reading (b ∷ line)) _ fault e7
+    (λ begins failed. of_type_p begins
+    (judged_fault_found rtype_p len_p type_p_reading _ type_p_leftmost (b ∷ line) fault begins failed)) (λ n8 e8.
     of_no_type (n0, (n1, (n2, (n3, (n4, (n5, (n6, (n7, (n8, tt))))))))) (no_type_told fault e8))))))))))
 
 empty_has_no_type : AllByRecursion (λ (rtype : ℕ). ¬ BeginsWith rtype []) record_types
@@ -194,45 +236,80 @@ unfolding judged
 fault_of_judged [] fault e = of_no_type empty_has_no_type (no_type_told fault e)
 fault_of_judged (b ∷ line) fault e = fault_by_first b line fault e
 
-unknown_judged : (line : List ℕ) → AllByRecursion (λ (rtype : ℕ). ¬ BeginsWith rtype line) record_types → judged line ≡ Err line_faults.UnknownType
+unknown_judged : (line : List ℕ) → AllByRecursion (λ (rtype : ℕ). ¬ BeginsWith rtype line) record_types
+    → judged line ≡ Err line_faults.UnknownType
 unfolding judged judged_by
 unknown_judged [] h = refl
 unknown_judged (b ∷ line) h =
-    rw (not_so b rtype_1 line h.0, not_so b rtype_2 line h.1.0, not_so b rtype_4 line h.1.1.0, not_so b rtype_5 line h.1.1.1.0, not_so b rtype_6 line h.1.1.1.1.0, not_so b rtype_7 line h.1.1.1.1.1.0, not_so b rtype_8 line h.1.1.1.1.1.1.0, not_so b rtype_i line h.1.1.1.1.1.1.1.0, not_so b rtype_p line h.1.1.1.1.1.1.1.1.0) refl
+    rw (
+      not_so b rtype_1 line h.0,
+      not_so b rtype_2 line h.1.0,
+      not_so b rtype_4 line h.1.1.0,
+      not_so b rtype_5 line h.1.1.1.0,
+      not_so b rtype_6 line h.1.1.1.1.0,
+      not_so b rtype_7 line h.1.1.1.1.1.0,
+      not_so b rtype_8 line h.1.1.1.1.1.1.0,
+      not_so b rtype_i line h.1.1.1.1.1.1.1.0,
+      not_so b rtype_p line h.1.1.1.1.1.1.1.1.0,
+    ) refl
 
 -- the fault that is told of a line is the one that it is judged to have
 pub judged_of_fault : (line : List ℕ) (fault : LineFault) → IsFaultOfLine line fault → judged line ≡ Err fault
 unfolding judged_by
 judged_of_fault line fault (of_no_type h e) = unknown_judged line h ∙ ap (λ (z : LineFault). Err z) (sym e)
-judged_of_fault line fault (of_type_1 begins h) = by_first rtype_1 line begins ∙ wrapped_err One _ fault (judged_fault_only rtype_1 len_1 type_1_reading _ type_1_leftmost line fault begins h)
-judged_of_fault line fault (of_type_2 begins h) = by_first rtype_2 line begins ∙ wrapped_err Two _ fault (judged_fault_only rtype_2 len_2 type_2_reading _ type_2_leftmost line fault begins h)
-judged_of_fault line fault (of_type_4 begins h) = by_first rtype_4 line begins ∙ wrapped_err Four _ fault (judged_fault_only rtype_4 len_4 type_4_reading _ type_4_leftmost line fault begins h)
-judged_of_fault line fault (of_type_5 begins h) = by_first rtype_5 line begins ∙ wrapped_err Five _ fault (judged_fault_only rtype_5 len_5 type_5_reading _ type_5_leftmost line fault begins h)
-judged_of_fault line fault (of_type_6 begins h) = by_first rtype_6 line begins ∙ wrapped_err Six _ fault (judged_fault_only rtype_6 len_6 type_6_reading _ type_6_leftmost line fault begins h)
-judged_of_fault line fault (of_type_7 begins h) = by_first rtype_7 line begins ∙ wrapped_err Seven _ fault (judged_fault_only rtype_7 len_7 type_7_reading _ type_7_leftmost line fault begins h)
-judged_of_fault line fault (of_type_8 begins h) = by_first rtype_8 line begins ∙ wrapped_err Eight _ fault (judged_fault_only rtype_8 len_8 type_8_reading _ type_8_leftmost line fault begins h)
-judged_of_fault line fault (of_type_i begins h) = by_first rtype_i line begins ∙ wrapped_err I _ fault (judged_fault_only rtype_i len_i type_i_reading _ type_i_leftmost line fault begins h)
-judged_of_fault line fault (of_type_p begins h) = by_first rtype_p line begins ∙ wrapped_err P _ fault (judged_fault_only rtype_p len_p type_p_reading _ type_p_leftmost line fault begins h)
+judged_of_fault line fault (of_type_1 begins h) = by_first rtype_1 line begins
+    ∙ wrapped_err One _ fault (judged_fault_only rtype_1 len_1 type_1_reading _ type_1_leftmost line fault begins h)
+judged_of_fault line fault (of_type_2 begins h) = by_first rtype_2 line begins
+    ∙ wrapped_err Two _ fault (judged_fault_only rtype_2 len_2 type_2_reading _ type_2_leftmost line fault begins h)
+judged_of_fault line fault (of_type_4 begins h) = by_first rtype_4 line begins
+    ∙ wrapped_err Four _ fault (judged_fault_only rtype_4 len_4 type_4_reading _ type_4_leftmost line fault begins h)
+judged_of_fault line fault (of_type_5 begins h) = by_first rtype_5 line begins
+    ∙ wrapped_err Five _ fault (judged_fault_only rtype_5 len_5 type_5_reading _ type_5_leftmost line fault begins h)
+judged_of_fault line fault (of_type_6 begins h) = by_first rtype_6 line begins
+    ∙ wrapped_err Six _ fault (judged_fault_only rtype_6 len_6 type_6_reading _ type_6_leftmost line fault begins h)
+judged_of_fault line fault (of_type_7 begins h) = by_first rtype_7 line begins
+    ∙ wrapped_err Seven _ fault (judged_fault_only rtype_7 len_7 type_7_reading _ type_7_leftmost line fault begins h)
+judged_of_fault line fault (of_type_8 begins h) = by_first rtype_8 line begins
+    ∙ wrapped_err Eight _ fault (judged_fault_only rtype_8 len_8 type_8_reading _ type_8_leftmost line fault begins h)
+judged_of_fault line fault (of_type_i begins h) = by_first rtype_i line begins
+    ∙ wrapped_err I _ fault (judged_fault_only rtype_i len_i type_i_reading _ type_i_leftmost line fault begins h)
+judged_of_fault line fault (of_type_p begins h) = by_first rtype_p line begins
+    ∙ wrapped_err P _ fault (judged_fault_only rtype_p len_p type_p_reading _ type_p_leftmost line fault begins h)
 
 -- the judge of TIGER/Line 2006 finds just the records that lines have, and just what is told of faulty ones
 pub tiger_is_sound : IsSound tiger
 unfolding tiger
-tiger_is_sound = record { has_found = record_of_judged; has_only = judged_of_record; fault_found = fault_of_judged; fault_only = judged_of_fault }
+tiger_is_sound = record {
+  has_found = record_of_judged;
+  has_only = judged_of_record;
+  fault_found = fault_of_judged;
+  fault_only =
+      judged_of_fault;
+}
 
 -- ---- what is spelled fits
 
 -- a line has only records that fit
 pub record_fits : (line : List ℕ) (r : Record) → HasRecord line r → FitsRecord r
 unfolding HasRecord FitsRecord
-record_fits line (One r) h = line_fits rtype_1 len_1 SpellsType1 _ (λ l x is s. (type_1_reads_spelled l x is (type_1_spelled_is_read l x is s)).0) line r h
-record_fits line (Two r) h = line_fits rtype_2 len_2 SpellsType2 _ (λ l x is s. (type_2_reads_spelled l x is (type_2_spelled_is_read l x is s)).0) line r h
-record_fits line (Four r) h = line_fits rtype_4 len_4 SpellsType4 _ (λ l x is s. (type_4_reads_spelled l x is (type_4_spelled_is_read l x is s)).0) line r h
-record_fits line (Five r) h = line_fits rtype_5 len_5 SpellsType5 _ (λ l x is s. (type_5_reads_spelled l x is (type_5_spelled_is_read l x is s)).0) line r h
-record_fits line (Six r) h = line_fits rtype_6 len_6 SpellsType6 _ (λ l x is s. (type_6_reads_spelled l x is (type_6_spelled_is_read l x is s)).0) line r h
-record_fits line (Seven r) h = line_fits rtype_7 len_7 SpellsType7 _ (λ l x is s. (type_7_reads_spelled l x is (type_7_spelled_is_read l x is s)).0) line r h
-record_fits line (Eight r) h = line_fits rtype_8 len_8 SpellsType8 _ (λ l x is s. (type_8_reads_spelled l x is (type_8_spelled_is_read l x is s)).0) line r h
-record_fits line (I r) h = line_fits rtype_i len_i SpellsTypeI _ (λ l x is s. (type_i_reads_spelled l x is (type_i_spelled_is_read l x is s)).0) line r h
-record_fits line (P r) h = line_fits rtype_p len_p SpellsTypeP _ (λ l x is s. (type_p_reads_spelled l x is (type_p_spelled_is_read l x is s)).0) line r h
+record_fits line (One r) h =
+    line_fits rtype_1 len_1 SpellsType1 _ (λ l x is s. (type_1_reads_spelled l x is (type_1_spelled_is_read l x is s)).0) line r h
+record_fits line (Two r) h =
+    line_fits rtype_2 len_2 SpellsType2 _ (λ l x is s. (type_2_reads_spelled l x is (type_2_spelled_is_read l x is s)).0) line r h
+record_fits line (Four r) h =
+    line_fits rtype_4 len_4 SpellsType4 _ (λ l x is s. (type_4_reads_spelled l x is (type_4_spelled_is_read l x is s)).0) line r h
+record_fits line (Five r) h =
+    line_fits rtype_5 len_5 SpellsType5 _ (λ l x is s. (type_5_reads_spelled l x is (type_5_spelled_is_read l x is s)).0) line r h
+record_fits line (Six r) h =
+    line_fits rtype_6 len_6 SpellsType6 _ (λ l x is s. (type_6_reads_spelled l x is (type_6_spelled_is_read l x is s)).0) line r h
+record_fits line (Seven r) h =
+    line_fits rtype_7 len_7 SpellsType7 _ (λ l x is s. (type_7_reads_spelled l x is (type_7_spelled_is_read l x is s)).0) line r h
+record_fits line (Eight r) h =
+    line_fits rtype_8 len_8 SpellsType8 _ (λ l x is s. (type_8_reads_spelled l x is (type_8_spelled_is_read l x is s)).0) line r h
+record_fits line (I r) h =
+    line_fits rtype_i len_i SpellsTypeI _ (λ l x is s. (type_i_reads_spelled l x is (type_i_spelled_is_read l x is s)).0) line r h
+record_fits line (P r) h =
+    line_fits rtype_p len_p SpellsTypeP _ (λ l x is s. (type_p_reads_spelled l x is (type_p_spelled_is_read l x is s)).0) line r h
 
 -- lines that have records have records that fit
 lines_fit : (lines : List PlacedLine) (records : List Record) → AreSpelled tiger lines records → All FitsRecord records
@@ -247,6 +324,7 @@ pub spelled_fit : (parts : List (List ℕ)) (records : List Record) → Spells t
 spelled_fit parts records h = lines_fit (placed_lines parts) records h
 
 -- records that are accepted within a limit are at most so many of each type
-pub accepted_within : (limit : ℕ) (parts : List (List ℕ)) (records : List Record) → Accepts tiger limit parts records → IsWithinLimit limit records
+pub accepted_within : (limit : ℕ) (parts : List (List ℕ)) (records : List Record) → Accepts tiger limit parts records
+    → IsWithinLimit limit records
 unfolding tiger
 accepted_within limit parts records h = h.within

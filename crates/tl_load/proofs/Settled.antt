@@ -1,5 +1,6 @@
 -- A line of more than 228 bytes is refused, whatever follows them.
-use Rattle.std.proofs.Common.{◌≡◌, ℕ, ◌<◌, ◌≤◌, Bool, true, false, cond, List, [], ◌∷◌, ◌++◌, length, Result, Err, refl, sym, ap, ◌∙◌, arith, eqb, lit≤}
+use Rattle.std.proofs.Common.{◌≡◌, ℕ, ◌<◌, ◌≤◌, Bool, true, false, cond, List, [], ◌∷◌, ◌++◌, length, Result, Err, refl, sym, ap}
+use Rattle.std.proofs.Common.{◌∙◌, arith, eqb, lit≤}
 use Rattle.std.specs.Result.{IsErr}
 use Rattle.std.proofs.lemmas.Bool.{lt-ltb}
 use Rattle.std.proofs.lemmas.List.{length-append}
@@ -20,13 +21,24 @@ use Rattle.tl_load.specs.declared.fault.LineFault.TheVariants as line_faults
 use Rattle.tl_load.specs.LineOf.{judged_as, judged_full, filled}
 use Rattle.tl_load.specs.Choice.{as_record, judged_by, judged}
 
-too_long : {R : Type 0} (len : ℕ) (reading : List ℕ → Result R FieldFault) (wrap : R → Record) (line : List ℕ) → len ≤ 228 → 228 < length line → as_record wrap (judged_as len reading line) ≡ Err line_faults.LineTooLong
+too_long : {R : Type 0} (len : ℕ) (reading : List ℕ → Result R FieldFault) (wrap : R → Record) (line : List ℕ) → len ≤ 228
+    → 228 < length line → as_record wrap (judged_as len reading line) ≡ Err line_faults.LineTooLong
 unfolding judged_as
-too_long len reading wrap line low long = ap (λ (b : Bool). as_record wrap (cond b (Err line_faults.LineTooLong) (judged_full reading (filled len line)))) (lt-ltb len (length line) (omega arith))
+too_long len reading wrap line low long =
+    ap (λ (b : Bool). as_record wrap (cond b (Err line_faults.LineTooLong) (judged_full reading (filled len line))))
+    (lt-ltb len (length line) (omega arith))
 
 -- what a line of more than 228 bytes is refused as, by its first byte
 long_fault : ℕ → Result Record LineFault
-long_fault rtype = cond (eqb rtype 49) (Err line_faults.LineTooLong) (cond (eqb rtype 50) (Err line_faults.LineTooLong) (cond (eqb rtype 52) (Err line_faults.LineTooLong) (cond (eqb rtype 53) (Err line_faults.LineTooLong) (cond (eqb rtype 54) (Err line_faults.LineTooLong) (cond (eqb rtype 55) (Err line_faults.LineTooLong) (cond (eqb rtype 56) (Err line_faults.LineTooLong) (cond (eqb rtype 73) (Err line_faults.LineTooLong) (cond (eqb rtype 80) (Err line_faults.LineTooLong) (Err line_faults.UnknownType)))))))))
+long_fault rtype = cond (eqb rtype 49) (Err line_faults.LineTooLong)
+    (cond (eqb rtype 50) (Err line_faults.LineTooLong)
+    (cond (eqb rtype 52) (Err line_faults.LineTooLong)
+    (cond (eqb rtype 53) (Err line_faults.LineTooLong)
+    (cond (eqb rtype 54) (Err line_faults.LineTooLong)
+    (cond (eqb rtype 55) (Err line_faults.LineTooLong)
+    (cond (eqb rtype 56) (Err line_faults.LineTooLong)
+    (cond (eqb rtype 73) (Err line_faults.LineTooLong)
+    (cond (eqb rtype 80) (Err line_faults.LineTooLong) (Err line_faults.UnknownType)))))))))
 
 long_by : (rtype : ℕ) (line : List ℕ) → 228 < length line → judged_by rtype line ≡ long_fault rtype
 unfolding judged_by long_fault
@@ -48,7 +60,51 @@ err_cond false x y p q = q
 
 err_long : (rtype : ℕ) → IsErr (long_fault rtype)
 unfolding long_fault
-err_long rtype = err_cond (eqb rtype 49) (Err line_faults.LineTooLong) (cond (eqb rtype 50) (Err line_faults.LineTooLong) (cond (eqb rtype 52) (Err line_faults.LineTooLong) (cond (eqb rtype 53) (Err line_faults.LineTooLong) (cond (eqb rtype 54) (Err line_faults.LineTooLong) (cond (eqb rtype 55) (Err line_faults.LineTooLong) (cond (eqb rtype 56) (Err line_faults.LineTooLong) (cond (eqb rtype 73) (Err line_faults.LineTooLong) (cond (eqb rtype 80) (Err line_faults.LineTooLong) (Err line_faults.UnknownType))))))))) refl (err_cond (eqb rtype 50) (Err line_faults.LineTooLong) (cond (eqb rtype 52) (Err line_faults.LineTooLong) (cond (eqb rtype 53) (Err line_faults.LineTooLong) (cond (eqb rtype 54) (Err line_faults.LineTooLong) (cond (eqb rtype 55) (Err line_faults.LineTooLong) (cond (eqb rtype 56) (Err line_faults.LineTooLong) (cond (eqb rtype 73) (Err line_faults.LineTooLong) (cond (eqb rtype 80) (Err line_faults.LineTooLong) (Err line_faults.UnknownType)))))))) refl (err_cond (eqb rtype 52) (Err line_faults.LineTooLong) (cond (eqb rtype 53) (Err line_faults.LineTooLong) (cond (eqb rtype 54) (Err line_faults.LineTooLong) (cond (eqb rtype 55) (Err line_faults.LineTooLong) (cond (eqb rtype 56) (Err line_faults.LineTooLong) (cond (eqb rtype 73) (Err line_faults.LineTooLong) (cond (eqb rtype 80) (Err line_faults.LineTooLong) (Err line_faults.UnknownType))))))) refl (err_cond (eqb rtype 53) (Err line_faults.LineTooLong) (cond (eqb rtype 54) (Err line_faults.LineTooLong) (cond (eqb rtype 55) (Err line_faults.LineTooLong) (cond (eqb rtype 56) (Err line_faults.LineTooLong) (cond (eqb rtype 73) (Err line_faults.LineTooLong) (cond (eqb rtype 80) (Err line_faults.LineTooLong) (Err line_faults.UnknownType)))))) refl (err_cond (eqb rtype 54) (Err line_faults.LineTooLong) (cond (eqb rtype 55) (Err line_faults.LineTooLong) (cond (eqb rtype 56) (Err line_faults.LineTooLong) (cond (eqb rtype 73) (Err line_faults.LineTooLong) (cond (eqb rtype 80) (Err line_faults.LineTooLong) (Err line_faults.UnknownType))))) refl (err_cond (eqb rtype 55) (Err line_faults.LineTooLong) (cond (eqb rtype 56) (Err line_faults.LineTooLong) (cond (eqb rtype 73) (Err line_faults.LineTooLong) (cond (eqb rtype 80) (Err line_faults.LineTooLong) (Err line_faults.UnknownType)))) refl (err_cond (eqb rtype 56) (Err line_faults.LineTooLong) (cond (eqb rtype 73) (Err line_faults.LineTooLong) (cond (eqb rtype 80) (Err line_faults.LineTooLong) (Err line_faults.UnknownType))) refl (err_cond (eqb rtype 73) (Err line_faults.LineTooLong) (cond (eqb rtype 80) (Err line_faults.LineTooLong) (Err line_faults.UnknownType)) refl (err_cond (eqb rtype 80) (Err line_faults.LineTooLong) (Err line_faults.UnknownType) refl refl))))))))
+err_long rtype = err_cond (eqb rtype 49) (Err line_faults.LineTooLong)
+    (cond (eqb rtype 50) (Err line_faults.LineTooLong)
+    (cond (eqb rtype 52) (Err line_faults.LineTooLong)
+    (cond (eqb rtype 53) (Err line_faults.LineTooLong)
+    (cond (eqb rtype 54) (Err line_faults.LineTooLong)
+    (cond (eqb rtype 55) (Err line_faults.LineTooLong)
+    (cond (eqb rtype 56) (Err line_faults.LineTooLong)
+    (cond (eqb rtype 73) (Err line_faults.LineTooLong)
+    (cond (eqb rtype 80) (Err line_faults.LineTooLong) (Err line_faults.UnknownType))))))))) refl
+    (err_cond (eqb rtype 50) (Err line_faults.LineTooLong)
+    (cond (eqb rtype 52) (Err line_faults.LineTooLong)
+    (cond (eqb rtype 53) (Err line_faults.LineTooLong)
+    (cond (eqb rtype 54) (Err line_faults.LineTooLong)
+    (cond (eqb rtype 55) (Err line_faults.LineTooLong)
+    (cond (eqb rtype 56) (Err line_faults.LineTooLong)
+    (cond (eqb rtype 73) (Err line_faults.LineTooLong)
+    (cond (eqb rtype 80) (Err line_faults.LineTooLong) (Err line_faults.UnknownType)))))))) refl
+    (err_cond (eqb rtype 52) (Err line_faults.LineTooLong)
+    (cond (eqb rtype 53) (Err line_faults.LineTooLong)
+    (cond (eqb rtype 54) (Err line_faults.LineTooLong)
+    (cond (eqb rtype 55) (Err line_faults.LineTooLong)
+    (cond (eqb rtype 56) (Err line_faults.LineTooLong)
+    (cond (eqb rtype 73) (Err line_faults.LineTooLong)
+    (cond (eqb rtype 80) (Err line_faults.LineTooLong) (Err line_faults.UnknownType))))))) refl
+    (err_cond (eqb rtype 53) (Err line_faults.LineTooLong)
+    (cond (eqb rtype 54) (Err line_faults.LineTooLong)
+    (cond (eqb rtype 55) (Err line_faults.LineTooLong)
+    (cond (eqb rtype 56) (Err line_faults.LineTooLong)
+    (cond (eqb rtype 73) (Err line_faults.LineTooLong)
+    (cond (eqb rtype 80) (Err line_faults.LineTooLong) (Err line_faults.UnknownType)))))) refl
+    (err_cond (eqb rtype 54) (Err line_faults.LineTooLong)
+    (cond (eqb rtype 55) (Err line_faults.LineTooLong)
+    (cond (eqb rtype 56) (Err line_faults.LineTooLong)
+    (cond (eqb rtype 73) (Err line_faults.LineTooLong)
+    (cond (eqb rtype 80) (Err line_faults.LineTooLong) (Err line_faults.UnknownType))))) refl
+    (err_cond (eqb rtype 55) (Err line_faults.LineTooLong)
+    (cond (eqb rtype 56) (Err line_faults.LineTooLong)
+    (cond (eqb rtype 73) (Err line_faults.LineTooLong)
+    (cond (eqb rtype 80) (Err line_faults.LineTooLong) (Err line_faults.UnknownType)))) refl
+    (err_cond (eqb rtype 56) (Err line_faults.LineTooLong)
+    (cond (eqb rtype 73) (Err line_faults.LineTooLong)
+    (cond (eqb rtype 80) (Err line_faults.LineTooLong) (Err line_faults.UnknownType))) refl
+    (err_cond (eqb rtype 73) (Err line_faults.LineTooLong)
+    (cond (eqb rtype 80) (Err line_faults.LineTooLong) (Err line_faults.UnknownType)) refl
+    (err_cond (eqb rtype 80) (Err line_faults.LineTooLong) (Err line_faults.UnknownType) refl refl))))))))
 
 is_err_along : (x y : Result Record LineFault) → x ≡ y → IsErr y → IsErr x
 is_err_along x y e h = rw e h
@@ -61,4 +117,5 @@ judged_long (b ∷ line) long = is_err_along _ _ (long_by b (b ∷ line) long) (
 pub judged_settles : (line more : List ℕ) → 228 < length line → judged (line ++ more) ≡ judged line
 unfolding judged
 judged_settles [] more long = absurd (omega arith)
-judged_settles (b ∷ line) more long = long_by b (b ∷ line ++ more) (omega (arith, length-append (b ∷ line) more)) ∙ sym (long_by b (b ∷ line) long)
+judged_settles (b ∷ line) more long = long_by b (b ∷ line ++ more) (omega (arith, length-append (b ∷ line) more))
+    ∙ sym (long_by b (b ∷ line) long)

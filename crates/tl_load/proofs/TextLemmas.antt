@@ -1,5 +1,6 @@
 -- The canonical text of records is read as these records.
-use Rattle.std.proofs.Common.{◌≡◌, ℕ, suc, ◌+◌, ◌-◌, ◌<◌, Bool, true, false, cond, List, [], ◌∷◌, ◌++◌, length, get_or, take, map, Result, Ok, Err, refl, sym, ap, subst, ◌∙◌, append_assoc, append-nil, arith, eqb}
+use Rattle.std.proofs.Common.{◌≡◌, ℕ, suc, ◌+◌, ◌-◌, ◌<◌, Bool, true, false, cond, List, [], ◌∷◌, ◌++◌, length, get_or, take, map}
+use Rattle.std.proofs.Common.{Result, Ok, Err, refl, sym, ap, subst, ◌∙◌, append_assoc, append-nil, arith, eqb}
 use Rattle.std.specs.Prelude.{All}
 use Rattle.std.proofs.lemmas.Grind.{flat_map-append}
 use Rattle.std.proofs.lemmas.Bool.{le-ltb, false_from_ne_true, eqb-true}
@@ -43,31 +44,44 @@ use Rattle.tl_load.proofs.Reading.{AreJudged, judged_spelled, spelled_once}
 -- ---- a canonical line
 
 -- a full line is judged as what it is read as
-judged_full_line : {R : Type 0} (rtype len : ℕ) (reading : List ℕ → Result R FieldFault) (line : List ℕ) (r : R) → IsLine rtype len line → reading line ≡ Ok r → judged_as len reading line ≡ Ok r
+judged_full_line : {R : Type 0} (rtype len : ℕ) (reading : List ℕ → Result R FieldFault) (line : List ℕ) (r : R) → IsLine rtype len line
+    → reading line ≡ Ok r → judged_as len reading line ≡ Ok r
 unfolding judged_as judged_full
 judged_full_line rtype len reading line r is e =
-    ap (λ (b : Bool). cond b (Err line_faults.LineTooLong) (judged_full reading (filled len line))) (le-ltb len (length line) (omega (arith, is.text.len)))
+    ap (λ (b : Bool). cond b (Err line_faults.LineTooLong) (judged_full reading (filled len line)))
+    (le-ltb len (length line) (omega (arith, is.text.len)))
     ∙ ap (judged_full reading) (filled_full len line is.text.len)
     ∙ ap (λ (b : Bool). cond b (Err (line_faults.BadByte (first_bad line + 1))) (of_reading (reading line))) (bad_none line is.text.allowed)
     ∙ ap of_reading e
 
 judged_spelling : (r : Record) → FitsRecord r → judged (spelling_of r) ≡ Ok r
 unfolding judged_by type_of len_of spelling_of FitsRecord
-judged_spelling (One r) f = let is = spelling_is_line (One r) f in by_first 49 _ is.begins ∙ ap (as_record One) (judged_full_line 49 228 type_1_reading _ r is (type_1_reads_spelling r f))
-judged_spelling (Two r) f = let is = spelling_is_line (Two r) f in by_first 50 _ is.begins ∙ ap (as_record Two) (judged_full_line 50 208 type_2_reading _ r is (type_2_reads_spelling r f))
-judged_spelling (Four r) f = let is = spelling_is_line (Four r) f in by_first 52 _ is.begins ∙ ap (as_record Four) (judged_full_line 52 58 type_4_reading _ r is (type_4_reads_spelling r f))
-judged_spelling (Five r) f = let is = spelling_is_line (Five r) f in by_first 53 _ is.begins ∙ ap (as_record Five) (judged_full_line 53 56 type_5_reading _ r is (type_5_reads_spelling r f))
-judged_spelling (Six r) f = let is = spelling_is_line (Six r) f in by_first 54 _ is.begins ∙ ap (as_record Six) (judged_full_line 54 76 type_6_reading _ r is (type_6_reads_spelling r f))
-judged_spelling (Seven r) f = let is = spelling_is_line (Seven r) f in by_first 55 _ is.begins ∙ ap (as_record Seven) (judged_full_line 55 74 type_7_reading _ r is (type_7_reads_spelling r f))
-judged_spelling (Eight r) f = let is = spelling_is_line (Eight r) f in by_first 56 _ is.begins ∙ ap (as_record Eight) (judged_full_line 56 36 type_8_reading _ r is (type_8_reads_spelling r f))
-judged_spelling (I r) f = let is = spelling_is_line (I r) f in by_first 73 _ is.begins ∙ ap (as_record I) (judged_full_line 73 127 type_i_reading _ r is (type_i_reads_spelling r f))
-judged_spelling (P r) f = let is = spelling_is_line (P r) f in by_first 80 _ is.begins ∙ ap (as_record P) (judged_full_line 80 45 type_p_reading _ r is (type_p_reads_spelling r f))
+judged_spelling (One r) f = let is = spelling_is_line (One r) f in by_first 49 _ is.begins
+    ∙ ap (as_record One) (judged_full_line 49 228 type_1_reading _ r is (type_1_reads_spelling r f))
+judged_spelling (Two r) f = let is = spelling_is_line (Two r) f in by_first 50 _ is.begins
+    ∙ ap (as_record Two) (judged_full_line 50 208 type_2_reading _ r is (type_2_reads_spelling r f))
+judged_spelling (Four r) f = let is = spelling_is_line (Four r) f in by_first 52 _ is.begins
+    ∙ ap (as_record Four) (judged_full_line 52 58 type_4_reading _ r is (type_4_reads_spelling r f))
+judged_spelling (Five r) f = let is = spelling_is_line (Five r) f in by_first 53 _ is.begins
+    ∙ ap (as_record Five) (judged_full_line 53 56 type_5_reading _ r is (type_5_reads_spelling r f))
+judged_spelling (Six r) f = let is = spelling_is_line (Six r) f in by_first 54 _ is.begins
+    ∙ ap (as_record Six) (judged_full_line 54 76 type_6_reading _ r is (type_6_reads_spelling r f))
+judged_spelling (Seven r) f = let is = spelling_is_line (Seven r) f in by_first 55 _ is.begins
+    ∙ ap (as_record Seven) (judged_full_line 55 74 type_7_reading _ r is (type_7_reads_spelling r f))
+judged_spelling (Eight r) f = let is = spelling_is_line (Eight r) f in by_first 56 _ is.begins
+    ∙ ap (as_record Eight) (judged_full_line 56 36 type_8_reading _ r is (type_8_reads_spelling r f))
+judged_spelling (I r) f = let is = spelling_is_line (I r) f in by_first 73 _ is.begins
+    ∙ ap (as_record I) (judged_full_line 73 127 type_i_reading _ r is (type_i_reads_spelling r f))
+judged_spelling (P r) f = let is = spelling_is_line (P r) f in by_first 80 _ is.begins
+    ∙ ap (as_record P) (judged_full_line 80 45 type_p_reading _ r is (type_p_reads_spelling r f))
 
 -- ---- its bytes
 
 -- a byte that isn't allowed is none of a line's
 is_not : (c b : ℕ) → is_allowed c ≡ false → is_allowed b ≡ true → eqb b c ≡ false
-is_not c b bad good = false_from_ne_true (eqb b c) (λ e. let same : b ≡ c = eqb-true b c e in let again : is_allowed c ≡ true = subst (λ (x : ℕ). is_allowed x ≡ true) same good in absurd cc)
+is_not c b bad good =
+    false_from_ne_true (eqb b c) (λ e. let same : b ≡ c = eqb-true b c e in let again : is_allowed c ≡ true =
+    subst (λ (x : ℕ). is_allowed x ≡ true) same good in absurd cc)
 
 no_feed : (line : List ℕ) → AreAllowed line → IsWithoutLineFeed line
 unfolding AreAllowed
@@ -75,7 +89,9 @@ no_feed line h k d lt = is_not 10 (get_or line k d) refl (h k d lt)
 
 no_return : (line : List ℕ) → 0 < length line → AreAllowed line → without_return line ≡ line
 unfolding AreAllowed without_return
-no_return line some h = ap (λ (b : Bool). cond b (take (length line - 1) line) line) (is_not 13 (get_or line (length line - 1) 0) refl (h (length line - 1) 0 (omega arith)))
+no_return line some h =
+    ap (λ (b : Bool). cond b (take (length line - 1) line) line)
+    (is_not 13 (get_or line (length line - 1) 0) refl (h (length line - 1) 0 (omega arith)))
 
 some_begin : (rtype : ℕ) (line : List ℕ) → take 1 line ≡ rtype ∷ [] → 0 < length line
 some_begin rtype [] e = absurd cc
@@ -101,11 +117,13 @@ lines_of_text (r ∷ records) h =
     ∙ ap (λ (l : List ℕ). l ∷ lines (text_of records)) (no_return (spelling_of r) (some_begin _ _ is.begins) is.text.allowed)
     ∙ ap (λ (ls : List (List ℕ)). spelling_of r ∷ ls) (lines_of_text records (rest_fit r records h))
 
-judged_lines : (part line : ℕ) (records : List Record) → AllFit records → AreJudged tiger (numbered part line (map spelling_of records)) records
+judged_lines : (part line : ℕ) (records : List Record) → AllFit records
+    → AreJudged tiger (numbered part line (map spelling_of records)) records
 unfolding numbered tiger
 judged_lines part line [] h = refl
 judged_lines part line (r ∷ records) h =
-    ap (λ (v : Result Record LineFault). v ∷ map (λ (l : PlacedLine). judged l.bytes) (numbered part (line + 1) (map spelling_of records))) (judged_spelling r (first_fits r records h))
+    ap (λ (v : Result Record LineFault). v ∷ map (λ (l : PlacedLine). judged l.bytes) (numbered part (line + 1) (map spelling_of records)))
+    (judged_spelling r (first_fits r records h))
     ∙ ap (λ (vs : List (Result Record LineFault)). Ok r ∷ vs) (judged_lines part (line + 1) records (rest_fit r records h))
 
 one_part : (text : List ℕ) → placed_lines (text ∷ []) ≡ numbered 1 1 (lines text)
@@ -115,11 +133,14 @@ one_part text = append-nil (numbered 1 1 (lines text))
 pub text_spells : (records : List Record) → AllFit records → Spells tiger (text_of records ∷ []) records
 text_spells records h =
     let lines = sym (one_part (text_of records) ∙ ap (numbered 1 1) (lines_of_text records h)) in
-    judged_spelled tiger tiger_is_sound _ records (subst (λ (ls : List PlacedLine). AreJudged tiger ls records) lines (judged_lines 1 1 records h))
+    judged_spelled tiger tiger_is_sound _ records (subst (λ (ls : List PlacedLine). AreJudged tiger ls records) lines
+    (judged_lines 1 1 records h))
 
 pub text_spells_only : (records others : List Record) → AllFit records → Spells tiger (text_of records ∷ []) others → others ≡ records
 text_spells_only records others h s = spelled_once tiger tiger_is_sound (text_of records ∷ []) others records s (text_spells records h)
 
 -- the text of records and one more
-pub text_of-snoc : (records : List Record) (added : Record) → text_of (records ++ added ∷ []) ≡ text_of records ++ (spelling_of added ++ 10 ∷ [])
-text_of-snoc records added = flat_map-append (λ x. spelling_of x ++ 10 ∷ []) records (added ∷ []) ∙ ap (λ (t : List ℕ). text_of records ++ t) (append-nil (spelling_of added ++ 10 ∷ []))
+pub text_of-snoc : (records : List Record) (added : Record)
+    → text_of (records ++ added ∷ []) ≡ text_of records ++ (spelling_of added ++ 10 ∷ [])
+text_of-snoc records added = flat_map-append (λ x. spelling_of x ++ 10 ∷ []) records (added ∷ [])
+    ∙ ap (λ (t : List ℕ). text_of records ++ t) (append-nil (spelling_of added ++ 10 ∷ []))

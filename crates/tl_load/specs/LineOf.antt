@@ -1,5 +1,6 @@
 -- A line of one layout: its record, and its fault.
-use Rattle.std.specs.Prelude.{◌≡◌, ℕ, ◌+◌, ◌-◌, ◌<◌, ◌≤◌, nat_lt, slice_index, true, false, List, [], ◌∷◌, ◌++◌, length, take, replicate, not, Result, Ok, Err, if◌then◌else◌}
+use Rattle.std.specs.Prelude.{◌≡◌, ℕ, ◌+◌, ◌-◌, ◌<◌, ◌≤◌, nat_lt, slice_index, true, false, List, [], ◌∷◌, ◌++◌, length, take}
+use Rattle.std.specs.Prelude.{replicate, not, Result, Ok, Err, if◌then◌else◌}
 use Rattle.std.specs.List.{position_or_len}
 use Rattle.tl_layout.specs.Bytes.{is_allowed, AreAllowed}
 use Rattle.tl_layout.specs.declared.fault.FieldFault.{FieldFault}
@@ -32,7 +33,8 @@ abbrev pub IsFaultIn : ℕ → (List ℕ → FieldFault → Type 0) → List ℕ
 IsFaultIn len IsFieldFault line line_faults.UnknownType = ⊥
 IsFaultIn len IsFieldFault line line_faults.LineTooLong = len < length line
 IsFaultIn len IsFieldFault line (line_faults.BadByte column) = (length line ≤ len) × IsLeftmostBadByte (filled len line) column
-IsFaultIn len IsFieldFault line (line_faults.Field fault) = (length line ≤ len) × AreAllowed (filled len line) × IsFieldFault (filled len line) fault
+IsFaultIn len IsFieldFault line (line_faults.Field fault) =
+    (length line ≤ len) × AreAllowed (filled len line) × IsFieldFault (filled len line) fault
 
 -- ---- what a line is judged as
 
@@ -47,7 +49,8 @@ of_reading (Err fault) = Err (line_faults.Field fault)
 
 -- what a full line is judged as: its leftmost byte that isn't allowed is told, and then what its fields are read as
 unfoldable pub judged_full : {R : Type 0} → (List ℕ → Result R FieldFault) → List ℕ → Result R LineFault
-judged_full reading line = if nat_lt (first_bad line) (length line) then Err (line_faults.BadByte (first_bad line + 1)) else of_reading (reading line)
+judged_full reading line =
+    if nat_lt (first_bad line) (length line) then Err (line_faults.BadByte (first_bad line + 1)) else of_reading (reading line)
 
 -- what a line that begins with the layout's record type is judged as
 unfoldable pub judged_as : {R : Type 0} → ℕ → (List ℕ → Result R FieldFault) → List ℕ → Result R LineFault

@@ -31,8 +31,10 @@ pub record Accepts {R : Type 0} (judge : Judge R) (limit : ℕ) (parts : List (L
 -- the fault of a line that comes after these records: its own, told with its place, or it has a record of whose type there are
 -- limit already
 pub data IsFaultOf {R : Type 0} (judge : Judge R) (limit : ℕ) (records : List R) (line : PlacedLine) (fault : LoadFault) : Type 0 where
-  of_line : (own : LineFault) → judge.IsFault line.bytes own → fault ≡ fault_at line.part line.line own → IsFaultOf judge limit records line fault
-  of_limit : (r : R) → judge.Has line.bytes r → limit ≤ count_of judge (judge.rtype r) records → fault ≡ faults.TooManyRecords (judge.rtype r) → IsFaultOf judge limit records line fault
+  of_line : (own : LineFault) → judge.IsFault line.bytes own → fault ≡ fault_at line.part line.line own
+      → IsFaultOf judge limit records line fault
+  of_limit : (r : R) → judge.Has line.bytes r → limit ≤ count_of judge (judge.rtype r) records
+      → fault ≡ faults.TooManyRecords (judge.rtype r) → IsFaultOf judge limit records line fault
 
 -- the fault at the parts: the one of the first line that has one
 pub record FaultAt {R : Type 0} (judge : Judge R) (limit : ℕ) (parts : List (List ℕ)) (fault : LoadFault) : Type 0 where

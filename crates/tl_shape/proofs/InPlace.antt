@@ -1,5 +1,6 @@
 -- Mapping a list in place, item by item.
-use Rattle.std.proofs.Common.{◌≡◌, ℕ, zero, suc, ◌+◌, ◌<◌, ◌≤◌, List, [], ◌∷◌, ◌++◌, length, map, take, drop, get_or, slice_set, refl, ap, ◌∙◌, arith, add-one}
+use Rattle.std.proofs.Common.{◌≡◌, ℕ, zero, suc, ◌+◌, ◌<◌, ◌≤◌, List, [], ◌∷◌, ◌++◌, length, map, take, drop, get_or, slice_set}
+use Rattle.std.proofs.Common.{refl, ap, ◌∙◌, arith, add-one}
 use Rattle.std.proofs.lemmas.List.{append-nil, take_all, drop_all}
 
 -- what stands at the place that is mapped next
@@ -9,13 +10,15 @@ at_place f [] (suc i) d = refl
 at_place f (x ∷ xs) zero d = refl
 at_place f (x ∷ xs) (suc i) d = at_place f xs i d
 
-one_mapped : {X : Type 0} (f : X → X) (xs : List X) (i : ℕ) (d : X) → i < length xs → slice_set (map f (take i xs) ++ drop i xs) i (f (get_or xs i d)) ≡ map f (take (suc i) xs) ++ drop (suc i) xs
+one_mapped : {X : Type 0} (f : X → X) (xs : List X) (i : ℕ) (d : X) → i < length xs
+    → slice_set (map f (take i xs) ++ drop i xs) i (f (get_or xs i d)) ≡ map f (take (suc i) xs) ++ drop (suc i) xs
 one_mapped f [] i d h = absurd (omega arith)
 one_mapped f (x ∷ xs) zero d h = refl
 one_mapped f (x ∷ xs) (suc i) d h = ap (λ (l : List _). f x ∷ l) (one_mapped f xs i d (omega arith))
 
 -- the next item is mapped
-pub mapped_next : {X : Type 0} (f : X → X) (xs now : List X) (i : ℕ) (x y : X) → i < length xs → now ≡ map f (take i xs) ++ drop i xs → x ≡ get_or now i x → y ≡ f x → slice_set now i y ≡ map f (take (i + 1) xs) ++ drop (i + 1) xs
+pub mapped_next : {X : Type 0} (f : X → X) (xs now : List X) (i : ℕ) (x y : X) → i < length xs → now ≡ map f (take i xs) ++ drop i xs
+    → x ≡ get_or now i x → y ≡ f x → slice_set now i y ≡ map f (take (i + 1) xs) ++ drop (i + 1) xs
 mapped_next f xs now i x y h e was is =
     let item : x ≡ get_or xs i x = was ∙ (ap (λ l. get_or l i x) e ∙ at_place f xs i x) in
     rw (add-one, e, is) (ap (λ v. slice_set (map f (take i xs) ++ drop i xs) i (f v)) item ∙ one_mapped f xs i x h)

@@ -42,4 +42,6 @@ turned_from_relation c d t =
     }
 
 pub relation_of_turned : (c : Chain) → IsTurned c (turned c)
-relation_of_turned c = record { body = refl; points = refl; feats = refl; ranges = refl; link_body = refl; start_node = refl; end_node = refl; left = refl; right = refl }
+relation_of_turned c =
+    record { body = refl; points = refl; feats = refl; ranges = refl; link_body = refl; start_node = refl; end_node = refl; left =
+    refl; right = refl }

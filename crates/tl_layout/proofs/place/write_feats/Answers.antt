@@ -11,9 +11,13 @@ loop-place-preserved c n h =
     let place = c.loop-place.place in
     let width : 26 + 8 * place + 1 - (19 + 8 * place) ≡ 8 = omega arith in
     let number = c.from.ensures ∙ (c.unwrap_or-feat.ensures ∙ ap (λ o. unwrap_or o 0) c.item_at.ensures) in
-    let text : number_text (26 + 8 * place + 1 - (19 + 8 * place)) c.from.result ≡ number_place_text (slice_get c.args.feats.now place) = ap (λ w. number_text w c.from.result) width ∙ ap (number_text 8) number in
-    let step = at_columns (26 + 8 * place) (18 + 8 * (place + 1)) (19 + 8 * place - 1) (18 + 8 * place) c.write_number.new.out c.loop-place.out _ (number_place_text (slice_get c.args.feats.now place)) c.write_number.ensures (omega arith) (omega arith) text in
-    place_written number_place_text n place (place + 1) c.args.feats.now _ _ _ (c.loop-place.invariant (suc n) (omega arith)) step (omega arith)
+    let text : number_text (26 + 8 * place + 1 - (19 + 8 * place)) c.from.result ≡ number_place_text (slice_get c.args.feats.now place) =
+    ap (λ w. number_text w c.from.result) width ∙ ap (number_text 8) number in
+    let step = at_columns (26 + 8 * place) (18 + 8 * (place + 1)) (19 + 8 * place - 1)
+    (18 + 8 * place) c.write_number.new.out c.loop-place.out _
+    (number_place_text (slice_get c.args.feats.now place)) c.write_number.ensures (omega arith) (omega arith) text in
+    place_written number_place_text n place (place + 1) c.args.feats.now _ _ _ (c.loop-place.invariant (suc n) (omega arith)) step
+    (omega arith)
 
 pub returns : goal.returns
 returns c =

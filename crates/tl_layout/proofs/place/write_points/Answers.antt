@@ -10,9 +10,14 @@ pub loop-place-preserved : goal.loop-place-preserved
 loop-place-preserved c = record {
   written = λ n h.
       let place = c.loop-place.place in
-      let step = at_columns (19 + 19 * place + 18) (18 + 19 * (place + 1)) (19 + 19 * place - 1) (18 + 19 * place) c.write_point_place.new.out c.loop-place.out _ (point_place_text (slice_get c.args.points.now place)) c.write_point_place.ensures.written (omega arith) (omega arith) (ap point_place_text c.item_at.ensures) in
-      place_written point_place_text n place (place + 1) c.args.points.now _ _ _ (c.loop-place.invariant.written (suc n) (omega arith)) step (omega arith);
-  on_map = below_more _ _ c.loop-place.invariant.on_map (let P : Option _ → Type 0 = λ o. IfSome o IsOnMap in subst P c.item_at.ensures c.write_point_place.ensures.on_map);
+      let step = at_columns (19 + 19 * place + 18) (18 + 19 * (place + 1)) (19 + 19 * place - 1)
+      (18 + 19 * place) c.write_point_place.new.out c.loop-place.out _
+      (point_place_text (slice_get c.args.points.now place)) c.write_point_place.ensures.written (omega arith) (omega arith)
+      (ap point_place_text c.item_at.ensures) in
+      place_written point_place_text n place (place + 1) c.args.points.now _ _ _ (c.loop-place.invariant.written (suc n) (omega arith)) step
+      (omega arith);
+  on_map = below_more _ _ c.loop-place.invariant.on_map (let P : Option _ → Type 0 = λ o. IfSome o IsOnMap in
+      subst P c.item_at.ensures c.write_point_place.ensures.on_map);
 }
 
 pub returns-clause-written : goal.returns-clause-written

@@ -11,21 +11,26 @@ loop-place-init c = record {
   count = (let e = ap length c.new-feats.ensures in omega arith);
   left = λ n h.
       let all : n ≡ 5 = omega arith in
-      rw (c.new-feats.ensures, all) (at_start (places_reading (λ column. number_or_none_at column (column + 7) c.args.line.now) 8 false 5 19));
+      rw (c.new-feats.ensures, all) (at_start (places_reading
+      (λ column. number_or_none_at column (column + 7) c.args.line.now) 8 false 5 19));
 }
 
 pub returns-in-Err : goal.returns-in-Err
 returns-in-Err c =
-    at_fault (λ column. number_or_none_at column (column + 7) c.args.line.now) 8 (4 - c.loop-place.place) (19 + 8 * c.loop-place.place) c.loop-place.unused c.loop-place.feats.items c.in-Err.fault _
+    at_fault (λ column. number_or_none_at column (column + 7) c.args.line.now) 8 (4 - c.loop-place.place)
+    (19 + 8 * c.loop-place.place) c.loop-place.unused c.loop-place.feats.items c.in-Err.fault _
     (c.loop-place.invariant.left (suc (4 - c.loop-place.place)) (omega arith)) (sym c.in-Err.ensures.value)
 
 pub returns-then-unused : goal.returns-then-unused
 returns-then-unused c =
     let reading = λ (column : ℕ). number_or_none_at column (column + 7) c.args.line.now in
     let column = 19 + 8 * c.loop-place.place in
-    let Left : Bool → Type 0 = λ unused. with_front c.loop-place.feats.items (places_reading reading 8 unused (suc (4 - c.loop-place.place)) column) ≡ places_reading reading 8 false 5 19 in
+    let Left : Bool → Type 0 =
+    λ unused. with_front c.loop-place.feats.items
+    (places_reading reading 8 unused (suc (4 - c.loop-place.place)) column) ≡ places_reading reading 8 false 5 19 in
     let left : Left true = subst Left c.if-unused.true (c.loop-place.invariant.left (suc (4 - c.loop-place.place)) (omega arith)) in
-    at_gap reading 8 (4 - c.loop-place.place) column c.loop-place.feats.items c.in-Some.feat _ left (sym c.read_number_or_none.ensures.value ∙ (c.in-Ok.is ∙ ap Ok c.in-Some.is)) ∙ ap Err (sym c.gap.ensures)
+    at_gap reading 8 (4 - c.loop-place.place) column c.loop-place.feats.items c.in-Some.feat _ left (sym c.read_number_or_none.ensures.value
+    ∙ (c.in-Ok.is ∙ ap Ok c.in-Some.is)) ∙ ap Err (sym c.gap.ensures)
 
 pub loop-place-preserved : goal.loop-place-preserved
 loop-place-preserved c =
@@ -35,17 +40,26 @@ loop-place-preserved c =
       | in-None w ↦ record {
         count = (let e = ap (λ v. length v.items) w.feats-is in let h = c.loop-place.invariant.count in omega arith);
         left = λ n h.
-            rw (w.feats-is, w.unused-is) (after_none reading 8 n column (19 + 8 * (c.loop-place.place + 1)) c.loop-place.unused c.loop-place.feats.items _ (c.loop-place.invariant.left (suc n) (omega arith)) (sym c.read_number_or_none.ensures.value ∙ (c.in-Ok.is ∙ ap Ok w.in-None.is)) (omega arith));
+            rw (w.feats-is, w.unused-is) (after_none reading 8 n column
+            (19 + 8 * (c.loop-place.place + 1)) c.loop-place.unused c.loop-place.feats.items _
+            (c.loop-place.invariant.left (suc n) (omega arith)) (sym c.read_number_or_none.ensures.value
+            ∙ (c.in-Ok.is ∙ ap Ok w.in-None.is)) (omega arith));
       }
       | in-Some+else-unused w ↦ record {
-        count = (let e = ap (λ v. length v.items) w.feats-is in let p = w.push.ensures.len in let h = c.loop-place.invariant.count in omega arith);
+        count = (let e = ap (λ v. length v.items) w.feats-is in let p = w.push.ensures.len in let h = c.loop-place.invariant.count in
+            omega arith);
         left = λ n h.
-            let Left : Bool → Type 0 = λ unused. with_front c.loop-place.feats.items (places_reading reading 8 unused (suc n) column) ≡ places_reading reading 8 false 5 19 in
+            let Left : Bool → Type 0 =
+            λ unused. with_front c.loop-place.feats.items
+            (places_reading reading 8 unused (suc n) column) ≡ places_reading reading 8 false 5 19 in
             let left : Left false = subst Left w.if-unused.false (c.loop-place.invariant.left (suc n) (omega arith)) in
-            rw (w.feats-is, w.unused-is, w.push.ensures.items, w.if-unused.false) (after_some reading 8 n column (19 + 8 * (c.loop-place.place + 1)) c.loop-place.feats.items w.in-Some.feat _ left (sym c.read_number_or_none.ensures.value ∙ (c.in-Ok.is ∙ ap Ok w.in-Some.is)) (omega arith));
+            rw (w.feats-is, w.unused-is, w.push.ensures.items, w.if-unused.false)
+            (after_some reading 8 n column (19 + 8 * (c.loop-place.place + 1)) c.loop-place.feats.items w.in-Some.feat _ left
+            (sym c.read_number_or_none.ensures.value ∙ (c.in-Ok.is ∙ ap Ok w.in-Some.is)) (omega arith));
       }
     ]
 
 pub returns : goal.returns
 returns c =
-    at_end (λ column. number_or_none_at column (column + 7) c.args.line.now) 8 (19 + 8 * c.loop-place.place) c.loop-place.unused c.loop-place.feats.items _ (c.loop-place.invariant.left 0 (omega arith))
+    at_end (λ column. number_or_none_at column (column + 7) c.args.line.now) 8
+    (19 + 8 * c.loop-place.place) c.loop-place.unused c.loop-place.feats.items _ (c.loop-place.invariant.left 0 (omega arith))

@@ -8,5 +8,7 @@ use Rattle.tl_layout.proofs.type4.read_feats.Given as goal
 abbrev pub invariant-loop-place : goal.invariant-loop-place
 invariant-loop-place l = record {
   count : length l.feats.items ≤ l.place;
-  left : (n : ℕ) → n + l.place ≡ 5 → with_front l.feats.items (places_reading (λ column. number_or_none_at column (column + 7) l.line) 8 l.unused n (19 + 8 * l.place)) ≡ places_reading (λ column. number_or_none_at column (column + 7) l.line) 8 false 5 19;
+  left : (n : ℕ) → n + l.place ≡ 5 → with_front l.feats.items
+      (places_reading (λ column. number_or_none_at column (column + 7) l.line) 8 l.unused n (19 + 8 * l.place)) ≡ places_reading
+      (λ column. number_or_none_at column (column + 7) l.line) 8 false 5 19;
 }

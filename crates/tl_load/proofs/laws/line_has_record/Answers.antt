@@ -9,5 +9,6 @@ returns-clause-has_record g c line r begins =
 
 pub returns-clause-has_fault : goal.returns-clause-has_fault
 returns-clause-has_fault g c line fault begins =
-    let tells : TellsFaults g.L.Layout.RTYPE g.L.Layout.LEN g.L.Layout.reading g.L.Layout.IsFault = λ l f is. g.met.L.Layout.tells_leftmost l f is in
+    let tells : TellsFaults g.L.Layout.RTYPE g.L.Layout.LEN g.L.Layout.reading g.L.Layout.IsFault =
+    λ l f is. g.met.L.Layout.tells_leftmost l f is in
     (judged_fault_found _ _ _ _ tells line fault begins, judged_fault_only _ _ _ _ tells line fault begins)

@@ -5,4 +5,15 @@ use Rattle.tl_layout.proofs.type1.Body1.at.Goals as goal
 pub returns : goal.returns
 unfolding body_1_at
 returns c =
-    rw (c.text_at.ensures, c.text_at-2.ensures, c.at.ensures, c.text_at-3.ensures, c.at-2.ensures, c.at-3.ensures, c.at-4.ensures, c.text_at-4.ensures, c.text_at-5.ensures, c.at-5.ensures) refl
+    rw (
+      c.text_at.ensures,
+      c.text_at-2.ensures,
+      c.at.ensures,
+      c.text_at-3.ensures,
+      c.at-2.ensures,
+      c.at-3.ensures,
+      c.at-4.ensures,
+      c.text_at-4.ensures,
+      c.text_at-5.ensures,
+      c.at-5.ensures,
+    ) refl

@@ -17,4 +17,6 @@ returns-clause-spelling c =
     whole 228 c.write_point-2.new.out _ (omega arith) end ∙ ap type_1_spelling c.self.view_is
 
 pub returns-clause-fits : goal.returns-clause-fits
-returns-clause-fits c = subst FitsType1 c.self.view_is (type_1_fits _ c.self.invariant c.put.ensures.fits c.write_point.ensures.on_map c.write_point-2.ensures.on_map)
+returns-clause-fits c =
+    subst FitsType1 c.self.view_is
+    (type_1_fits _ c.self.invariant c.put.ensures.fits c.write_point.ensures.on_map c.write_point-2.ensures.on_map)

@@ -21,5 +21,12 @@ returns-clause-spelling c =
 pub returns-clause-fits : goal.returns-clause-fits
 unfolding FitsType2
 returns-clause-fits c =
-    let len : length c.self.inside.points.items ≤ 10 = subst (λ (points : List Coordinates). length points ≤ 10) c.as_slice.ensures.value c.as_slice.ensures.fits in
-    subst FitsType2 c.self.view_is (c.self.invariant.0, (c.self.invariant.1, ((len, subst (AllByRecursion IsOnMap) c.as_slice.ensures.value c.write_points.ensures.on_map), tt)))
+    let len : length c.self.inside.points.items ≤ 10 =
+    subst (λ (points : List Coordinates). length points ≤ 10) c.as_slice.ensures.value c.as_slice.ensures.fits in
+    subst FitsType2 c.self.view_is (
+      c.self.invariant.0,
+      (
+        c.self.invariant.1,
+        ((len, subst (AllByRecursion IsOnMap) c.as_slice.ensures.value c.write_points.ensures.on_map), tt),
+      ),
+    )

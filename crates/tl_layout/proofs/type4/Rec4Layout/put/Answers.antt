@@ -19,5 +19,6 @@ returns-clause-spelling c =
 pub returns-clause-fits : goal.returns-clause-fits
 unfolding FitsType4
 returns-clause-fits c =
-    let len : length c.self.inside.feats.items ≤ 5 = subst (λ (feats : List ℕ). length feats ≤ 5) c.as_slice.ensures.value c.as_slice.ensures.fits in
+    let len : length c.self.inside.feats.items ≤ 5 =
+    subst (λ (feats : List ℕ). length feats ≤ 5) c.as_slice.ensures.value c.as_slice.ensures.fits in
     subst FitsType4 c.self.view_is (c.self.invariant.0, (c.self.invariant.1, ((len, c.self.invariant.2), tt)))

@@ -17,4 +17,11 @@ returns-clause-spelling c =
 
 pub returns-clause-fits : goal.returns-clause-fits
 unfolding FitsType5
-returns-clause-fits c = subst FitsType5 c.self.view_is (c.write_text.ensures.text, (c.self.invariant, (c.put.ensures.fits.fedirp, (c.put.ensures.fits.fename, (c.put.ensures.fits.fetype, (c.put.ensures.fits.fedirs, tt))))))
+returns-clause-fits c =
+    subst FitsType5 c.self.view_is (
+      c.write_text.ensures.text,
+      (
+        c.self.invariant,
+        (c.put.ensures.fits.fedirp, (c.put.ensures.fits.fename, (c.put.ensures.fits.fetype, (c.put.ensures.fits.fedirs, tt)))),
+      ),
+    )

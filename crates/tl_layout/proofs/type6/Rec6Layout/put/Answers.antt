@@ -17,4 +17,11 @@ returns-clause-spelling c =
 
 pub returns-clause-fits : goal.returns-clause-fits
 unfolding FitsType6
-returns-clause-fits c = let f = c.put.ensures.fits in subst FitsType6 c.self.view_is (c.self.invariant.0, (c.self.invariant.1, (f.fraddl, (f.toaddl, (f.fraddr, (f.toaddr, (f.friaddl, (f.toiaddl, (f.friaddr, (f.toiaddr, (f.zip.left, (f.zip.right, tt))))))))))))
+returns-clause-fits c = let f = c.put.ensures.fits in
+    subst FitsType6 c.self.view_is (
+      c.self.invariant.0,
+      (
+        c.self.invariant.1,
+        (f.fraddl, (f.toaddl, (f.fraddr, (f.toaddr, (f.friaddl, (f.toiaddl, (f.friaddr, (f.toiaddr, (f.zip.left, (f.zip.right, tt)))))))))),
+      ),
+    )

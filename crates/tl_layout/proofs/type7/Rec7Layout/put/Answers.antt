@@ -20,4 +20,14 @@ returns-clause-spelling c =
 
 pub returns-clause-fits : goal.returns-clause-fits
 unfolding FitsType7
-returns-clause-fits c = subst FitsType7 c.self.view_is (c.write_text.ensures.text, (c.self.invariant, (c.write_text-2.ensures.text, (c.write_text-3.ensures.text, (c.write_text-4.ensures.text, (c.write_point_or_blanks.ensures.on_map, (tt, tt)))))))
+returns-clause-fits c =
+    subst FitsType7 c.self.view_is (
+      c.write_text.ensures.text,
+      (
+        c.self.invariant,
+        (
+          c.write_text-2.ensures.text,
+          (c.write_text-3.ensures.text, (c.write_text-4.ensures.text, (c.write_point_or_blanks.ensures.on_map, (tt, tt)))),
+        ),
+      ),
+    )

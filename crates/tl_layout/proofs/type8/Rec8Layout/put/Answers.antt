@@ -17,4 +17,6 @@ returns-clause-spelling c =
 
 pub returns-clause-fits : goal.returns-clause-fits
 unfolding FitsType8
-returns-clause-fits c = subst FitsType8 c.self.view_is (c.write_text.ensures.text, (c.write_text-2.ensures.text, (c.self.invariant.0, (c.self.invariant.1, (tt, tt)))))
+returns-clause-fits c =
+    subst FitsType8 c.self.view_is
+    (c.write_text.ensures.text, (c.write_text-2.ensures.text, (c.self.invariant.0, (c.self.invariant.1, (tt, tt)))))

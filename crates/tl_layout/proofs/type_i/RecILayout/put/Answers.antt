@@ -15,9 +15,11 @@ returns-clause-spelling c =
     let start_node = behind c.write_number-2.ensures tlid (ap (number_text 10) c.unwrap_or.ensures) in
     let end_node = behind c.write_number-3.ensures start_node (ap (number_text 10) c.unwrap_or-2.ensures) in
     let left_cenid = behind c.write_text-2.ensures.written end_node c.cenid_text.ensures in
-    let left_polyid = behind c.write_number-4.ensures left_cenid (ap (number_text 10) (c.unwrap_or-3.ensures ∙ ap (λ n. unwrap_or n 0) c.polyid.ensures.value)) in
+    let left_polyid = behind c.write_number-4.ensures left_cenid
+    (ap (number_text 10) (c.unwrap_or-3.ensures ∙ ap (λ n. unwrap_or n 0) c.polyid.ensures.value)) in
     let right_cenid = behind c.write_text-3.ensures.written left_polyid c.cenid_text-2.ensures in
-    let right_polyid = behind c.write_number-5.ensures right_cenid (ap (number_text 10) (c.unwrap_or-4.ensures ∙ ap (λ n. unwrap_or n 0) c.polyid-2.ensures.value)) in
+    let right_polyid = behind c.write_number-5.ensures right_cenid
+    (ap (number_text 10) (c.unwrap_or-4.ensures ∙ ap (λ n. unwrap_or n 0) c.polyid-2.ensures.value)) in
     let source = behind c.write_text-4.ensures.written right_polyid refl in
     let ftseg = behind c.write_text-5.ensures.written source refl in
     let rs_i1 = behind c.write_text-6.ensures.written ftseg refl in
@@ -32,4 +34,34 @@ returns-clause-fits c =
     let left_polyid = subst (IsNumberOrNone 10) c.polyid.ensures.value c.polyid.ensures.in_range in
     let right_cenid = subst (IsText 5) c.cenid_text-2.ensures c.write_text-3.ensures.text in
     let right_polyid = subst (IsNumberOrNone 10) c.polyid-2.ensures.value c.polyid-2.ensures.in_range in
-    subst FitsTypeI c.self.view_is (c.write_text.ensures.text, (c.self.invariant.0, (c.self.invariant.1, (c.self.invariant.2, (left_cenid, (left_polyid, (right_cenid, (right_polyid, (c.write_text-4.ensures.text, (c.write_text-5.ensures.text, (c.write_text-6.ensures.text, (c.write_text-7.ensures.text, (c.write_text-8.ensures.text, tt)))))))))))))
+    subst FitsTypeI c.self.view_is (
+      c.write_text.ensures.text,
+      (
+        c.self.invariant.0,
+        (
+          c.self.invariant.1,
+          (
+            c.self.invariant.2,
+            (
+              left_cenid,
+              (
+                left_polyid,
+                (
+                  right_cenid,
+                  (
+                    right_polyid,
+                    (
+                      c.write_text-4.ensures.text,
+                      (
+                        c.write_text-5.ensures.text,
+                        (c.write_text-6.ensures.text, (c.write_text-7.ensures.text, (c.write_text-8.ensures.text, tt))),
+                      ),
+                    ),
+                  ),
+                ),
+              ),
+            ),
+          ),
+        ),
+      ),
+    )

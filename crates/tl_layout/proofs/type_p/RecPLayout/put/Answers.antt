@@ -18,4 +18,8 @@ returns-clause-spelling c =
 
 pub returns-clause-fits : goal.returns-clause-fits
 unfolding FitsTypeP
-returns-clause-fits c = subst FitsTypeP c.self.view_is (c.write_text.ensures.text, (c.write_text-2.ensures.text, (c.self.invariant, (c.write_point_or_blanks.ensures.on_map, (c.write_text-3.ensures.text, tt)))))
+returns-clause-fits c =
+    subst FitsTypeP c.self.view_is (
+      c.write_text.ensures.text,
+      (c.write_text-2.ensures.text, (c.self.invariant, (c.write_point_or_blanks.ensures.on_map, (c.write_text-3.ensures.text, tt)))),
+    )
