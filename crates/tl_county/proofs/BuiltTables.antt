@@ -1,20 +1,34 @@
 -- What linking builds of tables in order is the county of their records.
-use Rattle.std.proofs.Common.{◌≡◌, ℕ, suc, List, [], ◌∷◌, ◌++◌, map, flat_map, length, sym, refl, ap, ◌∙◌, subst, arith, nat_cmp, IsPermutation}
+use Rattle.std.proofs.Common.{◌≡◌, ◌⊎◌, ◌==◌, ℕ, suc, List, [], ◌∷◌, ◌++◌, map, flat_map, length, Bool, true, false, cond, Less, is_eq, inl, inr, sym, refl, ap, ◌∙◌, subst, arith, nat_cmp, IsPermutation, Option, Some, None, unwrap_or, option_map, slice_get, zero}
+use Rattle.std.proofs.lemmas.Bool.{false≢true, eq-eqb, ne_eqb}
+use Rattle.std.proofs.lemmas.List.{append-nil}
+use Rattle.std.proofs.lemmas.List.Elements.{filter-append}
+use Rattle.std.specs.List.{AllByRecursion}
 use Rattle.std.proofs.lemmas.List.Sorted.{IsPermutation-trans}
 use Rattle.std.specs.List.Sorted.{IsStrictlySortedBy}
 use Rattle.std.specs.Ordering.{on}
-use Rattle.tl_layout.specs.Fields.{Fields1, Fields2, Fields4, Fields6, FieldsI}
+use Rattle.tl_layout.specs.Fields.{Fields1, Fields2, Fields4, Fields6, Fields8, FieldsI}
 use Rattle.tl_layout.specs.Tables.{HoldsByType}
 use Rattle.tl_layout.specs.declared.record_type.Record.{Record}
 use Rattle.tl_layout.specs.declared.tables.Tables.{Tables}
-use Rattle.tl_county.specs.Building.{chains_along, county_along}
+use Rattle.tl_county.specs.Building.{chains_along, county_along, landmark_of, landmarks_along}
+use Rattle.tl_county.specs.ChartWords.{links_with}
+use Rattle.tl_county.specs.Entries.{entry_keys, entry_values, value_under}
+use Rattle.tl_county.proofs.EntryLists.{value-at_place}
+use Rattle.tl_county.specs.KeptCounty.{LinksUnderLands, landmark_entry}
+use Rattle.tl_county.specs.LandmarkParts.{LandmarkParts}
+use Rattle.tl_layout.specs.ByType.{of_number}
+use Rattle.tl_county.proofs.Groups.{strict_head, strict_tail}
+use Rattle.tl_county.proofs.Keys.{nat_keys, same_or_not, same-itself}
+use Rattle.tl_county.proofs.Lists.{map-map}
+use Rattle.tl_county.proofs.Numbers.{of_number-all}
 use Rattle.tl_county.specs.BodyOrder.{landmark_body_cmp, link_part, link_part_cmp}
 use Rattle.tl_county.specs.County.{County, one_tlid, two_tlid, two_rtsq, four_tlid, four_rtsq, five_feat, six_tlid, six_rtsq, seven_land, eight_land, i_tlid, county_of}
 use Rattle.tl_county.specs.CountyRules.{IsCounty}
 use Rattle.tl_county.specs.declared.fault.LinkFault.{LinkFault}
 use Rattle.tl_county.specs.LinkRules.{IsLinked, IsFirstBrokenRule}
 use Rattle.tl_county.specs.OrderedTables.{typed_of, AreInOrder, ArePermuted}
-use Rattle.tl_county.specs.Orders.{IsInOrder}
+use Rattle.tl_county.specs.Orders.{IsInOrder, distinct}
 use Rattle.tl_county.specs.Packing.{Typed, by_type, type_after_type}
 use Rattle.tl_county.proofs.LinkedCounty.{county-is_county}
 use Rattle.tl_county.proofs.LinkedTables.{tlids-strict, feats-strict, side_by_side, county-built}
@@ -93,3 +107,82 @@ module _ (records : List Record) (t u : Typed) (holds : by_type records ≡ t) (
 
   pub same_county : IsLinked (type_after_type u) → county_of (type_after_type u) ≡ county_of records
   same_county linked = reordered-county records (type_after_type u) moved (also_linked linked)
+
+-- each landmark's links have its LAND
+pub links_under_lands-along : (t : Typed) → LinksUnderLands (landmarks_along t)
+links_under_lands-along t = go (distinct nat_cmp (map seven_land t.of_type_7))
+  where
+    go : (lands : List ℕ) → LinksUnderLands (map (λ land. (land, landmark_of t.of_type_7 t.of_type_8 land)) lands)
+    go [] = tt
+    go (land ∷ lands) = (of_number-all eight_land land t.of_type_8, go lands)
+
+-- the links of a LAND are those under it
+module _ (land : ℕ) where
+  abbrev none : LandmarkParts
+  none = record { bodies = []; links = [] }
+
+  -- where all or no links have the number
+  all_of : (links : List Fields8) → AllByRecursion (λ link. link.land ≡ land) links → of_number eight_land land links ≡ links
+  all_of [] a = refl
+  all_of (link ∷ links) a = ap (λ b. cond b (link ∷ of_number eight_land land links) (of_number eight_land land links)) (eq-eqb link.land land a.0) ∙ ap (λ l. link ∷ l) (all_of links a.1)
+
+  none_of : (other : ℕ) → (other ≡ land → ⊥) → (links : List Fields8) → AllByRecursion (λ link. link.land ≡ other) links → of_number eight_land land links ≡ []
+  none_of other ne [] a = refl
+  none_of other ne (link ∷ links) a = ap (λ b. cond b (link ∷ of_number eight_land land links) (of_number eight_land land links)) (ne_eqb link.land land (λ e. ne (sym a.0 ∙ e))) ∙ none_of other ne links a.1
+
+  none_later : (landmarks : List (ℕ × LandmarkParts)) → LinksUnderLands landmarks → AllByRecursion (λ n. nat_cmp land n ≡ Less) (entry_keys landmarks) → of_number eight_land land (flat_map (λ (entry : ℕ × LandmarkParts). entry.1.links) landmarks) ≡ []
+  none_later [] under above = refl
+  none_later (entry ∷ landmarks) under above =
+      filter-append (λ (link : Fields8). link.land == land) entry.1.links (flat_map (λ (e : ℕ × LandmarkParts). e.1.links) landmarks)
+      ∙ (λ i. none_of entry.0 (λ e. less_apart above.0 (sym e)) entry.1.links under.0 i ++ none_later landmarks under.1 above.1 i)
+    where
+      less_apart : nat_cmp land entry.0 ≡ Less → land ≡ entry.0 → ⊥
+      less_apart l e = false≢true (sym (ap is_eq l) ∙ subst (λ n. is_eq (nat_cmp land n) ≡ true) e (same-itself nat_keys land))
+
+  pub links-under : (landmarks : List (ℕ × LandmarkParts)) → IsStrictlySortedBy nat_cmp (entry_keys landmarks) → LinksUnderLands landmarks → (unwrap_or (value_under nat_cmp land landmarks) none).links ≡ of_number eight_land land (flat_map (λ (entry : ℕ × LandmarkParts). entry.1.links) landmarks)
+  links-under [] strict under = refl
+  links-under (entry ∷ landmarks) strict under = go (same_or_not nat_keys land entry.0) (links-under landmarks (strict_tail nat_cmp entry.0 (entry_keys landmarks) strict) under.1)
+    where
+      split : of_number eight_land land (entry.1.links ++ flat_map (λ (e : ℕ × LandmarkParts). e.1.links) landmarks) ≡ of_number eight_land land entry.1.links ++ of_number eight_land land (flat_map (λ (e : ℕ × LandmarkParts). e.1.links) landmarks)
+      split = filter-append (λ (link : Fields8). link.land == land) entry.1.links (flat_map (λ (e : ℕ × LandmarkParts). e.1.links) landmarks)
+
+      go : (land ≡ entry.0) ⊎ (is_eq (nat_cmp land entry.0) ≡ false) → (unwrap_or (value_under nat_cmp land landmarks) none).links ≡ of_number eight_land land (flat_map (λ (e : ℕ × LandmarkParts). e.1.links) landmarks) → (unwrap_or (value_under nat_cmp land (entry ∷ landmarks)) none).links ≡ of_number eight_land land (flat_map (λ (e : ℕ × LandmarkParts). e.1.links) (entry ∷ landmarks))
+      go (inl e) ih =
+          ap (λ b. (unwrap_or (cond b (Some entry.1) (value_under nat_cmp land landmarks)) none).links) (subst (λ n. is_eq (nat_cmp land n) ≡ true) e (same-itself nat_keys land))
+          ∙ sym (append-nil entry.1.links)
+          ∙ (λ i. sym (all_of entry.1.links (subst (λ n. AllByRecursion (λ (link : Fields8). link.land ≡ n) entry.1.links) (sym e) under.0)) i ++ sym (none_later landmarks under.1 (subst (λ n. AllByRecursion (λ m. nat_cmp n m ≡ Less) (entry_keys landmarks)) (sym e) (strict_head nat_cmp entry.0 (entry_keys landmarks) strict))) i)
+          ∙ sym split
+      go (inr n) ih =
+          ap (λ b. (unwrap_or (cond b (Some entry.1) (value_under nat_cmp land landmarks)) none).links) n ∙ ih
+          ∙ ap (λ l. l ++ of_number eight_land land (flat_map (λ (e : ℕ × LandmarkParts). e.1.links) landmarks)) (sym (none_of entry.0 (λ e. false≢true (sym n ∙ subst (λ m. is_eq (nat_cmp land m) ≡ true) (sym e) (same-itself nat_keys land))) entry.1.links under.0))
+          ∙ sym split
+
+-- the bodies under a LAND, by the county's own list
+pub bodies-under : (land : ℕ) (landmarks : List (ℕ × LandmarkParts)) → option_map (λ (l : LandmarkParts). l.bodies) (value_under nat_cmp land landmarks) ≡ value_under nat_cmp land (map landmark_entry landmarks)
+bodies-under land [] = refl
+bodies-under land (entry ∷ landmarks) = go (is_eq (nat_cmp land entry.0)) (bodies-under land landmarks)
+  where
+    go : (b : Bool) → option_map (λ (l : LandmarkParts). l.bodies) (value_under nat_cmp land landmarks) ≡ value_under nat_cmp land (map landmark_entry landmarks) → option_map (λ (l : LandmarkParts). l.bodies) (cond b (Some entry.1) (value_under nat_cmp land landmarks)) ≡ cond b (Some entry.1.bodies) (value_under nat_cmp land (map landmark_entry landmarks))
+    go true ih = refl
+    go false ih = ih
+
+pub lands-kept : (landmarks : List (ℕ × LandmarkParts)) → entry_keys landmarks ≡ entry_keys (map landmark_entry landmarks)
+lands-kept landmarks = sym (map-map (λ e. e.0) landmark_entry landmarks)
+
+-- by places
+pub bodies-at : (landmarks : List (ℕ × LandmarkParts)) (place : ℕ) → option_map (λ (l : LandmarkParts). l.bodies) (slice_get (entry_values landmarks) place) ≡ slice_get (entry_values (map landmark_entry landmarks)) place
+bodies-at [] place = refl
+bodies-at (entry ∷ landmarks) zero = refl
+bodies-at (entry ∷ landmarks) (suc place) = bodies-at landmarks place
+
+no_value : {K V : Type 0} (entries : List (K × V)) (place : ℕ) → slice_get (entry_keys entries) place ≡ None → slice_get (entry_values entries) place ≡ None
+no_value [] place e = refl
+no_value (entry ∷ entries) zero e = cc
+no_value (entry ∷ entries) (suc place) e = no_value entries place e
+
+pub links-at : (landmarks : List (ℕ × LandmarkParts)) → IsStrictlySortedBy nat_cmp (entry_keys landmarks) → LinksUnderLands landmarks → (place : ℕ) → (unwrap_or (slice_get (entry_values landmarks) place) (record { bodies = []; links = [] })).links ≡ links_with (flat_map (λ (entry : ℕ × LandmarkParts). entry.1.links) landmarks) (slice_get (entry_keys landmarks) place)
+links-at landmarks strict under place = go (slice_get (entry_keys landmarks) place) refl
+  where
+    go : (o : Option ℕ) → slice_get (entry_keys landmarks) place ≡ o → (unwrap_or (slice_get (entry_values landmarks) place) (record { bodies = []; links = [] })).links ≡ links_with (flat_map (λ (entry : ℕ × LandmarkParts). entry.1.links) landmarks) o
+    go (Some land) e = ap (λ (v : Option LandmarkParts). (unwrap_or v (record { bodies = []; links = [] })).links) (value-at_place nat_keys land landmarks place strict e) ∙ links-under land landmarks strict under
+    go None e = ap (λ (v : Option LandmarkParts). (unwrap_or v (record { bodies = []; links = [] })).links) (no_value landmarks place e)

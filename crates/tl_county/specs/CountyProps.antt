@@ -1,9 +1,11 @@
 -- That a county is one is a fact with at most one proof.
-use Rattle.std.specs.Prelude.{List, [], ◌∷◌}
+use Rattle.std.specs.Prelude.{ℕ, List, [], ◌∷◌}
 use Rattle.std.specs.declared.cmp.Ordering.{Ordering}
 use Rattle.std.proofs.Props.{props}
 use Rattle.tl_county.specs.County.{County}
 use Rattle.tl_county.specs.CountyRules.{IsCounty}
+use Rattle.tl_county.specs.KeptCounty.{LinksUnderLands}
+use Rattle.tl_county.specs.LandmarkParts.{LandmarkParts}
 use Rattle.tl_county.specs.Orders.{IsInOrder}
 
 pub IsInOrder-prop : {X : Type 0} (cmp : X → X → Ordering) (xs : List X) → IsProp (IsInOrder cmp xs)
@@ -12,3 +14,6 @@ IsInOrder-prop cmp (x ∷ xs) = let rest : IsProp (IsInOrder cmp xs) = IsInOrder
 
 pub IsCounty-prop : (c : County) → IsProp (IsCounty c)
 IsCounty-prop c = hlevel (props, IsInOrder-prop)
+
+pub LinksUnderLands-prop : (landmarks : List (ℕ × LandmarkParts)) → IsProp (LinksUnderLands landmarks)
+LinksUnderLands-prop landmarks = hlevel props

@@ -1,5 +1,6 @@
 -- The county that its tables keep.
-use Rattle.std.specs.Prelude.{ℕ, List, map, flat_map, Option}
+use Rattle.std.specs.Prelude.{◌≡◌, ℕ, List, map, flat_map, Option}
+use Rattle.std.specs.List.{AllByRecursion}
 use Rattle.tl_layout.specs.declared.type5.Body5.{Body5}
 use Rattle.tl_layout.specs.declared.type7.Body7.{Body7}
 use Rattle.tl_layout.specs.declared.type_p.BodyP.{BodyP}
@@ -21,3 +22,7 @@ county_with chains names polygons landmarks = record {
   landmarks = map landmark_entry landmarks;
   links = flat_map (λ entry. entry.1.links) landmarks;
 }
+
+-- each link stands under its LAND
+abbrev pub LinksUnderLands : List (ℕ × LandmarkParts) → Type 0
+LinksUnderLands landmarks = AllByRecursion (λ entry. AllByRecursion (λ link. link.land ≡ entry.0) entry.1.links) landmarks

@@ -1,8 +1,12 @@
 -- The county that a linked county keeps.
 use Rattle.tl_county.specs.County.{County as CountyRecord}
+use Rattle.tl_county.specs.CountyRules.{IsCounty}
 use Rattle.tl_county.specs.KeptCounty.{county_with}
 use Rattle.tl_county.specs.declared.county.County.{County}
 
 -- the county, of its tables
 abbrev pub the_county : County → CountyRecord
 the_county c = county_with c.chains c.names c.polygons c.landmarks
+
+pub the_county-is_county : (c : County) → IsCounty (the_county c)
+the_county-is_county c = c.is_county

@@ -2,7 +2,9 @@
 #![tactic(auto)]
 
 mod building;
+mod chart;
 mod county;
+mod county_chart;
 mod fault;
 mod gathered;
 mod keyed;
@@ -13,6 +15,7 @@ mod record_keys;
 mod rules;
 mod table;
 
+pub use chart::Chart;
 pub use county::County;
 pub use fault::{LinkFault, LinkedType};
 pub use keyed::{

@@ -1,0 +1,50 @@
+-- Words for what stands at a place of a county's ascending lists.
+use Rattle.std.specs.Prelude.{ℕ, List, [], Option, Some, None, option_map, filter, map, slice_get, unwrap_or, ◌==◌}
+use Rattle.tl_layout.specs.Coordinates.{Coordinates}
+use Rattle.tl_layout.specs.Fields.{Fields8}
+use Rattle.tl_layout.specs.declared.ranges.Ranges.{Ranges}
+use Rattle.tl_layout.specs.declared.type5.Body5.{Body5}
+use Rattle.tl_layout.specs.declared.type7.Body7.{Body7}
+use Rattle.tl_layout.specs.declared.type_p.BodyP.{BodyP}
+use Rattle.tl_shape.specs.Chain.{Chain}
+use Rattle.tl_layout.specs.ByType.{of_number}
+use Rattle.tl_county.specs.County.{County, eight_land}
+use Rattle.tl_county.specs.CountyRules.{lands}
+use Rattle.tl_county.specs.Entries.{entry_values}
+
+-- the chain at a place
+abbrev pub chain_at : County → ℕ → Option Chain
+chain_at county place = slice_get (entry_values county.chains) place
+
+-- its points, FEATs and address ranges, or the empty list past the last chain
+abbrev pub points_of : Option Chain → List Coordinates
+points_of None = []
+points_of (Some chain) = chain.points
+
+abbrev pub feats_of : Option Chain → List ℕ
+feats_of None = []
+feats_of (Some chain) = chain.feats
+
+abbrev pub ranges_of : Option Chain → List Ranges
+ranges_of None = []
+ranges_of (Some chain) = chain.ranges
+
+-- the name at a place
+abbrev pub name_at : County → ℕ → Option Body5
+name_at county place = slice_get (entry_values county.names) place
+
+-- the polygon at a place: the content of its type P record, if there is one
+abbrev pub polygon_at : County → ℕ → Option (Option BodyP)
+polygon_at county place = slice_get (entry_values county.polygons) place
+
+-- the contents of the landmark at a place, or the empty list past the last landmark
+abbrev pub bodies_at : County → ℕ → List Body7
+bodies_at county place = unwrap_or (slice_get (entry_values county.landmarks) place) []
+
+-- its links, those with its LAND
+abbrev pub links_with : List Fields8 → Option ℕ → List Fields8
+links_with links None = []
+links_with links (Some land) = of_number eight_land land links
+
+abbrev pub links_at : County → ℕ → List Fields8
+links_at county place = links_with county.links (slice_get (lands county) place)

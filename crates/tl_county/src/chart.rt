@@ -1,0 +1,162 @@
+//! A county however it is kept.
+
+ghost use Rattle.std.specs.Prelude.{◌≡◌, Some, length, is_some, IfSome, option_map, slice_get};
+ghost use Rattle.std.specs.Option.{option_and_then};
+ghost use Rattle.std.specs.Ordering.{nat_cmp};
+ghost use Rattle.tl_layout.specs.ByType.{of_number};
+ghost use Rattle.tl_county.specs.ChartWords.{bodies_at, chain_at, feats_of, links_at, name_at, points_of, polygon_at, ranges_of};
+ghost use Rattle.tl_county.specs.County.{County, eight_land};
+ghost use Rattle.tl_county.specs.CountyRules.{IsCounty, feats, lands, nodes, polygon_keys, tlids};
+ghost use Rattle.tl_county.specs.Entries.{value_under};
+ghost use Rattle.tl_county.specs.Orders.{stands_in};
+ghost use Rattle.tl_county.specs.PolygonKeys.{key_cmp};
+
+use crate::record_keys::PolygonKey;
+use tl_layout::{Body1, Body5, Body7, BodyI, BodyP, Point, Ranges, Rec8, Side};
+
+/// A county, however it is kept. Places count from 0 along the ascending lists of TLIDs, FEATs, polygons, LANDs and nodes;
+/// a place or a number that isn't there is answered by `None`. No call takes memory.
+pub trait Chart {
+    /// The county.
+    ghost county: { Self → County };
+
+    /// How many chains there are.
+    fn chain_count(&self) -> usize
+        ensures { result ≡ length (county self.now).chains };
+
+    /// The TLID of the chain at a place.
+    fn tlid_at(&self, place: usize) -> Option<u64>
+        ensures { result ≡ slice_get (tlids (county self.now)) place };
+
+    /// The place of the chain of a TLID.
+    fn chain_place(&self, tlid: u64) -> Option<usize>
+        ensures found { IfSome result (λ place. slice_get (tlids (county self.now)) place ≡ Some tlid) }
+        ensures known { is_some result ≡ stands_in nat_cmp tlid (tlids (county self.now)) };
+
+    /// How many names there are.
+    fn name_count(&self) -> usize
+        ensures { result ≡ length (county self.now).names };
+
+    /// The FEAT of the name at a place.
+    fn feat_at(&self, place: usize) -> Option<u32>
+        ensures { result ≡ slice_get (feats (county self.now)) place };
+
+    /// The place of the name of a FEAT.
+    fn name_place(&self, feat: u32) -> Option<usize>
+        ensures found { IfSome result (λ place. slice_get (feats (county self.now)) place ≡ Some feat) }
+        ensures known { is_some result ≡ stands_in nat_cmp feat (feats (county self.now)) };
+
+    /// How many polygons there are.
+    fn polygon_count(&self) -> usize
+        ensures { result ≡ length (county self.now).polygons };
+
+    /// The key of the polygon at a place.
+    fn polygon_key_at(&self, place: usize) -> Option<PolygonKey>
+        ensures { result ≡ slice_get (polygon_keys (county self.now)) place };
+
+    /// The place of the polygon of a key.
+    fn polygon_place(&self, key: PolygonKey) -> Option<usize>
+        ensures found { IfSome result (λ place. slice_get (polygon_keys (county self.now)) place ≡ Some key) }
+        ensures known { is_some result ≡ stands_in key_cmp key (polygon_keys (county self.now)) };
+
+    /// How many landmarks there are.
+    fn landmark_count(&self) -> usize
+        ensures { result ≡ length (county self.now).landmarks };
+
+    /// The LAND of the landmark at a place.
+    fn land_at(&self, place: usize) -> Option<u64>
+        ensures { result ≡ slice_get (lands (county self.now)) place };
+
+    /// The place of the landmark of a LAND.
+    fn landmark_place(&self, land: u64) -> Option<usize>
+        ensures found { IfSome result (λ place. slice_get (lands (county self.now)) place ≡ Some land) }
+        ensures known { is_some result ≡ stands_in nat_cmp land (lands (county self.now)) };
+
+    /// How many nodes there are.
+    fn node_count(&self) -> usize
+        ensures { result ≡ length (nodes (county self.now)) };
+
+    /// The number of the node at a place.
+    fn node_at(&self, place: usize) -> Option<u64>
+        ensures { result ≡ slice_get (nodes (county self.now)) place };
+
+    /// The place of a node.
+    fn node_place(&self, node: u64) -> Option<usize>
+        ensures found { IfSome result (λ place. slice_get (nodes (county self.now)) place ≡ Some node) }
+        ensures known { is_some result ≡ stands_in nat_cmp node (nodes (county self.now)) };
+
+    /// The content of the type 1 record of the chain at a place.
+    fn chain_body_at(&self, place: usize) -> Option<Body1>
+        ensures { result ≡ option_map (λ c. c.body) (chain_at (county self.now) place) };
+
+    /// How many points the chain at a place has.
+    fn point_count_at(&self, place: usize) -> usize
+        ensures { result ≡ length (points_of (chain_at (county self.now) place)) };
+
+    /// A point of the chain at a place, from its start node on.
+    fn point_at(&self, place: usize, point: usize) -> Option<Point>
+        ensures { result ≡ slice_get (points_of (chain_at (county self.now) place)) point };
+
+    /// How many further names the chain at a place has.
+    fn feat_count_at(&self, place: usize) -> usize
+        ensures { result ≡ length (feats_of (chain_at (county self.now) place)) };
+
+    /// The FEAT of a further name of the chain at a place.
+    fn chain_feat_at(&self, place: usize, name: usize) -> Option<u32>
+        ensures { result ≡ slice_get (feats_of (chain_at (county self.now) place)) name };
+
+    /// How many further address ranges the chain at a place has.
+    fn range_count_at(&self, place: usize) -> usize
+        ensures { result ≡ length (ranges_of (chain_at (county self.now) place)) };
+
+    /// A further address range of the chain at a place.
+    fn range_at(&self, place: usize, range: usize) -> Option<Ranges>
+        ensures { result ≡ slice_get (ranges_of (chain_at (county self.now) place)) range };
+
+    /// The content of the type I record of the chain at a place.
+    fn link_body_at(&self, place: usize) -> Option<BodyI>
+        ensures { result ≡ option_map (λ c. c.link_body) (chain_at (county self.now) place) };
+
+    /// The node where the chain at a place starts, or none.
+    fn start_node_at(&self, place: usize) -> Option<Option<u64>>
+        ensures { result ≡ option_map (λ c. c.start_node) (chain_at (county self.now) place) };
+
+    /// The node where the chain at a place ends, or none.
+    fn end_node_at(&self, place: usize) -> Option<Option<u64>>
+        ensures { result ≡ option_map (λ c. c.end_node) (chain_at (county self.now) place) };
+
+    /// The left side of the chain at a place.
+    fn left_at(&self, place: usize) -> Option<Side>
+        ensures { result ≡ option_map (λ c. c.left) (chain_at (county self.now) place) };
+
+    /// The right side of the chain at a place.
+    fn right_at(&self, place: usize) -> Option<Side>
+        ensures { result ≡ option_map (λ c. c.right) (chain_at (county self.now) place) };
+
+    /// The name at a place.
+    fn name_body_at(&self, place: usize) -> Option<Body5>
+        ensures { result ≡ name_at (county self.now) place };
+
+    /// The content of the type P record of the polygon at a place, or none where it has no such record.
+    fn polygon_body_at(&self, place: usize) -> Option<Option<BodyP>>
+        ensures { result ≡ polygon_at (county self.now) place };
+
+    /// How many type 7 records the landmark at a place has.
+    fn body_count_at(&self, place: usize) -> usize
+        ensures { result ≡ length (bodies_at (county self.now) place) };
+
+    /// The content of a type 7 record of the landmark at a place.
+    fn landmark_body_at(&self, place: usize, body: usize) -> Option<Body7>
+        ensures { result ≡ slice_get (bodies_at (county self.now) place) body };
+
+    /// How many type 8 records the landmark at a place has.
+    fn link_count_at(&self, place: usize) -> usize
+        ensures { result ≡ length (links_at (county self.now) place) };
+
+    /// A type 8 record of the landmark at a place.
+    fn landmark_link_at(&self, place: usize, link: usize) -> Option<Rec8>
+        ensures { result ≡ slice_get (links_at (county self.now) place) link };
+
+    /// The county is one as linking makes it.
+    ghost is_county: { (chart : Self) → IsCounty (county chart) };
+}
