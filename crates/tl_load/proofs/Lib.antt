@@ -12,3 +12,4 @@ pub mod Filling
 pub mod LineLaws
 pub mod TextLemmas
 pub mod RecordLines
+pub mod Lanes

@@ -1,7 +1,12 @@
 //! The bytes that a line may hold.
 
-ghost use Rattle.std.specs.Prelude.{◌≡◌, position, not, IsTrue};
+ghost use Rattle.std.specs.Prelude.{◌≡◌, ◌≤◌, ◌<◌, ◌+◌, ℕ, length, slice_index, position, not, true, IsTrue};
 ghost use Rattle.tl_layout.specs.Bytes.{is_allowed, AreAllowed};
+
+use std::simd::prelude::*;
+
+/// How many bytes are tested at a time.
+const LANES: usize = 32;
 
 /// The least place, from 0, of a byte that no line may hold: one outside printable ASCII and the upper half of Latin-1
 /// from 0xA0 on. It takes no memory.
@@ -14,15 +19,44 @@ pub fn first_bad(bytes: &[u8]) -> Option<usize>
     bytes.iter().position(|byte| !is_allowed_byte(*byte))
 }
 
-/// A line may hold each of the bytes. No branch depends on a byte, so that many are tested at a time.
+/// A line may hold each of the bytes: they are tested 32 at a time, and those that are left one by one.
 fn is_clean(bytes: &[u8]) -> bool
     ensures { IsTrue result → AreAllowed bytes.now }
 {
-    let mut bad = false;
-    for byte in bytes {
-        bad |= !is_allowed_byte(*byte);
+    let mut at = 0;
+    while bytes.len() - at >= LANES {
+        if !is_clean_block(bytes, at) {
+            return false;
+        }
+        at += LANES;
     }
-    !bad
+    are_clean_after(bytes, at)
+}
+
+/// A line may hold the 32 bytes from this place on. Nothing is said where one is bad.
+#[inline(always)]
+fn is_clean_block(bytes: &[u8], at: usize) -> bool
+    requires { at + 32 ≤ length bytes.now }
+    ensures { IsTrue result → (k : ℕ) → at ≤ k → k < at + 32 → is_allowed (slice_index bytes.now k) ≡ true }
+{
+    let block = u8x32::from_slice(&bytes[at..]);
+    let below_blank = block.simd_lt(u8x32::splat(0x20)).to_bitmask();
+    let below_delete = block.simd_lt(u8x32::splat(0x7f)).to_bitmask();
+    let below_latin = block.simd_lt(u8x32::splat(0xa0)).to_bitmask();
+    below_blank == 0 && below_delete == below_latin
+}
+
+/// A line may hold each of the bytes from this place on.
+fn are_clean_after(bytes: &[u8], at: usize) -> bool
+    requires { at ≤ length bytes.now }
+    ensures { IsTrue result → (k : ℕ) → at ≤ k → k < length bytes.now → is_allowed (slice_index bytes.now k) ≡ true }
+{
+    for i in at..bytes.len() {
+        if !is_allowed_byte(bytes[i]) {
+            return false;
+        }
+    }
+    true
 }
 
 /// A line may hold this byte.

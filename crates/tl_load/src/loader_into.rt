@@ -293,11 +293,7 @@ impl<K: Keeper> LoaderInto<K> {
     }
 
     // Feeds what the source gives until it gives nothing, and closes the part.
-    fn read_to_end<R: Source>(
-        &mut self,
-        source: &mut R,
-        room: &mut [u8],
-    ) -> Result<(), LoadFault>
+    fn read_to_end<R: Source>(&mut self, source: &mut R, room: &mut [u8]) -> Result<(), LoadFault>
         requires parts { self.old.parts < u64.MAX }
         requires some_room { 0 < length room.old }
         requires failures { R.failed source.old < u64.MAX }

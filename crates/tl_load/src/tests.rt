@@ -1,15 +1,17 @@
 //! Worked cases of the loader: sets as the Census publishes them, ends of lines, broken lines and failing sources.
 
+ghost use Rattle.std.specs.Prelude.{◌≤◌};
+
 mod fields;
 
 use crate::{
-    Counted, LoadFault, Loader, SlowSource, Source, first_bad, line_has_record,
-    line_is_judged_as_its_record, spelled_or_one_fault, text_spells_its_records,
+    CanonicalText, Counted, Keeper, LoadFault, Loader, LoaderInto, SlowSource, Source, first_bad,
+    line_has_record, line_is_judged_as_its_record, spelled_or_one_fault, text_spells_its_records,
 };
 use std::alloc::{AllocError, Global};
 use std::process::Abort;
 use std::test::Fail;
-use tl_layout::{RecI, Record};
+use tl_layout::{RecI, Record, Tables};
 
 /// A chain and its link, with blank VERSION and coordinates without sign, and their canonical spellings.
 const CHAIN: &[u8] =
@@ -165,6 +167,42 @@ fn a_fault_has_its_part_and_line(rt: HostRuntime) -> Result<(), Fail> {
 }
 
 #[test]
+fn a_fault_of_a_byte_or_a_field_has_its_part_and_line(rt: HostRuntime) -> Result<(), Fail> {
+    let byte = LoadFault::BadByte {
+        part: 2,
+        line: 3,
+        column: 7,
+    };
+    let number = LoadFault::BadNumber {
+        part: 2,
+        line: 3,
+        column: 6,
+    };
+    let point = LoadFault::BadPoint {
+        part: 2,
+        line: 3,
+        column: 201,
+    };
+    let gap = LoadFault::GapInRecord {
+        part: 2,
+        line: 3,
+        column: 27,
+    };
+    let half = joined(rt.alloc(), &[&CHAIN[..200], b"x"])?;
+    let faulty: [(&[u8], LoadFault); 4] = [
+        (b"1     \x7f12 4", byte),
+        (b"1    12 4", number),
+        (half.as_slice(), point),
+        (b"4             1  1               8", gap),
+    ];
+    for (line, fault) in faulty {
+        let second = joined(rt.alloc(), &[CHAIN, b"\n", LINK, b"\n", line, b"\nA"])?;
+        tells(&rt, rt.alloc(), &[CHAIN, second.as_slice()], fault);
+    }
+    Ok(())
+}
+
+#[test]
 fn a_fault_of_a_field_has_its_column(rt: HostRuntime) -> Result<(), Fail> {
     let number = LoadFault::BadNumber {
         part: 1,
@@ -252,6 +290,112 @@ fn a_failing_source_is_told(rt: HostRuntime) -> Result<(), Fail> {
 }
 
 #[test]
+fn a_failure_is_told_once_and_nothing_is_tried_again(rt: HostRuntime) -> Result<(), Fail> {
+    let set = joined(rt.alloc(), &[CHAIN, b"\n", LINK, b"\n"])?;
+    let mut source = SlowSource::new(set.as_slice(), 100, Some(2));
+    let mut loader = Loader::new(rt.alloc());
+    assert_eq!(rt; loader.read_part(&mut source), Err(LoadFault::Device));
+    assert_eq!(rt; source.failures(), 1);
+    assert_eq!(rt; loader.read_part(&mut source), Err(LoadFault::Device));
+    assert_eq!(rt; loader.feed(b"A"), Err(LoadFault::Device));
+    assert_eq!(rt; loader.end_part(), Err(LoadFault::Device));
+    assert_eq!(rt; source.failures(), 1);
+    let mut next = [0; 100];
+    assert_eq!(rt; source.read(&mut next), Ok(100));
+    assert_eq!(rt; next.as_slice(), &set[100..200]);
+    Ok(())
+}
+
+#[test]
+fn a_source_gives_as_much_as_it_can(rt: HostRuntime) {
+    let mut source = SlowSource::new(b"abcdefghij", 4, None);
+    let mut room = [0; 6];
+    assert_eq!(rt; source.read(&mut room), Ok(4));
+    assert_eq!(rt; source.read(&mut room[..3]), Ok(3));
+    assert_eq!(rt; source.read(&mut room), Ok(3));
+    assert_eq!(rt; source.read(&mut room), Ok(0));
+    assert_eq!(rt; room.as_slice(), b"hijd\0\0".as_slice());
+}
+
+/// What a keeper makes of a part, or its fault.
+fn kept<K: Keeper>(alloc: Global, part: &[u8], limit: u64) -> Result<K, LoadFault>
+    requires some { 1 ≤ limit }
+    requires most { limit ≤ 10000000 }
+{
+    let mut loader = LoaderInto::with_limit(alloc, limit);
+    loader.feed(part)?;
+    loader.finish()
+}
+
+#[test]
+fn each_keeper_keeps_the_records(rt: HostRuntime) -> Result<(), Fail> {
+    let set = joined(rt.alloc(), &[LINK, b"\n", CHAIN, b"\r\n", LINK])?;
+    let text = joined(
+        rt.alloc(),
+        &[
+            LINK_SPELLED,
+            b"\n",
+            CHAIN_SPELLED,
+            b"\n",
+            LINK_SPELLED,
+            b"\n",
+        ],
+    )?;
+    let lines: CanonicalText = kept(rt.alloc(), set.as_slice(), 2).expect(&rt, "accepted");
+    assert_eq!(rt; lines.bytes.as_slice(), text.as_slice());
+    let list: Vec<Record> = kept(rt.alloc(), set.as_slice(), 2).expect(&rt, "accepted");
+    assert_eq!(rt;
+        spelled(rt.alloc(), list.as_slice())?.as_slice(),
+        text.as_slice()
+    );
+    let tables: Tables = kept(rt.alloc(), set.as_slice(), 2).expect(&rt, "accepted");
+    assert_eq!(rt; tables.type_1.len(), 1);
+    assert_eq!(rt; tables.type_i.len(), 2);
+    assert_eq!(rt; tables.type_1[0].tlid(), 500);
+    assert_eq!(rt; tables.type_i[1].tlid(), 500);
+    assert!(rt; tables.type_2.is_empty() && tables.type_4.is_empty() && tables.type_5.is_empty());
+    assert!(rt; tables.type_6.is_empty() && tables.type_7.is_empty() && tables.type_8.is_empty());
+    assert!(rt; tables.type_p.is_empty());
+    let again = Tables::of(rt.alloc(), list)?;
+    assert_eq!(rt; again.type_1.len(), 1);
+    assert_eq!(rt; again.type_i.len(), 2);
+    assert_eq!(rt; again.type_1[0].tlid(), 500);
+    Ok(())
+}
+
+#[test]
+fn no_type_has_more_records_than_the_limit(rt: HostRuntime) -> Result<(), Fail> {
+    let landmark = b"7    01001        30 D43";
+    let polygon = b"8    0100100001        12        30";
+    let three = joined(
+        rt.alloc(),
+        &[polygon, b"\n", polygon, b"\n", polygon, b"\n"],
+    )?;
+    let two = joined(
+        rt.alloc(),
+        &[polygon, b"\n", polygon, b"\n", landmark, b"\n"],
+    )?;
+    let refused: Result<Vec<Record>, LoadFault> = kept(rt.alloc(), three.as_slice(), 2);
+    assert_eq!(rt;
+        refused.err(),
+        Some(LoadFault::TooManyRecords { rtype: b'8' })
+    );
+    let tables: Result<Tables, LoadFault> = kept(rt.alloc(), three.as_slice(), 2);
+    assert_eq!(rt;
+        tables.err(),
+        Some(LoadFault::TooManyRecords { rtype: b'8' })
+    );
+    let accepted: Vec<Record> = kept(rt.alloc(), two.as_slice(), 2).expect(&rt, "accepted");
+    assert_eq!(rt; accepted.len(), 3);
+    let mut loader = Loader::with_limit(rt.alloc(), 2);
+    assert_eq!(rt;
+        loader.feed(three.as_slice()),
+        Err(LoadFault::TooManyRecords { rtype: b'8' })
+    );
+    Ok(())
+}
+
+#[test]
 fn a_fault_stops_the_reading(rt: HostRuntime) {
     let mut source = SlowSource::new(&[b'1'; 1000], 230, Some(2));
     let mut loader = Loader::new(rt.alloc());
@@ -296,6 +440,12 @@ fn bad_bytes_are_found(rt: HostRuntime) {
                 assert_eq!(rt; first_bad(&line[..len]), found);
             }
         }
+    }
+    for (first, second) in [(31, 32), (32, 64)] {
+        let mut line = [b'A'; 100];
+        line[first] = 0x80;
+        line[second] = 0;
+        assert_eq!(rt; first_bad(&line), Some(first));
     }
     line_has_record::<RecI>();
     line_is_judged_as_its_record();
