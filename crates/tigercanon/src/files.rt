@@ -12,6 +12,7 @@ ghost use Rattle.tl_load.specs.Outcome.{Accepts};
 use crate::fault::Fault;
 use std::alloc::{AllocError, Global};
 use std::io::Read;
+use tl_layout::DeviceFault;
 use tl_load::{Counted, Keeper, LoadFault, LoaderInto, Source};
 
 /// A file as opening it went.
@@ -40,6 +41,35 @@ fn room(alloc: Global) -> Result<Vec<u8>, AllocError>
     vec![in alloc; 0u8; 65536]
 }
 
+/// The source over an open file, which knows whether the file has ended.
+#[derive(Drop)]
+struct FileSource<R> {
+    counted: Counted<R>,
+    has_ended: bool,
+}
+
+impl<R: Read> Source for FileSource<R> {
+    ghost use Rattle.std.specs.Prelude.{ℕ, List};
+
+    ghost failed = { λ s. ⟦<Counted<R> as Source>⟧.failed s.counted };
+
+    ghost reads = { λ s. ⟦<Counted<R> as Source>⟧.reads s.counted };
+
+    ghost given = { λ s. ⟦<Counted<R> as Source>⟧.given s.counted };
+
+    ghost remaining = { λ s. ⟦<Counted<R> as Source>⟧.remaining s.counted };
+
+    fn failures(&self) -> u64 {
+        self.counted.failures()
+    }
+
+    fn read(&mut self, buf: &mut [u8]) -> Result<usize, DeviceFault> {
+        let outcome = self.counted.read(buf);
+        self.has_ended = outcome == Ok(0);
+        outcome
+    }
+}
+
 /// Reads on to the source's end, and keeps nothing: a line is faulty already, and what can't be read is told before it.
 fn read_on<S: Source>(source: &mut S, room: &mut [u8]) -> Result<(), LoadFault>
     requires { S.failed source.old < u64.MAX }
@@ -57,26 +87,27 @@ fn read_on<S: Source>(source: &mut S, room: &mut [u8]) -> Result<(), LoadFault>
 }
 
 /// Reads a source to its end as the next part. What is wrong with its lines is left to the loader to tell.
-fn load_source<K: Keeper, S: Source>(
+fn load_source<K: Keeper, R: Read>(
     loader: &mut LoaderInto<K>,
-    source: &mut S,
+    source: &mut FileSource<R>,
     room: &mut [u8],
 ) -> Result<(), LoadFault>
     requires parts { loader.old.parts < u64.MAX }
     requires some_room { 0 < length room.old }
-    requires failures { S.failed source.old < u64.MAX }
+    requires failures { ⟦<FileSource<R> as Source>⟧.failed source.old < u64.MAX }
     requires no_device { IfSome loader.old.fault IsNotDevice }
-    ensures fed { OnOk result (TakesPart K.holds loader.old loader.new (S.remaining source.old)) }
+    ensures fed { OnOk result (TakesPart K.holds loader.old loader.new (⟦<FileSource<R> as Source>⟧.remaining source.old)) }
     ensures parts { loader.new.parts ≤ loader.old.parts + 1 }
     ensures no_device { OnOk result (IfSome loader.new.fault IsNotDevice) }
     // The device is told exactly where the source failed.
-    ensures device { MatchResult result (λ _. S.failed source.new ≡ S.failed source.old)
-        (λ f. (f ≡ LoadFault.Device) × (S.failed source.new ≡ S.failed source.old + 1)) }
+    ensures device { MatchResult result (λ _. ⟦<FileSource<R> as Source>⟧.failed source.new ≡ ⟦<FileSource<R> as Source>⟧.failed source.old)
+        (λ f. (f ≡ LoadFault.Device) × (⟦<FileSource<R> as Source>⟧.failed source.new ≡ ⟦<FileSource<R> as Source>⟧.failed source.old + 1)) }
 {
     match loader.read_part_by(source, room) {
         Ok(()) => Ok(()),
         Err(fault) => match fault {
             LoadFault::Device => Err(fault),
+            _ if source.has_ended => Ok(()),
             _ => read_on(source, room),
         },
     }
@@ -97,7 +128,13 @@ fn load_file<K: Keeper, R: Read + Drop>(
     ensures device { IfErr result (λ f. f ≡ LoadFault.Device) }
 {
     match file {
-        Opened::Found(reader) => load_source(loader, &mut Counted::new(reader), room),
+        Opened::Found(reader) => {
+            let mut source = FileSource {
+                counted: Counted::new(reader),
+                has_ended: false,
+            };
+            load_source(loader, &mut source, room)
+        }
         Opened::Absent => {
             let _ = loader.end_part();
             Ok(())

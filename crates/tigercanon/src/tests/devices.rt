@@ -1,22 +1,31 @@
 //! Readers and writers that give and take a few bytes at a time, and fail.
 
+use std::cell::Cell;
 use std::io::{self, Error, ErrorKind, Read, Write};
 
-/// Gives its bytes at most `step` at a time, and fails at the read after `reads` of them.
+/// Gives its bytes at most `step` at a time. The read after `reads` of them fails, and no other.
 #[derive(Drop)]
 pub(super) struct SlowReader<'a> {
     pub(super) rest: &'a [u8],
     pub(super) step: usize,
-    pub(super) reads: usize,
+    pub(super) reads: Option<usize>,
     pub(super) fault: ErrorKind,
+    pub(super) count: Option<&'a Cell<usize>>,
 }
 
 impl Read for SlowReader<'_> {
     fn read(&mut self, buf: &mut [u8]) -> io::Result<usize> {
-        if self.reads == 0 {
-            return Err(Error::from(self.fault));
+        if let Some(count) = self.count {
+            count.set(count.get().saturating_add(1));
         }
-        self.reads -= 1;
+        match self.reads {
+            Some(0) => {
+                self.reads = None;
+                return Err(Error::from(self.fault));
+            }
+            Some(reads) => self.reads = Some(reads - 1),
+            None => {}
+        }
         let count = self.step.min(buf.len()).min(self.rest.len());
         let (front, rest) = self.rest.split_at(count);
         buf[..count].copy_from_slice(front);
@@ -25,18 +34,22 @@ impl Read for SlowReader<'_> {
     }
 }
 
-/// Takes at most `step` bytes at a time, and fails once it holds `room` bytes.
+/// Takes at most `step` bytes at a time. The write after it holds `room` bytes fails, and no other.
 #[derive(Drop)]
 pub(super) struct SlowWriter {
     pub(super) held: Vec<u8>,
     pub(super) step: usize,
-    pub(super) room: usize,
+    pub(super) room: Option<usize>,
 }
 
 impl Write for SlowWriter {
     fn write(&mut self, buf: &[u8]) -> io::Result<usize> {
-        let left = self.room.saturating_sub(self.held.len());
+        let left = match self.room {
+            Some(room) => room.saturating_sub(self.held.len()),
+            None => buf.len(),
+        };
         if left == 0 && !buf.is_empty() {
+            self.room = None;
             return Err(Error::from(ErrorKind::StorageFull));
         }
         let count = self.step.min(buf.len()).min(left);

@@ -5,6 +5,7 @@ use super::sets::{CANONICAL, CHAIN, LINK, expanded, joined};
 use crate::refusal::Refusal;
 use crate::{Fault, Job, Opened, run};
 use std::alloc::Global;
+use std::cell::Cell;
 use std::io::ErrorKind;
 use std::test::Fail;
 use tl_load::LoadFault;
@@ -14,14 +15,37 @@ fn file(bytes: &[u8], reads: usize, fault: ErrorKind) -> Opened<SlowReader<'_>> 
     Opened::Found(SlowReader {
         rest: bytes,
         step: 100,
-        reads,
+        reads: Some(reads),
         fault,
+        count: None,
+    })
+}
+
+/// An open file with these bytes, which never fails and gives at most `step` of them at a time.
+fn slow(bytes: &[u8], step: usize) -> Opened<SlowReader<'_>> {
+    Opened::Found(SlowReader {
+        rest: bytes,
+        step,
+        reads: None,
+        fault: ErrorKind::Other,
+        count: None,
     })
 }
 
 /// An open file with these bytes, which never fails.
 fn whole(bytes: &[u8]) -> Opened<SlowReader<'_>> {
-    file(bytes, usize::MAX, ErrorKind::Other)
+    slow(bytes, 100)
+}
+
+/// An open file that counts its reads, of which it gives one byte each.
+fn counting(count: &Cell<usize>) -> Opened<SlowReader<'_>> {
+    Opened::Found(SlowReader {
+        rest: b"A",
+        step: 1,
+        reads: None,
+        fault: ErrorKind::Other,
+        count: Some(count),
+    })
 }
 
 /// Room for this many bytes, which come at most `step` at a time.
@@ -29,7 +53,7 @@ fn writer(alloc: Global, step: usize, room: usize) -> SlowWriter {
     SlowWriter {
         held: Vec::new(alloc),
         step,
-        room,
+        room: Some(room),
     }
 }
 
@@ -81,14 +105,50 @@ fn takes_absent_files_as_empty_parts(rt: HostRuntime) -> Result<(), Fail> {
 }
 
 #[test]
-fn tells_a_refused_set(rt: HostRuntime) -> Result<(), Fail> {
+fn prints_a_long_text_whatever_the_steps(rt: HostRuntime) -> Result<(), Fail> {
     let alloc = rt.alloc();
-    let set = joined(alloc, &[CHAIN, "\n", LINK, "\nA"])?;
-    let files = vec![in alloc; whole(&set)]?;
-    let (status, out, err) = respelt(alloc, files, writer(alloc, 7, 1000));
-    assert_eq!(rt; status, 3);
-    assert!(rt; out.is_empty());
-    assert_eq!(rt; err.as_slice(), b"refused 1 UnknownType 1 3\n".as_slice());
+    let set = joined(alloc, &[CHAIN, "\r\n", LINK, "\n"])?;
+    let canonical = expanded(alloc, CANONICAL)?;
+    let mut long = Vec::new(alloc);
+    let mut text = Vec::new(alloc);
+    for _ in 0..200 {
+        long.extend_from_slice(&set)?;
+        text.extend_from_slice(&canonical)?;
+    }
+    assert_eq!(rt; text.len(), 71_400);
+    for step in [1, 7, 4_096, 100_000] {
+        let files = vec![in alloc; slow(&long, step)]?;
+        let (status, out, err) = respelt(alloc, files, writer(alloc, step, 100_000));
+        assert_eq!(rt; status, 0);
+        assert!(rt; out.as_slice() == text.as_slice(), "at steps of {step}");
+        assert!(rt; err.is_empty());
+    }
+    Ok(())
+}
+
+#[test]
+fn tells_each_refusal_by_its_whole_line(rt: HostRuntime) -> Result<(), Fail> {
+    let alloc = rt.alloc();
+    let refusals = [
+        ("A", "refused 1 UnknownType 2 2\n"),
+        ("I{127}", "refused 2 LineTooLong 2 2\n"),
+        ("1 ^{7}12 4", "refused 3 BadByte 2 2 3\n"),
+        ("1{9}12 4", "refused 4 BadNumber 2 2 6\n"),
+        (
+            "1{13}1{175}+000000000+00000000",
+            "refused 5 BadPoint 2 2 191\n",
+        ),
+        ("4{13}1{2}1{8}{7}8", "refused 6 GapInRecord 2 2 27\n"),
+    ];
+    for (line, told) in refusals {
+        let first = joined(alloc, &[CHAIN, "\n", LINK])?;
+        let second = joined(alloc, &[LINK, "\n", line, "\n", line])?;
+        let files = vec![in alloc; whole(&first), whole(&second), whole(b"A")]?;
+        let (status, out, err) = respelt(alloc, files, writer(alloc, 7, 1000));
+        assert_eq!(rt; status, 3);
+        assert!(rt; out.is_empty());
+        assert_eq!(rt; err.as_slice(), told.as_bytes());
+    }
     Ok(())
 }
 
@@ -173,6 +233,43 @@ fn tells_what_cannot_be_opened_or_read_first(rt: HostRuntime) -> Result<(), Fail
             vec![in alloc; whole(b"A"), file(b"", 0, ErrorKind::Other)]?
         )
     );
+    Ok(())
+}
+
+#[test]
+fn reads_nothing_where_a_file_is_missing(rt: HostRuntime) -> Result<(), Fail> {
+    let alloc = rt.alloc();
+    let reads = Cell::new(0);
+    assert!(rt; is_told_as_device(alloc, vec![in alloc; counting(&reads), Opened::Failed]?));
+    assert!(rt; is_told_as_device(alloc, vec![in alloc; Opened::Absent, counting(&reads)]?));
+    assert_eq!(rt; reads.get(), 0);
+    let (status, _, err) = respelt(
+        alloc,
+        vec![in alloc; counting(&reads)]?,
+        writer(alloc, 7, 1000),
+    );
+    assert_eq!(rt; status, 3);
+    assert_eq!(rt; err.as_slice(), b"refused 1 UnknownType 1 1\n".as_slice());
+    assert_eq!(rt; reads.get(), 2);
+    Ok(())
+}
+
+#[test]
+fn a_second_try_is_never_made(rt: HostRuntime) -> Result<(), Fail> {
+    let alloc = rt.alloc();
+    let set = joined(alloc, &[CHAIN, "\n", LINK])?;
+    let text = expanded(alloc, CANONICAL)?;
+    // After a faulty line reading goes on, and what can't be read is told in its place.
+    let faulty = joined(alloc, &["A\n", CHAIN, "\n", LINK])?;
+    for bytes in [set.as_slice(), faulty.as_slice()] {
+        let files = vec![in alloc; file(bytes, 2, ErrorKind::Interrupted)]?;
+        assert!(rt; is_told_as_device(alloc, files));
+    }
+    let files = vec![in alloc; whole(&set)]?;
+    let (status, out, err) = respelt(alloc, files, writer(alloc, 7, 14));
+    assert_eq!(rt; status, 4);
+    assert_eq!(rt; out.as_slice(), &text[..14]);
+    assert_eq!(rt; err.as_slice(), b"refused 10 WriteFault 14\n".as_slice());
     Ok(())
 }
 

@@ -54,7 +54,7 @@ fn tells_the_usage(rt: HostRuntime) -> Result<(), Fail> {
         let mut err = SlowWriter {
             held: Vec::new(alloc),
             step: 7,
-            room: 10_000,
+            room: Some(10_000),
         };
         match plan(alloc, &words) {
             Ok(_) => assert!(rt; false, "planned {line:?}"),
@@ -71,7 +71,7 @@ fn tells_want_of_memory(rt: HostRuntime) {
     let mut err = SlowWriter {
         held: Vec::new(alloc),
         step: 7,
-        room: 10_000,
+        room: Some(10_000),
     };
     assert_eq!(rt; tell(&PlanFault::Memory, &mut err), 5);
     assert_eq!(rt; err.held.as_slice(), b"refused 9 Memory\n".as_slice());
