@@ -3,6 +3,7 @@
 mod devices;
 mod jobs;
 mod lines;
+mod linking;
 mod plans;
 mod sets;
 mod turns;

@@ -1,0 +1,169 @@
+//! Records that fit together and records that don't.
+
+use super::sets::{CHAIN, LINK, expanded};
+use std::alloc::Global;
+use std::process::Abort;
+use std::test::Fail;
+use tl_county::{Chart, County, LinkFault, LinkedType, link};
+use tl_layout::{Point, Record};
+use tl_load::Loader;
+
+/// The records that these lines spell, in their order.
+fn records_of(alloc: Global, lines: &[&str]) -> Result<Vec<Record>, Fail> {
+    let mut loader = Loader::new(alloc);
+    for line in lines {
+        loader.feed(expanded(alloc, line)?.as_slice())?;
+        loader.feed(b"\n")?;
+    }
+    Ok(loader.finish()?)
+}
+
+/// The county of these lines, or the first rule that they break.
+fn linked(alloc: Global, lines: &[&str]) -> Result<Result<County, LinkFault>, Fail> {
+    Ok(link(alloc, records_of(alloc, lines)?))
+}
+
+/// The fault of these lines; none where they are linked.
+fn fault_of(alloc: Global, lines: &[&str]) -> Result<Option<LinkFault>, Fail> {
+    Ok(linked(alloc, lines)?.err())
+}
+
+const NAME_8: &str = "4{11}500{2}1{7}8{32}";
+
+const NAMES_9_AND_8: &str = "4{11}500{2}1{7}9{7}8{24}";
+
+const LANDMARK_30: &str = "7{4}01001{8}30AD43Barn{46}";
+
+const LINK_TO_30: &str = "8{4}0100100001{8}12{8}30{1}";
+
+#[test]
+fn tells_the_first_rule_that_is_broken(rt: HostRuntime) -> Result<(), Fail> {
+    let alloc = rt.alloc();
+    let twice = fault_of(alloc, &[CHAIN, CHAIN])?;
+    assert_eq!(rt; twice, Some(LinkFault::ChainTwice { tlid: 500 }));
+    let unknown = fault_of(alloc, &[CHAIN, LINK, NAME_8])?;
+    assert_eq!(rt;
+        unknown,
+        Some(LinkFault::NameUnknown { tlid: 500, feat: 8 })
+    );
+    let least = fault_of(alloc, &[CHAIN, LINK, NAMES_9_AND_8])?;
+    assert_eq!(rt; least, Some(LinkFault::NameUnknown { tlid: 500, feat: 8 }));
+    let shape = "2{11}500{2}1";
+    let rtype = LinkedType::Two;
+    let sequence = fault_of(alloc, &[CHAIN, LINK, NAME_8, shape, shape])?;
+    assert_eq!(rt;
+        sequence,
+        Some(LinkFault::SequenceBroken { rtype, tlid: 500 })
+    );
+    let chain = fault_of(alloc, &[CHAIN, LINK, "6{11}501{2}1", "2{11}600{2}1"])?;
+    assert_eq!(rt; chain, Some(LinkFault::NoChain { rtype, tlid: 600 }));
+    let land = fault_of(alloc, &[CHAIN, LINK, LINK_TO_30])?;
+    assert_eq!(rt; land, Some(LinkFault::LandUnknown { land: 30 }));
+    let polygon = fault_of(alloc, &[CHAIN, LINK, LANDMARK_30, LINK_TO_30])?;
+    let cenid = *b"00001";
+    assert_eq!(rt;
+        polygon,
+        Some(LinkFault::PolygonUnknown { cenid, polyid: 12 })
+    );
+    Ok(())
+}
+
+/// A chain between polygon 12 under the CENIDs 00001 and 00002, with shape points in two records, two names and landmarks.
+const RICH: [&str; 11] = [
+    LINK_TO_30,
+    "2{11}500{2}5{1}-86468600+32424930",
+    "7{4}01001{8}40AD43Barn{46}",
+    "I{4}01001{7}500{8}11{8}1200001{8}1200002{8}12{57}",
+    "5{4}01001{7}9{2}Old Mill{22}Rd{4}",
+    "4{11}500{2}1{7}9{7}8{24}",
+    CHAIN,
+    "7{4}01001{8}40AD43Annex{45}",
+    "2{11}500{2}2{1}-86468650+32424920",
+    LANDMARK_30,
+    "5{4}01001{7}8{2}Elm{27}St{4}",
+];
+
+/// What the county of those lines has, in whatever order they come.
+fn has_what_the_lines_say(rt: &impl Abort, county: &County) -> Result<(), Fail> {
+    assert_eq!(rt; county.tlids(), [500].as_slice());
+    assert_eq!(rt; county.feats(), [8, 9].as_slice());
+    assert_eq!(rt; county.lands(), [30, 40].as_slice());
+    assert_eq!(rt; county.nodes(), [11, 12].as_slice());
+    assert_eq!(rt;
+        county.polygons(),
+        [(*b"00001", 12), (*b"00002", 12)].as_slice()
+    );
+    let chain = county.chain(500).ok_or("the chain is there")?;
+    let points = [
+        Point::new(-86468669, 32424914),
+        Point::new(-86468650, 32424920),
+        Point::new(-86468600, 32424930),
+        Point::new(-86468545, 32424948),
+    ];
+    assert_eq!(rt; chain.shape().points(), points.as_slice());
+    assert_eq!(rt; chain.feats(), [9, 8].as_slice());
+    assert!(rt; county.chain(501).is_none());
+    let name = county.name(9).ok_or("the name is there")?;
+    assert_eq!(rt; *name.name.fetype.as_bytes(), *b"Rd  ");
+    assert!(rt; county.name(7).is_none());
+    assert!(rt; county.polygon_body((*b"00001", 12)).is_none());
+    let bodies = county.landmark_bodies(40);
+    assert_eq!(rt; bodies.len(), 2);
+    assert_eq!(rt; county.landmark_bodies(41).len(), 0);
+    assert_eq!(rt; county.landmark_links(30).len(), 1);
+    assert_eq!(rt; county.landmark_links(40).len(), 0);
+    Ok(())
+}
+
+#[test]
+fn links_records_in_any_order(rt: HostRuntime) -> Result<(), Fail> {
+    let alloc = rt.alloc();
+    let county = link(alloc, records_of(alloc, RICH.as_slice())?)?;
+    has_what_the_lines_say(&rt, &county)?;
+    let mut others = records_of(alloc, RICH.as_slice())?;
+    others.reverse();
+    has_what_the_lines_say(&rt, &link(alloc, others)?)?;
+    let bodies = county.landmark_bodies(40);
+    let first = bodies.first().ok_or("landmark 40 has a body")?;
+    assert_eq!(rt; first.laname.as_bytes().starts_with(b"Annex"), true);
+    Ok(())
+}
+
+#[test]
+fn charts_a_county(rt: HostRuntime) -> Result<(), Fail> {
+    let alloc = rt.alloc();
+    let county = link(alloc, records_of(alloc, RICH.as_slice())?)?;
+    assert_eq!(rt; county.chain_count(), 1);
+    assert_eq!(rt; county.tlid_at(0), Some(500));
+    assert_eq!(rt; county.tlid_at(1), None);
+    assert_eq!(rt; county.chain_place(500), Some(0));
+    assert_eq!(rt; county.chain_place(499), None);
+    assert_eq!(rt; county.point_count_at(0), 4);
+    assert_eq!(rt;
+        county.point_at(0, 1),
+        Some(Point::new(-86468650, 32424920))
+    );
+    assert_eq!(rt; county.point_at(0, 4), None);
+    assert_eq!(rt; county.chain_feat_at(0, 1), Some(8));
+    assert_eq!(rt; county.start_node_at(0), Some(Some(11)));
+    assert_eq!(rt; county.node_place(12), Some(1));
+    assert_eq!(rt; county.polygon_key_at(1), Some((*b"00002", 12)));
+    assert_eq!(rt; county.polygon_body_at(1), Some(None));
+    assert_eq!(rt; county.land_at(1), Some(40));
+    assert_eq!(rt; county.body_count_at(1), 2);
+    assert_eq!(rt; county.link_count_at(1), 0);
+    assert_eq!(rt; county.link_count_at(0), 1);
+    Ok(())
+}
+
+#[test]
+fn links_no_records(rt: HostRuntime) -> Result<(), Fail> {
+    let alloc = rt.alloc();
+    let county = link(alloc, Vec::new(alloc))?;
+    assert_eq!(rt; county.chain_count(), 0);
+    assert_eq!(rt; county.name_count(), 0);
+    assert_eq!(rt; county.polygon_count(), 0);
+    assert_eq!(rt; county.landmark_count(), 0);
+    assert_eq!(rt; county.node_count(), 0);
+    Ok(())
+}
