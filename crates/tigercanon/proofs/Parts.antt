@@ -1,5 +1,6 @@
 -- Slices of bytes as the parts of a set.
-use Rattle.std.proofs.Common.{◌≡◌, ℕ, suc, ◌<◌, ◌+◌, List, [], ◌∷◌, ◌++◌, length, take, drop, get_or, map, Bor, ap, sym, ◌∙◌, subst, append-nil, append_assoc}
+use Rattle.std.proofs.Common.{◌≡◌, ℕ, suc, ◌<◌, ◌+◌, List, [], ◌∷◌, ◌++◌, length, take, drop, get_or, map, Bor, ap, sym, ◌∙◌}
+use Rattle.std.proofs.Common.{subst, append-nil, append_assoc}
 use Rattle.std.proofs.Math.Seq.{drop-cons}
 use Rattle.std.proofs.lemmas.List.{take_more, take-append-drop, map-append}
 use Rattle.tl_load.proofs.LineLemmas.{lines_none}
@@ -54,7 +55,8 @@ pub fault_of_all : (slices : List (Bor (List ℕ))) (i : ℕ) (d : Bor (List ℕ
     → IsFaultHowever record_limit (parts_of (take i slices)) (get_or slices i d).now f → IsFirstFault (parts_of slices) f
 fault_of_all slices i d f within however =
     let all : parts_of (take i slices) ++ ((get_or slices i d).now ++ []) ∷ parts_of (drop (suc i) slices) ≡ parts_of slices =
-    ap (λ part. parts_of (take i slices) ++ part ∷ parts_of (drop (suc i) slices)) (append-nil (get_or slices i d).now) ∙ parts_around slices i d within in
+    ap (λ part. parts_of (take i slices) ++ part ∷ parts_of (drop (suc i) slices)) (append-nil (get_or slices i d).now)
+        ∙ parts_around slices i d within in
     subst (λ ps. IsFirstFault ps f) all (however [] (parts_of (drop (suc i) slices)))
 
 -- the same where that part is closed: the next one and those after it go on, or nothing does
@@ -66,5 +68,6 @@ pub fault_of_closed : (slices : List (Bor (List ℕ))) (i : ℕ) (d : Bor (List 
     → IsFaultHowever record_limit (parts_of (take i slices) ++ (get_or slices i d).now ∷ []) [] f → IsFirstFault (parts_of slices) f
 fault_of_closed slices i d f within however =
     let closed = parts_of (take i slices) in
-    subst (λ ps. IsFirstFault ps f) (append_assoc closed ((get_or slices i d).now ∷ []) (parts_of (drop (suc i) slices)) ∙ parts_around slices i d within)
+    subst (λ ps. IsFirstFault ps f) (append_assoc closed ((get_or slices i d).now ∷ []) (parts_of (drop (suc i) slices))
+        ∙ parts_around slices i d within)
     (fault_of_rest (closed ++ (get_or slices i d).now ∷ []) (parts_of (drop (suc i) slices)) f however)

@@ -17,40 +17,49 @@ use Rattle.tl_county.specs.Renumbering.{AreSame}
 use Rattle.tl_number.specs.Accepted.{IsAccepted, Refusal, IsRefusal}
 use Rattle.tigercanon.specs.Respelling.{record_limit}
 use Rattle.tigercanon.specs.Sets.{IsAcceptedSet, SetRefusal, Faulty, Refused, IsSetRefusal, IsCanonicalText}
-use Rattle.tl_number.proofs.Accepted.{accepted_or_refused, accepted_not_refused, one_refusal, same_one_canonical, one_canonical_same, canonical_of_itself}
+use Rattle.tl_number.proofs.Accepted.{accepted_or_refused, accepted_not_refused, one_refusal, same_one_canonical}
+use Rattle.tl_number.proofs.Accepted.{one_canonical_same, canonical_of_itself}
 use Rattle.tl_number.proofs.Ascending.{canonical_list, canonical_exists}
 use Rattle.tl_number.proofs.TidyNumbers.{canonical_within}
 use Rattle.tl_county.proofs.Sameness.{same-reflexive}
 
-pub set_accepted_or_refused : (parts : List (List ℕ)) → ((records : List Record) × IsAcceptedSet parts records) ⊎ ((refusal : SetRefusal) × IsSetRefusal parts refusal)
+pub set_accepted_or_refused : (parts : List (List ℕ))
+    → ((records : List Record) × IsAcceptedSet parts records) ⊎ ((refusal : SetRefusal) × IsSetRefusal parts refusal)
 set_accepted_or_refused parts = go (one_verdict tiger tiger_is_sound record_limit parts)
   where
-    judged : (records : List Record) → Accepts tiger record_limit parts records → IsAccepted records ⊎ ((refusal : Refusal) × IsRefusal records refusal) → ((records : List Record) × IsAcceptedSet parts records) ⊎ ((refusal : SetRefusal) × IsSetRefusal parts refusal)
+    judged : (records : List Record) → Accepts tiger record_limit parts records
+        → IsAccepted records ⊎ ((refusal : Refusal) × IsRefusal records refusal)
+        → ((records : List Record) × IsAcceptedSet parts records) ⊎ ((refusal : SetRefusal) × IsSetRefusal parts refusal)
     judged records spelled (inl accepted) = inl (records, record { spelled = spelled; accepted = accepted })
     judged records spelled (inr r) = inr (Refused r.0, (records, spelled, r.1))
 
-    go : IsSpelled tiger record_limit parts ⊎ IsFaulty tiger record_limit parts → ((records : List Record) × IsAcceptedSet parts records) ⊎ ((refusal : SetRefusal) × IsSetRefusal parts refusal)
+    go : IsSpelled tiger record_limit parts ⊎ IsFaulty tiger record_limit parts
+        → ((records : List Record) × IsAcceptedSet parts records) ⊎ ((refusal : SetRefusal) × IsSetRefusal parts refusal)
     go (inl s) = judged s.records s.accepts (accepted_or_refused s.records)
     go (inr f) = inr (Faulty f.fault, f.at)
 
 -- the records that accepted parts spell are one list, and then no line is faulty
-one_list : (parts : List (List ℕ)) (records others : List Record) → Accepts tiger record_limit parts records → Accepts tiger record_limit parts others → records ≡ others
+one_list : (parts : List (List ℕ)) (records others : List Record) → Accepts tiger record_limit parts records
+    → Accepts tiger record_limit parts others → records ≡ others
 one_list parts records others a b = go (one_verdict tiger tiger_is_sound record_limit parts)
   where
     go : IsSpelled tiger record_limit parts ⊎ IsFaulty tiger record_limit parts → records ≡ others
     go (inl s) = s.only records a.spells ∙ sym (s.only others b.spells)
     go (inr f) = absurd (f.none records a)
 
-spelled_not_faulty : (parts : List (List ℕ)) (records : List Record) (fault : LoadFault) → Accepts tiger record_limit parts records → FaultAt tiger record_limit parts fault → ⊥
+spelled_not_faulty : (parts : List (List ℕ)) (records : List Record) (fault : LoadFault) → Accepts tiger record_limit parts records
+    → FaultAt tiger record_limit parts fault → ⊥
 spelled_not_faulty parts records fault a h = go (one_verdict tiger tiger_is_sound record_limit parts)
   where
     go : IsSpelled tiger record_limit parts ⊎ IsFaulty tiger record_limit parts → ⊥
     go (inl s) = s.none fault h
     go (inr f) = f.none records a
 
-pub accepted_set_not_refused : (parts : List (List ℕ)) (records : List Record) (refusal : SetRefusal) → IsAcceptedSet parts records → IsSetRefusal parts refusal → ⊥
+pub accepted_set_not_refused : (parts : List (List ℕ)) (records : List Record) (refusal : SetRefusal) → IsAcceptedSet parts records
+    → IsSetRefusal parts refusal → ⊥
 accepted_set_not_refused parts records (Faulty fault) a h = spelled_not_faulty parts records fault a.spelled h
-accepted_set_not_refused parts records (Refused refusal) a h = accepted_not_refused records refusal a.accepted (subst (λ rs. IsRefusal rs refusal) (one_list parts h.0 records h.1 a.spelled) h.2)
+accepted_set_not_refused parts records (Refused refusal) a h =
+    accepted_not_refused records refusal a.accepted (subst (λ rs. IsRefusal rs refusal) (one_list parts h.0 records h.1 a.spelled) h.2)
 
 one_fault : (parts : List (List ℕ)) (f g : LoadFault) → FaultAt tiger record_limit parts f → FaultAt tiger record_limit parts g → f ≡ g
 one_fault parts f g h k = go (one_verdict tiger tiger_is_sound record_limit parts)
@@ -63,28 +72,35 @@ pub one_set_refusal : (parts : List (List ℕ)) (f g : SetRefusal) → IsSetRefu
 one_set_refusal parts (Faulty f) (Faulty g) h k = ap Faulty (one_fault parts f g h k)
 one_set_refusal parts (Faulty f) (Refused g) h k = absurd (spelled_not_faulty parts k.0 f k.1 h)
 one_set_refusal parts (Refused f) (Faulty g) h k = absurd (spelled_not_faulty parts h.0 g h.1 k)
-one_set_refusal parts (Refused f) (Refused g) h k = ap Refused (one_refusal k.0 f g (subst (λ rs. IsRefusal rs f) (one_list parts h.0 k.0 h.1 k.1) h.2) k.2)
+one_set_refusal parts (Refused f) (Refused g) h k =
+    ap Refused (one_refusal k.0 f g (subst (λ rs. IsRefusal rs f) (one_list parts h.0 k.0 h.1 k.1) h.2) k.2)
 
 -- what is printed of a canonical list fits, and keeps the limit
-fitting : (parts : List (List ℕ)) (text : List ℕ) (h : IsCanonicalText parts text) → All FitsRecord h.canonical × IsWithinLimit record_limit h.canonical
+fitting : (parts : List (List ℕ)) (text : List ℕ) (h : IsCanonicalText parts text)
+    → All FitsRecord h.canonical × IsWithinLimit record_limit h.canonical
 fitting parts text h =
-    let read : AllByRecursion FitsRecord h.records = recursion_from_All FitsRecord h.records (spelled_fit parts h.records h.spelled.spells) in
-    let kept = canonical_within record_limit (lit≤ tt) h.records h.canonical_of.accepted read (accepted_within record_limit parts h.records h.spelled) h.canonical h.canonical_of in
+    let read : AllByRecursion FitsRecord h.records =
+        recursion_from_All FitsRecord h.records (spelled_fit parts h.records h.spelled.spells) in
+    let kept = canonical_within record_limit (lit≤ tt) h.records h.canonical_of.accepted read
+        (accepted_within record_limit parts h.records h.spelled) h.canonical h.canonical_of in
     (All-from_recursion FitsRecord h.canonical kept.0, kept.1)
 
 module _ (p q : List (List ℕ)) (t u : List ℕ) (h : IsCanonicalText p t) (k : IsCanonicalText q u) where
   pub same_one_text : AreSame (county_of h.records) (county_of k.records) → t ≡ u
-  same_one_text s = sym h.text_is ∙ ap text_of (same_one_canonical h.records k.records h.canonical k.canonical h.canonical_of k.canonical_of s) ∙ k.text_is
+  same_one_text s = sym h.text_is
+      ∙ ap text_of (same_one_canonical h.records k.records h.canonical k.canonical h.canonical_of k.canonical_of s) ∙ k.text_is
 
   pub one_text_same : t ≡ u → AreSame (county_of h.records) (county_of k.records)
   one_text_same e =
       let texts : text_of k.canonical ≡ text_of h.canonical = k.text_is ∙ sym e ∙ sym h.text_is in
-      let spelled : Spells tiger (text_of h.canonical ∷ []) k.canonical = subst (λ bytes. Spells tiger (bytes ∷ []) k.canonical) texts (text_spells k.canonical (fitting q u k).0) in
+      let spelled : Spells tiger (text_of h.canonical ∷ []) k.canonical =
+          subst (λ bytes. Spells tiger (bytes ∷ []) k.canonical) texts (text_spells k.canonical (fitting q u k).0) in
       let lists : k.canonical ≡ h.canonical = text_spells_only h.canonical k.canonical (fitting p t h).0 spelled in
       one_canonical_same h.records k.records h.canonical k.canonical h.canonical_of k.canonical_of (sym lists)
 
 -- an accepted set has one canonical text
-pub canonical_text : (parts : List (List ℕ)) (records : List Record) → IsAcceptedSet parts records → (text : List ℕ) × IsCanonicalText parts text
+pub canonical_text : (parts : List (List ℕ)) (records : List Record) → IsAcceptedSet parts records
+    → (text : List ℕ) × IsCanonicalText parts text
 canonical_text parts records a = (text_of (canonical_list records), record {
   records = records;
   canonical = canonical_list records;
@@ -94,7 +110,10 @@ canonical_text parts records a = (text_of (canonical_list records), record {
 })
 
 pub one_text : (parts : List (List ℕ)) (t u : List ℕ) → IsCanonicalText parts t → IsCanonicalText parts u → t ≡ u
-one_text parts t u h k = same_one_text parts parts t u h k (subst (λ (rs : List Record). AreSame (county_of h.records) (county_of rs)) (one_list parts h.records k.records h.spelled k.spelled) (same-reflexive (county_of h.records)))
+one_text parts t u h k =
+    same_one_text parts parts t u h k
+    (subst (λ (rs : List Record). AreSame (county_of h.records) (county_of rs)) (one_list parts h.records k.records h.spelled k.spelled)
+    (same-reflexive (county_of h.records)))
 
 -- as one part it is accepted, of the same map, and its own canonical text
 module _ (parts : List (List ℕ)) (text : List ℕ) (h : IsCanonicalText parts text) where

@@ -29,6 +29,7 @@ TakesPart holds before after known = (closed : List (List ℕ)) → WasFedInto h
     → (part : List ℕ) × IfSome known (λ bytes. part ≡ bytes) × WasFedInto holds record_limit after (closed ++ part ∷ []) []
 
 -- a loader that was fed nothing was fed what the files hold
-abbrev pub TakesFiles : {K R : Type 0} → (K → List Record → Type 0) → LoadedInto K → LoadedInto K → (R → Option (List ℕ)) → List (Opened R) → Type 0
+abbrev pub TakesFiles : {K R : Type 0} → (K → List Record → Type 0) → LoadedInto K → LoadedInto K → (R → Option (List ℕ)) → List (Opened R)
+    → Type 0
 TakesFiles holds before after remaining files = WasFedInto holds record_limit before [] []
     → (parts : List (List ℕ)) × AreHeld remaining files parts × WasFedInto holds record_limit after parts []

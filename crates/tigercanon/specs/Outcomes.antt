@@ -24,7 +24,8 @@ pub record PrintsWhole {R : Type 0} (remaining : R → Option (List ℕ)) (files
   pub printed : Appends old new text
 
 -- the writer got the first so many bytes of the respelt text, and not all of them
-pub record PrintsBeginning {R : Type 0} (remaining : R → Option (List ℕ)) (files : List (Opened R)) (written : ℕ) (old new : Option (List ℕ)) : Type 0 where
+pub record PrintsBeginning {R : Type 0} (remaining : R → Option (List ℕ)) (files : List (Opened R)) (written : ℕ)
+    (old new : Option (List ℕ)) : Type 0 where
   pub text : List ℕ
   pub respelt : AreRespelt remaining files text
   pub printed : Appends old new (take written text)

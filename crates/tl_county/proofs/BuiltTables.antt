@@ -1,5 +1,7 @@
 -- What linking builds of tables in order is the county of their records.
-use Rattle.std.proofs.Common.{◌≡◌, ◌⊎◌, ◌==◌, ℕ, suc, List, [], ◌∷◌, ◌++◌, map, flat_map, length, Bool, true, false, cond, Less, is_eq, inl, inr, sym, refl, ap, ◌∙◌, subst, arith, nat_cmp, IsPermutation, Option, Some, None, unwrap_or, option_map, slice_get, zero}
+use Rattle.std.proofs.Common.{◌≡◌, ◌⊎◌, ◌==◌, ℕ, suc, List, [], ◌∷◌, ◌++◌, map, flat_map, length, Bool, true, false, cond, Less}
+use Rattle.std.proofs.Common.{is_eq, inl, inr, sym, refl, ap, ◌∙◌, subst, arith, nat_cmp, IsPermutation, Option, Some, None}
+use Rattle.std.proofs.Common.{unwrap_or, option_map, slice_get, zero}
 use Rattle.std.proofs.lemmas.Bool.{false≢true, eq-eqb, ne_eqb}
 use Rattle.std.proofs.lemmas.List.{append-nil}
 use Rattle.std.proofs.lemmas.List.Elements.{filter-append}
@@ -23,7 +25,8 @@ use Rattle.tl_county.proofs.Keys.{nat_keys, same_or_not, same-itself}
 use Rattle.tl_county.proofs.Lists.{map-map}
 use Rattle.tl_county.proofs.Numbers.{of_number-all}
 use Rattle.tl_county.specs.BodyOrder.{landmark_body_cmp, link_part, link_part_cmp}
-use Rattle.tl_county.specs.County.{County, one_tlid, two_tlid, two_rtsq, four_tlid, four_rtsq, five_feat, six_tlid, six_rtsq, seven_land, eight_land, i_tlid, county_of}
+use Rattle.tl_county.specs.County.{County, one_tlid, two_tlid, two_rtsq, four_tlid, four_rtsq, five_feat, six_tlid, six_rtsq}
+use Rattle.tl_county.specs.County.{seven_land, eight_land, i_tlid, county_of}
 use Rattle.tl_county.specs.CountyRules.{IsCounty}
 use Rattle.tl_county.specs.declared.fault.LinkFault.{LinkFault}
 use Rattle.tl_county.specs.LinkRules.{IsLinked, IsFirstBrokenRule}
@@ -38,10 +41,12 @@ use Rattle.tl_county.proofs.SameCounty.{reordered-county}
 use Rattle.tl_county.proofs.SameRules.{same-sym, same-linked, same-first}
 use Rattle.tl_county.proofs.TypedRecords.{by_type-after, grouped, permuted-after}
 
-pub length-chains_along : (twos : List Fields2) (fours : List Fields4) (sixes : List Fields6) (rs : List Fields1) (ls : List FieldsI) → map one_tlid rs ≡ map i_tlid ls → length (map one_tlid rs) ≡ length (chains_along twos fours sixes rs ls)
+pub length-chains_along : (twos : List Fields2) (fours : List Fields4) (sixes : List Fields6) (rs : List Fields1) (ls : List FieldsI)
+    → map one_tlid rs ≡ map i_tlid ls → length (map one_tlid rs) ≡ length (chains_along twos fours sixes rs ls)
 length-chains_along twos fours sixes [] ls e = refl
 length-chains_along twos fours sixes (r ∷ rs) [] e = cc
-length-chains_along twos fours sixes (r ∷ rs) (l ∷ ls) e = let rest : map one_tlid rs ≡ map i_tlid ls = cc in omega (arith, length-chains_along twos fours sixes rs ls rest)
+length-chains_along twos fours sixes (r ∷ rs) (l ∷ ls) e = let rest : map one_tlid rs ≡ map i_tlid ls = cc in
+    omega (arith, length-chains_along twos fours sixes rs ls rest)
 
 module _ (t : Typed) (order : AreInOrder t) where
   pub twos-in_order : IsInOrder (on two_tlid nat_cmp) t.of_type_2
@@ -64,13 +69,16 @@ module _ (t : Typed) (order : AreInOrder t) where
     ordered = subst AreInOrder (sym (by_type-after t)) order
 
     pub tlids-ascend : IsStrictlySortedBy nat_cmp (map one_tlid t.of_type_1)
-    tlids-ascend = subst (λ (u : Typed). IsStrictlySortedBy nat_cmp (map one_tlid u.of_type_1)) (by_type-after t) (tlids-strict (type_after_type t) ordered linked)
+    tlids-ascend = subst (λ (u : Typed). IsStrictlySortedBy nat_cmp (map one_tlid u.of_type_1)) (by_type-after t)
+        (tlids-strict (type_after_type t) ordered linked)
 
     pub feats-ascend : IsStrictlySortedBy nat_cmp (map five_feat t.of_type_5)
-    feats-ascend = subst (λ (u : Typed). IsStrictlySortedBy nat_cmp (map five_feat u.of_type_5)) (by_type-after t) (feats-strict (type_after_type t) ordered linked)
+    feats-ascend = subst (λ (u : Typed). IsStrictlySortedBy nat_cmp (map five_feat u.of_type_5)) (by_type-after t)
+        (feats-strict (type_after_type t) ordered linked)
 
     pub beside : map one_tlid t.of_type_1 ≡ map i_tlid t.of_type_i
-    beside = subst (λ (u : Typed). map one_tlid u.of_type_1 ≡ map i_tlid u.of_type_i) (by_type-after t) (side_by_side (type_after_type t) ordered linked)
+    beside = subst (λ (u : Typed). map one_tlid u.of_type_1 ≡ map i_tlid u.of_type_i) (by_type-after t)
+        (side_by_side (type_after_type t) ordered linked)
 
     pub as_built : county_of (type_after_type t) ≡ county_along t
     as_built = county-built (type_after_type t) ordered linked ∙ ap county_along (by_type-after t)
@@ -94,7 +102,8 @@ held tables records h = λ i. record {
 
 module _ (records : List Record) (t u : Typed) (holds : by_type records ≡ t) (permuted : ArePermuted t u) where
   moved : IsPermutation records (type_after_type u)
-  moved = IsPermutation-trans records (type_after_type (by_type records)) (type_after_type u) (grouped records) (permuted-after (by_type records) u (subst (λ v. ArePermuted v u) (sym holds) permuted))
+  moved = IsPermutation-trans records (type_after_type (by_type records)) (type_after_type u) (grouped records)
+      (permuted-after (by_type records) u (subst (λ v. ArePermuted v u) (sym holds) permuted))
 
   same : SameElements (type_after_type u) records
   same = same-sym records (type_after_type u) (from_permutation records (type_after_type u) moved)
@@ -124,13 +133,20 @@ module _ (land : ℕ) where
   -- where all or no links have the number
   all_of : (links : List Fields8) → AllByRecursion (λ link. link.land ≡ land) links → of_number eight_land land links ≡ links
   all_of [] a = refl
-  all_of (link ∷ links) a = ap (λ b. cond b (link ∷ of_number eight_land land links) (of_number eight_land land links)) (eq-eqb link.land land a.0) ∙ ap (λ l. link ∷ l) (all_of links a.1)
+  all_of (link ∷ links) a =
+      ap (λ b. cond b (link ∷ of_number eight_land land links) (of_number eight_land land links)) (eq-eqb link.land land a.0)
+      ∙ ap (λ l. link ∷ l) (all_of links a.1)
 
-  none_of : (other : ℕ) → (other ≡ land → ⊥) → (links : List Fields8) → AllByRecursion (λ link. link.land ≡ other) links → of_number eight_land land links ≡ []
+  none_of : (other : ℕ) → (other ≡ land → ⊥) → (links : List Fields8) → AllByRecursion (λ link. link.land ≡ other) links
+      → of_number eight_land land links ≡ []
   none_of other ne [] a = refl
-  none_of other ne (link ∷ links) a = ap (λ b. cond b (link ∷ of_number eight_land land links) (of_number eight_land land links)) (ne_eqb link.land land (λ e. ne (sym a.0 ∙ e))) ∙ none_of other ne links a.1
+  none_of other ne (link ∷ links) a =
+      ap (λ b. cond b (link ∷ of_number eight_land land links) (of_number eight_land land links))
+      (ne_eqb link.land land (λ e. ne (sym a.0 ∙ e))) ∙ none_of other ne links a.1
 
-  none_later : (landmarks : List (ℕ × LandmarkParts)) → LinksUnderLands landmarks → AllByRecursion (λ n. nat_cmp land n ≡ Less) (entry_keys landmarks) → of_number eight_land land (flat_map (λ (entry : ℕ × LandmarkParts). entry.1.links) landmarks) ≡ []
+  none_later : (landmarks : List (ℕ × LandmarkParts)) → LinksUnderLands landmarks
+      → AllByRecursion (λ n. nat_cmp land n ≡ Less) (entry_keys landmarks)
+      → of_number eight_land land (flat_map (λ (entry : ℕ × LandmarkParts). entry.1.links) landmarks) ≡ []
   none_later [] under above = refl
   none_later (entry ∷ landmarks) under above =
       filter-append (λ (link : Fields8). link.land == land) entry.1.links (flat_map (λ (e : ℕ × LandmarkParts). e.1.links) landmarks)
@@ -139,30 +155,52 @@ module _ (land : ℕ) where
       less_apart : nat_cmp land entry.0 ≡ Less → land ≡ entry.0 → ⊥
       less_apart l e = false≢true (sym (ap is_eq l) ∙ subst (λ n. is_eq (nat_cmp land n) ≡ true) e (same-itself nat_keys land))
 
-  pub links-under : (landmarks : List (ℕ × LandmarkParts)) → IsStrictlySortedBy nat_cmp (entry_keys landmarks) → LinksUnderLands landmarks → (unwrap_or (value_under nat_cmp land landmarks) none).links ≡ of_number eight_land land (flat_map (λ (entry : ℕ × LandmarkParts). entry.1.links) landmarks)
+  pub links-under : (landmarks : List (ℕ × LandmarkParts)) → IsStrictlySortedBy nat_cmp (entry_keys landmarks) → LinksUnderLands landmarks
+      → (unwrap_or (value_under nat_cmp land landmarks) none).links ≡ of_number eight_land land
+      (flat_map (λ (entry : ℕ × LandmarkParts). entry.1.links) landmarks)
   links-under [] strict under = refl
-  links-under (entry ∷ landmarks) strict under = go (same_or_not nat_keys land entry.0) (links-under landmarks (strict_tail nat_cmp entry.0 (entry_keys landmarks) strict) under.1)
+  links-under (entry ∷ landmarks) strict under =
+      go (same_or_not nat_keys land entry.0) (links-under landmarks (strict_tail nat_cmp entry.0 (entry_keys landmarks) strict) under.1)
     where
-      split : of_number eight_land land (entry.1.links ++ flat_map (λ (e : ℕ × LandmarkParts). e.1.links) landmarks) ≡ of_number eight_land land entry.1.links ++ of_number eight_land land (flat_map (λ (e : ℕ × LandmarkParts). e.1.links) landmarks)
-      split = filter-append (λ (link : Fields8). link.land == land) entry.1.links (flat_map (λ (e : ℕ × LandmarkParts). e.1.links) landmarks)
+      split : of_number eight_land land (entry.1.links ++ flat_map (λ (e : ℕ × LandmarkParts). e.1.links) landmarks)
+          ≡ of_number eight_land land entry.1.links ++ of_number eight_land land (flat_map (λ (e : ℕ × LandmarkParts). e.1.links) landmarks)
+      split = filter-append (λ (link : Fields8). link.land == land) entry.1.links
+          (flat_map (λ (e : ℕ × LandmarkParts). e.1.links) landmarks)
 
-      go : (land ≡ entry.0) ⊎ (is_eq (nat_cmp land entry.0) ≡ false) → (unwrap_or (value_under nat_cmp land landmarks) none).links ≡ of_number eight_land land (flat_map (λ (e : ℕ × LandmarkParts). e.1.links) landmarks) → (unwrap_or (value_under nat_cmp land (entry ∷ landmarks)) none).links ≡ of_number eight_land land (flat_map (λ (e : ℕ × LandmarkParts). e.1.links) (entry ∷ landmarks))
+      go : (land ≡ entry.0) ⊎ (is_eq (nat_cmp land entry.0) ≡ false)
+          → (unwrap_or (value_under nat_cmp land landmarks) none).links ≡ of_number eight_land land
+          (flat_map (λ (e : ℕ × LandmarkParts). e.1.links) landmarks)
+          → (unwrap_or (value_under nat_cmp land (entry ∷ landmarks)) none).links ≡ of_number eight_land land
+          (flat_map (λ (e : ℕ × LandmarkParts). e.1.links) (entry ∷ landmarks))
       go (inl e) ih =
-          ap (λ b. (unwrap_or (cond b (Some entry.1) (value_under nat_cmp land landmarks)) none).links) (subst (λ n. is_eq (nat_cmp land n) ≡ true) e (same-itself nat_keys land))
+          ap (λ b. (unwrap_or (cond b (Some entry.1) (value_under nat_cmp land landmarks)) none).links)
+              (subst (λ n. is_eq (nat_cmp land n) ≡ true) e (same-itself nat_keys land))
           ∙ sym (append-nil entry.1.links)
-          ∙ (λ i. sym (all_of entry.1.links (subst (λ n. AllByRecursion (λ (link : Fields8). link.land ≡ n) entry.1.links) (sym e) under.0)) i ++ sym (none_later landmarks under.1 (subst (λ n. AllByRecursion (λ m. nat_cmp n m ≡ Less) (entry_keys landmarks)) (sym e) (strict_head nat_cmp entry.0 (entry_keys landmarks) strict))) i)
+          ∙ (λ i. sym (all_of entry.1.links (subst (λ n. AllByRecursion (λ (link : Fields8). link.land ≡ n) entry.1.links)
+              (sym e) under.0)) i ++ sym
+              (none_later landmarks under.1
+              (subst (λ n. AllByRecursion (λ m. nat_cmp n m ≡ Less) (entry_keys landmarks)) (sym e)
+              (strict_head nat_cmp entry.0 (entry_keys landmarks) strict))) i)
           ∙ sym split
       go (inr n) ih =
           ap (λ b. (unwrap_or (cond b (Some entry.1) (value_under nat_cmp land landmarks)) none).links) n ∙ ih
-          ∙ ap (λ l. l ++ of_number eight_land land (flat_map (λ (e : ℕ × LandmarkParts). e.1.links) landmarks)) (sym (none_of entry.0 (λ e. false≢true (sym n ∙ subst (λ m. is_eq (nat_cmp land m) ≡ true) (sym e) (same-itself nat_keys land))) entry.1.links under.0))
+          ∙ ap (λ l. l ++ of_number eight_land land (flat_map (λ (e : ℕ × LandmarkParts). e.1.links) landmarks))
+              (sym (none_of entry.0
+              (λ e. false≢true (sym n
+              ∙ subst (λ m. is_eq (nat_cmp land m) ≡ true) (sym e) (same-itself nat_keys land))) entry.1.links under.0))
           ∙ sym split
 
 -- the bodies under a LAND, by the county's own list
-pub bodies-under : (land : ℕ) (landmarks : List (ℕ × LandmarkParts)) → option_map (λ (l : LandmarkParts). l.bodies) (value_under nat_cmp land landmarks) ≡ value_under nat_cmp land (map landmark_entry landmarks)
+pub bodies-under : (land : ℕ) (landmarks : List (ℕ × LandmarkParts))
+    → option_map (λ (l : LandmarkParts). l.bodies) (value_under nat_cmp land landmarks) ≡ value_under nat_cmp land
+    (map landmark_entry landmarks)
 bodies-under land [] = refl
 bodies-under land (entry ∷ landmarks) = go (is_eq (nat_cmp land entry.0)) (bodies-under land landmarks)
   where
-    go : (b : Bool) → option_map (λ (l : LandmarkParts). l.bodies) (value_under nat_cmp land landmarks) ≡ value_under nat_cmp land (map landmark_entry landmarks) → option_map (λ (l : LandmarkParts). l.bodies) (cond b (Some entry.1) (value_under nat_cmp land landmarks)) ≡ cond b (Some entry.1.bodies) (value_under nat_cmp land (map landmark_entry landmarks))
+    go : (b : Bool) → option_map (λ (l : LandmarkParts). l.bodies) (value_under nat_cmp land landmarks) ≡ value_under nat_cmp land
+        (map landmark_entry landmarks)
+        → option_map (λ (l : LandmarkParts). l.bodies) (cond b (Some entry.1) (value_under nat_cmp land landmarks)) ≡ cond b
+        (Some entry.1.bodies) (value_under nat_cmp land (map landmark_entry landmarks))
     go true ih = refl
     go false ih = ih
 
@@ -170,19 +208,28 @@ pub lands-kept : (landmarks : List (ℕ × LandmarkParts)) → entry_keys landma
 lands-kept landmarks = sym (map-map (λ e. e.0) landmark_entry landmarks)
 
 -- by places
-pub bodies-at : (landmarks : List (ℕ × LandmarkParts)) (place : ℕ) → option_map (λ (l : LandmarkParts). l.bodies) (slice_get (entry_values landmarks) place) ≡ slice_get (entry_values (map landmark_entry landmarks)) place
+pub bodies-at : (landmarks : List (ℕ × LandmarkParts)) (place : ℕ)
+    → option_map (λ (l : LandmarkParts). l.bodies) (slice_get (entry_values landmarks) place) ≡ slice_get
+    (entry_values (map landmark_entry landmarks)) place
 bodies-at [] place = refl
 bodies-at (entry ∷ landmarks) zero = refl
 bodies-at (entry ∷ landmarks) (suc place) = bodies-at landmarks place
 
-no_value : {K V : Type 0} (entries : List (K × V)) (place : ℕ) → slice_get (entry_keys entries) place ≡ None → slice_get (entry_values entries) place ≡ None
+no_value : {K V : Type 0} (entries : List (K × V)) (place : ℕ) → slice_get (entry_keys entries) place ≡ None
+    → slice_get (entry_values entries) place ≡ None
 no_value [] place e = refl
 no_value (entry ∷ entries) zero e = cc
 no_value (entry ∷ entries) (suc place) e = no_value entries place e
 
-pub links-at : (landmarks : List (ℕ × LandmarkParts)) → IsStrictlySortedBy nat_cmp (entry_keys landmarks) → LinksUnderLands landmarks → (place : ℕ) → (unwrap_or (slice_get (entry_values landmarks) place) (record { bodies = []; links = [] })).links ≡ links_with (flat_map (λ (entry : ℕ × LandmarkParts). entry.1.links) landmarks) (slice_get (entry_keys landmarks) place)
+pub links-at : (landmarks : List (ℕ × LandmarkParts)) → IsStrictlySortedBy nat_cmp (entry_keys landmarks) → LinksUnderLands landmarks
+    → (place : ℕ)
+    → (unwrap_or (slice_get (entry_values landmarks) place) (record { bodies = []; links = [] })).links ≡ links_with
+    (flat_map (λ (entry : ℕ × LandmarkParts). entry.1.links) landmarks) (slice_get (entry_keys landmarks) place)
 links-at landmarks strict under place = go (slice_get (entry_keys landmarks) place) refl
   where
-    go : (o : Option ℕ) → slice_get (entry_keys landmarks) place ≡ o → (unwrap_or (slice_get (entry_values landmarks) place) (record { bodies = []; links = [] })).links ≡ links_with (flat_map (λ (entry : ℕ × LandmarkParts). entry.1.links) landmarks) o
-    go (Some land) e = ap (λ (v : Option LandmarkParts). (unwrap_or v (record { bodies = []; links = [] })).links) (value-at_place nat_keys land landmarks place strict e) ∙ links-under land landmarks strict under
+    go : (o : Option ℕ) → slice_get (entry_keys landmarks) place ≡ o
+        → (unwrap_or (slice_get (entry_values landmarks) place) (record { bodies = []; links = [] })).links ≡ links_with
+        (flat_map (λ (entry : ℕ × LandmarkParts). entry.1.links) landmarks) o
+    go (Some land) e = ap (λ (v : Option LandmarkParts). (unwrap_or v (record { bodies = []; links = [] })).links)
+        (value-at_place nat_keys land landmarks place strict e) ∙ links-under land landmarks strict under
     go None e = ap (λ (v : Option LandmarkParts). (unwrap_or v (record { bodies = []; links = [] })).links) (no_value landmarks place e)

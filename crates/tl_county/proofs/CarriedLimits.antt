@@ -1,6 +1,8 @@
 -- What a renaming that carries keeps of a county's limits: its contents fit, its lists have room, and it takes as many
 -- records of each type.
-use Rattle.std.proofs.Common.{◌≡◌, ◌⊎◌, ◌+◌, ◌*◌, ◌-◌, ◌<◌, ◌≤◌, ℕ, zero, suc, List, [], ◌∷◌, ◌++◌, map, flat_map, filter_map, length, reverse, drop, sum_by, Bool, true, false, Option, Some, None, IfSome, sym, refl, ap, ap₂, ◌∙◌, subst, arith, nat_cmp, IsPermutation, length-drop}
+use Rattle.std.proofs.Common.{◌≡◌, ◌⊎◌, ◌+◌, ◌*◌, ◌-◌, ◌<◌, ◌≤◌, ℕ, zero, suc, List, [], ◌∷◌, ◌++◌, map, flat_map, filter_map}
+use Rattle.std.proofs.Common.{length, reverse, drop, sum_by, Bool, true, false, Option, Some, None, IfSome, sym, refl, ap, ap₂}
+use Rattle.std.proofs.Common.{◌∙◌, subst, arith, nat_cmp, IsPermutation, length-drop}
 use Rattle.std.proofs.lemmas.List.{length-map, length-reverse}
 use Rattle.std.proofs.lemmas.List.Concat.{length-flat_map}
 use Rattle.std.proofs.lemmas.List.Sums.{sum_by-cons}
@@ -24,9 +26,12 @@ use Rattle.tl_shape.specs.Turned.{turned, turned_if}
 use Rattle.tl_county.specs.County.{County}
 use Rattle.tl_county.specs.CountyRules.{IsWhole, link_key}
 use Rattle.tl_county.specs.Limits.{FitsName, FitsLandmark, FitsPolygon, FitsLinkContent, FitsChain, FitsLink, HasRoom, ContentsFit}
-use Rattle.tl_county.specs.Packing.{pieces, in_pieces, numbered_from, without_last, inner_points, packed_one, packed_twos, packed_fours, packed_five, packed_sixes, packed_sevens, packed_i, packed_body, packed_p, p_polyid, packed_by_type}
+use Rattle.tl_county.specs.Packing.{pieces, in_pieces, numbered_from, without_last, inner_points, packed_one, packed_twos}
+use Rattle.tl_county.specs.Packing.{packed_fours, packed_five, packed_sixes, packed_sevens, packed_i, packed_body, packed_p}
+use Rattle.tl_county.specs.Packing.{p_polyid, packed_by_type}
 use Rattle.tl_county.specs.PolygonKeys.{PolygonKey, key_cmp}
-use Rattle.tl_county.specs.Renumbering.{Renumbering, image, turns, renumbered_polygon, renumbered, carried_chain, carried_name, carried_polygon, carried_landmark, carried_link, Carries}
+use Rattle.tl_county.specs.Renumbering.{Renumbering, image, turns, renumbered_polygon, renumbered, carried_chain, carried_name}
+use Rattle.tl_county.specs.Renumbering.{carried_polygon, carried_landmark, carried_link, Carries}
 use Rattle.tl_county.proofs.Counted.{length-numbered_from}
 use Rattle.tl_county.proofs.FieldsFit.{link_content_turned}
 use Rattle.tl_county.proofs.FirstFault.{Among, all_among}
@@ -75,14 +80,17 @@ body_turned_fits body f = record {
 }
 
 all_reversed : {X : Type 0} (Q : X → Type 0) (xs : List X) → AllByRecursion Q xs → AllByRecursion Q (reverse xs)
-all_reversed Q xs a = each_from Q (reverse xs) (λ x m. all_among Q x xs a (among-permutation x (reverse xs) xs (IsPermutation-sym xs (reverse xs) (IsPermutation-reverse xs)) m))
+all_reversed Q xs a =
+    each_from Q (reverse xs)
+    (λ x m. all_among Q x xs a (among-permutation x (reverse xs) xs (IsPermutation-sym xs (reverse xs) (IsPermutation-reverse xs)) m))
 
 chain_turned_fits : (b : Bool) (c : Chain) → FitsChain c → FitsChain (turned_if b c)
 chain_turned_fits false c f = f
 chain_turned_fits true c f = record {
   body = body_turned_fits c.body f.body;
   points = all_reversed IsOnMap c.points f.points;
-  ranges = all_map FitsRanges turned_ranges c.ranges (all_weaker FitsRanges (λ entry. FitsRanges (turned_ranges entry)) ranges_turned_fit c.ranges f.ranges);
+  ranges = all_map FitsRanges turned_ranges c.ranges
+      (all_weaker FitsRanges (λ entry. FitsRanges (turned_ranges entry)) ranges_turned_fit c.ranges f.ranges);
   link = link_content_turned c.link_body c.left.cenid c.right.cenid f.link;
 }
 
@@ -90,7 +98,8 @@ chain_turned_fits true c f = record {
 length-without_last : (points : List Coordinates) → length (without_last points) ≡ length points - 1
 length-without_last [] = refl
 length-without_last (p ∷ []) = refl
-length-without_last (p ∷ q ∷ points) = let rest : length (without_last (q ∷ points)) ≡ suc (length points) - 1 = length-without_last (q ∷ points) in omega arith
+length-without_last (p ∷ q ∷ points) = let rest : length (without_last (q ∷ points)) ≡ suc (length points) - 1 =
+    length-without_last (q ∷ points) in omega arith
 
 length-inner : (points : List Coordinates) → length (inner_points points) ≡ length points - 2
 length-inner [] = refl
@@ -109,24 +118,31 @@ ranges_turned false c = refl
 ranges_turned true c = length-map c.ranges turned_ranges
 
 -- how many pieces there are is told by the length alone
-pieces_by_length : {X Y : Type 0} (n room : ℕ) (xs : List X) (ys : List Y) → length xs ≡ length ys → length (pieces n room xs) ≡ length (pieces n room ys)
+pieces_by_length : {X Y : Type 0} (n room : ℕ) (xs : List X) (ys : List Y) → length xs ≡ length ys
+    → length (pieces n room xs) ≡ length (pieces n room ys)
 pieces_by_length n zero xs ys e = refl
 pieces_by_length n (suc room) [] [] e = refl
 pieces_by_length n (suc room) [] (y ∷ ys) e = absurd (omega (arith, e))
 pieces_by_length n (suc room) (x ∷ xs) [] e = absurd (omega (arith, e))
-pieces_by_length n (suc room) (x ∷ xs) (y ∷ ys) e = ap suc (pieces_by_length n room (drop n (x ∷ xs)) (drop n (y ∷ ys)) (length-drop n (x ∷ xs) ∙ ap (λ m. m - n) e ∙ sym (length-drop n (y ∷ ys))))
+pieces_by_length n (suc room) (x ∷ xs) (y ∷ ys) e =
+    ap suc (pieces_by_length n room (drop n (x ∷ xs)) (drop n (y ∷ ys)) (length-drop n (x ∷ xs) ∙ ap (λ m. m - n) e
+    ∙ sym (length-drop n (y ∷ ys))))
 
-in_pieces_by_length : {X Y : Type 0} (n : ℕ) (xs : List X) (ys : List Y) → length xs ≡ length ys → length (in_pieces n xs) ≡ length (in_pieces n ys)
+in_pieces_by_length : {X Y : Type 0} (n : ℕ) (xs : List X) (ys : List Y) → length xs ≡ length ys
+    → length (in_pieces n xs) ≡ length (in_pieces n ys)
 in_pieces_by_length n xs ys e = ap (λ room. length (pieces n room xs)) e ∙ pieces_by_length n (length ys) xs ys e
 
 -- joined lists of equal lengths, under a permutation
-same_count : {X Y : Type 0} (pack : X → List Y) (carried : X → X) (xs ys : List X) → ((x : X) → length (pack (carried x)) ≡ length (pack x)) → IsPermutation (map carried xs) ys → length (flat_map pack ys) ≡ length (flat_map pack xs)
+same_count : {X Y : Type 0} (pack : X → List Y) (carried : X → X) (xs ys : List X) → ((x : X) → length (pack (carried x)) ≡ length (pack x))
+    → IsPermutation (map carried xs) ys → length (flat_map pack ys) ≡ length (flat_map pack xs)
 same_count pack carried xs ys e p =
-    length-flat_map pack ys ∙ sum_by-IsPermutation (λ x. length (pack x)) (map carried xs) ys p ∙ carried_sum xs ∙ sym (length-flat_map pack xs)
+    length-flat_map pack ys ∙ sum_by-IsPermutation (λ x. length (pack x)) (map carried xs) ys p ∙ carried_sum xs
+        ∙ sym (length-flat_map pack xs)
   where
     carried_sum : (zs : List _) → sum_by (λ x. length (pack x)) (map carried zs) ≡ sum_by (λ x. length (pack x)) zs
     carried_sum [] = refl
-    carried_sum (z ∷ zs) = sum_by-cons (λ x. length (pack x)) (carried z) (map carried zs) ∙ ap₂ (λ m n. m + n) (e z) (carried_sum zs) ∙ sym (sum_by-cons (λ x. length (pack x)) z zs)
+    carried_sum (z ∷ zs) = sum_by-cons (λ x. length (pack x)) (carried z) (map carried zs) ∙ ap₂ (λ m n. m + n) (e z) (carried_sum zs)
+        ∙ sym (sum_by-cons (λ x. length (pack x)) z zs)
 
 same_length : {X : Type 0} (carried : X → X) (xs ys : List X) → IsPermutation (map carried xs) ys → length ys ≡ length xs
 same_length carried xs ys p = length_permutation (map carried xs) ys p ∙ length-map xs carried
@@ -140,13 +156,18 @@ length-packed_p : (es : List (PolygonKey × Option BodyP)) → length (filter_ma
 length-packed_p [] = refl
 length-packed_p (e ∷ es) = go e.1 (length-packed_p es) ∙ sym (sum_by-cons (λ (d : PolygonKey × Option BodyP). weight d.1) e es)
   where
-    go : (o : Option BodyP) → length (filter_map packed_p es) ≡ sum_by (λ d. weight d.1) es → length (cons_option (packed_body e.0 o) (filter_map packed_p es)) ≡ weight o + sum_by (λ d. weight d.1) es
-    go None ih = ih ∙ (let t : sum_by (λ (d : PolygonKey × Option BodyP). weight d.1) es ≡ 0 + sum_by (λ (d : PolygonKey × Option BodyP). weight d.1) es = omega arith in t)
-    go (Some body) ih = ap suc ih ∙ (let t : suc (sum_by (λ (d : PolygonKey × Option BodyP). weight d.1) es) ≡ 1 + sum_by (λ (d : PolygonKey × Option BodyP). weight d.1) es = omega arith in t)
+    go : (o : Option BodyP) → length (filter_map packed_p es) ≡ sum_by (λ d. weight d.1) es
+        → length (cons_option (packed_body e.0 o) (filter_map packed_p es)) ≡ weight o + sum_by (λ d. weight d.1) es
+    go None ih = ih ∙ (let t : sum_by (λ (d : PolygonKey × Option BodyP). weight d.1) es ≡ 0 + sum_by
+        (λ (d : PolygonKey × Option BodyP). weight d.1) es = omega arith in t)
+    go (Some body) ih = ap suc ih ∙ (let t : suc (sum_by (λ (d : PolygonKey × Option BodyP). weight d.1) es) ≡ 1 + sum_by
+        (λ (d : PolygonKey × Option BodyP). weight d.1) es = omega arith in t)
 
 module _ (r : Renumbering) (a b : County) (h : Carries r a b) where
   old_chain : (e : ℕ × Chain) → Among e b.chains → (d : ℕ × Chain) × Among d a.chains × (e ≡ carried_chain r d)
-  old_chain e m = among-unmap (carried_chain r) e a.chains (among-permutation e b.chains (map (carried_chain r) a.chains) (IsPermutation-sym (map (carried_chain r) a.chains) b.chains h.chains) m)
+  old_chain e m = among-unmap (carried_chain r) e a.chains
+      (among-permutation e b.chains (map (carried_chain r) a.chains)
+      (IsPermutation-sym (map (carried_chain r) a.chains) b.chains h.chains) m)
 
   side_cenid : (cenid : List ℕ) (polyid : Option ℕ) → (renumbered_polygon r cenid polyid).cenid ≡ cenid
   side_cenid cenid None = refl
@@ -157,23 +178,47 @@ module _ (r : Renumbering) (a b : County) (h : Carries r a b) where
     body = f.body;
     points = f.points;
     ranges = f.ranges;
-    link = subst (λ left. FitsLinkContent c.link_body left (renumbered r c).right.cenid) (sym (side_cenid c.left.cenid c.left.polyid)) (subst (FitsLinkContent c.link_body c.left.cenid) (sym (side_cenid c.right.cenid c.right.polyid)) f.link);
+    link = subst (λ left. FitsLinkContent c.link_body left (renumbered r c).right.cenid) (sym (side_cenid c.left.cenid c.left.polyid))
+        (subst (FitsLinkContent c.link_body c.left.cenid) (sym (side_cenid c.right.cenid c.right.polyid)) f.link);
   }
 
   pub carried_contents : ContentsFit a → ContentsFit b
   carried_contents fits = record {
-    chains = each_from (λ e. FitsChain e.1) b.chains (λ e m. let o = old_chain e m in subst (λ (c : ℕ × Chain). FitsChain c.1) (sym o.2) (chain_renumbered_fits (turned_if (turns r o.0.0) o.0.1) (chain_turned_fits (turns r o.0.0) o.0.1 (all_among (λ d. FitsChain d.1) o.0 a.chains fits.chains o.1))));
-    names = each_from (λ e. FitsName e.1) b.names (λ e m. let o = among-unmap (carried_name r) e a.names (among-permutation e b.names (map (carried_name r) a.names) (IsPermutation-sym (map (carried_name r) a.names) b.names h.names) m) in subst (λ (c : ℕ × Body5). FitsName c.1) (sym o.2) (all_among (λ d. FitsName d.1) o.0 a.names fits.names o.1));
-    cenids = each_from (λ e. IsText 5 e.0.0) b.polygons (λ e m. let o = old_polygon e m in subst (λ (c : PolygonKey × Option BodyP). IsText 5 c.0.0) (sym o.2) (subst (IsText 5) (sym (image-keeps r.polygons h.numbers.cenids o.0.0)) (all_among (λ d. IsText 5 d.0.0) o.0 a.polygons fits.cenids o.1)));
-    polygons = each_from (λ e. IfSome e.1 (FitsPolygon e.0.0)) b.polygons (λ e m. let o = old_polygon e m in subst (λ (c : PolygonKey × Option BodyP). IfSome c.1 (FitsPolygon c.0.0)) (sym o.2) (subst (λ cenid. IfSome o.0.1 (FitsPolygon cenid)) (sym (image-keeps r.polygons h.numbers.cenids o.0.0)) (all_among (λ d. IfSome d.1 (FitsPolygon d.0.0)) o.0 a.polygons fits.polygons o.1)));
-    landmarks = each_from (λ e. AllByRecursion FitsLandmark e.1) b.landmarks (λ e m. let o = among-unmap (carried_landmark r) e a.landmarks (among-permutation e b.landmarks (map (carried_landmark r) a.landmarks) (IsPermutation-sym (map (carried_landmark r) a.landmarks) b.landmarks h.landmarks) m) in subst (λ (c : ℕ × List Body7). AllByRecursion FitsLandmark c.1) (sym o.2) (all_among (λ d. AllByRecursion FitsLandmark d.1) o.0 a.landmarks fits.landmarks o.1));
-    links = each_from FitsLink b.links (λ l m. let o = among-unmap (carried_link r) l a.links (among-permutation l b.links (map (carried_link r) a.links) (IsPermutation-sym (map (carried_link r) a.links) b.links h.links) m) in
+    chains = each_from (λ e. FitsChain e.1) b.chains (λ e m. let o = old_chain e m in
+        subst (λ (c : ℕ × Chain). FitsChain c.1) (sym o.2)
+        (chain_renumbered_fits (turned_if (turns r o.0.0) o.0.1)
+        (chain_turned_fits (turns r o.0.0) o.0.1 (all_among (λ d. FitsChain d.1) o.0 a.chains fits.chains o.1))));
+    names = each_from (λ e. FitsName e.1) b.names (λ e m. let o =
+        among-unmap (carried_name r) e a.names
+        (among-permutation e b.names (map (carried_name r) a.names) (IsPermutation-sym (map (carried_name r) a.names) b.names h.names) m) in
+        subst (λ (c : ℕ × Body5). FitsName c.1) (sym o.2) (all_among (λ d. FitsName d.1) o.0 a.names fits.names o.1));
+    cenids = each_from (λ e. IsText 5 e.0.0) b.polygons (λ e m. let o = old_polygon e m in
+        subst (λ (c : PolygonKey × Option BodyP). IsText 5 c.0.0) (sym o.2)
+        (subst (IsText 5) (sym (image-keeps r.polygons h.numbers.cenids o.0.0))
+        (all_among (λ d. IsText 5 d.0.0) o.0 a.polygons fits.cenids o.1)));
+    polygons = each_from (λ e. IfSome e.1 (FitsPolygon e.0.0)) b.polygons (λ e m. let o = old_polygon e m in
+        subst (λ (c : PolygonKey × Option BodyP). IfSome c.1 (FitsPolygon c.0.0)) (sym o.2)
+        (subst (λ cenid. IfSome o.0.1 (FitsPolygon cenid)) (sym (image-keeps r.polygons h.numbers.cenids o.0.0))
+        (all_among (λ d. IfSome d.1 (FitsPolygon d.0.0)) o.0 a.polygons fits.polygons o.1)));
+    landmarks = each_from (λ e. AllByRecursion FitsLandmark e.1) b.landmarks (λ e m. let o =
+        among-unmap (carried_landmark r) e a.landmarks
+        (among-permutation e b.landmarks (map (carried_landmark r) a.landmarks)
+        (IsPermutation-sym (map (carried_landmark r) a.landmarks) b.landmarks h.landmarks) m) in
+        subst (λ (c : ℕ × List Body7). AllByRecursion FitsLandmark c.1) (sym o.2)
+        (all_among (λ d. AllByRecursion FitsLandmark d.1) o.0 a.landmarks fits.landmarks o.1));
+    links = each_from FitsLink b.links (λ l m. let o =
+        among-unmap (carried_link r) l a.links
+        (among-permutation l b.links (map (carried_link r) a.links) (IsPermutation-sym (map (carried_link r) a.links) b.links h.links) m) in
         let f : FitsLink o.0 = all_among FitsLink o.0 a.links fits.links o.1 in
-        subst FitsLink (sym o.2) (record { file = f.file; cenid = subst (IsText 5) (sym (image-keeps r.polygons h.numbers.cenids (link_key o.0))) f.cenid }));
+        subst FitsLink (sym o.2) (record { file = f.file; cenid =
+            subst (IsText 5) (sym (image-keeps r.polygons h.numbers.cenids (link_key o.0))) f.cenid }));
   }
     where
-      old_polygon : (e : PolygonKey × Option BodyP) → Among e b.polygons → (d : PolygonKey × Option BodyP) × Among d a.polygons × (e ≡ carried_polygon r d)
-      old_polygon e m = among-unmap (carried_polygon r) e a.polygons (among-permutation e b.polygons (map (carried_polygon r) a.polygons) (IsPermutation-sym (map (carried_polygon r) a.polygons) b.polygons h.polygons) m)
+      old_polygon : (e : PolygonKey × Option BodyP) → Among e b.polygons
+          → (d : PolygonKey × Option BodyP) × Among d a.polygons × (e ≡ carried_polygon r d)
+      old_polygon e m = among-unmap (carried_polygon r) e a.polygons
+          (among-permutation e b.polygons (map (carried_polygon r) a.polygons)
+          (IsPermutation-sym (map (carried_polygon r) a.polygons) b.polygons h.polygons) m)
 
   -- the lengths of a carried chain's lists
   inner_carried : (e : ℕ × Chain) → length (inner_points (carried_chain r e).1.points) ≡ length (inner_points e.1.points)
@@ -196,40 +241,60 @@ module _ (r : Renumbering) (a b : County) (h : Carries r a b) where
 
   twos_carried : (e : ℕ × Chain) → length (packed_twos (carried_chain r e)) ≡ length (packed_twos e)
   twos_carried e =
-      let count : (d : ℕ × Chain) → length (packed_twos d) ≡ length (in_pieces 10 (inner_points d.1.points)) = λ d. length-map (numbered_from 1 (in_pieces 10 (inner_points d.1.points))) (λ piece. record { tlid = d.0; rtsq = piece.0; points = piece.1 }) ∙ length-numbered_from 1 (in_pieces 10 (inner_points d.1.points)) in
-      count (carried_chain r e) ∙ in_pieces_by_length 10 (inner_points (carried_chain r e).1.points) (inner_points e.1.points) (inner_carried e) ∙ sym (count e)
+      let count : (d : ℕ × Chain) → length (packed_twos d) ≡ length (in_pieces 10 (inner_points d.1.points)) =
+          λ d. length-map (numbered_from 1 (in_pieces 10 (inner_points d.1.points)))
+          (λ piece. record { tlid = d.0; rtsq = piece.0; points = piece.1 })
+          ∙ length-numbered_from 1 (in_pieces 10 (inner_points d.1.points)) in
+      count (carried_chain r e) ∙ in_pieces_by_length 10 (inner_points (carried_chain r e).1.points) (inner_points e.1.points)
+          (inner_carried e) ∙ sym (count e)
 
   fours_carried : (e : ℕ × Chain) → length (packed_fours (carried_chain r e)) ≡ length (packed_fours e)
   fours_carried e =
-      let count : (d : ℕ × Chain) → length (packed_fours d) ≡ length (in_pieces 5 d.1.feats) = λ d. length-map (numbered_from 1 (in_pieces 5 d.1.feats)) (λ piece. record { tlid = d.0; rtsq = piece.0; feats = piece.1 }) ∙ length-numbered_from 1 (in_pieces 5 d.1.feats) in
+      let count : (d : ℕ × Chain) → length (packed_fours d) ≡ length (in_pieces 5 d.1.feats) =
+          λ d. length-map (numbered_from 1 (in_pieces 5 d.1.feats)) (λ piece. record { tlid = d.0; rtsq = piece.0; feats = piece.1 })
+          ∙ length-numbered_from 1 (in_pieces 5 d.1.feats) in
       count (carried_chain r e) ∙ in_pieces_by_length 5 (carried_chain r e).1.feats e.1.feats (feats_carried e) ∙ sym (count e)
 
   sixes_carried : (e : ℕ × Chain) → length (packed_sixes (carried_chain r e)) ≡ length (packed_sixes e)
   sixes_carried e =
-      let count : (d : ℕ × Chain) → length (packed_sixes d) ≡ length d.1.ranges = λ d. length-map (numbered_from 1 d.1.ranges) (λ piece. record { tlid = d.0; rtsq = piece.0; ranges = piece.1 }) ∙ length-numbered_from 1 d.1.ranges in
+      let count : (d : ℕ × Chain) → length (packed_sixes d) ≡ length d.1.ranges =
+          λ d. length-map (numbered_from 1 d.1.ranges) (λ piece. record { tlid = d.0; rtsq = piece.0; ranges = piece.1 })
+          ∙ length-numbered_from 1 d.1.ranges in
       count (carried_chain r e) ∙ ranges_carried e ∙ sym (count e)
 
   sevens_carried : (e : ℕ × List Body7) → length (packed_sevens (carried_landmark r e)) ≡ length (packed_sevens e)
-  sevens_carried e = length-map e.1 (λ body. record { land = (carried_landmark r e).0; body = body }) ∙ sym (length-map e.1 (λ body. record { land = e.0; body = body }))
+  sevens_carried e = length-map e.1 (λ body. record { land = (carried_landmark r e).0; body = body })
+      ∙ sym (length-map e.1 (λ body. record { land = e.0; body = body }))
 
   polygons_carried : length (filter_map packed_p b.polygons) ≡ length (filter_map packed_p a.polygons)
-  polygons_carried = length-packed_p b.polygons ∙ sum_by-IsPermutation (λ (e : PolygonKey × Option BodyP). weight e.1) (map (carried_polygon r) a.polygons) b.polygons h.polygons ∙ carried_sum a.polygons ∙ sym (length-packed_p a.polygons)
+  polygons_carried = length-packed_p b.polygons ∙ sum_by-IsPermutation (λ (e : PolygonKey × Option BodyP). weight e.1)
+      (map (carried_polygon r) a.polygons) b.polygons h.polygons ∙ carried_sum a.polygons ∙ sym (length-packed_p a.polygons)
     where
-      carried_sum : (es : List (PolygonKey × Option BodyP)) → sum_by (λ (e : PolygonKey × Option BodyP). weight e.1) (map (carried_polygon r) es) ≡ sum_by (λ (e : PolygonKey × Option BodyP). weight e.1) es
+      carried_sum : (es : List (PolygonKey × Option BodyP))
+          → sum_by (λ (e : PolygonKey × Option BodyP). weight e.1) (map (carried_polygon r) es) ≡ sum_by
+          (λ (e : PolygonKey × Option BodyP). weight e.1) es
       carried_sum [] = refl
-      carried_sum (e ∷ es) = sum_by-cons (λ (d : PolygonKey × Option BodyP). weight d.1) (carried_polygon r e) (map (carried_polygon r) es) ∙ ap (λ n. weight e.1 + n) (carried_sum es) ∙ sym (sum_by-cons (λ (d : PolygonKey × Option BodyP). weight d.1) e es)
+      carried_sum (e ∷ es) = sum_by-cons (λ (d : PolygonKey × Option BodyP). weight d.1) (carried_polygon r e) (map (carried_polygon r) es)
+          ∙ ap (λ n. weight e.1 + n) (carried_sum es) ∙ sym (sum_by-cons (λ (d : PolygonKey × Option BodyP). weight d.1) e es)
 
   pub carried_counts : (limit : ℕ) → HasAtMost limit (packed_by_type a) → HasAtMost limit (packed_by_type b)
   carried_counts limit few =
       let chains : length b.chains ≡ length a.chains = same_length (carried_chain r) a.chains b.chains h.chains in
       record {
-        of_type_1 = subst (λ n. n ≤ limit) (sym (length-map b.chains packed_one ∙ chains ∙ sym (length-map a.chains packed_one))) few.of_type_1;
-        of_type_2 = subst (λ n. n ≤ limit) (sym (same_count packed_twos (carried_chain r) a.chains b.chains twos_carried h.chains)) few.of_type_2;
-        of_type_4 = subst (λ n. n ≤ limit) (sym (same_count packed_fours (carried_chain r) a.chains b.chains fours_carried h.chains)) few.of_type_4;
-        of_type_5 = subst (λ n. n ≤ limit) (sym (length-map b.names packed_five ∙ same_length (carried_name r) a.names b.names h.names ∙ sym (length-map a.names packed_five))) few.of_type_5;
-        of_type_6 = subst (λ n. n ≤ limit) (sym (same_count packed_sixes (carried_chain r) a.chains b.chains sixes_carried h.chains)) few.of_type_6;
-        of_type_7 = subst (λ n. n ≤ limit) (sym (same_count packed_sevens (carried_landmark r) a.landmarks b.landmarks sevens_carried h.landmarks)) few.of_type_7;
+        of_type_1 = subst (λ n. n ≤ limit) (sym (length-map b.chains packed_one ∙ chains
+            ∙ sym (length-map a.chains packed_one))) few.of_type_1;
+        of_type_2 = subst (λ n. n ≤ limit) (sym (same_count packed_twos
+            (carried_chain r) a.chains b.chains twos_carried h.chains)) few.of_type_2;
+        of_type_4 = subst (λ n. n ≤ limit) (sym (same_count packed_fours
+            (carried_chain r) a.chains b.chains fours_carried h.chains)) few.of_type_4;
+        of_type_5 = subst (λ n. n ≤ limit) (sym (length-map b.names packed_five ∙ same_length (carried_name r) a.names b.names h.names
+            ∙ sym (length-map a.names packed_five))) few.of_type_5;
+        of_type_6 = subst (λ n. n ≤ limit) (sym (same_count packed_sixes
+            (carried_chain r) a.chains b.chains sixes_carried h.chains)) few.of_type_6;
+        of_type_7 = subst (λ n. n ≤ limit) (sym (same_count packed_sevens
+            (carried_landmark r) a.landmarks b.landmarks sevens_carried h.landmarks)) few.of_type_7;
         of_type_8 = subst (λ n. n ≤ limit) (sym (same_length (carried_link r) a.links b.links h.links)) few.of_type_8;
         of_type_i = subst (λ n. n ≤ limit) (sym (length-map b.chains packed_i ∙ chains ∙ sym (length-map a.chains packed_i))) few.of_type_i;
-        of_type_p = subst (λ n. n ≤ limit) (sym (length-in_order (on p_polyid nat_cmp) (filter_map packed_p b.polygons) ∙ polygons_carried ∙ sym (length-in_order (on p_polyid nat_cmp) (filter_map packed_p a.polygons)))) few.of_type_p;
+        of_type_p = subst (λ n. n ≤ limit) (sym (length-in_order (on p_polyid nat_cmp) (filter_map packed_p b.polygons) ∙ polygons_carried
+            ∙ sym (length-in_order (on p_polyid nat_cmp) (filter_map packed_p a.polygons)))) few.of_type_p;
       }

@@ -1,5 +1,7 @@
 -- How many elements lists have: in groups, in pieces, and of numbers within bounds.
-use Rattle.std.proofs.Common.{◌≡◌, ◌⊎◌, ◌+◌, ◌*◌, ◌-◌, ◌<◌, ◌≤◌, ◌==◌, ℕ, zero, suc, List, [], ◌∷◌, ◌++◌, map, filter, flat_map, filter_map, length, length-append, take, drop, Bool, true, false, cond, Option, Some, None, Less, is_eq, IfSome, sym, refl, ap, ◌∙◌, subst, inl, inr, arith, nat_cmp}
+use Rattle.std.proofs.Common.{◌≡◌, ◌⊎◌, ◌+◌, ◌*◌, ◌-◌, ◌<◌, ◌≤◌, ◌==◌, ℕ, zero, suc, List, [], ◌∷◌, ◌++◌, map, filter, flat_map}
+use Rattle.std.proofs.Common.{filter_map, length, length-append, take, drop, Bool, true, false, cond, Option, Some, None, Less}
+use Rattle.std.proofs.Common.{is_eq, IfSome, sym, refl, ap, ◌∙◌, subst, inl, inr, arith, nat_cmp}
 use Rattle.std.proofs.lemmas.Bool.{eq-eqb, ne_eqb, cases_eq}
 use Rattle.std.proofs.lemmas.Cmp.{nat_cmp_total, ranked}
 use Rattle.std.proofs.lemmas.List.{length-drop, length-take}
@@ -19,11 +21,15 @@ module _ {X K : Type 0} (p : K → X → Bool) where
   abbrev pub hits : X → List K → ℕ
   hits x ks = length (filter (λ k. p k x) ks)
 
-  groups-cons : (x : X) (xs : List X) (ks : List K) → length (flat_map (λ k. filter (p k) (x ∷ xs)) ks) ≡ hits x ks + length (flat_map (λ k. filter (p k) xs) ks)
+  groups-cons : (x : X) (xs : List X) (ks : List K)
+      → length (flat_map (λ k. filter (p k) (x ∷ xs)) ks) ≡ hits x ks + length (flat_map (λ k. filter (p k) xs) ks)
   groups-cons x xs [] = refl
-  groups-cons x xs (k ∷ ks) = go (flat_map (λ j. filter (p j) (x ∷ xs)) ks) (flat_map (λ j. filter (p j) xs) ks) (p k x) (groups-cons x xs ks)
+  groups-cons x xs (k ∷ ks) =
+      go (flat_map (λ j. filter (p j) (x ∷ xs)) ks) (flat_map (λ j. filter (p j) xs) ks) (p k x) (groups-cons x xs ks)
     where
-      go : (more less : List X) (b : Bool) → length more ≡ hits x ks + length less → length (cond b (x ∷ filter (p k) xs) (filter (p k) xs) ++ more) ≡ length (cond b (k ∷ filter (λ j. p j x) ks) (filter (λ j. p j x) ks)) + length (filter (p k) xs ++ less)
+      go : (more less : List X) (b : Bool) → length more ≡ hits x ks + length less
+          → length (cond b (x ∷ filter (p k) xs) (filter (p k) xs) ++ more) ≡ length
+          (cond b (k ∷ filter (λ j. p j x) ks) (filter (λ j. p j x) ks)) + length (filter (p k) xs ++ less)
       go more less true ih = omega (arith, ih, length-append (filter (p k) xs) more, length-append (filter (p k) xs) less)
       go more less false ih = omega (arith, ih, length-append (filter (p k) xs) more, length-append (filter (p k) xs) less)
 
@@ -49,12 +55,15 @@ eq_test a b = go (cases_eq a b)
 
 -- of numbers that are apart, one at most is that of an element
 pub hits_once : {X : Type 0} (f : X → ℕ) (ks : List ℕ) → IsApart nat_cmp ks → (x : X) → hits (λ k y. f y == k) x ks ≤ 1
-hits_once f ks a x = subst (λ ls. length ls ≤ 1) (sym (filter-agree (λ k. f x == k) (λ k. is_eq (nat_cmp (f x) k)) (λ k. eq_test (f x) k) ks)) (a (f x))
+hits_once f ks a x = subst (λ ls. length ls ≤ 1) (sym (filter-agree (λ k. f x == k) (λ k. is_eq (nat_cmp (f x) k))
+    (λ k. eq_test (f x) k) ks)) (a (f x))
 
 -- lists that are no longer one by one are no longer together
-pub shorter_pieces : {X Y Z : Type 0} (f : X → List Y) (g : X → List Z) (xs : List X) → AllByRecursion (λ x. length (f x) ≤ length (g x)) xs → length (flat_map f xs) ≤ length (flat_map g xs)
+pub shorter_pieces : {X Y Z : Type 0} (f : X → List Y) (g : X → List Z) (xs : List X) → AllByRecursion (λ x. length (f x) ≤ length (g x)) xs
+    → length (flat_map f xs) ≤ length (flat_map g xs)
 shorter_pieces f g [] h = omega arith
-shorter_pieces f g (x ∷ xs) h = omega (arith, length-append (f x) (flat_map f xs), length-append (g x) (flat_map g xs), h.0, shorter_pieces f g xs h.1)
+shorter_pieces f g (x ∷ xs) h =
+    omega (arith, length-append (f x) (flat_map f xs), length-append (g x) (flat_map g xs), h.0, shorter_pieces f g xs h.1)
 
 below : (m n : ℕ) → nat_cmp m n ≡ Less → m < n
 below m n e = ranked m n Less (sym e)
@@ -65,7 +74,8 @@ unfolding IsStrictlySortedBy
 strict_few a b [] s h = omega arith
 strict_few a b (k ∷ ks) s h =
     let above : AllByRecursion (λ j. (k + 1 ≤ j) × (j < b)) ks =
-    all_weaker (λ j. (nat_cmp k j ≡ Less) × ((a ≤ j) × (j < b))) (λ j. (k + 1 ≤ j) × (j < b)) (λ j d. (let l : k < j = below k j d.0 in omega arith, d.1.1)) ks
+    all_weaker (λ j. (nat_cmp k j ≡ Less) × ((a ≤ j) × (j < b))) (λ j. (k + 1 ≤ j) × (j < b))
+        (λ j d. (let l : k < j = below k j d.0 in omega arith, d.1.1)) ks
     (all_both (λ j. nat_cmp k j ≡ Less) (λ j. (a ≤ j) × (j < b)) ks s.0 h.1) in
     let rest : length ks ≤ b - (k + 1) = strict_few (k + 1) b ks s.1 above in
     let low : a ≤ k = h.0.0 in
@@ -76,7 +86,8 @@ strict_few a b (k ∷ ks) s h =
 pub few_numbers : (a b : ℕ) (ks : List ℕ) → IsApart nat_cmp ks → AllByRecursion (λ k. (a ≤ k) × (k < b)) ks → length ks ≤ b - a
 few_numbers a b ks apart h = subst (λ n. n ≤ b - a) (length-in_order nat_cmp ks)
     (strict_few a b (in_order nat_cmp ks)
-    (strict_from_order nat_keys (in_order nat_cmp ks) (in_order-in_order nat_cmp_total ks) (λ k. subst (λ n. n ≤ 1) (sym (count-in_order (λ j. is_eq (nat_cmp k j)) nat_cmp ks)) (apart k)))
+    (strict_from_order nat_keys (in_order nat_cmp ks) (in_order-in_order nat_cmp_total ks)
+        (λ k. subst (λ n. n ≤ 1) (sym (count-in_order (λ j. is_eq (nat_cmp k j)) nat_cmp ks)) (apart k)))
     (all-in_order (λ k. (a ≤ k) × (k < b)) nat_cmp ks h))
 
 -- pieces of n: at most c of them where there are at most n * c elements, none longer than n
@@ -85,7 +96,8 @@ few_pieces n c zero xs h = omega arith
 few_pieces n c (suc room) [] h = omega arith
 few_pieces n zero (suc room) (x ∷ xs) h = absurd (omega arith)
 few_pieces n (suc c) (suc room) (x ∷ xs) h =
-    let rest : length (pieces n room (drop n (x ∷ xs))) ≤ c = few_pieces n c room (drop n (x ∷ xs)) (omega (arith, length-drop n (x ∷ xs), h)) in
+    let rest : length (pieces n room (drop n (x ∷ xs))) ≤ c =
+        few_pieces n c room (drop n (x ∷ xs)) (omega (arith, length-drop n (x ∷ xs), h)) in
     omega arith
 
 pub short_pieces : {X : Type 0} (n room : ℕ) (xs : List X) → AllByRecursion (λ piece. length piece ≤ n) (pieces n room xs)
@@ -104,17 +116,20 @@ all_drop P (suc n) [] a = tt
 all_drop P (suc n) (x ∷ xs) a = all_drop P n xs a.1
 
 -- what holds of each element holds of each element of a piece
-pub all_in_pieces : {X : Type 0} (P : X → Type 0) (n room : ℕ) (xs : List X) → AllByRecursion P xs → AllByRecursion (AllByRecursion P) (pieces n room xs)
+pub all_in_pieces : {X : Type 0} (P : X → Type 0) (n room : ℕ) (xs : List X) → AllByRecursion P xs
+    → AllByRecursion (AllByRecursion P) (pieces n room xs)
 all_in_pieces P n zero xs a = tt
 all_in_pieces P n (suc room) [] a = tt
 all_in_pieces P n (suc room) (x ∷ xs) a = (all_take P n (x ∷ xs) a, all_in_pieces P n room (drop n (x ∷ xs)) (all_drop P n (x ∷ xs) a))
 
 -- what holds of each content, and the RTSQs from i on
-pub all_numbered_from : {X : Type 0} (P : X → Type 0) (i : ℕ) (xs : List X) → AllByRecursion P xs → AllByRecursion (λ (entry : ℕ × X). (i ≤ entry.0) × ((entry.0 < i + length xs) × P entry.1)) (numbered_from i xs)
+pub all_numbered_from : {X : Type 0} (P : X → Type 0) (i : ℕ) (xs : List X) → AllByRecursion P xs
+    → AllByRecursion (λ (entry : ℕ × X). (i ≤ entry.0) × ((entry.0 < i + length xs) × P entry.1)) (numbered_from i xs)
 all_numbered_from P i [] a = tt
 all_numbered_from {X} P i (x ∷ xs) a = (
   (omega arith, (omega arith, a.0)),
-  all_weaker (λ (entry : ℕ × X). (suc i ≤ entry.0) × ((entry.0 < suc i + length xs) × P entry.1)) (λ entry. (i ≤ entry.0) × ((entry.0 < i + suc (length xs)) × P entry.1))
+  all_weaker (λ (entry : ℕ × X). (suc i ≤ entry.0) × ((entry.0 < suc i + length xs) × P entry.1))
+      (λ entry. (i ≤ entry.0) × ((entry.0 < i + suc (length xs)) × P entry.1))
       (λ entry h. (let l : suc i ≤ entry.0 = h.0 in omega arith, (let l : entry.0 < suc i + length xs = h.1.0 in omega arith, h.1.1)))
       (numbered_from (suc i) xs) (all_numbered_from P (suc i) xs a.1),
 )
@@ -124,7 +139,8 @@ length-numbered_from i [] = refl
 length-numbered_from i (x ∷ xs) = ap suc (length-numbered_from (suc i) xs)
 
 -- what holds of each element where it is selected holds of all that are
-pub all_selected : {X Y : Type 0} (P : X → Type 0) (Q : Y → Type 0) (h : X → Option Y) → ((x : X) (y : Y) → h x ≡ Some y → P x → Q y) → (xs : List X) → AllByRecursion P xs → AllByRecursion Q (filter_map h xs)
+pub all_selected : {X Y : Type 0} (P : X → Type 0) (Q : Y → Type 0) (h : X → Option Y) → ((x : X) (y : Y) → h x ≡ Some y → P x → Q y)
+    → (xs : List X) → AllByRecursion P xs → AllByRecursion Q (filter_map h xs)
 all_selected P Q h f [] a = tt
 all_selected {X} {Y} P Q h f (x ∷ xs) a = go (h x) refl (all_selected P Q h f xs a.1)
   where
@@ -135,7 +151,8 @@ all_selected {X} {Y} P Q h f (x ∷ xs) a = go (h x) refl (all_selected P Q h f 
 -- numbered lists
 pub lefts-numbered_from : {X : Type 0} (i : ℕ) (xs : List X) → map (λ (e : ℕ × X). e.0) (numbered_from i xs) ≡ range_with_len i (length xs)
 lefts-numbered_from i [] = refl
-lefts-numbered_from i (x ∷ xs) = ap (λ ns. i ∷ ns) (lefts-numbered_from (suc i) xs ∙ ap (λ j. range_with_len j (length xs)) (let t : suc i ≡ i + 1 = omega arith in t))
+lefts-numbered_from i (x ∷ xs) =
+    ap (λ ns. i ∷ ns) (lefts-numbered_from (suc i) xs ∙ ap (λ j. range_with_len j (length xs)) (let t : suc i ≡ i + 1 = omega arith in t))
 
 pub rights-numbered_from : {X : Type 0} (i : ℕ) (xs : List X) → map (λ (e : ℕ × X). e.1) (numbered_from i xs) ≡ xs
 rights-numbered_from i [] = refl

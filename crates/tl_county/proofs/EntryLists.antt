@@ -1,5 +1,7 @@
 -- Entries as lists of keys and of values.
-use Rattle.std.proofs.Common.{◌≡◌, ◌⊎◌, ◌<◌, ◌≤◌, ℕ, zero, suc, nat_lt, List, [], ◌∷◌, map, length, Bool, true, false, cond, Ordering, Less, Equal, Greater, is_eq, is_gt, sym, refl, ap, ◌∙◌, subst, inl, inr, arith, Option, Some, None, slice_get}
+use Rattle.std.proofs.Common.{◌≡◌, ◌⊎◌, ◌<◌, ◌≤◌, ℕ, zero, suc, nat_lt, List, [], ◌∷◌, map, length, Bool, true, false, cond}
+use Rattle.std.proofs.Common.{Ordering, Less, Equal, Greater, is_eq, is_gt, sym, refl, ap, ◌∙◌, subst, inl, inr, arith, Option}
+use Rattle.std.proofs.Common.{Some, None, slice_get}
 use Rattle.std.proofs.lemmas.Bool.{false≢true, lt-ltb}
 use Rattle.std.specs.List.{AllByRecursion, zip}
 use Rattle.std.specs.List.Sorted.{IsStrictlySortedBy}
@@ -46,9 +48,11 @@ entries-equal (x ∷ xs) (y ∷ ys) e f =
 pub in_order-strict : {K : Type 0} (cmp : K → K → Ordering) (ks : List K) → IsStrictlySortedBy cmp ks → IsInOrder cmp ks
 unfolding IsStrictlySortedBy
 in_order-strict cmp [] h = tt
-in_order-strict cmp (k ∷ ks) h = (all_weaker (λ j. cmp k j ≡ Less) (λ j. is_gt (cmp k j) ≡ false) (λ j e. ap is_gt e) ks h.0, in_order-strict cmp ks h.1)
+in_order-strict cmp (k ∷ ks) h =
+    (all_weaker (λ j. cmp k j ≡ Less) (λ j. is_gt (cmp k j) ≡ false) (λ j e. ap is_gt e) ks h.0, in_order-strict cmp ks h.1)
 
-later_apart : {K : Type 0} {cmp : K → K → Ordering} (o : IsKeyOrder cmp) (key : K) (ks : List K) (place : ℕ) → AllByRecursion (λ j. cmp key j ≡ Less) ks → slice_get ks place ≡ Some key → ⊥
+later_apart : {K : Type 0} {cmp : K → K → Ordering} (o : IsKeyOrder cmp) (key : K) (ks : List K) (place : ℕ)
+    → AllByRecursion (λ j. cmp key j ≡ Less) ks → slice_get ks place ≡ Some key → ⊥
 later_apart o key [] place h e = cc
 later_apart {cmp = cmp} o key (k ∷ ks) zero h e =
     let f : k ≡ key = cc in
@@ -61,12 +65,17 @@ module _ {K V : Type 0} {cmp : K → K → Ordering} (o : IsKeyOrder cmp) where
   none-under key [] e = refl
   none-under key (entry ∷ entries) e = go (same_or_not o key entry.0) (none-under key entries)
     where
-      go : (key ≡ entry.0) ⊎ (is_eq (cmp key entry.0) ≡ false) → (stands_in cmp key (entry_keys entries) ≡ false → value_under cmp key entries ≡ None) → value_under cmp key (entry ∷ entries) ≡ None
-      go (inl f) ih = absurd (false≢true (sym e ∙ lt-ltb 0 (times cmp key (entry_keys (entry ∷ entries))) (omega (arith, times-yes o key entry.0 (entry_keys entries) f))))
-      go (inr n) ih = ap (λ b. cond b (Some entry.1) (value_under cmp key entries)) n ∙ ih (sym (ap (nat_lt 0) (times-no o key entry.0 (entry_keys entries) n)) ∙ e)
+      go : (key ≡ entry.0) ⊎ (is_eq (cmp key entry.0) ≡ false)
+          → (stands_in cmp key (entry_keys entries) ≡ false → value_under cmp key entries ≡ None)
+          → value_under cmp key (entry ∷ entries) ≡ None
+      go (inl f) ih = absurd (false≢true (sym e ∙ lt-ltb 0 (times cmp key (entry_keys (entry ∷ entries)))
+          (omega (arith, times-yes o key entry.0 (entry_keys entries) f))))
+      go (inr n) ih = ap (λ b. cond b (Some entry.1) (value_under cmp key entries)) n
+          ∙ ih (sym (ap (nat_lt 0) (times-no o key entry.0 (entry_keys entries) n)) ∙ e)
 
   -- the value at the place of a key is the one under it
-  pub value-at_place : (key : K) (entries : List (K × V)) (place : ℕ) → IsStrictlySortedBy cmp (entry_keys entries) → slice_get (entry_keys entries) place ≡ Some key → slice_get (entry_values entries) place ≡ value_under cmp key entries
+  pub value-at_place : (key : K) (entries : List (K × V)) (place : ℕ) → IsStrictlySortedBy cmp (entry_keys entries)
+      → slice_get (entry_keys entries) place ≡ Some key → slice_get (entry_values entries) place ≡ value_under cmp key entries
   unfolding IsStrictlySortedBy
   value-at_place key [] place h e = cc
   value-at_place key (entry ∷ entries) zero h e =
@@ -74,6 +83,8 @@ module _ {K V : Type 0} {cmp : K → K → Ordering} (o : IsKeyOrder cmp) where
       ap (λ b. cond b (Some entry.1) (value_under cmp key entries)) (sym (subst (λ k. is_eq (cmp key k) ≡ true) f (same-itself o key)))
   value-at_place key (entry ∷ entries) (suc place) h e = go (same_or_not o key entry.0) (value-at_place key entries place h.1 e)
     where
-      go : (key ≡ entry.0) ⊎ (is_eq (cmp key entry.0) ≡ false) → slice_get (entry_values entries) place ≡ value_under cmp key entries → slice_get (entry_values entries) place ≡ value_under cmp key (entry ∷ entries)
-      go (inl f) ih = absurd (later_apart o key (entry_keys entries) place (subst (λ k. AllByRecursion (λ j. cmp k j ≡ Less) (entry_keys entries)) (sym f) h.0) e)
+      go : (key ≡ entry.0) ⊎ (is_eq (cmp key entry.0) ≡ false) → slice_get (entry_values entries) place ≡ value_under cmp key entries
+          → slice_get (entry_values entries) place ≡ value_under cmp key (entry ∷ entries)
+      go (inl f) ih = absurd (later_apart o key (entry_keys entries) place
+          (subst (λ k. AllByRecursion (λ j. cmp k j ≡ Less) (entry_keys entries)) (sym f) h.0) e)
       go (inr n) ih = ih ∙ ap (λ b. cond b (Some entry.1) (value_under cmp key entries)) (sym n)

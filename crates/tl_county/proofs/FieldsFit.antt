@@ -90,17 +90,26 @@ named_1 r h = record {
       toiaddr = h.1.1.1.1.1.1.1.1.1.1.1.1.1.1.1.0;
       zip = record { left = h.1.1.1.1.1.1.1.1.1.1.1.1.1.1.1.1.0; right = h.1.1.1.1.1.1.1.1.1.1.1.1.1.1.1.1.1.0 };
     };
-    native_areas = record { aianhhfp = record { left = h.1.1.1.1.1.1.1.1.1.1.1.1.1.1.1.1.1.1.0; right = h.1.1.1.1.1.1.1.1.1.1.1.1.1.1.1.1.1.1.1.0 }; aihhtli = record { left = h.1.1.1.1.1.1.1.1.1.1.1.1.1.1.1.1.1.1.1.1.0; right = h.1.1.1.1.1.1.1.1.1.1.1.1.1.1.1.1.1.1.1.1.1.0 } };
+    native_areas = record { aianhhfp =
+        record { left = h.1.1.1.1.1.1.1.1.1.1.1.1.1.1.1.1.1.1.0; right = h.1.1.1.1.1.1.1.1.1.1.1.1.1.1.1.1.1.1.1.0 }; aihhtli =
+        record { left = h.1.1.1.1.1.1.1.1.1.1.1.1.1.1.1.1.1.1.1.1.0; right = h.1.1.1.1.1.1.1.1.1.1.1.1.1.1.1.1.1.1.1.1.1.0 } };
     census1 = h.1.1.1.1.1.1.1.1.1.1.1.1.1.1.1.1.1.1.1.1.1.1.0;
     census2 = h.1.1.1.1.1.1.1.1.1.1.1.1.1.1.1.1.1.1.1.1.1.1.1.0;
     entities = record {
-      state = record { left = h.1.1.1.1.1.1.1.1.1.1.1.1.1.1.1.1.1.1.1.1.1.1.1.1.0; right = h.1.1.1.1.1.1.1.1.1.1.1.1.1.1.1.1.1.1.1.1.1.1.1.1.1.0 };
-      county = record { left = h.1.1.1.1.1.1.1.1.1.1.1.1.1.1.1.1.1.1.1.1.1.1.1.1.1.1.0; right = h.1.1.1.1.1.1.1.1.1.1.1.1.1.1.1.1.1.1.1.1.1.1.1.1.1.1.1.0 };
-      cousub = record { left = h.1.1.1.1.1.1.1.1.1.1.1.1.1.1.1.1.1.1.1.1.1.1.1.1.1.1.1.1.0; right = h.1.1.1.1.1.1.1.1.1.1.1.1.1.1.1.1.1.1.1.1.1.1.1.1.1.1.1.1.1.0 };
-      submcd = record { left = h.1.1.1.1.1.1.1.1.1.1.1.1.1.1.1.1.1.1.1.1.1.1.1.1.1.1.1.1.1.1.0; right = h.1.1.1.1.1.1.1.1.1.1.1.1.1.1.1.1.1.1.1.1.1.1.1.1.1.1.1.1.1.1.1.0 };
-      place = record { left = h.1.1.1.1.1.1.1.1.1.1.1.1.1.1.1.1.1.1.1.1.1.1.1.1.1.1.1.1.1.1.1.1.0; right = h.1.1.1.1.1.1.1.1.1.1.1.1.1.1.1.1.1.1.1.1.1.1.1.1.1.1.1.1.1.1.1.1.1.0 };
-      tract = record { left = h.1.1.1.1.1.1.1.1.1.1.1.1.1.1.1.1.1.1.1.1.1.1.1.1.1.1.1.1.1.1.1.1.1.1.0; right = h.1.1.1.1.1.1.1.1.1.1.1.1.1.1.1.1.1.1.1.1.1.1.1.1.1.1.1.1.1.1.1.1.1.1.1.0 };
-      block = record { left = h.1.1.1.1.1.1.1.1.1.1.1.1.1.1.1.1.1.1.1.1.1.1.1.1.1.1.1.1.1.1.1.1.1.1.1.1.0; right = h.1.1.1.1.1.1.1.1.1.1.1.1.1.1.1.1.1.1.1.1.1.1.1.1.1.1.1.1.1.1.1.1.1.1.1.1.1.0 };
+      state = record { left = h.1.1.1.1.1.1.1.1.1.1.1.1.1.1.1.1.1.1.1.1.1.1.1.1.0; right =
+          h.1.1.1.1.1.1.1.1.1.1.1.1.1.1.1.1.1.1.1.1.1.1.1.1.1.0 };
+      county = record { left = h.1.1.1.1.1.1.1.1.1.1.1.1.1.1.1.1.1.1.1.1.1.1.1.1.1.1.0; right =
+          h.1.1.1.1.1.1.1.1.1.1.1.1.1.1.1.1.1.1.1.1.1.1.1.1.1.1.1.0 };
+      cousub = record { left = h.1.1.1.1.1.1.1.1.1.1.1.1.1.1.1.1.1.1.1.1.1.1.1.1.1.1.1.1.0; right =
+          h.1.1.1.1.1.1.1.1.1.1.1.1.1.1.1.1.1.1.1.1.1.1.1.1.1.1.1.1.1.0 };
+      submcd = record { left = h.1.1.1.1.1.1.1.1.1.1.1.1.1.1.1.1.1.1.1.1.1.1.1.1.1.1.1.1.1.1.0; right =
+          h.1.1.1.1.1.1.1.1.1.1.1.1.1.1.1.1.1.1.1.1.1.1.1.1.1.1.1.1.1.1.1.0 };
+      place = record { left = h.1.1.1.1.1.1.1.1.1.1.1.1.1.1.1.1.1.1.1.1.1.1.1.1.1.1.1.1.1.1.1.1.0; right =
+          h.1.1.1.1.1.1.1.1.1.1.1.1.1.1.1.1.1.1.1.1.1.1.1.1.1.1.1.1.1.1.1.1.1.0 };
+      tract = record { left = h.1.1.1.1.1.1.1.1.1.1.1.1.1.1.1.1.1.1.1.1.1.1.1.1.1.1.1.1.1.1.1.1.1.1.0; right =
+          h.1.1.1.1.1.1.1.1.1.1.1.1.1.1.1.1.1.1.1.1.1.1.1.1.1.1.1.1.1.1.1.1.1.1.1.0 };
+      block = record { left = h.1.1.1.1.1.1.1.1.1.1.1.1.1.1.1.1.1.1.1.1.1.1.1.1.1.1.1.1.1.1.1.1.1.1.1.1.0; right =
+          h.1.1.1.1.1.1.1.1.1.1.1.1.1.1.1.1.1.1.1.1.1.1.1.1.1.1.1.1.1.1.1.1.1.1.1.1.1.0 };
     };
   };
   start = h.1.1.1.1.1.1.1.1.1.1.1.1.1.1.1.1.1.1.1.1.1.1.1.1.1.1.1.1.1.1.1.1.1.1.1.1.1.1.0;
@@ -155,7 +164,10 @@ named_6 r h = record {
 
 pub columns_6 : (r : Fields6) → Fit6 r → FitsType6 r
 unfolding FitsType6
-columns_6 r f = (f.tlid, (f.rtsq, (f.ranges.fraddl, (f.ranges.toaddl, (f.ranges.fraddr, (f.ranges.toaddr, (f.ranges.friaddl, (f.ranges.toiaddl, (f.ranges.friaddr, (f.ranges.toiaddr, (f.ranges.zip.left, (f.ranges.zip.right, tt))))))))))))
+columns_6 r f = (f.tlid, (f.rtsq, (f.ranges.fraddl, (f.ranges.toaddl,
+    (f.ranges.fraddr,
+    (f.ranges.toaddr,
+    (f.ranges.friaddl, (f.ranges.toiaddl, (f.ranges.friaddr, (f.ranges.toiaddr, (f.ranges.zip.left, (f.ranges.zip.right, tt))))))))))))
 
 pub named_7 : (r : Fields7) → FitsType7 r → Fit7 r
 unfolding FitsType7
@@ -186,7 +198,8 @@ named_i r h = record {
 
 pub columns_i : (r : FieldsI) → FitI r → FitsTypeI r
 unfolding FitsTypeI
-columns_i r f = (f.content.0, (f.tlid, (f.start_node, (f.end_node, (f.content.1.1.1.1.0, (f.left_polyid, (f.content.1.1.1.1.1.1.0, (f.right_polyid, f.content.1.1.1.1.1.1.1.1))))))))
+columns_i r f = (f.content.0, (f.tlid, (f.start_node, (f.end_node,
+    (f.content.1.1.1.1.0, (f.left_polyid, (f.content.1.1.1.1.1.1.0, (f.right_polyid, f.content.1.1.1.1.1.1.1.1))))))))
 
 pub named_p : (r : FieldsP) → FitsTypeP r → FitP r
 unfolding FitsTypeP
@@ -212,4 +225,5 @@ polygon_cenid_fits cenid body h = h.1.0
 -- content of type I fits with its sides exchanged
 pub link_content_turned : (body : BodyI) (left right : List ℕ) → FitsLinkContent body left right → FitsLinkContent body right left
 unfolding FitsTypeI
-link_content_turned body left right h = (h.0, (h.1.0, (h.1.1.0, (h.1.1.1.0, (h.1.1.1.1.1.1.0, (tt, (h.1.1.1.1.0, (tt, h.1.1.1.1.1.1.1.1))))))))
+link_content_turned body left right h =
+    (h.0, (h.1.0, (h.1.1.0, (h.1.1.1.0, (h.1.1.1.1.1.1.0, (tt, (h.1.1.1.1.0, (tt, h.1.1.1.1.1.1.1.1))))))))

@@ -1,5 +1,7 @@
 -- Keys that an order tells apart: how often they stand in a list, and their images by pairs.
-use Rattle.std.proofs.Common.{◌≡◌, ◌⊎◌, ◌<◌, ◌≤◌, ◌+◌, ℕ, zero, suc, nat_lt, length-append, ◌||◌, List, [], ◌∷◌, ◌++◌, Bool, true, false, cond, map, filter, length, Ordering, Less, Equal, Greater, is_eq, is_gt, sym, refl, ap, ◌∙◌, subst, inl, inr, arith, IsPermutation, nat_cmp}
+use Rattle.std.proofs.Common.{◌≡◌, ◌⊎◌, ◌<◌, ◌≤◌, ◌+◌, ℕ, zero, suc, nat_lt, length-append, ◌||◌, List, [], ◌∷◌, ◌++◌, Bool, true}
+use Rattle.std.proofs.Common.{false, cond, map, filter, length, Ordering, Less, Equal, Greater, is_eq, is_gt, sym, refl, ap, ◌∙◌}
+use Rattle.std.proofs.Common.{subst, inl, inr, arith, IsPermutation, nat_cmp}
 use Rattle.std.proofs.lemmas.Bool.{false≢true, lt-ltb, false_from_ne_true}
 use Rattle.std.proofs.lemmas.Cmp.{tied_itself, nat_cmp_total}
 use Rattle.std.specs.Ordering.{ordering_reverse}
@@ -93,7 +95,8 @@ module _ {K : Type 0} {cmp : K → K → Ordering} (o : IsKeyOrder cmp) where
       go (inr ne) ih = omega (arith, times-no k x xs ne)
 
   pub times-permutation : (k : K) (xs ys : List K) → IsPermutation xs ys → times cmp k ys ≡ times cmp k xs
-  times-permutation k xs ys p = length-filter (λ x. is_eq (cmp k x)) ys ∙ sum_by-IsPermutation (λ x. cond (is_eq (cmp k x)) 1 0) xs ys p ∙ sym (length-filter (λ x. is_eq (cmp k x)) xs)
+  times-permutation k xs ys p = length-filter (λ x. is_eq (cmp k x)) ys ∙ sum_by-IsPermutation (λ x. cond (is_eq (cmp k x)) 1 0) xs ys p
+      ∙ sym (length-filter (λ x. is_eq (cmp k x)) xs)
 
   pub apart-permutation : (xs ys : List K) → IsPermutation xs ys → IsApart cmp ys → IsApart cmp xs
   apart-permutation xs ys p h k = omega (arith, times-permutation k xs ys p, h k)
@@ -147,20 +150,25 @@ module _ {K : Type 0} {cmp : K → K → Ordering} (o : IsKeyOrder cmp) where
   image-known [] x h = absurd (omega (arith, h))
   image-known (p ∷ ps) x h = go (known_cases x p.0 (lefts ps) h) (image-known ps x)
     where
-      go : (x ≡ p.0) ⊎ (Known cmp (lefts ps) x × (is_eq (cmp x p.0) ≡ false)) → (Known cmp (lefts ps) x → Known cmp (rights ps) (image cmp ps x)) → Known cmp (rights (p ∷ ps)) (image cmp (p ∷ ps) x)
+      go : (x ≡ p.0) ⊎ (Known cmp (lefts ps) x × (is_eq (cmp x p.0) ≡ false))
+          → (Known cmp (lefts ps) x → Known cmp (rights ps) (image cmp ps x)) → Known cmp (rights (p ∷ ps)) (image cmp (p ∷ ps) x)
       go (inl e) ih = subst (λ y. Known cmp (rights (p ∷ ps)) y) (sym (image-yes p ps x e)) (known-here p.1 (rights ps))
-      go (inr r) ih = subst (λ y. Known cmp (rights (p ∷ ps)) y) (sym (image-no p ps x r.1)) (known-later (image cmp ps x) p.1 (rights ps) (ih r.0))
+      go (inr r) ih = subst (λ y. Known cmp (rights (p ∷ ps)) y) (sym (image-no p ps x r.1))
+          (known-later (image cmp ps x) p.1 (rights ps) (ih r.0))
 
   -- the other way round, images come back
-  pub image-back : (ps : List (K × K)) (x : K) → IsApart cmp (rights ps) → Known cmp (lefts ps) x → image cmp (swapped ps) (image cmp ps x) ≡ x
+  pub image-back : (ps : List (K × K)) (x : K) → IsApart cmp (rights ps) → Known cmp (lefts ps) x
+      → image cmp (swapped ps) (image cmp ps x) ≡ x
   image-back [] x a h = absurd (omega (arith, h))
   image-back (p ∷ ps) x a h = go (known_cases x p.0 (lefts ps) h) (image-back ps x (apart_tail p.1 (rights ps) a))
     where
-      there : (v : K) → Known cmp (rights ps) v → (v ≡ p.1) ⊎ (is_eq (cmp v p.1) ≡ false) → image cmp (swapped (p ∷ ps)) v ≡ image cmp (swapped ps) v
+      there : (v : K) → Known cmp (rights ps) v → (v ≡ p.1) ⊎ (is_eq (cmp v p.1) ≡ false)
+          → image cmp (swapped (p ∷ ps)) v ≡ image cmp (swapped ps) v
       there v l (inl e) = absurd (omega (arith, times-yes v p.1 (rights ps) e, a v))
       there v l (inr ne) = image-no (p.1, p.0) (swapped ps) v ne
 
-      go : (x ≡ p.0) ⊎ (Known cmp (lefts ps) x × (is_eq (cmp x p.0) ≡ false)) → (Known cmp (lefts ps) x → image cmp (swapped ps) (image cmp ps x) ≡ x) → image cmp (swapped (p ∷ ps)) (image cmp (p ∷ ps) x) ≡ x
+      go : (x ≡ p.0) ⊎ (Known cmp (lefts ps) x × (is_eq (cmp x p.0) ≡ false))
+          → (Known cmp (lefts ps) x → image cmp (swapped ps) (image cmp ps x) ≡ x) → image cmp (swapped (p ∷ ps)) (image cmp (p ∷ ps) x) ≡ x
       go (inl e) ih = ap (image cmp (swapped (p ∷ ps))) (image-yes p ps x e) ∙ image-yes (p.1, p.0) (swapped ps) p.1 refl ∙ sym e
       go (inr r) ih =
           let v : K = image cmp ps x in
@@ -208,18 +216,26 @@ module _ {K : Type 0} {cmp : K → K → Ordering} (o : IsKeyOrder cmp) where
   abbrev pub followed : List (K × K) → List (K × K) → List (K × K)
   followed ps qs = map (λ pair. (pair.0, image cmp qs pair.1)) ps
 
-  named_all : (ps qs : List (K × K)) → ((k : K) → Known cmp (rights ps) k → Known cmp (lefts qs) k) → AllByRecursion (λ pair. is_named cmp qs pair.1 ≡ true) ps
+  named_all : (ps qs : List (K × K)) → ((k : K) → Known cmp (rights ps) k → Known cmp (lefts qs) k)
+      → AllByRecursion (λ pair. is_named cmp qs pair.1 ≡ true) ps
   named_all [] qs h = tt
-  named_all (p ∷ ps) qs h = (lt-ltb 0 (times cmp p.1 (lefts qs)) (h p.1 (known-here p.1 (rights ps))), named_all ps qs (λ k l. h k (known-later k p.1 (rights ps) l)))
+  named_all (p ∷ ps) qs h =
+      (lt-ltb 0 (times cmp p.1 (lefts qs)) (h p.1 (known-here p.1 (rights ps))),
+      named_all ps qs (λ k l. h k (known-later k p.1 (rights ps) l)))
 
-  pub joined-followed : (ps qs : List (K × K)) → ((k : K) → Known cmp (rights ps) k → Known cmp (lefts qs) k) → joined cmp ps qs ≡ followed ps qs
-  joined-followed ps qs h = ap (map (λ pair. (pair.0, image cmp qs pair.1))) (filter_all (λ pair. is_named cmp qs pair.1) ps (named_all ps qs h))
+  pub joined-followed : (ps qs : List (K × K)) → ((k : K) → Known cmp (rights ps) k → Known cmp (lefts qs) k)
+      → joined cmp ps qs ≡ followed ps qs
+  joined-followed ps qs h =
+      ap (map (λ pair. (pair.0, image cmp qs pair.1))) (filter_all (λ pair. is_named cmp qs pair.1) ps (named_all ps qs h))
 
-  pub image-followed : (ps qs : List (K × K)) (x : K) → Known cmp (lefts ps) x → image cmp (followed ps qs) x ≡ image cmp qs (image cmp ps x)
+  pub image-followed : (ps qs : List (K × K)) (x : K) → Known cmp (lefts ps) x
+      → image cmp (followed ps qs) x ≡ image cmp qs (image cmp ps x)
   image-followed [] qs x h = absurd (omega (arith, h))
   image-followed (p ∷ ps) qs x h = go (known_cases x p.0 (lefts ps) h) (image-followed ps qs x)
     where
-      go : (x ≡ p.0) ⊎ (Known cmp (lefts ps) x × (is_eq (cmp x p.0) ≡ false)) → (Known cmp (lefts ps) x → image cmp (followed ps qs) x ≡ image cmp qs (image cmp ps x)) → image cmp (followed (p ∷ ps) qs) x ≡ image cmp qs (image cmp (p ∷ ps) x)
+      go : (x ≡ p.0) ⊎ (Known cmp (lefts ps) x × (is_eq (cmp x p.0) ≡ false))
+          → (Known cmp (lefts ps) x → image cmp (followed ps qs) x ≡ image cmp qs (image cmp ps x))
+          → image cmp (followed (p ∷ ps) qs) x ≡ image cmp qs (image cmp (p ∷ ps) x)
       go (inl e) ih = image-yes (p.0, image cmp qs p.1) (followed ps qs) x e ∙ ap (image cmp qs) (sym (image-yes p ps x e))
       go (inr r) ih = image-no (p.0, image cmp qs p.1) (followed ps qs) x r.1 ∙ ih r.0 ∙ ap (image cmp qs) (sym (image-no p ps x r.1))
 
@@ -237,21 +253,27 @@ module _ {K : Type 0} {cmp : K → K → Ordering} (o : IsKeyOrder cmp) where
   pub differ_apart : (x y : K) → is_eq (cmp x y) ≡ false → x ≡ y → ⊥
   differ_apart x y f e = false≢true (sym f ∙ subst (λ z. is_eq (cmp x z) ≡ true) e (same-itself x))
 
-  pub image-injective : (ps : List (K × K)) (x y : K) → IsApart cmp (rights ps) → Known cmp (lefts ps) x → Known cmp (lefts ps) y → image cmp ps x ≡ image cmp ps y → x ≡ y
+  pub image-injective : (ps : List (K × K)) (x y : K) → IsApart cmp (rights ps) → Known cmp (lefts ps) x → Known cmp (lefts ps) y
+      → image cmp ps x ≡ image cmp ps y → x ≡ y
   image-injective ps x y a k l e = sym (image-back ps x a k) ∙ ap (image cmp (swapped ps)) e ∙ image-back ps y a l
 
   -- a number stands in a list as often as its image among the images
-  pub times-images : (ps : List (K × K)) (x : K) → IsApart cmp (rights ps) → Known cmp (lefts ps) x → (ts : List K) → AllByRecursion (Known cmp (lefts ps)) ts → times cmp (image cmp ps x) (map (image cmp ps) ts) ≡ times cmp x ts
+  pub times-images : (ps : List (K × K)) (x : K) → IsApart cmp (rights ps) → Known cmp (lefts ps) x → (ts : List K)
+      → AllByRecursion (Known cmp (lefts ps)) ts → times cmp (image cmp ps x) (map (image cmp ps) ts) ≡ times cmp x ts
   times-images ps x a k [] h = refl
   times-images ps x a k (t ∷ ts) h = go (same_or_not x t) (times-images ps x a k ts h.1)
     where
-      go : (x ≡ t) ⊎ (is_eq (cmp x t) ≡ false) → times cmp (image cmp ps x) (map (image cmp ps) ts) ≡ times cmp x ts → times cmp (image cmp ps x) (image cmp ps t ∷ map (image cmp ps) ts) ≡ times cmp x (t ∷ ts)
-      go (inl e) ih = times-yes (image cmp ps x) (image cmp ps t) (map (image cmp ps) ts) (ap (image cmp ps) e) ∙ ap suc ih ∙ sym (times-yes x t ts e)
+      go : (x ≡ t) ⊎ (is_eq (cmp x t) ≡ false) → times cmp (image cmp ps x) (map (image cmp ps) ts) ≡ times cmp x ts
+          → times cmp (image cmp ps x) (image cmp ps t ∷ map (image cmp ps) ts) ≡ times cmp x (t ∷ ts)
+      go (inl e) ih = times-yes (image cmp ps x) (image cmp ps t) (map (image cmp ps) ts) (ap (image cmp ps) e) ∙ ap suc ih
+          ∙ sym (times-yes x t ts e)
       go (inr ne) ih =
-          let apart : is_eq (cmp (image cmp ps x) (image cmp ps t)) ≡ false = differ (image cmp ps x) (image cmp ps t) (λ e. differ_apart x t ne (image-injective ps x t a k h.0 e)) in
+          let apart : is_eq (cmp (image cmp ps x) (image cmp ps t)) ≡ false =
+              differ (image cmp ps x) (image cmp ps t) (λ e. differ_apart x t ne (image-injective ps x t a k h.0 e)) in
           times-no (image cmp ps x) (image cmp ps t) (map (image cmp ps) ts) apart ∙ ih ∙ sym (times-no x t ts ne)
 
-  pub has_repeat-images : (ps : List (K × K)) → IsApart cmp (rights ps) → (ts : List K) → AllByRecursion (Known cmp (lefts ps)) ts → has_repeat cmp (map (image cmp ps) ts) ≡ has_repeat cmp ts
+  pub has_repeat-images : (ps : List (K × K)) → IsApart cmp (rights ps) → (ts : List K) → AllByRecursion (Known cmp (lefts ps)) ts
+      → has_repeat cmp (map (image cmp ps) ts) ≡ has_repeat cmp ts
   has_repeat-images ps a [] h = refl
   has_repeat-images ps a (t ∷ ts) h = λ i. nat_lt 0 (times-images ps t a h.0 ts h.1 i) || has_repeat-images ps a ts h.1 i
 
@@ -275,8 +297,10 @@ module _ {K : Type 0} {cmp : K → K → Ordering} (o : IsKeyOrder cmp) where
       none true e m n = absurd (false≢true (sym e))
       none false e m n = refl
 
-      go : (b : Bool) → f l ≡ b → (k ≡ l) ⊎ (is_eq (cmp k l) ≡ false) → times cmp k (filter f ls) ≡ cond (f k) (times cmp k ls) 0 → times cmp k (cond b (l ∷ filter f ls) (filter f ls)) ≡ cond (f k) (times cmp k (l ∷ ls)) 0
-      go true e (inl k_is_l) ih = times-yes k l (filter f ls) k_is_l ∙ ap suc ih ∙ yes (f k) (ap f k_is_l ∙ e) (times cmp k ls) 0 ∙ ap (λ n. cond (f k) n 0) (sym (times-yes k l ls k_is_l))
+      go : (b : Bool) → f l ≡ b → (k ≡ l) ⊎ (is_eq (cmp k l) ≡ false) → times cmp k (filter f ls) ≡ cond (f k) (times cmp k ls) 0
+          → times cmp k (cond b (l ∷ filter f ls) (filter f ls)) ≡ cond (f k) (times cmp k (l ∷ ls)) 0
+      go true e (inl k_is_l) ih = times-yes k l (filter f ls) k_is_l ∙ ap suc ih ∙ yes (f k) (ap f k_is_l ∙ e) (times cmp k ls) 0
+          ∙ ap (λ n. cond (f k) n 0) (sym (times-yes k l ls k_is_l))
       go true e (inr ne) ih = times-no k l (filter f ls) ne ∙ ih ∙ ap (λ n. cond (f k) n 0) (sym (times-no k l ls ne))
       go false e (inl k_is_l) ih = ih ∙ none (f k) (ap f k_is_l ∙ e) (times cmp k ls) (times cmp k (l ∷ ls))
       go false e (inr ne) ih = ih ∙ ap (λ n. cond (f k) n 0) (sym (times-no k l ls ne))
@@ -318,7 +342,8 @@ module _ {K : Type 0} {cmp : K → K → Ordering} (o : IsKeyOrder cmp) where
   order_itself x = ap is_gt (tied_itself o.total x)
 
   pub times-append : (k : K) (xs ys : List K) → times cmp k (xs ++ ys) ≡ times cmp k xs + times cmp k ys
-  times-append k xs ys = ap length (filter-append (λ x. is_eq (cmp k x)) xs ys) ∙ length-append (filter (λ x. is_eq (cmp k x)) xs) (filter (λ x. is_eq (cmp k x)) ys)
+  times-append k xs ys = ap length (filter-append (λ x. is_eq (cmp k x)) xs ys)
+      ∙ length-append (filter (λ x. is_eq (cmp k x)) xs) (filter (λ x. is_eq (cmp k x)) ys)
 
   pub known-append : (k : K) (xs ys : List K) → Known cmp (xs ++ ys) k → Known cmp xs k ⊎ Known cmp ys k
   known-append k xs ys h = go (times cmp k xs) refl

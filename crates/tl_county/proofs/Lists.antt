@@ -10,7 +10,8 @@ pub map-map : {X Y Z : Type 0} (g : Y → Z) (f : X → Y) (xs : List X) → map
 map-map g f [] = refl
 map-map g f (x ∷ xs) = ap (λ ys. g (f x) ∷ ys) (map-map g f xs)
 
-pub map_agree_all : {X Y : Type 0} (f g : X → Y) (P : X → Type 0) → ((x : X) → P x → f x ≡ g x) → (xs : List X) → AllByRecursion P xs → map f xs ≡ map g xs
+pub map_agree_all : {X Y : Type 0} (f g : X → Y) (P : X → Type 0) → ((x : X) → P x → f x ≡ g x) → (xs : List X) → AllByRecursion P xs
+    → map f xs ≡ map g xs
 map_agree_all f g P h [] a = refl
 map_agree_all f g P h (x ∷ xs) a = λ i. h x a.0 i ∷ map_agree_all f g P h xs a.1 i
 
@@ -22,7 +23,8 @@ pub all_weaker : {X : Type 0} (P Q : X → Type 0) → ((x : X) → P x → Q x)
 all_weaker P Q h [] a = tt
 all_weaker P Q h (x ∷ xs) a = (h x a.0, all_weaker P Q h xs a.1)
 
-pub all_both : {X : Type 0} (P Q : X → Type 0) (xs : List X) → AllByRecursion P xs → AllByRecursion Q xs → AllByRecursion (λ x. P x × Q x) xs
+pub all_both : {X : Type 0} (P Q : X → Type 0) (xs : List X) → AllByRecursion P xs → AllByRecursion Q xs
+    → AllByRecursion (λ x. P x × Q x) xs
 all_both P Q [] a b = tt
 all_both P Q (x ∷ xs) a b = ((a.0, b.0), all_both P Q xs a.1 b.1)
 
@@ -50,11 +52,13 @@ pub all_append : {X : Type 0} (P : X → Type 0) (xs ys : List X) → AllByRecur
 all_append P [] ys a b = b
 all_append P (x ∷ xs) ys a b = (a.0, all_append P xs ys a.1 b)
 
-pub all_pieces : {X Y : Type 0} (P : Y → Type 0) (f : X → List Y) (xs : List X) → AllByRecursion P (flat_map f xs) → AllByRecursion (λ x. AllByRecursion P (f x)) xs
+pub all_pieces : {X Y : Type 0} (P : Y → Type 0) (f : X → List Y) (xs : List X) → AllByRecursion P (flat_map f xs)
+    → AllByRecursion (λ x. AllByRecursion P (f x)) xs
 all_pieces P f [] a = tt
 all_pieces P f (x ∷ xs) a = (all_left P (f x) (flat_map f xs) a, all_pieces P f xs (all_right P (f x) (flat_map f xs) a))
 
-pub all_joined : {X Y : Type 0} (P : Y → Type 0) (f : X → List Y) (xs : List X) → AllByRecursion (λ x. AllByRecursion P (f x)) xs → AllByRecursion P (flat_map f xs)
+pub all_joined : {X Y : Type 0} (P : Y → Type 0) (f : X → List Y) (xs : List X) → AllByRecursion (λ x. AllByRecursion P (f x)) xs
+    → AllByRecursion P (flat_map f xs)
 all_joined P f [] a = tt
 all_joined P f (x ∷ xs) a = all_append P (f x) (flat_map f xs) a.0 (all_joined P f xs a.1)
 

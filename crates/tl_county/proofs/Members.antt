@@ -1,5 +1,7 @@
 -- Elements of a list: under a permutation, in a map, and where a test finds one.
-use Rattle.std.proofs.Common.{◌≡◌, ◌⊎◌, ◌<◌, ℕ, zero, suc, List, [], ◌∷◌, ◌++◌, map, flat_map, length, get_or, Bool, true, false, sym, refl, ap, ◌∙◌, subst, inl, inr, arith, IsPermutation, Contains, Ordering, is_eq, filter_map, Option, Some, None}
+use Rattle.std.proofs.Common.{◌≡◌, ◌⊎◌, ◌<◌, ℕ, zero, suc, List, [], ◌∷◌, ◌++◌, map, flat_map, length, get_or, Bool, true, false}
+use Rattle.std.proofs.Common.{sym, refl, ap, ◌∙◌, subst, inl, inr, arith, IsPermutation, Contains, Ordering, is_eq, filter_map}
+use Rattle.std.proofs.Common.{Option, Some, None}
 use Rattle.std.proofs.lemmas.Bool.{false≢true, or_cases, or_left, or_right}
 use Rattle.std.proofs.lemmas.List.Sorted.{Contains-permutation}
 use Rattle.std.specs.List.{list_any, cons_option}
@@ -61,7 +63,8 @@ pub any_among : {X : Type 0} (p : X → Bool) (xs : List X) → list_any p xs �
 any_among p [] e = absurd (false≢true e)
 any_among {X} p (y ∷ ys) e = go (or_cases (p y) (list_any p ys) e) (any_among p ys)
   where
-    go : (p y ≡ true) ⊎ (list_any p ys ≡ true) → (list_any p ys ≡ true → (x : X) × Among x ys × (p x ≡ true)) → (x : X) × Among x (y ∷ ys) × (p x ≡ true)
+    go : (p y ≡ true) ⊎ (list_any p ys ≡ true) → (list_any p ys ≡ true → (x : X) × Among x ys × (p x ≡ true))
+        → (x : X) × Among x (y ∷ ys) × (p x ≡ true)
     go (inl t) ih = (y, inl refl, t)
     go (inr t) ih = let r : (x : X) × Among x ys × (p x ≡ true) = ih t in (r.0, inr r.1, r.2)
 
@@ -80,11 +83,13 @@ module _ {K : Type 0} {cmp : K → K → Ordering} (o : IsKeyOrder cmp) where
       go (inr r) ih = inr (ih r.0)
 
 -- the elements of a filtered map
-pub in_filter_map : {X Y : Type 0} (h : X → Option Y) (y : Y) (xs : List X) → Among y (filter_map h xs) → (x : X) × Among x xs × (h x ≡ Some y)
+pub in_filter_map : {X Y : Type 0} (h : X → Option Y) (y : Y) (xs : List X) → Among y (filter_map h xs)
+    → (x : X) × Among x xs × (h x ≡ Some y)
 in_filter_map h y [] m = absurd m
 in_filter_map {X} {Y} h y (x ∷ xs) m = go (h x) refl m (in_filter_map h y xs)
   where
-    go : (o : Option Y) → h x ≡ o → Among y (cons_option o (filter_map h xs)) → (Among y (filter_map h xs) → (z : X) × Among z xs × (h z ≡ Some y)) → (z : X) × Among z (x ∷ xs) × (h z ≡ Some y)
+    go : (o : Option Y) → h x ≡ o → Among y (cons_option o (filter_map h xs))
+        → (Among y (filter_map h xs) → (z : X) × Among z xs × (h z ≡ Some y)) → (z : X) × Among z (x ∷ xs) × (h z ≡ Some y)
     go None e n ih = let r : (z : X) × Among z xs × (h z ≡ Some y) = ih n in (r.0, inr r.1, r.2)
     go (Some w) e (inl f) ih = (x, inl refl, e ∙ ap Some (sym f))
     go (Some w) e (inr n) ih = let r : (z : X) × Among z xs × (h z ≡ Some y) = ih n in (r.0, inr r.1, r.2)
@@ -99,7 +104,8 @@ to_filter_map {X} {Y} h x y (z ∷ xs) (inr m) e = go (h z) (to_filter_map h x y
     go (Some w) n = inr n
 
 -- where no left part stands twice, entries with one left part are one
-pub one_entry : {K V : Type 0} {cmp : K → K → Ordering} (o : IsKeyOrder cmp) (es : List (K × V)) → IsApart cmp (map (λ e. e.0) es) → (p q : K × V) → Among p es → Among q es → p.0 ≡ q.0 → p ≡ q
+pub one_entry : {K V : Type 0} {cmp : K → K → Ordering} (o : IsKeyOrder cmp) (es : List (K × V)) → IsApart cmp (map (λ e. e.0) es)
+    → (p q : K × V) → Among p es → Among q es → p.0 ≡ q.0 → p ≡ q
 one_entry o [] a p q m n same = absurd m
 one_entry o (e ∷ es) a p q (inl f) (inl g) same = f ∙ sym g
 one_entry {K} {V} o (e ∷ es) a p q (inl f) (inr n) same =

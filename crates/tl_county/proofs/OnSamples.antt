@@ -1,5 +1,6 @@
 -- What the definitions say of the samples: their counties, which renamings carry, and which refusal a list of records has.
-use Rattle.std.proofs.Common.{◌≡◌, ℕ, List, [], ◌∷◌, ◌++◌, map, length, Bool, true, false, Some, sym, refl, ap, ◌∙◌, arith, IsPermutation, codes, ◌==◌, ◌&&◌, ◌⊎◌, inl, inr, slice_index, lit<, nat_cmp}
+use Rattle.std.proofs.Common.{◌≡◌, ℕ, List, [], ◌∷◌, ◌++◌, map, length, Bool, true, false, Some, sym, refl, ap, ◌∙◌, arith}
+use Rattle.std.proofs.Common.{IsPermutation, codes, ◌==◌, ◌&&◌, ◌⊎◌, inl, inr, slice_index, lit<, nat_cmp}
 use Rattle.std.proofs.lemmas.Bool.{false≢true}
 use Rattle.std.proofs.lemmas.List.Sorted.{IsPermutation-refl, length_permutation}
 use Rattle.tl_layout.specs.declared.type7.Body7.{Body7}
@@ -14,11 +15,15 @@ use Rattle.tl_layout.specs.Turned.{turned_body}
 use Rattle.tl_shape.specs.Turned.{turned_if}
 use Rattle.tl_county.proofs.Members.{among-permutation}
 use Rattle.tl_county.proofs.LinkFaults.{linked_computed, first_rule_computed}
-use Rattle.tl_county.proofs.Samples.{filled, right, street, ranges_back, east_end, street_there, street_back, west_end, link_body, no_side, cenid_1, cenid_2, there, back, back_wrong, back_shaped, there_shaped, canonical_shaped, points_up, two_polygons, named, schools, landmark, in_polygon, four, two, chain_there, meeting, old_mill}
+use Rattle.tl_county.proofs.Samples.{filled, right, street, ranges_back, east_end, street_there, street_back, west_end, link_body}
+use Rattle.tl_county.proofs.Samples.{no_side, cenid_1, cenid_2, there, back, back_wrong, back_shaped, there_shaped}
+use Rattle.tl_county.proofs.Samples.{canonical_shaped, points_up, two_polygons, named, schools, landmark, in_polygon, four, two}
+use Rattle.tl_county.proofs.Samples.{chain_there, meeting, old_mill}
 
 -- the county of one chain
 pub county_there : county_of there ≡ record {
-  chains = (500, record { body = street_there; points = west_end ∷ east_end ∷ []; feats = []; ranges = []; link_body = link_body; start_node = Some 11; end_node = Some 12; left = no_side; right = no_side }) ∷ [];
+  chains = (500, record { body = street_there; points = west_end ∷ east_end ∷ []; feats = []; ranges = []; link_body =
+      link_body; start_node = Some 11; end_node = Some 12; left = no_side; right = no_side }) ∷ [];
   names = [];
   polygons = [];
   landmarks = [];
@@ -54,10 +59,12 @@ onto_back_carries = record {
 
 -- without the pair of a node it carries no longer
 pub without_a_node : Carries (record onto_back { nodes = (11, 5) ∷ [] }) (county_of there) (county_of back) → ⊥
-without_a_node h = let one : List ℕ = 11 ∷ [] in let two : List ℕ = 11 ∷ 12 ∷ [] in let e : length two ≡ length one = length_permutation one two h.numbers.nodes.left in omega arith
+without_a_node h = let one : List ℕ = 11 ∷ [] in let two : List ℕ = 11 ∷ 12 ∷ [] in let e : length two ≡ length one =
+    length_permutation one two h.numbers.nodes.left in omega arith
 
 -- reading the records in another order of the file, or in other pieces, gives the points in the order of the RTSQs
-pub back_shaped_points : map (λ e. e.1.points) (county_of back_shaped).chains ≡ (east_end ∷ (points_up (11 ∷ 10 ∷ 9 ∷ 8 ∷ 7 ∷ 6 ∷ 5 ∷ 4 ∷ 3 ∷ 2 ∷ 1 ∷ []) ++ (west_end ∷ []))) ∷ []
+pub back_shaped_points : map (λ e. e.1.points) (county_of back_shaped).chains ≡
+    (east_end ∷ (points_up (11 ∷ 10 ∷ 9 ∷ 8 ∷ 7 ∷ 6 ∷ 5 ∷ 4 ∷ 3 ∷ 2 ∷ 1 ∷ []) ++ (west_end ∷ []))) ∷ []
 back_shaped_points = refl
 
 pub there_shaped_points : map (λ e. e.1.points) (county_of there_shaped).chains ≡ map (λ e. e.1.points) (county_of canonical_shaped).chains
@@ -68,14 +75,16 @@ pub polygons_are_two : polygon_keys (county_of two_polygons) ≡ (cenid_1, 12) �
 polygons_are_two = refl
 
 -- an unused name stays, and so does a name that a chain has twice
-pub names_stay : (map (λ e. e.0) (county_of (named (8 ∷ 8 ∷ []))).names ≡ 8 ∷ 9 ∷ []) × (map (λ e. e.1.feats) (county_of (named (8 ∷ 8 ∷ []))).chains ≡ (8 ∷ 8 ∷ []) ∷ [])
+pub names_stay : (map (λ e. e.0) (county_of (named (8 ∷ 8 ∷ []))).names ≡ 8 ∷ 9 ∷ [])
+    × (map (λ e. e.1.feats) (county_of (named (8 ∷ 8 ∷ []))).chains ≡ (8 ∷ 8 ∷ []) ∷ [])
 names_stay = (refl, refl)
 
 -- two records of one LAND are one landmark with two bodies, in order
 abbrev lanames : ℕ × List Body7 → ℕ × List (List ℕ)
 lanames entry = (entry.0, map (λ b. b.laname) entry.1)
 
-pub bodies_in_order : map lanames (county_of (schools 30 31)).landmarks ≡ (30, filled 30 (codes "Lee School") ∷ []) ∷ (31, filled 30 (codes "Lee School") ∷ []) ∷ (40, filled 30 (codes "Annex") ∷ filled 30 (codes "Barn") ∷ []) ∷ []
+pub bodies_in_order : map lanames (county_of (schools 30 31)).landmarks ≡ (30, filled 30 (codes "Lee School") ∷ []) ∷
+    (31, filled 30 (codes "Lee School") ∷ []) ∷ (40, filled 30 (codes "Annex") ∷ filled 30 (codes "Barn") ∷ []) ∷ []
 bodies_in_order = refl
 
 -- these lists are linked
@@ -112,13 +121,18 @@ only x y p = go (among-permutation x (x ∷ []) (y ∷ []) p (inl refl))
     go (inr h) = absurd h
 
 abbrev wrong_entry : ℕ × Chain
-wrong_entry = (77, record { body = street (record ranges_back { fraddl = right 11 (codes "100"); toaddl = right 11 (codes "198") }) (codes "020300") (codes "020200") (codes "2002") (codes "1001"); points = east_end ∷ west_end ∷ []; feats = []; ranges = []; link_body = link_body; start_node = Some 6; end_node = Some 5; left = no_side; right = no_side })
+wrong_entry = (77, record { body =
+    street (record ranges_back { fraddl = right 11 (codes "100"); toaddl = right 11 (codes "198") }) (codes "020300") (codes "020200")
+    (codes "2002") (codes "1001"); points = east_end ∷ west_end ∷ []; feats = []; ranges = []; link_body = link_body; start_node =
+    Some 6; end_node = Some 5; left = no_side; right = no_side })
 
 abbrev there_chain : Chain
-there_chain = record { body = street_there; points = west_end ∷ east_end ∷ []; feats = []; ranges = []; link_body = link_body; start_node = Some 11; end_node = Some 12; left = no_side; right = no_side }
+there_chain = record { body = street_there; points = west_end ∷ east_end ∷ []; feats = []; ranges = []; link_body = link_body; start_node =
+    Some 11; end_node = Some 12; left = no_side; right = no_side }
 
 abbrev address : Chain → Bool
-address c = (slice_index c.body.ranges.fraddl 8 == 49) && ((slice_index c.body.ranges.fraddl 9 == 48) && (slice_index c.body.ranges.fraddl 10 == 48))
+address c = (slice_index c.body.ranges.fraddl 8 == 49) &&
+    ((slice_index c.body.ranges.fraddl 9 == 48) && (slice_index c.body.ranges.fraddl 10 == 48))
 
 address_differs : (r : Renumbering) (b : Bool) → address (renumbered r (turned_if b there_chain)) ≡ false
 address_differs r true = refl
@@ -126,7 +140,8 @@ address_differs r false = refl
 
 pub wrong_addresses : AreSame (county_of there) (county_of back_wrong) → ⊥
 wrong_addresses s =
-    let e : wrong_entry ≡ carried_chain s.by (500, there_chain) = only (carried_chain s.by (500, there_chain)) wrong_entry s.carries.chains in
+    let e : wrong_entry ≡ carried_chain s.by (500, there_chain) =
+        only (carried_chain s.by (500, there_chain)) wrong_entry s.carries.chains in
     false≢true (sym (address_differs s.by (turns s.by 500)) ∙ ap (λ (d : ℕ × Chain). address d.1) (sym e))
 
 -- Two names that only their uses tell apart may be exchanged: the order in which a chain names them is the one difference.
@@ -167,9 +182,11 @@ feats_of : Chain → List ℕ
 feats_of c = c.feats
 
 abbrev named_chain : List ℕ → Chain
-named_chain names = record { body = street_there; points = west_end ∷ east_end ∷ []; feats = names; ranges = []; link_body = link_body; start_node = Some 11; end_node = Some 12; left = no_side; right = no_side }
+named_chain names = record { body = street_there; points = west_end ∷ east_end ∷ []; feats = names; ranges = []; link_body =
+    link_body; start_node = Some 11; end_node = Some 12; left = no_side; right = no_side }
 
-twice_at : (r : Renumbering) (b : Bool) → feats_of (renumbered r (turned_if b (named_chain (8 ∷ 8 ∷ [])))) ≡ image nat_cmp r.names 8 ∷ image nat_cmp r.names 8 ∷ []
+twice_at : (r : Renumbering) (b : Bool) → feats_of (renumbered r (turned_if b (named_chain (8 ∷ 8 ∷ []))))
+    ≡ image nat_cmp r.names 8 ∷ image nat_cmp r.names 8 ∷ []
 unfolding feats_of
 twice_at r true = refl
 twice_at r false = refl
@@ -177,8 +194,10 @@ twice_at r false = refl
 pub one_name_twice : AreSame (county_of (named (8 ∷ 8 ∷ []))) (county_of (named (8 ∷ 9 ∷ []))) → ⊥
 unfolding feats_of
 one_name_twice s =
-    let e : (500, named_chain (8 ∷ 9 ∷ [])) ≡ carried_chain s.by (500, named_chain (8 ∷ 8 ∷ [])) = only (carried_chain s.by (500, named_chain (8 ∷ 8 ∷ []))) (500, named_chain (8 ∷ 9 ∷ [])) s.carries.chains in
-    let names : 8 ∷ 9 ∷ [] ≡ image nat_cmp s.by.names 8 ∷ image nat_cmp s.by.names 8 ∷ [] = ap (λ (d : ℕ × Chain). feats_of d.1) e ∙ twice_at s.by (turns s.by 500) in
+    let e : (500, named_chain (8 ∷ 9 ∷ [])) ≡ carried_chain s.by (500, named_chain (8 ∷ 8 ∷ [])) =
+        only (carried_chain s.by (500, named_chain (8 ∷ 8 ∷ []))) (500, named_chain (8 ∷ 9 ∷ [])) s.carries.chains in
+    let names : 8 ∷ 9 ∷ [] ≡ image nat_cmp s.by.names 8 ∷ image nat_cmp s.by.names 8 ∷ [] = ap (λ (d : ℕ × Chain). feats_of d.1) e
+        ∙ twice_at s.by (turns s.by 500) in
     let first : 8 ≡ image nat_cmp s.by.names 8 = ap (λ ns. slice_index ns 0) names in
     let second : 9 ≡ image nat_cmp s.by.names 8 = ap (λ ns. slice_index ns 1) names in
     omega arith

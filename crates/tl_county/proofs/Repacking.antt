@@ -1,5 +1,7 @@
 -- The county depends on the packing of types 2 and 4 and on RTSQs only by what stands in order.
-use Rattle.std.proofs.Common.{◌≡◌, ◌⊎◌, ◌<◌, ℕ, ◌==◌, List, [], ◌∷◌, ◌++◌, map, flat_map, filter, filter_map, Bool, true, false, cond, Option, Some, None, option_map, Ordering, Less, Equal, Greater, is_eq, is_gt, sym, refl, ap, ap₂, ◌∙◌, inl, inr, nat_cmp}
+use Rattle.std.proofs.Common.{◌≡◌, ◌⊎◌, ◌<◌, ℕ, ◌==◌, List, [], ◌∷◌, ◌++◌, map, flat_map, filter, filter_map, Bool, true, false}
+use Rattle.std.proofs.Common.{cond, Option, Some, None, option_map, Ordering, Less, Equal, Greater, is_eq, is_gt, sym, refl, ap}
+use Rattle.std.proofs.Common.{ap₂, ◌∙◌, inl, inr, nat_cmp, IsTrue}
 use Rattle.std.proofs.lemmas.Bool.{lt-ltb, cases_order}
 use Rattle.std.proofs.lemmas.Cmp.{tied_itself, nat_cmp_total}
 use Rattle.std.specs.List.{AllByRecursion, cons_option}
@@ -9,12 +11,15 @@ use Rattle.tl_layout.specs.declared.record_type.Record.{Record}
 use Rattle.tl_layout.specs.declared.record_type.Record.TheVariants.{One, Two, Four, Five, Six, Seven, Eight, I, P}
 use Rattle.tl_county.specs.declared.fault.LinkedType.TheVariants.{Two as Type2, Four as Type4, Six as Type6}
 use Rattle.tl_county.specs.BodyOrder.{landmark_body_cmp, link_cmp}
-use Rattle.tl_layout.specs.ByType.{as_type_1, as_type_2, as_type_4, as_type_5, as_type_6, as_type_7, as_type_8, as_type_i, as_type_p, of_type_1, of_type_2, of_type_4, of_type_6, of_type_i, of_number}
-use Rattle.tl_county.specs.County.{one_tlid, two_tlid, two_rtsq, four_tlid, four_rtsq, five_feat, six_tlid, six_rtsq, seven_land, i_tlid, p_key, chain_of, chains_of, side_keys, first, polygons_of, county_of}
-use Rattle.tl_county.specs.Orders.{put_in_order, in_order, distinct}
+use Rattle.tl_layout.specs.ByType.{as_type_1, as_type_2, as_type_4, as_type_5, as_type_6, as_type_7, as_type_8, as_type_i}
+use Rattle.tl_layout.specs.ByType.{as_type_p, of_type_1, of_type_2, of_type_4, of_type_6, of_type_i, of_number}
+use Rattle.tl_county.specs.County.{one_tlid, two_tlid, two_rtsq, four_tlid, four_rtsq, five_feat, six_tlid, six_rtsq, seven_land}
+use Rattle.tl_county.specs.County.{i_tlid, p_key, chain_of, chains_of, side_keys, first, polygons_of, county_of}
+use Rattle.tl_county.specs.Orders.{times, stands_in, put_in_order, in_order, distinct}
 use Rattle.tl_county.specs.PolygonKeys.{key_cmp}
 use Rattle.tl_county.specs.Repacked.{AreRepacked, Sequence, resequenced, KeepsSequence}
-use Rattle.tl_county.proofs.Lists.{map-map, flat_map_agree, map_agree_everywhere}
+use Rattle.tl_county.proofs.Keys.{nat_keys, all_known}
+use Rattle.tl_county.proofs.Lists.{map-map, flat_map_agree, map_agree_everywhere, all_both, all_unmap}
 use Rattle.tl_county.proofs.Numbers.{all-in_order, of_number-all}
 
 module _ (xs ys : List Record) (s : AreRepacked xs ys) where
@@ -27,29 +32,37 @@ module _ (xs ys : List Record) (s : AreRepacked xs ys) where
 
   chains_same : chains_of xs ≡ chains_of ys
   chains_same =
-      flat_map_agree (λ r. map (λ link. (r.tlid, chain_of xs r link)) (of_number i_tlid r.tlid (of_type_i xs))) (λ r. map (λ link. (r.tlid, chain_of ys r link)) (of_number i_tlid r.tlid (of_type_i ys)))
-      (λ r. map_agree_everywhere (λ link. (r.tlid, chain_of xs r link)) (λ link. (r.tlid, chain_of ys r link)) (λ link i. (r.tlid, chain_same r link i)) (of_number i_tlid r.tlid (of_type_i xs)) ∙ ap (λ ls. map (λ link. (r.tlid, chain_of ys r link)) (of_number i_tlid r.tlid ls)) s.of_type_i)
+      flat_map_agree (λ r. map (λ link. (r.tlid, chain_of xs r link)) (of_number i_tlid r.tlid (of_type_i xs)))
+          (λ r. map (λ link. (r.tlid, chain_of ys r link)) (of_number i_tlid r.tlid (of_type_i ys)))
+      (λ r. map_agree_everywhere (λ link. (r.tlid, chain_of xs r link)) (λ link. (r.tlid, chain_of ys r link))
+          (λ link i. (r.tlid, chain_same r link i)) (of_number i_tlid r.tlid (of_type_i xs))
+          ∙ ap (λ ls. map (λ link. (r.tlid, chain_of ys r link)) (of_number i_tlid r.tlid ls)) s.of_type_i)
       (in_order (on one_tlid nat_cmp) (of_type_1 xs))
-      ∙ ap (λ rs. flat_map (λ r. map (λ link. (r.tlid, chain_of ys r link)) (of_number i_tlid r.tlid (of_type_i ys))) (in_order (on one_tlid nat_cmp) rs)) s.of_type_1
+      ∙ ap (λ rs. flat_map (λ r. map (λ link. (r.tlid, chain_of ys r link)) (of_number i_tlid r.tlid (of_type_i ys)))
+          (in_order (on one_tlid nat_cmp) rs)) s.of_type_1
 
   polygons_same : polygons_of xs ≡ polygons_of ys
-  polygons_same = ap₂ (λ ls qs. map (λ k. (k, first (map (λ (q : FieldsP). q.body) (filter (λ q. is_eq (key_cmp k (p_key q))) qs)))) (distinct key_cmp (flat_map side_keys ls ++ map p_key qs))) s.of_type_i s.of_type_p
+  polygons_same = ap₂ (λ ls qs. map (λ k. (k, first (map (λ (q : FieldsP). q.body) (filter (λ q. is_eq (key_cmp k (p_key q))) qs))))
+      (distinct key_cmp (flat_map side_keys ls ++ map p_key qs))) s.of_type_i s.of_type_p
 
   pub repacked-county : county_of xs ≡ county_of ys
   repacked-county = λ i. record {
     chains = chains_same i;
     names = map (λ (r : Fields5). (r.feat, r.body)) (in_order (on five_feat nat_cmp) (s.of_type_5 i));
     polygons = polygons_same i;
-    landmarks = map (λ land. (land, in_order landmark_body_cmp (map (λ (r : Fields7). r.body) (of_number seven_land land (s.of_type_7 i))))) (distinct nat_cmp (map seven_land (s.of_type_7 i)));
+    landmarks = map (λ land. (land, in_order landmark_body_cmp (map (λ (r : Fields7). r.body) (of_number seven_land land (s.of_type_7 i)))))
+        (distinct nat_cmp (map seven_land (s.of_type_7 i)));
     links = in_order link_cmp (s.of_type_8 i);
   }
 
 -- lists changed element by element
-select-kept : {X Y : Type 0} (h : X → Option Y) (g : X → X) → ((x : X) → h (g x) ≡ h x) → (xs : List X) → filter_map h (map g xs) ≡ filter_map h xs
+select-kept : {X Y : Type 0} (h : X → Option Y) (g : X → X) → ((x : X) → h (g x) ≡ h x) → (xs : List X)
+    → filter_map h (map g xs) ≡ filter_map h xs
 select-kept h g k [] = refl
 select-kept h g k (x ∷ xs) = ap₂ cons_option (k x) (select-kept h g k xs)
 
-select-changed : {X Y : Type 0} (h : X → Option Y) (g : X → X) (f : Y → Y) → ((x : X) → h (g x) ≡ option_map f (h x)) → (xs : List X) → filter_map h (map g xs) ≡ map f (filter_map h xs)
+select-changed : {X Y : Type 0} (h : X → Option Y) (g : X → X) (f : Y → Y) → ((x : X) → h (g x) ≡ option_map f (h x)) → (xs : List X)
+    → filter_map h (map g xs) ≡ map f (filter_map h xs)
 select-changed h g f k [] = refl
 select-changed {X} {Y} h g f k (x ∷ xs) = ap₂ cons_option (k x) (select-changed h g f k xs) ∙ go (h x)
   where
@@ -57,25 +70,35 @@ select-changed {X} {Y} h g f k (x ∷ xs) = ap₂ cons_option (k x) (select-chan
     go None = refl
     go (Some y) = refl
 
-number-kept : {X : Type 0} (number : X → ℕ) (f : X → X) → ((x : X) → number (f x) ≡ number x) → (n : ℕ) (xs : List X) → of_number number n (map f xs) ≡ map f (of_number number n xs)
+number-kept : {X : Type 0} (number : X → ℕ) (f : X → X) → ((x : X) → number (f x) ≡ number x) → (n : ℕ) (xs : List X)
+    → of_number number n (map f xs) ≡ map f (of_number number n xs)
 number-kept number f k n [] = refl
-number-kept number f k n (x ∷ xs) = ap₂ (λ b ys. cond b (f x ∷ ys) ys) (ap (λ m. m == n) (k x)) (number-kept number f k n xs) ∙ go (number x == n)
+number-kept number f k n (x ∷ xs) = ap₂ (λ b ys. cond b (f x ∷ ys) ys) (ap (λ m. m == n) (k x)) (number-kept number f k n xs)
+    ∙ go (number x == n)
   where
-    go : (b : Bool) → cond b (f x ∷ map f (of_number number n xs)) (map f (of_number number n xs)) ≡ map f (cond b (x ∷ of_number number n xs) (of_number number n xs))
+    go : (b : Bool) → cond b (f x ∷ map f (of_number number n xs)) (map f (of_number number n xs)) ≡ map f
+        (cond b (x ∷ of_number number n xs) (of_number number n xs))
     go true = refl
     go false = refl
 
-put-changed : {X : Type 0} (by : X → X → Ordering) (f : X → X) (Q : X → Type 0) → ((x y : X) → Q x → Q y → is_gt (by (f x) (f y)) ≡ is_gt (by x y)) → (x : X) → Q x → (ys : List X) → AllByRecursion Q ys → put_in_order by (f x) (map f ys) ≡ map f (put_in_order by x ys)
+put-changed : {X : Type 0} (by : X → X → Ordering) (f : X → X) (Q : X → Type 0)
+    → ((x y : X) → Q x → Q y → is_gt (by (f x) (f y)) ≡ is_gt (by x y)) → (x : X) → Q x → (ys : List X) → AllByRecursion Q ys
+    → put_in_order by (f x) (map f ys) ≡ map f (put_in_order by x ys)
 put-changed by f Q k x p [] a = refl
-put-changed by f Q k x p (y ∷ ys) a = ap₂ (λ b zs. cond b (f y ∷ zs) (f x ∷ f y ∷ map f ys)) (k x y p a.0) (put-changed by f Q k x p ys a.1) ∙ go (is_gt (by x y))
+put-changed by f Q k x p (y ∷ ys) a = ap₂ (λ b zs. cond b (f y ∷ zs) (f x ∷ f y ∷ map f ys)) (k x y p a.0) (put-changed by f Q k x p ys a.1)
+    ∙ go (is_gt (by x y))
   where
-    go : (b : Bool) → cond b (f y ∷ map f (put_in_order by x ys)) (f x ∷ f y ∷ map f ys) ≡ map f (cond b (y ∷ put_in_order by x ys) (x ∷ y ∷ ys))
+    go : (b : Bool) → cond b (f y ∷ map f (put_in_order by x ys)) (f x ∷ f y ∷ map f ys) ≡ map f
+        (cond b (y ∷ put_in_order by x ys) (x ∷ y ∷ ys))
     go true = refl
     go false = refl
 
-order-changed : {X : Type 0} (by : X → X → Ordering) (f : X → X) (Q : X → Type 0) → ((x y : X) → Q x → Q y → is_gt (by (f x) (f y)) ≡ is_gt (by x y)) → (xs : List X) → AllByRecursion Q xs → in_order by (map f xs) ≡ map f (in_order by xs)
+order-changed : {X : Type 0} (by : X → X → Ordering) (f : X → X) (Q : X → Type 0)
+    → ((x y : X) → Q x → Q y → is_gt (by (f x) (f y)) ≡ is_gt (by x y)) → (xs : List X) → AllByRecursion Q xs
+    → in_order by (map f xs) ≡ map f (in_order by xs)
 order-changed by f Q k [] a = refl
-order-changed by f Q k (x ∷ xs) a = ap (put_in_order by (f x)) (order-changed by f Q k xs a.1) ∙ put-changed by f Q k x a.0 (in_order by xs) (all-in_order Q by xs a.1)
+order-changed by f Q k (x ∷ xs) a = ap (put_in_order by (f x)) (order-changed by f Q k xs a.1)
+    ∙ put-changed by f Q k x a.0 (in_order by xs) (all-in_order Q by xs a.1)
 
 less : (m n : ℕ) → m < n → nat_cmp m n ≡ Less
 less m n h = ap (λ b. cond b Less (cond (m == n) Equal Greater)) (lt-ltb m n h)
@@ -83,28 +106,44 @@ less m n h = ap (λ b. cond b Less (cond (m == n) Equal Greater)) (lt-ltb m n h)
 greater : (m n : ℕ) → n < m → nat_cmp m n ≡ Greater
 greater m n h = nat_cmp_total.antisymm m n ∙ ap ordering_reverse (less n m h)
 
--- numbers that rise with others are in their order
-rising : (f : ℕ → ℕ) → ((i j : ℕ) → i < j → f i < f j) → (i j : ℕ) → is_gt (nat_cmp (f i) (f j)) ≡ is_gt (nat_cmp i j)
-rising f up i j = go (cases_order i j)
+-- two numbers that rise with others are in their order
+rising : (f : ℕ → ℕ) (i j : ℕ) → (i < j → f i < f j) → (j < i → f j < f i) → is_gt (nat_cmp (f i) (f j)) ≡ is_gt (nat_cmp i j)
+rising f i j up down = go (cases_order i j)
   where
     go : (i ≡ j) ⊎ ((i < j) ⊎ (j < i)) → is_gt (nat_cmp (f i) (f j)) ≡ is_gt (nat_cmp i j)
-    go (inl e) = ap is_gt (ap (nat_cmp (f i)) (ap f (sym e)) ∙ tied_itself nat_cmp_total (f i) ∙ sym (ap (nat_cmp i) (sym e) ∙ tied_itself nat_cmp_total i))
-    go (inr (inl lt)) = ap is_gt (less (f i) (f j) (up i j lt) ∙ sym (less i j lt))
-    go (inr (inr gt)) = ap is_gt (greater (f i) (f j) (up j i gt) ∙ sym (greater i j gt))
+    go (inl e) = ap is_gt (ap (nat_cmp (f i)) (ap f (sym e)) ∙ tied_itself nat_cmp_total (f i)
+        ∙ sym (ap (nat_cmp i) (sym e) ∙ tied_itself nat_cmp_total i))
+    go (inr (inl lt)) = ap is_gt (less (f i) (f j) (up lt) ∙ sym (less i j lt))
+    go (inr (inr gt)) = ap is_gt (greater (f i) (f j) (down gt) ∙ sym (greater i j gt))
+
+-- the number stands among those of the list
+abbrev Stands : {X : Type 0} → (X → ℕ) → List X → ℕ → Type 0
+Stands number xs n = IsTrue (stands_in nat_cmp n (map number xs))
+
+all_standing : {X : Type 0} (number : X → ℕ) (xs : List X) → AllByRecursion (λ x. Stands number xs (number x)) xs
+all_standing number xs = all_unmap (Stands number xs) number xs
+    (all_known nat_keys (Stands number xs) (map number xs) (λ n known. lt-ltb 0 (times nat_cmp n (map number xs)) known))
 
 -- one type of records in order, under new RTSQs
-sequence_kept : {X : Type 0} (tlid rtsq : X → ℕ) (f : X → X) (new : ℕ → ℕ → ℕ) → ((x : X) → tlid (f x) ≡ tlid x) → ((x : X) → rtsq (f x) ≡ new (tlid x) (rtsq x)) → ((n i j : ℕ) → i < j → new n i < new n j) → (n : ℕ) (xs : List X) → in_order (on rtsq nat_cmp) (of_number tlid n (map f xs)) ≡ map f (in_order (on rtsq nat_cmp) (of_number tlid n xs))
-sequence_kept {X} tlid rtsq f new kt kr up n xs =
+sequence_kept : {X : Type 0} (tlid rtsq : X → ℕ) (f : X → X) (new : ℕ → ℕ → ℕ) → ((x : X) → tlid (f x) ≡ tlid x)
+    → ((x : X) → rtsq (f x) ≡ new (tlid x) (rtsq x)) → (n : ℕ) (xs : List X)
+    → ((i j : ℕ) → Stands rtsq (of_number tlid n xs) i → Stands rtsq (of_number tlid n xs) j → i < j → new n i < new n j)
+    → in_order (on rtsq nat_cmp) (of_number tlid n (map f xs)) ≡ map f (in_order (on rtsq nat_cmp) (of_number tlid n xs))
+sequence_kept {X} tlid rtsq f new kt kr n xs up =
     ap (in_order (on rtsq nat_cmp)) (number-kept tlid f kt n xs)
-    ∙ order-changed (on rtsq nat_cmp) f (λ x. tlid x ≡ n)
-    (λ x y p q. ap is_gt (ap₂ nat_cmp (kr x ∙ ap (λ m. new m (rtsq x)) p) (kr y ∙ ap (λ m. new m (rtsq y)) q)) ∙ rising (new n) (up n) (rtsq x) (rtsq y))
-    (of_number tlid n xs) (of_number-all tlid n xs)
+    ∙ order-changed (on rtsq nat_cmp) f (λ x. (tlid x ≡ n) × Stands rtsq (of_number tlid n xs) (rtsq x))
+    (λ x y p q. ap is_gt (ap₂ nat_cmp (kr x ∙ ap (λ m. new m (rtsq x)) p.0) (kr y ∙ ap (λ m. new m (rtsq y)) q.0))
+        ∙ rising (new n) (rtsq x) (rtsq y) (up (rtsq x) (rtsq y) p.1 q.1) (up (rtsq y) (rtsq x) q.1 p.1))
+    (of_number tlid n xs)
+    (all_both (λ x. tlid x ≡ n) (λ x. Stands rtsq (of_number tlid n xs) (rtsq x)) (of_number tlid n xs)
+        (of_number-all tlid n xs) (all_standing rtsq (of_number tlid n xs)))
 
-flat_map-kept : {X Y : Type 0} (c : X → List Y) (f : X → X) → ((x : X) → c (f x) ≡ c x) → (xs : List X) → flat_map c (map f xs) ≡ flat_map c xs
+flat_map-kept : {X Y : Type 0} (c : X → List Y) (f : X → X) → ((x : X) → c (f x) ≡ c x) → (xs : List X)
+    → flat_map c (map f xs) ≡ flat_map c xs
 flat_map-kept c f k [] = refl
 flat_map-kept c f k (x ∷ xs) = λ i. k x i ++ flat_map-kept c f k xs i
 
-module _ (q : Sequence) (up : KeepsSequence q) (xs : List Record) where
+module _ (q : Sequence) (xs : List Record) (up : KeepsSequence q xs) where
   new_two : Fields2 → Fields2
   new_two r = record r { rtsq = q Type2 r.tlid r.rtsq }
 
@@ -156,14 +195,22 @@ module _ (q : Sequence) (up : KeepsSequence q) (xs : List Record) where
   pub resequenced-repacked : AreRepacked (map (resequenced q) xs) xs
   unfolding new_two new_four new_six
   resequenced-repacked = record {
-    points = λ n. ap (λ rs. flat_map (λ (r : Fields2). r.points) (in_order (on two_rtsq nat_cmp) (of_number two_tlid n rs))) (select-changed as_type_2 (resequenced q) new_two news_two xs)
-        ∙ ap (flat_map (λ (r : Fields2). r.points)) (sequence_kept two_tlid two_rtsq new_two (q Type2) (λ r. refl) (λ r. refl) (up Type2) n (of_type_2 xs))
-        ∙ flat_map-kept (λ (r : Fields2). r.points) new_two (λ r. refl) (in_order (on two_rtsq nat_cmp) (of_number two_tlid n (of_type_2 xs)));
-    names = λ n. ap (λ rs. flat_map (λ (r : Fields4). r.feats) (in_order (on four_rtsq nat_cmp) (of_number four_tlid n rs))) (select-changed as_type_4 (resequenced q) new_four news_four xs)
-        ∙ ap (flat_map (λ (r : Fields4). r.feats)) (sequence_kept four_tlid four_rtsq new_four (q Type4) (λ r. refl) (λ r. refl) (up Type4) n (of_type_4 xs))
-        ∙ flat_map-kept (λ (r : Fields4). r.feats) new_four (λ r. refl) (in_order (on four_rtsq nat_cmp) (of_number four_tlid n (of_type_4 xs)));
-    ranges = λ n. ap (λ rs. map (λ (r : Fields6). r.ranges) (in_order (on six_rtsq nat_cmp) (of_number six_tlid n rs))) (select-changed as_type_6 (resequenced q) new_six news_six xs)
-        ∙ ap (map (λ (r : Fields6). r.ranges)) (sequence_kept six_tlid six_rtsq new_six (q Type6) (λ r. refl) (λ r. refl) (up Type6) n (of_type_6 xs))
+    points = λ n. ap (λ rs. flat_map (λ (r : Fields2). r.points) (in_order (on two_rtsq nat_cmp) (of_number two_tlid n rs)))
+        (select-changed as_type_2 (resequenced q) new_two news_two xs)
+        ∙ ap (flat_map (λ (r : Fields2). r.points))
+            (sequence_kept two_tlid two_rtsq new_two (q Type2) (λ r. refl) (λ r. refl) n (of_type_2 xs) (up Type2 n))
+        ∙ flat_map-kept (λ (r : Fields2). r.points) new_two (λ r. refl)
+            (in_order (on two_rtsq nat_cmp) (of_number two_tlid n (of_type_2 xs)));
+    names = λ n. ap (λ rs. flat_map (λ (r : Fields4). r.feats) (in_order (on four_rtsq nat_cmp) (of_number four_tlid n rs)))
+        (select-changed as_type_4 (resequenced q) new_four news_four xs)
+        ∙ ap (flat_map (λ (r : Fields4). r.feats))
+            (sequence_kept four_tlid four_rtsq new_four (q Type4) (λ r. refl) (λ r. refl) n (of_type_4 xs) (up Type4 n))
+        ∙ flat_map-kept (λ (r : Fields4). r.feats) new_four (λ r. refl)
+            (in_order (on four_rtsq nat_cmp) (of_number four_tlid n (of_type_4 xs)));
+    ranges = λ n. ap (λ rs. map (λ (r : Fields6). r.ranges) (in_order (on six_rtsq nat_cmp) (of_number six_tlid n rs)))
+        (select-changed as_type_6 (resequenced q) new_six news_six xs)
+        ∙ ap (map (λ (r : Fields6). r.ranges)) (sequence_kept six_tlid six_rtsq new_six (q Type6) (λ r. refl) (λ r. refl) n
+            (of_type_6 xs) (up Type6 n))
         ∙ map-map (λ (r : Fields6). r.ranges) new_six (in_order (on six_rtsq nat_cmp) (of_number six_tlid n (of_type_6 xs)));
     of_type_1 = select-kept as_type_1 (resequenced q) keeps_one xs;
     of_type_5 = select-kept as_type_5 (resequenced q) keeps_five xs;

@@ -1,12 +1,16 @@
 -- The rules one after the other: what each search says of its rule, and how stretches of rules are joined.
-use Rattle.std.proofs.Common.{◌≡◌, ◌⊎◌, ◌<◌, ◌≤◌, ◌==◌, ℕ, zero, suc, nat_lt, List, [], ◌∷◌, ◌++◌, Bool, true, false, cond, not, ◌||◌, Ordering, Less, Equal, Greater, is_eq, is_gt, sym, refl, ap, ◌∙◌, subst, inl, inr, arith, nat_cmp, Option, Some, None}
+use Rattle.std.proofs.Common.{◌≡◌, ◌⊎◌, ◌<◌, ◌≤◌, ◌==◌, ℕ, zero, suc, nat_lt, List, [], ◌∷◌, ◌++◌, Bool, true, false, cond, not}
+use Rattle.std.proofs.Common.{◌||◌, Ordering, Less, Equal, Greater, is_eq, is_gt, sym, refl, ap, ◌∙◌, subst, inl, inr, arith}
+use Rattle.std.proofs.Common.{nat_cmp, Option, Some, None}
 use Rattle.std.proofs.lemmas.Bool.{false≢true, lt-ltb, ltb-true, ltb-false, eqb-true, and_parts}
 use Rattle.std.specs.Cmp.Lexicographic.{slice_cmp}
 use Rattle.std.specs.Ordering.{ordering_then}
 use Rattle.std.specs.List.{list_all, list_any}
 use Rattle.tl_layout.specs.declared.record_type.Record.{Record}
 use Rattle.tl_county.specs.declared.fault.LinkFault.{LinkFault}
-use Rattle.tl_county.specs.declared.fault.LinkFault.TheVariants.{ChainTwice, NoChain, SequenceBroken, LinkMissing, LinkTwice, NameTwice, NameUnknown, PolygonTwice, LandUnknown, PolygonUnknown, Memory}
+use Rattle.tl_county.specs.declared.fault.LinkFault.TheVariants.{ChainTwice, NoChain, SequenceBroken, LinkMissing, LinkTwice}
+use Rattle.tl_county.specs.declared.fault.LinkFault.TheVariants.{NameTwice, NameUnknown, PolygonTwice, LandUnknown}
+use Rattle.tl_county.specs.declared.fault.LinkFault.TheVariants.{PolygonUnknown, Memory}
 use Rattle.tl_county.specs.declared.fault.LinkedType.TheVariants.{Two, Four, Six, I}
 use Rattle.tl_county.specs.FirstOf.{IsFirst, place_cmp}
 use Rattle.tl_county.specs.Keyed.{IsLeastPassing}
@@ -133,7 +137,8 @@ has_place records Memory b = absurd (false≢true b)
 
 place_among : (records : List Record) (f : LinkFault) → is_broken records f ≡ true → Among (rule_place f) places
 place_among records f b =
-    let found : (n : ℕ) × Among n places × ((n == rule_place f) ≡ true) = any_among (λ n. n == rule_place f) places (has_place records f b) in
+    let found : (n : ℕ) × Among n places × ((n == rule_place f) ≡ true) =
+        any_among (λ n. n == rule_place f) places (has_place records f b) in
     subst (λ n. Among n places) (eqb-true found.0 (rule_place f) found.2) found.1
 
 -- whether the one comes before the other at the first place where they differ, before either ends
@@ -152,7 +157,8 @@ before-less [] qs xs ys e = absurd (false≢true e)
 before-less (a ∷ ps) [] xs ys e = absurd (false≢true e)
 before-less (a ∷ ps) (b ∷ qs) xs ys e = go (slice_cmp nat_cmp a b) e (before-less ps qs xs ys)
   where
-    go : (o : Ordering) → differs_at o (comes_before ps qs) ≡ true → (comes_before ps qs ≡ true → place_cmp (ps ++ xs) (qs ++ ys) ≡ Less) → ordering_then o (place_cmp (ps ++ xs) (qs ++ ys)) ≡ Less
+    go : (o : Ordering) → differs_at o (comes_before ps qs) ≡ true → (comes_before ps qs ≡ true → place_cmp (ps ++ xs) (qs ++ ys) ≡ Less)
+        → ordering_then o (place_cmp (ps ++ xs) (qs ++ ys)) ≡ Less
     go Less f ih = refl
     go Equal f ih = ih f
     go Greater f ih = absurd (false≢true f)
@@ -167,28 +173,35 @@ all_of p (y ∷ xs) e x (inl f) = ap p f ∙ (and_parts (p y) (list_all p xs) e)
 all_of p (y ∷ xs) e x (inr m) = all_of p xs (and_parts (p y) (list_all p xs) e).1 x m
 
 -- a fault of an earlier rule has the lesser place
-earlier_rule : (records : List Record) (f g : LinkFault) → is_broken records f ≡ true → is_broken records g ≡ true → rule_place f < rule_place g → is_gt (place_cmp (fault_place f) (fault_place g)) ≡ false
+earlier_rule : (records : List Record) (f g : LinkFault) → is_broken records f ≡ true → is_broken records g ≡ true
+    → rule_place f < rule_place g → is_gt (place_cmp (fault_place f) (fault_place g)) ≡ false
 earlier_rule records f g b d lt =
-    let row = all_of (λ m. list_all (λ n. not (nat_lt m n) || comes_before (head_of_rule m) (head_of_rule n)) places) places rules_ascend (rule_place f) (place_among records f b) in
-    let at = all_of (λ n. not (nat_lt (rule_place f) n) || comes_before (head_of_rule (rule_place f)) (head_of_rule n)) places row (rule_place g) (place_among records g d) in
+    let row = all_of (λ m. list_all (λ n. not (nat_lt m n) || comes_before (head_of_rule m) (head_of_rule n)) places) places rules_ascend
+        (rule_place f) (place_among records f b) in
+    let at = all_of (λ n. not (nat_lt (rule_place f) n) || comes_before (head_of_rule (rule_place f)) (head_of_rule n)) places row
+        (rule_place g) (place_among records g d) in
     let less : place_cmp (head_of_rule (rule_place f) ++ key_place f) (head_of_rule (rule_place g) ++ key_place g) ≡ Less =
-    before-less (head_of_rule (rule_place f)) (head_of_rule (rule_place g)) (key_place f) (key_place g) (go (nat_lt (rule_place f) (rule_place g)) (lt-ltb (rule_place f) (rule_place g) lt) at) in
+    before-less (head_of_rule (rule_place f)) (head_of_rule (rule_place g)) (key_place f) (key_place g)
+        (go (nat_lt (rule_place f) (rule_place g)) (lt-ltb (rule_place f) (rule_place g) lt) at) in
     (λ i. is_gt (place_cmp (place-split f i) (place-split g i))) ∙ ap is_gt less
   where
-    go : (b : Bool) → b ≡ true → (not b || comes_before (head_of_rule (rule_place f)) (head_of_rule (rule_place g))) ≡ true → comes_before (head_of_rule (rule_place f)) (head_of_rule (rule_place g)) ≡ true
+    go : (b : Bool) → b ≡ true → (not b || comes_before (head_of_rule (rule_place f)) (head_of_rule (rule_place g))) ≡ true
+        → comes_before (head_of_rule (rule_place f)) (head_of_rule (rule_place g)) ≡ true
     go true e h = h
     go false e h = absurd (false≢true e)
 
 -- A rule as its search sees it: its faults have keys, it is broken at a key where the test passes, and lesser keys have
 -- lesser places.
-pub record IsRule {K : Type 0} (cmp : K → K → Ordering) (test : K → Bool) (records : List Record) (n : ℕ) (at : K → LinkFault) : Type 0 where
+pub record IsRule {K : Type 0} (cmp : K → K → Ordering) (test : K → Bool) (records : List Record) (n : ℕ) (at : K
+    → LinkFault) : Type 0 where
   pub broken : (k : K) → is_broken records (at k) ≡ test k
   pub place : (k : K) → rule_place (at k) ≡ n
   pub key : List (List ℕ) → K
   pub only : (p : List (List ℕ)) → fault_of_rule n p ≡ at (key p)
   pub order : (k j : K) → is_gt (cmp k j) ≡ false → is_gt (place_cmp (fault_place (at k)) (fault_place (at j))) ≡ false
 
-module _ {K : Type 0} {cmp : K → K → Ordering} {test : K → Bool} {records : List Record} {n : ℕ} {at : K → LinkFault} (rule : IsRule cmp test records n at) where
+module _ {K : Type 0} {cmp : K → K → Ordering} {test : K → Bool} {records : List Record} {n : ℕ} {at : K → LinkFault}
+    (rule : IsRule cmp test records n at) where
   fault_at_key : (f : LinkFault) → rule_place f ≡ n → f ≡ at (rule.key (key_place f))
   fault_at_key f e = sym (fault_of_rule-itself f) ∙ ap (λ m. fault_of_rule m (key_place f)) e ∙ rule.only (key_place f)
 
@@ -200,25 +213,32 @@ module _ {K : Type 0} {cmp : K → K → Ordering} {test : K → Bool} {records 
   pub rule-broken : (k : K) → IsLeastPassing cmp test (Some k) → IsFirstFrom records n (at k)
   rule-broken k h = record { from = omega (arith, rule.place k); broken = rule.broken k ∙ h.0; least = least }
     where
-      least : (g : LinkFault) → n ≤ rule_place g → is_broken records g ≡ true → is_gt (place_cmp (fault_place (at k)) (fault_place g)) ≡ false
+      least : (g : LinkFault) → n ≤ rule_place g → is_broken records g ≡ true
+          → is_gt (place_cmp (fault_place (at k)) (fault_place g)) ≡ false
       least g low b = go (nat_lt n (rule_place g)) refl
         where
           go : (t : Bool) → nat_lt n (rule_place g) ≡ t → is_gt (place_cmp (fault_place (at k)) (fault_place g)) ≡ false
-          go true e = earlier_rule records (at k) g (rule.broken k ∙ h.0) b (let lt : n < rule_place g = ltb-true n (rule_place g) e in omega (arith, rule.place k))
+          go true e = earlier_rule records (at k) g (rule.broken k ∙ h.0) b (let lt : n < rule_place g = ltb-true n (rule_place g) e in
+              omega (arith, rule.place k))
           go false e =
               let le : rule_place g ≤ n = ltb-false n (rule_place g) e in
               let same : g ≡ at (rule.key (key_place g)) = fault_at_key g (omega (arith, low)) in
-              ap (λ f. is_gt (place_cmp (fault_place (at k)) (fault_place f))) same ∙ rule.order k (rule.key (key_place g)) (h.1 (rule.key (key_place g)) (sym (rule.broken (rule.key (key_place g))) ∙ ap (is_broken records) (sym same) ∙ b))
+              ap (λ f. is_gt (place_cmp (fault_place (at k)) (fault_place f))) same
+                  ∙ rule.order k (rule.key (key_place g))
+                  (h.1 (rule.key (key_place g)) (sym (rule.broken (rule.key (key_place g))) ∙ ap (is_broken records) (sym same) ∙ b))
 
-pub rules-join : (records : List Record) {low mid high : ℕ} → RulesHold records low mid → RulesHold records mid high → RulesHold records low high
+pub rules-join : (records : List Record) {low mid high : ℕ} → RulesHold records low mid → RulesHold records mid high
+    → RulesHold records low high
 rules-join records {low} {mid} {high} h k f from to = go (nat_lt (rule_place f) mid) refl
   where
     go : (t : Bool) → nat_lt (rule_place f) mid ≡ t → is_broken records f ≡ false
     go true e = h f from (ltb-true (rule_place f) mid e)
     go false e = k f (ltb-false (rule_place f) mid e) to
 
-pub first-after : (records : List Record) {low mid : ℕ} {f : LinkFault} → low ≤ mid → RulesHold records low mid → IsFirstFrom records mid f → IsFirstFrom records low f
-first-after records {low} {mid} {f} le h k = record { from = (let m : mid ≤ rule_place f = k.from in omega (arith, le)); broken = k.broken; least = least }
+pub first-after : (records : List Record) {low mid : ℕ} {f : LinkFault} → low ≤ mid → RulesHold records low mid → IsFirstFrom records mid f
+    → IsFirstFrom records low f
+first-after records {low} {mid} {f} le h k =
+    record { from = (let m : mid ≤ rule_place f = k.from in omega (arith, le)); broken = k.broken; least = least }
   where
     least : (g : LinkFault) → low ≤ rule_place g → is_broken records g ≡ true → is_gt (place_cmp (fault_place f) (fault_place g)) ≡ false
     least g from b = go (nat_lt (rule_place g) mid) refl

@@ -1,15 +1,22 @@
 -- The county doesn't depend on the order of the records, on the packing of types 2 and 4, nor on the choice of RTSQs.
-use Rattle.std.proofs.Common.{◌≡◌, ◌⊎◌, ◌≤◌, ℕ, nat_lt, ◌==◌, List, [], ◌∷◌, ◌++◌, map, flat_map, filter, length, false, not, ◌&&◌, is_eq, sym, refl, ap, ap₂, ◌∙◌, subst, inl, inr, arith, nat_cmp, IsPermutation}
+use Rattle.std.proofs.Common.{◌≡◌, ◌⊎◌, ◌≤◌, ℕ, nat_lt, ◌==◌, List, [], ◌∷◌, ◌++◌, map, flat_map, filter, length, false, not}
+use Rattle.std.proofs.Common.{◌&&◌, is_eq, sym, refl, ap, ap₂, ◌∙◌, subst, inl, inr, arith, nat_cmp, IsPermutation}
 use Rattle.std.proofs.lemmas.Bool.{ltb-false}
 use Rattle.std.specs.Ordering.{on}
 use Rattle.tl_layout.specs.Fields.{Fields1, Fields2, Fields4, Fields5, Fields6, Fields7, FieldsI, FieldsP}
 use Rattle.tl_layout.specs.declared.record_type.Record.{Record}
-use Rattle.tl_county.specs.declared.fault.LinkFault.TheVariants.{ChainTwice, NoChain, SequenceBroken, LinkMissing, LinkTwice, NameTwice, NameUnknown, PolygonTwice, LandUnknown, PolygonUnknown, Memory}
+use Rattle.tl_county.specs.declared.fault.LinkFault.TheVariants.{ChainTwice, NoChain, SequenceBroken, LinkMissing, LinkTwice}
+use Rattle.tl_county.specs.declared.fault.LinkFault.TheVariants.{NameTwice, NameUnknown, PolygonTwice, LandUnknown}
+use Rattle.tl_county.specs.declared.fault.LinkFault.TheVariants.{PolygonUnknown, Memory}
 use Rattle.tl_county.specs.declared.fault.LinkedType.{LinkedType}
 use Rattle.tl_county.specs.declared.fault.LinkedType.TheVariants.{Two, Four, Six, I}
 use Rattle.tl_county.specs.BodyOrder.{landmark_body_cmp}
-use Rattle.tl_layout.specs.ByType.{as_type_1, as_type_2, as_type_4, as_type_5, as_type_6, as_type_7, as_type_8, as_type_i, as_type_p, of_type_1, of_type_2, of_type_4, of_type_5, of_type_6, of_type_7, of_type_8, of_type_i, of_type_p, of_number}
-use Rattle.tl_county.specs.County.{one_tlid, two_tlid, two_rtsq, four_tlid, four_rtsq, five_feat, six_tlid, six_rtsq, seven_land, eight_land, eight_key, i_tlid, p_key, chain_of, chains_of, side_keys, first, polygon_body, polygons_of, landmarks_of, county_of}
+use Rattle.tl_layout.specs.ByType.{as_type_1, as_type_2, as_type_4, as_type_5, as_type_6, as_type_7, as_type_8, as_type_i}
+use Rattle.tl_layout.specs.ByType.{as_type_p, of_type_1, of_type_2, of_type_4, of_type_5, of_type_6, of_type_7, of_type_8}
+use Rattle.tl_layout.specs.ByType.{of_type_i, of_type_p, of_number}
+use Rattle.tl_county.specs.County.{one_tlid, two_tlid, two_rtsq, four_tlid, four_rtsq, five_feat, six_tlid, six_rtsq, seven_land}
+use Rattle.tl_county.specs.County.{eight_land, eight_key, i_tlid, p_key, chain_of, chains_of, side_keys, first, polygon_body}
+use Rattle.tl_county.specs.County.{polygons_of, landmarks_of, county_of}
 use Rattle.tl_county.specs.LinkRules.{chain_tlids, linked_tlids, rtsqs, named_feats, IsLinked}
 use Rattle.tl_county.specs.Orders.{times, stands_in, has_repeat, in_order, distinct}
 use Rattle.tl_county.specs.PolygonKeys.{PolygonKey, key_cmp}
@@ -21,7 +28,8 @@ use Rattle.tl_county.proofs.Keys.{Known, nat_keys, known-left, known-right, know
 use Rattle.tl_county.proofs.Lists.{flat_map_agree, map_agree_everywhere}
 use Rattle.tl_county.proofs.Members.{among-pieces, among_known, known_is_among, among-map, among-unmap}
 use Rattle.tl_county.proofs.Numbers.{times-of_number, count-map}
-use Rattle.tl_county.proofs.Reordered.{SameElements, from_permutation, same-filter_map, same-filter, same-map, times-same, few_same, apart-same, numbered_same, ordered_same, stands_alike, distinct_same}
+use Rattle.tl_county.proofs.Reordered.{SameElements, from_permutation, same-filter_map, same-filter, same-map, times-same}
+use Rattle.tl_county.proofs.Reordered.{few_same, apart-same, numbered_same, ordered_same, stands_alike, distinct_same}
 
 module _ (xs ys : List Record) (p : IsPermutation xs ys) (linked : IsLinked xs) where
   s_all : SameElements xs ys
@@ -59,19 +67,27 @@ module _ (xs ys : List Record) (p : IsPermutation xs ys) (linked : IsLinked xs) 
   chain_times n = sym (times-same nat_cmp (chain_tlids xs) (chain_tlids ys) (same-map one_tlid (of_type_1 xs) (of_type_1 ys) s_ones) n)
 
   linked_times : (t : LinkedType) (n : ℕ) → times nat_cmp n (linked_tlids t ys) ≡ times nat_cmp n (linked_tlids t xs)
-  linked_times Two n = sym (times-same nat_cmp (map two_tlid (of_type_2 xs)) (map two_tlid (of_type_2 ys)) (same-map two_tlid (of_type_2 xs) (of_type_2 ys) s_twos) n)
-  linked_times Four n = sym (times-same nat_cmp (map four_tlid (of_type_4 xs)) (map four_tlid (of_type_4 ys)) (same-map four_tlid (of_type_4 xs) (of_type_4 ys) s_fours) n)
-  linked_times Six n = sym (times-same nat_cmp (map six_tlid (of_type_6 xs)) (map six_tlid (of_type_6 ys)) (same-map six_tlid (of_type_6 xs) (of_type_6 ys) s_sixes) n)
-  linked_times I n = sym (times-same nat_cmp (map i_tlid (of_type_i xs)) (map i_tlid (of_type_i ys)) (same-map i_tlid (of_type_i xs) (of_type_i ys) s_is) n)
+  linked_times Two n = sym (times-same nat_cmp (map two_tlid (of_type_2 xs)) (map two_tlid (of_type_2 ys))
+      (same-map two_tlid (of_type_2 xs) (of_type_2 ys) s_twos) n)
+  linked_times Four n =
+      sym (times-same nat_cmp (map four_tlid (of_type_4 xs)) (map four_tlid (of_type_4 ys))
+      (same-map four_tlid (of_type_4 xs) (of_type_4 ys) s_fours) n)
+  linked_times Six n = sym (times-same nat_cmp (map six_tlid (of_type_6 xs)) (map six_tlid (of_type_6 ys))
+      (same-map six_tlid (of_type_6 xs) (of_type_6 ys) s_sixes) n)
+  linked_times I n = sym (times-same nat_cmp (map i_tlid (of_type_i xs)) (map i_tlid (of_type_i ys))
+      (same-map i_tlid (of_type_i xs) (of_type_i ys) s_is) n)
 
   feat_times : (n : ℕ) → times nat_cmp n (map five_feat (of_type_5 ys)) ≡ times nat_cmp n (map five_feat (of_type_5 xs))
-  feat_times n = sym (times-same nat_cmp (map five_feat (of_type_5 xs)) (map five_feat (of_type_5 ys)) (same-map five_feat (of_type_5 xs) (of_type_5 ys) s_fives) n)
+  feat_times n = sym (times-same nat_cmp (map five_feat (of_type_5 xs)) (map five_feat (of_type_5 ys))
+      (same-map five_feat (of_type_5 xs) (of_type_5 ys) s_fives) n)
 
   land_times : (n : ℕ) → times nat_cmp n (map seven_land (of_type_7 ys)) ≡ times nat_cmp n (map seven_land (of_type_7 xs))
-  land_times n = sym (times-same nat_cmp (map seven_land (of_type_7 xs)) (map seven_land (of_type_7 ys)) (same-map seven_land (of_type_7 xs) (of_type_7 ys) s_sevens) n)
+  land_times n = sym (times-same nat_cmp (map seven_land (of_type_7 xs)) (map seven_land (of_type_7 ys))
+      (same-map seven_land (of_type_7 xs) (of_type_7 ys) s_sevens) n)
 
   p_times : (k : PolygonKey) → times key_cmp k (map p_key (of_type_p ys)) ≡ times key_cmp k (map p_key (of_type_p xs))
-  p_times k = sym (times-same key_cmp (map p_key (of_type_p xs)) (map p_key (of_type_p ys)) (same-map p_key (of_type_p xs) (of_type_p ys) s_ps) k)
+  p_times k = sym (times-same key_cmp (map p_key (of_type_p xs)) (map p_key (of_type_p ys))
+      (same-map p_key (of_type_p xs) (of_type_p ys) s_ps) k)
 
   -- the names of a chain's type 4 records
   s_fours_of : (n : ℕ) → SameElements (of_number four_tlid n (of_type_4 xs)) (of_number four_tlid n (of_type_4 ys))
@@ -79,24 +95,43 @@ module _ (xs ys : List Record) (p : IsPermutation xs ys) (linked : IsLinked xs) 
 
   named_alike : (n y : ℕ) → stands_in nat_cmp y (named_feats n ys) ≡ stands_in nat_cmp y (named_feats n xs)
   named_alike n y = stands_alike nat_keys (named_feats n ys) (named_feats n xs) y
-      (λ k. let r = among-unpieces (λ (q : Fields4). q.feats) y (of_number four_tlid n (of_type_4 ys)) (known_is_among nat_keys y (named_feats n ys) k) in among_known nat_keys y (named_feats n xs) (among-pieces (λ (q : Fields4). q.feats) r.0 y (of_number four_tlid n (of_type_4 xs)) ((s_fours_of n).back r.0 r.1) r.2))
-      (λ k. let r = among-unpieces (λ (q : Fields4). q.feats) y (of_number four_tlid n (of_type_4 xs)) (known_is_among nat_keys y (named_feats n xs) k) in among_known nat_keys y (named_feats n ys) (among-pieces (λ (q : Fields4). q.feats) r.0 y (of_number four_tlid n (of_type_4 ys)) ((s_fours_of n).there r.0 r.1) r.2))
+      (λ k. let r = among-unpieces (λ (q : Fields4). q.feats) y (of_number four_tlid n (of_type_4 ys))
+          (known_is_among nat_keys y (named_feats n ys) k) in
+          among_known nat_keys y (named_feats n xs)
+          (among-pieces (λ (q : Fields4). q.feats) r.0 y (of_number four_tlid n (of_type_4 xs)) ((s_fours_of n).back r.0 r.1) r.2))
+      (λ k. let r = among-unpieces (λ (q : Fields4). q.feats) y (of_number four_tlid n (of_type_4 xs))
+          (known_is_among nat_keys y (named_feats n xs) k) in
+          among_known nat_keys y (named_feats n ys)
+          (among-pieces (λ (q : Fields4). q.feats) r.0 y (of_number four_tlid n (of_type_4 ys)) ((s_fours_of n).there r.0 r.1) r.2))
 
   -- the polygons on sides and of type P
-  one_way : (zs ws : List Record) → ((l : FieldsI) → Among l (of_type_i zs) → Among l (of_type_i ws)) → ((q : FieldsP) → Among q (of_type_p zs) → Among q (of_type_p ws)) → (k : PolygonKey) → Known key_cmp (flat_map side_keys (of_type_i zs) ++ map p_key (of_type_p zs)) k → Known key_cmp (flat_map side_keys (of_type_i ws) ++ map p_key (of_type_p ws)) k
+  one_way : (zs ws : List Record) → ((l : FieldsI) → Among l (of_type_i zs) → Among l (of_type_i ws))
+      → ((q : FieldsP) → Among q (of_type_p zs) → Among q (of_type_p ws)) → (k : PolygonKey)
+      → Known key_cmp (flat_map side_keys (of_type_i zs) ++ map p_key (of_type_p zs)) k
+      → Known key_cmp (flat_map side_keys (of_type_i ws) ++ map p_key (of_type_p ws)) k
   one_way zs ws sides polygons k h = go (known-append key_keys k (flat_map side_keys (of_type_i zs)) (map p_key (of_type_p zs)) h)
     where
-      go : Known key_cmp (flat_map side_keys (of_type_i zs)) k ⊎ Known key_cmp (map p_key (of_type_p zs)) k → Known key_cmp (flat_map side_keys (of_type_i ws) ++ map p_key (of_type_p ws)) k
-      go (inl l) = let r = among-unpieces side_keys k (of_type_i zs) (known_is_among key_keys k (flat_map side_keys (of_type_i zs)) l) in known-left key_keys k (flat_map side_keys (of_type_i ws)) (map p_key (of_type_p ws)) (among_known key_keys k (flat_map side_keys (of_type_i ws)) (among-pieces side_keys r.0 k (of_type_i ws) (sides r.0 r.1) r.2))
-      go (inr l) = let r = among-unmap p_key k (of_type_p zs) (known_is_among key_keys k (map p_key (of_type_p zs)) l) in known-right key_keys k (flat_map side_keys (of_type_i ws)) (map p_key (of_type_p ws)) (subst (Known key_cmp (map p_key (of_type_p ws))) (sym r.2) (among_known key_keys (p_key r.0) (map p_key (of_type_p ws)) (among-map p_key r.0 (of_type_p ws) (polygons r.0 r.1))))
+      go : Known key_cmp (flat_map side_keys (of_type_i zs)) k ⊎ Known key_cmp (map p_key (of_type_p zs)) k
+          → Known key_cmp (flat_map side_keys (of_type_i ws) ++ map p_key (of_type_p ws)) k
+      go (inl l) = let r = among-unpieces side_keys k (of_type_i zs) (known_is_among key_keys k (flat_map side_keys (of_type_i zs)) l) in
+          known-left key_keys k (flat_map side_keys (of_type_i ws)) (map p_key (of_type_p ws))
+          (among_known key_keys k (flat_map side_keys (of_type_i ws)) (among-pieces side_keys r.0 k (of_type_i ws) (sides r.0 r.1) r.2))
+      go (inr l) = let r = among-unmap p_key k (of_type_p zs) (known_is_among key_keys k (map p_key (of_type_p zs)) l) in
+          known-right key_keys k (flat_map side_keys (of_type_i ws)) (map p_key (of_type_p ws))
+          (subst (Known key_cmp (map p_key (of_type_p ws))) (sym r.2)
+          (among_known key_keys (p_key r.0) (map p_key (of_type_p ws)) (among-map p_key r.0 (of_type_p ws) (polygons r.0 r.1))))
 
-  keys_alike : (k : PolygonKey) → stands_in key_cmp k (flat_map side_keys (of_type_i ys) ++ map p_key (of_type_p ys)) ≡ stands_in key_cmp k (flat_map side_keys (of_type_i xs) ++ map p_key (of_type_p xs))
-  keys_alike k = stands_alike key_keys (flat_map side_keys (of_type_i ys) ++ map p_key (of_type_p ys)) (flat_map side_keys (of_type_i xs) ++ map p_key (of_type_p xs)) k
+  keys_alike : (k : PolygonKey) → stands_in key_cmp k (flat_map side_keys (of_type_i ys) ++ map p_key (of_type_p ys)) ≡ stands_in key_cmp k
+      (flat_map side_keys (of_type_i xs) ++ map p_key (of_type_p xs))
+  keys_alike k = stands_alike key_keys (flat_map side_keys (of_type_i ys) ++ map p_key (of_type_p ys))
+      (flat_map side_keys (of_type_i xs) ++ map p_key (of_type_p xs)) k
       (one_way ys xs s_is.back s_ps.back k) (one_way xs ys s_is.there s_ps.there k)
 
-  repeat_same : {X : Type 0} (f g : X → ℕ) (n : ℕ) (us vs : List X) → SameElements us vs → has_repeat nat_cmp (map g (of_number f n us)) ≡ false → has_repeat nat_cmp (map g (of_number f n vs)) ≡ false
+  repeat_same : {X : Type 0} (f g : X → ℕ) (n : ℕ) (us vs : List X) → SameElements us vs
+      → has_repeat nat_cmp (map g (of_number f n us)) ≡ false → has_repeat nat_cmp (map g (of_number f n vs)) ≡ false
   repeat_same f g n us vs s e = has_repeat-apart nat_keys (map g (of_number f n vs))
-      (apart-same nat_cmp (map g (of_number f n us)) (map g (of_number f n vs)) (same-map g (of_number f n us) (of_number f n vs) (same-filter (λ x. f x == n) us vs s))
+      (apart-same nat_cmp (map g (of_number f n us)) (map g (of_number f n vs))
+          (same-map g (of_number f n us) (of_number f n vs) (same-filter (λ x. f x == n) us vs s))
       (apart_from_no_repeat nat_keys (map g (of_number f n us)) e))
 
   sequence_same : (t : LinkedType) (n : ℕ) → has_repeat nat_cmp (rtsqs t n xs) ≡ false → has_repeat nat_cmp (rtsqs t n ys) ≡ false
@@ -114,51 +149,79 @@ module _ (xs ys : List Record) (p : IsPermutation xs ys) (linked : IsLinked xs) 
   reordered-linked (NameTwice n) = ap (nat_lt 1) (feat_times n) ∙ linked (NameTwice n)
   reordered-linked (NameUnknown n y) = ap₂ (λ a b. a && not (nat_lt 0 b)) (named_alike n y) (feat_times y) ∙ linked (NameUnknown n y)
   reordered-linked (PolygonTwice c k) = ap (nat_lt 1) (p_times (c, k)) ∙ linked (PolygonTwice c k)
-  reordered-linked (LandUnknown n) = ap₂ (λ a b. nat_lt 0 a && not (nat_lt 0 b)) (sym (times-same nat_cmp (map eight_land (of_type_8 xs)) (map eight_land (of_type_8 ys)) (same-map eight_land (of_type_8 xs) (of_type_8 ys) s_eights) n)) (land_times n) ∙ linked (LandUnknown n)
-  reordered-linked (PolygonUnknown c k) = ap₂ (λ a b. nat_lt 0 a && not b) (sym (times-same key_cmp (map eight_key (of_type_8 xs)) (map eight_key (of_type_8 ys)) (same-map eight_key (of_type_8 xs) (of_type_8 ys) s_eights) (c, k))) (keys_alike (c, k)) ∙ linked (PolygonUnknown c k)
+  reordered-linked (LandUnknown n) =
+      ap₂ (λ a b. nat_lt 0 a && not (nat_lt 0 b))
+      (sym (times-same nat_cmp (map eight_land (of_type_8 xs)) (map eight_land (of_type_8 ys))
+      (same-map eight_land (of_type_8 xs) (of_type_8 ys) s_eights) n)) (land_times n) ∙ linked (LandUnknown n)
+  reordered-linked (PolygonUnknown c k) =
+      ap₂ (λ a b. nat_lt 0 a && not b)
+      (sym (times-same key_cmp (map eight_key (of_type_8 xs)) (map eight_key (of_type_8 ys))
+      (same-map eight_key (of_type_8 xs) (of_type_8 ys) s_eights) (c, k))) (keys_alike (c, k)) ∙ linked (PolygonUnknown c k)
   reordered-linked Memory = refl
 
   -- the parts of the county
-  in_sequence : {X : Type 0} (f g : X → ℕ) (n : ℕ) (us vs : List X) → SameElements us vs → has_repeat nat_cmp (map g (of_number f n us)) ≡ false → in_order (on g nat_cmp) (of_number f n us) ≡ in_order (on g nat_cmp) (of_number f n vs)
-  in_sequence f g n us vs s e = numbered_same g (of_number f n us) (of_number f n vs) (same-filter (λ x. f x == n) us vs s) (apart_from_no_repeat nat_keys (map g (of_number f n us)) e)
+  in_sequence : {X : Type 0} (f g : X → ℕ) (n : ℕ) (us vs : List X) → SameElements us vs
+      → has_repeat nat_cmp (map g (of_number f n us)) ≡ false
+      → in_order (on g nat_cmp) (of_number f n us) ≡ in_order (on g nat_cmp) (of_number f n vs)
+  in_sequence f g n us vs s e =
+      numbered_same g (of_number f n us) (of_number f n vs) (same-filter (λ x. f x == n) us vs s)
+      (apart_from_no_repeat nat_keys (map g (of_number f n us)) e)
 
   chain_same : (r : Fields1) (link : FieldsI) → chain_of xs r link ≡ chain_of ys r link
   chain_same r link = λ i. record (chain_of xs r link) {
-    points = r.start ∷ (flat_map (λ (q : Fields2). q.points) (in_sequence two_tlid two_rtsq r.tlid (of_type_2 xs) (of_type_2 ys) s_twos (linked (SequenceBroken Two r.tlid)) i) ++ (r.end ∷ []));
-    feats = flat_map (λ (q : Fields4). q.feats) (in_sequence four_tlid four_rtsq r.tlid (of_type_4 xs) (of_type_4 ys) s_fours (linked (SequenceBroken Four r.tlid)) i);
-    ranges = map (λ (q : Fields6). q.ranges) (in_sequence six_tlid six_rtsq r.tlid (of_type_6 xs) (of_type_6 ys) s_sixes (linked (SequenceBroken Six r.tlid)) i);
+    points = r.start ∷ (flat_map (λ (q : Fields2). q.points)
+        (in_sequence two_tlid two_rtsq r.tlid (of_type_2 xs) (of_type_2 ys) s_twos (linked (SequenceBroken Two r.tlid)) i) ++ (r.end ∷ []));
+    feats = flat_map (λ (q : Fields4). q.feats) (in_sequence four_tlid four_rtsq r.tlid (of_type_4 xs) (of_type_4 ys) s_fours
+        (linked (SequenceBroken Four r.tlid)) i);
+    ranges = map (λ (q : Fields6). q.ranges) (in_sequence six_tlid six_rtsq r.tlid (of_type_6 xs) (of_type_6 ys) s_sixes
+        (linked (SequenceBroken Six r.tlid)) i);
   }
 
   links_same : (n : ℕ) → of_number i_tlid n (of_type_i xs) ≡ of_number i_tlid n (of_type_i ys)
   links_same n = few_same (of_number i_tlid n (of_type_i xs)) (of_number i_tlid n (of_type_i ys))
-      (let t : times nat_cmp n (map i_tlid (of_type_i xs)) ≡ length (of_number i_tlid n (of_type_i xs)) = times-of_number i_tlid n (of_type_i xs) in
-      let u : times nat_cmp n (map i_tlid (of_type_i xs)) ≤ 1 = ltb-false 1 (times nat_cmp n (map i_tlid (of_type_i xs))) (linked (LinkTwice n)) in omega arith)
+      (let t : times nat_cmp n (map i_tlid (of_type_i xs)) ≡ length (of_number i_tlid n (of_type_i xs)) =
+          times-of_number i_tlid n (of_type_i xs) in
+      let u : times nat_cmp n (map i_tlid (of_type_i xs)) ≤ 1 =
+          ltb-false 1 (times nat_cmp n (map i_tlid (of_type_i xs))) (linked (LinkTwice n)) in omega arith)
       (same-filter (λ l. l.tlid == n) (of_type_i xs) (of_type_i ys) s_is)
 
   chains_same : chains_of xs ≡ chains_of ys
   chains_same =
-      flat_map_agree (λ r. map (λ link. (r.tlid, chain_of xs r link)) (of_number i_tlid r.tlid (of_type_i xs))) (λ r. map (λ link. (r.tlid, chain_of ys r link)) (of_number i_tlid r.tlid (of_type_i ys)))
-      (λ r. map_agree_everywhere (λ link. (r.tlid, chain_of xs r link)) (λ link. (r.tlid, chain_of ys r link)) (λ link i. (r.tlid, chain_same r link i)) (of_number i_tlid r.tlid (of_type_i xs)) ∙ ap (map (λ link. (r.tlid, chain_of ys r link))) (links_same r.tlid))
+      flat_map_agree (λ r. map (λ link. (r.tlid, chain_of xs r link)) (of_number i_tlid r.tlid (of_type_i xs)))
+          (λ r. map (λ link. (r.tlid, chain_of ys r link)) (of_number i_tlid r.tlid (of_type_i ys)))
+      (λ r. map_agree_everywhere (λ link. (r.tlid, chain_of xs r link)) (λ link. (r.tlid, chain_of ys r link))
+          (λ link i. (r.tlid, chain_same r link i)) (of_number i_tlid r.tlid (of_type_i xs))
+          ∙ ap (map (λ link. (r.tlid, chain_of ys r link))) (links_same r.tlid))
       (in_order (on one_tlid nat_cmp) (of_type_1 xs))
       ∙ ap (flat_map (λ r. map (λ link. (r.tlid, chain_of ys r link)) (of_number i_tlid r.tlid (of_type_i ys))))
-      (numbered_same one_tlid (of_type_1 xs) (of_type_1 ys) s_ones (λ n. ltb-false 1 (times nat_cmp n (chain_tlids xs)) (linked (ChainTwice n))))
+      (numbered_same one_tlid (of_type_1 xs) (of_type_1 ys) s_ones
+          (λ n. ltb-false 1 (times nat_cmp n (chain_tlids xs)) (linked (ChainTwice n))))
 
   body_same : (k : PolygonKey) → polygon_body xs k ≡ polygon_body ys k
   body_same k = ap (λ qs. first (map (λ (q : FieldsP). q.body) qs))
       (few_same (filter (λ q. is_eq (key_cmp k (p_key q))) (of_type_p xs)) (filter (λ q. is_eq (key_cmp k (p_key q))) (of_type_p ys))
-      (let t : times key_cmp k (map p_key (of_type_p xs)) ≡ length (filter (λ q. is_eq (key_cmp k (p_key q))) (of_type_p xs)) = count-map (λ j. is_eq (key_cmp k j)) p_key (of_type_p xs) in
-      let u : times key_cmp k (map p_key (of_type_p xs)) ≤ 1 = ltb-false 1 (times key_cmp k (map p_key (of_type_p xs))) (linked (PolygonTwice k.0 k.1)) in omega arith)
+      (let t : times key_cmp k (map p_key (of_type_p xs)) ≡ length (filter (λ q. is_eq (key_cmp k (p_key q))) (of_type_p xs)) =
+          count-map (λ j. is_eq (key_cmp k j)) p_key (of_type_p xs) in
+      let u : times key_cmp k (map p_key (of_type_p xs)) ≤ 1 =
+          ltb-false 1 (times key_cmp k (map p_key (of_type_p xs))) (linked (PolygonTwice k.0 k.1)) in omega arith)
       (same-filter (λ q. is_eq (key_cmp k (p_key q))) (of_type_p xs) (of_type_p ys) s_ps))
 
   polygons_same : polygons_of xs ≡ polygons_of ys
   polygons_same =
-      map_agree_everywhere (λ k. (k, polygon_body xs k)) (λ k. (k, polygon_body ys k)) (λ k i. (k, body_same k i)) (distinct key_cmp (flat_map side_keys (of_type_i xs) ++ map p_key (of_type_p xs)))
-      ∙ ap (map (λ k. (k, polygon_body ys k))) (distinct_same key_keys (flat_map side_keys (of_type_i xs) ++ map p_key (of_type_p xs)) (flat_map side_keys (of_type_i ys) ++ map p_key (of_type_p ys)) (λ k. sym (keys_alike k)))
+      map_agree_everywhere (λ k. (k, polygon_body xs k)) (λ k. (k, polygon_body ys k)) (λ k i. (k, body_same k i))
+          (distinct key_cmp (flat_map side_keys (of_type_i xs) ++ map p_key (of_type_p xs)))
+      ∙ ap (map (λ k. (k, polygon_body ys k))) (distinct_same key_keys (flat_map side_keys (of_type_i xs) ++ map p_key (of_type_p xs))
+          (flat_map side_keys (of_type_i ys) ++ map p_key (of_type_p ys)) (λ k. sym (keys_alike k)))
 
   landmarks_same : landmarks_of xs ≡ landmarks_of ys
   landmarks_same =
-      map_agree_everywhere (λ land. (land, in_order landmark_body_cmp (map (λ (q : Fields7). q.body) (of_number seven_land land (of_type_7 xs))))) (λ land. (land, in_order landmark_body_cmp (map (λ (q : Fields7). q.body) (of_number seven_land land (of_type_7 ys)))))
-      (λ land i. (land, ordered_same landmark_body_keys (map (λ (q : Fields7). q.body) (of_number seven_land land (of_type_7 xs))) (map (λ (q : Fields7). q.body) (of_number seven_land land (of_type_7 ys))) (same-map (λ (q : Fields7). q.body) (of_number seven_land land (of_type_7 xs)) (of_number seven_land land (of_type_7 ys)) (same-filter (λ q. q.land == land) (of_type_7 xs) (of_type_7 ys) s_sevens)) i))
+      map_agree_everywhere (λ land. (land, in_order landmark_body_cmp
+          (map (λ (q : Fields7). q.body) (of_number seven_land land (of_type_7 xs)))))
+          (λ land. (land, in_order landmark_body_cmp (map (λ (q : Fields7). q.body) (of_number seven_land land (of_type_7 ys)))))
+      (λ land i. (land, ordered_same landmark_body_keys (map (λ (q : Fields7). q.body) (of_number seven_land land (of_type_7 xs)))
+          (map (λ (q : Fields7). q.body) (of_number seven_land land (of_type_7 ys)))
+          (same-map (λ (q : Fields7). q.body) (of_number seven_land land (of_type_7 xs)) (of_number seven_land land (of_type_7 ys))
+          (same-filter (λ q. q.land == land) (of_type_7 xs) (of_type_7 ys) s_sevens)) i))
       (distinct nat_cmp (map seven_land (of_type_7 xs)))
       ∙ ap (map (λ land. (land, in_order landmark_body_cmp (map (λ (q : Fields7). q.body) (of_number seven_land land (of_type_7 ys))))))
       (distinct_same nat_keys (map seven_land (of_type_7 xs)) (map seven_land (of_type_7 ys)) (λ n. ap (nat_lt 0) (sym (land_times n))))
@@ -166,7 +229,9 @@ module _ (xs ys : List Record) (p : IsPermutation xs ys) (linked : IsLinked xs) 
   pub reordered-county : county_of ys ≡ county_of xs
   reordered-county = λ i. record {
     chains = sym chains_same i;
-    names = map (λ (r : Fields5). (r.feat, r.body)) (sym (numbered_same five_feat (of_type_5 xs) (of_type_5 ys) s_fives (λ n. ltb-false 1 (times nat_cmp n (map five_feat (of_type_5 xs))) (linked (NameTwice n)))) i);
+    names = map (λ (r : Fields5). (r.feat, r.body))
+        (sym (numbered_same five_feat (of_type_5 xs) (of_type_5 ys) s_fives
+        (λ n. ltb-false 1 (times nat_cmp n (map five_feat (of_type_5 xs))) (linked (NameTwice n)))) i);
     polygons = sym polygons_same i;
     landmarks = sym landmarks_same i;
     links = sym (ordered_same link_keys (of_type_8 xs) (of_type_8 ys) s_eights) i;

@@ -1,14 +1,20 @@
 -- Lists with the same records break the same rules at the same places.
-use Rattle.std.proofs.Common.{◌≡◌, ◌⊎◌, ℕ, nat_lt, ◌==◌, List, ◌∷◌, ◌++◌, map, flat_map, filter, Bool, true, false, not, ◌&&◌, is_gt, sym, refl, ap, ap₂, ◌∙◌, subst, inl, inr, nat_cmp, IsPermutation}
+use Rattle.std.proofs.Common.{◌≡◌, ◌⊎◌, ℕ, nat_lt, ◌==◌, List, ◌∷◌, ◌++◌, map, flat_map, filter, Bool, true, false, not, ◌&&◌}
+use Rattle.std.proofs.Common.{is_gt, sym, refl, ap, ap₂, ◌∙◌, subst, inl, inr, nat_cmp, IsPermutation}
 use Rattle.std.proofs.lemmas.Bool.{false≢true}
-use Rattle.tl_layout.specs.ByType.{as_type_1, as_type_2, as_type_4, as_type_5, as_type_6, as_type_7, as_type_8, as_type_i, as_type_p, of_type_1, of_type_2, of_type_4, of_type_5, of_type_6, of_type_7, of_type_8, of_type_i, of_type_p, of_number}
+use Rattle.tl_layout.specs.ByType.{as_type_1, as_type_2, as_type_4, as_type_5, as_type_6, as_type_7, as_type_8, as_type_i}
+use Rattle.tl_layout.specs.ByType.{as_type_p, of_type_1, of_type_2, of_type_4, of_type_5, of_type_6, of_type_7, of_type_8}
+use Rattle.tl_layout.specs.ByType.{of_type_i, of_type_p, of_number}
 use Rattle.tl_layout.specs.Fields.{Fields4, FieldsI, FieldsP}
 use Rattle.tl_layout.specs.declared.record_type.Record.{Record}
 use Rattle.tl_county.specs.declared.fault.LinkFault.{LinkFault}
-use Rattle.tl_county.specs.declared.fault.LinkFault.TheVariants.{ChainTwice, NoChain, SequenceBroken, LinkMissing, LinkTwice, NameTwice, NameUnknown, PolygonTwice, LandUnknown, PolygonUnknown, Memory}
+use Rattle.tl_county.specs.declared.fault.LinkFault.TheVariants.{ChainTwice, NoChain, SequenceBroken, LinkMissing, LinkTwice}
+use Rattle.tl_county.specs.declared.fault.LinkFault.TheVariants.{NameTwice, NameUnknown, PolygonTwice, LandUnknown}
+use Rattle.tl_county.specs.declared.fault.LinkFault.TheVariants.{PolygonUnknown, Memory}
 use Rattle.tl_county.specs.declared.fault.LinkedType.{LinkedType}
 use Rattle.tl_county.specs.declared.fault.LinkedType.TheVariants.{Two, Four, Six, I}
-use Rattle.tl_county.specs.County.{one_tlid, two_tlid, two_rtsq, four_tlid, four_rtsq, five_feat, six_tlid, six_rtsq, seven_land, eight_land, eight_key, i_tlid, p_key, side_keys}
+use Rattle.tl_county.specs.County.{one_tlid, two_tlid, two_rtsq, four_tlid, four_rtsq, five_feat, six_tlid, six_rtsq, seven_land}
+use Rattle.tl_county.specs.County.{eight_land, eight_key, i_tlid, p_key, side_keys}
 use Rattle.tl_county.specs.LinkRules.{chain_tlids, linked_tlids, rtsqs, named_feats, is_broken, fault_place, IsLinked, IsFirstBrokenRule}
 use Rattle.tl_county.specs.Orders.{times, stands_in, has_repeat}
 use Rattle.tl_county.specs.PolygonKeys.{PolygonKey, key_cmp}
@@ -18,7 +24,8 @@ use Rattle.tl_county.proofs.FirstFault.{Among}
 use Rattle.tl_county.proofs.KeyOrders.{key_keys}
 use Rattle.tl_county.proofs.Keys.{Known, nat_keys, known-left, known-right, known-append}
 use Rattle.tl_county.proofs.Members.{among-pieces, among_known, known_is_among, among-map, among-unmap}
-use Rattle.tl_county.proofs.Reordered.{SameElements, from_permutation, same-filter_map, same-filter, same-map, times-same, apart-same, stands_alike}
+use Rattle.tl_county.proofs.Reordered.{SameElements, from_permutation, same-filter_map, same-filter, same-map, times-same}
+use Rattle.tl_county.proofs.Reordered.{apart-same, stands_alike}
 
 -- the same, seen from the other list
 pub same-sym : {X : Type 0} (xs ys : List X) → SameElements xs ys → SameElements ys xs
@@ -36,7 +43,8 @@ repeat_same us vs s = go (has_repeat nat_cmp us) (has_repeat nat_cmp vs) refl re
     go true false e f = absurd (false≢true (sym (repeat_kept vs us (same-sym us vs s) f) ∙ e))
     go false true e f = absurd (false≢true (sym (repeat_kept us vs s e) ∙ f))
 
-sequence_of : {X : Type 0} (number rtsq : X → ℕ) (n : ℕ) (us vs : List X) → SameElements us vs → SameElements (map rtsq (of_number number n us)) (map rtsq (of_number number n vs))
+sequence_of : {X : Type 0} (number rtsq : X → ℕ) (n : ℕ) (us vs : List X) → SameElements us vs
+    → SameElements (map rtsq (of_number number n us)) (map rtsq (of_number number n vs))
 sequence_of number rtsq n us vs s = same-map rtsq (of_number number n us) (of_number number n vs) (same-filter (λ x. number x == n) us vs s)
 
 module _ (xs ys : List Record) (s : SameElements xs ys) where
@@ -70,35 +78,71 @@ module _ (xs ys : List Record) (s : SameElements xs ys) where
   -- the FEATs that a chain names
   named_alike : (n y : ℕ) → stands_in nat_cmp y (named_feats n xs) ≡ stands_in nat_cmp y (named_feats n ys)
   named_alike n y = stands_alike nat_keys (named_feats n xs) (named_feats n ys) y
-      (λ k. let r = among-unpieces (λ (q : Fields4). q.feats) y (of_number four_tlid n (of_type_4 xs)) (known_is_among nat_keys y (named_feats n xs) k) in among_known nat_keys y (named_feats n ys) (among-pieces (λ (q : Fields4). q.feats) r.0 y (of_number four_tlid n (of_type_4 ys)) ((s_fours_of n).there r.0 r.1) r.2))
-      (λ k. let r = among-unpieces (λ (q : Fields4). q.feats) y (of_number four_tlid n (of_type_4 ys)) (known_is_among nat_keys y (named_feats n ys) k) in among_known nat_keys y (named_feats n xs) (among-pieces (λ (q : Fields4). q.feats) r.0 y (of_number four_tlid n (of_type_4 xs)) ((s_fours_of n).back r.0 r.1) r.2))
+      (λ k. let r = among-unpieces (λ (q : Fields4). q.feats) y (of_number four_tlid n (of_type_4 xs))
+          (known_is_among nat_keys y (named_feats n xs) k) in
+          among_known nat_keys y (named_feats n ys)
+          (among-pieces (λ (q : Fields4). q.feats) r.0 y (of_number four_tlid n (of_type_4 ys)) ((s_fours_of n).there r.0 r.1) r.2))
+      (λ k. let r = among-unpieces (λ (q : Fields4). q.feats) y (of_number four_tlid n (of_type_4 ys))
+          (known_is_among nat_keys y (named_feats n ys) k) in
+          among_known nat_keys y (named_feats n xs)
+          (among-pieces (λ (q : Fields4). q.feats) r.0 y (of_number four_tlid n (of_type_4 xs)) ((s_fours_of n).back r.0 r.1) r.2))
 
   -- the polygons on sides and of type P
-  one_way : (zs ws : List Record) → ((l : FieldsI) → Among l (of_type_i zs) → Among l (of_type_i ws)) → ((q : FieldsP) → Among q (of_type_p zs) → Among q (of_type_p ws)) → (k : PolygonKey) → Known key_cmp (flat_map side_keys (of_type_i zs) ++ map p_key (of_type_p zs)) k → Known key_cmp (flat_map side_keys (of_type_i ws) ++ map p_key (of_type_p ws)) k
+  one_way : (zs ws : List Record) → ((l : FieldsI) → Among l (of_type_i zs) → Among l (of_type_i ws))
+      → ((q : FieldsP) → Among q (of_type_p zs) → Among q (of_type_p ws)) → (k : PolygonKey)
+      → Known key_cmp (flat_map side_keys (of_type_i zs) ++ map p_key (of_type_p zs)) k
+      → Known key_cmp (flat_map side_keys (of_type_i ws) ++ map p_key (of_type_p ws)) k
   one_way zs ws sides polygons k h = go (known-append key_keys k (flat_map side_keys (of_type_i zs)) (map p_key (of_type_p zs)) h)
     where
-      go : Known key_cmp (flat_map side_keys (of_type_i zs)) k ⊎ Known key_cmp (map p_key (of_type_p zs)) k → Known key_cmp (flat_map side_keys (of_type_i ws) ++ map p_key (of_type_p ws)) k
-      go (inl l) = let r = among-unpieces side_keys k (of_type_i zs) (known_is_among key_keys k (flat_map side_keys (of_type_i zs)) l) in known-left key_keys k (flat_map side_keys (of_type_i ws)) (map p_key (of_type_p ws)) (among_known key_keys k (flat_map side_keys (of_type_i ws)) (among-pieces side_keys r.0 k (of_type_i ws) (sides r.0 r.1) r.2))
-      go (inr l) = let r = among-unmap p_key k (of_type_p zs) (known_is_among key_keys k (map p_key (of_type_p zs)) l) in known-right key_keys k (flat_map side_keys (of_type_i ws)) (map p_key (of_type_p ws)) (subst (Known key_cmp (map p_key (of_type_p ws))) (sym r.2) (among_known key_keys (p_key r.0) (map p_key (of_type_p ws)) (among-map p_key r.0 (of_type_p ws) (polygons r.0 r.1))))
+      go : Known key_cmp (flat_map side_keys (of_type_i zs)) k ⊎ Known key_cmp (map p_key (of_type_p zs)) k
+          → Known key_cmp (flat_map side_keys (of_type_i ws) ++ map p_key (of_type_p ws)) k
+      go (inl l) = let r = among-unpieces side_keys k (of_type_i zs) (known_is_among key_keys k (flat_map side_keys (of_type_i zs)) l) in
+          known-left key_keys k (flat_map side_keys (of_type_i ws)) (map p_key (of_type_p ws))
+          (among_known key_keys k (flat_map side_keys (of_type_i ws)) (among-pieces side_keys r.0 k (of_type_i ws) (sides r.0 r.1) r.2))
+      go (inr l) = let r = among-unmap p_key k (of_type_p zs) (known_is_among key_keys k (map p_key (of_type_p zs)) l) in
+          known-right key_keys k (flat_map side_keys (of_type_i ws)) (map p_key (of_type_p ws))
+          (subst (Known key_cmp (map p_key (of_type_p ws))) (sym r.2)
+          (among_known key_keys (p_key r.0) (map p_key (of_type_p ws)) (among-map p_key r.0 (of_type_p ws) (polygons r.0 r.1))))
 
-  keys_alike : (k : PolygonKey) → stands_in key_cmp k (flat_map side_keys (of_type_i xs) ++ map p_key (of_type_p xs)) ≡ stands_in key_cmp k (flat_map side_keys (of_type_i ys) ++ map p_key (of_type_p ys))
-  keys_alike k = stands_alike key_keys (flat_map side_keys (of_type_i xs) ++ map p_key (of_type_p xs)) (flat_map side_keys (of_type_i ys) ++ map p_key (of_type_p ys)) k
+  keys_alike : (k : PolygonKey) → stands_in key_cmp k (flat_map side_keys (of_type_i xs) ++ map p_key (of_type_p xs)) ≡ stands_in key_cmp k
+      (flat_map side_keys (of_type_i ys) ++ map p_key (of_type_p ys))
+  keys_alike k = stands_alike key_keys (flat_map side_keys (of_type_i xs) ++ map p_key (of_type_p xs))
+      (flat_map side_keys (of_type_i ys) ++ map p_key (of_type_p ys)) k
       (one_way xs ys s_is.there s_ps.there k) (one_way ys xs s_is.back s_ps.back k)
 
   pub same-broken : (f : LinkFault) → is_broken xs f ≡ is_broken ys f
   same-broken (ChainTwice n) = ap (nat_lt 1) (times-same nat_cmp (chain_tlids xs) (chain_tlids ys) s_ones n)
-  same-broken (NoChain t n) = ap₂ (λ a b. nat_lt 0 a && not (nat_lt 0 b)) (times-same nat_cmp (linked_tlids t xs) (linked_tlids t ys) (s_linked t) n) (times-same nat_cmp (chain_tlids xs) (chain_tlids ys) s_ones n)
-  same-broken (SequenceBroken Two n) = repeat_same (rtsqs Two n xs) (rtsqs Two n ys) (sequence_of two_tlid two_rtsq n (of_type_2 xs) (of_type_2 ys) (same-filter_map as_type_2 xs ys s))
-  same-broken (SequenceBroken Four n) = repeat_same (rtsqs Four n xs) (rtsqs Four n ys) (sequence_of four_tlid four_rtsq n (of_type_4 xs) (of_type_4 ys) (same-filter_map as_type_4 xs ys s))
-  same-broken (SequenceBroken Six n) = repeat_same (rtsqs Six n xs) (rtsqs Six n ys) (sequence_of six_tlid six_rtsq n (of_type_6 xs) (of_type_6 ys) (same-filter_map as_type_6 xs ys s))
+  same-broken (NoChain t n) =
+      ap₂ (λ a b. nat_lt 0 a && not (nat_lt 0 b)) (times-same nat_cmp (linked_tlids t xs) (linked_tlids t ys) (s_linked t) n)
+      (times-same nat_cmp (chain_tlids xs) (chain_tlids ys) s_ones n)
+  same-broken (SequenceBroken Two n) =
+      repeat_same (rtsqs Two n xs) (rtsqs Two n ys)
+      (sequence_of two_tlid two_rtsq n (of_type_2 xs) (of_type_2 ys) (same-filter_map as_type_2 xs ys s))
+  same-broken (SequenceBroken Four n) =
+      repeat_same (rtsqs Four n xs) (rtsqs Four n ys)
+      (sequence_of four_tlid four_rtsq n (of_type_4 xs) (of_type_4 ys) (same-filter_map as_type_4 xs ys s))
+  same-broken (SequenceBroken Six n) =
+      repeat_same (rtsqs Six n xs) (rtsqs Six n ys)
+      (sequence_of six_tlid six_rtsq n (of_type_6 xs) (of_type_6 ys) (same-filter_map as_type_6 xs ys s))
   same-broken (SequenceBroken I n) = refl
-  same-broken (LinkMissing n) = ap₂ (λ a b. nat_lt 0 a && not (nat_lt 0 b)) (times-same nat_cmp (chain_tlids xs) (chain_tlids ys) s_ones n) (times-same nat_cmp (linked_tlids I xs) (linked_tlids I ys) (s_linked I) n)
+  same-broken (LinkMissing n) =
+      ap₂ (λ a b. nat_lt 0 a && not (nat_lt 0 b)) (times-same nat_cmp (chain_tlids xs) (chain_tlids ys) s_ones n)
+      (times-same nat_cmp (linked_tlids I xs) (linked_tlids I ys) (s_linked I) n)
   same-broken (LinkTwice n) = ap (nat_lt 1) (times-same nat_cmp (linked_tlids I xs) (linked_tlids I ys) (s_linked I) n)
   same-broken (NameTwice n) = ap (nat_lt 1) (times-same nat_cmp (map five_feat (of_type_5 xs)) (map five_feat (of_type_5 ys)) s_feats n)
-  same-broken (NameUnknown n y) = ap₂ (λ a b. a && not (nat_lt 0 b)) (named_alike n y) (times-same nat_cmp (map five_feat (of_type_5 xs)) (map five_feat (of_type_5 ys)) s_feats y)
-  same-broken (PolygonTwice c k) = ap (nat_lt 1) (times-same key_cmp (map p_key (of_type_p xs)) (map p_key (of_type_p ys)) (same-map p_key (of_type_p xs) (of_type_p ys) s_ps) (c, k))
-  same-broken (LandUnknown n) = ap₂ (λ a b. nat_lt 0 a && not (nat_lt 0 b)) (times-same nat_cmp (map eight_land (of_type_8 xs)) (map eight_land (of_type_8 ys)) (s_eights eight_land) n) (times-same nat_cmp (map seven_land (of_type_7 xs)) (map seven_land (of_type_7 ys)) s_lands n)
-  same-broken (PolygonUnknown c k) = ap₂ (λ a b. nat_lt 0 a && not b) (times-same key_cmp (map eight_key (of_type_8 xs)) (map eight_key (of_type_8 ys)) (s_eights eight_key) (c, k)) (keys_alike (c, k))
+  same-broken (NameUnknown n y) =
+      ap₂ (λ a b. a && not (nat_lt 0 b)) (named_alike n y)
+      (times-same nat_cmp (map five_feat (of_type_5 xs)) (map five_feat (of_type_5 ys)) s_feats y)
+  same-broken (PolygonTwice c k) =
+      ap (nat_lt 1)
+      (times-same key_cmp (map p_key (of_type_p xs)) (map p_key (of_type_p ys)) (same-map p_key (of_type_p xs) (of_type_p ys) s_ps) (c, k))
+  same-broken (LandUnknown n) =
+      ap₂ (λ a b. nat_lt 0 a && not (nat_lt 0 b))
+      (times-same nat_cmp (map eight_land (of_type_8 xs)) (map eight_land (of_type_8 ys)) (s_eights eight_land) n)
+      (times-same nat_cmp (map seven_land (of_type_7 xs)) (map seven_land (of_type_7 ys)) s_lands n)
+  same-broken (PolygonUnknown c k) =
+      ap₂ (λ a b. nat_lt 0 a && not b)
+      (times-same key_cmp (map eight_key (of_type_8 xs)) (map eight_key (of_type_8 ys)) (s_eights eight_key) (c, k)) (keys_alike (c, k))
   same-broken Memory = refl
 
   pub same-linked : IsLinked xs → IsLinked ys

@@ -110,7 +110,8 @@ east_end = at 86468545 32424948
 
 -- a record of type I
 abbrev pub link : ℕ → Option ℕ → Option ℕ → PolygonSide → PolygonSide → Record
-link tlid start end left right = I (record { tlid = tlid; body = link_body; start_node = start; end_node = end; left = left; right = right })
+link tlid start end left right =
+    I (record { tlid = tlid; body = link_body; start_node = start; end_node = end; left = left; right = right })
 
 abbrev pub chain_there : ℕ → Record
 chain_there tlid = One (record { tlid = tlid; body = street_there; start = west_end; end = east_end })
@@ -131,7 +132,9 @@ canonical_there = chain_there 1 ∷ link 1 (Some 1) (Some 2) no_side no_side ∷
 
 -- back with its left addresses exchanged
 abbrev pub back_wrong : List Record
-back_wrong = One (record { tlid = 77; body = street (record ranges_back { fraddl = right 11 (codes "100"); toaddl = right 11 (codes "198") }) (codes "020300") (codes "020200") (codes "2002") (codes "1001"); start = east_end; end = west_end }) ∷ link 77 (Some 6) (Some 5) no_side no_side ∷ []
+back_wrong = One (record { tlid = 77; body =
+    street (record ranges_back { fraddl = right 11 (codes "100"); toaddl = right 11 (codes "198") }) (codes "020300") (codes "020200")
+    (codes "2002") (codes "1001"); start = east_end; end = west_end }) ∷ link 77 (Some 6) (Some 5) no_side no_side ∷ []
 
 -- the point number k of eleven between the ends
 abbrev pub between_ends : ℕ → Coordinates
@@ -146,20 +149,24 @@ two tlid rtsq ks = Two (record { tlid = tlid; rtsq = rtsq; points = points_up ks
 
 -- eleven shape points in two records, in two ways, and their canonical packing
 abbrev pub back_shaped : List Record
-back_shaped = two 77 2 (1 ∷ []) ∷ chain_back 77 ∷ link 77 (Some 6) (Some 5) no_side no_side ∷ two 77 1 (11 ∷ 10 ∷ 9 ∷ 8 ∷ 7 ∷ 6 ∷ 5 ∷ 4 ∷ 3 ∷ 2 ∷ []) ∷ []
+back_shaped = two 77 2 (1 ∷ []) ∷ chain_back 77 ∷ link 77 (Some 6) (Some 5) no_side no_side ∷ two 77 1
+    (11 ∷ 10 ∷ 9 ∷ 8 ∷ 7 ∷ 6 ∷ 5 ∷ 4 ∷ 3 ∷ 2 ∷ []) ∷ []
 
 abbrev pub there_shaped : List Record
-there_shaped = chain_there 500 ∷ two 500 2 (1 ∷ 2 ∷ 3 ∷ 4 ∷ 5 ∷ 6 ∷ []) ∷ two 500 5 (7 ∷ 8 ∷ 9 ∷ 10 ∷ 11 ∷ []) ∷ link 500 (Some 11) (Some 12) no_side no_side ∷ []
+there_shaped = chain_there 500 ∷ two 500 2 (1 ∷ 2 ∷ 3 ∷ 4 ∷ 5 ∷ 6 ∷ []) ∷ two 500 5 (7 ∷ 8 ∷ 9 ∷ 10 ∷ 11 ∷ []) ∷ link 500 (Some 11)
+    (Some 12) no_side no_side ∷ []
 
 abbrev pub canonical_shaped : List Record
-canonical_shaped = chain_there 1 ∷ two 1 1 (1 ∷ 2 ∷ 3 ∷ 4 ∷ 5 ∷ 6 ∷ 7 ∷ 8 ∷ 9 ∷ 10 ∷ []) ∷ two 1 2 (11 ∷ []) ∷ link 1 (Some 1) (Some 2) no_side no_side ∷ []
+canonical_shaped = chain_there 1 ∷ two 1 1 (1 ∷ 2 ∷ 3 ∷ 4 ∷ 5 ∷ 6 ∷ 7 ∷ 8 ∷ 9 ∷ 10 ∷ []) ∷ two 1 2 (11 ∷ []) ∷ link 1 (Some 1)
+    (Some 2) no_side no_side ∷ []
 
 -- a loop, with two points between or with none
 abbrev pub loop_chain : ℕ → Record
 loop_chain tlid = One (record { tlid = tlid; body = street_there; start = west_end; end = west_end })
 
 abbrev pub loop : List Record
-loop = loop_chain 500 ∷ Two (record { tlid = 500; rtsq = 1; points = at 86468600 32424990 ∷ at 86468600 32424900 ∷ [] }) ∷ link 500 (Some 11) (Some 11) no_side no_side ∷ []
+loop = loop_chain 500 ∷ Two (record { tlid = 500; rtsq = 1; points = at 86468600 32424990 ∷ at 86468600 32424900 ∷ [] }) ∷ link 500
+    (Some 11) (Some 11) no_side no_side ∷ []
 
 abbrev pub bare_loop : List Record
 bare_loop = loop_chain 500 ∷ link 500 (Some 11) (Some 11) no_side no_side ∷ []
@@ -177,7 +184,8 @@ canonical_polygons = chain_there 1 ∷ link 1 (Some 1) (Some 2) (side cenid_1 1)
 
 -- two names that only their uses tell apart
 abbrev pub old_mill : Body5
-old_mill = record { file = file; name = record { fedirp = blanks 2; fename = filled 30 (codes "Old Mill"); fetype = filled 4 (codes "Rd"); fedirs = blanks 2 } }
+old_mill = record { file = file; name =
+    record { fedirp = blanks 2; fename = filled 30 (codes "Old Mill"); fetype = filled 4 (codes "Rd"); fedirs = blanks 2 } }
 
 abbrev pub name : ℕ → Record
 name feat = Five (record { feat = feat; body = old_mill })
@@ -193,16 +201,20 @@ canonical_named feats = chain_there 1 ∷ four 1 1 feats ∷ name 1 ∷ name 2 �
 
 -- landmarks
 abbrev pub landmark : ℕ → List ℕ → Record
-landmark land laname = Seven (record { land = land; body = record { file = file; source = codes "A"; cfcc = codes "D43"; laname = filled 30 laname; point = None } })
+landmark land laname =
+    Seven (record { land = land; body =
+    record { file = file; source = codes "A"; cfcc = codes "D43"; laname = filled 30 laname; point = None } })
 
 abbrev pub in_polygon : ℕ → ℕ → Record
 in_polygon polyid land = Eight (record { file = file; cenid = cenid_1; polyid = polyid; land = land })
 
 abbrev pub schools : ℕ → ℕ → List Record
-schools a b = landmark a (codes "Lee School") ∷ landmark b (codes "Lee School") ∷ landmark 40 (codes "Barn") ∷ landmark 40 (codes "Annex") ∷ in_polygon 12 a ∷ in_polygon 12 b ∷ two_polygons
+schools a b = landmark a (codes "Lee School") ∷ landmark b (codes "Lee School") ∷ landmark 40 (codes "Barn") ∷ landmark 40
+    (codes "Annex") ∷ in_polygon 12 a ∷ in_polygon 12 b ∷ two_polygons
 
 abbrev pub canonical_schools : List Record
-canonical_schools = chain_there 1 ∷ landmark 1 (codes "Annex") ∷ landmark 1 (codes "Barn") ∷ landmark 2 (codes "Lee School") ∷ landmark 3 (codes "Lee School") ∷ in_polygon 1 2 ∷ in_polygon 1 3 ∷ link 1 (Some 1) (Some 2) (side cenid_1 1) (side cenid_2 2) ∷ []
+canonical_schools = chain_there 1 ∷ landmark 1 (codes "Annex") ∷ landmark 1 (codes "Barn") ∷ landmark 2 (codes "Lee School") ∷ landmark 3
+    (codes "Lee School") ∷ in_polygon 1 2 ∷ in_polygon 1 3 ∷ link 1 (Some 1) (Some 2) (side cenid_1 1) (side cenid_2 2) ∷ []
 
 abbrev pub polygon : ℕ → Record
 polygon polyid = P (record { cenid = cenid_1; polyid = polyid; body = record { file = file; point = None; water = codes " " } })
@@ -211,9 +223,11 @@ polygon polyid = P (record { cenid = cenid_1; polyid = polyid; body = record { f
 abbrev pub meeting : List Record
 meeting =
     One (record { tlid = 5; body = street_there; start = east 2 1; end = east 3 1 }) ∷ link 5 (Some 71) (Some 72) no_side (side cenid_1 9)
-    ∷ One (record { tlid = 3; body = street_there; start = east 1 1; end = east 2 1 }) ∷ link 3 (Some 70) (Some 71) (side cenid_1 9) no_side ∷ []
+    ∷ One (record { tlid = 3; body = street_there; start = east 1 1; end = east 2 1 }) ∷ link 3 (Some 70) (Some 71)
+        (side cenid_1 9) no_side ∷ []
 
 abbrev pub canonical_meeting : List Record
 canonical_meeting =
-    One (record { tlid = 1; body = street_there; start = east 1 1; end = east 2 1 }) ∷ One (record { tlid = 2; body = street_there; start = east 2 1; end = east 3 1 })
+    One (record { tlid = 1; body = street_there; start = east 1 1; end = east 2 1 }) ∷ One
+        (record { tlid = 2; body = street_there; start = east 2 1; end = east 3 1 })
     ∷ link 1 (Some 1) (Some 2) (side cenid_1 1) no_side ∷ link 2 (Some 2) (Some 3) no_side (side cenid_1 1) ∷ []

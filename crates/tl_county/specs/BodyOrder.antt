@@ -16,7 +16,9 @@ bytes_cmp = slice_cmp nat_cmp
 
 -- FEDIRP, FENAME, FETYPE, FEDIRS
 abbrev pub feature_name_cmp : FeatureName → FeatureName → Ordering
-feature_name_cmp a b = ordering_then (bytes_cmp a.fedirp b.fedirp) (ordering_then (bytes_cmp a.fename b.fename) (ordering_then (bytes_cmp a.fetype b.fetype) (bytes_cmp a.fedirs b.fedirs)))
+feature_name_cmp a b =
+    ordering_then (bytes_cmp a.fedirp b.fedirp)
+    (ordering_then (bytes_cmp a.fename b.fename) (ordering_then (bytes_cmp a.fetype b.fetype) (bytes_cmp a.fedirs b.fedirs)))
 
 -- FILE, then the name: the 43 bytes of a type 5 body
 abbrev pub name_body_cmp : Body5 → Body5 → Ordering
@@ -28,7 +30,10 @@ optional_point_cmp o p = points_cmp (option_to_list o) (option_to_list p)
 
 -- FILE, SOURCE, CFCC, LANAME, then the point, none first
 abbrev pub landmark_body_cmp : Body7 → Body7 → Ordering
-landmark_body_cmp a b = ordering_then (bytes_cmp a.file b.file) (ordering_then (bytes_cmp a.source b.source) (ordering_then (bytes_cmp a.cfcc b.cfcc) (ordering_then (bytes_cmp a.laname b.laname) (optional_point_cmp a.point b.point))))
+landmark_body_cmp a b =
+    ordering_then (bytes_cmp a.file b.file)
+    (ordering_then (bytes_cmp a.source b.source)
+    (ordering_then (bytes_cmp a.cfcc b.cfcc) (ordering_then (bytes_cmp a.laname b.laname) (optional_point_cmp a.point b.point))))
 
 -- a link of a landmark without its LAND: POLYID, CENID, FILE
 abbrev pub LinkPart : Type 0

@@ -31,7 +31,9 @@ chain_with r link twos fours sixes = record {
 abbrev pub chains_along : List Fields2 → List Fields4 → List Fields6 → List Fields1 → List FieldsI → List Chain
 chains_along twos fours sixes [] links = []
 chains_along twos fours sixes (r ∷ rs) [] = []
-chains_along twos fours sixes (r ∷ rs) (link ∷ links) = chain_with r link (of_number two_tlid r.tlid twos) (of_number four_tlid r.tlid fours) (of_number six_tlid r.tlid sixes) ∷ chains_along twos fours sixes rs links
+chains_along twos fours sixes (r ∷ rs) (link ∷ links) =
+    chain_with r link (of_number two_tlid r.tlid twos) (of_number four_tlid r.tlid fours)
+    (of_number six_tlid r.tlid sixes) ∷ chains_along twos fours sixes rs links
 
 -- the content of a polygon's record of type P, if there is one
 abbrev pub polygon_body_of : List FieldsP → PolygonKey → Option BodyP
@@ -39,7 +41,8 @@ polygon_body_of points key = first (map (λ r. r.body) (filter (λ r. is_eq (key
 
 -- the landmark of a LAND: the contents of its records of type 7, and its records of type 8
 abbrev pub landmark_of : List Fields7 → List Fields8 → ℕ → LandmarkParts
-landmark_of landmarks links land = record { bodies = map (λ r. r.body) (of_number seven_land land landmarks); links = of_number eight_land land links }
+landmark_of landmarks links land =
+    record { bodies = map (λ r. r.body) (of_number seven_land land landmarks); links = of_number eight_land land links }
 
 -- the landmarks of records by type, in the order of their LANDs
 abbrev pub landmarks_along : Typed → List (ℕ × LandmarkParts)

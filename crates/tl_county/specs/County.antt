@@ -9,7 +9,8 @@ use Rattle.tl_layout.specs.declared.type5.Body5.{Body5}
 use Rattle.tl_layout.specs.declared.type7.Body7.{Body7}
 use Rattle.tl_layout.specs.declared.type_p.BodyP.{BodyP}
 use Rattle.tl_county.specs.BodyOrder.{landmark_body_cmp, link_cmp}
-use Rattle.tl_layout.specs.ByType.{of_type_1, of_type_2, of_type_4, of_type_5, of_type_6, of_type_7, of_type_8, of_type_i, of_type_p, of_number}
+use Rattle.tl_layout.specs.ByType.{of_type_1, of_type_2, of_type_4, of_type_5, of_type_6, of_type_7, of_type_8, of_type_i}
+use Rattle.tl_layout.specs.ByType.{of_type_p, of_number}
 use Rattle.tl_shape.specs.Chain.{Chain}
 use Rattle.tl_county.specs.Orders.{in_order, distinct}
 use Rattle.tl_county.specs.PolygonKeys.{PolygonKey, key_cmp, key_on}
@@ -95,7 +96,8 @@ chain_of records r link = record {
 
 -- each type 1 record, in the order of TLIDs, with the type I record of its TLID
 abbrev pub chains_of : List Record → List (ℕ × Chain)
-chains_of records = flat_map (λ r. map (λ link. (r.tlid, chain_of records r link)) (of_number i_tlid r.tlid (of_type_i records))) (in_order (on one_tlid nat_cmp) (of_type_1 records))
+chains_of records = flat_map (λ r. map (λ link. (r.tlid, chain_of records r link)) (of_number i_tlid r.tlid (of_type_i records)))
+    (in_order (on one_tlid nat_cmp) (of_type_1 records))
 
 -- each name, in the order of FEATs
 abbrev pub names_of : List Record → List (ℕ × Body5)
@@ -116,11 +118,15 @@ polygon_body records key = first (map (λ r. r.body) (filter (λ r. is_eq (key_c
 
 -- each polygon on a side or of type P, in the order of keys
 abbrev pub polygons_of : List Record → List (PolygonKey × Option BodyP)
-polygons_of records = map (λ key. (key, polygon_body records key)) (distinct key_cmp (flat_map side_keys (of_type_i records) ++ map p_key (of_type_p records)))
+polygons_of records =
+    map (λ key. (key, polygon_body records key))
+    (distinct key_cmp (flat_map side_keys (of_type_i records) ++ map p_key (of_type_p records)))
 
 -- each landmark, in the order of LANDs
 abbrev pub landmarks_of : List Record → List (ℕ × List Body7)
-landmarks_of records = map (λ land. (land, in_order landmark_body_cmp (map (λ r. r.body) (of_number seven_land land (of_type_7 records))))) (distinct nat_cmp (map seven_land (of_type_7 records)))
+landmarks_of records =
+    map (λ land. (land, in_order landmark_body_cmp (map (λ r. r.body) (of_number seven_land land (of_type_7 records)))))
+    (distinct nat_cmp (map seven_land (of_type_7 records)))
 
 -- the county of a list of records
 abbrev pub county_of : List Record → County

@@ -74,7 +74,8 @@ pub record IsClosed (county : County) : Type 0 where
 pub record IsWhole (county : County) : Type 0 where
   pub points : AllByRecursion (λ entry. 2 ≤ length entry.1.points) county.chains
   pub bodies : AllByRecursion (λ entry. 1 ≤ length entry.1) county.landmarks
-  pub polygons : AllByRecursion (λ entry. IsTrue (is_some entry.1 || stands_in key_cmp entry.0 (polygons_along county.chains))) county.polygons
+  pub polygons : AllByRecursion (λ entry. IsTrue (is_some entry.1 || stands_in key_cmp entry.0
+      (polygons_along county.chains))) county.polygons
 
 -- a county as linking makes it
 pub record IsCounty (county : County) : Type 0 where

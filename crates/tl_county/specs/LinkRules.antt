@@ -3,11 +3,15 @@ use Rattle.std.specs.Prelude.{ℕ, ◌≡◌, List, [], ◌∷◌, ◌++◌, map
 use Rattle.std.specs.Ordering.{nat_cmp}
 use Rattle.tl_layout.specs.declared.record_type.Record.{Record}
 use Rattle.tl_county.specs.declared.fault.LinkFault.{LinkFault}
-use Rattle.tl_county.specs.declared.fault.LinkFault.TheVariants.{ChainTwice, NoChain, SequenceBroken, LinkMissing, LinkTwice, NameTwice, NameUnknown, PolygonTwice, LandUnknown, PolygonUnknown, Memory}
+use Rattle.tl_county.specs.declared.fault.LinkFault.TheVariants.{ChainTwice, NoChain, SequenceBroken, LinkMissing, LinkTwice}
+use Rattle.tl_county.specs.declared.fault.LinkFault.TheVariants.{NameTwice, NameUnknown, PolygonTwice, LandUnknown}
+use Rattle.tl_county.specs.declared.fault.LinkFault.TheVariants.{PolygonUnknown, Memory}
 use Rattle.tl_county.specs.declared.fault.LinkedType.{LinkedType}
 use Rattle.tl_county.specs.declared.fault.LinkedType.TheVariants.{Two, Four, Six, I}
-use Rattle.tl_layout.specs.ByType.{of_type_1, of_type_2, of_type_4, of_type_5, of_type_6, of_type_7, of_type_8, of_type_i, of_type_p, of_number}
-use Rattle.tl_county.specs.County.{one_tlid, two_tlid, two_rtsq, four_tlid, four_rtsq, five_feat, six_tlid, six_rtsq, seven_land, eight_land, eight_key, i_tlid, p_key, side_keys}
+use Rattle.tl_layout.specs.ByType.{of_type_1, of_type_2, of_type_4, of_type_5, of_type_6, of_type_7, of_type_8, of_type_i}
+use Rattle.tl_layout.specs.ByType.{of_type_p, of_number}
+use Rattle.tl_county.specs.County.{one_tlid, two_tlid, two_rtsq, four_tlid, four_rtsq, five_feat, six_tlid, six_rtsq, seven_land}
+use Rattle.tl_county.specs.County.{eight_land, eight_key, i_tlid, p_key, side_keys}
 use Rattle.tl_county.specs.FirstOf.{IsFirst}
 use Rattle.tl_county.specs.Orders.{times, stands_in, has_repeat}
 use Rattle.tl_county.specs.PolygonKeys.{key_cmp}
@@ -37,15 +41,21 @@ named_feats tlid records = flat_map (λ r. r.feats) (of_number four_tlid tlid (o
 -- whether a rule is broken at a place
 abbrev pub is_broken : List Record → LinkFault → Bool
 is_broken records (ChainTwice tlid) = nat_lt 1 (times nat_cmp tlid (chain_tlids records))
-is_broken records (NoChain rtype tlid) = stands_in nat_cmp tlid (linked_tlids rtype records) && not (stands_in nat_cmp tlid (chain_tlids records))
+is_broken records (NoChain rtype tlid) =
+    stands_in nat_cmp tlid (linked_tlids rtype records) && not (stands_in nat_cmp tlid (chain_tlids records))
 is_broken records (SequenceBroken rtype tlid) = has_repeat nat_cmp (rtsqs rtype tlid records)
-is_broken records (LinkMissing tlid) = stands_in nat_cmp tlid (chain_tlids records) && not (stands_in nat_cmp tlid (map i_tlid (of_type_i records)))
+is_broken records (LinkMissing tlid) =
+    stands_in nat_cmp tlid (chain_tlids records) && not (stands_in nat_cmp tlid (map i_tlid (of_type_i records)))
 is_broken records (LinkTwice tlid) = nat_lt 1 (times nat_cmp tlid (map i_tlid (of_type_i records)))
 is_broken records (NameTwice feat) = nat_lt 1 (times nat_cmp feat (map five_feat (of_type_5 records)))
-is_broken records (NameUnknown tlid feat) = stands_in nat_cmp feat (named_feats tlid records) && not (stands_in nat_cmp feat (map five_feat (of_type_5 records)))
+is_broken records (NameUnknown tlid feat) =
+    stands_in nat_cmp feat (named_feats tlid records) && not (stands_in nat_cmp feat (map five_feat (of_type_5 records)))
 is_broken records (PolygonTwice cenid polyid) = nat_lt 1 (times key_cmp (cenid, polyid) (map p_key (of_type_p records)))
-is_broken records (LandUnknown land) = stands_in nat_cmp land (map eight_land (of_type_8 records)) && not (stands_in nat_cmp land (map seven_land (of_type_7 records)))
-is_broken records (PolygonUnknown cenid polyid) = stands_in key_cmp (cenid, polyid) (map eight_key (of_type_8 records)) && not (stands_in key_cmp (cenid, polyid) (flat_map side_keys (of_type_i records) ++ map p_key (of_type_p records)))
+is_broken records (LandUnknown land) =
+    stands_in nat_cmp land (map eight_land (of_type_8 records)) && not (stands_in nat_cmp land (map seven_land (of_type_7 records)))
+is_broken records (PolygonUnknown cenid polyid) =
+    stands_in key_cmp (cenid, polyid) (map eight_key (of_type_8 records)) && not
+    (stands_in key_cmp (cenid, polyid) (flat_map side_keys (of_type_i records) ++ map p_key (of_type_p records)))
 is_broken records Memory = false
 
 -- record types in the order 2, 4, 6, I

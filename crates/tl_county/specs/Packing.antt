@@ -56,7 +56,8 @@ abbrev pub packed_one : ℕ × Chain → Fields1
 packed_one entry = record { tlid = entry.0; body = entry.1.body; start = first_point entry.1.points; end = last_point entry.1.points }
 
 abbrev pub packed_twos : ℕ × Chain → List Fields2
-packed_twos entry = map (λ piece. record { tlid = entry.0; rtsq = piece.0; points = piece.1 }) (numbered_from 1 (in_pieces 10 (inner_points entry.1.points)))
+packed_twos entry = map (λ piece. record { tlid = entry.0; rtsq = piece.0; points = piece.1 })
+    (numbered_from 1 (in_pieces 10 (inner_points entry.1.points)))
 
 abbrev pub packed_fours : ℕ × Chain → List Fields4
 packed_fours entry = map (λ piece. record { tlid = entry.0; rtsq = piece.0; feats = piece.1 }) (numbered_from 1 (in_pieces 5 entry.1.feats))
@@ -117,7 +118,10 @@ by_type records = record {
 }
 
 abbrev pub type_after_type : Typed → List Record
-type_after_type t = map One t.of_type_1 ++ (map Two t.of_type_2 ++ (map Four t.of_type_4 ++ (map Five t.of_type_5 ++ (map Six t.of_type_6 ++ (map Seven t.of_type_7 ++ (map Eight t.of_type_8 ++ (map I t.of_type_i ++ map P t.of_type_p)))))))
+type_after_type t = map One t.of_type_1 ++ (map Two t.of_type_2 ++
+    (map Four t.of_type_4 ++
+    (map Five t.of_type_5 ++
+    (map Six t.of_type_6 ++ (map Seven t.of_type_7 ++ (map Eight t.of_type_8 ++ (map I t.of_type_i ++ map P t.of_type_p)))))))
 
 -- the records of a county: chain by chain, name by name, landmark by landmark, polygons by POLYID
 abbrev pub packed_by_type : County → Typed

@@ -1,5 +1,6 @@
 -- A renaming of a county's numbers, and that it carries one county onto another.
-use Rattle.std.specs.Prelude.{ℕ, ◌≡◌, List, [], ◌∷◌, map, filter, Bool, cond, not, false, Option, Some, None, option_map, IsTrue, IsPermutation}
+use Rattle.std.specs.Prelude.{ℕ, ◌≡◌, List, [], ◌∷◌, map, filter, Bool, cond, not, false, Option, Some, None, option_map, IsTrue}
+use Rattle.std.specs.Prelude.{IsPermutation}
 use Rattle.std.specs.List.{AllByRecursion}
 use Rattle.std.specs.declared.cmp.Ordering.{Ordering}
 use Rattle.std.specs.Ordering.{is_eq, nat_cmp}
@@ -159,5 +160,6 @@ then r next = record {
   polygons = joined key_cmp r.polygons next.polygons;
   lands = joined nat_cmp r.lands next.lands;
   nodes = joined nat_cmp r.nodes next.nodes;
-  turned = filter (λ tlid. exactly_one (turns r tlid) (turns next (image nat_cmp r.chains tlid))) (map (λ pair. pair.0) (joined nat_cmp r.chains next.chains));
+  turned = filter (λ tlid. exactly_one (turns r tlid) (turns next (image nat_cmp r.chains tlid)))
+      (map (λ pair. pair.0) (joined nat_cmp r.chains next.chains));
 }

@@ -3,7 +3,9 @@ use Rattle.std.specs.Prelude.{ℕ, ◌≡◌, ◌+◌, ◌<◌, ◌≤◌, List,
 use Rattle.std.specs.Ordering.{is_gt}
 use Rattle.tl_layout.specs.declared.record_type.Record.{Record}
 use Rattle.tl_county.specs.declared.fault.LinkFault.{LinkFault}
-use Rattle.tl_county.specs.declared.fault.LinkFault.TheVariants.{ChainTwice, NoChain, SequenceBroken, LinkMissing, LinkTwice, NameTwice, NameUnknown, PolygonTwice, LandUnknown, PolygonUnknown, Memory}
+use Rattle.tl_county.specs.declared.fault.LinkFault.TheVariants.{ChainTwice, NoChain, SequenceBroken, LinkMissing, LinkTwice}
+use Rattle.tl_county.specs.declared.fault.LinkFault.TheVariants.{NameTwice, NameUnknown, PolygonTwice, LandUnknown}
+use Rattle.tl_county.specs.declared.fault.LinkFault.TheVariants.{PolygonUnknown, Memory}
 use Rattle.tl_county.specs.declared.fault.LinkedType.{LinkedType}
 use Rattle.tl_county.specs.declared.fault.LinkedType.TheVariants.{Two, Four, Six, I}
 use Rattle.tl_county.specs.FirstOf.{place_cmp}
@@ -37,7 +39,8 @@ RulesHold records low high = (fault : LinkFault) → low ≤ rule_place fault �
 pub record IsFirstFrom (records : List Record) (low : ℕ) (fault : LinkFault) : Type 0 where
   pub from : low ≤ rule_place fault
   pub broken : is_broken records fault ≡ true
-  pub least : (other : LinkFault) → low ≤ rule_place other → is_broken records other ≡ true → is_gt (place_cmp (fault_place fault) (fault_place other)) ≡ false
+  pub least : (other : LinkFault) → low ≤ rule_place other → is_broken records other ≡ true
+      → is_gt (place_cmp (fault_place fault) (fault_place other)) ≡ false
 
 -- what was found of the rules from the one place to the other: the first that is broken, or that they hold
 abbrev pub Settles : List Record → ℕ → ℕ → Option LinkFault → Type 0

@@ -66,5 +66,5 @@ pub fn the_county_is_what_the_records_say()
     ensures repacked { (records others : List Record) →
         AreRepacked records others → county_of records ≡ county_of others }
     ensures resequenced { (sequence : Sequence) (records : List Record) →
-        KeepsSequence sequence → county_of (map (resequenced sequence) records) ≡ county_of records }
+        KeepsSequence sequence records → county_of (map (resequenced sequence) records) ≡ county_of records }
 {}

@@ -11,11 +11,13 @@ last_of : {Y : Type 0} (o : Option Y) (ys : List Y) → ys ++ cons_option o [] �
 last_of None ys = append-nil ys
 last_of (Some y) ys = refl
 
-table_with : {X Y : Type 0} (f : X → Option Y) (xs : List X) (x : X) (before after : List Y) → before ≡ filter_map f xs → after ≡ and_then_one before (f x) → after ≡ filter_map f (xs ++ x ∷ [])
+table_with : {X Y : Type 0} (f : X → Option Y) (xs : List X) (x : X) (before after : List Y) → before ≡ filter_map f xs
+    → after ≡ and_then_one before (f x) → after ≡ filter_map f (xs ++ x ∷ [])
 table_with {X} {Y} f xs x before after held added =
     added ∙ ap (λ (ys : List Y). and_then_one ys (f x)) held ∙ sym (last_of (f x) (filter_map f xs)) ∙ sym (filter_map-append f xs (x ∷ []))
 
-pub holds_with : (before after : Tables) (records : List Record) (added : Record) → HoldsByType before records → AddsRecord before added after → HoldsByType after (records ++ added ∷ [])
+pub holds_with : (before after : Tables) (records : List Record) (added : Record) → HoldsByType before records
+    → AddsRecord before added after → HoldsByType after (records ++ added ∷ [])
 holds_with before after records added held adds = record {
   type_1 = table_with as_type_1 records added _ _ held.type_1 adds.type_1;
   type_2 = table_with as_type_2 records added _ _ held.type_2 adds.type_2;
@@ -28,7 +30,8 @@ holds_with before after records added held adds = record {
   type_p = table_with as_type_p records added _ _ held.type_p adds.type_p;
 }
 
-pub holds_still : (before after : Tables) (records : List Record) → HoldsByType before records → AreSameTables before after → HoldsByType after records
+pub holds_still : (before after : Tables) (records : List Record) → HoldsByType before records → AreSameTables before after
+    → HoldsByType after records
 holds_still before after records held same = record {
   type_1 = same.type_1 ∙ held.type_1;
   type_2 = same.type_2 ∙ held.type_2;

@@ -1,5 +1,6 @@
 -- The counts of records of each type.
-use Rattle.std.proofs.Common.{◌≡◌, ℕ, ◌+◌, ◌<◌, ◌≤◌, Bool, true, false, cond, List, [], ◌∷◌, ◌++◌, length, get_or, set, replicate, Ok, Err, refl, sym, ap, ◌∙◌, arith, lit<, eqb, inl, inr}
+use Rattle.std.proofs.Common.{◌≡◌, ℕ, ◌+◌, ◌<◌, ◌≤◌, Bool, true, false, cond, List, [], ◌∷◌, ◌++◌, length, get_or, set, replicate}
+use Rattle.std.proofs.Common.{Ok, Err, refl, sym, ap, ◌∙◌, arith, lit<, eqb, inl, inr}
 use Rattle.std.proofs.lemmas.Bool.{cases_eq, eq-eqb, ne_eqb, le-leb, lt-leb}
 use Rattle.std.proofs.lemmas.List.{length-set, get_or-set_same, get_or-set_other, get_or-replicate, length-replicate}
 use Rattle.std.proofs.lemmas.List.Elements.{All-nil}
@@ -31,25 +32,34 @@ type_low (P x) = lit< tt
 
 -- ---- one more record
 
-type_count : (counts : List ℕ) (records : List Record) (added : Record) (rtype : ℕ) → AreCounted counts records → type_of added ≡ rtype → count_of tiger (tiger.rtype added) records ≡ get_or counts rtype 0
-type_count counts records added rtype counted is = ap (λ (t : ℕ). count_of tiger t records) (tiger_rtype added) ∙ sym (counted (type_of added) (type_low added)) ∙ ap (λ (t : ℕ). get_or counts t 0) is
+type_count : (counts : List ℕ) (records : List Record) (added : Record) (rtype : ℕ) → AreCounted counts records → type_of added ≡ rtype
+    → count_of tiger (tiger.rtype added) records ≡ get_or counts rtype 0
+type_count counts records added rtype counted is = ap (λ (t : ℕ). count_of tiger t records) (tiger_rtype added)
+    ∙ sym (counted (type_of added) (type_low added)) ∙ ap (λ (t : ℕ). get_or counts t 0) is
 
-pub adds_full : (counts : List ℕ) (records : List Record) (limit : ℕ) (added : Record) (rtype : ℕ) → AreCounted counts records → type_of added ≡ rtype → limit ≤ get_or counts rtype 0 → with_record tiger limit records added ≡ Err (faults.TooManyRecords rtype)
+pub adds_full : (counts : List ℕ) (records : List Record) (limit : ℕ) (added : Record) (rtype : ℕ) → AreCounted counts records
+    → type_of added ≡ rtype → limit ≤ get_or counts rtype 0 → with_record tiger limit records added ≡ Err (faults.TooManyRecords rtype)
 adds_full counts records limit added rtype counted is full =
     let e = type_count counts records added rtype counted is in
-    ap (λ (b : Bool). cond b (Err (faults.TooManyRecords (tiger.rtype added))) (Ok (records ++ added ∷ []))) (le-leb limit (count_of tiger (tiger.rtype added) records) (omega arith))
+    ap (λ (b : Bool). cond b (Err (faults.TooManyRecords (tiger.rtype added))) (Ok (records ++ added ∷ [])))
+        (le-leb limit (count_of tiger (tiger.rtype added) records) (omega arith))
     ∙ ap (λ (t : ℕ). Err (faults.TooManyRecords t)) (tiger_rtype added ∙ is)
 
-pub adds_room : (counts : List ℕ) (records : List Record) (limit : ℕ) (added : Record) (rtype : ℕ) → AreCounted counts records → type_of added ≡ rtype → get_or counts rtype 0 < limit → with_record tiger limit records added ≡ Ok (records ++ added ∷ [])
+pub adds_room : (counts : List ℕ) (records : List Record) (limit : ℕ) (added : Record) (rtype : ℕ) → AreCounted counts records
+    → type_of added ≡ rtype → get_or counts rtype 0 < limit → with_record tiger limit records added ≡ Ok (records ++ added ∷ [])
 adds_room counts records limit added rtype counted is room =
     let e = type_count counts records added rtype counted is in
-    ap (λ (b : Bool). cond b (Err (faults.TooManyRecords (tiger.rtype added))) (Ok (records ++ added ∷ []))) (lt-leb limit (count_of tiger (tiger.rtype added) records) (omega arith))
+    ap (λ (b : Bool). cond b (Err (faults.TooManyRecords (tiger.rtype added))) (Ok (records ++ added ∷ [])))
+        (lt-leb limit (count_of tiger (tiger.rtype added) records) (omega arith))
 
-one_up : (counts : List ℕ) (t u : ℕ) → t < length counts → get_or (set counts t (get_or counts t 0 + 1)) u 0 ≡ get_or counts u 0 + cond (eqb t u) 1 0
+one_up : (counts : List ℕ) (t u : ℕ) → t < length counts
+    → get_or (set counts t (get_or counts t 0 + 1)) u 0 ≡ get_or counts u 0 + cond (eqb t u) 1 0
 one_up counts t u low = elim (cases_eq t u) [
   | inl same ↦
       let b : ◌≡◌ {A = ℕ} (cond (eqb t u) 1 0) 1 = ap (λ (z : Bool). cond z 1 0) (eq-eqb t u same) in
-      let here : get_or (set counts t (get_or counts t 0 + 1)) u 0 ≡ get_or counts t 0 + 1 = ap (λ (k : ℕ). get_or (set counts t (get_or counts t 0 + 1)) k 0) (sym same) ∙ get_or-set_same counts t (get_or counts t 0 + 1) 0 low in
+      let here : get_or (set counts t (get_or counts t 0 + 1)) u 0 ≡ get_or counts t 0 + 1 =
+          ap (λ (k : ℕ). get_or (set counts t (get_or counts t 0 + 1)) k 0) (sym same)
+          ∙ get_or-set_same counts t (get_or counts t 0 + 1) 0 low in
       let was : get_or counts t 0 ≡ get_or counts u 0 = ap (λ (k : ℕ). get_or counts k 0) same in
       omega (arith, b, here, was)
   | inr other ↦
@@ -58,23 +68,29 @@ one_up counts t u low = elim (cases_eq t u) [
       omega (arith, b, here)
 ]
 
-pub counted_more : (counts : List ℕ) (records : List Record) (added : Record) (rtype : ℕ) → length counts ≡ 128 → AreCounted counts records → type_of added ≡ rtype → AreCounted (set counts rtype (get_or counts rtype 0 + 1)) (records ++ added ∷ [])
+pub counted_more : (counts : List ℕ) (records : List Record) (added : Record) (rtype : ℕ) → length counts ≡ 128 → AreCounted counts records
+    → type_of added ≡ rtype → AreCounted (set counts rtype (get_or counts rtype 0 + 1)) (records ++ added ∷ [])
 counted_more counts records added rtype len counted is t low =
     let here = one_up counts rtype t (omega (arith, len, type_low added, is)) in
     let was = counted t low in
     let e = count_push tiger records added t in
-    let same : ◌≡◌ {A = ℕ} (cond (eqb (tiger.rtype added) t) 1 0) (cond (eqb rtype t) 1 0) = ap (λ (k : ℕ). cond {A = ℕ} (eqb k t) 1 0) (tiger_rtype added ∙ is) in
+    let same : ◌≡◌ {A = ℕ} (cond (eqb (tiger.rtype added) t) 1 0) (cond (eqb rtype t) 1 0) =
+        ap (λ (k : ℕ). cond {A = ℕ} (eqb k t) 1 0) (tiger_rtype added ∙ is) in
     omega (arith, here, was, e, same)
 
 -- exactly one of the nine types is this one
 abbrev pub of_nine : ℕ → ℕ
-of_nine t = cond (eqb t 49) 1 0 + cond (eqb t 50) 1 0 + cond (eqb t 52) 1 0 + cond (eqb t 53) 1 0 + cond (eqb t 54) 1 0 + cond (eqb t 55) 1 0 + cond (eqb t 56) 1 0 + cond (eqb t 73) 1 0 + cond (eqb t 80) 1 0
+of_nine t = cond (eqb t 49) 1 0 + cond (eqb t 50) 1 0 + cond (eqb t 52) 1 0 + cond (eqb t 53) 1 0 + cond (eqb t 54) 1 0 + cond
+    (eqb t 55) 1 0 + cond (eqb t 56) 1 0 + cond (eqb t 73) 1 0 + cond (eqb t 80) 1 0
 
 all_nine : (counts : List ℕ) (t : ℕ) → t < length counts → of_nine t ≡ 1 → total (set counts t (get_or counts t 0 + 1)) ≡ total counts + 1
-all_nine counts t low one = omega (arith, one, one_up counts t 49 low, one_up counts t 50 low, one_up counts t 52 low, one_up counts t 53 low, one_up counts t 54 low, one_up counts t 55 low, one_up counts t 56 low, one_up counts t 73 low, one_up counts t 80 low)
+all_nine counts t low one =
+    omega (arith, one, one_up counts t 49 low, one_up counts t 50 low, one_up counts t 52 low, one_up counts t 53 low,
+    one_up counts t 54 low, one_up counts t 55 low, one_up counts t 56 low, one_up counts t 73 low, one_up counts t 80 low)
 
 -- the record is of one of the nine types
-total_more : (counts : List ℕ) (added : Record) → length counts ≡ 128 → total (set counts (type_of added) (get_or counts (type_of added) 0 + 1)) ≡ total counts + 1
+total_more : (counts : List ℕ) (added : Record) → length counts ≡ 128
+    → total (set counts (type_of added) (get_or counts (type_of added) 0 + 1)) ≡ total counts + 1
 unfolding type_of
 total_more counts (One r) len = all_nine counts 49 (omega (arith, len)) refl
 total_more counts (Two r) len = all_nine counts 50 (omega (arith, len)) refl
@@ -86,16 +102,20 @@ total_more counts (Eight r) len = all_nine counts 56 (omega (arith, len)) refl
 total_more counts (I r) len = all_nine counts 73 (omega (arith, len)) refl
 total_more counts (P r) len = all_nine counts 80 (omega (arith, len)) refl
 
-pub total_up : (counts : List ℕ) (added : Record) (rtype : ℕ) → length counts ≡ 128 → type_of added ≡ rtype → total (set counts rtype (get_or counts rtype 0 + 1)) ≡ total counts + 1
+pub total_up : (counts : List ℕ) (added : Record) (rtype : ℕ) → length counts ≡ 128 → type_of added ≡ rtype
+    → total (set counts rtype (get_or counts rtype 0 + 1)) ≡ total counts + 1
 total_up counts added rtype len is = ap (λ (t : ℕ). total (set counts t (get_or counts t 0 + 1))) (sym is) ∙ total_more counts added len
 
-pub loader_with : (counts : List ℕ) (unfinished : List ℕ) (parts judged limit : ℕ) (added : Record) (rtype : ℕ) → IsLoader counts unfinished parts judged limit → type_of added ≡ rtype → get_or counts rtype 0 < limit
+pub loader_with : (counts : List ℕ) (unfinished : List ℕ) (parts judged limit : ℕ) (added : Record) (rtype : ℕ)
+    → IsLoader counts unfinished parts judged limit → type_of added ≡ rtype → get_or counts rtype 0 < limit
     → IsLoader (set counts rtype (get_or counts rtype 0 + 1)) unfinished parts (judged + 1) limit
 loader_with counts unfinished parts judged limit added rtype l is room = record {
   counts_len = omega (arith, length-set counts rtype (get_or counts rtype 0 + 1), l.counts_len);
   within = λ t low. elim (cases_eq rtype t) [
     | inl same ↦
-        let here : get_or (set counts rtype (get_or counts rtype 0 + 1)) t 0 ≡ get_or counts rtype 0 + 1 = ap (λ (k : ℕ). get_or (set counts rtype (get_or counts rtype 0 + 1)) k 0) (sym same) ∙ get_or-set_same counts rtype (get_or counts rtype 0 + 1) 0 (omega (arith, l.counts_len, type_low added, is)) in
+        let here : get_or (set counts rtype (get_or counts rtype 0 + 1)) t 0 ≡ get_or counts rtype 0 + 1 =
+            ap (λ (k : ℕ). get_or (set counts rtype (get_or counts rtype 0 + 1)) k 0) (sym same)
+            ∙ get_or-set_same counts rtype (get_or counts rtype 0 + 1) 0 (omega (arith, l.counts_len, type_low added, is)) in
         omega (arith, here)
     | inr other ↦
         let here = get_or-set_other counts rtype t (get_or counts rtype 0 + 1) 0 (λ e. other (sym e)) in
@@ -130,6 +150,8 @@ empty_loader limit low = record {
 
 -- ---- how many records there may be
 
-pub most_records : (counts : List ℕ) (unfinished : List ℕ) (parts judged limit : ℕ) → IsLoader counts unfinished parts judged limit → total counts ≤ 90000000
+pub most_records : (counts : List ℕ) (unfinished : List ℕ) (parts judged limit : ℕ) → IsLoader counts unfinished parts judged limit
+    → total counts ≤ 90000000
 most_records counts unfinished parts judged limit l =
-    omega (arith, l.limit_low, l.within 49 (lit< tt), l.within 50 (lit< tt), l.within 52 (lit< tt), l.within 53 (lit< tt), l.within 54 (lit< tt), l.within 55 (lit< tt), l.within 56 (lit< tt), l.within 73 (lit< tt), l.within 80 (lit< tt))
+    omega (arith, l.limit_low, l.within 49 (lit< tt), l.within 50 (lit< tt), l.within 52 (lit< tt), l.within 53 (lit< tt),
+        l.within 54 (lit< tt), l.within 55 (lit< tt), l.within 56 (lit< tt), l.within 73 (lit< tt), l.within 80 (lit< tt))

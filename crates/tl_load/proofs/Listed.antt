@@ -1,5 +1,6 @@
 -- A loader of a list of records is a loader over a keeper that holds this list.
-use Rattle.std.proofs.Common.{◌≡◌, ℕ, List, [], ◌∷◌, ◌++◌, Option, Some, None, Result, Ok, Err, refl, sym, ap, subst, ◌∙◌, ◌⊎◌, inl, inr, Vec, Global}
+use Rattle.std.proofs.Common.{◌≡◌, ℕ, List, [], ◌∷◌, ◌++◌, Option, Some, None, Result, Ok, Err, refl, sym, ap, subst, ◌∙◌, ◌⊎◌}
+use Rattle.std.proofs.Common.{inl, inr, Vec, Global}
 use Rattle.std.specs.Prelude.{MatchOption, MatchResult, IfOk, IfSome, IfErr, OnOk}
 use Rattle.tl_layout.specs.declared.record_type.Record.{Record}
 use Rattle.tl_load.specs.declared.fault.LoadFault.{LoadFault}
@@ -20,18 +21,23 @@ listed l = seen l l.kept.items
 abbrev pub IsListed : LoadedInto Records → Type 0
 IsListed l = l.fault ≡ None → AreCounted l.counts l.kept.items
 
-pub into_of : (limit : ℕ) (l : LoadedInto Records) (closed : List (List ℕ)) (open_part : List ℕ) → IsListed l → WasFed limit (listed l) closed open_part → WasFedInto holds_list limit l closed open_part
+pub into_of : (limit : ℕ) (l : LoadedInto Records) (closed : List (List ℕ)) (open_part : List ℕ) → IsListed l
+    → WasFed limit (listed l) closed open_part → WasFedInto holds_list limit l closed open_part
 into_of limit l closed open_part counted w = record { limit_is = w.limit_is; comes = go l.fault refl w.comes }
   where
-    go : (o : Option LoadFault) → l.fault ≡ o → MatchOption o (HasLoaded limit (listed l) closed open_part) (λ f. IsOfLines f → IsFaultHowever limit closed open_part f)
-        → MatchOption o ((records : List Record) × AreKept holds_list l records × HasLoaded limit (seen l records) closed open_part) (λ f. IsOfLines f → IsFaultHowever limit closed open_part f)
+    go : (o : Option LoadFault) → l.fault ≡ o → MatchOption o (HasLoaded limit (listed l) closed open_part) (λ f. IsOfLines f
+        → IsFaultHowever limit closed open_part f)
+        → MatchOption o ((records : List Record) × AreKept holds_list l records × HasLoaded limit (seen l records) closed open_part)
+            (λ f. IsOfLines f → IsFaultHowever limit closed open_part f)
     go None e h = (l.kept.items, record { held = refl; counted = counted e }, h)
     go (Some f) e h = h
 
-pub of_into : (limit : ℕ) (l : LoadedInto Records) (closed : List (List ℕ)) (open_part : List ℕ) → WasFedInto holds_list limit l closed open_part → WasFed limit (listed l) closed open_part
+pub of_into : (limit : ℕ) (l : LoadedInto Records) (closed : List (List ℕ)) (open_part : List ℕ)
+    → WasFedInto holds_list limit l closed open_part → WasFed limit (listed l) closed open_part
 of_into limit l closed open_part w = record { limit_is = w.limit_is; comes = go l.fault w.comes }
   where
-    go : (o : Option LoadFault) → MatchOption o ((records : List Record) × AreKept holds_list l records × HasLoaded limit (seen l records) closed open_part) (λ f. IsOfLines f → IsFaultHowever limit closed open_part f)
+    go : (o : Option LoadFault) → MatchOption o ((records : List Record) × AreKept holds_list l records
+        × HasLoaded limit (seen l records) closed open_part) (λ f. IsOfLines f → IsFaultHowever limit closed open_part f)
         → MatchOption o (HasLoaded limit (listed l) closed open_part) (λ f. IsOfLines f → IsFaultHowever limit closed open_part f)
     go None h = subst (λ (rs : List Record). HasLoaded limit (seen l rs) closed open_part) (sym h.1.held) h.2
     go (Some f) h = h
@@ -43,7 +49,8 @@ counted_of : (l : LoadedInto Records) → HasSome holds_list l → AreCounted l.
 counted_of l h = subst (AreCounted l.counts) (sym h.1.held) h.1.counted
 
 -- a call leaves the list counted
-pub listed_after : {T : Type 0} (before after : LoadedInto Records) (result : Result T LoadFault) → IsListed before → (HasSome holds_list before → OnOk result (HasSome holds_list after)) → IfErr result (λ f. after.fault ≡ Some f)
+pub listed_after : {T : Type 0} (before after : LoadedInto Records) (result : Result T LoadFault) → IsListed before
+    → (HasSome holds_list before → OnOk result (HasSome holds_list after)) → IfErr result (λ f. after.fault ≡ Some f)
     → ((f : LoadFault) → before.fault ≡ Some f → result ≡ Err f) → IsListed after
 listed_after before after (Err f) was kept told stood none = absurd cc
 listed_after {T} before after (Ok x) was kept told stood none = go before.fault refl
@@ -58,13 +65,16 @@ at_fault P (Some y) x e h = let same : y ≡ x = cc in subst P same h
 
 -- ---- what a whole call answers
 
-pub found_list : (P : List Record → Type 0) (r : Result Records LoadFault) → IfOk r (λ kept. (records : List Record) × holds_list kept records × P records) → IfOk r (λ kept. P kept.items)
+pub found_list : (P : List Record → Type 0) (r : Result Records LoadFault)
+    → IfOk r (λ kept. (records : List Record) × holds_list kept records × P records) → IfOk r (λ kept. P kept.items)
 found_list P (Ok kept) h = subst P (sym h.1) h.2
 found_list P (Err f) h = tt
 
-pub also : (P Q : List Record → Type 0) (r : Result Records LoadFault) → ((records : List Record) → P records → Q records) → IfOk r (λ kept. P kept.items) → IfOk r (λ kept. Q kept.items)
+pub also : (P Q : List Record → Type 0) (r : Result Records LoadFault) → ((records : List Record) → P records → Q records)
+    → IfOk r (λ kept. P kept.items) → IfOk r (λ kept. Q kept.items)
 also P Q (Ok kept) step h = step kept.items h
 also P Q (Err f) step h = tt
 
-pub listed_new : (limit : ℕ) (l : LoadedInto Records) (closed : List (List ℕ)) (open_part : List ℕ) → WasFedInto holds_list limit l closed open_part → IsListed l
+pub listed_new : (limit : ℕ) (l : LoadedInto Records) (closed : List (List ℕ)) (open_part : List ℕ)
+    → WasFedInto holds_list limit l closed open_part → IsListed l
 listed_new limit l closed open_part w none = let h = has_of holds_list limit l closed open_part none w in counted_of l (h.records, h.kept)

@@ -1,5 +1,6 @@
 -- What a source gives, and how it is counted.
-use Rattle.std.proofs.Common.{◌≡◌, ℕ, ◌+◌, ◌%◌, ◌^◌, List, [], ◌++◌, length, Option, Some, None, Result, Ok, Err, refl, sym, ap, subst, ◌∙◌, append_assoc, append-nil, add_assoc, arith}
+use Rattle.std.proofs.Common.{◌≡◌, ℕ, ◌+◌, ◌%◌, ◌^◌, List, [], ◌++◌, length, Option, Some, None, Result, Ok, Err, refl, sym, ap}
+use Rattle.std.proofs.Common.{subst, ◌∙◌, append_assoc, append-nil, add_assoc, arith}
 use Rattle.std.specs.Io.KnownBytes.{Consumes, Keeps}
 use Rattle.std.proofs.Math.Nat.{mod-add-mod}
 use Rattle.std.proofs.lemmas.List.{length-append}
@@ -23,23 +24,29 @@ consumes_kept (Some s) (Some t) (Some u) x p q = p ∙ ap (λ (l : List ℕ). x 
 
 rose_then : (a b c m n : ℕ) → RoseBy m a b → RoseBy n b c → RoseBy (m + n) a c
 rose_then a b c m n p q =
-    q ∙ sym (mod-add-mod b (2 ^ 64) n) ∙ ap (λ (k : ℕ). (k + n) % 2 ^ 64) p ∙ mod-add-mod (a + m) (2 ^ 64) n ∙ ap (λ (k : ℕ). k % 2 ^ 64) (add_assoc a m n)
+    q ∙ sym (mod-add-mod b (2 ^ 64) n) ∙ ap (λ (k : ℕ). (k + n) % 2 ^ 64) p ∙ mod-add-mod (a + m) (2 ^ 64) n
+        ∙ ap (λ (k : ℕ). k % 2 ^ 64) (add_assoc a m n)
 
 module _ {R : Type 0} (remaining : R → Option (List ℕ)) (given : R → ℕ) where
   pub gave_none : (s : R) → Gave remaining given s s []
   gave_none s = record { bytes = consumes_nil (remaining s); counted = ap (λ (k : ℕ). k % 2 ^ 64) (omega arith) }
 
-  pub gave_more : (a b c : R) (taken bytes : List ℕ) → Gave remaining given a b taken → Consumes (remaining b) (remaining c) bytes → RoseBy (length bytes) (given b) (given c) → Gave remaining given a c (taken ++ bytes)
+  pub gave_more : (a b c : R) (taken bytes : List ℕ) → Gave remaining given a b taken → Consumes (remaining b) (remaining c) bytes
+      → RoseBy (length bytes) (given b) (given c) → Gave remaining given a c (taken ++ bytes)
   gave_more a b c taken bytes p q r = record {
     bytes = consumes_then (remaining a) (remaining b) (remaining c) taken bytes p.bytes q;
-    counted = subst (λ (k : ℕ). RoseBy k (given a) (given c)) (sym (length-append taken bytes)) (rose_then (given a) (given b) (given c) (length taken) (length bytes) p.counted r);
+    counted = subst (λ (k : ℕ). RoseBy k (given a) (given c)) (sym (length-append taken bytes))
+        (rose_then (given a) (given b) (given c) (length taken) (length bytes) p.counted r);
   }
 
-  pub gave_same : (a b c : R) (taken : List ℕ) → Gave remaining given a b taken → Consumes (remaining b) (remaining c) [] → RoseBy 0 (given b) (given c) → Gave remaining given a c taken
+  pub gave_same : (a b c : R) (taken : List ℕ) → Gave remaining given a b taken → Consumes (remaining b) (remaining c) []
+      → RoseBy 0 (given b) (given c) → Gave remaining given a c taken
   gave_same a b c taken p q r = subst (Gave remaining given a c) (append-nil taken) (gave_more a b c taken [] p q r)
 
-  pub gave_kept : (a b c : R) (taken : List ℕ) → Gave remaining given a b taken → Keeps (remaining b) (remaining c) → RoseBy 0 (given b) (given c) → Gave remaining given a c taken
+  pub gave_kept : (a b c : R) (taken : List ℕ) → Gave remaining given a b taken → Keeps (remaining b) (remaining c)
+      → RoseBy 0 (given b) (given c) → Gave remaining given a c taken
   gave_kept a b c taken p q r = record {
     bytes = consumes_kept (remaining a) (remaining b) (remaining c) taken p.bytes q;
-    counted = subst (λ (k : ℕ). RoseBy k (given a) (given c)) (omega arith) (rose_then (given a) (given b) (given c) (length taken) 0 p.counted r);
+    counted = subst (λ (k : ℕ). RoseBy k (given a) (given c)) (omega arith)
+        (rose_then (given a) (given b) (given c) (length taken) 0 p.counted r);
   }

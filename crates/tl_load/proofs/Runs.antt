@@ -13,7 +13,8 @@ pub rest_of : {A : Type 0} (P : A → Type 0) (x : A) (xs : List A) → All P (x
 rest_of P x xs h k d lt = h (suc k) d (omega arith)
 
 -- lines that have ended are lines, whatever follows them
-pub lines_after : (ended : List (List ℕ)) (rest : List ℕ) → All IsWithoutLineFeed ended → lines (with_line_feeds ended ++ rest) ≡ map without_return ended ++ lines rest
+pub lines_after : (ended : List (List ℕ)) (rest : List ℕ) → All IsWithoutLineFeed ended
+    → lines (with_line_feeds ended ++ rest) ≡ map without_return ended ++ lines rest
 lines_after [] rest h = refl
 lines_after (line ∷ ended) rest h =
     let regroup : with_line_feeds (line ∷ ended) ++ rest ≡ line ++ 10 ∷ (with_line_feeds ended ++ rest) = simp append_assoc in
@@ -26,12 +27,14 @@ unfolding numbered
 numbered-append part n [] b = ap (λ (k : ℕ). numbered part k b) (omega arith)
 numbered-append part n (x ∷ a) b =
     let place : n + 1 + length a ≡ n + length (x ∷ a) = omega arith in
-    ap (λ (ls : List PlacedLine). record { part = part; line = n; bytes = x } ∷ ls) (numbered-append part (n + 1) a b ∙ ap (λ (k : ℕ). numbered part (n + 1) a ++ numbered part k b) place)
+    ap (λ (ls : List PlacedLine). record { part = part; line = n; bytes = x } ∷ ls) (numbered-append part (n + 1) a b
+        ∙ ap (λ (k : ℕ). numbered part (n + 1) a ++ numbered part k b) place)
 
 pub parts-append : (n : ℕ) (a b : List (List ℕ)) → lines_from_part n (a ++ b) ≡ lines_from_part n a ++ lines_from_part (n + length a) b
 unfolding lines_from_part
 parts-append n [] b = ap (λ (k : ℕ). lines_from_part k b) (omega arith)
 parts-append n (x ∷ a) b =
     let place : n + 1 + length a ≡ n + length (x ∷ a) = omega arith in
-    ap (λ (ls : List PlacedLine). numbered n 1 (lines x) ++ ls) (parts-append (n + 1) a b ∙ ap (λ (k : ℕ). lines_from_part (n + 1) a ++ lines_from_part k b) place)
+    ap (λ (ls : List PlacedLine). numbered n 1 (lines x) ++ ls) (parts-append (n + 1) a b
+        ∙ ap (λ (k : ℕ). lines_from_part (n + 1) a ++ lines_from_part k b) place)
     ∙ sym (append_assoc (numbered n 1 (lines x)) (lines_from_part (n + 1) a) (lines_from_part (n + length (x ∷ a)) b))

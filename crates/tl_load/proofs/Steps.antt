@@ -1,5 +1,6 @@
 -- The loader's steps, for a loader of a list of records.
-use Rattle.std.proofs.Common.{◌≡◌, ℕ, ◌+◌, ◌<◌, ◌≤◌, false, List, [], ◌∷◌, ◌++◌, length, map, Result, Ok, Err, refl, sym, ap, subst, ◌∙◌, append_assoc, append-nil, arith, inl, inr}
+use Rattle.std.proofs.Common.{◌≡◌, ℕ, ◌+◌, ◌<◌, ◌≤◌, false, List, [], ◌∷◌, ◌++◌, length, map, Result, Ok, Err, refl, sym, ap}
+use Rattle.std.proofs.Common.{subst, ◌∙◌, append_assoc, append-nil, arith, inl, inr}
 use Rattle.std.specs.Prelude.{All, OnOk, MatchResult}
 use Rattle.std.specs.Result.{IsErr}
 use Rattle.std.proofs.lemmas.Grind.{flat_map-append}
@@ -17,7 +18,8 @@ use Rattle.tl_load.specs.Verdicts.{fault_at, field_fault_at}
 use Rattle.tl_load.specs.Outcome.{◌>>=◌, after_verdict, next, reading}
 use Rattle.tl_load.specs.Choice.{tiger, judged}
 use Rattle.tl_load.specs.Loaded.{Loaded, IsOfLines, IsNotDevice, with_line_feeds, AreLines}
-use Rattle.tl_load.specs.Steps.{to_come, to_end, TakesLines, Takes, LeavesRest, next_place, JudgesAs, Judges, Ends, IsClosed, Closes, ReadsAll, Reads}
+use Rattle.tl_load.specs.Steps.{to_come, to_end, TakesLines, Takes, LeavesRest, next_place, JudgesAs, Judges, Ends, IsClosed}
+use Rattle.tl_load.specs.Steps.{Closes, ReadsAll, Reads}
 use Rattle.tl_load.proofs.Reading.{reading-append}
 use Rattle.tl_load.proofs.LineLemmas.{lines_line, lines_rest, lines_none, first_line_of, without_return_front}
 use Rattle.tl_load.proofs.Runs.{lines_after, numbered-append}
@@ -26,26 +28,36 @@ use Rattle.tl_load.proofs.Settled.{judged_long, judged_settles}
 -- ---- bytes that were taken
 
 -- what comes stays the same where bytes are taken
-pub takes_comes : (before after : Loaded) (bytes more : List ℕ) (later : List (List ℕ)) → TakesLines before bytes after → to_come before (bytes ++ more) later ≡ to_come after more later
+pub takes_comes : (before after : Loaded) (bytes more : List ℕ) (later : List (List ℕ)) → TakesLines before bytes after
+    → to_come before (bytes ++ more) later ≡ to_come after more later
 unfolding to_come
 takes_comes before after bytes more later t =
     let tail = lines_from_part (before.parts + 1 + 1) later in
     let rest = lines (after.unfinished ++ more) in
     let there = numbered (before.parts + 1) (before.judged + 1) (map without_return t.ended) in
     let split : before.unfinished ++ (bytes ++ more) ≡ with_line_feeds t.ended ++ (after.unfinished ++ more) =
-    sym (append_assoc before.unfinished bytes more) ∙ ap (λ (l : List ℕ). l ++ more) t.lines_are.bytes_are ∙ append_assoc (with_line_feeds t.ended) after.unfinished more in
-    let cut : lines (before.unfinished ++ (bytes ++ more)) ≡ map without_return t.ended ++ rest = ap lines split ∙ lines_after t.ended (after.unfinished ++ more) t.lines_are.each_ended in
-    let place : before.judged + 1 + length (map without_return t.ended) ≡ after.judged + 1 = omega (arith, length-map t.ended without_return, t.judged_are) in
+    sym (append_assoc before.unfinished bytes more) ∙ ap (λ (l : List ℕ). l ++ more) t.lines_are.bytes_are
+        ∙ append_assoc (with_line_feeds t.ended) after.unfinished more in
+    let cut : lines (before.unfinished ++ (bytes ++ more)) ≡ map without_return t.ended ++ rest = ap lines split
+        ∙ lines_after t.ended (after.unfinished ++ more) t.lines_are.each_ended in
+    let place : before.judged + 1 + length (map without_return t.ended) ≡ after.judged + 1 =
+        omega (arith, length-map t.ended without_return, t.judged_are) in
     let parts : before.parts ≡ after.parts = sym t.parts_are in
     let limit : before.limit ≡ after.limit = sym t.limit_is in
     ap (λ (ls : List (List ℕ)). reading tiger before.limit before.records (numbered (before.parts + 1) (before.judged + 1) ls ++ tail)) cut
-    ∙ ap (λ (ls : List PlacedLine). reading tiger before.limit before.records (ls ++ tail)) (numbered-append (before.parts + 1) (before.judged + 1) (map without_return t.ended) rest)
-    ∙ ap (reading tiger before.limit before.records) (append_assoc there (numbered (before.parts + 1) (before.judged + 1 + length (map without_return t.ended)) rest) tail)
-    ∙ reading-append tiger before.limit before.records there (numbered (before.parts + 1) (before.judged + 1 + length (map without_return t.ended)) rest ++ tail)
-    ∙ ap (λ (r : Result (List Record) LoadFault). r >>= λ records. reading tiger before.limit records (numbered (before.parts + 1) (before.judged + 1 + length (map without_return t.ended)) rest ++ tail)) t.reads
+    ∙ ap (λ (ls : List PlacedLine). reading tiger before.limit before.records (ls ++ tail))
+        (numbered-append (before.parts + 1) (before.judged + 1) (map without_return t.ended) rest)
+    ∙ ap (reading tiger before.limit before.records)
+        (append_assoc there (numbered (before.parts + 1) (before.judged + 1 + length (map without_return t.ended)) rest) tail)
+    ∙ reading-append tiger before.limit before.records there
+        (numbered (before.parts + 1) (before.judged + 1 + length (map without_return t.ended)) rest ++ tail)
+    ∙ ap (λ (r : Result (List Record) LoadFault). r >>= λ records. reading tiger before.limit records
+        (numbered (before.parts + 1) (before.judged + 1 + length (map without_return t.ended)) rest ++ tail)) t.reads
     ∙ ap (λ (k : ℕ). reading tiger before.limit after.records (numbered (before.parts + 1) k rest ++ tail)) place
-    ∙ ap (λ (k : ℕ). reading tiger before.limit after.records (numbered (k + 1) (after.judged + 1) rest ++ lines_from_part (k + 1 + 1) later)) parts
-    ∙ ap (λ (k : ℕ). reading tiger k after.records (numbered (after.parts + 1) (after.judged + 1) rest ++ lines_from_part (after.parts + 1 + 1) later)) limit
+    ∙ ap (λ (k : ℕ). reading tiger before.limit after.records
+        (numbered (k + 1) (after.judged + 1) rest ++ lines_from_part (k + 1 + 1) later)) parts
+    ∙ ap (λ (k : ℕ). reading tiger k after.records
+        (numbered (after.parts + 1) (after.judged + 1) rest ++ lines_from_part (after.parts + 1 + 1) later)) limit
 
 pub takes_none : (l : Loaded) → IsWithoutLineFeed l.unfinished → TakesLines l [] l
 unfolding numbered reading
@@ -59,7 +71,8 @@ takes_none l none = record {
 }
 
 -- bytes of a line that hasn't ended
-pub holds_more : (before after : Loaded) (bytes : List ℕ) → after.records ≡ before.records → after.parts ≡ before.parts → after.judged ≡ before.judged → after.limit ≡ before.limit → after.unfinished ≡ before.unfinished ++ bytes
+pub holds_more : (before after : Loaded) (bytes : List ℕ) → after.records ≡ before.records → after.parts ≡ before.parts
+    → after.judged ≡ before.judged → after.limit ≡ before.limit → after.unfinished ≡ before.unfinished ++ bytes
     → IsWithoutLineFeed before.unfinished → IsWithoutLineFeed bytes → TakesLines before bytes after
 unfolding numbered reading
 holds_more before after bytes records parts judged limit unfinished none more = record {
@@ -75,7 +88,8 @@ holds_more before after bytes records parts judged limit unfinished none more = 
   limit_is = limit;
 }
 
-pub takes_both : (before mid after : Loaded) (a b : List ℕ) → TakesLines before a mid → TakesLines mid b after → TakesLines before (a ++ b) after
+pub takes_both : (before mid after : Loaded) (a b : List ℕ) → TakesLines before a mid → TakesLines mid b after
+    → TakesLines before (a ++ b) after
 takes_both before mid after a b p q =
     let first = map without_return p.ended in
     let second = map without_return q.ended in
@@ -83,16 +97,21 @@ takes_both before mid after a b p q =
     record {
       ended = p.ended ++ q.ended;
       lines_are = record {
-        bytes_are = sym (append_assoc before.unfinished a b) ∙ ap (λ (l : List ℕ). l ++ b) p.lines_are.bytes_are ∙ append_assoc (with_line_feeds p.ended) mid.unfinished b
-            ∙ ap (λ (l : List ℕ). with_line_feeds p.ended ++ l) q.lines_are.bytes_are ∙ sym (append_assoc (with_line_feeds p.ended) (with_line_feeds q.ended) after.unfinished)
+        bytes_are = sym (append_assoc before.unfinished a b) ∙ ap (λ (l : List ℕ). l ++ b) p.lines_are.bytes_are
+            ∙ append_assoc (with_line_feeds p.ended) mid.unfinished b
+            ∙ ap (λ (l : List ℕ). with_line_feeds p.ended ++ l) q.lines_are.bytes_are
+                ∙ sym (append_assoc (with_line_feeds p.ended) (with_line_feeds q.ended) after.unfinished)
             ∙ ap (λ (l : List ℕ). l ++ after.unfinished) (sym (flat_map-append (λ (line : List ℕ). line ++ 10 ∷ []) p.ended q.ended));
         each_ended = All-append IsWithoutLineFeed p.ended q.ended p.lines_are.each_ended q.lines_are.each_ended;
         not_ended = q.lines_are.not_ended;
       };
-      reads = ap (λ (ls : List (List ℕ)). reading tiger before.limit before.records (numbered (before.parts + 1) (before.judged + 1) ls)) (map-append without_return p.ended q.ended)
+      reads = ap (λ (ls : List (List ℕ)). reading tiger before.limit before.records (numbered (before.parts + 1) (before.judged + 1) ls))
+          (map-append without_return p.ended q.ended)
           ∙ ap (reading tiger before.limit before.records) (numbered-append (before.parts + 1) (before.judged + 1) first second)
-          ∙ reading-append tiger before.limit before.records (numbered (before.parts + 1) (before.judged + 1) first) (numbered (before.parts + 1) (before.judged + 1 + length first) second)
-          ∙ ap (λ (r : Result (List Record) LoadFault). r >>= λ records. reading tiger before.limit records (numbered (before.parts + 1) (before.judged + 1 + length first) second)) p.reads
+          ∙ reading-append tiger before.limit before.records (numbered (before.parts + 1) (before.judged + 1) first)
+              (numbered (before.parts + 1) (before.judged + 1 + length first) second)
+          ∙ ap (λ (r : Result (List Record) LoadFault). r >>= λ records. reading tiger before.limit records
+              (numbered (before.parts + 1) (before.judged + 1 + length first) second)) p.reads
           ∙ ap (λ (k : ℕ). reading tiger before.limit mid.records (numbered (before.parts + 1) k second)) place
           ∙ ap (λ (k : ℕ). reading tiger before.limit mid.records (numbered (k + 1) (mid.judged + 1) second)) (sym p.parts_are)
           ∙ ap (λ (k : ℕ). reading tiger k mid.records (numbered (mid.parts + 1) (mid.judged + 1) second)) (sym p.limit_is)
@@ -102,12 +121,16 @@ takes_both before mid after a b p q =
       limit_is = q.limit_is ∙ p.limit_is;
     }
 
-pub takes_then : {T : Type 0} (before mid after : Loaded) (a b : List ℕ) (result : Result T LoadFault) → TakesLines before a mid → Takes b mid result after → Takes (a ++ b) before result after
+pub takes_then : {T : Type 0} (before mid after : Loaded) (a b : List ℕ) (result : Result T LoadFault) → TakesLines before a mid
+    → Takes b mid result after → Takes (a ++ b) before result after
 takes_then before mid after a b (Ok y) p q = takes_both before mid after a b p q
-takes_then before mid after a b (Err f) p q = λ is more later. ap (λ (l : List ℕ). to_come before l later) (append_assoc a b more) ∙ takes_comes before mid a (b ++ more) later p ∙ q is more later
+takes_then before mid after a b (Err f) p q = λ is more later. ap (λ (l : List ℕ). to_come before l later) (append_assoc a b more)
+    ∙ takes_comes before mid a (b ++ more) later p ∙ q is more later
 
-pub fault_then : (T U : Type 0) (before mid after : Loaded) (a b : List ℕ) (f : LoadFault) → Takes {T = T} a before (Err f) mid → Takes {T = U} (a ++ b) before (Err f) after
-fault_then T U before mid after a b f p is more later = ap (λ (l : List ℕ). to_come before l later) (append_assoc a b more) ∙ p is (b ++ more) later
+pub fault_then : (T U : Type 0) (before mid after : Loaded) (a b : List ℕ) (f : LoadFault) → Takes {T = T} a before (Err f) mid
+    → Takes {T = U} (a ++ b) before (Err f) after
+fault_then T U before mid after a b f p is more later = ap (λ (l : List ℕ). to_come before l later) (append_assoc a b more)
+    ∙ p is (b ++ more) later
 
 -- ---- one line
 
@@ -134,12 +157,16 @@ pub record IsBefore (mid before : Loaded) : Type 0 where
   pub limit : mid.limit ≡ before.limit
 
 -- the next line is judged, and then what follows it
-reading_line : (l : Loaded) (line : List ℕ) (more : List (List ℕ)) (tail : List PlacedLine) → reading tiger l.limit l.records (numbered (l.parts + 1) (l.judged + 1) (line ∷ more) ++ tail)
-    ≡ (after_verdict tiger l.limit l.records (next_place l line) (judged line) >>= λ records. reading tiger l.limit records (numbered (l.parts + 1) (l.judged + 1 + 1) more ++ tail))
+reading_line : (l : Loaded) (line : List ℕ) (more : List (List ℕ)) (tail : List PlacedLine)
+    → reading tiger l.limit l.records (numbered (l.parts + 1) (l.judged + 1) (line ∷ more) ++ tail)
+    ≡ (after_verdict tiger l.limit l.records (next_place l line) (judged line) >>= λ records. reading tiger l.limit records
+        (numbered (l.parts + 1) (l.judged + 1 + 1) more ++ tail))
 unfolding numbered reading next tiger
 reading_line l line more tail = refl
 
-verdict_before : (mid before : Loaded) (line : List ℕ) → IsBefore mid before → after_verdict tiger mid.limit mid.records (next_place mid line) (judged line) ≡ after_verdict tiger before.limit before.records (next_place before line) (judged line)
+verdict_before : (mid before : Loaded) (line : List ℕ) → IsBefore mid before
+    → after_verdict tiger mid.limit mid.records (next_place mid line) (judged line) ≡ after_verdict tiger before.limit before.records
+    (next_place before line) (judged line)
 verdict_before mid before line same = let a = same.records in let b = same.parts in let c = same.judged in let d = same.limit in cc
 
 one_line : (l : Loaded) (line : List ℕ) → reading tiger l.limit l.records (numbered (l.parts + 1) (l.judged + 1) (line ∷ []))
@@ -148,19 +175,24 @@ unfolding numbered reading next tiger
 one_line l line = refl
 
 -- bytes up to an LF, with what was kept before them, are a line
-pub ends_line : {T : Type 0} (before mid after : Loaded) (bytes line : List ℕ) (result : Result T LoadFault) → IsBefore mid before → line ≡ without_return (before.unfinished ++ bytes) → IsWithoutLineFeed (before.unfinished ++ bytes)
-    → Judges line mid result after → OnOk result (after.judged ≡ mid.judged + 1) → after.unfinished ≡ [] → after.parts ≡ mid.parts → after.limit ≡ mid.limit → Takes (bytes ++ 10 ∷ []) before result after
+pub ends_line : {T : Type 0} (before mid after : Loaded) (bytes line : List ℕ) (result : Result T LoadFault) → IsBefore mid before
+    → line ≡ without_return (before.unfinished ++ bytes) → IsWithoutLineFeed (before.unfinished ++ bytes)
+    → Judges line mid result after → OnOk result (after.judged ≡ mid.judged + 1) → after.unfinished ≡ [] → after.parts ≡ mid.parts
+        → after.limit ≡ mid.limit → Takes (bytes ++ 10 ∷ []) before result after
 unfolding to_come
 ends_line before mid after bytes line (Ok x) same is none judges count empty parts limit =
     let whole = before.unfinished ++ bytes in
     record {
       ended = whole ∷ [];
       lines_are = record {
-        bytes_are = sym (append_assoc before.unfinished bytes (10 ∷ [])) ∙ sym (append-nil (whole ++ 10 ∷ [])) ∙ sym (append-nil ((whole ++ 10 ∷ []) ++ [])) ∙ ap (λ (l : List ℕ). ((whole ++ 10 ∷ []) ++ []) ++ l) (sym empty);
+        bytes_are = sym (append_assoc before.unfinished bytes (10 ∷ [])) ∙ sym (append-nil (whole ++ 10 ∷ []))
+            ∙ sym (append-nil ((whole ++ 10 ∷ []) ++ [])) ∙ ap (λ (l : List ℕ). ((whole ++ 10 ∷ []) ++ []) ++ l) (sym empty);
         each_ended = All-cons IsWithoutLineFeed whole [] none (All-nil IsWithoutLineFeed);
         not_ended = subst IsWithoutLineFeed (sym empty) (All-nil (λ b. is_line_feed b ≡ false));
       };
-      reads = one_line before (without_return whole) ∙ ap (λ (l : List ℕ). after_verdict tiger before.limit before.records (next_place before l) (judged l) >>= λ records. Ok records) (sym is)
+      reads = one_line before (without_return whole)
+          ∙ ap (λ (l : List ℕ). after_verdict tiger before.limit before.records (next_place before l) (judged l) >>= λ records. Ok records)
+          (sym is)
           ∙ ap (λ (r : Result (List Record) LoadFault). r >>= λ records. Ok records) (sym (verdict_before mid before line same) ∙ judges);
       judged_are = omega (arith, same.judged, count);
       parts_are = parts ∙ same.parts;
@@ -169,12 +201,17 @@ ends_line before mid after bytes line (Ok x) same is none judges count empty par
 ends_line before mid after bytes line (Err f) same is none judges count empty parts limit = λ of_lines more later.
     let whole = before.unfinished ++ bytes in
     let joined : before.unfinished ++ ((bytes ++ 10 ∷ []) ++ more) ≡ whole ++ 10 ∷ more = simp append_assoc in
-    let step : after_verdict tiger before.limit before.records (next_place before (without_return whole)) (judged (without_return whole)) ≡ Err f =
-    ap (λ (l : List ℕ). after_verdict tiger before.limit before.records (next_place before l) (judged l)) (sym is) ∙ sym (verdict_before mid before line same) ∙ judges of_lines in
-    ap (λ (l : List ℕ). reading tiger before.limit before.records (numbered (before.parts + 1) (before.judged + 1) (lines l) ++ lines_from_part (before.parts + 1 + 1) later)) joined
-    ∙ ap (λ (l : List (List ℕ)). reading tiger before.limit before.records (numbered (before.parts + 1) (before.judged + 1) l ++ lines_from_part (before.parts + 1 + 1) later)) (lines_line whole more none)
+    let step : after_verdict tiger before.limit before.records (next_place before (without_return whole))
+        (judged (without_return whole)) ≡ Err f =
+    ap (λ (l : List ℕ). after_verdict tiger before.limit before.records (next_place before l) (judged l)) (sym is)
+        ∙ sym (verdict_before mid before line same) ∙ judges of_lines in
+    ap (λ (l : List ℕ). reading tiger before.limit before.records
+        (numbered (before.parts + 1) (before.judged + 1) (lines l) ++ lines_from_part (before.parts + 1 + 1) later)) joined
+    ∙ ap (λ (l : List (List ℕ)). reading tiger before.limit before.records
+        (numbered (before.parts + 1) (before.judged + 1) l ++ lines_from_part (before.parts + 1 + 1) later)) (lines_line whole more none)
     ∙ reading_line before (without_return whole) (lines more) (lines_from_part (before.parts + 1 + 1) later)
-    ∙ ap (λ (r : Result (List Record) LoadFault). r >>= λ records. reading tiger before.limit records (numbered (before.parts + 1) (before.judged + 1 + 1) (lines more) ++ lines_from_part (before.parts + 1 + 1) later)) step
+    ∙ ap (λ (r : Result (List Record) LoadFault). r >>= λ records. reading tiger before.limit records
+        (numbered (before.parts + 1) (before.judged + 1 + 1) (lines more) ++ lines_from_part (before.parts + 1 + 1) later)) step
 
 -- ---- a line that is too long, whatever follows
 
@@ -183,30 +220,41 @@ err_of (Ok x) h = absurd cc
 err_of (Err f) h = (f, refl)
 
 -- what comes is the fault of the first line, if its beginning settles it
-long_line : (before : Loaded) (bytes line : List ℕ) (c : ℕ) (z : List ℕ) (fault : LineFault) → before.unfinished ++ bytes ≡ line ++ c ∷ z → 228 < length line → IsWithoutLineFeed (before.unfinished ++ bytes)
-    → judged line ≡ Err fault → (more : List ℕ) (later : List (List ℕ)) → to_come before (bytes ++ more) later ≡ Err (fault_at (before.parts + 1) (before.judged + 1) fault)
+long_line : (before : Loaded) (bytes line : List ℕ) (c : ℕ) (z : List ℕ) (fault : LineFault) → before.unfinished ++ bytes ≡ line ++ c ∷ z
+    → 228 < length line → IsWithoutLineFeed (before.unfinished ++ bytes)
+    → judged line ≡ Err fault → (more : List ℕ) (later : List (List ℕ))
+        → to_come before (bytes ++ more) later ≡ Err (fault_at (before.parts + 1) (before.judged + 1) fault)
 unfolding to_come
 long_line before bytes line c z fault split long none e more later =
     let u = before.unfinished in
     let whole = u ++ bytes in
     let begins = first_line_of whole more (omega (arith, ap length split, length-append line (c ∷ z))) none in
     let front = without_return_front line c (z ++ begins.more) in
-    let regroup : whole ++ begins.more ≡ line ++ c ∷ (z ++ begins.more) = ap (λ (l : List ℕ). l ++ begins.more) split ∙ append_assoc line (c ∷ z) begins.more in
+    let regroup : whole ++ begins.more ≡ line ++ c ∷ (z ++ begins.more) = ap (λ (l : List ℕ). l ++ begins.more) split
+        ∙ append_assoc line (c ∷ z) begins.more in
     let first : lines (u ++ (bytes ++ more)) ≡ (line ++ front.0) ∷ begins.rest =
-    ap lines (sym (append_assoc u bytes more)) ∙ begins.first ∙ ap (λ (l : List ℕ). without_return l ∷ begins.rest) regroup ∙ ap (λ (l : List ℕ). l ∷ begins.rest) front.1 in
+    ap lines (sym (append_assoc u bytes more)) ∙ begins.first ∙ ap (λ (l : List ℕ). without_return l ∷ begins.rest) regroup
+        ∙ ap (λ (l : List ℕ). l ∷ begins.rest) front.1 in
     let settled : judged (line ++ front.0) ≡ Err fault = judged_settles line front.0 long ∙ e in
-    ap (λ (l : List (List ℕ)). reading tiger before.limit before.records (numbered (before.parts + 1) (before.judged + 1) l ++ lines_from_part (before.parts + 1 + 1) later)) first
+    ap (λ (l : List (List ℕ)). reading tiger before.limit before.records
+        (numbered (before.parts + 1) (before.judged + 1) l ++ lines_from_part (before.parts + 1 + 1) later)) first
     ∙ reading_line before (line ++ front.0) begins.rest (lines_from_part (before.parts + 1 + 1) later)
-    ∙ ap (λ (v : Result Record LineFault). after_verdict tiger before.limit before.records (next_place before (line ++ front.0)) v >>= λ records. reading tiger before.limit records (numbered (before.parts + 1) (before.judged + 1 + 1) begins.rest ++ lines_from_part (before.parts + 1 + 1) later)) settled
+    ∙ ap (λ (v : Result Record LineFault). after_verdict tiger before.limit before.records
+        (next_place before (line ++ front.0)) v >>= λ records. reading tiger before.limit records
+        (numbered (before.parts + 1) (before.judged + 1 + 1) begins.rest ++ lines_from_part (before.parts + 1 + 1) later)) settled
 
-pub refuses : {T : Type 0} (before mid after : Loaded) (bytes line rest : List ℕ) (result : Result T LoadFault) → IsBefore mid before → before.unfinished ++ bytes ≡ line ++ rest → 0 < length rest → 228 < length line
-    → IsWithoutLineFeed (before.unfinished ++ bytes) → OnOk result (length line ≤ 228) → Judges line mid result after → Takes bytes before result after
+pub refuses : {T : Type 0} (before mid after : Loaded) (bytes line rest : List ℕ) (result : Result T LoadFault) → IsBefore mid before
+    → before.unfinished ++ bytes ≡ line ++ rest → 0 < length rest → 228 < length line
+    → IsWithoutLineFeed (before.unfinished ++ bytes) → OnOk result (length line ≤ 228) → Judges line mid result after
+        → Takes bytes before result after
 refuses before mid after bytes line [] result same split some long none short judges = absurd (omega arith)
 refuses before mid after bytes line (c ∷ z) (Ok x) same split some long none short judges = absurd (omega arith)
 refuses before mid after bytes line (c ∷ z) (Err f) same split some long none short judges = λ is more later.
     let fault = err_of (judged line) (judged_long line long) in
     let told = judges is in
-    let at_place : after_verdict tiger mid.limit mid.records (next_place mid line) (judged line) ≡ Err (fault_at (mid.parts + 1) (mid.judged + 1) fault.0) = ap (after_verdict tiger mid.limit mid.records (next_place mid line)) fault.1 in
+    let at_place : after_verdict tiger mid.limit mid.records (next_place mid line) (judged line) ≡ Err
+        (fault_at (mid.parts + 1) (mid.judged + 1) fault.0) =
+        ap (after_verdict tiger mid.limit mid.records (next_place mid line)) fault.1 in
     let a = same.parts in let b = same.judged in
     long_line before bytes line c z fault.0 split long none fault.1 more later ∙ cc
 
@@ -215,22 +263,29 @@ refuses before mid after bytes line (c ∷ z) (Err f) same split some long none 
 pub leaves_all : (l : Loaded) (bytes : List ℕ) → IsWithoutLineFeed l.unfinished → LeavesRest l bytes bytes l
 leaves_all l bytes none = record { taken = []; bytes_are = refl; takes = takes_none l none }
 
-pub leaves_after : (before mid after : Loaded) (bytes rest line left : List ℕ) → LeavesRest before bytes rest mid → rest ≡ line ++ 10 ∷ left → TakesLines mid (line ++ 10 ∷ []) after → LeavesRest before bytes left after
+pub leaves_after : (before mid after : Loaded) (bytes rest line left : List ℕ) → LeavesRest before bytes rest mid → rest ≡ line ++ 10 ∷ left
+    → TakesLines mid (line ++ 10 ∷ []) after → LeavesRest before bytes left after
 leaves_after before mid after bytes rest line left p split q = record {
   taken = p.taken ++ (line ++ 10 ∷ []);
   bytes_are = p.bytes_are ∙ ap (λ (l : List ℕ). p.taken ++ l) split ∙ simp append_assoc;
   takes = takes_both before mid after p.taken (line ++ 10 ∷ []) p.takes q;
 }
 
-pub leaves_taken : {T : Type 0} (before mid after : Loaded) (bytes rest : List ℕ) (result : Result T LoadFault) → LeavesRest before bytes rest mid → Takes rest mid result after → Takes bytes before result after
-leaves_taken before mid after bytes rest (Ok x) p q = subst (λ (l : List ℕ). TakesLines before l after) (sym p.bytes_are) (takes_both before mid after p.taken rest p.takes q)
+pub leaves_taken : {T : Type 0} (before mid after : Loaded) (bytes rest : List ℕ) (result : Result T LoadFault)
+    → LeavesRest before bytes rest mid → Takes rest mid result after → Takes bytes before result after
+leaves_taken before mid after bytes rest (Ok x) p q =
+    subst (λ (l : List ℕ). TakesLines before l after) (sym p.bytes_are) (takes_both before mid after p.taken rest p.takes q)
 leaves_taken before mid after bytes rest (Err f) p q = λ is more later.
-    ap (λ (l : List ℕ). to_come before l later) (ap (λ (l : List ℕ). l ++ more) p.bytes_are ∙ append_assoc p.taken rest more) ∙ takes_comes before mid p.taken (rest ++ more) later p.takes ∙ q is more later
+    ap (λ (l : List ℕ). to_come before l later) (ap (λ (l : List ℕ). l ++ more) p.bytes_are ∙ append_assoc p.taken rest more)
+        ∙ takes_comes before mid p.taken (rest ++ more) later p.takes ∙ q is more later
 
-pub leaves_fault : (T : Type 0) (before mid after : Loaded) (bytes rest line left : List ℕ) (f : LoadFault) → LeavesRest before bytes rest mid → rest ≡ line ++ 10 ∷ left → Takes {T = T} (line ++ 10 ∷ []) mid (Err f) after → Takes {T = T} bytes before (Err f) after
+pub leaves_fault : (T : Type 0) (before mid after : Loaded) (bytes rest line left : List ℕ) (f : LoadFault)
+    → LeavesRest before bytes rest mid → rest ≡ line ++ 10 ∷ left → Takes {T = T} (line ++ 10 ∷ []) mid (Err f) after
+    → Takes {T = T} bytes before (Err f) after
 leaves_fault T before mid after bytes rest line left f p split q =
     let same : rest ≡ (line ++ 10 ∷ []) ++ left = split ∙ simp append_assoc in
-    leaves_taken {T = T} before mid after bytes rest (Err f) p (subst (λ (l : List ℕ). Takes {T = T} l mid (Err f) after) (sym same) (fault_then T T mid after after (line ++ 10 ∷ []) left f q))
+    leaves_taken {T = T} before mid after bytes rest (Err f) p
+        (subst (λ (l : List ℕ). Takes {T = T} l mid (Err f) after) (sym same) (fault_then T T mid after after (line ++ 10 ∷ []) left f q))
 
 -- ---- the end of a part
 
@@ -247,12 +302,15 @@ unfolding last_line
 last_of [] h = absurd (omega arith)
 last_of (b ∷ a) h = refl
 
-pub ends_part : {T : Type 0} (before mid after : Loaded) (line : List ℕ) (result : Result T LoadFault) → IsBefore mid before → 0 < length before.unfinished → IsWithoutLineFeed before.unfinished → line ≡ without_return before.unfinished → Judges line mid result after → Ends before result after
+pub ends_part : {T : Type 0} (before mid after : Loaded) (line : List ℕ) (result : Result T LoadFault) → IsBefore mid before
+    → 0 < length before.unfinished → IsWithoutLineFeed before.unfinished → line ≡ without_return before.unfinished
+    → Judges line mid result after → Ends before result after
 ends_part {T} before mid after line result same some none is judges = go result judges
   where
     first : to_end before ≡ (after_verdict tiger mid.limit mid.records (next_place mid line) (judged line) >>= λ records. Ok records)
     first =
-        ap (λ (l : List (List ℕ)). reading tiger before.limit before.records (numbered (before.parts + 1) (before.judged + 1) l)) (lines_rest before.unfinished none ∙ last_of before.unfinished some ∙ ap (λ (l : List ℕ). l ∷ []) (sym is))
+        ap (λ (l : List (List ℕ)). reading tiger before.limit before.records (numbered (before.parts + 1) (before.judged + 1) l))
+            (lines_rest before.unfinished none ∙ last_of before.unfinished some ∙ ap (λ (l : List ℕ). l ∷ []) (sym is))
         ∙ one_line before line
         ∙ ap (λ (r : Result (List Record) LoadFault). r >>= λ records. Ok records) (sym (verdict_before mid before line same))
 
@@ -261,25 +319,35 @@ ends_part {T} before mid after line result same some none is judges = go result 
     go (Err f) j = λ is_of. first ∙ ap (λ (r : Result (List Record) LoadFault). r >>= λ records. Ok records) (j is_of)
 
 -- what comes where the open part ends
-pub comes_at_end : (l : Loaded) (later : List (List ℕ)) → to_come l [] later ≡ (to_end l >>= λ records. reading tiger l.limit records (lines_from_part (l.parts + 1 + 1) later))
+pub comes_at_end : (l : Loaded) (later : List (List ℕ))
+    → to_come l [] later ≡ (to_end l >>= λ records. reading tiger l.limit records (lines_from_part (l.parts + 1 + 1) later))
 unfolding to_come
 comes_at_end l later =
-    ap (λ (b : List ℕ). reading tiger l.limit l.records (numbered (l.parts + 1) (l.judged + 1) (lines b) ++ lines_from_part (l.parts + 1 + 1) later)) (append-nil l.unfinished)
-    ∙ reading-append tiger l.limit l.records (numbered (l.parts + 1) (l.judged + 1) (lines l.unfinished)) (lines_from_part (l.parts + 1 + 1) later)
+    ap (λ (b : List ℕ). reading tiger l.limit l.records
+        (numbered (l.parts + 1) (l.judged + 1) (lines b) ++ lines_from_part (l.parts + 1 + 1) later)) (append-nil l.unfinished)
+    ∙ reading-append tiger l.limit l.records (numbered (l.parts + 1) (l.judged + 1) (lines l.unfinished))
+        (lines_from_part (l.parts + 1 + 1) later)
 
-pub closed_comes : (T : Type 0) (before after : Loaded) (f : LoadFault) (later : List (List ℕ)) → to_end before ≡ Err f → to_come before [] later ≡ Err f
-closed_comes T before after f later e = comes_at_end before later ∙ ap (λ (r : Result (List Record) LoadFault). r >>= λ records. reading tiger before.limit records (lines_from_part (before.parts + 1 + 1) later)) e
+pub closed_comes : (T : Type 0) (before after : Loaded) (f : LoadFault) (later : List (List ℕ)) → to_end before ≡ Err f
+    → to_come before [] later ≡ Err f
+closed_comes T before after f later e = comes_at_end before later
+    ∙ ap (λ (r : Result (List Record) LoadFault). r >>= λ records. reading tiger before.limit records
+    (lines_from_part (before.parts + 1 + 1) later)) e
 
 -- ---- parts that are read
 
-pub reads_closed : {T : Type 0} (a b c : Loaded) (taken : List ℕ) (at_end : Type 0) (result : Result T LoadFault) → TakesLines a taken b → Closes b result c → at_end → Reads taken at_end a result c
+pub reads_closed : {T : Type 0} (a b c : Loaded) (taken : List ℕ) (at_end : Type 0) (result : Result T LoadFault) → TakesLines a taken b
+    → Closes b result c → at_end → Reads taken at_end a result c
 reads_closed a b c taken at_end (Ok x) p q e = (e, record { at_end = b; takes = p; closes = q })
 reads_closed {T} a b c taken at_end (Err f) p q e = λ is. inl (
   e,
   λ later.
-      ap (λ (l : List ℕ). to_come a l later) (sym (append-nil taken)) ∙ takes_comes a b taken [] later p ∙ closed_comes T b c f later (q is),
+      ap (λ (l : List ℕ). to_come a l later) (sym (append-nil taken)) ∙ takes_comes a b taken [] later p
+          ∙ closed_comes T b c f later (q is),
 )
 
-pub reads_fault : (T : Type 0) (a b c : Loaded) (taken bytes : List ℕ) (at_end : Type 0) (f : LoadFault) → TakesLines a taken b → Takes {T = T} bytes b (Err f) c → Reads {T = T} (taken ++ bytes) at_end a (Err f) c
+pub reads_fault : (T : Type 0) (a b c : Loaded) (taken bytes : List ℕ) (at_end : Type 0) (f : LoadFault) → TakesLines a taken b
+    → Takes {T = T} bytes b (Err f) c → Reads {T = T} (taken ++ bytes) at_end a (Err f) c
 reads_fault T a b c taken bytes at_end f p q = λ is. inr (λ more later.
-    ap (λ (l : List ℕ). to_come a l later) (append_assoc taken bytes more) ∙ takes_comes a b taken (bytes ++ more) later p ∙ q is more later)
+    ap (λ (l : List ℕ). to_come a l later) (append_assoc taken bytes more) ∙ takes_comes a b taken (bytes ++ more) later p
+        ∙ q is more later)

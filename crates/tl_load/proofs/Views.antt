@@ -1,5 +1,6 @@
 -- Small facts for the loader's answers.
-use Rattle.std.proofs.Common.{◌≡◌, ℕ, ◌+◌, ◌-◌, ◌<◌, ◌≤◌, true, false, List, [], ◌∷◌, ◌++◌, length, get_or, take, drop, Result, Ok, Err, Option, Some, None, refl, sym, ap, subst, ◌∙◌, arith, eqb}
+use Rattle.std.proofs.Common.{◌≡◌, ℕ, ◌+◌, ◌-◌, ◌<◌, ◌≤◌, true, false, List, [], ◌∷◌, ◌++◌, length, get_or, take, drop, Result}
+use Rattle.std.proofs.Common.{Ok, Err, Option, Some, None, refl, sym, ap, subst, ◌∙◌, arith, eqb}
 use Rattle.std.specs.Prelude.{OnOk, IsOk}
 use Rattle.std.proofs.lemmas.Bool.{eqb-true, false_from_ne_true}
 use Rattle.std.proofs.lemmas.List.{take-append-drop, length-take, get_or-take, get_or_default, drop_more, take_all, take_rest}
@@ -31,14 +32,17 @@ no_feed_below bytes n le none k d lt =
     subst (λ (b : ℕ). is_line_feed b ≡ false) (sym same) (false_from_ne_true _ at)
 
 pub no_feed : (bytes : List ℕ) → Nowhere (Passes (is_byte 10) bytes) 0 (length bytes) → IsWithoutLineFeed bytes
-no_feed bytes none = subst IsWithoutLineFeed (take_all (length bytes) bytes (omega arith)) (no_feed_below bytes (length bytes) (omega arith) none)
+no_feed bytes none = subst IsWithoutLineFeed (take_all (length bytes) bytes (omega arith))
+    (no_feed_below bytes (length bytes) (omega arith) none)
 
 -- the bytes before an LF, the LF, and the bytes after it
-pub cut_at : (bytes : List ℕ) (n : ℕ) → n < length bytes → eqb (get_or bytes n 0) 10 ≡ true → bytes ≡ take n bytes ++ 10 ∷ drop 1 (drop n bytes)
+pub cut_at : (bytes : List ℕ) (n : ℕ) → n < length bytes → eqb (get_or bytes n 0) 10 ≡ true
+    → bytes ≡ take n bytes ++ 10 ∷ drop 1 (drop n bytes)
 cut_at bytes n lt h =
     let e : drop n bytes ≡ get_or bytes n 0 ∷ drop (n + 1) bytes = drop_more bytes n 0 lt in
     let rest : drop 1 (drop n bytes) ≡ drop (n + 1) bytes = ap (λ (l : List ℕ). drop 1 l) e in
-    sym (take-append-drop n bytes) ∙ ap (λ (l : List ℕ). take n bytes ++ l) (e ∙ ap (λ (b : ℕ). b ∷ drop (n + 1) bytes) (eqb-true _ _ h) ∙ ap (λ (l : List ℕ). 10 ∷ l) (sym rest))
+    sym (take-append-drop n bytes) ∙ ap (λ (l : List ℕ). take n bytes ++ l) (e ∙ ap (λ (b : ℕ). b ∷ drop (n + 1) bytes) (eqb-true _ _ h)
+        ∙ ap (λ (l : List ℕ). 10 ∷ l) (sym rest))
 
 -- what `&bytes[1..]` is
 pub rest_of : (bytes : List ℕ) → take (length bytes - 1) (drop 1 bytes) ≡ drop 1 bytes

@@ -20,7 +20,8 @@ pub record LoadedInto (K : Type 0) : Type 0 where
 
 -- the loader, if these records were kept
 abbrev pub seen : {K : Type 0} → LoadedInto K → List Record → Loaded
-seen l records = record { records = records; parts = l.parts; judged = l.judged; unfinished = l.unfinished; limit = l.limit; fault = l.fault }
+seen l records = record { records = records; parts = l.parts; judged = l.judged; unfinished = l.unfinished; limit = l.limit; fault =
+    l.fault }
 
 -- so many records of each type there are
 abbrev pub AreCounted : List ℕ → List Record → Type 0
@@ -32,7 +33,8 @@ pub record AreKept {K : Type 0} (holds : K → List Record → Type 0) (l : Load
   pub counted : AreCounted l.counts records
 
 -- the loader was fed these closed parts and these bytes of the open part, and their records were kept
-pub record WasFedInto {K : Type 0} (holds : K → List Record → Type 0) (limit : ℕ) (l : LoadedInto K) (closed : List (List ℕ)) (open_part : List ℕ) : Type 0 where
+pub record WasFedInto {K : Type 0} (holds : K → List Record → Type 0) (limit : ℕ) (l : LoadedInto K) (closed : List (List ℕ))
+    (open_part : List ℕ) : Type 0 where
   pub limit_is : l.limit ≡ limit
   pub comes : MatchOption l.fault
       ((records : List Record) × AreKept holds l records × HasLoaded limit (seen l records) closed open_part)
@@ -68,6 +70,7 @@ pub record IsSamePart {K : Type 0} (before after : LoadedInto K) : Type 0 where
   pub fault : after.fault ≡ before.fault
 
 -- a step of loaders, whatever list was kept before it: where it was `Ok`, a list is kept after it
-abbrev pub Lifts : {K T : Type 0} → (K → List Record → Type 0) → (Loaded → Result T LoadFault → Loaded → Type 0) → LoadedInto K → Result T LoadFault → LoadedInto K → Type 0
+abbrev pub Lifts : {K T : Type 0} → (K → List Record → Type 0) → (Loaded → Result T LoadFault → Loaded → Type 0) → LoadedInto K
+    → Result T LoadFault → LoadedInto K → Type 0
 Lifts holds Step before result after = (records : List Record) → AreKept holds before records
     → (more : List Record) × OnOk result (AreKept holds after more) × Step (seen before records) result (seen after more)

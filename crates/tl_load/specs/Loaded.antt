@@ -1,5 +1,6 @@
 -- A loader as contracts see it, and what it was fed.
-use Rattle.std.specs.Prelude.{◌≡◌, ℕ, ◌<◌, Bool, true, false, List, [], ◌∷◌, ◌++◌, length, All, Option, MatchOption, Result, Ok, Err, MatchResult, ◌⊎◌}
+use Rattle.std.specs.Prelude.{◌≡◌, ℕ, ◌<◌, Bool, true, false, List, [], ◌∷◌, ◌++◌, length, All, Option, MatchOption, Result, Ok}
+use Rattle.std.specs.Prelude.{Err, MatchResult, ◌⊎◌}
 use Rattle.std.specs.List.{flat_map}
 use Rattle.tl_layout.specs.declared.record_type.Record.{Record}
 use Rattle.tl_load.specs.declared.fault.LoadFault.{LoadFault}
@@ -26,7 +27,8 @@ IsOfLines _ = Unit {0}
 
 -- the fault at these closed parts and this open part, however it goes on
 abbrev pub IsFaultHowever : ℕ → List (List ℕ) → List ℕ → LoadFault → Type 0
-IsFaultHowever limit closed open_part fault = (more : List ℕ) (later : List (List ℕ)) → FaultAt tiger limit (closed ++ (open_part ++ more) ∷ later) fault
+IsFaultHowever limit closed open_part fault = (more : List ℕ) (later : List (List ℕ))
+    → FaultAt tiger limit (closed ++ (open_part ++ more) ∷ later) fault
 
 -- lines, each with the LF that ends it
 abbrev pub with_line_feeds : List (List ℕ) → List ℕ
@@ -64,7 +66,8 @@ pub record IsWellSoFar (limit : ℕ) (closed : List (List ℕ)) (open_part : Lis
 
 -- after these bytes too no line that has ended is faulty, and the open one is short
 abbrev pub IsWellAfter : {L : Type 0} → (ℕ → L → List (List ℕ) → List ℕ → Type 0) → L → List ℕ → Type 0
-IsWellAfter Fed l bytes = (limit : ℕ) (closed : List (List ℕ)) (open_part : List ℕ) → Fed limit l closed open_part → IsWellSoFar limit closed (open_part ++ bytes)
+IsWellAfter Fed l bytes = (limit : ℕ) (closed : List (List ℕ)) (open_part : List ℕ) → Fed limit l closed open_part
+    → IsWellSoFar limit closed (open_part ++ bytes)
 
 -- all parts, where the open one is one if bytes were fed into it
 abbrev pub all_parts : List (List ℕ) → List ℕ → List (List ℕ)
@@ -87,6 +90,7 @@ is_device (Err f) = is_device_fault f
 
 -- the loader was fed the bytes into its open part, which was closed at their end, or in which a fault came
 abbrev pub FedPart : {L T : Type 0} → (ℕ → L → List (List ℕ) → List ℕ → Type 0) → L → List ℕ → Type 0 → Result T LoadFault → L → Type 0
-FedPart Fed before taken at_end result after = (limit : ℕ) (closed : List (List ℕ)) (open_part : List ℕ) → Fed limit before closed open_part → MatchResult result
+FedPart Fed before taken at_end result after = (limit : ℕ) (closed : List (List ℕ)) (open_part : List ℕ) → Fed limit before closed open_part
+    → MatchResult result
     (λ _. at_end × Fed limit after (closed ++ (open_part ++ taken) ∷ []) [])
     (λ _. (at_end × Fed limit after (closed ++ (open_part ++ taken) ∷ []) []) ⊎ Fed limit after closed (open_part ++ taken))

@@ -12,7 +12,8 @@ pub record Gave {R : Type 0} (remaining : R → Option (List ℕ)) (given : R �
   pub counted : RoseBy (length taken) (given before) (given after)
 
 -- one read, the last, led to the source's state, and what was given before it is as it should be
-pub record StopsThere {R : Type 0} (remaining : R → Option (List ℕ)) (given reads : R → ℕ) (before after : R) (Should : List ℕ → Type 0) : Type 0 where
+pub record StopsThere {R : Type 0} (remaining : R → Option (List ℕ)) (given reads : R → ℕ) (before after : R) (Should : List ℕ
+    → Type 0) : Type 0 where
   pub last : R
   pub taken : List ℕ
   pub gave : Gave remaining given before last taken

@@ -13,13 +13,15 @@ use Rattle.tl_load.specs.Keeping.{LoadedInto, Lifts}
 -- what comes of the loader's value, if these bytes follow in its open part, and then these parts
 unfoldable pub to_come : Loaded → List ℕ → List (List ℕ) → Result (List Record) LoadFault
 to_come l more later =
-    reading tiger l.limit l.records (numbered (l.parts + 1) (l.judged + 1) (lines (l.unfinished ++ more)) ++ lines_from_part (l.parts + 1 + 1) later)
+    reading tiger l.limit l.records (numbered (l.parts + 1) (l.judged + 1) (lines (l.unfinished ++ more)) ++ lines_from_part
+        (l.parts + 1 + 1) later)
 
 -- the bytes were taken: the lines that they ended are judged, and what no LF has ended is kept
 pub record TakesLines (before : Loaded) (bytes : List ℕ) (after : Loaded) : Type 0 where
   pub ended : List (List ℕ)
   pub lines_are : AreLines (before.unfinished ++ bytes) ended after.unfinished
-  pub reads : reading tiger before.limit before.records (numbered (before.parts + 1) (before.judged + 1) (map without_return ended)) ≡ Ok after.records
+  pub reads : reading tiger before.limit before.records
+      (numbered (before.parts + 1) (before.judged + 1) (map without_return ended)) ≡ Ok after.records
   pub judged_are : after.judged ≡ before.judged + length ended
   pub parts_are : after.parts ≡ before.parts
   pub limit_is : after.limit ≡ before.limit
@@ -89,7 +91,8 @@ pub record ReadsAll (before : Loaded) (taken : List ℕ) (after : Loaded) : Type
 abbrev pub Reads : {T : Type 0} → List ℕ → Type 0 → Loaded → Result T LoadFault → Loaded → Type 0
 Reads taken at_end before result after = MatchResult result
     (λ _. at_end × ReadsAll before taken after)
-    (λ f. IsOfLines f → (at_end × ((later : List (List ℕ)) → to_come before taken later ≡ Err f)) ⊎ ((more : List ℕ) (later : List (List ℕ)) → to_come before (taken ++ more) later ≡ Err f))
+    (λ f. IsOfLines f → (at_end × ((later : List (List ℕ)) → to_come before taken later ≡ Err f))
+        ⊎ ((more : List ℕ) (later : List (List ℕ)) → to_come before (taken ++ more) later ≡ Err f))
 
 -- a loader takes these bytes without a fault, and then has fewer than 230 bytes of a line that hasn't ended
 pub record TakesWell {K : Type 0} (holds : K → List Record → Type 0) (before : LoadedInto K) (taken : List ℕ) : Type 0 where

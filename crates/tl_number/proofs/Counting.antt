@@ -21,7 +21,8 @@ pub up_to-strict : (n : ℕ) → IsStrictlySortedBy nat_cmp (up_to n)
 up_to-strict n = range_strict 1 n
 
 -- entries with equal left parts and equal right parts are equal
-pub entries_equal : {A B : Type 0} (xs ys : List (A × B)) → map (λ e. e.0) xs ≡ map (λ e. e.0) ys → map (λ e. e.1) xs ≡ map (λ e. e.1) ys → xs ≡ ys
+pub entries_equal : {A B : Type 0} (xs ys : List (A × B)) → map (λ e. e.0) xs ≡ map (λ e. e.0) ys → map (λ e. e.1) xs ≡ map (λ e. e.1) ys
+    → xs ≡ ys
 entries_equal [] [] p q = refl
 entries_equal [] (y ∷ ys) p q = cc
 entries_equal (x ∷ xs) [] p q = cc

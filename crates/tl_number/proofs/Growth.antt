@@ -18,9 +18,11 @@ module _ {K : Type 0} (f g : K → ℕ) (Dom : K → Type 0)
       go (inl lt) = (k, d, (let t : f k ≡ i = omega arith in t), (let t : g k ≡ i = omega arith in t))
       go (inr old) = c i low old
 
-  pub grown_equal : (ks : List K) (m : ℕ) → Covers m → AllByRecursion Dom ks → GrowsFrom m (map f ks) → GrowsFrom m (map g ks) → AllByRecursion (λ k. f k ≡ g k) ks
+  pub grown_equal : (ks : List K) (m : ℕ) → Covers m → AllByRecursion Dom ks → GrowsFrom m (map f ks) → GrowsFrom m (map g ks)
+      → AllByRecursion (λ k. f k ≡ g k) ks
   grown_equal [] m c d p q = tt
-  grown_equal (k ∷ ks) m c d p q = (same, grown_equal ks (max m (f k)) (more m c k d.0 same p.1) d.1 p.2 (subst (λ n. GrowsFrom (max m n) (map g ks)) (sym same) q.2))
+  grown_equal (k ∷ ks) m c d p q =
+      (same, grown_equal ks (max m (f k)) (more m c k d.0 same p.1) d.1 p.2 (subst (λ n. GrowsFrom (max m n) (map g ks)) (sym same) q.2))
     where
       at : (m < f k) ⊎ (f k ≤ m) → (m < g k) ⊎ (g k ≤ m) → f k ≡ g k
       at (inr le) h = let j = c (f k) p.0 le in sym j.3 ∙ forth j.0 k j.1 d.0 j.2

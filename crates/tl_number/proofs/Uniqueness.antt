@@ -15,7 +15,8 @@ use Rattle.tl_number.proofs.Rigid.{rigid, least_equal}
 one_county_one_list : (xs ys : List Record) → IsTidyList xs → IsTidyList ys → county_of xs ≡ county_of ys → xs ≡ ys
 one_county_one_list xs ys g h e = tidy_list_is_packed xs g ∙ ap packed e ∙ sym (tidy_list_is_packed ys h)
 
-pub rigid_lists : (r : Renumbering) (xs ys : List Record) → IsTidyList xs → IsTidyList ys → Carries r (county_of xs) (county_of ys) → KeepsChainNumbers r (county_of xs) → xs ≡ ys
+pub rigid_lists : (r : Renumbering) (xs ys : List Record) → IsTidyList xs → IsTidyList ys → Carries r (county_of xs) (county_of ys)
+    → KeepsChainNumbers r (county_of xs) → xs ≡ ys
 rigid_lists r xs ys g h c k = one_county_one_list xs ys g h
     (rigid r (county_of xs) (county_of ys) c (county-is_county xs g.linked) (county-is_county ys h.linked) g.numbers h.numbers
     (known_all nat_keys (λ n. image nat_cmp r.chains n ≡ n) (tlids (county_of xs)) k.keeps)
@@ -23,4 +24,5 @@ rigid_lists r xs ys g h c k = one_county_one_list xs ys g h
 
 pub unique : (xs ys : List Record) → IsCanonical xs → IsCanonical ys → AreSame (county_of xs) (county_of ys) → xs ≡ ys
 unique xs ys g h s = one_county_one_list xs ys g.tidy h.tidy
-    (least_equal s.by (county_of xs) (county_of ys) s.carries (county-is_county xs g.tidy.linked) (county-is_county ys h.tidy.linked) g.tidy.numbers h.tidy.numbers g.least h.least)
+    (least_equal s.by (county_of xs) (county_of ys) s.carries (county-is_county xs g.tidy.linked)
+        (county-is_county ys h.tidy.linked) g.tidy.numbers h.tidy.numbers g.least h.least)

@@ -5,11 +5,13 @@ use Rattle.std.specs.Ordering.{nat_cmp, on, then_cmp, ordering_then}
 use Rattle.tl_layout.specs.Fields.{Fields7}
 use Rattle.tl_layout.specs.declared.record_type.Record.{Record}
 use Rattle.tl_county.specs.BodyOrder.{landmark_body_cmp, link_cmp}
-use Rattle.tl_layout.specs.ByType.{of_type_1, of_type_2, of_type_4, of_type_5, of_type_6, of_type_7, of_type_8, of_type_i, of_type_p, of_number}
+use Rattle.tl_layout.specs.ByType.{of_type_1, of_type_2, of_type_4, of_type_5, of_type_6, of_type_7, of_type_8, of_type_i}
+use Rattle.tl_layout.specs.ByType.{of_type_p, of_number}
 use Rattle.std.specs.List.{AllByRecursion}
 use Rattle.tl_county.specs.CountyRules.{tlids}
 use Rattle.tl_county.specs.Renumbering.{Renumbering, image}
-use Rattle.tl_county.specs.County.{County, county_of, one_tlid, two_tlid, two_rtsq, four_tlid, four_rtsq, five_feat, six_tlid, six_rtsq, i_tlid}
+use Rattle.tl_county.specs.County.{County, county_of, one_tlid, two_tlid, two_rtsq, four_tlid, four_rtsq, five_feat, six_tlid}
+use Rattle.tl_county.specs.County.{six_rtsq, i_tlid}
 use Rattle.tl_county.specs.LinkRules.{IsLinked}
 use Rattle.tl_county.specs.Orders.{IsInOrder}
 use Rattle.tl_number.specs.Growth.{up_to}
@@ -44,9 +46,12 @@ AreFull n (xs ∷ ys ∷ rest) = (length xs ≡ n) × AreFull n (ys ∷ rest)
 pub record IsPacked (records : List Record) : Type 0 where
   pub points : (tlid : ℕ) → AreFull 10 (map (λ r. r.points) (of_number two_tlid tlid (of_type_2 records)))
   pub feats : (tlid : ℕ) → AreFull 5 (map (λ r. r.feats) (of_number four_tlid tlid (of_type_4 records)))
-  pub two_rtsqs : (tlid : ℕ) → map two_rtsq (of_number two_tlid tlid (of_type_2 records)) ≡ up_to (length (of_number two_tlid tlid (of_type_2 records)))
-  pub four_rtsqs : (tlid : ℕ) → map four_rtsq (of_number four_tlid tlid (of_type_4 records)) ≡ up_to (length (of_number four_tlid tlid (of_type_4 records)))
-  pub six_rtsqs : (tlid : ℕ) → map six_rtsq (of_number six_tlid tlid (of_type_6 records)) ≡ up_to (length (of_number six_tlid tlid (of_type_6 records)))
+  pub two_rtsqs : (tlid : ℕ) → map two_rtsq (of_number two_tlid tlid (of_type_2 records)) ≡ up_to
+      (length (of_number two_tlid tlid (of_type_2 records)))
+  pub four_rtsqs : (tlid : ℕ) → map four_rtsq (of_number four_tlid tlid (of_type_4 records)) ≡ up_to
+      (length (of_number four_tlid tlid (of_type_4 records)))
+  pub six_rtsqs : (tlid : ℕ) → map six_rtsq (of_number six_tlid tlid (of_type_6 records)) ≡ up_to
+      (length (of_number six_tlid tlid (of_type_6 records)))
 
 -- A list of records in the canonical order, packing and numbering, but for the choice of TLIDs and directions.
 pub record IsTidyList (records : List Record) : Type 0 where

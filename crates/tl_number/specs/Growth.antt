@@ -21,7 +21,8 @@ up_to n = range_with_len 1 n
 -- the keys seen so far, and then the others in the order in which they are first seen
 abbrev pub first_seen_after : {K : Type 0} → (K → K → Ordering) → List K → List K → List K
 first_seen_after cmp seen [] = seen
-first_seen_after cmp seen (key ∷ keys) = cond (stands_in cmp key seen) (first_seen_after cmp seen keys) (first_seen_after cmp (seen ++ (key ∷ [])) keys)
+first_seen_after cmp seen (key ∷ keys) =
+    cond (stands_in cmp key seen) (first_seen_after cmp seen keys) (first_seen_after cmp (seen ++ (key ∷ [])) keys)
 
 -- the keys in the order in which they are first seen, each once
 abbrev pub first_seen : {K : Type 0} → (K → K → Ordering) → List K → List K

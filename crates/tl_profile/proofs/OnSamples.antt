@@ -25,5 +25,7 @@ pub doubled_refused : IsFirstBrokenClause (county_of doubled) (SameShape 4 9)
 doubled_refused = first_clause_computed (county_of doubled) (SameShape 4 9) refl
 
 -- a polygon of type P on no side
-pub polygon_refused : IsFirstBrokenClause (county_of (polygon 12 ∷ landmark 30 (codes "Lee School") ∷ in_polygon 12 30 ∷ there)) (PolygonWithoutChain cenid_1 12)
-polygon_refused = first_clause_computed (county_of (polygon 12 ∷ landmark 30 (codes "Lee School") ∷ in_polygon 12 30 ∷ there)) (PolygonWithoutChain cenid_1 12) refl
+pub polygon_refused : IsFirstBrokenClause (county_of (polygon 12 ∷ landmark 30 (codes "Lee School") ∷ in_polygon 12 30 ∷ there))
+    (PolygonWithoutChain cenid_1 12)
+polygon_refused = first_clause_computed (county_of (polygon 12 ∷ landmark 30 (codes "Lee School") ∷ in_polygon 12 30 ∷ there))
+    (PolygonWithoutChain cenid_1 12) refl

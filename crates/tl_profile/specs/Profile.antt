@@ -26,7 +26,9 @@ is_own_reverse county tlid = list_any (λ entry. (tlid == entry.0) && same_point
 
 -- whether the chains of these TLIDs have one shape
 abbrev pub are_one_shape : County → ℕ → ℕ → Bool
-are_one_shape county first second = list_any (λ entry. (first == entry.0) && list_any (λ other. (second == other.0) && same_shape entry.1.points other.1.points) county.chains) county.chains
+are_one_shape county first second =
+    list_any (λ entry. (first == entry.0) && list_any
+    (λ other. (second == other.0) && same_shape entry.1.points other.1.points) county.chains) county.chains
 
 -- whether the county has a type P record of this polygon
 abbrev pub has_body : County → PolygonKey → Bool
@@ -36,7 +38,8 @@ has_body county key = list_any (λ entry. is_eq (key_cmp key entry.0) && is_some
 abbrev pub is_broken : County → ProfileFault → Bool
 is_broken county (OwnReverse tlid) = is_own_reverse county tlid
 is_broken county (SameShape first second) = nat_lt first second && are_one_shape county first second
-is_broken county (PolygonWithoutChain cenid polyid) = has_body county (cenid, polyid) && not (stands_in key_cmp (cenid, polyid) (polygons_along county.chains))
+is_broken county (PolygonWithoutChain cenid polyid) =
+    has_body county (cenid, polyid) && not (stands_in key_cmp (cenid, polyid) (polygons_along county.chains))
 is_broken county Memory = false
 
 -- the clause's number, and then the place: the TLID; the two TLIDs; the CENID's bytes, the POLYID

@@ -11,6 +11,7 @@ returns-in_err-write_text-clause-stopped g c =
     rw (p.1, p.2) (record {
       text = c.in_ok-text.text.bytes.items;
       respelt = record { parts = l.0; held = l.1; respelt = record { records = l.2; spelled = l.4; text_is = l.3 } };
-      printed = subst (λ (text : List ℕ). Appends (g.W.Write.contents c.args.out.now) (g.W.Write.contents c.write_text.new.out) (take c.in_err-write_text.field-0.0.written text)) c.deref.ensures.value w.stopped;
+      printed = subst (λ (text : List ℕ). Appends (g.W.Write.contents c.args.out.now) (g.W.Write.contents c.write_text.new.out)
+          (take c.in_err-write_text.field-0.0.written text)) c.deref.ensures.value w.stopped;
       short = subst (λ (text : List ℕ). c.in_err-write_text.field-0.0.written < length text) c.deref.ensures.value w.short;
     })

@@ -1,7 +1,8 @@
 use Rattle.std.proofs.Common.{◌∷◌, [], Contains, refl, lit<}
 use Rattle.tl_load.specs.declared.fault.LoadFault.{LoadFault}
 use Rattle.tl_load.specs.declared.fault.LoadFault.TheVariants.{Device}
-use Rattle.tl_load.specs.declared.fault.LoadFault.TheVariants.{UnknownType, LineTooLong, BadByte, BadNumber, BadPoint, GapInRecord, TooManyRecords}
+use Rattle.tl_load.specs.declared.fault.LoadFault.TheVariants.{UnknownType, LineTooLong, BadByte, BadNumber, BadPoint}
+use Rattle.tl_load.specs.declared.fault.LoadFault.TheVariants.{GapInRecord, TooManyRecords}
 use Rattle.tl_load.specs.declared.fault.LoadFault.TheVariants.{Memory as LoadMemory}
 use Rattle.tigercanon.specs.declared.fault.Fault.TheVariants.{Load, Memory}
 use Rattle.tigercanon.specs.declared.refusal.Refusal.{Refusal}

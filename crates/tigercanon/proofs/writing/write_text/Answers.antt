@@ -16,8 +16,10 @@ next_out : (a b c : Option (List ℕ)) (text : List ℕ) (i n : ℕ) → Appends
     → Appends a c (take (i + n) text) × (i + n ≤ length text)
 next_out a b c text i n before now short within = (
   subst (Appends a c) (next_taken text i n) (Appends-trans a b c _ _ before now),
-  (let rest : length (take (length text - i) (drop i text)) ≡ length (drop i text) = ap length (take_rest text i) in omega (arith, length-drop i text)),
+  (let rest : length (take (length text - i) (drop i text)) ≡ length (drop i text) = ap length (take_rest text i) in
+      omega (arith, length-drop i text)),
 )
 
 pub loop-written-preserved : goal.loop-written-preserved
-loop-written-preserved g c = next_out _ _ _ _ _ _ c.loop-written.invariant.0 c.in-Ok.ensures.bytes c.in-Ok.ensures.bound c.loop-written-test.true
+loop-written-preserved g c =
+    next_out _ _ _ _ _ _ c.loop-written.invariant.0 c.in-Ok.ensures.bytes c.in-Ok.ensures.bound c.loop-written-test.true

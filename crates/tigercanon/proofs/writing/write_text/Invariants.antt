@@ -4,7 +4,8 @@ use Rattle.tigercanon.proofs.writing.write_text.Given as goal
 
 -- what is out so far is the beginning of the text
 abbrev pub invariant-loop-written : goal.invariant-loop-written
-invariant-loop-written g l = Appends (g.W.Write.contents l.initial.out) (g.W.Write.contents l.out) (take l.written l.text) × (l.written ≤ length l.text)
+invariant-loop-written g l =
+    Appends (g.W.Write.contents l.initial.out) (g.W.Write.contents l.out) (take l.written l.text) × (l.written ≤ length l.text)
 
 abbrev pub decreases-loop-written : goal.decreases-loop-written
 decreases-loop-written g l = length l.text - l.written

@@ -17,11 +17,16 @@ loop-head-preserved c =
     let names = c.split_group-in-Some.ensures.later in
     let ranges = c.split_group-in-Some-2.ensures.later in
     record {
-      heads = strict_tail nat_cmp c.in-Some.head.now.tlid (map one_tlid c.in-Some.later.now) (subst (λ l. IsStrictlySortedBy nat_cmp (map one_tlid l)) heads at.invariant.heads);
-      shapes = subst (IsInOrder (on two_tlid nat_cmp)) (sym shapes) (in_order-filter (on two_tlid nat_cmp) (λ x. is_gt (nat_cmp (two_tlid x) c.tlid-tlid.result)) at.shapes.now at.invariant.shapes);
-      names = subst (IsInOrder (on four_tlid nat_cmp)) (sym names) (in_order-filter (on four_tlid nat_cmp) (λ x. is_gt (nat_cmp (four_tlid x) c.tlid-tlid.result)) at.names.now at.invariant.names);
-      ranges = subst (IsInOrder (on six_tlid nat_cmp)) (sym ranges) (in_order-filter (on six_tlid nat_cmp) (λ x. is_gt (nat_cmp (six_tlid x) c.tlid-tlid.result)) at.ranges.now at.invariant.ranges);
-      done = (λ i. c.in_ok-push.ensures.items i ++ chains_along (shapes i) (names i) (ranges i) c.in-Some.later.now c.in-Some-split_first.others.now)
+      heads = strict_tail nat_cmp c.in-Some.head.now.tlid (map one_tlid c.in-Some.later.now)
+          (subst (λ l. IsStrictlySortedBy nat_cmp (map one_tlid l)) heads at.invariant.heads);
+      shapes = subst (IsInOrder (on two_tlid nat_cmp)) (sym shapes)
+          (in_order-filter (on two_tlid nat_cmp) (λ x. is_gt (nat_cmp (two_tlid x) c.tlid-tlid.result)) at.shapes.now at.invariant.shapes);
+      names = subst (IsInOrder (on four_tlid nat_cmp)) (sym names)
+          (in_order-filter (on four_tlid nat_cmp) (λ x. is_gt (nat_cmp (four_tlid x) c.tlid-tlid.result)) at.names.now at.invariant.names);
+      ranges = subst (IsInOrder (on six_tlid nat_cmp)) (sym ranges)
+          (in_order-filter (on six_tlid nat_cmp) (λ x. is_gt (nat_cmp (six_tlid x) c.tlid-tlid.result)) at.ranges.now at.invariant.ranges);
+      done = (λ i. c.in_ok-push.ensures.items i ++ chains_along (shapes i) (names i)
+          (ranges i) c.in-Some.later.now c.in-Some-split_first.others.now)
           ∙ chains-step at.chains.items _ c.in-Some.head.now c.in-Some.later.now at.heads.now c.in-Some-split_first.link.now c.in-Some-split_first.others.now at.links.now
           at.shapes.now c.split_group.result.0.now at.names.now c.split_group-in-Some.result.0.now at.ranges.now c.split_group-in-Some-2.result.0.now c.tlid-tlid.result c.in_ok-chain_of_records.field-0
           c.tlid-tlid.ensures.value c.split_group.ensures.group c.split_group-in-Some.ensures.group c.split_group-in-Some-2.ensures.group c.in_ok-chain_of_records.ensures heads links at.invariant.heads at.invariant.done;

@@ -12,7 +12,8 @@ invariant-loop-head l = record {
   shapes : IsInOrder (on two_tlid nat_cmp) l.shapes;
   names : IsInOrder (on four_tlid nat_cmp) l.names;
   ranges : IsInOrder (on six_tlid nat_cmp) l.ranges;
-  done : l.chains.items ++ chains_along l.shapes l.names l.ranges l.heads l.links ≡ chains_along l.fn.shapes l.fn.names l.fn.ranges l.fn.heads l.fn.links;
+  done : l.chains.items ++ chains_along l.shapes l.names l.ranges l.heads l.links
+      ≡ chains_along l.fn.shapes l.fn.names l.fn.ranges l.fn.heads l.fn.links;
 }
 
 abbrev pub decreases-loop-head : goal.decreases-loop-head

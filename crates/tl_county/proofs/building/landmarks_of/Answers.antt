@@ -16,9 +16,15 @@ loop-land-preserved c =
     let links = c.split_group-in-Some.ensures.later in
     record {
       lands = strict_tail nat_cmp c.in-Some.land.now c.in-Some.later.now (subst (IsStrictlySortedBy nat_cmp) lands at.invariant.lands);
-      landmarks = subst (IsInOrder (on seven_land nat_cmp)) (sym landmarks) (in_order-filter (on seven_land nat_cmp) (λ x. is_gt (nat_cmp (seven_land x) c.in-Some.land.now)) at.landmarks.now at.invariant.landmarks);
-      links = subst (IsInOrder (on eight_land nat_cmp)) (sym links) (in_order-filter (on eight_land nat_cmp) (λ x. is_gt (nat_cmp (eight_land x) c.in-Some.land.now)) at.links.now at.invariant.links);
+      landmarks = subst (IsInOrder (on seven_land nat_cmp)) (sym landmarks)
+          (in_order-filter (on seven_land nat_cmp)
+          (λ x. is_gt (nat_cmp (seven_land x) c.in-Some.land.now)) at.landmarks.now at.invariant.landmarks);
+      links = subst (IsInOrder (on eight_land nat_cmp)) (sym links)
+          (in_order-filter (on eight_land nat_cmp)
+          (λ x. is_gt (nat_cmp (eight_land x) c.in-Some.land.now)) at.links.now at.invariant.links);
       done = (λ i. c.in_ok-push.ensures.items i ++ map (landmark_of (landmarks i) (links i)) c.in-Some.later.now)
           ∙ landmarks-step at.found.items _ c.in-Some.land.now c.in-Some.later.now at.lands.now at.landmarks.now c.split_group.result.0.now at.links.now c.split_group-in-Some.result.0.now c.in_ok-bodies.bodies.items c.new.result
-          c.split_group.ensures.group c.split_group-in-Some.ensures.group c.in_ok-bodies.ensures (c.new.ensures ∙ (λ i. record { bodies = c.in_ok-bodies.bodies.items; links = c.in_ok-from_slice.ensures.items i })) lands at.invariant.lands at.invariant.done;
+          c.split_group.ensures.group c.split_group-in-Some.ensures.group c.in_ok-bodies.ensures (c.new.ensures
+              ∙ (λ i. record { bodies = c.in_ok-bodies.bodies.items; links =
+              c.in_ok-from_slice.ensures.items i })) lands at.invariant.lands at.invariant.done;
     }

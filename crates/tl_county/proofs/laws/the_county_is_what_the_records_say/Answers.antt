@@ -9,4 +9,4 @@ pub returns-clause-repacked : goal.returns-clause-repacked
 returns-clause-repacked c = repacked-county
 
 pub returns-clause-resequenced : goal.returns-clause-resequenced
-returns-clause-resequenced c = λ q xs up. resequenced-county q up xs
+returns-clause-resequenced c = resequenced-county

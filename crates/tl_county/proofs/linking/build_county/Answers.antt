@@ -12,12 +12,14 @@ use Rattle.tl_county.proofs.linking.build_county.Goals as goal
 pub invariant_of-result : goal.invariant_of-result
 invariant_of-result c =
     let t = typed_of c.args.tables.now in
-    let same : county_with c.in_ok-chains.chains c.in_ok-names.names c.in_ok-polygons.polygons c.in_ok-landmarks.landmarks ≡ county_along t =
+    let same : county_with c.in_ok-chains.chains c.in_ok-names.names c.in_ok-polygons.polygons c.in_ok-landmarks.landmarks
+        ≡ county_along t =
     λ i. county_with (c.in_ok-chains.ensures i) (c.in_ok-names.ensures i) (c.in_ok-polygons.ensures i) (c.in_ok-landmarks.ensures i) in
     record {
       is_county = subst IsCounty (sym same) (built-is_county t c.requires.tables c.requires.linked);
       links_under_lands = subst LinksUnderLands (sym c.in_ok-landmarks.ensures) (links_under_lands-along t);
-      nodes_stand = c.in_ok-nodes.ensures ∙ ap (λ l. distinct nat_cmp (flat_map chain_nodes l)) c.values.ensures ∙ ap (distinct nat_cmp) (flat_map-map chain_nodes (λ (e : ℕ × Chain). e.1) c.in_ok-chains.chains);
+      nodes_stand = c.in_ok-nodes.ensures ∙ ap (λ l. distinct nat_cmp (flat_map chain_nodes l)) c.values.ensures
+          ∙ ap (distinct nat_cmp) (flat_map-map chain_nodes (λ (e : ℕ × Chain). e.1) c.in_ok-chains.chains);
     }
 
 pub returns : goal.returns

@@ -9,16 +9,30 @@ use Rattle.tl_county.proofs.linking.check_rules.Goals as goal
 
 module _ (Of : List Record → Type 0) (before : (records : List Record) → Of records → RulesHold records 0 13) where
   -- the last rules decide where those before them hold
-  all_linked : (r : Result (Unit {0}) LinkFault) → ((records : List Record) → Of records → MatchResult r (λ _. RulesHold records 13 16) (IsFirstFrom records 13)) → OnOk r ((records : List Record) → Of records → IsLinked records)
+  all_linked : (r : Result (Unit {0}) LinkFault) → ((records : List Record) → Of records
+      → MatchResult r (λ _. RulesHold records 13 16) (IsFirstFrom records 13))
+      → OnOk r ((records : List Record) → Of records → IsLinked records)
   all_linked (Ok u) h = λ records e. all_hold records (rules-join records (before records e) (h records e))
   all_linked (Err f) h = tt
 
-  first_told : (r : Result (Unit {0}) LinkFault) → ((records : List Record) → Of records → MatchResult r (λ _. RulesHold records 13 16) (IsFirstFrom records 13)) → IfErr r (λ fault. fault ≢ Memory → (records : List Record) → Of records → IsFirstBrokenRule records fault)
+  first_told : (r : Result (Unit {0}) LinkFault) → ((records : List Record) → Of records
+      → MatchResult r (λ _. RulesHold records 13 16) (IsFirstFrom records 13))
+      → IfErr r (λ fault. fault ≢ Memory → (records : List Record) → Of records → IsFirstBrokenRule records fault)
   first_told (Ok u) h = tt
   first_told (Err f) h = λ ne records e. first_of_all records f (first-after records (omega arith) (before records e) (h records e))
 
 pub returns-clause-linked : goal.returns-clause-linked
-returns-clause-linked c = all_linked _ (λ records e. rules-join records (c.in_default.ensures records e) (rules-join records (c.in_default-check_sequences.ensures records e) (rules-join records (c.in_default-check_links.ensures records e) (c.in_default-check_names.ensures records e)))) c.check_landmarks.result c.check_landmarks.ensures
+returns-clause-linked c =
+    all_linked _
+    (λ records e. rules-join records (c.in_default.ensures records e)
+    (rules-join records (c.in_default-check_sequences.ensures records e)
+    (rules-join records (c.in_default-check_links.ensures records e)
+    (c.in_default-check_names.ensures records e)))) c.check_landmarks.result c.check_landmarks.ensures
 
 pub returns-clause-broken : goal.returns-clause-broken
-returns-clause-broken c = first_told _ (λ records e. rules-join records (c.in_default.ensures records e) (rules-join records (c.in_default-check_sequences.ensures records e) (rules-join records (c.in_default-check_links.ensures records e) (c.in_default-check_names.ensures records e)))) c.check_landmarks.result c.check_landmarks.ensures
+returns-clause-broken c =
+    first_told _
+    (λ records e. rules-join records (c.in_default.ensures records e)
+    (rules-join records (c.in_default-check_sequences.ensures records e)
+    (rules-join records (c.in_default-check_links.ensures records e)
+    (c.in_default-check_names.ensures records e)))) c.check_landmarks.result c.check_landmarks.ensures

@@ -15,10 +15,12 @@ returns-clause-linked c records h =
     let u = typed_of c.order_tables.new.tables in
     let linked = c.in_default.ensures.linked (type_after_type u) (by_type-after u) in (
       also_linked records (typed_of c.args.tables) u (held c.args.tables records h) c.in_ok-order_tables.ensures.same linked,
-      c.in_ok-build_county.ensures ∙ same_county records (typed_of c.args.tables) u (held c.args.tables records h) c.in_ok-order_tables.ensures.same linked,
+      c.in_ok-build_county.ensures ∙ same_county records (typed_of c.args.tables) u
+          (held c.args.tables records h) c.in_ok-order_tables.ensures.same linked,
     )
 
 pub returns-in-Err-clause-broken : goal.returns-in-Err-clause-broken
 returns-in-Err-clause-broken c ne records h =
     let u = typed_of c.order_tables.new.tables in
-    also_first records (typed_of c.args.tables) u (held c.args.tables records h) c.in_ok-order_tables.ensures.same _ (c.in-Err.ensures.broken ne (type_after_type u) (by_type-after u))
+    also_first records (typed_of c.args.tables) u (held c.args.tables records h) c.in_ok-order_tables.ensures.same _
+        (c.in-Err.ensures.broken ne (type_after_type u) (by_type-after u))

@@ -1,4 +1,5 @@
-use Rattle.std.proofs.Common.{◌≡◌, ℕ, List, ◌++◌, map, flat_map, sym, ap, ◌∙◌, subst, nat_cmp, Option, Some, None, arith, map-id, IsPermutation}
+use Rattle.std.proofs.Common.{◌≡◌, ℕ, List, ◌++◌, map, flat_map, sym, ap, ◌∙◌, subst, nat_cmp, Option, Some, None, arith, map-id}
+use Rattle.std.proofs.Common.{IsPermutation}
 use Rattle.std.specs.Ordering.{on}
 use Rattle.tl_layout.specs.Fields.{Fields7, Fields8}
 use Rattle.tl_county.specs.BodyOrder.{landmark_body_cmp, link_part, link_part_cmp}
@@ -26,41 +27,67 @@ pub least_repeated-requires : goal.least_repeated-requires
 least_repeated-requires c = subst (IsInOrder (on p_key key_cmp)) (sym c.deref.ensures.value) c.requires.tables.type_p
 
 pub least_unknown-requires-clause-items : goal.least_unknown-requires-clause-items
-least_unknown-requires-clause-items c = subst (IsInOrder (on eight_land nat_cmp)) (sym c.deref-2.ensures.value) (in_order-first (on eight_land nat_cmp) (on link_part link_part_cmp) c.args.tables.now.type_8.items c.requires.tables.type_8)
+least_unknown-requires-clause-items c =
+    subst (IsInOrder (on eight_land nat_cmp)) (sym c.deref-2.ensures.value)
+    (in_order-first (on eight_land nat_cmp) (on link_part link_part_cmp) c.args.tables.now.type_8.items c.requires.tables.type_8)
 
 pub least_unknown-requires-clause-known : goal.least_unknown-requires-clause-known
-least_unknown-requires-clause-known c = subst (IsInOrder (on seven_land nat_cmp)) (sym c.deref-3.ensures.value) (in_order-first (on seven_land nat_cmp) (λ a b. landmark_body_cmp a.body b.body) c.args.tables.now.type_7.items c.requires.tables.type_7)
+least_unknown-requires-clause-known c =
+    subst (IsInOrder (on seven_land nat_cmp)) (sym c.deref-3.ensures.value)
+    (in_order-first (on seven_land nat_cmp)
+    (λ a b. landmark_body_cmp a.body b.body) c.args.tables.now.type_7.items c.requires.tables.type_7)
 
 pub least_unknown-requires-2-clause-known : goal.least_unknown-requires-2-clause-known
-least_unknown-requires-2-clause-known c = subst (IsInOrder key_cmp) (sym c.requires.polygons) (distinct-in_order key_keys (flat_map side_keys c.args.tables.now.type_i.items ++ map p_key c.args.tables.now.type_p.items))
+least_unknown-requires-2-clause-known c =
+    subst (IsInOrder key_cmp) (sym c.requires.polygons)
+    (distinct-in_order key_keys (flat_map side_keys c.args.tables.now.type_i.items ++ map p_key c.args.tables.now.type_p.items))
 
 pub returns-in-Some : goal.returns-in-Some
-returns-in-Some c records e = rule-broken (rule_18 records (typed_of c.args.tables.now) e) c.in-Some.key (subst (Twice p_key (Some c.in-Some.key)) c.deref.ensures.value c.in-Some.ensures)
+returns-in-Some c records e =
+    rule-broken (rule_18 records (typed_of c.args.tables.now) e) c.in-Some.key
+    (subst (Twice p_key (Some c.in-Some.key)) c.deref.ensures.value c.in-Some.ensures)
 
 pub returns-in-Some-least_unknown : goal.returns-in-Some-least_unknown
 returns-in-Some-least_unknown c records e =
-    let ps : RulesHold records 13 14 = rule-holds (rule_18 records (typed_of c.args.tables.now) e) (subst (Twice p_key None) c.deref.ensures.value c.in_default.ensures) in
-    first-after records (omega arith) ps (rule-broken (rule_19 records (typed_of c.args.tables.now) e) c.in-Some-least_unknown.land (at_lists (Unknown eight_land seven_land (Some c.in-Some-least_unknown.land)) c.deref-2.ensures.value c.deref-3.ensures.value c.in-Some-least_unknown.ensures))
+    let ps : RulesHold records 13 14 =
+        rule-holds (rule_18 records (typed_of c.args.tables.now) e) (subst (Twice p_key None) c.deref.ensures.value c.in_default.ensures) in
+    first-after records (omega arith) ps (rule-broken (rule_19 records (typed_of c.args.tables.now) e) c.in-Some-least_unknown.land
+        (at_lists (Unknown eight_land seven_land
+        (Some c.in-Some-least_unknown.land)) c.deref-2.ensures.value c.deref-3.ensures.value c.in-Some-least_unknown.ensures))
 
 -- the polygons asked for and known, as the lists that they were gathered from have them
-alike : (linked polygons keys known : List PolygonKey) → IsPermutation keys linked → polygons ≡ distinct key_cmp known → (key : PolygonKey) → is_unknown key_cmp (map (λ k. k) linked) (map (λ k. k) polygons) key ≡ is_unknown key_cmp keys known key
-alike linked polygons keys known p e key = (λ i. is_unknown key_cmp (map-id linked i) ((map-id polygons ∙ e) i) key) ∙ unknown-distinct keys linked known p key
+alike : (linked polygons keys known : List PolygonKey) → IsPermutation keys linked → polygons ≡ distinct key_cmp known → (key : PolygonKey)
+    → is_unknown key_cmp (map (λ k. k) linked) (map (λ k. k) polygons) key ≡ is_unknown key_cmp keys known key
+alike linked polygons keys known p e key = (λ i. is_unknown key_cmp (map-id linked i) ((map-id polygons ∙ e) i) key)
+    ∙ unknown-distinct keys linked known p key
 
 pub returns-in-Some-least_unknown-2 : goal.returns-in-Some-least_unknown-2
 returns-in-Some-least_unknown-2 c records e =
-    let ps : RulesHold records 13 14 = rule-holds (rule_18 records (typed_of c.args.tables.now) e) (subst (Twice p_key None) c.deref.ensures.value c.in_default.ensures) in
-    let lands : RulesHold records 14 15 = rule-holds (rule_19 records (typed_of c.args.tables.now) e) (at_lists (Unknown eight_land seven_land None) c.deref-2.ensures.value c.deref-3.ensures.value c.in_default-least_unknown.ensures) in
+    let ps : RulesHold records 13 14 =
+        rule-holds (rule_18 records (typed_of c.args.tables.now) e) (subst (Twice p_key None) c.deref.ensures.value c.in_default.ensures) in
+    let lands : RulesHold records 14 15 =
+        rule-holds (rule_19 records (typed_of c.args.tables.now) e)
+        (at_lists (Unknown eight_land seven_land None) c.deref-2.ensures.value c.deref-3.ensures.value c.in_default-least_unknown.ensures) in
     let keys : List PolygonKey = flat_map side_keys c.args.tables.now.type_i.items ++ map p_key c.args.tables.now.type_p.items in
-    let found = least-same key_cmp (is_unknown key_cmp (map (λ k. k) c.args.linked.now) (map (λ k. k) c.args.polygons.now)) (is_unknown key_cmp (map eight_key c.args.tables.now.type_8.items) keys)
-    (alike c.args.linked.now c.args.polygons.now (map eight_key c.args.tables.now.type_8.items) keys c.requires.linked.1 c.requires.polygons) (Some c.in-Some-least_unknown-2.key) c.in-Some-least_unknown-2.ensures in
-    first-after records (omega arith) ps (first-after records (omega arith) lands (rule-broken (rule_20 records (typed_of c.args.tables.now) e) c.in-Some-least_unknown-2.key found))
+    let found = least-same key_cmp (is_unknown key_cmp (map (λ k. k) c.args.linked.now) (map (λ k. k) c.args.polygons.now))
+        (is_unknown key_cmp (map eight_key c.args.tables.now.type_8.items) keys)
+    (alike c.args.linked.now c.args.polygons.now
+        (map eight_key c.args.tables.now.type_8.items) keys c.requires.linked.1 c.requires.polygons)
+        (Some c.in-Some-least_unknown-2.key) c.in-Some-least_unknown-2.ensures in
+    first-after records (omega arith) ps (first-after records (omega arith) lands
+        (rule-broken (rule_20 records (typed_of c.args.tables.now) e) c.in-Some-least_unknown-2.key found))
 
 pub returns : goal.returns
 returns c records e =
-    let ps : RulesHold records 13 14 = rule-holds (rule_18 records (typed_of c.args.tables.now) e) (subst (Twice p_key None) c.deref.ensures.value c.in_default.ensures) in
-    let lands : RulesHold records 14 15 = rule-holds (rule_19 records (typed_of c.args.tables.now) e) (at_lists (Unknown eight_land seven_land None) c.deref-2.ensures.value c.deref-3.ensures.value c.in_default-least_unknown.ensures) in
+    let ps : RulesHold records 13 14 =
+        rule-holds (rule_18 records (typed_of c.args.tables.now) e) (subst (Twice p_key None) c.deref.ensures.value c.in_default.ensures) in
+    let lands : RulesHold records 14 15 =
+        rule-holds (rule_19 records (typed_of c.args.tables.now) e)
+        (at_lists (Unknown eight_land seven_land None) c.deref-2.ensures.value c.deref-3.ensures.value c.in_default-least_unknown.ensures) in
     let keys : List PolygonKey = flat_map side_keys c.args.tables.now.type_i.items ++ map p_key c.args.tables.now.type_p.items in
-    let none = least-same key_cmp (is_unknown key_cmp (map (λ k. k) c.args.linked.now) (map (λ k. k) c.args.polygons.now)) (is_unknown key_cmp (map eight_key c.args.tables.now.type_8.items) keys)
-    (alike c.args.linked.now c.args.polygons.now (map eight_key c.args.tables.now.type_8.items) keys c.requires.linked.1 c.requires.polygons) None c.in_default-least_unknown-2.ensures in
+    let none = least-same key_cmp (is_unknown key_cmp (map (λ k. k) c.args.linked.now) (map (λ k. k) c.args.polygons.now))
+        (is_unknown key_cmp (map eight_key c.args.tables.now.type_8.items) keys)
+    (alike c.args.linked.now c.args.polygons.now
+        (map eight_key c.args.tables.now.type_8.items) keys c.requires.linked.1 c.requires.polygons) None c.in_default-least_unknown-2.ensures in
     let polygons : RulesHold records 15 16 = rule-holds (rule_20 records (typed_of c.args.tables.now) e) none in
     rules-join records ps (rules-join records lands polygons)

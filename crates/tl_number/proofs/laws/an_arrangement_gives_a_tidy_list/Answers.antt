@@ -7,7 +7,8 @@ pub returns-clause-carries : goal.returns-clause-carries
 returns-clause-carries c = arrangement_carries
 
 pub returns-clause-county : goal.returns-clause-county
-returns-clause-county c = λ county steps is arranges sides. (arranged_county county steps is arranges sides, arranged_tidy county steps is arranges sides)
+returns-clause-county c =
+    λ county steps is arranges sides. (arranged_county county steps is arranges sides, arranged_tidy county steps is arranges sides)
 
 pub returns-clause-list : goal.returns-clause-list
 returns-clause-list c = packed_tidy

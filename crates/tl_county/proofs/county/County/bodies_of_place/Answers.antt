@@ -4,7 +4,9 @@ use Rattle.tl_county.proofs.BuiltTables.{bodies-at}
 use Rattle.tl_county.proofs.county.County.bodies_of_place.Goals as goal
 
 pub returns-in-Some : goal.returns-in-Some
-returns-in-Some c = c.bodies.ensures ∙ ap (λ o. unwrap_or (option_map (λ (l : LandmarkParts). l.bodies) o) []) c.in-Some.ensures ∙ ap (λ o. unwrap_or o []) (bodies-at c.args.self.now.landmarks c.args.place)
+returns-in-Some c = c.bodies.ensures ∙ ap (λ o. unwrap_or (option_map (λ (l : LandmarkParts). l.bodies) o) []) c.in-Some.ensures
+    ∙ ap (λ o. unwrap_or o []) (bodies-at c.args.self.now.landmarks c.args.place)
 
 pub returns-in-None : goal.returns-in-None
-returns-in-None c = ap (λ o. unwrap_or (option_map (λ (l : LandmarkParts). l.bodies) o) []) c.in-None.ensures ∙ ap (λ o. unwrap_or o []) (bodies-at c.args.self.now.landmarks c.args.place)
+returns-in-None c = ap (λ o. unwrap_or (option_map (λ (l : LandmarkParts). l.bodies) o) []) c.in-None.ensures
+    ∙ ap (λ o. unwrap_or o []) (bodies-at c.args.self.now.landmarks c.args.place)

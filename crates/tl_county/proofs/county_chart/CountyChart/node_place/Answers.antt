@@ -6,4 +6,6 @@ use Rattle.tl_county.proofs.Numbers.{distinct-in_order}
 use Rattle.tl_county.proofs.county_chart.CountyChart.node_place.Goals as goal
 
 pub place_of-requires : goal.place_of-requires
-place_of-requires c = subst (IsInOrder nat_cmp) (sym (c.as_slice.ensures.value ∙ c.args.self.now.nodes_stand)) (distinct-in_order nat_keys (nodes_along c.args.self.now.chains))
+place_of-requires c =
+    subst (IsInOrder nat_cmp) (sym (c.as_slice.ensures.value ∙ c.args.self.now.nodes_stand))
+    (distinct-in_order nat_keys (nodes_along c.args.self.now.chains))

@@ -6,4 +6,6 @@ use Rattle.tl_county.proofs.EntryLists.{in_order-strict}
 use Rattle.tl_county.proofs.table.Table.place.Goals as goal
 
 pub place_of-requires : goal.place_of-requires
-place_of-requires g c = subst (IsInOrder g.K.Ord.cmp) (sym c.keys.ensures.value) (in_order-strict g.K.Ord.cmp (entry_keys c.args.self.now) c.keys.ensures.ascending)
+place_of-requires g c =
+    subst (IsInOrder g.K.Ord.cmp) (sym c.keys.ensures.value)
+    (in_order-strict g.K.Ord.cmp (entry_keys c.args.self.now) c.keys.ensures.ascending)

@@ -6,7 +6,8 @@ use Rattle.tl_layout.specs.declared.tables.Tables.{Tables}
 use Rattle.tl_layout.proofs.TableSteps.{holds_with}
 use Rattle.tl_load.proofs.keeper.TablesKeeper.keep.Goals as goal
 
-pushed : {T E : Type 0} (r : Result T E) (before after : Tables) (records : List Record) (added : Record) → HoldsByType before records → OnOk r (AddsRecord before added after) → OnOk r (HoldsByType after (records ++ added ∷ []))
+pushed : {T E : Type 0} (r : Result T E) (before after : Tables) (records : List Record) (added : Record) → HoldsByType before records
+    → OnOk r (AddsRecord before added after) → OnOk r (HoldsByType after (records ++ added ∷ []))
 pushed (Ok x) before after records added held adds = holds_with before after records added held adds
 pushed (Err e) before after records added held adds = tt
 

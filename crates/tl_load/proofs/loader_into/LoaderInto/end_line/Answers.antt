@@ -11,27 +11,35 @@ use Rattle.tl_load.proofs.Views.{empty_is}
 use Rattle.tl_load.proofs.loader_into.LoaderInto.end_line.Goals as goal
 
 -- a line that was judged used as many bytes as it has with its end, and at most 230
-line_used : {T : Type 0} (r : Result T LoadFault) (line bytes was now open_was : ℕ) → OnOk r (line ≤ 228) → OnOk r (now ≡ was + 1) → bytes ≤ line + 1 → open_was ≡ 0 → (open_now : ℕ) → OnOk r (230 * was + open_was + bytes + 1 ≤ 230 * now + open_now)
+line_used : {T : Type 0} (r : Result T LoadFault) (line bytes was now open_was : ℕ) → OnOk r (line ≤ 228) → OnOk r (now ≡ was + 1)
+    → bytes ≤ line + 1 → open_was ≡ 0 → (open_now : ℕ) → OnOk r (230 * was + open_was + bytes + 1 ≤ 230 * now + open_now)
 line_used (Ok x) line bytes was now open_was short one dropped none open_now = omega arith
 line_used (Err f) line bytes was now open_was short one dropped none open_now = tt
 
 pub returns-then-is_empty-clause-takes : goal.returns-then-is_empty-clause-takes
 returns-then-is_empty-clause-takes g c = λ records kept.
-    let none : c.args.self.now.unfinished ≡ [] = rw (← c.self.view_is) (empty_is c.self.inside.line.items (sym c.is_empty.ensures ∙ c.if-is_empty.true)) in
+    let none : c.args.self.now.unfinished ≡ [] =
+        rw (← c.self.view_is) (empty_is c.self.inside.line.items (sym c.is_empty.ensures ∙ c.if-is_empty.true)) in
     let joined : c.args.self.now.unfinished ++ c.args.bytes.now ≡ c.args.bytes.now = ap (λ (l : List ℕ). l ++ c.args.bytes.now) none in
     let j = c.judge_next.ensures.judges records kept in (
       j.0,
       j.1,
-      ends_line (seen c.args.self.now records) (seen c.args.self.now records) (seen c.judge_next.new.self j.0) c.args.bytes.now _ c.judge_next.result (record { records = refl; parts = refl; judged = refl; limit = refl })
+      ends_line (seen c.args.self.now records) (seen c.args.self.now records)
+          (seen c.judge_next.new.self j.0) c.args.bytes.now _ c.judge_next.result
+          (record { records = refl; parts = refl; judged = refl; limit = refl })
           (c.without_carriage_return.ensures ∙ ap without_return (sym joined)) (subst IsWithoutLineFeed (sym joined) c.requires.no_feed) j.2
-          c.judge_next.ensures.judged (c.judge_next.ensures.unfinished ∙ none) c.judge_next.ensures.same_part.parts c.judge_next.ensures.same_part.limit,
+          c.judge_next.ensures.judged (c.judge_next.ensures.unfinished
+              ∙ none) c.judge_next.ensures.same_part.parts c.judge_next.ensures.same_part.limit,
     )
 
 pub returns-then-is_empty-clause-used : goal.returns-then-is_empty-clause-used
 returns-then-is_empty-clause-used g c =
-    let none : c.args.self.now.unfinished ≡ [] = rw (← c.self.view_is) (empty_is c.self.inside.line.items (sym c.is_empty.ensures ∙ c.if-is_empty.true)) in
-    let dropped : length c.args.bytes.now ≤ length c.without_carriage_return.result.now + 1 = omega (arith, without_return_length c.args.bytes.now, ap length c.without_carriage_return.ensures) in
-    line_used c.judge_next.result (length c.without_carriage_return.result.now) (length c.args.bytes.now) (total c.args.self.now.counts) (total c.judge_next.new.self.counts) (length c.args.self.now.unfinished)
+    let none : c.args.self.now.unfinished ≡ [] =
+        rw (← c.self.view_is) (empty_is c.self.inside.line.items (sym c.is_empty.ensures ∙ c.if-is_empty.true)) in
+    let dropped : length c.args.bytes.now ≤ length c.without_carriage_return.result.now + 1 =
+        omega (arith, without_return_length c.args.bytes.now, ap length c.without_carriage_return.ensures) in
+    line_used c.judge_next.result (length c.without_carriage_return.result.now) (length c.args.bytes.now) (total c.args.self.now.counts)
+        (total c.judge_next.new.self.counts) (length c.args.self.now.unfinished)
     c.judge_next.ensures.short c.judge_next.ensures.one_more dropped (ap length none) (length c.judge_next.new.self.unfinished)
 
 pub returns-in_err-hold-clause-takes : goal.returns-in_err-hold-clause-takes
@@ -39,10 +47,12 @@ returns-in_err-hold-clause-takes g c =
     let p = err_from_is_err_and c.from_residual.result c.from_residual.ensures.1 in
     rw (p.1, p.2) (λ records kept.
     let t = c.in_err-hold.ensures.takes records kept in
-    (records, tt, fault_then (Unit {0}) (Unit {0}) (seen c.args.self.now records) (seen c.hold.new.self t.0) (seen c.hold.new.self t.0) c.args.bytes.now (10 ∷ []) _ t.2))
+    (records, tt, fault_then (Unit {0}) (Unit {0}) (seen c.args.self.now records) (seen c.hold.new.self t.0)
+        (seen c.hold.new.self t.0) c.args.bytes.now (10 ∷ []) _ t.2))
 
 pub returns-clause-takes : goal.returns-clause-takes
 returns-clause-takes g c = λ records kept.
     let t = c.in_ok-hold.ensures.takes records kept in
     let u = c.end_held_line.ensures.takes t.0 t.1 in
-    (u.0, u.1, takes_then (seen c.args.self.now records) (seen c.hold.new.self t.0) (seen c.end_held_line.new.self u.0) c.args.bytes.now (10 ∷ []) c.end_held_line.result t.2 u.2)
+    (u.0, u.1, takes_then (seen c.args.self.now records) (seen c.hold.new.self t.0) (seen c.end_held_line.new.self u.0) c.args.bytes.now
+        (10 ∷ []) c.end_held_line.result t.2 u.2)

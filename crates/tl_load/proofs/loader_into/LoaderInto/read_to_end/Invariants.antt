@@ -6,7 +6,8 @@ use Rattle.tl_load.proofs.loader_into.LoaderInto.read_to_end.Given as goal
 
 abbrev pub invariant-loop-count : goal.invariant-loop-count
 invariant-loop-count g l = record {
-  reads : (taken : List ℕ) × Gave g.R.Source.remaining g.R.Source.given l.initial.source l.source taken × (length taken + bytes_used l.initial.self ≤ bytes_used l.self)
+  reads : (taken : List ℕ) × Gave g.R.Source.remaining g.R.Source.given l.initial.source l.source taken
+      × (length taken + bytes_used l.initial.self ≤ bytes_used l.self)
       × Lifts {T = Unit {0}} g.K.Keeper.holds (Takes taken) l.initial.self (Ok tt) l.self;
   same_part : IsSamePart l.initial.self l.self;
   most : bytes_used l.self ≤ 20700000229;

@@ -3,7 +3,8 @@ use Rattle.std.proofs.lemmas.List.{take-append-drop, take_at, length-take, drop_
 use Rattle.tl_load.proofs.source.SlowSourceSource.read.Goals as goal
 
 -- the bytes that were copied, and the rest
-copied : (bytes front back buf : List ℕ) (n : ℕ) → n ≤ length bytes → front ≡ take n bytes → back ≡ drop n bytes → bytes ≡ take n (front ++ buf) ++ back
+copied : (bytes front back buf : List ℕ) (n : ℕ) → n ≤ length bytes → front ≡ take n bytes → back ≡ drop n bytes
+    → bytes ≡ take n (front ++ buf) ++ back
 copied bytes front back buf n le f b =
     let len : length front ≡ n = ap length f ∙ (omega (arith, length-take n bytes)) in
     rw (take_at front buf n len, f, b) (sym (take-append-drop n bytes))
