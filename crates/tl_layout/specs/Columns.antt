@@ -1,5 +1,5 @@
 -- Lines as columns: texts that stand one after another.
-use Rattle.std.specs.Prelude.{ℕ, ◌+◌, List, [], ◌∷◌, ◌++◌}
+use Rattle.std.specs.Prelude.{ℕ, List, [], ◌∷◌, ◌++◌}
 
 -- the texts, one after another, behind what stands before them
 abbrev pub joined : List ℕ → List (List ℕ) → List ℕ
