@@ -10,11 +10,13 @@ use tl_load::Loader;
 
 /// The records that these lines spell, in their order.
 fn records_of(alloc: Global, lines: &[&str]) -> Result<Vec<Record>, Fail> {
-    let mut loader = Loader::new(alloc);
+    let mut bytes = Vec::new(alloc);
     for line in lines {
-        loader.feed(expanded(alloc, line)?.as_slice())?;
-        loader.feed(b"\n")?;
+        bytes.extend_from_slice(&expanded(alloc, line)?)?;
+        bytes.push(b'\n')?;
     }
+    let mut loader = Loader::new(alloc);
+    loader.feed(bytes.as_slice())?;
     Ok(loader.finish()?)
 }
 
