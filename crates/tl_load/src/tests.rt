@@ -303,6 +303,7 @@ fn a_failure_is_told_once_and_nothing_is_tried_again(rt: HostRuntime) -> Result<
     assert_eq!(rt; source.failures(), 1);
     let mut next = [0; 100];
     assert_eq!(rt; source.read(&mut next), Ok(100));
+    assert_eq!(rt; set.len(), 357);
     assert_eq!(rt; next.as_slice(), &set[100..200]);
     Ok(())
 }
