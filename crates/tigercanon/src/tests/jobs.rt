@@ -268,7 +268,8 @@ fn a_second_try_is_never_made(rt: HostRuntime) -> Result<(), Fail> {
     let files = vec![in alloc; whole(&set)]?;
     let (status, out, err) = respelt(alloc, files, writer(alloc, 7, 14));
     assert_eq!(rt; status, 4);
-    assert_eq!(rt; out.as_slice(), &text[..14]);
+    assert_eq!(rt; out.len(), 14);
+    assert!(rt; text.starts_with(&out));
     assert_eq!(rt; err.as_slice(), b"refused 10 WriteFault 14\n".as_slice());
     Ok(())
 }
