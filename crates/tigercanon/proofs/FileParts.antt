@@ -27,10 +27,12 @@ module _ {K : Type 0} (holds : K → List Record → Type 0) (before after : Loa
       → (part : List ℕ) × IfSome k (λ bytes. part ≡ bytes) × WasFedInto holds record_limit after (closed ++ part ∷ []) []
   whatever_left f closed stands None l c w = (taken, tt, fed_closed_standing holds record_limit after f closed taken stands w)
   whatever_left f closed stands (Some all) None c w = absurd c
-  whatever_left f closed stands (Some all) (Some rest) c w =
-      (taken ++ rest, sym c,
-      fed_closed_standing holds record_limit after f closed (taken ++ rest) stands
-      (fed_standing holds record_limit after rest f closed taken stands w))
+  whatever_left f closed stands (Some all) (Some rest) c w = (
+    taken ++ rest,
+    sym c,
+    fed_closed_standing holds record_limit after f closed (taken ++ rest) stands
+        (fed_standing holds record_limit after rest f closed taken stands w),
+  )
 
   pub part_read : {T : Type 0} (x : T) → Consumes known left taken → FedPart (WasFedInto holds) before taken (IsAtEnd left) (Ok x) after
       → TakesPart holds before after known
@@ -49,7 +51,7 @@ module _ {K : Type 0} (holds : K → List Record → Type 0) (before after : Loa
 pub are_held-snoc : {R : Type 0} (remaining : R → Option (List ℕ)) (files : List (Opened R)) (parts : List (List ℕ)) (file : Opened R)
     (part : List ℕ)
     → AreHeld remaining files parts → IfSome (bytes_of remaining file) (λ bytes. part ≡ bytes)
-        → AreHeld remaining (files ++ file ∷ []) (parts ++ part ∷ [])
+    → AreHeld remaining (files ++ file ∷ []) (parts ++ part ∷ [])
 are_held-snoc remaining [] [] file part before one = (one, tt)
 are_held-snoc remaining [] (p ∷ ps) file part before one = absurd before
 are_held-snoc remaining (f ∷ fs) [] file part before one = absurd before

@@ -56,7 +56,7 @@ pub fault_of_all : (slices : List (Bor (List ℕ))) (i : ℕ) (d : Bor (List ℕ
 fault_of_all slices i d f within however =
     let all : parts_of (take i slices) ++ ((get_or slices i d).now ++ []) ∷ parts_of (drop (suc i) slices) ≡ parts_of slices =
     ap (λ part. parts_of (take i slices) ++ part ∷ parts_of (drop (suc i) slices)) (append-nil (get_or slices i d).now)
-        ∙ parts_around slices i d within in
+    ∙ parts_around slices i d within in
     subst (λ ps. IsFirstFault ps f) all (however [] (parts_of (drop (suc i) slices)))
 
 -- the same where that part is closed: the next one and those after it go on, or nothing does
@@ -69,5 +69,5 @@ pub fault_of_closed : (slices : List (Bor (List ℕ))) (i : ℕ) (d : Bor (List 
 fault_of_closed slices i d f within however =
     let closed = parts_of (take i slices) in
     subst (λ ps. IsFirstFault ps f) (append_assoc closed ((get_or slices i d).now ∷ []) (parts_of (drop (suc i) slices))
-        ∙ parts_around slices i d within)
+    ∙ parts_around slices i d within)
     (fault_of_rest (closed ++ (get_or slices i d).now ∷ []) (parts_of (drop (suc i) slices)) f however)

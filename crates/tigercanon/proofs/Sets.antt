@@ -80,9 +80,9 @@ fitting : (parts : List (List ℕ)) (text : List ℕ) (h : IsCanonicalText parts
     → All FitsRecord h.canonical × IsWithinLimit record_limit h.canonical
 fitting parts text h =
     let read : AllByRecursion FitsRecord h.records =
-        recursion_from_All FitsRecord h.records (spelled_fit parts h.records h.spelled.spells) in
+    recursion_from_All FitsRecord h.records (spelled_fit parts h.records h.spelled.spells) in
     let kept = canonical_within record_limit (lit≤ tt) h.records h.canonical_of.accepted read
-        (accepted_within record_limit parts h.records h.spelled) h.canonical h.canonical_of in
+    (accepted_within record_limit parts h.records h.spelled) h.canonical h.canonical_of in
     (All-from_recursion FitsRecord h.canonical kept.0, kept.1)
 
 module _ (p q : List (List ℕ)) (t u : List ℕ) (h : IsCanonicalText p t) (k : IsCanonicalText q u) where
@@ -94,20 +94,23 @@ module _ (p q : List (List ℕ)) (t u : List ℕ) (h : IsCanonicalText p t) (k :
   one_text_same e =
       let texts : text_of k.canonical ≡ text_of h.canonical = k.text_is ∙ sym e ∙ sym h.text_is in
       let spelled : Spells tiger (text_of h.canonical ∷ []) k.canonical =
-          subst (λ bytes. Spells tiger (bytes ∷ []) k.canonical) texts (text_spells k.canonical (fitting q u k).0) in
+      subst (λ bytes. Spells tiger (bytes ∷ []) k.canonical) texts (text_spells k.canonical (fitting q u k).0) in
       let lists : k.canonical ≡ h.canonical = text_spells_only h.canonical k.canonical (fitting p t h).0 spelled in
       one_canonical_same h.records k.records h.canonical k.canonical h.canonical_of k.canonical_of (sym lists)
 
 -- an accepted set has one canonical text
 pub canonical_text : (parts : List (List ℕ)) (records : List Record) → IsAcceptedSet parts records
     → (text : List ℕ) × IsCanonicalText parts text
-canonical_text parts records a = (text_of (canonical_list records), record {
-  records = records;
-  canonical = canonical_list records;
-  spelled = a.spelled;
-  canonical_of = canonical_exists records a.accepted;
-  text_is = refl;
-})
+canonical_text parts records a = (
+  text_of (canonical_list records),
+  record {
+    records = records;
+    canonical = canonical_list records;
+    spelled = a.spelled;
+    canonical_of = canonical_exists records a.accepted;
+    text_is = refl;
+  },
+)
 
 pub one_text : (parts : List (List ℕ)) (t u : List ℕ) → IsCanonicalText parts t → IsCanonicalText parts u → t ≡ u
 one_text parts t u h k =

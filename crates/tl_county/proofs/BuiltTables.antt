@@ -174,20 +174,20 @@ module _ (land : ℕ) where
           (flat_map (λ (e : ℕ × LandmarkParts). e.1.links) (entry ∷ landmarks))
       go (inl e) ih =
           ap (λ b. (unwrap_or (cond b (Some entry.1) (value_under nat_cmp land landmarks)) none).links)
-              (subst (λ n. is_eq (nat_cmp land n) ≡ true) e (same-itself nat_keys land))
+          (subst (λ n. is_eq (nat_cmp land n) ≡ true) e (same-itself nat_keys land))
           ∙ sym (append-nil entry.1.links)
           ∙ (λ i. sym (all_of entry.1.links (subst (λ n. AllByRecursion (λ (link : Fields8). link.land ≡ n) entry.1.links)
-              (sym e) under.0)) i ++ sym
-              (none_later landmarks under.1
-              (subst (λ n. AllByRecursion (λ m. nat_cmp n m ≡ Less) (entry_keys landmarks)) (sym e)
-              (strict_head nat_cmp entry.0 (entry_keys landmarks) strict))) i)
+          (sym e) under.0)) i ++ sym
+          (none_later landmarks under.1
+          (subst (λ n. AllByRecursion (λ m. nat_cmp n m ≡ Less) (entry_keys landmarks)) (sym e)
+          (strict_head nat_cmp entry.0 (entry_keys landmarks) strict))) i)
           ∙ sym split
       go (inr n) ih =
           ap (λ b. (unwrap_or (cond b (Some entry.1) (value_under nat_cmp land landmarks)) none).links) n ∙ ih
           ∙ ap (λ l. l ++ of_number eight_land land (flat_map (λ (e : ℕ × LandmarkParts). e.1.links) landmarks))
-              (sym (none_of entry.0
-              (λ e. false≢true (sym n
-              ∙ subst (λ m. is_eq (nat_cmp land m) ≡ true) (sym e) (same-itself nat_keys land))) entry.1.links under.0))
+          (sym (none_of entry.0
+          (λ e. false≢true (sym n
+          ∙ subst (λ m. is_eq (nat_cmp land m) ≡ true) (sym e) (same-itself nat_keys land))) entry.1.links under.0))
           ∙ sym split
 
 -- the bodies under a LAND, by the county's own list

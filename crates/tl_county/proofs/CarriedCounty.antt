@@ -98,17 +98,17 @@ module _ (r : Renumbering) (a b : County) (h : Carries r a b) where
       let old : Among o.0 d.1.feats = subst (Among o.0) (feats-turned (turns r d.0) d.1) o.1 in
       let stands : AllStandIn (feats a) d.1.feats = all_among (λ e. AllStandIn (feats a) e.1.feats) d a.chains closed.names m in
       subst (λ i. IsTrue (stands_in nat_cmp i (feats b))) (sym o.2)
-          (new_name o.0 (all_among (λ i. IsTrue (stands_in nat_cmp i (feats a))) o.0 d.1.feats stands old)))
+      (new_name o.0 (all_among (λ i. IsTrue (stands_in nat_cmp i (feats a))) o.0 d.1.feats stands old)))
 
   sides_stand : IsClosed a → (d : ℕ × Chain) → Among d a.chains → AllKeysStandIn (polygon_keys b) (chain_polygons (carried_chain r d).1)
   sides_stand closed d m = each_from (λ k. IsTrue (stands_in key_cmp k (polygon_keys b))) (chain_polygons (carried_chain r d).1)
       (λ k l. let o = among-unmap (image key_cmp r.polygons) k (chain_polygons (turned_if (turns r d.0) d.1))
-          (subst (Among k) (chain_polygons-renumbered r (turned_if (turns r d.0) d.1)) l) in
+      (subst (Among k) (chain_polygons-renumbered r (turned_if (turns r d.0) d.1)) l) in
       let old : Among o.0 (chain_polygons d.1) = polygons-unturned o.0 (turns r d.0) d.1 o.1 in
       let stands : AllKeysStandIn (polygon_keys a) (chain_polygons d.1) =
-          all_among (λ e. AllKeysStandIn (polygon_keys a) (chain_polygons e.1)) d a.chains closed.sides m in
+      all_among (λ e. AllKeysStandIn (polygon_keys a) (chain_polygons e.1)) d a.chains closed.sides m in
       subst (λ j. IsTrue (stands_in key_cmp j (polygon_keys b))) (sym o.2)
-          (new_key o.0 (all_among (λ j. IsTrue (stands_in key_cmp j (polygon_keys a))) o.0 (chain_polygons d.1) stands old)))
+      (new_key o.0 (all_among (λ j. IsTrue (stands_in key_cmp j (polygon_keys a))) o.0 (chain_polygons d.1) stands old)))
 
   pub carried_closed : IsClosed a → IsClosed b
   carried_closed closed = record {
@@ -120,14 +120,14 @@ module _ (r : Renumbering) (a b : County) (h : Carries r a b) where
         (λ l m. let o = old_link l m in
         subst (λ (k : Fields8). IsTrue (stands_in nat_cmp k.land (lands b))) (sym o.2)
         (lt-ltb 0 (times nat_cmp (image nat_cmp r.lands o.0.land) (lands b))
-            (paired_known nat_keys r.lands (lands a) (lands b) h.numbers.lands o.0.land
-            (ltb-true 0 (times nat_cmp o.0.land (lands a))
-            (all_among (λ k. IsTrue (stands_in nat_cmp k.land (lands a))) o.0 a.links closed.link_lands o.1)))));
+        (paired_known nat_keys r.lands (lands a) (lands b) h.numbers.lands o.0.land
+        (ltb-true 0 (times nat_cmp o.0.land (lands a))
+        (all_among (λ k. IsTrue (stands_in nat_cmp k.land (lands a))) o.0 a.links closed.link_lands o.1)))));
     link_polygons = each_from (λ l. IsTrue (stands_in key_cmp (link_key l) (polygon_keys b))) b.links
         (λ l m. let o = old_link l m in
         subst (λ (k : Fields8). IsTrue (stands_in key_cmp (link_key k) (polygon_keys b))) (sym o.2)
         (new_key (link_key o.0) (all_among (λ k. IsTrue (stands_in key_cmp (link_key k)
-            (polygon_keys a))) o.0 a.links closed.link_polygons o.1)));
+        (polygon_keys a))) o.0 a.links closed.link_polygons o.1)));
   }
 
   -- a polygon on a side stands on one under its new number
@@ -137,11 +137,11 @@ module _ (r : Renumbering) (a b : County) (h : Carries r a b) where
       let d = among-unpieces (λ (e : ℕ × Chain). chain_polygons e.1) k a.chains (known_is_among key_keys k (polygons_along a.chains) l) in
       let turned : Among k (chain_polygons (turned_if (turns r d.0.0) d.0.1)) = among-turned k (turns r d.0.0) d.0.1 d.2 in
       let new : Among (image key_cmp r.polygons k) (chain_polygons (carried_chain r d.0).1) =
-          subst (Among (image key_cmp r.polygons k)) (sym (chain_polygons-renumbered r (turned_if (turns r d.0.0) d.0.1)))
-          (among-map (image key_cmp r.polygons) k (chain_polygons (turned_if (turns r d.0.0) d.0.1)) turned) in
+      subst (Among (image key_cmp r.polygons k)) (sym (chain_polygons-renumbered r (turned_if (turns r d.0.0) d.0.1)))
+      (among-map (image key_cmp r.polygons) k (chain_polygons (turned_if (turns r d.0.0) d.0.1)) turned) in
       among_known key_keys (image key_cmp r.polygons k) (polygons_along b.chains)
-          (among-pieces (λ (e : ℕ × Chain). chain_polygons e.1) (carried_chain r d.0) (image key_cmp r.polygons k) b.chains
-          (new_chain d.0 d.1) new)
+      (among-pieces (λ (e : ℕ × Chain). chain_polygons e.1) (carried_chain r d.0) (image key_cmp r.polygons k) b.chains
+      (new_chain d.0 d.1) new)
 
   polygon_whole : (k : PolygonKey) (body : Option BodyP) → IsTrue (is_some body || stands_in key_cmp k (polygons_along a.chains))
       → IsTrue (is_some body || stands_in key_cmp (image key_cmp r.polygons k) (polygons_along b.chains))
@@ -161,17 +161,17 @@ module _ (r : Renumbering) (a b : County) (h : Carries r a b) where
         let two : 2 ≤ length o.0.1.points = all_among (λ d. 2 ≤ length d.1.points) o.0 a.chains whole.points o.1 in
         let same : length (turned_if (turns r o.0.0) o.0.1).points ≡ length o.0.1.points = points-turned (turns r o.0.0) o.0.1 in
         subst (λ (c : ℕ × Chain). 2 ≤ length c.1.points) (sym o.2) (let t : 2 ≤ length (turned_if (turns r o.0.0) o.0.1).points =
-            omega arith in t));
+        omega arith in t));
     bodies = each_from (λ e. 1 ≤ length e.1) b.landmarks
         (λ e m. let o = among-unmap (carried_landmark r) e a.landmarks
-            (among-permutation e b.landmarks (map (carried_landmark r) a.landmarks)
-            (IsPermutation-sym (map (carried_landmark r) a.landmarks) b.landmarks h.landmarks) m) in
+        (among-permutation e b.landmarks (map (carried_landmark r) a.landmarks)
+        (IsPermutation-sym (map (carried_landmark r) a.landmarks) b.landmarks h.landmarks) m) in
         subst (λ (c : ℕ × List Body7). 1 ≤ length c.1) (sym o.2) (all_among (λ d. 1 ≤ length d.1) o.0 a.landmarks whole.bodies o.1));
     polygons = each_from (λ e. IsTrue (is_some e.1 || stands_in key_cmp e.0 (polygons_along b.chains))) b.polygons
         (λ e m. let o = among-unmap (carried_polygon r) e a.polygons
-            (among-permutation e b.polygons (map (carried_polygon r) a.polygons)
-            (IsPermutation-sym (map (carried_polygon r) a.polygons) b.polygons h.polygons) m) in
+        (among-permutation e b.polygons (map (carried_polygon r) a.polygons)
+        (IsPermutation-sym (map (carried_polygon r) a.polygons) b.polygons h.polygons) m) in
         subst (λ (c : PolygonKey × Option BodyP). IsTrue (is_some c.1 || stands_in key_cmp c.0 (polygons_along b.chains))) (sym o.2)
-            (polygon_whole o.0.0 o.0.1
-            (all_among (λ d. IsTrue (is_some d.1 || stands_in key_cmp d.0 (polygons_along a.chains))) o.0 a.polygons whole.polygons o.1)));
+        (polygon_whole o.0.0 o.0.1
+        (all_among (λ d. IsTrue (is_some d.1 || stands_in key_cmp d.0 (polygons_along a.chains))) o.0 a.polygons whole.polygons o.1)));
   }

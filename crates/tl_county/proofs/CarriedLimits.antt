@@ -137,7 +137,7 @@ same_count : {X Y : Type 0} (pack : X → List Y) (carried : X → X) (xs ys : L
     → IsPermutation (map carried xs) ys → length (flat_map pack ys) ≡ length (flat_map pack xs)
 same_count pack carried xs ys e p =
     length-flat_map pack ys ∙ sum_by-IsPermutation (λ x. length (pack x)) (map carried xs) ys p ∙ carried_sum xs
-        ∙ sym (length-flat_map pack xs)
+    ∙ sym (length-flat_map pack xs)
   where
     carried_sum : (zs : List _) → sum_by (λ x. length (pack x)) (map carried zs) ≡ sum_by (λ x. length (pack x)) zs
     carried_sum [] = refl
@@ -210,8 +210,11 @@ module _ (r : Renumbering) (a b : County) (h : Carries r a b) where
         among-unmap (carried_link r) l a.links
         (among-permutation l b.links (map (carried_link r) a.links) (IsPermutation-sym (map (carried_link r) a.links) b.links h.links) m) in
         let f : FitsLink o.0 = all_among FitsLink o.0 a.links fits.links o.1 in
-        subst FitsLink (sym o.2) (record { file = f.file; cenid =
-            subst (IsText 5) (sym (image-keeps r.polygons h.numbers.cenids (link_key o.0))) f.cenid }));
+        subst FitsLink (sym o.2) (record {
+          file = f.file;
+          cenid =
+              subst (IsText 5) (sym (image-keeps r.polygons h.numbers.cenids (link_key o.0))) f.cenid;
+        }));
   }
     where
       old_polygon : (e : PolygonKey × Option BodyP) → Among e b.polygons
@@ -242,24 +245,24 @@ module _ (r : Renumbering) (a b : County) (h : Carries r a b) where
   twos_carried : (e : ℕ × Chain) → length (packed_twos (carried_chain r e)) ≡ length (packed_twos e)
   twos_carried e =
       let count : (d : ℕ × Chain) → length (packed_twos d) ≡ length (in_pieces 10 (inner_points d.1.points)) =
-          λ d. length-map (numbered_from 1 (in_pieces 10 (inner_points d.1.points)))
-          (λ piece. record { tlid = d.0; rtsq = piece.0; points = piece.1 })
-          ∙ length-numbered_from 1 (in_pieces 10 (inner_points d.1.points)) in
+      λ d. length-map (numbered_from 1 (in_pieces 10 (inner_points d.1.points)))
+      (λ piece. record { tlid = d.0; rtsq = piece.0; points = piece.1 })
+      ∙ length-numbered_from 1 (in_pieces 10 (inner_points d.1.points)) in
       count (carried_chain r e) ∙ in_pieces_by_length 10 (inner_points (carried_chain r e).1.points) (inner_points e.1.points)
-          (inner_carried e) ∙ sym (count e)
+      (inner_carried e) ∙ sym (count e)
 
   fours_carried : (e : ℕ × Chain) → length (packed_fours (carried_chain r e)) ≡ length (packed_fours e)
   fours_carried e =
       let count : (d : ℕ × Chain) → length (packed_fours d) ≡ length (in_pieces 5 d.1.feats) =
-          λ d. length-map (numbered_from 1 (in_pieces 5 d.1.feats)) (λ piece. record { tlid = d.0; rtsq = piece.0; feats = piece.1 })
-          ∙ length-numbered_from 1 (in_pieces 5 d.1.feats) in
+      λ d. length-map (numbered_from 1 (in_pieces 5 d.1.feats)) (λ piece. record { tlid = d.0; rtsq = piece.0; feats = piece.1 })
+      ∙ length-numbered_from 1 (in_pieces 5 d.1.feats) in
       count (carried_chain r e) ∙ in_pieces_by_length 5 (carried_chain r e).1.feats e.1.feats (feats_carried e) ∙ sym (count e)
 
   sixes_carried : (e : ℕ × Chain) → length (packed_sixes (carried_chain r e)) ≡ length (packed_sixes e)
   sixes_carried e =
       let count : (d : ℕ × Chain) → length (packed_sixes d) ≡ length d.1.ranges =
-          λ d. length-map (numbered_from 1 d.1.ranges) (λ piece. record { tlid = d.0; rtsq = piece.0; ranges = piece.1 })
-          ∙ length-numbered_from 1 d.1.ranges in
+      λ d. length-map (numbered_from 1 d.1.ranges) (λ piece. record { tlid = d.0; rtsq = piece.0; ranges = piece.1 })
+      ∙ length-numbered_from 1 d.1.ranges in
       count (carried_chain r e) ∙ ranges_carried e ∙ sym (count e)
 
   sevens_carried : (e : ℕ × List Body7) → length (packed_sevens (carried_landmark r e)) ≡ length (packed_sevens e)

@@ -75,7 +75,7 @@ strict_few a b [] s h = omega arith
 strict_few a b (k ∷ ks) s h =
     let above : AllByRecursion (λ j. (k + 1 ≤ j) × (j < b)) ks =
     all_weaker (λ j. (nat_cmp k j ≡ Less) × ((a ≤ j) × (j < b))) (λ j. (k + 1 ≤ j) × (j < b))
-        (λ j d. (let l : k < j = below k j d.0 in omega arith, d.1.1)) ks
+    (λ j d. (let l : k < j = below k j d.0 in omega arith, d.1.1)) ks
     (all_both (λ j. nat_cmp k j ≡ Less) (λ j. (a ≤ j) × (j < b)) ks s.0 h.1) in
     let rest : length ks ≤ b - (k + 1) = strict_few (k + 1) b ks s.1 above in
     let low : a ≤ k = h.0.0 in
@@ -87,7 +87,7 @@ pub few_numbers : (a b : ℕ) (ks : List ℕ) → IsApart nat_cmp ks → AllByRe
 few_numbers a b ks apart h = subst (λ n. n ≤ b - a) (length-in_order nat_cmp ks)
     (strict_few a b (in_order nat_cmp ks)
     (strict_from_order nat_keys (in_order nat_cmp ks) (in_order-in_order nat_cmp_total ks)
-        (λ k. subst (λ n. n ≤ 1) (sym (count-in_order (λ j. is_eq (nat_cmp k j)) nat_cmp ks)) (apart k)))
+    (λ k. subst (λ n. n ≤ 1) (sym (count-in_order (λ j. is_eq (nat_cmp k j)) nat_cmp ks)) (apart k)))
     (all-in_order (λ k. (a ≤ k) × (k < b)) nat_cmp ks h))
 
 -- pieces of n: at most c of them where there are at most n * c elements, none longer than n
@@ -97,7 +97,7 @@ few_pieces n c (suc room) [] h = omega arith
 few_pieces n zero (suc room) (x ∷ xs) h = absurd (omega arith)
 few_pieces n (suc c) (suc room) (x ∷ xs) h =
     let rest : length (pieces n room (drop n (x ∷ xs))) ≤ c =
-        few_pieces n c room (drop n (x ∷ xs)) (omega (arith, length-drop n (x ∷ xs), h)) in
+    few_pieces n c room (drop n (x ∷ xs)) (omega (arith, length-drop n (x ∷ xs), h)) in
     omega arith
 
 pub short_pieces : {X : Type 0} (n room : ℕ) (xs : List X) → AllByRecursion (λ piece. length piece ≤ n) (pieces n room xs)

@@ -84,8 +84,14 @@ module _ {F : Type 0} (there : F → Bool) (place : F → List (List ℕ)) where
       go : AllByRecursion (λ c. there c ≡ false) cs ⊎ ((f : F) × IsLeastOf cs f)
           → ((f : F) → there f ≡ false) ⊎ ((f : F) × IsFirst there place f)
       go (inl h) = inl (λ f. none h f (there f) refl)
-      go (inr p) = inr (p.0, record { there = p.1.0; least = λ g t. all_among (λ c. there c ≡ true
-          → is_gt (place_cmp (place p.0) (place c)) ≡ false) g cs p.1.1 (all g t) t })
+      go (inr p) = inr (
+        p.0,
+        record {
+          there = p.1.0;
+          least = λ g t. all_among (λ c. there c ≡ true
+              → is_gt (place_cmp (place p.0) (place c)) ≡ false) g cs p.1.1 (all g t) t;
+        },
+      )
 
   pub not_first : (f : F) → ((g : F) → there g ≡ false) → IsFirst there place f → ⊥
   not_first f none h = false≢true (sym (none f) ∙ h.there)
@@ -113,7 +119,7 @@ module _ {F : Type 0} (there : F → Bool) (place : F → List (List ℕ)) where
   least_by f [] e = tt
   least_by f (c ∷ cs) e =
       let both = and_parts (not (there c) || not (is_gt (place_cmp (place f) (place c))))
-          (list_all (λ d. not (there d) || not (is_gt (place_cmp (place f) (place d)))) cs) e in
+      (list_all (λ d. not (there d) || not (is_gt (place_cmp (place f) (place d)))) cs) e in
       ((λ t. at (or_cases (not (there c)) (not (is_gt (place_cmp (place f) (place c)))) both.0) t), least_by f cs both.1)
     where
       at : (not (there c) ≡ true) ⊎ (not (is_gt (place_cmp (place f) (place c))) ≡ true) → there c ≡ true
@@ -131,5 +137,8 @@ module _ {F : Type 0} (there : F → Bool) (place : F → List (List ℕ)) where
   pub first_computed : (cs : List F) → ((f : F) → there f ≡ true → Among f cs) → (f : F) → least_there f cs ≡ true → IsFirst there place f
   first_computed cs all f e =
       let both = and_parts (there f) (list_all (λ c. not (there c) || not (is_gt (place_cmp (place f) (place c)))) cs) e in
-      record { there = both.0; least =
-          λ g t. all_among (λ c. there c ≡ true → is_gt (place_cmp (place f) (place c)) ≡ false) g cs (least_by f cs both.1) (all g t) t }
+      record {
+        there = both.0;
+        least =
+            λ g t. all_among (λ c. there c ≡ true → is_gt (place_cmp (place f) (place c)) ≡ false) g cs (least_by f cs both.1) (all g t) t;
+      }

@@ -205,8 +205,8 @@ module _ (records : List Record) (linked : IsLinked records) (fits : AllByRecurs
   ranges_fit tlid = all_map FitsRanges (λ (r : Fields6). r.ranges)
       (in_order (on six_rtsq nat_cmp) (of_number six_tlid tlid (of_type_6 records)))
       (all-in_order (λ r. FitsRanges r.ranges) (on six_rtsq nat_cmp) (of_number six_tlid tlid (of_type_6 records))
-          (all_filter (λ r. FitsRanges r.ranges) (λ r. six_tlid r == tlid) (of_type_6 records)
-          (all_weaker Fit6 (λ r. FitsRanges r.ranges) (λ r f. f.ranges) (of_type_6 records) fit_6)))
+      (all_filter (λ r. FitsRanges r.ranges) (λ r. six_tlid r == tlid) (of_type_6 records)
+      (all_weaker Fit6 (λ r. FitsRanges r.ranges) (λ r f. f.ranges) (of_type_6 records) fit_6)))
 
   chain_fits : (r : Fields1) (link : FieldsI) → Fit1 r → FitI link → FitsChain (chain_of records r link)
   chain_fits r link f l = record {
@@ -231,18 +231,18 @@ module _ (records : List Record) (linked : IsLinked records) (fits : AllByRecurs
   keys_fit = known_all key_keys (λ (key : PolygonKey). IsText 5 key.0 × IsNumber 10 key.1)
       (flat_map side_keys (of_type_i records) ++ map p_key (of_type_p records))
       (all_append (λ (key : PolygonKey). IsText 5 key.0 × IsNumber 10 key.1) (flat_map side_keys (of_type_i records))
-          (map p_key (of_type_p records))
+      (map p_key (of_type_p records))
       (all_joined (λ (key : PolygonKey). IsText 5 key.0 × IsNumber 10 key.1) side_keys (of_type_i records)
       (all_weaker FitI (λ link. AllByRecursion (λ (key : PolygonKey). IsText 5 key.0 × IsNumber 10 key.1) (side_keys link))
       (λ link f. all_append (λ (key : PolygonKey). IsText 5 key.0 × IsNumber 10 key.1) (key_under link.left.cenid link.left.polyid)
-          (key_under link.right.cenid link.right.polyid)
-          (key_fits link.left.cenid link.left.polyid (left_cenid_fits link.body link.left.cenid link.right.cenid f.content) f.left_polyid)
-          (key_fits link.right.cenid link.right.polyid
-          (right_cenid_fits link.body link.left.cenid link.right.cenid f.content) f.right_polyid))
+      (key_under link.right.cenid link.right.polyid)
+      (key_fits link.left.cenid link.left.polyid (left_cenid_fits link.body link.left.cenid link.right.cenid f.content) f.left_polyid)
+      (key_fits link.right.cenid link.right.polyid
+      (right_cenid_fits link.body link.left.cenid link.right.cenid f.content) f.right_polyid))
       (of_type_i records) fit_i))
       (all_map (λ (key : PolygonKey). IsText 5 key.0 × IsNumber 10 key.1) p_key (of_type_p records)
-          (all_weaker FitP (λ r. IsText 5 r.cenid × IsNumber 10 r.polyid) (λ r f. (polygon_cenid_fits r.cenid r.body f.body, f.polyid))
-          (of_type_p records) fit_p)))
+      (all_weaker FitP (λ r. IsText 5 r.cenid × IsNumber 10 r.polyid) (λ r f. (polygon_cenid_fits r.cenid r.body f.body, f.polyid))
+      (of_type_p records) fit_p)))
 
   abbrev keys : List PolygonKey
   keys = flat_map side_keys (of_type_i records) ++ map p_key (of_type_p records)
@@ -255,7 +255,7 @@ module _ (records : List Record) (linked : IsLinked records) (fits : AllByRecurs
   polygon_body_fits key =
       first_of (FitsPolygon key.0) (map (λ (r : FieldsP). r.body) (filter (λ r. is_eq (key_cmp key (p_key r))) (of_type_p records)))
       (all_map (FitsPolygon key.0) (λ (r : FieldsP). r.body) (filter (λ r. is_eq (key_cmp key (p_key r))) (of_type_p records))
-          (bodies_of_key key (of_type_p records) fit_p))
+      (bodies_of_key key (of_type_p records) fit_p))
 
   bodies_fit : (land : ℕ) → AllByRecursion FitsLandmark (in_order landmark_body_cmp
       (map (λ (r : Fields7). r.body) (of_number seven_land land (of_type_7 records))))
@@ -263,7 +263,7 @@ module _ (records : List Record) (linked : IsLinked records) (fits : AllByRecurs
       (map (λ (r : Fields7). r.body) (of_number seven_land land (of_type_7 records)))
       (all_map FitsLandmark (λ (r : Fields7). r.body) (of_number seven_land land (of_type_7 records))
       (all_filter (λ r. FitsLandmark r.body) (λ r. seven_land r == land) (of_type_7 records)
-          (all_weaker Fit7 (λ r. FitsLandmark r.body) (λ r f. f.body) (of_type_7 records) fit_7)))
+      (all_weaker Fit7 (λ r. FitsLandmark r.body) (λ r f. f.body) (of_type_7 records) fit_7)))
 
   land_fits : (land : ℕ) → Known nat_cmp (distinct nat_cmp (map seven_land (of_type_7 records))) land → IsNumber 10 land
   land_fits land k = known_all nat_keys (IsNumber 10) (map seven_land (of_type_7 records))
@@ -330,10 +330,10 @@ module _ (records : List Record) (linked : IsLinked records) (fits : AllByRecurs
       let bounds : AllByRecursion (λ k. (1 ≤ k) × (k < 1000)) (map rtsq (of_number tlid n xs)) =
       all_map (λ k. (1 ≤ k) × (k < 1000)) rtsq (of_number tlid n xs)
       (all_filter (λ x. (1 ≤ rtsq x) × (rtsq x < 1000)) (λ x. tlid x == n) xs
-          (all_weaker (λ x. IsNumber 3 (rtsq x)) (λ x. (1 ≤ rtsq x) × (rtsq x < 1000))
-          (λ x h. ((let low : 0 < rtsq x = h.0 in omega arith), h.1)) xs a)) in
+      (all_weaker (λ x. IsNumber 3 (rtsq x)) (λ x. (1 ≤ rtsq x) × (rtsq x < 1000))
+      (λ x h. ((let low : 0 < rtsq x = h.0 in omega arith), h.1)) xs a)) in
       let few : length (map rtsq (of_number tlid n xs)) ≤ 1000 - 1 =
-          few_numbers 1 1000 (map rtsq (of_number tlid n xs)) (apart_from_no_repeat nat_keys (map rtsq (of_number tlid n xs)) e) bounds in
+      few_numbers 1 1000 (map rtsq (of_number tlid n xs)) (apart_from_no_repeat nat_keys (map rtsq (of_number tlid n xs)) e) bounds in
       let mapped : length (map rtsq (of_number tlid n xs)) ≡ length (of_number tlid n xs) = length-map (of_number tlid n xs) rtsq in
       omega arith
 
@@ -355,10 +355,10 @@ module _ (records : List Record) (linked : IsLinked records) (fits : AllByRecurs
       → length (flat_map content (in_order (on rtsq nat_cmp) (of_number tlid n xs))) ≤ width * length (of_number tlid n xs)
   held width tlid rtsq content n xs a =
       subst (λ k. length (flat_map content (in_order (on rtsq nat_cmp) (of_number tlid n xs))) ≤ width * k)
-          (length-in_order (on rtsq nat_cmp) (of_number tlid n xs))
+      (length-in_order (on rtsq nat_cmp) (of_number tlid n xs))
       (length-joined width content (in_order (on rtsq nat_cmp) (of_number tlid n xs))
-          (all-in_order (λ x. length (content x) ≤ width) (on rtsq nat_cmp) (of_number tlid n xs)
-          (all_filter (λ x. length (content x) ≤ width) (λ x. tlid x == n) xs a)))
+      (all-in_order (λ x. length (content x) ≤ width) (on rtsq nat_cmp) (of_number tlid n xs)
+      (all_filter (λ x. length (content x) ≤ width) (λ x. tlid x == n) xs a)))
 
   points_held : (n : ℕ) → length (shape_points records n) ≤ 10 * length (of_number two_tlid n (of_type_2 records))
   points_held n = held 10 two_tlid two_rtsq (λ (r : Fields2). r.points) n (of_type_2 records)
@@ -395,11 +395,11 @@ module _ (records : List Record) (linked : IsLinked records) (fits : AllByRecurs
       let groups : length (flat_map (λ (entry : ℕ × Chain). of_number tlid entry.0 xs) (chains_of records)) ≤ length xs =
       few_in_groups (λ (entry : ℕ × Chain) x. tlid x == entry.0) (chains_of records)
       (λ x. subst (λ n. n ≤ 1) (count-map (λ k. tlid x == k) (λ (entry : ℕ × Chain). entry.0) (chains_of records))
-          (hits_once tlid (tlids (county_of records))
-          (apart_from_sorted nat_keys (tlids (county_of records)) (county-is_county records linked).ascending.chains) x)) xs in
+      (hits_once tlid (tlids (county_of records))
+      (apart_from_sorted nat_keys (tlids (county_of records)) (county-is_county records linked).ascending.chains) x)) xs in
       let one_by_one : length (flat_map pack (chains_of records)) ≤ length
-          (flat_map (λ (entry : ℕ × Chain). of_number tlid entry.0 xs) (chains_of records)) =
-          shorter_pieces pack (λ (entry : ℕ × Chain). of_number tlid entry.0 xs) (chains_of records) a in
+      (flat_map (λ (entry : ℕ × Chain). of_number tlid entry.0 xs) (chains_of records)) =
+      shorter_pieces pack (λ (entry : ℕ × Chain). of_number tlid entry.0 xs) (chains_of records) a in
       omega arith
 
   -- lists in pieces with RTSQs are no more than the records that hold them
@@ -408,7 +408,7 @@ module _ (records : List Record) (linked : IsLinked records) (fits : AllByRecurs
   few_in_pieces width count make xs h =
       let few : length (in_pieces width xs) ≤ count = few_pieces width count (length xs) xs h in
       let same : length (map make (numbered_from 1 (in_pieces width xs))) ≡ length (in_pieces width xs) =
-          length-map (numbered_from 1 (in_pieces width xs)) make ∙ length-numbered_from 1 (in_pieces width xs) in
+      length-map (numbered_from 1 (in_pieces width xs)) make ∙ length-numbered_from 1 (in_pieces width xs) in
       omega arith
 
   chain_count : length (chains_of records) ≡ length (of_type_1 records)
@@ -419,18 +419,18 @@ module _ (records : List Record) (linked : IsLinked records) (fits : AllByRecurs
   few_sevens =
       let lands : List ℕ = distinct nat_cmp (map seven_land (of_type_7 records)) in
       let groups : length (flat_map (λ land. of_number seven_land land (of_type_7 records)) lands) ≤ length (of_type_7 records) =
-          few_in_groups (λ land r. seven_land r == land) lands
-          (hits_once seven_land lands (apart-distinct nat_keys (map seven_land (of_type_7 records)))) (of_type_7 records) in
+      few_in_groups (λ land r. seven_land r == land) lands
+      (hits_once seven_land lands (apart-distinct nat_keys (map seven_land (of_type_7 records)))) (of_type_7 records) in
       let packs : flat_map packed_sevens (map landmark_at lands) ≡ flat_map (λ land. packed_sevens (landmark_at land)) lands =
-          flat_map-map packed_sevens landmark_at lands in
+      flat_map-map packed_sevens landmark_at lands in
       let one_by_one : length (flat_map (λ land. packed_sevens (landmark_at land)) lands) ≤ length
-          (flat_map (λ land. of_number seven_land land (of_type_7 records)) lands) =
+      (flat_map (λ land. of_number seven_land land (of_type_7 records)) lands) =
       shorter_pieces (λ land. packed_sevens (landmark_at land)) (λ land. of_number seven_land land (of_type_7 records)) lands
       (all_everywhere (λ land. length (packed_sevens (landmark_at land)) ≤ length (of_number seven_land land (of_type_7 records)))
       (λ land. let same : length (packed_sevens (landmark_at land)) ≡ length (of_number seven_land land (of_type_7 records)) =
-          length-map (landmark_at land).1 (λ body. record { land = land; body = body })
-          ∙ length-in_order landmark_body_cmp (map (λ (r : Fields7). r.body) (of_number seven_land land (of_type_7 records)))
-          ∙ length-map (of_number seven_land land (of_type_7 records)) (λ (r : Fields7). r.body) in omega arith) lands) in
+      length-map (landmark_at land).1 (λ body. record { land = land; body = body })
+      ∙ length-in_order landmark_body_cmp (map (λ (r : Fields7). r.body) (of_number seven_land land (of_type_7 records)))
+      ∙ length-map (of_number seven_land land (of_type_7 records)) (λ (r : Fields7). r.body) in omega arith) lands) in
       omega (arith, groups, one_by_one, ap length packs)
 
   few_bodies : (found : List PolygonKey) → length (filter_map packed_p (map (λ key. (key, polygon_body records key)) found)) ≤ length
@@ -440,20 +440,20 @@ module _ (records : List Record) (linked : IsLinked records) (fits : AllByRecurs
       let own : List FieldsP = filter (λ r. is_eq (key_cmp key (p_key r))) (of_type_p records) in
       let others : List FieldsP = flat_map (λ key. filter (λ r. is_eq (key_cmp key (p_key r))) (of_type_p records)) found in
       let few : length (cons_option (packed_body key (first (map (λ (r : FieldsP). r.body) own)))
-          (filter_map packed_p (map (λ key. (key, polygon_body records key)) found))) ≤ length
-          (map (λ (r : FieldsP). r.body) own) + length others =
-          few_packed key (map (λ (r : FieldsP). r.body) own) (filter_map packed_p (map (λ key. (key, polygon_body records key)) found))
-          (length others) (few_bodies found) in
+      (filter_map packed_p (map (λ key. (key, polygon_body records key)) found))) ≤ length
+      (map (λ (r : FieldsP). r.body) own) + length others =
+      few_packed key (map (λ (r : FieldsP). r.body) own) (filter_map packed_p (map (λ key. (key, polygon_body records key)) found))
+      (length others) (few_bodies found) in
       omega (arith, few, length-map own (λ (r : FieldsP). r.body), length-append own others)
 
   few_ps : length (filter_map packed_p (county_of records).polygons) ≤ length (of_type_p records)
   few_ps =
       let found : List PolygonKey = distinct key_cmp keys in
       let groups : length (flat_map (λ key. filter (λ r. is_eq (key_cmp key (p_key r))) (of_type_p records)) found) ≤ length
-          (of_type_p records) =
-          few_in_groups (λ key r. is_eq (key_cmp key (p_key r))) found (once found (apart-distinct key_keys keys)) (of_type_p records) in
+      (of_type_p records) =
+      few_in_groups (λ key r. is_eq (key_cmp key (p_key r))) found (once found (apart-distinct key_keys keys)) (of_type_p records) in
       let packs : length (filter_map packed_p (map (λ key. (key, polygon_body records key)) found)) ≤ length
-          (flat_map (λ key. filter (λ r. is_eq (key_cmp key (p_key r))) (of_type_p records)) found) = few_bodies found in
+      (flat_map (λ key. filter (λ r. is_eq (key_cmp key (p_key r))) (of_type_p records)) found) = few_bodies found in
       omega arith
 
   counts : (limit : ℕ) → HasAtMost limit (by_type records) → HasAtMost limit (packed_by_type (county_of records))
@@ -505,5 +505,10 @@ module _ (records : List Record) (linked : IsLinked records) (fits : AllByRecurs
 
   pub county-within_limits : (limit : ℕ) → IsWithinLimit limit records → IsWithinLimits limit (county_of records)
   county-within_limits limit h =
-      record { contents = contents; numbers = numbers; room = room; counts =
-      packed_within limit (county_of records) (counts limit (by_type_within limit records h)) }
+      record {
+        contents = contents;
+        numbers = numbers;
+        room = room;
+        counts =
+            packed_within limit (county_of records) (counts limit (by_type_within limit records h));
+      }

@@ -66,14 +66,16 @@ module _ {X Y : Type 0} (width : ℕ) (P : X → Type 0) (make : ℕ × List X �
       let count : length (in_pieces width xs) ≤ greatest_rtsq = few_pieces width greatest_rtsq (length xs) xs few in
       all_map Fits make (numbered_from 1 (in_pieces width xs))
       (all_weaker (λ (entry : ℕ × List X). (1 ≤ entry.0)
-          × ((entry.0 < 1 + length (in_pieces width xs)) × ((length entry.1 ≤ width) × AllByRecursion P entry.1)))
-          (λ entry. Fits (make entry))
-      (λ entry h. each entry.0 entry.1 ((let low : 1 ≤ entry.0 = h.0 in omega arith),
-          (let high : entry.0 < 1 + length (in_pieces width xs) = h.1.0 in omega arith)) h.1.1.0 h.1.1.1)
+      × ((entry.0 < 1 + length (in_pieces width xs)) × ((length entry.1 ≤ width) × AllByRecursion P entry.1)))
+      (λ entry. Fits (make entry))
+      (λ entry h. each entry.0 entry.1 (
+        (let low : 1 ≤ entry.0 = h.0 in omega arith),
+        (let high : entry.0 < 1 + length (in_pieces width xs) = h.1.0 in omega arith),
+      ) h.1.1.0 h.1.1.1)
       (numbered_from 1 (in_pieces width xs))
       (all_numbered_from (λ piece. (length piece ≤ width) × AllByRecursion P piece) 1 (in_pieces width xs)
       (all_both (λ piece. length piece ≤ width) (AllByRecursion P) (in_pieces width xs) (short_pieces width (length xs) xs)
-          (all_in_pieces P width (length xs) xs a))))
+      (all_in_pieces P width (length xs) xs a))))
 
 twos_fit : (entry : ℕ × Chain) → IsNumber 10 entry.0 → FitsChain entry.1 → HasRoom entry.1 → AllByRecursion Fit2 (packed_twos entry)
 twos_fit entry n f room =
@@ -90,11 +92,15 @@ sixes_fit : (entry : ℕ × Chain) → IsNumber 10 entry.0 → FitsChain entry.1
 sixes_fit entry n f room =
     all_map Fit6 (λ (piece : ℕ × Ranges). record { tlid = entry.0; rtsq = piece.0; ranges = piece.1 }) (numbered_from 1 entry.1.ranges)
     (all_weaker (λ (piece : ℕ × Ranges). (1 ≤ piece.0) × ((piece.0 < 1 + length entry.1.ranges) × FitsRanges piece.1))
-        (λ piece. Fit6 (record { tlid = entry.0; rtsq = piece.0; ranges = piece.1 }))
-    (λ piece h. record { tlid = n; rtsq =
-        ((let low : 1 ≤ piece.0 = h.0 in omega arith),
-        (let high : piece.0 < 1 + length entry.1.ranges = h.1.0 in let few : length entry.1.ranges ≤ 999 = room.ranges in omega arith));
-        ranges = h.1.1 })
+    (λ piece. Fit6 (record { tlid = entry.0; rtsq = piece.0; ranges = piece.1 }))
+    (λ piece h. record {
+      tlid = n;
+      rtsq = (
+        (let low : 1 ≤ piece.0 = h.0 in omega arith),
+        (let high : piece.0 < 1 + length entry.1.ranges = h.1.0 in let few : length entry.1.ranges ≤ 999 = room.ranges in omega arith),
+      );
+      ranges = h.1.1;
+    })
     (numbered_from 1 entry.1.ranges) (all_numbered_from FitsRanges 1 entry.1.ranges f.ranges))
 
 i_fits : (entry : ℕ × Chain) → IsNumber 10 entry.0 → FitsChain entry.1 → FitsNumbers entry.1 → FitI (packed_i entry)
@@ -114,7 +120,7 @@ p_fits : (key : PolygonKey) (body : Option BodyP) (r : FieldsP) → packed_body 
 p_fits key None r e f = cc
 p_fits key (Some body) r e f =
     let same : record { cenid = key.0; polyid = key.1; body = body } ≡ r =
-        some_same (record { cenid = key.0; polyid = key.1; body = body }) r e in
+    some_same (record { cenid = key.0; polyid = key.1; body = body }) r e in
     subst FitP same (record { polyid = f.1; body = f.0 })
   where
     some_same : (x y : FieldsP) → Some x ≡ Some y → x ≡ y
@@ -130,7 +136,7 @@ module _ (county : County) (whole : IsWhole county) (contents : ContentsFit coun
   fit_entries = all_both (λ entry. 2 ≤ length entry.1.points)
       (λ entry. IsNumber 10 entry.0 × (FitsChain entry.1 × (FitsNumbers entry.1 × HasRoom entry.1))) county.chains whole.points
       (all_both (λ entry. IsNumber 10 entry.0) (λ entry. FitsChain entry.1
-          × (FitsNumbers entry.1 × HasRoom entry.1)) county.chains numbers.chains
+      × (FitsNumbers entry.1 × HasRoom entry.1)) county.chains numbers.chains
       (all_both (λ entry. FitsChain entry.1) (λ entry. FitsNumbers entry.1 × HasRoom entry.1) county.chains contents.chains
       (all_both (λ entry. FitsNumbers entry.1) (λ entry. HasRoom entry.1) county.chains numbers.named room)))
 
@@ -143,25 +149,25 @@ module _ (county : County) (whole : IsWhole county) (contents : ContentsFit coun
   sevens_fit : AllByRecursion Fit7 (flat_map packed_sevens county.landmarks)
   sevens_fit = all_joined Fit7 packed_sevens county.landmarks
       (all_weaker (λ (entry : ℕ × List Body7). IsNumber 10 entry.0 × AllByRecursion FitsLandmark entry.1)
-          (λ entry. AllByRecursion Fit7 (packed_sevens entry))
+      (λ entry. AllByRecursion Fit7 (packed_sevens entry))
       (λ entry h. all_map Fit7 (λ body. record { land = entry.0; body = body }) entry.1
-          (all_weaker FitsLandmark (λ body. Fit7 (record { land = entry.0; body = body }))
-          (λ body f. record { land = h.0; body = f }) entry.1 h.1))
+      (all_weaker FitsLandmark (λ body. Fit7 (record { land = entry.0; body = body }))
+      (λ body f. record { land = h.0; body = f }) entry.1 h.1))
       county.landmarks (all_both (λ (entry : ℕ × List Body7). IsNumber 10 entry.0)
-          (λ entry. AllByRecursion FitsLandmark entry.1) county.landmarks numbers.landmarks contents.landmarks))
+      (λ entry. AllByRecursion FitsLandmark entry.1) county.landmarks numbers.landmarks contents.landmarks))
 
   eights_fit : AllByRecursion Fit8 county.links
   eights_fit = all_weaker (λ (link : Fields8). FitsLink link × (IsNumber 10 link.polyid × IsNumber 10 link.land)) Fit8
       (λ link h. record { file = h.0.file; cenid = h.0.cenid; polyid = h.1.0; land = h.1.1 }) county.links
       (all_both FitsLink (λ link. IsNumber 10 link.polyid × IsNumber 10 link.land) county.links contents.links
-          (all_both (λ link. IsNumber 10 link.polyid)
-          (λ link. IsNumber 10 link.land) county.links numbers.link_polygons numbers.link_lands))
+      (all_both (λ link. IsNumber 10 link.polyid)
+      (λ link. IsNumber 10 link.land) county.links numbers.link_polygons numbers.link_lands))
 
   ps_fit : AllByRecursion FitP (in_order (on p_polyid nat_cmp) (filter_map packed_p county.polygons))
   ps_fit = all-in_order FitP (on p_polyid nat_cmp) (filter_map packed_p county.polygons)
       (all_selected FitsEntry FitP packed_p (λ entry r e f. p_fits entry.0 entry.1 r e f) county.polygons
       (all_both (λ entry. IfSome entry.1 (FitsPolygon entry.0.0))
-          (λ entry. IsNumber 10 entry.0.1) county.polygons contents.polygons numbers.polygons))
+      (λ entry. IsNumber 10 entry.0.1) county.polygons contents.polygons numbers.polygons))
 
   -- records of one type, as records of any
   wrapped : {X : Type 0} (Fit : X → Type 0) (wrap : X → Record) → ((x : X) → Fit x → FitsRecord (wrap x)) → (xs : List X)
@@ -172,31 +178,31 @@ module _ (county : County) (whole : IsWhole county) (contents : ContentsFit coun
   unfolding FitsRecord
   packed-fits =
       all_append FitsRecord (map One (map packed_one county.chains)) _
-          (wrapped Fit1 One columns_1 (map packed_one county.chains)
-          (all_map Fit1 packed_one county.chains
-          (all_weaker IsFitEntry (λ entry. Fit1 (packed_one entry))
-          (λ entry h. one_fits entry h.1.0 h.0 h.1.1.0) county.chains fit_entries)))
+      (wrapped Fit1 One columns_1 (map packed_one county.chains)
+      (all_map Fit1 packed_one county.chains
+      (all_weaker IsFitEntry (λ entry. Fit1 (packed_one entry))
+      (λ entry h. one_fits entry h.1.0 h.0 h.1.1.0) county.chains fit_entries)))
       (all_append FitsRecord (map Two (flat_map packed_twos county.chains)) _
-          (wrapped Fit2 Two columns_2 (flat_map packed_twos county.chains)
-          (each_chain Fit2 packed_twos (λ entry h. twos_fit entry h.1.0 h.1.1.0 h.1.1.1.1)))
+      (wrapped Fit2 Two columns_2 (flat_map packed_twos county.chains)
+      (each_chain Fit2 packed_twos (λ entry h. twos_fit entry h.1.0 h.1.1.0 h.1.1.1.1)))
       (all_append FitsRecord (map Four (flat_map packed_fours county.chains)) _
-          (wrapped Fit4 Four columns_4 (flat_map packed_fours county.chains)
-          (each_chain Fit4 packed_fours (λ entry h. fours_fit entry h.1.0 h.1.1.1.0 h.1.1.1.1)))
+      (wrapped Fit4 Four columns_4 (flat_map packed_fours county.chains)
+      (each_chain Fit4 packed_fours (λ entry h. fours_fit entry h.1.0 h.1.1.1.0 h.1.1.1.1)))
       (all_append FitsRecord (map Five (map packed_five county.names)) _
-          (wrapped Fit5 Five columns_5 (map packed_five county.names)
-          (all_map Fit5 packed_five county.names
-          (all_weaker (λ (entry : ℕ × Body5). IsNumber 8 entry.0 × FitsName entry.1) (λ entry. Fit5 (packed_five entry))
-          (λ entry h. record { feat = h.0; body = h.1 }) county.names
-          (all_both (λ (entry : ℕ × Body5). IsNumber 8 entry.0) (λ entry. FitsName entry.1) county.names numbers.names contents.names))))
+      (wrapped Fit5 Five columns_5 (map packed_five county.names)
+      (all_map Fit5 packed_five county.names
+      (all_weaker (λ (entry : ℕ × Body5). IsNumber 8 entry.0 × FitsName entry.1) (λ entry. Fit5 (packed_five entry))
+      (λ entry h. record { feat = h.0; body = h.1 }) county.names
+      (all_both (λ (entry : ℕ × Body5). IsNumber 8 entry.0) (λ entry. FitsName entry.1) county.names numbers.names contents.names))))
       (all_append FitsRecord (map Six (flat_map packed_sixes county.chains)) _
-          (wrapped Fit6 Six columns_6 (flat_map packed_sixes county.chains)
-          (each_chain Fit6 packed_sixes (λ entry h. sixes_fit entry h.1.0 h.1.1.0 h.1.1.1.1)))
+      (wrapped Fit6 Six columns_6 (flat_map packed_sixes county.chains)
+      (each_chain Fit6 packed_sixes (λ entry h. sixes_fit entry h.1.0 h.1.1.0 h.1.1.1.1)))
       (all_append FitsRecord (map Seven (flat_map packed_sevens county.landmarks)) _
-          (wrapped Fit7 Seven columns_7 (flat_map packed_sevens county.landmarks) sevens_fit)
+      (wrapped Fit7 Seven columns_7 (flat_map packed_sevens county.landmarks) sevens_fit)
       (all_append FitsRecord (map Eight county.links) _ (wrapped Fit8 Eight columns_8 county.links eights_fit)
       (all_append FitsRecord (map I (map packed_i county.chains)) _
-          (wrapped FitI I columns_i (map packed_i county.chains)
-          (all_map FitI packed_i county.chains
-          (all_weaker IsFitEntry (λ entry. FitI (packed_i entry))
-          (λ entry h. i_fits entry h.1.0 h.1.1.0 h.1.1.1.0) county.chains fit_entries)))
+      (wrapped FitI I columns_i (map packed_i county.chains)
+      (all_map FitI packed_i county.chains
+      (all_weaker IsFitEntry (λ entry. FitI (packed_i entry))
+      (λ entry h. i_fits entry h.1.0 h.1.1.0 h.1.1.1.0) county.chains fit_entries)))
       (wrapped FitP P columns_p (in_order (on p_polyid nat_cmp) (filter_map packed_p county.polygons)) ps_fit))))))))

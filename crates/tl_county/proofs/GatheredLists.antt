@@ -33,8 +33,8 @@ module _ {K : Type 0} {cmp : K → K → Ordering} (o : IsKeyOrder cmp) where
       go true e same other =
           let equal : k ≡ j = at (same_or_not o j k) in
           same ∙ ap (λ x. distinct cmp (x ∷ ks)) equal
-              ∙ ap (λ b. cond b (distinct cmp (j ∷ ks)) (put_in_order cmp k (distinct cmp (j ∷ ks))))
-              (sym (lt-ltb 0 (times cmp k (j ∷ ks)) (omega (arith, times-yes o k j ks equal))))
+          ∙ ap (λ b. cond b (distinct cmp (j ∷ ks)) (put_in_order cmp k (distinct cmp (j ∷ ks))))
+          (sym (lt-ltb 0 (times cmp k (j ∷ ks)) (omega (arith, times-yes o k j ks equal))))
         where
           at : (j ≡ k) ⊎ (is_eq (cmp j k) ≡ false) → k ≡ j
           at (inl f) = sym f
@@ -44,7 +44,7 @@ module _ {K : Type 0} {cmp : K → K → Ordering} (o : IsKeyOrder cmp) where
           let none : stands_in cmp k (j ∷ ks) ≡ false = ap (nat_lt 0) (before_all o k j ks h.1 less) in
           ap (λ l. k ∷ l) other
           ∙ sym (front (distinct cmp (j ∷ ks)) (all_known o (λ i. is_gt (cmp k i) ≡ false) (distinct cmp (j ∷ ks))
-              (λ i m. first_least o k (j ∷ ks) h i (omega (arith, times-cons o i k (j ∷ ks), known_from_distinct o (j ∷ ks) i m)))))
+          (λ i m. first_least o k (j ∷ ks) h i (omega (arith, times-cons o i k (j ∷ ks), known_from_distinct o (j ∷ ks) i m)))))
           ∙ ap (λ b. cond b (distinct cmp (j ∷ ks)) (put_in_order cmp k (distinct cmp (j ∷ ks)))) (sym none)
         where
           apart : (k ≡ j) ⊎ (is_eq (cmp k j) ≡ false) → is_eq (cmp k j) ≡ false
@@ -66,9 +66,10 @@ module _ {K : Type 0} {cmp : K → K → Ordering} (o : IsKeyOrder cmp) where
 pub in_order-alike : {X : Type 0} (by other : X → X → Ordering) → ((x y : X) → by x y ≡ other x y) → (xs : List X) → IsInOrder by xs
     → IsInOrder other xs
 in_order-alike by other e [] h = tt
-in_order-alike by other e (x ∷ xs) h =
-    (all_weaker (λ y. is_gt (by x y) ≡ false) (λ y. is_gt (other x y) ≡ false) (λ y f. ap is_gt (sym (e x y)) ∙ f) xs h.0,
-    in_order-alike by other e xs h.1)
+in_order-alike by other e (x ∷ xs) h = (
+  all_weaker (λ y. is_gt (by x y) ≡ false) (λ y. is_gt (other x y) ≡ false) (λ y f. ap is_gt (sym (e x y)) ∙ f) xs h.0,
+  in_order-alike by other e xs h.1,
+)
 
 -- landmarks by their fields, with any order of points or none that puts none first
 module _ (by : Option Coordinates → Option Coordinates → Ordering) (none : by None None ≡ Equal) (first : (p : Coordinates)

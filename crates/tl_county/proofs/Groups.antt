@@ -80,22 +80,25 @@ chains_along-later n twos fours sixes [] links h = refl
 chains_along-later n twos fours sixes (r ∷ rs) [] h = refl
 chains_along-later n twos fours sixes (r ∷ rs) (link ∷ links) h =
     λ i. chain_with r link (number-later two_tlid n r.tlid h.0 twos i) (number-later four_tlid n r.tlid h.0 fours i)
-        (number-later six_tlid n r.tlid h.0 sixes i) ∷ chains_along-later n twos fours sixes rs links h.1 i
+    (number-later six_tlid n r.tlid h.0 sixes i) ∷ chains_along-later n twos fours sixes rs links h.1 i
 
 pub landmarks-later : (n : ℕ) (sevens : List Fields7) (eights : List Fields8) (lands : List ℕ)
     → AllByRecursion (λ m. nat_cmp n m ≡ Less) lands
     → map (landmark_of (later_than seven_land n sevens) (later_than eight_land n eights)) lands ≡ map (landmark_of sevens eights) lands
 landmarks-later n sevens eights [] h = refl
 landmarks-later n sevens eights (land ∷ lands) h =
-    λ i. record { bodies = map (λ (r : Fields7). r.body) (number-later seven_land n land h.0 sevens i); links =
-        number-later eight_land n land h.0 eights i } ∷ landmarks-later n sevens eights lands h.1 i
+    λ i. record {
+      bodies = map (λ (r : Fields7). r.body) (number-later seven_land n land h.0 sevens i);
+      links =
+          number-later eight_land n land h.0 eights i;
+    } ∷ landmarks-later n sevens eights lands h.1 i
 
 pub polygons-later : (key : PolygonKey) (points : List FieldsP) (keys : List PolygonKey) → AllByRecursion (λ j. key_cmp key j ≡ Less) keys
     → map (polygon_body_of (filter (λ r. is_gt (key_cmp (p_key r) key)) points)) keys ≡ map (polygon_body_of points) keys
 polygons-later key points [] h = refl
 polygons-later key points (j ∷ keys) h =
     let same = sym (group-flipped key_keys p_key j (filter (λ r. is_gt (key_cmp (p_key r) key)) points))
-        ∙ group-later key_keys p_key key j h.0 points ∙ group-flipped key_keys p_key j points in
+    ∙ group-later key_keys p_key key j h.0 points ∙ group-flipped key_keys p_key j points in
     λ i. first (map (λ (r : FieldsP). r.body) (same i)) ∷ polygons-later key points keys h.1 i
 
 -- a walk has one element more behind it
@@ -117,19 +120,19 @@ module _ (done whole : List Chain) (head : Fields1) (later heads : List Fields1)
     (twos shape : List Fields2) (fours named : List Fields4) (sixes ranged : List Fields6) (tlid : ℕ) where
   pub chains-step : (chain : Chain) → tlid ≡ head.tlid
       → shape ≡ filter (λ x. is_eq (nat_cmp (two_tlid x) tlid)) twos → named ≡ filter (λ x. is_eq (nat_cmp (four_tlid x) tlid)) fours
-          → ranged ≡ filter (λ x. is_eq (nat_cmp (six_tlid x) tlid)) sixes
+      → ranged ≡ filter (λ x. is_eq (nat_cmp (six_tlid x) tlid)) sixes
       → chain ≡ chain_with head link shape named ranged
       → heads ≡ head ∷ later → links ≡ link ∷ others
       → IsStrictlySortedBy nat_cmp (map one_tlid heads)
       → done ++ chains_along twos fours sixes heads links ≡ whole
       → (done ++ (chain ∷ [])) ++ chains_along (later_than two_tlid tlid twos) (later_than four_tlid tlid fours)
-          (later_than six_tlid tlid sixes) later others ≡ whole
+      (later_than six_tlid tlid sixes) later others ≡ whole
   chains-step chain e shape_is named_is ranged_is chain_is heads_are links_are ascending before =
       one_done done (chain_with head link (of_number two_tlid head.tlid twos) (of_number four_tlid head.tlid fours)
-          (of_number six_tlid head.tlid sixes)) chain
+      (of_number six_tlid head.tlid sixes)) chain
       (chains_along twos fours sixes later others)
-          (chains_along (later_than two_tlid tlid twos) (later_than four_tlid tlid fours)
-          (later_than six_tlid tlid sixes) later others) whole
+      (chains_along (later_than two_tlid tlid twos) (later_than four_tlid tlid fours)
+      (later_than six_tlid tlid sixes) later others) whole
       ((λ i. done ++ chains_along twos fours sixes (sym heads_are i) (sym links_are i)) ∙ before)
       (chain_is ∙ (λ i. chain_with head link
       ((shape_is ∙ group-of_number two_tlid tlid twos ∙ ap (λ n. of_number two_tlid n twos) e) i)
@@ -137,8 +140,8 @@ module _ (done whole : List Chain) (head : Fields1) (later heads : List Fields1)
       ((ranged_is ∙ group-of_number six_tlid tlid sixes ∙ ap (λ n. of_number six_tlid n sixes) e) i)))
       (chains_along-later tlid twos fours sixes later others
       (subst (λ n. AllByRecursion (λ m. nat_cmp n m ≡ Less) (map one_tlid later)) (sym e)
-          (strict_head nat_cmp head.tlid (map one_tlid later)
-          (subst (λ l. IsStrictlySortedBy nat_cmp (map one_tlid l)) heads_are ascending))))
+      (strict_head nat_cmp head.tlid (map one_tlid later)
+      (subst (λ l. IsStrictlySortedBy nat_cmp (map one_tlid l)) heads_are ascending))))
 
 -- a step of the walk along the landmarks
 pub landmarks-step : (done whole : List LandmarkParts) (land : ℕ) (later lands : List ℕ) (sevens group : List Fields7)
@@ -150,11 +153,14 @@ pub landmarks-step : (done whole : List LandmarkParts) (land : ℕ) (later lands
     → (done ++ (landmark ∷ [])) ++ map (landmark_of (later_than seven_land land sevens) (later_than eight_land land eights)) later ≡ whole
 landmarks-step done whole land later lands sevens group eights linked bodies landmark group_is linked_is bodies_are landmark_is lands_are ascending before =
     one_done done (landmark_of sevens eights land) landmark (map (landmark_of sevens eights) later)
-        (map (landmark_of (later_than seven_land land sevens) (later_than eight_land land eights)) later) whole
+    (map (landmark_of (later_than seven_land land sevens) (later_than eight_land land eights)) later) whole
     (ap (λ l. done ++ map (landmark_of sevens eights) l) (sym lands_are) ∙ before)
-    (landmark_is ∙ (λ i. record { bodies =
-        (bodies_are ∙ ap (map (λ (r : Fields7). r.body)) (group_is ∙ group-of_number seven_land land sevens)) i; links =
-        (linked_is ∙ group-of_number eight_land land eights) i }))
+    (landmark_is ∙ (λ i. record {
+      bodies =
+          (bodies_are ∙ ap (map (λ (r : Fields7). r.body)) (group_is ∙ group-of_number seven_land land sevens)) i;
+      links =
+          (linked_is ∙ group-of_number eight_land land eights) i;
+    }))
     (landmarks-later land sevens eights later (strict_head nat_cmp land later (subst (IsStrictlySortedBy nat_cmp) lands_are ascending)))
 
 -- a step of the walk along the polygons
@@ -166,7 +172,7 @@ pub polygons-step : (done whole : List (Option BodyP)) (key : PolygonKey) (later
     → (done ++ (body ∷ [])) ++ map (polygon_body_of (filter (λ r. is_gt (key_cmp (p_key r) key)) points)) later ≡ whole
 polygons-step done whole key later keys points group body group_is body_is keys_are ascending before =
     one_done done (polygon_body_of points key) body (map (polygon_body_of points) later)
-        (map (polygon_body_of (filter (λ r. is_gt (key_cmp (p_key r) key)) points)) later) whole
+    (map (polygon_body_of (filter (λ r. is_gt (key_cmp (p_key r) key)) points)) later) whole
     (ap (λ l. done ++ map (polygon_body_of points) l) (sym keys_are) ∙ before)
     (body_is ∙ ap (λ l. first (map (λ (r : FieldsP). r.body) l)) (group_is ∙ group-flipped key_keys p_key key points))
     (polygons-later key points later (strict_head key_cmp key later (subst (IsStrictlySortedBy key_cmp) keys_are ascending)))

@@ -61,7 +61,7 @@ point_keys = record {
     same : (p q : Coordinates) → point_cmp p q ≡ Equal → p ≡ q
     same p q e =
         let both : (int_cmp p.long q.long ≡ Equal) × (int_cmp p.lat q.lat ≡ Equal) =
-            then-equal (int_cmp p.long q.long) (int_cmp p.lat q.lat) e in
+        then-equal (int_cmp p.long q.long) (int_cmp p.lat q.lat) e in
         λ i. record { long = exact_signed p.long q.long both.0 i; lat = exact_signed p.lat q.lat both.1 i }
 
 pub points_keys : IsKeyOrder points_cmp
@@ -77,11 +77,16 @@ option_list (Some p) (Some q) e = let same : p ≡ q = cc in ap Some same
 name_exact : (a b : FeatureName) → feature_name_cmp a b ≡ Equal → a ≡ b
 name_exact a b e =
     let one = then-equal (bytes_cmp a.fedirp b.fedirp)
-        (ordering_then (bytes_cmp a.fename b.fename) (ordering_then (bytes_cmp a.fetype b.fetype) (bytes_cmp a.fedirs b.fedirs))) e in
+    (ordering_then (bytes_cmp a.fename b.fename) (ordering_then (bytes_cmp a.fetype b.fetype) (bytes_cmp a.fedirs b.fedirs))) e in
     let two = then-equal (bytes_cmp a.fename b.fename) (ordering_then (bytes_cmp a.fetype b.fetype) (bytes_cmp a.fedirs b.fedirs)) one.1 in
     let three = then-equal (bytes_cmp a.fetype b.fetype) (bytes_cmp a.fedirs b.fedirs) two.1 in
-    λ i. record { fedirp = exact_bytes a.fedirp b.fedirp one.0 i; fename = exact_bytes a.fename b.fename two.0 i; fetype =
-        exact_bytes a.fetype b.fetype three.0 i; fedirs = exact_bytes a.fedirs b.fedirs three.1 i }
+    λ i. record {
+      fedirp = exact_bytes a.fedirp b.fedirp one.0 i;
+      fename = exact_bytes a.fename b.fename two.0 i;
+      fetype =
+          exact_bytes a.fetype b.fetype three.0 i;
+      fedirs = exact_bytes a.fedirs b.fedirs three.1 i;
+    }
 
 pub name_body_keys : IsKeyOrder name_body_cmp
 name_body_keys = record {
@@ -115,9 +120,15 @@ landmark_body_keys = record {
         let two = then-equal (bytes_cmp a.source b.source) _ one.1 in
         let three = then-equal (bytes_cmp a.cfcc b.cfcc) _ two.1 in
         let four = then-equal (bytes_cmp a.laname b.laname) _ three.1 in
-        λ i. record { file = exact_bytes a.file b.file one.0 i; source = exact_bytes a.source b.source two.0 i; cfcc =
-            exact_bytes a.cfcc b.cfcc three.0 i; laname = exact_bytes a.laname b.laname four.0 i; point =
-            option_list a.point b.point (points_keys.exact (option_to_list a.point) (option_to_list b.point) four.1) i }
+        λ i. record {
+          file = exact_bytes a.file b.file one.0 i;
+          source = exact_bytes a.source b.source two.0 i;
+          cfcc =
+              exact_bytes a.cfcc b.cfcc three.0 i;
+          laname = exact_bytes a.laname b.laname four.0 i;
+          point =
+              option_list a.point b.point (points_keys.exact (option_to_list a.point) (option_to_list b.point) four.1) i;
+        }
 
 pub link_part_keys : IsKeyOrder link_part_cmp
 link_part_keys = record {

@@ -219,9 +219,10 @@ module _ {K : Type 0} {cmp : K → K → Ordering} (o : IsKeyOrder cmp) where
   named_all : (ps qs : List (K × K)) → ((k : K) → Known cmp (rights ps) k → Known cmp (lefts qs) k)
       → AllByRecursion (λ pair. is_named cmp qs pair.1 ≡ true) ps
   named_all [] qs h = tt
-  named_all (p ∷ ps) qs h =
-      (lt-ltb 0 (times cmp p.1 (lefts qs)) (h p.1 (known-here p.1 (rights ps))),
-      named_all ps qs (λ k l. h k (known-later k p.1 (rights ps) l)))
+  named_all (p ∷ ps) qs h = (
+    lt-ltb 0 (times cmp p.1 (lefts qs)) (h p.1 (known-here p.1 (rights ps))),
+    named_all ps qs (λ k l. h k (known-later k p.1 (rights ps) l)),
+  )
 
   pub joined-followed : (ps qs : List (K × K)) → ((k : K) → Known cmp (rights ps) k → Known cmp (lefts qs) k)
       → joined cmp ps qs ≡ followed ps qs
@@ -269,7 +270,7 @@ module _ {K : Type 0} {cmp : K → K → Ordering} (o : IsKeyOrder cmp) where
           ∙ sym (times-yes x t ts e)
       go (inr ne) ih =
           let apart : is_eq (cmp (image cmp ps x) (image cmp ps t)) ≡ false =
-              differ (image cmp ps x) (image cmp ps t) (λ e. differ_apart x t ne (image-injective ps x t a k h.0 e)) in
+          differ (image cmp ps x) (image cmp ps t) (λ e. differ_apart x t ne (image-injective ps x t a k h.0 e)) in
           times-no (image cmp ps x) (image cmp ps t) (map (image cmp ps) ts) apart ∙ ih ∙ sym (times-no x t ts ne)
 
   pub has_repeat-images : (ps : List (K × K)) → IsApart cmp (rights ps) → (ts : List K) → AllByRecursion (Known cmp (lefts ps)) ts

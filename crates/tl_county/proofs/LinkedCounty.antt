@@ -83,11 +83,11 @@ module _ (records : List Record) (linked : IsLinked records) where
   pub one_link : (n : ℕ) → Known nat_cmp (chain_tlids records) n → times nat_cmp n (map i_tlid (of_type_i records)) ≡ 1
   one_link n k =
       let some : 0 < times nat_cmp n (map i_tlid (of_type_i records)) =
-          ltb-true 0 (times nat_cmp n (map i_tlid (of_type_i records)))
-          (needed (stands_in nat_cmp n (chain_tlids records)) (stands_in nat_cmp n (map i_tlid (of_type_i records)))
-          (linked (LinkMissing n)) (lt-ltb 0 (times nat_cmp n (chain_tlids records)) k)) in
+      ltb-true 0 (times nat_cmp n (map i_tlid (of_type_i records)))
+      (needed (stands_in nat_cmp n (chain_tlids records)) (stands_in nat_cmp n (map i_tlid (of_type_i records)))
+      (linked (LinkMissing n)) (lt-ltb 0 (times nat_cmp n (chain_tlids records)) k)) in
       let few : times nat_cmp n (map i_tlid (of_type_i records)) ≤ 1 =
-          ltb-false 1 (times nat_cmp n (map i_tlid (of_type_i records))) (linked (LinkTwice n)) in
+      ltb-false 1 (times nat_cmp n (map i_tlid (of_type_i records))) (linked (LinkTwice n)) in
       omega arith
 
   pub the_link : (n : ℕ) → Known nat_cmp (chain_tlids records) n → (link : FieldsI) × (of_number i_tlid n (of_type_i records) ≡ link ∷ [])
@@ -100,9 +100,9 @@ module _ (records : List Record) (linked : IsLinked records) where
   tlids_of (r ∷ rs) h =
       let one = the_link r.tlid h.0 in
       let rest : List (ℕ × Chain) =
-          flat_map (λ q. map (λ link. (q.tlid, chain_of records q link)) (of_number i_tlid q.tlid (of_type_i records))) rs in
+      flat_map (λ q. map (λ link. (q.tlid, chain_of records q link)) (of_number i_tlid q.tlid (of_type_i records))) rs in
       ap (λ ls. map (λ (c : ℕ × Chain). c.0) (map (λ link. (r.tlid, chain_of records r link)) ls ++ rest)) one.1
-          ∙ ap (λ ns. r.tlid ∷ ns) (tlids_of rs h.1)
+      ∙ ap (λ ns. r.tlid ∷ ns) (tlids_of rs h.1)
 
   ones_known : AllByRecursion (λ r. Known nat_cmp (chain_tlids records) r.tlid) (in_order (on one_tlid nat_cmp) (of_type_1 records))
   ones_known = all-in_order (λ r. Known nat_cmp (chain_tlids records) r.tlid) (on one_tlid nat_cmp) (of_type_1 records)
@@ -117,7 +117,7 @@ module _ (records : List Record) (linked : IsLinked records) where
   strict_numbers f xs few = strict_from_order nat_keys (map f (in_order (on f nat_cmp) xs))
       (in_order-map nat_cmp f (in_order (on f nat_cmp) xs) (in_order-in_order (on_total f nat_cmp_total) xs))
       (λ n. let t : times nat_cmp n (map f (in_order (on f nat_cmp) xs)) ≡ times nat_cmp n (map f xs) =
-          times-in_order nat_cmp f (on f nat_cmp) xs n in let u : times nat_cmp n (map f xs) ≤ 1 = few n in omega arith)
+      times-in_order nat_cmp f (on f nat_cmp) xs n in let u : times nat_cmp n (map f xs) ≤ 1 = few n in omega arith)
 
   pub feats-county : feats (county_of records) ≡ map five_feat (in_order (on five_feat nat_cmp) (of_type_5 records))
   feats-county = map-map (λ (d : ℕ × _). d.0) (λ (r : Fields5). (r.feat, r.body)) (in_order (on five_feat nat_cmp) (of_type_5 records))
@@ -130,8 +130,10 @@ module _ (records : List Record) (linked : IsLinked records) where
       ∙ map-id (distinct key_cmp all_keys)
 
   pub lands-county : lands (county_of records) ≡ distinct nat_cmp (map seven_land (of_type_7 records))
-  lands-county = map-map (λ (d : ℕ × _). d.0) (λ land. (land,
-      in_order landmark_body_cmp (map (λ (r : Fields7). r.body) (of_number seven_land land (of_type_7 records)))))
+  lands-county = map-map (λ (d : ℕ × _). d.0) (λ land. (
+    land,
+    in_order landmark_body_cmp (map (λ (r : Fields7). r.body) (of_number seven_land land (of_type_7 records))),
+  ))
       (distinct nat_cmp (map seven_land (of_type_7 records))) ∙ map-id (distinct nat_cmp (map seven_land (of_type_7 records)))
 
   -- each name of a chain has a type 5 record
@@ -139,14 +141,14 @@ module _ (records : List Record) (linked : IsLinked records) where
   name_stands n y m =
       let r = among-unpieces (λ (q : Fields4). q.feats) y (in_order (on four_rtsq nat_cmp) (of_number four_tlid n (of_type_4 records))) m in
       let named : Known nat_cmp (named_feats n records) y =
-          among_known nat_keys y (named_feats n records)
-          (among-pieces (λ (q : Fields4). q.feats) r.0 y (of_number four_tlid n (of_type_4 records))
-          (from_in_order (on four_rtsq nat_cmp) (of_number four_tlid n (of_type_4 records)) r.0 r.1) r.2) in
+      among_known nat_keys y (named_feats n records)
+      (among-pieces (λ (q : Fields4). q.feats) r.0 y (of_number four_tlid n (of_type_4 records))
+      (from_in_order (on four_rtsq nat_cmp) (of_number four_tlid n (of_type_4 records)) r.0 r.1) r.2) in
       let t : stands_in nat_cmp y (map five_feat (of_type_5 records)) ≡ true =
-          needed (stands_in nat_cmp y (named_feats n records)) (stands_in nat_cmp y (map five_feat (of_type_5 records)))
-          (linked (NameUnknown n y)) (lt-ltb 0 (times nat_cmp y (named_feats n records)) named) in
+      needed (stands_in nat_cmp y (named_feats n records)) (stands_in nat_cmp y (map five_feat (of_type_5 records)))
+      (linked (NameUnknown n y)) (lt-ltb 0 (times nat_cmp y (named_feats n records)) named) in
       ap (stands_in nat_cmp y) feats-county ∙ ap (nat_lt 0) (times-in_order nat_cmp five_feat (on five_feat nat_cmp) (of_type_5 records) y)
-          ∙ t
+      ∙ t
 
   key_stands : (k : PolygonKey) → Known key_cmp all_keys k → IsTrue (stands_in key_cmp k (polygon_keys (county_of records)))
   key_stands k l = ap (stands_in key_cmp k) keys-county
@@ -155,7 +157,7 @@ module _ (records : List Record) (linked : IsLinked records) where
   side_stands : (link : FieldsI) → Among link (of_type_i records) → AllKeysStandIn (polygon_keys (county_of records)) (side_keys link)
   side_stands link m = each_from (λ k. IsTrue (stands_in key_cmp k (polygon_keys (county_of records)))) (side_keys link)
       (λ k n. key_stands k (known-left key_keys k (flat_map side_keys (of_type_i records)) (map p_key (of_type_p records))
-          (among_known key_keys k (flat_map side_keys (of_type_i records)) (among-pieces side_keys link k (of_type_i records) m n))))
+      (among_known key_keys k (flat_map side_keys (of_type_i records)) (among-pieces side_keys link k (of_type_i records) m n))))
 
   -- what holds of the chain of each pair of records holds of each chain of the county
   pub chains_all : (P : ℕ × Chain → Type 0) → ((r : Fields1) (link : FieldsI) → Among r (of_type_1 records) → Among link (of_type_i records)
@@ -163,34 +165,34 @@ module _ (records : List Record) (linked : IsLinked records) where
   chains_all P h = all_joined P (λ r. map (λ link. (r.tlid, chain_of records r link)) (of_number i_tlid r.tlid (of_type_i records)))
       (in_order (on one_tlid nat_cmp) (of_type_1 records))
       (each_from (λ r. AllByRecursion P (map (λ link. (r.tlid, chain_of records r link)) (of_number i_tlid r.tlid (of_type_i records))))
-          (in_order (on one_tlid nat_cmp) (of_type_1 records))
+      (in_order (on one_tlid nat_cmp) (of_type_1 records))
       (λ r n. all_map P (λ link. (r.tlid, chain_of records r link)) (of_number i_tlid r.tlid (of_type_i records))
       (all_weaker (λ link. Among link (of_type_i records)) (λ link. P (r.tlid, chain_of records r link))
-          (λ link. h r link (from_in_order (on one_tlid nat_cmp) (of_type_1 records) r n)) (of_number i_tlid r.tlid (of_type_i records))
-          (of_number-among i_tlid r.tlid (of_type_i records)))))
+      (λ link. h r link (from_in_order (on one_tlid nat_cmp) (of_type_1 records) r n)) (of_number i_tlid r.tlid (of_type_i records))
+      (of_number-among i_tlid r.tlid (of_type_i records)))))
 
   land_stands : (link : Fields8) → Among link (of_type_8 records) → IsTrue (stands_in nat_cmp link.land (lands (county_of records)))
   land_stands link m =
       let named : Known nat_cmp (map eight_land (of_type_8 records)) link.land =
-          among_known nat_keys link.land (map eight_land (of_type_8 records)) (among-map eight_land link (of_type_8 records) m) in
+      among_known nat_keys link.land (map eight_land (of_type_8 records)) (among-map eight_land link (of_type_8 records) m) in
       let t : stands_in nat_cmp link.land (map seven_land (of_type_7 records)) ≡ true =
-          needed (stands_in nat_cmp link.land (map eight_land (of_type_8 records)))
-          (stands_in nat_cmp link.land (map seven_land (of_type_7 records))) (linked (LandUnknown link.land))
-          (lt-ltb 0 (times nat_cmp link.land (map eight_land (of_type_8 records))) named) in
+      needed (stands_in nat_cmp link.land (map eight_land (of_type_8 records)))
+      (stands_in nat_cmp link.land (map seven_land (of_type_7 records))) (linked (LandUnknown link.land))
+      (lt-ltb 0 (times nat_cmp link.land (map eight_land (of_type_8 records))) named) in
       ap (stands_in nat_cmp link.land) lands-county
-          ∙ lt-ltb 0 (times nat_cmp link.land (distinct nat_cmp (map seven_land (of_type_7 records))))
-          (known-distinct nat_keys (map seven_land (of_type_7 records)) link.land
-          (ltb-true 0 (times nat_cmp link.land (map seven_land (of_type_7 records))) t))
+      ∙ lt-ltb 0 (times nat_cmp link.land (distinct nat_cmp (map seven_land (of_type_7 records))))
+      (known-distinct nat_keys (map seven_land (of_type_7 records)) link.land
+      (ltb-true 0 (times nat_cmp link.land (map seven_land (of_type_7 records))) t))
 
   link_key_stands : (link : Fields8) → Among link (of_type_8 records)
       → IsTrue (stands_in key_cmp (link_key link) (polygon_keys (county_of records)))
   link_key_stands link m =
       let named : Known key_cmp (map eight_key (of_type_8 records)) (link_key link) =
-          among_known key_keys (link_key link) (map eight_key (of_type_8 records)) (among-map eight_key link (of_type_8 records) m) in
+      among_known key_keys (link_key link) (map eight_key (of_type_8 records)) (among-map eight_key link (of_type_8 records) m) in
       let t : stands_in key_cmp (link_key link) all_keys ≡ true =
-          needed (stands_in key_cmp (link_key link) (map eight_key (of_type_8 records))) (stands_in key_cmp (link_key link) all_keys)
-          (linked (PolygonUnknown link.cenid link.polyid))
-          (lt-ltb 0 (times key_cmp (link_key link) (map eight_key (of_type_8 records))) named) in
+      needed (stands_in key_cmp (link_key link) (map eight_key (of_type_8 records))) (stands_in key_cmp (link_key link) all_keys)
+      (linked (PolygonUnknown link.cenid link.polyid))
+      (lt-ltb 0 (times key_cmp (link_key link) (map eight_key (of_type_8 records))) named) in
       key_stands (link_key link) (ltb-true 0 (times key_cmp (link_key link) all_keys) t)
 
   -- each type I record is that of a chain of the county
@@ -198,14 +200,14 @@ module _ (records : List Record) (linked : IsLinked records) where
       → (r : Fields1) × Among (r.tlid, chain_of records r link) (chains_of records)
   linked_chain link m =
       let named : Known nat_cmp (map i_tlid (of_type_i records)) link.tlid =
-          among_known nat_keys link.tlid (map i_tlid (of_type_i records)) (among-map i_tlid link (of_type_i records) m) in
+      among_known nat_keys link.tlid (map i_tlid (of_type_i records)) (among-map i_tlid link (of_type_i records) m) in
       let t : stands_in nat_cmp link.tlid (chain_tlids records) ≡ true =
-          needed (stands_in nat_cmp link.tlid (map i_tlid (of_type_i records))) (stands_in nat_cmp link.tlid (chain_tlids records))
-          (linked (NoChain I link.tlid)) (lt-ltb 0 (times nat_cmp link.tlid (map i_tlid (of_type_i records))) named) in
+      needed (stands_in nat_cmp link.tlid (map i_tlid (of_type_i records))) (stands_in nat_cmp link.tlid (chain_tlids records))
+      (linked (NoChain I link.tlid)) (lt-ltb 0 (times nat_cmp link.tlid (map i_tlid (of_type_i records))) named) in
       let r = among-unmap one_tlid link.tlid (of_type_1 records)
-          (known_is_among nat_keys link.tlid (chain_tlids records) (ltb-true 0 (times nat_cmp link.tlid (chain_tlids records)) t)) in
+      (known_is_among nat_keys link.tlid (chain_tlids records) (ltb-true 0 (times nat_cmp link.tlid (chain_tlids records)) t)) in
       let there : Among link (of_number i_tlid r.0.tlid (of_type_i records)) =
-          to_filter (λ l. i_tlid l == r.0.tlid) link (of_type_i records) m (eq-eqb link.tlid r.0.tlid r.2) in (
+      to_filter (λ l. i_tlid l == r.0.tlid) link (of_type_i records) m (eq-eqb link.tlid r.0.tlid r.2) in (
         r.0,
         among-pieces (λ (q : Fields1). map (λ l. (q.tlid, chain_of records q l)) (of_number i_tlid q.tlid (of_type_i records))) r.0
             (r.0.tlid, chain_of records r.0 link) (in_order (on one_tlid nat_cmp) (of_type_1 records))
@@ -223,14 +225,14 @@ module _ (records : List Record) (linked : IsLinked records) where
           → IsTrue (is_some (polygon_body records key) || stands_in key_cmp key (polygons_along (chains_of records)))
       go (inl side) =
           let link = among-unpieces side_keys key (of_type_i records)
-              (known_is_among key_keys key (flat_map side_keys (of_type_i records)) side) in
+          (known_is_among key_keys key (flat_map side_keys (of_type_i records)) side) in
           let chain = linked_chain link.0 link.1 in
           let along : Among key (polygons_along (chains_of records)) =
-              among-pieces (λ (entry : ℕ × Chain). chain_polygons entry.1) (chain.0.tlid, chain_of records chain.0 link.0) key
-              (chains_of records) chain.1 link.2 in
+          among-pieces (λ (entry : ℕ × Chain). chain_polygons entry.1) (chain.0.tlid, chain_of records chain.0 link.0) key
+          (chains_of records) chain.1 link.2 in
           or_right (is_some (polygon_body records key)) (stands_in key_cmp key (polygons_along (chains_of records)))
-              (lt-ltb 0 (times key_cmp key (polygons_along (chains_of records)))
-              (among_known key_keys key (polygons_along (chains_of records)) along))
+          (lt-ltb 0 (times key_cmp key (polygons_along (chains_of records)))
+          (among_known key_keys key (polygons_along (chains_of records)) along))
       go (inr body) = or_left (is_some (polygon_body records key)) (stands_in key_cmp key (polygons_along (chains_of records)))
           (some_body key (of_type_p records) body)
 
@@ -238,13 +240,13 @@ module _ (records : List Record) (linked : IsLinked records) where
       → 1 ≤ length (in_order landmark_body_cmp (map (λ (r : Fields7). r.body) (of_number seven_land land (of_type_7 records))))
   some_content land k =
       let known : 0 < times nat_cmp land (map seven_land (of_type_7 records)) =
-          known_from_distinct nat_keys (map seven_land (of_type_7 records)) land k in
+      known_from_distinct nat_keys (map seven_land (of_type_7 records)) land k in
       let bodies : List Body7 = map (λ (r : Fields7). r.body) (of_number seven_land land (of_type_7 records)) in
       let put : length (in_order landmark_body_cmp bodies) ≡ length bodies = length-in_order landmark_body_cmp bodies in
       let mapped : length bodies ≡ length (of_number seven_land land (of_type_7 records)) =
-          length-map (of_number seven_land land (of_type_7 records)) (λ (r : Fields7). r.body) in
+      length-map (of_number seven_land land (of_type_7 records)) (λ (r : Fields7). r.body) in
       let counted : times nat_cmp land (map seven_land (of_type_7 records)) ≡ length (of_number seven_land land (of_type_7 records)) =
-          times-of_number seven_land land (of_type_7 records) in
+      times-of_number seven_land land (of_type_7 records) in
       omega arith
 
   some_points : (r : Fields1) → 2 ≤ length (r.start ∷ (shape_points records r.tlid ++ (r.end ∷ [])))
@@ -258,13 +260,13 @@ module _ (records : List Record) (linked : IsLinked records) where
         (λ land. (land, in_order landmark_body_cmp (map (λ (r : Fields7). r.body) (of_number seven_land land (of_type_7 records)))))
         (distinct nat_cmp (map seven_land (of_type_7 records)))
         (all_known nat_keys (λ land. 1 ≤ length (in_order landmark_body_cmp
-            (map (λ (r : Fields7). r.body) (of_number seven_land land (of_type_7 records)))))
-            (distinct nat_cmp (map seven_land (of_type_7 records))) some_content);
+        (map (λ (r : Fields7). r.body) (of_number seven_land land (of_type_7 records)))))
+        (distinct nat_cmp (map seven_land (of_type_7 records))) some_content);
     polygons = all_map (λ (entry : PolygonKey × Option BodyP). IsTrue
         (is_some entry.1 || stands_in key_cmp entry.0 (polygons_along (chains_of records)))) (λ key. (key, polygon_body records key))
         (distinct key_cmp all_keys)
         (all_known key_keys (λ key. IsTrue (is_some (polygon_body records key) || stands_in key_cmp key
-            (polygons_along (chains_of records)))) (distinct key_cmp all_keys) polygon_whole);
+        (polygons_along (chains_of records)))) (distinct key_cmp all_keys) polygon_whole);
   }
 
   pub county-is_county : IsCounty (county_of records)
@@ -277,12 +279,15 @@ module _ (records : List Record) (linked : IsLinked records) where
           (λ n. ltb-false 1 (times nat_cmp n (map five_feat (of_type_5 records))) (linked (NameTwice n))));
       polygons = subst (IsStrictlySortedBy key_cmp) (sym keys-county) (distinct-strict key_keys all_keys);
       landmarks = subst (IsStrictlySortedBy nat_cmp) (sym lands-county) (distinct-strict nat_keys (map seven_land (of_type_7 records)));
-      bodies = all_map (λ entry. _) (λ land. (land, in_order landmark_body_cmp
-          (map (λ (r : Fields7). r.body) (of_number seven_land land (of_type_7 records)))))
+      bodies = all_map (λ entry. _) (λ land. (
+        land,
+        in_order landmark_body_cmp
+            (map (λ (r : Fields7). r.body) (of_number seven_land land (of_type_7 records))),
+      ))
           (distinct nat_cmp (map seven_land (of_type_7 records)))
           (all_everywhere (λ land. _) (λ land. in_order-in_order landmark_body_keys.total
-              (map (λ (r : Fields7). r.body) (of_number seven_land land (of_type_7 records))))
-              (distinct nat_cmp (map seven_land (of_type_7 records))));
+          (map (λ (r : Fields7). r.body) (of_number seven_land land (of_type_7 records))))
+          (distinct nat_cmp (map seven_land (of_type_7 records))));
       links = in_order-in_order link_keys.total (of_type_8 records);
     };
     closed = record {

@@ -71,12 +71,12 @@ groups-join number [] (x ∷ xs) strict h known = absurd (let some : 0 < times n
 groups-join {X} number (k ∷ ks) xs strict h known =
     (λ i. sym (group-of_number number k xs) i ++ rest ks (strict_head nat_cmp k ks strict) i)
     ∙ ap (λ l. group ++ l) (groups-join number ks (later_than number k xs) (strict_tail nat_cmp k ks strict)
-        (in_order-filter (on number nat_cmp) (λ x. is_gt (nat_cmp (number x) k)) xs h) (later_known xs known))
+    (in_order-filter (on number nat_cmp) (λ x. is_gt (nat_cmp (number x) k)) xs h) (later_known xs known))
     ∙ sym (group-and_later nat_keys number k xs h)
     ∙ filter_all (λ x. not (is_lt (nat_cmp (number x) k))) xs
-        (all_weaker (λ x. Known nat_cmp (k ∷ ks) (number x)) (λ x. not (is_lt (nat_cmp (number x) k)) ≡ true)
-        (λ x m. ap not (lt_reversed (nat_cmp (number x) k) (nat_cmp k (number x)) (nat_cmp_total.antisymm (number x) k)
-        ∙ first_least nat_keys k ks (in_order-strict nat_cmp (k ∷ ks) strict) (number x) m)) xs known)
+    (all_weaker (λ x. Known nat_cmp (k ∷ ks) (number x)) (λ x. not (is_lt (nat_cmp (number x) k)) ≡ true)
+    (λ x m. ap not (lt_reversed (nat_cmp (number x) k) (nat_cmp k (number x)) (nat_cmp_total.antisymm (number x) k)
+    ∙ first_least nat_keys k ks (in_order-strict nat_cmp (k ∷ ks) strict) (number x) m)) xs known)
   where
     group : List X
     group = filter (λ x. is_eq (nat_cmp (number x) k)) xs
@@ -119,11 +119,11 @@ module _ (records : List Record) (order : AreInOrder (by_type records)) (linked 
   side_by_side = strict-equal nat_cmp_total (λ n. n) (map one_tlid (of_type_1 records))
       (map i_tlid (of_type_i records)) tlids-strict links-strict
       (λ n m. known_is_among nat_keys n (map i_tlid (of_type_i records)) (let one : times nat_cmp n (map i_tlid (of_type_i records)) ≡ 1 =
-          one_link records linked n (among_known nat_keys n (chain_tlids records) m) in omega arith))
+      one_link records linked n (among_known nat_keys n (chain_tlids records) m) in omega arith))
       (λ n m. known_is_among nat_keys n (chain_tlids records)
-          (ltb-true 0 (times nat_cmp n (chain_tlids records))
-          (needed (stands_in nat_cmp n (linked_tlids I records)) (stands_in nat_cmp n (chain_tlids records)) (linked (NoChain I n))
-          (lt-ltb 0 (times nat_cmp n (linked_tlids I records)) (among_known nat_keys n (linked_tlids I records) m)))))
+      (ltb-true 0 (times nat_cmp n (chain_tlids records))
+      (needed (stands_in nat_cmp n (linked_tlids I records)) (stands_in nat_cmp n (chain_tlids records)) (linked (NoChain I n))
+      (lt-ltb 0 (times nat_cmp n (linked_tlids I records)) (among_known nat_keys n (linked_tlids I records) m)))))
 
   -- the chain of its groups
   chain-groups : (r : Fields1) (link : FieldsI) → chain_of records r link ≡ chain_with r link
@@ -131,11 +131,11 @@ module _ (records : List Record) (order : AreInOrder (by_type records)) (linked 
       (of_number six_tlid r.tlid (of_type_6 records))
   chain-groups r link = λ i. chain_with r link
       (in_order-itself (on two_rtsq nat_cmp) (of_number two_tlid r.tlid (of_type_2 records))
-          (group_in_order two_tlid (on two_rtsq nat_cmp) r.tlid (of_type_2 records) order.type_2) i)
+      (group_in_order two_tlid (on two_rtsq nat_cmp) r.tlid (of_type_2 records) order.type_2) i)
       (in_order-itself (on four_rtsq nat_cmp) (of_number four_tlid r.tlid (of_type_4 records))
-          (group_in_order four_tlid (on four_rtsq nat_cmp) r.tlid (of_type_4 records) order.type_4) i)
+      (group_in_order four_tlid (on four_rtsq nat_cmp) r.tlid (of_type_4 records) order.type_4) i)
       (in_order-itself (on six_rtsq nat_cmp) (of_number six_tlid r.tlid (of_type_6 records))
-          (group_in_order six_tlid (on six_rtsq nat_cmp) r.tlid (of_type_6 records) order.type_6) i)
+      (group_in_order six_tlid (on six_rtsq nat_cmp) r.tlid (of_type_6 records) order.type_6) i)
 
   -- the one record of type I of a chain
   only_link : (n : ℕ) (l : FieldsI) → Known nat_cmp (chain_tlids records) n → Among l (of_type_i records) → l.tlid ≡ n
@@ -143,7 +143,7 @@ module _ (records : List Record) (order : AreInOrder (by_type records)) (linked 
   only_link n l known m e =
       let one : (link : FieldsI) × (of_number i_tlid n (of_type_i records) ≡ link ∷ []) = the_link records linked n known in
       let there : Among l (of_number i_tlid n (of_type_i records)) =
-          to_filter (λ x. i_tlid x == n) l (of_type_i records) m (eq-eqb l.tlid n e) in
+      to_filter (λ x. i_tlid x == n) l (of_type_i records) m (eq-eqb l.tlid n e) in
       go one.0 one.1 (subst (Among l) one.1 there)
     where
       go : (link : FieldsI) → of_number i_tlid n (of_type_i records) ≡ link ∷ [] → (l ≡ link) ⊎ ⊥
@@ -161,9 +161,9 @@ module _ (records : List Record) (order : AreInOrder (by_type records)) (linked 
       let same : r.tlid ≡ l.tlid = cc in
       let rest : map one_tlid rs ≡ map i_tlid ls = cc in
       (λ i. map (λ link. (r.tlid, chain_of records r link))
-          (only_link r.tlid l known.0 there.0 (sym same) i) ++ chains_at rs ls rest known.1 there.1 i)
+      (only_link r.tlid l known.0 there.0 (sym same) i) ++ chains_at rs ls rest known.1 there.1 i)
       ∙ ap (λ c. (r.tlid, c) ∷ zip (map one_tlid rs) (chains_along (of_type_2 records) (of_type_4 records) (of_type_6 records) rs ls))
-          (chain-groups r l)
+      (chain-groups r l)
 
   known_tlids : AllByRecursion (λ r. Known nat_cmp (chain_tlids records) r.tlid) (of_type_1 records)
   known_tlids = all_weaker (λ r. Among r (of_type_1 records)) (λ r. Known nat_cmp (chain_tlids records) r.tlid)
@@ -185,8 +185,11 @@ module _ (records : List Record) (order : AreInOrder (by_type records)) (linked 
       (in_order-map landmark_body_cmp (λ (r : Fields7). r.body) (of_number seven_land land (of_type_7 records))
       (group_in_order seven_land (λ a b. landmark_body_cmp a.body b.body) land (of_type_7 records) order.type_7))
 
-  landmarks-kept : (ks : List ℕ) → map (λ land. (land, in_order landmark_body_cmp
-      (map (λ (r : Fields7). r.body) (of_number seven_land land (of_type_7 records))))) ks ≡ map landmark_entry
+  landmarks-kept : (ks : List ℕ) → map (λ land. (
+    land,
+    in_order landmark_body_cmp
+        (map (λ (r : Fields7). r.body) (of_number seven_land land (of_type_7 records))),
+  )) ks ≡ map landmark_entry
       (map (λ land. (land, landmark_of (of_type_7 records) (of_type_8 records) land)) ks)
   landmarks-kept [] = refl
   landmarks-kept (k ∷ ks) = λ i. (k, bodies-kept k i) ∷ landmarks-kept ks i
@@ -204,15 +207,15 @@ module _ (records : List Record) (order : AreInOrder (by_type records)) (linked 
       at r m = known-distinct nat_keys (map seven_land (of_type_7 records)) r.land
           (ltb-true 0 (times nat_cmp r.land (map seven_land (of_type_7 records)))
           (needed (stands_in nat_cmp r.land (map eight_land (of_type_8 records)))
-              (stands_in nat_cmp r.land (map seven_land (of_type_7 records))) (linked (LandUnknown r.land))
+          (stands_in nat_cmp r.land (map seven_land (of_type_7 records))) (linked (LandUnknown r.land))
           (lt-ltb 0 (times nat_cmp r.land (map eight_land (of_type_8 records)))
-              (among_known nat_keys r.land (map eight_land (of_type_8 records)) (among-map eight_land r (of_type_8 records) m)))))
+          (among_known nat_keys r.land (map eight_land (of_type_8 records)) (among-map eight_land r (of_type_8 records) m)))))
 
   links-kept : in_order link_cmp (of_type_8 records) ≡ flat_map (λ (entry : ℕ × LandmarkParts). entry.1.links)
       (map (λ land. (land, landmark_of (of_type_7 records) (of_type_8 records) land)) lands)
   links-kept = in_order-itself link_cmp (of_type_8 records) order.type_8
       ∙ sym (groups-join eight_land lands (of_type_8 records) (distinct-strict nat_keys (map seven_land (of_type_7 records)))
-          (in_order-first (on eight_land nat_cmp) (on link_part link_part_cmp) (of_type_8 records) order.type_8) lands_known)
+      (in_order-first (on eight_land nat_cmp) (on link_part link_part_cmp) (of_type_8 records) order.type_8) lands_known)
       ∙ links_at lands
 
   -- the county of the records is the one that is built

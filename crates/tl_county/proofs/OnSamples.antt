@@ -22,8 +22,21 @@ use Rattle.tl_county.proofs.Samples.{chain_there, meeting, old_mill}
 
 -- the county of one chain
 pub county_there : county_of there ≡ record {
-  chains = (500, record { body = street_there; points = west_end ∷ east_end ∷ []; feats = []; ranges = []; link_body =
-      link_body; start_node = Some 11; end_node = Some 12; left = no_side; right = no_side }) ∷ [];
+  chains = (
+    500,
+    record {
+      body = street_there;
+      points = west_end ∷ east_end ∷ [];
+      feats = [];
+      ranges = [];
+      link_body =
+          link_body;
+      start_node = Some 11;
+      end_node = Some 12;
+      left = no_side;
+      right = no_side;
+    },
+  ) ∷ [];
   names = [];
   polygons = [];
   landmarks = [];
@@ -121,14 +134,37 @@ only x y p = go (among-permutation x (x ∷ []) (y ∷ []) p (inl refl))
     go (inr h) = absurd h
 
 abbrev wrong_entry : ℕ × Chain
-wrong_entry = (77, record { body =
-    street (record ranges_back { fraddl = right 11 (codes "100"); toaddl = right 11 (codes "198") }) (codes "020300") (codes "020200")
-    (codes "2002") (codes "1001"); points = east_end ∷ west_end ∷ []; feats = []; ranges = []; link_body = link_body; start_node =
-    Some 6; end_node = Some 5; left = no_side; right = no_side })
+wrong_entry = (
+  77,
+  record {
+    body =
+        street (record ranges_back { fraddl = right 11 (codes "100"); toaddl = right 11 (codes "198") }) (codes "020300") (codes "020200")
+        (codes "2002") (codes "1001");
+    points = east_end ∷ west_end ∷ [];
+    feats = [];
+    ranges = [];
+    link_body = link_body;
+    start_node =
+        Some 6;
+    end_node = Some 5;
+    left = no_side;
+    right = no_side;
+  },
+)
 
 abbrev there_chain : Chain
-there_chain = record { body = street_there; points = west_end ∷ east_end ∷ []; feats = []; ranges = []; link_body = link_body; start_node =
-    Some 11; end_node = Some 12; left = no_side; right = no_side }
+there_chain = record {
+  body = street_there;
+  points = west_end ∷ east_end ∷ [];
+  feats = [];
+  ranges = [];
+  link_body = link_body;
+  start_node =
+      Some 11;
+  end_node = Some 12;
+  left = no_side;
+  right = no_side;
+}
 
 abbrev address : Chain → Bool
 address c = (slice_index c.body.ranges.fraddl 8 == 49) &&
@@ -141,7 +177,7 @@ address_differs r false = refl
 pub wrong_addresses : AreSame (county_of there) (county_of back_wrong) → ⊥
 wrong_addresses s =
     let e : wrong_entry ≡ carried_chain s.by (500, there_chain) =
-        only (carried_chain s.by (500, there_chain)) wrong_entry s.carries.chains in
+    only (carried_chain s.by (500, there_chain)) wrong_entry s.carries.chains in
     false≢true (sym (address_differs s.by (turns s.by 500)) ∙ ap (λ (d : ℕ × Chain). address d.1) (sym e))
 
 -- Two names that only their uses tell apart may be exchanged: the order in which a chain names them is the one difference.
@@ -182,8 +218,18 @@ feats_of : Chain → List ℕ
 feats_of c = c.feats
 
 abbrev named_chain : List ℕ → Chain
-named_chain names = record { body = street_there; points = west_end ∷ east_end ∷ []; feats = names; ranges = []; link_body =
-    link_body; start_node = Some 11; end_node = Some 12; left = no_side; right = no_side }
+named_chain names = record {
+  body = street_there;
+  points = west_end ∷ east_end ∷ [];
+  feats = names;
+  ranges = [];
+  link_body =
+      link_body;
+  start_node = Some 11;
+  end_node = Some 12;
+  left = no_side;
+  right = no_side;
+}
 
 twice_at : (r : Renumbering) (b : Bool) → feats_of (renumbered r (turned_if b (named_chain (8 ∷ 8 ∷ []))))
     ≡ image nat_cmp r.names 8 ∷ image nat_cmp r.names 8 ∷ []
@@ -195,9 +241,9 @@ pub one_name_twice : AreSame (county_of (named (8 ∷ 8 ∷ []))) (county_of (na
 unfolding feats_of
 one_name_twice s =
     let e : (500, named_chain (8 ∷ 9 ∷ [])) ≡ carried_chain s.by (500, named_chain (8 ∷ 8 ∷ [])) =
-        only (carried_chain s.by (500, named_chain (8 ∷ 8 ∷ []))) (500, named_chain (8 ∷ 9 ∷ [])) s.carries.chains in
+    only (carried_chain s.by (500, named_chain (8 ∷ 8 ∷ []))) (500, named_chain (8 ∷ 9 ∷ [])) s.carries.chains in
     let names : 8 ∷ 9 ∷ [] ≡ image nat_cmp s.by.names 8 ∷ image nat_cmp s.by.names 8 ∷ [] = ap (λ (d : ℕ × Chain). feats_of d.1) e
-        ∙ twice_at s.by (turns s.by 500) in
+    ∙ twice_at s.by (turns s.by 500) in
     let first : 8 ≡ image nat_cmp s.by.names 8 = ap (λ ns. slice_index ns 0) names in
     let second : 9 ≡ image nat_cmp s.by.names 8 = ap (λ ns. slice_index ns 1) names in
     omega arith

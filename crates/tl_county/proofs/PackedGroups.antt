@@ -62,9 +62,9 @@ module _ {V X : Type 0} (key : X → ℕ) (pack : ℕ × V → List X) (own : (e
   first_group n e es same apart =
       let few : times nat_cmp n (e.0 ∷ map (λ (d : ℕ × V). d.0) es) ≤ 1 = apart n in
       let none : times nat_cmp n (map (λ (d : ℕ × V). d.0) es) ≡ 0 =
-          omega (arith, few, times-yes nat_keys n e.0 (map (λ (d : ℕ × V). d.0) es) same) in
+      omega (arith, few, times-yes nat_keys n e.0 (map (λ (d : ℕ × V). d.0) es) same) in
       filter-append (λ x. key x == n) (pack e) (flat_map pack es) ∙ ap₂ (λ xs ys. xs ++ ys) (own_group n e same) (no_group n es none)
-          ∙ append-nil (pack e)
+      ∙ append-nil (pack e)
 
   later_group : (n : ℕ) (e : ℕ × V) (es : List (ℕ × V)) → is_eq (nat_cmp n e.0) ≡ false
       → of_number key n (pack e ++ flat_map pack es) ≡ of_number key n (flat_map pack es)
@@ -114,8 +114,11 @@ module _ {V X : Type 0} (key : X → ℕ) (pack : ℕ × V → List X) (own : (e
         each : (ys : List X) → AllByRecursion (λ y. key y ≡ e.0) ys → AllByRecursion (λ y. is_gt (sub x y) ≡ false) ys
             → AllByRecursion (λ y. is_gt (by_number x y) ≡ false) ys
         each [] b g = tt
-        each (y ∷ ys) b g = (ap (λ o. is_gt (ordering_then o (sub x y))) (ap₂ nat_cmp a.0 b.0 ∙ tied_itself nat_cmp_total e.0)
-            ∙ g.0, each ys b.1 g.1)
+        each (y ∷ ys) b g = (
+          ap (λ o. is_gt (ordering_then o (sub x y))) (ap₂ nat_cmp a.0 b.0 ∙ tied_itself nat_cmp_total e.0)
+              ∙ g.0,
+          each ys b.1 g.1,
+        )
 
     above : (e : ℕ × V) (es : List (ℕ × V)) → AllByRecursion (λ n. nat_cmp e.0 n ≡ Less) (map (λ (d : ℕ × V). d.0) es)
         → AllByRecursion (λ y. nat_cmp e.0 (key y) ≡ Less) (flat_map pack es)
@@ -132,5 +135,5 @@ module _ {V X : Type 0} (key : X → ℕ) (pack : ℕ × V → List X) (own : (e
         in_order-append by_number (pack e) (flat_map pack es) (within e (pack e) (own e) a.0) (groups_in_order es s.1 a.1)
         (all_weaker (λ x. key x ≡ e.0) (λ x. AllByRecursion (λ y. is_gt (by_number x y) ≡ false) (flat_map pack es))
         (λ x f. all_weaker (λ y. nat_cmp e.0 (key y) ≡ Less) (λ y. is_gt (by_number x y) ≡ false)
-            (λ y l. ap (λ o. is_gt (ordering_then o (sub x y))) (ap (λ n. nat_cmp n (key y)) f ∙ l)) (flat_map pack es) (above e es s.0))
+        (λ y l. ap (λ o. is_gt (ordering_then o (sub x y))) (ap (λ n. nat_cmp n (key y)) f ∙ l)) (flat_map pack es) (above e es s.0))
         (pack e) (own e))

@@ -101,11 +101,19 @@ few_packed_keys k (e ∷ es) = go e.1 (few_packed_keys k es) (same_or_not key_ke
         (e.0 ∷ map (λ (d : PolygonKey × Option BodyP). d.0) es)
     go None ih same = omega (arith, ih, times-cons key_keys k e.0 (map (λ (d : PolygonKey × Option BodyP). d.0) es))
     go (Some body) ih (inl same) =
-        omega (arith, ih, times-yes key_keys k e.0 (map p_key (filter_map packed_p es)) same,
-        times-yes key_keys k e.0 (map (λ (d : PolygonKey × Option BodyP). d.0) es) same)
+        omega (
+          arith,
+          ih,
+          times-yes key_keys k e.0 (map p_key (filter_map packed_p es)) same,
+          times-yes key_keys k e.0 (map (λ (d : PolygonKey × Option BodyP). d.0) es) same,
+        )
     go (Some body) ih (inr ne) =
-        omega (arith, ih, times-no key_keys k e.0 (map p_key (filter_map packed_p es)) ne,
-        times-no key_keys k e.0 (map (λ (d : PolygonKey × Option BodyP). d.0) es) ne)
+        omega (
+          arith,
+          ih,
+          times-no key_keys k e.0 (map p_key (filter_map packed_p es)) ne,
+          times-no key_keys k e.0 (map (λ (d : PolygonKey × Option BodyP). d.0) es) ne,
+        )
 
 module _ (c : County) (is : IsCounty c) where
   pub tlids_apart : IsApart nat_cmp (tlids c)
@@ -154,8 +162,8 @@ module _ (c : County) (is : IsCounty c) where
   linked_known tlid pack own = all_map (Known nat_cmp (tlids c)) tlid (flat_map pack c.chains)
       (all_joined (λ x. Known nat_cmp (tlids c) (tlid x)) pack c.chains
       (all_weaker (λ e. Known nat_cmp (tlids c) e.0) (λ e. AllByRecursion (λ x. Known nat_cmp (tlids c) (tlid x)) (pack e))
-          (λ e k. all_weaker (λ x. tlid x ≡ e.0) (λ x. Known nat_cmp (tlids c) (tlid x)) (λ x f. subst (Known nat_cmp (tlids c)) (sym f) k)
-          (pack e) (own e)) c.chains (keys_known nat_keys c.chains)))
+      (λ e k. all_weaker (λ x. tlid x ≡ e.0) (λ x. Known nat_cmp (tlids c) (tlid x)) (λ x f. subst (Known nat_cmp (tlids c)) (sym f) k)
+      (pack e) (own e)) c.chains (keys_known nat_keys c.chains)))
 
   all_linked : (t : LinkedType) → AllByRecursion (Known nat_cmp (tlids c)) (linked_tlids t (packed c))
   all_linked Two = subst (λ xs. AllByRecursion (Known nat_cmp (tlids c)) (map two_tlid xs)) (sym twos)
@@ -172,27 +180,27 @@ module _ (c : County) (is : IsCounty c) where
       → has_repeat nat_cmp (map rtsq (map make (numbered_from 1 ys))) ≡ false
   no_repeat {X} {Y} rtsq make told ys =
       let numbers : map rtsq (map make (numbered_from 1 ys)) ≡ map (λ (piece : ℕ × Y). piece.0) (numbered_from 1 ys) =
-          map-map rtsq make (numbered_from 1 ys)
-          ∙ map_agree_everywhere (λ piece. rtsq (make piece)) (λ (piece : ℕ × Y). piece.0) told (numbered_from 1 ys) in
+      map-map rtsq make (numbered_from 1 ys)
+      ∙ map_agree_everywhere (λ piece. rtsq (make piece)) (λ (piece : ℕ × Y). piece.0) told (numbered_from 1 ys) in
       ap (has_repeat nat_cmp) numbers ∙ has_repeat-apart nat_keys (map (λ (piece : ℕ × Y). piece.0) (numbered_from 1 ys))
-          (apart_from_sorted nat_keys (map (λ (piece : ℕ × Y). piece.0) (numbered_from 1 ys)) (numbered_strict 1 ys))
+      (apart_from_sorted nat_keys (map (λ (piece : ℕ × Y). piece.0) (numbered_from 1 ys)) (numbered_strict 1 ys))
 
   sequence : (t : LinkedType) (tlid : ℕ) → has_repeat nat_cmp (rtsqs t tlid (packed c)) ≡ false
   sequence Two tlid = ap (λ xs. has_repeat nat_cmp (map two_rtsq (of_number two_tlid tlid xs))) twos
       ∙ group_holds two_tlid packed_twos two_own (λ xs. has_repeat nat_cmp (map two_rtsq xs) ≡ false) refl c.chains tlids_apart
       (all_everywhere (λ e. has_repeat nat_cmp (map two_rtsq (packed_twos e)) ≡ false)
-          (λ e. no_repeat two_rtsq (λ (piece : ℕ × List _). record { tlid = e.0; rtsq = piece.0; points = piece.1 }) (λ piece. refl)
-          (in_pieces 10 (inner_points e.1.points))) c.chains) tlid
+      (λ e. no_repeat two_rtsq (λ (piece : ℕ × List _). record { tlid = e.0; rtsq = piece.0; points = piece.1 }) (λ piece. refl)
+      (in_pieces 10 (inner_points e.1.points))) c.chains) tlid
   sequence Four tlid = ap (λ xs. has_repeat nat_cmp (map four_rtsq (of_number four_tlid tlid xs))) fours
       ∙ group_holds four_tlid packed_fours four_own (λ xs. has_repeat nat_cmp (map four_rtsq xs) ≡ false) refl c.chains tlids_apart
       (all_everywhere (λ e. has_repeat nat_cmp (map four_rtsq (packed_fours e)) ≡ false)
-          (λ e. no_repeat four_rtsq (λ (piece : ℕ × List ℕ). record { tlid = e.0; rtsq = piece.0; feats = piece.1 }) (λ piece. refl)
-          (in_pieces 5 e.1.feats)) c.chains) tlid
+      (λ e. no_repeat four_rtsq (λ (piece : ℕ × List ℕ). record { tlid = e.0; rtsq = piece.0; feats = piece.1 }) (λ piece. refl)
+      (in_pieces 5 e.1.feats)) c.chains) tlid
   sequence Six tlid = ap (λ xs. has_repeat nat_cmp (map six_rtsq (of_number six_tlid tlid xs))) sixes
       ∙ group_holds six_tlid packed_sixes six_own (λ xs. has_repeat nat_cmp (map six_rtsq xs) ≡ false) refl c.chains tlids_apart
       (all_everywhere (λ e. has_repeat nat_cmp (map six_rtsq (packed_sixes e)) ≡ false)
-          (λ e. no_repeat six_rtsq (λ (piece : ℕ × Ranges). record { tlid = e.0; rtsq = piece.0; ranges = piece.1 })
-          (λ piece. refl) e.1.ranges) c.chains) tlid
+      (λ e. no_repeat six_rtsq (λ (piece : ℕ × Ranges). record { tlid = e.0; rtsq = piece.0; ranges = piece.1 })
+      (λ piece. refl) e.1.ranges) c.chains) tlid
   sequence I tlid = refl
 
   -- a test of names, of polygons and of landmarks
@@ -200,19 +208,19 @@ module _ (c : County) (is : IsCounty c) where
   named tlid = subst (λ xs. AllByRecursion (λ n. IsTrue (stands_in nat_cmp n (feats c)))
       (flat_map (λ (r : Fields4). r.feats) (of_number four_tlid tlid xs))) (sym fours)
       (group_holds four_tlid packed_fours four_own
-          (λ xs. AllByRecursion (λ n. IsTrue (stands_in nat_cmp n (feats c)))
-          (flat_map (λ (r : Fields4). r.feats) xs)) tt c.chains tlids_apart
+      (λ xs. AllByRecursion (λ n. IsTrue (stands_in nat_cmp n (feats c)))
+      (flat_map (λ (r : Fields4). r.feats) xs)) tt c.chains tlids_apart
       (all_weaker (λ e. AllStandIn (feats c) e.1.feats)
-          (λ e. AllByRecursion (λ n. IsTrue (stands_in nat_cmp n (feats c))) (flat_map (λ (r : Fields4). r.feats) (packed_fours e)))
+      (λ e. AllByRecursion (λ n. IsTrue (stands_in nat_cmp n (feats c))) (flat_map (λ (r : Fields4). r.feats) (packed_fours e)))
       (λ e a. all_joined (λ n. IsTrue (stands_in nat_cmp n (feats c))) (λ (r : Fields4). r.feats) (packed_fours e)
       (all_map (λ (r : Fields4). AllByRecursion (λ n. IsTrue (stands_in nat_cmp n (feats c))) r.feats)
-          (λ (piece : ℕ × List ℕ). record { tlid = e.0; rtsq = piece.0; feats = piece.1 }) (numbered_from 1 (in_pieces 5 e.1.feats))
+      (λ (piece : ℕ × List ℕ). record { tlid = e.0; rtsq = piece.0; feats = piece.1 }) (numbered_from 1 (in_pieces 5 e.1.feats))
       (all_weaker (λ (piece : ℕ × List ℕ). (1 ≤ piece.0)
-          × ((piece.0 < 1 + length (in_pieces 5 e.1.feats)) × AllByRecursion (λ n. IsTrue (stands_in nat_cmp n (feats c))) piece.1))
-          (λ piece. AllByRecursion (λ n. IsTrue (stands_in nat_cmp n (feats c))) piece.1) (λ piece h. h.1.1)
-          (numbered_from 1 (in_pieces 5 e.1.feats))
+      × ((piece.0 < 1 + length (in_pieces 5 e.1.feats)) × AllByRecursion (λ n. IsTrue (stands_in nat_cmp n (feats c))) piece.1))
+      (λ piece. AllByRecursion (λ n. IsTrue (stands_in nat_cmp n (feats c))) piece.1) (λ piece h. h.1.1)
+      (numbered_from 1 (in_pieces 5 e.1.feats))
       (all_numbered_from (AllByRecursion (λ n. IsTrue (stands_in nat_cmp n (feats c)))) 1 (in_pieces 5 e.1.feats)
-          (all_in_pieces (λ n. IsTrue (stands_in nat_cmp n (feats c))) 5 (length e.1.feats) e.1.feats a)))))
+      (all_in_pieces (λ n. IsTrue (stands_in nat_cmp n (feats c))) 5 (length e.1.feats) e.1.feats a)))))
       c.chains is.closed.names) tlid)
 
   landmark_stands : (e : ℕ × List Body7) → Among e c.landmarks → Known nat_cmp (map seven_land (of_type_7 (packed c))) e.0
@@ -225,9 +233,9 @@ module _ (c : County) (is : IsCounty c) where
       at (body ∷ bodies) same some =
           let r : Fields7 = record { land = e.0; body = body } in
           let there : Among r (packed_sevens e) =
-              subst (λ (bs : List Body7). Among r (map (λ b. record { land = e.0; body = b }) bs)) (sym same) (inl refl) in
+          subst (λ (bs : List Body7). Among r (map (λ b. record { land = e.0; body = b }) bs)) (sym same) (inl refl) in
           among_known nat_keys e.0 (map seven_land (flat_map packed_sevens c.landmarks))
-              (among-map seven_land r (flat_map packed_sevens c.landmarks) (among-pieces packed_sevens e r c.landmarks m there))
+          (among-map seven_land r (flat_map packed_sevens c.landmarks) (among-pieces packed_sevens e r c.landmarks m there))
 
   pub land_stands : (land : ℕ) → Known nat_cmp (lands c) land → Known nat_cmp (map seven_land (of_type_7 (packed c))) land
   land_stands land k =
@@ -247,9 +255,9 @@ module _ (c : County) (is : IsCounty c) where
   key_stands key k =
       let e = among-unmap (λ (d : PolygonKey × Option BodyP). d.0) key c.polygons (known_is_among key_keys key (polygon_keys c) k) in
       let whole : (is_some e.0.1 || stands_in key_cmp e.0.0 (polygons_along c.chains)) ≡ true =
-          all_among (λ d. IsTrue (is_some d.1 || stands_in key_cmp d.0 (polygons_along c.chains))) e.0 c.polygons is.whole.polygons e.1 in
+      all_among (λ d. IsTrue (is_some d.1 || stands_in key_cmp d.0 (polygons_along c.chains))) e.0 c.polygons is.whole.polygons e.1 in
       subst (Known key_cmp (flat_map side_keys (of_type_i (packed c)) ++ map p_key (of_type_p (packed c)))) (sym e.2)
-          (go e.0 e.1 (or_cases (is_some e.0.1) (stands_in key_cmp e.0.0 (polygons_along c.chains)) whole))
+      (go e.0 e.1 (or_cases (is_some e.0.1) (stands_in key_cmp e.0.0 (polygons_along c.chains)) whole))
     where
       with_body : (d : PolygonKey × Option BodyP) → Among d c.polygons → (o : Option BodyP) → d.1 ≡ o → is_some o ≡ true
           → Known key_cmp (map p_key (of_type_p (packed c))) d.0
@@ -258,7 +266,7 @@ module _ (c : County) (is : IsCounty c) where
           let r : FieldsP = record { cenid = d.0.0; polyid = d.0.1; body = body } in
           let listed : Among r (filter_map packed_p c.polygons) = to_filter_map packed_p d r c.polygons m (ap (packed_body d.0) same) in
           let ordered : Among r (of_type_p (packed c)) =
-              subst (Among r) (sym polygons_packed) (to_in_order (on p_polyid nat_cmp) (filter_map packed_p c.polygons) r listed) in
+          subst (Among r) (sym polygons_packed) (to_in_order (on p_polyid nat_cmp) (filter_map packed_p c.polygons) r listed) in
           among_known key_keys d.0 (map p_key (of_type_p (packed c))) (among-map p_key r (of_type_p (packed c)) ordered)
 
       go : (d : PolygonKey × Option BodyP) → Among d c.polygons
@@ -272,13 +280,13 @@ module _ (c : County) (is : IsCounty c) where
   pub few_polygons : IsApart key_cmp (map p_key (of_type_p (packed c)))
   few_polygons k =
       let ordered : times key_cmp k (map p_key (in_order (on p_polyid nat_cmp) (filter_map packed_p c.polygons))) ≡ times key_cmp k
-          (map p_key (filter_map packed_p c.polygons)) =
-          times-in_order key_cmp p_key (on p_polyid nat_cmp) (filter_map packed_p c.polygons) k in
+      (map p_key (filter_map packed_p c.polygons)) =
+      times-in_order key_cmp p_key (on p_polyid nat_cmp) (filter_map packed_p c.polygons) k in
       let few : times key_cmp k (map p_key (filter_map packed_p c.polygons)) ≤ times key_cmp k (polygon_keys c) =
-          few_packed_keys k c.polygons in
+      few_packed_keys k c.polygons in
       let one : times key_cmp k (polygon_keys c) ≤ 1 = apart_from_sorted key_keys (polygon_keys c) is.ascending.polygons k in
       subst (λ xs. times key_cmp k (map p_key xs) ≤ 1) (sym polygons_packed)
-          (let t : times key_cmp k (map p_key (in_order (on p_polyid nat_cmp) (filter_map packed_p c.polygons))) ≤ 1 = omega arith in t)
+      (let t : times key_cmp k (map p_key (in_order (on p_polyid nat_cmp) (filter_map packed_p c.polygons))) ≤ 1 = omega arith in t)
 
   -- where numbers are apart no rule on numbers that stand twice is broken
   once : (numbers known : List ℕ) → numbers ≡ known → IsApart nat_cmp known → (n : ℕ) → nat_lt 1 (times nat_cmp n numbers) ≡ false
@@ -289,8 +297,8 @@ module _ (c : County) (is : IsCounty c) where
   packed_linked (NoChain rtype tlid) =
       implied (stands_in nat_cmp tlid (linked_tlids rtype (packed c))) (stands_in nat_cmp tlid (chain_tlids (packed c)))
       (λ t. let known : Known nat_cmp (tlids c) tlid =
-          known_all nat_keys (Known nat_cmp (tlids c)) (linked_tlids rtype (packed c)) (all_linked rtype) tlid
-          (ltb-true 0 (times nat_cmp tlid (linked_tlids rtype (packed c))) t) in
+      known_all nat_keys (Known nat_cmp (tlids c)) (linked_tlids rtype (packed c)) (all_linked rtype) tlid
+      (ltb-true 0 (times nat_cmp tlid (linked_tlids rtype (packed c))) t) in
       ap (stands_in nat_cmp tlid) chain_numbers ∙ lt-ltb 0 (times nat_cmp tlid (tlids c)) known)
   packed_linked (SequenceBroken rtype tlid) = sequence rtype tlid
   packed_linked (LinkMissing tlid) =
@@ -302,30 +310,30 @@ module _ (c : County) (is : IsCounty c) where
   packed_linked (NameUnknown tlid feat) =
       implied (stands_in nat_cmp feat (named_feats tlid (packed c))) (stands_in nat_cmp feat (map five_feat (of_type_5 (packed c))))
       (λ t. ap (stands_in nat_cmp feat) name_numbers
-          ∙ known_all nat_keys (λ n. IsTrue (stands_in nat_cmp n (feats c))) (named_feats tlid (packed c)) (named tlid) feat
-          (ltb-true 0 (times nat_cmp feat (named_feats tlid (packed c))) t))
+      ∙ known_all nat_keys (λ n. IsTrue (stands_in nat_cmp n (feats c))) (named_feats tlid (packed c)) (named tlid) feat
+      (ltb-true 0 (times nat_cmp feat (named_feats tlid (packed c))) t))
   packed_linked (PolygonTwice cenid polyid) =
       le-ltb 1 (times key_cmp (cenid, polyid) (map p_key (of_type_p (packed c)))) (few_polygons (cenid, polyid))
   packed_linked (LandUnknown land) =
       implied (stands_in nat_cmp land (map eight_land (of_type_8 (packed c))))
       (stands_in nat_cmp land (map seven_land (of_type_7 (packed c))))
       (λ t. let known : Known nat_cmp (map eight_land c.links) land =
-          subst (λ xs. Known nat_cmp (map eight_land xs) land) eights
-          (ltb-true 0 (times nat_cmp land (map eight_land (of_type_8 (packed c)))) t) in
+      subst (λ xs. Known nat_cmp (map eight_land xs) land) eights
+      (ltb-true 0 (times nat_cmp land (map eight_land (of_type_8 (packed c)))) t) in
       let listed : IsTrue (stands_in nat_cmp land (lands c)) =
-          known_all nat_keys (λ n. IsTrue (stands_in nat_cmp n (lands c))) (map eight_land c.links)
-          (all_map (λ n. IsTrue (stands_in nat_cmp n (lands c))) eight_land c.links is.closed.link_lands) land known in
+      known_all nat_keys (λ n. IsTrue (stands_in nat_cmp n (lands c))) (map eight_land c.links)
+      (all_map (λ n. IsTrue (stands_in nat_cmp n (lands c))) eight_land c.links is.closed.link_lands) land known in
       lt-ltb 0 (times nat_cmp land (map seven_land (of_type_7 (packed c))))
-          (land_stands land (ltb-true 0 (times nat_cmp land (lands c)) listed)))
+      (land_stands land (ltb-true 0 (times nat_cmp land (lands c)) listed)))
   packed_linked (PolygonUnknown cenid polyid) =
       implied (stands_in key_cmp (cenid, polyid) (map eight_key (of_type_8 (packed c))))
       (stands_in key_cmp (cenid, polyid) (flat_map side_keys (of_type_i (packed c)) ++ map p_key (of_type_p (packed c))))
       (λ t. let known : Known key_cmp (map eight_key c.links) (cenid, polyid) =
-          subst (λ xs. Known key_cmp (map eight_key xs) (cenid, polyid)) eights
-          (ltb-true 0 (times key_cmp (cenid, polyid) (map eight_key (of_type_8 (packed c)))) t) in
+      subst (λ xs. Known key_cmp (map eight_key xs) (cenid, polyid)) eights
+      (ltb-true 0 (times key_cmp (cenid, polyid) (map eight_key (of_type_8 (packed c)))) t) in
       let listed : IsTrue (stands_in key_cmp (cenid, polyid) (polygon_keys c)) =
-          known_all key_keys (λ k. IsTrue (stands_in key_cmp k (polygon_keys c))) (map eight_key c.links)
-          (all_map (λ k. IsTrue (stands_in key_cmp k (polygon_keys c))) eight_key c.links is.closed.link_polygons) (cenid, polyid) known in
+      known_all key_keys (λ k. IsTrue (stands_in key_cmp k (polygon_keys c))) (map eight_key c.links)
+      (all_map (λ k. IsTrue (stands_in key_cmp k (polygon_keys c))) eight_key c.links is.closed.link_polygons) (cenid, polyid) known in
       lt-ltb 0 (times key_cmp (cenid, polyid) (flat_map side_keys (of_type_i (packed c)) ++ map p_key (of_type_p (packed c))))
-          (key_stands (cenid, polyid) (ltb-true 0 (times key_cmp (cenid, polyid) (polygon_keys c)) listed)))
+      (key_stands (cenid, polyid) (ltb-true 0 (times key_cmp (cenid, polyid) (polygon_keys c)) listed)))
   packed_linked Memory = refl

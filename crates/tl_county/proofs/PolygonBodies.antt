@@ -30,9 +30,9 @@ pub body_found : (r : FieldsP) (rs : List FieldsP) → IsApart key_cmp (map p_ke
 body_found r [] a m = absurd m
 body_found r (q ∷ rs) a (inl e) =
     let yes : is_eq (key_cmp (p_key r) (p_key q)) ≡ true =
-        subst (λ s. is_eq (key_cmp (p_key r) (p_key s)) ≡ true) e (same-itself key_keys (p_key r)) in
+    subst (λ s. is_eq (key_cmp (p_key r) (p_key s)) ≡ true) e (same-itself key_keys (p_key r)) in
     ap (λ b. first (map (λ (s : FieldsP). s.body) (cond b (q ∷ filter (λ s. is_eq (key_cmp (p_key r) (p_key s))) rs)
-        (filter (λ s. is_eq (key_cmp (p_key r) (p_key s))) rs)))) yes ∙ ap (λ (s : FieldsP). Some s.body) (sym e)
+    (filter (λ s. is_eq (key_cmp (p_key r) (p_key s))) rs)))) yes ∙ ap (λ (s : FieldsP). Some s.body) (sym e)
 body_found r (q ∷ rs) a (inr m) =
     go (same_or_not key_keys (p_key r) (p_key q)) (body_found r rs (apart_tail key_keys (p_key q) (map p_key rs) a) m)
   where
@@ -42,7 +42,7 @@ body_found r (q ∷ rs) a (inr m) =
     go (inl e) ih = absurd (
         let l : Known key_cmp (map p_key rs) (p_key r) = among_known key_keys (p_key r) (map p_key rs) (among-map p_key r rs m) in
         let t : times key_cmp (p_key r) (p_key q ∷ map p_key rs) ≡ suc (times key_cmp (p_key r) (map p_key rs)) =
-            times-yes key_keys (p_key r) (p_key q) (map p_key rs) e in
+        times-yes key_keys (p_key r) (p_key q) (map p_key rs) e in
         let u : times key_cmp (p_key r) (map p_key (q ∷ rs)) ≤ 1 = a (p_key r) in
         omega arith)
     go (inr ne) ih = ap (λ b. first (map (λ (s : FieldsP). s.body)

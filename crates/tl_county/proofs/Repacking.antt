@@ -33,13 +33,13 @@ module _ (xs ys : List Record) (s : AreRepacked xs ys) where
   chains_same : chains_of xs ≡ chains_of ys
   chains_same =
       flat_map_agree (λ r. map (λ link. (r.tlid, chain_of xs r link)) (of_number i_tlid r.tlid (of_type_i xs)))
-          (λ r. map (λ link. (r.tlid, chain_of ys r link)) (of_number i_tlid r.tlid (of_type_i ys)))
+      (λ r. map (λ link. (r.tlid, chain_of ys r link)) (of_number i_tlid r.tlid (of_type_i ys)))
       (λ r. map_agree_everywhere (λ link. (r.tlid, chain_of xs r link)) (λ link. (r.tlid, chain_of ys r link))
-          (λ link i. (r.tlid, chain_same r link i)) (of_number i_tlid r.tlid (of_type_i xs))
-          ∙ ap (λ ls. map (λ link. (r.tlid, chain_of ys r link)) (of_number i_tlid r.tlid ls)) s.of_type_i)
+      (λ link i. (r.tlid, chain_same r link i)) (of_number i_tlid r.tlid (of_type_i xs))
+      ∙ ap (λ ls. map (λ link. (r.tlid, chain_of ys r link)) (of_number i_tlid r.tlid ls)) s.of_type_i)
       (in_order (on one_tlid nat_cmp) (of_type_1 xs))
       ∙ ap (λ rs. flat_map (λ r. map (λ link. (r.tlid, chain_of ys r link)) (of_number i_tlid r.tlid (of_type_i ys)))
-          (in_order (on one_tlid nat_cmp) rs)) s.of_type_1
+      (in_order (on one_tlid nat_cmp) rs)) s.of_type_1
 
   polygons_same : polygons_of xs ≡ polygons_of ys
   polygons_same = ap₂ (λ ls qs. map (λ k. (k, first (map (λ (q : FieldsP). q.body) (filter (λ q. is_eq (key_cmp k (p_key q))) qs))))
@@ -133,10 +133,10 @@ sequence_kept {X} tlid rtsq f new kt kr n xs up =
     ap (in_order (on rtsq nat_cmp)) (number-kept tlid f kt n xs)
     ∙ order-changed (on rtsq nat_cmp) f (λ x. (tlid x ≡ n) × Stands rtsq (of_number tlid n xs) (rtsq x))
     (λ x y p q. ap is_gt (ap₂ nat_cmp (kr x ∙ ap (λ m. new m (rtsq x)) p.0) (kr y ∙ ap (λ m. new m (rtsq y)) q.0))
-        ∙ rising (new n) (rtsq x) (rtsq y) (up (rtsq x) (rtsq y) p.1 q.1) (up (rtsq y) (rtsq x) q.1 p.1))
+    ∙ rising (new n) (rtsq x) (rtsq y) (up (rtsq x) (rtsq y) p.1 q.1) (up (rtsq y) (rtsq x) q.1 p.1))
     (of_number tlid n xs)
     (all_both (λ x. tlid x ≡ n) (λ x. Stands rtsq (of_number tlid n xs) (rtsq x)) (of_number tlid n xs)
-        (of_number-all tlid n xs) (all_standing rtsq (of_number tlid n xs)))
+    (of_number-all tlid n xs) (all_standing rtsq (of_number tlid n xs)))
 
 flat_map-kept : {X Y : Type 0} (c : X → List Y) (f : X → X) → ((x : X) → c (f x) ≡ c x) → (xs : List X)
     → flat_map c (map f xs) ≡ flat_map c xs
@@ -198,19 +198,19 @@ module _ (q : Sequence) (xs : List Record) (up : KeepsSequence q xs) where
     points = λ n. ap (λ rs. flat_map (λ (r : Fields2). r.points) (in_order (on two_rtsq nat_cmp) (of_number two_tlid n rs)))
         (select-changed as_type_2 (resequenced q) new_two news_two xs)
         ∙ ap (flat_map (λ (r : Fields2). r.points))
-            (sequence_kept two_tlid two_rtsq new_two (q Type2) (λ r. refl) (λ r. refl) n (of_type_2 xs) (up Type2 n))
+        (sequence_kept two_tlid two_rtsq new_two (q Type2) (λ r. refl) (λ r. refl) n (of_type_2 xs) (up Type2 n))
         ∙ flat_map-kept (λ (r : Fields2). r.points) new_two (λ r. refl)
-            (in_order (on two_rtsq nat_cmp) (of_number two_tlid n (of_type_2 xs)));
+        (in_order (on two_rtsq nat_cmp) (of_number two_tlid n (of_type_2 xs)));
     names = λ n. ap (λ rs. flat_map (λ (r : Fields4). r.feats) (in_order (on four_rtsq nat_cmp) (of_number four_tlid n rs)))
         (select-changed as_type_4 (resequenced q) new_four news_four xs)
         ∙ ap (flat_map (λ (r : Fields4). r.feats))
-            (sequence_kept four_tlid four_rtsq new_four (q Type4) (λ r. refl) (λ r. refl) n (of_type_4 xs) (up Type4 n))
+        (sequence_kept four_tlid four_rtsq new_four (q Type4) (λ r. refl) (λ r. refl) n (of_type_4 xs) (up Type4 n))
         ∙ flat_map-kept (λ (r : Fields4). r.feats) new_four (λ r. refl)
-            (in_order (on four_rtsq nat_cmp) (of_number four_tlid n (of_type_4 xs)));
+        (in_order (on four_rtsq nat_cmp) (of_number four_tlid n (of_type_4 xs)));
     ranges = λ n. ap (λ rs. map (λ (r : Fields6). r.ranges) (in_order (on six_rtsq nat_cmp) (of_number six_tlid n rs)))
         (select-changed as_type_6 (resequenced q) new_six news_six xs)
         ∙ ap (map (λ (r : Fields6). r.ranges)) (sequence_kept six_tlid six_rtsq new_six (q Type6) (λ r. refl) (λ r. refl) n
-            (of_type_6 xs) (up Type6 n))
+        (of_type_6 xs) (up Type6 n))
         ∙ map-map (λ (r : Fields6). r.ranges) new_six (in_order (on six_rtsq nat_cmp) (of_number six_tlid n (of_type_6 xs)));
     of_type_1 = select-kept as_type_1 (resequenced q) keeps_one xs;
     of_type_5 = select-kept as_type_5 (resequenced q) keeps_five xs;

@@ -138,7 +138,7 @@ has_place records Memory b = absurd (false≢true b)
 place_among : (records : List Record) (f : LinkFault) → is_broken records f ≡ true → Among (rule_place f) places
 place_among records f b =
     let found : (n : ℕ) × Among n places × ((n == rule_place f) ≡ true) =
-        any_among (λ n. n == rule_place f) places (has_place records f b) in
+    any_among (λ n. n == rule_place f) places (has_place records f b) in
     subst (λ n. Among n places) (eqb-true found.0 (rule_place f) found.2) found.1
 
 -- whether the one comes before the other at the first place where they differ, before either ends
@@ -177,12 +177,12 @@ earlier_rule : (records : List Record) (f g : LinkFault) → is_broken records f
     → rule_place f < rule_place g → is_gt (place_cmp (fault_place f) (fault_place g)) ≡ false
 earlier_rule records f g b d lt =
     let row = all_of (λ m. list_all (λ n. not (nat_lt m n) || comes_before (head_of_rule m) (head_of_rule n)) places) places rules_ascend
-        (rule_place f) (place_among records f b) in
+    (rule_place f) (place_among records f b) in
     let at = all_of (λ n. not (nat_lt (rule_place f) n) || comes_before (head_of_rule (rule_place f)) (head_of_rule n)) places row
-        (rule_place g) (place_among records g d) in
+    (rule_place g) (place_among records g d) in
     let less : place_cmp (head_of_rule (rule_place f) ++ key_place f) (head_of_rule (rule_place g) ++ key_place g) ≡ Less =
     before-less (head_of_rule (rule_place f)) (head_of_rule (rule_place g)) (key_place f) (key_place g)
-        (go (nat_lt (rule_place f) (rule_place g)) (lt-ltb (rule_place f) (rule_place g) lt) at) in
+    (go (nat_lt (rule_place f) (rule_place g)) (lt-ltb (rule_place f) (rule_place g) lt) at) in
     (λ i. is_gt (place_cmp (place-split f i) (place-split g i))) ∙ ap is_gt less
   where
     go : (b : Bool) → b ≡ true → (not b || comes_before (head_of_rule (rule_place f)) (head_of_rule (rule_place g))) ≡ true
@@ -224,8 +224,8 @@ module _ {K : Type 0} {cmp : K → K → Ordering} {test : K → Bool} {records 
               let le : rule_place g ≤ n = ltb-false n (rule_place g) e in
               let same : g ≡ at (rule.key (key_place g)) = fault_at_key g (omega (arith, low)) in
               ap (λ f. is_gt (place_cmp (fault_place (at k)) (fault_place f))) same
-                  ∙ rule.order k (rule.key (key_place g))
-                  (h.1 (rule.key (key_place g)) (sym (rule.broken (rule.key (key_place g))) ∙ ap (is_broken records) (sym same) ∙ b))
+              ∙ rule.order k (rule.key (key_place g))
+              (h.1 (rule.key (key_place g)) (sym (rule.broken (rule.key (key_place g))) ∙ ap (is_broken records) (sym same) ∙ b))
 
 pub rules-join : (records : List Record) {low mid high : ℕ} → RulesHold records low mid → RulesHold records mid high
     → RulesHold records low high

@@ -62,9 +62,11 @@ first_order Greater b e = e
 pub in_order-first : {X : Type 0} (first next : X → X → Ordering) (xs : List X) → IsInOrder (λ x y. ordering_then (first x y) (next x y)) xs
     → IsInOrder first xs
 in_order-first first next [] h = tt
-in_order-first first next (x ∷ xs) h =
-    (all_weaker (λ y. is_gt (ordering_then (first x y) (next x y)) ≡ false) (λ y. is_gt (first x y) ≡ false)
-    (λ y e. first_order (first x y) (next x y) e) xs h.0, in_order-first first next xs h.1)
+in_order-first first next (x ∷ xs) h = (
+  all_weaker (λ y. is_gt (ordering_then (first x y) (next x y)) ≡ false) (λ y. is_gt (first x y) ≡ false)
+      (λ y e. first_order (first x y) (next x y) e) xs h.0,
+  in_order-first first next xs h.1,
+)
 
 pub sequence_keys : IsKeyOrder sequence_cmp
 sequence_keys = pair_keys nat_keys nat_keys
@@ -90,7 +92,7 @@ module _ {X : Type 0} (f g : X → ℕ) where
       go (inr ne) ih =
           times-no sequence_keys (n, m) (f x, g x) (map (λ y. (f y, g y)) xs) (other ne) ∙ ih
           ∙ ap (λ b. times nat_cmp m (map g (cond b (x ∷ of_number f n xs) (of_number f n xs))))
-              (sym (ne_eqb (f x) n (λ e. false≢true (sym ne ∙ subst (λ k. is_eq (nat_cmp n k) ≡ true) (sym e) (same-itself nat_keys n)))))
+          (sym (ne_eqb (f x) n (λ e. false≢true (sym ne ∙ subst (λ k. is_eq (nat_cmp n k) ≡ true) (sym e) (same-itself nat_keys n)))))
       go (inl e) ih = here (same_or_not nat_keys m (g x))
           ∙ ap (λ b. times nat_cmp m (map g (cond b (x ∷ of_number f n xs) (of_number f n xs)))) (sym (eq-eqb (f x) n (sym e)))
         where
@@ -116,24 +118,29 @@ module _ {X : Type 0} (f g : X → ℕ) where
     where
       go : (stands_in nat_cmp k ks ≡ true) ⊎ (has_repeat nat_cmp ks ≡ true)
           → (has_repeat nat_cmp ks ≡ true → (m : ℕ) × (1 < times nat_cmp m ks)) → (m : ℕ) × (1 < times nat_cmp m (k ∷ ks))
-      go (inl s) ih = (k, (let some : 0 < times nat_cmp k ks = ltb-true 0 (times nat_cmp k ks) s in
-          omega (arith, times-yes nat_keys k k ks refl)))
+      go (inl s) ih = (
+        k,
+        (let some : 0 < times nat_cmp k ks = ltb-true 0 (times nat_cmp k ks) s in
+            omega (arith, times-yes nat_keys k k ks refl)),
+      )
       go (inr r) ih = let found : (m : ℕ) × (1 < times nat_cmp m ks) = ih r in
           (found.0, omega (arith, times-cons nat_keys found.0 k ks, found.1))
 
   -- the least pair that stands twice has the least number under which something stands twice
   pub least-repeat : (n m : ℕ) (xs : List X) → IsLeastPassing sequence_cmp (is_repeated sequence_cmp (map (λ x. (f x, g x)) xs))
       (Some (n, m)) → IsLeastPassing nat_cmp (λ k. has_repeat nat_cmp (map g (of_number f k xs))) (Some n)
-  least-repeat n m xs h =
-      (repeat_from m (map g (of_number f n xs)) (let t : 1 < times sequence_cmp (n, m) (map (λ x. (f x, g x)) xs) =
-      ltb-true 1 (times sequence_cmp (n, m) (map (λ x. (f x, g x)) xs)) h.0 in omega (arith, times-pair n m xs)), least)
+  least-repeat n m xs h = (
+    repeat_from m (map g (of_number f n xs)) (let t : 1 < times sequence_cmp (n, m) (map (λ x. (f x, g x)) xs) =
+        ltb-true 1 (times sequence_cmp (n, m) (map (λ x. (f x, g x)) xs)) h.0 in omega (arith, times-pair n m xs)),
+    least,
+  )
     where
       least : (k : ℕ) → has_repeat nat_cmp (map g (of_number f k xs)) ≡ true → is_gt (nat_cmp n k) ≡ false
       least k e =
           let found : (j : ℕ) × (1 < times nat_cmp j (map g (of_number f k xs))) = repeated_in (map g (of_number f k xs)) e in
           first_order (nat_cmp n k) (nat_cmp m found.0)
-              (h.1 (k, found.0)
-              (lt-ltb 1 (times sequence_cmp (k, found.0) (map (λ x. (f x, g x)) xs)) (omega (arith, found.1, times-pair k found.0 xs))))
+          (h.1 (k, found.0)
+          (lt-ltb 1 (times sequence_cmp (k, found.0) (map (λ x. (f x, g x)) xs)) (omega (arith, found.1, times-pair k found.0 xs))))
 
   pub no_repeat : (xs : List X) → IsLeastPassing sequence_cmp (is_repeated sequence_cmp (map (λ x. (f x, g x)) xs)) None
       → IsLeastPassing nat_cmp (λ k. has_repeat nat_cmp (map g (of_number f k xs))) None
@@ -144,7 +151,7 @@ module _ {X : Type 0} (f g : X → ℕ) where
       go true e =
           let found : (j : ℕ) × (1 < times nat_cmp j (map g (of_number f k xs))) = repeated_in (map g (of_number f k xs)) e in
           absurd (false≢true (sym (h (k, found.0))
-              ∙ lt-ltb 1 (times sequence_cmp (k, found.0) (map (λ x. (f x, g x)) xs)) (omega (arith, found.1, times-pair k found.0 xs))))
+          ∙ lt-ltb 1 (times sequence_cmp (k, found.0) (map (λ x. (f x, g x)) xs)) (omega (arith, found.1, times-pair k found.0 xs))))
 
 -- a use stands in all as often as its FEAT among those of its chain
 pub times-uses : (n y : ℕ) (rs : List Fields4) → times sequence_cmp (n, y) (flat_map uses_of rs) ≡ times nat_cmp y
@@ -184,12 +191,12 @@ times-uses n y (r ∷ rs) =
         (λ i. own r.tlid e r.feats i + ih i)
         ∙ sym (times-append nat_keys y r.feats (flat_map (λ (q : Fields4). q.feats) (of_number four_tlid n rs)))
         ∙ ap (λ b. times nat_cmp y (flat_map (λ (q : Fields4). q.feats) (cond b (r ∷ of_number four_tlid n rs) (of_number four_tlid n rs))))
-            (sym (eq-eqb r.tlid n (sym e)))
+        (sym (eq-eqb r.tlid n (sym e)))
     go (inr ne) ih =
         (λ i. none r.tlid ne r.feats i + ih i)
         ∙ zero-add (times nat_cmp y (flat_map (λ (q : Fields4). q.feats) (of_number four_tlid n rs)))
         ∙ ap (λ b. times nat_cmp y (flat_map (λ (q : Fields4). q.feats) (cond b (r ∷ of_number four_tlid n rs) (of_number four_tlid n rs))))
-            (sym (ne_eqb r.tlid n (λ e. false≢true (sym ne ∙ subst (λ k. is_eq (nat_cmp n k) ≡ true) (sym e) (same-itself nat_keys n)))))
+        (sym (ne_eqb r.tlid n (λ e. false≢true (sym ne ∙ subst (λ k. is_eq (nat_cmp n k) ≡ true) (sym e) (same-itself nat_keys n)))))
 
 -- the first use is of a FEAT that no name has
 pub unnamed-first : (first : ℕ × ℕ) (later : List (ℕ × ℕ)) (feats : List ℕ) → IsInOrder sequence_cmp (first ∷ later)
@@ -221,60 +228,132 @@ unknown-distinct keys others known p key = (λ i. nat_lt 0 (times-permutation ke
 
 module _ (records : List Record) (t : Typed) (e : by_type records ≡ t) where
   pub rule_11 : IsRule nat_cmp (is_repeated nat_cmp (map one_tlid t.of_type_1)) records 0 ChainTwice
-  rule_11 = record { broken = λ k. ap (λ (u : Typed). nat_lt 1 (times nat_cmp k (map one_tlid u.of_type_1))) e; place = λ k. refl; key =
-      λ p. number p 0; only = λ p. refl; order = λ k j h. single (nat_cmp k j) h }
+  rule_11 = record {
+    broken = λ k. ap (λ (u : Typed). nat_lt 1 (times nat_cmp k (map one_tlid u.of_type_1))) e;
+    place = λ k. refl;
+    key =
+        λ p. number p 0;
+    only = λ p. refl;
+    order = λ k j h. single (nat_cmp k j) h;
+  }
 
   pub rule_12_two : IsRule nat_cmp (is_unknown nat_cmp (map two_tlid t.of_type_2) (map one_tlid t.of_type_1)) records 1 (NoChain Two)
-  rule_12_two = record { broken =
-      λ k. ap (λ (u : Typed). is_unknown nat_cmp (map two_tlid u.of_type_2) (map one_tlid u.of_type_1) k) e; place = λ k. refl; key =
-      λ p. number p 0; only = λ p. refl; order = λ k j h. single (nat_cmp k j) h }
+  rule_12_two = record {
+    broken =
+        λ k. ap (λ (u : Typed). is_unknown nat_cmp (map two_tlid u.of_type_2) (map one_tlid u.of_type_1) k) e;
+    place = λ k. refl;
+    key =
+        λ p. number p 0;
+    only = λ p. refl;
+    order = λ k j h. single (nat_cmp k j) h;
+  }
 
   pub rule_12_four : IsRule nat_cmp (is_unknown nat_cmp (map four_tlid t.of_type_4) (map one_tlid t.of_type_1)) records 2 (NoChain Four)
-  rule_12_four = record { broken =
-      λ k. ap (λ (u : Typed). is_unknown nat_cmp (map four_tlid u.of_type_4) (map one_tlid u.of_type_1) k) e; place = λ k. refl; key =
-      λ p. number p 0; only = λ p. refl; order = λ k j h. single (nat_cmp k j) h }
+  rule_12_four = record {
+    broken =
+        λ k. ap (λ (u : Typed). is_unknown nat_cmp (map four_tlid u.of_type_4) (map one_tlid u.of_type_1) k) e;
+    place = λ k. refl;
+    key =
+        λ p. number p 0;
+    only = λ p. refl;
+    order = λ k j h. single (nat_cmp k j) h;
+  }
 
   pub rule_12_six : IsRule nat_cmp (is_unknown nat_cmp (map six_tlid t.of_type_6) (map one_tlid t.of_type_1)) records 3 (NoChain Six)
-  rule_12_six = record { broken =
-      λ k. ap (λ (u : Typed). is_unknown nat_cmp (map six_tlid u.of_type_6) (map one_tlid u.of_type_1) k) e; place = λ k. refl; key =
-      λ p. number p 0; only = λ p. refl; order = λ k j h. single (nat_cmp k j) h }
+  rule_12_six = record {
+    broken =
+        λ k. ap (λ (u : Typed). is_unknown nat_cmp (map six_tlid u.of_type_6) (map one_tlid u.of_type_1) k) e;
+    place = λ k. refl;
+    key =
+        λ p. number p 0;
+    only = λ p. refl;
+    order = λ k j h. single (nat_cmp k j) h;
+  }
 
   pub rule_12_i : IsRule nat_cmp (is_unknown nat_cmp (map i_tlid t.of_type_i) (map one_tlid t.of_type_1)) records 4 (NoChain I)
-  rule_12_i = record { broken = λ k. ap (λ (u : Typed). is_unknown nat_cmp (map i_tlid u.of_type_i) (map one_tlid u.of_type_1) k) e; place =
-      λ k. refl; key = λ p. number p 0; only = λ p. refl; order = λ k j h. single (nat_cmp k j) h }
+  rule_12_i = record {
+    broken = λ k. ap (λ (u : Typed). is_unknown nat_cmp (map i_tlid u.of_type_i) (map one_tlid u.of_type_1) k) e;
+    place =
+        λ k. refl;
+    key = λ p. number p 0;
+    only = λ p. refl;
+    order = λ k j h. single (nat_cmp k j) h;
+  }
 
   pub rule_13_two : IsRule nat_cmp (λ k. has_repeat nat_cmp (map two_rtsq (of_number two_tlid k t.of_type_2))) records 5
       (SequenceBroken Two)
-  rule_13_two = record { broken = λ k. ap (λ (u : Typed). has_repeat nat_cmp (map two_rtsq (of_number two_tlid k u.of_type_2))) e; place =
-      λ k. refl; key = λ p. number p 0; only = λ p. refl; order = λ k j h. single (nat_cmp k j) h }
+  rule_13_two = record {
+    broken = λ k. ap (λ (u : Typed). has_repeat nat_cmp (map two_rtsq (of_number two_tlid k u.of_type_2))) e;
+    place =
+        λ k. refl;
+    key = λ p. number p 0;
+    only = λ p. refl;
+    order = λ k j h. single (nat_cmp k j) h;
+  }
 
   pub rule_13_four : IsRule nat_cmp (λ k. has_repeat nat_cmp (map four_rtsq (of_number four_tlid k t.of_type_4))) records 6
       (SequenceBroken Four)
-  rule_13_four = record { broken =
-      λ k. ap (λ (u : Typed). has_repeat nat_cmp (map four_rtsq (of_number four_tlid k u.of_type_4))) e; place = λ k. refl; key =
-      λ p. number p 0; only = λ p. refl; order = λ k j h. single (nat_cmp k j) h }
+  rule_13_four = record {
+    broken =
+        λ k. ap (λ (u : Typed). has_repeat nat_cmp (map four_rtsq (of_number four_tlid k u.of_type_4))) e;
+    place = λ k. refl;
+    key =
+        λ p. number p 0;
+    only = λ p. refl;
+    order = λ k j h. single (nat_cmp k j) h;
+  }
 
   pub rule_13_six : IsRule nat_cmp (λ k. has_repeat nat_cmp (map six_rtsq (of_number six_tlid k t.of_type_6))) records 7
       (SequenceBroken Six)
-  rule_13_six = record { broken = λ k. ap (λ (u : Typed). has_repeat nat_cmp (map six_rtsq (of_number six_tlid k u.of_type_6))) e; place =
-      λ k. refl; key = λ p. number p 0; only = λ p. refl; order = λ k j h. single (nat_cmp k j) h }
+  rule_13_six = record {
+    broken = λ k. ap (λ (u : Typed). has_repeat nat_cmp (map six_rtsq (of_number six_tlid k u.of_type_6))) e;
+    place =
+        λ k. refl;
+    key = λ p. number p 0;
+    only = λ p. refl;
+    order = λ k j h. single (nat_cmp k j) h;
+  }
 
   -- no record of type I has an RTSQ
   pub rule_13_i : IsRule nat_cmp (λ k. false) records 8 (SequenceBroken I)
-  rule_13_i = record { broken = λ k. refl; place = λ k. refl; key = λ p. number p 0; only = λ p. refl; order =
-      λ k j h. single (nat_cmp k j) h }
+  rule_13_i = record {
+    broken = λ k. refl;
+    place = λ k. refl;
+    key = λ p. number p 0;
+    only = λ p. refl;
+    order =
+        λ k j h. single (nat_cmp k j) h;
+  }
 
   pub rule_14 : IsRule nat_cmp (is_unknown nat_cmp (map one_tlid t.of_type_1) (map i_tlid t.of_type_i)) records 9 LinkMissing
-  rule_14 = record { broken = λ k. ap (λ (u : Typed). is_unknown nat_cmp (map one_tlid u.of_type_1) (map i_tlid u.of_type_i) k) e; place =
-      λ k. refl; key = λ p. number p 0; only = λ p. refl; order = λ k j h. single (nat_cmp k j) h }
+  rule_14 = record {
+    broken = λ k. ap (λ (u : Typed). is_unknown nat_cmp (map one_tlid u.of_type_1) (map i_tlid u.of_type_i) k) e;
+    place =
+        λ k. refl;
+    key = λ p. number p 0;
+    only = λ p. refl;
+    order = λ k j h. single (nat_cmp k j) h;
+  }
 
   pub rule_15 : IsRule nat_cmp (is_repeated nat_cmp (map i_tlid t.of_type_i)) records 10 LinkTwice
-  rule_15 = record { broken = λ k. ap (λ (u : Typed). is_repeated nat_cmp (map i_tlid u.of_type_i) k) e; place = λ k. refl; key =
-      λ p. number p 0; only = λ p. refl; order = λ k j h. single (nat_cmp k j) h }
+  rule_15 = record {
+    broken = λ k. ap (λ (u : Typed). is_repeated nat_cmp (map i_tlid u.of_type_i) k) e;
+    place = λ k. refl;
+    key =
+        λ p. number p 0;
+    only = λ p. refl;
+    order = λ k j h. single (nat_cmp k j) h;
+  }
 
   pub rule_16 : IsRule nat_cmp (is_repeated nat_cmp (map five_feat t.of_type_5)) records 11 NameTwice
-  rule_16 = record { broken = λ k. ap (λ (u : Typed). is_repeated nat_cmp (map five_feat u.of_type_5) k) e; place = λ k. refl; key =
-      λ p. number p 0; only = λ p. refl; order = λ k j h. single (nat_cmp k j) h }
+  rule_16 = record {
+    broken = λ k. ap (λ (u : Typed). is_repeated nat_cmp (map five_feat u.of_type_5) k) e;
+    place = λ k. refl;
+    key =
+        λ p. number p 0;
+    only = λ p. refl;
+    order = λ k j h. single (nat_cmp k j) h;
+  }
 
   pub rule_17 : IsRule sequence_cmp (is_unnamed (flat_map uses_of t.of_type_4) (map five_feat t.of_type_5)) records 12
       (λ pair. NameUnknown pair.0 pair.1)
@@ -290,17 +369,34 @@ module _ (records : List Record) (t : Typed) (e : by_type records ≡ t) where
   }
 
   pub rule_18 : IsRule key_cmp (is_repeated key_cmp (map p_key t.of_type_p)) records 13 (λ key. PolygonTwice key.0 key.1)
-  rule_18 = record { broken = λ k. ap (λ (u : Typed). is_repeated key_cmp (map p_key u.of_type_p) k) e; place = λ k. refl; key =
-      λ p. (part p 0, number p 1); only = λ p. refl; order = λ k j h. keyed (bytes_cmp k.0 j.0) (nat_cmp k.1 j.1) h }
+  rule_18 = record {
+    broken = λ k. ap (λ (u : Typed). is_repeated key_cmp (map p_key u.of_type_p) k) e;
+    place = λ k. refl;
+    key =
+        λ p. (part p 0, number p 1);
+    only = λ p. refl;
+    order = λ k j h. keyed (bytes_cmp k.0 j.0) (nat_cmp k.1 j.1) h;
+  }
 
   pub rule_19 : IsRule nat_cmp (is_unknown nat_cmp (map eight_land t.of_type_8) (map seven_land t.of_type_7)) records 14 LandUnknown
-  rule_19 = record { broken =
-      λ k. ap (λ (u : Typed). is_unknown nat_cmp (map eight_land u.of_type_8) (map seven_land u.of_type_7) k) e; place = λ k. refl; key =
-      λ p. number p 0; only = λ p. refl; order = λ k j h. single (nat_cmp k j) h }
+  rule_19 = record {
+    broken =
+        λ k. ap (λ (u : Typed). is_unknown nat_cmp (map eight_land u.of_type_8) (map seven_land u.of_type_7) k) e;
+    place = λ k. refl;
+    key =
+        λ p. number p 0;
+    only = λ p. refl;
+    order = λ k j h. single (nat_cmp k j) h;
+  }
 
   pub rule_20 : IsRule key_cmp (is_unknown key_cmp (map eight_key t.of_type_8)
       (flat_map side_keys t.of_type_i ++ map p_key t.of_type_p)) records 15 (λ key. PolygonUnknown key.0 key.1)
-  rule_20 = record { broken =
-      λ k. ap (λ (u : Typed). is_unknown key_cmp (map eight_key u.of_type_8) (flat_map side_keys u.of_type_i ++ map p_key u.of_type_p) k) e;
-      place = λ k. refl; key = λ p. (part p 0, number p 1); only = λ p. refl; order =
-      λ k j h. keyed (bytes_cmp k.0 j.0) (nat_cmp k.1 j.1) h }
+  rule_20 = record {
+    broken =
+        λ k. ap (λ (u : Typed). is_unknown key_cmp (map eight_key u.of_type_8) (flat_map side_keys u.of_type_i ++ map p_key u.of_type_p) k) e;
+    place = λ k. refl;
+    key = λ p. (part p 0, number p 1);
+    only = λ p. refl;
+    order =
+        λ k j h. keyed (bytes_cmp k.0 j.0) (nat_cmp k.1 j.1) h;
+  }

@@ -96,13 +96,13 @@ module _ (xs ys : List Record) (p : IsPermutation xs ys) (linked : IsLinked xs) 
   named_alike : (n y : ℕ) → stands_in nat_cmp y (named_feats n ys) ≡ stands_in nat_cmp y (named_feats n xs)
   named_alike n y = stands_alike nat_keys (named_feats n ys) (named_feats n xs) y
       (λ k. let r = among-unpieces (λ (q : Fields4). q.feats) y (of_number four_tlid n (of_type_4 ys))
-          (known_is_among nat_keys y (named_feats n ys) k) in
-          among_known nat_keys y (named_feats n xs)
-          (among-pieces (λ (q : Fields4). q.feats) r.0 y (of_number four_tlid n (of_type_4 xs)) ((s_fours_of n).back r.0 r.1) r.2))
+      (known_is_among nat_keys y (named_feats n ys) k) in
+      among_known nat_keys y (named_feats n xs)
+      (among-pieces (λ (q : Fields4). q.feats) r.0 y (of_number four_tlid n (of_type_4 xs)) ((s_fours_of n).back r.0 r.1) r.2))
       (λ k. let r = among-unpieces (λ (q : Fields4). q.feats) y (of_number four_tlid n (of_type_4 xs))
-          (known_is_among nat_keys y (named_feats n xs) k) in
-          among_known nat_keys y (named_feats n ys)
-          (among-pieces (λ (q : Fields4). q.feats) r.0 y (of_number four_tlid n (of_type_4 ys)) ((s_fours_of n).there r.0 r.1) r.2))
+      (known_is_among nat_keys y (named_feats n xs) k) in
+      among_known nat_keys y (named_feats n ys)
+      (among-pieces (λ (q : Fields4). q.feats) r.0 y (of_number four_tlid n (of_type_4 ys)) ((s_fours_of n).there r.0 r.1) r.2))
 
   -- the polygons on sides and of type P
   one_way : (zs ws : List Record) → ((l : FieldsI) → Among l (of_type_i zs) → Among l (of_type_i ws))
@@ -131,7 +131,7 @@ module _ (xs ys : List Record) (p : IsPermutation xs ys) (linked : IsLinked xs) 
       → has_repeat nat_cmp (map g (of_number f n us)) ≡ false → has_repeat nat_cmp (map g (of_number f n vs)) ≡ false
   repeat_same f g n us vs s e = has_repeat-apart nat_keys (map g (of_number f n vs))
       (apart-same nat_cmp (map g (of_number f n us)) (map g (of_number f n vs))
-          (same-map g (of_number f n us) (of_number f n vs) (same-filter (λ x. f x == n) us vs s))
+      (same-map g (of_number f n us) (of_number f n vs) (same-filter (λ x. f x == n) us vs s))
       (apart_from_no_repeat nat_keys (map g (of_number f n us)) e))
 
   sequence_same : (t : LinkedType) (n : ℕ) → has_repeat nat_cmp (rtsqs t n xs) ≡ false → has_repeat nat_cmp (rtsqs t n ys) ≡ false
@@ -180,48 +180,54 @@ module _ (xs ys : List Record) (p : IsPermutation xs ys) (linked : IsLinked xs) 
   links_same : (n : ℕ) → of_number i_tlid n (of_type_i xs) ≡ of_number i_tlid n (of_type_i ys)
   links_same n = few_same (of_number i_tlid n (of_type_i xs)) (of_number i_tlid n (of_type_i ys))
       (let t : times nat_cmp n (map i_tlid (of_type_i xs)) ≡ length (of_number i_tlid n (of_type_i xs)) =
-          times-of_number i_tlid n (of_type_i xs) in
+      times-of_number i_tlid n (of_type_i xs) in
       let u : times nat_cmp n (map i_tlid (of_type_i xs)) ≤ 1 =
-          ltb-false 1 (times nat_cmp n (map i_tlid (of_type_i xs))) (linked (LinkTwice n)) in omega arith)
+      ltb-false 1 (times nat_cmp n (map i_tlid (of_type_i xs))) (linked (LinkTwice n)) in omega arith)
       (same-filter (λ l. l.tlid == n) (of_type_i xs) (of_type_i ys) s_is)
 
   chains_same : chains_of xs ≡ chains_of ys
   chains_same =
       flat_map_agree (λ r. map (λ link. (r.tlid, chain_of xs r link)) (of_number i_tlid r.tlid (of_type_i xs)))
-          (λ r. map (λ link. (r.tlid, chain_of ys r link)) (of_number i_tlid r.tlid (of_type_i ys)))
+      (λ r. map (λ link. (r.tlid, chain_of ys r link)) (of_number i_tlid r.tlid (of_type_i ys)))
       (λ r. map_agree_everywhere (λ link. (r.tlid, chain_of xs r link)) (λ link. (r.tlid, chain_of ys r link))
-          (λ link i. (r.tlid, chain_same r link i)) (of_number i_tlid r.tlid (of_type_i xs))
-          ∙ ap (map (λ link. (r.tlid, chain_of ys r link))) (links_same r.tlid))
+      (λ link i. (r.tlid, chain_same r link i)) (of_number i_tlid r.tlid (of_type_i xs))
+      ∙ ap (map (λ link. (r.tlid, chain_of ys r link))) (links_same r.tlid))
       (in_order (on one_tlid nat_cmp) (of_type_1 xs))
       ∙ ap (flat_map (λ r. map (λ link. (r.tlid, chain_of ys r link)) (of_number i_tlid r.tlid (of_type_i ys))))
       (numbered_same one_tlid (of_type_1 xs) (of_type_1 ys) s_ones
-          (λ n. ltb-false 1 (times nat_cmp n (chain_tlids xs)) (linked (ChainTwice n))))
+      (λ n. ltb-false 1 (times nat_cmp n (chain_tlids xs)) (linked (ChainTwice n))))
 
   body_same : (k : PolygonKey) → polygon_body xs k ≡ polygon_body ys k
   body_same k = ap (λ qs. first (map (λ (q : FieldsP). q.body) qs))
       (few_same (filter (λ q. is_eq (key_cmp k (p_key q))) (of_type_p xs)) (filter (λ q. is_eq (key_cmp k (p_key q))) (of_type_p ys))
       (let t : times key_cmp k (map p_key (of_type_p xs)) ≡ length (filter (λ q. is_eq (key_cmp k (p_key q))) (of_type_p xs)) =
-          count-map (λ j. is_eq (key_cmp k j)) p_key (of_type_p xs) in
+      count-map (λ j. is_eq (key_cmp k j)) p_key (of_type_p xs) in
       let u : times key_cmp k (map p_key (of_type_p xs)) ≤ 1 =
-          ltb-false 1 (times key_cmp k (map p_key (of_type_p xs))) (linked (PolygonTwice k.0 k.1)) in omega arith)
+      ltb-false 1 (times key_cmp k (map p_key (of_type_p xs))) (linked (PolygonTwice k.0 k.1)) in omega arith)
       (same-filter (λ q. is_eq (key_cmp k (p_key q))) (of_type_p xs) (of_type_p ys) s_ps))
 
   polygons_same : polygons_of xs ≡ polygons_of ys
   polygons_same =
       map_agree_everywhere (λ k. (k, polygon_body xs k)) (λ k. (k, polygon_body ys k)) (λ k i. (k, body_same k i))
-          (distinct key_cmp (flat_map side_keys (of_type_i xs) ++ map p_key (of_type_p xs)))
+      (distinct key_cmp (flat_map side_keys (of_type_i xs) ++ map p_key (of_type_p xs)))
       ∙ ap (map (λ k. (k, polygon_body ys k))) (distinct_same key_keys (flat_map side_keys (of_type_i xs) ++ map p_key (of_type_p xs))
-          (flat_map side_keys (of_type_i ys) ++ map p_key (of_type_p ys)) (λ k. sym (keys_alike k)))
+      (flat_map side_keys (of_type_i ys) ++ map p_key (of_type_p ys)) (λ k. sym (keys_alike k)))
 
   landmarks_same : landmarks_of xs ≡ landmarks_of ys
   landmarks_same =
-      map_agree_everywhere (λ land. (land, in_order landmark_body_cmp
-          (map (λ (q : Fields7). q.body) (of_number seven_land land (of_type_7 xs)))))
-          (λ land. (land, in_order landmark_body_cmp (map (λ (q : Fields7). q.body) (of_number seven_land land (of_type_7 ys)))))
-      (λ land i. (land, ordered_same landmark_body_keys (map (λ (q : Fields7). q.body) (of_number seven_land land (of_type_7 xs)))
-          (map (λ (q : Fields7). q.body) (of_number seven_land land (of_type_7 ys)))
-          (same-map (λ (q : Fields7). q.body) (of_number seven_land land (of_type_7 xs)) (of_number seven_land land (of_type_7 ys))
-          (same-filter (λ q. q.land == land) (of_type_7 xs) (of_type_7 ys) s_sevens)) i))
+      map_agree_everywhere (λ land. (
+        land,
+        in_order landmark_body_cmp
+            (map (λ (q : Fields7). q.body) (of_number seven_land land (of_type_7 xs))),
+      ))
+      (λ land. (land, in_order landmark_body_cmp (map (λ (q : Fields7). q.body) (of_number seven_land land (of_type_7 ys)))))
+      (λ land i. (
+        land,
+        ordered_same landmark_body_keys (map (λ (q : Fields7). q.body) (of_number seven_land land (of_type_7 xs)))
+            (map (λ (q : Fields7). q.body) (of_number seven_land land (of_type_7 ys)))
+            (same-map (λ (q : Fields7). q.body) (of_number seven_land land (of_type_7 xs)) (of_number seven_land land (of_type_7 ys))
+            (same-filter (λ q. q.land == land) (of_type_7 xs) (of_type_7 ys) s_sevens)) i,
+      ))
       (distinct nat_cmp (map seven_land (of_type_7 xs)))
       ∙ ap (map (λ land. (land, in_order landmark_body_cmp (map (λ (q : Fields7). q.body) (of_number seven_land land (of_type_7 ys))))))
       (distinct_same nat_keys (map seven_land (of_type_7 xs)) (map seven_land (of_type_7 ys)) (λ n. ap (nat_lt 0) (sym (land_times n))))

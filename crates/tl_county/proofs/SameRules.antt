@@ -79,13 +79,13 @@ module _ (xs ys : List Record) (s : SameElements xs ys) where
   named_alike : (n y : ℕ) → stands_in nat_cmp y (named_feats n xs) ≡ stands_in nat_cmp y (named_feats n ys)
   named_alike n y = stands_alike nat_keys (named_feats n xs) (named_feats n ys) y
       (λ k. let r = among-unpieces (λ (q : Fields4). q.feats) y (of_number four_tlid n (of_type_4 xs))
-          (known_is_among nat_keys y (named_feats n xs) k) in
-          among_known nat_keys y (named_feats n ys)
-          (among-pieces (λ (q : Fields4). q.feats) r.0 y (of_number four_tlid n (of_type_4 ys)) ((s_fours_of n).there r.0 r.1) r.2))
+      (known_is_among nat_keys y (named_feats n xs) k) in
+      among_known nat_keys y (named_feats n ys)
+      (among-pieces (λ (q : Fields4). q.feats) r.0 y (of_number four_tlid n (of_type_4 ys)) ((s_fours_of n).there r.0 r.1) r.2))
       (λ k. let r = among-unpieces (λ (q : Fields4). q.feats) y (of_number four_tlid n (of_type_4 ys))
-          (known_is_among nat_keys y (named_feats n ys) k) in
-          among_known nat_keys y (named_feats n xs)
-          (among-pieces (λ (q : Fields4). q.feats) r.0 y (of_number four_tlid n (of_type_4 xs)) ((s_fours_of n).back r.0 r.1) r.2))
+      (known_is_among nat_keys y (named_feats n ys) k) in
+      among_known nat_keys y (named_feats n xs)
+      (among-pieces (λ (q : Fields4). q.feats) r.0 y (of_number four_tlid n (of_type_4 xs)) ((s_fours_of n).back r.0 r.1) r.2))
 
   -- the polygons on sides and of type P
   one_way : (zs ws : List Record) → ((l : FieldsI) → Among l (of_type_i zs) → Among l (of_type_i ws))

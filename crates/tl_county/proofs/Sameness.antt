@@ -112,12 +112,12 @@ module _ (q r p : Renumbering) (a : County) (f : Follows q r p a) where
       let c : Chain = entry.1 in
       let y : ℕ = image nat_cmp r.chains x in
       let both : turned_if (turns q y) (turned_if (turns r x) c) ≡ turned_if (turns p x) c = turned_if-twice (turns r x) (turns q y) c
-          ∙ ap (λ b. turned_if b c) (f.turned x h.tlid) in
+      ∙ ap (λ b. turned_if b c) (f.turned x h.tlid) in
       let one : renumbered q (turned_if (turns q y) (renumbered r (turned_if (turns r x) c))) ≡ turned_if (turns q y)
-          (renumbered q (renumbered r (turned_if (turns r x) c))) =
-          renumbered-turned_if q (turns q y) (renumbered r (turned_if (turns r x) c)) in
+      (renumbered q (renumbered r (turned_if (turns r x) c))) =
+      renumbered-turned_if q (turns q y) (renumbered r (turned_if (turns r x) c)) in
       let two : renumbered q (renumbered r (turned_if (turns r x) c)) ≡ turned_if (turns r x) (renumbered q (renumbered r c)) =
-          ap (renumbered q) (renumbered-turned_if r (turns r x) c) ∙ renumbered-turned_if q (turns r x) (renumbered r c) in
+      ap (renumbered q) (renumbered-turned_if r (turns r x) c) ∙ renumbered-turned_if q (turns r x) (renumbered r c) in
       let all : renumbered q (turned_if (turns q y) (renumbered r (turned_if (turns r x) c))) ≡ renumbered p (turned_if (turns p x) c) =
       one ∙ ap (turned_if (turns q y)) two
       ∙ ap (λ d. turned_if (turns q y) (turned_if (turns r x) d)) (follow_chain x c h)
@@ -164,9 +164,14 @@ pub record IsLinkOf (a : County) (link : Fields8) : Type 0 where
 all_links : (a : County) (ls : List Fields8) → AllByRecursion (λ l. IsTrue (stands_in nat_cmp l.land (lands a))) ls
     → AllByRecursion (λ l. IsTrue (stands_in key_cmp (link_key l) (polygon_keys a))) ls → AllByRecursion (IsLinkOf a) ls
 all_links a [] g h = tt
-all_links a (l ∷ ls) g h =
-    (record { land = ltb-true 0 (times nat_cmp l.land (lands a)) g.0; polygon =
-    ltb-true 0 (times key_cmp (link_key l) (polygon_keys a)) h.0 }, all_links a ls g.1 h.1)
+all_links a (l ∷ ls) g h = (
+  record {
+    land = ltb-true 0 (times nat_cmp l.land (lands a)) g.0;
+    polygon =
+        ltb-true 0 (times key_cmp (link_key l) (polygon_keys a)) h.0;
+  },
+  all_links a ls g.1 h.1,
+)
 
 pub links_are : (a : County) → IsClosed a → AllByRecursion (IsLinkOf a) a.links
 links_are a h = all_links a a.links h.link_lands h.link_polygons
@@ -195,8 +200,12 @@ parts_follow q r p a closed f = record {
       (λ e h i. (f.lands e.0 h i, e.1)) a.landmarks (keys_known nat_keys a.landmarks);
   links = map-map (carried_link q) (carried_link r) a.links
       ∙ map_agree_all (λ l. carried_link q (carried_link r l)) (carried_link p) (IsLinkOf a)
-      (λ l h i. record l { cenid = (f.polygons (link_key l) h.polygon i).0; polyid = (f.polygons (link_key l) h.polygon i).1; land =
-      f.lands l.land h.land i }) a.links (links_are a closed);
+      (λ l h i. record l {
+        cenid = (f.polygons (link_key l) h.polygon i).0;
+        polyid = (f.polygons (link_key l) h.polygon i).1;
+        land =
+            f.lands l.land h.land i;
+      }) a.links (links_are a closed);
 }
 
 -- what carries nothing anywhere leaves each part
@@ -330,7 +339,7 @@ module _ (r : Renumbering) (a b : County) (ca : IsCounty a) (cb : IsCounty b) (h
   turned_back n k =
       ap (λ ts. stands_in nat_cmp (image nat_cmp r.chains n) (map (image nat_cmp r.chains) ts)) all_named
       ∙ ap (nat_lt 0) (times-images nat_keys r.chains n apart_chains
-          (known-permutation nat_keys n (lefts r.chains) (tlids a) h.numbers.chains.left k) r.turned named_turned)
+      (known-permutation nat_keys n (lefts r.chains) (tlids a) h.numbers.chains.left k) r.turned named_turned)
 
   pub inverse_follows : Follows (inverse r) r nothing a
   inverse_follows = record {
@@ -352,8 +361,8 @@ module _ (r : Renumbering) (a b : County) (ca : IsCounty a) (cb : IsCounty b) (h
       (all_map (λ t. IsTrue (stands_in nat_cmp t (tlids b))) (image nat_cmp r.chains) r.turned
       (all_weaker (Known nat_cmp (lefts r.chains)) (λ t. IsTrue (stands_in nat_cmp (image nat_cmp r.chains t) (tlids b)))
       (λ t k. lt-ltb 0 (times nat_cmp (image nat_cmp r.chains t) (tlids b))
-          (known-permutation_to nat_keys (image nat_cmp r.chains t) (rights r.chains) (tlids b) h.numbers.chains.right
-          (image-known nat_keys r.chains t k)))
+      (known-permutation_to nat_keys (image nat_cmp r.chains t) (rights r.chains) (tlids b) h.numbers.chains.right
+      (image-known nat_keys r.chains t k)))
       r.turned named_turned))
 
   pub inverse_carries : Carries (inverse r) b a
@@ -385,13 +394,13 @@ pub paired_on : {K : Type 0} {cmp : K → K → Ordering} (o : IsKeyOrder cmp) (
     → IsApart cmp mids → ArePaired ps olds mids → ArePaired qs mids news → ArePaired (joined cmp ps qs) olds news
 paired_on {K} {cmp} o ps qs olds mids news a g h =
     let next : (k : K) → Known cmp (rights ps) k → Known cmp (lefts qs) k =
-        λ k l. known-permutation o k (lefts qs) mids h.left (known-permutation_to o k (rights ps) mids g.right l) in
+    λ k l. known-permutation o k (lefts qs) mids h.left (known-permutation_to o k (rights ps) mids g.right l) in
     let e : joined cmp ps qs ≡ followed o ps qs = joined-followed o ps qs next in
     let middle : IsPermutation (rights ps) (lefts qs) =
-        IsPermutation-trans (rights ps) mids (lefts qs) g.right (IsPermutation-sym (lefts qs) mids h.left) in
+    IsPermutation-trans (rights ps) mids (lefts qs) g.right (IsPermutation-sym (lefts qs) mids h.left) in
     let images : IsPermutation (map (image cmp qs) (rights ps)) (rights qs) =
-        subst (λ ys. IsPermutation (map (image cmp qs) (rights ps)) ys) (images-lefts o qs (apart-permutation o (lefts qs) mids h.left a))
-        (IsPermutation-map (image cmp qs) (rights ps) (lefts qs) middle) in
+    subst (λ ys. IsPermutation (map (image cmp qs) (rights ps)) ys) (images-lefts o qs (apart-permutation o (lefts qs) mids h.left a))
+    (IsPermutation-map (image cmp qs) (rights ps) (lefts qs) middle) in
     record {
       left = subst (λ l. IsPermutation l olds) (sym (ap lefts e ∙ lefts-followed o ps qs)) g.left;
       right = subst (λ l. IsPermutation l news) (sym (ap rights e ∙ rights-followed o ps qs))
@@ -404,9 +413,9 @@ pub images_on : {K : Type 0} {cmp : K → K → Ordering} (o : IsKeyOrder cmp) (
     → image cmp qs (image cmp ps k) ≡ image cmp (joined cmp ps qs) k
 images_on {K} {cmp} o ps qs olds mids news g h k l =
     let next : (j : K) → Known cmp (rights ps) j → Known cmp (lefts qs) j =
-        λ j m. known-permutation o j (lefts qs) mids h.left (known-permutation_to o j (rights ps) mids g.right m) in
+    λ j m. known-permutation o j (lefts qs) mids h.left (known-permutation_to o j (rights ps) mids g.right m) in
     sym (ap (λ es. image cmp es k) (joined-followed o ps qs next)
-        ∙ image-followed o ps qs k (known-permutation o k (lefts ps) olds g.left l))
+    ∙ image-followed o ps qs k (known-permutation o k (lefts ps) olds g.left l))
 
 pub image-keeps : (qs : List (PolygonKey × PolygonKey)) → AllByRecursion (λ p. p.0.0 ≡ p.1.0) qs → (k : PolygonKey)
     → (image key_cmp qs k).0 ≡ k.0
@@ -476,8 +485,8 @@ module _ (r q : Renumbering) (a b c : County) (ca : IsCounty a) (cb : IsCounty b
           turned_known = subst (AllByRecursion (λ t. IsTrue (stands_in nat_cmp t (tlids a)))) (sym turned_of_then)
               (all_filter (λ t. IsTrue (stands_in nat_cmp t (tlids a))) g_turned (lefts r.chains)
               (all_known nat_keys (λ t. IsTrue (stands_in nat_cmp t (tlids a))) (lefts r.chains)
-                  (λ t l. lt-ltb 0 (times nat_cmp t (tlids a))
-                  (known-permutation_to nat_keys t (lefts r.chains) (tlids a) h.numbers.chains.left l))));
+              (λ t l. lt-ltb 0 (times nat_cmp t (tlids a))
+              (known-permutation_to nat_keys t (lefts r.chains) (tlids a) h.numbers.chains.left l))));
           turned_once = ap (has_repeat nat_cmp) turned_of_then
               ∙ has_repeat-apart nat_keys (filter g_turned (lefts r.chains))
               (apart-filter nat_keys g_turned (lefts r.chains)

@@ -132,9 +132,14 @@ canonical_there = chain_there 1 ∷ link 1 (Some 1) (Some 2) no_side no_side ∷
 
 -- back with its left addresses exchanged
 abbrev pub back_wrong : List Record
-back_wrong = One (record { tlid = 77; body =
-    street (record ranges_back { fraddl = right 11 (codes "100"); toaddl = right 11 (codes "198") }) (codes "020300") (codes "020200")
-    (codes "2002") (codes "1001"); start = east_end; end = west_end }) ∷ link 77 (Some 6) (Some 5) no_side no_side ∷ []
+back_wrong = One (record {
+  tlid = 77;
+  body =
+      street (record ranges_back { fraddl = right 11 (codes "100"); toaddl = right 11 (codes "198") }) (codes "020300") (codes "020200")
+      (codes "2002") (codes "1001");
+  start = east_end;
+  end = west_end;
+}) ∷ link 77 (Some 6) (Some 5) no_side no_side ∷ []
 
 -- the point number k of eleven between the ends
 abbrev pub between_ends : ℕ → Coordinates
@@ -184,8 +189,11 @@ canonical_polygons = chain_there 1 ∷ link 1 (Some 1) (Some 2) (side cenid_1 1)
 
 -- two names that only their uses tell apart
 abbrev pub old_mill : Body5
-old_mill = record { file = file; name =
-    record { fedirp = blanks 2; fename = filled 30 (codes "Old Mill"); fetype = filled 4 (codes "Rd"); fedirs = blanks 2 } }
+old_mill = record {
+  file = file;
+  name =
+      record { fedirp = blanks 2; fename = filled 30 (codes "Old Mill"); fetype = filled 4 (codes "Rd"); fedirs = blanks 2 };
+}
 
 abbrev pub name : ℕ → Record
 name feat = Five (record { feat = feat; body = old_mill })
@@ -202,8 +210,11 @@ canonical_named feats = chain_there 1 ∷ four 1 1 feats ∷ name 1 ∷ name 2 �
 -- landmarks
 abbrev pub landmark : ℕ → List ℕ → Record
 landmark land laname =
-    Seven (record { land = land; body =
-    record { file = file; source = codes "A"; cfcc = codes "D43"; laname = filled 30 laname; point = None } })
+    Seven (record {
+      land = land;
+      body =
+          record { file = file; source = codes "A"; cfcc = codes "D43"; laname = filled 30 laname; point = None };
+    })
 
 abbrev pub in_polygon : ℕ → ℕ → Record
 in_polygon polyid land = Eight (record { file = file; cenid = cenid_1; polyid = polyid; land = land })
@@ -224,10 +235,10 @@ abbrev pub meeting : List Record
 meeting =
     One (record { tlid = 5; body = street_there; start = east 2 1; end = east 3 1 }) ∷ link 5 (Some 71) (Some 72) no_side (side cenid_1 9)
     ∷ One (record { tlid = 3; body = street_there; start = east 1 1; end = east 2 1 }) ∷ link 3 (Some 70) (Some 71)
-        (side cenid_1 9) no_side ∷ []
+    (side cenid_1 9) no_side ∷ []
 
 abbrev pub canonical_meeting : List Record
 canonical_meeting =
     One (record { tlid = 1; body = street_there; start = east 1 1; end = east 2 1 }) ∷ One
-        (record { tlid = 2; body = street_there; start = east 2 1; end = east 3 1 })
+    (record { tlid = 2; body = street_there; start = east 2 1; end = east 3 1 })
     ∷ link 1 (Some 1) (Some 2) (side cenid_1 1) no_side ∷ link 2 (Some 2) (Some 3) no_side (side cenid_1 1) ∷ []

@@ -42,7 +42,7 @@ pub adds_full : (counts : List ℕ) (records : List Record) (limit : ℕ) (added
 adds_full counts records limit added rtype counted is full =
     let e = type_count counts records added rtype counted is in
     ap (λ (b : Bool). cond b (Err (faults.TooManyRecords (tiger.rtype added))) (Ok (records ++ added ∷ [])))
-        (le-leb limit (count_of tiger (tiger.rtype added) records) (omega arith))
+    (le-leb limit (count_of tiger (tiger.rtype added) records) (omega arith))
     ∙ ap (λ (t : ℕ). Err (faults.TooManyRecords t)) (tiger_rtype added ∙ is)
 
 pub adds_room : (counts : List ℕ) (records : List Record) (limit : ℕ) (added : Record) (rtype : ℕ) → AreCounted counts records
@@ -50,7 +50,7 @@ pub adds_room : (counts : List ℕ) (records : List Record) (limit : ℕ) (added
 adds_room counts records limit added rtype counted is room =
     let e = type_count counts records added rtype counted is in
     ap (λ (b : Bool). cond b (Err (faults.TooManyRecords (tiger.rtype added))) (Ok (records ++ added ∷ [])))
-        (lt-leb limit (count_of tiger (tiger.rtype added) records) (omega arith))
+    (lt-leb limit (count_of tiger (tiger.rtype added) records) (omega arith))
 
 one_up : (counts : List ℕ) (t u : ℕ) → t < length counts
     → get_or (set counts t (get_or counts t 0 + 1)) u 0 ≡ get_or counts u 0 + cond (eqb t u) 1 0
@@ -58,8 +58,8 @@ one_up counts t u low = elim (cases_eq t u) [
   | inl same ↦
       let b : ◌≡◌ {A = ℕ} (cond (eqb t u) 1 0) 1 = ap (λ (z : Bool). cond z 1 0) (eq-eqb t u same) in
       let here : get_or (set counts t (get_or counts t 0 + 1)) u 0 ≡ get_or counts t 0 + 1 =
-          ap (λ (k : ℕ). get_or (set counts t (get_or counts t 0 + 1)) k 0) (sym same)
-          ∙ get_or-set_same counts t (get_or counts t 0 + 1) 0 low in
+      ap (λ (k : ℕ). get_or (set counts t (get_or counts t 0 + 1)) k 0) (sym same)
+      ∙ get_or-set_same counts t (get_or counts t 0 + 1) 0 low in
       let was : get_or counts t 0 ≡ get_or counts u 0 = ap (λ (k : ℕ). get_or counts k 0) same in
       omega (arith, b, here, was)
   | inr other ↦
@@ -75,7 +75,7 @@ counted_more counts records added rtype len counted is t low =
     let was = counted t low in
     let e = count_push tiger records added t in
     let same : ◌≡◌ {A = ℕ} (cond (eqb (tiger.rtype added) t) 1 0) (cond (eqb rtype t) 1 0) =
-        ap (λ (k : ℕ). cond {A = ℕ} (eqb k t) 1 0) (tiger_rtype added ∙ is) in
+    ap (λ (k : ℕ). cond {A = ℕ} (eqb k t) 1 0) (tiger_rtype added ∙ is) in
     omega (arith, here, was, e, same)
 
 -- exactly one of the nine types is this one
@@ -85,8 +85,19 @@ of_nine t = cond (eqb t 49) 1 0 + cond (eqb t 50) 1 0 + cond (eqb t 52) 1 0 + co
 
 all_nine : (counts : List ℕ) (t : ℕ) → t < length counts → of_nine t ≡ 1 → total (set counts t (get_or counts t 0 + 1)) ≡ total counts + 1
 all_nine counts t low one =
-    omega (arith, one, one_up counts t 49 low, one_up counts t 50 low, one_up counts t 52 low, one_up counts t 53 low,
-    one_up counts t 54 low, one_up counts t 55 low, one_up counts t 56 low, one_up counts t 73 low, one_up counts t 80 low)
+    omega (
+      arith,
+      one,
+      one_up counts t 49 low,
+      one_up counts t 50 low,
+      one_up counts t 52 low,
+      one_up counts t 53 low,
+      one_up counts t 54 low,
+      one_up counts t 55 low,
+      one_up counts t 56 low,
+      one_up counts t 73 low,
+      one_up counts t 80 low,
+    )
 
 -- the record is of one of the nine types
 total_more : (counts : List ℕ) (added : Record) → length counts ≡ 128
@@ -114,8 +125,8 @@ loader_with counts unfinished parts judged limit added rtype l is room = record 
   within = λ t low. elim (cases_eq rtype t) [
     | inl same ↦
         let here : get_or (set counts rtype (get_or counts rtype 0 + 1)) t 0 ≡ get_or counts rtype 0 + 1 =
-            ap (λ (k : ℕ). get_or (set counts rtype (get_or counts rtype 0 + 1)) k 0) (sym same)
-            ∙ get_or-set_same counts rtype (get_or counts rtype 0 + 1) 0 (omega (arith, l.counts_len, type_low added, is)) in
+        ap (λ (k : ℕ). get_or (set counts rtype (get_or counts rtype 0 + 1)) k 0) (sym same)
+        ∙ get_or-set_same counts rtype (get_or counts rtype 0 + 1) 0 (omega (arith, l.counts_len, type_low added, is)) in
         omega (arith, here)
     | inr other ↦
         let here = get_or-set_other counts rtype t (get_or counts rtype 0 + 1) 0 (λ e. other (sym e)) in
@@ -153,5 +164,16 @@ empty_loader limit low = record {
 pub most_records : (counts : List ℕ) (unfinished : List ℕ) (parts judged limit : ℕ) → IsLoader counts unfinished parts judged limit
     → total counts ≤ 90000000
 most_records counts unfinished parts judged limit l =
-    omega (arith, l.limit_low, l.within 49 (lit< tt), l.within 50 (lit< tt), l.within 52 (lit< tt), l.within 53 (lit< tt),
-        l.within 54 (lit< tt), l.within 55 (lit< tt), l.within 56 (lit< tt), l.within 73 (lit< tt), l.within 80 (lit< tt))
+    omega (
+      arith,
+      l.limit_low,
+      l.within 49 (lit< tt),
+      l.within 50 (lit< tt),
+      l.within 52 (lit< tt),
+      l.within 53 (lit< tt),
+      l.within 54 (lit< tt),
+      l.within 55 (lit< tt),
+      l.within 56 (lit< tt),
+      l.within 73 (lit< tt),
+      l.within 80 (lit< tt),
+    )

@@ -50,7 +50,7 @@ no_lines n = ap (λ (l : List (List ℕ)). numbered n 1 l ++ []) lines_none
 ended_then : (closed : List (List ℕ)) (ended : List (List ℕ)) (rest : List ℕ) (later : List (List ℕ)) → All IsWithoutLineFeed ended
     → placed_lines (closed ++ (with_line_feeds ended ++ rest) ∷ later)
     ≡ placed_lines (closed ++ with_line_feeds ended ∷ []) ++
-        (numbered (1 + length closed) (1 + length ended) (lines rest) ++ lines_from_part (1 + length closed + 1) later)
+    (numbered (1 + length closed) (1 + length ended) (lines rest) ++ lines_from_part (1 + length closed + 1) later)
 unfolding lines_from_part
 ended_then closed ended rest later apart =
     let n = 1 + length closed in
@@ -58,19 +58,19 @@ ended_then closed ended rest later apart =
     let place : 1 + length (map without_return ended) ≡ 1 + length ended = omega (arith, length-map ended without_return) in
     let alone : lines (with_line_feeds ended) ≡ map without_return ended =
     ap lines (sym (append-nil (with_line_feeds ended))) ∙ lines_after ended [] apart
-        ∙ ap (λ (l : List (List ℕ)). map without_return ended ++ l) lines_none ∙ append-nil (map without_return ended) in
+    ∙ ap (λ (l : List (List ℕ)). map without_return ended ++ l) lines_none ∙ append-nil (map without_return ended) in
     let before : placed_lines (closed ++ with_line_feeds ended ∷ []) ≡ lines_from_part 1 closed ++ first =
     parts-append 1 closed (with_line_feeds ended ∷ [])
-        ∙ ap (λ (l : List PlacedLine). lines_from_part 1 closed ++ l) (append-nil (numbered n 1 (lines (with_line_feeds ended)))
-        ∙ ap (numbered n 1) alone) in
+    ∙ ap (λ (l : List PlacedLine). lines_from_part 1 closed ++ l) (append-nil (numbered n 1 (lines (with_line_feeds ended)))
+    ∙ ap (numbered n 1) alone) in
     parts-append 1 closed ((with_line_feeds ended ++ rest) ∷ later)
     ∙ ap (λ (l : List (List ℕ)). lines_from_part 1 closed ++ (numbered n 1 l ++ lines_from_part (n + 1) later))
-        (lines_after ended rest apart)
+    (lines_after ended rest apart)
     ∙ ap (λ (l : List PlacedLine). lines_from_part 1 closed ++ (l ++ lines_from_part (n + 1) later))
-        (numbered-append n 1 (map without_return ended) (lines rest))
+    (numbered-append n 1 (map without_return ended) (lines rest))
     ∙ ap (λ (k : ℕ). lines_from_part 1 closed ++ ((first ++ numbered n k (lines rest)) ++ lines_from_part (n + 1) later)) place
     ∙ ap (λ (l : List PlacedLine). lines_from_part 1 closed ++ l)
-        (append_assoc first (numbered n (1 + length ended) (lines rest)) (lines_from_part (n + 1) later))
+    (append_assoc first (numbered n (1 + length ended) (lines rest)) (lines_from_part (n + 1) later))
     ∙ sym (append_assoc (lines_from_part 1 closed) first (numbered n (1 + length ended) (lines rest) ++ lines_from_part (n + 1) later))
     ∙ ap (λ (l : List PlacedLine). l ++ (numbered n (1 + length ended) (lines rest) ++ lines_from_part (n + 1) later)) (sym before)
 
@@ -78,21 +78,21 @@ ended_then closed ended rest later apart =
 comes_after : (limit : ℕ) (l : Loaded) (closed : List (List ℕ)) (open_part rest : List ℕ) (later : List (List ℕ)) → l.limit ≡ limit
     → (h : HasLoaded limit l closed open_part)
     → outcome tiger limit (closed ++ (with_line_feeds h.ended ++ rest) ∷ later) ≡ reading tiger l.limit l.records
-        (numbered (l.parts + 1) (l.judged + 1) (lines rest) ++ lines_from_part (l.parts + 1 + 1) later)
+    (numbered (l.parts + 1) (l.judged + 1) (lines rest) ++ lines_from_part (l.parts + 1 + 1) later)
 comes_after limit l closed open_part rest later same h =
     let parts : 1 + length closed ≡ l.parts + 1 = omega (arith, h.parts_are) in
     let judged : 1 + length h.ended ≡ l.judged + 1 = omega (arith, h.judged_are) in
     ap (reading tiger limit []) (ended_then closed h.ended rest later h.lines_are.each_ended)
     ∙ reading-append tiger limit [] (placed_lines (closed ++ with_line_feeds h.ended ∷ []))
-        (numbered (1 + length closed) (1 + length h.ended) (lines rest) ++ lines_from_part (1 + length closed + 1) later)
+    (numbered (1 + length closed) (1 + length h.ended) (lines rest) ++ lines_from_part (1 + length closed + 1) later)
     ∙ ap (λ (r : Result (List Record) LoadFault). r >>= λ records. reading tiger limit records
-        (numbered (1 + length closed) (1 + length h.ended) (lines rest) ++ lines_from_part (1 + length closed + 1) later))
-        (outcome_from_accepts tiger tiger_is_sound limit (closed ++ with_line_feeds h.ended ∷ []) l.records h.accepts)
+    (numbered (1 + length closed) (1 + length h.ended) (lines rest) ++ lines_from_part (1 + length closed + 1) later))
+    (outcome_from_accepts tiger tiger_is_sound limit (closed ++ with_line_feeds h.ended ∷ []) l.records h.accepts)
     ∙ ap (λ (k : ℕ). reading tiger limit l.records (numbered k (1 + length h.ended) (lines rest) ++ lines_from_part (k + 1) later)) parts
     ∙ ap (λ (k : ℕ). reading tiger limit l.records
-        (numbered (l.parts + 1) k (lines rest) ++ lines_from_part (l.parts + 1 + 1) later)) judged
+    (numbered (l.parts + 1) k (lines rest) ++ lines_from_part (l.parts + 1 + 1) later)) judged
     ∙ ap (λ (k : ℕ). reading tiger k l.records (numbered (l.parts + 1) (l.judged + 1) (lines rest) ++ lines_from_part
-        (l.parts + 1 + 1) later)) (sym same)
+    (l.parts + 1 + 1) later)) (sym same)
 
 pub comes_of : (limit : ℕ) (l : Loaded) (closed : List (List ℕ)) (open_part : List ℕ) (more : List ℕ) (later : List (List ℕ))
     → l.limit ≡ limit → HasLoaded limit l closed open_part
@@ -100,7 +100,7 @@ pub comes_of : (limit : ℕ) (l : Loaded) (closed : List (List ℕ)) (open_part 
 unfolding to_come
 comes_of limit l closed open_part more later same h =
     ap (λ (b : List ℕ). outcome tiger limit (closed ++ b ∷ later)) (ap (λ (b : List ℕ). b ++ more) h.lines_are.bytes_are
-        ∙ append_assoc (with_line_feeds h.ended) l.unfinished more)
+    ∙ append_assoc (with_line_feeds h.ended) l.unfinished more)
     ∙ comes_after limit l closed open_part (l.unfinished ++ more) later same h
 
 none_follow : (n k : ℕ) → numbered n k (lines []) ++ lines_from_part (n + 1) [] ≡ []
@@ -117,7 +117,7 @@ loaded_more limit before after closed open_part bytes same h t = record {
     bytes_are = ap (λ (l : List ℕ). l ++ bytes) h.lines_are.bytes_are ∙ append_assoc (with_line_feeds h.ended) before.unfinished bytes
         ∙ ap (λ (l : List ℕ). with_line_feeds h.ended ++ l) t.lines_are.bytes_are
         ∙ sym (append_assoc (with_line_feeds h.ended) (with_line_feeds t.ended) after.unfinished)
-            ∙ ap (λ (l : List ℕ). l ++ after.unfinished) (sym joined);
+        ∙ ap (λ (l : List ℕ). l ++ after.unfinished) (sym joined);
     each_ended = All-append IsWithoutLineFeed h.ended t.ended h.lines_are.each_ended t.lines_are.each_ended;
     not_ended = t.lines_are.not_ended;
   };
@@ -127,7 +127,7 @@ loaded_more limit before after closed open_part bytes same h t = record {
       (ap (λ (b : List ℕ). outcome tiger limit (closed ++ b ∷ [])) joined
       ∙ comes_after limit before closed open_part (with_line_feeds t.ended) [] same h
       ∙ ap (λ (ls : List PlacedLine). reading tiger before.limit before.records ls)
-          (append-nil (numbered (before.parts + 1) (before.judged + 1) (lines (with_line_feeds t.ended))))
+      (append-nil (numbered (before.parts + 1) (before.judged + 1) (lines (with_line_feeds t.ended))))
       ∙ ap (λ (ls : List (List ℕ)). reading tiger before.limit before.records (numbered (before.parts + 1) (before.judged + 1) ls)) alone
       ∙ t.reads);
 }
@@ -145,8 +145,12 @@ loaded_closed : (limit : ℕ) (before after : Loaded) (closed : List (List ℕ))
 unfolding lines_from_part numbered
 loaded_closed limit before after closed open_part same h c = record {
   ended = [];
-  lines_are = record { bytes_are = sym c.none_kept; each_ended = All-nil IsWithoutLineFeed; not_ended =
-      subst IsWithoutLineFeed (sym c.none_kept) (All-nil (λ b. is_line_feed b ≡ false)) };
+  lines_are = record {
+    bytes_are = sym c.none_kept;
+    each_ended = All-nil IsWithoutLineFeed;
+    not_ended =
+        subst IsWithoutLineFeed (sym c.none_kept) (All-nil (λ b. is_line_feed b ≡ false));
+  };
   parts_are = omega (arith, c.parts_are, h.parts_are, length-append closed (open_part ∷ []));
   judged_are = c.none_judged;
   accepts = accepts_from_outcome tiger tiger_is_sound limit _ after.records
@@ -154,7 +158,7 @@ loaded_closed limit before after closed open_part same h c = record {
       ∙ ap (λ (b : List ℕ). outcome tiger limit (closed ++ b ∷ [])) h.lines_are.bytes_are
       ∙ comes_after limit before closed open_part before.unfinished [] same h
       ∙ ap (λ (ls : List PlacedLine). reading tiger before.limit before.records ls)
-          (append-nil (numbered (before.parts + 1) (before.judged + 1) (lines before.unfinished)))
+      (append-nil (numbered (before.parts + 1) (before.judged + 1) (lines before.unfinished)))
       ∙ c.reads);
 }
   where
@@ -178,8 +182,8 @@ fault_more : (limit : ℕ) (l : Loaded) (closed : List (List ℕ)) (open_part by
     → IsFaultHowever limit closed (open_part ++ bytes) f
 fault_more limit l closed open_part bytes f same h comes more later =
     fault_from_outcome tiger tiger_is_sound limit _ f
-        (ap (λ (b : List ℕ). outcome tiger limit (closed ++ b ∷ later)) (append_assoc open_part bytes more)
-        ∙ comes_of limit l closed open_part (bytes ++ more) later same h ∙ comes more later)
+    (ap (λ (b : List ℕ). outcome tiger limit (closed ++ b ∷ later)) (append_assoc open_part bytes more)
+    ∙ comes_of limit l closed open_part (bytes ++ more) later same h ∙ comes more later)
 
 one_more : (closed : List (List ℕ)) (part more : List ℕ) (later : List (List ℕ))
     → (closed ++ part ∷ []) ++ ([] ++ more) ∷ later ≡ closed ++ part ∷ (more ∷ later)
@@ -190,7 +194,7 @@ fault_closed : (limit : ℕ) (l : Loaded) (closed : List (List ℕ)) (open_part 
     → IsFaultHowever limit (closed ++ (open_part ++ bytes) ∷ []) [] f
 fault_closed limit l closed open_part bytes f same h comes more later =
     fault_from_outcome tiger tiger_is_sound limit _ f (ap (outcome tiger limit) (one_more closed (open_part ++ bytes) more later)
-        ∙ comes_of limit l closed open_part bytes (more ∷ later) same h ∙ comes (more ∷ later))
+    ∙ comes_of limit l closed open_part bytes (more ∷ later) same h ∙ comes (more ∷ later))
 
 -- ---- a loader over a keeper
 
@@ -202,8 +206,16 @@ with_fault_told (Err f) l = refl
 -- a loader that was fed nothing
 pub fed_nothing : {K : Type 0} (holds : K → List Record → Type 0) (limit : ℕ) (kept : K) (counts unfinished : List ℕ) → holds kept []
     → counts ≡ replicate {A = ℕ} 128 0 → unfinished ≡ []
-    → WasFedInto holds limit (record { kept = kept; counts = counts; parts = 0; judged = 0; unfinished = unfinished; limit = limit; fault =
-        None }) [] []
+    → WasFedInto holds limit (record {
+      kept = kept;
+      counts = counts;
+      parts = 0;
+      judged = 0;
+      unfinished = unfinished;
+      limit = limit;
+      fault =
+          None;
+    }) [] []
 unfolding lines_from_part reading
 fed_nothing holds limit kept counts unfinished empty none open_is = record {
   limit_is = refl;
@@ -212,8 +224,12 @@ fed_nothing holds limit kept counts unfinished empty none open_is = record {
     record { held = empty; counted = subst (λ (l : List ℕ). AreCounted l []) (sym none) none_counted },
     record {
       ended = [];
-      lines_are = record { bytes_are = sym open_is; each_ended = All-nil IsWithoutLineFeed; not_ended =
-          subst IsWithoutLineFeed (sym open_is) (All-nil (λ b. is_line_feed b ≡ false)) };
+      lines_are = record {
+        bytes_are = sym open_is;
+        each_ended = All-nil IsWithoutLineFeed;
+        not_ended =
+            subst IsWithoutLineFeed (sym open_is) (All-nil (λ b. is_line_feed b ≡ false));
+      };
       parts_are = refl;
       judged_are = refl;
       accepts = accepts_from_outcome tiger tiger_is_sound limit ([] ∷ []) [] (ap (reading tiger limit []) (no_lines 1));
@@ -259,8 +275,11 @@ fed_piece holds limit before mid piece (Ok x) closed open_part none part takes w
 fed_piece holds limit before mid piece (Err f) closed open_part none part takes w =
     let h = has_of holds limit before closed open_part none w in
     let t = takes h.records h.kept in
-    record { limit_is = part.limit ∙ w.limit_is; comes =
-        λ is. fault_more limit (seen before h.records) closed open_part piece f w.limit_is h.loaded (t.2 is) }
+    record {
+      limit_is = part.limit ∙ w.limit_is;
+      comes =
+          λ is. fault_more limit (seen before h.records) closed open_part piece f w.limit_is h.loaded (t.2 is);
+    }
 
 pub fed_standing : {K : Type 0} (holds : K → List Record → Type 0) (limit : ℕ) (l : LoadedInto K) (piece : List ℕ) (f : LoadFault)
     (closed : List (List ℕ)) (open_part : List ℕ) → l.fault ≡ Some f → WasFedInto holds limit l closed open_part
@@ -269,7 +288,7 @@ fed_standing holds limit l piece f closed open_part e w = record {
   limit_is = w.limit_is;
   comes = from_some _ _ l.fault f e (λ is more later.
       subst (λ (b : List ℕ). FaultAt tiger limit (closed ++ b ∷ later) f) (sym (append_assoc open_part piece more))
-          (stands_at holds limit l closed open_part f e w is (piece ++ more) later));
+      (stands_at holds limit l closed open_part f e w is (piece ++ more) later));
 }
 
 -- a loader without a fault is well so far
@@ -287,7 +306,7 @@ well_after holds x limit before after piece closed open_part none takes short w 
     let h = has_of holds limit before closed open_part none w in
     let t = takes h.records h.kept in
     well_of limit (seen after t.0) closed (open_part ++ piece)
-        (loaded_more limit (seen before h.records) (seen after t.0) closed open_part piece w.limit_is h.loaded t.2) short
+    (loaded_more limit (seen before h.records) (seen after t.0) closed open_part piece w.limit_is h.loaded t.2) short
 
 -- what a step says of an answer, where it was `Ok`
 pub well_of_step : {K T : Type 0} (holds : K → List Record → Type 0) (before after : LoadedInto K) (piece : List ℕ)
@@ -314,16 +333,19 @@ pub fed_closed : {K T : Type 0} (holds : K → List Record → Type 0) (limit : 
 fed_closed holds limit before mid (Ok x) closed open_part none same stays closing w =
     let h = has_of holds limit before closed open_part none w in
     let t = closing h.records h.kept in
-    record { limit_is = same ∙ w.limit_is; comes =
-        from_none _ _ mid.fault (stays ∙ none)
-        (t.0, t.1, loaded_closed limit (seen before h.records) (seen mid t.0) closed open_part w.limit_is h.loaded t.2) }
+    record {
+      limit_is = same ∙ w.limit_is;
+      comes =
+          from_none _ _ mid.fault (stays ∙ none)
+          (t.0, t.1, loaded_closed limit (seen before h.records) (seen mid t.0) closed open_part w.limit_is h.loaded t.2);
+    }
 fed_closed holds limit before mid (Err f) closed open_part none same stays closing w =
     let h = has_of holds limit before closed open_part none w in
     let t = closing h.records h.kept in
     let e : (later : List (List ℕ)) → IsOfLines f → to_come (seen before h.records) [] later ≡ Err f =
     λ later is. comes_at_end (seen before h.records) later
-        ∙ ap (λ (r : Result (List Record) LoadFault). r >>= λ records. reading tiger before.limit records
-        (lines_from_part (before.parts + 1 + 1) later)) (t.2 is) in
+    ∙ ap (λ (r : Result (List Record) LoadFault). r >>= λ records. reading tiger before.limit records
+    (lines_from_part (before.parts + 1 + 1) later)) (t.2 is) in
     record {
       limit_is = same ∙ w.limit_is;
       comes = λ is. subst (λ (b : List ℕ). IsFaultHowever limit (closed ++ b ∷ []) [] f) (append-nil open_part)
@@ -337,7 +359,7 @@ fed_closed_standing holds limit l f closed open_part e w = record {
   limit_is = w.limit_is;
   comes = from_some _ _ l.fault f e (λ is more later.
       subst (λ (parts : List (List ℕ)). FaultAt tiger limit parts f)
-          (sym (one_more closed open_part more later ∙ ap (λ (b : List ℕ). closed ++ b ∷ (more ∷ later)) (sym (append-nil open_part))))
+      (sym (one_more closed open_part more later ∙ ap (λ (b : List ℕ). closed ++ b ∷ (more ∷ later)) (sym (append-nil open_part))))
       (stands_at holds limit l closed open_part f e w is [] (more ∷ later)));
 }
 
@@ -354,15 +376,24 @@ placed_all closed (b ∷ bytes) = ap (λ (l : List ℕ). placed_lines (closed ++
 fault_along : (limit : ℕ) (a b : List (List ℕ)) (f : LoadFault) → placed_lines a ≡ placed_lines b → FaultAt tiger limit b f
     → FaultAt tiger limit a f
 fault_along limit a b f e h =
-    record { before = h.before; line = h.line; after = h.after; records = h.records; split = e ∙ h.split; well = h.well; within =
-    h.within; fault_is = h.fault_is }
+    record {
+      before = h.before;
+      line = h.line;
+      after = h.after;
+      records = h.records;
+      split = e ∙ h.split;
+      well = h.well;
+      within =
+          h.within;
+      fault_is = h.fault_is;
+    }
 
 outcome_all : (limit : ℕ) (l : Loaded) (closed : List (List ℕ)) (open_part : List ℕ) → l.limit ≡ limit → HasLoaded limit l closed open_part
     → outcome tiger limit (all_parts closed open_part) ≡ to_end l
 unfolding lines_from_part reading
 outcome_all limit l closed open_part same h =
     ap (reading tiger limit []) (placed_all closed open_part) ∙ comes_of limit l closed open_part [] [] same h ∙ comes_at_end l []
-        ∙ bind_ok (to_end l)
+    ∙ bind_ok (to_end l)
   where
     bind_ok : (r : Result (List Record) LoadFault)
         → (r >>= λ records. reading tiger l.limit records (lines_from_part (l.parts + 1 + 1) [])) ≡ r
@@ -374,9 +405,12 @@ pub finished : {K T : Type 0} (holds : K → List Record → Type 0) (x : T) (li
     → (records : List Record) × holds after.kept records × Accepts tiger limit (all_parts closed open_part) records
 finished holds x limit before after closed open_part none ends w =
     let h = has_of holds limit before closed open_part none w in
-    let t = ends h.records h.kept in
-    (t.0, t.1.held, accepts_from_outcome tiger tiger_is_sound limit (all_parts closed open_part) t.0
-        (outcome_all limit (seen before h.records) closed open_part w.limit_is h.loaded ∙ t.2))
+    let t = ends h.records h.kept in (
+      t.0,
+      t.1.held,
+      accepts_from_outcome tiger tiger_is_sound limit (all_parts closed open_part) t.0
+          (outcome_all limit (seen before h.records) closed open_part w.limit_is h.loaded ∙ t.2),
+    )
 
 pub finished_fault : {K : Type 0} (T : Type 0) (holds : K → List Record → Type 0) (limit : ℕ) (before after : LoadedInto K) (f : LoadFault)
     (closed : List (List ℕ)) (open_part : List ℕ) → before.fault ≡ None → Lifts {T = T} holds Ends before (Err f) after
@@ -385,7 +419,7 @@ finished_fault T holds limit before after f closed open_part none ends w is =
     let h = has_of holds limit before closed open_part none w in
     let t = ends h.records h.kept in
     fault_from_outcome tiger tiger_is_sound limit (all_parts closed open_part) f
-        (outcome_all limit (seen before h.records) closed open_part w.limit_is h.loaded ∙ t.2 is)
+    (outcome_all limit (seen before h.records) closed open_part w.limit_is h.loaded ∙ t.2 is)
 
 pub finished_standing : {K : Type 0} (holds : K → List Record → Type 0) (limit : ℕ) (l : LoadedInto K) (f : LoadFault)
     (closed : List (List ℕ)) (open_part : List ℕ) → l.fault ≡ Some f → WasFedInto holds limit l closed open_part → IsOfLines f
@@ -402,7 +436,7 @@ pub fed_read : {K T : Type 0} (holds : K → List Record → Type 0) (limit : �
     → Lifts holds (Reads taken at_end) before result mid → WasFedInto holds limit before closed open_part → MatchResult result
     (λ _. at_end × WasFedInto holds limit (with_fault result mid) (closed ++ (open_part ++ taken) ∷ []) [])
     (λ _. (at_end × WasFedInto holds limit (with_fault result mid) (closed ++ (open_part ++ taken) ∷ []) [])
-        ⊎ WasFedInto holds limit (with_fault result mid) closed (open_part ++ taken))
+    ⊎ WasFedInto holds limit (with_fault result mid) closed (open_part ++ taken))
 fed_read holds limit before mid taken at_end (Ok x) closed open_part none same stays reads w =
     let h = has_of holds limit before closed open_part none w in
     let t = reads h.records h.kept in
@@ -410,9 +444,12 @@ fed_read holds limit before mid taken at_end (Ok x) closed open_part none same s
       t.2.0,
       record {
         limit_is = same ∙ w.limit_is;
-        comes = from_none _ _ mid.fault (stays ∙ none)
-            (t.0, t.1, loaded_closed limit r.at_end (seen mid t.0) closed (open_part ++ taken) (r.takes.limit_is ∙ w.limit_is)
-            (loaded_more limit (seen before h.records) r.at_end closed open_part taken w.limit_is h.loaded r.takes) r.closes);
+        comes = from_none _ _ mid.fault (stays ∙ none) (
+          t.0,
+          t.1,
+          loaded_closed limit r.at_end (seen mid t.0) closed (open_part ++ taken) (r.takes.limit_is ∙ w.limit_is)
+              (loaded_more limit (seen before h.records) r.at_end closed open_part taken w.limit_is h.loaded r.takes) r.closes,
+        );
       },
     )
 fed_read {K} holds limit before mid taken at_end (Err f) closed open_part none same stays reads w = go f (reads h.records h.kept).2
@@ -426,16 +463,25 @@ fed_read {K} holds limit before mid taken at_end (Err f) closed open_part none s
     of_lines : (g : LoadFault) → (at_end × ((later : List (List ℕ)) → to_come (seen before h.records) taken later ≡ Err g))
         ⊎ ((more : List ℕ) (later : List (List ℕ)) → to_come (seen before h.records) (taken ++ more) later ≡ Err g)
         → (at_end × WasFedInto holds limit (record mid { fault = Some g }) (closed ++ (open_part ++ taken) ∷ []) [])
-            ⊎ WasFedInto holds limit (record mid { fault = Some g }) closed (open_part ++ taken)
-    of_lines g (inl p) = inl (p.0, record { limit_is = same ∙ w.limit_is; comes =
-        λ is. fault_closed limit (seen before h.records) closed open_part taken g w.limit_is h.loaded p.1 })
-    of_lines g (inr p) = inr (record { limit_is = same ∙ w.limit_is; comes =
-        λ is. fault_more limit (seen before h.records) closed open_part taken g w.limit_is h.loaded p })
+        ⊎ WasFedInto holds limit (record mid { fault = Some g }) closed (open_part ++ taken)
+    of_lines g (inl p) = inl (
+      p.0,
+      record {
+        limit_is = same ∙ w.limit_is;
+        comes =
+            λ is. fault_closed limit (seen before h.records) closed open_part taken g w.limit_is h.loaded p.1;
+      },
+    )
+    of_lines g (inr p) = inr (record {
+      limit_is = same ∙ w.limit_is;
+      comes =
+          λ is. fault_more limit (seen before h.records) closed open_part taken g w.limit_is h.loaded p;
+    })
 
     go : (g : LoadFault) → (IsOfLines g → (at_end × ((later : List (List ℕ)) → to_come (seen before h.records) taken later ≡ Err g))
         ⊎ ((more : List ℕ) (later : List (List ℕ)) → to_come (seen before h.records) (taken ++ more) later ≡ Err g))
         → (at_end × WasFedInto holds limit (record mid { fault = Some g }) (closed ++ (open_part ++ taken) ∷ []) [])
-            ⊎ WasFedInto holds limit (record mid { fault = Some g }) closed (open_part ++ taken)
+        ⊎ WasFedInto holds limit (record mid { fault = Some g }) closed (open_part ++ taken)
     go faults.Device k = inr (anywhere faults.Device (λ is. is))
     go faults.Memory k = inr (anywhere faults.Memory (λ is. is))
     go (faults.UnknownType a b) k = of_lines _ (k tt)

@@ -36,7 +36,7 @@ allowed_of b byte low same = elim (cases_lt b 127) [
       let latin : leb 160 b ≡ true = le-leb 160 b (ltb-false b 160 (sym same ∙ not_before)) in
       let whole : ltb b 256 ≡ true = lt-ltb b 256 byte in
       ap (λ (x : Bool). (leb 32 b && ltb b 127) || (x && ltb b 256)) latin ∙ ap (λ (x : Bool). (leb 32 b && ltb b 127) || x) whole
-          ∙ or_true (leb 32 b && ltb b 127)
+      ∙ or_true (leb 32 b && ltb b 127)
 ]
 
 pub clean_at : (bytes : List ℕ) (at : ℕ) → at + 32 ≤ length bytes → mask_l (map (λ b. ltb b 32) (chunk at 32 bytes)) ≡ 0
@@ -45,7 +45,7 @@ pub clean_at : (bytes : List ℕ) (at : ℕ) → at + 32 ≤ length bytes → ma
 clean_at bytes at room none same k from below byte =
     let low = none_from_empty_mask (λ b. ltb b 32) bytes at 32 0 room none k from below in
     let agree = lanes_agree (λ b. ltb b 127) (λ b. ltb b 160) (chunk at 32 bytes) (k - at) 0 same
-        (omega (arith, length-chunk at 32 bytes room)) in
+    (omega (arith, length-chunk at 32 bytes room)) in
     let here : get_or (chunk at 32 bytes) (k - at) 0 ≡ get_or bytes k 0 = get_or-chunk at 32 bytes (k - at) 0 (omega arith)
-        ∙ ap (λ (i : ℕ). get_or bytes i 0) (omega arith) in
+    ∙ ap (λ (i : ℕ). get_or bytes i 0) (omega arith) in
     allowed_of (get_or bytes k 0) byte low (subst (λ (b : ℕ). ltb b 127 ≡ ltb b 160) here agree)

@@ -28,7 +28,7 @@ into_of limit l closed open_part counted w = record { limit_is = w.limit_is; com
     go : (o : Option LoadFault) → l.fault ≡ o → MatchOption o (HasLoaded limit (listed l) closed open_part) (λ f. IsOfLines f
         → IsFaultHowever limit closed open_part f)
         → MatchOption o ((records : List Record) × AreKept holds_list l records × HasLoaded limit (seen l records) closed open_part)
-            (λ f. IsOfLines f → IsFaultHowever limit closed open_part f)
+        (λ f. IsOfLines f → IsFaultHowever limit closed open_part f)
     go None e h = (l.kept.items, record { held = refl; counted = counted e }, h)
     go (Some f) e h = h
 

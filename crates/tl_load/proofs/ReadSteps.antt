@@ -25,7 +25,7 @@ consumes_kept (Some s) (Some t) (Some u) x p q = p ∙ ap (λ (l : List ℕ). x 
 rose_then : (a b c m n : ℕ) → RoseBy m a b → RoseBy n b c → RoseBy (m + n) a c
 rose_then a b c m n p q =
     q ∙ sym (mod-add-mod b (2 ^ 64) n) ∙ ap (λ (k : ℕ). (k + n) % 2 ^ 64) p ∙ mod-add-mod (a + m) (2 ^ 64) n
-        ∙ ap (λ (k : ℕ). k % 2 ^ 64) (add_assoc a m n)
+    ∙ ap (λ (k : ℕ). k % 2 ^ 64) (add_assoc a m n)
 
 module _ {R : Type 0} (remaining : R → Option (List ℕ)) (given : R → ℕ) where
   pub gave_none : (s : R) → Gave remaining given s s []

@@ -28,7 +28,7 @@ numbered-append part n [] b = ap (λ (k : ℕ). numbered part k b) (omega arith)
 numbered-append part n (x ∷ a) b =
     let place : n + 1 + length a ≡ n + length (x ∷ a) = omega arith in
     ap (λ (ls : List PlacedLine). record { part = part; line = n; bytes = x } ∷ ls) (numbered-append part (n + 1) a b
-        ∙ ap (λ (k : ℕ). numbered part (n + 1) a ++ numbered part k b) place)
+    ∙ ap (λ (k : ℕ). numbered part (n + 1) a ++ numbered part k b) place)
 
 pub parts-append : (n : ℕ) (a b : List (List ℕ)) → lines_from_part n (a ++ b) ≡ lines_from_part n a ++ lines_from_part (n + length a) b
 unfolding lines_from_part
@@ -36,5 +36,5 @@ parts-append n [] b = ap (λ (k : ℕ). lines_from_part k b) (omega arith)
 parts-append n (x ∷ a) b =
     let place : n + 1 + length a ≡ n + length (x ∷ a) = omega arith in
     ap (λ (ls : List PlacedLine). numbered n 1 (lines x) ++ ls) (parts-append (n + 1) a b
-        ∙ ap (λ (k : ℕ). lines_from_part (n + 1) a ++ lines_from_part k b) place)
+    ∙ ap (λ (k : ℕ). lines_from_part (n + 1) a ++ lines_from_part k b) place)
     ∙ sym (append_assoc (numbered n 1 (lines x)) (lines_from_part (n + 1) a) (lines_from_part (n + length (x ∷ a)) b))

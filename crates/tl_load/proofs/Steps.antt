@@ -37,27 +37,27 @@ takes_comes before after bytes more later t =
     let there = numbered (before.parts + 1) (before.judged + 1) (map without_return t.ended) in
     let split : before.unfinished ++ (bytes ++ more) ≡ with_line_feeds t.ended ++ (after.unfinished ++ more) =
     sym (append_assoc before.unfinished bytes more) ∙ ap (λ (l : List ℕ). l ++ more) t.lines_are.bytes_are
-        ∙ append_assoc (with_line_feeds t.ended) after.unfinished more in
+    ∙ append_assoc (with_line_feeds t.ended) after.unfinished more in
     let cut : lines (before.unfinished ++ (bytes ++ more)) ≡ map without_return t.ended ++ rest = ap lines split
-        ∙ lines_after t.ended (after.unfinished ++ more) t.lines_are.each_ended in
+    ∙ lines_after t.ended (after.unfinished ++ more) t.lines_are.each_ended in
     let place : before.judged + 1 + length (map without_return t.ended) ≡ after.judged + 1 =
-        omega (arith, length-map t.ended without_return, t.judged_are) in
+    omega (arith, length-map t.ended without_return, t.judged_are) in
     let parts : before.parts ≡ after.parts = sym t.parts_are in
     let limit : before.limit ≡ after.limit = sym t.limit_is in
     ap (λ (ls : List (List ℕ)). reading tiger before.limit before.records (numbered (before.parts + 1) (before.judged + 1) ls ++ tail)) cut
     ∙ ap (λ (ls : List PlacedLine). reading tiger before.limit before.records (ls ++ tail))
-        (numbered-append (before.parts + 1) (before.judged + 1) (map without_return t.ended) rest)
+    (numbered-append (before.parts + 1) (before.judged + 1) (map without_return t.ended) rest)
     ∙ ap (reading tiger before.limit before.records)
-        (append_assoc there (numbered (before.parts + 1) (before.judged + 1 + length (map without_return t.ended)) rest) tail)
+    (append_assoc there (numbered (before.parts + 1) (before.judged + 1 + length (map without_return t.ended)) rest) tail)
     ∙ reading-append tiger before.limit before.records there
-        (numbered (before.parts + 1) (before.judged + 1 + length (map without_return t.ended)) rest ++ tail)
+    (numbered (before.parts + 1) (before.judged + 1 + length (map without_return t.ended)) rest ++ tail)
     ∙ ap (λ (r : Result (List Record) LoadFault). r >>= λ records. reading tiger before.limit records
-        (numbered (before.parts + 1) (before.judged + 1 + length (map without_return t.ended)) rest ++ tail)) t.reads
+    (numbered (before.parts + 1) (before.judged + 1 + length (map without_return t.ended)) rest ++ tail)) t.reads
     ∙ ap (λ (k : ℕ). reading tiger before.limit after.records (numbered (before.parts + 1) k rest ++ tail)) place
     ∙ ap (λ (k : ℕ). reading tiger before.limit after.records
-        (numbered (k + 1) (after.judged + 1) rest ++ lines_from_part (k + 1 + 1) later)) parts
+    (numbered (k + 1) (after.judged + 1) rest ++ lines_from_part (k + 1 + 1) later)) parts
     ∙ ap (λ (k : ℕ). reading tiger k after.records
-        (numbered (after.parts + 1) (after.judged + 1) rest ++ lines_from_part (after.parts + 1 + 1) later)) limit
+    (numbered (after.parts + 1) (after.judged + 1) rest ++ lines_from_part (after.parts + 1 + 1) later)) limit
 
 pub takes_none : (l : Loaded) → IsWithoutLineFeed l.unfinished → TakesLines l [] l
 unfolding numbered reading
@@ -100,7 +100,7 @@ takes_both before mid after a b p q =
         bytes_are = sym (append_assoc before.unfinished a b) ∙ ap (λ (l : List ℕ). l ++ b) p.lines_are.bytes_are
             ∙ append_assoc (with_line_feeds p.ended) mid.unfinished b
             ∙ ap (λ (l : List ℕ). with_line_feeds p.ended ++ l) q.lines_are.bytes_are
-                ∙ sym (append_assoc (with_line_feeds p.ended) (with_line_feeds q.ended) after.unfinished)
+            ∙ sym (append_assoc (with_line_feeds p.ended) (with_line_feeds q.ended) after.unfinished)
             ∙ ap (λ (l : List ℕ). l ++ after.unfinished) (sym (flat_map-append (λ (line : List ℕ). line ++ 10 ∷ []) p.ended q.ended));
         each_ended = All-append IsWithoutLineFeed p.ended q.ended p.lines_are.each_ended q.lines_are.each_ended;
         not_ended = q.lines_are.not_ended;
@@ -109,9 +109,9 @@ takes_both before mid after a b p q =
           (map-append without_return p.ended q.ended)
           ∙ ap (reading tiger before.limit before.records) (numbered-append (before.parts + 1) (before.judged + 1) first second)
           ∙ reading-append tiger before.limit before.records (numbered (before.parts + 1) (before.judged + 1) first)
-              (numbered (before.parts + 1) (before.judged + 1 + length first) second)
+          (numbered (before.parts + 1) (before.judged + 1 + length first) second)
           ∙ ap (λ (r : Result (List Record) LoadFault). r >>= λ records. reading tiger before.limit records
-              (numbered (before.parts + 1) (before.judged + 1 + length first) second)) p.reads
+          (numbered (before.parts + 1) (before.judged + 1 + length first) second)) p.reads
           ∙ ap (λ (k : ℕ). reading tiger before.limit mid.records (numbered (before.parts + 1) k second)) place
           ∙ ap (λ (k : ℕ). reading tiger before.limit mid.records (numbered (k + 1) (mid.judged + 1) second)) (sym p.parts_are)
           ∙ ap (λ (k : ℕ). reading tiger k mid.records (numbered (mid.parts + 1) (mid.judged + 1) second)) (sym p.limit_is)
@@ -160,7 +160,7 @@ pub record IsBefore (mid before : Loaded) : Type 0 where
 reading_line : (l : Loaded) (line : List ℕ) (more : List (List ℕ)) (tail : List PlacedLine)
     → reading tiger l.limit l.records (numbered (l.parts + 1) (l.judged + 1) (line ∷ more) ++ tail)
     ≡ (after_verdict tiger l.limit l.records (next_place l line) (judged line) >>= λ records. reading tiger l.limit records
-        (numbered (l.parts + 1) (l.judged + 1 + 1) more ++ tail))
+    (numbered (l.parts + 1) (l.judged + 1 + 1) more ++ tail))
 unfolding numbered reading next tiger
 reading_line l line more tail = refl
 
@@ -178,7 +178,7 @@ one_line l line = refl
 pub ends_line : {T : Type 0} (before mid after : Loaded) (bytes line : List ℕ) (result : Result T LoadFault) → IsBefore mid before
     → line ≡ without_return (before.unfinished ++ bytes) → IsWithoutLineFeed (before.unfinished ++ bytes)
     → Judges line mid result after → OnOk result (after.judged ≡ mid.judged + 1) → after.unfinished ≡ [] → after.parts ≡ mid.parts
-        → after.limit ≡ mid.limit → Takes (bytes ++ 10 ∷ []) before result after
+    → after.limit ≡ mid.limit → Takes (bytes ++ 10 ∷ []) before result after
 unfolding to_come
 ends_line before mid after bytes line (Ok x) same is none judges count empty parts limit =
     let whole = before.unfinished ++ bytes in
@@ -202,16 +202,16 @@ ends_line before mid after bytes line (Err f) same is none judges count empty pa
     let whole = before.unfinished ++ bytes in
     let joined : before.unfinished ++ ((bytes ++ 10 ∷ []) ++ more) ≡ whole ++ 10 ∷ more = simp append_assoc in
     let step : after_verdict tiger before.limit before.records (next_place before (without_return whole))
-        (judged (without_return whole)) ≡ Err f =
+    (judged (without_return whole)) ≡ Err f =
     ap (λ (l : List ℕ). after_verdict tiger before.limit before.records (next_place before l) (judged l)) (sym is)
-        ∙ sym (verdict_before mid before line same) ∙ judges of_lines in
+    ∙ sym (verdict_before mid before line same) ∙ judges of_lines in
     ap (λ (l : List ℕ). reading tiger before.limit before.records
-        (numbered (before.parts + 1) (before.judged + 1) (lines l) ++ lines_from_part (before.parts + 1 + 1) later)) joined
+    (numbered (before.parts + 1) (before.judged + 1) (lines l) ++ lines_from_part (before.parts + 1 + 1) later)) joined
     ∙ ap (λ (l : List (List ℕ)). reading tiger before.limit before.records
-        (numbered (before.parts + 1) (before.judged + 1) l ++ lines_from_part (before.parts + 1 + 1) later)) (lines_line whole more none)
+    (numbered (before.parts + 1) (before.judged + 1) l ++ lines_from_part (before.parts + 1 + 1) later)) (lines_line whole more none)
     ∙ reading_line before (without_return whole) (lines more) (lines_from_part (before.parts + 1 + 1) later)
     ∙ ap (λ (r : Result (List Record) LoadFault). r >>= λ records. reading tiger before.limit records
-        (numbered (before.parts + 1) (before.judged + 1 + 1) (lines more) ++ lines_from_part (before.parts + 1 + 1) later)) step
+    (numbered (before.parts + 1) (before.judged + 1 + 1) (lines more) ++ lines_from_part (before.parts + 1 + 1) later)) step
 
 -- ---- a line that is too long, whatever follows
 
@@ -223,7 +223,7 @@ err_of (Err f) h = (f, refl)
 long_line : (before : Loaded) (bytes line : List ℕ) (c : ℕ) (z : List ℕ) (fault : LineFault) → before.unfinished ++ bytes ≡ line ++ c ∷ z
     → 228 < length line → IsWithoutLineFeed (before.unfinished ++ bytes)
     → judged line ≡ Err fault → (more : List ℕ) (later : List (List ℕ))
-        → to_come before (bytes ++ more) later ≡ Err (fault_at (before.parts + 1) (before.judged + 1) fault)
+    → to_come before (bytes ++ more) later ≡ Err (fault_at (before.parts + 1) (before.judged + 1) fault)
 unfolding to_come
 long_line before bytes line c z fault split long none e more later =
     let u = before.unfinished in
@@ -231,30 +231,30 @@ long_line before bytes line c z fault split long none e more later =
     let begins = first_line_of whole more (omega (arith, ap length split, length-append line (c ∷ z))) none in
     let front = without_return_front line c (z ++ begins.more) in
     let regroup : whole ++ begins.more ≡ line ++ c ∷ (z ++ begins.more) = ap (λ (l : List ℕ). l ++ begins.more) split
-        ∙ append_assoc line (c ∷ z) begins.more in
+    ∙ append_assoc line (c ∷ z) begins.more in
     let first : lines (u ++ (bytes ++ more)) ≡ (line ++ front.0) ∷ begins.rest =
     ap lines (sym (append_assoc u bytes more)) ∙ begins.first ∙ ap (λ (l : List ℕ). without_return l ∷ begins.rest) regroup
-        ∙ ap (λ (l : List ℕ). l ∷ begins.rest) front.1 in
+    ∙ ap (λ (l : List ℕ). l ∷ begins.rest) front.1 in
     let settled : judged (line ++ front.0) ≡ Err fault = judged_settles line front.0 long ∙ e in
     ap (λ (l : List (List ℕ)). reading tiger before.limit before.records
-        (numbered (before.parts + 1) (before.judged + 1) l ++ lines_from_part (before.parts + 1 + 1) later)) first
+    (numbered (before.parts + 1) (before.judged + 1) l ++ lines_from_part (before.parts + 1 + 1) later)) first
     ∙ reading_line before (line ++ front.0) begins.rest (lines_from_part (before.parts + 1 + 1) later)
     ∙ ap (λ (v : Result Record LineFault). after_verdict tiger before.limit before.records
-        (next_place before (line ++ front.0)) v >>= λ records. reading tiger before.limit records
-        (numbered (before.parts + 1) (before.judged + 1 + 1) begins.rest ++ lines_from_part (before.parts + 1 + 1) later)) settled
+    (next_place before (line ++ front.0)) v >>= λ records. reading tiger before.limit records
+    (numbered (before.parts + 1) (before.judged + 1 + 1) begins.rest ++ lines_from_part (before.parts + 1 + 1) later)) settled
 
 pub refuses : {T : Type 0} (before mid after : Loaded) (bytes line rest : List ℕ) (result : Result T LoadFault) → IsBefore mid before
     → before.unfinished ++ bytes ≡ line ++ rest → 0 < length rest → 228 < length line
     → IsWithoutLineFeed (before.unfinished ++ bytes) → OnOk result (length line ≤ 228) → Judges line mid result after
-        → Takes bytes before result after
+    → Takes bytes before result after
 refuses before mid after bytes line [] result same split some long none short judges = absurd (omega arith)
 refuses before mid after bytes line (c ∷ z) (Ok x) same split some long none short judges = absurd (omega arith)
 refuses before mid after bytes line (c ∷ z) (Err f) same split some long none short judges = λ is more later.
     let fault = err_of (judged line) (judged_long line long) in
     let told = judges is in
     let at_place : after_verdict tiger mid.limit mid.records (next_place mid line) (judged line) ≡ Err
-        (fault_at (mid.parts + 1) (mid.judged + 1) fault.0) =
-        ap (after_verdict tiger mid.limit mid.records (next_place mid line)) fault.1 in
+    (fault_at (mid.parts + 1) (mid.judged + 1) fault.0) =
+    ap (after_verdict tiger mid.limit mid.records (next_place mid line)) fault.1 in
     let a = same.parts in let b = same.judged in
     long_line before bytes line c z fault.0 split long none fault.1 more later ∙ cc
 
@@ -277,7 +277,7 @@ leaves_taken before mid after bytes rest (Ok x) p q =
     subst (λ (l : List ℕ). TakesLines before l after) (sym p.bytes_are) (takes_both before mid after p.taken rest p.takes q)
 leaves_taken before mid after bytes rest (Err f) p q = λ is more later.
     ap (λ (l : List ℕ). to_come before l later) (ap (λ (l : List ℕ). l ++ more) p.bytes_are ∙ append_assoc p.taken rest more)
-        ∙ takes_comes before mid p.taken (rest ++ more) later p.takes ∙ q is more later
+    ∙ takes_comes before mid p.taken (rest ++ more) later p.takes ∙ q is more later
 
 pub leaves_fault : (T : Type 0) (before mid after : Loaded) (bytes rest line left : List ℕ) (f : LoadFault)
     → LeavesRest before bytes rest mid → rest ≡ line ++ 10 ∷ left → Takes {T = T} (line ++ 10 ∷ []) mid (Err f) after
@@ -285,7 +285,7 @@ pub leaves_fault : (T : Type 0) (before mid after : Loaded) (bytes rest line lef
 leaves_fault T before mid after bytes rest line left f p split q =
     let same : rest ≡ (line ++ 10 ∷ []) ++ left = split ∙ simp append_assoc in
     leaves_taken {T = T} before mid after bytes rest (Err f) p
-        (subst (λ (l : List ℕ). Takes {T = T} l mid (Err f) after) (sym same) (fault_then T T mid after after (line ++ 10 ∷ []) left f q))
+    (subst (λ (l : List ℕ). Takes {T = T} l mid (Err f) after) (sym same) (fault_then T T mid after after (line ++ 10 ∷ []) left f q))
 
 -- ---- the end of a part
 
@@ -310,7 +310,7 @@ ends_part {T} before mid after line result same some none is judges = go result 
     first : to_end before ≡ (after_verdict tiger mid.limit mid.records (next_place mid line) (judged line) >>= λ records. Ok records)
     first =
         ap (λ (l : List (List ℕ)). reading tiger before.limit before.records (numbered (before.parts + 1) (before.judged + 1) l))
-            (lines_rest before.unfinished none ∙ last_of before.unfinished some ∙ ap (λ (l : List ℕ). l ∷ []) (sym is))
+        (lines_rest before.unfinished none ∙ last_of before.unfinished some ∙ ap (λ (l : List ℕ). l ∷ []) (sym is))
         ∙ one_line before line
         ∙ ap (λ (r : Result (List Record) LoadFault). r >>= λ records. Ok records) (sym (verdict_before mid before line same))
 
@@ -324,9 +324,9 @@ pub comes_at_end : (l : Loaded) (later : List (List ℕ))
 unfolding to_come
 comes_at_end l later =
     ap (λ (b : List ℕ). reading tiger l.limit l.records
-        (numbered (l.parts + 1) (l.judged + 1) (lines b) ++ lines_from_part (l.parts + 1 + 1) later)) (append-nil l.unfinished)
+    (numbered (l.parts + 1) (l.judged + 1) (lines b) ++ lines_from_part (l.parts + 1 + 1) later)) (append-nil l.unfinished)
     ∙ reading-append tiger l.limit l.records (numbered (l.parts + 1) (l.judged + 1) (lines l.unfinished))
-        (lines_from_part (l.parts + 1 + 1) later)
+    (lines_from_part (l.parts + 1 + 1) later)
 
 pub closed_comes : (T : Type 0) (before after : Loaded) (f : LoadFault) (later : List (List ℕ)) → to_end before ≡ Err f
     → to_come before [] later ≡ Err f
@@ -343,11 +343,11 @@ reads_closed {T} a b c taken at_end (Err f) p q e = λ is. inl (
   e,
   λ later.
       ap (λ (l : List ℕ). to_come a l later) (sym (append-nil taken)) ∙ takes_comes a b taken [] later p
-          ∙ closed_comes T b c f later (q is),
+      ∙ closed_comes T b c f later (q is),
 )
 
 pub reads_fault : (T : Type 0) (a b c : Loaded) (taken bytes : List ℕ) (at_end : Type 0) (f : LoadFault) → TakesLines a taken b
     → Takes {T = T} bytes b (Err f) c → Reads {T = T} (taken ++ bytes) at_end a (Err f) c
 reads_fault T a b c taken bytes at_end f p q = λ is. inr (λ more later.
     ap (λ (l : List ℕ). to_come a l later) (append_assoc taken bytes more) ∙ takes_comes a b taken (bytes ++ more) later p
-        ∙ q is more later)
+    ∙ q is more later)

@@ -42,7 +42,7 @@ cut_at bytes n lt h =
     let e : drop n bytes ≡ get_or bytes n 0 ∷ drop (n + 1) bytes = drop_more bytes n 0 lt in
     let rest : drop 1 (drop n bytes) ≡ drop (n + 1) bytes = ap (λ (l : List ℕ). drop 1 l) e in
     sym (take-append-drop n bytes) ∙ ap (λ (l : List ℕ). take n bytes ++ l) (e ∙ ap (λ (b : ℕ). b ∷ drop (n + 1) bytes) (eqb-true _ _ h)
-        ∙ ap (λ (l : List ℕ). 10 ∷ l) (sym rest))
+    ∙ ap (λ (l : List ℕ). 10 ∷ l) (sym rest))
 
 -- what `&bytes[1..]` is
 pub rest_of : (bytes : List ℕ) → take (length bytes - 1) (drop 1 bytes) ≡ drop 1 bytes

@@ -20,8 +20,15 @@ pub record LoadedInto (K : Type 0) : Type 0 where
 
 -- the loader, if these records were kept
 abbrev pub seen : {K : Type 0} → LoadedInto K → List Record → Loaded
-seen l records = record { records = records; parts = l.parts; judged = l.judged; unfinished = l.unfinished; limit = l.limit; fault =
-    l.fault }
+seen l records = record {
+  records = records;
+  parts = l.parts;
+  judged = l.judged;
+  unfinished = l.unfinished;
+  limit = l.limit;
+  fault =
+      l.fault;
+}
 
 -- so many records of each type there are
 abbrev pub AreCounted : List ℕ → List Record → Type 0

@@ -14,7 +14,7 @@ use Rattle.tl_load.specs.Keeping.{LoadedInto, Lifts}
 unfoldable pub to_come : Loaded → List ℕ → List (List ℕ) → Result (List Record) LoadFault
 to_come l more later =
     reading tiger l.limit l.records (numbered (l.parts + 1) (l.judged + 1) (lines (l.unfinished ++ more)) ++ lines_from_part
-        (l.parts + 1 + 1) later)
+    (l.parts + 1 + 1) later)
 
 -- the bytes were taken: the lines that they ended are judged, and what no LF has ended is kept
 pub record TakesLines (before : Loaded) (bytes : List ℕ) (after : Loaded) : Type 0 where
@@ -92,7 +92,7 @@ abbrev pub Reads : {T : Type 0} → List ℕ → Type 0 → Loaded → Result T 
 Reads taken at_end before result after = MatchResult result
     (λ _. at_end × ReadsAll before taken after)
     (λ f. IsOfLines f → (at_end × ((later : List (List ℕ)) → to_come before taken later ≡ Err f))
-        ⊎ ((more : List ℕ) (later : List (List ℕ)) → to_come before (taken ++ more) later ≡ Err f))
+    ⊎ ((more : List ℕ) (later : List (List ℕ)) → to_come before (taken ++ more) later ≡ Err f))
 
 -- a loader takes these bytes without a fault, and then has fewer than 230 bytes of a line that hasn't ended
 pub record TakesWell {K : Type 0} (holds : K → List Record → Type 0) (before : LoadedInto K) (taken : List ℕ) : Type 0 where

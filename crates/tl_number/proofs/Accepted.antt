@@ -43,22 +43,22 @@ module _ (xs ys c d : List Record) (h : IsCanonicalOf xs c) (k : IsCanonicalOf y
   pub same_one_canonical : AreSame (county_of xs) (county_of ys) → c ≡ d
   same_one_canonical s =
       let back : AreSame (county_of c) (county_of xs) =
-          same-symmetric (county_of xs) (county_of c) (county-is_county xs h.accepted.linked)
-          (county-is_county c h.canonical.tidy.linked) h.same in
+      same-symmetric (county_of xs) (county_of c) (county-is_county xs h.accepted.linked)
+      (county-is_county c h.canonical.tidy.linked) h.same in
       let there : AreSame (county_of c) (county_of ys) =
-          same-transitive (county_of c) (county_of xs) (county_of ys) (county-is_county c h.canonical.tidy.linked)
-          (county-is_county xs h.accepted.linked) back s in
+      same-transitive (county_of c) (county_of xs) (county_of ys) (county-is_county c h.canonical.tidy.linked)
+      (county-is_county xs h.accepted.linked) back s in
       unique c d h.canonical k.canonical (same-transitive (county_of c) (county_of ys) (county_of d)
-          (county-is_county c h.canonical.tidy.linked) (county-is_county ys k.accepted.linked) there k.same)
+      (county-is_county c h.canonical.tidy.linked) (county-is_county ys k.accepted.linked) there k.same)
 
   pub one_canonical_same : c ≡ d → AreSame (county_of xs) (county_of ys)
   one_canonical_same e =
       let back : AreSame (county_of d) (county_of ys) =
-          same-symmetric (county_of ys) (county_of d) (county-is_county ys k.accepted.linked)
-          (county-is_county d k.canonical.tidy.linked) k.same in
+      same-symmetric (county_of ys) (county_of d) (county-is_county ys k.accepted.linked)
+      (county-is_county d k.canonical.tidy.linked) k.same in
       let there : AreSame (county_of xs) (county_of d) = subst (λ l. AreSame (county_of xs) (county_of l)) e h.same in
       same-transitive (county_of xs) (county_of d) (county_of ys) (county-is_county xs h.accepted.linked)
-          (county-is_county d k.canonical.tidy.linked) there back
+      (county-is_county d k.canonical.tidy.linked) there back
 
 -- a canonical list of an accepted one is its own canonical list
 pub canonical_of_itself : (xs c : List Record) → IsCanonicalOf xs c → IsCanonicalOf c c

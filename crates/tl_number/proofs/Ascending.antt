@@ -66,7 +66,7 @@ apart_values {X} {K} {cmp} o number value (x ∷ xs) a h k =
             let y = among-unmap value k xs (known_is_among o k (map value xs) (omega (arith, f))) in
             let same : number x ≡ number y.0 = h x y.0 (inl refl) (inr y.1) (sym e ∙ y.2) in
             let there : 0 < times nat_cmp (number y.0) (map number xs) =
-                among_known nat_keys (number y.0) (map number xs) (among-map number y.0 xs y.1) in
+            among_known nat_keys (number y.0) (map number xs) (among-map number y.0 xs y.1) in
             let few : times nat_cmp (number y.0) (number x ∷ map number xs) ≤ 1 = a (number y.0) in
             omega (arith, there, few, times-yes nat_keys (number y.0) (number x) (map number xs) (sym same)))
 
@@ -113,10 +113,10 @@ module _ (county : County) (is : IsCounty county) (profile : IsInProfile county)
   sides_in_profile = each_from (λ k. IsTrue (stands_in key_cmp k (polygons_along county.chains))) (polygon_keys county)
       (λ k m. let e = among-unmap (λ (d : PolygonKey × Option BodyP). d.0) k county.polygons m in
       let whole : (is_some e.0.1 || stands_in key_cmp e.0.0 (polygons_along county.chains)) ≡ true =
-          all_among (λ d. IsTrue
-          (is_some d.1 || stands_in key_cmp d.0 (polygons_along county.chains))) e.0 county.polygons is.whole.polygons e.1 in
+      all_among (λ d. IsTrue
+      (is_some d.1 || stands_in key_cmp d.0 (polygons_along county.chains))) e.0 county.polygons is.whole.polygons e.1 in
       subst (λ j. IsTrue (stands_in key_cmp j (polygons_along county.chains))) (sym e.2)
-          (go e.0 e.1 (or_cases (is_some e.0.1) (stands_in key_cmp e.0.0 (polygons_along county.chains)) whole)))
+      (go e.0 e.1 (or_cases (is_some e.0.1) (stands_in key_cmp e.0.0 (polygons_along county.chains)) whole)))
     where
       go : (d : PolygonKey × Option BodyP) → Among d county.polygons
           → (is_some d.1 ≡ true) ⊎ (stands_in key_cmp d.0 (polygons_along county.chains) ≡ true)
@@ -131,7 +131,7 @@ module _ (county : County) (is : IsCounty county) (profile : IsInProfile county)
   ascending_arranges = subst (λ ns. IsPermutation ns (tlids county))
       (sym (map-map (λ (s : ℕ × Bool). s.0) (λ (e : ℕ × Chain). (e.0, comes_turned e.1)) ordered))
       (IsPermutation-map (λ (e : ℕ × Chain). e.0) ordered county.chains
-          (in_order-is_permutation (on least_points points_cmp) county.chains))
+      (in_order-is_permutation (on least_points points_cmp) county.chains))
 
   -- the placed chains are the ordered ones, each in its lesser direction
   bodies_are : (es : List (ℕ × Chain)) → AllByRecursion (λ e. Among e county.chains) es
@@ -140,13 +140,13 @@ module _ (county : County) (is : IsCounty county) (profile : IsInProfile county)
   bodies_are [] a = refl
   bodies_are (e ∷ es) a =
       let rest : List Chain =
-          flat_map (λ (s : ℕ × Bool). map (λ (d : ℕ × Chain). turned_if s.1 d.1) (entries_of county.chains s.0))
-          (map (λ (d : ℕ × Chain). (d.0, comes_turned d.1)) es) in
+      flat_map (λ (s : ℕ × Bool). map (λ (d : ℕ × Chain). turned_if s.1 d.1) (entries_of county.chains s.0))
+      (map (λ (d : ℕ × Chain). (d.0, comes_turned d.1)) es) in
       let known : Known nat_cmp (tlids county) e.0 =
-          among_known nat_keys e.0 (tlids county) (among-map (λ (d : ℕ × Chain). d.0) e county.chains a.0) in
+      among_known nat_keys e.0 (tlids county) (among-map (λ (d : ℕ × Chain). d.0) e county.chains a.0) in
       let one = one_chain county (ascending county) is ascending_arranges e.0 known in
       let there : Among e (entries_of county.chains e.0) =
-          to_filter (λ (d : ℕ × Chain). d.0 == e.0) e county.chains a.0 (eq-eqb e.0 e.0 refl) in
+      to_filter (λ (d : ℕ × Chain). d.0 == e.0) e county.chains a.0 (eq-eqb e.0 e.0 refl) in
       let same : e ≡ one.0 = only (subst (Among e) one.1 there) in
       ap (λ ds. map (λ (d : ℕ × Chain). turned_if (comes_turned e.1) d.1) ds ++ rest) (one.1 ∙ ap (λ d. d ∷ []) (sym same))
       ∙ ap (λ cs. turned_if (comes_turned e.1) e.1 ∷ cs) (bodies_are es a.1)
@@ -159,9 +159,9 @@ module _ (county : County) (is : IsCounty county) (profile : IsInProfile county)
       (λ (e : ℕ × Chain). turned_if (comes_turned e.1) e.1) ordered
   placed_chains =
       rights-numbered_from 1 (flat_map (λ (s : ℕ × Bool). map (λ (d : ℕ × Chain). turned_if s.1 d.1) (entries_of county.chains s.0))
-          (ascending county))
+      (ascending county))
       ∙ bodies_are ordered (each_from (λ e. Among e county.chains) ordered
-          (λ e m. from_in_order (on least_points points_cmp) county.chains e m))
+      (λ e m. from_in_order (on least_points points_cmp) county.chains e m))
 
   points_arranged : map entry_points (arranged county (ascending county)).chains ≡ map least_points ordered
   points_arranged =
@@ -181,14 +181,14 @@ module _ (county : County) (is : IsCounty county) (profile : IsInProfile county)
   ascending_least =
       let strict : IsStrictlySortedBy points_cmp (map least_points ordered) =
       strict_from_order points_keys (map least_points ordered)
-          (in_order-map points_cmp least_points ordered (in_order-in_order (on_total least_points points_keys.total) county.chains))
+      (in_order-map points_cmp least_points ordered (in_order-in_order (on_total least_points points_keys.total) county.chains))
       (λ k. subst (λ n. n ≤ 1) (sym (times-in_order points_cmp least_points (on least_points points_cmp) county.chains k))
-          (least_apart k)) in
+      (least_apart k)) in
       let directions : AllByRecursion (λ ps. points_cmp ps (reverse ps) ≡ Less) (map least_points ordered) =
       all_map (λ ps. points_cmp ps (reverse ps) ≡ Less) least_points ordered
       (each_from (λ e. points_cmp (least_points e) (reverse (least_points e)) ≡ Less) ordered
       (λ e m. least_first e.1 (not_own_reverse county profile e (from_in_order (on least_points points_cmp) county.chains e m))
-          (comes_turned e.1) refl)) in
+      (comes_turned e.1) refl)) in
       record {
         directions = all_unmap (λ ps. points_cmp ps (reverse ps) ≡ Less) entry_points (arranged county (ascending county)).chains
             (subst (AllByRecursion (λ ps. points_cmp ps (reverse ps) ≡ Less)) (sym points_arranged) directions);
@@ -215,6 +215,9 @@ canonical_exists records accepted =
         tidy = packed_tidy (arranged county steps) new (arranged_tidy county steps is arranges sides);
         least = subst IsLeast (sym back) (ascending_least county is accepted.profile);
       };
-      same = record { by = renaming_of county steps; carries =
-          subst (Carries (renaming_of county steps) county) (sym back) (arrangement_carries county steps is arranges sides) };
+      same = record {
+        by = renaming_of county steps;
+        carries =
+            subst (Carries (renaming_of county steps) county) (sym back) (arrangement_carries county steps is arranges sides);
+      };
     }

@@ -59,70 +59,73 @@ module _ (county : County) (steps : Arrangement) (is : IsCounty county) (arrange
       → (e : ℕ × Chain) × Among e county.chains × ((b : Bool) × (entry.1 ≡ turned_if b e.1))
   from_placed entry m =
       let bodies : List Chain =
-          flat_map (λ (s : ℕ × Bool). map (λ (e : ℕ × Chain). turned_if s.1 e.1) (entries_of county.chains s.0)) steps in
+      flat_map (λ (s : ℕ × Bool). map (λ (e : ℕ × Chain). turned_if s.1 e.1) (entries_of county.chains s.0)) steps in
       let body : Among entry.1 bodies =
-          subst (Among entry.1) (rights-numbered_from 1 bodies) (among-map (λ (e : ℕ × Chain). e.1) entry (placed county steps) m) in
+      subst (Among entry.1) (rights-numbered_from 1 bodies) (among-map (λ (e : ℕ × Chain). e.1) entry (placed county steps) m) in
       let s = among-unpieces (λ (s : ℕ × Bool). map (λ (e : ℕ × Chain). turned_if s.1 e.1)
-          (entries_of county.chains s.0)) entry.1 steps body in
-      let e = among-unmap (λ (e : ℕ × Chain). turned_if s.0.1 e.1) entry.1 (entries_of county.chains s.0.0) s.2 in
-      (e.0, all_among (λ x. Among x county.chains) e.0 (entries_of county.chains s.0.0)
-          (of_number-among (λ (x : ℕ × Chain). x.0) s.0.0 county.chains) e.1, (s.0.1, e.2))
+      (entries_of county.chains s.0)) entry.1 steps body in
+      let e = among-unmap (λ (e : ℕ × Chain). turned_if s.0.1 e.1) entry.1 (entries_of county.chains s.0.0) s.2 in (
+        e.0,
+        all_among (λ x. Among x county.chains) e.0 (entries_of county.chains s.0.0)
+            (of_number-among (λ (x : ℕ × Chain). x.0) s.0.0 county.chains) e.1,
+        (s.0.1, e.2),
+      )
 
   -- and each chain of the county is placed
   to_placed : (e : ℕ × Chain) → Among e county.chains
       → (entry : ℕ × Chain) × Among entry (placed county steps) × ((b : Bool) × (entry.1 ≡ turned_if b e.1))
   to_placed e m =
       let bodies : List Chain =
-          flat_map (λ (s : ℕ × Bool). map (λ (x : ℕ × Chain). turned_if s.1 x.1) (entries_of county.chains s.0)) steps in
+      flat_map (λ (s : ℕ × Bool). map (λ (x : ℕ × Chain). turned_if s.1 x.1) (entries_of county.chains s.0)) steps in
       let ordered : Among e (chains_in_order county steps) =
-          among-permutation e county.chains (chains_in_order county steps)
-          (IsPermutation-sym (chains_in_order county steps) county.chains (order-permutation county steps is arranges)) m in
+      among-permutation e county.chains (chains_in_order county steps)
+      (IsPermutation-sym (chains_in_order county steps) county.chains (order-permutation county steps is arranges)) m in
       let s = among-unpieces (λ (s : ℕ × Bool). entries_of county.chains s.0) e steps ordered in
       let body : Among (turned_if s.0.1 e.1) bodies =
-          among-pieces (λ (t : ℕ × Bool). map (λ (x : ℕ × Chain). turned_if t.1 x.1) (entries_of county.chains t.0)) s.0
-          (turned_if s.0.1 e.1) steps s.1 (among-map (λ (x : ℕ × Chain). turned_if s.0.1 x.1) e (entries_of county.chains s.0.0) s.2) in
+      among-pieces (λ (t : ℕ × Bool). map (λ (x : ℕ × Chain). turned_if t.1 x.1) (entries_of county.chains t.0)) s.0
+      (turned_if s.0.1 e.1) steps s.1 (among-map (λ (x : ℕ × Chain). turned_if s.0.1 x.1) e (entries_of county.chains s.0.0) s.2) in
       let entry = among-unmap (λ (x : ℕ × Chain). x.1) (turned_if s.0.1 e.1) (placed county steps)
-          (subst (Among (turned_if s.0.1 e.1)) (sym (rights-numbered_from 1 bodies)) body) in
+      (subst (Among (turned_if s.0.1 e.1)) (sym (rights-numbered_from 1 bodies)) body) in
       (entry.0, entry.1, (s.0.1, sym entry.2))
 
   -- nodes and polygons along the placed chains are those along the county's
   pub nodes_from_placed : (n : ℕ) → Known nat_cmp (nodes_along (placed county steps)) n → Known nat_cmp (nodes_along county.chains) n
   nodes_from_placed n k =
       let entry = among-unpieces (λ (x : ℕ × Chain). chain_nodes x.1) n (placed county steps)
-          (known_is_among nat_keys n (nodes_along (placed county steps)) k) in
+      (known_is_among nat_keys n (nodes_along (placed county steps)) k) in
       let e = from_placed entry.0 entry.1 in
       among_known nat_keys n (nodes_along county.chains)
-          (among-pieces (λ (x : ℕ × Chain). chain_nodes x.1) e.0 n county.chains e.1
-          (nodes-unturned n e.2.0 e.0.1 (subst (λ c. Among n (chain_nodes c)) e.2.1 entry.2)))
+      (among-pieces (λ (x : ℕ × Chain). chain_nodes x.1) e.0 n county.chains e.1
+      (nodes-unturned n e.2.0 e.0.1 (subst (λ c. Among n (chain_nodes c)) e.2.1 entry.2)))
 
   pub nodes_to_placed : (n : ℕ) → Known nat_cmp (nodes_along county.chains) n → Known nat_cmp (nodes_along (placed county steps)) n
   nodes_to_placed n k =
       let e = among-unpieces (λ (x : ℕ × Chain). chain_nodes x.1) n county.chains
-          (known_is_among nat_keys n (nodes_along county.chains) k) in
+      (known_is_among nat_keys n (nodes_along county.chains) k) in
       let entry = to_placed e.0 e.1 in
       among_known nat_keys n (nodes_along (placed county steps))
-          (among-pieces (λ (x : ℕ × Chain). chain_nodes x.1) entry.0 n (placed county steps) entry.1
-          (subst (λ c. Among n (chain_nodes c)) (sym entry.2.1) (nodes-turned n entry.2.0 e.0.1 e.2)))
+      (among-pieces (λ (x : ℕ × Chain). chain_nodes x.1) entry.0 n (placed county steps) entry.1
+      (subst (λ c. Among n (chain_nodes c)) (sym entry.2.1) (nodes-turned n entry.2.0 e.0.1 e.2)))
 
   pub polygons_from_placed : (k : PolygonKey) → Known key_cmp (polygons_along (placed county steps)) k
       → Known key_cmp (polygons_along county.chains) k
   polygons_from_placed k l =
       let entry = among-unpieces (λ (x : ℕ × Chain). chain_polygons x.1) k (placed county steps)
-          (known_is_among key_keys k (polygons_along (placed county steps)) l) in
+      (known_is_among key_keys k (polygons_along (placed county steps)) l) in
       let e = from_placed entry.0 entry.1 in
       among_known key_keys k (polygons_along county.chains)
-          (among-pieces (λ (x : ℕ × Chain). chain_polygons x.1) e.0 k county.chains e.1
-          (polygons-unturned k e.2.0 e.0.1 (subst (λ c. Among k (chain_polygons c)) e.2.1 entry.2)))
+      (among-pieces (λ (x : ℕ × Chain). chain_polygons x.1) e.0 k county.chains e.1
+      (polygons-unturned k e.2.0 e.0.1 (subst (λ c. Among k (chain_polygons c)) e.2.1 entry.2)))
 
   pub polygons_to_placed : (k : PolygonKey) → Known key_cmp (polygons_along county.chains) k
       → Known key_cmp (polygons_along (placed county steps)) k
   polygons_to_placed k l =
       let e = among-unpieces (λ (x : ℕ × Chain). chain_polygons x.1) k county.chains
-          (known_is_among key_keys k (polygons_along county.chains) l) in
+      (known_is_among key_keys k (polygons_along county.chains) l) in
       let entry = to_placed e.0 e.1 in
       among_known key_keys k (polygons_along (placed county steps))
-          (among-pieces (λ (x : ℕ × Chain). chain_polygons x.1) entry.0 k (placed county steps) entry.1
-          (subst (λ c. Among k (chain_polygons c)) (sym entry.2.1) (among-turned k entry.2.0 e.0.1 e.2)))
+      (among-pieces (λ (x : ℕ × Chain). chain_polygons x.1) entry.0 k (placed county steps) entry.1
+      (subst (λ c. Among k (chain_polygons c)) (sym entry.2.1) (among-turned k entry.2.0 e.0.1 e.2)))
 
   -- the renaming and the arranged county, part by part
   pub chains_renamed : (renaming_of county steps).chains ≡ numbered (arranged_tlids steps)
@@ -188,8 +191,8 @@ module _ (county : County) (steps : Arrangement) (is : IsCounty county) (arrange
       → map (λ (e : ℕ × V). image nat_cmp pairs e.0) ordered ≡ up_to (length ordered)
   numbered_kind {V} pairs ordered entries same p apart =
       let apart_ordered : IsApart nat_cmp (map (λ (e : ℕ × V). e.0) ordered) =
-          apart-permutation nat_keys (map (λ (e : ℕ × V). e.0) ordered) (map (λ (e : ℕ × V). e.0) entries)
-          (IsPermutation-map (λ (e : ℕ × V). e.0) ordered entries p) apart in
+      apart-permutation nat_keys (map (λ (e : ℕ × V). e.0) ordered) (map (λ (e : ℕ × V). e.0) entries)
+      (IsPermutation-map (λ (e : ℕ × V). e.0) ordered entries p) apart in
       sym (map-map (image nat_cmp pairs) (λ (e : ℕ × V). e.0) ordered)
       ∙ ap (λ ps. map (image nat_cmp ps) (map (λ (e : ℕ × V). e.0) ordered)) same
       ∙ images-numbered (map (λ (e : ℕ × V). e.0) ordered) apart_ordered
@@ -204,14 +207,14 @@ module _ (county : County) (steps : Arrangement) (is : IsCounty county) (arrange
   feats_arranged = ap (map (λ (e : ℕ × Body5). e.0)) names_arranged
       ∙ map-map (λ (e : ℕ × Body5). e.0) (carried_name (renaming_of county steps)) (names_in_order county steps)
       ∙ numbered_kind (renaming_of county steps).names (names_in_order county steps) county.names names_renamed names_permutation
-          (apart_from_sorted nat_keys (feats county) is.ascending.names)
+      (apart_from_sorted nat_keys (feats county) is.ascending.names)
 
   pub lands_arranged : lands (arranged county steps) ≡ up_to (length (landmarks_in_order county steps))
   lands_arranged = ap (map (λ (e : ℕ × List Body7). e.0)) landmarks_arranged
       ∙ map-map (λ (e : ℕ × List Body7). e.0) (carried_landmark (renaming_of county steps)) (landmarks_in_order county steps)
       ∙ numbered_kind (renaming_of county steps).lands
-          (landmarks_in_order county steps) county.landmarks lands_renamed landmarks_permutation
-          (apart_from_sorted nat_keys (lands county) is.ascending.landmarks)
+      (landmarks_in_order county steps) county.landmarks lands_renamed landmarks_permutation
+      (apart_from_sorted nat_keys (lands county) is.ascending.landmarks)
 
   paired_kind : {V : Type 0} (pairs : List (ℕ × ℕ)) (ordered entries : List (ℕ × V)) (news : List ℕ)
       → pairs ≡ numbered (map (λ (e : ℕ × V). e.0) ordered) → IsPermutation ordered entries → news ≡ up_to (length ordered)
@@ -252,44 +255,44 @@ module _ (county : County) (steps : Arrangement) (is : IsCounty county) (arrange
   new_node : (n : ℕ) → Known nat_cmp (rights (renaming_of county steps).nodes) n → Known nat_cmp (nodes (arranged county steps)) n
   new_node n k =
       let images : map (image nat_cmp (renaming_of county steps).nodes) (lefts (renaming_of county steps).nodes) ≡ rights
-          (renaming_of county steps).nodes = images-lefts nat_keys (renaming_of county steps).nodes lefts_apart in
+      (renaming_of county steps).nodes = images-lefts nat_keys (renaming_of county steps).nodes lefts_apart in
       let old = among-unmap (image nat_cmp (renaming_of county steps).nodes) n (lefts (renaming_of county steps).nodes)
-          (subst (Among n) (sym images) (known_is_among nat_keys n (rights (renaming_of county steps).nodes) k)) in
+      (subst (Among n) (sym images) (known_is_among nat_keys n (rights (renaming_of county steps).nodes) k)) in
       let seen : Known nat_cmp (nodes_in_order county steps) old.0 =
-          subst (λ l. Known nat_cmp l old.0) node_lefts (among_known nat_keys old.0 (lefts (renaming_of county steps).nodes) old.1) in
+      subst (λ l. Known nat_cmp l old.0) node_lefts (among_known nat_keys old.0 (lefts (renaming_of county steps).nodes) old.1) in
       let along : Among old.0 (nodes_along (placed county steps)) =
-          known_is_among nat_keys old.0 (nodes_along (placed county steps))
-          (from_first_seen nat_keys (nodes_along (placed county steps)) old.0 seen) in
+      known_is_among nat_keys old.0 (nodes_along (placed county steps))
+      (from_first_seen nat_keys (nodes_along (placed county steps)) old.0 seen) in
       let new : Among n (nodes_along (arranged county steps).chains) =
-          subst (Among n) (sym nodes_along_arranged)
-          (subst (λ m. Among m (map (image nat_cmp (renaming_of county steps).nodes) (nodes_along (placed county steps)))) (sym old.2)
-          (among-map (image nat_cmp (renaming_of county steps).nodes) old.0 (nodes_along (placed county steps)) along)) in
+      subst (Among n) (sym nodes_along_arranged)
+      (subst (λ m. Among m (map (image nat_cmp (renaming_of county steps).nodes) (nodes_along (placed county steps)))) (sym old.2)
+      (among-map (image nat_cmp (renaming_of county steps).nodes) old.0 (nodes_along (placed county steps)) along)) in
       known-distinct nat_keys (nodes_along (arranged county steps).chains) n
-          (among_known nat_keys n (nodes_along (arranged county steps).chains) new)
+      (among_known nat_keys n (nodes_along (arranged county steps).chains) new)
 
   old_node : (n : ℕ) → Known nat_cmp (nodes (arranged county steps)) n → Known nat_cmp (rights (renaming_of county steps).nodes) n
   old_node n k =
       let along : Among n (map (image nat_cmp (renaming_of county steps).nodes) (nodes_along (placed county steps))) =
-          subst (Among n) nodes_along_arranged
-          (known_is_among nat_keys n (nodes_along (arranged county steps).chains)
-          (known_from_distinct nat_keys (nodes_along (arranged county steps).chains) n k)) in
+      subst (Among n) nodes_along_arranged
+      (known_is_among nat_keys n (nodes_along (arranged county steps).chains)
+      (known_from_distinct nat_keys (nodes_along (arranged county steps).chains) n k)) in
       let old = among-unmap (image nat_cmp (renaming_of county steps).nodes) n (nodes_along (placed county steps)) along in
       let seen : Known nat_cmp (lefts (renaming_of county steps).nodes) old.0 =
-          subst (λ l. Known nat_cmp l old.0) (sym node_lefts)
-          (to_first_seen nat_keys (nodes_along (placed county steps)) old.0
-          (among_known nat_keys old.0 (nodes_along (placed county steps)) old.1)) in
+      subst (λ l. Known nat_cmp l old.0) (sym node_lefts)
+      (to_first_seen nat_keys (nodes_along (placed county steps)) old.0
+      (among_known nat_keys old.0 (nodes_along (placed county steps)) old.1)) in
       subst (Known nat_cmp (rights (renaming_of county steps).nodes)) (sym old.2)
-          (image-known nat_keys (renaming_of county steps).nodes old.0 seen)
+      (image-known nat_keys (renaming_of county steps).nodes old.0 seen)
 
   paired_nodes : ArePaired (renaming_of county steps).nodes (nodes county) (nodes (arranged county steps))
   paired_nodes = record {
     left = subst (λ ks. IsPermutation ks (nodes county)) (sym node_lefts)
         (apart-permutation_of nat_keys (nodes_in_order county steps) (nodes county)
-            (first_seen-apart nat_keys (nodes_along (placed county steps))) (apart-distinct nat_keys (nodes_along county.chains))
+        (first_seen-apart nat_keys (nodes_along (placed county steps))) (apart-distinct nat_keys (nodes_along county.chains))
         (λ n k. known-distinct nat_keys (nodes_along county.chains) n
-            (nodes_from_placed n (from_first_seen nat_keys (nodes_along (placed county steps)) n k)))
+        (nodes_from_placed n (from_first_seen nat_keys (nodes_along (placed county steps)) n k)))
         (λ n k. to_first_seen nat_keys (nodes_along (placed county steps)) n
-            (nodes_to_placed n (known_from_distinct nat_keys (nodes_along county.chains) n k))));
+        (nodes_to_placed n (known_from_distinct nat_keys (nodes_along county.chains) n k))));
     right = apart-permutation_of nat_keys (rights (renaming_of county steps).nodes) (nodes (arranged county steps)) rights_apart
         (apart-distinct nat_keys (nodes_along (arranged county steps).chains)) new_node old_node;
   }
@@ -309,17 +312,17 @@ module _ (county : County) (steps : Arrangement) (is : IsCounty county) (arrange
     polygon_known : (k : PolygonKey) → Known key_cmp (polygons_in_order county steps) k → Known key_cmp (polygon_keys county) k
     polygon_known k l =
         let all : AllByRecursion (λ j. IsTrue (stands_in key_cmp j (polygon_keys county))) (polygons_along county.chains) =
-            all_joined (λ j. IsTrue (stands_in key_cmp j (polygon_keys county)))
-            (λ (e : ℕ × Chain). chain_polygons e.1) county.chains is.closed.sides in
+        all_joined (λ j. IsTrue (stands_in key_cmp j (polygon_keys county)))
+        (λ (e : ℕ × Chain). chain_polygons e.1) county.chains is.closed.sides in
         ltb-true 0 (times key_cmp k (polygon_keys county))
-            (known_all key_keys (λ j. IsTrue (stands_in key_cmp j (polygon_keys county))) (polygons_along county.chains) all k
-            (polygons_from_placed k (from_first_seen key_keys (polygons_along (placed county steps)) k l)))
+        (known_all key_keys (λ j. IsTrue (stands_in key_cmp j (polygon_keys county))) (polygons_along county.chains) all k
+        (polygons_from_placed k (from_first_seen key_keys (polygons_along (placed county steps)) k l)))
 
     polygons_left : IsPermutation (lefts (renaming_of county steps).polygons) (polygon_keys county)
     polygons_left = subst (λ ks. IsPermutation ks (polygon_keys county)) (sym polygon_lefts)
         (apart-permutation_of key_keys (polygons_in_order county steps) (polygon_keys county)
-            (first_seen-apart key_keys (polygons_along (placed county steps)))
-            (apart_from_sorted key_keys (polygon_keys county) is.ascending.polygons) polygon_known known_polygon)
+        (first_seen-apart key_keys (polygons_along (placed county steps)))
+        (apart_from_sorted key_keys (polygon_keys county) is.ascending.polygons) polygon_known known_polygon)
 
     -- the new keys are the images of the old ones
     pub keys_arranged : IsPermutation (map (image key_cmp (renaming_of county steps).polygons) (polygon_keys county))
@@ -327,35 +330,35 @@ module _ (county : County) (steps : Arrangement) (is : IsCounty county) (arrange
     keys_arranged =
         let mapped : List (PolygonKey × Option BodyP) = map (carried_polygon (renaming_of county steps)) county.polygons in
         let ordered : IsPermutation (map (λ (e : PolygonKey × Option BodyP). e.0)
-            (in_order (on (λ (e : PolygonKey × Option BodyP). e.0) key_cmp) mapped)) (map (λ (e : PolygonKey × Option BodyP). e.0) mapped) =
-            IsPermutation-map (λ (e : PolygonKey × Option BodyP). e.0)
-            (in_order (on (λ (e : PolygonKey × Option BodyP). e.0) key_cmp) mapped) mapped
-            (in_order-is_permutation (on (λ (e : PolygonKey × Option BodyP). e.0) key_cmp) mapped) in
+        (in_order (on (λ (e : PolygonKey × Option BodyP). e.0) key_cmp) mapped)) (map (λ (e : PolygonKey × Option BodyP). e.0) mapped) =
+        IsPermutation-map (λ (e : PolygonKey × Option BodyP). e.0)
+        (in_order (on (λ (e : PolygonKey × Option BodyP). e.0) key_cmp) mapped) mapped
+        (in_order-is_permutation (on (λ (e : PolygonKey × Option BodyP). e.0) key_cmp) mapped) in
         let images : map (λ (e : PolygonKey × Option BodyP). e.0) mapped ≡ map (image key_cmp (renaming_of county steps).polygons)
-            (polygon_keys county) =
-            map-map (λ (e : PolygonKey × Option BodyP). e.0) (carried_polygon (renaming_of county steps)) county.polygons
-            ∙ sym (map-map (image key_cmp (renaming_of county steps).polygons) (λ (e : PolygonKey × Option BodyP). e.0) county.polygons) in
+        (polygon_keys county) =
+        map-map (λ (e : PolygonKey × Option BodyP). e.0) (carried_polygon (renaming_of county steps)) county.polygons
+        ∙ sym (map-map (image key_cmp (renaming_of county steps).polygons) (λ (e : PolygonKey × Option BodyP). e.0) county.polygons) in
         IsPermutation-sym (polygon_keys (arranged county steps))
-            (map (image key_cmp (renaming_of county steps).polygons) (polygon_keys county))
+        (map (image key_cmp (renaming_of county steps).polygons) (polygon_keys county))
         (subst (λ es. IsPermutation (map (λ (e : PolygonKey × Option BodyP). e.0) es)
-            (map (image key_cmp (renaming_of county steps).polygons) (polygon_keys county))) (sym polygons_arranged)
+        (map (image key_cmp (renaming_of county steps).polygons) (polygon_keys county))) (sym polygons_arranged)
         (subst (IsPermutation (map (λ (e : PolygonKey × Option BodyP). e.0)
-            (in_order (on (λ (e : PolygonKey × Option BodyP). e.0) key_cmp) mapped))) images ordered))
+        (in_order (on (λ (e : PolygonKey × Option BodyP). e.0) key_cmp) mapped))) images ordered))
 
     paired_polygons : ArePaired (renaming_of county steps).polygons (polygon_keys county) (polygon_keys (arranged county steps))
     paired_polygons =
         let apart : IsApart key_cmp (lefts (renaming_of county steps).polygons) =
-            apart-permutation key_keys (lefts (renaming_of county steps).polygons) (polygon_keys county) polygons_left
-            (apart_from_sorted key_keys (polygon_keys county) is.ascending.polygons) in
+        apart-permutation key_keys (lefts (renaming_of county steps).polygons) (polygon_keys county) polygons_left
+        (apart_from_sorted key_keys (polygon_keys county) is.ascending.polygons) in
         let images : map (image key_cmp (renaming_of county steps).polygons) (lefts (renaming_of county steps).polygons) ≡ rights
-            (renaming_of county steps).polygons = images-lefts key_keys (renaming_of county steps).polygons apart in
+        (renaming_of county steps).polygons = images-lefts key_keys (renaming_of county steps).polygons apart in
         record {
           left = polygons_left;
           right = subst (λ ks. IsPermutation ks (polygon_keys (arranged county steps))) images
               (IsPermutation-trans (map (image key_cmp (renaming_of county steps).polygons) (lefts (renaming_of county steps).polygons))
-                  (map (image key_cmp (renaming_of county steps).polygons) (polygon_keys county)) (polygon_keys (arranged county steps))
+              (map (image key_cmp (renaming_of county steps).polygons) (polygon_keys county)) (polygon_keys (arranged county steps))
               (IsPermutation-map (image key_cmp (renaming_of county steps).polygons) (lefts (renaming_of county steps).polygons)
-                  (polygon_keys county) polygons_left) keys_arranged);
+              (polygon_keys county) polygons_left) keys_arranged);
         }
 
     numbers_paired : NumbersArePaired (renaming_of county steps) county (arranged county steps)
@@ -385,19 +388,19 @@ module _ (county : County) (steps : Arrangement) (is : IsCounty county) (arrange
       numbers = numbers_paired;
       chains = subst (IsPermutation (map (carried_chain (renaming_of county steps)) county.chains)) (sym chains_carried)
           (IsPermutation-map (carried_chain (renaming_of county steps)) county.chains (chains_in_order county steps)
-              (IsPermutation-sym (chains_in_order county steps) county.chains (order-permutation county steps is arranges)));
+          (IsPermutation-sym (chains_in_order county steps) county.chains (order-permutation county steps is arranges)));
       names = subst (IsPermutation (map (carried_name (renaming_of county steps)) county.names)) (sym names_arranged)
           (IsPermutation-map (carried_name (renaming_of county steps)) county.names (names_in_order county steps)
-              (IsPermutation-sym (names_in_order county steps) county.names names_permutation));
+          (IsPermutation-sym (names_in_order county steps) county.names names_permutation));
       polygons = subst (IsPermutation (map (carried_polygon (renaming_of county steps)) county.polygons)) (sym polygons_arranged)
           (IsPermutation-sym (in_order (on (λ entry. entry.0) key_cmp) (map (carried_polygon (renaming_of county steps)) county.polygons))
-              (map (carried_polygon (renaming_of county steps)) county.polygons)
-              (in_order-is_permutation (on (λ entry. entry.0) key_cmp) (map (carried_polygon (renaming_of county steps)) county.polygons)));
+          (map (carried_polygon (renaming_of county steps)) county.polygons)
+          (in_order-is_permutation (on (λ entry. entry.0) key_cmp) (map (carried_polygon (renaming_of county steps)) county.polygons)));
       landmarks = subst (IsPermutation (map (carried_landmark (renaming_of county steps)) county.landmarks)) (sym landmarks_arranged)
           (IsPermutation-map (carried_landmark (renaming_of county steps)) county.landmarks (landmarks_in_order county steps)
-              (IsPermutation-sym (landmarks_in_order county steps) county.landmarks landmarks_permutation));
+          (IsPermutation-sym (landmarks_in_order county steps) county.landmarks landmarks_permutation));
       links = subst (IsPermutation (map (carried_link (renaming_of county steps)) county.links)) (sym links_arranged)
           (IsPermutation-sym (in_order link_cmp (map (carried_link (renaming_of county steps)) county.links))
-              (map (carried_link (renaming_of county steps)) county.links)
-              (in_order-is_permutation link_cmp (map (carried_link (renaming_of county steps)) county.links)));
+          (map (carried_link (renaming_of county steps)) county.links)
+          (in_order-is_permutation link_cmp (map (carried_link (renaming_of county steps)) county.links)));
     }

@@ -165,10 +165,11 @@ module _ {K : Type 0} {cmp : K → K → Ordering} (o : IsKeyOrder cmp) where
           let b = place_bounds 1 seen k h in
           let low : 1 ≤ place_from 1 seen k = b.0 in
           let high : place_from 1 seen k < 1 + length seen = b.1 in
-          let top : max (length seen) (place_from 1 final k) ≡ length seen = omega (arith, p, high) in
-          ((let t : 1 ≤ place_from 1 final k = omega (arith, p, low) in t),
-              (let t : place_from 1 final k ≤ length seen + 1 = omega (arith, p, high) in t),
-              subst (λ n. GrowsFrom n (map (place_from 1 final) keys)) (sym top) ih)
+          let top : max (length seen) (place_from 1 final k) ≡ length seen = omega (arith, p, high) in (
+            (let t : 1 ≤ place_from 1 final k = omega (arith, p, low) in t),
+            (let t : place_from 1 final k ≤ length seen + 1 = omega (arith, p, high) in t),
+            subst (λ n. GrowsFrom n (map (place_from 1 final) keys)) (sym top) ih,
+          )
 
       new : (final : List K) (more : List K) → final ≡ (seen ++ (k ∷ [])) ++ more → times cmp k seen ≡ 0
           → GrowsFrom (length (seen ++ (k ∷ []))) (map (place_from 1 final) keys)
@@ -176,12 +177,13 @@ module _ {K : Type 0} {cmp : K → K → Ordering} (o : IsKeyOrder cmp) where
       new final more e none ih =
           let here : Known cmp (seen ++ (k ∷ [])) k = known-right o k seen (k ∷ []) (known-here o k []) in
           let p : place_from 1 final k ≡ 1 + length seen = ap (λ l. place_from 1 l k) e ∙ place-append 1 (seen ++ (k ∷ [])) more k here
-              ∙ place-new 1 seen k none in
+          ∙ place-new 1 seen k none in
           let longer : length (seen ++ (k ∷ [])) ≡ length seen + 1 = length-append seen (k ∷ []) in
-          let top : length (seen ++ (k ∷ [])) ≡ max (length seen) (place_from 1 final k) = omega (arith, p, longer) in
-          ((let t : 1 ≤ place_from 1 final k = omega (arith, p) in t),
-              (let t : place_from 1 final k ≤ length seen + 1 = omega (arith, p) in t),
-              subst (λ n. GrowsFrom n (map (place_from 1 final) keys)) top ih)
+          let top : length (seen ++ (k ∷ [])) ≡ max (length seen) (place_from 1 final k) = omega (arith, p, longer) in (
+            (let t : 1 ≤ place_from 1 final k = omega (arith, p) in t),
+            (let t : place_from 1 final k ≤ length seen + 1 = omega (arith, p) in t),
+            subst (λ n. GrowsFrom n (map (place_from 1 final) keys)) top ih,
+          )
 
       go : (b : Bool) → stands_in cmp k seen ≡ b → GrowsFrom (length seen) (map (place_from 1 (first_seen_after cmp seen keys)) keys)
           → GrowsFrom (length (seen ++ (k ∷ []))) (map (place_from 1 (first_seen_after cmp (seen ++ (k ∷ [])) keys)) keys)

@@ -78,10 +78,10 @@ module _ {X : Type 0} (key : X → ℕ) where
       go (inr r) ih =
           let lt : k < key x = below k (key x) (known_all nat_keys (λ j. nat_cmp k j ≡ Less) ks s.0 (key x) r.0) in
           let all : AllByRecursion (λ y. k < key y) xs =
-              all_weaker (λ y. is_gt (nat_cmp (key x) (key y)) ≡ false) (λ y. k < key y) (λ y g. let l : key x ≤ key y =
-              at_most (key x) (key y) g in omega arith) xs a in
+          all_weaker (λ y. is_gt (nat_cmp (key x) (key y)) ≡ false) (λ y. k < key y) (λ y g. let l : key x ≤ key y =
+          at_most (key x) (key y) g in omega arith) xs a in
           ap₂ (λ ys zs. ys ++ zs) (no_number k (x ∷ xs) (lt, all)) (ih r.0)
-              ∙ ap (λ ys. x ∷ (ys ++ flat_map (λ j. of_number key j xs) ks)) (sym (no_number k xs all))
+          ∙ ap (λ ys. x ∷ (ys ++ flat_map (λ j. of_number key j xs) ks)) (sym (no_number k xs all))
 
   no_groups : (ks : List ℕ) → flat_map (λ k. of_number key k []) ks ≡ []
   no_groups [] = refl
@@ -137,7 +137,7 @@ pieces-joined n one ((x ∷ l) ∷ m ∷ ls) f (suc room) h =
     (subst (λ k. take k ((x ∷ l) ++ rest) ≡ x ∷ l) full (take_front (x ∷ l) rest))
     (subst (λ k. drop k ((x ∷ l) ++ rest) ≡ rest) full (drop_front (x ∷ l) rest))
     ∙ ap (λ ys. (x ∷ l) ∷ ys) (pieces-joined n one (m ∷ ls) f.1 room (let t : length (l ++ rest) ≡ length l + length rest =
-        length-append l rest in omega (arith, h)))
+    length-append l rest in omega (arith, h)))
 
 -- records with the RTSQs 1, 2, 3, .. are their contents with RTSQs
 pub rtsqs-back : {X Y : Type 0} (tlid rtsq : X → ℕ) (content : X → Y) (make : ℕ → ℕ → Y → X)

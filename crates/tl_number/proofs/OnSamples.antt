@@ -36,11 +36,32 @@ unfolding IsStrictlySortedBy
 there_is_canonical = record {
   tidy = record {
     linked = linked_computed canonical_there refl;
-    order = record { types = refl; of_type_1 = (tt, tt); of_type_2 = tt; of_type_4 = tt; of_type_5 = tt; of_type_6 = tt; of_type_7 =
-        tt; of_type_8 = tt; of_type_i = (tt, tt); of_type_p = tt };
+    order = record {
+      types = refl;
+      of_type_1 = (tt, tt);
+      of_type_2 = tt;
+      of_type_4 = tt;
+      of_type_5 = tt;
+      of_type_6 = tt;
+      of_type_7 =
+          tt;
+      of_type_8 = tt;
+      of_type_i = (tt, tt);
+      of_type_p = tt;
+    };
     packed = record { points = λ n. tt; feats = λ n. tt; two_rtsqs = λ n. refl; four_rtsqs = λ n. refl; six_rtsqs = λ n. refl };
-    numbers = record { tlids = refl; feats = refl; lands = refl; nodes = (lit≤ tt, lit≤ tt, (lit≤ tt, lit≤ tt, tt)); polygons =
-        tt; one_cenid = tt; on_sides = tt; names = tt; landmarks = tt };
+    numbers = record {
+      tlids = refl;
+      feats = refl;
+      lands = refl;
+      nodes = (lit≤ tt, lit≤ tt, (lit≤ tt, lit≤ tt, tt));
+      polygons =
+          tt;
+      one_cenid = tt;
+      on_sides = tt;
+      names = tt;
+      landmarks = tt;
+    };
   };
   least = record { directions = (refl, tt); ascending = (tt, tt) };
 }
@@ -80,8 +101,19 @@ unfolding IsStrictlySortedBy
 polygons_are_canonical = record {
   tidy = record {
     linked = linked_computed canonical_polygons refl;
-    order = record { types = refl; of_type_1 = (tt, tt); of_type_2 = tt; of_type_4 = tt; of_type_5 = tt; of_type_6 = tt; of_type_7 =
-        tt; of_type_8 = tt; of_type_i = (tt, tt); of_type_p = tt };
+    order = record {
+      types = refl;
+      of_type_1 = (tt, tt);
+      of_type_2 = tt;
+      of_type_4 = tt;
+      of_type_5 = tt;
+      of_type_6 = tt;
+      of_type_7 =
+          tt;
+      of_type_8 = tt;
+      of_type_i = (tt, tt);
+      of_type_p = tt;
+    };
     packed = record { points = λ n. tt; feats = λ n. tt; two_rtsqs = λ n. refl; four_rtsqs = λ n. refl; six_rtsqs = λ n. refl };
     numbers = record {
       tlids = refl;
@@ -104,8 +136,19 @@ unfolding IsStrictlySortedBy
 meeting_is_canonical = record {
   tidy = record {
     linked = linked_computed canonical_meeting refl;
-    order = record { types = refl; of_type_1 = ((refl, tt), (tt, tt)); of_type_2 = tt; of_type_4 = tt; of_type_5 = tt; of_type_6 =
-        tt; of_type_7 = tt; of_type_8 = tt; of_type_i = ((refl, tt), (tt, tt)); of_type_p = tt };
+    order = record {
+      types = refl;
+      of_type_1 = ((refl, tt), (tt, tt));
+      of_type_2 = tt;
+      of_type_4 = tt;
+      of_type_5 = tt;
+      of_type_6 =
+          tt;
+      of_type_7 = tt;
+      of_type_8 = tt;
+      of_type_i = ((refl, tt), (tt, tt));
+      of_type_p = tt;
+    };
     packed = record { points = λ n. tt; feats = λ n. tt; two_rtsqs = λ n. refl; four_rtsqs = λ n. refl; six_rtsqs = λ n. refl };
     numbers = record {
       tlids = refl;
@@ -128,9 +171,20 @@ unfolding IsStrictlySortedBy
 schools_are_canonical = record {
   tidy = record {
     linked = linked_computed canonical_schools refl;
-    order = record { types = refl; of_type_1 = (tt, tt); of_type_2 = tt; of_type_4 = tt; of_type_5 = tt; of_type_6 = tt; of_type_7 =
-        ((refl, (refl, (refl, tt))), ((refl, (refl, tt)), ((refl, tt), (tt, tt)))); of_type_8 = ((refl, tt), (tt, tt)); of_type_i =
-        (tt, tt); of_type_p = tt };
+    order = record {
+      types = refl;
+      of_type_1 = (tt, tt);
+      of_type_2 = tt;
+      of_type_4 = tt;
+      of_type_5 = tt;
+      of_type_6 = tt;
+      of_type_7 =
+          ((refl, (refl, (refl, tt))), ((refl, (refl, tt)), ((refl, tt), (tt, tt))));
+      of_type_8 = ((refl, tt), (tt, tt));
+      of_type_i =
+          (tt, tt);
+      of_type_p = tt;
+    };
     packed = record { points = λ n. tt; feats = λ n. tt; two_rtsqs = λ n. refl; four_rtsqs = λ n. refl; six_rtsqs = λ n. refl };
     numbers = record {
       tlids = refl;
@@ -198,12 +252,39 @@ unfolding IsStrictlySortedBy
 shaped_is_canonical = record {
   tidy = record {
     linked = linked_computed canonical_shaped refl;
-    order = record { types = refl; of_type_1 = (tt, tt); of_type_2 = ((refl, tt), (tt, tt)); of_type_4 = tt; of_type_5 = tt; of_type_6 =
-        tt; of_type_7 = tt; of_type_8 = tt; of_type_i = (tt, tt); of_type_p = tt };
-    packed = record { points = λ n. shaped_full (1 == n); feats = λ n. tt; two_rtsqs = λ n. shaped_rtsqs (1 == n); four_rtsqs =
-        λ n. refl; six_rtsqs = λ n. refl };
-    numbers = record { tlids = refl; feats = refl; lands = refl; nodes = (lit≤ tt, lit≤ tt, (lit≤ tt, lit≤ tt, tt)); polygons =
-        tt; one_cenid = tt; on_sides = tt; names = tt; landmarks = tt };
+    order = record {
+      types = refl;
+      of_type_1 = (tt, tt);
+      of_type_2 = ((refl, tt), (tt, tt));
+      of_type_4 = tt;
+      of_type_5 = tt;
+      of_type_6 =
+          tt;
+      of_type_7 = tt;
+      of_type_8 = tt;
+      of_type_i = (tt, tt);
+      of_type_p = tt;
+    };
+    packed = record {
+      points = λ n. shaped_full (1 == n);
+      feats = λ n. tt;
+      two_rtsqs = λ n. shaped_rtsqs (1 == n);
+      four_rtsqs =
+          λ n. refl;
+      six_rtsqs = λ n. refl;
+    };
+    numbers = record {
+      tlids = refl;
+      feats = refl;
+      lands = refl;
+      nodes = (lit≤ tt, lit≤ tt, (lit≤ tt, lit≤ tt, tt));
+      polygons =
+          tt;
+      one_cenid = tt;
+      on_sides = tt;
+      names = tt;
+      landmarks = tt;
+    };
   };
   least = record { directions = (refl, tt); ascending = (tt, tt) };
 }

@@ -121,11 +121,12 @@ turned_apart (s ∷ steps) a k = go s.1 (turned_apart steps (apart_tail nat_keys
 pub turns_as_told : (steps : Arrangement) → IsApart nat_cmp (arranged_tlids steps)
     → AllByRecursion (λ s. stands_in nat_cmp s.0 (turned_tlids steps) ≡ s.1) steps
 turns_as_told [] a = tt
-turns_as_told (s ∷ steps) a =
-    (here s.1 refl,
-    all_weaker (λ t. (stands_in nat_cmp t.0 (turned_tlids steps) ≡ t.1) × (is_eq (nat_cmp t.0 s.0) ≡ false))
-    (λ t. stands_in nat_cmp t.0 (turned_tlids (s ∷ steps)) ≡ t.1) (λ t h. later s.1 t h.0 h.1) steps
-    (both steps (turns_as_told steps (apart_tail nat_keys s.0 (arranged_tlids steps) a)) (apart_others steps (λ t l. l))))
+turns_as_told (s ∷ steps) a = (
+  here s.1 refl,
+  all_weaker (λ t. (stands_in nat_cmp t.0 (turned_tlids steps) ≡ t.1) × (is_eq (nat_cmp t.0 s.0) ≡ false))
+      (λ t. stands_in nat_cmp t.0 (turned_tlids (s ∷ steps)) ≡ t.1) (λ t h. later s.1 t h.0 h.1) steps
+      (both steps (turns_as_told steps (apart_tail nat_keys s.0 (arranged_tlids steps) a)) (apart_others steps (λ t l. l))),
+)
   where
     none : times nat_cmp s.0 (arranged_tlids steps) ≤ 0
     none = omega (arith, times-yes nat_keys s.0 s.0 (arranged_tlids steps) refl, a s.0)
@@ -157,10 +158,11 @@ turns_as_told (s ∷ steps) a =
     apart_others : (ts : Arrangement) → ((k : ℕ) → Known nat_cmp (arranged_tlids ts) k → Known nat_cmp (arranged_tlids steps) k)
         → AllByRecursion (λ t. is_eq (nat_cmp t.0 s.0) ≡ false) ts
     apart_others [] h = tt
-    apart_others (t ∷ ts) h =
-        (differ nat_keys t.0 s.0 (λ e. let l : Known nat_cmp (arranged_tlids steps) s.0 =
-        subst (Known nat_cmp (arranged_tlids steps)) e (h t.0 (known-here nat_keys t.0 (arranged_tlids ts))) in omega (arith, l, none)),
-        apart_others ts (λ k l. h k (known-later nat_keys k t.0 (arranged_tlids ts) l)))
+    apart_others (t ∷ ts) h = (
+      differ nat_keys t.0 s.0 (λ e. let l : Known nat_cmp (arranged_tlids steps) s.0 =
+          subst (Known nat_cmp (arranged_tlids steps)) e (h t.0 (known-here nat_keys t.0 (arranged_tlids ts))) in omega (arith, l, none)),
+      apart_others ts (λ k l. h k (known-later nat_keys k t.0 (arranged_tlids ts) l)),
+    )
 
 flat_map-map : {X Y Z : Type 0} (f : Y → List Z) (g : X → Y) (xs : List X) → flat_map f (map g xs) ≡ flat_map (λ x. f (g x)) xs
 flat_map-map f g [] = refl
@@ -176,20 +178,20 @@ module _ (county : County) (steps : Arrangement) (is : IsCounty county) (arrange
   order-permutation = subst (λ es. IsPermutation es county.chains) (flat_map-map (entries_of county.chains) (λ (s : ℕ × Bool). s.0) steps)
       (groups-permutation (λ (entry : ℕ × Chain). entry.0) (arranged_tlids steps) county.chains steps_apart
       (all_weaker (λ entry. Known nat_cmp (tlids county) entry.0) (λ entry. Known nat_cmp (arranged_tlids steps) entry.0)
-          (λ entry k. known-permutation nat_keys entry.0 (arranged_tlids steps) (tlids county) arranges k) county.chains
-          (keys_known nat_keys county.chains)))
+      (λ entry k. known-permutation nat_keys entry.0 (arranged_tlids steps) (tlids county) arranges k) county.chains
+      (keys_known nat_keys county.chains)))
 
   -- a known TLID has one chain
   pub one_chain : (n : ℕ) → Known nat_cmp (tlids county) n → (entry : ℕ × Chain) × (entries_of county.chains n ≡ entry ∷ []) × (entry.0 ≡ n)
   one_chain n k =
       let once : times nat_cmp n (tlids county) ≤ 1 = apart_from_sorted nat_keys (tlids county) is.ascending.chains n in
       let count : times nat_cmp n (tlids county) ≡ length (entries_of county.chains n) =
-          times-of_number (λ (entry : ℕ × Chain). entry.0) n county.chains in
+      times-of_number (λ (entry : ℕ × Chain). entry.0) n county.chains in
       let one : (entry : ℕ × Chain) × (entries_of county.chains n ≡ entry ∷ []) =
-          only_one (entries_of county.chains n) (omega (arith, once, count, k)) in
+      only_one (entries_of county.chains n) (omega (arith, once, count, k)) in
       let all : AllByRecursion (λ (entry : ℕ × Chain). entry.0 ≡ n) (one.0 ∷ []) =
-          subst (AllByRecursion (λ (entry : ℕ × Chain). entry.0 ≡ n)) one.1
-          (of_number-all (λ (entry : ℕ × Chain). entry.0) n county.chains) in
+      subst (AllByRecursion (λ (entry : ℕ × Chain). entry.0 ≡ n)) one.1
+      (of_number-all (λ (entry : ℕ × Chain). entry.0) n county.chains) in
       (one.0, one.1, all.0)
 
   steps_known : AllByRecursion (λ (s : ℕ × Bool). Known nat_cmp (tlids county) s.0) steps
@@ -244,9 +246,9 @@ module _ (county : County) (steps : Arrangement) (is : IsCounty county) (arrange
         map-append (λ (entry : ℕ × Chain). renumbered r (turned_if (turns r entry.0) entry.1)) (entries_of county.chains s.0) rest
         ∙ ap₂ (λ xs ys. xs ++ ys)
         (map_agree_all (λ (entry : ℕ × Chain). renumbered r (turned_if (turns r entry.0) entry.1))
-            (λ entry. renumbered r (turned_if s.1 entry.1)) (λ entry. entry.0 ≡ s.0)
-            (λ entry e. ap (λ b. renumbered r (turned_if b entry.1)) (ap (turns r) e ∙ a.0)) (entries_of county.chains s.0)
-            (of_number-all (λ (entry : ℕ × Chain). entry.0) s.0 county.chains)
+        (λ entry. renumbered r (turned_if s.1 entry.1)) (λ entry. entry.0 ≡ s.0)
+        (λ entry e. ap (λ b. renumbered r (turned_if b entry.1)) (ap (turns r) e ∙ a.0)) (entries_of county.chains s.0)
+        (of_number-all (λ (entry : ℕ × Chain). entry.0) s.0 county.chains)
         ∙ sym (map-map (renumbered r) (λ (entry : ℕ × Chain). turned_if s.1 entry.1) (entries_of county.chains s.0)))
         (same_bodies ss a.1)
         ∙ sym (map-append (renumbered r) (bodies_of s) (flat_map bodies_of ss))
@@ -261,5 +263,5 @@ module _ (county : County) (steps : Arrangement) (is : IsCounty county) (arrange
         (map-map (λ (entry : ℕ × Chain). entry.1) (carried_chain r) (chains_in_order county steps)
         ∙ same_bodies steps told
         ∙ sym (map-map (λ (entry : ℕ × Chain). entry.1) (kept_entry r) (placed county steps)
-            ∙ sym (map-map (renumbered r) (λ (entry : ℕ × Chain). entry.1) (placed county steps))
-            ∙ ap (map (renumbered r)) (rights-numbered_from 1 (flat_map bodies_of steps))))
+        ∙ sym (map-map (renumbered r) (λ (entry : ℕ × Chain). entry.1) (placed county steps))
+        ∙ ap (map (renumbered r)) (rights-numbered_from 1 (flat_map bodies_of steps))))

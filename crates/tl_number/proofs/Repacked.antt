@@ -89,11 +89,11 @@ module _ (records : List Record) (linked : IsLinked records) where
   each_link f g h [] = refl
   each_link f g h (r ∷ rs) =
       map-append f (map (λ link. (r.tlid, chain_of records r link)) (of_number i_tlid r.tlid (of_type_i records)))
-          (flat_map chain_entries rs)
+      (flat_map chain_entries rs)
       ∙ ap₂ (λ ys zs. ys ++ zs)
       (map-map f (λ link. (r.tlid, chain_of records r link)) (of_number i_tlid r.tlid (of_type_i records))
       ∙ map_agree_all (λ link. f (r.tlid, chain_of records r link)) g (λ link. link.tlid ≡ r.tlid) (h r)
-          (of_number i_tlid r.tlid (of_type_i records)) (of_number-all i_tlid r.tlid (of_type_i records)))
+      (of_number i_tlid r.tlid (of_type_i records)) (of_number-all i_tlid r.tlid (of_type_i records)))
       (each_link f g h rs)
       ∙ sym (map-append g (of_number i_tlid r.tlid (of_type_i records)) (flat_map (λ q. of_number i_tlid q.tlid (of_type_i records)) rs))
 
@@ -114,8 +114,8 @@ module _ (records : List Record) (linked : IsLinked records) where
     linked_known : (t : LinkedType) → AllByRecursion (Known nat_cmp (chain_tlids records)) (linked_tlids t records)
     linked_known t = all_known nat_keys (Known nat_cmp (chain_tlids records)) (linked_tlids t records)
         (λ n k. ltb-true 0 (times nat_cmp n (chain_tlids records))
-            (needed (stands_in nat_cmp n (linked_tlids t records)) (stands_in nat_cmp n (chain_tlids records)) (linked (NoChain t n))
-            (lt-ltb 0 (times nat_cmp n (linked_tlids t records)) k)))
+        (needed (stands_in nat_cmp n (linked_tlids t records)) (stands_in nat_cmp n (chain_tlids records)) (linked (NoChain t n))
+        (lt-ltb 0 (times nat_cmp n (linked_tlids t records)) k)))
 
     by_chain : {X : Type 0} (tlid : X → ℕ) (xs : List X) → IsInOrder (on tlid nat_cmp) xs
         → AllByRecursion (λ x. Known nat_cmp (chain_tlids records) (tlid x)) xs
@@ -127,8 +127,13 @@ module _ (records : List Record) (linked : IsLinked records) where
     unfolding chain_entries
     ones_back =
         ap (map packed_one) chains_are
-        ∙ each_chain packed_one (λ r. r) (λ r link i. record { tlid = r.tlid; body = r.body; start = r.start; end =
-            last_back r.start (shape_points records r.tlid) r.end i }) (of_type_1 records) ones_known
+        ∙ each_chain packed_one (λ r. r) (λ r link i. record {
+          tlid = r.tlid;
+          body = r.body;
+          start = r.start;
+          end =
+              last_back r.start (shape_points records r.tlid) r.end i;
+        }) (of_type_1 records) ones_known
         ∙ map-id (of_type_1 records)
 
     pub is_back : map packed_i (chains_of records) ≡ of_type_i records
@@ -138,7 +143,7 @@ module _ (records : List Record) (linked : IsLinked records) where
         ∙ each_link packed_i (λ link. link) (λ r link e i. record link { tlid = sym e i }) (of_type_1 records)
         ∙ map-id (flat_map (λ r. of_number i_tlid r.tlid (of_type_i records)) (of_type_1 records))
         ∙ by_chain i_tlid (of_type_i records) order.of_type_i
-            (all_unmap (Known nat_cmp (chain_tlids records)) i_tlid (of_type_i records) (linked_known I))
+        (all_unmap (Known nat_cmp (chain_tlids records)) i_tlid (of_type_i records) (linked_known I))
 
     -- records whose RTSQs are 1, 2, 3, .. stand in the order of their RTSQs
     rtsq_order : {X : Type 0} (rtsq : X → ℕ) (xs : List X) → map rtsq xs ≡ up_to (length xs) → in_order (on rtsq nat_cmp) xs ≡ xs
@@ -154,20 +159,20 @@ module _ (records : List Record) (linked : IsLinked records) where
     two_pieces n =
         let rs : List Fields2 = of_number two_tlid n (of_type_2 records) in
         let e : shape_points records n ≡ flat_map (λ l. l) (map (λ (r : Fields2). r.points) rs) =
-            ap (flat_map (λ (r : Fields2). r.points)) (rtsq_order two_rtsq rs (full.two_rtsqs n))
-            ∙ joined_pieces (λ (r : Fields2). r.points) rs in
+        ap (flat_map (λ (r : Fields2). r.points)) (rtsq_order two_rtsq rs (full.two_rtsqs n))
+        ∙ joined_pieces (λ (r : Fields2). r.points) rs in
         ap (in_pieces 10) e ∙ pieces-joined 10 (omega arith) (map (λ (r : Fields2). r.points) rs) (full.points n)
-            (length (flat_map (λ l. l) (map (λ (r : Fields2). r.points) rs))) (omega arith)
+        (length (flat_map (λ l. l) (map (λ (r : Fields2). r.points) rs))) (omega arith)
 
     twos_of : (r : Fields1) (link : FieldsI) → packed_twos (r.tlid, chain_of records r link) ≡ of_number two_tlid r.tlid (of_type_2 records)
     twos_of r link =
         let rs : List Fields2 = of_number two_tlid r.tlid (of_type_2 records) in
         ap (λ ps. map (λ (p : ℕ × List Coordinates). record { tlid = r.tlid; rtsq = p.0; points = p.1 })
-            (numbered_from 1 (in_pieces 10 ps))) (inner_back r.start (shape_points records r.tlid) r.end)
+        (numbered_from 1 (in_pieces 10 ps))) (inner_back r.start (shape_points records r.tlid) r.end)
         ∙ ap (λ ls. map (λ (p : ℕ × List Coordinates). record { tlid = r.tlid; rtsq = p.0; points = p.1 }) (numbered_from 1 ls))
-            (two_pieces r.tlid)
+        (two_pieces r.tlid)
         ∙ rtsqs-back two_tlid two_rtsq (λ (q : Fields2). q.points) (λ t i content. record { tlid = t; rtsq = i; points = content })
-            (λ q. refl) r.tlid 1 rs (of_number-all two_tlid r.tlid (of_type_2 records)) (full.two_rtsqs r.tlid)
+        (λ q. refl) r.tlid 1 rs (of_number-all two_tlid r.tlid (of_type_2 records)) (full.two_rtsqs r.tlid)
 
     pub twos_back : flat_map packed_twos (chains_of records) ≡ of_type_2 records
     unfolding chain_entries
@@ -175,7 +180,7 @@ module _ (records : List Record) (linked : IsLinked records) where
         ap (flat_map packed_twos) chains_are
         ∙ each_chain_list packed_twos (λ r. of_number two_tlid r.tlid (of_type_2 records)) twos_of (of_type_1 records) ones_known
         ∙ by_chain two_tlid (of_type_2 records) (in_order-weaker (then_cmp (on two_tlid nat_cmp) (on two_rtsq nat_cmp))
-            (on two_tlid nat_cmp) (λ x y. then-first (nat_cmp x.tlid y.tlid) (nat_cmp x.rtsq y.rtsq)) (of_type_2 records) order.of_type_2)
+        (on two_tlid nat_cmp) (λ x y. then-first (nat_cmp x.tlid y.tlid) (nat_cmp x.rtsq y.rtsq)) (of_type_2 records) order.of_type_2)
         (all_unmap (Known nat_cmp (chain_tlids records)) two_tlid (of_type_2 records) (linked_known Two))
 
     four_pieces : (n : ℕ) → in_pieces 5 (further_names records n) ≡ map (λ (r : Fields4). r.feats)
@@ -183,10 +188,10 @@ module _ (records : List Record) (linked : IsLinked records) where
     four_pieces n =
         let rs : List Fields4 = of_number four_tlid n (of_type_4 records) in
         let e : further_names records n ≡ flat_map (λ l. l) (map (λ (r : Fields4). r.feats) rs) =
-            ap (flat_map (λ (r : Fields4). r.feats)) (rtsq_order four_rtsq rs (full.four_rtsqs n))
-            ∙ joined_pieces (λ (r : Fields4). r.feats) rs in
+        ap (flat_map (λ (r : Fields4). r.feats)) (rtsq_order four_rtsq rs (full.four_rtsqs n))
+        ∙ joined_pieces (λ (r : Fields4). r.feats) rs in
         ap (in_pieces 5) e ∙ pieces-joined 5 (omega arith) (map (λ (r : Fields4). r.feats) rs) (full.feats n)
-            (length (flat_map (λ l. l) (map (λ (r : Fields4). r.feats) rs))) (omega arith)
+        (length (flat_map (λ l. l) (map (λ (r : Fields4). r.feats) rs))) (omega arith)
 
     fours_of : (r : Fields1) (link : FieldsI) → packed_fours (r.tlid, chain_of records r link) ≡ of_number four_tlid r.tlid
         (of_type_4 records)
@@ -194,7 +199,7 @@ module _ (records : List Record) (linked : IsLinked records) where
         let rs : List Fields4 = of_number four_tlid r.tlid (of_type_4 records) in
         ap (λ ls. map (λ (p : ℕ × List ℕ). record { tlid = r.tlid; rtsq = p.0; feats = p.1 }) (numbered_from 1 ls)) (four_pieces r.tlid)
         ∙ rtsqs-back four_tlid four_rtsq (λ (q : Fields4). q.feats) (λ t i content. record { tlid = t; rtsq = i; feats = content })
-            (λ q. refl) r.tlid 1 rs (of_number-all four_tlid r.tlid (of_type_4 records)) (full.four_rtsqs r.tlid)
+        (λ q. refl) r.tlid 1 rs (of_number-all four_tlid r.tlid (of_type_4 records)) (full.four_rtsqs r.tlid)
 
     pub fours_back : flat_map packed_fours (chains_of records) ≡ of_type_4 records
     unfolding chain_entries
@@ -202,7 +207,7 @@ module _ (records : List Record) (linked : IsLinked records) where
         ap (flat_map packed_fours) chains_are
         ∙ each_chain_list packed_fours (λ r. of_number four_tlid r.tlid (of_type_4 records)) fours_of (of_type_1 records) ones_known
         ∙ by_chain four_tlid (of_type_4 records) (in_order-weaker (then_cmp (on four_tlid nat_cmp) (on four_rtsq nat_cmp))
-            (on four_tlid nat_cmp) (λ x y. then-first (nat_cmp x.tlid y.tlid) (nat_cmp x.rtsq y.rtsq)) (of_type_4 records) order.of_type_4)
+        (on four_tlid nat_cmp) (λ x y. then-first (nat_cmp x.tlid y.tlid) (nat_cmp x.rtsq y.rtsq)) (of_type_4 records) order.of_type_4)
         (all_unmap (Known nat_cmp (chain_tlids records)) four_tlid (of_type_4 records) (linked_known Four))
 
     sixes_of : (r : Fields1) (link : FieldsI) → packed_sixes (r.tlid, chain_of records r link) ≡ of_number six_tlid r.tlid
@@ -210,9 +215,9 @@ module _ (records : List Record) (linked : IsLinked records) where
     sixes_of r link =
         let rs : List Fields6 = of_number six_tlid r.tlid (of_type_6 records) in
         ap (λ qs. map (λ (p : ℕ × Ranges). record { tlid = r.tlid; rtsq = p.0; ranges = p.1 })
-            (numbered_from 1 (map (λ (q : Fields6). q.ranges) qs))) (rtsq_order six_rtsq rs (full.six_rtsqs r.tlid))
+        (numbered_from 1 (map (λ (q : Fields6). q.ranges) qs))) (rtsq_order six_rtsq rs (full.six_rtsqs r.tlid))
         ∙ rtsqs-back six_tlid six_rtsq (λ (q : Fields6). q.ranges) (λ t i content. record { tlid = t; rtsq = i; ranges = content })
-            (λ q. refl) r.tlid 1 rs (of_number-all six_tlid r.tlid (of_type_6 records)) (full.six_rtsqs r.tlid)
+        (λ q. refl) r.tlid 1 rs (of_number-all six_tlid r.tlid (of_type_6 records)) (full.six_rtsqs r.tlid)
 
     pub sixes_back : flat_map packed_sixes (chains_of records) ≡ of_type_6 records
     unfolding chain_entries
@@ -220,7 +225,7 @@ module _ (records : List Record) (linked : IsLinked records) where
         ap (flat_map packed_sixes) chains_are
         ∙ each_chain_list packed_sixes (λ r. of_number six_tlid r.tlid (of_type_6 records)) sixes_of (of_type_1 records) ones_known
         ∙ by_chain six_tlid (of_type_6 records) (in_order-weaker (then_cmp (on six_tlid nat_cmp) (on six_rtsq nat_cmp))
-            (on six_tlid nat_cmp) (λ x y. then-first (nat_cmp x.tlid y.tlid) (nat_cmp x.rtsq y.rtsq)) (of_type_6 records) order.of_type_6)
+        (on six_tlid nat_cmp) (λ x y. then-first (nat_cmp x.tlid y.tlid) (nat_cmp x.rtsq y.rtsq)) (of_type_6 records) order.of_type_6)
         (all_unmap (Known nat_cmp (chain_tlids records)) six_tlid (of_type_6 records) (linked_known Six))
 
     pub fives_back : map packed_five (names_of records) ≡ of_type_5 records
@@ -238,33 +243,45 @@ module _ (records : List Record) (linked : IsLinked records) where
         each : (ys : List Fields7) → AllByRecursion (λ r. r.land ≡ n) ys → AllByRecursion (λ y. is_gt (seven_cmp x y) ≡ false) ys
             → AllByRecursion (λ b. is_gt (landmark_body_cmp x.body b) ≡ false) (map (λ (r : Fields7). r.body) ys)
         each [] l g = tt
-        each (y ∷ ys) l g = (then-second (nat_cmp x.land y.land) (landmark_body_cmp x.body y.body) (ap (nat_cmp x.land) (l.0 ∙ sym a.0)
-            ∙ tied_itself nat_cmp_total x.land) g.0, each ys l.1 g.1)
+        each (y ∷ ys) l g = (
+          then-second (nat_cmp x.land y.land) (landmark_body_cmp x.body y.body) (ap (nat_cmp x.land) (l.0 ∙ sym a.0)
+              ∙ tied_itself nat_cmp_total x.land) g.0,
+          each ys l.1 g.1,
+        )
 
-    sevens_of : (n : ℕ) → packed_sevens (n, in_order landmark_body_cmp
-        (map (λ (r : Fields7). r.body) (of_number seven_land n (of_type_7 records)))) ≡ of_number seven_land n (of_type_7 records)
+    sevens_of : (n : ℕ) → packed_sevens (
+      n,
+      in_order landmark_body_cmp
+          (map (λ (r : Fields7). r.body) (of_number seven_land n (of_type_7 records))),
+    ) ≡ of_number seven_land n (of_type_7 records)
     sevens_of n =
         let rs : List Fields7 = of_number seven_land n (of_type_7 records) in
         let all : AllByRecursion (λ r. r.land ≡ n) rs = of_number-all seven_land n (of_type_7 records) in
         ap (map (λ body. record { land = n; body = body }))
-            (in_order-itself landmark_body_cmp (map (λ (r : Fields7). r.body) rs)
-            (bodies_order n rs all (in_order-filter seven_cmp (λ r. r.land == n) (of_type_7 records) order.of_type_7)))
+        (in_order-itself landmark_body_cmp (map (λ (r : Fields7). r.body) rs)
+        (bodies_order n rs all (in_order-filter seven_cmp (λ r. r.land == n) (of_type_7 records) order.of_type_7)))
         ∙ map-map (λ body. record { land = n; body = body }) (λ (r : Fields7). r.body) rs
         ∙ map_agree_all (λ (r : Fields7). record { land = n; body = r.body }) (λ r. r) (λ r. r.land ≡ n)
-            (λ r e i. record r { land = sym e i }) rs all
+        (λ r e i. record r { land = sym e i }) rs all
         ∙ map-id rs
 
     pub sevens_back : flat_map packed_sevens (landmarks_of records) ≡ of_type_7 records
     sevens_back =
         let ls : List ℕ = distinct nat_cmp (map seven_land (of_type_7 records)) in
-        flat_map-map packed_sevens (λ land. (land, in_order landmark_body_cmp
-            (map (λ (r : Fields7). r.body) (of_number seven_land land (of_type_7 records))))) ls
-        ∙ flat_map-agree (λ land. packed_sevens (land, in_order landmark_body_cmp
-            (map (λ (r : Fields7). r.body) (of_number seven_land land (of_type_7 records)))))
-            (λ land. of_number seven_land land (of_type_7 records)) sevens_of ls
+        flat_map-map packed_sevens (λ land. (
+          land,
+          in_order landmark_body_cmp
+              (map (λ (r : Fields7). r.body) (of_number seven_land land (of_type_7 records))),
+        )) ls
+        ∙ flat_map-agree (λ land. packed_sevens (
+          land,
+          in_order landmark_body_cmp
+              (map (λ (r : Fields7). r.body) (of_number seven_land land (of_type_7 records))),
+        ))
+        (λ land. of_number seven_land land (of_type_7 records)) sevens_of ls
         ∙ grouped seven_land (of_type_7 records) (in_order-weaker seven_cmp (on seven_land nat_cmp)
-            (λ x y. then-first (nat_cmp x.land y.land) (landmark_body_cmp x.body y.body)) (of_type_7 records) order.of_type_7) ls
+        (λ x y. then-first (nat_cmp x.land y.land) (landmark_body_cmp x.body y.body)) (of_type_7 records) order.of_type_7) ls
         (distinct-strict nat_keys (map seven_land (of_type_7 records)))
         (all_unmap (Known nat_cmp ls) seven_land (of_type_7 records)
-            (all_known nat_keys (Known nat_cmp ls) (map seven_land (of_type_7 records))
-            (known-distinct nat_keys (map seven_land (of_type_7 records)))))
+        (all_known nat_keys (Known nat_cmp ls) (map seven_land (of_type_7 records))
+        (known-distinct nat_keys (map seven_land (of_type_7 records)))))

@@ -52,7 +52,7 @@ strict_from_keys {X} {K} {cmp} o f key (x ∷ xs) h a one =
         let same : key x ≡ key y = one x y (inl refl) (inr m) (nat_keys.exact (f x) (f y) e) in
         let l : Known cmp (map key xs) (key y) = among_known o (key y) (map key xs) (among-map key y xs m) in
         let t : times cmp (key y) (key x ∷ map key xs) ≡ suc (times cmp (key y) (map key xs)) =
-            times-yes o (key y) (key x) (map key xs) (sym same) in
+        times-yes o (key y) (key x) (map key xs) (sym same) in
         let u : times cmp (key y) (map key (x ∷ xs)) ≤ 1 = a (key y) in
         omega arith
 
@@ -65,9 +65,12 @@ strict_from_keys {X} {K} {cmp} o f key (x ∷ xs) h a one =
 packed_key : (key : PolygonKey) (o : Option BodyP) (z : FieldsP) → packed_body key o ≡ Some z
     → (b : BodyP) × (o ≡ Some b) × (z ≡ record { cenid = key.0; polyid = key.1; body = b })
 packed_key key None z e = cc
-packed_key key (Some b) z e =
-    (b, refl, (let s : record { cenid = key.0; polyid = key.1; body = b } ≡ z =
-    some-same (record { cenid = key.0; polyid = key.1; body = b }) z e in sym s))
+packed_key key (Some b) z e = (
+  b,
+  refl,
+  (let s : record { cenid = key.0; polyid = key.1; body = b } ≡ z =
+      some-same (record { cenid = key.0; polyid = key.1; body = b }) z e in sym s),
+)
   where
     some-same : (x y : FieldsP) → Some x ≡ Some y → x ≡ y
     some-same x y e = cc
@@ -88,14 +91,14 @@ few_keys g k (d ∷ ds) = go (g d) (few_keys g k ds) (same_or_not key_keys k d)
     go (Some b) ih (inl e) =
         let t : times key_cmp k (d ∷ ds) ≡ suc (times key_cmp k ds) = times-yes key_keys k d ds e in
         let u : times key_cmp k (d ∷ map p_key (filter_map packed_p (map (λ key. (key, g key)) ds))) ≡ suc
-            (times key_cmp k (map p_key (filter_map packed_p (map (λ key. (key, g key)) ds)))) =
-            times-yes key_keys k d (map p_key (filter_map packed_p (map (λ key. (key, g key)) ds))) e in
+        (times key_cmp k (map p_key (filter_map packed_p (map (λ key. (key, g key)) ds)))) =
+        times-yes key_keys k d (map p_key (filter_map packed_p (map (λ key. (key, g key)) ds))) e in
         omega arith
     go (Some b) ih (inr ne) =
         let t : times key_cmp k (d ∷ ds) ≡ times key_cmp k ds = times-no key_keys k d ds ne in
         let u : times key_cmp k (d ∷ map p_key (filter_map packed_p (map (λ key. (key, g key)) ds))) ≡ times key_cmp k
-            (map p_key (filter_map packed_p (map (λ key. (key, g key)) ds))) =
-            times-no key_keys k d (map p_key (filter_map packed_p (map (λ key. (key, g key)) ds))) ne in
+        (map p_key (filter_map packed_p (map (λ key. (key, g key)) ds))) =
+        times-no key_keys k d (map p_key (filter_map packed_p (map (λ key. (key, g key)) ds))) ne in
         omega arith
 
 module _ (records : List Record) (linked : IsLinked records) (order : StandsInOrder records) (tidy : IsTidy (county_of records)) where
@@ -126,10 +129,10 @@ module _ (records : List Record) (linked : IsLinked records) (order : StandsInOr
   to_packed : (r : FieldsP) → Among r (of_type_p records) → Among r packed_ps
   to_packed r m =
       let known : Known key_cmp all_keys (p_key r) =
-          known-right key_keys (p_key r) (flat_map side_keys (of_type_i records)) (map p_key (of_type_p records))
-          (among_known key_keys (p_key r) (map p_key (of_type_p records)) (among-map p_key r (of_type_p records) m)) in
+      known-right key_keys (p_key r) (flat_map side_keys (of_type_i records)) (map p_key (of_type_p records))
+      (among_known key_keys (p_key r) (map p_key (of_type_p records)) (among-map p_key r (of_type_p records) m)) in
       let there : Among (p_key r) (distinct key_cmp all_keys) =
-          known_is_among key_keys (p_key r) (distinct key_cmp all_keys) (known-distinct key_keys all_keys (p_key r) known) in
+      known_is_among key_keys (p_key r) (distinct key_cmp all_keys) (known-distinct key_keys all_keys (p_key r) known) in
       to_filter_map packed_p (p_key r, polygon_body records (p_key r)) r (polygons_of records)
       (among-map (λ key. (key, polygon_body records key)) (p_key r) (distinct key_cmp all_keys) there)
       (ap (packed_body (p_key r)) (body_found r (of_type_p records) ps_apart m))
@@ -139,25 +142,25 @@ module _ (records : List Record) (linked : IsLinked records) (order : StandsInOr
   one_cenid x y m n e =
       let side : (z : FieldsP) → Among z (of_type_p records) → Among (p_key z) (polygons_along (county_of records).chains) =
       λ z l. let known : Known key_cmp all_keys (p_key z) =
-          known-right key_keys (p_key z) (flat_map side_keys (of_type_i records)) (map p_key (of_type_p records))
-          (among_known key_keys (p_key z) (map p_key (of_type_p records)) (among-map p_key z (of_type_p records) l)) in
+      known-right key_keys (p_key z) (flat_map side_keys (of_type_i records)) (map p_key (of_type_p records))
+      (among_known key_keys (p_key z) (map p_key (of_type_p records)) (among-map p_key z (of_type_p records) l)) in
       let listed : Known key_cmp (polygon_keys (county_of records)) (p_key z) =
-          subst (λ ks. Known key_cmp ks (p_key z)) (sym (keys-county records linked)) (known-distinct key_keys all_keys (p_key z) known) in
+      subst (λ ks. Known key_cmp ks (p_key z)) (sym (keys-county records linked)) (known-distinct key_keys all_keys (p_key z) known) in
       known_is_among key_keys (p_key z) (polygons_along (county_of records).chains)
-          (ltb-true 0 (times key_cmp (p_key z) (polygons_along (county_of records).chains))
-          (known_all key_keys (λ k. IsTrue (stands_in key_cmp k (polygons_along (county_of records).chains)))
-          (polygon_keys (county_of records)) tidy.on_sides (p_key z) listed)) in
+      (ltb-true 0 (times key_cmp (p_key z) (polygons_along (county_of records).chains))
+      (known_all key_keys (λ k. IsTrue (stands_in key_cmp k (polygons_along (county_of records).chains)))
+      (polygon_keys (county_of records)) tidy.on_sides (p_key z) listed)) in
       all_among (λ other. (p_key x).1 ≡ other.1 → p_key x ≡ other) (p_key y) (polygons_along (county_of records).chains)
       (all_among (λ key. AllByRecursion (λ other. key.1 ≡ other.1 → key ≡ other) (polygons_along (county_of records).chains)) (p_key x)
-          (polygons_along (county_of records).chains) tidy.one_cenid (side x m))
+      (polygons_along (county_of records).chains) tidy.one_cenid (side x m))
       (side y n) e
 
   packed_apart : IsApart key_cmp (map p_key (in_order (on p_polyid nat_cmp) packed_ps))
   packed_apart k =
       let s : times key_cmp k (map p_key (in_order (on p_polyid nat_cmp) packed_ps)) ≡ times key_cmp k (map p_key packed_ps) =
-          times-in_order key_cmp p_key (on p_polyid nat_cmp) packed_ps k in
+      times-in_order key_cmp p_key (on p_polyid nat_cmp) packed_ps k in
       let t : times key_cmp k (map p_key packed_ps) ≤ times key_cmp k (distinct key_cmp all_keys) =
-          few_keys (polygon_body records) k (distinct key_cmp all_keys) in
+      few_keys (polygon_body records) k (distinct key_cmp all_keys) in
       let u : times key_cmp k (distinct key_cmp all_keys) ≤ 1 = apart-distinct key_keys all_keys k in
       omega arith
 
@@ -165,10 +168,10 @@ module _ (records : List Record) (linked : IsLinked records) (order : StandsInOr
   ps_back =
       let sorted : List FieldsP = in_order (on p_polyid nat_cmp) packed_ps in
       let inside : (z : FieldsP) → Among z (in_order (on p_polyid nat_cmp) packed_ps) → Among z (of_type_p records) =
-          λ z m. from_packed z (from_in_order (on p_polyid nat_cmp) packed_ps z m) in
+      λ z m. from_packed z (from_in_order (on p_polyid nat_cmp) packed_ps z m) in
       strict-equal nat_cmp_total p_polyid (in_order (on p_polyid nat_cmp) packed_ps) (of_type_p records)
       (strict_from_keys key_keys p_polyid p_key (in_order (on p_polyid nat_cmp) packed_ps)
-          (in_order-in_order (on_total p_polyid nat_cmp_total) packed_ps) packed_apart (λ x y m n. one_cenid x y (inside x m) (inside y n)))
+      (in_order-in_order (on_total p_polyid nat_cmp_total) packed_ps) packed_apart (λ x y m n. one_cenid x y (inside x m) (inside y n)))
       (strict_from_keys key_keys p_polyid p_key (of_type_p records) order.of_type_p ps_apart one_cenid)
       inside
       (λ z m. to_in_order (on p_polyid nat_cmp) packed_ps z (to_packed z m))

@@ -80,8 +80,11 @@ links_of-in_order (x ∷ xs) h y = go (x.land == y) refl (links_of-in_order xs h
         at : (b : Bool) → (z.land == y) ≡ b → AllByRecursion (λ p. is_gt (link_part_cmp (link_part x) p) ≡ false) (links_of zs y)
             → AllByRecursion (λ p. is_gt (link_part_cmp (link_part x) p) ≡ false)
             (map link_part (cond b (z ∷ filter (λ l. l.land == y) zs) (filter (λ l. l.land == y) zs)))
-        at true f ih = (below (nat_cmp x.land z.land) z (ap (nat_cmp x.land) (eqb-true z.land y f ∙ sym e)
-            ∙ tied_itself nat_cmp_total x.land) a.0, ih)
+        at true f ih = (
+          below (nat_cmp x.land z.land) z (ap (nat_cmp x.land) (eqb-true z.land y f ∙ sym e)
+              ∙ tied_itself nat_cmp_total x.land) a.0,
+          ih,
+        )
         at false f ih = ih
 
     go : (b : Bool) → (x.land == y) ≡ b → IsInOrder link_part_cmp (links_of xs y)
@@ -111,7 +114,7 @@ times-land (x ∷ xs) k = go (cases_eq x.land k.land) (times-land xs k)
         → times link_cmp k (x ∷ xs) ≡ length (filter (is_link k.land (link_part k)) (x ∷ xs))
     go (inl e) ih = step (is_eq (link_cmp k x)) (is_link k.land (link_part k) x)
         (ap (λ o. is_eq (ordering_then o (link_part_cmp (link_part k) (link_part x)))) (ap (nat_cmp k.land) e
-            ∙ tied_itself nat_cmp_total k.land)
+        ∙ tied_itself nat_cmp_total k.land)
         ∙ ap (λ b. b && is_eq (link_part_cmp (link_part k) (link_part x))) (sym (eq-eqb x.land k.land e))) ih
     go (inr ne) ih = step (is_eq (link_cmp k x)) (is_link k.land (link_part k) x)
         (other (nat_cmp k.land x.land) (differ nat_keys k.land x.land (λ e. ne (sym e)))
@@ -167,8 +170,8 @@ module _ (r : Renumbering) (a b : County) (h : Carries r a b) (aa : IsAscending 
   unfolding f_land
   land_injective n m k l = image-injective nat_keys r.lands n m
       (apart-permutation nat_keys (rights r.lands) (lands b) h.numbers.lands.right
-          (subst (IsApart nat_cmp) (sym tb.lands)
-          (apart_from_sorted nat_keys (up_to (length b.landmarks)) (up_to-strict (length b.landmarks)))))
+      (subst (IsApart nat_cmp) (sym tb.lands)
+      (apart_from_sorted nat_keys (up_to (length b.landmarks)) (up_to-strict (length b.landmarks)))))
       (known-permutation nat_keys n (lefts r.lands) (lands a) h.numbers.lands.left k)
       (known-permutation nat_keys m (lefts r.lands) (lands a) h.numbers.lands.left l)
 
@@ -176,9 +179,14 @@ module _ (r : Renumbering) (a b : County) (h : Carries r a b) (aa : IsAscending 
   unfolding f_land
   links_carried = map_agree_all (carried_link r) (relanded (image nat_cmp r.lands))
       (λ l. IsTrue (stands_in key_cmp (link_key l) (polygon_keys a)))
-      (λ l t i. record { file = l.file; cenid =
-          (fixed (link_key l) (ltb-true 0 (times key_cmp (link_key l) (polygon_keys a)) t) i).0; polyid =
-          (fixed (link_key l) (ltb-true 0 (times key_cmp (link_key l) (polygon_keys a)) t) i).1; land = image nat_cmp r.lands l.land })
+      (λ l t i. record {
+        file = l.file;
+        cenid =
+            (fixed (link_key l) (ltb-true 0 (times key_cmp (link_key l) (polygon_keys a)) t) i).0;
+        polyid =
+            (fixed (link_key l) (ltb-true 0 (times key_cmp (link_key l) (polygon_keys a)) t) i).1;
+        land = image nat_cmp r.lands l.land;
+      })
       a.links ca.link_polygons
 
   lands_known : AllByRecursion (λ l. Known nat_cmp (lands a) l.land) a.links
@@ -200,7 +208,7 @@ module _ (r : Renumbering) (a b : County) (h : Carries r a b) (aa : IsAscending 
       let carried : map (landmark_key b.links) (map (carried_landmark r) a.landmarks) ≡ map (landmark_key a.links) a.landmarks =
       map-map (landmark_key b.links) (carried_landmark r) a.landmarks
       ∙ map_agree_all (λ d. landmark_key b.links (carried_landmark r d)) (landmark_key a.links) (λ d. Known nat_cmp (lands a) d.0)
-          (λ d k i. (d.1, links_kept d.0 k i)) a.landmarks (keys_known nat_keys a.landmarks) in
+      (λ d k i. (d.1, links_kept d.0 k i)) a.landmarks (keys_known nat_keys a.landmarks) in
       in_order-permutation landmark_key_keys (map (landmark_key a.links) a.landmarks) (map (landmark_key b.links) b.landmarks)
       (in_order-map landmark_key_cmp (landmark_key a.links) a.landmarks ta.landmarks)
       (in_order-map landmark_key_cmp (landmark_key b.links) b.landmarks tb.landmarks)
@@ -210,9 +218,9 @@ module _ (r : Renumbering) (a b : County) (h : Carries r a b) (aa : IsAscending 
   pub landmarks_equal : a.landmarks ≡ b.landmarks
   landmarks_equal =
       let len : length a.landmarks ≡ length b.landmarks = sym (length-map a.landmarks (landmark_key a.links)) ∙ ap length keys_same
-          ∙ length-map b.landmarks (landmark_key b.links) in
+      ∙ length-map b.landmarks (landmark_key b.links) in
       let left : map (λ (d : ℕ × List Body7). d.0) a.landmarks ≡ map (λ (d : ℕ × List Body7). d.0) b.landmarks = ta.lands ∙ ap up_to len
-          ∙ sym tb.lands in
+      ∙ sym tb.lands in
       let right : map (λ (d : ℕ × List Body7). d.1) a.landmarks ≡ map (λ (d : ℕ × List Body7). d.1) b.landmarks =
       sym (map-map (λ (k : LandmarkKey). k.0) (landmark_key a.links) a.landmarks)
       ∙ ap (map (λ (k : LandmarkKey). k.0)) keys_same
@@ -222,13 +230,13 @@ module _ (r : Renumbering) (a b : County) (h : Carries r a b) (aa : IsAscending 
   same_links : (y : ℕ) → Known nat_cmp (lands a) y → links_of a.links y ≡ links_of b.links y
   same_links y k =
       let keys : map (landmark_key a.links) a.landmarks ≡ map (landmark_key b.links) a.landmarks = keys_same
-          ∙ ap (map (landmark_key b.links)) (sym landmarks_equal) in
+      ∙ ap (map (landmark_key b.links)) (sym landmarks_equal) in
       let each : AllByRecursion (λ d. landmark_key a.links d ≡ landmark_key b.links d) a.landmarks =
-          map-equal_all (landmark_key a.links) (landmark_key b.links) a.landmarks keys in
+      map-equal_all (landmark_key a.links) (landmark_key b.links) a.landmarks keys in
       let all : AllByRecursion (λ n. links_of a.links n ≡ links_of b.links n) (lands a) =
       all_map (λ n. links_of a.links n ≡ links_of b.links n) (λ (d : ℕ × List Body7). d.0) a.landmarks
       (all_weaker (λ d. landmark_key a.links d ≡ landmark_key b.links d) (λ d. links_of a.links d.0 ≡ links_of b.links d.0)
-          (λ d same. ap (λ (key : LandmarkKey). key.1) same) a.landmarks each) in
+      (λ d same. ap (λ (key : LandmarkKey). key.1) same) a.landmarks each) in
       known_all nat_keys (λ n. links_of a.links n ≡ links_of b.links n) (lands a) all y k
 
   links_count : (k : Fields8) (n : ℕ) → times nat_cmp k.land (lands a) ≡ n
@@ -236,7 +244,7 @@ module _ (r : Renumbering) (a b : County) (h : Carries r a b) (aa : IsAscending 
   links_count k zero e =
       no_links (lands a) a.links ca.link_lands k.land e (link_part k)
       ∙ sym (no_links (lands b) b.links cb.link_lands k.land
-          (ap (λ ls. times nat_cmp k.land (map (λ (d : ℕ × List Body7). d.0) ls)) (sym landmarks_equal) ∙ e) (link_part k))
+      (ap (λ ls. times nat_cmp k.land (map (λ (d : ℕ × List Body7). d.0) ls)) (sym landmarks_equal) ∙ e) (link_part k))
   links_count k (suc n) e =
       sym (times-links a.links k.land (link_part k))
       ∙ ap (times link_part_cmp (link_part k)) (same_links k.land (omega (arith, e)))

@@ -63,9 +63,10 @@ all_uses-all P (c ∷ cs) a =
 from_all_uses : (P : ℕ → Type 0) (cs : List (ℕ × Chain)) → AllByRecursion (λ u. P u.1) (all_uses cs)
     → AllByRecursion (λ c. AllByRecursion P c.1.feats) cs
 from_all_uses P [] a = tt
-from_all_uses P (c ∷ cs) a =
-    (from_uses P c.0 1 c.1.feats (all_left (λ u. P u.1) (uses_from c.0 1 c.1.feats) (all_uses cs) a),
-    from_all_uses P cs (all_right (λ u. P u.1) (uses_from c.0 1 c.1.feats) (all_uses cs) a))
+from_all_uses P (c ∷ cs) a = (
+  from_uses P c.0 1 c.1.feats (all_left (λ u. P u.1) (uses_from c.0 1 c.1.feats) (all_uses cs) a),
+  from_all_uses P cs (all_right (λ u. P u.1) (uses_from c.0 1 c.1.feats) (all_uses cs) a),
+)
 
 -- where renaming keeps FEATs apart, a renamed name has the uses that it had
 pub uses_of-renamed : (f : ℕ → ℕ) (Dom : ℕ → Type 0) → ((n m : ℕ) → Dom n → Dom m → f n ≡ f m → n ≡ m) → (us : List (Use × ℕ))
@@ -96,7 +97,7 @@ module _ (r : Renumbering) (a b : County) (h : Carries r a b) (ca : IsClosed a) 
   unfolding f_name
   name_injective n m k l = image-injective nat_keys r.names n m
       (apart-permutation nat_keys (rights r.names) (feats b) h.numbers.names.right
-          (subst (IsApart nat_cmp) (sym tb.feats) (apart_from_sorted nat_keys (up_to (length b.names)) (up_to-strict (length b.names)))))
+      (subst (IsApart nat_cmp) (sym tb.feats) (apart_from_sorted nat_keys (up_to (length b.names)) (up_to-strict (length b.names)))))
       (known-permutation nat_keys n (lefts r.names) (feats a) h.numbers.names.left k)
       (known-permutation nat_keys m (lefts r.names) (feats a) h.numbers.names.left l)
 
@@ -108,7 +109,7 @@ module _ (r : Renumbering) (a b : County) (h : Carries r a b) (ca : IsClosed a) 
   uses_known = all_uses-all (Known nat_cmp (feats a)) a.chains
       (all_weaker (λ c. AllStandIn (feats a) c.1.feats) (λ c. AllByRecursion (Known nat_cmp (feats a)) c.1.feats)
       (λ c g. all_weaker (λ n. IsTrue (stands_in nat_cmp n (feats a))) (Known nat_cmp (feats a))
-          (λ n t. ltb-true 0 (times nat_cmp n (feats a)) t) c.1.feats g)
+      (λ n t. ltb-true 0 (times nat_cmp n (feats a)) t) c.1.feats g)
       a.chains ca.names)
 
   uses_kept : (y : ℕ) → Known nat_cmp (feats a) y → uses_of (all_uses b.chains) (f_name y) ≡ uses_of (all_uses a.chains) y
@@ -128,7 +129,7 @@ module _ (r : Renumbering) (a b : County) (h : Carries r a b) (ca : IsClosed a) 
       let carried : map (name_key (all_uses b.chains)) (map (carried_name r) a.names) ≡ map (name_key (all_uses a.chains)) a.names =
       map-map (name_key (all_uses b.chains)) (carried_name r) a.names
       ∙ map_agree_all (λ d. name_key (all_uses b.chains) (carried_name r d)) (name_key (all_uses a.chains))
-          (λ d. Known nat_cmp (feats a) d.0) (λ d k i. (d.1, uses_kept d.0 k i)) a.names (keys_known nat_keys a.names) in
+      (λ d. Known nat_cmp (feats a) d.0) (λ d k i. (d.1, uses_kept d.0 k i)) a.names (keys_known nat_keys a.names) in
       in_order-permutation name_key_keys (map (name_key (all_uses a.chains)) a.names) (map (name_key (all_uses b.chains)) b.names)
       (in_order-map name_key_cmp (name_key (all_uses a.chains)) a.names ta.names)
       (in_order-map name_key_cmp (name_key (all_uses b.chains)) b.names tb.names)
@@ -139,7 +140,7 @@ module _ (r : Renumbering) (a b : County) (h : Carries r a b) (ca : IsClosed a) 
   unfolding keys_a keys_b
   names_equal =
       let len : length a.names ≡ length b.names = sym (length-map a.names (name_key (all_uses a.chains))) ∙ ap length keys_same
-          ∙ length-map b.names (name_key (all_uses b.chains)) in
+      ∙ length-map b.names (name_key (all_uses b.chains)) in
       let left : map (λ (d : ℕ × Body5). d.0) a.names ≡ map (λ (d : ℕ × Body5). d.0) b.names = ta.feats ∙ ap up_to len ∙ sym tb.feats in
       let right : map (λ (d : ℕ × Body5). d.1) a.names ≡ map (λ (d : ℕ × Body5). d.1) b.names =
       sym (map-map (λ (k : NameKey). k.0) (name_key (all_uses a.chains)) a.names)
@@ -152,14 +153,14 @@ module _ (r : Renumbering) (a b : County) (h : Carries r a b) (ca : IsClosed a) 
   unfolding keys_a keys_b
   same_uses y k =
       let keys : map (name_key (all_uses a.chains)) a.names ≡ map (name_key (all_uses b.chains)) a.names = keys_same
-          ∙ ap (map (name_key (all_uses b.chains))) (sym names_equal) in
+      ∙ ap (map (name_key (all_uses b.chains))) (sym names_equal) in
       let each : AllByRecursion (λ d. name_key (all_uses a.chains) d ≡ name_key (all_uses b.chains) d) a.names =
-          map-equal_all (name_key (all_uses a.chains)) (name_key (all_uses b.chains)) a.names keys in
+      map-equal_all (name_key (all_uses a.chains)) (name_key (all_uses b.chains)) a.names keys in
       let uses : AllByRecursion (λ n. uses_of (all_uses a.chains) n ≡ uses_of (all_uses b.chains) n) (feats a) =
       all_map (λ n. uses_of (all_uses a.chains) n ≡ uses_of (all_uses b.chains) n) (λ (d : ℕ × Body5). d.0) a.names
       (all_weaker (λ d. name_key (all_uses a.chains) d ≡ name_key (all_uses b.chains) d)
-          (λ d. uses_of (all_uses a.chains) d.0 ≡ uses_of (all_uses b.chains) d.0)
-          (λ d same. ap (λ (key : NameKey). key.1) same) a.names each) in
+      (λ d. uses_of (all_uses a.chains) d.0 ≡ uses_of (all_uses b.chains) d.0)
+      (λ d same. ap (λ (key : NameKey). key.1) same) a.names each) in
       known_all nat_keys (λ n. uses_of (all_uses a.chains) n ≡ uses_of (all_uses b.chains) n) (feats a) uses y k
 
   uses_apart : IsApart use_cmp (map (λ u. u.0) (all_uses a.chains))
@@ -169,9 +170,9 @@ module _ (r : Renumbering) (a b : County) (h : Carries r a b) (ca : IsClosed a) 
   use_fixed : (u : Use × ℕ) → Among u (all_uses a.chains) → Known nat_cmp (feats a) u.1 → f_name u.1 ≡ u.1
   use_fixed u m k =
       let there : Among u.0 (uses_of (all_uses b.chains) u.1) =
-          subst (Among u.0) (same_uses u.1 k) (use_under (all_uses a.chains) u.0 u.1 m) in
+      subst (Among u.0) (same_uses u.1 k) (use_under (all_uses a.chains) u.0 u.1 m) in
       let entry : Among u (map (renamed_use f_name) (all_uses a.chains)) =
-          subst (Among u) uses_b (under_use (all_uses b.chains) u.0 u.1 there) in
+      subst (Among u) uses_b (under_use (all_uses b.chains) u.0 u.1 there) in
       let v = among-unmap (renamed_use f_name) u (all_uses a.chains) entry in
       let same : u ≡ v.0 = one_entry use_keys (all_uses a.chains) uses_apart u v.0 m v.1 (ap (λ (w : Use × ℕ). w.0) v.2) in
       ap (λ (w : Use × ℕ). f_name w.1) same ∙ ap (λ (w : Use × ℕ). w.1) (sym v.2)

@@ -71,10 +71,10 @@ module _ (r : Renumbering) (a b : County) (h : Carries r a b) (asc : IsAscending
   polygon_known : (k : PolygonKey) → Among k (polygons_along a.chains) → Known key_cmp (lefts r.polygons) k
   polygon_known k m =
       let all : AllByRecursion (λ j. IsTrue (stands_in key_cmp j (polygon_keys a))) (polygons_along a.chains) =
-          all_joined (λ j. IsTrue (stands_in key_cmp j (polygon_keys a))) (λ c. chain_polygons c.1) a.chains ca.sides in
+      all_joined (λ j. IsTrue (stands_in key_cmp j (polygon_keys a))) (λ c. chain_polygons c.1) a.chains ca.sides in
       known-permutation key_keys k (lefts r.polygons) (polygon_keys a) h.numbers.polygons.left
-          (ltb-true 0 (times key_cmp k (polygon_keys a))
-          (all_among (λ j. IsTrue (stands_in key_cmp j (polygon_keys a))) k (polygons_along a.chains) all m))
+      (ltb-true 0 (times key_cmp k (polygon_keys a))
+      (all_among (λ j. IsTrue (stands_in key_cmp j (polygon_keys a))) k (polygons_along a.chains) all m))
 
   one_cenid_of : (keys : List PolygonKey) (all : AllByRecursion (λ key. AllByRecursion (λ other. key.1 ≡ other.1 → key ≡ other) keys) keys)
       (k j : PolygonKey) → Among k keys → Among j keys → k.1 ≡ j.1 → k ≡ j
@@ -94,19 +94,19 @@ module _ (r : Renumbering) (a b : County) (h : Carries r a b) (asc : IsAscending
       → (image key_cmp r.polygons k).1 ≡ (image key_cmp r.polygons j).1 → k.1 ≡ j.1
   polygon_back k j m n same =
       let images : image key_cmp r.polygons k ≡ image key_cmp r.polygons j =
-          one_cenid_of (polygons_along b.chains) tb.one_cenid (image key_cmp r.polygons k) (image key_cmp r.polygons j) (image_among k m)
-          (image_among j n) same in
+      one_cenid_of (polygons_along b.chains) tb.one_cenid (image key_cmp r.polygons k) (image key_cmp r.polygons j) (image_among k m)
+      (image_among j n) same in
       ap (λ i. i.1) (image-injective key_keys r.polygons k j
       (apart-permutation key_keys (rights r.polygons) (polygon_keys b) h.numbers.polygons.right
-          (apart_from_sorted key_keys (polygon_keys b) asc.polygons))
+      (apart_from_sorted key_keys (polygon_keys b) asc.polygons))
       (polygon_known k m) (polygon_known j n) images)
 
   polyids_kept : AllByRecursion (λ k. k.1 ≡ (image key_cmp r.polygons k).1) (polygons_along a.chains)
   polyids_kept = grown (λ k. k.1) (λ k. (image key_cmp r.polygons k).1) (λ k. Among k (polygons_along a.chains)) polygon_forth polygon_back
       (polygons_along a.chains) (all_themselves (polygons_along a.chains)) ta.polygons
       (subst Grows (ap (λ cs. map (λ (k : PolygonKey). k.1) (polygons_along cs)) e
-          ∙ ap (map (λ (k : PolygonKey). k.1)) (polygons_along-kept r a.chains)
-          ∙ map-map (λ (k : PolygonKey). k.1) (image key_cmp r.polygons) (polygons_along a.chains)) tb.polygons)
+      ∙ ap (map (λ (k : PolygonKey). k.1)) (polygons_along-kept r a.chains)
+      ∙ map-map (λ (k : PolygonKey). k.1) (image key_cmp r.polygons) (polygons_along a.chains)) tb.polygons)
 
   pub polygons_kept : AllByRecursion (λ k. k ≡ image key_cmp r.polygons k) (polygons_along a.chains)
   polygons_kept = all_weaker (λ k. k.1 ≡ (image key_cmp r.polygons k).1) (λ k. k ≡ image key_cmp r.polygons k)

@@ -105,10 +105,10 @@ module _ (county : County) (steps : Arrangement) (is : IsCounty county) (arrange
   nodes_grow =
       let along : List ℕ = nodes_along (placed county steps) in
       let places : map (image nat_cmp (renaming_of county steps).nodes) along ≡ map
-          (place_from nat_keys 1 (first_seen nat_cmp along)) along =
+      (place_from nat_keys 1 (first_seen nat_cmp along)) along =
       ap (λ pairs. map (image nat_cmp pairs) along) (nodes_renamed county steps is arranges)
       ∙ map_agree nat_keys (image nat_cmp (numbered (nodes_in_order county steps))) (place_from nat_keys 1 (first_seen nat_cmp along)) along
-          (λ n k. image-numbered (nodes_in_order county steps) n (to_first_seen nat_keys along n k)) in
+      (λ n k. image-numbered (nodes_in_order county steps) n (to_first_seen nat_keys along n k)) in
       subst Grows (sym (nodes_along_arranged county steps is arranges ∙ places)) (first_seen-grows nat_keys along)
 
   -- polygons, each with the place of its first appearance
@@ -135,46 +135,46 @@ module _ (county : County) (steps : Arrangement) (is : IsCounty county) (arrange
   one_cenid = subst HasOneCenidEach (sym polygons_are)
       (each_from (λ key. AllByRecursion (λ other. key.1 ≡ other.1 → key ≡ other) (map new_key along)) (map new_key along)
       (λ key m. each_from (λ other. key.1 ≡ other.1 → key ≡ other) (map new_key along)
-          (λ other n e. same key other (among-unmap new_key key along m) (among-unmap new_key other along n) e)))
+      (λ other n e. same key other (among-unmap new_key key along m) (among-unmap new_key other along n) e)))
     where
       same : (key other : PolygonKey) → (k : PolygonKey) × Among k along × (key ≡ new_key k)
           → (j : PolygonKey) × Among j along × (other ≡ new_key j) → key.1 ≡ other.1 → key ≡ other
       same key other k j e =
           let known : (i : PolygonKey) → Among i along → Known key_cmp (polygons_in_order county steps) i =
-              λ i m. to_first_seen key_keys along i (among_known key_keys i along m) in
+          λ i m. to_first_seen key_keys along i (among_known key_keys i along m) in
           let places : place_from key_keys 1 (polygons_in_order county steps) k.0 ≡ place_from key_keys 1
-              (polygons_in_order county steps) j.0 = sym (ap (λ (i : PolygonKey). i.1) k.2) ∙ e ∙ ap (λ (i : PolygonKey). i.1) j.2 in
+          (polygons_in_order county steps) j.0 = sym (ap (λ (i : PolygonKey). i.1) k.2) ∙ e ∙ ap (λ (i : PolygonKey). i.1) j.2 in
           k.2 ∙ ap new_key (place-injective key_keys 1 (polygons_in_order county steps) k.0 j.0 (known k.0 k.1) (known j.0 j.1) places)
-              ∙ sym j.2
+          ∙ sym j.2
 
   on_sides : AllKeysStandIn (polygons_along (arranged county steps).chains) (polygon_keys (arranged county steps))
   on_sides = each_from (λ k. IsTrue (stands_in key_cmp k (polygons_along (arranged county steps).chains)))
       (polygon_keys (arranged county steps))
       (λ k m. let old = among-unmap (image key_cmp (renaming_of county steps).polygons) k (polygon_keys county)
-          (among-permutation k (polygon_keys (arranged county steps))
-          (map (image key_cmp (renaming_of county steps).polygons) (polygon_keys county))
-          (IsPermutation-sym (map (image key_cmp (renaming_of county steps).polygons) (polygon_keys county))
-          (polygon_keys (arranged county steps)) (keys_arranged county steps is arranges sides)) m) in
+      (among-permutation k (polygon_keys (arranged county steps))
+      (map (image key_cmp (renaming_of county steps).polygons) (polygon_keys county))
+      (IsPermutation-sym (map (image key_cmp (renaming_of county steps).polygons) (polygon_keys county))
+      (polygon_keys (arranged county steps)) (keys_arranged county steps is arranges sides)) m) in
       let listed : Known key_cmp (polygon_keys county) old.0 = among_known key_keys old.0 (polygon_keys county) old.1 in
       let there : Known key_cmp along old.0 =
-          polygons_to_placed county steps is arranges old.0
-          (ltb-true 0 (times key_cmp old.0 (polygons_along county.chains))
-          (known_all key_keys (λ j. IsTrue (stands_in key_cmp j (polygons_along county.chains)))
-          (polygon_keys county) sides old.0 listed)) in
+      polygons_to_placed county steps is arranges old.0
+      (ltb-true 0 (times key_cmp old.0 (polygons_along county.chains))
+      (known_all key_keys (λ j. IsTrue (stands_in key_cmp j (polygons_along county.chains)))
+      (polygon_keys county) sides old.0 listed)) in
       let new : Among k (map new_key along) =
-          subst (λ i. Among i (map new_key along)) (sym (old.2 ∙ image_new old.0 there))
-          (among-map new_key old.0 along (known_is_among key_keys old.0 along there)) in
+      subst (λ i. Among i (map new_key along)) (sym (old.2 ∙ image_new old.0 there))
+      (among-map new_key old.0 along (known_is_among key_keys old.0 along there)) in
       lt-ltb 0 (times key_cmp k (polygons_along (arranged county steps).chains))
-          (among_known key_keys k (polygons_along (arranged county steps).chains) (subst (Among k) (sym polygons_are) new)))
+      (among_known key_keys k (polygons_along (arranged county steps).chains) (subst (Among k) (sym polygons_are) new)))
 
   -- names keep their uses
   name_injective : (n m : ℕ) → Known nat_cmp (feats county) n → Known nat_cmp (feats county) m
       → image nat_cmp (renaming_of county steps).names n ≡ image nat_cmp (renaming_of county steps).names m → n ≡ m
   name_injective n m k l = image-injective nat_keys (renaming_of county steps).names n m
       (apart-permutation nat_keys (rights (renaming_of county steps).names) (feats (arranged county steps)) h.numbers.names.right
-          (subst (IsApart nat_cmp) (sym (feats_arranged county steps is arranges))
-          (apart_from_sorted nat_keys (up_to (length (names_in_order county steps)))
-          (up_to-strict (length (names_in_order county steps))))))
+      (subst (IsApart nat_cmp) (sym (feats_arranged county steps is arranges))
+      (apart_from_sorted nat_keys (up_to (length (names_in_order county steps)))
+      (up_to-strict (length (names_in_order county steps))))))
       (known-permutation nat_keys n (lefts (renaming_of county steps).names) (feats county) h.numbers.names.left k)
       (known-permutation nat_keys m (lefts (renaming_of county steps).names) (feats county) h.numbers.names.left l)
 
@@ -185,30 +185,30 @@ module _ (county : County) (steps : Arrangement) (is : IsCounty county) (arrange
       let same : e.1.feats ≡ o.0.1.feats = ap (λ (c : Chain). c.feats) o.2.1 ∙ feats-turned o.2.0 o.0.1 in
       subst (AllByRecursion (Known nat_cmp (feats county))) (sym same)
       (all_weaker (λ n. IsTrue (stands_in nat_cmp n (feats county))) (Known nat_cmp (feats county))
-          (λ n t. ltb-true 0 (times nat_cmp n (feats county)) t) o.0.1.feats
-          (all_among (λ d. AllStandIn (feats county) d.1.feats) o.0 county.chains is.closed.names o.1))))
+      (λ n t. ltb-true 0 (times nat_cmp n (feats county)) t) o.0.1.feats
+      (all_among (λ d. AllStandIn (feats county) d.1.feats) o.0 county.chains is.closed.names o.1))))
 
   uses_kept : (n : ℕ) → Known nat_cmp (feats county) n
       → uses_of (all_uses (arranged county steps).chains) (image nat_cmp (renaming_of county steps).names n) ≡ uses_of
       (all_uses (placed county steps)) n
   uses_kept n k =
       ap (λ us. uses_of us (image nat_cmp (renaming_of county steps).names n)) (ap all_uses (chains_arranged county steps is arranges)
-          ∙ all_uses-kept (renaming_of county steps) (placed county steps))
+      ∙ all_uses-kept (renaming_of county steps) (placed county steps))
       ∙ uses_of-renamed (image nat_cmp (renaming_of county steps).names) (Known nat_cmp (feats county)) name_injective
-          (all_uses (placed county steps)) uses_known n k
+      (all_uses (placed county steps)) uses_known n k
 
   names_tidy : IsInOrder (on (name_key (all_uses (arranged county steps).chains)) name_key_cmp) (arranged county steps).names
   names_tidy =
       let by : ℕ × Body5 → ℕ × Body5 → Ordering = on (name_key (all_uses (placed county steps))) name_key_cmp in
       subst (IsInOrder (on (name_key (all_uses (arranged county steps).chains)) name_key_cmp))
-          (sym (names_arranged county steps is arranges))
+      (sym (names_arranged county steps is arranges))
       (in_order-kept name_key_cmp (name_key (all_uses (placed county steps))) (name_key (all_uses (arranged county steps).chains))
-          (carried_name (renaming_of county steps)) (names_in_order county steps)
+      (carried_name (renaming_of county steps)) (names_in_order county steps)
       (all-in_order (λ e. name_key (all_uses (arranged county steps).chains) (carried_name (renaming_of county steps) e) ≡ name_key
-          (all_uses (placed county steps)) e) by county.names
+      (all_uses (placed county steps)) e) by county.names
       (all_weaker (λ e. Known nat_cmp (feats county) e.0)
-          (λ e. name_key (all_uses (arranged county steps).chains) (carried_name (renaming_of county steps) e) ≡ name_key
-          (all_uses (placed county steps)) e) (λ e k i. (e.1, uses_kept e.0 k i)) county.names (keys_known nat_keys county.names)))
+      (λ e. name_key (all_uses (arranged county steps).chains) (carried_name (renaming_of county steps) e) ≡ name_key
+      (all_uses (placed county steps)) e) (λ e k i. (e.1, uses_kept e.0 k i)) county.names (keys_known nat_keys county.names)))
       (in_order-in_order (on_total (name_key (all_uses (placed county steps))) name_key_keys.total) county.names))
 
   -- landmarks keep their links
@@ -216,9 +216,9 @@ module _ (county : County) (steps : Arrangement) (is : IsCounty county) (arrange
       → image nat_cmp (renaming_of county steps).lands n ≡ image nat_cmp (renaming_of county steps).lands m → n ≡ m
   land_injective n m k l = image-injective nat_keys (renaming_of county steps).lands n m
       (apart-permutation nat_keys (rights (renaming_of county steps).lands) (lands (arranged county steps)) h.numbers.lands.right
-          (subst (IsApart nat_cmp) (sym (lands_arranged county steps is arranges))
-          (apart_from_sorted nat_keys (up_to (length (landmarks_in_order county steps)))
-          (up_to-strict (length (landmarks_in_order county steps))))))
+      (subst (IsApart nat_cmp) (sym (lands_arranged county steps is arranges))
+      (apart_from_sorted nat_keys (up_to (length (landmarks_in_order county steps)))
+      (up_to-strict (length (landmarks_in_order county steps))))))
       (known-permutation nat_keys n (lefts (renaming_of county steps).lands) (lands county) h.numbers.lands.left k)
       (known-permutation nat_keys m (lefts (renaming_of county steps).lands) (lands county) h.numbers.lands.left l)
 
@@ -229,8 +229,13 @@ module _ (county : County) (steps : Arrangement) (is : IsCounty county) (arrange
   relinks = map (relinked (new_keys county steps)) county.links
 
   links_carried : map (carried_link (renaming_of county steps)) county.links ≡ map (relanded f_land) relinks
-  links_carried = ap (λ pairs. map (λ (l : Fields8). record { file = l.file; cenid = (image key_cmp pairs (l.cenid, l.polyid)).0; polyid =
-      (image key_cmp pairs (l.cenid, l.polyid)).1; land = f_land l.land }) county.links) (polygons_renamed county steps is arranges)
+  links_carried = ap (λ pairs. map (λ (l : Fields8). record {
+    file = l.file;
+    cenid = (image key_cmp pairs (l.cenid, l.polyid)).0;
+    polyid =
+        (image key_cmp pairs (l.cenid, l.polyid)).1;
+    land = f_land l.land;
+  }) county.links) (polygons_renamed county steps is arranges)
       ∙ sym (map-map (relanded f_land) (relinked (new_keys county steps)) county.links)
 
   links_permutation : IsPermutation (map (relanded f_land) relinks) (arranged county steps).links
@@ -250,7 +255,7 @@ module _ (county : County) (steps : Arrangement) (is : IsCounty county) (arrange
   links_kept n d = in_order-equal link_part_keys (links_of (arranged county steps).links (f_land n))
       (links_of (links_relinked county steps) n)
       (links_of-in_order (arranged county steps).links links_ordered (f_land n))
-          (links_of-in_order (links_relinked county steps) (in_order-in_order link_keys.total relinks) n)
+      (links_of-in_order (links_relinked county steps) (in_order-in_order link_keys.total relinks) n)
       (λ k. times-links (arranged county steps).links (f_land n) k
       ∙ sym (count-permutation (is_link (f_land n) k) (map (relanded f_land) relinks) (arranged county steps).links links_permutation)
       ∙ count-relanded f_land (Known nat_cmp (lands county)) land_injective relinks relinks_known n d k
@@ -261,14 +266,14 @@ module _ (county : County) (steps : Arrangement) (is : IsCounty county) (arrange
   landmarks_tidy =
       let by : ℕ × List Body7 → ℕ × List Body7 → Ordering = on (landmark_key (links_relinked county steps)) landmark_key_cmp in
       subst (IsInOrder (on (landmark_key (arranged county steps).links) landmark_key_cmp))
-          (sym (landmarks_arranged county steps is arranges))
+      (sym (landmarks_arranged county steps is arranges))
       (in_order-kept landmark_key_cmp (landmark_key (links_relinked county steps)) (landmark_key (arranged county steps).links)
-          (carried_landmark (renaming_of county steps)) (landmarks_in_order county steps)
+      (carried_landmark (renaming_of county steps)) (landmarks_in_order county steps)
       (all-in_order (λ e. landmark_key (arranged county steps).links (carried_landmark (renaming_of county steps) e) ≡ landmark_key
-          (links_relinked county steps) e) by county.landmarks
+      (links_relinked county steps) e) by county.landmarks
       (all_weaker (λ e. Known nat_cmp (lands county) e.0)
-          (λ e. landmark_key (arranged county steps).links (carried_landmark (renaming_of county steps) e) ≡ landmark_key
-          (links_relinked county steps) e) (λ e k i. (e.1, links_kept e.0 k i)) county.landmarks (keys_known nat_keys county.landmarks)))
+      (λ e. landmark_key (arranged county steps).links (carried_landmark (renaming_of county steps) e) ≡ landmark_key
+      (links_relinked county steps) e) (λ e k i. (e.1, links_kept e.0 k i)) county.landmarks (keys_known nat_keys county.landmarks)))
       (in_order-in_order (on_total (landmark_key (links_relinked county steps)) landmark_key_keys.total) county.landmarks))
 
   pub arranged_tidy : IsTidy (arranged county steps)
@@ -296,19 +301,19 @@ module _ (county : County) (steps : Arrangement) (is : IsCounty county) (arrange
       let new : List PolygonKey = rights (renaming_of county steps).polygons in
       let numbers : map (λ (i : PolygonKey). i.1) new ≡ up_to (length (polygons_in_order county steps)) =
       ap (λ (pairs : List (PolygonKey × PolygonKey)). map (λ (i : PolygonKey). i.1) (rights pairs))
-          (polygons_renamed county steps is arranges)
+      (polygons_renamed county steps is arranges)
       ∙ ap (map (λ (i : PolygonKey). i.1)) (map-map (λ (pair : PolygonKey × PolygonKey). pair.1) under_cenid
-          (numbered (polygons_in_order county steps)))
+      (numbered (polygons_in_order county steps)))
       ∙ map-map (λ (i : PolygonKey). i.1) (λ (pair : PolygonKey × ℕ). (pair.0.0, pair.1)) (numbered (polygons_in_order county steps))
       ∙ rights-numbered (polygons_in_order county steps) in
       let few : times nat_cmp k.1 (map (λ (i : PolygonKey). i.1) new) ≤ 1 =
-          subst (IsApart nat_cmp) (sym numbers)
-          (apart_from_sorted nat_keys (up_to (length (polygons_in_order county steps)))
-          (up_to-strict (length (polygons_in_order county steps)))) k.1 in
+      subst (IsApart nat_cmp) (sym numbers)
+      (apart_from_sorted nat_keys (up_to (length (polygons_in_order county steps)))
+      (up_to-strict (length (polygons_in_order county steps)))) k.1 in
       let told : times key_cmp k new ≤ times nat_cmp k.1 (map (λ (i : PolygonKey). i.1) new) =
-          times-told key_keys nat_keys (λ (i : PolygonKey). i.1) k new in
+      times-told key_keys nat_keys (λ (i : PolygonKey). i.1) k new in
       let same : times key_cmp k (polygon_keys (arranged county steps)) ≡ times key_cmp k new =
-          times-permutation key_keys k new (polygon_keys (arranged county steps)) h.numbers.polygons.right in
+      times-permutation key_keys k new (polygon_keys (arranged county steps)) h.numbers.polygons.right in
       omega arith
 
   arranged_ascending : IsAscending (arranged county steps)
@@ -319,21 +324,21 @@ module _ (county : County) (steps : Arrangement) (is : IsCounty county) (arrange
         (up_to-strict (length (names_in_order county steps)));
     polygons = strict_from_order key_keys (polygon_keys (arranged county steps))
         (subst (λ (es : List (PolygonKey × Option BodyP)). IsInOrder key_cmp (map (λ (e : PolygonKey × Option BodyP). e.0) es))
-            (sym (polygons_arranged county steps is arranges))
+        (sym (polygons_arranged county steps is arranges))
         (in_order-map key_cmp (λ (e : PolygonKey × Option BodyP). e.0)
-            (in_order (on (λ (e : PolygonKey × Option BodyP). e.0) key_cmp)
-            (map (carried_polygon (renaming_of county steps)) county.polygons))
+        (in_order (on (λ (e : PolygonKey × Option BodyP). e.0) key_cmp)
+        (map (carried_polygon (renaming_of county steps)) county.polygons))
         (in_order-in_order (on_total (λ (e : PolygonKey × Option BodyP). e.0) key_keys.total)
-            (map (carried_polygon (renaming_of county steps)) county.polygons))))
+        (map (carried_polygon (renaming_of county steps)) county.polygons))))
         keys_apart;
     landmarks = subst (IsStrictlySortedBy nat_cmp) (sym (lands_arranged county steps is arranges))
         (up_to-strict (length (landmarks_in_order county steps)));
     bodies = subst (AllByRecursion (λ (e : ℕ × List Body7). IsInOrder landmark_body_cmp e.1))
         (sym (landmarks_arranged county steps is arranges))
         (all_map (λ (e : ℕ × List Body7). IsInOrder landmark_body_cmp e.1) (carried_landmark (renaming_of county steps))
-            (landmarks_in_order county steps)
+        (landmarks_in_order county steps)
         (all-in_order (λ (e : ℕ × List Body7). IsInOrder landmark_body_cmp e.1)
-            (on (landmark_key (links_relinked county steps)) landmark_key_cmp) county.landmarks is.ascending.bodies));
+        (on (landmark_key (links_relinked county steps)) landmark_key_cmp) county.landmarks is.ascending.bodies));
     links = links_ordered;
   }
 

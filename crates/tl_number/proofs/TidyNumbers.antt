@@ -43,20 +43,23 @@ use Rattle.tl_number.proofs.Tidied.{arranged_tidy, arranged_county}
 -- numbers that count up are within their bounds
 counted_bounds : (i n : ℕ) → AllByRecursion (λ k. (i ≤ k) × (k < i + n)) (range_with_len i n)
 counted_bounds i zero = tt
-counted_bounds i (suc n) =
-    ((omega arith, omega arith),
-    all_weaker (λ k. (i + 1 ≤ k) × (k < (i + 1) + n)) (λ k. (i ≤ k) × (k < i + suc n))
-    (λ k h. (let low : i + 1 ≤ k = h.0 in omega arith, let high : k < (i + 1) + n = h.1 in omega arith)) (range_with_len (i + 1) n)
-    (counted_bounds (i + 1) n))
+counted_bounds i (suc n) = (
+  (omega arith, omega arith),
+  all_weaker (λ k. (i + 1 ≤ k) × (k < (i + 1) + n)) (λ k. (i ≤ k) × (k < i + suc n))
+      (λ k h. (let low : i + 1 ≤ k = h.0 in omega arith, let high : k < (i + 1) + n = h.1 in omega arith)) (range_with_len (i + 1) n)
+      (counted_bounds (i + 1) n),
+)
 
 -- numbers that grow are at most as many as they are
 grown_bounds : (m : ℕ) (ks : List ℕ) → GrowsFrom m ks → AllByRecursion (λ k. (1 ≤ k) × (k ≤ m + length ks)) ks
 grown_bounds m [] g = tt
 grown_bounds m (k ∷ ks) g =
     let high : k ≤ m + 1 = g.1 in
-    let top : max m k ≤ m + 1 = omega arith in
-    ((g.0, (omega arith)), all_weaker (λ j. (1 ≤ j) × (j ≤ max m k + length ks)) (λ j. (1 ≤ j) × (j ≤ m + suc (length ks)))
-        (λ j h. (h.0, let few : j ≤ max m k + length ks = h.1 in omega (arith, few, top))) ks (grown_bounds (max m k) ks g.2))
+    let top : max m k ≤ m + 1 = omega arith in (
+      (g.0, (omega arith)),
+      all_weaker (λ j. (1 ≤ j) × (j ≤ max m k + length ks)) (λ j. (1 ≤ j) × (j ≤ m + suc (length ks)))
+          (λ j h. (h.0, let few : j ≤ max m k + length ks = h.1 in omega (arith, few, top))) ks (grown_bounds (max m k) ks g.2),
+    )
 
 short_joined : {X Y : Type 0} (f : X → List Y) → ((x : X) → length (f x) ≤ 2) → (xs : List X) → length (flat_map f xs) ≤ 2 * length xs
 short_joined f h [] = omega arith
@@ -71,16 +74,24 @@ few_option None = omega arith
 few_option (Some x) = omega arith
 
 few_nodes : (e : ℕ × Chain) → length (chain_nodes e.1) ≤ 2
-few_nodes e = omega (arith, length-append (option_to_list e.1.start_node) (option_to_list e.1.end_node), few_option e.1.start_node,
-    few_option e.1.end_node)
+few_nodes e = omega (
+  arith,
+  length-append (option_to_list e.1.start_node) (option_to_list e.1.end_node),
+  few_option e.1.start_node,
+  few_option e.1.end_node,
+)
 
 few_under : (cenid : List ℕ) (polyid : Option ℕ) → length (key_under cenid polyid) ≤ 1
 few_under cenid None = omega arith
 few_under cenid (Some polyid) = omega arith
 
 few_polygons : (e : ℕ × Chain) → length (chain_polygons e.1) ≤ 2
-few_polygons e = omega (arith, length-append (key_on e.1.left) (key_on e.1.right), few_under e.1.left.cenid e.1.left.polyid,
-    few_under e.1.right.cenid e.1.right.polyid)
+few_polygons e = omega (
+  arith,
+  length-append (key_on e.1.left) (key_on e.1.right),
+  few_under e.1.left.cenid e.1.left.polyid,
+  few_under e.1.right.cenid e.1.right.polyid,
+)
 
 node_fits : (o : Option ℕ) → AllByRecursion (IsNumber 10) (option_to_list o) → IsNumberOrNone 10 o
 node_fits None a = tt
@@ -93,7 +104,7 @@ polyid_fits cenid (Some polyid) a = a.0
 
 module _ (county : County) (is : IsCounty county) (tidy : IsTidy county)
     (chains : length county.chains ≤ 10000000) (names : length county.names ≤ 10000000)
-        (landmarks : length county.landmarks ≤ 10000000) where
+    (landmarks : length county.landmarks ≤ 10000000) where
   counted_fit : (width n : ℕ) (ks : List ℕ) → ks ≡ up_to n → 1 + n ≤ 10 ^ width → AllByRecursion (IsNumber width) ks
   counted_fit width n ks e few =
       subst (AllByRecursion (IsNumber width)) (sym e)
@@ -113,30 +124,36 @@ module _ (county : County) (is : IsCounty county) (tidy : IsTidy county)
   nodes_fit : AllByRecursion (IsNumber 10) (nodes_along county.chains)
   nodes_fit =
       let few : length (nodes_along county.chains) ≤ 2 * length county.chains =
-          short_joined (λ (e : ℕ × Chain). chain_nodes e.1) few_nodes county.chains in
+      short_joined (λ (e : ℕ × Chain). chain_nodes e.1) few_nodes county.chains in
       all_weaker (λ k. (1 ≤ k) × (k ≤ 0 + length (nodes_along county.chains))) (IsNumber 10)
-          (λ k h. (let low : 1 ≤ k = h.0 in omega arith, let high : k ≤ 0 + length (nodes_along county.chains) = h.1 in
-          omega (arith, high, few, chains))) (nodes_along county.chains) (grown_bounds 0 (nodes_along county.chains) tidy.nodes)
+      (λ k h. (
+        let low : 1 ≤ k = h.0 in omega arith,
+        let high : k ≤ 0 + length (nodes_along county.chains) = h.1 in
+            omega (arith, high, few, chains),
+      )) (nodes_along county.chains) (grown_bounds 0 (nodes_along county.chains) tidy.nodes)
 
   polygons_fit : AllByRecursion (λ (k : PolygonKey). IsNumber 10 k.1) (polygons_along county.chains)
   polygons_fit =
       let numbers : List ℕ = map (λ (k : PolygonKey). k.1) (polygons_along county.chains) in
       let few : length (polygons_along county.chains) ≤ 2 * length county.chains =
-          short_joined (λ (e : ℕ × Chain). chain_polygons e.1) few_polygons county.chains in
+      short_joined (λ (e : ℕ × Chain). chain_polygons e.1) few_polygons county.chains in
       let count : length numbers ≡ length (polygons_along county.chains) =
-          length-map (polygons_along county.chains) (λ (k : PolygonKey). k.1) in
+      length-map (polygons_along county.chains) (λ (k : PolygonKey). k.1) in
       all_unmap (IsNumber 10) (λ (k : PolygonKey). k.1) (polygons_along county.chains)
       (all_weaker (λ k. (1 ≤ k) × (k ≤ 0 + length numbers)) (IsNumber 10)
-          (λ k h. (let low : 1 ≤ k = h.0 in omega arith, let high : k ≤ 0 + length numbers = h.1 in
-          omega (arith, high, few, count, chains))) numbers (grown_bounds 0 numbers tidy.polygons))
+      (λ k h. (
+        let low : 1 ≤ k = h.0 in omega arith,
+        let high : k ≤ 0 + length numbers = h.1 in
+            omega (arith, high, few, count, chains),
+      )) numbers (grown_bounds 0 numbers tidy.polygons))
 
   key_fits : (k : PolygonKey) → IsTrue (stands_in key_cmp k (polygon_keys county)) → IsNumber 10 k.1
   key_fits k t =
       let side : IsTrue (stands_in key_cmp k (polygons_along county.chains)) =
-          known_all key_keys (λ j. IsTrue (stands_in key_cmp j (polygons_along county.chains))) (polygon_keys county) tidy.on_sides k
-          (ltb-true 0 (times key_cmp k (polygon_keys county)) t) in
+      known_all key_keys (λ j. IsTrue (stands_in key_cmp j (polygons_along county.chains))) (polygon_keys county) tidy.on_sides k
+      (ltb-true 0 (times key_cmp k (polygon_keys county)) t) in
       known_all key_keys (λ (j : PolygonKey). IsNumber 10 j.1) (polygons_along county.chains) polygons_fit k
-          (ltb-true 0 (times key_cmp k (polygons_along county.chains)) side)
+      (ltb-true 0 (times key_cmp k (polygons_along county.chains)) side)
 
   named_fit : AllByRecursion (λ (e : ℕ × Chain). FitsNumbers e.1) county.chains
   named_fit = all_weaker (λ (e : ℕ × Chain). AllStandIn (feats county) e.1.feats
@@ -155,10 +172,10 @@ module _ (county : County) (is : IsCounty county) (tidy : IsTidy county)
       })
       county.chains
       (all_both (λ (e : ℕ × Chain). AllStandIn (feats county) e.1.feats)
-          (λ e. AllByRecursion (IsNumber 10) (chain_nodes e.1)
-          × AllByRecursion (λ (k : PolygonKey). IsNumber 10 k.1) (chain_polygons e.1)) county.chains is.closed.names
+      (λ e. AllByRecursion (IsNumber 10) (chain_nodes e.1)
+      × AllByRecursion (λ (k : PolygonKey). IsNumber 10 k.1) (chain_polygons e.1)) county.chains is.closed.names
       (all_both (λ (e : ℕ × Chain). AllByRecursion (IsNumber 10) (chain_nodes e.1))
-          (λ e. AllByRecursion (λ (k : PolygonKey). IsNumber 10 k.1) (chain_polygons e.1)) county.chains
+      (λ e. AllByRecursion (λ (k : PolygonKey). IsNumber 10 k.1) (chain_polygons e.1)) county.chains
       (all_pieces (IsNumber 10) (λ (e : ℕ × Chain). chain_nodes e.1) county.chains nodes_fit)
       (all_pieces (λ (k : PolygonKey). IsNumber 10 k.1) (λ (e : ℕ × Chain). chain_polygons e.1) county.chains polygons_fit)))
 
@@ -169,7 +186,7 @@ module _ (county : County) (is : IsCounty county) (tidy : IsTidy county)
     names = all_unmap (IsNumber 8) (λ (e : ℕ × Body5). e.0) county.names feats_fit;
     polygons = all_unmap (λ (k : PolygonKey). IsNumber 10 k.1) (λ (e : PolygonKey × Option BodyP). e.0) county.polygons
         (all_known key_keys (λ (k : PolygonKey). IsNumber 10 k.1) (polygon_keys county)
-            (λ k l. key_fits k (lt-ltb 0 (times key_cmp k (polygon_keys county)) l)));
+        (λ k l. key_fits k (lt-ltb 0 (times key_cmp k (polygon_keys county)) l)));
     landmarks = all_unmap (IsNumber 10) (λ (e : ℕ × List Body7). e.0) county.landmarks lands_fit;
     link_polygons = all_weaker (λ l. IsTrue (stands_in key_cmp (link_key l) (polygon_keys county))) (λ l. IsNumber 10 l.polyid)
         (λ l t. key_fits (link_key l) t) county.links is.closed.link_polygons;
@@ -192,21 +209,21 @@ module _ (limit : ℕ) (low : limit ≤ 10000000) (records : List Record) (accep
       let h : Carries (renaming_of county steps) county (arranged county steps) = arrangement_carries county steps is arranges sides in
       let within : IsWithinLimits limit county = county-within_limits records accepted.linked fits limit few in
       let counts : HasAtMost limit (packed_by_type (arranged county steps)) =
-          carried_counts (renaming_of county steps) county (arranged county steps) h limit
-          (subst (HasAtMost limit) (by_type_of (packed_by_type county)) (by_type_within limit (packed county) within.counts)) in
+      carried_counts (renaming_of county steps) county (arranged county steps) h limit
+      (subst (HasAtMost limit) (by_type_of (packed_by_type county)) (by_type_within limit (packed county) within.counts)) in
       let ones : length (map packed_one (arranged county steps).chains) ≤ limit = counts.of_type_1 in
       let fives : length (map packed_five (arranged county steps).names) ≤ limit = counts.of_type_5 in
       let sevens : length (flat_map packed_sevens (arranged county steps).landmarks) ≤ limit = counts.of_type_7 in
       let some : length (arranged county steps).landmarks ≤ length (flat_map packed_sevens (arranged county steps).landmarks) =
       long_joined packed_sevens (arranged county steps).landmarks
-          (all_weaker (λ (e : ℕ × List Body7). 1 ≤ length e.1) (λ e. 1 ≤ length (packed_sevens e))
-          (λ e one. subst (λ n. 1 ≤ n) (sym (length-map e.1 (λ body. record { land = e.0; body = body }))) one)
-          (arranged county steps).landmarks new.whole.bodies) in
+      (all_weaker (λ (e : ℕ × List Body7). 1 ≤ length e.1) (λ e. 1 ≤ length (packed_sevens e))
+      (λ e one. subst (λ n. 1 ≤ n) (sym (length-map e.1 (λ body. record { land = e.0; body = body }))) one)
+      (arranged county steps).landmarks new.whole.bodies) in
       record {
         contents = carried_contents (renaming_of county steps) county (arranged county steps) h within.contents;
         numbers = tidy_numbers_fit (arranged county steps) new (arranged_tidy county steps is arranges sides)
             (omega (arith, ones, length-map (arranged county steps).chains packed_one, low))
-                (omega (arith, fives, length-map (arranged county steps).names packed_five, low)) (omega (arith, sevens, some, low));
+            (omega (arith, fives, length-map (arranged county steps).names packed_five, low)) (omega (arith, sevens, some, low));
         room = carried_room (renaming_of county steps) county (arranged county steps) h within.room;
         counts = packed_within limit (arranged county steps) counts;
       }
@@ -218,11 +235,12 @@ module _ (limit : ℕ) (low : limit ≤ 10000000) (records : List Record) (accep
       let county : County = county_of records in
       let is : IsCounty county = county-is_county records accepted.linked in
       let new : IsCounty (arranged county (ascending county)) =
-          arranged_county county (ascending county) is (ascending_arranges county is accepted.profile)
-          (sides_in_profile county is accepted.profile) in
+      arranged_county county (ascending county) is (ascending_arranges county is accepted.profile)
+      (sides_in_profile county is accepted.profile) in
       let same : canonical_list records ≡ canonical =
-          same_one_canonical records records (canonical_list records) canonical (canonical_exists records accepted) h
-          (same-reflexive county) in
-      subst (λ (l : List Record). AllByRecursion FitsRecord l × IsWithinLimit limit l) same
-      (packed-fits (arranged county (ascending county)) new.whole arranged_within.contents arranged_within.numbers arranged_within.room,
-          arranged_within.counts)
+      same_one_canonical records records (canonical_list records) canonical (canonical_exists records accepted) h
+      (same-reflexive county) in
+      subst (λ (l : List Record). AllByRecursion FitsRecord l × IsWithinLimit limit l) same (
+        packed-fits (arranged county (ascending county)) new.whole arranged_within.contents arranged_within.numbers arranged_within.room,
+        arranged_within.counts,
+      )

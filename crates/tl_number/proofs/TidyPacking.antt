@@ -133,32 +133,32 @@ module _ (c : County) (is : IsCounty c) where
     points = λ tlid. subst (λ xs. AreFull 10 (map (λ (r : Fields2). r.points) (of_number two_tlid tlid xs))) (sym (twos c is))
         (group_holds two_tlid packed_twos two_own (λ xs. AreFull 10 (map (λ (r : Fields2). r.points) xs)) tt c.chains (tlids_apart c is)
         (all_everywhere (λ e. AreFull 10 (map (λ (r : Fields2). r.points) (packed_twos e)))
-            (λ e. subst (AreFull 10)
-            (sym (contents_made two_rtsq (make_2 e) (λ piece. refl) (λ (r : Fields2). r.points) (λ (piece : List Coordinates). piece)
-            (λ piece. refl) (in_pieces 10 (inner_points e.1.points)) ∙ map-id (in_pieces 10 (inner_points e.1.points))))
-            (full_pieces 10 (length (inner_points e.1.points)) (inner_points e.1.points) (omega arith) (omega arith))) c.chains) tlid);
+        (λ e. subst (AreFull 10)
+        (sym (contents_made two_rtsq (make_2 e) (λ piece. refl) (λ (r : Fields2). r.points) (λ (piece : List Coordinates). piece)
+        (λ piece. refl) (in_pieces 10 (inner_points e.1.points)) ∙ map-id (in_pieces 10 (inner_points e.1.points))))
+        (full_pieces 10 (length (inner_points e.1.points)) (inner_points e.1.points) (omega arith) (omega arith))) c.chains) tlid);
     feats = λ tlid. subst (λ xs. AreFull 5 (map (λ (r : Fields4). r.feats) (of_number four_tlid tlid xs))) (sym (fours c is))
         (group_holds four_tlid packed_fours four_own (λ xs. AreFull 5 (map (λ (r : Fields4). r.feats) xs)) tt c.chains (tlids_apart c is)
         (all_everywhere (λ e. AreFull 5 (map (λ (r : Fields4). r.feats) (packed_fours e)))
-            (λ e. subst (AreFull 5)
-            (sym (contents_made four_rtsq (make_4 e) (λ piece. refl) (λ (r : Fields4). r.feats) (λ (piece : List ℕ). piece) (λ piece. refl)
-            (in_pieces 5 e.1.feats) ∙ map-id (in_pieces 5 e.1.feats)))
-            (full_pieces 5 (length e.1.feats) e.1.feats (omega arith) (omega arith))) c.chains) tlid);
+        (λ e. subst (AreFull 5)
+        (sym (contents_made four_rtsq (make_4 e) (λ piece. refl) (λ (r : Fields4). r.feats) (λ (piece : List ℕ). piece) (λ piece. refl)
+        (in_pieces 5 e.1.feats) ∙ map-id (in_pieces 5 e.1.feats)))
+        (full_pieces 5 (length e.1.feats) e.1.feats (omega arith) (omega arith))) c.chains) tlid);
     two_rtsqs = λ tlid. subst (λ xs. map two_rtsq (of_number two_tlid tlid xs) ≡ up_to (length (of_number two_tlid tlid xs)))
         (sym (twos c is))
         (group_holds two_tlid packed_twos two_own (λ xs. map two_rtsq xs ≡ up_to (length xs)) refl c.chains (tlids_apart c is)
-            (all_everywhere (λ e. map two_rtsq (packed_twos e) ≡ up_to (length (packed_twos e)))
-            (λ e. rtsqs_counted two_rtsq (make_2 e) (λ piece. refl) (in_pieces 10 (inner_points e.1.points))) c.chains) tlid);
+        (all_everywhere (λ e. map two_rtsq (packed_twos e) ≡ up_to (length (packed_twos e)))
+        (λ e. rtsqs_counted two_rtsq (make_2 e) (λ piece. refl) (in_pieces 10 (inner_points e.1.points))) c.chains) tlid);
     four_rtsqs = λ tlid. subst (λ xs. map four_rtsq (of_number four_tlid tlid xs) ≡ up_to (length (of_number four_tlid tlid xs)))
         (sym (fours c is))
         (group_holds four_tlid packed_fours four_own (λ xs. map four_rtsq xs ≡ up_to (length xs)) refl c.chains (tlids_apart c is)
-            (all_everywhere (λ e. map four_rtsq (packed_fours e) ≡ up_to (length (packed_fours e)))
-            (λ e. rtsqs_counted four_rtsq (make_4 e) (λ piece. refl) (in_pieces 5 e.1.feats)) c.chains) tlid);
+        (all_everywhere (λ e. map four_rtsq (packed_fours e) ≡ up_to (length (packed_fours e)))
+        (λ e. rtsqs_counted four_rtsq (make_4 e) (λ piece. refl) (in_pieces 5 e.1.feats)) c.chains) tlid);
     six_rtsqs = λ tlid. subst (λ xs. map six_rtsq (of_number six_tlid tlid xs) ≡ up_to (length (of_number six_tlid tlid xs)))
         (sym (sixes c is))
         (group_holds six_tlid packed_sixes six_own (λ xs. map six_rtsq xs ≡ up_to (length xs)) refl c.chains (tlids_apart c is)
-            (all_everywhere (λ e. map six_rtsq (packed_sixes e) ≡ up_to (length (packed_sixes e)))
-            (λ e. rtsqs_counted six_rtsq (make_6 e) (λ piece. refl) e.1.ranges) c.chains) tlid);
+        (all_everywhere (λ e. map six_rtsq (packed_sixes e) ≡ up_to (length (packed_sixes e)))
+        (λ e. rtsqs_counted six_rtsq (make_6 e) (λ piece. refl) e.1.ranges) c.chains) tlid);
   }
 
   -- The packing of a tidy county is a tidy list.

@@ -25,4 +25,4 @@ rigid_lists r xs ys g h c k = one_county_one_list xs ys g h
 pub unique : (xs ys : List Record) → IsCanonical xs → IsCanonical ys → AreSame (county_of xs) (county_of ys) → xs ≡ ys
 unique xs ys g h s = one_county_one_list xs ys g.tidy h.tidy
     (least_equal s.by (county_of xs) (county_of ys) s.carries (county-is_county xs g.tidy.linked)
-        (county-is_county ys h.tidy.linked) g.tidy.numbers h.tidy.numbers g.least h.least)
+    (county-is_county ys h.tidy.linked) g.tidy.numbers h.tidy.numbers g.least h.least)

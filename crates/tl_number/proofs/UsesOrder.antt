@@ -65,7 +65,7 @@ use_under [] u f m = absurd m
 use_under (v ∷ us) u f (inl e) =
     let same : (v.1 == f) ≡ true = eq-eqb v.1 f (ap (λ (w : Use × ℕ). w.1) (sym e)) in
     subst (λ ys. Among u (map (λ (w : Use × ℕ). w.0) ys))
-        (ap (λ b. cond b (v ∷ filter (λ w. w.1 == f) us) (filter (λ w. w.1 == f) us)) (sym same)) (inl (ap (λ (w : Use × ℕ). w.0) e))
+    (ap (λ b. cond b (v ∷ filter (λ w. w.1 == f) us) (filter (λ w. w.1 == f) us)) (sym same)) (inl (ap (λ (w : Use × ℕ). w.0) e))
 use_under (v ∷ us) u f (inr m) = go (v.1 == f) (use_under us u f m)
   where
     go : (b : Bool) → Among u (uses_of us f) → Among u (map (λ (w : Use × ℕ). w.0)

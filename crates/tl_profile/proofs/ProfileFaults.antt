@@ -62,9 +62,9 @@ pub own_reverse_entry : (county : County) (tlid : ℕ) → is_own_reverse county
     → (e : ℕ × Chain) × Among e county.chains × (tlid ≡ e.0) × (same_points e.1.points (reverse e.1.points) ≡ true)
 own_reverse_entry county tlid h =
     let r : (e : ℕ × Chain) × Among e county.chains × (((tlid == e.0) && same_points e.1.points (reverse e.1.points)) ≡ true) =
-        any_among (λ e. (tlid == e.0) && same_points e.1.points (reverse e.1.points)) county.chains h in
+    any_among (λ e. (tlid == e.0) && same_points e.1.points (reverse e.1.points)) county.chains h in
     let both : ((tlid == r.0.0) ≡ true) × (same_points r.0.1.points (reverse r.0.1.points) ≡ true) =
-        and_parts (tlid == r.0.0) (same_points r.0.1.points (reverse r.0.1.points)) r.2 in
+    and_parts (tlid == r.0.0) (same_points r.0.1.points (reverse r.0.1.points)) r.2 in
     (r.0, r.1, eqb-true tlid r.0.0 both.0, both.1)
 
 -- two chains of one shape
@@ -80,25 +80,33 @@ pub record AreOneShape (county : County) (first second : ℕ) : Type 0 where
 pub one_shape_entries : (county : County) (first second : ℕ) → are_one_shape county first second ≡ true → AreOneShape county first second
 one_shape_entries county first second h =
     let r : (e : ℕ × Chain) × Among e county.chains
-        × (((first == e.0) && list_any (λ d. (second == d.0) && same_shape e.1.points d.1.points) county.chains) ≡ true) =
-        any_among (λ e. (first == e.0) && list_any
-        (λ d. (second == d.0) && same_shape e.1.points d.1.points) county.chains) county.chains h in
+    × (((first == e.0) && list_any (λ d. (second == d.0) && same_shape e.1.points d.1.points) county.chains) ≡ true) =
+    any_among (λ e. (first == e.0) && list_any
+    (λ d. (second == d.0) && same_shape e.1.points d.1.points) county.chains) county.chains h in
     let e : ℕ × Chain = r.0 in
     let both : ((first == e.0) ≡ true) × (list_any (λ d. (second == d.0) && same_shape e.1.points d.1.points) county.chains ≡ true) =
-        and_parts (first == e.0) (list_any (λ d. (second == d.0) && same_shape e.1.points d.1.points) county.chains) r.2 in
+    and_parts (first == e.0) (list_any (λ d. (second == d.0) && same_shape e.1.points d.1.points) county.chains) r.2 in
     let s : (d : ℕ × Chain) × Among d county.chains × (((second == d.0) && same_shape e.1.points d.1.points) ≡ true) =
-        any_among (λ d. (second == d.0) && same_shape e.1.points d.1.points) county.chains both.1 in
+    any_among (λ d. (second == d.0) && same_shape e.1.points d.1.points) county.chains both.1 in
     let two : ((second == s.0.0) ≡ true) × (same_shape e.1.points s.0.1.points ≡ true) =
-        and_parts (second == s.0.0) (same_shape e.1.points s.0.1.points) s.2 in
-    record { one = e; one_there = r.1; one_is = eqb-true first e.0 both.0; other = s.0; other_there = s.1; other_is =
-        eqb-true second s.0.0 two.0; shape = two.1 }
+    and_parts (second == s.0.0) (same_shape e.1.points s.0.1.points) s.2 in
+    record {
+      one = e;
+      one_there = r.1;
+      one_is = eqb-true first e.0 both.0;
+      other = s.0;
+      other_there = s.1;
+      other_is =
+          eqb-true second s.0.0 two.0;
+      shape = two.1;
+    }
 
 -- a polygon of type P
 pub body_entry : (county : County) (key : PolygonKey) → has_body county key ≡ true
     → (e : PolygonKey × Option BodyP) × Among e county.polygons × (key ≡ e.0) × (is_some e.1 ≡ true)
 body_entry county key h =
     let r : (e : PolygonKey × Option BodyP) × Among e county.polygons × ((is_eq (key_cmp key e.0) && is_some e.1) ≡ true) =
-        any_among (λ e. is_eq (key_cmp key e.0) && is_some e.1) county.polygons h in
+    any_among (λ e. is_eq (key_cmp key e.0) && is_some e.1) county.polygons h in
     let both : (is_eq (key_cmp key r.0.0) ≡ true) × (is_some r.0.1 ≡ true) = and_parts (is_eq (key_cmp key r.0.0)) (is_some r.0.1) r.2 in
     (r.0, r.1, same-true key_keys key r.0.0 both.0, both.1)
 
@@ -106,27 +114,27 @@ pub broken_among : (county : County) (f : ProfileFault) → is_broken county f �
 broken_among county (OwnReverse tlid) h =
     let r = own_reverse_entry county tlid h in
     among_left (OwnReverse tlid) (reverse_faults county) (shape_faults county ++ polygon_faults county)
-        (subst (λ t. Among (OwnReverse t) (reverse_faults county)) (sym r.2) (among-map (λ e. OwnReverse e.0) r.0 county.chains r.1))
+    (subst (λ t. Among (OwnReverse t) (reverse_faults county)) (sym r.2) (among-map (λ e. OwnReverse e.0) r.0 county.chains r.1))
 broken_among county (SameShape first second) h =
     let both : (nat_lt first second ≡ true) × (are_one_shape county first second ≡ true) =
-        and_parts (nat_lt first second) (are_one_shape county first second) h in
+    and_parts (nat_lt first second) (are_one_shape county first second) h in
     let s : AreOneShape county first second = one_shape_entries county first second both.1 in
     let there : Among (SameShape s.one.0 s.other.0) (shape_faults county) =
-        among-pieces (λ e. map (λ d. SameShape e.0 d.0) county.chains) s.one (SameShape s.one.0 s.other.0) county.chains s.one_there
-        (among-map (λ d. SameShape s.one.0 d.0) s.other county.chains s.other_there) in
+    among-pieces (λ e. map (λ d. SameShape e.0 d.0) county.chains) s.one (SameShape s.one.0 s.other.0) county.chains s.one_there
+    (among-map (λ d. SameShape s.one.0 d.0) s.other county.chains s.other_there) in
     let same : SameShape s.one.0 s.other.0 ≡ SameShape first second = ap₂ SameShape (sym s.one_is) (sym s.other_is) in
     among_right (SameShape first second) (reverse_faults county) (shape_faults county ++ polygon_faults county)
-        (among_left (SameShape first second) (shape_faults county) (polygon_faults county)
-        (subst (λ g. Among g (shape_faults county)) same there))
+    (among_left (SameShape first second) (shape_faults county) (polygon_faults county)
+    (subst (λ g. Among g (shape_faults county)) same there))
 broken_among county (PolygonWithoutChain cenid polyid) h =
     let both : (has_body county (cenid, polyid) ≡ true) × (not (stands_in key_cmp (cenid, polyid) (polygons_along county.chains)) ≡ true) =
-        and_parts (has_body county (cenid, polyid)) (not (stands_in key_cmp (cenid, polyid) (polygons_along county.chains))) h in
+    and_parts (has_body county (cenid, polyid)) (not (stands_in key_cmp (cenid, polyid) (polygons_along county.chains))) h in
     let r = body_entry county (cenid, polyid) both.0 in
     let there : Among (PolygonWithoutChain r.0.0.0 r.0.0.1) (polygon_faults county) =
-        among-map (λ e. PolygonWithoutChain e.0.0 e.0.1) r.0 county.polygons r.1 in
+    among-map (λ e. PolygonWithoutChain e.0.0 e.0.1) r.0 county.polygons r.1 in
     among_right (PolygonWithoutChain cenid polyid) (reverse_faults county) (shape_faults county ++ polygon_faults county)
-        (among_right (PolygonWithoutChain cenid polyid) (shape_faults county) (polygon_faults county)
-        (subst (λ k. Among (PolygonWithoutChain k.0 k.1) (polygon_faults county)) (sym r.2) there))
+    (among_right (PolygonWithoutChain cenid polyid) (shape_faults county) (polygon_faults county)
+    (subst (λ k. Among (PolygonWithoutChain k.0 k.1) (polygon_faults county)) (sym r.2) there))
 broken_among county Memory h = absurd (false≢true h)
 
 pub profile_or_first : (county : County) → IsInProfile county ⊎ ((fault : ProfileFault) × IsFirstBrokenClause county fault)

@@ -54,20 +54,20 @@ shape-symm ps qs (inr e) = inr (sym (reverse-reverse qs) ∙ ap reverse (sym e))
 pub not_own_reverse : (a : County) → IsInProfile a → (e : ℕ × Chain) → Among e a.chains → e.1.points ≡ reverse e.1.points → ⊥
 not_own_reverse a h e m same =
     let t : is_own_reverse a e.0 ≡ true =
-        among_any (λ d. (e.0 == d.0) && same_points d.1.points (reverse d.1.points)) e a.chains m
-        (and_from (e.0 == e.0) (same_points e.1.points (reverse e.1.points)) (eq-eqb e.0 e.0 refl)
-        (points-same e.1.points (reverse e.1.points) same)) in
+    among_any (λ d. (e.0 == d.0) && same_points d.1.points (reverse d.1.points)) e a.chains m
+    (and_from (e.0 == e.0) (same_points e.1.points (reverse e.1.points)) (eq-eqb e.0 e.0 refl)
+    (points-same e.1.points (reverse e.1.points) same)) in
     false≢true (sym (h (OwnReverse e.0)) ∙ t)
 
 below_absurd : (a : County) → IsInProfile a → (e d : ℕ × Chain) → Among e a.chains → Among d a.chains → OneShape e.1.points d.1.points
     → e.0 < d.0 → ⊥
 below_absurd a h e d m n s lt =
     let inner : list_any (λ f. (d.0 == f.0) && same_shape e.1.points f.1.points) a.chains ≡ true =
-        among_any (λ f. (d.0 == f.0) && same_shape e.1.points f.1.points) d a.chains n
-        (and_from (d.0 == d.0) (same_shape e.1.points d.1.points) (eq-eqb d.0 d.0 refl) (shape-same e.1.points d.1.points s)) in
+    among_any (λ f. (d.0 == f.0) && same_shape e.1.points f.1.points) d a.chains n
+    (and_from (d.0 == d.0) (same_shape e.1.points d.1.points) (eq-eqb d.0 d.0 refl) (shape-same e.1.points d.1.points s)) in
     let t : are_one_shape a e.0 d.0 ≡ true =
-        among_any (λ f. (e.0 == f.0) && list_any (λ g. (d.0 == g.0) && same_shape f.1.points g.1.points) a.chains) e a.chains m
-        (and_from (e.0 == e.0) (list_any (λ f. (d.0 == f.0) && same_shape e.1.points f.1.points) a.chains) (eq-eqb e.0 e.0 refl) inner) in
+    among_any (λ f. (e.0 == f.0) && list_any (λ g. (d.0 == g.0) && same_shape f.1.points g.1.points) a.chains) e a.chains m
+    (and_from (e.0 == e.0) (list_any (λ f. (d.0 == f.0) && same_shape e.1.points f.1.points) a.chains) (eq-eqb e.0 e.0 refl) inner) in
     false≢true (sym (h (SameShape e.0 d.0)) ∙ and_from (nat_lt e.0 d.0) (are_one_shape a e.0 d.0) (lt-ltb e.0 d.0 lt) t)
 
 -- two of its chains of one shape have one TLID
@@ -93,10 +93,10 @@ pub body_on_side : (a : County) → IsInProfile a → (e : PolygonKey × Option 
     → Known key_cmp (polygons_along a.chains) e.0
 body_on_side a h e m s =
     let t : has_body a e.0 ≡ true =
-        among_any (λ d. is_eq (key_cmp e.0 d.0) && is_some d.1) e a.polygons m
-        (and_from (is_eq (key_cmp e.0 e.0)) (is_some e.1) (same-itself key_keys e.0) s) in
+    among_any (λ d. is_eq (key_cmp e.0 d.0) && is_some d.1) e a.polygons m
+    (and_from (is_eq (key_cmp e.0 e.0)) (is_some e.1) (same-itself key_keys e.0) s) in
     let f : not (stands_in key_cmp e.0 (polygons_along a.chains)) ≡ false =
-        and-second (has_body a e.0) (not (stands_in key_cmp e.0 (polygons_along a.chains))) t (h (PolygonWithoutChain e.0.0 e.0.1)) in
+    and-second (has_body a e.0) (not (stands_in key_cmp e.0 (polygons_along a.chains))) t (h (PolygonWithoutChain e.0.0 e.0.1)) in
     ltb-true 0 (times key_cmp e.0 (polygons_along a.chains)) (not-false (stands_in key_cmp e.0 (polygons_along a.chains)) f)
 
 -- the points of a carried chain
@@ -141,20 +141,20 @@ module _ (r : Renumbering) (a b : County) (k : Carries r a b) (h : IsInProfile a
       let s = among-unpieces (λ e. chain_polygons e.1) key a.chains (known_is_among key_keys key (polygons_along a.chains) l) in
       let c : Chain = turned_if (turns r s.0.0) s.0.1 in
       let there : Among (image key_cmp r.polygons key) (chain_polygons (renumbered r c)) =
-          subst (Among (image key_cmp r.polygons key)) (sym (chain_polygons-renumbered r c))
-          (among-map (image key_cmp r.polygons) key (chain_polygons c) (among-turned key (turns r s.0.0) s.0.1 s.2)) in
+      subst (Among (image key_cmp r.polygons key)) (sym (chain_polygons-renumbered r c))
+      (among-map (image key_cmp r.polygons) key (chain_polygons c) (among-turned key (turns r s.0.0) s.0.1 s.2)) in
       let entry : Among (carried_chain r s.0) b.chains =
-          among-permutation (carried_chain r s.0) (map (carried_chain r) a.chains) b.chains k.chains
-          (among-map (carried_chain r) s.0 a.chains s.1) in
+      among-permutation (carried_chain r s.0) (map (carried_chain r) a.chains) b.chains k.chains
+      (among-map (carried_chain r) s.0 a.chains s.1) in
       among_known key_keys (image key_cmp r.polygons key) (polygons_along b.chains)
-          (among-pieces (λ e. chain_polygons e.1) (carried_chain r s.0) (image key_cmp r.polygons key) b.chains entry there)
+      (among-pieces (λ e. chain_polygons e.1) (carried_chain r s.0) (image key_cmp r.polygons key) b.chains entry there)
 
   own_case : (tlid : ℕ) → is_own_reverse b tlid ≡ true → ⊥
   own_case tlid t =
       let e = own_reverse_entry b tlid t in
       let d = from_chain e.0 e.1 in
       let same : (carried_chain r d.0).1.points ≡ reverse (carried_chain r d.0).1.points =
-          subst (λ f. f.1.points ≡ reverse f.1.points) d.2 (points-true e.0.1.points (reverse e.0.1.points) e.3) in
+      subst (λ f. f.1.points ≡ reverse f.1.points) d.2 (points-true e.0.1.points (reverse e.0.1.points) e.3) in
       not_own_reverse a h d.0 d.1 (own_reverse_back (carried_chain r d.0).1.points d.0.1.points (carried_points r d.0) same)
 
   shape_case : (first second : ℕ) → (nat_lt first second && are_one_shape b first second) ≡ true → ⊥
@@ -166,11 +166,11 @@ module _ (r : Renumbering) (a b : County) (k : Carries r a b) (h : IsInProfile a
       let one : OneShape s.one.1.points d.0.1.points = subst (λ f. OneShape f.1.points d.0.1.points) (sym d.2) (carried_points r d.0) in
       let other : OneShape s.other.1.points e.0.1.points = subst (λ f. OneShape f.1.points e.0.1.points) (sym e.2) (carried_points r e.0) in
       let shape : OneShape d.0.1.points e.0.1.points =
-          shape_back s.one.1.points s.other.1.points d.0.1.points e.0.1.points one other
-          (shape-true s.one.1.points s.other.1.points s.shape) in
+      shape_back s.one.1.points s.other.1.points d.0.1.points e.0.1.points one other
+      (shape-true s.one.1.points s.other.1.points s.shape) in
       let tlids : d.0.0 ≡ e.0.0 = one_shape_one_tlid a h d.0 e.0 d.1 e.1 shape in
       let same : first ≡ second = s.one_is ∙ ap (λ f. f.0) d.2 ∙ ap (image nat_cmp r.chains) tlids ∙ sym (ap (λ f. f.0) e.2)
-          ∙ sym s.other_is in
+      ∙ sym s.other_is in
       let lt : first < second = ltb-true first second both.0 in
       omega arith
 
@@ -182,7 +182,7 @@ module _ (r : Renumbering) (a b : County) (k : Carries r a b) (h : IsInProfile a
       let some : is_some d.0.1 ≡ true = subst (λ f. is_some f.1 ≡ true) d.2 e.3 in
       let side : Known key_cmp (polygons_along b.chains) (image key_cmp r.polygons d.0.0) = on_side d.0.0 (body_on_side a h d.0 d.1 some) in
       let here : Known key_cmp (polygons_along b.chains) key =
-          subst (Known key_cmp (polygons_along b.chains)) (sym (e.2 ∙ ap (λ f. f.0) d.2)) side in
+      subst (Known key_cmp (polygons_along b.chains)) (sym (e.2 ∙ ap (λ f. f.0) d.2)) side in
       false≢true (sym (ap not (lt-ltb 0 (times key_cmp key (polygons_along b.chains)) here)) ∙ both.1)
 
   pub carried_in_profile : IsInProfile b

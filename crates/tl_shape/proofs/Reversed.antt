@@ -29,8 +29,8 @@ from_read : {X : Type 0} (cmp : X → X → Ordering) (xs : List X) (i : ℕ) (t
 from_read cmp xs i there here h t e =
     let there_is = get_or_read xs (length xs - 1 - i) there (omega arith) t here in
     from_item cmp xs i here h ∙ ap (λ x. ordering_then (cmp x (get_or xs i here))
-        (slice_cmp cmp (drop (i + 1) (reverse xs)) (drop (i + 1) xs))) (sym there_is)
-        ∙ ap (λ x. ordering_then (cmp there x) (slice_cmp cmp (drop (i + 1) (reverse xs)) (drop (i + 1) xs))) (sym e)
+    (slice_cmp cmp (drop (i + 1) (reverse xs)) (drop (i + 1) xs))) (sym there_is)
+    ∙ ap (λ x. ordering_then (cmp there x) (slice_cmp cmp (drop (i + 1) (reverse xs)) (drop (i + 1) xs))) (sym e)
 
 -- an equal pair leaves the decision to the rest
 pub after_equal : {X : Type 0} (cmp : X → X → Ordering) (xs : List X) (i : ℕ) (there here : X) (all : Ordering) → i < length xs
@@ -38,7 +38,7 @@ pub after_equal : {X : Type 0} (cmp : X → X → Ordering) (xs : List X) (i : �
     → cmp there here ≡ Equal → slice_cmp cmp (drop (i + 1) (reverse xs)) (drop (i + 1) xs) ≡ all
 after_equal cmp xs i there here all h t e was equal =
     sym (ap (λ o. ordering_then o (slice_cmp cmp (drop (i + 1) (reverse xs)) (drop (i + 1) xs))) equal)
-        ∙ sym (from_read cmp xs i there here h t e) ∙ was
+    ∙ sym (from_read cmp xs i there here h t e) ∙ was
 
 decided : (o rest : Ordering) → (o ≡ Equal → ⊥) → ordering_then o rest ≡ o
 decided Less rest h = refl

@@ -43,5 +43,15 @@ turned_from_relation c d t =
 
 pub relation_of_turned : (c : Chain) → IsTurned c (turned c)
 relation_of_turned c =
-    record { body = refl; points = refl; feats = refl; ranges = refl; link_body = refl; start_node = refl; end_node = refl; left =
-    refl; right = refl }
+    record {
+      body = refl;
+      points = refl;
+      feats = refl;
+      ranges = refl;
+      link_body = refl;
+      start_node = refl;
+      end_node = refl;
+      left =
+          refl;
+      right = refl;
+    }

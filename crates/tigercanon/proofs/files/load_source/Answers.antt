@@ -12,7 +12,7 @@ pub returns-in_default : goal.returns-in_default
 returns-in_default g c =
     let r = c.in-Err.ensures.fed in
     let same = none_counted c.args.loader.now.fault c.in-Err.fault _ _ c.in_default.not-Device c.in-Err.ensures.device
-        (λ f e. ap (λ s. s.counted.failures) (at_fault _ c.args.loader.now.fault f e c.in-Err.ensures.stood).2) in
+    (λ f e. ap (λ s. s.counted.failures) (at_fault _ c.args.loader.now.fault f e c.in-Err.ensures.stood).2) in
     record {
       fed = part_refused g.K.Keeper.holds c.args.loader.now c.read_part_by.new.self _ _ _
           (Unit {0}) c.in-Err.fault r.1.bytes c.in-Err.ensures.told r.3;
@@ -26,7 +26,7 @@ pub returns-in_default-2 : goal.returns-in_default-2
 returns-in_default-2 g c =
     let r = c.in-Err.ensures.fed in
     let same = none_counted c.args.loader.now.fault c.in-Err.fault _ _ c.in_default-2.not-Device c.in-Err.ensures.device
-        (λ f e. ap (λ s. s.counted.failures) (at_fault _ c.args.loader.now.fault f e c.in-Err.ensures.stood).2) in
+    (λ f e. ap (λ s. s.counted.failures) (at_fault _ c.args.loader.now.fault f e c.in-Err.ensures.stood).2) in
     record {
       fed = on_ok_by c.read_on.result (part_refused g.K.Keeper.holds c.args.loader.now c.read_part_by.new.self _ _ _
           (Unit {0}) c.in-Err.fault r.1.bytes c.in-Err.ensures.told r.3);

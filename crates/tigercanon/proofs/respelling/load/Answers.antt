@@ -24,7 +24,10 @@ returns-in_err-end_part-clause-faulty g c =
 
 pub loop-part-preserved : goal.loop-part-preserved
 loop-part-preserved g c =
-    let fed = c.in_ok-feed.ensures.fed _ _ _ c.loop-part.invariant.0 in
-    (subst (λ ps. WasFedInto g.K.Keeper.holds record_limit c.end_part.new.self ps []) (parts_so_far _ _ _ c.loop-part-test.true)
-        (c.in_ok-end_part.ensures.fed _ _ _ fed), c.in_ok-end_part.ensures.ok, c.in_ok-end_part.ensures.parts
-        ∙ ap (λ n. n + 1) (c.in_ok-feed.ensures.parts ∙ c.loop-part.invariant.2))
+    let fed = c.in_ok-feed.ensures.fed _ _ _ c.loop-part.invariant.0 in (
+      subst (λ ps. WasFedInto g.K.Keeper.holds record_limit c.end_part.new.self ps []) (parts_so_far _ _ _ c.loop-part-test.true)
+          (c.in_ok-end_part.ensures.fed _ _ _ fed),
+      c.in_ok-end_part.ensures.ok,
+      c.in_ok-end_part.ensures.parts
+          ∙ ap (λ n. n + 1) (c.in_ok-feed.ensures.parts ∙ c.loop-part.invariant.2),
+    )

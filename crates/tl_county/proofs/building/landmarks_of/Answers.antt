@@ -25,6 +25,9 @@ loop-land-preserved c =
       done = (λ i. c.in_ok-push.ensures.items i ++ map (landmark_of (landmarks i) (links i)) c.in-Some.later.now)
           ∙ landmarks-step at.found.items _ c.in-Some.land.now c.in-Some.later.now at.lands.now at.landmarks.now c.split_group.result.0.now at.links.now c.split_group-in-Some.result.0.now c.in_ok-bodies.bodies.items c.new.result
           c.split_group.ensures.group c.split_group-in-Some.ensures.group c.in_ok-bodies.ensures (c.new.ensures
-              ∙ (λ i. record { bodies = c.in_ok-bodies.bodies.items; links =
-              c.in_ok-from_slice.ensures.items i })) lands at.invariant.lands at.invariant.done;
+          ∙ (λ i. record {
+            bodies = c.in_ok-bodies.bodies.items;
+            links =
+                c.in_ok-from_slice.ensures.items i;
+          })) lands at.invariant.lands at.invariant.done;
     }

@@ -17,5 +17,5 @@ returns-then-is_ge g c =
     let cut : c.loop-first.rest.now ≡ c.in-Some.first.now ∷ c.in-Some.later.now = c.in-Some.ensures.cases.0 in
     let ge : is_ge (g.K.Ord.cmp (g.T.Keyed.key_of c.in-Some.first.now) c.args.key) ≡ true = cc in
     cut ∙ from-filtered o g.T.Keyed.key_of c.args.key c.in-Some.first.now c.in-Some.later.now
-        (subst (IsInOrder (on g.T.Keyed.key_of g.K.Ord.cmp)) cut c.loop-first.invariant.in_order) (not_less _ ge)
+    (subst (IsInOrder (on g.T.Keyed.key_of g.K.Ord.cmp)) cut c.loop-first.invariant.in_order) (not_less _ ge)
     ∙ ap (filter (λ item. not (is_lt (g.K.Ord.cmp (g.T.Keyed.key_of item) c.args.key)))) (sym cut) ∙ c.loop-first.invariant.left

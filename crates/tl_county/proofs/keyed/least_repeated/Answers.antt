@@ -12,10 +12,10 @@ returns-then-is_eq g c =
     let first : c.loop-first.rest.now ≡ c.in-Some.first.now ∷ c.in-Some.later.now = c.in-Some.ensures.cases.0 in
     let second = c.in-Some-split_first.ensures.cases.0 in
     let equal : is_eq (g.K.Ord.cmp (g.T.Keyed.key_of c.in-Some-split_first.second.now) (g.T.Keyed.key_of c.in-Some.first.now)) ≡ true =
-        cc in
+    cc in
     decided-twice o g.T.Keyed.key_of _ c.loop-first.rest.now c.loop-first.invariant.same c.loop-first.invariant.in_order
     c.in-Some.first.now c.in-Some-split_first.second.now _ (first
-        ∙ ap (λ l. c.in-Some.first.now ∷ l) second) equal c.key-then-is_eq.result c.key-then-is_eq.ensures
+    ∙ ap (λ l. c.in-Some.first.now ∷ l) second) equal c.key-then-is_eq.result c.key-then-is_eq.ensures
 
 pub loop-first-preserved-else-is_eq : goal.loop-first-preserved-else-is_eq
 loop-first-preserved-else-is_eq g c =
@@ -23,7 +23,7 @@ loop-first-preserved-else-is_eq g c =
     let first : c.loop-first.rest.now ≡ c.in-Some.first.now ∷ c.in-Some.later.now = c.in-Some.ensures.cases.0 in
     let second = c.in-Some-split_first.ensures.cases.0 in
     let apart : is_eq (g.K.Ord.cmp (g.T.Keyed.key_of c.in-Some-split_first.second.now) (g.T.Keyed.key_of c.in-Some.first.now)) ≡ false =
-        cc in
+    cc in
     record {
       in_order = (subst (IsInOrder (on g.T.Keyed.key_of g.K.Ord.cmp)) first c.loop-first.invariant.in_order).1;
       same = λ k. ap (λ l. is_repeated g.K.Ord.cmp (map g.T.Keyed.key_of l) k) second

@@ -10,7 +10,7 @@ returns-in-None g c =
     let o : IsKeyOrder g.K.Ord.cmp = record { total = g.met.K.Ord.total; exact = g.met.K.Key.exact } in
     decided-last o g.A.Keyed.key_of g.B.Keyed.key_of _ c.loop-first.asked.now c.loop-first.known.now c.loop-first.invariant.same c.loop-first.invariant.asked_in_order
     c.in-Some.first.now c.in-Some.later.now c.in-Some.ensures.cases.0
-        (empty_list c.loop-first.known.now c.in-None.ensures.cases) c.key.result c.key.ensures
+    (empty_list c.loop-first.known.now c.in-None.ensures.cases) c.key.result c.key.ensures
 
 pub returns-in-Less : goal.returns-in-Less
 returns-in-Less g c =

@@ -9,5 +9,5 @@ pub returns-clause-in_order : goal.returns-clause-in_order
 returns-clause-in_order g c =
     on_ok_weaker c.sort_by_key.result
     (λ sorted. in_order-from_sorted (on_total g.T.Keyed.key_of g.met.K.Ord.total) c.sort_by_key.new.self.items
-        (sorted g.T.Keyed.key_of (always_returns_same _ _ _ (λ a r f' k. search rules))))
+    (sorted g.T.Keyed.key_of (always_returns_same _ _ _ (λ a r f' k. search rules))))
     c.sort_by_key.ensures.sorted

@@ -41,21 +41,21 @@ new-requires-clause-same_length c =
     let t = typed_of c.args.tables.now in
     let chains : c.in_ok-chains.chains.items ≡ chains_along t.of_type_2 t.of_type_4 t.of_type_6 t.of_type_1 t.of_type_i =
     c.in_ok-chains.ensures ∙ (λ i. chains_along (c.deref-4.ensures.value i) (c.deref-5.ensures.value i) (c.deref-6.ensures.value i)
-        (c.deref-2.ensures.value i) (c.deref-3.ensures.value i)) in
+    (c.deref-2.ensures.value i) (c.deref-3.ensures.value i)) in
     ap length (c.in_ok-tlids.ensures ∙ ap (map one_tlid) c.deref.ensures.value)
-        ∙ length-chains_along t.of_type_2 t.of_type_4 t.of_type_6 t.of_type_1 t.of_type_i (beside t c.requires.tables c.requires.linked)
-        ∙ ap length (sym chains)
+    ∙ length-chains_along t.of_type_2 t.of_type_4 t.of_type_6 t.of_type_1 t.of_type_i (beside t c.requires.tables c.requires.linked)
+    ∙ ap length (sym chains)
 
 pub returns : goal.returns
 returns c =
     let t = typed_of c.args.tables.now in
     let chains : c.in_ok-chains.chains.items ≡ chains_along t.of_type_2 t.of_type_4 t.of_type_6 t.of_type_1 t.of_type_i =
     c.in_ok-chains.ensures ∙ (λ i. chains_along (c.deref-4.ensures.value i) (c.deref-5.ensures.value i) (c.deref-6.ensures.value i)
-        (c.deref-2.ensures.value i) (c.deref-3.ensures.value i)) in
+    (c.deref-2.ensures.value i) (c.deref-3.ensures.value i)) in
     let same_length = length-chains_along t.of_type_2 t.of_type_4 t.of_type_6 t.of_type_1 t.of_type_i
-        (beside t c.requires.tables c.requires.linked) in
+    (beside t c.requires.tables c.requires.linked) in
     entries-equal c.new.result _
     (c.new.ensures.keys ∙ c.in_ok-tlids.ensures ∙ ap (map one_tlid) c.deref.ensures.value
-        ∙ sym (keys-zip (map one_tlid t.of_type_1) (chains_along t.of_type_2 t.of_type_4 t.of_type_6 t.of_type_1 t.of_type_i) same_length))
+    ∙ sym (keys-zip (map one_tlid t.of_type_1) (chains_along t.of_type_2 t.of_type_4 t.of_type_6 t.of_type_1 t.of_type_i) same_length))
     (c.new.ensures.values ∙ chains ∙ sym (values-zip (map one_tlid t.of_type_1)
-        (chains_along t.of_type_2 t.of_type_4 t.of_type_6 t.of_type_1 t.of_type_i) same_length))
+    (chains_along t.of_type_2 t.of_type_4 t.of_type_6 t.of_type_1 t.of_type_i) same_length))

@@ -13,7 +13,7 @@ pub invariant_of-result : goal.invariant_of-result
 invariant_of-result c =
     let t = typed_of c.args.tables.now in
     let same : county_with c.in_ok-chains.chains c.in_ok-names.names c.in_ok-polygons.polygons c.in_ok-landmarks.landmarks
-        ≡ county_along t =
+    ≡ county_along t =
     λ i. county_with (c.in_ok-chains.ensures i) (c.in_ok-names.ensures i) (c.in_ok-polygons.ensures i) (c.in_ok-landmarks.ensures i) in
     record {
       is_county = subst IsCounty (sym same) (built-is_county t c.requires.tables c.requires.linked);

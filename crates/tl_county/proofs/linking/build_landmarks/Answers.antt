@@ -39,9 +39,9 @@ returns c =
     let eights = c.args.tables.now.type_8.items in
     let lands : List ℕ = distinct nat_cmp (map seven_land sevens) in
     let found : c.in_ok-lands.lands.items ≡ lands = c.in_ok-lands.ensures
-        ∙ ap (λ l. distinct nat_cmp (map seven_land l)) c.deref.ensures.value in
+    ∙ ap (λ l. distinct nat_cmp (map seven_land l)) c.deref.ensures.value in
     entries-equal c.new.result (map (λ land. (land, landmark_of sevens eights land)) lands)
     (c.new.ensures.keys ∙ found ∙ sym (map-map (λ e. e.0) (λ land. (land, landmark_of sevens eights land)) lands ∙ map-id lands))
     (c.new.ensures.values ∙ c.in_ok-landmarks.ensures
-        ∙ (λ i. map (landmark_of (c.deref-3.ensures.value i) (c.deref-4.ensures.value i)) ((c.deref-2.ensures.value ∙ found) i))
-        ∙ sym (map-map (λ e. e.1) (λ land. (land, landmark_of sevens eights land)) lands))
+    ∙ (λ i. map (landmark_of (c.deref-3.ensures.value i) (c.deref-4.ensures.value i)) ((c.deref-2.ensures.value ∙ found) i))
+    ∙ sym (map-map (λ e. e.1) (λ land. (land, landmark_of sevens eights land)) lands))

@@ -18,4 +18,4 @@ returns c =
     entries-equal c.new.result (map (λ (r : Fields5). (r.feat, r.body)) fives)
     (c.new.ensures.keys ∙ c.requires.feats ∙ sym (map-map (λ e. e.0) (λ (r : Fields5). (r.feat, r.body)) fives))
     (c.new.ensures.values ∙ c.in_ok-bodies.ensures ∙ ap (map (λ (r : Fields5). r.body)) c.deref.ensures.value
-        ∙ sym (map-map (λ e. e.1) (λ (r : Fields5). (r.feat, r.body)) fives))
+    ∙ sym (map-map (λ e. e.1) (λ (r : Fields5). (r.feat, r.body)) fives))

@@ -23,10 +23,10 @@ new-requires-clause-ascending c =
 pub returns : goal.returns
 returns c =
     let keys : List PolygonKey =
-        distinct key_cmp (flat_map side_keys c.args.tables.now.type_i.items ++ map p_key c.args.tables.now.type_p.items) in
+    distinct key_cmp (flat_map side_keys c.args.tables.now.type_i.items ++ map p_key c.args.tables.now.type_p.items) in
     entries-equal c.new.result (map (λ key. (key, polygon_body_of c.args.tables.now.type_p.items key)) keys)
     (c.new.ensures.keys ∙ c.requires.keys ∙ sym (map-map (λ e. e.0) (λ key. (key, polygon_body_of c.args.tables.now.type_p.items key)) keys
-        ∙ map-id keys))
+    ∙ map-id keys))
     (c.new.ensures.values ∙ c.in_ok-bodies.ensures
-        ∙ (λ i. map (polygon_body_of (c.deref-2.ensures.value i)) ((c.deref.ensures.value ∙ c.requires.keys) i))
-        ∙ sym (map-map (λ e. e.1) (λ key. (key, polygon_body_of c.args.tables.now.type_p.items key)) keys))
+    ∙ (λ i. map (polygon_body_of (c.deref-2.ensures.value i)) ((c.deref.ensures.value ∙ c.requires.keys) i))
+    ∙ sym (map-map (λ e. e.1) (λ key. (key, polygon_body_of c.args.tables.now.type_p.items key)) keys))

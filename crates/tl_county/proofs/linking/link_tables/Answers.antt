@@ -23,4 +23,4 @@ pub returns-in-Err-clause-broken : goal.returns-in-Err-clause-broken
 returns-in-Err-clause-broken c ne records h =
     let u = typed_of c.order_tables.new.tables in
     also_first records (typed_of c.args.tables) u (held c.args.tables records h) c.in_ok-order_tables.ensures.same _
-        (c.in-Err.ensures.broken ne (type_after_type u) (by_type-after u))
+    (c.in-Err.ensures.broken ne (type_after_type u) (by_type-after u))

@@ -50,10 +50,10 @@ returns-in-Some c records e =
 pub returns-in-Some-least_unknown : goal.returns-in-Some-least_unknown
 returns-in-Some-least_unknown c records e =
     let ps : RulesHold records 13 14 =
-        rule-holds (rule_18 records (typed_of c.args.tables.now) e) (subst (Twice p_key None) c.deref.ensures.value c.in_default.ensures) in
+    rule-holds (rule_18 records (typed_of c.args.tables.now) e) (subst (Twice p_key None) c.deref.ensures.value c.in_default.ensures) in
     first-after records (omega arith) ps (rule-broken (rule_19 records (typed_of c.args.tables.now) e) c.in-Some-least_unknown.land
-        (at_lists (Unknown eight_land seven_land
-        (Some c.in-Some-least_unknown.land)) c.deref-2.ensures.value c.deref-3.ensures.value c.in-Some-least_unknown.ensures))
+    (at_lists (Unknown eight_land seven_land
+    (Some c.in-Some-least_unknown.land)) c.deref-2.ensures.value c.deref-3.ensures.value c.in-Some-least_unknown.ensures))
 
 -- the polygons asked for and known, as the lists that they were gathered from have them
 alike : (linked polygons keys known : List PolygonKey) → IsPermutation keys linked → polygons ≡ distinct key_cmp known → (key : PolygonKey)
@@ -64,30 +64,30 @@ alike linked polygons keys known p e key = (λ i. is_unknown key_cmp (map-id lin
 pub returns-in-Some-least_unknown-2 : goal.returns-in-Some-least_unknown-2
 returns-in-Some-least_unknown-2 c records e =
     let ps : RulesHold records 13 14 =
-        rule-holds (rule_18 records (typed_of c.args.tables.now) e) (subst (Twice p_key None) c.deref.ensures.value c.in_default.ensures) in
+    rule-holds (rule_18 records (typed_of c.args.tables.now) e) (subst (Twice p_key None) c.deref.ensures.value c.in_default.ensures) in
     let lands : RulesHold records 14 15 =
-        rule-holds (rule_19 records (typed_of c.args.tables.now) e)
-        (at_lists (Unknown eight_land seven_land None) c.deref-2.ensures.value c.deref-3.ensures.value c.in_default-least_unknown.ensures) in
+    rule-holds (rule_19 records (typed_of c.args.tables.now) e)
+    (at_lists (Unknown eight_land seven_land None) c.deref-2.ensures.value c.deref-3.ensures.value c.in_default-least_unknown.ensures) in
     let keys : List PolygonKey = flat_map side_keys c.args.tables.now.type_i.items ++ map p_key c.args.tables.now.type_p.items in
     let found = least-same key_cmp (is_unknown key_cmp (map (λ k. k) c.args.linked.now) (map (λ k. k) c.args.polygons.now))
-        (is_unknown key_cmp (map eight_key c.args.tables.now.type_8.items) keys)
+    (is_unknown key_cmp (map eight_key c.args.tables.now.type_8.items) keys)
     (alike c.args.linked.now c.args.polygons.now
-        (map eight_key c.args.tables.now.type_8.items) keys c.requires.linked.1 c.requires.polygons)
-        (Some c.in-Some-least_unknown-2.key) c.in-Some-least_unknown-2.ensures in
+    (map eight_key c.args.tables.now.type_8.items) keys c.requires.linked.1 c.requires.polygons)
+    (Some c.in-Some-least_unknown-2.key) c.in-Some-least_unknown-2.ensures in
     first-after records (omega arith) ps (first-after records (omega arith) lands
-        (rule-broken (rule_20 records (typed_of c.args.tables.now) e) c.in-Some-least_unknown-2.key found))
+    (rule-broken (rule_20 records (typed_of c.args.tables.now) e) c.in-Some-least_unknown-2.key found))
 
 pub returns : goal.returns
 returns c records e =
     let ps : RulesHold records 13 14 =
-        rule-holds (rule_18 records (typed_of c.args.tables.now) e) (subst (Twice p_key None) c.deref.ensures.value c.in_default.ensures) in
+    rule-holds (rule_18 records (typed_of c.args.tables.now) e) (subst (Twice p_key None) c.deref.ensures.value c.in_default.ensures) in
     let lands : RulesHold records 14 15 =
-        rule-holds (rule_19 records (typed_of c.args.tables.now) e)
-        (at_lists (Unknown eight_land seven_land None) c.deref-2.ensures.value c.deref-3.ensures.value c.in_default-least_unknown.ensures) in
+    rule-holds (rule_19 records (typed_of c.args.tables.now) e)
+    (at_lists (Unknown eight_land seven_land None) c.deref-2.ensures.value c.deref-3.ensures.value c.in_default-least_unknown.ensures) in
     let keys : List PolygonKey = flat_map side_keys c.args.tables.now.type_i.items ++ map p_key c.args.tables.now.type_p.items in
     let none = least-same key_cmp (is_unknown key_cmp (map (λ k. k) c.args.linked.now) (map (λ k. k) c.args.polygons.now))
-        (is_unknown key_cmp (map eight_key c.args.tables.now.type_8.items) keys)
+    (is_unknown key_cmp (map eight_key c.args.tables.now.type_8.items) keys)
     (alike c.args.linked.now c.args.polygons.now
-        (map eight_key c.args.tables.now.type_8.items) keys c.requires.linked.1 c.requires.polygons) None c.in_default-least_unknown-2.ensures in
+    (map eight_key c.args.tables.now.type_8.items) keys c.requires.linked.1 c.requires.polygons) None c.in_default-least_unknown-2.ensures in
     let polygons : RulesHold records 15 16 = rule-holds (rule_20 records (typed_of c.args.tables.now) e) none in
     rules-join records ps (rules-join records lands polygons)

@@ -24,25 +24,25 @@ least_unnamed-requires-clause-feats c =
 pub returns-in-Some-least_unnamed : goal.returns-in-Some-least_unnamed
 returns-in-Some-least_unnamed c records e =
     let fives : RulesHold records 11 12 =
-        rule-holds (rule_16 records (typed_of c.args.tables.now) e)
-        (subst (Twice five_feat None) c.deref.ensures.value c.in_default.ensures) in
+    rule-holds (rule_16 records (typed_of c.args.tables.now) e)
+    (subst (Twice five_feat None) c.deref.ensures.value c.in_default.ensures) in
     let found = least-same sequence_cmp (is_unnamed c.args.uses.now c.args.feats.now)
-        (is_unnamed (flat_map uses_of c.args.tables.now.type_4.items) (map five_feat c.args.tables.now.type_5.items))
+    (is_unnamed (flat_map uses_of c.args.tables.now.type_4.items) (map five_feat c.args.tables.now.type_5.items))
     (λ pair. unnamed-reordered (flat_map uses_of c.args.tables.now.type_4.items) c.args.uses.now c.args.feats.now c.requires.uses.1 pair
-        ∙ ap (λ l. is_unnamed (flat_map uses_of c.args.tables.now.type_4.items) l pair) c.requires.feats)
+    ∙ ap (λ l. is_unnamed (flat_map uses_of c.args.tables.now.type_4.items) l pair) c.requires.feats)
     (Some (c.in-Some-least_unnamed.tlid, c.in-Some-least_unnamed.feat)) c.in-Some-least_unnamed.ensures in
     first-after records (omega arith) fives (rule-broken (rule_17 records (typed_of c.args.tables.now) e)
-        (c.in-Some-least_unnamed.tlid, c.in-Some-least_unnamed.feat) found)
+    (c.in-Some-least_unnamed.tlid, c.in-Some-least_unnamed.feat) found)
 
 pub returns : goal.returns
 returns c records e =
     let fives : RulesHold records 11 12 =
-        rule-holds (rule_16 records (typed_of c.args.tables.now) e)
-        (subst (Twice five_feat None) c.deref.ensures.value c.in_default.ensures) in
+    rule-holds (rule_16 records (typed_of c.args.tables.now) e)
+    (subst (Twice five_feat None) c.deref.ensures.value c.in_default.ensures) in
     let none = least-same sequence_cmp (is_unnamed c.args.uses.now c.args.feats.now)
-        (is_unnamed (flat_map uses_of c.args.tables.now.type_4.items) (map five_feat c.args.tables.now.type_5.items))
+    (is_unnamed (flat_map uses_of c.args.tables.now.type_4.items) (map five_feat c.args.tables.now.type_5.items))
     (λ pair. unnamed-reordered (flat_map uses_of c.args.tables.now.type_4.items) c.args.uses.now c.args.feats.now c.requires.uses.1 pair
-        ∙ ap (λ l. is_unnamed (flat_map uses_of c.args.tables.now.type_4.items) l pair) c.requires.feats)
+    ∙ ap (λ l. is_unnamed (flat_map uses_of c.args.tables.now.type_4.items) l pair) c.requires.feats)
     None c.in_default-least_unnamed.ensures in
     let fours : RulesHold records 12 13 = rule-holds (rule_17 records (typed_of c.args.tables.now) e) none in
     rules-join records fives fours

@@ -27,51 +27,55 @@ least_repeated-requires-3 c = subst (IsInOrder (on six_sequence sequence_cmp)) (
 pub returns-in-Some : goal.returns-in-Some
 returns-in-Some c records e =
     rule-broken (rule_13_two records (typed_of c.args.tables.now) e) c.in-Some.tlid
-        (least-repeat two_tlid two_rtsq c.in-Some.tlid c.in-Some.field-0-1 c.args.tables.now.type_2.items
-        (subst (Twice two_sequence (Some (c.in-Some.tlid, c.in-Some.field-0-1))) c.deref.ensures.value c.in-Some.ensures))
+    (least-repeat two_tlid two_rtsq c.in-Some.tlid c.in-Some.field-0-1 c.args.tables.now.type_2.items
+    (subst (Twice two_sequence (Some (c.in-Some.tlid, c.in-Some.field-0-1))) c.deref.ensures.value c.in-Some.ensures))
 
 pub returns-in-Some-least_repeated : goal.returns-in-Some-least_repeated
 returns-in-Some-least_repeated c records e =
     let twos : RulesHold records 5 6 =
-        rule-holds (rule_13_two records (typed_of c.args.tables.now) e)
-        (no_repeat two_tlid two_rtsq c.args.tables.now.type_2.items
-        (subst (Twice two_sequence None) c.deref.ensures.value c.in_default.ensures)) in
+    rule-holds (rule_13_two records (typed_of c.args.tables.now) e)
+    (no_repeat two_tlid two_rtsq c.args.tables.now.type_2.items
+    (subst (Twice two_sequence None) c.deref.ensures.value c.in_default.ensures)) in
     first-after records (omega arith) twos (rule-broken (rule_13_four records (typed_of c.args.tables.now) e) c.in-Some-least_repeated.tlid
-        (least-repeat four_tlid four_rtsq c.in-Some-least_repeated.tlid c.in-Some-least_repeated.field-0-1 c.args.tables.now.type_4.items
-        (subst (Twice four_sequence
-        (Some (c.in-Some-least_repeated.tlid,
-        c.in-Some-least_repeated.field-0-1))) c.deref-2.ensures.value c.in-Some-least_repeated.ensures)))
+    (least-repeat four_tlid four_rtsq c.in-Some-least_repeated.tlid c.in-Some-least_repeated.field-0-1 c.args.tables.now.type_4.items
+    (subst (Twice four_sequence
+    (Some (
+      c.in-Some-least_repeated.tlid,
+      c.in-Some-least_repeated.field-0-1,
+    ))) c.deref-2.ensures.value c.in-Some-least_repeated.ensures)))
 
 pub returns-in-Some-least_repeated-2 : goal.returns-in-Some-least_repeated-2
 returns-in-Some-least_repeated-2 c records e =
     let twos : RulesHold records 5 6 =
-        rule-holds (rule_13_two records (typed_of c.args.tables.now) e)
-        (no_repeat two_tlid two_rtsq c.args.tables.now.type_2.items
-        (subst (Twice two_sequence None) c.deref.ensures.value c.in_default.ensures)) in
+    rule-holds (rule_13_two records (typed_of c.args.tables.now) e)
+    (no_repeat two_tlid two_rtsq c.args.tables.now.type_2.items
+    (subst (Twice two_sequence None) c.deref.ensures.value c.in_default.ensures)) in
     let fours : RulesHold records 6 7 =
-        rule-holds (rule_13_four records (typed_of c.args.tables.now) e)
-        (no_repeat four_tlid four_rtsq c.args.tables.now.type_4.items
-        (subst (Twice four_sequence None) c.deref-2.ensures.value c.in_default-least_repeated.ensures)) in
+    rule-holds (rule_13_four records (typed_of c.args.tables.now) e)
+    (no_repeat four_tlid four_rtsq c.args.tables.now.type_4.items
+    (subst (Twice four_sequence None) c.deref-2.ensures.value c.in_default-least_repeated.ensures)) in
     first-after records (omega arith) twos (first-after records (omega arith) fours
-        (rule-broken (rule_13_six records (typed_of c.args.tables.now) e) c.in-Some-least_repeated-2.tlid
-        (least-repeat six_tlid six_rtsq c.in-Some-least_repeated-2.tlid c.in-Some-least_repeated-2.field-0-1 c.args.tables.now.type_6.items
-        (subst (Twice six_sequence
-        (Some (c.in-Some-least_repeated-2.tlid,
-        c.in-Some-least_repeated-2.field-0-1))) c.deref-3.ensures.value c.in-Some-least_repeated-2.ensures))))
+    (rule-broken (rule_13_six records (typed_of c.args.tables.now) e) c.in-Some-least_repeated-2.tlid
+    (least-repeat six_tlid six_rtsq c.in-Some-least_repeated-2.tlid c.in-Some-least_repeated-2.field-0-1 c.args.tables.now.type_6.items
+    (subst (Twice six_sequence
+    (Some (
+      c.in-Some-least_repeated-2.tlid,
+      c.in-Some-least_repeated-2.field-0-1,
+    ))) c.deref-3.ensures.value c.in-Some-least_repeated-2.ensures))))
 
 pub returns : goal.returns
 returns c records e =
     let twos : RulesHold records 5 6 =
-        rule-holds (rule_13_two records (typed_of c.args.tables.now) e)
-        (no_repeat two_tlid two_rtsq c.args.tables.now.type_2.items
-        (subst (Twice two_sequence None) c.deref.ensures.value c.in_default.ensures)) in
+    rule-holds (rule_13_two records (typed_of c.args.tables.now) e)
+    (no_repeat two_tlid two_rtsq c.args.tables.now.type_2.items
+    (subst (Twice two_sequence None) c.deref.ensures.value c.in_default.ensures)) in
     let fours : RulesHold records 6 7 =
-        rule-holds (rule_13_four records (typed_of c.args.tables.now) e)
-        (no_repeat four_tlid four_rtsq c.args.tables.now.type_4.items
-        (subst (Twice four_sequence None) c.deref-2.ensures.value c.in_default-least_repeated.ensures)) in
+    rule-holds (rule_13_four records (typed_of c.args.tables.now) e)
+    (no_repeat four_tlid four_rtsq c.args.tables.now.type_4.items
+    (subst (Twice four_sequence None) c.deref-2.ensures.value c.in_default-least_repeated.ensures)) in
     let sixs : RulesHold records 7 8 =
-        rule-holds (rule_13_six records (typed_of c.args.tables.now) e)
-        (no_repeat six_tlid six_rtsq c.args.tables.now.type_6.items
-        (subst (Twice six_sequence None) c.deref-3.ensures.value c.in_default-least_repeated-2.ensures)) in
+    rule-holds (rule_13_six records (typed_of c.args.tables.now) e)
+    (no_repeat six_tlid six_rtsq c.args.tables.now.type_6.items
+    (subst (Twice six_sequence None) c.deref-3.ensures.value c.in_default-least_repeated-2.ensures)) in
     let none : RulesHold records 8 9 = rule-holds (rule_13_i records (typed_of c.args.tables.now) e) (λ k. refl) in
     rules-join records twos (rules-join records fours (rules-join records sixs none))

@@ -11,7 +11,7 @@ returns-then-not-is_some c =
     let cut : c.loop-first.rest.now ≡ c.in-Some.first.now ∷ c.in-Some.later.now = c.in-Some.ensures.cases.0 in
     let none : stands_in nat_cmp c.in-Some.first.now.1 c.args.feats.now ≡ false = cc in
     least-same sequence_cmp (is_unnamed (c.in-Some.first.now ∷ c.in-Some.later.now) c.args.feats.now)
-        (is_unnamed c.args.uses.now c.args.feats.now)
+    (is_unnamed c.args.uses.now c.args.feats.now)
     (λ pair. ap (λ l. is_unnamed l c.args.feats.now pair) (sym cut) ∙ c.loop-first.invariant.same pair) (Some c.in-Some.first.now)
     (unnamed-first c.in-Some.first.now c.in-Some.later.now c.args.feats.now
-        (subst (IsInOrder sequence_cmp) cut c.loop-first.invariant.in_order) none)
+    (subst (IsInOrder sequence_cmp) cut c.loop-first.invariant.in_order) none)

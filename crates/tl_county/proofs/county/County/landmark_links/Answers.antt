@@ -12,11 +12,11 @@ returns-in-Some c =
     let kept = c.args.self.now in
     c.links.ensures ∙ ap (λ o. (unwrap_or o without).links) c.in-Some.ensures
     ∙ links-under c.args.land kept.landmarks (subst (IsStrictlySortedBy nat_cmp)
-        (sym (lands-kept kept.landmarks)) kept.is_county.ascending.landmarks) kept.links_under_lands
+    (sym (lands-kept kept.landmarks)) kept.is_county.ascending.landmarks) kept.links_under_lands
 
 pub returns-in-None : goal.returns-in-None
 returns-in-None c =
     let kept = c.args.self.now in
     ap (λ o. (unwrap_or o without).links) c.in-None.ensures
     ∙ links-under c.args.land kept.landmarks (subst (IsStrictlySortedBy nat_cmp)
-        (sym (lands-kept kept.landmarks)) kept.is_county.ascending.landmarks) kept.links_under_lands
+    (sym (lands-kept kept.landmarks)) kept.is_county.ascending.landmarks) kept.links_under_lands

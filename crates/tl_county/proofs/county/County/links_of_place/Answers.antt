@@ -10,15 +10,15 @@ returns-in-Some c =
     let kept = c.args.self.now in
     c.links.ensures ∙ ap (λ (o : Option LandmarkParts). (unwrap_or o (record { bodies = []; links = [] })).links) c.in-Some.ensures
     ∙ links-at kept.landmarks (subst (IsStrictlySortedBy nat_cmp)
-        (sym (lands-kept kept.landmarks)) kept.is_county.ascending.landmarks) kept.links_under_lands c.args.place
+    (sym (lands-kept kept.landmarks)) kept.is_county.ascending.landmarks) kept.links_under_lands c.args.place
     ∙ ap (λ lands. links_with (flat_map (λ (entry : ℕ × LandmarkParts). entry.1.links) kept.landmarks) (slice_get lands c.args.place))
-        (lands-kept kept.landmarks)
+    (lands-kept kept.landmarks)
 
 pub returns-in-None : goal.returns-in-None
 returns-in-None c =
     let kept = c.args.self.now in
     ap (λ (o : Option LandmarkParts). (unwrap_or o (record { bodies = []; links = [] })).links) c.in-None.ensures
     ∙ links-at kept.landmarks (subst (IsStrictlySortedBy nat_cmp)
-        (sym (lands-kept kept.landmarks)) kept.is_county.ascending.landmarks) kept.links_under_lands c.args.place
+    (sym (lands-kept kept.landmarks)) kept.is_county.ascending.landmarks) kept.links_under_lands c.args.place
     ∙ ap (λ lands. links_with (flat_map (λ (entry : ℕ × LandmarkParts). entry.1.links) kept.landmarks) (slice_get lands c.args.place))
-        (lands-kept kept.landmarks)
+    (lands-kept kept.landmarks)

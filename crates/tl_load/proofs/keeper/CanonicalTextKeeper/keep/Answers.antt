@@ -9,7 +9,7 @@ extended : {T E : Type 0} (r : Result T E) (before after line : List ℕ) (recor
     → spelling_of added ≡ line → OnOk r (after ≡ before ++ (line ++ 10 ∷ [])) → OnOk r (after ≡ text_of (records ++ added ∷ []))
 extended (Ok x) before after line records added held spelled more =
     more ∙ ap (λ (l : List ℕ). l ++ (line ++ 10 ∷ [])) held ∙ ap (λ (l : List ℕ). text_of records ++ (l ++ 10 ∷ [])) (sym spelled)
-        ∙ sym (text_of-snoc records added)
+    ∙ sym (text_of-snoc records added)
 extended (Err e) before after line records added held spelled more = tt
 
 pub returns : goal.returns

@@ -21,9 +21,9 @@ returns-clause-loaded c limit closed open_part w =
 pub returns-clause-fits : goal.returns-clause-fits
 returns-clause-fits c limit closed open_part w =
     also (Accepts tiger limit (all_parts closed open_part)) (All FitsRecord) c.finish.result
-        (λ records a. spelled_fit (all_parts closed open_part) records a.spells)
+    (λ records a. spelled_fit (all_parts closed open_part) records a.spells)
     (found_list (Accepts tiger limit (all_parts closed open_part)) c.finish.result
-        (c.finish.ensures.loaded limit closed open_part (fed c limit closed open_part w)))
+    (c.finish.ensures.loaded limit closed open_part (fed c limit closed open_part w)))
 
 pub returns-clause-only : goal.returns-clause-only
 returns-clause-only c limit closed open_part records w a =

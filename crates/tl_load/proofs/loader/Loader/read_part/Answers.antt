@@ -17,21 +17,31 @@ invariant_of-self g c =
 
 read : (limit : ℕ) (l : LoadedInto Records) (at_end : Type 0) (closed : List (List ℕ)) (part : List ℕ) (r : Result (Unit {0}) LoadFault)
     → MatchResult r (λ _. at_end × WasFedInto holds_list limit l (closed ++ part ∷ []) [])
-        (λ _. (at_end × WasFedInto holds_list limit l (closed ++ part ∷ []) []) ⊎ WasFedInto holds_list limit l closed part)
+    (λ _. (at_end × WasFedInto holds_list limit l (closed ++ part ∷ []) []) ⊎ WasFedInto holds_list limit l closed part)
     → MatchResult r (λ _. at_end × WasFed limit (listed l) (closed ++ part ∷ []) [])
-        (λ _. (at_end × WasFed limit (listed l) (closed ++ part ∷ []) []) ⊎ WasFed limit (listed l) closed part)
+    (λ _. (at_end × WasFed limit (listed l) (closed ++ part ∷ []) []) ⊎ WasFed limit (listed l) closed part)
 read limit l at_end closed part (Ok x) h = (h.0, of_into limit l (closed ++ part ∷ []) [] h.1)
 read limit l at_end closed part (Err f) (inl h) = inl (h.0, of_into limit l (closed ++ part ∷ []) [] h.1)
 read limit l at_end closed part (Err f) (inr h) = inr (of_into limit l closed part h)
 
 pub returns-clause-fed : goal.returns-clause-fed
 returns-clause-fed g c =
-    let r = c.read_part.ensures.fed in
-    (r.0, r.1, r.2, λ limit closed open_part w. read limit c.read_part.new.self _ closed (open_part ++ r.0) c.read_part.result
-        (r.3 limit closed open_part (fed g c limit closed open_part w)))
+    let r = c.read_part.ensures.fed in (
+      r.0,
+      r.1,
+      r.2,
+      λ limit closed open_part w. read limit c.read_part.new.self _ closed (open_part ++ r.0) c.read_part.result
+          (r.3 limit closed open_part (fed g c limit closed open_part w)),
+    )
 
 pub returns-clause-stops : goal.returns-clause-stops
 returns-clause-stops g c none =
     let s = c.read_part.ensures.stops (ap (λ (l : Loaded). l.fault) c.self.view_is ∙ none) in
-    record { last = s.last; taken = s.taken; gave = s.gave; one_read = s.one_read; should =
-        λ limit closed open_part w. s.should limit closed open_part (fed g c limit closed open_part w) }
+    record {
+      last = s.last;
+      taken = s.taken;
+      gave = s.gave;
+      one_read = s.one_read;
+      should =
+          λ limit closed open_part w. s.should limit closed open_part (fed g c limit closed open_part w);
+    }

@@ -28,7 +28,7 @@ invariant_of-self g c =
 pub returns-in-Ok-clause-adds : goal.returns-in-Ok-clause-adds
 returns-in-Ok-clause-adds g c =
     let is : type_of (g.L.Tabled.as_record c.args.found) ≡ c.RTYPE-rtype.result = g.met.L.Tabled.type_is c.args.found
-        ∙ sym c.RTYPE-rtype.ensures in
+    ∙ sym c.RTYPE-rtype.ensures in
     rw (← c.self.view_is) (λ records kept. (
       _,
       record {
@@ -43,5 +43,5 @@ returns-in-Ok-clause-adds g c =
 pub returns-in-Ok-clause-one_more : goal.returns-in-Ok-clause-one_more
 returns-in-Ok-clause-one_more g c =
     rw (← c.self.view_is)
-        (total_up c.self.inside.counts (g.L.Tabled.as_record c.args.found) c.RTYPE-rtype.result c.self.invariant.counts_len
-        (g.met.L.Tabled.type_is c.args.found ∙ sym c.RTYPE-rtype.ensures))
+    (total_up c.self.inside.counts (g.L.Tabled.as_record c.args.found) c.RTYPE-rtype.result c.self.invariant.counts_len
+    (g.met.L.Tabled.type_is c.args.found ∙ sym c.RTYPE-rtype.ensures))

@@ -10,12 +10,19 @@ returns-clause-takes g c =
     let kept_bytes = c.self.inside.line.items in
     let whole = sym (append-nil kept_bytes) in
     let line = c.without_carriage_return.ensures ∙ ap without_return (c.as_slice.ensures.value ∙ ap (λ v. v.items) c.take-line.ensures.value
-        ∙ whole) in
+    ∙ whole) in
     let no_feed = subst IsWithoutLineFeed whole c.self.invariant.no_feed in
     rw (← c.self.view_is) (λ records kept.
     let before : Loaded =
-        record { records = records; parts = c.self.inside.parts; judged = c.self.inside.judged; unfinished =
-        c.self.inside.line.items; limit = c.self.inside.limit; fault = c.self.inside.fault } in
+    record {
+      records = records;
+      parts = c.self.inside.parts;
+      judged = c.self.inside.judged;
+      unfinished =
+          c.self.inside.line.items;
+      limit = c.self.inside.limit;
+      fault = c.self.inside.fault;
+    } in
     let mid : Loaded = record before { unfinished = c.take-line.new.self.items } in
     let j = c.judge_next.ensures.judges records (record { held = kept.held; counted = kept.counted }) in (
       j.0,
@@ -23,5 +30,5 @@ returns-clause-takes g c =
       ends_line before mid (seen c.judge_next.new.self j.0) [] _ c.judge_next.result
           (record { records = refl; parts = refl; judged = refl; limit = refl }) line no_feed j.2
           c.judge_next.ensures.judged (c.judge_next.ensures.unfinished
-              ∙ c.take-line.ensures.after) c.judge_next.ensures.same_part.parts c.judge_next.ensures.same_part.limit,
+          ∙ c.take-line.ensures.after) c.judge_next.ensures.same_part.parts c.judge_next.ensures.same_part.limit,
     ))

@@ -11,19 +11,33 @@ returns-then-is_empty-clause-ends g c =
     let none = empty_is c.self.inside.line.items (sym c.is_empty.ensures ∙ c.if-is_empty.true) in
     rw (← c.self.view_is) (λ records kept.
     let before : Loaded =
-        record { records = records; parts = c.self.inside.parts; judged = c.self.inside.judged; unfinished =
-        c.self.inside.line.items; limit = c.self.inside.limit; fault = c.self.inside.fault } in
+    record {
+      records = records;
+      parts = c.self.inside.parts;
+      judged = c.self.inside.judged;
+      unfinished =
+          c.self.inside.line.items;
+      limit = c.self.inside.limit;
+      fault = c.self.inside.fault;
+    } in
     (records, kept, ends_empty before before none refl))
 
 pub returns-clause-ends : goal.returns-clause-ends
 returns-clause-ends g c =
     let line = c.without_carriage_return.ensures ∙ ap without_return (c.as_slice.ensures.value
-        ∙ ap (λ v. v.items) c.take-tail.ensures.value) in
+    ∙ ap (λ v. v.items) c.take-tail.ensures.value) in
     let some = some_is c.self.inside.line.items (sym c.is_empty.ensures ∙ c.if-is_empty.false) in
     rw (← c.self.view_is) (λ records kept.
     let before : Loaded =
-        record { records = records; parts = c.self.inside.parts; judged = c.self.inside.judged; unfinished =
-        c.self.inside.line.items; limit = c.self.inside.limit; fault = c.self.inside.fault } in
+    record {
+      records = records;
+      parts = c.self.inside.parts;
+      judged = c.self.inside.judged;
+      unfinished =
+          c.self.inside.line.items;
+      limit = c.self.inside.limit;
+      fault = c.self.inside.fault;
+    } in
     let mid : Loaded = record before { unfinished = c.take-tail.new.self.items } in
     let j = c.judge_next.ensures.judges records (record { held = kept.held; counted = kept.counted }) in (
       j.0,

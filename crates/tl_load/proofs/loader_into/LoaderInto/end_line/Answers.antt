@@ -19,7 +19,7 @@ line_used (Err f) line bytes was now open_was short one dropped none open_now = 
 pub returns-then-is_empty-clause-takes : goal.returns-then-is_empty-clause-takes
 returns-then-is_empty-clause-takes g c = λ records kept.
     let none : c.args.self.now.unfinished ≡ [] =
-        rw (← c.self.view_is) (empty_is c.self.inside.line.items (sym c.is_empty.ensures ∙ c.if-is_empty.true)) in
+    rw (← c.self.view_is) (empty_is c.self.inside.line.items (sym c.is_empty.ensures ∙ c.if-is_empty.true)) in
     let joined : c.args.self.now.unfinished ++ c.args.bytes.now ≡ c.args.bytes.now = ap (λ (l : List ℕ). l ++ c.args.bytes.now) none in
     let j = c.judge_next.ensures.judges records kept in (
       j.0,
@@ -29,30 +29,36 @@ returns-then-is_empty-clause-takes g c = λ records kept.
           (record { records = refl; parts = refl; judged = refl; limit = refl })
           (c.without_carriage_return.ensures ∙ ap without_return (sym joined)) (subst IsWithoutLineFeed (sym joined) c.requires.no_feed) j.2
           c.judge_next.ensures.judged (c.judge_next.ensures.unfinished
-              ∙ none) c.judge_next.ensures.same_part.parts c.judge_next.ensures.same_part.limit,
+          ∙ none) c.judge_next.ensures.same_part.parts c.judge_next.ensures.same_part.limit,
     )
 
 pub returns-then-is_empty-clause-used : goal.returns-then-is_empty-clause-used
 returns-then-is_empty-clause-used g c =
     let none : c.args.self.now.unfinished ≡ [] =
-        rw (← c.self.view_is) (empty_is c.self.inside.line.items (sym c.is_empty.ensures ∙ c.if-is_empty.true)) in
+    rw (← c.self.view_is) (empty_is c.self.inside.line.items (sym c.is_empty.ensures ∙ c.if-is_empty.true)) in
     let dropped : length c.args.bytes.now ≤ length c.without_carriage_return.result.now + 1 =
-        omega (arith, without_return_length c.args.bytes.now, ap length c.without_carriage_return.ensures) in
+    omega (arith, without_return_length c.args.bytes.now, ap length c.without_carriage_return.ensures) in
     line_used c.judge_next.result (length c.without_carriage_return.result.now) (length c.args.bytes.now) (total c.args.self.now.counts)
-        (total c.judge_next.new.self.counts) (length c.args.self.now.unfinished)
+    (total c.judge_next.new.self.counts) (length c.args.self.now.unfinished)
     c.judge_next.ensures.short c.judge_next.ensures.one_more dropped (ap length none) (length c.judge_next.new.self.unfinished)
 
 pub returns-in_err-hold-clause-takes : goal.returns-in_err-hold-clause-takes
 returns-in_err-hold-clause-takes g c =
     let p = err_from_is_err_and c.from_residual.result c.from_residual.ensures.1 in
     rw (p.1, p.2) (λ records kept.
-    let t = c.in_err-hold.ensures.takes records kept in
-    (records, tt, fault_then (Unit {0}) (Unit {0}) (seen c.args.self.now records) (seen c.hold.new.self t.0)
-        (seen c.hold.new.self t.0) c.args.bytes.now (10 ∷ []) _ t.2))
+    let t = c.in_err-hold.ensures.takes records kept in (
+      records,
+      tt,
+      fault_then (Unit {0}) (Unit {0}) (seen c.args.self.now records) (seen c.hold.new.self t.0)
+          (seen c.hold.new.self t.0) c.args.bytes.now (10 ∷ []) _ t.2,
+    ))
 
 pub returns-clause-takes : goal.returns-clause-takes
 returns-clause-takes g c = λ records kept.
     let t = c.in_ok-hold.ensures.takes records kept in
-    let u = c.end_held_line.ensures.takes t.0 t.1 in
-    (u.0, u.1, takes_then (seen c.args.self.now records) (seen c.hold.new.self t.0) (seen c.end_held_line.new.self u.0) c.args.bytes.now
-        (10 ∷ []) c.end_held_line.result t.2 u.2)
+    let u = c.end_held_line.ensures.takes t.0 t.1 in (
+      u.0,
+      u.1,
+      takes_then (seen c.args.self.now records) (seen c.hold.new.self t.0) (seen c.end_held_line.new.self u.0) c.args.bytes.now
+          (10 ∷ []) c.end_held_line.result t.2 u.2,
+    )

@@ -15,7 +15,7 @@ pub returns-in-Some-clause-fault : goal.returns-in-Some-clause-fault
 returns-in-Some-clause-fault g c limit closed open_part w =
     let stands : c.args.self.now.fault ≡ Some c.in-Some.fault = rw (← c.self.view_is) c.in-Some.is in
     stands_at g.K.Keeper.holds limit c.args.self.now (closed ++ open_part ∷ []) [] c.in-Some.fault stands
-        (fed_closed_standing g.K.Keeper.holds limit c.args.self.now c.in-Some.fault closed open_part stands w)
+    (fed_closed_standing g.K.Keeper.holds limit c.args.self.now c.in-Some.fault closed open_part stands w)
 
 goes_on : (g : given.Over) (c : goal.After-stand g) (limit : ℕ) (closed : List (List ℕ)) (open_part : List ℕ)
     → WasFedInto g.K.Keeper.holds limit c.args.self.now closed open_part
@@ -23,7 +23,7 @@ goes_on : (g : given.Over) (c : goal.After-stand g) (limit : ℕ) (closed : List
 goes_on g c limit closed open_part w =
     let none : c.args.self.now.fault ≡ None = rw (← c.self.view_is) c.in_default.is in
     rw c.stand.ensures.stands
-        (fed_closed g.K.Keeper.holds limit c.args.self.now c.close_part-outcome.new.self c.close_part-outcome.result closed open_part none c.close_part-outcome.ensures.limit c.close_part-outcome.ensures.fault c.close_part-outcome.ensures.closes w)
+    (fed_closed g.K.Keeper.holds limit c.args.self.now c.close_part-outcome.new.self c.close_part-outcome.result closed open_part none c.close_part-outcome.ensures.limit c.close_part-outcome.ensures.fault c.close_part-outcome.ensures.closes w)
 
 pub returns-clause-fed : goal.returns-clause-fed
 returns-clause-fed g c = goes_on g c
@@ -31,8 +31,8 @@ returns-clause-fed g c = goes_on g c
 pub returns-clause-fault : goal.returns-clause-fault
 returns-clause-fault g c limit closed open_part w =
     rw c.stand.ensures.same (told_at g.K.Keeper.holds limit c.stand.new.self _ _ c.close_part-outcome.result
-        (rw c.stand.ensures.stands (with_fault_told c.close_part-outcome.result c.close_part-outcome.new.self))
-        (goes_on g c limit closed open_part w))
+    (rw c.stand.ensures.stands (with_fault_told c.close_part-outcome.result c.close_part-outcome.new.self))
+    (goes_on g c limit closed open_part w))
 
 pub returns-clause-kept : goal.returns-clause-kept
 returns-clause-kept g c some =

@@ -31,28 +31,28 @@ returns-in_err-end_last_line-clause-fault g c limit closed open_part w =
     let none : c.args.self.fault ≡ None = rw (← c.self.view_is) c.in_default.is in
     let p = err_from_is_err_and c.from_residual.result c.from_residual.ensures.1 in
     rw (p.1, p.2) (finished_fault
-        (Unit {0}) g.K.Keeper.holds limit c.args.self c.end_last_line.new.self _ closed open_part none c.in_err-end_last_line.ensures.ends w)
+    (Unit {0}) g.K.Keeper.holds limit c.args.self c.end_last_line.new.self _ closed open_part none c.in_err-end_last_line.ensures.ends w)
 
 pub returns-in_err-end_last_line-clause-only : goal.returns-in_err-end_last_line-clause-only
 returns-in_err-end_last_line-clause-only g c limit closed open_part records w a =
     let none : c.args.self.fault ≡ None = rw (← c.self.view_is) c.in_default.is in
     let p = err_from_is_err_and c.from_residual.result c.from_residual.ensures.1 in
     rw (p.1, p.2) (λ is. accepted_no_fault tiger tiger_is_sound limit (all_parts closed open_part) records _ a
-        (finished_fault
-        (Unit {0}) g.K.Keeper.holds limit c.args.self c.end_last_line.new.self _ closed open_part none c.in_err-end_last_line.ensures.ends w is))
+    (finished_fault
+    (Unit {0}) g.K.Keeper.holds limit c.args.self c.end_last_line.new.self _ closed open_part none c.in_err-end_last_line.ensures.ends w is))
 
 pub returns-clause-loaded : goal.returns-clause-loaded
 returns-clause-loaded g c limit closed open_part w =
     let none : c.args.self.fault ≡ None = rw (← c.self.view_is) c.in_default.is in
     let f = finished {T =
-        Unit {0}} g.K.Keeper.holds tt limit c.args.self c.end_last_line.new.self closed open_part none c.in_ok-end_last_line.ensures.ends w in
+    Unit {0}} g.K.Keeper.holds tt limit c.args.self c.end_last_line.new.self closed open_part none c.in_ok-end_last_line.ensures.ends w in
     (f.0, subst (λ (l : LoadedInto g.row.K.Denot). g.K.Keeper.holds l.kept f.0) (sym c.self-2.view_is) f.1, f.2)
 
 pub returns-clause-only : goal.returns-clause-only
 returns-clause-only g c limit closed open_part records w a =
     let none : c.args.self.fault ≡ None = rw (← c.self.view_is) c.in_default.is in
     let f = finished {T =
-        Unit {0}} g.K.Keeper.holds tt limit c.args.self c.end_last_line.new.self closed open_part none c.in_ok-end_last_line.ensures.ends w in
+    Unit {0}} g.K.Keeper.holds tt limit c.args.self c.end_last_line.new.self closed open_part none c.in_ok-end_last_line.ensures.ends w in
     let held = subst (λ (l : LoadedInto g.row.K.Denot). g.K.Keeper.holds l.kept f.0) (sym c.self-2.view_is) f.1 in
     subst (λ (rs : List Record). g.K.Keeper.holds c.self-2.inside.kept rs)
-        (accepted_once tiger tiger_is_sound limit (all_parts closed open_part) f.0 records f.2 a) held
+    (accepted_once tiger tiger_is_sound limit (all_parts closed open_part) f.0 records f.2 a) held

@@ -7,8 +7,15 @@ pub returns-in-Ok-clause-takes : goal.returns-in-Ok-clause-takes
 returns-in-Ok-clause-takes g c =
     rw (← c.self.view_is) (λ records kept.
     let before : Loaded =
-        record { records = records; parts = c.self.inside.parts; judged = c.self.inside.judged; unfinished =
-        c.self.inside.line.items; limit = c.self.inside.limit; fault = c.self.inside.fault } in
+    record {
+      records = records;
+      parts = c.self.inside.parts;
+      judged = c.self.inside.judged;
+      unfinished =
+          c.self.inside.line.items;
+      limit = c.self.inside.limit;
+      fault = c.self.inside.fault;
+    } in
     let after : Loaded = record before { unfinished = c.try_extend_from_slice.new.self.items } in (
       records,
       record { held = kept.held; counted = kept.counted },

@@ -8,10 +8,13 @@ use Rattle.tl_load.proofs.Histories.{fed_read, well_after, some_after}
 use Rattle.tl_load.proofs.loader_into.LoaderInto.read_part_by.Goals as goal
 
 pub returns-in-Some-clause-fed : goal.returns-in-Some-clause-fed
-returns-in-Some-clause-fed g c =
-    ([], gave_none _ _ _, omega arith,
-    λ limit closed open_part w. inr
-    (subst (λ (b : List ℕ). WasFedInto g.K.Keeper.holds limit c.args.self.now closed b) (sym (append-nil open_part)) w))
+returns-in-Some-clause-fed g c = (
+  [],
+  gave_none _ _ _,
+  omega arith,
+  λ limit closed open_part w. inr
+      (subst (λ (b : List ℕ). WasFedInto g.K.Keeper.holds limit c.args.self.now closed b) (sym (append-nil open_part)) w),
+)
 
 pub returns-in-None-clause-fed : goal.returns-in-None-clause-fed
 returns-in-None-clause-fed g c =
@@ -23,7 +26,7 @@ returns-in-None-clause-fed g c =
       r.2,
       λ limit closed open_part w. rw (c.stand.ensures.same, c.stand.ensures.stands)
           (fed_read g.K.Keeper.holds limit c.args.self.now c.read_to_end-outcome.new.self r.0
-              (IsAtEnd (g.R.Source.remaining c.read_to_end-outcome.new.source)) c.read_to_end-outcome.result closed open_part none e.limit e.fault r.3 w),
+          (IsAtEnd (g.R.Source.remaining c.read_to_end-outcome.new.source)) c.read_to_end-outcome.result closed open_part none e.limit e.fault r.3 w),
     )
 
 pub returns-in-None-clause-stops : goal.returns-in-None-clause-stops
@@ -42,6 +45,6 @@ pub returns-in-None-clause-kept : goal.returns-in-None-clause-kept
 returns-in-None-clause-kept g c some =
     let r = c.read_to_end-outcome.ensures.reads in
     rw (c.stand.ensures.same, c.stand.ensures.stands)
-        (some_after g.K.Keeper.holds
-        (Reads r.0 (IsAtEnd
-        (g.R.Source.remaining c.read_to_end-outcome.new.source))) c.args.self.now c.read_to_end-outcome.new.self c.read_to_end-outcome.result r.3 some)
+    (some_after g.K.Keeper.holds
+    (Reads r.0 (IsAtEnd
+    (g.R.Source.remaining c.read_to_end-outcome.new.source))) c.args.self.now c.read_to_end-outcome.new.self c.read_to_end-outcome.result r.3 some)

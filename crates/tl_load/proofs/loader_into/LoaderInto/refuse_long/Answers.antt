@@ -19,19 +19,26 @@ returns-clause-takes g c =
     let short : length c.self.inside.line.items ≤ 229 = c.self.invariant.short in
     let fits : length c.take-line.result.items + length (take n bytes) ≤ 229 = omega (arith, len, same, short, length-take n bytes) in
     let line : c.as_slice.result.now ≡ c.take-line.result.items ++ take n bytes = c.as_slice.ensures.value
-        ∙ on_ok_of c.try_extend_from_slice.result (c.try_extend_from_slice.ensures.variant.1 fits) c.try_extend_from_slice.ensures.ok in
+    ∙ on_ok_of c.try_extend_from_slice.result (c.try_extend_from_slice.ensures.variant.1 fits) c.try_extend_from_slice.ensures.ok in
     let split : c.self.inside.line.items ++ bytes ≡ c.as_slice.result.now ++ drop n bytes =
     ap (λ (l : List ℕ). l ++ bytes) (sym kept_bytes) ∙ ap (λ (l : List ℕ). c.take-line.result.items ++ l) (sym (take-append-drop n bytes))
-        ∙ sym (append_assoc c.take-line.result.items (take n bytes) (drop n bytes)) ∙ ap (λ (l : List ℕ). l ++ drop n bytes) (sym line) in
+    ∙ sym (append_assoc c.take-line.result.items (take n bytes) (drop n bytes)) ∙ ap (λ (l : List ℕ). l ++ drop n bytes) (sym line) in
     let too_long : 229 < length c.self.inside.line.items + length bytes = rw (← c.self.view_is) at c.requires.too_long in
     let some : 0 < length (drop n bytes) = omega (arith, len, same, short, too_long, length-drop n bytes) in
     let long : 228 < length c.as_slice.result.now =
-        rw line (omega (arith, len, same, short, too_long, length-take n bytes, length-append c.take-line.result.items (take n bytes))) in
+    rw line (omega (arith, len, same, short, too_long, length-take n bytes, length-append c.take-line.result.items (take n bytes))) in
     let none = All-append (λ b. is_line_feed b ≡ false) c.self.inside.line.items bytes c.self.invariant.no_feed c.requires.no_feed in
     rw (← c.self.view_is) (λ records kept.
     let before : Loaded =
-        record { records = records; parts = c.self.inside.parts; judged = c.self.inside.judged; unfinished =
-        c.self.inside.line.items; limit = c.self.inside.limit; fault = c.self.inside.fault } in
+    record {
+      records = records;
+      parts = c.self.inside.parts;
+      judged = c.self.inside.judged;
+      unfinished =
+          c.self.inside.line.items;
+      limit = c.self.inside.limit;
+      fault = c.self.inside.fault;
+    } in
     let mid : Loaded = record before { unfinished = c.take-line.new.self.items } in
     let j = c.judge_next.ensures.judges records (record { held = kept.held; counted = kept.counted }) in (
       j.0,

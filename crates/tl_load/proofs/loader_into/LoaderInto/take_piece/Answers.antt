@@ -25,7 +25,7 @@ pub end_line-requires-clause-no_feed : goal.end_line-requires-clause-no_feed
 end_line-requires-clause-no_feed g c =
     let at = c.in-Some.ensures in
     subst IsWithoutLineFeed (sym c.split_at.ensures.front)
-        (no_feed_below c.loop-end.rest.now c.in-Some.end (omega (arith, at.0.high)) at.0.before)
+    (no_feed_below c.loop-end.rest.now c.in-Some.end (omega (arith, at.0.high)) at.0.before)
 
 pub returns-in_err-end_line-clause-takes : goal.returns-in_err-end_line-clause-takes
 returns-in_err-end_line-clause-takes g c =
@@ -33,13 +33,16 @@ returns-in_err-end_line-clause-takes g c =
     let left = drop 1 (drop c.in-Some.end c.loop-end.rest.now) in
     let cut = cut_at c.loop-end.rest.now c.in-Some.end at.0.high at.1 in
     let split : c.loop-end.rest.now ≡ c.split_at.result.0.now ++ 10 ∷ left = cut
-        ∙ ap (λ (l : List ℕ). l ++ 10 ∷ left) (sym c.split_at.ensures.front) in
+    ∙ ap (λ (l : List ℕ). l ++ 10 ∷ left) (sym c.split_at.ensures.front) in
     let p = err_from_is_err_and c.from_residual.result c.from_residual.ensures.1 in
     rw (p.1, p.2) (λ records kept.
     let b = c.loop-end.invariant.leaves records kept in
-    let t = c.in_err-end_line.ensures.takes b.0 b.1 in
-    (records, tt, leaves_fault (Unit {0}) (seen c.args.self.now records) (seen c.loop-end.self b.0)
-        (seen c.end_line.new.self t.0) c.args.piece.now c.loop-end.rest.now c.split_at.result.0.now left _ b.2 split t.2))
+    let t = c.in_err-end_line.ensures.takes b.0 b.1 in (
+      records,
+      tt,
+      leaves_fault (Unit {0}) (seen c.args.self.now records) (seen c.loop-end.self b.0)
+          (seen c.end_line.new.self t.0) c.args.piece.now c.loop-end.rest.now c.split_at.result.0.now left _ b.2 split t.2,
+    ))
 
 pub loop-end-preserved : goal.loop-end-preserved
 loop-end-preserved g c =
@@ -47,18 +50,21 @@ loop-end-preserved g c =
     let left = drop 1 (drop c.in-Some.end c.loop-end.rest.now) in
     let cut = cut_at c.loop-end.rest.now c.in-Some.end at.0.high at.1 in
     let split : c.loop-end.rest.now ≡ c.split_at.result.0.now ++ 10 ∷ left = cut
-        ∙ ap (λ (l : List ℕ). l ++ 10 ∷ left) (sym c.split_at.ensures.front) in
+    ∙ ap (λ (l : List ℕ). l ++ 10 ∷ left) (sym c.split_at.ensures.front) in
     let rest : take (length c.split_at.result.1.now - 1) (drop 1 c.split_at.result.1.now) ≡ left = rest_of c.split_at.result.1.now
-        ∙ ap (λ (l : List ℕ). drop 1 l) c.split_at.ensures.back in
+    ∙ ap (λ (l : List ℕ). drop 1 l) c.split_at.ensures.back in
     let len : length c.loop-end.rest.now ≡ length c.split_at.result.0.now + (length left + 1) = ap length split
-        ∙ length-append c.split_at.result.0.now (10 ∷ left) ∙ omega arith in
+    ∙ length-append c.split_at.result.0.now (10 ∷ left) ∙ omega arith in
     let part = c.loop-end.invariant.same_part in let next = c.in_ok-end_line.ensures.same_part in
     rw rest (record {
       leaves = λ records kept.
           let b = c.loop-end.invariant.leaves records kept in
-          let t = c.in_ok-end_line.ensures.takes b.0 b.1 in
-          (t.0, t.1, leaves_after (seen c.args.self.now records) (seen c.loop-end.self b.0)
-              (seen c.end_line.new.self t.0) c.args.piece.now c.loop-end.rest.now c.split_at.result.0.now left b.2 split t.2);
+          let t = c.in_ok-end_line.ensures.takes b.0 b.1 in (
+            t.0,
+            t.1,
+            leaves_after (seen c.args.self.now records) (seen c.loop-end.self b.0)
+                (seen c.end_line.new.self t.0) c.args.piece.now c.loop-end.rest.now c.split_at.result.0.now left b.2 split t.2,
+          );
       same_part = record { parts = next.parts ∙ part.parts; limit = next.limit ∙ part.limit; fault = next.fault ∙ part.fault };
       used = omega (arith, len, c.loop-end.invariant.used, c.in_ok-end_line.ensures.used);
     })
@@ -69,6 +75,9 @@ hold-requires-clause-no_feed g c = no_feed c.loop-end.rest.now (none_by _ _ c.me
 pub returns-clause-takes : goal.returns-clause-takes
 returns-clause-takes g c = λ records kept.
     let b = c.loop-end.invariant.leaves records kept in
-    let t = c.hold.ensures.takes b.0 b.1 in
-    (t.0, t.1, leaves_taken (seen c.args.self.now records) (seen c.loop-end.self b.0)
-        (seen c.hold.new.self t.0) c.args.piece.now c.loop-end.rest.now c.hold.result b.2 t.2)
+    let t = c.hold.ensures.takes b.0 b.1 in (
+      t.0,
+      t.1,
+      leaves_taken (seen c.args.self.now records) (seen c.loop-end.self b.0)
+          (seen c.hold.new.self t.0) c.args.piece.now c.loop-end.rest.now c.hold.result b.2 t.2,
+    )
