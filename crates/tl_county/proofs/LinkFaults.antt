@@ -1,4 +1,4 @@
--- Each list of records is linked or has exactly one first broken rule.
+-- A list of records is linked, or some rule is broken first and no other is.
 use Rattle.std.proofs.Common.{◌≡◌, ◌⊎◌, ◌<◌, ℕ, zero, suc, nat_lt, ◌==◌, List, [], ◌∷◌, ◌++◌, map, flat_map, Bool, true, false}
 use Rattle.std.proofs.Common.{cond, not, ◌&&◌, is_eq, sym, refl, ap, ◌∙◌, subst, inl, inr, nat_cmp, arith}
 use Rattle.std.proofs.lemmas.Bool.{false≢true, ltb-true, and_parts, ne_eqb, eqb-true}

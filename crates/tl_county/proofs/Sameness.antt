@@ -1,4 +1,4 @@
--- Sameness is reflexive, symmetric and transitive: the identity, the inverse and the composition of renamings carry.
+-- Sameness is an equivalence: the identity carries, and so do inverses and compositions of renamings that carry.
 use Rattle.std.proofs.Common.{◌≡◌, ◌⊎◌, ℕ, nat_lt, List, [], ◌∷◌, Bool, true, false, map, filter, Ordering, IsTrue, is_eq, sym}
 use Rattle.std.proofs.Common.{refl, ap, ◌∙◌, subst, inl, inr, IsPermutation, nat_cmp, Option, Some, None, option_map}
 use Rattle.std.proofs.Common.{option_to_list, map-id}

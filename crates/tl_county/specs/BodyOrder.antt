@@ -10,7 +10,7 @@ use Rattle.tl_layout.specs.declared.type5.Body5.{Body5}
 use Rattle.tl_layout.specs.declared.type7.Body7.{Body7}
 use Rattle.tl_shape.specs.PointOrder.{points_cmp}
 
--- bytes by their first difference, a beginning first
+-- bytes: the first that differ decide, and what goes on comes later
 abbrev pub bytes_cmp : List ℕ → List ℕ → Ordering
 bytes_cmp = slice_cmp nat_cmp
 
@@ -28,7 +28,7 @@ name_body_cmp a b = ordering_then (bytes_cmp a.file b.file) (feature_name_cmp a.
 abbrev pub optional_point_cmp : Option Coordinates → Option Coordinates → Ordering
 optional_point_cmp o p = points_cmp (option_to_list o) (option_to_list p)
 
--- FILE, SOURCE, CFCC, LANAME, then the point, none first
+-- field by field, as the columns of type 7 stand; where there is no point, that comes before any
 abbrev pub landmark_body_cmp : Body7 → Body7 → Ordering
 landmark_body_cmp a b =
     ordering_then (bytes_cmp a.file b.file)

@@ -21,7 +21,7 @@ pub record County : Type 0 where
   pub chains : List (ℕ × Chain)
   -- each FEAT with its name
   pub names : List (ℕ × Body5)
-  -- each polygon, which stands on a side or has a record of type P, with the content of that record, if there is one
+  -- each polygon that is on a chain's side or has a type P record, with the content of that record, if there is one
   pub polygons : List (PolygonKey × Option BodyP)
   -- each LAND with the content of its records of type 7, in order, as often as it stands there
   pub landmarks : List (ℕ × List Body7)

@@ -58,7 +58,7 @@ is_broken records (PolygonUnknown cenid polyid) =
     (stands_in key_cmp (cenid, polyid) (flat_map side_keys (of_type_i records) ++ map p_key (of_type_p records)))
 is_broken records Memory = false
 
--- record types in the order 2, 4, 6, I
+-- the place of a record type among the four: 2, 4 and 6 before I
 abbrev pub type_place : LinkedType → ℕ
 type_place Two = 2
 type_place Four = 4

@@ -91,7 +91,7 @@ packed_p entry = packed_body entry.0 entry.1
 abbrev pub p_polyid : FieldsP → ℕ
 p_polyid r = r.polyid
 
--- records of each type, the types in the order 1, 2, 4, 5, 6, 7, 8, I, P
+-- records type by type
 pub record Typed : Type 0 where
   pub of_type_1 : List Fields1
   pub of_type_2 : List Fields2

@@ -1,4 +1,4 @@
--- A renaming of a county's numbers, and that it carries one county onto another.
+-- Renamings of a county's numbers, and which county one of them carries onto which.
 use Rattle.std.specs.Prelude.{ℕ, ◌≡◌, List, [], ◌∷◌, map, filter, Bool, cond, not, false, Option, Some, None, option_map, IsTrue}
 use Rattle.std.specs.Prelude.{IsPermutation}
 use Rattle.std.specs.List.{AllByRecursion}
@@ -106,7 +106,7 @@ pub record Carries (r : Renumbering) (a b : County) : Type 0 where
   pub landmarks : IsPermutation (map (carried_landmark r) a.landmarks) b.landmarks
   pub links : IsPermutation (map (carried_link r) a.links) b.links
 
--- two counties are the same if some renaming carries one onto the other
+-- the same map: some renaming takes a to b
 pub record AreSame (a b : County) : Type 0 where
   pub by : Renumbering
   pub carries : Carries by a b
@@ -152,7 +152,7 @@ joined cmp firsts nexts = map (λ pair. (pair.0, image cmp nexts pair.1)) (filte
 abbrev pub exactly_one : Bool → Bool → Bool
 exactly_one a b = cond a (not b) b
 
--- first one renaming and then the next; it turns the chains that exactly one of the two turns
+-- first one renaming and then the next; a chain is turned if one of them does and the other doesn't
 abbrev pub then : Renumbering → Renumbering → Renumbering
 then r next = record {
   chains = joined nat_cmp r.chains next.chains;

@@ -45,7 +45,7 @@ pub fn linked_records_have_a_well_formed_county()
     ensures { (records : List Record) → IsLinked records → IsCounty (county_of records) }
 {}
 
-/// The county of linked records that fit, at most so many of each type, is within the limits of a county.
+/// Linked records that fit, and of no type more than `limit`, have a county within its limits.
 pub fn linked_records_have_a_county_within_limits()
     ensures { (limit : ℕ) (records : List Record) →
         IsLinked records → AllByRecursion FitsRecord records → IsWithinLimit limit records →

@@ -1,4 +1,4 @@
--- Column tables: what stands in the columns of a record type, and what it means that a line spells a record.
+-- Column tables: what the columns of a record type hold, and when a line spells a record by them.
 use Rattle.std.specs.Prelude.{◌≡◌, ℕ, ◌+◌, ◌-◌, ◌≤◌, List, [], ◌∷◌, length, Option, IfSome, Bool, ◌==◌, ◌&&◌, nat_le}
 use Rattle.std.specs.List.{AllByRecursion}
 use Rattle.tl_layout.specs.Bytes.{IsText, columns}

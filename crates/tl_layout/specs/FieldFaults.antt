@@ -19,7 +19,7 @@ bad_number column = record { kind = BadNumber; column = column }
 abbrev pub bad_point : ℕ → FieldFault
 bad_point column = record { kind = BadPoint; column = column }
 
--- a used place after an unused one, told at this column
+-- an unused place stands to the left of a used one, which begins in this column
 abbrev pub gap : ℕ → FieldFault
 gap column = record { kind = GapInRecord; column = column }
 
@@ -34,8 +34,8 @@ HasMalformedLongitude line first = IsMalformed 999999999 (columns first (first +
 abbrev pub HasMalformedLatitude : List ℕ → ℕ → Type 0
 HasMalformedLatitude line first = IsMalformed 99999999 (columns (first + 10) (first + 18) line)
 
--- What is told of a pair that begins at this column: the longitude's column if that is malformed, else the latitude's if
--- that is, else the pair's first.
+-- The column that is told of a pair that begins at this one: the latitude's if the latitude alone is malformed, and otherwise
+-- the first.
 pub record IsToldOfPair (line : List ℕ) (first : ℕ) (fault : FieldFault) : Type 0 where
   pub kind : fault.kind ≡ BadPoint
   pub longitude : HasMalformedLongitude line first → fault.column ≡ first

@@ -44,7 +44,7 @@ unfoldable pub point_or_none : ℤ → ℤ → Option Coordinates
 point_or_none long lat = if unsigned_abs long + unsigned_abs lat == 0 then None else Some (record { long = long; lat = lat })
 
 -- A pair that begins at this column: a malformed longitude is told there, a malformed latitude at its own column, and
--- one blank field beside a filled one at the longitude's.
+-- half a point at the longitude's.
 abbrev pub pair_of : ℕ → Coordinate → Coordinate → Result (Option Coordinates) FieldFault
 pair_of column Malformed lat = Err (bad_point column)
 pair_of column Blank Malformed = Err (bad_point (column + 10))

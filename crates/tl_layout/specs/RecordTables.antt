@@ -1,5 +1,5 @@
 -- The column tables of the nine record types of TIGER/Line 2006, a row a field, as the technical documentation has them.
--- Each begins with the record type in column 1 and the version in columns 2 to 5, which the tables leave out; a longitude and
+-- Columns 1 to 5, the record type and the version, are alike in all and left out of the tables; a longitude and
 -- the latitude behind it are one row. Where a turn of the chain exchanges a field with another one, the other's value follows.
 use Rattle.std.specs.Prelude.{ℕ, List, [], ◌∷◌}
 use Rattle.tl_layout.specs.ColumnTable.{Number, NumberOrNone, Pair, PairOrNone, NumberPlaces, PointPlaces, Opaque, Filler, Row}

@@ -5,7 +5,7 @@ use Rattle.tl_layout.specs.ByType.{of_type_1, of_type_2, of_type_4, of_type_5, o
 use Rattle.tl_layout.specs.declared.record_type.Record.{Record}
 use Rattle.tl_layout.specs.declared.tables.Tables.{Tables}
 
--- the table of each type holds the list's records of that type, in their order
+-- for each type the table has those records of the list that are of it, in their order
 pub record HoldsByType (tables : Tables) (records : List Record) : Type 0 where
   pub type_1 : tables.type_1.items ≡ of_type_1 records
   pub type_2 : tables.type_2.items ≡ of_type_2 records

@@ -37,7 +37,7 @@ pub trait Layout: Sized {
     /// The canonical spelling of the record.
     ghost spelling: { Self → List ℕ };
 
-    /// Reads a full line of allowed bytes that begins with the record type.
+    /// Reads a line whose bytes are allowed and `LEN` in number, the record type first.
     fn take(line: &[u8]) -> Result<Self, FieldFault>
         requires { IsLine RTYPE LEN line.now }
         ensures found { IfOk result (λ r. Fits r × Spells line.now r) }

@@ -9,7 +9,7 @@ use crate::layout::LONGEST_LINE;
 use crate::text::Text;
 use crate::writing::write_text;
 
-/// The left and the right field of one name, seen from the start node to the end node.
+/// The left and the right field of one name, as seen by someone who walks the chain from its start.
 #[derive(Clone, Copy, Debug, PartialEq, Eq)]
 pub struct LeftRight<const N: usize> {
     pub left: Text<N>,

@@ -30,7 +30,8 @@ impl<const N: usize> LeftRight<N> {
     }
 }
 
-/// FRADDL is exchanged with TOADDR, TOADDL with FRADDR, and the flags alike; ZIPL is exchanged with ZIPR.
+/// The address at the left start changes places with the one at the right end, and the one at the left end with the one at
+/// the right start; so do their flags. The two postal codes change places.
 impl Turn for Ranges {
     ghost turned = { turned_ranges };
 

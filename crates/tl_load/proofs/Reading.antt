@@ -360,7 +360,7 @@ pub spelled_once : {R : Type 0} (judge : Judge R) → IsSound judge → (parts :
 spelled_once judge sound parts a b p q =
     verdicts_same a b (sym (spelled_judged judge sound (placed_lines parts) a p) ∙ spelled_judged judge sound (placed_lines parts) b q)
 
--- the parts spell a list within the limit, or exactly one fault is at them
+-- parts spell a list within the limit, or have one fault and no second
 pub one_verdict : {R : Type 0} (judge : Judge R) → IsSound judge → (limit : ℕ) (parts : List (List ℕ))
     → IsSpelled judge limit parts ⊎ IsFaulty judge limit parts
 one_verdict {R} judge sound limit parts = go (outcome judge limit parts) refl

@@ -323,7 +323,7 @@ lines_fit (line ∷ lines) (r ∷ records) h = All-cons FitsRecord r records (re
 pub spelled_fit : (parts : List (List ℕ)) (records : List Record) → Spells tiger parts records → All FitsRecord records
 spelled_fit parts records h = lines_fit (placed_lines parts) records h
 
--- records that are accepted within a limit are at most so many of each type
+-- of records that are accepted within a limit no type has more than that
 pub accepted_within : (limit : ℕ) (parts : List (List ℕ)) (records : List Record) → Accepts tiger limit parts records
     → IsWithinLimit limit records
 unfolding tiger

@@ -25,6 +25,6 @@ lines_of_pieces [] = []
 lines_of_pieces (piece ∷ []) = last_line piece
 lines_of_pieces (piece ∷ next ∷ pieces) = without_return piece ∷ lines_of_pieces (next ∷ pieces)
 
--- the lines of a part: a line loses its LF and one CR directly before it, the last one without LF a CR at its end
+-- the lines of a part, each without the LF that ends it and then without one CR at its end
 unfoldable pub lines : List ℕ → List (List ℕ)
 lines part = lines_of_pieces (slice_split is_line_feed part)

@@ -20,8 +20,8 @@ use Rattle.tl_load.specs.LineOf.{IsLineOf, IsFaultIn}
 use Rattle.tl_load.specs.declared.fault.LineFault.{LineFault}
 use Rattle.tl_load.specs.declared.fault.LineFault.TheVariants as line_faults
 
--- the line has this record: it begins with the record's type and isn't longer than its layout, and filled with blanks
--- it has only allowed bytes and each of its columns spells the record's field
+-- the line has this record: its first byte is the record's type, and it is no longer than the layout; with blanks added up
+-- to that length all its bytes are allowed, and each column spells the record's field
 unfoldable pub HasRecord : List ℕ → Record → Type 0
 HasRecord line (One r) = IsLineOf rtype_1 len_1 SpellsType1 line r
 HasRecord line (Two r) = IsLineOf rtype_2 len_2 SpellsType2 line r

@@ -9,7 +9,7 @@ use tl_layout::{FieldFault, FieldKind};
 /// The fault of one line, wherever it stands.
 #[derive(Clone, Copy, Debug, PartialEq, Eq)]
 pub enum LineFault {
-    /// The line is empty, or its first byte is no record type.
+    /// The line has no first byte, or one that is no record type.
     UnknownType,
     /// The line is longer than the layout of its record type.
     LineTooLong,
@@ -22,7 +22,7 @@ pub enum LineFault {
 /// Why nothing was loaded. Parts, lines and columns are counted from 1.
 #[derive(Clone, Copy, Debug, PartialEq, Eq, Error)]
 pub enum LoadFault {
-    /// The line is empty, or its first byte is no record type.
+    /// The line has no first byte, or one that is no record type.
     #[error("part {part}, line {line}: the first byte is no known record type")]
     UnknownType { part: u64, line: u64 },
     /// The line is longer than the layout of its record type.

@@ -40,8 +40,8 @@ pub fn text_spells_its_records()
     ensures only { (records others : List Record) → All FitsRecord records → Spells tiger (text_of records ∷ []) others → others ≡ records }
 {}
 
-/// A line spells only records that fit: each number in its range, each text of its width, each point on the map. So
-/// all records that parts spell fit, and those that are accepted within a limit are at most so many of each type.
+/// What a line spells fits: each number in its range, each text of its width, each point on the map. So
+/// all records that parts spell fit, and of those that are accepted within a limit no type has more than that.
 pub fn spelled_records_fit()
     ensures line { (line : List ℕ) (found : Record) → HasRecord line found → FitsRecord found }
     ensures parts { (parts : List (List ℕ)) (records : List Record) → Spells tiger parts records → All FitsRecord records }

@@ -36,7 +36,7 @@ impl Model for Loader {
 }
 
 impl Loader {
-    /// A loader that was fed nothing, for at most 10,000,000 records of each type. It takes no memory.
+    /// A loader that was fed nothing. It takes 10,000,000 records of one type, and no more; making it takes no memory.
     pub fn new(alloc: Global) -> Loader
         ensures fed { WasFed 10000000 result [] [] }
         ensures parts { result.parts ≡ 0 }

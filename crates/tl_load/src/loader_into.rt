@@ -66,7 +66,7 @@ fn no_counts() -> [u64; 128]
 }
 
 impl<K: Keeper> LoaderInto<K> {
-    /// A loader that was fed nothing, for at most 10,000,000 records of each type. It takes no memory.
+    /// A loader that was fed nothing. It takes 10,000,000 records of one type, and no more; making it takes no memory.
     pub fn new(alloc: Global) -> LoaderInto<K>
         ensures fed { WasFedInto K.holds 10000000 result [] [] }
         ensures parts { result.parts ≡ 0 }

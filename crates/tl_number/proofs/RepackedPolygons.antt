@@ -1,4 +1,4 @@
--- The type P records of a canonical list are the packing of its county's polygons; so the list is the packing of its county.
+-- The type P records of a tidy list are its county's polygons, packed; so the whole list is what its county is packed into.
 use Rattle.std.proofs.Common.{◌≡◌, ◌⊎◌, ◌≤◌, ℕ, suc, List, [], ◌∷◌, ◌++◌, map, flat_map, filter, filter_map, Bool, true, false}
 use Rattle.std.proofs.Common.{cond, Option, Some, None, IsTrue, Ordering, Less, Equal, Greater, is_gt, is_eq, sym, refl, ap, ◌∙◌}
 use Rattle.std.proofs.Common.{subst, inl, inr, arith, nat_cmp}
@@ -176,7 +176,7 @@ module _ (records : List Record) (linked : IsLinked records) (order : StandsInOr
       inside
       (λ z m. to_in_order (on p_polyid nat_cmp) packed_ps z (to_packed z m))
 
--- A canonical list is the packing of its county, whatever its choice of TLIDs and directions.
+-- Whatever its choice of TLIDs and directions, a tidy list is what its county is packed into.
 pub tidy_is_packed : (records : List Record) → IsLinked records → StandsInOrder records → IsPacked records → IsTidy (county_of records)
     → records ≡ packed (county_of records)
 tidy_is_packed records linked order full tidy = order.types ∙ ap type_after_type same

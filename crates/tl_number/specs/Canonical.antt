@@ -22,8 +22,8 @@ use Rattle.tl_number.specs.Tidy.{IsTidy, IsLeast}
 abbrev pub seven_cmp : Fields7 → Fields7 → Ordering
 seven_cmp a b = ordering_then (nat_cmp a.land b.land) (landmark_body_cmp a.body b.body)
 
--- The types stand one after another. Types 1 and I ascend by TLID; 2, 4 and 6 by TLID, then RTSQ; 5 by FEAT; 7 by LAND,
--- then body; 8 by LAND, POLYID, CENID, FILE; P by POLYID.
+-- Type after type. Within a type the records ascend: those of chains by TLID and, where they have one, RTSQ; names by FEAT;
+-- landmarks by LAND and content; links by LAND, POLYID, CENID and FILE; polygons by POLYID.
 pub record StandsInOrder (records : List Record) : Type 0 where
   pub types : records ≡ type_after_type (by_type records)
   pub of_type_1 : IsInOrder (on one_tlid nat_cmp) (of_type_1 records)
@@ -60,7 +60,7 @@ pub record IsTidyList (records : List Record) : Type 0 where
   pub packed : IsPacked records
   pub numbers : IsTidy (county_of records)
 
--- A canonical list of records. Only `least` speaks of the choice of TLIDs and directions.
+-- A canonical list of records. `tidy` leaves it open which chain has which TLID and direction, and `least` says it.
 pub record IsCanonical (records : List Record) : Type 0 where
   pub tidy : IsTidyList records
   pub least : IsLeast (county_of records)

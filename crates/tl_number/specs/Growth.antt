@@ -5,12 +5,12 @@ use Rattle.std.specs.declared.cmp.Ordering.{Ordering}
 use Rattle.tl_county.specs.Orders.{stands_in}
 use Rattle.tl_county.specs.Packing.{numbered_from}
 
--- each number is at least 1 and at most one more than the greatest before it, which is at first greatest
+-- with the numbers up to greatest met, each further one is met before or is the next
 abbrev pub GrowsFrom : ℕ → List ℕ → Type 0
 GrowsFrom greatest [] = ⊤
 GrowsFrom greatest (n ∷ ns) = (1 ≤ n) × (n ≤ greatest + 1) × GrowsFrom (max greatest n) ns
 
--- the first number, if any, is 1, and each later one is at most one more than the greatest before it
+-- numbers by first appearance: 1 is met first, and none before the one below it
 abbrev pub Grows : List ℕ → Type 0
 Grows = GrowsFrom 0
 

@@ -40,8 +40,8 @@ pub record IsTidy (county : County) : Type 0 where
 abbrev pub entry_points : ℕ × Chain → List Coordinates
 entry_points entry = entry.1.points
 
--- The choice of TLIDs and directions: each chain has the direction in which its points come before their reverse, and
--- the chains stand by ascending points. The one clause that changes where chains may have equal points.
+-- The choice of TLIDs and directions: a chain runs so that its points come before their reverse, and the points ascend from
+-- chain to chain. It is the one clause by which chains have different points.
 pub record IsLeast (county : County) : Type 0 where
   pub directions : AllByRecursion (λ entry. points_cmp (entry_points entry) (reverse (entry_points entry)) ≡ Less) county.chains
   pub ascending : IsStrictlySortedBy (on entry_points points_cmp) county.chains

@@ -27,7 +27,7 @@ pub fn tidy_lists_with_one_choice_are_equal()
         IsTidyList xs → IsTidyList ys → Carries r (county_of xs) (county_of ys) → KeepsChainNumbers r (county_of xs) → xs ≡ ys }
 {}
 
-/// Two canonical lists of records whose counties are the same are equal.
+/// A map has one canonical list at most: two of them are equal if their counties are the same.
 pub fn canonical_lists_of_one_county_are_equal()
     ensures { (xs ys : List Record) →
         IsCanonical xs → IsCanonical ys → AreSame (county_of xs) (county_of ys) → xs ≡ ys }

@@ -1,4 +1,4 @@
--- Each county is in the profile or has exactly one first broken clause.
+-- A county lies in the profile, or some clause is broken first and no other is.
 use Rattle.std.proofs.Common.{◌≡◌, ◌⊎◌, ℕ, zero, suc, nat_lt, ◌==◌, List, [], ◌∷◌, ◌++◌, map, flat_map, true, cond, not, ◌&&◌}
 use Rattle.std.proofs.Common.{is_eq, is_some, reverse, sym, refl, ap₂, subst, Option}
 use Rattle.std.proofs.lemmas.Bool.{false≢true, and_parts, eqb-true}
@@ -57,7 +57,7 @@ polygon_faults county = map (λ e. PolygonWithoutChain e.0.0 e.0.1) county.polyg
 abbrev pub all_faults : County → List ProfileFault
 all_faults county = reverse_faults county ++ (shape_faults county ++ polygon_faults county)
 
--- a chain that is its own reverse
+-- where that clause is broken, the chain that breaks it
 pub own_reverse_entry : (county : County) (tlid : ℕ) → is_own_reverse county tlid ≡ true
     → (e : ℕ × Chain) × Among e county.chains × (tlid ≡ e.0) × (same_points e.1.points (reverse e.1.points) ≡ true)
 own_reverse_entry county tlid h =

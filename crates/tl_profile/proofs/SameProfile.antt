@@ -1,4 +1,4 @@
--- If two counties are the same and one is in the profile, so is the other.
+-- Of two counties that are the same map, both are in the profile or neither is.
 use Rattle.std.proofs.Common.{◌≡◌, ◌⊎◌, ◌<◌, ℕ, nat_lt, ◌==◌, List, map, Bool, true, false, not, ◌&&◌, is_eq, is_some, reverse}
 use Rattle.std.proofs.Common.{sym, refl, ap, ◌∙◌, subst, inl, inr, Option, nat_cmp, arith}
 use Rattle.std.proofs.lemmas.Bool.{false≢true, and_parts, and_from, or_cases, or_left, or_right, eq-eqb, ltb-true, lt-ltb}

@@ -7,7 +7,7 @@ ghost use Rattle.tl_county.specs.Renumbering.{AreSame};
 ghost use Rattle.tl_profile.specs.Profile.{IsFirstBrokenClause, IsInProfile};
 ghost use Rattle.tl_profile.specs.declared.fault.ProfileFault.{ProfileFault};
 
-/// A county is in the profile or has a first broken clause, never both, and never two.
+/// A county lies in the profile, or one clause that it breaks is the first: not both, and not two.
 pub fn in_profile_or_one_first_broken_clause()
     ensures either { (county : County) →
         IsInProfile county ⊎ ((fault : ProfileFault) × IsFirstBrokenClause county fault) }

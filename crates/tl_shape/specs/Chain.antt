@@ -1,4 +1,4 @@
--- A chain: a type 1 record with all records of its TLID.
+-- A chain: what all records of one TLID say.
 use Rattle.std.specs.Prelude.{ℕ, List, Option}
 use Rattle.tl_layout.specs.Coordinates.{Coordinates}
 use Rattle.tl_layout.specs.PolygonSide.{PolygonSide}
@@ -10,7 +10,7 @@ use Rattle.tl_layout.specs.declared.type_i.BodyI.{BodyI}
 pub record Chain : Type 0 where
   -- the content of its type 1 record
   pub body : Body1
-  -- from the start node to the end node
+  -- in the direction in which it runs
   pub points : List Coordinates
   -- the FEATs of its further names, in order
   pub feats : List ℕ

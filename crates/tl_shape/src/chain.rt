@@ -96,7 +96,7 @@ impl Chain {
         &self.body
     }
 
-    /// Its points, from the start node to the end node.
+    /// Its points, in the direction in which it runs.
     pub fn shape(&self) -> &Shape
         ensures { result.now ≡ self.now.points }
     {

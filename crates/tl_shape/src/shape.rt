@@ -44,7 +44,7 @@ impl Shape {
         Ok(Shape { points })
     }
 
-    /// The points, from the start node to the end node.
+    /// The points, in the direction in which the chain runs.
     pub fn points(&self) -> &[Point]
         ensures value { result.now ≡ self.now }
         ensures two { 2 ≤ length self.now }
