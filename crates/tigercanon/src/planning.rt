@@ -20,7 +20,7 @@ fn command<'a>(alloc: Global) -> Result<Command<'a>, AllocError> {
         .bin_name("tigercanon")?
         .version("0.1.0")
         .about(
-            "Reads the TIGER/Line 2006 records of one county, and prints them in canonical spelling",
+            "Reads TIGER/Line 2006 record files of one county, and prints them in canonical spelling",
         )
         .no_binary_name(true)
         .subcommand_required(true)
