@@ -20,6 +20,7 @@ pub mod GatheredLists
 pub mod EntryLists
 pub mod SameCounty
 pub mod Repacking
+pub mod Splitting
 pub mod Counted
 pub mod FitsPacked
 pub mod FitsCounty

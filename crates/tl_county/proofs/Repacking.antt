@@ -1,7 +1,7 @@
 -- The county depends on the packing of types 2 and 4 and on RTSQs only by what stands in order.
 use Rattle.std.proofs.Common.{◌≡◌, ◌⊎◌, ◌<◌, ℕ, ◌==◌, List, [], ◌∷◌, ◌++◌, map, flat_map, filter, filter_map, Bool, true, false}
 use Rattle.std.proofs.Common.{cond, Option, Some, None, option_map, Ordering, Less, Equal, Greater, is_eq, is_gt, sym, refl, ap}
-use Rattle.std.proofs.Common.{ap₂, ◌∙◌, inl, inr, nat_cmp, IsTrue}
+use Rattle.std.proofs.Common.{ap₂, ◌∙◌, inl, inr, nat_cmp, IsTrue, suc, nat_lt, not, ◌&&◌, ◌||◌, length}
 use Rattle.std.proofs.lemmas.Bool.{lt-ltb, cases_order}
 use Rattle.std.proofs.lemmas.Cmp.{tied_itself, nat_cmp_total}
 use Rattle.std.specs.List.{AllByRecursion, cons_option}
@@ -9,18 +9,39 @@ use Rattle.std.specs.Ordering.{on, ordering_reverse}
 use Rattle.tl_layout.specs.Fields.{Fields1, Fields2, Fields4, Fields5, Fields6, Fields7, FieldsI, FieldsP}
 use Rattle.tl_layout.specs.declared.record_type.Record.{Record}
 use Rattle.tl_layout.specs.declared.record_type.Record.TheVariants.{One, Two, Four, Five, Six, Seven, Eight, I, P}
-use Rattle.tl_county.specs.declared.fault.LinkedType.TheVariants.{Two as Type2, Four as Type4, Six as Type6}
+use Rattle.tl_county.specs.declared.fault.LinkFault.{LinkFault}
+use Rattle.tl_county.specs.declared.fault.LinkFault.TheVariants.{ChainTwice, NoChain, SequenceBroken, LinkMissing, LinkTwice}
+use Rattle.tl_county.specs.declared.fault.LinkFault.TheVariants.{NameTwice, NameUnknown, PolygonTwice, LandUnknown}
+use Rattle.tl_county.specs.declared.fault.LinkFault.TheVariants.{PolygonUnknown, Memory}
+use Rattle.tl_county.specs.declared.fault.LinkedType.{LinkedType}
+use Rattle.tl_county.specs.declared.fault.LinkedType.TheVariants.{Two as Type2, Four as Type4, Six as Type6, I as TypeI}
 use Rattle.tl_county.specs.BodyOrder.{landmark_body_cmp, link_cmp}
 use Rattle.tl_layout.specs.ByType.{as_type_1, as_type_2, as_type_4, as_type_5, as_type_6, as_type_7, as_type_8, as_type_i}
-use Rattle.tl_layout.specs.ByType.{as_type_p, of_type_1, of_type_2, of_type_4, of_type_6, of_type_i, of_number}
+use Rattle.tl_layout.specs.ByType.{as_type_p, of_type_1, of_type_2, of_type_4, of_type_5, of_type_6, of_type_7, of_type_8}
+use Rattle.tl_layout.specs.ByType.{of_type_i, of_type_p, of_number}
 use Rattle.tl_county.specs.County.{one_tlid, two_tlid, two_rtsq, four_tlid, four_rtsq, five_feat, six_tlid, six_rtsq, seven_land}
-use Rattle.tl_county.specs.County.{i_tlid, p_key, chain_of, chains_of, side_keys, first, polygons_of, county_of}
-use Rattle.tl_county.specs.Orders.{times, stands_in, put_in_order, in_order, distinct}
+use Rattle.tl_county.specs.County.{eight_land, eight_key}
+use Rattle.tl_county.specs.County.{i_tlid, p_key, shape_points, further_names, further_ranges, chain_of, chains_of, side_keys, first}
+use Rattle.tl_county.specs.County.{polygons_of, county_of}
+use Rattle.tl_county.specs.LinkRules.{linked_tlids, rtsqs, named_feats, is_broken, IsLinked}
+use Rattle.tl_county.specs.Orders.{times, stands_in, has_repeat, put_in_order, in_order, distinct}
 use Rattle.tl_county.specs.PolygonKeys.{key_cmp}
-use Rattle.tl_county.specs.Repacked.{AreRepacked, Sequence, resequenced, KeepsSequence}
+use Rattle.tl_county.specs.Repacked.{Sequence, resequenced, KeepsSequence}
 use Rattle.tl_county.proofs.Keys.{nat_keys, all_known}
-use Rattle.tl_county.proofs.Lists.{map-map, flat_map_agree, map_agree_everywhere, all_both, all_unmap}
+use Rattle.tl_county.proofs.Lists.{map-map, flat_map_agree, map_agree_all, map_agree_everywhere, all_both, all_map, all_unmap}
 use Rattle.tl_county.proofs.Numbers.{all-in_order, of_number-all}
+
+-- Each chain has the same shape points, names and ranges, joined in the order of its RTSQs, and the other records are the same.
+pub record AreRepacked (xs ys : List Record) : Type 0 where
+  pub points : (tlid : ℕ) → shape_points xs tlid ≡ shape_points ys tlid
+  pub names : (tlid : ℕ) → further_names xs tlid ≡ further_names ys tlid
+  pub ranges : (tlid : ℕ) → further_ranges xs tlid ≡ further_ranges ys tlid
+  pub of_type_1 : of_type_1 xs ≡ of_type_1 ys
+  pub of_type_5 : of_type_5 xs ≡ of_type_5 ys
+  pub of_type_7 : of_type_7 xs ≡ of_type_7 ys
+  pub of_type_8 : of_type_8 xs ≡ of_type_8 ys
+  pub of_type_i : of_type_i xs ≡ of_type_i ys
+  pub of_type_p : of_type_p xs ≡ of_type_p ys
 
 module _ (xs ys : List Record) (s : AreRepacked xs ys) where
   chain_same : (r : Fields1) (link : FieldsI) → chain_of xs r link ≡ chain_of ys r link
@@ -100,10 +121,10 @@ order-changed by f Q k [] a = refl
 order-changed by f Q k (x ∷ xs) a = ap (put_in_order by (f x)) (order-changed by f Q k xs a.1)
     ∙ put-changed by f Q k x a.0 (in_order by xs) (all-in_order Q by xs a.1)
 
-less : (m n : ℕ) → m < n → nat_cmp m n ≡ Less
+pub less : (m n : ℕ) → m < n → nat_cmp m n ≡ Less
 less m n h = ap (λ b. cond b Less (cond (m == n) Equal Greater)) (lt-ltb m n h)
 
-greater : (m n : ℕ) → n < m → nat_cmp m n ≡ Greater
+pub greater : (m n : ℕ) → n < m → nat_cmp m n ≡ Greater
 greater m n h = nat_cmp_total.antisymm m n ∙ ap ordering_reverse (less n m h)
 
 -- two numbers that rise with others are in their order
@@ -142,6 +163,49 @@ flat_map-kept : {X Y : Type 0} (c : X → List Y) (f : X → X) → ((x : X) →
     → flat_map c (map f xs) ≡ flat_map c xs
 flat_map-kept c f k [] = refl
 flat_map-kept c f k (x ∷ xs) = λ i. k x i ++ flat_map-kept c f k xs i
+
+-- numbers that rise with others are equal where those are
+even : (f : ℕ → ℕ) (i j : ℕ) → (i < j → f i < f j) → (j < i → f j < f i) → is_eq (nat_cmp (f i) (f j)) ≡ is_eq (nat_cmp i j)
+even f i j up down = go (cases_order i j)
+  where
+    go : (i ≡ j) ⊎ ((i < j) ⊎ (j < i)) → is_eq (nat_cmp (f i) (f j)) ≡ is_eq (nat_cmp i j)
+    go (inl e) = ap is_eq (ap (nat_cmp (f i)) (ap f (sym e)) ∙ tied_itself nat_cmp_total (f i)
+        ∙ sym (ap (nat_cmp i) (sym e) ∙ tied_itself nat_cmp_total i))
+    go (inr (inl lt)) = ap is_eq (less (f i) (f j) (up lt) ∙ sym (less i j lt))
+    go (inr (inr gt)) = ap is_eq (greater (f i) (f j) (down gt) ∙ sym (greater i j gt))
+
+module _ (f : ℕ → ℕ) (P : ℕ → Type 0) (up : (i j : ℕ) → P i → P j → i < j → f i < f j) where
+  times-rising : (k : ℕ) → P k → (ks : List ℕ) → AllByRecursion P ks → times nat_cmp (f k) (map f ks) ≡ times nat_cmp k ks
+  times-rising k p [] a = refl
+  times-rising k p (j ∷ js) a =
+      ap (λ b. length (cond b (f j ∷ filter (λ other. is_eq (nat_cmp (f k) other)) (map f js))
+      (filter (λ other. is_eq (nat_cmp (f k) other)) (map f js))))
+      (even f k j (up k j p a.0) (up j k a.0 p))
+      ∙ go (is_eq (nat_cmp k j)) (times-rising k p js a.1)
+    where
+      go : (b : Bool) → times nat_cmp (f k) (map f js) ≡ times nat_cmp k js
+          → length (cond b (f j ∷ filter (λ other. is_eq (nat_cmp (f k) other)) (map f js))
+          (filter (λ other. is_eq (nat_cmp (f k) other)) (map f js))) ≡ length
+          (cond b (j ∷ filter (λ other. is_eq (nat_cmp k other)) js) (filter (λ other. is_eq (nat_cmp k other)) js))
+      go true ih = ap suc ih
+      go false ih = ih
+
+  repeat-rising : (ks : List ℕ) → AllByRecursion P ks → has_repeat nat_cmp (map f ks) ≡ has_repeat nat_cmp ks
+  repeat-rising [] a = refl
+  repeat-rising (k ∷ ks) a = ap₂ (λ n b. nat_lt 0 n || b) (times-rising k a.0 ks a.1) (repeat-rising ks a.1)
+
+-- one type of records under new RTSQs: the RTSQs of a chain
+rtsqs_kept : {X : Type 0} (tlid rtsq : X → ℕ) (f : X → X) (new : ℕ → ℕ → ℕ) → ((x : X) → tlid (f x) ≡ tlid x)
+    → ((x : X) → rtsq (f x) ≡ new (tlid x) (rtsq x)) → (n : ℕ) (xs : List X)
+    → ((i j : ℕ) → Stands rtsq (of_number tlid n xs) i → Stands rtsq (of_number tlid n xs) j → i < j → new n i < new n j)
+    → has_repeat nat_cmp (map rtsq (of_number tlid n (map f xs))) ≡ has_repeat nat_cmp (map rtsq (of_number tlid n xs))
+rtsqs_kept {X} tlid rtsq f new kt kr n xs up =
+    ap (λ ys. has_repeat nat_cmp (map rtsq ys)) (number-kept tlid f kt n xs)
+    ∙ ap (has_repeat nat_cmp) (map-map rtsq f (of_number tlid n xs)
+    ∙ map_agree_all (λ x. rtsq (f x)) (λ x. new n (rtsq x)) (λ x. tlid x ≡ n) (λ x e. kr x ∙ ap (λ m. new m (rtsq x)) e)
+    (of_number tlid n xs) (of_number-all tlid n xs) ∙ sym (map-map (new n) rtsq (of_number tlid n xs)))
+    ∙ repeat-rising (new n) (Stands rtsq (of_number tlid n xs)) up (map rtsq (of_number tlid n xs))
+    (all_map (Stands rtsq (of_number tlid n xs)) rtsq (of_number tlid n xs) (all_standing rtsq (of_number tlid n xs)))
 
 module _ (q : Sequence) (xs : List Record) (up : KeepsSequence q xs) where
   new_two : Fields2 → Fields2
@@ -222,3 +286,72 @@ module _ (q : Sequence) (xs : List Record) (up : KeepsSequence q xs) where
 
   pub resequenced-county : county_of (map (resequenced q) xs) ≡ county_of xs
   resequenced-county = repacked-county (map (resequenced q) xs) xs resequenced-repacked
+
+  -- the numbers that the rules look at
+  new_tlids : {X : Type 0} (tlid : X → ℕ) (new : X → X) → ((x : X) → tlid (new x) ≡ tlid x) → (rs : List X)
+      → map tlid (map new rs) ≡ map tlid rs
+  new_tlids tlid new k rs = map-map tlid new rs ∙ map_agree_everywhere (λ x. tlid (new x)) tlid k rs
+
+  ys : List Record
+  ys = map (resequenced q) xs
+
+  two_is : of_type_2 ys ≡ map new_two (of_type_2 xs)
+  unfolding ys
+  two_is = select-changed as_type_2 (resequenced q) new_two news_two xs
+
+  four_is : of_type_4 ys ≡ map new_four (of_type_4 xs)
+  unfolding ys
+  four_is = select-changed as_type_4 (resequenced q) new_four news_four xs
+
+  six_is : of_type_6 ys ≡ map new_six (of_type_6 xs)
+  unfolding ys
+  six_is = select-changed as_type_6 (resequenced q) new_six news_six xs
+
+  linked_same : (t : LinkedType) → linked_tlids t ys ≡ linked_tlids t xs
+  unfolding new_two new_four new_six ys
+  linked_same Type2 = ap (map two_tlid) two_is ∙ new_tlids two_tlid new_two (λ r. refl) (of_type_2 xs)
+  linked_same Type4 = ap (map four_tlid) four_is ∙ new_tlids four_tlid new_four (λ r. refl) (of_type_4 xs)
+  linked_same Type6 = ap (map six_tlid) six_is ∙ new_tlids six_tlid new_six (λ r. refl) (of_type_6 xs)
+  linked_same TypeI = ap (map i_tlid) (resequenced-repacked.of_type_i)
+
+  named_same : (n : ℕ) → named_feats n ys ≡ named_feats n xs
+  unfolding new_four
+  named_same n = ap (λ rs. flat_map (λ (r : Fields4). r.feats) (of_number four_tlid n rs)) four_is
+      ∙ ap (flat_map (λ (r : Fields4). r.feats)) (number-kept four_tlid new_four (λ r. refl) n (of_type_4 xs))
+      ∙ flat_map-kept (λ (r : Fields4). r.feats) new_four (λ r. refl) (of_number four_tlid n (of_type_4 xs))
+
+  sequence_same : (t : LinkedType) (n : ℕ) → has_repeat nat_cmp (rtsqs t n ys) ≡ has_repeat nat_cmp (rtsqs t n xs)
+  unfolding new_two new_four new_six
+  sequence_same Type2 n = ap (λ rs. has_repeat nat_cmp (map two_rtsq (of_number two_tlid n rs))) two_is
+      ∙ rtsqs_kept two_tlid two_rtsq new_two (q Type2) (λ r. refl) (λ r. refl) n (of_type_2 xs) (up Type2 n)
+  sequence_same Type4 n = ap (λ rs. has_repeat nat_cmp (map four_rtsq (of_number four_tlid n rs))) four_is
+      ∙ rtsqs_kept four_tlid four_rtsq new_four (q Type4) (λ r. refl) (λ r. refl) n (of_type_4 xs) (up Type4 n)
+  sequence_same Type6 n = ap (λ rs. has_repeat nat_cmp (map six_rtsq (of_number six_tlid n rs))) six_is
+      ∙ rtsqs_kept six_tlid six_rtsq new_six (q Type6) (λ r. refl) (λ r. refl) n (of_type_6 xs) (up Type6 n)
+  sequence_same TypeI n = refl
+
+  same_broken : (f : LinkFault) → is_broken ys f ≡ is_broken xs f
+  unfolding ys
+  same_broken (ChainTwice n) = ap (λ rs. nat_lt 1 (times nat_cmp n (map one_tlid rs))) resequenced-repacked.of_type_1
+  same_broken (NoChain t n) = ap₂ (λ ks rs. stands_in nat_cmp n ks && not (stands_in nat_cmp n (map one_tlid rs))) (linked_same t)
+      resequenced-repacked.of_type_1
+  same_broken (SequenceBroken t n) = sequence_same t n
+  same_broken (LinkMissing n) =
+      ap₂ (λ rs ls. stands_in nat_cmp n (map one_tlid rs) && not (stands_in nat_cmp n (map i_tlid ls))) resequenced-repacked.of_type_1
+      resequenced-repacked.of_type_i
+  same_broken (LinkTwice n) = ap (λ ls. nat_lt 1 (times nat_cmp n (map i_tlid ls))) resequenced-repacked.of_type_i
+  same_broken (NameTwice n) = ap (λ rs. nat_lt 1 (times nat_cmp n (map five_feat rs))) resequenced-repacked.of_type_5
+  same_broken (NameUnknown n y) = ap₂ (λ ks rs. stands_in nat_cmp y ks && not (stands_in nat_cmp y (map five_feat rs))) (named_same n)
+      resequenced-repacked.of_type_5
+  same_broken (PolygonTwice c k) = ap (λ rs. nat_lt 1 (times key_cmp (c, k) (map p_key rs))) resequenced-repacked.of_type_p
+  same_broken (LandUnknown n) =
+      ap₂ (λ es ss. stands_in nat_cmp n (map eight_land es) && not (stands_in nat_cmp n (map seven_land ss)))
+      resequenced-repacked.of_type_8 resequenced-repacked.of_type_7
+  same_broken (PolygonUnknown c k) = λ i.
+      stands_in key_cmp (c, k) (map eight_key (resequenced-repacked.of_type_8 i)) && not
+      (stands_in key_cmp (c, k) (flat_map side_keys (resequenced-repacked.of_type_i i) ++ map p_key (resequenced-repacked.of_type_p i)))
+  same_broken Memory = refl
+
+  pub resequenced-linked : IsLinked xs → IsLinked (map (resequenced q) xs)
+  unfolding ys
+  resequenced-linked linked f = same_broken f ∙ linked f

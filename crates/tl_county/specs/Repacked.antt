@@ -1,27 +1,56 @@
 -- Lists of records that differ only in what isn't part of the map: the packing of types 2 and 4, and the RTSQs.
-use Rattle.std.specs.Prelude.{ℕ, ◌≡◌, ◌<◌, List, IsTrue}
+use Rattle.std.specs.Prelude.{ℕ, ◌≡◌, ◌<◌, ◌⊎◌, List, [], ◌∷◌, ◌++◌, IsTrue, IsPermutation}
+use Rattle.std.specs.List.{AllByRecursion}
 use Rattle.std.specs.Ordering.{nat_cmp}
+use Rattle.tl_layout.specs.Fields.{Fields2, Fields4}
 use Rattle.tl_layout.specs.declared.record_type.Record.{Record}
 use Rattle.tl_layout.specs.declared.record_type.Record.TheVariants.{One, Two, Four, Five, Six, Seven, Eight, I, P}
 use Rattle.tl_county.specs.declared.fault.LinkedType.{LinkedType}
 use Rattle.tl_county.specs.declared.fault.LinkedType.TheVariants.{Two as Type2, Four as Type4, Six as Type6}
-use Rattle.tl_layout.specs.ByType.{of_type_1, of_type_5, of_type_7, of_type_8, of_type_i, of_type_p}
-use Rattle.tl_county.specs.County.{shape_points, further_names, further_ranges}
+use Rattle.tl_layout.specs.ByType.{of_type_2, of_type_4, of_number}
+use Rattle.tl_county.specs.County.{two_tlid, two_rtsq, four_tlid, four_rtsq}
 use Rattle.tl_county.specs.LinkRules.{rtsqs}
 use Rattle.tl_county.specs.Orders.{stands_in}
 
--- Each chain has the same shape points, names and ranges, joined in the order of its RTSQs, however they are packed into
--- records; the other records are the same.
-pub record AreRepacked (xs ys : List Record) : Type 0 where
-  pub points : (tlid : ℕ) → shape_points xs tlid ≡ shape_points ys tlid
-  pub names : (tlid : ℕ) → further_names xs tlid ≡ further_names ys tlid
-  pub ranges : (tlid : ℕ) → further_ranges xs tlid ≡ further_ranges ys tlid
-  pub of_type_1 : of_type_1 xs ≡ of_type_1 ys
-  pub of_type_5 : of_type_5 xs ≡ of_type_5 ys
-  pub of_type_7 : of_type_7 xs ≡ of_type_7 ys
-  pub of_type_8 : of_type_8 xs ≡ of_type_8 ys
-  pub of_type_i : of_type_i xs ≡ of_type_i ys
-  pub of_type_p : of_type_p xs ≡ of_type_p ys
+-- A record of a chain is cut into two: what it holds is what the first and then the second hold, the first keeps its RTSQ, the
+-- second has a later one, and no other record of the chain has an RTSQ from the one to the other.
+pub record IsCut {X Y : Type 0} (tlid rtsq : X → ℕ) (held : X → List Y) (others : List X) (whole first second : X) : Type 0 where
+  pub first_chain : tlid first ≡ tlid whole
+  pub second_chain : tlid second ≡ tlid whole
+  pub kept : rtsq first ≡ rtsq whole
+  pub later : rtsq first < rtsq second
+  pub joined : held whole ≡ held first ++ held second
+  pub free : AllByRecursion (λ other. (rtsq other < rtsq first) ⊎ (rtsq second < rtsq other)) (of_number tlid (tlid whole) others)
+
+-- a record of type 2 is cut into two of type 2, or one of type 4 into two of type 4, beside these others
+abbrev pub AreCut : List Record → Record → Record → Record → Type 0
+AreCut others (Two whole) first second = (a : Fields2) × (b : Fields2) × (first ≡ Two a) × (second ≡ Two b)
+    × IsCut two_tlid two_rtsq (λ r. r.points) (of_type_2 others) whole a b
+AreCut others (Four whole) first second = (a : Fields4) × (b : Fields4) × (first ≡ Four a) × (second ≡ Four b)
+    × IsCut four_tlid four_rtsq (λ r. r.feats) (of_type_4 others) whole a b
+AreCut others _ first second = ⊥
+
+-- One record of type 2 or 4 gives way to the two that it is cut into. The order of records has no meaning.
+pub record IsSplit (records split : List Record) : Type 0 where
+  pub others : List Record
+  pub whole : Record
+  pub first : Record
+  pub second : Record
+  pub cut : AreCut others whole first second
+  pub before : IsPermutation (whole ∷ others) records
+  pub after : IsPermutation (first ∷ second ∷ others) split
+
+-- a record of type 2 or 4 that holds nothing
+abbrev pub IsEmpty : Record → Type 0
+IsEmpty (Two r) = r.points ≡ []
+IsEmpty (Four r) = r.feats ≡ []
+IsEmpty _ = ⊥
+
+-- one record of type 2 or 4 that holds nothing is left out
+pub record LeavesEmptyOut (records others : List Record) : Type 0 where
+  pub empty : Record
+  pub is_empty : IsEmpty empty
+  pub before : IsPermutation (empty ∷ others) records
 
 -- a new RTSQ for each old one of a chain in a record type
 abbrev pub Sequence : Type 0

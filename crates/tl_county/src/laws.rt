@@ -6,7 +6,7 @@ ghost use Rattle.tl_county.specs.County.{County, county_of};
 ghost use Rattle.tl_county.specs.Limits.{IsWithinLimits};
 ghost use Rattle.tl_county.specs.LinkRules.{IsFirstBrokenRule, IsLinked};
 ghost use Rattle.tl_county.specs.Packing.{packed};
-ghost use Rattle.tl_county.specs.Repacked.{AreRepacked, KeepsSequence, Sequence, resequenced};
+ghost use Rattle.tl_county.specs.Repacked.{IsSplit, KeepsSequence, LeavesEmptyOut, Sequence, resequenced};
 ghost use Rattle.tl_county.specs.declared.fault.LinkFault.{LinkFault};
 ghost use Rattle.tl_layout.specs.Limits.{IsWithinLimit};
 ghost use Rattle.tl_layout.specs.RecordText.{FitsRecord};
@@ -58,13 +58,19 @@ pub fn counties_within_limits_are_packed_into_records_that_fit()
         IsCounty county → IsWithinLimits limit county → AllByRecursion FitsRecord (packed county) }
 {}
 
-/// The county doesn't depend on the order of the records, on the packing of types 2 and 4, nor on which RTSQs keep the
-/// order of a chain's records.
+/// Records that are linked stay so, and their county stays the same, where they are reordered, where a record of type 2 or 4
+/// is split or two are joined again, where one that holds nothing is left out, and where other RTSQs keep the order of each
+/// chain's records.
 pub fn the_county_is_what_the_records_say()
     ensures reordered { (records others : List Record) →
         IsPermutation records others → IsLinked records → IsLinked others × (county_of others ≡ county_of records) }
-    ensures repacked { (records others : List Record) →
-        AreRepacked records others → county_of records ≡ county_of others }
+    ensures split { (records split : List Record) →
+        IsSplit records split → IsLinked records → IsLinked split × (county_of split ≡ county_of records) }
+    ensures joined { (records split : List Record) →
+        IsSplit records split → IsLinked split → IsLinked records × (county_of records ≡ county_of split) }
+    ensures left_out { (records others : List Record) →
+        LeavesEmptyOut records others → IsLinked records → IsLinked others × (county_of others ≡ county_of records) }
     ensures resequenced { (sequence : Sequence) (records : List Record) →
-        KeepsSequence sequence records → county_of (map (resequenced sequence) records) ≡ county_of records }
+        KeepsSequence sequence records → IsLinked records →
+        IsLinked (map (resequenced sequence) records) × (county_of (map (resequenced sequence) records) ≡ county_of records) }
 {}

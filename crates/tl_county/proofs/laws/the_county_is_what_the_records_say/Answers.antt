@@ -1,12 +1,19 @@
 use Rattle.tl_county.proofs.SameCounty.{reordered-linked, reordered-county}
-use Rattle.tl_county.proofs.Repacking.{repacked-county, resequenced-county}
+use Rattle.tl_county.proofs.Repacking.{resequenced-linked, resequenced-county}
+use Rattle.tl_county.proofs.Splitting.{split-county, joined-county, left_out-county}
 use Rattle.tl_county.proofs.laws.the_county_is_what_the_records_say.Goals as goal
 
 pub returns-clause-reordered : goal.returns-clause-reordered
 returns-clause-reordered c = λ xs ys p linked. (reordered-linked xs ys p linked, reordered-county xs ys p linked)
 
-pub returns-clause-repacked : goal.returns-clause-repacked
-returns-clause-repacked c = repacked-county
+pub returns-clause-split : goal.returns-clause-split
+returns-clause-split c = split-county
+
+pub returns-clause-joined : goal.returns-clause-joined
+returns-clause-joined c = joined-county
+
+pub returns-clause-left_out : goal.returns-clause-left_out
+returns-clause-left_out c = left_out-county
 
 pub returns-clause-resequenced : goal.returns-clause-resequenced
-returns-clause-resequenced c = resequenced-county
+returns-clause-resequenced c = λ q xs up linked. (resequenced-linked q xs up linked, resequenced-county q xs up)
