@@ -1,6 +1,6 @@
 //! Number fields.
 
-ghost use Rattle.std.specs.Prelude.{◌≡◌, ◌≤◌, length};
+ghost use Rattle.std.specs.Prelude.{◌≡◌, ◌≤◌, length, Some, IfSome};
 ghost use Rattle.std.specs.List.{list_all};
 ghost use Rattle.tl_layout.specs.NumberField.{is_blank};
 ghost use Rattle.tl_layout.specs.NumberReading.{drop_blanks, number_after, number_of};
@@ -25,9 +25,47 @@ pub fn is_blank(field: &[u8]) -> bool
     field.iter().all(|byte| *byte == b' ')
 }
 
+/// The number of these bytes, if each of them is a digit. They are looked at without a branch.
+#[tactic(auto, unfolding(crate::specs::NumberReading::number_after))]
+fn digits_alone<const N: usize>(field: &[u8; N]) -> Option<u64>
+    requires { N ≤ 16 }
+    ensures { IfSome result (λ number. number_after 0 field.now ≡ Some number) }
+{
+    let mut value = 0;
+    let mut greatest = 0;
+    for i in 0..N {
+        let digit = field[i].wrapping_sub(b'0');
+        greatest = greatest.max(digit);
+        value = 10 * value + u64::from(digit);
+    }
+    if greatest <= 9 { Some(value) } else { None }
+}
+
+/// The number of digits alone, tried at the widths that most numbers and coordinates have.
+fn usual_digits(field: &[u8]) -> Option<u64>
+    ensures { IfSome result (λ number. number_after 0 field.now ≡ Some number) }
+{
+    match field.len() {
+        8 => digits_alone(field.first_chunk::<8>()?),
+        9 => digits_alone(field.first_chunk::<9>()?),
+        _ => None,
+    }
+}
+
 /// The number of digits that nothing but blanks may follow.
-#[tactic(auto, using(crate::proofs::NumberLemmas::stepping), unfolding(crate::specs::NumberReading::number_after))]
 pub fn digits(field: &[u8]) -> Option<u64>
+    requires { length field.now ≤ 19 }
+    ensures { result ≡ number_after 0 field.now }
+{
+    match usual_digits(field) {
+        Some(value) => Some(value),
+        None => digits_before_blanks(field),
+    }
+}
+
+/// The number of digits that nothing but blanks may follow, byte by byte.
+#[tactic(auto, using(crate::proofs::NumberLemmas::stepping), unfolding(crate::specs::NumberReading::number_after))]
+fn digits_before_blanks(field: &[u8]) -> Option<u64>
     requires { length field.now ≤ 19 }
     ensures { result ≡ number_after 0 field.now }
 {

@@ -1,0 +1,12 @@
+use Rattle.std.proofs.Common.{arith}
+use Rattle.tl_layout.proofs.NumberLemmas.{any_byte_fits}
+use Rattle.tl_layout.proofs.number.digits_alone.Goals as goal
+
+pub overflow_mul-value : goal.overflow_mul-value
+overflow_mul-value g c =
+    let fits = any_byte_fits c.loop-i.value 0 c.loop-i.i c.loop-i.invariant.fits (omega arith) (omega arith) in omega arith
+
+pub overflow_add-value : goal.overflow_add-value
+overflow_add-value g c =
+    let fits = any_byte_fits c.loop-i.value c.from.result c.loop-i.i c.loop-i.invariant.fits (omega arith) (omega arith) in
+    omega arith
