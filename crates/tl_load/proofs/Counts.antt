@@ -1,5 +1,5 @@
 -- The counts of records of each type.
-use Rattle.std.proofs.Common.{◌≡◌, ℕ, ◌+◌, ◌<◌, ◌≤◌, Bool, true, false, cond, List, [], ◌∷◌, ◌++◌, length, get_or, set, replicate}
+use Rattle.std.proofs.Common.{◌≡◌, ℕ, ◌+◌, ◌<◌, ◌≤◌, Bool, false, cond, List, [], ◌∷◌, ◌++◌, length, get_or, set, replicate}
 use Rattle.std.proofs.Common.{Ok, Err, refl, sym, ap, ◌∙◌, arith, lit<, eqb, inl, inr}
 use Rattle.std.proofs.lemmas.Bool.{cases_eq, eq-eqb, ne_eqb, le-leb, lt-leb}
 use Rattle.std.proofs.lemmas.List.{length-set, get_or-set_same, get_or-set_other, get_or-replicate, length-replicate}
@@ -13,6 +13,7 @@ use Rattle.tl_load.specs.Outcome.{count_of, with_record}
 use Rattle.tl_load.specs.Choice.{tiger}
 use Rattle.tl_load.specs.Keeping.{AreCounted, IsLoader, total}
 use Rattle.tl_load.proofs.Reading.{count_push}
+use Rattle.tl_layout.specs.declared.record_type.TheConstants.{MOST_RECORDS}
 
 tiger_rtype : (r : Record) → tiger.rtype r ≡ type_of r
 unfolding tiger
@@ -148,7 +149,7 @@ no_count t low = get_or-replicate {A = ℕ} 128 t 0 0 low
 pub none_counted : AreCounted (replicate 128 0) []
 none_counted t low = no_count t low
 
-pub empty_loader : (limit : ℕ) → limit ≤ 10000000 → IsLoader (replicate 128 0) [] 0 0 limit
+pub empty_loader : (limit : ℕ) → limit ≤ MOST_RECORDS → IsLoader (replicate 128 0) [] 0 0 limit
 empty_loader limit low = record {
   counts_len = length-replicate {A = ℕ} 128 0;
   within = λ t lt. omega (arith, no_count t lt);

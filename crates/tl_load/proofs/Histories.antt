@@ -1,9 +1,9 @@
 -- What a loader was fed, after each call.
-use Rattle.std.proofs.Common.{◌≡◌, ℕ, ◌+◌, ◌<◌, ◌≤◌, false, List, [], ◌∷◌, ◌++◌, length, map, replicate, Option, Some, None}
+use Rattle.std.proofs.Common.{◌≡◌, ℕ, ◌+◌, ◌≤◌, false, List, [], ◌∷◌, ◌++◌, length, map, replicate, Option, Some, None}
 use Rattle.std.proofs.Common.{Result, Ok, Err, refl, sym, ap, subst, ◌∙◌, append_assoc, append-nil, arith, inl, inr, ◌⊎◌}
 use Rattle.std.specs.Prelude.{MatchOption, MatchResult, IfErr, OnOk, All}
 use Rattle.std.proofs.lemmas.Grind.{flat_map-append}
-use Rattle.std.proofs.lemmas.List.{length-append, length-map, map-append}
+use Rattle.std.proofs.lemmas.List.{length-append, length-map}
 use Rattle.std.proofs.lemmas.List.Elements.{All-append, All-nil}
 use Rattle.tl_layout.specs.declared.record_type.Record.{Record}
 use Rattle.tl_load.specs.declared.fault.LoadFault.{LoadFault}
@@ -12,16 +12,17 @@ use Rattle.tl_load.specs.Lines.{is_line_feed, IsWithoutLineFeed, without_return,
 use Rattle.tl_load.specs.Places.{PlacedLine, numbered, lines_from_part, placed_lines}
 use Rattle.tl_load.specs.Outcome.{Accepts, FaultAt, ◌>>=◌, reading, outcome}
 use Rattle.tl_load.specs.Choice.{tiger}
-use Rattle.tl_load.specs.Loaded.{Loaded, IsOfLines, IsFaultHowever, with_line_feeds, AreLines, HasLoaded, IsWellSoFar}
+use Rattle.tl_load.specs.Loaded.{Loaded, IsOfLines, IsFaultHowever, with_line_feeds, HasLoaded, IsWellSoFar}
 use Rattle.tl_load.specs.Loaded.{IsWellAfter, all_parts}
 use Rattle.tl_load.specs.Keeping.{LoadedInto, seen, AreKept, AreCounted, WasFedInto, HasSome, IsSamePart, Lifts}
-use Rattle.tl_load.specs.Steps.{to_come, to_end, TakesLines, Takes, Ends, IsClosed, Closes, ReadsAll, Reads, with_fault}
+use Rattle.tl_load.specs.Steps.{to_come, to_end, TakesLines, Takes, Ends, IsClosed, Closes, Reads, with_fault}
 use Rattle.tl_load.proofs.RecordLines.{tiger_is_sound}
 use Rattle.tl_load.proofs.Reading.{reading-append, accepts_from_outcome, outcome_from_accepts, fault_from_outcome}
 use Rattle.tl_load.proofs.LineLemmas.{lines_none}
 use Rattle.tl_load.proofs.Counts.{none_counted}
 use Rattle.tl_load.proofs.Runs.{lines_after, numbered-append, parts-append}
-use Rattle.tl_load.proofs.Steps.{takes_comes, comes_at_end}
+use Rattle.tl_load.proofs.Steps.{comes_at_end}
+use Rattle.tl_load.specs.declared.loader_into.TheConstants.{LINE_BYTES}
 
 pub at_none : {A : Type 0} (P : Type 0) (Q : A → Type 0) (o : Option A) → o ≡ None → MatchOption o P Q → P
 at_none P Q None e h = h
@@ -172,7 +173,7 @@ loaded_closed limit before after closed open_part same h c = record {
         ∙ append-nil (placed_lines (parts ++ part ∷ []))
 
 pub well_of : (limit : ℕ) (l : Loaded) (closed : List (List ℕ)) (open_part : List ℕ) → HasLoaded limit l closed open_part
-    → length l.unfinished < 230 → IsWellSoFar limit closed open_part
+    → length l.unfinished ≤ LINE_BYTES → IsWellSoFar limit closed open_part
 well_of limit l closed open_part h short =
     record { ended = h.ended; unfinished = l.unfinished; lines_are = h.lines_are; records = l.records; accepts = h.accepts; short = short }
 
@@ -293,14 +294,14 @@ fed_standing holds limit l piece f closed open_part e w = record {
 
 -- a loader without a fault is well so far
 pub well_into : {K : Type 0} (holds : K → List Record → Type 0) (limit : ℕ) (l : LoadedInto K) (closed : List (List ℕ)) (open_part : List ℕ)
-    → l.fault ≡ None → length l.unfinished < 230 → WasFedInto holds limit l closed open_part → IsWellSoFar limit closed open_part
+    → l.fault ≡ None → length l.unfinished ≤ LINE_BYTES → WasFedInto holds limit l closed open_part → IsWellSoFar limit closed open_part
 well_into holds limit l closed open_part none short w =
     let h = has_of holds limit l closed open_part none w in
     well_of limit (seen l h.records) closed open_part h.loaded short
 
 pub well_after : {K T : Type 0} (holds : K → List Record → Type 0) (x : T) (limit : ℕ) (before after : LoadedInto K) (piece : List ℕ)
     (closed : List (List ℕ)) (open_part : List ℕ) → before.fault ≡ None → Lifts holds (Takes piece) before (Ok x) after
-    → length after.unfinished < 230
+    → length after.unfinished ≤ LINE_BYTES
     → WasFedInto holds limit before closed open_part → IsWellSoFar limit closed (open_part ++ piece)
 well_after holds x limit before after piece closed open_part none takes short w =
     let h = has_of holds limit before closed open_part none w in
@@ -311,7 +312,7 @@ well_after holds x limit before after piece closed open_part none takes short w 
 -- what a step says of an answer, where it was `Ok`
 pub well_of_step : {K T : Type 0} (holds : K → List Record → Type 0) (before after : LoadedInto K) (piece : List ℕ)
     (result : Result T LoadFault) → before.fault ≡ None → Lifts holds (Takes piece) before result after
-    → OnOk result (length after.unfinished < 230)
+    → OnOk result (length after.unfinished ≤ LINE_BYTES)
     → OnOk result (IsWellAfter (WasFedInto holds) before piece)
 well_of_step holds before after piece (Ok x) none takes short =
     λ limit closed open_part w. well_after holds x limit before after piece closed open_part none takes short w

@@ -1,10 +1,10 @@
 -- A loader of a list of records is a loader over a keeper that holds this list.
-use Rattle.std.proofs.Common.{◌≡◌, ℕ, List, [], ◌∷◌, ◌++◌, Option, Some, None, Result, Ok, Err, refl, sym, ap, subst, ◌∙◌, ◌⊎◌}
-use Rattle.std.proofs.Common.{inl, inr, Vec, Global}
-use Rattle.std.specs.Prelude.{MatchOption, MatchResult, IfOk, IfSome, IfErr, OnOk}
+use Rattle.std.proofs.Common.{◌≡◌, ℕ, List, Option, Some, None, Result, Ok, Err, refl, sym, subst}
+use Rattle.std.proofs.Common.{Vec, Global}
+use Rattle.std.specs.Prelude.{MatchOption, IfOk, IfSome, IfErr, OnOk}
 use Rattle.tl_layout.specs.declared.record_type.Record.{Record}
 use Rattle.tl_load.specs.declared.fault.LoadFault.{LoadFault}
-use Rattle.tl_load.specs.Loaded.{Loaded, IsOfLines, IsFaultHowever, HasLoaded, IsWellSoFar, WasFed}
+use Rattle.tl_load.specs.Loaded.{Loaded, IsOfLines, IsFaultHowever, HasLoaded, WasFed}
 use Rattle.tl_load.specs.Keeping.{LoadedInto, seen, AreCounted, AreKept, WasFedInto, HasSome}
 use Rattle.tl_load.proofs.Histories.{has_of}
 

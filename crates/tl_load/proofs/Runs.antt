@@ -1,5 +1,5 @@
 -- Lines that have ended, and the numbers of lines and parts that come one after the other.
-use Rattle.std.proofs.Common.{◌≡◌, ℕ, suc, ◌+◌, ◌<◌, List, [], ◌∷◌, ◌++◌, length, map, refl, sym, ap, ◌∙◌, append_assoc, arith}
+use Rattle.std.proofs.Common.{◌≡◌, ℕ, suc, ◌+◌, List, [], ◌∷◌, ◌++◌, length, map, refl, sym, ap, ◌∙◌, append_assoc, arith}
 use Rattle.std.specs.Prelude.{All}
 use Rattle.tl_load.specs.Lines.{IsWithoutLineFeed, without_return, lines}
 use Rattle.tl_load.specs.Places.{PlacedLine, numbered, lines_from_part}

@@ -20,9 +20,10 @@ use Rattle.tl_load.specs.declared.fault.LineFault.{LineFault}
 use Rattle.tl_load.specs.declared.fault.LineFault.TheVariants as line_faults
 use Rattle.tl_load.specs.LineOf.{judged_as, judged_full, filled}
 use Rattle.tl_load.specs.Choice.{as_record, judged_by, judged}
+use Rattle.tl_layout.specs.declared.layout.TheConstants.{LONGEST_LINE}
 
-too_long : {R : Type 0} (len : ℕ) (reading : List ℕ → Result R FieldFault) (wrap : R → Record) (line : List ℕ) → len ≤ 228
-    → 228 < length line → as_record wrap (judged_as len reading line) ≡ Err line_faults.LineTooLong
+too_long : {R : Type 0} (len : ℕ) (reading : List ℕ → Result R FieldFault) (wrap : R → Record) (line : List ℕ) → len ≤ LONGEST_LINE
+    → LONGEST_LINE < length line → as_record wrap (judged_as len reading line) ≡ Err line_faults.LineTooLong
 unfolding judged_as
 too_long len reading wrap line low long =
     ap (λ (b : Bool). as_record wrap (cond b (Err line_faults.LineTooLong) (judged_full reading (filled len line))))
@@ -40,10 +41,10 @@ long_fault rtype = cond (eqb rtype 49) (Err line_faults.LineTooLong)
     (cond (eqb rtype 73) (Err line_faults.LineTooLong)
     (cond (eqb rtype 80) (Err line_faults.LineTooLong) (Err line_faults.UnknownType)))))))))
 
-long_by : (rtype : ℕ) (line : List ℕ) → 228 < length line → judged_by rtype line ≡ long_fault rtype
+long_by : (rtype : ℕ) (line : List ℕ) → LONGEST_LINE < length line → judged_by rtype line ≡ long_fault rtype
 unfolding judged_by long_fault
 long_by rtype line long =
-    let e49 = too_long 228 type_1_reading One line (lit≤ tt) long in
+    let e49 = too_long LONGEST_LINE type_1_reading One line (lit≤ tt) long in
     let e50 = too_long 208 type_2_reading Two line (lit≤ tt) long in
     let e52 = too_long 58 type_4_reading Four line (lit≤ tt) long in
     let e53 = too_long 56 type_5_reading Five line (lit≤ tt) long in
@@ -109,12 +110,12 @@ err_long rtype = err_cond (eqb rtype 49) (Err line_faults.LineTooLong)
 is_err_along : (x y : Result Record LineFault) → x ≡ y → IsErr y → IsErr x
 is_err_along x y e h = rw e h
 
-pub judged_long : (line : List ℕ) → 228 < length line → IsErr (judged line)
+pub judged_long : (line : List ℕ) → LONGEST_LINE < length line → IsErr (judged line)
 unfolding judged
 judged_long [] long = absurd (omega arith)
 judged_long (b ∷ line) long = is_err_along _ _ (long_by b (b ∷ line) long) (err_long b)
 
-pub judged_settles : (line more : List ℕ) → 228 < length line → judged (line ++ more) ≡ judged line
+pub judged_settles : (line more : List ℕ) → LONGEST_LINE < length line → judged (line ++ more) ≡ judged line
 unfolding judged
 judged_settles [] more long = absurd (omega arith)
 judged_settles (b ∷ line) more long = long_by b (b ∷ line ++ more) (omega (arith, length-append (b ∷ line) more))

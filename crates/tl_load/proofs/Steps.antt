@@ -1,7 +1,7 @@
 -- The loader's steps, for a loader of a list of records.
 use Rattle.std.proofs.Common.{◌≡◌, ℕ, ◌+◌, ◌<◌, ◌≤◌, false, List, [], ◌∷◌, ◌++◌, length, map, Result, Ok, Err, refl, sym, ap}
 use Rattle.std.proofs.Common.{subst, ◌∙◌, append_assoc, append-nil, arith, inl, inr}
-use Rattle.std.specs.Prelude.{All, OnOk, MatchResult}
+use Rattle.std.specs.Prelude.{OnOk}
 use Rattle.std.specs.Result.{IsErr}
 use Rattle.std.proofs.lemmas.Grind.{flat_map-append}
 use Rattle.std.proofs.lemmas.List.{length-append, length-map, map-append}
@@ -17,13 +17,14 @@ use Rattle.tl_load.specs.Places.{PlacedLine, numbered, lines_from_part}
 use Rattle.tl_load.specs.Verdicts.{fault_at, field_fault_at}
 use Rattle.tl_load.specs.Outcome.{◌>>=◌, after_verdict, next, reading}
 use Rattle.tl_load.specs.Choice.{tiger, judged}
-use Rattle.tl_load.specs.Loaded.{Loaded, IsOfLines, IsNotDevice, with_line_feeds, AreLines}
-use Rattle.tl_load.specs.Steps.{to_come, to_end, TakesLines, Takes, LeavesRest, next_place, JudgesAs, Judges, Ends, IsClosed}
-use Rattle.tl_load.specs.Steps.{Closes, ReadsAll, Reads}
+use Rattle.tl_load.specs.Loaded.{Loaded, IsNotDevice, with_line_feeds}
+use Rattle.tl_load.specs.Steps.{to_come, to_end, TakesLines, Takes, LeavesRest, next_place, Judges, Ends}
+use Rattle.tl_load.specs.Steps.{Closes, Reads}
 use Rattle.tl_load.proofs.Reading.{reading-append}
 use Rattle.tl_load.proofs.LineLemmas.{lines_line, lines_rest, lines_none, first_line_of, without_return_front}
 use Rattle.tl_load.proofs.Runs.{lines_after, numbered-append}
 use Rattle.tl_load.proofs.Settled.{judged_long, judged_settles}
+use Rattle.tl_layout.specs.declared.layout.TheConstants.{LONGEST_LINE}
 
 -- ---- bytes that were taken
 
@@ -221,7 +222,7 @@ err_of (Err f) h = (f, refl)
 
 -- what comes is the fault of the first line, if its beginning settles it
 long_line : (before : Loaded) (bytes line : List ℕ) (c : ℕ) (z : List ℕ) (fault : LineFault) → before.unfinished ++ bytes ≡ line ++ c ∷ z
-    → 228 < length line → IsWithoutLineFeed (before.unfinished ++ bytes)
+    → LONGEST_LINE < length line → IsWithoutLineFeed (before.unfinished ++ bytes)
     → judged line ≡ Err fault → (more : List ℕ) (later : List (List ℕ))
     → to_come before (bytes ++ more) later ≡ Err (fault_at (before.parts + 1) (before.judged + 1) fault)
 unfolding to_come
@@ -244,8 +245,8 @@ long_line before bytes line c z fault split long none e more later =
     (numbered (before.parts + 1) (before.judged + 1 + 1) begins.rest ++ lines_from_part (before.parts + 1 + 1) later)) settled
 
 pub refuses : {T : Type 0} (before mid after : Loaded) (bytes line rest : List ℕ) (result : Result T LoadFault) → IsBefore mid before
-    → before.unfinished ++ bytes ≡ line ++ rest → 0 < length rest → 228 < length line
-    → IsWithoutLineFeed (before.unfinished ++ bytes) → OnOk result (length line ≤ 228) → Judges line mid result after
+    → before.unfinished ++ bytes ≡ line ++ rest → 0 < length rest → LONGEST_LINE < length line
+    → IsWithoutLineFeed (before.unfinished ++ bytes) → OnOk result (length line ≤ LONGEST_LINE) → Judges line mid result after
     → Takes bytes before result after
 refuses before mid after bytes line [] result same split some long none short judges = absurd (omega arith)
 refuses before mid after bytes line (c ∷ z) (Ok x) same split some long none short judges = absurd (omega arith)

@@ -1,11 +1,13 @@
 -- A loader over a keeper: what it keeps, seen together with the list of records that the keeper holds.
-use Rattle.std.specs.Prelude.{◌≡◌, ℕ, ◌+◌, ◌*◌, ◌^◌, ◌-◌, ◌<◌, ◌≤◌, List, [], ◌∷◌, length, slice_index, Option, MatchOption, Result, OnOk}
+use Rattle.std.specs.Prelude.{◌≡◌, ℕ, ◌+◌, ◌*◌, ◌^◌, ◌-◌, ◌<◌, ◌≤◌, List, length, slice_index, Option, MatchOption, Result, OnOk}
 use Rattle.tl_layout.specs.declared.record_type.Record.{Record}
 use Rattle.tl_load.specs.declared.fault.LoadFault.{LoadFault}
 use Rattle.tl_load.specs.Lines.{IsWithoutLineFeed}
 use Rattle.tl_load.specs.Outcome.{count_of}
 use Rattle.tl_load.specs.Choice.{tiger}
 use Rattle.tl_load.specs.Loaded.{Loaded, IsOfLines, HasLoaded, IsFaultHowever}
+use Rattle.tl_load.specs.declared.loader_into.TheConstants.{LINE_BYTES}
+use Rattle.tl_layout.specs.declared.record_type.TheConstants.{MOST_RECORDS}
 
 -- what was kept so far, how many records of each type, by the byte in column 1, the number of closed parts, the lines of the
 -- open part that were judged, the bytes of its unfinished line, the limit of records of one type, and the standing fault
@@ -65,9 +67,9 @@ pub record IsLoader (counts : List ℕ) (unfinished : List ℕ) (parts judged li
   pub counts_len : length counts ≡ 128
   pub within : (t : ℕ) → t < 128 → slice_index counts t ≤ limit
   pub judged_low : judged ≤ total counts
-  pub limit_low : limit ≤ 10000000
+  pub limit_low : limit ≤ MOST_RECORDS
   pub no_feed : IsWithoutLineFeed unfinished
-  pub short : length unfinished ≤ 229
+  pub short : length unfinished ≤ LINE_BYTES
   pub begun : 0 < length unfinished → parts < 2 ^ 64 - 1
 
 -- what only the end of a part and a fault change

@@ -1,5 +1,5 @@
 -- A loader as contracts see it, and what it was fed.
-use Rattle.std.specs.Prelude.{◌≡◌, ℕ, ◌<◌, Bool, true, false, List, [], ◌∷◌, ◌++◌, length, All, Option, MatchOption, Result, Ok}
+use Rattle.std.specs.Prelude.{◌≤◌, ◌≡◌, ℕ, Bool, true, false, List, [], ◌∷◌, ◌++◌, length, All, Option, MatchOption, Result, Ok}
 use Rattle.std.specs.Prelude.{Err, MatchResult, ◌⊎◌}
 use Rattle.std.specs.List.{flat_map}
 use Rattle.tl_layout.specs.declared.record_type.Record.{Record}
@@ -8,6 +8,7 @@ use Rattle.tl_load.specs.declared.fault.LoadFault.TheVariants as faults
 use Rattle.tl_load.specs.Lines.{IsWithoutLineFeed}
 use Rattle.tl_load.specs.Outcome.{Accepts, FaultAt}
 use Rattle.tl_load.specs.Choice.{tiger}
+use Rattle.tl_load.specs.declared.loader_into.TheConstants.{LINE_BYTES}
 
 -- the records so far, the number of closed parts, the lines of the open part that were judged,
 -- the bytes of its unfinished line, the limit of records of one type, and the standing fault
@@ -62,7 +63,7 @@ pub record IsWellSoFar (limit : ℕ) (closed : List (List ℕ)) (open_part : Lis
   pub lines_are : AreLines open_part ended unfinished
   pub records : List Record
   pub accepts : Accepts tiger limit (closed ++ with_line_feeds ended ∷ []) records
-  pub short : length unfinished < 230
+  pub short : length unfinished ≤ LINE_BYTES
 
 -- after these bytes too no line that has ended is faulty, and the open one is short
 abbrev pub IsWellAfter : {L : Type 0} → (ℕ → L → List (List ℕ) → List ℕ → Type 0) → L → List ℕ → Type 0

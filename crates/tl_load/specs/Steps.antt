@@ -1,5 +1,5 @@
 -- What the loader's own steps do to its value.
-use Rattle.std.specs.Prelude.{◌≡◌, ℕ, ◌+◌, ◌<◌, List, [], ◌++◌, length, map, Some, Result, Ok, Err, MatchResult, ◌⊎◌}
+use Rattle.std.specs.Prelude.{◌≤◌, ◌≡◌, ℕ, ◌+◌, List, [], ◌++◌, length, map, Some, Result, Ok, Err, MatchResult, ◌⊎◌}
 use Rattle.tl_layout.specs.declared.record_type.Record.{Record}
 use Rattle.tl_load.specs.declared.fault.LineFault.{LineFault}
 use Rattle.tl_load.specs.declared.fault.LoadFault.{LoadFault}
@@ -9,6 +9,7 @@ use Rattle.tl_load.specs.Outcome.{with_record, after_verdict, reading}
 use Rattle.tl_load.specs.Choice.{tiger, judged}
 use Rattle.tl_load.specs.Loaded.{Loaded, IsOfLines, AreLines}
 use Rattle.tl_load.specs.Keeping.{LoadedInto, Lifts}
+use Rattle.tl_load.specs.declared.loader_into.TheConstants.{LINE_BYTES}
 
 -- what comes of the loader's value, if these bytes follow in its open part, and then these parts
 unfoldable pub to_come : Loaded → List ℕ → List (List ℕ) → Result (List Record) LoadFault
@@ -98,7 +99,7 @@ Reads taken at_end before result after = MatchResult result
 pub record TakesWell {K : Type 0} (holds : K → List Record → Type 0) (before : LoadedInto K) (taken : List ℕ) : Type 0 where
   pub after : LoadedInto K
   pub takes : Lifts {T = Unit {0}} holds (Takes taken) before (Ok tt) after
-  pub short : length after.unfinished < 230
+  pub short : length after.unfinished ≤ LINE_BYTES
 
 -- the loader with the fault that a step answered, if any, which stands from then on
 abbrev pub with_fault : {K T : Type 0} → Result T LoadFault → LoadedInto K → LoadedInto K

@@ -6,7 +6,7 @@ ghost use Rattle.tl_load.specs.LineOf.{filled, judged_as, judged_full};
 
 use crate::bytes::first_bad;
 use crate::fault::LineFault;
-use tl_layout::Layout;
+use tl_layout::{LONGEST_LINE, Layout};
 
 /// The record of a line that begins with the layout's type, or its fault. The line has neither LF nor the CR before it;
 /// a short one is filled with blanks.
@@ -27,16 +27,16 @@ pub(crate) fn judge_line<L: Layout>(line: &[u8]) -> Result<L, LineFault>
 }
 
 /// A line of blanks.
-fn blanks() -> [u8; 228]
-    ensures { result ≡ replicate 228 32 }
+fn blanks() -> [u8; LONGEST_LINE]
+    ensures { result ≡ replicate LONGEST_LINE 32 }
 {
-    [b' '; 228]
+    [b' '; LONGEST_LINE]
 }
 
 /// The line, filled with blanks to the length of the longest one.
-fn fill(line: &[u8]) -> [u8; 228]
-    requires { length line.now ≤ 228 }
-    ensures { result ≡ filled 228 line.now }
+fn fill(line: &[u8]) -> [u8; LONGEST_LINE]
+    requires { length line.now ≤ LONGEST_LINE }
+    ensures { result ≡ filled LONGEST_LINE line.now }
 {
     let mut filled = blanks();
     let front = &mut filled[..line.len()];

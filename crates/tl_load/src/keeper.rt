@@ -6,7 +6,7 @@ ghost use Rattle.tl_layout.specs.Tables.{HoldsByType};
 ghost use Rattle.tl_layout.specs.declared.record_type.Record.{Record};
 
 use std::alloc::{AllocError, Global};
-use tl_layout::{Layout, Record, Tabled, Tables};
+use tl_layout::{LONGEST_LINE, Layout, Record, Tabled, Tables};
 
 /// Where a loader puts its records.
 pub trait Keeper: Drop + Sized {
@@ -59,7 +59,7 @@ pub struct CanonicalText {
 fn append_line<L: Layout>(text: &mut Vec<u8>, found: &L) -> Result<(), AllocError>
     ensures { OnOk result (text.new.items ≡ text.old.items ++ (L.spelling found.now ++ 10 ∷ [])) }
 {
-    let mut line = [0; 228];
+    let mut line = [0; LONGEST_LINE];
     let len = L::LEN;
     found.put(&mut line[..len]);
     text.extend_from_slice(&line[..len])?;

@@ -21,5 +21,5 @@ pub use laws::{
     text_spells_its_records,
 };
 pub use loader::Loader;
-pub use loader_into::LoaderInto;
+pub use loader_into::{LoaderInto, MOST_BYTES, READ_BYTES};
 pub use source::{Counted, SlowSource, Source};

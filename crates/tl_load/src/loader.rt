@@ -10,11 +10,11 @@ ghost use Rattle.tl_load.specs.Loaded.{FedPart, IsNotDevice, is_device, IsOfLine
 ghost use Rattle.tl_load.specs.Sources.{Gave, StopsThere};
 
 use crate::fault::LoadFault;
-use crate::loader_into::{LoaderInto, MOST_RECORDS};
+use crate::loader_into::{LoaderInto, MOST_BYTES, READ_BYTES};
 use crate::source::Source;
 use std::alloc::Global;
 use std::marker::Model;
-use tl_layout::Record;
+use tl_layout::{MOST_RECORDS, Record};
 
 /// Takes the bytes of a set of parts, one part after the other and each in any pieces, and judges each line when it
 /// ends. What is kept is the records and the unfinished line. After a fault every call answers that fault.
@@ -38,7 +38,7 @@ impl Model for Loader {
 impl Loader {
     /// A loader that was fed nothing. It takes 10,000,000 records of one type, and no more; making it takes no memory.
     pub fn new(alloc: Global) -> Loader
-        ensures fed { WasFed 10000000 result [] [] }
+        ensures fed { WasFed MOST_RECORDS result [] [] }
         ensures parts { result.parts ≡ 0 }
         ensures fault { result.fault ≡ None }
     {
@@ -48,7 +48,7 @@ impl Loader {
     /// A loader that was fed nothing, for at most `limit` records of each type, from 1 to 10,000,000. It takes no memory.
     pub fn with_limit(alloc: Global, limit: u64) -> Loader
         requires some { 1 ≤ limit }
-        requires most { limit ≤ 10000000 }
+        requires most { limit ≤ MOST_RECORDS }
         ensures fed { WasFed limit result [] [] }
         ensures parts { result.parts ≡ 0 }
         ensures fault { result.fault ≡ None }
@@ -109,7 +109,7 @@ impl Loader {
         requires parts { self.old.parts < u64.MAX }
         requires failures { R.failed source.old < u64.MAX }
         // What the source gave went into the open part, and no endless source keeps the call from its return.
-        ensures fed { (taken : List ℕ) × Gave R.remaining R.given source.old source.new taken × (length taken ≤ 20700004325)
+        ensures fed { (taken : List ℕ) × Gave R.remaining R.given source.old source.new taken × (length taken ≤ MOST_BYTES + READ_BYTES)
             × FedPart WasFed self.old taken (IsAtEnd (R.remaining source.new)) result self.new }
         // Nothing is read past the read that brought a fault.
         ensures stops { self.old.fault ≡ None

@@ -23,16 +23,17 @@ use arrayvec::ArrayVec;
 use memchr::memchr;
 use std::alloc::Global;
 use std::marker::Model;
-use tl_layout::{Rec1, Rec2, Rec4, Rec5, Rec6, Rec7, Rec8, RecI, RecP, Tabled};
+use tl_layout::{LONGEST_LINE, MOST_RECORDS, Rec1, Rec2, Rec4, Rec5, Rec6, Rec7, Rec8, RecI, RecP, Tabled};
 
-/// The most bytes of an unfinished line that are kept: a line of 228 bytes and a CR.
+/// The most bytes of an unfinished line that are kept: those of the longest line and a CR.
 const LINE_BYTES: usize = 229;
 
-/// The bytes of a read.
-const READ_BYTES: usize = 4096;
+/// The most bytes of one read.
+pub const READ_BYTES: usize = 4096;
 
-/// The most records of one type.
-pub(crate) const MOST_RECORDS: u64 = 10_000_000;
+/// The most bytes that are taken without a fault: of nine types 10,000,000 lines each, all of 228 bytes with CR and LF, and
+/// what is kept of the line after them.
+pub const MOST_BYTES: u64 = 20_700_000_229;
 
 /// Takes the bytes of a set of parts, one part after the other and each in any pieces, and judges each line when it
 /// ends. Its record goes to a [`Keeper`], and the loader itself keeps the unfinished line alone. After a fault every call
@@ -41,7 +42,7 @@ pub(crate) const MOST_RECORDS: u64 = 10_000_000;
 pub struct LoaderInto<K> {
     kept: K,
     counts: [u64; 128],
-    line: ArrayVec<u8, 229>,
+    line: ArrayVec<u8, LINE_BYTES>,
     parts: u64,
     judged: u64,
     limit: u64,
@@ -68,7 +69,7 @@ fn no_counts() -> [u64; 128]
 impl<K: Keeper> LoaderInto<K> {
     /// A loader that was fed nothing. It takes 10,000,000 records of one type, and no more; making it takes no memory.
     pub fn new(alloc: Global) -> LoaderInto<K>
-        ensures fed { WasFedInto K.holds 10000000 result [] [] }
+        ensures fed { WasFedInto K.holds MOST_RECORDS result [] [] }
         ensures parts { result.parts ≡ 0 }
         ensures fault { result.fault ≡ None }
     {
@@ -78,7 +79,7 @@ impl<K: Keeper> LoaderInto<K> {
     /// A loader that was fed nothing, for at most `limit` records of each type, from 1 to 10,000,000. It takes no memory.
     pub fn with_limit(alloc: Global, limit: u64) -> LoaderInto<K>
         requires some { 1 ≤ limit }
-        requires most { limit ≤ 10000000 }
+        requires most { limit ≤ MOST_RECORDS }
         ensures fed { WasFedInto K.holds limit result [] [] }
         ensures parts { result.parts ≡ 0 }
         ensures fault { result.fault ≡ None }
@@ -130,7 +131,7 @@ impl<K: Keeper> LoaderInto<K> {
         requires room { self.old.parts < u64.MAX }
         requires begins { take 1 line.now ≡ L.RTYPE ∷ [] }
         ensures judges { Lifts K.holds (JudgesAs line.now (as_record L.as_record (judged_as L.LEN L.reading line.now))) self.old result self.new }
-        ensures short { OnOk result (length line.now ≤ 228) }
+        ensures short { OnOk result (length line.now ≤ LONGEST_LINE) }
         ensures same_part { IsSamePart self.old self.new }
         ensures unfinished { self.new.unfinished ≡ self.old.unfinished }
         ensures judged { OnOk result (self.new.judged ≡ self.old.judged + 1) }
@@ -160,7 +161,7 @@ impl<K: Keeper> LoaderInto<K> {
     fn judge_next(&mut self, line: &[u8]) -> Result<(), LoadFault>
         requires { self.old.parts < u64.MAX }
         ensures judges { Lifts K.holds (Judges line.now) self.old result self.new }
-        ensures short { OnOk result (length line.now ≤ 228) }
+        ensures short { OnOk result (length line.now ≤ LONGEST_LINE) }
         ensures same_part { IsSamePart self.old self.new }
         ensures unfinished { self.new.unfinished ≡ self.old.unfinished }
         ensures judged { OnOk result (self.new.judged ≡ self.old.judged + 1) }
@@ -184,7 +185,7 @@ impl<K: Keeper> LoaderInto<K> {
     // The 230th byte of a line has come: what came of the line is judged, and is too long or of no known type.
     fn refuse_long(&mut self, bytes: &[u8]) -> Result<(), LoadFault>
         requires room { self.old.parts < u64.MAX }
-        requires too_long { 229 < length self.old.unfinished + length bytes.now }
+        requires too_long { LINE_BYTES < length self.old.unfinished + length bytes.now }
         requires no_feed { IsWithoutLineFeed bytes.now }
         ensures takes { Lifts K.holds (Takes bytes.now) self.old result self.new }
         ensures same_part { IsSamePart self.old self.new }
@@ -204,8 +205,8 @@ impl<K: Keeper> LoaderInto<K> {
         ensures takes { Lifts K.holds (Takes bytes.now) self.old result self.new }
         ensures same_part { IsSamePart self.old self.new }
         ensures used { OnOk result (bytes_used self.new ≡ bytes_used self.old + length bytes.now) }
-        ensures most { OnOk result (bytes_used self.new ≤ 20700000229) }
-        ensures short { OnOk result (length self.new.unfinished < 230) }
+        ensures most { OnOk result (bytes_used self.new ≤ MOST_BYTES) }
+        ensures short { OnOk result (length self.new.unfinished ≤ LINE_BYTES) }
         ensures no_device { IfErr result IsNotDevice }
     {
         match self.line.try_extend_from_slice(bytes) {
@@ -248,8 +249,8 @@ impl<K: Keeper> LoaderInto<K> {
         ensures takes { Lifts K.holds (Takes piece.now) self.old result self.new }
         ensures same_part { IsSamePart self.old self.new }
         ensures used { OnOk result (bytes_used self.old + length piece.now ≤ bytes_used self.new) }
-        ensures most { OnOk result (bytes_used self.new ≤ 20700000229) }
-        ensures short { OnOk result (length self.new.unfinished < 230) }
+        ensures most { OnOk result (bytes_used self.new ≤ MOST_BYTES) }
+        ensures short { OnOk result (length self.new.unfinished ≤ LINE_BYTES) }
         ensures no_device { IfErr result IsNotDevice }
     {
         // From here on the loader's invariant is known: no LF stands in what is unfinished.
@@ -297,7 +298,7 @@ impl<K: Keeper> LoaderInto<K> {
         requires parts { self.old.parts < u64.MAX }
         requires some_room { 0 < length room.old }
         requires failures { R.failed source.old < u64.MAX }
-        ensures reads { (taken : List ℕ) × Gave R.remaining R.given source.old source.new taken × (length taken < 20700000230 + length room.old)
+        ensures reads { (taken : List ℕ) × Gave R.remaining R.given source.old source.new taken × (length taken ≤ MOST_BYTES + length room.old)
             × Lifts K.holds (Reads taken (IsAtEnd (R.remaining source.new))) self.old result self.new }
         ensures stops { StopsThere R.remaining R.given R.reads source.old source.new (TakesWell K.holds self.old) }
         ensures limit { self.new.limit ≡ self.old.limit }
@@ -388,7 +389,7 @@ impl<K: Keeper> LoaderInto<K> {
         requires parts { self.old.parts < u64.MAX }
         requires failures { R.failed source.old < u64.MAX }
         // What the source gave went into the open part, and no endless source keeps the call from its return.
-        ensures fed { (taken : List ℕ) × Gave R.remaining R.given source.old source.new taken × (length taken ≤ 20700004325)
+        ensures fed { (taken : List ℕ) × Gave R.remaining R.given source.old source.new taken × (length taken ≤ MOST_BYTES + READ_BYTES)
             × FedPart (WasFedInto K.holds) self.old taken (IsAtEnd (R.remaining source.new)) result self.new }
         // Nothing is read past the read that brought a fault.
         ensures stops { self.old.fault ≡ None
@@ -416,7 +417,7 @@ impl<K: Keeper> LoaderInto<K> {
         requires some_room { 0 < length room.old }
         requires failures { R.failed source.old < u64.MAX }
         // What the source gave went into the open part, and no endless source keeps the call from its return.
-        ensures fed { (taken : List ℕ) × Gave R.remaining R.given source.old source.new taken × (length taken < 20700000230 + length room.old)
+        ensures fed { (taken : List ℕ) × Gave R.remaining R.given source.old source.new taken × (length taken ≤ MOST_BYTES + length room.old)
             × FedPart (WasFedInto K.holds) self.old taken (IsAtEnd (R.remaining source.new)) result self.new }
         // Nothing is read past the read that brought a fault.
         ensures stops { self.old.fault ≡ None

@@ -1,4 +1,4 @@
-use Rattle.std.proofs.Common.{◌≡◌, ℕ, length, map, sym, ◌∙◌, lit≤, ltb, eqb, w8}
+use Rattle.std.proofs.Common.{◌≡◌, length, map, sym, ◌∙◌, lit≤, ltb, w8}
 use Rattle.std.proofs.lemmas.Bool.{eqb-true}
 use Rattle.std.proofs.lemmas.Simd.{bitmask_splat, length-chunk}
 use lib.Lanes.{chunk, mask_l}

@@ -1,4 +1,4 @@
-use Rattle.std.proofs.Common.{◌≡◌, ℕ, List, [], ◌∷◌, ◌++◌, Result, Ok, Err, sym, ap, subst, ◌∙◌}
+use Rattle.std.proofs.Common.{ℕ, List, ◌++◌, Result, Ok, Err}
 use Rattle.tl_load.specs.Loaded.{WasFed}
 use Rattle.tl_load.specs.Keeping.{WasFedInto}
 use Rattle.tl_load.proofs.Listed.{holds_list, into_of, of_into, listed_after, at_fault}

@@ -1,4 +1,4 @@
-use Rattle.std.proofs.Common.{◌≡◌, ℕ, List, [], ◌∷◌, ◌++◌, Result, Ok, Err, sym, ap, subst, ◌∙◌, ◌⊎◌, inl, inr}
+use Rattle.std.proofs.Common.{ℕ, List, [], ◌∷◌, ◌++◌, Result, Ok, Err, ap, ◌∙◌, ◌⊎◌, inl, inr}
 use Rattle.tl_load.specs.Loaded.{Loaded, WasFed}
 use Rattle.std.specs.Prelude.{MatchResult}
 use Rattle.tl_load.specs.declared.fault.LoadFault.{LoadFault}

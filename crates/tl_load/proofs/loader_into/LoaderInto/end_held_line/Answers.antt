@@ -1,4 +1,4 @@
-use Rattle.std.proofs.Common.{◌≡◌, [], append-nil, refl, sym, ap, subst, ◌∙◌}
+use Rattle.std.proofs.Common.{[], append-nil, refl, sym, ap, subst, ◌∙◌}
 use Rattle.tl_load.specs.Lines.{IsWithoutLineFeed, without_return}
 use Rattle.tl_load.specs.Loaded.{Loaded}
 use Rattle.tl_load.specs.Keeping.{seen}

@@ -1,5 +1,5 @@
-use Rattle.std.proofs.Common.{◌≡◌, ◌<◌, ℕ, List, length, refl, sym, ap, subst, ◌∙◌}
-use Rattle.tl_load.specs.Lines.{IsWithoutLineFeed, without_return}
+use Rattle.std.proofs.Common.{refl, sym, ap, ◌∙◌}
+use Rattle.tl_load.specs.Lines.{without_return}
 use Rattle.tl_load.specs.Loaded.{Loaded}
 use Rattle.tl_load.specs.Keeping.{seen}
 use Rattle.tl_load.proofs.Steps.{ends_empty, ends_part}

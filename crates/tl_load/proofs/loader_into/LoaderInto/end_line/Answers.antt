@@ -2,16 +2,16 @@ use Rattle.std.proofs.Common.{◌≡◌, ◌≤◌, ◌+◌, ◌*◌, ℕ, Resul
 use Rattle.std.specs.Prelude.{OnOk}
 use Rattle.std.proofs.lemmas.Result.{err_from_is_err_and}
 use Rattle.tl_load.specs.Lines.{IsWithoutLineFeed, without_return}
-use Rattle.tl_load.specs.Loaded.{Loaded}
 use Rattle.tl_load.specs.declared.fault.LoadFault.{LoadFault}
 use Rattle.tl_load.specs.Keeping.{seen, total}
 use Rattle.tl_load.proofs.LineLemmas.{without_return_length}
 use Rattle.tl_load.proofs.Steps.{ends_line, takes_then, fault_then}
 use Rattle.tl_load.proofs.Views.{empty_is}
 use Rattle.tl_load.proofs.loader_into.LoaderInto.end_line.Goals as goal
+use Rattle.tl_layout.specs.declared.layout.TheConstants.{LONGEST_LINE}
 
 -- a line that was judged used as many bytes as it has with its end, and at most 230
-line_used : {T : Type 0} (r : Result T LoadFault) (line bytes was now open_was : ℕ) → OnOk r (line ≤ 228) → OnOk r (now ≡ was + 1)
+line_used : {T : Type 0} (r : Result T LoadFault) (line bytes was now open_was : ℕ) → OnOk r (line ≤ LONGEST_LINE) → OnOk r (now ≡ was + 1)
     → bytes ≤ line + 1 → open_was ≡ 0 → (open_now : ℕ) → OnOk r (230 * was + open_was + bytes + 1 ≤ 230 * now + open_now)
 line_used (Ok x) line bytes was now open_was short one dropped none open_now = omega arith
 line_used (Err f) line bytes was now open_was short one dropped none open_now = tt

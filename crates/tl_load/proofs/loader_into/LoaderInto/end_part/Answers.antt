@@ -1,6 +1,6 @@
-use Rattle.std.proofs.Common.{◌≡◌, ℕ, List, [], ◌∷◌, ◌++◌, sym, ap, ◌∙◌}
+use Rattle.std.proofs.Common.{◌≡◌, ℕ, List, [], ◌∷◌, ◌++◌}
 use Rattle.std.specs.Prelude.{Some, None}
-use Rattle.tl_load.specs.Keeping.{LoadedInto, WasFedInto}
+use Rattle.tl_load.specs.Keeping.{WasFedInto}
 use Rattle.tl_load.proofs.Histories.{fed_closed, fed_closed_standing, told_at, with_fault_told, stands_at, some_after}
 use Rattle.tl_load.specs.Steps.{Closes}
 use Rattle.tl_load.proofs.loader_into.LoaderInto.end_part.Given as given

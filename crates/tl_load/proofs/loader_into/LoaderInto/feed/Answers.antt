@@ -1,6 +1,6 @@
-use Rattle.std.proofs.Common.{◌≡◌, ℕ, List, ◌++◌, sym, ap, ◌∙◌}
+use Rattle.std.proofs.Common.{◌≡◌, ℕ, List, ◌++◌}
 use Rattle.std.specs.Prelude.{Some, None}
-use Rattle.tl_load.specs.Keeping.{LoadedInto, WasFedInto}
+use Rattle.tl_load.specs.Keeping.{WasFedInto}
 use Rattle.tl_load.specs.Steps.{Takes}
 use Rattle.tl_load.proofs.Histories.{fed_piece, fed_standing, stands_at, told_at, with_fault_told, well_of_step, some_after}
 use Rattle.tl_load.proofs.loader_into.LoaderInto.feed.Given as given

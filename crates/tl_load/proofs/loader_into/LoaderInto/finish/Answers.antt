@@ -1,9 +1,9 @@
-use Rattle.std.proofs.Common.{◌≡◌, ℕ, List, sym, ap, subst, ◌∙◌}
+use Rattle.std.proofs.Common.{◌≡◌, ℕ, List, sym, subst}
 use Rattle.std.specs.Prelude.{Some, None}
 use Rattle.std.proofs.lemmas.Result.{err_from_is_err_and}
 use Rattle.tl_layout.specs.declared.record_type.Record.{Record}
 use Rattle.tl_load.specs.Choice.{tiger}
-use Rattle.tl_load.specs.Outcome.{Accepts, FaultAt}
+use Rattle.tl_load.specs.Outcome.{FaultAt}
 use Rattle.tl_load.specs.Loaded.{IsOfLines, all_parts}
 use Rattle.tl_load.specs.Keeping.{LoadedInto, WasFedInto}
 use Rattle.tl_load.proofs.Histories.{finished, finished_fault, finished_standing}

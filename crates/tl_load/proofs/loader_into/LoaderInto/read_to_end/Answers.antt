@@ -1,24 +1,24 @@
-use Rattle.std.proofs.Common.{◌≡◌, ℕ, ◌+◌, ◌≤◌, ◌<◌, List, [], ◌++◌, length, take, refl, sym, ap, subst, ◌∙◌, arith}
+use Rattle.std.proofs.Common.{◌≡◌, ℕ, ◌≤◌, ◌<◌, [], ◌++◌, length, take, refl, sym, ap, subst, ◌∙◌, arith}
 use Rattle.std.proofs.lemmas.Result.{err_from_is_err_and}
 use Rattle.std.proofs.lemmas.List.{length-append, length-take}
 use Rattle.std.specs.Io.KnownBytes.{Consumes}
-use Rattle.tl_load.specs.Sources.{RoseBy, StopsThere}
+use Rattle.tl_load.specs.Sources.{RoseBy}
 use Rattle.tl_load.specs.Lines.{IsWithoutLineFeed}
-use Rattle.tl_load.specs.Keeping.{LoadedInto, seen, bytes_used}
-use Rattle.tl_load.specs.Steps.{TakesWell}
+use Rattle.tl_load.specs.Keeping.{seen, bytes_used}
 use Rattle.tl_load.proofs.Counts.{most_records}
 use Rattle.tl_load.proofs.ReadSteps.{gave_none, gave_more, gave_same, gave_kept}
 use Rattle.tl_load.proofs.Steps.{takes_none, takes_both, reads_closed, reads_fault}
 use Rattle.tl_load.proofs.loader_into.LoaderInto.read_to_end.Goals as goal
+use Rattle.tl_load.specs.declared.loader_into.TheConstants.{LINE_BYTES, MOST_BYTES}
 
 pub loop-count-init : goal.loop-count-init
 loop-count-init g c =
     let s = c.self.inside in
-    let most : bytes_used c.args.self.now ≤ 20700000229 =
+    let most : bytes_used c.args.self.now ≤ MOST_BYTES =
     rw (← c.self.view_is)
     (omega (arith, most_records s.counts s.line.items s.parts s.judged s.limit c.self.invariant, c.self.invariant.short)) in
     let none : IsWithoutLineFeed c.args.self.now.unfinished = rw (← c.self.view_is) c.self.invariant.no_feed in
-    let short : length c.args.self.now.unfinished < 230 = rw (← c.self.view_is) (omega (arith, c.self.invariant.short)) in
+    let short : length c.args.self.now.unfinished ≤ LINE_BYTES = rw (← c.self.view_is) (omega (arith, c.self.invariant.short)) in
     record {
       reads = ([], gave_none _ _ _, omega arith, λ records kept. (records, kept, takes_none (seen c.args.self.now records) none));
       same_part = record { parts = refl; limit = refl; fault = refl };

@@ -3,7 +3,7 @@ use Rattle.std.specs.Prelude.{Option, Some, None, MatchOption}
 use Rattle.std.proofs.lemmas.Result.{err_from_is_err_and}
 use Rattle.std.proofs.lemmas.List.{length-append}
 use Rattle.tl_load.specs.Lines.{IsWithoutLineFeed}
-use Rattle.tl_load.specs.Keeping.{LoadedInto, seen}
+use Rattle.tl_load.specs.Keeping.{seen}
 use Rattle.tl_load.proofs.Steps.{leaves_all, leaves_after, leaves_fault, leaves_taken}
 use Rattle.tl_load.proofs.Views.{no_feed, no_feed_below, cut_at, rest_of}
 use Rattle.tl_load.proofs.loader_into.LoaderInto.take_piece.Goals as goal
