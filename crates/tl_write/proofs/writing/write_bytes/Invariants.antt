@@ -1,0 +1,13 @@
+use Rattle.std.proofs.Common.{ℕ, List, ◌≡◌, ◌≤◌, ◌++◌, ◌-◌, length, take}
+use Rattle.tl_write.proofs.writing.write_bytes.Given as goal
+
+-- what went out so far is the beginning of the text, and nothing has failed
+abbrev pub invariant-loop-written : goal.invariant-loop-written
+invariant-loop-written g l = record {
+  within : l.written ≤ length l.bytes;
+  failures : g.W.Sink.failed l.w ≡ g.W.Sink.failed l.initial.w;
+  out : (held : List ℕ) → g.W.Sink.holds l.initial.w held → g.W.Sink.holds l.w (held ++ take l.written l.bytes);
+}
+
+abbrev pub decreases-loop-written : goal.decreases-loop-written
+decreases-loop-written g l = length l.bytes - l.written

@@ -1,0 +1,85 @@
+//! A sink for trying out what writes to a sink.
+
+ghost use Rattle.std.specs.Prelude.{◌≡◌, ◌≤◌, ◌<◌, ◌+◌, ◌-◌, ◌++◌, ℕ, List, [], length, take, min, IfOk, MatchResult, is_ok, if◌then◌else◌, ◌↔◌};
+ghost use Rattle.std.specs.Result.{IsErr};
+
+use crate::sink::Sink;
+use std::marker::Model;
+use tl_layout::DeviceFault;
+
+/// A sink into lent room: it takes few bytes a write, and fails once its room is full.
+#[derive(Drop)]
+pub struct SlowSink<'a> {
+    room: &'a mut [u8],
+    held: usize,
+    most: usize,
+    failures: u64,
+}
+
+impl<'a> Model for SlowSink<'a> {
+    ghost use Rattle.std.specs.Prelude.{◌<◌, ◌≤◌, length, take};
+    ghost use Rattle.tl_write.specs.Room.{LentRoom};
+
+    ghost Value = { LentRoom };
+
+    ghost view = { λ s. record { held = take s.held s.room.now; room = length s.room.now; most = s.most; failures = s.failures } };
+
+    ghost invariant = { λ s. (0 < s.most) × (s.held ≤ length s.room.now) };
+}
+
+impl<'a> SlowSink<'a> {
+    /// A sink that takes at most `most` bytes a write, and holds as many as the room has.
+    pub fn new(room: &'a mut [u8], most: usize) -> Self
+        requires { 0 < most }
+        ensures { result ≡ record { held = []; room = length room.old; most = most; failures = 0 } }
+    {
+        SlowSink {
+            room,
+            held: 0,
+            most,
+            failures: 0,
+        }
+    }
+
+    /// The bytes that it took.
+    pub fn held(&self) -> &[u8]
+        ensures { result.now ≡ self.now.held }
+    {
+        &self.room[..self.held]
+    }
+}
+
+impl Sink for SlowSink<'_> {
+    ghost failed = { λ s. s.failures };
+
+    ghost holds = { λ s held. s.held ≡ held };
+
+    fn failures(&self) -> u64 {
+        self.failures
+    }
+
+    fn write(&mut self, buf: &[u8]) -> Result<usize, DeviceFault>
+        requires { self.old.failures < u64.MAX }
+        ensures failures { self.new.failures ≡ (if is_ok result then self.old.failures else self.old.failures + 1) }
+        ensures bound { IfOk result (λ n. n ≤ length buf.now) }
+        ensures some { 0 < length buf.now → IfOk result (λ n. 1 ≤ n) }
+        ensures bytes { (held : List ℕ) → self.old.held ≡ held
+            → MatchResult result (λ n. self.new.held ≡ held ++ take n buf.now) (λ _. self.new.held ≡ held) }
+        // As many as a write takes, as the buffer has, or as there is room for, whichever is least.
+        ensures count { IfOk result (λ n. n ≡ min self.old.most (min (length buf.now) (self.old.room - length self.old.held))) }
+        // It fails where there are bytes and no room.
+        ensures fails { IsErr result ↔ ((0 < length buf.now) × (length self.old.held ≡ self.old.room)) }
+        ensures room { self.new.room ≡ self.old.room }
+        ensures most { self.new.most ≡ self.old.most }
+    {
+        let count = self.most.min(buf.len().min(self.room.len() - self.held));
+        if count == 0 && !buf.is_empty() {
+            self.failures += 1;
+            return Err(DeviceFault);
+        }
+        let place = &mut self.room[self.held..self.held + count];
+        place.copy_from_slice(&buf[..count]);
+        self.held += count;
+        Ok(count)
+    }
+}

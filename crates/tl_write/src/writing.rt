@@ -1,0 +1,30 @@
+//! Writing a finished text.
+
+ghost use Rattle.std.specs.Prelude.{◌≡◌, ◌<◌, ◌+◌, ◌++◌, ℕ, List, length, take, IfErr, IfOk, MatchResult, is_ok, if◌then◌else◌};
+
+use crate::fault::WriteFault;
+use crate::sink::Sink;
+
+/// Writes the bytes, by as many writes as the sink needs, and answers how many they are. Nothing is tried again: the first
+/// failure is told, and then exactly the first `written` bytes went out. It takes no memory.
+pub fn write_bytes<W: Sink>(bytes: &[u8], w: &mut W) -> Result<u64, WriteFault>
+    requires { W.failed w.old < u64.MAX }
+    ensures length { IfOk result (λ n. n ≡ length bytes.now) }
+    ensures short { IfErr result (λ f. f.written < length bytes.now) }
+    ensures failures { W.failed w.new ≡ (if is_ok result then W.failed w.old else W.failed w.old + 1) }
+    ensures bytes { (held : List ℕ) → W.holds w.old held
+        → MatchResult result (λ _. W.holds w.new (held ++ bytes.now)) (λ f. W.holds w.new (held ++ take f.written bytes.now)) }
+{
+    let mut written = 0;
+    while written < bytes.len() {
+        match w.write(&bytes[written..]) {
+            Ok(count) => written += count,
+            Err(_) => {
+                return Err(WriteFault {
+                    written: written as u64,
+                });
+            }
+        }
+    }
+    Ok(bytes.len() as u64)
+}
