@@ -1,0 +1,31 @@
+use Rattle.std.proofs.Common.{◌≡◌, ◌≤◌, ◌<◌, ◌+◌, ◌++◌, ◌∙◌, ℕ, List, arith, subst, sym, ap, take, drop, length, length-drop, append_assoc, min}
+use Rattle.std.proofs.lemmas.List.{take-append-drop, length-append, length-take}
+use Rattle.tl_write.specs.GoingOut.{IsGoingOut, HoldsBeginning, up_to_most}
+use Rattle.tl_write.proofs.text_buffer.TextBuffer.send.Goals as goal
+
+-- a sink that failed holds what was sent before, and the first bytes of what waited
+stopped : {W : Type 0} (holds : W → List ℕ → Type 0) (held text sent waiting : List ℕ) (n total : ℕ) (sink : W)
+    → text ≡ sent ++ waiting → n < length waiting → total ≡ up_to_most (length sent + n)
+    → holds sink ((held ++ sent) ++ take n waiting) → HoldsBeginning holds held text total sink
+stopped holds held text sent waiting n total sink is short count arrived = record {
+  sent = sent ++ take n waiting;
+  rest = drop n waiting;
+  text_is = is ∙ ap (λ w. sent ++ w) (sym (take-append-drop n waiting)) ∙ sym (append_assoc sent (take n waiting) (drop n waiting));
+  some_left = omega (arith, length-drop n waiting, short);
+  count = count ∙ ap up_to_most (sym (length-append sent (take n waiting) ∙ ap (λ m. length sent + m) (omega (arith, length-take n waiting, short))));
+  arrived = subst (holds sink) (append_assoc held sent (take n waiting)) arrived;
+}
+
+-- a count that stops at the greatest number, and some more
+capped : (a s n total : ℕ) → total ≡ min (s + n) 18446744073709551615 → s ≡ up_to_most a → total ≡ up_to_most (a + n)
+capped a s n total p q = omega (arith, p, q)
+
+pub returns-in-Err-clause-sent : goal.returns-in-Err-clause-sent
+returns-in-Err-clause-sent g c held text h =
+    let waiting = take c.self.inside.filled c.self.inside.bytes in
+    let n = c.in-Err.fault.written in
+    let going : IsGoingOut g.W.Sink.holds held text (record { waiting = waiting; sent = c.self.inside.sent }) c.args.w.now =
+    subst (λ b. IsGoingOut g.W.Sink.holds held text b c.args.w.now) (sym c.self.view_is) h in
+    stopped g.W.Sink.holds held text going.sent waiting n c.saturating_add.result c.write_bytes.new.w going.text_is c.in-Err.ensures.short
+    (capped (length going.sent) c.self.inside.sent n c.saturating_add.result c.saturating_add.ensures going.count)
+    (c.in-Err.ensures.bytes (held ++ going.sent) going.arrived)

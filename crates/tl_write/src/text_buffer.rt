@@ -1,0 +1,131 @@
+//! A buffer between the lines of a text and the sink that it goes out to.
+
+ghost use Rattle.std.specs.Prelude.{◌≡◌, ◌<◌, ◌≤◌, ◌+◌, ◌++◌, ◌∷◌, ℕ, List, [], length, MatchResult, OnOk, is_ok, if◌then◌else◌};
+ghost use Rattle.tl_write.specs.GoingOut.{HoldsBeginning, IsGoingOut, up_to_most};
+
+use crate::fault::WriteFault;
+use crate::sink::Sink;
+use crate::writing::write_bytes;
+use std::marker::Model;
+use tl_layout::Layout;
+
+/// How many bytes the buffer has room for: some hundred lines.
+const BUFFER_BYTES: usize = 65_536;
+
+/// The lines that wait to be sent, and how many bytes were sent before them.
+#[derive(Drop)]
+pub(crate) struct TextBuffer {
+    bytes: [u8; BUFFER_BYTES],
+    filled: usize,
+    sent: u64,
+}
+
+impl Model for TextBuffer {
+    ghost use Rattle.std.specs.Prelude.{◌≤◌, take, length};
+    ghost use Rattle.tl_write.specs.GoingOut.{Waiting};
+
+    ghost Value = { Waiting };
+
+    ghost view = { λ b. record { waiting = take b.filled b.bytes; sent = b.sent } };
+
+    ghost invariant = { λ b. b.filled ≤ length b.bytes };
+}
+
+/// Writes the line of a record, its canonical spelling and LF, into room of its length.
+fn put_line_into<L: Layout>(found: &L, room: &mut [u8])
+    requires { length room.old ≡ L.LEN + 1 }
+    ensures { room.new ≡ L.spelling found.now ++ 10 ∷ [] }
+{
+    let len = L::LEN;
+    found.put(&mut room[..len]);
+    room[len] = b'\n';
+}
+
+impl TextBuffer {
+    /// A buffer of nothing.
+    pub(crate) fn new() -> TextBuffer
+        ensures { result ≡ record { waiting = []; sent = 0 } }
+    {
+        TextBuffer {
+            bytes: [0; BUFFER_BYTES],
+            filled: 0,
+            sent: 0,
+        }
+    }
+
+    /// Sends what waits.
+    pub(crate) fn send<W: Sink>(&mut self, w: &mut W) -> Result<(), WriteFault>
+        requires { W.failed w.old < u64.MAX }
+        ensures failures { W.failed w.new ≡ (if is_ok result then W.failed w.old else W.failed w.old + 1) }
+        ensures empty { OnOk result (self.new.waiting ≡ []) }
+        ensures sent { (held text : List ℕ) → IsGoingOut W.holds held text self.old w.old
+            → MatchResult result (λ _. IsGoingOut W.holds held text self.new w.new)
+            (λ f. HoldsBeginning W.holds held text f.written w.new) }
+    {
+        match write_bytes(&self.bytes[..self.filled], w) {
+            Ok(count) => {
+                self.sent = self.sent.saturating_add(count);
+                self.filled = 0;
+                Ok(())
+            }
+            Err(fault) => Err(WriteFault {
+                written: self.sent.saturating_add(fault.written),
+            }),
+        }
+    }
+
+    /// Sends what waits if there isn't room for so many bytes more.
+    fn make_room<W: Sink>(&mut self, count: usize, w: &mut W) -> Result<(), WriteFault>
+        requires failures { W.failed w.old < u64.MAX }
+        requires count { count ≤ BUFFER_BYTES }
+        ensures failures { W.failed w.new ≡ (if is_ok result then W.failed w.old else W.failed w.old + 1) }
+        ensures room { OnOk result (length self.new.waiting + count ≤ BUFFER_BYTES) }
+        ensures sent { (held text : List ℕ) → IsGoingOut W.holds held text self.old w.old
+            → MatchResult result (λ _. IsGoingOut W.holds held text self.new w.new)
+            (λ f. HoldsBeginning W.holds held text f.written w.new) }
+    {
+        if count <= BUFFER_BYTES - self.filled {
+            return Ok(());
+        }
+        self.send(w)
+    }
+
+    /// Adds the line of a record: its canonical spelling and LF.
+    fn append<L: Layout>(&mut self, found: &L)
+        requires { length self.old.waiting + L.LEN < BUFFER_BYTES }
+        ensures { self.new ≡ record { waiting = self.old.waiting ++ (L.spelling found.now ++ 10 ∷ []); sent = self.old.sent } }
+    {
+        let end = self.filled + L::LEN + 1;
+        put_line_into(found, &mut self.bytes[self.filled..end]);
+        self.filled = end;
+    }
+
+    /// Adds the line of a record. What waits is sent before, where there is no room for the line.
+    pub(crate) fn put_line<L: Layout, W: Sink>(
+        &mut self,
+        found: &L,
+        w: &mut W,
+    ) -> Result<(), WriteFault>
+        requires { W.failed w.old < u64.MAX }
+        ensures failures { W.failed w.new ≡ (if is_ok result then W.failed w.old else W.failed w.old + 1) }
+        ensures put { (held text : List ℕ) → IsGoingOut W.holds held text self.old w.old
+            → MatchResult result (λ _. IsGoingOut W.holds held (text ++ (L.spelling found.now ++ 10 ∷ [])) self.new w.new)
+            (λ f. HoldsBeginning W.holds held text f.written w.new) }
+    {
+        self.make_room(L::LEN + 1, w)?;
+        self.append(found);
+        Ok(())
+    }
+
+    /// Sends what waits, and answers how many bytes the whole text has.
+    pub(crate) fn finish<W: Sink>(mut self, w: &mut W) -> Result<u64, WriteFault>
+        requires { W.failed w.old < u64.MAX }
+        ensures failures { W.failed w.new ≡ (if is_ok result then W.failed w.old else W.failed w.old + 1) }
+        ensures whole { (held text : List ℕ) → IsGoingOut W.holds held text self w.old
+            → MatchResult result (λ n. W.holds w.new (held ++ text) × (n ≡ up_to_most (length text)))
+            (λ f. HoldsBeginning W.holds held text f.written w.new) }
+    {
+        self.send(w)?;
+        Ok(self.sent)
+    }
+}
