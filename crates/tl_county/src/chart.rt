@@ -1,6 +1,6 @@
 //! A county however it is kept.
 
-ghost use Rattle.std.specs.Prelude.{◌≡◌, Some, length, is_some, IfSome, option_map, slice_get};
+ghost use Rattle.std.specs.Prelude.{◌≡◌, ◌<◌, Some, length, is_some, IfSome, option_map, slice_get};
 ghost use Rattle.std.specs.Option.{option_and_then};
 ghost use Rattle.std.specs.Ordering.{nat_cmp};
 ghost use Rattle.tl_layout.specs.ByType.{of_number};
@@ -15,7 +15,8 @@ use crate::record_keys::PolygonKey;
 use tl_layout::{Body1, Body5, Body7, BodyI, BodyP, Point, Ranges, Rec8, Side};
 
 /// A county, however it is kept. Places count from 0 along the ascending lists of TLIDs, FEATs, polygons, LANDs and nodes;
-/// a place or a number that isn't there is answered by `None`. No call takes memory.
+/// a place or a number that isn't there is answered by `None`. Calls that answer no `Option` for what is at a place ask that it
+/// is there. No call takes memory.
 pub trait Chart {
     /// The county.
     ghost county: { Self → County };
@@ -159,4 +160,149 @@ pub trait Chart {
 
     /// The county is one as linking makes it.
     ghost is_county: { (chart : Self) → IsCounty (county chart) };
+
+    /// The TLID of the chain at a place, which is below the count of chains.
+    final fn tlid(&self, place: usize) -> u64
+        requires { place < length (county self.now).chains }
+        ensures { Some result ≡ slice_get (tlids (county self.now)) place }
+    {
+        self.tlid_at(place).unwrap()
+    }
+
+    /// The FEAT of the name at a place, which is below the count of names.
+    final fn feat(&self, place: usize) -> u32
+        requires { place < length (county self.now).names }
+        ensures { Some result ≡ slice_get (feats (county self.now)) place }
+    {
+        self.feat_at(place).unwrap()
+    }
+
+    /// The key of the polygon at a place, which is below the count of polygons.
+    final fn polygon_key(&self, place: usize) -> PolygonKey
+        requires { place < length (county self.now).polygons }
+        ensures { Some result ≡ slice_get (polygon_keys (county self.now)) place }
+    {
+        self.polygon_key_at(place).unwrap()
+    }
+
+    /// The LAND of the landmark at a place, which is below the count of landmarks.
+    final fn land(&self, place: usize) -> u64
+        requires { place < length (county self.now).landmarks }
+        ensures { Some result ≡ slice_get (lands (county self.now)) place }
+    {
+        self.land_at(place).unwrap()
+    }
+
+    /// The number of the node at a place, which is below the count of nodes.
+    final fn node(&self, place: usize) -> u64
+        requires { place < length (nodes (county self.now)) }
+        ensures { Some result ≡ slice_get (nodes (county self.now)) place }
+    {
+        self.node_at(place).unwrap()
+    }
+
+    /// The content of the type 1 record of the chain at a place, which is below the count of chains.
+    final fn chain_body(&self, place: usize) -> Body1
+        requires { place < length (county self.now).chains }
+        ensures { Some result ≡ option_map (λ c. c.body) (chain_at (county self.now) place) }
+    {
+        self.chain_body_at(place).unwrap()
+    }
+
+    /// The content of the type I record of the chain at a place, which is below the count of chains.
+    final fn link_body(&self, place: usize) -> BodyI
+        requires { place < length (county self.now).chains }
+        ensures { Some result ≡ option_map (λ c. c.link_body) (chain_at (county self.now) place) }
+    {
+        self.link_body_at(place).unwrap()
+    }
+
+    /// The node where the chain at a place starts, or none; the place is below the count of chains.
+    final fn start_node(&self, place: usize) -> Option<u64>
+        requires { place < length (county self.now).chains }
+        ensures { Some result ≡ option_map (λ c. c.start_node) (chain_at (county self.now) place) }
+    {
+        self.start_node_at(place).unwrap()
+    }
+
+    /// The node where the chain at a place ends, or none; the place is below the count of chains.
+    final fn end_node(&self, place: usize) -> Option<u64>
+        requires { place < length (county self.now).chains }
+        ensures { Some result ≡ option_map (λ c. c.end_node) (chain_at (county self.now) place) }
+    {
+        self.end_node_at(place).unwrap()
+    }
+
+    /// The left side of the chain at a place, which is below the count of chains.
+    final fn left(&self, place: usize) -> Side
+        requires { place < length (county self.now).chains }
+        ensures { Some result ≡ option_map (λ c. c.left) (chain_at (county self.now) place) }
+    {
+        self.left_at(place).unwrap()
+    }
+
+    /// The right side of the chain at a place, which is below the count of chains.
+    final fn right(&self, place: usize) -> Side
+        requires { place < length (county self.now).chains }
+        ensures { Some result ≡ option_map (λ c. c.right) (chain_at (county self.now) place) }
+    {
+        self.right_at(place).unwrap()
+    }
+
+    /// A point of the chain at a place, from its start node on; the point is below the count of its points.
+    final fn point(&self, place: usize, point: usize) -> Point
+        requires { point < length (points_of (chain_at (county self.now) place)) }
+        ensures { Some result ≡ slice_get (points_of (chain_at (county self.now) place)) point }
+    {
+        self.point_at(place, point).unwrap()
+    }
+
+    /// The FEAT of a further name of the chain at a place; the name is below the count of its names.
+    final fn chain_feat(&self, place: usize, name: usize) -> u32
+        requires { name < length (feats_of (chain_at (county self.now) place)) }
+        ensures { Some result ≡ slice_get (feats_of (chain_at (county self.now) place)) name }
+    {
+        self.chain_feat_at(place, name).unwrap()
+    }
+
+    /// A further address range of the chain at a place; the range is below the count of its ranges.
+    final fn range(&self, place: usize, range: usize) -> Ranges
+        requires { range < length (ranges_of (chain_at (county self.now) place)) }
+        ensures { Some result ≡ slice_get (ranges_of (chain_at (county self.now) place)) range }
+    {
+        self.range_at(place, range).unwrap()
+    }
+
+    /// The name at a place, which is below the count of names.
+    final fn name_body(&self, place: usize) -> Body5
+        requires { place < length (county self.now).names }
+        ensures { Some result ≡ name_at (county self.now) place }
+    {
+        self.name_body_at(place).unwrap()
+    }
+
+    /// The content of the type P record of the polygon at a place, or none where it has no such record; the place is below the
+    /// count of polygons.
+    final fn polygon_body(&self, place: usize) -> Option<BodyP>
+        requires { place < length (county self.now).polygons }
+        ensures { Some result ≡ polygon_at (county self.now) place }
+    {
+        self.polygon_body_at(place).unwrap()
+    }
+
+    /// The content of a type 7 record of the landmark at a place; the body is below the count of its bodies.
+    final fn landmark_body(&self, place: usize, body: usize) -> Body7
+        requires { body < length (bodies_at (county self.now) place) }
+        ensures { Some result ≡ slice_get (bodies_at (county self.now) place) body }
+    {
+        self.landmark_body_at(place, body).unwrap()
+    }
+
+    /// A type 8 record of the landmark at a place; the link is below the count of its links.
+    final fn landmark_link(&self, place: usize, link: usize) -> Rec8
+        requires { link < length (links_at (county self.now) place) }
+        ensures { Some result ≡ slice_get (links_at (county self.now) place) link }
+    {
+        self.landmark_link_at(place, link).unwrap()
+    }
 }
