@@ -20,3 +20,4 @@ pub mod LinkRules
 pub mod Repacked
 pub mod Packing
 pub mod Limits
+pub mod LimitsProps

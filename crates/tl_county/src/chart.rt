@@ -7,6 +7,7 @@ ghost use Rattle.tl_county.specs.ChartWords.{bodies_at, chain_at, feats_of, link
 ghost use Rattle.tl_county.specs.ChartWords.{bodies_under, chain_under, links_under, name_under, polygon_under};
 ghost use Rattle.tl_county.specs.County.{County};
 ghost use Rattle.tl_county.specs.CountyRules.{IsCounty, feats, lands, nodes, polygon_keys, tlids};
+ghost use Rattle.tl_county.specs.Limits.{IsWithinLimits, most_records};
 ghost use Rattle.tl_county.specs.Orders.{stands_in};
 ghost use Rattle.tl_county.specs.PolygonKeys.{key_cmp};
 
@@ -159,6 +160,9 @@ pub trait Chart {
 
     /// The county is one as linking makes it.
     ghost is_county: { (chart : Self) → IsCounty (county chart) };
+
+    /// The county is within its limits, as one of records within theirs is.
+    ghost within_limits: { (chart : Self) → IsWithinLimits most_records (county chart) };
 
     /// The TLID of the chain at a place, which is below the count of chains.
     final fn tlid(&self, place: usize) -> u64

@@ -1,10 +1,13 @@
 //! Linking: records become a county, or the first rule that they break is told.
 
-ghost use Rattle.std.specs.Prelude.{◌≡◌, ◌≢◌, ◌++◌, List, map, flat_map, OnOk, IfOk, IfErr};
+ghost use Rattle.std.specs.Prelude.{◌≡◌, ◌≢◌, ◌++◌, List, All, map, flat_map, OnOk, IfOk, IfErr};
+ghost use Rattle.tl_layout.specs.Limits.{IsWithinLimit};
+ghost use Rattle.tl_layout.specs.RecordText.{FitsRecord};
 ghost use Rattle.tl_layout.specs.declared.record_type.Record.{Record};
 ghost use Rattle.tl_layout.specs.Tables.{HoldsByType};
 ghost use Rattle.tl_county.specs.Building.{county_along, landmarks_along};
 ghost use Rattle.tl_county.specs.County.{county_of, five_feat, p_key, side_keys};
+ghost use Rattle.tl_county.specs.Limits.{HoldsWithinLimits, IsWithinLimits, most_records};
 ghost use Rattle.tl_county.specs.LinkRules.{IsFirstBrokenRule, IsLinked};
 ghost use Rattle.tl_county.specs.OrderedTables.{typed_of, AreInOrder};
 ghost use Rattle.tl_county.specs.Orders.{distinct};
@@ -130,6 +133,7 @@ fn build_county(
     requires linked { IsLinked (type_after_type (typed_of tables.now)) }
     requires feats { feats.items ≡ map five_feat tables.now.type_5.items }
     requires polygons { polygons.items ≡ distinct key_cmp (flat_map side_keys tables.now.type_i.items ++ map p_key tables.now.type_p.items) }
+    requires limits { IsWithinLimits most_records (county_of (type_after_type (typed_of tables.now))) }
     ensures { IfOk result (λ county. the_county county ≡ county_of (type_after_type (typed_of tables.now))) }
 {
     let chains = build_chains(alloc, tables)?;
@@ -146,8 +150,10 @@ fn build_county(
     })
 }
 
-/// The county of tables of records, or the first rule that the records break. The tables' order has no meaning.
+/// The county of tables of records, or the first rule that the records break. The tables' order has no meaning. They hold
+/// 10,000,000 records of a type at most.
 pub fn link_tables(alloc: Global, tables: Tables) -> Result<County, LinkFault>
+    requires { HoldsWithinLimits tables }
     ensures linked { IfOk result (λ county. (records : List Record) → HoldsByType tables records → IsLinked records × (the_county county ≡ county_of records)) }
     ensures broken { IfErr result (λ fault. fault ≢ Memory → (records : List Record) → HoldsByType tables records → IsFirstBrokenRule records fault) }
 {
@@ -161,8 +167,11 @@ pub fn link_tables(alloc: Global, tables: Tables) -> Result<County, LinkFault>
     Ok(build_county(alloc, &tables, feats, polygons)?)
 }
 
-/// The county of a list of records, or the first rule that the records break. The list's order has no meaning.
+/// The county of a list of records, or the first rule that the records break. The list's order has no meaning. It has
+/// 10,000,000 records of a type at most.
 pub fn link(alloc: Global, records: Vec<Record>) -> Result<County, LinkFault>
+    requires fits { All FitsRecord records.items }
+    requires few { IsWithinLimit most_records records.items }
     ensures linked { IfOk result (λ county. IsLinked records.items × (the_county county ≡ county_of records.items)) }
     ensures broken { IfErr result (λ fault. fault ≢ Memory → IsFirstBrokenRule records.items fault) }
 {
