@@ -11,6 +11,7 @@ mod keyed;
 mod landmark;
 mod laws;
 mod linking;
+mod owned;
 mod record_keys;
 mod rules;
 mod table;

@@ -9,6 +9,7 @@ ghost use Rattle.tl_county.specs.Building.{county_along, landmarks_along};
 ghost use Rattle.tl_county.specs.County.{county_of, five_feat, p_key, side_keys};
 ghost use Rattle.tl_county.specs.Limits.{HoldsWithinLimits, IsWithinLimits, most_records};
 ghost use Rattle.tl_county.specs.LinkRules.{IsFirstBrokenRule, IsLinked};
+ghost use Rattle.tl_county.specs.Entries.{map_values};
 ghost use Rattle.tl_county.specs.OrderedTables.{typed_of, AreInOrder};
 ghost use Rattle.tl_county.specs.Orders.{distinct};
 ghost use Rattle.tl_county.specs.Packing.{by_type, type_after_type};
@@ -17,13 +18,15 @@ ghost use Rattle.tl_county.specs.PolygonKeys.{key_cmp};
 ghost use Rattle.tl_county.specs.declared.fault.LinkFault.TheVariants.{Memory};
 
 use crate::building::{
-    chains_of_records, landmarks_of, lands_of, name_bodies, nodes_of, polygon_bodies,
+    ChainBuilder, LandmarkBuilder, chains_of_records, landmarks_of, lands_of, name_bodies,
+    nodes_of, polygon_bodies,
 };
 use crate::county::County;
 use crate::fault::LinkFault;
 use crate::gathered::{linked_polygons, order_tables, polygon_keys, uses_in_order};
 use crate::keyed::keys_of;
 use crate::landmark::Landmark;
+use crate::owned::Owned;
 use crate::record_keys::PolygonKey;
 use crate::rules::{check_chains, check_landmarks, check_links, check_names, check_sequences};
 use crate::table::Table;
@@ -66,14 +69,19 @@ fn check_rules(
 }
 
 /// The chains of tables in order, under their TLIDs.
-fn build_chains(alloc: Global, tables: &Tables) -> Result<Table<u64, Chain>, AllocError>
+fn build_chains<C: Drop, B: ChainBuilder<C>>(
+    alloc: Global,
+    builder: &mut B,
+    tables: &Tables,
+) -> Result<Table<u64, C>, AllocError>
     requires tables { AreInOrder (typed_of tables.now) }
     requires linked { IsLinked (type_after_type (typed_of tables.now)) }
-    ensures { IfOk result (λ chains. chains ≡ (county_along (typed_of tables.now)).chains) }
+    ensures { IfOk result (λ chains. map_values B.chain chains ≡ (county_along (typed_of tables.now)).chains) }
 {
     let tlids = keys_of::<u64, Rec1>(alloc, &tables.type_1)?;
-    let chains = chains_of_records(
+    let chains = chains_of_records::<C, B>(
         alloc,
+        builder,
         &tables.type_1,
         &tables.type_i,
         &tables.type_2,
@@ -113,12 +121,16 @@ fn build_polygons(
 }
 
 /// The landmarks of tables in order, under their LANDs.
-fn build_landmarks(alloc: Global, tables: &Tables) -> Result<Table<u64, Landmark>, AllocError>
+fn build_landmarks<L: Drop, B: LandmarkBuilder<L>>(
+    alloc: Global,
+    builder: &mut B,
+    tables: &Tables,
+) -> Result<Table<u64, L>, AllocError>
     requires tables { AreInOrder (typed_of tables.now) }
-    ensures { IfOk result (λ landmarks. landmarks ≡ landmarks_along (typed_of tables.now)) }
+    ensures { IfOk result (λ landmarks. map_values B.landmark landmarks ≡ landmarks_along (typed_of tables.now)) }
 {
     let lands = lands_of(alloc, &tables.type_7)?;
-    let landmarks = landmarks_of(alloc, &lands, &tables.type_7, &tables.type_8)?;
+    let landmarks = landmarks_of::<L, B>(alloc, builder, &lands, &tables.type_7, &tables.type_8)?;
     Ok(Table::new(lands, landmarks))
 }
 
@@ -136,11 +148,12 @@ fn build_county(
     requires limits { IsWithinLimits most_records (county_of (type_after_type (typed_of tables.now))) }
     ensures { IfOk result (λ county. the_county county ≡ county_of (type_after_type (typed_of tables.now))) }
 {
-    let chains = build_chains(alloc, tables)?;
-    let nodes = nodes_of(alloc, chains.values())?;
+    let mut owned = Owned { alloc };
+    let chains = build_chains::<Chain, Owned>(alloc, &mut owned, tables)?;
+    let nodes = nodes_of(alloc, &tables.type_i)?;
     let names = build_names(alloc, tables, feats)?;
     let polygons = build_polygons(alloc, tables, polygons)?;
-    let landmarks = build_landmarks(alloc, tables)?;
+    let landmarks = build_landmarks::<Landmark, Owned>(alloc, &mut owned, tables)?;
     Ok(County {
         chains,
         names,
