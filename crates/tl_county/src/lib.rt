@@ -1,6 +1,7 @@
 //! One county: what a list of records says of the map, when the records fit together, and when two counties are the same map.
 #![tactic(auto)]
 
+mod arena;
 mod building;
 mod chart;
 mod county;
@@ -10,6 +11,7 @@ mod gathered;
 mod keyed;
 mod landmark;
 mod laws;
+mod lent;
 mod linking;
 mod owned;
 mod record_keys;
