@@ -6,6 +6,8 @@ mod building;
 mod chart;
 mod county;
 mod county_chart;
+mod county_in;
+mod county_in_chart;
 mod fault;
 mod gathered;
 mod keyed;
@@ -20,6 +22,7 @@ mod table;
 
 pub use chart::Chart;
 pub use county::County;
+pub use county_in::CountyIn;
 pub use fault::{LinkFault, LinkedType};
 pub use keyed::{
     Key, Keyed, after_key, from_key, keys_of, least_repeated, least_unknown, place_of,
