@@ -21,16 +21,18 @@ use Rattle.tl_county.specs.KeptCounty.{LinksUnderLands, landmark_entry}
 use Rattle.tl_county.specs.LandmarkParts.{LandmarkParts}
 use Rattle.tl_layout.specs.ByType.{of_number}
 use Rattle.tl_shape.specs.Chain.{Chain}
-use Rattle.tl_county.proofs.FitsCounty.{flat_map-map}
+use Rattle.tl_county.proofs.FitsCounty.{county-within_limits, flat_map-map}
 use Rattle.tl_county.proofs.Groups.{strict_head, strict_tail}
 use Rattle.tl_county.proofs.Keys.{nat_keys, same_or_not, same-itself}
-use Rattle.tl_county.proofs.Lists.{map-map}
+use Rattle.tl_county.proofs.Lists.{all_places, map-map}
 use Rattle.tl_county.proofs.Numbers.{of_number-all}
 use Rattle.tl_county.specs.BodyOrder.{landmark_body_cmp, link_part, link_part_cmp}
 use Rattle.tl_county.specs.County.{County, one_tlid, two_tlid, two_rtsq, four_tlid, four_rtsq, five_feat, six_tlid, six_rtsq}
 use Rattle.tl_county.specs.County.{seven_land, eight_land, i_tlid, county_of}
 use Rattle.tl_county.specs.CountyRules.{IsCounty, chain_nodes, nodes}
 use Rattle.tl_county.specs.declared.fault.LinkFault.{LinkFault}
+use Rattle.tl_layout.specs.RecordText.{FitsRecord}
+use Rattle.tl_county.specs.Limits.{HoldsWithinLimits, IsWithinLimits, most_records}
 use Rattle.tl_county.specs.LinkRules.{IsLinked, IsFirstBrokenRule}
 use Rattle.tl_county.specs.OrderedTables.{typed_of, AreInOrder, ArePermuted}
 use Rattle.tl_county.specs.Orders.{IsInOrder, distinct}
@@ -252,3 +254,14 @@ links-at landmarks strict under place = go (slice_get (entry_keys landmarks) pla
     go (Some land) e = ap (λ (v : Option LandmarkParts). (unwrap_or v (record { bodies = []; links = [] })).links)
         (value-at_place nat_keys land landmarks place strict e) ∙ links-under land landmarks strict under
     go None e = ap (λ (v : Option LandmarkParts). (unwrap_or v (record { bodies = []; links = [] })).links) (no_value landmarks place e)
+
+-- what tables within their limits become when they are put in order has a county within its limits
+pub within_limits-moved : (before after : Tables) → HoldsWithinLimits before → ArePermuted (typed_of before) (typed_of after)
+    → IsLinked (type_after_type (typed_of after)) → IsWithinLimits most_records (county_of (type_after_type (typed_of after)))
+within_limits-moved before after within permuted linked =
+    let holds = held before within.records within.holds in
+    let t = typed_of before in
+    let u = typed_of after in
+    subst (IsWithinLimits most_records) (sym (same_county within.records t u holds permuted linked))
+    (county-within_limits within.records (also_linked within.records t u holds permuted linked)
+    (all_places FitsRecord within.records within.fits) most_records within.few)

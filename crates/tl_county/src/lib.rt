@@ -34,6 +34,6 @@ pub use laws::{
     linked_records_have_a_county_within_limits, linked_records_have_a_well_formed_county,
     renamings_compose, sameness_is_an_equivalence, the_county_is_what_the_records_say,
 };
-pub use linking::{link, link_tables};
+pub use linking::{link, link_in, link_tables, link_tables_in};
 pub use record_keys::PolygonKey;
 pub use table::Table;

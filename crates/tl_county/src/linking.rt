@@ -10,29 +10,34 @@ ghost use Rattle.tl_county.specs.County.{county_of, five_feat, p_key, side_keys}
 ghost use Rattle.tl_county.specs.Limits.{HoldsWithinLimits, IsWithinLimits, most_records};
 ghost use Rattle.tl_county.specs.LinkRules.{IsFirstBrokenRule, IsLinked};
 ghost use Rattle.tl_county.specs.Entries.{map_values};
-ghost use Rattle.tl_county.specs.OrderedTables.{typed_of, AreInOrder};
+ghost use Rattle.tl_county.specs.OrderedTables.{typed_of, AreInOrder, ArePermuted};
 ghost use Rattle.tl_county.specs.Orders.{distinct};
 ghost use Rattle.tl_county.specs.Packing.{by_type, type_after_type};
 ghost use Rattle.tl_county.specs.TheCounty.{the_county};
+ghost use Rattle.tl_county.specs.TheCountyIn.{the_county_in};
 ghost use Rattle.tl_county.specs.PolygonKeys.{key_cmp};
 ghost use Rattle.tl_county.specs.declared.fault.LinkFault.TheVariants.{Memory};
 
+use crate::arena::{InArena, names_in};
 use crate::building::{
     ChainBuilder, LandmarkBuilder, chains_of_records, landmarks_of, lands_of, name_bodies,
     nodes_of, polygon_bodies,
 };
 use crate::county::County;
+use crate::county_in::CountyIn;
 use crate::fault::LinkFault;
 use crate::gathered::{linked_polygons, order_tables, polygon_keys, uses_in_order};
 use crate::keyed::keys_of;
 use crate::landmark::Landmark;
+use crate::lent::{LandmarkIn, NameIn};
 use crate::owned::Owned;
 use crate::record_keys::PolygonKey;
 use crate::rules::{check_chains, check_landmarks, check_links, check_names, check_sequences};
 use crate::table::Table;
+use bumpalo::Bump;
 use std::alloc::{AllocError, Global};
 use tl_layout::{Body5, BodyP, Rec1, Rec5, Record, Tables};
-use tl_shape::Chain;
+use tl_shape::{Chain, ChainIn};
 
 /// The ten rules, over tables in order, with their FEATs and their polygons in order.
 fn check_rules(
@@ -47,24 +52,12 @@ fn check_rules(
     ensures linked { OnOk result ((records : List Record) → by_type records ≡ typed_of tables.now → IsLinked records) }
     ensures broken { IfErr result (λ fault. fault ≢ Memory → (records : List Record) → by_type records ≡ typed_of tables.now → IsFirstBrokenRule records fault) }
 {
-    if let Err(fault) = check_chains(tables) {
-        return Err(fault);
-    }
-    if let Err(fault) = check_sequences(tables) {
-        return Err(fault);
-    }
-    if let Err(fault) = check_links(tables) {
-        return Err(fault);
-    }
-    let Ok(uses) = uses_in_order(alloc, &tables.type_4) else {
-        return Err(LinkFault::Memory);
-    };
-    if let Err(fault) = check_names(tables, &uses, feats) {
-        return Err(fault);
-    }
-    let Ok(linked) = linked_polygons(alloc, &tables.type_8) else {
-        return Err(LinkFault::Memory);
-    };
+    check_chains(tables)?;
+    check_sequences(tables)?;
+    check_links(tables)?;
+    let uses = uses_in_order(alloc, &tables.type_4)?;
+    check_names(tables, &uses, feats)?;
+    let linked = linked_polygons(alloc, &tables.type_8)?;
     check_landmarks(tables, &linked, polygons)
 }
 
@@ -163,6 +156,75 @@ fn build_county(
     })
 }
 
+/// The names of tables in order, under their FEATs, their contents in an arena.
+fn build_names_in<'a>(
+    alloc: Global,
+    arena: &'a Bump,
+    tables: &Tables,
+    feats: Vec<u32>,
+) -> Result<Table<u32, NameIn<'a>>, AllocError>
+    requires tables { AreInOrder (typed_of tables.now) }
+    requires linked { IsLinked (type_after_type (typed_of tables.now)) }
+    requires feats { feats.items ≡ map five_feat tables.now.type_5.items }
+    ensures { IfOk result (λ names. names ≡ (county_along (typed_of tables.now)).names) }
+{
+    let names = names_in(alloc, arena, &tables.type_5)?;
+    Ok(Table::new(feats, names))
+}
+
+/// The county of linked records in an arena, their tables in order.
+fn build_county_in<'a>(
+    alloc: Global,
+    arena: &'a Bump,
+    tables: &Tables,
+    feats: Vec<u32>,
+    polygons: Vec<PolygonKey>,
+) -> Result<CountyIn<'a>, AllocError>
+    requires tables { AreInOrder (typed_of tables.now) }
+    requires linked { IsLinked (type_after_type (typed_of tables.now)) }
+    requires feats { feats.items ≡ map five_feat tables.now.type_5.items }
+    requires polygons { polygons.items ≡ distinct key_cmp (flat_map side_keys tables.now.type_i.items ++ map p_key tables.now.type_p.items) }
+    requires limits { IsWithinLimits most_records (county_of (type_after_type (typed_of tables.now))) }
+    ensures { IfOk result (λ county. the_county_in county ≡ county_of (type_after_type (typed_of tables.now))) }
+{
+    let mut builder = InArena::new(alloc, arena);
+    let chains = build_chains::<ChainIn<'a>, InArena<'a>>(alloc, &mut builder, tables)?;
+    let nodes = nodes_of(alloc, &tables.type_i)?;
+    let names = build_names_in(alloc, arena, tables, feats)?;
+    let polygons = build_polygons(alloc, tables, polygons)?;
+    let landmarks = build_landmarks::<LandmarkIn<'a>, InArena<'a>>(alloc, &mut builder, tables)?;
+    Ok(CountyIn {
+        chains,
+        names,
+        polygons,
+        landmarks,
+        nodes,
+    })
+}
+
+/// What was gathered of tables in order: the FEATs of names and the keys of polygons, both in order.
+#[derive(Drop)]
+struct Gathered {
+    feats: Vec<u32>,
+    polygons: Vec<PolygonKey>,
+}
+
+/// Puts the tables in order and checks the ten rules, or tells the first one that the records break.
+fn settle(alloc: Global, tables: &mut Tables) -> Result<Gathered, LinkFault>
+    ensures in_order { OnOk result (AreInOrder (typed_of tables.new)) }
+    ensures same { OnOk result (ArePermuted (typed_of tables.old) (typed_of tables.new)) }
+    ensures linked { OnOk result (IsLinked (type_after_type (typed_of tables.new))) }
+    ensures feats { IfOk result (λ gathered. gathered.feats.items ≡ map five_feat tables.new.type_5.items) }
+    ensures polygons { IfOk result (λ gathered. gathered.polygons.items ≡ distinct key_cmp (flat_map side_keys tables.new.type_i.items ++ map p_key tables.new.type_p.items)) }
+    ensures broken { IfErr result (λ fault. fault ≢ Memory → (records : List Record) → HoldsByType tables.old records → IsFirstBrokenRule records fault) }
+{
+    order_tables(tables)?;
+    let feats = keys_of::<u32, Rec5>(alloc, &tables.type_5)?;
+    let polygons = polygon_keys(alloc, &tables.type_i, &tables.type_p)?;
+    check_rules(alloc, tables, &feats, &polygons)?;
+    Ok(Gathered { feats, polygons })
+}
+
 /// The county of tables of records, or the first rule that the records break. The tables' order has no meaning. They hold
 /// 10,000,000 records of a type at most.
 pub fn link_tables(alloc: Global, tables: Tables) -> Result<County, LinkFault>
@@ -171,13 +233,24 @@ pub fn link_tables(alloc: Global, tables: Tables) -> Result<County, LinkFault>
     ensures broken { IfErr result (λ fault. fault ≢ Memory → (records : List Record) → HoldsByType tables records → IsFirstBrokenRule records fault) }
 {
     let mut tables = tables;
-    order_tables(&mut tables)?;
-    let feats = keys_of::<u32, Rec5>(alloc, &tables.type_5)?;
-    let polygons = polygon_keys(alloc, &tables.type_i, &tables.type_p)?;
-    if let Err(fault) = check_rules(alloc, &tables, &feats, &polygons) {
-        return Err(fault);
-    }
-    Ok(build_county(alloc, &tables, feats, polygons)?)
+    let gathered = settle(alloc, &mut tables)?;
+    Ok(build_county(alloc, &tables, gathered.feats, gathered.polygons)?)
+}
+
+/// The county of tables of records in an arena, which outlives it, or the first rule that the records break. The tables' order
+/// has no meaning. They hold 10,000,000 records of a type at most.
+pub fn link_tables_in<'a>(
+    alloc: Global,
+    arena: &'a Bump,
+    tables: Tables,
+) -> Result<CountyIn<'a>, LinkFault>
+    requires { HoldsWithinLimits tables }
+    ensures linked { IfOk result (λ county. (records : List Record) → HoldsByType tables records → IsLinked records × (the_county_in county ≡ county_of records)) }
+    ensures broken { IfErr result (λ fault. fault ≢ Memory → (records : List Record) → HoldsByType tables records → IsFirstBrokenRule records fault) }
+{
+    let mut tables = tables;
+    let gathered = settle(alloc, &mut tables)?;
+    Ok(build_county_in(alloc, arena, &tables, gathered.feats, gathered.polygons)?)
 }
 
 /// The county of a list of records, or the first rule that the records break. The list's order has no meaning. It has
@@ -190,4 +263,20 @@ pub fn link(alloc: Global, records: Vec<Record>) -> Result<County, LinkFault>
 {
     let tables = Tables::of(alloc, records)?;
     link_tables(alloc, tables)
+}
+
+/// The county of a list of records in an arena, which outlives it, or the first rule that the records break. The list's order
+/// has no meaning. It has 10,000,000 records of a type at most.
+pub fn link_in<'a>(
+    alloc: Global,
+    arena: &'a Bump,
+    records: Vec<Record>,
+) -> Result<CountyIn<'a>, LinkFault>
+    requires fits { All FitsRecord records.items }
+    requires few { IsWithinLimit most_records records.items }
+    ensures linked { IfOk result (λ county. IsLinked records.items × (the_county_in county ≡ county_of records.items)) }
+    ensures broken { IfErr result (λ fault. fault ≢ Memory → IsFirstBrokenRule records.items fault) }
+{
+    let tables = Tables::of(alloc, records)?;
+    link_tables_in(alloc, arena, tables)
 }
