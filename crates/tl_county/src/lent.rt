@@ -35,7 +35,7 @@ impl<'a> NameIn<'a> {
     }
 }
 
-/// A landmark, as [`Landmark`](crate::Landmark) is one, whose lists are lent, as from an arena.
+/// A landmark, as [`Landmark`](crate::landmark::Landmark) is one, whose lists are lent, as from an arena.
 #[derive(Debug, Drop)]
 pub(crate) struct LandmarkIn<'a> {
     bodies: &'a [Body7],

@@ -24,11 +24,7 @@ pub use chart::Chart;
 pub use county::County;
 pub use county_in::CountyIn;
 pub use fault::{LinkFault, LinkedType};
-pub use keyed::{
-    Key, Keyed, after_key, from_key, keys_of, least_repeated, least_unknown, place_of,
-    put_in_order, split_group,
-};
-pub use landmark::Landmark;
+pub use keyed::{Key, Keyed, least_repeated, least_unknown, place_of, put_in_order, split_group};
 pub use laws::{
     counties_within_limits_are_packed_into_records_that_fit, linked_or_one_first_broken_rule,
     linked_records_have_a_county_within_limits, linked_records_have_a_well_formed_county,
@@ -36,4 +32,3 @@ pub use laws::{
 };
 pub use linking::{link, link_in, link_tables, link_tables_in};
 pub use record_keys::PolygonKey;
-pub use table::Table;
