@@ -5,7 +5,7 @@ use Rattle.std.proofs.Common.{unwrap_or, option_map, slice_get, zero}
 use Rattle.std.proofs.lemmas.Bool.{false≢true, eq-eqb, ne_eqb}
 use Rattle.std.proofs.lemmas.List.{append-nil}
 use Rattle.std.proofs.lemmas.List.Elements.{filter-append}
-use Rattle.std.specs.List.{AllByRecursion}
+use Rattle.std.specs.List.{AllByRecursion, zip}
 use Rattle.std.proofs.lemmas.List.Sorted.{IsPermutation-trans}
 use Rattle.std.specs.List.Sorted.{IsStrictlySortedBy}
 use Rattle.std.specs.Ordering.{on}
@@ -13,22 +13,26 @@ use Rattle.tl_layout.specs.Fields.{Fields1, Fields2, Fields4, Fields6, Fields8, 
 use Rattle.tl_layout.specs.Tables.{HoldsByType}
 use Rattle.tl_layout.specs.declared.record_type.Record.{Record}
 use Rattle.tl_layout.specs.declared.tables.Tables.{Tables}
-use Rattle.tl_county.specs.Building.{chains_along, county_along, landmark_of, landmarks_along}
+use Rattle.tl_county.specs.Building.{chains_along, county_along, landmark_of, landmarks_along, link_nodes}
 use Rattle.tl_county.specs.ChartWords.{links_with}
 use Rattle.tl_county.specs.Entries.{entry_keys, entry_values, value_under}
-use Rattle.tl_county.proofs.EntryLists.{value-at_place}
+use Rattle.tl_county.proofs.EntryLists.{value-at_place, values-zip}
 use Rattle.tl_county.specs.KeptCounty.{LinksUnderLands, landmark_entry}
 use Rattle.tl_county.specs.LandmarkParts.{LandmarkParts}
 use Rattle.tl_layout.specs.ByType.{of_number}
+use Rattle.tl_shape.specs.Chain.{Chain}
+use Rattle.tl_county.proofs.FitsCounty.{county-within_limits, flat_map-map}
 use Rattle.tl_county.proofs.Groups.{strict_head, strict_tail}
 use Rattle.tl_county.proofs.Keys.{nat_keys, same_or_not, same-itself}
-use Rattle.tl_county.proofs.Lists.{map-map}
+use Rattle.tl_county.proofs.Lists.{all_places, map-map}
 use Rattle.tl_county.proofs.Numbers.{of_number-all}
 use Rattle.tl_county.specs.BodyOrder.{landmark_body_cmp, link_part, link_part_cmp}
 use Rattle.tl_county.specs.County.{County, one_tlid, two_tlid, two_rtsq, four_tlid, four_rtsq, five_feat, six_tlid, six_rtsq}
 use Rattle.tl_county.specs.County.{seven_land, eight_land, i_tlid, county_of}
-use Rattle.tl_county.specs.CountyRules.{IsCounty}
+use Rattle.tl_county.specs.CountyRules.{IsCounty, chain_nodes, nodes}
 use Rattle.tl_county.specs.declared.fault.LinkFault.{LinkFault}
+use Rattle.tl_layout.specs.RecordText.{FitsRecord}
+use Rattle.tl_county.specs.Limits.{HoldsWithinLimits, IsWithinLimits, most_records}
 use Rattle.tl_county.specs.LinkRules.{IsLinked, IsFirstBrokenRule}
 use Rattle.tl_county.specs.OrderedTables.{typed_of, AreInOrder, ArePermuted}
 use Rattle.tl_county.specs.Orders.{IsInOrder, distinct}
@@ -47,6 +51,15 @@ length-chains_along twos fours sixes [] ls e = refl
 length-chains_along twos fours sixes (r ∷ rs) [] e = cc
 length-chains_along twos fours sixes (r ∷ rs) (l ∷ ls) e = let rest : map one_tlid rs ≡ map i_tlid ls = cc in
     omega (arith, length-chains_along twos fours sixes rs ls rest)
+
+-- the nodes of chains are those of their records of type I
+nodes-chains_along : (twos : List Fields2) (fours : List Fields4) (sixes : List Fields6) (rs : List Fields1) (ls : List FieldsI)
+    → map one_tlid rs ≡ map i_tlid ls → flat_map chain_nodes (chains_along twos fours sixes rs ls) ≡ flat_map link_nodes ls
+nodes-chains_along twos fours sixes [] [] e = refl
+nodes-chains_along twos fours sixes [] (l ∷ ls) e = cc
+nodes-chains_along twos fours sixes (r ∷ rs) [] e = cc
+nodes-chains_along twos fours sixes (r ∷ rs) (l ∷ ls) e = let rest : map one_tlid rs ≡ map i_tlid ls = cc in
+    ap (λ n. link_nodes l ++ n) (nodes-chains_along twos fours sixes rs ls rest)
 
 module _ (t : Typed) (order : AreInOrder t) where
   pub twos-in_order : IsInOrder (on two_tlid nat_cmp) t.of_type_2
@@ -79,6 +92,14 @@ module _ (t : Typed) (order : AreInOrder t) where
     pub beside : map one_tlid t.of_type_1 ≡ map i_tlid t.of_type_i
     beside = subst (λ (u : Typed). map one_tlid u.of_type_1 ≡ map i_tlid u.of_type_i) (by_type-after t)
         (side_by_side (type_after_type t) ordered linked)
+
+    pub nodes-built : nodes (county_along t) ≡ distinct nat_cmp (flat_map link_nodes t.of_type_i)
+    nodes-built =
+        let chains = chains_along t.of_type_2 t.of_type_4 t.of_type_6 t.of_type_1 t.of_type_i in
+        ap (distinct nat_cmp) (sym (flat_map-map chain_nodes (λ (e : ℕ × Chain). e.1) (zip (map one_tlid t.of_type_1) chains))
+        ∙ ap (flat_map chain_nodes) (values-zip (map one_tlid t.of_type_1) chains
+        (length-chains_along t.of_type_2 t.of_type_4 t.of_type_6 t.of_type_1 t.of_type_i beside))
+        ∙ nodes-chains_along t.of_type_2 t.of_type_4 t.of_type_6 t.of_type_1 t.of_type_i beside)
 
     pub as_built : county_of (type_after_type t) ≡ county_along t
     as_built = county-built (type_after_type t) ordered linked ∙ ap county_along (by_type-after t)
@@ -233,3 +254,14 @@ links-at landmarks strict under place = go (slice_get (entry_keys landmarks) pla
     go (Some land) e = ap (λ (v : Option LandmarkParts). (unwrap_or v (record { bodies = []; links = [] })).links)
         (value-at_place nat_keys land landmarks place strict e) ∙ links-under land landmarks strict under
     go None e = ap (λ (v : Option LandmarkParts). (unwrap_or v (record { bodies = []; links = [] })).links) (no_value landmarks place e)
+
+-- what tables within their limits become when they are put in order has a county within its limits
+pub within_limits-moved : (before after : Tables) → HoldsWithinLimits before → ArePermuted (typed_of before) (typed_of after)
+    → IsLinked (type_after_type (typed_of after)) → IsWithinLimits most_records (county_of (type_after_type (typed_of after)))
+within_limits-moved before after within permuted linked =
+    let holds = held before within.records within.holds in
+    let t = typed_of before in
+    let u = typed_of after in
+    subst (IsWithinLimits most_records) (sym (same_county within.records t u holds permuted linked))
+    (county-within_limits within.records (also_linked within.records t u holds permuted linked)
+    (all_places FitsRecord within.records within.fits) most_records within.few)

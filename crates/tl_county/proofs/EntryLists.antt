@@ -5,7 +5,7 @@ use Rattle.std.proofs.Common.{Some, None, slice_get}
 use Rattle.std.proofs.lemmas.Bool.{false≢true, lt-ltb}
 use Rattle.std.specs.List.{AllByRecursion, zip}
 use Rattle.std.specs.List.Sorted.{IsStrictlySortedBy}
-use Rattle.tl_county.specs.Entries.{entry_keys, entry_values, value_under}
+use Rattle.tl_county.specs.Entries.{entry_keys, entry_values, map_values, value_under}
 use Rattle.tl_county.specs.Orders.{times, stands_in, IsInOrder}
 use Rattle.tl_county.proofs.Keys.{IsKeyOrder, times-yes, times-no, same_or_not, same-itself}
 use Rattle.tl_county.proofs.Lists.{all_weaker}
@@ -31,6 +31,19 @@ length-zip (k ∷ ks) (v ∷ vs) e = omega (arith, length-zip ks vs (omega (arit
 pub zip-map : {X K V : Type 0} (f : X → K) (g : X → V) (xs : List X) → zip (map f xs) (map g xs) ≡ map (λ x. (f x, g x)) xs
 zip-map f g [] = refl
 zip-map f g (x ∷ xs) = ap (λ l. (f x, g x) ∷ l) (zip-map f g xs)
+
+-- entries whose values are turned into others
+pub keys-map_values : {K V W : Type 0} (f : V → W) (xs : List (K × V)) → entry_keys (map_values f xs) ≡ entry_keys xs
+keys-map_values f [] = refl
+keys-map_values f (x ∷ xs) = ap (λ l. x.0 ∷ l) (keys-map_values f xs)
+
+pub values-map_values : {K V W : Type 0} (f : V → W) (xs : List (K × V)) → entry_values (map_values f xs) ≡ map f (entry_values xs)
+values-map_values f [] = refl
+values-map_values f (x ∷ xs) = ap (λ l. f x.1 ∷ l) (values-map_values f xs)
+
+pub map_values-id : {K V : Type 0} (xs : List (K × V)) → map_values (λ v. v) xs ≡ xs
+map_values-id [] = refl
+map_values-id (x ∷ xs) = ap (λ l. x ∷ l) (map_values-id xs)
 
 -- entries are known by their keys and their values
 pub entries-equal : {K V : Type 0} (xs ys : List (K × V)) → entry_keys xs ≡ entry_keys ys → entry_values xs ≡ entry_values ys → xs ≡ ys

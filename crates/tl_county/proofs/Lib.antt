@@ -18,6 +18,7 @@ pub mod RuleOrders
 pub mod RuleTests
 pub mod GatheredLists
 pub mod EntryLists
+pub mod Places
 pub mod SameCounty
 pub mod Repacking
 pub mod Splitting

@@ -1,10 +1,16 @@
 -- Lists: what holds of each element, and maps that agree.
-use Rattle.std.proofs.Common.{◌≡◌, List, [], ◌∷◌, ◌++◌, Bool, true, false, cond, map, filter, flat_map, refl, ap}
+use Rattle.std.proofs.Common.{◌≡◌, List, [], ◌∷◌, ◌++◌, Bool, true, false, cond, map, filter, flat_map, refl, ap, suc, arith}
+use Rattle.std.specs.Prelude.{All}
 use Rattle.std.specs.List.{AllByRecursion}
 
 pub map_itself : {X : Type 0} (f : X → X) → ((x : X) → f x ≡ x) → (xs : List X) → map f xs ≡ xs
 map_itself f h [] = refl
 map_itself f h (x ∷ xs) = λ i. h x i ∷ map_itself f h xs i
+
+-- what holds of the element at each place holds of each element
+pub all_places : {X : Type 0} (P : X → Type 0) (xs : List X) → All P xs → AllByRecursion P xs
+all_places P [] h = tt
+all_places P (x ∷ xs) h = (h 0 x (omega arith), all_places P xs (λ k d l. h (suc k) d (omega arith)))
 
 pub map-map : {X Y Z : Type 0} (g : Y → Z) (f : X → Y) (xs : List X) → map g (map f xs) ≡ map (λ x. g (f x)) xs
 map-map g f [] = refl

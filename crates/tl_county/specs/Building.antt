@@ -1,5 +1,5 @@
 -- The parts of a county, of the groups of records that have one number.
-use Rattle.std.specs.Prelude.{ℕ, List, [], ◌∷◌, ◌++◌, map, flat_map, filter, Option}
+use Rattle.std.specs.Prelude.{ℕ, List, [], ◌∷◌, ◌++◌, map, flat_map, filter, Option, option_to_list}
 use Rattle.std.specs.List.{zip}
 use Rattle.std.specs.Ordering.{is_eq, nat_cmp}
 use Rattle.tl_layout.specs.ByType.{of_number}
@@ -26,6 +26,10 @@ chain_with r link twos fours sixes = record {
   left = link.left;
   right = link.right;
 }
+
+-- the nodes of a record of type I, start before end, missing ones left out
+abbrev pub link_nodes : FieldsI → List ℕ
+link_nodes link = option_to_list link.start_node ++ option_to_list link.end_node
 
 -- the chains of records of type 1 and I side by side, with the records of types 2, 4 and 6 of their TLIDs
 abbrev pub chains_along : List Fields2 → List Fields4 → List Fields6 → List Fields1 → List FieldsI → List Chain

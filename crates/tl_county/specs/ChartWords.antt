@@ -1,4 +1,4 @@
--- Words for what stands at a place of a county's ascending lists.
+-- Words for what stands at a place of a county's ascending lists, and under a number.
 use Rattle.std.specs.Prelude.{ℕ, List, [], Option, Some, None, option_map, filter, map, slice_get, unwrap_or, ◌==◌}
 use Rattle.tl_layout.specs.Coordinates.{Coordinates}
 use Rattle.tl_layout.specs.Fields.{Fields8}
@@ -10,7 +10,9 @@ use Rattle.tl_shape.specs.Chain.{Chain}
 use Rattle.tl_layout.specs.ByType.{of_number}
 use Rattle.tl_county.specs.County.{County, eight_land}
 use Rattle.tl_county.specs.CountyRules.{lands}
-use Rattle.tl_county.specs.Entries.{entry_values}
+use Rattle.tl_county.specs.Entries.{entry_values, value_under}
+use Rattle.tl_county.specs.PolygonKeys.{PolygonKey, key_cmp}
+use Rattle.std.specs.Ordering.{nat_cmp}
 
 -- the chain at a place
 abbrev pub chain_at : County → ℕ → Option Chain
@@ -48,3 +50,20 @@ links_with links (Some land) = of_number eight_land land links
 
 abbrev pub links_at : County → ℕ → List Fields8
 links_at county place = links_with county.links (slice_get (lands county) place)
+
+-- the chain of a TLID, the name of a FEAT, the polygon of a key
+abbrev pub chain_under : County → ℕ → Option Chain
+chain_under county tlid = value_under nat_cmp tlid county.chains
+
+abbrev pub name_under : County → ℕ → Option Body5
+name_under county feat = value_under nat_cmp feat county.names
+
+abbrev pub polygon_under : County → PolygonKey → Option (Option BodyP)
+polygon_under county key = value_under key_cmp key county.polygons
+
+-- the contents of the landmark of a LAND, or the empty list where there is no such landmark, and its links
+abbrev pub bodies_under : County → ℕ → List Body7
+bodies_under county land = unwrap_or (value_under nat_cmp land county.landmarks) []
+
+abbrev pub links_under : County → ℕ → List Fields8
+links_under county land = of_number eight_land land county.links

@@ -10,6 +10,10 @@ entry_keys = map (λ entry. entry.0)
 abbrev pub entry_values : {K V : Type 0} → List (K × V) → List V
 entry_values = map (λ entry. entry.1)
 
+-- the entries with each value turned into another
+abbrev pub map_values : {K V W : Type 0} → (V → W) → List (K × V) → List (K × W)
+map_values f = map (λ entry. (entry.0, f entry.1))
+
 -- the value under a key, or none where the key doesn't stand there
 abbrev pub value_under : {K V : Type 0} → (K → K → Ordering) → K → List (K × V) → Option V
 value_under cmp key [] = None

@@ -8,6 +8,7 @@ pub mod LandmarkParts
 pub mod KeptCounty
 pub mod Building
 pub mod TheCounty
+pub mod TheCountyIn
 pub mod ChartWords
 pub mod CountyProps
 pub mod PolygonKeys
@@ -20,3 +21,4 @@ pub mod LinkRules
 pub mod Repacked
 pub mod Packing
 pub mod Limits
+pub mod LimitsProps

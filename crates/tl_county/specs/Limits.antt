@@ -1,5 +1,5 @@
 -- The limits of a county: what its contents and its numbers may be, and how many records it takes.
-use Rattle.std.specs.Prelude.{ℕ, ◌≤◌, List, length, None, IfSome}
+use Rattle.std.specs.Prelude.{ℕ, ◌≤◌, List, All, length, None, IfSome}
 use Rattle.std.specs.List.{AllByRecursion}
 use Rattle.tl_layout.specs.AddressRanges.{FitsRanges}
 use Rattle.tl_layout.specs.Bytes.{IsText}
@@ -7,11 +7,15 @@ use Rattle.tl_layout.specs.Coordinates.{IsOnMap}
 use Rattle.tl_layout.specs.Fields.{Fields8}
 use Rattle.tl_layout.specs.Limits.{IsWithinLimit}
 use Rattle.tl_layout.specs.Numbers.{IsNumber, IsNumberOrNone}
+use Rattle.tl_layout.specs.RecordText.{FitsRecord}
+use Rattle.tl_layout.specs.Tables.{HoldsByType}
 use Rattle.tl_layout.specs.Type1Groups.{FitsBody1}
 use Rattle.tl_layout.specs.Type5.{FitsType5}
 use Rattle.tl_layout.specs.Type7.{FitsType7}
 use Rattle.tl_layout.specs.TypeI.{FitsTypeI}
 use Rattle.tl_layout.specs.TypeP.{FitsTypeP}
+use Rattle.tl_layout.specs.declared.record_type.Record.{Record}
+use Rattle.tl_layout.specs.declared.tables.Tables.{Tables}
 use Rattle.tl_layout.specs.declared.type5.Body5.{Body5}
 use Rattle.tl_layout.specs.declared.type7.Body7.{Body7}
 use Rattle.tl_layout.specs.declared.type_i.BodyI.{BodyI}
@@ -19,6 +23,10 @@ use Rattle.tl_layout.specs.declared.type_p.BodyP.{BodyP}
 use Rattle.tl_shape.specs.Chain.{Chain}
 use Rattle.tl_county.specs.County.{County}
 use Rattle.tl_county.specs.Packing.{inner_points, packed}
+
+-- so many records of one type a set has at most
+abbrev pub most_records : ℕ
+most_records = 10000000
 
 -- the greatest RTSQ; so a chain has no more records of type 2, 4 or 6
 abbrev pub greatest_rtsq : ℕ
@@ -104,3 +112,10 @@ pub record IsWithinLimits (limit : ℕ) (county : County) : Type 0 where
   pub numbers : NumbersFit county
   pub room : AllByRecursion (λ entry. HasRoom entry.1) county.chains
   pub counts : IsWithinLimit limit (packed county)
+
+-- Tables hold records that fit, of no type too many.
+pub record HoldsWithinLimits (tables : Tables) : Type 0 where
+  pub records : List Record
+  pub holds : HoldsByType tables records
+  pub fits : All FitsRecord records
+  pub few : IsWithinLimit most_records records

@@ -1,13 +1,13 @@
 //! A county however it is kept.
 
-ghost use Rattle.std.specs.Prelude.{◌≡◌, Some, length, is_some, IfSome, option_map, slice_get};
+ghost use Rattle.std.specs.Prelude.{◌≡◌, ◌<◌, Some, length, is_some, IfSome, option_map, slice_get};
 ghost use Rattle.std.specs.Option.{option_and_then};
 ghost use Rattle.std.specs.Ordering.{nat_cmp};
-ghost use Rattle.tl_layout.specs.ByType.{of_number};
 ghost use Rattle.tl_county.specs.ChartWords.{bodies_at, chain_at, feats_of, links_at, name_at, points_of, polygon_at, ranges_of};
-ghost use Rattle.tl_county.specs.County.{County, eight_land};
+ghost use Rattle.tl_county.specs.ChartWords.{bodies_under, chain_under, links_under, name_under, polygon_under};
+ghost use Rattle.tl_county.specs.County.{County};
 ghost use Rattle.tl_county.specs.CountyRules.{IsCounty, feats, lands, nodes, polygon_keys, tlids};
-ghost use Rattle.tl_county.specs.Entries.{value_under};
+ghost use Rattle.tl_county.specs.Limits.{IsWithinLimits, most_records};
 ghost use Rattle.tl_county.specs.Orders.{stands_in};
 ghost use Rattle.tl_county.specs.PolygonKeys.{key_cmp};
 
@@ -15,7 +15,8 @@ use crate::record_keys::PolygonKey;
 use tl_layout::{Body1, Body5, Body7, BodyI, BodyP, Point, Ranges, Rec8, Side};
 
 /// A county, however it is kept. Places count from 0 along the ascending lists of TLIDs, FEATs, polygons, LANDs and nodes;
-/// a place or a number that isn't there is answered by `None`. No call takes memory.
+/// a place or a number that isn't there is answered by `None`. Calls that answer no `Option` for what is at a place ask that it
+/// is there. No call takes memory.
 pub trait Chart {
     /// The county.
     ghost county: { Self → County };
@@ -159,4 +160,310 @@ pub trait Chart {
 
     /// The county is one as linking makes it.
     ghost is_county: { (chart : Self) → IsCounty (county chart) };
+
+    /// The county is within its limits, as one of records within theirs is.
+    ghost within_limits: { (chart : Self) → IsWithinLimits most_records (county chart) };
+
+    /// The TLID of the chain at a place, which is below the count of chains.
+    final fn tlid(&self, place: usize) -> u64
+        requires { place < length (county self.now).chains }
+        ensures { Some result ≡ slice_get (tlids (county self.now)) place }
+    {
+        self.tlid_at(place).unwrap()
+    }
+
+    /// The FEAT of the name at a place, which is below the count of names.
+    final fn feat(&self, place: usize) -> u32
+        requires { place < length (county self.now).names }
+        ensures { Some result ≡ slice_get (feats (county self.now)) place }
+    {
+        self.feat_at(place).unwrap()
+    }
+
+    /// The key of the polygon at a place, which is below the count of polygons.
+    final fn polygon_key(&self, place: usize) -> PolygonKey
+        requires { place < length (county self.now).polygons }
+        ensures { Some result ≡ slice_get (polygon_keys (county self.now)) place }
+    {
+        self.polygon_key_at(place).unwrap()
+    }
+
+    /// The LAND of the landmark at a place, which is below the count of landmarks.
+    final fn land(&self, place: usize) -> u64
+        requires { place < length (county self.now).landmarks }
+        ensures { Some result ≡ slice_get (lands (county self.now)) place }
+    {
+        self.land_at(place).unwrap()
+    }
+
+    /// The number of the node at a place, which is below the count of nodes.
+    final fn node(&self, place: usize) -> u64
+        requires { place < length (nodes (county self.now)) }
+        ensures { Some result ≡ slice_get (nodes (county self.now)) place }
+    {
+        self.node_at(place).unwrap()
+    }
+
+    /// The content of the type 1 record of the chain at a place, which is below the count of chains.
+    final fn chain_body(&self, place: usize) -> Body1
+        requires { place < length (county self.now).chains }
+        ensures { Some result ≡ option_map (λ c. c.body) (chain_at (county self.now) place) }
+    {
+        self.chain_body_at(place).unwrap()
+    }
+
+    /// The content of the type I record of the chain at a place, which is below the count of chains.
+    final fn link_body(&self, place: usize) -> BodyI
+        requires { place < length (county self.now).chains }
+        ensures { Some result ≡ option_map (λ c. c.link_body) (chain_at (county self.now) place) }
+    {
+        self.link_body_at(place).unwrap()
+    }
+
+    /// The node where the chain at a place starts, or none; the place is below the count of chains.
+    final fn start_node(&self, place: usize) -> Option<u64>
+        requires { place < length (county self.now).chains }
+        ensures { Some result ≡ option_map (λ c. c.start_node) (chain_at (county self.now) place) }
+    {
+        self.start_node_at(place).unwrap()
+    }
+
+    /// The node where the chain at a place ends, or none; the place is below the count of chains.
+    final fn end_node(&self, place: usize) -> Option<u64>
+        requires { place < length (county self.now).chains }
+        ensures { Some result ≡ option_map (λ c. c.end_node) (chain_at (county self.now) place) }
+    {
+        self.end_node_at(place).unwrap()
+    }
+
+    /// The left side of the chain at a place, which is below the count of chains.
+    final fn left(&self, place: usize) -> Side
+        requires { place < length (county self.now).chains }
+        ensures { Some result ≡ option_map (λ c. c.left) (chain_at (county self.now) place) }
+    {
+        self.left_at(place).unwrap()
+    }
+
+    /// The right side of the chain at a place, which is below the count of chains.
+    final fn right(&self, place: usize) -> Side
+        requires { place < length (county self.now).chains }
+        ensures { Some result ≡ option_map (λ c. c.right) (chain_at (county self.now) place) }
+    {
+        self.right_at(place).unwrap()
+    }
+
+    /// A point of the chain at a place, from its start node on; the point is below the count of its points.
+    final fn point(&self, place: usize, point: usize) -> Point
+        requires { point < length (points_of (chain_at (county self.now) place)) }
+        ensures { Some result ≡ slice_get (points_of (chain_at (county self.now) place)) point }
+    {
+        self.point_at(place, point).unwrap()
+    }
+
+    /// The FEAT of a further name of the chain at a place; the name is below the count of its names.
+    final fn chain_feat(&self, place: usize, name: usize) -> u32
+        requires { name < length (feats_of (chain_at (county self.now) place)) }
+        ensures { Some result ≡ slice_get (feats_of (chain_at (county self.now) place)) name }
+    {
+        self.chain_feat_at(place, name).unwrap()
+    }
+
+    /// A further address range of the chain at a place; the range is below the count of its ranges.
+    final fn range(&self, place: usize, range: usize) -> Ranges
+        requires { range < length (ranges_of (chain_at (county self.now) place)) }
+        ensures { Some result ≡ slice_get (ranges_of (chain_at (county self.now) place)) range }
+    {
+        self.range_at(place, range).unwrap()
+    }
+
+    /// The name at a place, which is below the count of names.
+    final fn name_body(&self, place: usize) -> Body5
+        requires { place < length (county self.now).names }
+        ensures { Some result ≡ name_at (county self.now) place }
+    {
+        self.name_body_at(place).unwrap()
+    }
+
+    /// The content of the type P record of the polygon at a place, or none where it has no such record; the place is below the
+    /// count of polygons.
+    final fn polygon_body(&self, place: usize) -> Option<BodyP>
+        requires { place < length (county self.now).polygons }
+        ensures { Some result ≡ polygon_at (county self.now) place }
+    {
+        self.polygon_body_at(place).unwrap()
+    }
+
+    /// The content of a type 7 record of the landmark at a place; the body is below the count of its bodies.
+    final fn landmark_body(&self, place: usize, body: usize) -> Body7
+        requires { body < length (bodies_at (county self.now) place) }
+        ensures { Some result ≡ slice_get (bodies_at (county self.now) place) body }
+    {
+        self.landmark_body_at(place, body).unwrap()
+    }
+
+    /// A type 8 record of the landmark at a place; the link is below the count of its links.
+    final fn landmark_link(&self, place: usize, link: usize) -> Rec8
+        requires { link < length (links_at (county self.now) place) }
+        ensures { Some result ≡ slice_get (links_at (county self.now) place) link }
+    {
+        self.landmark_link_at(place, link).unwrap()
+    }
+
+    /// The place of the chain of a TLID, or the count of chains where no chain has it.
+    final fn chain_place_or_end(&self, tlid: u64) -> usize
+        ensures { chain_at (county self.now) result ≡ chain_under (county self.now) tlid }
+    {
+        self.chain_place(tlid).unwrap_or(self.chain_count())
+    }
+
+    /// The place of the name of a FEAT, or the count of names where no name has it.
+    final fn name_place_or_end(&self, feat: u32) -> usize
+        ensures { name_at (county self.now) result ≡ name_under (county self.now) feat }
+    {
+        self.name_place(feat).unwrap_or(self.name_count())
+    }
+
+    /// The place of the polygon of a key, or the count of polygons where no polygon has it.
+    final fn polygon_place_or_end(&self, key: PolygonKey) -> usize
+        ensures { polygon_at (county self.now) result ≡ polygon_under (county self.now) key }
+    {
+        self.polygon_place(key).unwrap_or(self.polygon_count())
+    }
+
+    /// The place of the landmark of a LAND, or the count of landmarks where no landmark has it.
+    final fn landmark_place_or_end(&self, land: u64) -> usize
+        ensures bodies { bodies_at (county self.now) result ≡ bodies_under (county self.now) land }
+        ensures links { links_at (county self.now) result ≡ links_under (county self.now) land }
+    {
+        self.landmark_place(land).unwrap_or(self.landmark_count())
+    }
+
+    /// The content of the type 1 record of the chain of a TLID.
+    final fn chain_body_of(&self, tlid: u64) -> Option<Body1>
+        ensures { result ≡ option_map (λ c. c.body) (chain_under (county self.now) tlid) }
+    {
+        self.chain_body_at(self.chain_place_or_end(tlid))
+    }
+
+    /// The content of the type I record of the chain of a TLID.
+    final fn link_body_of(&self, tlid: u64) -> Option<BodyI>
+        ensures { result ≡ option_map (λ c. c.link_body) (chain_under (county self.now) tlid) }
+    {
+        self.link_body_at(self.chain_place_or_end(tlid))
+    }
+
+    /// The node where the chain of a TLID starts, or none.
+    final fn start_node_of(&self, tlid: u64) -> Option<Option<u64>>
+        ensures { result ≡ option_map (λ c. c.start_node) (chain_under (county self.now) tlid) }
+    {
+        self.start_node_at(self.chain_place_or_end(tlid))
+    }
+
+    /// The node where the chain of a TLID ends, or none.
+    final fn end_node_of(&self, tlid: u64) -> Option<Option<u64>>
+        ensures { result ≡ option_map (λ c. c.end_node) (chain_under (county self.now) tlid) }
+    {
+        self.end_node_at(self.chain_place_or_end(tlid))
+    }
+
+    /// The left side of the chain of a TLID.
+    final fn left_of(&self, tlid: u64) -> Option<Side>
+        ensures { result ≡ option_map (λ c. c.left) (chain_under (county self.now) tlid) }
+    {
+        self.left_at(self.chain_place_or_end(tlid))
+    }
+
+    /// The right side of the chain of a TLID.
+    final fn right_of(&self, tlid: u64) -> Option<Side>
+        ensures { result ≡ option_map (λ c. c.right) (chain_under (county self.now) tlid) }
+    {
+        self.right_at(self.chain_place_or_end(tlid))
+    }
+
+    /// How many points the chain of a TLID has, 0 where no chain has it.
+    final fn point_count_of(&self, tlid: u64) -> usize
+        ensures { result ≡ length (points_of (chain_under (county self.now) tlid)) }
+    {
+        self.point_count_at(self.chain_place_or_end(tlid))
+    }
+
+    /// A point of the chain of a TLID, from its start node on.
+    final fn point_of(&self, tlid: u64, point: usize) -> Option<Point>
+        ensures { result ≡ slice_get (points_of (chain_under (county self.now) tlid)) point }
+    {
+        self.point_at(self.chain_place_or_end(tlid), point)
+    }
+
+    /// How many further names the chain of a TLID has, 0 where no chain has it.
+    final fn feat_count_of(&self, tlid: u64) -> usize
+        ensures { result ≡ length (feats_of (chain_under (county self.now) tlid)) }
+    {
+        self.feat_count_at(self.chain_place_or_end(tlid))
+    }
+
+    /// The FEAT of a further name of the chain of a TLID.
+    final fn chain_feat_of(&self, tlid: u64, name: usize) -> Option<u32>
+        ensures { result ≡ slice_get (feats_of (chain_under (county self.now) tlid)) name }
+    {
+        self.chain_feat_at(self.chain_place_or_end(tlid), name)
+    }
+
+    /// How many further address ranges the chain of a TLID has, 0 where no chain has it.
+    final fn range_count_of(&self, tlid: u64) -> usize
+        ensures { result ≡ length (ranges_of (chain_under (county self.now) tlid)) }
+    {
+        self.range_count_at(self.chain_place_or_end(tlid))
+    }
+
+    /// A further address range of the chain of a TLID.
+    final fn range_of(&self, tlid: u64, range: usize) -> Option<Ranges>
+        ensures { result ≡ slice_get (ranges_of (chain_under (county self.now) tlid)) range }
+    {
+        self.range_at(self.chain_place_or_end(tlid), range)
+    }
+
+    /// The name of a FEAT.
+    final fn name_body_of(&self, feat: u32) -> Option<Body5>
+        ensures { result ≡ name_under (county self.now) feat }
+    {
+        self.name_body_at(self.name_place_or_end(feat))
+    }
+
+    /// The content of the type P record of a polygon, or none where the polygon isn't there or has no such record.
+    final fn polygon_body_of(&self, key: PolygonKey) -> Option<BodyP>
+        ensures { result ≡ option_and_then (λ body. body) (polygon_under (county self.now) key) }
+    {
+        match self.polygon_body_at(self.polygon_place_or_end(key)) {
+            Some(body) => body,
+            None => None,
+        }
+    }
+
+    /// How many type 7 records the landmark of a LAND has, 0 where no landmark has it.
+    final fn body_count_of(&self, land: u64) -> usize
+        ensures { result ≡ length (bodies_under (county self.now) land) }
+    {
+        self.body_count_at(self.landmark_place_or_end(land))
+    }
+
+    /// The content of a type 7 record of the landmark of a LAND.
+    final fn landmark_body_of(&self, land: u64, body: usize) -> Option<Body7>
+        ensures { result ≡ slice_get (bodies_under (county self.now) land) body }
+    {
+        self.landmark_body_at(self.landmark_place_or_end(land), body)
+    }
+
+    /// How many type 8 records the landmark of a LAND has, 0 where no landmark has it.
+    final fn link_count_of(&self, land: u64) -> usize
+        ensures { result ≡ length (links_under (county self.now) land) }
+    {
+        self.link_count_at(self.landmark_place_or_end(land))
+    }
+
+    /// A type 8 record of the landmark of a LAND.
+    final fn landmark_link_of(&self, land: u64, link: usize) -> Option<Rec8>
+        ensures { result ≡ slice_get (links_under (county self.now) land) link }
+    {
+        self.landmark_link_at(self.landmark_place_or_end(land), link)
+    }
 }

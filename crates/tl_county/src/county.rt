@@ -10,6 +10,8 @@ ghost use Rattle.tl_county.specs.CountyProps.{IsCounty-prop, LinksUnderLands-pro
 ghost use Rattle.tl_county.specs.CountyRules.{IsCounty, feats, lands, nodes as nodes_in_order, polygon_keys, tlids};
 ghost use Rattle.tl_county.specs.Entries.{value_under};
 ghost use Rattle.tl_county.specs.KeptCounty.{county_with, LinksUnderLands};
+ghost use Rattle.tl_county.specs.Limits.{IsWithinLimits, most_records};
+ghost use Rattle.tl_county.specs.LimitsProps.{IsWithinLimits-prop};
 ghost use Rattle.tl_county.specs.PolygonKeys.{key_cmp};
 
 use crate::landmark::Landmark;
@@ -28,6 +30,7 @@ pub struct County {
     pub(crate) landmarks: Table<u64, Landmark>,
     pub(crate) nodes: Vec<u64>,
     ghost is_county: { IsCounty (county_with chains names polygons landmarks) } by { IsCounty-prop (county_with chains names polygons landmarks) },
+    ghost within_limits: { IsWithinLimits most_records (county_with chains names polygons landmarks) } by { IsWithinLimits-prop most_records (county_with chains names polygons landmarks) },
     ghost links_under_lands: { LinksUnderLands landmarks } by { LinksUnderLands-prop landmarks },
     ghost nodes_stand: { nodes.items ≡ nodes_in_order (county_with chains names polygons landmarks) },
 }

@@ -8,7 +8,7 @@ use tl_layout::{Body1, Body5, Body7, BodyI, BodyP, Point, Ranges, Rec8, Side};
 
 /// The county's own tables answer.
 impl Chart for County {
-    ghost use Rattle.tl_county.specs.TheCounty.{the_county, the_county-is_county};
+    ghost use Rattle.tl_county.specs.TheCounty.{the_county, the_county-is_county, the_county-within_limits};
 
     ghost county = { the_county };
 
@@ -181,4 +181,6 @@ impl Chart for County {
     }
 
     ghost is_county = { the_county-is_county };
+
+    ghost within_limits = { the_county-within_limits };
 }

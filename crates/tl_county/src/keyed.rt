@@ -72,7 +72,7 @@ pub fn least_unknown<K: Key, A: Keyed<K>, B: Keyed<K>>(items: &[A], known: &[B])
 }
 
 /// The items from the first on whose key isn't below this one; items in order.
-pub fn from_key<K: Key, T: Keyed<K>>(items: &[T], key: K) -> &[T]
+fn from_key<K: Key, T: Keyed<K>>(items: &[T], key: K) -> &[T]
     requires { IsInOrder (on T.key_of K.cmp) items.now }
     ensures { result.now ≡ filter (λ item. not (is_lt (K.cmp (T.key_of item) key))) items.now }
 {
@@ -87,7 +87,7 @@ pub fn from_key<K: Key, T: Keyed<K>>(items: &[T], key: K) -> &[T]
 }
 
 /// The items from the first on whose key is above this one; items in order.
-pub fn after_key<K: Key, T: Keyed<K>>(items: &[T], key: K) -> &[T]
+fn after_key<K: Key, T: Keyed<K>>(items: &[T], key: K) -> &[T]
     requires { IsInOrder (on T.key_of K.cmp) items.now }
     ensures { result.now ≡ filter (λ item. is_gt (K.cmp (T.key_of item) key)) items.now }
 {
@@ -113,7 +113,10 @@ pub fn split_group<K: Key, T: Keyed<K>>(items: &[T], key: K) -> (&[T], &[T])
 }
 
 /// The keys of the items, one after the other.
-pub fn keys_of<K: Ord + Copy, T: Keyed<K>>(alloc: Global, items: &[T]) -> Result<Vec<K>, AllocError>
+pub(crate) fn keys_of<K: Ord + Copy, T: Keyed<K>>(
+    alloc: Global,
+    items: &[T],
+) -> Result<Vec<K>, AllocError>
     ensures { IfOk result (λ keys. keys.items ≡ map T.key_of items.now) }
 {
     let mut keys = Vec::with_capacity(alloc, items.len())?;

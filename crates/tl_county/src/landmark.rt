@@ -8,7 +8,7 @@ use tl_layout::{Body7, Rec8};
 /// A landmark: the contents of its records of type 7 and its records of type 8, both in order and as often as they stand
 /// in the set.
 #[derive(Debug, Drop)]
-pub struct Landmark {
+pub(crate) struct Landmark {
     bodies: Vec<Body7>,
     links: Vec<Rec8>,
 }
@@ -30,14 +30,14 @@ impl Landmark {
     }
 
     /// The contents of its records of type 7, by FILE, SOURCE, CFCC, LANAME and the point, none first.
-    pub fn bodies(&self) -> &[Body7]
+    pub(crate) fn bodies(&self) -> &[Body7]
         ensures { result.now ≡ self.now.bodies }
     {
         self.bodies.as_slice()
     }
 
     /// Its records of type 8, by POLYID, CENID and FILE.
-    pub fn links(&self) -> &[Rec8]
+    pub(crate) fn links(&self) -> &[Rec8]
         ensures { result.now ≡ self.now.links }
     {
         self.links.as_slice()

@@ -1,33 +1,34 @@
 //! One county: what a list of records says of the map, when the records fit together, and when two counties are the same map.
 #![tactic(auto)]
 
+mod arena;
 mod building;
 mod chart;
 mod county;
 mod county_chart;
+mod county_in;
+mod county_in_chart;
 mod fault;
 mod gathered;
 mod keyed;
 mod landmark;
 mod laws;
+mod lent;
 mod linking;
+mod owned;
 mod record_keys;
 mod rules;
 mod table;
 
 pub use chart::Chart;
 pub use county::County;
+pub use county_in::CountyIn;
 pub use fault::{LinkFault, LinkedType};
-pub use keyed::{
-    Key, Keyed, after_key, from_key, keys_of, least_repeated, least_unknown, place_of,
-    put_in_order, split_group,
-};
-pub use landmark::Landmark;
+pub use keyed::{Key, Keyed, least_repeated, least_unknown, place_of, put_in_order, split_group};
 pub use laws::{
     counties_within_limits_are_packed_into_records_that_fit, linked_or_one_first_broken_rule,
     linked_records_have_a_county_within_limits, linked_records_have_a_well_formed_county,
     renamings_compose, sameness_is_an_equivalence, the_county_is_what_the_records_say,
 };
-pub use linking::{link, link_tables};
+pub use linking::{link, link_in, link_tables, link_tables_in};
 pub use record_keys::PolygonKey;
-pub use table::Table;

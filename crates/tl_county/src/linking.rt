@@ -1,32 +1,43 @@
 //! Linking: records become a county, or the first rule that they break is told.
 
-ghost use Rattle.std.specs.Prelude.{◌≡◌, ◌≢◌, ◌++◌, List, map, flat_map, OnOk, IfOk, IfErr};
+ghost use Rattle.std.specs.Prelude.{◌≡◌, ◌≢◌, ◌++◌, List, All, map, flat_map, OnOk, IfOk, IfErr};
+ghost use Rattle.tl_layout.specs.Limits.{IsWithinLimit};
+ghost use Rattle.tl_layout.specs.RecordText.{FitsRecord};
 ghost use Rattle.tl_layout.specs.declared.record_type.Record.{Record};
 ghost use Rattle.tl_layout.specs.Tables.{HoldsByType};
 ghost use Rattle.tl_county.specs.Building.{county_along, landmarks_along};
 ghost use Rattle.tl_county.specs.County.{county_of, five_feat, p_key, side_keys};
+ghost use Rattle.tl_county.specs.Limits.{HoldsWithinLimits, IsWithinLimits, most_records};
 ghost use Rattle.tl_county.specs.LinkRules.{IsFirstBrokenRule, IsLinked};
-ghost use Rattle.tl_county.specs.OrderedTables.{typed_of, AreInOrder};
+ghost use Rattle.tl_county.specs.Entries.{map_values};
+ghost use Rattle.tl_county.specs.OrderedTables.{typed_of, AreInOrder, ArePermuted};
 ghost use Rattle.tl_county.specs.Orders.{distinct};
 ghost use Rattle.tl_county.specs.Packing.{by_type, type_after_type};
 ghost use Rattle.tl_county.specs.TheCounty.{the_county};
+ghost use Rattle.tl_county.specs.TheCountyIn.{the_county_in};
 ghost use Rattle.tl_county.specs.PolygonKeys.{key_cmp};
 ghost use Rattle.tl_county.specs.declared.fault.LinkFault.TheVariants.{Memory};
 
+use crate::arena::{InArena, names_in};
 use crate::building::{
-    chains_of_records, landmarks_of, lands_of, name_bodies, nodes_of, polygon_bodies,
+    ChainBuilder, LandmarkBuilder, chains_of_records, landmarks_of, lands_of, name_bodies,
+    nodes_of, polygon_bodies,
 };
 use crate::county::County;
+use crate::county_in::CountyIn;
 use crate::fault::LinkFault;
 use crate::gathered::{linked_polygons, order_tables, polygon_keys, uses_in_order};
 use crate::keyed::keys_of;
 use crate::landmark::Landmark;
+use crate::lent::{LandmarkIn, NameIn};
+use crate::owned::Owned;
 use crate::record_keys::PolygonKey;
 use crate::rules::{check_chains, check_landmarks, check_links, check_names, check_sequences};
 use crate::table::Table;
+use bumpalo::Bump;
 use std::alloc::{AllocError, Global};
 use tl_layout::{Body5, BodyP, Rec1, Rec5, Record, Tables};
-use tl_shape::Chain;
+use tl_shape::{Chain, ChainIn};
 
 /// The ten rules, over tables in order, with their FEATs and their polygons in order.
 fn check_rules(
@@ -41,36 +52,29 @@ fn check_rules(
     ensures linked { OnOk result ((records : List Record) → by_type records ≡ typed_of tables.now → IsLinked records) }
     ensures broken { IfErr result (λ fault. fault ≢ Memory → (records : List Record) → by_type records ≡ typed_of tables.now → IsFirstBrokenRule records fault) }
 {
-    if let Err(fault) = check_chains(tables) {
-        return Err(fault);
-    }
-    if let Err(fault) = check_sequences(tables) {
-        return Err(fault);
-    }
-    if let Err(fault) = check_links(tables) {
-        return Err(fault);
-    }
-    let Ok(uses) = uses_in_order(alloc, &tables.type_4) else {
-        return Err(LinkFault::Memory);
-    };
-    if let Err(fault) = check_names(tables, &uses, feats) {
-        return Err(fault);
-    }
-    let Ok(linked) = linked_polygons(alloc, &tables.type_8) else {
-        return Err(LinkFault::Memory);
-    };
+    check_chains(tables)?;
+    check_sequences(tables)?;
+    check_links(tables)?;
+    let uses = uses_in_order(alloc, &tables.type_4)?;
+    check_names(tables, &uses, feats)?;
+    let linked = linked_polygons(alloc, &tables.type_8)?;
     check_landmarks(tables, &linked, polygons)
 }
 
 /// The chains of tables in order, under their TLIDs.
-fn build_chains(alloc: Global, tables: &Tables) -> Result<Table<u64, Chain>, AllocError>
+fn build_chains<C: Drop, B: ChainBuilder<C>>(
+    alloc: Global,
+    builder: &mut B,
+    tables: &Tables,
+) -> Result<Table<u64, C>, AllocError>
     requires tables { AreInOrder (typed_of tables.now) }
     requires linked { IsLinked (type_after_type (typed_of tables.now)) }
-    ensures { IfOk result (λ chains. chains ≡ (county_along (typed_of tables.now)).chains) }
+    ensures { IfOk result (λ chains. map_values B.chain chains ≡ (county_along (typed_of tables.now)).chains) }
 {
     let tlids = keys_of::<u64, Rec1>(alloc, &tables.type_1)?;
-    let chains = chains_of_records(
+    let chains = chains_of_records::<C, B>(
         alloc,
+        builder,
         &tables.type_1,
         &tables.type_i,
         &tables.type_2,
@@ -110,12 +114,16 @@ fn build_polygons(
 }
 
 /// The landmarks of tables in order, under their LANDs.
-fn build_landmarks(alloc: Global, tables: &Tables) -> Result<Table<u64, Landmark>, AllocError>
+fn build_landmarks<L: Drop, B: LandmarkBuilder<L>>(
+    alloc: Global,
+    builder: &mut B,
+    tables: &Tables,
+) -> Result<Table<u64, L>, AllocError>
     requires tables { AreInOrder (typed_of tables.now) }
-    ensures { IfOk result (λ landmarks. landmarks ≡ landmarks_along (typed_of tables.now)) }
+    ensures { IfOk result (λ landmarks. map_values B.landmark landmarks ≡ landmarks_along (typed_of tables.now)) }
 {
     let lands = lands_of(alloc, &tables.type_7)?;
-    let landmarks = landmarks_of(alloc, &lands, &tables.type_7, &tables.type_8)?;
+    let landmarks = landmarks_of::<L, B>(alloc, builder, &lands, &tables.type_7, &tables.type_8)?;
     Ok(Table::new(lands, landmarks))
 }
 
@@ -130,13 +138,15 @@ fn build_county(
     requires linked { IsLinked (type_after_type (typed_of tables.now)) }
     requires feats { feats.items ≡ map five_feat tables.now.type_5.items }
     requires polygons { polygons.items ≡ distinct key_cmp (flat_map side_keys tables.now.type_i.items ++ map p_key tables.now.type_p.items) }
+    requires limits { IsWithinLimits most_records (county_of (type_after_type (typed_of tables.now))) }
     ensures { IfOk result (λ county. the_county county ≡ county_of (type_after_type (typed_of tables.now))) }
 {
-    let chains = build_chains(alloc, tables)?;
-    let nodes = nodes_of(alloc, chains.values())?;
+    let mut owned = Owned { alloc };
+    let chains = build_chains::<Chain, Owned>(alloc, &mut owned, tables)?;
+    let nodes = nodes_of(alloc, &tables.type_i)?;
     let names = build_names(alloc, tables, feats)?;
     let polygons = build_polygons(alloc, tables, polygons)?;
-    let landmarks = build_landmarks(alloc, tables)?;
+    let landmarks = build_landmarks::<Landmark, Owned>(alloc, &mut owned, tables)?;
     Ok(County {
         chains,
         names,
@@ -146,26 +156,127 @@ fn build_county(
     })
 }
 
-/// The county of tables of records, or the first rule that the records break. The tables' order has no meaning.
+/// The names of tables in order, under their FEATs, their contents in an arena.
+fn build_names_in<'a>(
+    alloc: Global,
+    arena: &'a Bump,
+    tables: &Tables,
+    feats: Vec<u32>,
+) -> Result<Table<u32, NameIn<'a>>, AllocError>
+    requires tables { AreInOrder (typed_of tables.now) }
+    requires linked { IsLinked (type_after_type (typed_of tables.now)) }
+    requires feats { feats.items ≡ map five_feat tables.now.type_5.items }
+    ensures { IfOk result (λ names. names ≡ (county_along (typed_of tables.now)).names) }
+{
+    let names = names_in(alloc, arena, &tables.type_5)?;
+    Ok(Table::new(feats, names))
+}
+
+/// The county of linked records in an arena, their tables in order.
+fn build_county_in<'a>(
+    alloc: Global,
+    arena: &'a Bump,
+    tables: &Tables,
+    feats: Vec<u32>,
+    polygons: Vec<PolygonKey>,
+) -> Result<CountyIn<'a>, AllocError>
+    requires tables { AreInOrder (typed_of tables.now) }
+    requires linked { IsLinked (type_after_type (typed_of tables.now)) }
+    requires feats { feats.items ≡ map five_feat tables.now.type_5.items }
+    requires polygons { polygons.items ≡ distinct key_cmp (flat_map side_keys tables.now.type_i.items ++ map p_key tables.now.type_p.items) }
+    requires limits { IsWithinLimits most_records (county_of (type_after_type (typed_of tables.now))) }
+    ensures { IfOk result (λ county. the_county_in county ≡ county_of (type_after_type (typed_of tables.now))) }
+{
+    let mut builder = InArena::new(alloc, arena);
+    let chains = build_chains::<ChainIn<'a>, InArena<'a>>(alloc, &mut builder, tables)?;
+    let nodes = nodes_of(alloc, &tables.type_i)?;
+    let names = build_names_in(alloc, arena, tables, feats)?;
+    let polygons = build_polygons(alloc, tables, polygons)?;
+    let landmarks = build_landmarks::<LandmarkIn<'a>, InArena<'a>>(alloc, &mut builder, tables)?;
+    Ok(CountyIn {
+        chains,
+        names,
+        polygons,
+        landmarks,
+        nodes,
+    })
+}
+
+/// What was gathered of tables in order: the FEATs of names and the keys of polygons, both in order.
+#[derive(Drop)]
+struct Gathered {
+    feats: Vec<u32>,
+    polygons: Vec<PolygonKey>,
+}
+
+/// Puts the tables in order and checks the ten rules, or tells the first one that the records break.
+fn settle(alloc: Global, tables: &mut Tables) -> Result<Gathered, LinkFault>
+    ensures in_order { OnOk result (AreInOrder (typed_of tables.new)) }
+    ensures same { OnOk result (ArePermuted (typed_of tables.old) (typed_of tables.new)) }
+    ensures linked { OnOk result (IsLinked (type_after_type (typed_of tables.new))) }
+    ensures feats { IfOk result (λ gathered. gathered.feats.items ≡ map five_feat tables.new.type_5.items) }
+    ensures polygons { IfOk result (λ gathered. gathered.polygons.items ≡ distinct key_cmp (flat_map side_keys tables.new.type_i.items ++ map p_key tables.new.type_p.items)) }
+    ensures broken { IfErr result (λ fault. fault ≢ Memory → (records : List Record) → HoldsByType tables.old records → IsFirstBrokenRule records fault) }
+{
+    order_tables(tables)?;
+    let feats = keys_of::<u32, Rec5>(alloc, &tables.type_5)?;
+    let polygons = polygon_keys(alloc, &tables.type_i, &tables.type_p)?;
+    check_rules(alloc, tables, &feats, &polygons)?;
+    Ok(Gathered { feats, polygons })
+}
+
+/// The county of tables of records, or the first rule that the records break. The tables' order has no meaning. They hold
+/// 10,000,000 records of a type at most.
 pub fn link_tables(alloc: Global, tables: Tables) -> Result<County, LinkFault>
+    requires { HoldsWithinLimits tables }
     ensures linked { IfOk result (λ county. (records : List Record) → HoldsByType tables records → IsLinked records × (the_county county ≡ county_of records)) }
     ensures broken { IfErr result (λ fault. fault ≢ Memory → (records : List Record) → HoldsByType tables records → IsFirstBrokenRule records fault) }
 {
     let mut tables = tables;
-    order_tables(&mut tables)?;
-    let feats = keys_of::<u32, Rec5>(alloc, &tables.type_5)?;
-    let polygons = polygon_keys(alloc, &tables.type_i, &tables.type_p)?;
-    if let Err(fault) = check_rules(alloc, &tables, &feats, &polygons) {
-        return Err(fault);
-    }
-    Ok(build_county(alloc, &tables, feats, polygons)?)
+    let gathered = settle(alloc, &mut tables)?;
+    Ok(build_county(alloc, &tables, gathered.feats, gathered.polygons)?)
 }
 
-/// The county of a list of records, or the first rule that the records break. The list's order has no meaning.
+/// The county of tables of records in an arena, which outlives it, or the first rule that the records break. The tables' order
+/// has no meaning. They hold 10,000,000 records of a type at most.
+pub fn link_tables_in<'a>(
+    alloc: Global,
+    arena: &'a Bump,
+    tables: Tables,
+) -> Result<CountyIn<'a>, LinkFault>
+    requires { HoldsWithinLimits tables }
+    ensures linked { IfOk result (λ county. (records : List Record) → HoldsByType tables records → IsLinked records × (the_county_in county ≡ county_of records)) }
+    ensures broken { IfErr result (λ fault. fault ≢ Memory → (records : List Record) → HoldsByType tables records → IsFirstBrokenRule records fault) }
+{
+    let mut tables = tables;
+    let gathered = settle(alloc, &mut tables)?;
+    Ok(build_county_in(alloc, arena, &tables, gathered.feats, gathered.polygons)?)
+}
+
+/// The county of a list of records, or the first rule that the records break. The list's order has no meaning. It has
+/// 10,000,000 records of a type at most.
 pub fn link(alloc: Global, records: Vec<Record>) -> Result<County, LinkFault>
+    requires fits { All FitsRecord records.items }
+    requires few { IsWithinLimit most_records records.items }
     ensures linked { IfOk result (λ county. IsLinked records.items × (the_county county ≡ county_of records.items)) }
     ensures broken { IfErr result (λ fault. fault ≢ Memory → IsFirstBrokenRule records.items fault) }
 {
     let tables = Tables::of(alloc, records)?;
     link_tables(alloc, tables)
+}
+
+/// The county of a list of records in an arena, which outlives it, or the first rule that the records break. The list's order
+/// has no meaning. It has 10,000,000 records of a type at most.
+pub fn link_in<'a>(
+    alloc: Global,
+    arena: &'a Bump,
+    records: Vec<Record>,
+) -> Result<CountyIn<'a>, LinkFault>
+    requires fits { All FitsRecord records.items }
+    requires few { IsWithinLimit most_records records.items }
+    ensures linked { IfOk result (λ county. IsLinked records.items × (the_county_in county ≡ county_of records.items)) }
+    ensures broken { IfErr result (λ fault. fault ≢ Memory → IsFirstBrokenRule records.items fault) }
+{
+    let tables = Tables::of(alloc, records)?;
+    link_tables_in(alloc, arena, tables)
 }

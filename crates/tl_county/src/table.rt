@@ -11,7 +11,7 @@ use std::marker::Model;
 
 /// Values under keys; the keys ascend, and none stands twice.
 #[derive(Debug, Drop)]
-pub struct Table<K: Key, V> {
+pub(crate) struct Table<K: Key, V> {
     keys: Vec<K>,
     values: Vec<V>,
 }
@@ -30,7 +30,7 @@ impl<K: Key, V> Model for Table<K, V> {
 
 impl<K: Key, V> Table<K, V> {
     /// The table of these values under these keys, which ascend and are as many.
-    pub fn new(keys: Vec<K>, values: Vec<V>) -> Table<K, V>
+    pub(crate) fn new(keys: Vec<K>, values: Vec<V>) -> Table<K, V>
         requires ascending { IsStrictlySortedBy K.cmp keys.items }
         requires same_length { length keys.items ≡ length values.items }
         ensures keys { entry_keys result ≡ keys.items }
@@ -40,14 +40,14 @@ impl<K: Key, V> Table<K, V> {
     }
 
     /// How many keys there are.
-    pub fn len(&self) -> usize
+    pub(crate) fn len(&self) -> usize
         ensures { result ≡ length self.now }
     {
         self.keys().len()
     }
 
     /// The keys, ascending.
-    pub fn keys(&self) -> &[K]
+    pub(crate) fn keys(&self) -> &[K]
         ensures value { result.now ≡ entry_keys self.now }
         ensures ascending { IsStrictlySortedBy K.cmp (entry_keys self.now) }
     {
@@ -55,28 +55,28 @@ impl<K: Key, V> Table<K, V> {
     }
 
     /// The values, in the order of their keys.
-    pub fn values(&self) -> &[V]
+    pub(crate) fn values(&self) -> &[V]
         ensures { result.now ≡ entry_values self.now }
     {
         self.values.as_slice()
     }
 
     /// The key at a place, from 0, or none past the end.
-    pub fn key_at(&self, place: usize) -> Option<K>
+    pub(crate) fn key_at(&self, place: usize) -> Option<K>
         ensures { result ≡ slice_get (entry_keys self.now) place }
     {
         self.keys().get(place).copied()
     }
 
     /// The value at a place, from 0, or none past the end.
-    pub fn value_at(&self, place: usize) -> Option<&V>
+    pub(crate) fn value_at(&self, place: usize) -> Option<&V>
         ensures { option_copied result ≡ slice_get (entry_values self.now) place }
     {
         self.values().get(place)
     }
 
     /// The place of a key, from 0, or none where it doesn't stand in the table.
-    pub fn place(&self, key: K) -> Option<usize>
+    pub(crate) fn place(&self, key: K) -> Option<usize>
         ensures found { IfSome result (λ place. slice_get (entry_keys self.now) place ≡ Some key) }
         ensures known { is_some result ≡ stands_in K.cmp key (entry_keys self.now) }
         ensures ascending { IsStrictlySortedBy K.cmp (entry_keys self.now) }
@@ -85,7 +85,7 @@ impl<K: Key, V> Table<K, V> {
     }
 
     /// The value under a key, or none where it doesn't stand in the table.
-    pub fn get(&self, key: K) -> Option<&V>
+    pub(crate) fn get(&self, key: K) -> Option<&V>
         ensures { option_copied result ≡ value_under K.cmp key self.now }
     {
         match self.place(key) {

@@ -1,3 +1,13 @@
 pub mod ProfileFaults
 pub mod SameProfile
 pub mod OnSamples
+pub mod PlacedOrder
+pub mod Walks
+pub mod Places
+pub mod OwnReverses
+pub mod Lessers
+pub mod Pairs
+pub mod ShapesOfCounty
+pub mod SideKeys
+pub mod ShapeOrder
+pub mod FirstClauses

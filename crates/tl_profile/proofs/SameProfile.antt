@@ -42,7 +42,7 @@ shape-true ps qs e = go (or_cases (same_points ps qs) (same_points ps (reverse q
     go (inl t) = inl (points-true ps qs t)
     go (inr t) = inr (points-true ps (reverse qs) t)
 
-shape-same : (ps qs : List Coordinates) → OneShape ps qs → same_shape ps qs ≡ true
+pub shape-same : (ps qs : List Coordinates) → OneShape ps qs → same_shape ps qs ≡ true
 shape-same ps qs (inl e) = or_left (same_points ps qs) (same_points ps (reverse qs)) (points-same ps qs e)
 shape-same ps qs (inr e) = or_right (same_points ps qs) (same_points ps (reverse qs)) (points-same ps (reverse qs) e)
 

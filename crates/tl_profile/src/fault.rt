@@ -1,14 +1,32 @@
 //! How a county can fall outside the profile.
 
+use std::alloc::AllocError;
+use thiserror::Error;
+
 /// The first clause of the profile that a county breaks, with the least place at which it is broken.
-#[derive(Clone, Copy, Debug, PartialEq, Eq)]
+#[derive(Clone, Copy, Debug, PartialEq, Eq, Error)]
 pub enum ProfileFault {
     /// The point list of a chain equals its own reverse (21).
+    #[error("the points of the chain with the TLID {tlid} are the same from both ends")]
     OwnReverse { tlid: u64 },
     /// The points of two chains are equal, as they are or with one of them reversed (22).
+    #[error("the chains with the TLIDs {first} and {second} have the same points")]
     SameShape { first: u64, second: u64 },
     /// A polygon with a record of type P is on no side of a chain (23).
+    #[error("the POLYID {polyid} under the CENID {cenid:?} has a record of type P and is on no side of a chain")]
     PolygonWithoutChain { cenid: [u8; 5], polyid: u64 },
     /// There was no memory (9).
+    #[error("there is not enough memory")]
     Memory,
+}
+
+impl From<AllocError> for ProfileFault {
+    ghost use Rattle.std.specs.Prelude.{◌≡◌};
+    ghost use Rattle.tl_profile.specs.declared.fault.ProfileFault.TheVariants.{Memory};
+
+    ghost from_gives = { λ _ fault. fault ≡ Memory };
+
+    fn from(_error: AllocError) -> ProfileFault {
+        ProfileFault::Memory
+    }
 }

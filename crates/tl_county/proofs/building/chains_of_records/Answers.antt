@@ -1,4 +1,5 @@
-use Rattle.std.proofs.Common.{◌≡◌, List, ◌∷◌, ◌++◌, map, filter, is_gt, sym, ap, ◌∙◌, subst, nat_cmp, rules}
+use Rattle.std.proofs.Common.{◌≡◌, List, [], ◌∷◌, ◌++◌, map, filter, is_gt, sym, ap, ◌∙◌, subst, nat_cmp, rules}
+use Rattle.std.proofs.lemmas.List.{map-append}
 use Rattle.std.specs.List.Sorted.{IsStrictlySortedBy}
 use Rattle.std.specs.Ordering.{on}
 use Rattle.tl_county.specs.Orders.{IsInOrder}
@@ -9,7 +10,8 @@ use Rattle.tl_county.proofs.Groups.{chains-step, later_than, strict_tail}
 use Rattle.tl_county.proofs.building.chains_of_records.Goals as goal
 
 pub loop-head-preserved : goal.loop-head-preserved
-loop-head-preserved c =
+loop-head-preserved g c =
+    let f = g.B.ChainBuilder.chain in
     let at = c.loop-head in
     let heads : at.heads.now ≡ c.in-Some.head.now ∷ c.in-Some.later.now = c.in-Some.ensures.cases.0 in
     let links : at.links.now ≡ c.in-Some-split_first.link.now ∷ c.in-Some-split_first.others.now = c.in-Some-split_first.ensures.cases.0 in
@@ -25,9 +27,9 @@ loop-head-preserved c =
           (in_order-filter (on four_tlid nat_cmp) (λ x. is_gt (nat_cmp (four_tlid x) c.tlid-tlid.result)) at.names.now at.invariant.names);
       ranges = subst (IsInOrder (on six_tlid nat_cmp)) (sym ranges)
           (in_order-filter (on six_tlid nat_cmp) (λ x. is_gt (nat_cmp (six_tlid x) c.tlid-tlid.result)) at.ranges.now at.invariant.ranges);
-      done = (λ i. c.in_ok-push.ensures.items i ++ chains_along (shapes i) (names i)
+      done = (λ i. (ap (map f) c.in_ok-push.ensures.items ∙ map-append f at.chains.items (c.in_ok-build_chain.field-0 ∷ [])) i ++ chains_along (shapes i) (names i)
           (ranges i) c.in-Some.later.now c.in-Some-split_first.others.now)
-          ∙ chains-step at.chains.items _ c.in-Some.head.now c.in-Some.later.now at.heads.now c.in-Some-split_first.link.now c.in-Some-split_first.others.now at.links.now
-          at.shapes.now c.split_group.result.0.now at.names.now c.split_group-in-Some.result.0.now at.ranges.now c.split_group-in-Some-2.result.0.now c.tlid-tlid.result c.in_ok-chain_of_records.field-0
-          c.tlid-tlid.ensures.value c.split_group.ensures.group c.split_group-in-Some.ensures.group c.split_group-in-Some-2.ensures.group c.in_ok-chain_of_records.ensures heads links at.invariant.heads at.invariant.done;
+          ∙ chains-step (map f at.chains.items) _ c.in-Some.head.now c.in-Some.later.now at.heads.now c.in-Some-split_first.link.now c.in-Some-split_first.others.now at.links.now
+          at.shapes.now c.split_group.result.0.now at.names.now c.split_group-in-Some.result.0.now at.ranges.now c.split_group-in-Some-2.result.0.now c.tlid-tlid.result (f c.in_ok-build_chain.field-0)
+          c.tlid-tlid.ensures.value c.split_group.ensures.group c.split_group-in-Some.ensures.group c.split_group-in-Some-2.ensures.group c.in_ok-build_chain.ensures heads links at.invariant.heads at.invariant.done;
     }

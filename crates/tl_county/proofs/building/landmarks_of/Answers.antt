@@ -1,4 +1,5 @@
-use Rattle.std.proofs.Common.{◌≡◌, List, ◌∷◌, ◌++◌, map, filter, is_gt, sym, ap, ◌∙◌, subst, nat_cmp, rules}
+use Rattle.std.proofs.Common.{◌≡◌, List, [], ◌∷◌, ◌++◌, map, filter, is_gt, refl, sym, ap, ◌∙◌, subst, nat_cmp, rules}
+use Rattle.std.proofs.lemmas.List.{map-append}
 use Rattle.std.specs.List.Sorted.{IsStrictlySortedBy}
 use Rattle.std.specs.Ordering.{on}
 use Rattle.tl_county.specs.Orders.{IsInOrder}
@@ -9,7 +10,8 @@ use Rattle.tl_county.proofs.Groups.{landmarks-step, strict_tail}
 use Rattle.tl_county.proofs.building.landmarks_of.Goals as goal
 
 pub loop-land-preserved : goal.loop-land-preserved
-loop-land-preserved c =
+loop-land-preserved g c =
+    let f = g.B.LandmarkBuilder.landmark in
     let at = c.loop-land in
     let lands : at.lands.now ≡ c.in-Some.land.now ∷ c.in-Some.later.now = c.in-Some.ensures.cases.0 in
     let landmarks = c.split_group.ensures.later in
@@ -22,12 +24,9 @@ loop-land-preserved c =
       links = subst (IsInOrder (on eight_land nat_cmp)) (sym links)
           (in_order-filter (on eight_land nat_cmp)
           (λ x. is_gt (nat_cmp (eight_land x) c.in-Some.land.now)) at.links.now at.invariant.links);
-      done = (λ i. c.in_ok-push.ensures.items i ++ map (landmark_of (landmarks i) (links i)) c.in-Some.later.now)
-          ∙ landmarks-step at.found.items _ c.in-Some.land.now c.in-Some.later.now at.lands.now at.landmarks.now c.split_group.result.0.now at.links.now c.split_group-in-Some.result.0.now c.in_ok-bodies.bodies.items c.new.result
-          c.split_group.ensures.group c.split_group-in-Some.ensures.group c.in_ok-bodies.ensures (c.new.ensures
-          ∙ (λ i. record {
-            bodies = c.in_ok-bodies.bodies.items;
-            links =
-                c.in_ok-from_slice.ensures.items i;
-          })) lands at.invariant.lands at.invariant.done;
+      done = (λ i. (ap (map f) c.in_ok-push.ensures.items ∙ map-append f at.found.items (c.in_ok-build_landmark.field-0 ∷ [])) i
+          ++ map (landmark_of (landmarks i) (links i)) c.in-Some.later.now)
+          ∙ landmarks-step (map f at.found.items) _ c.in-Some.land.now c.in-Some.later.now at.lands.now at.landmarks.now c.split_group.result.0.now
+          at.links.now c.split_group-in-Some.result.0.now _ (f c.in_ok-build_landmark.field-0)
+          c.split_group.ensures.group c.split_group-in-Some.ensures.group refl c.in_ok-build_landmark.ensures lands at.invariant.lands at.invariant.done;
     }

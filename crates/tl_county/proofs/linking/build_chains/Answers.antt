@@ -1,61 +1,59 @@
 use Rattle.std.proofs.Common.{◌≡◌, ℕ, List, map, length, sym, ap, ◌∙◌, subst, nat_cmp}
 use Rattle.std.specs.List.Sorted.{IsStrictlySortedBy}
 use Rattle.std.specs.Ordering.{on}
-use Rattle.tl_shape.specs.Chain.{Chain}
+use Rattle.std.proofs.lemmas.List.{length-map}
+use Rattle.tl_county.specs.Entries.{map_values}
 use Rattle.tl_county.specs.Building.{chains_along}
 use Rattle.tl_county.specs.County.{one_tlid, two_tlid, four_tlid, six_tlid}
 use Rattle.tl_county.specs.OrderedTables.{typed_of}
 use Rattle.tl_county.specs.Orders.{IsInOrder}
 use Rattle.tl_county.proofs.BuiltTables.{twos-in_order, fours-in_order, sixes-in_order, tlids-ascend, beside, length-chains_along}
-use Rattle.tl_county.proofs.EntryLists.{entries-equal, keys-zip, values-zip}
+use Rattle.tl_county.proofs.EntryLists.{entries-equal, keys-zip, values-zip, keys-map_values, values-map_values}
 use Rattle.tl_county.proofs.linking.build_chains.Goals as goal
 
 pub chains_of_records-requires-clause-heads : goal.chains_of_records-requires-clause-heads
-chains_of_records-requires-clause-heads c =
+chains_of_records-requires-clause-heads g c =
     subst (λ l. IsStrictlySortedBy nat_cmp (map one_tlid l)) (sym c.deref-2.ensures.value)
     (tlids-ascend (typed_of c.args.tables.now) c.requires.tables c.requires.linked)
 
 pub chains_of_records-requires-clause-shapes : goal.chains_of_records-requires-clause-shapes
-chains_of_records-requires-clause-shapes c =
+chains_of_records-requires-clause-shapes g c =
     subst (IsInOrder (on two_tlid nat_cmp)) (sym c.deref-4.ensures.value) (twos-in_order (typed_of c.args.tables.now) c.requires.tables)
 
 pub chains_of_records-requires-clause-names : goal.chains_of_records-requires-clause-names
-chains_of_records-requires-clause-names c =
+chains_of_records-requires-clause-names g c =
     subst (IsInOrder (on four_tlid nat_cmp)) (sym c.deref-5.ensures.value) (fours-in_order (typed_of c.args.tables.now) c.requires.tables)
 
 pub chains_of_records-requires-clause-ranges : goal.chains_of_records-requires-clause-ranges
-chains_of_records-requires-clause-ranges c =
+chains_of_records-requires-clause-ranges g c =
     subst (IsInOrder (on six_tlid nat_cmp)) (sym c.deref-6.ensures.value) (sixes-in_order (typed_of c.args.tables.now) c.requires.tables)
 
 pub new-requires-clause-ascending : goal.new-requires-clause-ascending
-new-requires-clause-ascending c =
+new-requires-clause-ascending g c =
     subst (IsStrictlySortedBy nat_cmp) (sym (c.in_ok-tlids.ensures ∙ ap (map one_tlid) c.deref.ensures.value))
     (tlids-ascend (typed_of c.args.tables.now) c.requires.tables c.requires.linked)
 
--- the chains that were built, of the tables themselves
-built : {A B : List Chain} → A ≡ B → B ≡ A
-built e = sym e
-
 pub new-requires-clause-same_length : goal.new-requires-clause-same_length
-new-requires-clause-same_length c =
+new-requires-clause-same_length g c =
     let t = typed_of c.args.tables.now in
-    let chains : c.in_ok-chains.chains.items ≡ chains_along t.of_type_2 t.of_type_4 t.of_type_6 t.of_type_1 t.of_type_i =
+    let chains : map g.B.ChainBuilder.chain c.in_ok-chains.chains.items ≡ chains_along t.of_type_2 t.of_type_4 t.of_type_6 t.of_type_1 t.of_type_i =
     c.in_ok-chains.ensures ∙ (λ i. chains_along (c.deref-4.ensures.value i) (c.deref-5.ensures.value i) (c.deref-6.ensures.value i)
     (c.deref-2.ensures.value i) (c.deref-3.ensures.value i)) in
     ap length (c.in_ok-tlids.ensures ∙ ap (map one_tlid) c.deref.ensures.value)
     ∙ length-chains_along t.of_type_2 t.of_type_4 t.of_type_6 t.of_type_1 t.of_type_i (beside t c.requires.tables c.requires.linked)
-    ∙ ap length (sym chains)
+    ∙ ap length (sym chains) ∙ length-map c.in_ok-chains.chains.items g.B.ChainBuilder.chain
 
 pub returns : goal.returns
-returns c =
+returns g c =
     let t = typed_of c.args.tables.now in
-    let chains : c.in_ok-chains.chains.items ≡ chains_along t.of_type_2 t.of_type_4 t.of_type_6 t.of_type_1 t.of_type_i =
+    let chains : map g.B.ChainBuilder.chain c.in_ok-chains.chains.items ≡ chains_along t.of_type_2 t.of_type_4 t.of_type_6 t.of_type_1 t.of_type_i =
     c.in_ok-chains.ensures ∙ (λ i. chains_along (c.deref-4.ensures.value i) (c.deref-5.ensures.value i) (c.deref-6.ensures.value i)
     (c.deref-2.ensures.value i) (c.deref-3.ensures.value i)) in
     let same_length = length-chains_along t.of_type_2 t.of_type_4 t.of_type_6 t.of_type_1 t.of_type_i
     (beside t c.requires.tables c.requires.linked) in
-    entries-equal c.new.result _
-    (c.new.ensures.keys ∙ c.in_ok-tlids.ensures ∙ ap (map one_tlid) c.deref.ensures.value
+    let f = g.B.ChainBuilder.chain in
+    entries-equal (map_values f c.new.result) _
+    (keys-map_values f c.new.result ∙ c.new.ensures.keys ∙ c.in_ok-tlids.ensures ∙ ap (map one_tlid) c.deref.ensures.value
     ∙ sym (keys-zip (map one_tlid t.of_type_1) (chains_along t.of_type_2 t.of_type_4 t.of_type_6 t.of_type_1 t.of_type_i) same_length))
-    (c.new.ensures.values ∙ chains ∙ sym (values-zip (map one_tlid t.of_type_1)
+    (values-map_values f c.new.result ∙ ap (map f) c.new.ensures.values ∙ chains ∙ sym (values-zip (map one_tlid t.of_type_1)
     (chains_along t.of_type_2 t.of_type_4 t.of_type_6 t.of_type_1 t.of_type_i) same_length))

@@ -3,45 +3,48 @@ use Rattle.std.specs.List.Sorted.{IsStrictlySortedBy}
 use Rattle.std.specs.Ordering.{on}
 use Rattle.tl_county.specs.Building.{landmark_of}
 use Rattle.tl_county.specs.County.{seven_land, eight_land}
+use Rattle.tl_county.specs.Entries.{map_values}
 use Rattle.tl_county.specs.OrderedTables.{typed_of}
 use Rattle.tl_county.specs.Orders.{IsInOrder, distinct}
 use Rattle.tl_county.proofs.BuiltTables.{sevens-in_order, eights-in_order}
-use Rattle.tl_county.proofs.EntryLists.{entries-equal}
+use Rattle.tl_county.proofs.EntryLists.{entries-equal, keys-map_values, values-map_values}
 use Rattle.tl_county.proofs.Keys.{nat_keys}
 use Rattle.tl_county.proofs.Lists.{map-map}
 use Rattle.tl_county.proofs.Numbers.{distinct-strict}
 use Rattle.tl_county.proofs.linking.build_landmarks.Goals as goal
 
 pub lands_of-requires : goal.lands_of-requires
-lands_of-requires c =
+lands_of-requires g c =
     subst (IsInOrder (on seven_land nat_cmp)) (sym c.deref.ensures.value) (sevens-in_order (typed_of c.args.tables.now) c.requires.tables)
 
 pub landmarks_of-requires-clause-lands : goal.landmarks_of-requires-clause-lands
-landmarks_of-requires-clause-lands c =
+landmarks_of-requires-clause-lands g c =
     subst (IsStrictlySortedBy nat_cmp) (sym (c.deref-2.ensures.value ∙ c.in_ok-lands.ensures))
     (distinct-strict nat_keys (map seven_land c.deref.result.now))
 
 pub landmarks_of-requires-clause-landmarks : goal.landmarks_of-requires-clause-landmarks
-landmarks_of-requires-clause-landmarks c =
+landmarks_of-requires-clause-landmarks g c =
     subst (IsInOrder (on seven_land nat_cmp)) (sym c.deref-3.ensures.value) (sevens-in_order (typed_of c.args.tables.now) c.requires.tables)
 
 pub landmarks_of-requires-clause-links : goal.landmarks_of-requires-clause-links
-landmarks_of-requires-clause-links c =
+landmarks_of-requires-clause-links g c =
     subst (IsInOrder (on eight_land nat_cmp)) (sym c.deref-4.ensures.value) (eights-in_order (typed_of c.args.tables.now) c.requires.tables)
 
 pub new-requires-clause-ascending : goal.new-requires-clause-ascending
-new-requires-clause-ascending c =
+new-requires-clause-ascending g c =
     subst (IsStrictlySortedBy nat_cmp) (sym c.in_ok-lands.ensures) (distinct-strict nat_keys (map seven_land c.deref.result.now))
 
 pub returns : goal.returns
-returns c =
+returns g c =
     let sevens = c.args.tables.now.type_7.items in
     let eights = c.args.tables.now.type_8.items in
     let lands : List ℕ = distinct nat_cmp (map seven_land sevens) in
     let found : c.in_ok-lands.lands.items ≡ lands = c.in_ok-lands.ensures
     ∙ ap (λ l. distinct nat_cmp (map seven_land l)) c.deref.ensures.value in
-    entries-equal c.new.result (map (λ land. (land, landmark_of sevens eights land)) lands)
-    (c.new.ensures.keys ∙ found ∙ sym (map-map (λ e. e.0) (λ land. (land, landmark_of sevens eights land)) lands ∙ map-id lands))
-    (c.new.ensures.values ∙ c.in_ok-landmarks.ensures
+    let f = g.B.LandmarkBuilder.landmark in
+    entries-equal (map_values f c.new.result) (map (λ land. (land, landmark_of sevens eights land)) lands)
+    (keys-map_values f c.new.result ∙ c.new.ensures.keys ∙ found
+    ∙ sym (map-map (λ e. e.0) (λ land. (land, landmark_of sevens eights land)) lands ∙ map-id lands))
+    (values-map_values f c.new.result ∙ ap (map f) c.new.ensures.values ∙ c.in_ok-landmarks.ensures
     ∙ (λ i. map (landmark_of (c.deref-3.ensures.value i) (c.deref-4.ensures.value i)) ((c.deref-2.ensures.value ∙ found) i))
     ∙ sym (map-map (λ e. e.1) (λ land. (land, landmark_of sevens eights land)) lands))

@@ -24,15 +24,15 @@ module _ (Of : List Record → Type 0) (before : (records : List Record) → Of 
 pub returns-clause-linked : goal.returns-clause-linked
 returns-clause-linked c =
     all_linked _
-    (λ records e. rules-join records (c.in_default.ensures records e)
-    (rules-join records (c.in_default-check_sequences.ensures records e)
-    (rules-join records (c.in_default-check_links.ensures records e)
-    (c.in_default-check_names.ensures records e)))) c.check_landmarks.result c.check_landmarks.ensures
+    (λ records e. rules-join records (c.in_ok-check_chains.ensures records e)
+    (rules-join records (c.in_ok-check_sequences.ensures records e)
+    (rules-join records (c.in_ok-check_links.ensures records e)
+    (c.in_ok-check_names.ensures records e)))) c.check_landmarks.result c.check_landmarks.ensures
 
 pub returns-clause-broken : goal.returns-clause-broken
 returns-clause-broken c =
     first_told _
-    (λ records e. rules-join records (c.in_default.ensures records e)
-    (rules-join records (c.in_default-check_sequences.ensures records e)
-    (rules-join records (c.in_default-check_links.ensures records e)
-    (c.in_default-check_names.ensures records e)))) c.check_landmarks.result c.check_landmarks.ensures
+    (λ records e. rules-join records (c.in_ok-check_chains.ensures records e)
+    (rules-join records (c.in_ok-check_sequences.ensures records e)
+    (rules-join records (c.in_ok-check_links.ensures records e)
+    (c.in_ok-check_names.ensures records e)))) c.check_landmarks.result c.check_landmarks.ensures

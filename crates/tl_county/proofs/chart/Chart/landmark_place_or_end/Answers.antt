@@ -1,0 +1,24 @@
+use Rattle.std.proofs.Common.{◌≡◌, [], sym, ap, ◌∙◌, slice_get, unwrap_or}
+use Rattle.std.proofs.lemmas.List.{length-map}
+use Rattle.tl_county.specs.ChartWords.{links_with}
+use Rattle.tl_county.specs.CountyRules.{lands}
+use Rattle.tl_county.specs.Entries.{entry_values}
+use Rattle.tl_county.proofs.Keys.{nat_keys}
+use Rattle.tl_county.proofs.Places.{links-at_or_end, length_keys, value-at_or_end}
+use Rattle.tl_county.proofs.chart.Chart.landmark_place_or_end.Goals as goal
+
+pub returns-clause-bodies : goal.returns-clause-bodies
+returns-clause-bodies g c =
+    let county = g.Self.Chart.county c.args.self.now in
+    ap (λ place. unwrap_or (slice_get (entry_values county.landmarks) place) [])
+    (c.unwrap_or.ensures ∙ ap (unwrap_or c.landmark_place.result) c.landmark_count.ensures)
+    ∙ ap (λ o. unwrap_or o []) (value-at_or_end nat_keys c.args.land county.landmarks c.landmark_place.result
+    (g.met.Self.Chart.is_county c.args.self.now).ascending.landmarks c.landmark_place.ensures.found c.landmark_place.ensures.known)
+
+pub returns-clause-links : goal.returns-clause-links
+returns-clause-links g c =
+    let county = g.Self.Chart.county c.args.self.now in
+    ap (λ place. links_with county.links (slice_get (lands county) place))
+    (c.unwrap_or.ensures ∙ ap (unwrap_or c.landmark_place.result) c.landmark_count.ensures)
+    ∙ links-at_or_end c.args.land (lands county) county.links c.landmark_place.result _ (length_keys county.landmarks)
+    (g.met.Self.Chart.is_county c.args.self.now).closed.link_lands c.landmark_place.ensures.found c.landmark_place.ensures.known

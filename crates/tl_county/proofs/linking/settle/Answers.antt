@@ -1,0 +1,29 @@
+use Rattle.std.proofs.Common.{◌≡◌, ◌≢◌, List, Result, IfErr, IsErrAnd}
+use Rattle.std.proofs.lemmas.Result.{err_from_is_err_and}
+use Rattle.tl_layout.specs.Tables.{HoldsByType}
+use Rattle.tl_layout.specs.declared.record_type.Record.{Record}
+use Rattle.tl_county.specs.LinkRules.{IsFirstBrokenRule}
+use Rattle.tl_county.specs.OrderedTables.{typed_of}
+use Rattle.tl_county.specs.Packing.{type_after_type}
+use Rattle.tl_county.specs.declared.fault.LinkFault.{LinkFault}
+use Rattle.tl_county.specs.declared.fault.LinkFault.TheVariants.{Memory}
+use Rattle.tl_county.proofs.BuiltTables.{also_first, held}
+use Rattle.tl_county.proofs.TypedRecords.{by_type-after}
+use Rattle.tl_county.proofs.linking.settle.Goals as goal
+
+-- the exit of a `?`: what holds of the callee's fault holds of the answer
+exit_with : {T : Type 0} (r : Result T LinkFault) (f : LinkFault) (P : LinkFault → Type 0) → IsErrAnd r (λ e. e ≡ f) → P f → IfErr r P
+exit_with r f P is holds = let p = err_from_is_err_and r is in rw (p.1, p.2) holds
+
+pub returns-clause-linked : goal.returns-clause-linked
+returns-clause-linked c =
+    let u = typed_of c.order_tables.new.tables in
+    c.in_ok-check_rules.ensures.linked (type_after_type u) (by_type-after u)
+
+pub returns-in_err-check_rules-clause-broken : goal.returns-in_err-check_rules-clause-broken
+returns-in_err-check_rules-clause-broken c =
+    let u = typed_of c.order_tables.new.tables in
+    exit_with _ _ (λ fault. fault ≢ Memory → (records : List Record) → HoldsByType c.args.tables.now records → IsFirstBrokenRule records fault)
+    c.from_residual-in_err-check_rules.ensures.1
+    (λ ne records h. also_first records (typed_of c.args.tables.now) u (held c.args.tables.now records h) c.in_ok-order_tables.ensures.same _
+    (c.in_err-check_rules.ensures.broken ne (type_after_type u) (by_type-after u)))

@@ -1,0 +1,46 @@
+-- That a county is within its limits is a fact with at most one proof.
+use Rattle.std.specs.Prelude.{ℕ, List}
+use Rattle.std.proofs.Props.{props}
+use Rattle.tl_layout.specs.Bytes.{AreAllowed}
+use Rattle.tl_layout.specs.ColumnTable.{Kind, Number, NumberOrNone, Pair, PairOrNone, NumberPlaces, PointPlaces, Opaque, Filler}
+use Rattle.tl_layout.specs.ColumnTable.{ValueOf, FitsValue}
+use Rattle.tl_layout.specs.Fields.{Fields5, Fields7, FieldsI, FieldsP}
+use Rattle.tl_layout.specs.Type5.{FitsType5}
+use Rattle.tl_layout.specs.Type7.{FitsType7}
+use Rattle.tl_layout.specs.TypeI.{FitsTypeI}
+use Rattle.tl_layout.specs.TypeP.{FitsTypeP}
+use Rattle.tl_county.specs.County.{County}
+use Rattle.tl_county.specs.Limits.{IsWithinLimits}
+
+AreAllowed-prop : (bytes : List ℕ) → IsProp (AreAllowed bytes)
+unfolding AreAllowed
+AreAllowed-prop bytes = hlevel props
+
+FitsValue-prop : (width : ℕ) (kind : Kind) (value : ValueOf kind) → IsProp (FitsValue width kind value)
+FitsValue-prop width Number value = hlevel props
+FitsValue-prop width NumberOrNone value = hlevel props
+FitsValue-prop width Pair value = hlevel props
+FitsValue-prop width PairOrNone value = hlevel props
+FitsValue-prop width NumberPlaces value = hlevel props
+FitsValue-prop width PointPlaces value = hlevel props
+FitsValue-prop width Opaque value = hlevel (props, AreAllowed-prop)
+FitsValue-prop width Filler value = hlevel props
+
+FitsType5-prop : (r : Fields5) → IsProp (FitsType5 r)
+unfolding FitsType5
+FitsType5-prop r = hlevel (props, FitsValue-prop)
+
+FitsType7-prop : (r : Fields7) → IsProp (FitsType7 r)
+unfolding FitsType7
+FitsType7-prop r = hlevel (props, FitsValue-prop)
+
+FitsTypeI-prop : (r : FieldsI) → IsProp (FitsTypeI r)
+unfolding FitsTypeI
+FitsTypeI-prop r = hlevel (props, FitsValue-prop)
+
+FitsTypeP-prop : (r : FieldsP) → IsProp (FitsTypeP r)
+unfolding FitsTypeP
+FitsTypeP-prop r = hlevel (props, FitsValue-prop)
+
+pub IsWithinLimits-prop : (limit : ℕ) (c : County) → IsProp (IsWithinLimits limit c)
+IsWithinLimits-prop limit c = hlevel (props, AreAllowed-prop, FitsType5-prop, FitsType7-prop, FitsTypeI-prop, FitsTypeP-prop)

@@ -1,0 +1,59 @@
+-- The order of placed shapes is the order of their shapes.
+use Rattle.std.proofs.Common.{◌≡◌, ◌∷◌, [], List, map, false, Ordering, Less, Equal, Greater, is_gt, refl, sym, ap, ap₂, ◌∙◌, subst, nat_cmp}
+use Rattle.std.specs.Cmp.{IsTotalOrder}
+use Rattle.std.specs.List.{AllByRecursion}
+use Rattle.std.specs.Ordering.{ordering_then}
+use Rattle.std.proofs.lemmas.Cmp.{nat_cmp_total, then_total, on_total}
+use Rattle.tl_layout.specs.Coordinates.{Coordinates}
+use Rattle.tl_shape.specs.PointOrder.{point_cmp, points_cmp}
+use Rattle.tl_county.specs.County.{County}
+use Rattle.tl_county.specs.Orders.{IsInOrder}
+use Rattle.tl_county.proofs.KeyOrders.{point_keys, points_keys, pair_keys}
+use Rattle.tl_county.proofs.Keys.{IsKeyOrder, nat_keys}
+use Rattle.tl_profile.specs.Shapes.{shape_key_cmp, pair_cmp}
+use Rattle.tl_profile.specs.PlacedShapes.{HasHead, key_of_shape, placed_cmp, placed_key_cmp, whole_shape}
+use Rattle.tl_profile.specs.declared.shapes.PlacedShape.{PlacedShape}
+
+pub shape_key_keys : IsKeyOrder shape_key_cmp
+shape_key_keys = pair_keys points_keys nat_keys
+
+pub pair_cmp_keys : IsKeyOrder pair_cmp
+pair_cmp_keys = pair_keys nat_keys nat_keys
+
+pub placed_key_total : (county : County) → IsTotalOrder (placed_key_cmp county)
+placed_key_total county =
+    then_total (then_total (on_total (λ (s : PlacedShape). s.first) point_keys.total)
+    (then_total (on_total (λ (s : PlacedShape). s.second) point_keys.total) (on_total (whole_shape county) points_keys.total)))
+    (on_total (λ (s : PlacedShape). s.tlid) nat_cmp_total)
+
+-- what decided once decides again
+again : (a b c : Ordering) → ordering_then a (ordering_then b (ordering_then a (ordering_then b c))) ≡ ordering_then a (ordering_then b c)
+again Less b c = refl
+again Greater b c = refl
+again Equal Less c = refl
+again Equal Equal c = refl
+again Equal Greater c = refl
+
+-- with their own first two points, placed shapes stand as their shapes
+pub placed-whole : (county : County) (a b : PlacedShape) → HasHead county a → HasHead county b
+    → placed_cmp county a b ≡ points_cmp (whole_shape county a) (whole_shape county b)
+placed-whole county a b h k =
+    let same : points_cmp (whole_shape county a) (whole_shape county b)
+    ≡ points_cmp (a.first ∷ a.second ∷ h.rest) (b.first ∷ b.second ∷ k.rest) = ap₂ points_cmp h.is k.is in
+    ap (λ o. ordering_then (point_cmp a.first b.first) (ordering_then (point_cmp a.second b.second) o)) same
+    ∙ again (point_cmp a.first b.first) (point_cmp a.second b.second) (points_cmp h.rest k.rest)
+    ∙ sym same
+
+-- so a list in their order is in the order of the shapes and TLIDs
+pub keys_in_order : (county : County) (shapes : List PlacedShape) → AllByRecursion (HasHead county) shapes
+    → IsInOrder (placed_key_cmp county) shapes → IsInOrder shape_key_cmp (map (key_of_shape county) shapes)
+keys_in_order county [] a h = tt
+keys_in_order county (s ∷ ss) a h = (each ss a.1 h.0, keys_in_order county ss a.1 h.1)
+  where
+    each : (ts : List PlacedShape) → AllByRecursion (HasHead county) ts → AllByRecursion (λ t. is_gt (placed_key_cmp county s t) ≡ false) ts
+        → AllByRecursion (λ k. is_gt (shape_key_cmp (key_of_shape county s) k) ≡ false) (map (key_of_shape county) ts)
+    each [] b g = tt
+    each (t ∷ ts) b g = (
+      subst (λ o. is_gt (ordering_then o (nat_cmp s.tlid t.tlid)) ≡ false) (placed-whole county s t a.0 b.0) g.0,
+      each ts b.1 g.1,
+    )

@@ -1,0 +1,133 @@
+-- What stands at a place of a county's chains.
+use Rattle.std.proofs.Common.{◌≡◌, ◌⊎◌, ℕ, zero, suc, ◌+◌, ◌<◌, ◌≤◌, List, [], ◌∷◌, ◌++◌, map, length, take, drop, slice_get, reverse}
+use Rattle.std.proofs.Common.{Bool, true, false, Option, Some, None, option_map, refl, sym, ap, ◌∙◌, subst, inl, inr, arith, add-one, nat_cmp}
+use Rattle.std.proofs.Common.{Ordering, Less, cond, IsSome}
+use Rattle.std.specs.List.{AllByRecursion}
+use Rattle.std.specs.List.Sorted.{IsStrictlySortedBy}
+use Rattle.std.specs.Ordering.{is_lt}
+use Rattle.std.proofs.lemmas.List.{length-reverse}
+use Rattle.std.proofs.lemmas.Option.{slice_get-map}
+use Rattle.tl_layout.specs.Coordinates.{Coordinates}
+use Rattle.tl_shape.specs.Chain.{Chain}
+use Rattle.tl_shape.specs.PointOrder.{points_cmp}
+use Rattle.tl_county.specs.ChartWords.{chain_at, points_of}
+use Rattle.tl_county.specs.County.{County}
+use Rattle.tl_county.specs.CountyRules.{IsCounty, tlids}
+use Rattle.tl_county.proofs.FirstFault.{Among, all_among}
+use Rattle.tl_profile.specs.Shapes.{least_points, points_at, points_from}
+use Rattle.tl_profile.specs.PlacedShapes.{points_along}
+use Rattle.tl_profile.specs.declared.shapes.ChainWalk.{ChainWalk}
+
+-- an item, and the list before and behind it
+pub record StandsAt {X : Type 0} (xs : List X) (place : ℕ) : Type 0 where
+  pub item : X
+  pub get : slice_get xs place ≡ Some item
+  pub upto : take (suc place) xs ≡ take place xs ++ (item ∷ [])
+  pub whole : xs ≡ take place xs ++ (item ∷ drop (suc place) xs)
+
+pub stands_at : {X : Type 0} (xs : List X) (place : ℕ) → place < length xs → StandsAt xs place
+stands_at [] place h = absurd (omega arith)
+stands_at (x ∷ xs) zero h = record { item = x; get = refl; upto = refl; whole = refl }
+stands_at (x ∷ xs) (suc place) h =
+    let s = stands_at xs place (omega arith) in
+    record {
+      item = s.item;
+      get = s.get;
+      upto = ap (λ l. x ∷ l) s.upto;
+      whole = ap (λ l. x ∷ l) s.whole;
+    }
+
+-- the items up to one that was read
+pub take_next : {X : Type 0} (xs : List X) (place : ℕ) (x : X) → slice_get xs place ≡ Some x → take (suc place) xs ≡ take place xs ++ (x ∷ [])
+take_next [] place x e = cc
+take_next (y ∷ ys) zero x e = let same : y ≡ x = cc in ap (λ z. z ∷ []) same
+take_next (y ∷ ys) (suc place) x e = ap (λ l. y ∷ l) (take_next ys place x e)
+
+pub all_next : {X : Type 0} (P : X → Type 0) (xs : List X) (x : X) → AllByRecursion P xs → P x → AllByRecursion P (xs ++ (x ∷ []))
+all_next P [] x a p = (p, tt)
+all_next P (y ∷ ys) x a p = (a.0, all_next P ys x a.1 p)
+
+pub among_parts : {X : Type 0} (x : X) (ys zs : List X) → Among x (ys ++ zs) → Among x ys ⊎ Among x zs
+among_parts x [] zs h = inr h
+among_parts x (y ∷ ys) zs (inl e) = inl (inl e)
+among_parts {X} x (y ∷ ys) zs (inr h) = go (among_parts x ys zs h)
+  where
+    go : Among x ys ⊎ Among x zs → ((x ≡ y) ⊎ Among x ys) ⊎ Among x zs
+    go (inl m) = inl (inr m)
+    go (inr m) = inr m
+
+-- of keys that ascend strictly, those behind one are greater
+pub above_behind : {X : Type 0} (key : X → ℕ) (xs : List X) (y : X) (zs : List X) → IsStrictlySortedBy nat_cmp (map key (xs ++ (y ∷ zs)))
+    → AllByRecursion (λ z. nat_cmp (key y) (key z) ≡ Less) zs
+unfolding IsStrictlySortedBy
+above_behind key [] y zs h = each zs h.0
+  where
+    each : (ws : List _) → AllByRecursion (λ k. nat_cmp (key y) k ≡ Less) (map key ws) → AllByRecursion (λ w. nat_cmp (key y) (key w) ≡ Less) ws
+    each [] a = tt
+    each (w ∷ ws) a = (a.0, each ws a.1)
+above_behind key (x ∷ xs) y zs h = above_behind key xs y zs h.1
+
+-- the chain at a place
+pub record ChainStands (county : County) (place : ℕ) : Type 0 where
+  pub stands : StandsAt county.chains place
+  pub chain : chain_at county place ≡ Some stands.item.1
+  pub points : points_at county place ≡ stands.item.1.points
+  pub tlid : slice_get (tlids county) place ≡ Some stands.item.0
+
+pub chain_stands : (county : County) (place : ℕ) → place < length county.chains → ChainStands county place
+chain_stands county place h =
+    let s : StandsAt county.chains place = stands_at county.chains place h in
+    let chain : chain_at county place ≡ Some s.item.1 =
+    slice_get-map (λ entry. entry.1) county.chains place ∙ ap (option_map (λ entry. entry.1)) s.get in
+    record {
+      stands = s;
+      chain = chain;
+      points = ap points_of chain;
+      tlid =
+          slice_get-map (λ entry. entry.0) county.chains place ∙ ap (option_map (λ entry. entry.0)) s.get;
+    }
+
+-- a shape has a start and an end
+pub record HasTwo (points : List Coordinates) : Type 0 where
+  pub one : Coordinates
+  pub two : Coordinates
+  pub rest : List Coordinates
+  pub is : points ≡ one ∷ two ∷ rest
+
+pub two_of : (points : List Coordinates) → 2 ≤ length points → HasTwo points
+two_of [] h = absurd (omega arith)
+two_of (p ∷ []) h = absurd (omega arith)
+two_of (p ∷ q ∷ ps) h = record { one = p; two = q; rest = ps; is = refl }
+
+pub length_from : (turned : Bool) (points : List Coordinates) → length (points_from turned points) ≡ length points
+length_from true points = length-reverse points
+length_from false points = refl
+
+pub shape_two : (county : County) → IsCounty county → (place : ℕ) → place < length county.chains → HasTwo (least_points (points_at county place))
+shape_two county is place h =
+    let s = chain_stands county place h in
+    let item : Among s.stands.item county.chains =
+    subst (Among s.stands.item) (sym s.stands.whole) (behind (take place county.chains) s.stands.item (drop (suc place) county.chains)) in
+    let two : 2 ≤ length s.stands.item.1.points =
+    all_among (λ entry. 2 ≤ length entry.1.points) s.stands.item county.chains is.whole.points item in
+    let points : List Coordinates = points_at county place in
+    let same : length points ≡ length s.stands.item.1.points = ap length s.points in
+    let from = length_from (is_lt (points_cmp (reverse points) points)) points in
+    two_of (least_points points) (omega arith)
+  where
+    behind : (xs : List (ℕ × Chain)) (y : ℕ × Chain) (zs : List (ℕ × Chain)) → Among y (xs ++ (y ∷ zs))
+    behind [] y zs = inl refl
+    behind (x ∷ xs) y zs = inr (behind xs y zs)
+
+-- a walk whose direction is the lesser one comes to the shape
+pub walk_is_shape : (county : County) (place : ℕ) (walk : ChainWalk) → walk.place ≡ place
+    → walk.turned ≡ is_lt (points_cmp (reverse (points_at county place)) (points_at county place))
+    → points_along county walk ≡ least_points (points_at county place)
+walk_is_shape county place walk p t = ap (λ q. points_from walk.turned (points_at county q)) p
+    ∙ ap (λ b. points_from b (points_at county place)) t
+
+pub some-same : {X : Type 0} (o : Option X) (x y : X) → o ≡ Some x → o ≡ Some y → x ≡ y
+some-same o x y e f = cc
+
+pub is_some_from : {X : Type 0} (o : Option X) (x : X) → o ≡ Some x → IsSome o
+is_some_from o x e = subst IsSome (sym e) refl

@@ -1,0 +1,111 @@
+-- The keys on sides and those with a type P record, gathered place by place, and what the profile says of them.
+use Rattle.std.proofs.Common.{◌≡◌, ℕ, suc, ◌+◌, ◌<◌, nat_lt, List, [], ◌∷◌, ◌++◌, map, filter, length, take, slice_get, Bool, true, false}
+use Rattle.std.proofs.Common.{cond, not, ◌&&◌, ◌||◌, Option, Some, None, is_some, option_map, option_to_list, is_eq, refl, sym, ap, ◌∙◌, subst}
+use Rattle.std.proofs.Common.{append_assoc, append-nil, add-one, flat_map, IsPermutation, map-id, arith}
+use Rattle.std.specs.List.{list_any}
+use Rattle.std.specs.Ordering.{on}
+use Rattle.std.proofs.lemmas.Bool.{lt-ltb}
+use Rattle.std.proofs.lemmas.Grind.{flat_map-append}
+use Rattle.std.proofs.lemmas.List.{map-append}
+use Rattle.std.proofs.lemmas.List.Elements.{filter-append}
+use Rattle.tl_layout.specs.PolygonSide.{PolygonSide}
+use Rattle.tl_layout.specs.declared.type_p.BodyP.{BodyP}
+use Rattle.tl_shape.specs.Chain.{Chain}
+use Rattle.tl_county.specs.ChartWords.{chain_at}
+use Rattle.tl_county.specs.County.{County}
+use Rattle.tl_county.specs.CountyRules.{IsCounty, chain_polygons, polygon_keys, polygons_along}
+use Rattle.tl_county.specs.Keyed.{is_unknown}
+use Rattle.tl_county.specs.Orders.{IsInOrder, stands_in, times}
+use Rattle.tl_county.specs.PolygonKeys.{PolygonKey, key_cmp, key_on}
+use Rattle.tl_county.proofs.EntryLists.{in_order-strict}
+use Rattle.tl_county.proofs.InOrder.{strict-map, in_order-map}
+use Rattle.tl_county.proofs.KeyedLists.{in_order-filter}
+use Rattle.tl_county.proofs.KeyOrders.{key_keys}
+use Rattle.tl_county.proofs.Keys.{times-permutation}
+use Rattle.tl_profile.specs.Profile.{has_body}
+use Rattle.tl_profile.specs.Sides.{key_if_bodied, keys_on, keys_with_body}
+use Rattle.tl_profile.proofs.Places.{StandsAt, stands_at, ChainStands, chain_stands}
+
+-- one more chain's sides
+pub sides_next : (county : County) (place : ℕ) → place < length county.chains → (before left_too both : List PolygonKey)
+    (left right : Option PolygonSide) → before ≡ polygons_along (take place county.chains)
+    → left ≡ option_map (λ c. c.left) (chain_at county place) → left_too ≡ before ++ keys_on left
+    → right ≡ option_map (λ c. c.right) (chain_at county place) → both ≡ left_too ++ keys_on right
+    → both ≡ polygons_along (take (suc place) county.chains)
+sides_next county place h before left_too both left right b l f r s =
+    let stands : ChainStands county place = chain_stands county place h in
+    let chain : Chain = stands.stands.item.1 in
+    let done : List PolygonKey = polygons_along (take place county.chains) in
+    let on_left : keys_on left ≡ key_on chain.left = ap keys_on (l ∙ ap (option_map (λ c. c.left)) stands.chain) in
+    let on_right : keys_on right ≡ key_on chain.right = ap keys_on (r ∙ ap (option_map (λ c. c.right)) stands.chain) in
+    let one : left_too ≡ done ++ key_on chain.left = f ∙ (λ i. b i ++ on_left i) in
+    s ∙ (λ i. one i ++ on_right i)
+    ∙ append_assoc done (key_on chain.left) (key_on chain.right)
+    ∙ ap (λ keys. done ++ keys) (sym (append-nil (chain_polygons chain)))
+    ∙ sym (flat_map-append (λ entry. chain_polygons entry.1) (take place county.chains) (stands.stands.item ∷ []))
+    ∙ ap polygons_along (sym stands.stands.upto)
+
+one_bodied : (entry : PolygonKey × Option BodyP) (b : Bool)
+    → option_to_list (cond b (Some entry.0) None) ≡ map (λ e. e.0) (cond b (entry ∷ []) [])
+one_bodied entry true = refl
+one_bodied entry false = refl
+
+-- one more polygon with a type P record, or without
+pub bodies_next : (polygons : List (PolygonKey × Option BodyP)) (place : ℕ) → place < length polygons → (before after : List PolygonKey)
+    (key : Option PolygonKey) → before ≡ keys_with_body (take place polygons) → key ≡ key_if_bodied (slice_get polygons place)
+    → after ≡ before ++ option_to_list key → after ≡ keys_with_body (take (suc place) polygons)
+bodies_next polygons place h before after key b k a =
+    let stands : StandsAt polygons place = stands_at polygons place h in
+    let done : List (PolygonKey × Option BodyP) = take place polygons in
+    let found : option_to_list key ≡ keys_with_body (stands.item ∷ []) =
+    ap option_to_list (k ∙ ap key_if_bodied stands.get) ∙ one_bodied stands.item (is_some stands.item.1) in
+    a ∙ (λ i. b i ++ found i)
+    ∙ sym (map-append (λ e. e.0) (filter (λ e. is_some e.1) done) (filter (λ e. is_some e.1) (stands.item ∷ [])))
+    ∙ ap (map (λ e. e.0)) (sym (filter-append (λ e. is_some e.1) done (stands.item ∷ [])))
+    ∙ ap keys_with_body (sym stands.upto)
+
+-- they are in order
+pub bodies_in_order : (county : County) → IsCounty county → IsInOrder key_cmp (keys_with_body county.polygons)
+bodies_in_order county is =
+    in_order-map key_cmp (λ e. e.0) (filter (λ e. is_some e.1) county.polygons)
+    (in_order-filter (on (λ e. e.0) key_cmp) (λ e. is_some e.1) county.polygons
+    (in_order-strict (on (λ e. e.0) key_cmp) county.polygons (strict-map key_cmp (λ e. e.0) county.polygons is.ascending.polygons)))
+
+-- a key stands among them exactly if the county has a type P record of its polygon
+bodied : (key : PolygonKey) (polygons : List (PolygonKey × Option BodyP))
+    → stands_in key_cmp key (keys_with_body polygons) ≡ list_any (λ e. is_eq (key_cmp key e.0) && is_some e.1) polygons
+bodied key [] = refl
+bodied key (entry ∷ polygons) = go (is_some entry.1) (bodied key polygons)
+  where
+    others : List PolygonKey
+    others = filter (λ k. is_eq (key_cmp key k)) (keys_with_body polygons)
+
+    rest : Bool
+    rest = list_any (λ e. is_eq (key_cmp key e.0) && is_some e.1) polygons
+
+    with_body : (d : Bool) → stands_in key_cmp key (keys_with_body polygons) ≡ rest
+        → nat_lt 0 (length (cond d (entry.0 ∷ others) others)) ≡ ((d && true) || rest)
+    with_body true ih = lt-ltb 0 (suc (length others)) (omega arith)
+    with_body false ih = ih
+
+    without : (d : Bool) → rest ≡ ((d && false) || rest)
+    without true = refl
+    without false = refl
+
+    go : (b : Bool) → stands_in key_cmp key (keys_with_body polygons) ≡ rest
+        → stands_in key_cmp key (map (λ e. e.0) (cond b (entry ∷ filter (λ e. is_some e.1) polygons) (filter (λ e. is_some e.1) polygons)))
+        ≡ ((is_eq (key_cmp key entry.0) && b) || rest)
+    go true ih = with_body (is_eq (key_cmp key entry.0)) ih
+    go false ih = ih ∙ without (is_eq (key_cmp key entry.0))
+
+module _ (county : County) (sides : List PolygonKey) (p : IsPermutation (polygons_along county.chains) sides) where
+  -- the polygons that the search finds are those that the profile refuses
+  pub same_unknown : (bodies : List PolygonKey) → bodies ≡ keys_with_body county.polygons → (key : PolygonKey)
+      → is_unknown key_cmp (map (λ k. k) bodies) (map (λ k. k) sides) key
+      ≡ (has_body county key && not (stands_in key_cmp key (polygons_along county.chains)))
+  same_unknown bodies e key =
+      let here : stands_in key_cmp key (map (λ k. k) bodies) ≡ has_body county key =
+      ap (stands_in key_cmp key) (map-id bodies ∙ e) ∙ bodied key county.polygons in
+      let there : stands_in key_cmp key (map (λ k. k) sides) ≡ stands_in key_cmp key (polygons_along county.chains) =
+      ap (stands_in key_cmp key) (map-id sides) ∙ ap (nat_lt 0) (times-permutation key_keys key (polygons_along county.chains) sides p) in
+      λ i. here i && not (there i)

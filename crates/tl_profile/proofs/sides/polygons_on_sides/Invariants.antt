@@ -1,0 +1,6 @@
+use Rattle.std.proofs.Common.{◌≡◌, take}
+use Rattle.tl_county.specs.CountyRules.{polygons_along}
+use Rattle.tl_profile.proofs.sides.polygons_on_sides.Given as goal
+
+abbrev pub invariant-loop-place : goal.invariant-loop-place
+invariant-loop-place g l = l.keys.items ≡ polygons_along (take l.place (g.C.Chart.county l.chart).chains)

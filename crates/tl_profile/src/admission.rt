@@ -1,0 +1,100 @@
+//! Admission: a county in the profile is kept as such, or the first clause that it breaks is told.
+
+ghost use Rattle.std.specs.Prelude.{◌≡◌, ◌≢◌, OnOk, IfOk, IfErr};
+ghost use Rattle.tl_county.specs.TheCounty.{the_county};
+ghost use Rattle.tl_profile.specs.Profile.{IsFirstBrokenClause, IsInProfile};
+ghost use Rattle.tl_profile.specs.declared.fault.ProfileFault.TheVariants.{Memory};
+
+use crate::fault::ProfileFault;
+use crate::shapes::{least_own_reverse, least_same_shape};
+use crate::sides::least_without_chain;
+use std::alloc::Global;
+use std::marker::Model;
+use tl_county::{Chart, County};
+
+/// A county in the profile, however it is kept: no chain is its own reverse, no two chains have one shape, and each polygon
+/// with a record of type P is on a side of a chain.
+#[derive(Drop)]
+pub struct Admitted<C: Chart = County> {
+    chart: C,
+}
+
+impl<C: Chart> Model for Admitted<C> {
+    ghost use Rattle.tl_profile.specs.Profile.{IsInProfile};
+
+    ghost Value = { C };
+
+    ghost view = { λ a. a.chart };
+
+    ghost invariant = { λ a. IsInProfile (C.county a.chart) };
+}
+
+impl<C: Chart> Admitted<C> {
+    /// The county's chart.
+    pub fn chart(&self) -> &C
+        ensures value { result.now ≡ self.now }
+        ensures in_profile { IsInProfile (C.county self.now) }
+    {
+        &self.chart
+    }
+}
+
+impl Admitted<County> {
+    /// The county.
+    pub fn county(&self) -> &County
+        ensures value { result.now ≡ self.now }
+        ensures in_profile { IsInProfile (the_county self.now) }
+    {
+        &self.chart
+    }
+}
+
+/// The three clauses of the profile.
+fn check_profile<C: Chart>(alloc: Global, chart: &C) -> Result<(), ProfileFault>
+    ensures within { OnOk result (IsInProfile (C.county chart.now)) }
+    ensures broken { IfErr result (λ fault. fault ≢ Memory → IsFirstBrokenClause (C.county chart.now) fault) }
+{
+    if let Some(tlid) = least_own_reverse(chart) {
+        return Err(ProfileFault::OwnReverse { tlid });
+    }
+    if let Some((first, second)) = least_same_shape(alloc, chart)? {
+        return Err(ProfileFault::SameShape { first, second });
+    }
+    if let Some(key) = least_without_chain(alloc, chart)? {
+        let cenid = key.0;
+        let polyid = key.1;
+        return Err(ProfileFault::PolygonWithoutChain { cenid, polyid });
+    }
+    Ok(())
+}
+
+/// Admits a county, however it is kept, if it is in the profile.
+///
+/// # Errors
+///
+/// The first clause that the county breaks, at its least place, or [`ProfileFault::Memory`] where memory was lacking.
+pub fn admit_chart<C: Chart + Drop>(alloc: Global, chart: C) -> Result<Admitted<C>, ProfileFault>
+    ensures same { IfOk result (λ admitted. admitted ≡ chart) }
+    ensures within { IfOk result (λ admitted. IsInProfile (C.county admitted)) }
+    ensures broken { IfErr result (λ fault. fault ≢ Memory → IsFirstBrokenClause (C.county chart) fault) }
+    // Of a county in the profile nothing but want of memory is told.
+    ensures succeeds { IsInProfile (C.county chart) → IfErr result (λ fault. fault ≡ Memory) }
+{
+    check_profile(alloc, &chart)?;
+    Ok(Admitted { chart })
+}
+
+/// Admits a county if it is in the profile.
+///
+/// # Errors
+///
+/// The first clause that the county breaks, at its least place, or [`ProfileFault::Memory`] where memory was lacking.
+pub fn admit(alloc: Global, county: County) -> Result<Admitted, ProfileFault>
+    ensures same { IfOk result (λ admitted. admitted ≡ county) }
+    ensures within { IfOk result (λ admitted. IsInProfile (the_county admitted)) }
+    ensures broken { IfErr result (λ fault. fault ≢ Memory → IsFirstBrokenClause (the_county county) fault) }
+    // Of a county in the profile nothing but want of memory is told.
+    ensures succeeds { IsInProfile (the_county county) → IfErr result (λ fault. fault ≡ Memory) }
+{
+    admit_chart(alloc, county)
+}
