@@ -1,2 +1,4 @@
 pub mod Room
 pub mod GoingOut
+pub mod Taking
+pub mod TakingLaws

@@ -4,6 +4,7 @@
 mod fault;
 mod sink;
 mod slow_sink;
+mod taker;
 mod text_buffer;
 #[cfg(test)]
 mod tests;
