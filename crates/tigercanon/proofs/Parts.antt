@@ -14,7 +14,7 @@ abbrev pub parts_of : List (Bor (List ℕ)) → List (List ℕ)
 parts_of slices = map (λ p. p.now) slices
 
 -- the parts before one, that part, and those after it
-parts_around : (slices : List (Bor (List ℕ))) (i : ℕ) (d : Bor (List ℕ)) → i < length slices
+pub parts_around : (slices : List (Bor (List ℕ))) (i : ℕ) (d : Bor (List ℕ)) → i < length slices
     → parts_of (take i slices) ++ (get_or slices i d).now ∷ parts_of (drop (suc i) slices) ≡ parts_of slices
 parts_around slices i d within =
     sym (map-append (λ p. p.now) (take i slices) (get_or slices i d ∷ drop (suc i) slices))
@@ -38,7 +38,7 @@ lines_with_empty_part n [] = ap (λ ls. ls ++ []) (lines_of_empty_part n)
 lines_with_empty_part n (part ∷ parts) = ap (λ ls. numbered n 1 (lines part) ++ ls) (lines_with_empty_part (n + 1) parts)
 
 -- and no fault
-without_empty_part : (parts : List (List ℕ)) (f : LoadFault) → IsFirstFault (parts ++ [] ∷ []) f → IsFirstFault parts f
+pub without_empty_part : (parts : List (List ℕ)) (f : LoadFault) → IsFirstFault (parts ++ [] ∷ []) f → IsFirstFault parts f
 without_empty_part parts f at = record {
   before = at.before;
   line = at.line;

@@ -1,0 +1,49 @@
+use Rattle.std.proofs.Common.{◌≡◌, ◌∙◌, Result, IfErr, IsErrAnd, [], ◌∷◌, subst, arith}
+use Rattle.std.proofs.lemmas.List.{take_all}
+use Rattle.std.proofs.lemmas.Result.{err_from_is_err_and}
+use Rattle.tl_layout.specs.declared.record_type.TheConstants.{MOST_RECORDS}
+use Rattle.tl_load.specs.Choice.{tiger}
+use Rattle.tl_load.specs.Loaded.{IsOfLines, WasFed}
+use Rattle.tl_load.specs.Outcome.{FaultAt}
+use Rattle.tl_load.specs.declared.fault.LoadFault.{LoadFault}
+use Rattle.uses.proofs.WholeFile.{whole, whole_so_far, fault_of_whole, fault_of_closed_whole}
+use Rattle.uses.proofs.pieces.load_pieces.Goals as goal
+
+-- the exit of a `?`: what holds of the callee's error holds of the answer
+exit_with : {T : Type 0} (r : Result T LoadFault) (f : LoadFault) (P : LoadFault → Type 0) → IsErrAnd r (λ e. e ≡ f) → P f → IfErr r P
+exit_with r f P is holds = let p = err_from_is_err_and r is in rw (p.1, p.2) holds
+
+pub loop-piece-preserved : goal.loop-piece-preserved
+loop-piece-preserved c = record {
+  fed = subst (WasFed MOST_RECORDS c.feed.new.self []) (whole_so_far _ _ _ c.loop-piece-test.true)
+      (c.in_ok-feed.ensures.fed _ _ _ c.loop-piece.invariant.fed);
+  fault = c.in_ok-feed.ensures.ok;
+  parts = c.in_ok-feed.ensures.parts ∙ c.loop-piece.invariant.parts;
+}
+
+pub returns-in_err-feed-clause-fault : goal.returns-in_err-feed-clause-fault
+returns-in_err-feed-clause-fault c =
+    exit_with _ _ (λ f. IsOfLines f → FaultAt tiger MOST_RECORDS (whole c.args.pieces.now ∷ []) f) c.from_residual.ensures.1
+    (λ lines. fault_of_whole _ _ _ _ c.loop-piece-test.true (c.in_err-feed.ensures.fault _ _ _ c.loop-piece.invariant.fed lines))
+
+pub returns-in_err-end_part-clause-fault : goal.returns-in_err-end_part-clause-fault
+returns-in_err-end_part-clause-fault c =
+    let all = take_all c.loop-piece.piece-index c.args.pieces.now (omega (arith, c.loop-piece-test.false)) in
+    exit_with _ _ (λ f. IsOfLines f → FaultAt tiger MOST_RECORDS (whole c.args.pieces.now ∷ []) f)
+    c.from_residual-in_err-end_part.ensures.1
+    (λ lines. subst (λ ps. FaultAt tiger MOST_RECORDS (whole ps ∷ []) c.in_err-end_part.field-0.0) all
+    (fault_of_closed_whole _ _ (c.in_err-end_part.ensures.fault _ _ _ c.loop-piece.invariant.fed lines)))
+
+pub returns-clause-loaded : goal.returns-clause-loaded
+returns-clause-loaded c =
+    let all = take_all c.loop-piece.piece-index c.args.pieces.now (omega (arith, c.loop-piece-test.false)) in
+    c.finish.ensures.loaded _ (whole c.args.pieces.now ∷ []) []
+    (subst (λ ps. WasFed MOST_RECORDS c.end_part.new.self (whole ps ∷ []) []) all
+    (c.in_ok-end_part.ensures.fed _ _ _ c.loop-piece.invariant.fed))
+
+pub returns-clause-fault : goal.returns-clause-fault
+returns-clause-fault c =
+    let all = take_all c.loop-piece.piece-index c.args.pieces.now (omega (arith, c.loop-piece-test.false)) in
+    c.finish.ensures.fault _ (whole c.args.pieces.now ∷ []) []
+    (subst (λ ps. WasFed MOST_RECORDS c.end_part.new.self (whole ps ∷ []) []) all
+    (c.in_ok-end_part.ensures.fed _ _ _ c.loop-piece.invariant.fed))

@@ -1,0 +1,17 @@
+//! Two files that say the same, record by record.
+
+ghost use Rattle.std.specs.Prelude.{◌≡◌, ◌↔◌, ◌∷◌, [], ℕ, List, IfOk, IsTrue};
+ghost use Rattle.tigercanon.specs.Respelling.{IsRespelt};
+
+use std::alloc::Global;
+use tigercanon::{Fault, respell};
+
+/// Whether two files have the same records in the same order, whatever their blanks, zeros, signs and ends of lines.
+pub fn spell_alike(alloc: Global, file: &[u8], other: &[u8]) -> Result<bool, Fault>
+    ensures { IfOk result (λ alike. (text other_text : List ℕ) × IsRespelt (file.now ∷ []) text × IsRespelt (other.now ∷ []) other_text
+        × (IsTrue alike ↔ (text ≡ other_text))) }
+{
+    let text = respell(alloc, &[file])?;
+    let other_text = respell(alloc, &[other])?;
+    Ok(text.as_slice() == other_text.as_slice())
+}

@@ -1,0 +1,10 @@
+//! The libraries at work: small callers, proved against the contracts of what they call. Copy what serves.
+#![tactic(auto)]
+
+mod alike;
+mod pieces;
+#[cfg(test)]
+mod tests;
+
+pub use alike::spell_alike;
+pub use pieces::load_pieces;

@@ -1,0 +1,24 @@
+//! A file that comes in pieces, as off a network.
+
+ghost use Rattle.std.specs.Prelude.{◌∷◌, [], map, IfErr, IfOk};
+ghost use Rattle.std.specs.List.{concat};
+ghost use Rattle.tl_load.specs.Choice.{tiger};
+ghost use Rattle.tl_load.specs.Loaded.{IsOfLines};
+ghost use Rattle.tl_load.specs.Outcome.{Accepts, FaultAt};
+
+use std::alloc::Global;
+use tl_layout::{MOST_RECORDS, Record};
+use tl_load::{LoadFault, Loader};
+
+/// The records of one file, whose bytes come in pieces. How it was cut doesn't matter.
+pub fn load_pieces(alloc: Global, pieces: &[&[u8]]) -> Result<Vec<Record>, LoadFault>
+    ensures loaded { IfOk result (λ records. Accepts tiger MOST_RECORDS (concat (map (λ p. p.now) pieces.now) ∷ []) records.items) }
+    ensures fault { IfErr result (λ f. IsOfLines f → FaultAt tiger MOST_RECORDS (concat (map (λ p. p.now) pieces.now) ∷ []) f) }
+{
+    let mut loader = Loader::new(alloc);
+    for piece in pieces {
+        loader.feed(piece)?;
+    }
+    loader.end_part()?;
+    loader.finish()
+}
