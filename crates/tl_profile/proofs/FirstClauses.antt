@@ -1,12 +1,12 @@
 -- The first broken clause is the least place of the first clause that is broken at all.
-use Rattle.std.proofs.Common.{◌≡◌, ℕ, List, Bool, true, false, not, ◌&&◌, nat_lt, Option, Some, None, Ordering, Less, Equal, Greater, is_gt}
-use Rattle.std.proofs.Common.{refl, sym, ap, ◌∙◌, subst, nat_cmp}
+use Rattle.std.proofs.Common.{◌≡◌, ℕ, Bool, true, false, not, ◌&&◌, nat_lt, Some, Ordering, Less, Equal, Greater, is_gt}
+use Rattle.std.proofs.Common.{refl, sym, ◌∙◌, nat_cmp}
 use Rattle.std.specs.Cmp.Lexicographic.{slice_cmp}
 use Rattle.std.specs.Ordering.{ordering_then}
 use Rattle.std.proofs.lemmas.Bool.{false≢true}
 use Rattle.tl_county.specs.County.{County}
 use Rattle.tl_county.specs.CountyRules.{polygons_along}
-use Rattle.tl_county.specs.FirstOf.{IsFirst, place_cmp}
+use Rattle.tl_county.specs.FirstOf.{place_cmp}
 use Rattle.tl_county.specs.Keyed.{IsLeastPassing}
 use Rattle.tl_county.specs.Orders.{stands_in}
 use Rattle.tl_county.specs.PolygonKeys.{PolygonKey, key_cmp}

@@ -1,6 +1,6 @@
 -- The least chain that is its own reverse.
 use Rattle.std.proofs.Common.{◌≡◌, ◌⊎◌, ℕ, suc, ◌<◌, ◌≤◌, ◌==◌, List, ◌∷◌, ◌++◌, length, take, drop, slice_get, reverse, Bool, true, false}
-use Rattle.std.proofs.Common.{Option, Some, None, Ordering, Less, Equal, Greater, is_eq, is_gt, refl, sym, ap, ◌∙◌, subst, inl, inr, arith}
+use Rattle.std.proofs.Common.{Option, None, Ordering, Less, Equal, Greater, is_eq, is_gt, refl, sym, ap, ◌∙◌, subst, inl, inr}
 use Rattle.std.proofs.Common.{nat_cmp, ◌&&◌, map, []}
 use Rattle.std.specs.List.Sorted.{IsStrictlySortedBy}
 use Rattle.std.specs.List.{AllByRecursion}
@@ -19,7 +19,7 @@ use Rattle.tl_county.proofs.KeyOrders.{points_keys}
 use Rattle.tl_county.proofs.Members.{among_any}
 use Rattle.tl_profile.specs.Profile.{same_points, is_own_reverse}
 use Rattle.tl_profile.specs.Shapes.{points_at}
-use Rattle.tl_profile.proofs.Places.{ChainStands, chain_stands, StandsAt, all_next, among_parts, above_behind}
+use Rattle.tl_profile.proofs.Places.{chain_stands, all_next, among_parts, above_behind}
 use Rattle.tl_profile.proofs.ProfileFaults.{own_reverse_entry}
 
 reversed_eq : (o : Ordering) → is_eq (ordering_reverse o) ≡ is_eq o

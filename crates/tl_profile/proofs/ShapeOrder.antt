@@ -1,12 +1,9 @@
 -- A county's shapes in order are strictly in order, since no TLID stands twice.
-use Rattle.std.proofs.Common.{◌≡◌, ◌⊎◌, ◌≤◌, ℕ, suc, List, [], ◌∷◌, map, Bool, true, false, cond, length, filter, Ordering, Less, Equal, Greater}
-use Rattle.std.proofs.Common.{is_eq, refl, sym, ap, ◌∙◌, subst, inl, inr, arith, IsPermutation, nat_cmp}
+use Rattle.std.proofs.Common.{◌≡◌, ◌⊎◌, ◌≤◌, List, [], ◌∷◌, map, false}
+use Rattle.std.proofs.Common.{is_eq, sym, ap, subst, inl, inr, arith, IsPermutation, nat_cmp}
 use Rattle.std.specs.List.{AllByRecursion}
 use Rattle.std.specs.List.Sorted.{IsStrictlySortedBy}
-use Rattle.std.specs.Ordering.{ordering_then}
-use Rattle.std.proofs.lemmas.Bool.{false≢true}
 use Rattle.std.proofs.lemmas.List.Sorted.{IsPermutation-map}
-use Rattle.tl_shape.specs.PointOrder.{points_cmp}
 use Rattle.tl_county.specs.County.{County}
 use Rattle.tl_county.specs.CountyRules.{IsCounty, tlids}
 use Rattle.tl_county.specs.Orders.{IsInOrder, times}

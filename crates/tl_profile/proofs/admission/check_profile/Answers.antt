@@ -1,4 +1,4 @@
-use Rattle.std.proofs.Common.{◌≡◌, subst}
+use Rattle.std.proofs.Common.{subst}
 use Rattle.tl_county.specs.Keyed.{IsLeastPassing}
 use Rattle.tl_county.specs.PolygonKeys.{key_cmp}
 use Rattle.tl_profile.specs.Shapes.{pair_cmp}

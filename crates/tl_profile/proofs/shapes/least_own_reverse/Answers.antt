@@ -1,4 +1,4 @@
-use Rattle.std.proofs.Common.{◌≡◌, ◌<◌, length, sym, ◌∙◌, arith, add-one}
+use Rattle.std.proofs.Common.{sym, ◌∙◌, arith, add-one}
 use Rattle.tl_profile.proofs.OwnReverses.{none_next, first_mirrored, none_mirrored}
 use Rattle.tl_profile.proofs.shapes.least_own_reverse.Goals as goal
 
