@@ -17,11 +17,13 @@ module _ {K : Type 0} {cmp : K → K → Ordering} (o : IsTotalOrder cmp) where
   three x y z true true false f g h =
       absurd (false≢true (sym (upto o y x z (not_greater (cmp x y) (cmp y x) (o.antisymm x y) f) h) ∙ g))
 
-  first_then : (x y z : K) (d : Bool) → lesser cmp (Some x) (cond d (Some z) (Some y)) ≡ cond d (lesser cmp (Some x) (Some z)) (lesser cmp (Some x) (Some y))
+  first_then : (x y z : K) (d : Bool)
+      → lesser cmp (Some x) (cond d (Some z) (Some y)) ≡ cond d (lesser cmp (Some x) (Some z)) (lesser cmp (Some x) (Some y))
   first_then x y z true = refl
   first_then x y z false = refl
 
-  then_last : (x y z : K) (b : Bool) → lesser cmp (cond b (Some y) (Some x)) (Some z) ≡ cond b (lesser cmp (Some y) (Some z)) (lesser cmp (Some x) (Some z))
+  then_last : (x y z : K) (b : Bool)
+      → lesser cmp (cond b (Some y) (Some x)) (Some z) ≡ cond b (lesser cmp (Some y) (Some z)) (lesser cmp (Some x) (Some z))
   then_last x y z true = refl
   then_last x y z false = refl
 

@@ -1,5 +1,6 @@
 -- The order of placed shapes is the order of their shapes.
-use Rattle.std.proofs.Common.{◌≡◌, ◌∷◌, [], List, map, false, Ordering, Less, Equal, Greater, is_gt, refl, sym, ap, ap₂, ◌∙◌, subst, nat_cmp}
+use Rattle.std.proofs.Common.{◌≡◌, ◌∷◌, [], List, map, false, Ordering, Less, Equal}
+use Rattle.std.proofs.Common.{Greater, is_gt, refl, sym, ap, ap₂, ◌∙◌, subst, nat_cmp}
 use Rattle.std.specs.Cmp.{IsTotalOrder}
 use Rattle.std.specs.List.{AllByRecursion}
 use Rattle.std.specs.Ordering.{ordering_then}

@@ -86,7 +86,8 @@ module _ (county : County) (keys : List ShapeKey) (p : IsPermutation (shape_keys
       let inner = among_any (λ d. (pair.1 == d.0) && same_shape one.0.1.points d.1.points) other.0 county.chains other.1
       (and_from (pair.1 == other.0.0) (same_shape one.0.1.points other.0.1.points) (eq-eqb pair.1 other.0.0 second) shape) in
       and_from (nat_lt pair.0 pair.1) (are_one_shape county pair.0 pair.1) (lt-ltb pair.0 pair.1 s.below)
-      (among_any (λ e. (pair.0 == e.0) && list_any (λ d. (pair.1 == d.0) && same_shape e.1.points d.1.points) county.chains) one.0 county.chains one.1
+      (among_any (λ e. (pair.0 == e.0) && list_any
+      (λ d. (pair.1 == d.0) && same_shape e.1.points d.1.points) county.chains) one.0 county.chains one.1
       (and_from (pair.0 == one.0.0) (list_any (λ d. (pair.1 == d.0) && same_shape one.0.1.points d.1.points) county.chains)
       (eq-eqb pair.0 one.0.0 first) inner))
 
@@ -97,11 +98,13 @@ module _ (county : County) (keys : List ShapeKey) (p : IsPermutation (shape_keys
       one_shape_from keys pair (record {
         below = ltb-true pair.0 pair.1 both.0;
         one = key_of_entry s.one;
-        one_there = among-permutation (key_of_entry s.one) (shape_keys county) keys p (among-map key_of_entry s.one county.chains s.one_there);
+        one_there = among-permutation (key_of_entry s.one) (shape_keys county) keys p
+            (among-map key_of_entry s.one county.chains s.one_there);
         one_is = s.one_is;
         other = key_of_entry s.other;
         other_there =
-            among-permutation (key_of_entry s.other) (shape_keys county) keys p (among-map key_of_entry s.other county.chains s.other_there);
+            among-permutation (key_of_entry s.other) (shape_keys county) keys p
+            (among-map key_of_entry s.other county.chains s.other_there);
         other_is = s.other_is;
         same =
             least_of_one_shape s.one.1.points s.other.1.points (shape-true s.one.1.points s.other.1.points s.shape);
