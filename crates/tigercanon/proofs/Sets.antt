@@ -14,32 +14,39 @@ use Rattle.tl_load.proofs.Reading.{one_verdict}
 use Rattle.tl_load.proofs.TextLemmas.{text_spells, text_spells_only}
 use Rattle.tl_county.specs.County.{county_of}
 use Rattle.tl_county.specs.Renumbering.{AreSame}
-use Rattle.tl_number.specs.Accepted.{IsAccepted, Refusal, IsRefusal}
+use Rattle.tl_number.specs.Accepted.{IsAccepted, Refusal, Unlinked, OutOfProfile, IsRefusal}
 use Rattle.tigercanon.specs.Respelling.{record_limit}
-use Rattle.tigercanon.specs.Sets.{IsAcceptedSet, SetRefusal, Faulty, Refused, IsSetRefusal, IsCanonicalText}
-use Rattle.tl_number.proofs.Accepted.{accepted_or_refused, accepted_not_refused, one_refusal, same_one_canonical}
+use Rattle.tigercanon.specs.Sets.{IsAcceptedSet, IsSetRefusal, IsCanonicalText}
+use Rattle.tigercanon.specs.declared.fault.Fault.{Fault}
+use Rattle.tigercanon.specs.declared.fault.Fault.TheVariants.{Load, Link, Profile, Memory}
+use Rattle.tl_county.specs.LinkRules.{IsLinked, IsFirstBrokenRule}
+use Rattle.tl_county.proofs.LinkFaults.{linked_has_none, one_first_rule}
+use Rattle.tl_profile.specs.Profile.{IsFirstBrokenClause}
+use Rattle.tl_profile.proofs.ProfileFaults.{profile_has_none, one_first_clause}
+use Rattle.tl_number.proofs.Accepted.{accepted_or_refused, same_one_canonical}
 use Rattle.tl_number.proofs.Accepted.{one_canonical_same, canonical_of_itself}
 use Rattle.tl_number.proofs.Ascending.{canonical_list, canonical_exists}
 use Rattle.tl_number.proofs.TidyNumbers.{canonical_within}
 use Rattle.tl_county.proofs.Sameness.{same-reflexive}
 
 pub set_accepted_or_refused : (parts : List (List ℕ))
-    → ((records : List Record) × IsAcceptedSet parts records) ⊎ ((refusal : SetRefusal) × IsSetRefusal parts refusal)
+    → ((records : List Record) × IsAcceptedSet parts records) ⊎ ((refusal : Fault) × IsSetRefusal parts refusal)
 set_accepted_or_refused parts = go (one_verdict tiger tiger_is_sound record_limit parts)
   where
     judged : (records : List Record) → Accepts tiger record_limit parts records
         → IsAccepted records ⊎ ((refusal : Refusal) × IsRefusal records refusal)
-        → ((records : List Record) × IsAcceptedSet parts records) ⊎ ((refusal : SetRefusal) × IsSetRefusal parts refusal)
+        → ((records : List Record) × IsAcceptedSet parts records) ⊎ ((refusal : Fault) × IsSetRefusal parts refusal)
     judged records spelled (inl accepted) = inl (records, record { spelled = spelled; accepted = accepted })
-    judged records spelled (inr r) = inr (Refused r.0, (records, spelled, r.1))
+    judged records spelled (inr (Unlinked f, h)) = inr (Link f, (records, spelled, h))
+    judged records spelled (inr (OutOfProfile f, h)) = inr (Profile f, (records, spelled, h.0, h.1))
 
     go : IsSpelled tiger record_limit parts ⊎ IsFaulty tiger record_limit parts
-        → ((records : List Record) × IsAcceptedSet parts records) ⊎ ((refusal : SetRefusal) × IsSetRefusal parts refusal)
+        → ((records : List Record) × IsAcceptedSet parts records) ⊎ ((refusal : Fault) × IsSetRefusal parts refusal)
     go (inl s) = judged s.records s.accepts (accepted_or_refused s.records)
-    go (inr f) = inr (Faulty f.fault, f.at)
+    go (inr f) = inr (Load f.fault, f.at)
 
 -- the records that accepted parts spell are one list, and then no line is faulty
-one_list : (parts : List (List ℕ)) (records others : List Record) → Accepts tiger record_limit parts records
+pub one_list : (parts : List (List ℕ)) (records others : List Record) → Accepts tiger record_limit parts records
     → Accepts tiger record_limit parts others → records ≡ others
 one_list parts records others a b = go (one_verdict tiger tiger_is_sound record_limit parts)
   where
@@ -55,11 +62,16 @@ spelled_not_faulty parts records fault a h = go (one_verdict tiger tiger_is_soun
     go (inl s) = s.none fault h
     go (inr f) = f.none records a
 
-pub accepted_set_not_refused : (parts : List (List ℕ)) (records : List Record) (refusal : SetRefusal) → IsAcceptedSet parts records
+pub accepted_set_not_refused : (parts : List (List ℕ)) (records : List Record) (refusal : Fault) → IsAcceptedSet parts records
     → IsSetRefusal parts refusal → ⊥
-accepted_set_not_refused parts records (Faulty fault) a h = spelled_not_faulty parts records fault a.spelled h
-accepted_set_not_refused parts records (Refused refusal) a h =
-    accepted_not_refused records refusal a.accepted (subst (λ rs. IsRefusal rs refusal) (one_list parts h.0 records h.1 a.spelled) h.2)
+accepted_set_not_refused parts records (Load fault) a h = spelled_not_faulty parts records fault a.spelled h
+accepted_set_not_refused parts records (Link fault) a h =
+    linked_has_none records fault a.accepted.linked
+    (subst (λ rs. IsFirstBrokenRule rs fault) (one_list parts h.0 records h.1 a.spelled) h.2)
+accepted_set_not_refused parts records (Profile fault) a h =
+    profile_has_none (county_of records) fault a.accepted.profile
+    (subst (λ (rs : List Record). IsFirstBrokenClause (county_of rs) fault) (one_list parts h.0 records h.1 a.spelled) h.3)
+accepted_set_not_refused parts records Memory a h = h
 
 one_fault : (parts : List (List ℕ)) (f g : LoadFault) → FaultAt tiger record_limit parts f → FaultAt tiger record_limit parts g → f ≡ g
 one_fault parts f g h k = go (one_verdict tiger tiger_is_sound record_limit parts)
@@ -68,12 +80,24 @@ one_fault parts f g h k = go (one_verdict tiger tiger_is_sound record_limit part
     go (inl s) = absurd (s.none f h)
     go (inr t) = t.only f h ∙ sym (t.only g k)
 
-pub one_set_refusal : (parts : List (List ℕ)) (f g : SetRefusal) → IsSetRefusal parts f → IsSetRefusal parts g → f ≡ g
-one_set_refusal parts (Faulty f) (Faulty g) h k = ap Faulty (one_fault parts f g h k)
-one_set_refusal parts (Faulty f) (Refused g) h k = absurd (spelled_not_faulty parts k.0 f k.1 h)
-one_set_refusal parts (Refused f) (Faulty g) h k = absurd (spelled_not_faulty parts h.0 g h.1 k)
-one_set_refusal parts (Refused f) (Refused g) h k =
-    ap Refused (one_refusal k.0 f g (subst (λ rs. IsRefusal rs f) (one_list parts h.0 k.0 h.1 k.1) h.2) k.2)
+pub one_set_refusal : (parts : List (List ℕ)) (f g : Fault) → IsSetRefusal parts f → IsSetRefusal parts g → f ≡ g
+one_set_refusal parts (Load f) (Load g) h k = ap Load (one_fault parts f g h k)
+one_set_refusal parts (Load f) (Link g) h k = absurd (spelled_not_faulty parts k.0 f k.1 h)
+one_set_refusal parts (Load f) (Profile g) h k = absurd (spelled_not_faulty parts k.0 f k.1 h)
+one_set_refusal parts (Link f) (Load g) h k = absurd (spelled_not_faulty parts h.0 g h.1 k)
+one_set_refusal parts (Link f) (Link g) h k =
+    ap Link (one_first_rule k.0 f g (subst (λ rs. IsFirstBrokenRule rs f) (one_list parts h.0 k.0 h.1 k.1) h.2) k.2)
+one_set_refusal parts (Link f) (Profile g) h k =
+    absurd (linked_has_none k.0 f k.2 (subst (λ rs. IsFirstBrokenRule rs f) (one_list parts h.0 k.0 h.1 k.1) h.2))
+one_set_refusal parts (Profile f) (Load g) h k = absurd (spelled_not_faulty parts h.0 g h.1 k)
+one_set_refusal parts (Profile f) (Link g) h k = absurd (linked_has_none k.0 g (subst IsLinked (one_list parts h.0 k.0 h.1 k.1) h.2) k.2)
+one_set_refusal parts (Profile f) (Profile g) h k =
+    ap Profile (one_first_clause (county_of k.0) f g
+    (subst (λ (rs : List Record). IsFirstBrokenClause (county_of rs) f) (one_list parts h.0 k.0 h.1 k.1) h.3) k.3)
+one_set_refusal parts Memory g h k = absurd h
+one_set_refusal parts (Load f) Memory h k = absurd k
+one_set_refusal parts (Link f) Memory h k = absurd k
+one_set_refusal parts (Profile f) Memory h k = absurd k
 
 -- what is printed of a canonical list fits, and keeps the limit
 fitting : (parts : List (List ℕ)) (text : List ℕ) (h : IsCanonicalText parts text)

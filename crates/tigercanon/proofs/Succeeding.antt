@@ -11,7 +11,8 @@ use Rattle.tl_load.specs.declared.fault.LoadFault.TheVariants.{UnknownType, Line
 use Rattle.tl_load.specs.declared.fault.LoadFault.TheVariants.{GapInRecord, TooManyRecords, Device}
 use Rattle.tl_load.specs.declared.fault.LoadFault.TheVariants.{Memory as LoadMemory}
 use Rattle.tigercanon.specs.declared.fault.Fault.TheVariants.{Load}
-use Rattle.tigercanon.specs.Respelling.{record_limit, IsFirstFault, IsWantOfMemory}
+use Rattle.tigercanon.specs.Respelling.{record_limit, IsFirstFault}
+use Rattle.tigercanon.specs.Faults.{IsWantOfMemory}
 
 pub memory_alone : (parts : List (List ℕ)) (records : List Record) (f : LoadFault) → Accepts tiger record_limit parts records
     → (IsOfLines f → IsFirstFault parts f) → IsNotDevice f → IsWantOfMemory (Load f)

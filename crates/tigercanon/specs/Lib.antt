@@ -1,5 +1,7 @@
 pub mod Files
 pub mod Respelling
+pub mod Sets
+pub mod Faults
 pub mod Statuses
 pub mod Outcomes
-pub mod Sets
+pub mod Words

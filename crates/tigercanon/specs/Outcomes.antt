@@ -1,56 +1,97 @@
 -- What a job over files printed, or why it printed nothing.
-use Rattle.std.specs.Prelude.{ℕ, ◌<◌, List, length, take, Option, ◌⊎◌}
+use Rattle.std.specs.Prelude.{ℕ, ◌<◌, ◌≢◌, List, length, take, Option, ◌⊎◌}
 use Rattle.std.specs.Io.KnownBytes.{Appends, Keeps}
-use Rattle.tl_load.specs.declared.fault.LoadFault.{LoadFault}
+use Rattle.tl_layout.specs.declared.record_type.Record.{Record}
 use Rattle.tl_load.specs.Loaded.{IsOfLines}
+use Rattle.tl_county.specs.declared.fault.LinkFault.TheVariants.{Memory as LinkMemory}
+use Rattle.tl_profile.specs.declared.fault.ProfileFault.TheVariants.{Memory as ProfileMemory}
+use Rattle.tigercanon.specs.declared.command_line.Job.{Job}
+use Rattle.tigercanon.specs.declared.command_line.Job.TheVariants.{Respell, Check}
 use Rattle.tigercanon.specs.declared.files.Opened.{Opened}
 use Rattle.tigercanon.specs.declared.fault.Fault.{Fault}
-use Rattle.tigercanon.specs.declared.fault.Fault.TheVariants.{Load, Memory}
-use Rattle.tigercanon.specs.declared.refusal.Refusal.{Refusal}
-use Rattle.tigercanon.specs.declared.refusal.Refusal.TheVariants.{Set, Output}
+use Rattle.tigercanon.specs.declared.fault.Fault.TheVariants.{Load, Link, Profile, Memory}
+use Rattle.tigercanon.specs.declared.job_fault.JobFault.{JobFault}
+use Rattle.tigercanon.specs.declared.job_fault.JobFault.TheVariants.{Set, Output}
 use Rattle.tigercanon.specs.Files.{AreHeld}
-use Rattle.tigercanon.specs.Respelling.{IsRespelt, IsFirstFault}
+use Rattle.tigercanon.specs.Respelling.{IsRespelt}
+use Rattle.tigercanon.specs.Sets.{IsAcceptedSet, IsSetRefusal, SaysAccepted}
 
--- what the files hold is respelt as this text
-pub record AreRespelt {R : Type 0} (remaining : R → Option (List ℕ)) (files : List (Opened R)) (text : List ℕ) : Type 0 where
+-- the text that a job prints of parts
+abbrev pub Answer : Type 1
+Answer = List (List ℕ) → List ℕ → Type 0
+
+abbrev pub IsAnswer : Job → Answer
+IsAnswer Respell = IsRespelt
+IsAnswer Check = SaysAccepted
+
+-- this text is the answer to what the files hold
+pub record AreAnswered {R : Type 0} (answer : Answer) (remaining : R → Option (List ℕ)) (files : List (Opened R)) (text : List ℕ) : Type 0 where
   pub parts : List (List ℕ)
   pub held : AreHeld remaining files parts
-  pub respelt : IsRespelt parts text
+  pub answered : answer parts text
 
--- the writer got the respelt text
-pub record PrintsWhole {R : Type 0} (remaining : R → Option (List ℕ)) (files : List (Opened R)) (old new : Option (List ℕ)) : Type 0 where
-  pub text : List ℕ
-  pub respelt : AreRespelt remaining files text
-  pub printed : Appends old new text
-
--- the writer got the first so many bytes of the respelt text, and not all of them
-pub record PrintsBeginning {R : Type 0} (remaining : R → Option (List ℕ)) (files : List (Opened R)) (written : ℕ)
+-- the writer got the answer
+pub record PrintsWhole {R : Type 0} (answer : Answer) (remaining : R → Option (List ℕ)) (files : List (Opened R))
     (old new : Option (List ℕ)) : Type 0 where
   pub text : List ℕ
-  pub respelt : AreRespelt remaining files text
+  pub answered : AreAnswered answer remaining files text
+  pub printed : Appends old new text
+
+-- the writer got the first so many bytes of the answer, and not all of them
+pub record PrintsBeginning {R : Type 0} (answer : Answer) (remaining : R → Option (List ℕ)) (files : List (Opened R)) (written : ℕ)
+    (old new : Option (List ℕ)) : Type 0 where
+  pub text : List ℕ
+  pub answered : AreAnswered answer remaining files text
   pub printed : Appends old new (take written text)
   pub short : written < length text
 
--- the first faulty line of what the files hold has this fault
-pub record AreFaulty {R : Type 0} (remaining : R → Option (List ℕ)) (files : List (Opened R)) (fault : LoadFault) : Type 0 where
+-- what the files hold is accepted
+pub record AreAccepted {R : Type 0} (remaining : R → Option (List ℕ)) (files : List (Opened R)) : Type 0 where
   pub parts : List (List ℕ)
   pub held : AreHeld remaining files parts
-  pub first : IsFirstFault parts fault
+  pub records : List Record
+  pub accepted : IsAcceptedSet parts records
 
--- where the fault is of the set's lines, it is that of the first faulty one
-abbrev pub TellsFault : {R : Type 0} → (R → Option (List ℕ)) → List (Opened R) → Fault → Type 0
-TellsFault remaining files (Load fault) = IsOfLines fault → AreFaulty remaining files fault
-TellsFault remaining files Memory = Unit {0}
+-- what the files hold is refused for this
+pub record AreRefused {R : Type 0} (remaining : R → Option (List ℕ)) (files : List (Opened R)) (fault : Fault) : Type 0 where
+  pub parts : List (List ℕ)
+  pub held : AreHeld remaining files parts
+  pub refused : IsSetRefusal parts fault
 
--- what a job that didn't end well leaves: a refused set nothing, a failing writer the beginning of the text
-abbrev pub Leaves : {R : Type 0} → (R → Option (List ℕ)) → List (Opened R) → Option (List ℕ) → Option (List ℕ) → Refusal → Type 0
-Leaves remaining files old new (Set fault) = Keeps old new × TellsFault remaining files fault
-Leaves remaining files old new (Output stopped) = PrintsBeginning remaining files stopped.written old new
+-- where the fault is of the set's lines, it is what the files are refused for; nothing else is told but want of memory and a device
+abbrev pub TellsLines : {R : Type 0} → (R → Option (List ℕ)) → List (Opened R) → Fault → Type 0
+TellsLines remaining files (Load fault) = IsOfLines fault → AreRefused remaining files (Load fault)
+TellsLines remaining files (Link _) = ⊥
+TellsLines remaining files (Profile _) = ⊥
+TellsLines remaining files Memory = Unit {0}
 
--- some line of what the files hold is faulty
-abbrev pub AreRefused : {R : Type 0} → (R → Option (List ℕ)) → List (Opened R) → Type 0
-AreRefused remaining files = (fault : LoadFault) × AreFaulty remaining files fault
+-- but for want of memory and the fault of a device, it is what the files are refused for
+abbrev pub TellsSet : {R : Type 0} → (R → Option (List ℕ)) → List (Opened R) → Fault → Type 0
+TellsSet remaining files (Load fault) = IsOfLines fault → AreRefused remaining files (Load fault)
+TellsSet remaining files (Link fault) = fault ≢ LinkMemory → AreRefused remaining files (Link fault)
+TellsSet remaining files (Profile fault) = fault ≢ ProfileMemory → AreRefused remaining files (Profile fault)
+TellsSet remaining files Memory = Unit {0}
 
--- nothing was printed, or a beginning of the respelt text that isn't all of it
-abbrev pub PrintsPart : {R : Type 0} → (R → Option (List ℕ)) → List (Opened R) → Option (List ℕ) → Option (List ℕ) → Type 0
-PrintsPart remaining files old new = Keeps old new ⊎ ((written : ℕ) × PrintsBeginning remaining files written old new)
+-- what a job tells of files that it refuses
+abbrev pub Tells : {R : Type 0} → Job → (R → Option (List ℕ)) → List (Opened R) → Fault → Type 0
+Tells Respell = TellsLines
+Tells Check = TellsSet
+
+-- what a job that didn't end well leaves: a refused set nothing, a failing writer the beginning of the answer
+abbrev pub Leaves : {R : Type 0} → Job → (R → Option (List ℕ)) → List (Opened R) → Option (List ℕ) → Option (List ℕ) → JobFault → Type 0
+Leaves job remaining files old new (Set fault) = Keeps old new × Tells job remaining files fault
+Leaves job remaining files old new (Output stopped) = PrintsBeginning (IsAnswer job) remaining files stopped.written old new
+
+-- whether a job can refuse files for this: to respell them asks for lines alone
+abbrev pub IsToldBy : Job → Fault → Type 0
+IsToldBy Respell (Load _) = Unit {0}
+IsToldBy Respell _ = ⊥
+IsToldBy Check _ = Unit {0}
+
+-- the files are refused for something that the job asks for
+abbrev pub AreRefusedBy : {R : Type 0} → Job → (R → Option (List ℕ)) → List (Opened R) → Type 0
+AreRefusedBy job remaining files = (fault : Fault) × IsToldBy job fault × AreRefused remaining files fault
+
+-- nothing was printed, or a beginning of the answer that isn't all of it
+abbrev pub PrintsPart : {R : Type 0} → Answer → (R → Option (List ℕ)) → List (Opened R) → Option (List ℕ) → Option (List ℕ) → Type 0
+PrintsPart answer remaining files old new = Keeps old new ⊎ ((written : ℕ) × PrintsBeginning answer remaining files written old new)

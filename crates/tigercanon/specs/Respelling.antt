@@ -1,14 +1,10 @@
--- What a set of parts is respelt as, and why it is refused.
+-- What a set of parts is respelt as, and its first faulty line.
 use Rattle.std.specs.Prelude.{◌≡◌, ℕ, List}
 use Rattle.tl_layout.specs.declared.record_type.Record.{Record}
 use Rattle.tl_layout.specs.RecordText.{text_of}
 use Rattle.tl_load.specs.declared.fault.LoadFault.{LoadFault}
-use Rattle.tl_load.specs.declared.fault.LoadFault.TheVariants.{Memory as LoadMemory}
 use Rattle.tl_load.specs.Choice.{tiger}
-use Rattle.tl_load.specs.Loaded.{IsOfLines}
 use Rattle.tl_load.specs.Outcome.{Accepts, FaultAt}
-use Rattle.tigercanon.specs.declared.fault.Fault.{Fault}
-use Rattle.tigercanon.specs.declared.fault.Fault.TheVariants.{Load, Memory}
 
 -- the most records of one type that a set may have
 abbrev pub record_limit : ℕ
@@ -23,19 +19,3 @@ pub record IsRespelt (parts : List (List ℕ)) (text : List ℕ) : Type 0 where
 -- the fault of the first faulty line of the parts
 abbrev pub IsFirstFault : List (List ℕ) → LoadFault → Type 0
 IsFirstFault parts fault = FaultAt tiger record_limit parts fault
-
--- the fault is one of the set's lines, and neither of a device nor for want of memory
-abbrev pub IsOfSet : Fault → Type 0
-IsOfSet (Load fault) = IsOfLines fault
-IsOfSet Memory = ⊥
-
--- where the fault is of the set's lines, it is that of the first faulty one
-abbrev pub TellsFirstFault : List (List ℕ) → Fault → Type 0
-TellsFirstFault parts (Load fault) = IsOfLines fault → IsFirstFault parts fault
-TellsFirstFault parts Memory = Unit {0}
-
--- the fault is want of memory
-abbrev pub IsWantOfMemory : Fault → Type 0
-IsWantOfMemory (Load LoadMemory) = Unit {0}
-IsWantOfMemory (Load _) = ⊥
-IsWantOfMemory Memory = Unit {0}

@@ -1,26 +1,36 @@
--- Sets of parts, each a list of bytes: which are accepted, why another is refused, and the canonical text of one.
-use Rattle.std.specs.Prelude.{ℕ, ◌≡◌, List}
+-- Sets of parts, each a list of bytes: which are accepted, what another is refused for, and the canonical text of one.
+use Rattle.std.specs.Prelude.{ℕ, ◌≡◌, ◌++◌, ◌∷◌, [], List, codes}
 use Rattle.tl_layout.specs.RecordText.{text_of}
 use Rattle.tl_layout.specs.declared.record_type.Record.{Record}
 use Rattle.tl_load.specs.Choice.{tiger}
 use Rattle.tl_load.specs.Outcome.{Accepts}
-use Rattle.tl_load.specs.declared.fault.LoadFault.{LoadFault}
+use Rattle.tl_county.specs.County.{county_of}
+use Rattle.tl_county.specs.LinkRules.{IsLinked, IsFirstBrokenRule}
+use Rattle.tl_profile.specs.Profile.{IsFirstBrokenClause}
+use Rattle.tl_number.specs.Accepted.{IsAccepted, IsCanonicalOf}
 use Rattle.tigercanon.specs.Respelling.{record_limit, IsFirstFault}
-use Rattle.tl_number.specs.Accepted.{IsAccepted, Refusal, IsRefusal, IsCanonicalOf}
+use Rattle.tigercanon.specs.declared.fault.Fault.{Fault}
+use Rattle.tigercanon.specs.declared.fault.Fault.TheVariants.{Load, Link, Profile, Memory}
 
 -- the parts spell these records, which are accepted
 pub record IsAcceptedSet (parts : List (List ℕ)) (records : List Record) : Type 0 where
   pub spelled : Accepts tiger record_limit parts records
   pub accepted : IsAccepted records
 
--- why a set is refused: a faulty line, or what its records are refused for
-pub data SetRefusal : Type 0 where
-  Faulty : LoadFault → SetRefusal
-  Refused : Refusal → SetRefusal
+-- what a set is refused for: the fault of its first faulty line; of lines that spell records, the first rule that these break;
+-- of records that fit together, the first clause of the profile that their county breaks. Want of memory is no such thing.
+abbrev pub IsSetRefusal : List (List ℕ) → Fault → Type 0
+IsSetRefusal parts (Load fault) = IsFirstFault parts fault
+IsSetRefusal parts (Link fault) = (records : List Record) × Accepts tiger record_limit parts records × IsFirstBrokenRule records fault
+IsSetRefusal parts (Profile fault) = (records : List Record) × Accepts tiger record_limit parts records × IsLinked records
+    × IsFirstBrokenClause (county_of records) fault
+IsSetRefusal parts Memory = ⊥
 
-abbrev pub IsSetRefusal : List (List ℕ) → SetRefusal → Type 0
-IsSetRefusal parts (Faulty fault) = IsFirstFault parts fault
-IsSetRefusal parts (Refused refusal) = (records : List Record) × Accepts tiger record_limit parts records × IsRefusal records refusal
+-- the parts are accepted, and the text is the line that says so
+pub record SaysAccepted (parts : List (List ℕ)) (text : List ℕ) : Type 0 where
+  pub records : List Record
+  pub accepted : IsAcceptedSet parts records
+  pub text_is : text ≡ codes "accepted" ++ 10 ∷ []
 
 -- the text of a canonical list of the accepted records that the parts spell
 pub record IsCanonicalText (parts : List (List ℕ)) (text : List ℕ) : Type 0 where

@@ -1,24 +1,30 @@
--- The exit status of a refusal, and of a command line that is no plan.
+-- The exit status of a job that didn't end well, and of a command line that is no plan.
 use Rattle.std.specs.Prelude.{ℕ}
 use Rattle.tigercanon.specs.declared.command_line.PlanFault.{PlanFault}
 use Rattle.tigercanon.specs.declared.command_line.PlanFault.TheVariants.{Usage}
 use Rattle.tigercanon.specs.declared.command_line.PlanFault.TheVariants.{Memory as PlanMemory}
-use Rattle.tigercanon.specs.declared.fault.Fault.TheVariants.{Load, Memory}
-use Rattle.tigercanon.specs.declared.refusal.Refusal.{Refusal}
-use Rattle.tigercanon.specs.declared.refusal.Refusal.TheVariants.{Set, Output}
-use Rattle.tl_load.specs.declared.fault.LoadFault.{LoadFault}
+use Rattle.tigercanon.specs.declared.fault.Fault.{Fault}
+use Rattle.tigercanon.specs.declared.fault.Fault.TheVariants.{Load, Link, Profile, Memory}
+use Rattle.tigercanon.specs.declared.job_fault.JobFault.{JobFault}
+use Rattle.tigercanon.specs.declared.job_fault.JobFault.TheVariants.{Set, Output}
+use Rattle.tl_county.specs.declared.fault.LinkFault.TheVariants.{Memory as LinkMemory}
 use Rattle.tl_load.specs.declared.fault.LoadFault.TheVariants.{Device}
 use Rattle.tl_load.specs.declared.fault.LoadFault.TheVariants.{Memory as LoadMemory}
+use Rattle.tl_profile.specs.declared.fault.ProfileFault.TheVariants.{Memory as ProfileMemory}
 
--- the status where loading refused a set: 4 for a device, 5 for want of memory, else 3
-abbrev pub load_status_of : LoadFault → ℕ
-load_status_of Device = 4
-load_status_of LoadMemory = 5
-load_status_of _ = 3
+-- the status where a set was refused: 4 for a device, 5 for want of memory, else 3
+abbrev pub set_status_of : Fault → ℕ
+set_status_of (Load Device) = 4
+set_status_of (Load LoadMemory) = 5
+set_status_of (Load _) = 3
+set_status_of (Link LinkMemory) = 5
+set_status_of (Link _) = 3
+set_status_of (Profile ProfileMemory) = 5
+set_status_of (Profile _) = 3
+set_status_of Memory = 5
 
-abbrev pub status_of : Refusal → ℕ
-status_of (Set (Load fault)) = load_status_of fault
-status_of (Set Memory) = 5
+abbrev pub status_of : JobFault → ℕ
+status_of (Set fault) = set_status_of fault
 status_of (Output _) = 4
 
 -- 2 for the usage, 5 for want of memory

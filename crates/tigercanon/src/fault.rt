@@ -1,11 +1,13 @@
 //! What a whole call can answer in place of its result.
 
 ghost use Rattle.std.specs.Prelude.{◌≡◌};
-ghost use Rattle.tigercanon.specs.declared.fault.Fault.TheVariants.{Load, Memory};
+ghost use Rattle.tigercanon.specs.declared.fault.Fault.TheVariants.{Load, Link, Profile, Memory};
 
 use std::alloc::{AllocError, AllocFailed};
 use thiserror::Error;
+use tl_county::LinkFault;
 use tl_load::LoadFault;
+use tl_profile::ProfileFault;
 
 /// Why a whole call refused its set.
 #[derive(Clone, Copy, Debug, PartialEq, Eq, Error)]
@@ -13,6 +15,12 @@ pub enum Fault {
     /// Loading refused it: the first faulty line, or what kept the parts from being read.
     #[error(transparent)]
     Load(LoadFault),
+    /// Linking refused it: the first rule that its records break.
+    #[error(transparent)]
+    Link(LinkFault),
+    /// Admission refused it: the first clause of the profile that its county breaks.
+    #[error(transparent)]
+    Profile(ProfileFault),
     /// There was no memory for the answer.
     #[error("out of memory")]
     Memory,
@@ -23,6 +31,22 @@ impl From<LoadFault> for Fault {
 
     fn from(fault: LoadFault) -> Fault {
         Fault::Load(fault)
+    }
+}
+
+impl From<LinkFault> for Fault {
+    ghost from_gives = { λ fault made. made ≡ Link fault };
+
+    fn from(fault: LinkFault) -> Fault {
+        Fault::Link(fault)
+    }
+}
+
+impl From<ProfileFault> for Fault {
+    ghost from_gives = { λ fault made. made ≡ Profile fault };
+
+    fn from(fault: ProfileFault) -> Fault {
+        Fault::Profile(fault)
     }
 }
 

@@ -2,7 +2,7 @@
 
 ghost use Rattle.std.specs.Prelude.{◌≡◌, None, ◌<◌, ◌≤◌, ◌+◌, ℕ, List, length, OnOk, IfOk, IfErr, IfSome, MatchResult, IsErrOf, IsTrue, ◌↔◌, vec_len};
 ghost use Rattle.tigercanon.specs.Files.{IsMissing, AreHeld, TakesPart, TakesFiles, bytes_of};
-ghost use Rattle.tigercanon.specs.Outcomes.{TellsFault};
+ghost use Rattle.tigercanon.specs.Outcomes.{TellsLines};
 ghost use Rattle.tigercanon.specs.Respelling.{record_limit};
 ghost use Rattle.tl_layout.specs.declared.record_type.Record.{Record};
 ghost use Rattle.tl_load.specs.Choice.{tiger};
@@ -170,7 +170,7 @@ pub(crate) fn load_files<K: Keeper, R: Read + Drop>(
     ensures missing { IsMissing files.items → IsErrOf result (Fault.Load LoadFault.Device) }
     ensures loaded { IfOk result (λ kept. (parts : List (List ℕ)) × AreHeld R.remaining files.items parts
         × (records : List Record) × K.holds kept records × Accepts tiger record_limit parts records) }
-    ensures faulty { IfErr result (TellsFault R.remaining files.items) }
+    ensures faulty { IfErr result (TellsLines R.remaining files.items) }
 {
     if is_missing_a_file(&files) {
         return Err(Fault::Load(LoadFault::Device));

@@ -4,15 +4,19 @@ ghost use Rattle.std.specs.Prelude.{◌≡◌, ◌∷◌, [], Contains, OnOk, If
 ghost use Rattle.std.specs.Io.KnownBytes.{Keeps};
 ghost use Rattle.tigercanon.specs.Files.{IsMissing};
 ghost use Rattle.tigercanon.specs.Statuses.{plan_status_of};
-ghost use Rattle.tigercanon.specs.Outcomes.{PrintsWhole, PrintsPart, AreRefused, Leaves};
+ghost use Rattle.tigercanon.specs.Outcomes.{AreAccepted, AreRefusedBy, IsAnswer, Leaves, PrintsPart, PrintsWhole, TellsSet};
+ghost use Rattle.tigercanon.specs.Respelling.{IsRespelt};
+ghost use Rattle.tigercanon.specs.Sets.{SaysAccepted};
 
+use crate::checking::admit_tables;
 use crate::command_line::{Job, PlanFault};
 use crate::fault::Fault;
 use crate::files::{Opened, load_files};
-use crate::refusal::Refusal;
+use crate::job_fault::JobFault;
 use crate::writing::write_text;
 use std::alloc::Global;
 use std::io::{Read, Write};
+use tl_layout::Tables;
 use tl_load::{CanonicalText, LoadFault};
 
 /// Prints the records of a set of files in canonical spelling, once all of it is read and judged.
@@ -20,14 +24,57 @@ fn respell_set<R: Read + Drop, W: Write>(
     alloc: Global,
     files: Vec<Opened<R>>,
     out: &mut W,
-) -> Result<(), Refusal>
-    ensures done { OnOk result (PrintsWhole R.remaining files.items (W.contents out.old) (W.contents out.new)) }
-    ensures stopped { IfErr result (Leaves R.remaining files.items (W.contents out.old) (W.contents out.new)) }
-    ensures missing { IsMissing files.items → IsErrOf result (Refusal.Set (Fault.Load LoadFault.Device)) }
+) -> Result<(), JobFault>
+    ensures done { OnOk result (PrintsWhole IsRespelt R.remaining files.items (W.contents out.old) (W.contents out.new)) }
+    ensures stopped { IfErr result (Leaves Job.Respell R.remaining files.items (W.contents out.old) (W.contents out.new)) }
+    ensures missing { IsMissing files.items → IsErrOf result (JobFault.Set (Fault.Load LoadFault.Device)) }
 {
     let text: CanonicalText = load_files(alloc, files)?;
     write_text(out, &text.bytes)?;
     Ok(())
+}
+
+/// Reads a set of files, and judges it.
+fn judge_set<R: Read + Drop>(alloc: Global, files: Vec<Opened<R>>) -> Result<(), Fault>
+    ensures accepted { OnOk result (AreAccepted R.remaining files.items) }
+    ensures refused { IfErr result (TellsSet R.remaining files.items) }
+    ensures missing { IsMissing files.items → IsErrOf result (Fault.Load LoadFault.Device) }
+{
+    let tables: Tables = load_files(alloc, files)?;
+    admit_tables(alloc, tables)?;
+    Ok(())
+}
+
+/// Prints that a set of files is accepted, once all of it is read and judged.
+fn check_set<R: Read + Drop, W: Write>(
+    alloc: Global,
+    files: Vec<Opened<R>>,
+    out: &mut W,
+) -> Result<(), JobFault>
+    ensures done { OnOk result (PrintsWhole SaysAccepted R.remaining files.items (W.contents out.old) (W.contents out.new)) }
+    ensures stopped { IfErr result (Leaves Job.Check R.remaining files.items (W.contents out.old) (W.contents out.new)) }
+    ensures missing { IsMissing files.items → IsErrOf result (JobFault.Set (Fault.Load LoadFault.Device)) }
+{
+    judge_set(alloc, files)?;
+    write_text(out, b"accepted\n")?;
+    Ok(())
+}
+
+/// Does a job over the files of its set.
+fn do_job<R: Read + Drop, W: Write>(
+    alloc: Global,
+    job: Job,
+    files: Vec<Opened<R>>,
+    out: &mut W,
+) -> Result<(), JobFault>
+    ensures done { OnOk result (PrintsWhole (IsAnswer job) R.remaining files.items (W.contents out.old) (W.contents out.new)) }
+    ensures stopped { IfErr result (Leaves job R.remaining files.items (W.contents out.old) (W.contents out.new)) }
+    ensures missing { IsMissing files.items → IsErrOf result (JobFault.Set (Fault.Load LoadFault.Device)) }
+{
+    match job {
+        Job::Respell => respell_set(alloc, files, out),
+        Job::Check => check_set(alloc, files, out),
+    }
 }
 
 /// Does a job over the files of its sets, and answers the exit status: 0 where it is done, 3 where the set is
@@ -44,25 +91,22 @@ pub fn run<R: Read + Drop, W: Write, E: Write>(
     err: &mut E,
 ) -> u8
     ensures statuses { Contains (0 ∷ 3 ∷ 4 ∷ 5 ∷ []) result }
-    ensures done { result ≡ 0 → PrintsWhole R.remaining first.items (W.contents out.old) (W.contents out.new) }
+    ensures done { result ≡ 0 → PrintsWhole (IsAnswer job) R.remaining first.items (W.contents out.old) (W.contents out.new) }
 
     // A set that isn't accepted leaves nothing behind.
-    ensures refused { result ≡ 3 → AreRefused R.remaining first.items }
+    ensures refused { result ≡ 3 → AreRefusedBy job R.remaining first.items }
     ensures silent { result ≡ 3 → Keeps (W.contents out.old) (W.contents out.new) }
     ensures memory { result ≡ 5 → Keeps (W.contents out.old) (W.contents out.new) }
 
-    ensures device { result ≡ 4 → PrintsPart R.remaining first.items (W.contents out.old) (W.contents out.new) }
+    ensures device { result ≡ 4 → PrintsPart (IsAnswer job) R.remaining first.items (W.contents out.old) (W.contents out.new) }
     ensures missing { IsMissing first.items → result ≡ 4 }
     ensures missing_silent { IsMissing first.items → Keeps (W.contents out.old) (W.contents out.new) }
 {
-    let done = match job {
-        Job::Respell => respell_set(alloc, first, out),
-    };
-    match done {
+    match do_job(alloc, job, first, out) {
         Ok(()) => 0,
-        Err(refusal) => {
-            let _ = writeln!(err, "{refusal}");
-            refusal.status()
+        Err(fault) => {
+            let _ = writeln!(err, "{fault}");
+            fault.status()
         }
     }
 }

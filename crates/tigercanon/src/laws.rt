@@ -4,15 +4,16 @@ ghost use Rattle.std.specs.Prelude.{◌≡◌, ◌⊎◌, [], ◌∷◌, ℕ, Li
 ghost use Rattle.tl_county.specs.County.{county_of};
 ghost use Rattle.tl_county.specs.Renumbering.{AreSame};
 ghost use Rattle.tl_layout.specs.declared.record_type.Record.{Record};
-ghost use Rattle.tigercanon.specs.Sets.{IsAcceptedSet, IsCanonicalText, IsSetRefusal, SetRefusal};
+ghost use Rattle.tigercanon.specs.declared.fault.Fault.{Fault};
+ghost use Rattle.tigercanon.specs.Sets.{IsAcceptedSet, IsCanonicalText, IsSetRefusal};
 
 /// A set of parts is accepted or has a refusal, never both, and never two.
 pub fn accepted_set_or_one_refusal()
     ensures either { (parts : List (List ℕ)) →
-        ((records : List Record) × IsAcceptedSet parts records) ⊎ ((refusal : SetRefusal) × IsSetRefusal parts refusal) }
-    ensures not_both { (parts : List (List ℕ)) (records : List Record) (refusal : SetRefusal) →
+        ((records : List Record) × IsAcceptedSet parts records) ⊎ ((refusal : Fault) × IsSetRefusal parts refusal) }
+    ensures not_both { (parts : List (List ℕ)) (records : List Record) (refusal : Fault) →
         IsAcceptedSet parts records → IsSetRefusal parts refusal → ⊥ }
-    ensures only_one { (parts : List (List ℕ)) (refusal other : SetRefusal) →
+    ensures only_one { (parts : List (List ℕ)) (refusal other : Fault) →
         IsSetRefusal parts refusal → IsSetRefusal parts other → refusal ≡ other }
 {}
 

@@ -1,19 +1,23 @@
 //! Whole calls over a county's record files, and the command line that makes them.
 //!
-//! [`respell`] gives records in canonical spelling. [`plan`] reads a command line, and [`run`] does what was planned,
-//! over files that somebody else opened; the crate `tigercanon_main` is the program around the two.
+//! [`respell`] gives records in canonical spelling, and [`check`] says whether a set is accepted. [`plan`] reads a command
+//! line, and [`run`] does what was planned, over files that somebody else opened; the crate `tigercanon_main` is the program
+//! around the two.
 #![tactic(auto)]
 
+mod checking;
 mod command_line;
 mod fault;
 mod files;
+mod job_fault;
 mod jobs;
 mod laws;
+mod loading;
 mod planning;
-mod refusal;
 mod respelling;
 mod writing;
 
+pub use checking::check;
 pub use command_line::{Job, Plan, PlanFault};
 pub use fault::Fault;
 pub use files::Opened;

@@ -1,30 +1,57 @@
 //! Reading the words of a command line.
 
-ghost use Rattle.std.specs.Prelude.{◌≡◌, [], IfOk, vec_len};
+ghost use Rattle.std.specs.Prelude.{◌≡◌, [], Some, IfOk, IfSome, vec_len};
+ghost use Rattle.tigercanon.specs.Words.{word_of};
+ghost use Rattle.tigercanon.specs.declared.command_line.Job.{Job};
 
 use crate::command_line::{Job, Plan, PlanFault};
 use clap::error::ErrorKind;
 use clap::{Arg, ArgAction, ArgMatches, Command};
 use std::alloc::{AllocError, Global};
 
-/// What the program understands: its subcommands and their arguments.
-fn command<'a>(alloc: Global) -> Result<Command<'a>, AllocError> {
+/// A subcommand that reads one set of one file.
+fn subcommand<'a>(alloc: Global, name: &'a str, about: &'a str) -> Result<Command<'a>, AllocError> {
     let set = Arg::new(alloc, "SET")
         .required(true)
         .action(ArgAction::Set)
         .help("The file with the records of one county");
-    let respell = Command::new(alloc, "respell")
-        .about("Print the records in canonical spelling, in their order and with their numbers")
-        .arg(set)?;
+    Command::new(alloc, name).about(about).arg(set)
+}
+
+/// What the program understands: its subcommands and their arguments.
+fn command<'a>(alloc: Global) -> Result<Command<'a>, AllocError> {
+    let respell = subcommand(
+        alloc,
+        "respell",
+        "Print the records in canonical spelling, in their order and with their numbers",
+    )?;
+    let check = subcommand(
+        alloc,
+        "check",
+        "Say whether the records fit together and the county is in the profile",
+    )?;
     Command::new(alloc, "tigercanon")
         .bin_name("tigercanon")?
         .version("0.1.0")
         .about(
-            "Reads TIGER/Line 2006 record files of one county, and prints them in canonical spelling",
+            "Reads TIGER/Line 2006 record files of one county, checks them, and prints them in canonical spelling",
         )
         .no_binary_name(true)
         .subcommand_required(true)
-        .subcommand(respell)
+        .subcommand(respell)?
+        .subcommand(check)
+}
+
+/// The job that a word names.
+fn job_named(name: &str) -> Option<Job>
+    ensures named { IfSome result (λ job. name.now ≡ word_of job) }
+    ensures known { (job : Job) → name.now ≡ word_of job → result ≡ Some job }
+{
+    match name {
+        "respell" => Some(Job::Respell),
+        "check" => Some(Job::Check),
+        _ => None,
+    }
 }
 
 /// The fault that the parser's error stands for.
@@ -38,19 +65,30 @@ fn fault_of(alloc: Global, error: &clap::Error) -> PlanFault {
     }
 }
 
-/// The plan to respell the set that the words name.
-fn respell_plan(alloc: Global, given: &ArgMatches<'_>) -> Result<Plan, PlanFault>
-    ensures job { IfOk result (λ p. p.job ≡ Job.Respell) }
+/// What tells the user how the program is called.
+fn usage(alloc: Global) -> PlanFault {
+    match command(alloc) {
+        Ok(mut command) => match command.render_usage() {
+            Ok(text) => PlanFault::Usage(text),
+            Err(_) => PlanFault::Memory,
+        },
+        Err(_) => PlanFault::Memory,
+    }
+}
+
+/// The plan to do a job over the set that the words name.
+fn plan_of(alloc: Global, job: Job, given: &ArgMatches<'_>) -> Result<Plan, PlanFault>
+    ensures job { IfOk result (λ p. p.job ≡ job) }
     ensures first { IfOk result (λ p. vec_len p.first ≡ 1) }
     ensures second { IfOk result (λ p. p.second.items ≡ []) }
 {
     let Some(name) = given.get_str("SET") else {
-        return Err(PlanFault::Usage(command(alloc)?.render_usage()?));
+        return Err(usage(alloc));
     };
     let mut first = Vec::new(alloc);
     first.push(String::from_str(alloc, name)?)?;
     Ok(Plan {
-        job: Job::Respell,
+        job,
         first,
         second: Vec::new(alloc),
     })
@@ -58,7 +96,6 @@ fn respell_plan(alloc: Global, given: &ArgMatches<'_>) -> Result<Plan, PlanFault
 
 /// Reads the words of a command line, the program's own name left out.
 pub fn plan(alloc: Global, words: &[String]) -> Result<Plan, PlanFault>
-    ensures job { IfOk result (λ p. p.job ≡ Job.Respell) }
     ensures first { IfOk result (λ p. vec_len p.first ≡ 1) }
     ensures second { IfOk result (λ p. p.second.items ≡ []) }
 {
@@ -66,8 +103,11 @@ pub fn plan(alloc: Global, words: &[String]) -> Result<Plan, PlanFault>
         Ok(matches) => matches,
         Err(error) => return Err(fault_of(alloc, &error)),
     };
-    match matches.subcommand() {
-        Some((_, given)) => respell_plan(alloc, given),
-        None => Err(PlanFault::Usage(command(alloc)?.render_usage()?)),
+    let Some((name, given)) = matches.subcommand() else {
+        return Err(usage(alloc));
+    };
+    match job_named(name) {
+        Some(job) => plan_of(alloc, job, given),
+        None => Err(usage(alloc)),
     }
 }

@@ -1,5 +1,6 @@
 //! The library's calls on worked examples, and jobs over files and devices that fail.
 
+mod checks;
 mod devices;
 mod jobs;
 mod lines;

@@ -1,19 +1,20 @@
 -- The first broken clause is the least place of the first clause that is broken at all.
-use Rattle.std.proofs.Common.{◌≡◌, ℕ, List, Bool, true, false, not, ◌&&◌, nat_lt, Option, Some, None, Ordering, Less, Equal, Greater, is_gt}
-use Rattle.std.proofs.Common.{refl, sym, ap, ◌∙◌, subst, nat_cmp}
+use Rattle.std.proofs.Common.{◌≡◌, ℕ, Bool, true, false, not, ◌&&◌, nat_lt, Some, Ordering, Less, Equal, Greater, is_gt}
+use Rattle.std.proofs.Common.{refl, sym, ◌∙◌, nat_cmp}
 use Rattle.std.specs.Cmp.Lexicographic.{slice_cmp}
 use Rattle.std.specs.Ordering.{ordering_then}
 use Rattle.std.proofs.lemmas.Bool.{false≢true}
 use Rattle.tl_county.specs.County.{County}
 use Rattle.tl_county.specs.CountyRules.{polygons_along}
-use Rattle.tl_county.specs.FirstOf.{IsFirst, place_cmp}
+use Rattle.tl_county.specs.FirstOf.{place_cmp}
 use Rattle.tl_county.specs.Keyed.{IsLeastPassing}
 use Rattle.tl_county.specs.Orders.{stands_in}
 use Rattle.tl_county.specs.PolygonKeys.{PolygonKey, key_cmp}
 use Rattle.tl_profile.specs.declared.fault.ProfileFault.{ProfileFault}
 use Rattle.tl_profile.specs.declared.fault.ProfileFault.TheVariants.{OwnReverse, SameShape, PolygonWithoutChain, Memory}
 use Rattle.tl_profile.specs.Profile.{is_own_reverse, are_one_shape, has_body, is_broken, fault_place, IsInProfile, IsFirstBrokenClause}
-use Rattle.tl_profile.specs.Shapes.{TlidPair, pair_cmp}
+use Rattle.tl_profile.specs.Shapes.{TlidPair, pair_cmp, pair_refused}
+use Rattle.tl_profile.specs.Sides.{polygon_refused}
 
 -- orders of lists of one or two numbers
 single : (a : Ordering) → is_gt a ≡ false → is_gt (ordering_then (ordering_then a Equal) Equal) ≡ false
@@ -32,15 +33,9 @@ keyed Less b e = refl
 keyed Equal b e = single b e
 keyed Greater b e = e
 
--- what the three searches look for
-abbrev pub pair_refused : County → TlidPair → Bool
-pair_refused county p = nat_lt p.0 p.1 && are_one_shape county p.0 p.1
-
-abbrev pub polygon_refused : County → PolygonKey → Bool
-polygon_refused county key = has_body county key && not (stands_in key_cmp key (polygons_along county.chains))
-
 module _ (county : County) where
-  pub first_own_reverse : (tlid : ℕ) → IsLeastPassing nat_cmp (is_own_reverse county) (Some tlid) → IsFirstBrokenClause county (OwnReverse tlid)
+  pub first_own_reverse : (tlid : ℕ) → IsLeastPassing nat_cmp (is_own_reverse county) (Some tlid)
+      → IsFirstBrokenClause county (OwnReverse tlid)
   first_own_reverse tlid h = record { there = h.0; least = least }
     where
       least : (other : ProfileFault) → is_broken county other ≡ true
@@ -51,7 +46,8 @@ module _ (county : County) where
       least Memory t = absurd (false≢true t)
 
   module _ (none : (tlid : ℕ) → is_own_reverse county tlid ≡ false) where
-    pub first_same_shape : (p : TlidPair) → IsLeastPassing pair_cmp (pair_refused county) (Some p) → IsFirstBrokenClause county (SameShape p.0 p.1)
+    pub first_same_shape : (p : TlidPair) → IsLeastPassing pair_cmp (pair_refused county) (Some p)
+        → IsFirstBrokenClause county (SameShape p.0 p.1)
     first_same_shape p h = record { there = h.0; least = least }
       where
         least : (other : ProfileFault) → is_broken county other ≡ true

@@ -1,5 +1,5 @@
 -- The lesser of two values, of three, and of a test's.
-use Rattle.std.proofs.Common.{◌≡◌, Bool, true, false, cond, Option, Some, None, Ordering, is_gt, refl, sym, ap, ◌∙◌}
+use Rattle.std.proofs.Common.{◌≡◌, Bool, true, false, cond, Option, Some, None, Ordering, is_gt, refl, sym, ◌∙◌}
 use Rattle.std.proofs.lemmas.Bool.{false≢true}
 use Rattle.std.proofs.lemmas.Cmp.{upto}
 use Rattle.std.specs.Cmp.{IsTotalOrder}
@@ -17,11 +17,13 @@ module _ {K : Type 0} {cmp : K → K → Ordering} (o : IsTotalOrder cmp) where
   three x y z true true false f g h =
       absurd (false≢true (sym (upto o y x z (not_greater (cmp x y) (cmp y x) (o.antisymm x y) f) h) ∙ g))
 
-  first_then : (x y z : K) (d : Bool) → lesser cmp (Some x) (cond d (Some z) (Some y)) ≡ cond d (lesser cmp (Some x) (Some z)) (lesser cmp (Some x) (Some y))
+  first_then : (x y z : K) (d : Bool)
+      → lesser cmp (Some x) (cond d (Some z) (Some y)) ≡ cond d (lesser cmp (Some x) (Some z)) (lesser cmp (Some x) (Some y))
   first_then x y z true = refl
   first_then x y z false = refl
 
-  then_last : (x y z : K) (b : Bool) → lesser cmp (cond b (Some y) (Some x)) (Some z) ≡ cond b (lesser cmp (Some y) (Some z)) (lesser cmp (Some x) (Some z))
+  then_last : (x y z : K) (b : Bool)
+      → lesser cmp (cond b (Some y) (Some x)) (Some z) ≡ cond b (lesser cmp (Some y) (Some z)) (lesser cmp (Some x) (Some z))
   then_last x y z true = refl
   then_last x y z false = refl
 

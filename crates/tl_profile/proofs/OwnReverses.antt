@@ -1,6 +1,6 @@
 -- The least chain that is its own reverse.
 use Rattle.std.proofs.Common.{◌≡◌, ◌⊎◌, ℕ, suc, ◌<◌, ◌≤◌, ◌==◌, List, ◌∷◌, ◌++◌, length, take, drop, slice_get, reverse, Bool, true, false}
-use Rattle.std.proofs.Common.{Option, Some, None, Ordering, Less, Equal, Greater, is_eq, is_gt, refl, sym, ap, ◌∙◌, subst, inl, inr, arith}
+use Rattle.std.proofs.Common.{Option, None, Ordering, Less, Equal, Greater, is_eq, is_gt, refl, sym, ap, ◌∙◌, subst, inl, inr}
 use Rattle.std.proofs.Common.{nat_cmp, ◌&&◌, map, []}
 use Rattle.std.specs.List.Sorted.{IsStrictlySortedBy}
 use Rattle.std.specs.List.{AllByRecursion}
@@ -19,7 +19,7 @@ use Rattle.tl_county.proofs.KeyOrders.{points_keys}
 use Rattle.tl_county.proofs.Members.{among_any}
 use Rattle.tl_profile.specs.Profile.{same_points, is_own_reverse}
 use Rattle.tl_profile.specs.Shapes.{points_at}
-use Rattle.tl_profile.proofs.Places.{ChainStands, chain_stands, StandsAt, all_next, among_parts, above_behind}
+use Rattle.tl_profile.proofs.Places.{chain_stands, all_next, among_parts, above_behind}
 use Rattle.tl_profile.proofs.ProfileFaults.{own_reverse_entry}
 
 reversed_eq : (o : Ordering) → is_eq (ordering_reverse o) ≡ is_eq o
@@ -84,7 +84,8 @@ module _ (county : County) (place : ℕ) (h : place < length county.chains) wher
       at_most : (e : ℕ × Chain) → is_mirrored e ≡ true
           → Among e (take place county.chains) ⊎ Among e (entry ∷ drop (suc place) county.chains) → is_gt (nat_cmp entry.0 e.0) ≡ false
       at_most e t (inl m) = absurd (not_before e t m)
-      at_most e t (inr (inl same)) = subst (λ d. is_gt (nat_cmp entry.0 d.0) ≡ false) (sym same) (ap is_gt (tied_itself nat_cmp_total entry.0))
+      at_most e t (inr (inl same)) = subst (λ d. is_gt (nat_cmp entry.0 d.0) ≡ false) (sym same)
+          (ap is_gt (tied_itself nat_cmp_total entry.0))
       at_most e t (inr (inr m)) =
           ap is_gt (all_among (λ d. nat_cmp entry.0 d.0 ≡ Less) e (drop (suc place) county.chains)
           (above_behind (λ d. d.0) (take place county.chains) entry (drop (suc place) county.chains)
@@ -94,7 +95,8 @@ module _ (county : County) (place : ℕ) (h : place < length county.chains) wher
       least other t =
           let e = own_reverse_entry county other t in
           subst (λ n. is_gt (nat_cmp entry.0 n) ≡ false) (sym e.2)
-          (at_most e.0 e.3 (among_parts e.0 (take place county.chains) (entry ∷ drop (suc place) county.chains) (subst (Among e.0) whole e.1)))
+          (at_most e.0 e.3 (among_parts e.0 (take place county.chains) (entry ∷ drop (suc place) county.chains)
+          (subst (Among e.0) whole e.1)))
 
 -- no chain is its own reverse
 pub none_mirrored : (county : County) (place : ℕ) → length county.chains ≤ place

@@ -1,6 +1,6 @@
 -- The least pair of TLIDs of one shape is that of two neighbours in the order of shapes.
-use Rattle.std.proofs.Common.{◌≡◌, ◌⊎◌, ◌<◌, ◌==◌, ℕ, nat_lt, List, [], ◌∷◌, map, Bool, true, false, cond, ◌&&◌, Option, Some, None}
-use Rattle.std.proofs.Common.{Ordering, Less, Equal, Greater, is_eq, is_gt, refl, sym, ap, ◌∙◌, subst, inl, inr, arith, nat_cmp}
+use Rattle.std.proofs.Common.{◌≡◌, ◌⊎◌, ◌<◌, ◌==◌, ℕ, nat_lt, List, [], ◌∷◌, Bool, true, false, cond, ◌&&◌, Option, Some, None}
+use Rattle.std.proofs.Common.{Ordering, Less, Equal, Greater, is_gt, refl, sym, ap, ◌∙◌, subst, inl, inr, arith, nat_cmp}
 use Rattle.std.specs.List.{AllByRecursion, list_any}
 use Rattle.std.specs.List.Sorted.{IsStrictlySortedBy}
 use Rattle.std.specs.Ordering.{ordering_then}
@@ -51,7 +51,8 @@ one_shape_parts keys pair e =
 pub one_shape_from : (keys : List ShapeKey) (pair : TlidPair) → HasOneShape keys pair → is_one_shape keys pair ≡ true
 one_shape_from keys pair h =
     let inner : ShapeKey → Bool = λ k. list_any (λ j. (pair.1 == j.1) && same_points k.0 j.0) keys in
-    let same : same_points h.one.0 h.other.0 ≡ true = subst (λ ps. same_points h.one.0 ps ≡ true) h.same (same-itself points_keys h.one.0) in
+    let same : same_points h.one.0 h.other.0 ≡ true =
+    subst (λ ps. same_points h.one.0 ps ≡ true) h.same (same-itself points_keys h.one.0) in
     let at_other = among_any (λ j. (pair.1 == j.1) && same_points h.one.0 j.0) h.other keys h.other_there
     (and_from (pair.1 == h.other.1) (same_points h.one.0 h.other.0) (eq-eqb pair.1 h.other.1 h.other_is) same) in
     let at_one = among_any (λ k. (pair.0 == k.1) && inner k) h.one keys h.one_there
@@ -193,7 +194,8 @@ next_least k (j ∷ js) h = at (same_points k.0 j.0) refl
     none e q s = go s.other_there
       where
         go : (s.other ≡ j) ⊎ Among s.other js → ⊥
-        go (inl f) = false≢true (sym e ∙ subst (λ ps. same_points k.0 ps ≡ true) (s.same ∙ ap (λ (i : ShapeKey). i.0) f) (same-itself points_keys k.0))
+        go (inl f) = false≢true
+            (sym e ∙ subst (λ ps. same_points k.0 ps ≡ true) (s.same ∙ ap (λ (i : ShapeKey). i.0) f) (same-itself points_keys k.0))
         go (inr m) =
             let down : is_gt (points_cmp k.0 j.0) ≡ false = first_at_most (points_cmp k.0 j.0) (nat_cmp k.1 j.1) h.0.0 in
             let up : is_gt (points_cmp j.0 k.0) ≡ false =

@@ -1,10 +1,10 @@
 -- The order of placed shapes is the order of their shapes.
-use Rattle.std.proofs.Common.{◌≡◌, ◌∷◌, [], List, map, false, Ordering, Less, Equal, Greater, is_gt, refl, sym, ap, ap₂, ◌∙◌, subst, nat_cmp}
+use Rattle.std.proofs.Common.{◌≡◌, ◌∷◌, [], List, map, false, Ordering, Less, Equal}
+use Rattle.std.proofs.Common.{Greater, is_gt, refl, sym, ap, ap₂, ◌∙◌, subst, nat_cmp}
 use Rattle.std.specs.Cmp.{IsTotalOrder}
 use Rattle.std.specs.List.{AllByRecursion}
 use Rattle.std.specs.Ordering.{ordering_then}
 use Rattle.std.proofs.lemmas.Cmp.{nat_cmp_total, then_total, on_total}
-use Rattle.tl_layout.specs.Coordinates.{Coordinates}
 use Rattle.tl_shape.specs.PointOrder.{point_cmp, points_cmp}
 use Rattle.tl_county.specs.County.{County}
 use Rattle.tl_county.specs.Orders.{IsInOrder}

@@ -1,7 +1,7 @@
 -- What stands at a place of a county's chains.
-use Rattle.std.proofs.Common.{◌≡◌, ◌⊎◌, ℕ, zero, suc, ◌+◌, ◌<◌, ◌≤◌, List, [], ◌∷◌, ◌++◌, map, length, take, drop, slice_get, reverse}
-use Rattle.std.proofs.Common.{Bool, true, false, Option, Some, None, option_map, refl, sym, ap, ◌∙◌, subst, inl, inr, arith, add-one, nat_cmp}
-use Rattle.std.proofs.Common.{Ordering, Less, cond, IsSome}
+use Rattle.std.proofs.Common.{◌≡◌, ◌⊎◌, ℕ, zero, suc, ◌<◌, ◌≤◌, List, [], ◌∷◌, ◌++◌, map, length, take, drop, slice_get, reverse}
+use Rattle.std.proofs.Common.{Bool, true, false, Option, Some, option_map, refl, sym, ap, ◌∙◌, subst, inl, inr, arith, nat_cmp}
+use Rattle.std.proofs.Common.{Less, IsSome}
 use Rattle.std.specs.List.{AllByRecursion}
 use Rattle.std.specs.List.Sorted.{IsStrictlySortedBy}
 use Rattle.std.specs.Ordering.{is_lt}
@@ -38,7 +38,8 @@ stands_at (x ∷ xs) (suc place) h =
     }
 
 -- the items up to one that was read
-pub take_next : {X : Type 0} (xs : List X) (place : ℕ) (x : X) → slice_get xs place ≡ Some x → take (suc place) xs ≡ take place xs ++ (x ∷ [])
+pub take_next : {X : Type 0} (xs : List X) (place : ℕ) (x : X) → slice_get xs place ≡ Some x
+    → take (suc place) xs ≡ take place xs ++ (x ∷ [])
 take_next [] place x e = cc
 take_next (y ∷ ys) zero x e = let same : y ≡ x = cc in ap (λ z. z ∷ []) same
 take_next (y ∷ ys) (suc place) x e = ap (λ l. y ∷ l) (take_next ys place x e)
@@ -62,7 +63,8 @@ pub above_behind : {X : Type 0} (key : X → ℕ) (xs : List X) (y : X) (zs : Li
 unfolding IsStrictlySortedBy
 above_behind key [] y zs h = each zs h.0
   where
-    each : (ws : List _) → AllByRecursion (λ k. nat_cmp (key y) k ≡ Less) (map key ws) → AllByRecursion (λ w. nat_cmp (key y) (key w) ≡ Less) ws
+    each : (ws : List _) → AllByRecursion (λ k. nat_cmp (key y) k ≡ Less) (map key ws)
+        → AllByRecursion (λ w. nat_cmp (key y) (key w) ≡ Less) ws
     each [] a = tt
     each (w ∷ ws) a = (a.0, each ws a.1)
 above_behind key (x ∷ xs) y zs h = above_behind key xs y zs h.1
@@ -103,7 +105,8 @@ pub length_from : (turned : Bool) (points : List Coordinates) → length (points
 length_from true points = length-reverse points
 length_from false points = refl
 
-pub shape_two : (county : County) → IsCounty county → (place : ℕ) → place < length county.chains → HasTwo (least_points (points_at county place))
+pub shape_two : (county : County) → IsCounty county → (place : ℕ) → place < length county.chains
+    → HasTwo (least_points (points_at county place))
 shape_two county is place h =
     let s = chain_stands county place h in
     let item : Among s.stands.item county.chains =

@@ -1,12 +1,9 @@
 -- A county's shapes in order are strictly in order, since no TLID stands twice.
-use Rattle.std.proofs.Common.{◌≡◌, ◌⊎◌, ◌≤◌, ℕ, suc, List, [], ◌∷◌, map, Bool, true, false, cond, length, filter, Ordering, Less, Equal, Greater}
-use Rattle.std.proofs.Common.{is_eq, refl, sym, ap, ◌∙◌, subst, inl, inr, arith, IsPermutation, nat_cmp}
+use Rattle.std.proofs.Common.{◌≡◌, ◌⊎◌, ◌≤◌, List, [], ◌∷◌, map, false}
+use Rattle.std.proofs.Common.{is_eq, sym, ap, subst, inl, inr, arith, IsPermutation, nat_cmp}
 use Rattle.std.specs.List.{AllByRecursion}
 use Rattle.std.specs.List.Sorted.{IsStrictlySortedBy}
-use Rattle.std.specs.Ordering.{ordering_then}
-use Rattle.std.proofs.lemmas.Bool.{false≢true}
 use Rattle.std.proofs.lemmas.List.Sorted.{IsPermutation-map}
-use Rattle.tl_shape.specs.PointOrder.{points_cmp}
 use Rattle.tl_county.specs.County.{County}
 use Rattle.tl_county.specs.CountyRules.{IsCounty, tlids}
 use Rattle.tl_county.specs.Orders.{IsInOrder, times}
@@ -25,7 +22,8 @@ use Rattle.tl_profile.proofs.PlacedOrder.{keys_in_order, shape_key_keys}
 -- what holds of each element holds of each of a permutation
 pub all_permuted : {X : Type 0} (P : X → Type 0) (xs ys : List X) → IsPermutation xs ys → AllByRecursion P xs → AllByRecursion P ys
 all_permuted P xs ys p a =
-    all_weaker (λ y. Among y ys) P (λ y m. all_among P y xs a (among-permutation y ys xs (IsPermutation-sym xs ys p) m)) ys (all_themselves ys)
+    all_weaker (λ y. Among y ys) P (λ y m. all_among P y xs a (among-permutation y ys xs (IsPermutation-sym xs ys p) m)) ys
+    (all_themselves ys)
 
 -- a shape with its TLID stands there no more often than the TLID
 times_tlid : (k : ShapeKey) (keys : List ShapeKey) → times shape_key_cmp k keys ≤ times nat_cmp k.1 (map (λ j. j.1) keys)
@@ -53,7 +51,8 @@ keys_apart county is k =
     subst (λ l. times nat_cmp k.1 l ≤ 1) (sym (tlids_of_keys county)) (apart_from_sorted nat_keys (tlids county) is.ascending.chains k.1) in
     omega (arith, few, one)
 
-module _ (county : County) (is : IsCounty county) (shapes sorted : List PlacedShape) (keys : map (key_of_shape county) shapes ≡ shape_keys county)
+module _ (county : County) (is : IsCounty county) (shapes sorted : List PlacedShape)
+    (keys : map (key_of_shape county) shapes ≡ shape_keys county)
     (p : IsPermutation shapes sorted) where
   pub sorted_permutation : IsPermutation (shape_keys county) (map (key_of_shape county) sorted)
   sorted_permutation =

@@ -1,25 +1,19 @@
 -- Pairs of one shape among a county's shapes are the pairs of its chains that the profile refuses.
-use Rattle.std.proofs.Common.{◌≡◌, ◌⊎◌, ◌<◌, ◌≤◌, ◌==◌, ◌&&◌, ℕ, nat_lt, List, [], ◌∷◌, map, Bool, true, false, Ordering, Less, Equal, Greater}
-use Rattle.std.proofs.Common.{is_lt, is_gt, reverse, refl, sym, ap, ◌∙◌, subst, inl, inr, arith, IsPermutation, nat_cmp}
-use Rattle.std.specs.List.{AllByRecursion, list_any}
-use Rattle.std.specs.List.Sorted.{IsStrictlySortedBy}
-use Rattle.std.specs.Ordering.{ordering_reverse, ordering_then}
-use Rattle.std.proofs.lemmas.Bool.{false≢true, and_parts, and_from, ltb-true, lt-ltb, eq-eqb}
-use Rattle.std.proofs.lemmas.Cmp.{tied_itself}
+use Rattle.std.proofs.Common.{◌≡◌, ◌⊎◌, ◌==◌, ◌&&◌, ℕ, nat_lt, List, Bool, true, false, Ordering, Less, Equal, Greater}
+use Rattle.std.proofs.Common.{is_lt, reverse, refl, sym, ap, ◌∙◌, inl, inr, IsPermutation}
+use Rattle.std.specs.List.{list_any}
+use Rattle.std.specs.Ordering.{ordering_reverse}
+use Rattle.std.proofs.lemmas.Bool.{and_parts, and_from, ltb-true, lt-ltb, eq-eqb}
 use Rattle.std.proofs.lemmas.List.{reverse-reverse}
 use Rattle.std.proofs.lemmas.List.Sorted.{IsPermutation-sym}
 use Rattle.tl_layout.specs.Coordinates.{Coordinates}
 use Rattle.tl_shape.specs.Chain.{Chain}
 use Rattle.tl_shape.specs.PointOrder.{points_cmp}
 use Rattle.tl_county.specs.County.{County}
-use Rattle.tl_county.specs.CountyRules.{IsCounty, tlids}
-use Rattle.tl_county.specs.Orders.{IsInOrder, times}
-use Rattle.tl_county.proofs.FirstFault.{Among}
 use Rattle.tl_county.proofs.KeyOrders.{points_keys}
-use Rattle.tl_county.proofs.Keys.{IsApart, nat_keys, apart_from_sorted, order_antisymm}
 use Rattle.tl_county.proofs.Members.{among-permutation, among-map, among-unmap, among_any}
 use Rattle.tl_profile.specs.Profile.{are_one_shape, same_shape}
-use Rattle.tl_profile.specs.Shapes.{ShapeKey, TlidPair, is_one_shape, least_points, points_from, shape_keys, shape_key_cmp}
+use Rattle.tl_profile.specs.Shapes.{ShapeKey, TlidPair, is_one_shape, least_points, points_from, shape_keys}
 use Rattle.tl_profile.proofs.Pairs.{HasOneShape, one_shape_parts, one_shape_from}
 use Rattle.tl_profile.proofs.ProfileFaults.{AreOneShape, one_shape_entries}
 use Rattle.tl_profile.proofs.SameProfile.{OneShape, shape-true, shape-same}
@@ -92,7 +86,8 @@ module _ (county : County) (keys : List ShapeKey) (p : IsPermutation (shape_keys
       let inner = among_any (λ d. (pair.1 == d.0) && same_shape one.0.1.points d.1.points) other.0 county.chains other.1
       (and_from (pair.1 == other.0.0) (same_shape one.0.1.points other.0.1.points) (eq-eqb pair.1 other.0.0 second) shape) in
       and_from (nat_lt pair.0 pair.1) (are_one_shape county pair.0 pair.1) (lt-ltb pair.0 pair.1 s.below)
-      (among_any (λ e. (pair.0 == e.0) && list_any (λ d. (pair.1 == d.0) && same_shape e.1.points d.1.points) county.chains) one.0 county.chains one.1
+      (among_any (λ e. (pair.0 == e.0) && list_any
+      (λ d. (pair.1 == d.0) && same_shape e.1.points d.1.points) county.chains) one.0 county.chains one.1
       (and_from (pair.0 == one.0.0) (list_any (λ d. (pair.1 == d.0) && same_shape one.0.1.points d.1.points) county.chains)
       (eq-eqb pair.0 one.0.0 first) inner))
 
@@ -103,11 +98,13 @@ module _ (county : County) (keys : List ShapeKey) (p : IsPermutation (shape_keys
       one_shape_from keys pair (record {
         below = ltb-true pair.0 pair.1 both.0;
         one = key_of_entry s.one;
-        one_there = among-permutation (key_of_entry s.one) (shape_keys county) keys p (among-map key_of_entry s.one county.chains s.one_there);
+        one_there = among-permutation (key_of_entry s.one) (shape_keys county) keys p
+            (among-map key_of_entry s.one county.chains s.one_there);
         one_is = s.one_is;
         other = key_of_entry s.other;
         other_there =
-            among-permutation (key_of_entry s.other) (shape_keys county) keys p (among-map key_of_entry s.other county.chains s.other_there);
+            among-permutation (key_of_entry s.other) (shape_keys county) keys p
+            (among-map key_of_entry s.other county.chains s.other_there);
         other_is = s.other_is;
         same =
             least_of_one_shape s.one.1.points s.other.1.points (shape-true s.one.1.points s.other.1.points s.shape);

@@ -1,7 +1,7 @@
 -- The keys on sides and those with a type P record, gathered place by place, and what the profile says of them.
-use Rattle.std.proofs.Common.{◌≡◌, ℕ, suc, ◌+◌, ◌<◌, nat_lt, List, [], ◌∷◌, ◌++◌, map, filter, length, take, slice_get, Bool, true, false}
-use Rattle.std.proofs.Common.{cond, not, ◌&&◌, ◌||◌, Option, Some, None, is_some, option_map, option_to_list, is_eq, refl, sym, ap, ◌∙◌, subst}
-use Rattle.std.proofs.Common.{append_assoc, append-nil, add-one, flat_map, IsPermutation, map-id, arith}
+use Rattle.std.proofs.Common.{◌≡◌, ℕ, suc, ◌<◌, nat_lt, List, [], ◌∷◌, ◌++◌, map, filter, length, take, slice_get, Bool, true, false}
+use Rattle.std.proofs.Common.{cond, not, ◌&&◌, ◌||◌, Option, Some, None, is_some, option_map, option_to_list, is_eq, refl, sym, ap, ◌∙◌}
+use Rattle.std.proofs.Common.{append_assoc, append-nil, IsPermutation, map-id, arith}
 use Rattle.std.specs.List.{list_any}
 use Rattle.std.specs.Ordering.{on}
 use Rattle.std.proofs.lemmas.Bool.{lt-ltb}
@@ -13,9 +13,9 @@ use Rattle.tl_layout.specs.declared.type_p.BodyP.{BodyP}
 use Rattle.tl_shape.specs.Chain.{Chain}
 use Rattle.tl_county.specs.ChartWords.{chain_at}
 use Rattle.tl_county.specs.County.{County}
-use Rattle.tl_county.specs.CountyRules.{IsCounty, chain_polygons, polygon_keys, polygons_along}
+use Rattle.tl_county.specs.CountyRules.{IsCounty, chain_polygons, polygons_along}
 use Rattle.tl_county.specs.Keyed.{is_unknown}
-use Rattle.tl_county.specs.Orders.{IsInOrder, stands_in, times}
+use Rattle.tl_county.specs.Orders.{IsInOrder, stands_in}
 use Rattle.tl_county.specs.PolygonKeys.{PolygonKey, key_cmp, key_on}
 use Rattle.tl_county.proofs.EntryLists.{in_order-strict}
 use Rattle.tl_county.proofs.InOrder.{strict-map, in_order-map}

@@ -1,6 +1,6 @@
 -- Two lists compared from an index on.
-use Rattle.std.proofs.Common.{◌≡◌, ℕ, ◌+◌, ◌<◌, ◌≤◌, nat_lt, List, [], ◌∷◌, length, drop, slice_get, Bool, true, false, Option, Some, None}
-use Rattle.std.proofs.Common.{Ordering, Less, Equal, Greater, refl, sym, ap, ◌∙◌, subst, arith}
+use Rattle.std.proofs.Common.{◌≡◌, ℕ, ◌+◌, ◌<◌, ◌≤◌, nat_lt, List, length, drop, slice_get, Bool, true, false, Option, Some, None}
+use Rattle.std.proofs.Common.{Ordering, Less, Equal, Greater, refl, sym, ap, ◌∙◌}
 use Rattle.std.specs.Option.{option_cmp}
 use Rattle.std.specs.Ordering.{ordering_then}
 use Rattle.std.specs.Cmp.Lexicographic.{slice_cmp}
@@ -28,7 +28,8 @@ module _ {X : Type 0} (cmp : X → X → Ordering) (xs ys : List X) (i : ℕ) (d
           let k : length ys ≤ i = ltb-false i (length ys) e in
           rw (drop_more xs i d h, drop_all i ys k, slice_get-get_or xs i d h, slice_get_past ys i k) refl
 
-  module _ (p q : Option X) (r all : Ordering) (here : p ≡ slice_get xs i) (there : q ≡ slice_get ys i) (told : r ≡ option_cmp cmp p q) where
+  module _ (p q : Option X) (r all : Ordering) (here : p ≡ slice_get xs i) (there : q ≡ slice_get ys i)
+      (told : r ≡ option_cmp cmp p q) where
     told_here : r ≡ option_cmp cmp (slice_get xs i) (slice_get ys i)
     told_here = told ∙ ap (λ o. option_cmp cmp o q) here ∙ ap (option_cmp cmp (slice_get xs i)) there
 

@@ -7,7 +7,7 @@ use Rattle.tl_layout.specs.Coordinates.{Coordinates}
 use Rattle.tl_shape.specs.PointOrder.{points_cmp}
 use Rattle.tl_county.specs.ChartWords.{chain_at, points_of}
 use Rattle.tl_county.specs.County.{County}
-use Rattle.tl_profile.specs.Profile.{same_points}
+use Rattle.tl_profile.specs.Profile.{are_one_shape, same_points}
 
 -- points as they stand, or from the other end
 abbrev pub points_from : Bool → List Coordinates → List Coordinates
@@ -40,6 +40,10 @@ TlidPair = ℕ × ℕ
 -- by the first TLID, then by the second
 abbrev pub pair_cmp : TlidPair → TlidPair → Ordering
 pair_cmp p q = ordering_then (nat_cmp p.0 q.0) (nat_cmp p.1 q.1)
+
+-- whether the profile refuses chains of these TLIDs for having one shape
+abbrev pub pair_refused : County → TlidPair → Bool
+pair_refused county p = nat_lt p.0 p.1 && are_one_shape county p.0 p.1
 
 -- whether these shapes are one, of a lesser TLID and a greater one
 abbrev pub is_one_shape : List ShapeKey → TlidPair → Bool

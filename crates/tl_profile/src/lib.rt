@@ -6,6 +6,8 @@ mod fault;
 mod laws;
 mod shapes;
 mod sides;
+#[cfg(test)]
+mod tests;
 
 pub use admission::{Admitted, admit, admit_chart};
 pub use fault::ProfileFault;

@@ -1,14 +1,14 @@
 //! The shapes of chains, put in order, and which of them are the same.
 
-ghost use Rattle.std.specs.Prelude.{◌≡◌, ◌<◌, ◌&&◌, ◌∷◌, [], List, Some, cond, length, map, nat_lt, slice_get, reverse, IfOk, OnOk, IsPermutation};
+ghost use Rattle.std.specs.Prelude.{◌≡◌, ◌<◌, Some, length, map, slice_get, reverse, IfOk, OnOk, IsPermutation};
 ghost use Rattle.std.specs.List.{AllByRecursion};
 ghost use Rattle.std.specs.List.Sorted.{IsStrictlySortedBy};
-ghost use Rattle.std.specs.Ordering.{is_eq, is_lt, nat_cmp};
+ghost use Rattle.std.specs.Ordering.{is_lt, nat_cmp};
 ghost use Rattle.tl_shape.specs.PointOrder.{points_cmp};
 ghost use Rattle.tl_county.specs.Keyed.{IsLeastPassing};
 ghost use Rattle.tl_county.specs.Orders.{IsInOrder};
-ghost use Rattle.tl_profile.specs.Profile.{are_one_shape, is_own_reverse, same_points};
-ghost use Rattle.tl_profile.specs.Shapes.{TlidPair, is_one_shape, lesser, next_pair, pair_cmp, points_at, shape_key_cmp, shape_keys};
+ghost use Rattle.tl_profile.specs.Profile.{is_own_reverse};
+ghost use Rattle.tl_profile.specs.Shapes.{is_one_shape, lesser, next_pair, pair_cmp, pair_refused, points_at, shape_key_cmp, shape_keys};
 ghost use Rattle.tl_profile.specs.PlacedShapes.{HasHead, key_of_shape, placed_cmp, placed_key_cmp, points_along};
 
 use std::alloc::{AllocError, Global};
@@ -222,7 +222,7 @@ pub(crate) fn least_same_shape<C: Chart>(
     alloc: Global,
     chart: &C,
 ) -> Result<Option<(u64, u64)>, AllocError>
-    ensures { IfOk result (IsLeastPassing pair_cmp (λ (p : TlidPair). nat_lt p.0 p.1 && are_one_shape (C.county chart.now) p.0 p.1)) }
+    ensures { IfOk result (IsLeastPassing pair_cmp (pair_refused (C.county chart.now))) }
 {
     let mut shapes = placed_shapes(alloc, chart)?;
     order_shapes(chart, &mut shapes)?;

@@ -1,12 +1,10 @@
 //! Polygons with a record of type P that are on no side of a chain.
 
-ghost use Rattle.std.specs.Prelude.{◌≡◌, ◌&&◌, ◌++◌, not, IfOk, OnOk, option_to_list, slice_get};
+ghost use Rattle.std.specs.Prelude.{◌≡◌, ◌++◌, IfOk, OnOk, option_to_list, slice_get};
 ghost use Rattle.tl_county.specs.CountyRules.{polygons_along};
 ghost use Rattle.tl_county.specs.Keyed.{IsLeastPassing};
-ghost use Rattle.tl_county.specs.Orders.{stands_in};
-ghost use Rattle.tl_county.specs.PolygonKeys.{PolygonKey as Key, key_cmp};
-ghost use Rattle.tl_profile.specs.Profile.{has_body};
-ghost use Rattle.tl_profile.specs.Sides.{key_if_bodied, keys_on, keys_with_body};
+ghost use Rattle.tl_county.specs.PolygonKeys.{key_cmp};
+ghost use Rattle.tl_profile.specs.Sides.{key_if_bodied, keys_on, keys_with_body, polygon_refused};
 
 use std::alloc::{AllocError, Global};
 use tl_county::{Chart, PolygonKey, least_unknown, put_in_order};
@@ -73,7 +71,7 @@ pub(crate) fn least_without_chain<C: Chart>(
     alloc: Global,
     chart: &C,
 ) -> Result<Option<PolygonKey>, AllocError>
-    ensures { IfOk result (IsLeastPassing key_cmp (λ (key : Key). has_body (C.county chart.now) key && not (stands_in key_cmp key (polygons_along (C.county chart.now).chains)))) }
+    ensures { IfOk result (IsLeastPassing key_cmp (polygon_refused (C.county chart.now))) }
 {
     let mut sides = polygons_on_sides(alloc, chart)?;
     put_in_order::<PolygonKey, PolygonKey>(&mut sides)?;

@@ -2,13 +2,15 @@
 
 use super::devices::{SlowReader, SlowWriter};
 use super::sets::{CANONICAL, CHAIN, LINK, expanded, joined};
-use crate::refusal::Refusal;
+use crate::job_fault::JobFault;
 use crate::{Fault, Job, Opened, run};
 use std::alloc::Global;
 use std::cell::Cell;
 use std::io::ErrorKind;
 use std::test::Fail;
+use tl_county::LinkFault;
 use tl_load::LoadFault;
+use tl_profile::ProfileFault;
 
 /// An open file with these bytes, of which it gives at most 100 at a time. The read after so many fails.
 fn file(bytes: &[u8], reads: usize, fault: ErrorKind) -> Opened<SlowReader<'_>> {
@@ -279,16 +281,26 @@ fn tells_rare_refusals(rt: HostRuntime) -> Result<(), Fail> {
     let alloc = rt.alloc();
     let refusals = [
         (
-            Refusal::Set(Fault::Load(LoadFault::TooManyRecords { rtype: b'8' })),
+            JobFault::Set(Fault::Load(LoadFault::TooManyRecords { rtype: b'8' })),
             "refused 7 TooManyRecords 8",
             3,
         ),
         (
-            Refusal::Set(Fault::Load(LoadFault::Memory)),
+            JobFault::Set(Fault::Load(LoadFault::Memory)),
             "refused 9 Memory",
             5,
         ),
-        (Refusal::Set(Fault::Memory), "refused 9 Memory", 5),
+        (
+            JobFault::Set(Fault::Link(LinkFault::Memory)),
+            "refused 9 Memory",
+            5,
+        ),
+        (
+            JobFault::Set(Fault::Profile(ProfileFault::Memory)),
+            "refused 9 Memory",
+            5,
+        ),
+        (JobFault::Set(Fault::Memory), "refused 9 Memory", 5),
     ];
     for (refusal, told, status) in refusals {
         assert_eq!(rt; format!(in alloc; "{refusal}")?.as_str(), told);

@@ -5,15 +5,20 @@ use crate::{Job, Plan, PlanFault, plan, tell};
 use std::test::Fail;
 
 #[test]
-fn plans_to_respell_a_file(rt: HostRuntime) -> Result<(), Fail> {
+fn plans_a_job_over_a_file(rt: HostRuntime) -> Result<(), Fail> {
     let alloc = rt.alloc();
-    for name in ["county.txt", "help", "a b"] {
+    for (word, planned, name) in [
+        ("respell", Job::Respell, "county.txt"),
+        ("respell", Job::Respell, "help"),
+        ("check", Job::Check, "county.txt"),
+        ("check", Job::Check, "a b"),
+    ] {
         let words = vec![in alloc;
-            String::from_str(alloc, "respell")?,
+            String::from_str(alloc, word)?,
             String::from_str(alloc, name)?,
         ]?;
         let Plan { job, first, second } = plan(alloc, &words)?;
-        assert_eq!(rt; job, Job::Respell);
+        assert_eq!(rt; job, planned);
         assert_eq!(rt; first.len(), 1);
         assert_eq!(rt; first[0].as_str(), name);
         assert!(rt; second.is_empty());
@@ -24,7 +29,7 @@ fn plans_to_respell_a_file(rt: HostRuntime) -> Result<(), Fail> {
 #[test]
 fn tells_the_usage(rt: HostRuntime) -> Result<(), Fail> {
     let alloc = rt.alloc();
-    let lines: [(&[&str], &str); 8] = [
+    let lines: [(&[&str], &str); 10] = [
         (&[], "error: 'tigercanon' requires a subcommand"),
         (&["--help"], "Reads TIGER/Line 2006 record files"),
         (&["--version"], "tigercanon "),
@@ -45,6 +50,8 @@ fn tells_the_usage(rt: HostRuntime) -> Result<(), Fail> {
             "error: unexpected argument '--loud' found",
         ),
         (&["spell", "a"], "error: unrecognized subcommand 'spell'"),
+        (&["help", "check"], "Say whether the records fit together"),
+        (&["check", "a", "b"], "error: unexpected argument 'b' found"),
     ];
     for (line, told) in lines {
         let words: Vec<String> = line

@@ -10,7 +10,7 @@ returns-in_err-write_text-clause-stopped g c =
     let w = c.in_err-write_text.ensures in
     rw (p.1, p.2) (record {
       text = c.in_ok-text.text.bytes.items;
-      respelt = record { parts = l.0; held = l.1; respelt = record { records = l.2; spelled = l.4; text_is = l.3 } };
+      answered = record { parts = l.0; held = l.1; answered = record { records = l.2; spelled = l.4; text_is = l.3 } };
       printed = subst (λ (text : List ℕ). Appends (g.W.Write.contents c.args.out.now) (g.W.Write.contents c.write_text.new.out)
           (take c.in_err-write_text.field-0.0.written text)) c.deref.ensures.value w.stopped;
       short = subst (λ (text : List ℕ). c.in_err-write_text.field-0.0.written < length text) c.deref.ensures.value w.short;

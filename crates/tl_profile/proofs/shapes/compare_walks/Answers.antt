@@ -1,4 +1,4 @@
-use Rattle.std.proofs.Common.{◌≡◌, ◌<◌, ◌≤◌, ℕ, List, Some, None, Option, pos, length, sym, ap, ◌∙◌, arith, slice_get}
+use Rattle.std.proofs.Common.{◌≡◌, pos, sym, ap, ◌∙◌, arith, slice_get}
 use Rattle.tl_layout.specs.Coordinates.{Coordinates}
 use Rattle.tl_shape.specs.PointOrder.{point_cmp, points_cmp}
 use Rattle.tl_profile.specs.PlacedShapes.{points_along}
@@ -18,7 +18,9 @@ returns-in_default g c =
     let count = c.point_count_at-count.ensures in
     let test = c.loop-index-test.true in
     at_unequal point_cmp (points_along county c.args.walk) (points_along county c.args.other) c.loop-index.index here
-    c.point_along.result c.point_along-in-loop-index.result c.cmp.result (points_cmp (points_along county c.args.walk) (points_along county c.args.other)) c.point_along.ensures c.point_along-in-loop-index.ensures c.cmp.ensures
+    c.point_along.result c.point_along-in-loop-index.result c.cmp.result
+    (points_cmp (points_along county c.args.walk) (points_along county c.args.other))
+    c.point_along.ensures c.point_along-in-loop-index.ensures c.cmp.ensures
     (omega arith) c.loop-index.invariant c.in_default.not-Equal
 
 pub loop-index-preserved : goal.loop-index-preserved
@@ -28,7 +30,9 @@ loop-index-preserved g c =
     let count = c.point_count_at-count.ensures in
     let test = c.loop-index-test.true in
     after_equal point_cmp (points_along county c.args.walk) (points_along county c.args.other) c.loop-index.index here
-    c.point_along.result c.point_along-in-loop-index.result c.cmp.result (points_cmp (points_along county c.args.walk) (points_along county c.args.other)) c.point_along.ensures c.point_along-in-loop-index.ensures c.cmp.ensures
+    c.point_along.result c.point_along-in-loop-index.result c.cmp.result
+    (points_cmp (points_along county c.args.walk) (points_along county c.args.other))
+    c.point_along.ensures c.point_along-in-loop-index.ensures c.cmp.ensures
     (omega arith) c.loop-index.invariant c.in-Equal.is
 
 pub returns-in-Some : goal.returns-in-Some
@@ -38,7 +42,8 @@ returns-in-Some g c =
     let count = c.point_count_at-count.ensures in
     let test = c.loop-index-test.false in
     let last : c.loop-index.index ≡ c.point_count_at-count.result = (let within = c.loop-index.auto.index-end in omega arith) in
-    sym (at_more point_cmp (points_along county c.args.walk) (points_along county c.args.other) c.loop-index.index c.in-Some.field-0 (omega arith)
+    sym (at_more point_cmp (points_along county c.args.walk) (points_along county c.args.other) c.loop-index.index
+    c.in-Some.field-0 (omega arith)
     (ap (slice_get (points_along county c.args.other)) last ∙ sym c.point_along-2.ensures ∙ c.in-Some.is)) ∙ c.loop-index.invariant
 
 pub returns-in-None : goal.returns-in-None

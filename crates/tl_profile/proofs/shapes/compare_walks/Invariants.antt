@@ -6,5 +6,6 @@ use Rattle.tl_profile.proofs.shapes.compare_walks.Given as goal
 
 abbrev pub invariant-loop-index : goal.invariant-loop-index
 invariant-loop-index g l =
-    points_cmp (drop l.index (points_along (g.C.Chart.county l.chart) l.walk)) (drop l.index (points_along (g.C.Chart.county l.chart) l.other))
+    points_cmp (drop l.index (points_along (g.C.Chart.county l.chart) l.walk))
+    (drop l.index (points_along (g.C.Chart.county l.chart) l.other))
     ≡ points_cmp (points_along (g.C.Chart.county l.chart) l.walk) (points_along (g.C.Chart.county l.chart) l.other)

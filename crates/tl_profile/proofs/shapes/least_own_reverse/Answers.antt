@@ -1,4 +1,4 @@
-use Rattle.std.proofs.Common.{◌≡◌, ◌<◌, length, sym, ◌∙◌, arith, add-one}
+use Rattle.std.proofs.Common.{sym, ◌∙◌, arith, add-one}
 use Rattle.tl_profile.proofs.OwnReverses.{none_next, first_mirrored, none_mirrored}
 use Rattle.tl_profile.proofs.shapes.least_own_reverse.Goals as goal
 
@@ -7,7 +7,8 @@ returns-then-is_eq g c =
     let county = g.C.Chart.county c.args.chart.now in
     let count = c.chain_count-place-end.ensures in
     let test = c.loop-place-test.true in
-    first_mirrored county c.loop-place.place (omega arith) (g.met.C.Chart.is_county c.args.chart.now) c.compare_reverse.result c.compare_reverse.ensures
+    first_mirrored county c.loop-place.place (omega arith)
+    (g.met.C.Chart.is_county c.args.chart.now) c.compare_reverse.result c.compare_reverse.ensures
     (sym c.is_eq.ensures ∙ c.if-is_eq.true) c.loop-place.invariant c.tlid_at.result c.tlid_at.ensures
 
 pub loop-place-preserved : goal.loop-place-preserved

@@ -1,4 +1,4 @@
-use Rattle.std.proofs.Common.{◌≡◌, ◌∷◌, [], map, Option, None, sym, ap, ◌∙◌, subst}
+use Rattle.std.proofs.Common.{◌≡◌, ◌∷◌, [], map, sym, ap, ◌∙◌, subst}
 use Rattle.std.specs.List.{AllByRecursion}
 use Rattle.std.specs.List.Sorted.{IsStrictlySortedBy}
 use Rattle.tl_county.specs.Keyed.{IsLeastPassing}
@@ -21,7 +21,8 @@ loop-shape-preserved g c =
       heads = (subst (AllByRecursion (HasHead county)) cut c.loop-shape.invariant.heads).1;
       in_order = later_in_order (key_of_shape county shape) keys
           (subst (λ l. IsStrictlySortedBy shape_key_cmp (map (key_of_shape county) l)) cut c.loop-shape.invariant.in_order);
-      whole = ap (λ p. lesser pair_cmp p (least_next keys)) (c.lesser_pair-least.ensures ∙ ap (lesser pair_cmp c.loop-shape.least) c.pair_with_next.ensures)
+      whole = ap (λ p. lesser pair_cmp p (least_next keys))
+          (c.lesser_pair-least.ensures ∙ ap (lesser pair_cmp c.loop-shape.least) c.pair_with_next.ensures)
           ∙ sym (lesser-nested pair_cmp_keys.total c.loop-shape.least (next_pair (key_of_shape county shape) keys) (least_next keys))
           ∙ ap (λ l. lesser pair_cmp c.loop-shape.least (least_next (map (key_of_shape county) l))) (sym cut)
           ∙ c.loop-shape.invariant.whole;
@@ -35,4 +36,5 @@ returns g c =
     let same : least_next keys ≡ c.loop-shape.least =
     sym c.loop-shape.invariant.whole ∙ ap (λ l. lesser pair_cmp c.loop-shape.least (least_next (map (key_of_shape county) l))) none
     ∙ lesser-none pair_cmp_keys.total c.loop-shape.least in
-    subst (IsLeastPassing pair_cmp (is_one_shape keys)) same (least_by_test keys (least_next keys) (least_next_least keys c.requires.in_order))
+    subst (IsLeastPassing pair_cmp (is_one_shape keys)) same
+    (least_by_test keys (least_next keys) (least_next_least keys c.requires.in_order))

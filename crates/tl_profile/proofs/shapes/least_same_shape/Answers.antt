@@ -1,10 +1,9 @@
-use Rattle.std.proofs.Common.{◌≡◌, ◌&&◌, nat_lt, map, sym, ◌∙◌, subst}
+use Rattle.std.proofs.Common.{◌&&◌, nat_lt, map, sym, subst}
 use Rattle.std.specs.List.Sorted.{IsStrictlySortedBy}
 use Rattle.tl_county.specs.Keyed.{IsLeastPassing}
 use Rattle.tl_county.proofs.KeyedLists.{least-same}
-use Rattle.tl_profile.specs.Profile.{are_one_shape}
 use Rattle.tl_profile.specs.PlacedShapes.{key_of_shape}
-use Rattle.tl_profile.specs.Shapes.{TlidPair, is_one_shape, pair_cmp, shape_key_cmp}
+use Rattle.tl_profile.specs.Shapes.{is_one_shape, pair_cmp, pair_refused, shape_key_cmp}
 use Rattle.tl_profile.proofs.ShapeOrder.{sorted_permutation, sorted_strict}
 use Rattle.tl_profile.proofs.ShapesOfCounty.{same_pairs}
 use Rattle.tl_profile.proofs.shapes.least_same_shape.Goals as goal
@@ -13,15 +12,17 @@ pub least_pair-requires-clause-in_order : goal.least_pair-requires-clause-in_ord
 least_pair-requires-clause-in_order g c =
     let county = g.C.Chart.county c.args.chart.now in
     subst (λ l. IsStrictlySortedBy shape_key_cmp (map (key_of_shape county) l)) (sym c.deref.ensures.value)
-    (sorted_strict county (g.met.C.Chart.is_county c.args.chart.now) c.in_ok-shapes.shapes.items c.order_shapes.new.shapes.items c.in_ok-shapes.ensures.keys
+    (sorted_strict county (g.met.C.Chart.is_county c.args.chart.now) c.in_ok-shapes.shapes.items c.order_shapes.new.shapes.items
+    c.in_ok-shapes.ensures.keys
     c.order_shapes.ensures.permutation c.in_ok-shapes.ensures.heads c.in_ok-order_shapes.ensures.in_order)
 
 pub returns : goal.returns
 returns g c =
     let county = g.C.Chart.county c.args.chart.now in
     let sorted = c.order_shapes.new.shapes.items in
-    least-same pair_cmp (is_one_shape (map (key_of_shape county) sorted)) (λ (p : TlidPair). nat_lt p.0 p.1 && are_one_shape county p.0 p.1)
+    least-same pair_cmp (is_one_shape (map (key_of_shape county) sorted)) (pair_refused county)
     (same_pairs county (map (key_of_shape county) sorted)
     (sorted_permutation county (g.met.C.Chart.is_county c.args.chart.now) c.in_ok-shapes.shapes.items sorted c.in_ok-shapes.ensures.keys
     c.order_shapes.ensures.permutation)) c.least_pair.result
-    (subst (λ l. IsLeastPassing pair_cmp (is_one_shape (map (key_of_shape county) l)) c.least_pair.result) c.deref.ensures.value c.least_pair.ensures)
+    (subst (λ l. IsLeastPassing pair_cmp (is_one_shape (map (key_of_shape county) l)) c.least_pair.result)
+    c.deref.ensures.value c.least_pair.ensures)

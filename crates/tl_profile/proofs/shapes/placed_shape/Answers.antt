@@ -1,7 +1,7 @@
-use Rattle.std.proofs.Common.{◌≡◌, ◌∷◌, Some, slice_get, option_map, sym, ap, ap₂, ◌∙◌}
+use Rattle.std.proofs.Common.{◌∷◌, Some, slice_get, option_map, sym, ap, ◌∙◌}
 use Rattle.std.proofs.lemmas.Option.{slice_get-map}
-use Rattle.tl_profile.specs.Shapes.{least_points, points_at}
-use Rattle.tl_profile.proofs.Places.{HasTwo, chain_stands, shape_two, walk_is_shape, some-same, is_some_from}
+use Rattle.tl_profile.specs.Shapes.{least_points}
+use Rattle.tl_profile.proofs.Places.{chain_stands, shape_two, walk_is_shape, some-same, is_some_from}
 use Rattle.tl_profile.proofs.shapes.placed_shape.Goals as goal
 
 pub unwrap-requires : goal.unwrap-requires

@@ -1,4 +1,4 @@
-use Rattle.std.proofs.Common.{◌≡◌, ◌&&◌, not, map, sym, ◌∙◌, subst, IsPermutation}
+use Rattle.std.proofs.Common.{◌&&◌, not, map, sym, ◌∙◌, subst, IsPermutation}
 use Rattle.tl_county.specs.CountyRules.{polygons_along}
 use Rattle.tl_county.specs.Keyed.{IsLeastPassing, is_unknown}
 use Rattle.tl_county.specs.Orders.{IsInOrder, stands_in}

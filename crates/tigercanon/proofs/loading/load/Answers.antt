@@ -5,7 +5,7 @@ use Rattle.tl_load.specs.Keeping.{WasFedInto}
 use Rattle.tl_load.specs.declared.fault.LoadFault.{LoadFault}
 use Rattle.tigercanon.specs.Respelling.{record_limit, IsFirstFault}
 use Rattle.tigercanon.proofs.Parts.{parts_of, parts_so_far, fault_of_all, fault_of_closed}
-use Rattle.tigercanon.proofs.respelling.load.Goals as goal
+use Rattle.tigercanon.proofs.loading.load.Goals as goal
 
 -- the exit of a `?`: what holds of the callee's error holds of the answer
 exit_with : {T : Type 0} (r : Result T LoadFault) (f : LoadFault) (P : LoadFault → Type 0) → IsErrAnd r (λ e. e ≡ f) → P f → IfErr r P

@@ -1,7 +1,7 @@
 use Rattle.std.proofs.Common.{◌≡◌, map, take, [], None}
 use Rattle.tl_load.specs.Keeping.{WasFedInto}
 use Rattle.tigercanon.specs.Respelling.{record_limit}
-use Rattle.tigercanon.proofs.respelling.load.Given as goal
+use Rattle.tigercanon.proofs.loading.load.Given as goal
 
 -- the loader was fed the parts so far, each is closed, and no fault stands
 abbrev pub invariant-loop-part : goal.invariant-loop-part

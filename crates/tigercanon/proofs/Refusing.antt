@@ -1,0 +1,75 @@
+-- What the records of a set are refused for, the set is refused for.
+use Rattle.std.proofs.Common.{◌≡◌, ◌≢◌, ◌⊎◌, ℕ, List, Option, Result, Ok, Err, IfErr, inl, inr, refl, sym, subst}
+use Rattle.tl_layout.specs.declared.record_type.Record.{Record}
+use Rattle.tl_load.specs.Choice.{tiger}
+use Rattle.tl_load.specs.Outcome.{Accepts}
+use Rattle.tl_county.specs.County.{county_of}
+use Rattle.tl_county.specs.LinkRules.{IsFirstBrokenRule}
+use Rattle.tl_county.specs.declared.fault.LinkFault.{LinkFault}
+use Rattle.tl_county.specs.declared.fault.LinkFault.TheVariants.{ChainTwice, NoChain, SequenceBroken, LinkMissing, LinkTwice}
+use Rattle.tl_county.specs.declared.fault.LinkFault.TheVariants.{NameTwice, NameUnknown, PolygonTwice, LandUnknown, PolygonUnknown}
+use Rattle.tl_county.specs.declared.fault.LinkFault.TheVariants.{Memory as LinkMemory}
+use Rattle.tl_county.proofs.LinkFaults.{linked_has_none}
+use Rattle.tl_profile.specs.Profile.{IsFirstBrokenClause}
+use Rattle.tl_profile.specs.declared.fault.ProfileFault.{ProfileFault}
+use Rattle.tl_profile.specs.declared.fault.ProfileFault.TheVariants.{OwnReverse, SameShape, PolygonWithoutChain}
+use Rattle.tl_profile.specs.declared.fault.ProfileFault.TheVariants.{Memory as ProfileMemory}
+use Rattle.tl_profile.proofs.ProfileFaults.{profile_has_none}
+use Rattle.tigercanon.specs.declared.fault.Fault.{Fault}
+use Rattle.tigercanon.specs.declared.fault.Fault.TheVariants.{Load, Link, Profile, Memory}
+use Rattle.tigercanon.specs.declared.files.Opened.{Opened}
+use Rattle.tigercanon.specs.Faults.{RefusesRecords, IsWantOfMemory}
+use Rattle.tigercanon.specs.Files.{AreHeld}
+use Rattle.tigercanon.specs.Outcomes.{AreRefused, TellsSet}
+use Rattle.tigercanon.specs.Respelling.{record_limit}
+use Rattle.tigercanon.specs.Sets.{IsAcceptedSet}
+use Rattle.tigercanon.proofs.Sets.{one_list}
+
+-- a fault of linking, or of admission, is want of memory or not
+link_memory_or_not : (f : LinkFault) → (f ≡ LinkMemory) ⊎ (f ≢ LinkMemory)
+link_memory_or_not LinkMemory = inl refl
+link_memory_or_not (ChainTwice t) = inr (λ e. cc)
+link_memory_or_not (NoChain r t) = inr (λ e. cc)
+link_memory_or_not (SequenceBroken r t) = inr (λ e. cc)
+link_memory_or_not (LinkMissing t) = inr (λ e. cc)
+link_memory_or_not (LinkTwice t) = inr (λ e. cc)
+link_memory_or_not (NameTwice n) = inr (λ e. cc)
+link_memory_or_not (NameUnknown t n) = inr (λ e. cc)
+link_memory_or_not (PolygonTwice c p) = inr (λ e. cc)
+link_memory_or_not (LandUnknown l) = inr (λ e. cc)
+link_memory_or_not (PolygonUnknown c p) = inr (λ e. cc)
+
+profile_memory_or_not : (f : ProfileFault) → (f ≡ ProfileMemory) ⊎ (f ≢ ProfileMemory)
+profile_memory_or_not ProfileMemory = inl refl
+profile_memory_or_not (OwnReverse t) = inr (λ e. cc)
+profile_memory_or_not (SameShape t s) = inr (λ e. cc)
+profile_memory_or_not (PolygonWithoutChain c p) = inr (λ e. cc)
+
+-- of the records of an accepted set nothing but want of memory is told
+pub accepted_memory_alone : (parts : List (List ℕ)) (records others : List Record) (f : Fault) → IsAcceptedSet parts records
+    → Accepts tiger record_limit parts others → RefusesRecords others f → IsWantOfMemory f
+accepted_memory_alone parts records others (Load f) a spelled h = absurd h
+accepted_memory_alone parts records others (Link f) a spelled h = go (link_memory_or_not f)
+  where
+    go : (f ≡ LinkMemory) ⊎ (f ≢ LinkMemory) → IsWantOfMemory (Link f)
+    go (inl e) = subst (λ g. IsWantOfMemory (Link g)) (sym e) tt
+    go (inr ne) =
+        absurd (linked_has_none records f a.accepted.linked
+        (subst (λ rs. IsFirstBrokenRule rs f) (one_list parts others records spelled a.spelled) (h ne)))
+accepted_memory_alone parts records others (Profile f) a spelled h = go (profile_memory_or_not f)
+  where
+    go : (f ≡ ProfileMemory) ⊎ (f ≢ ProfileMemory) → IsWantOfMemory (Profile f)
+    go (inl e) = subst (λ g. IsWantOfMemory (Profile g)) (sym e) tt
+    go (inr ne) =
+        absurd (profile_has_none (county_of records) f a.accepted.profile
+        (subst (λ (rs : List Record). IsFirstBrokenClause (county_of rs) f) (one_list parts others records spelled a.spelled) (h ne).1))
+accepted_memory_alone parts records others Memory a spelled h = absurd h
+
+-- what the records of files are refused for, the files are refused for
+module _ {R : Type 0} (remaining : R → Option (List ℕ)) (files : List (Opened R)) (parts : List (List ℕ)) (held : AreHeld remaining files parts)
+    (records : List Record) (spelled : Accepts tiger record_limit parts records) where
+  pub files_refused : (f : Fault) → RefusesRecords records f → TellsSet remaining files f
+  files_refused (Load f) h = absurd h
+  files_refused (Link f) h = λ ne. record { parts = parts; held = held; refused = (records, spelled, h ne) }
+  files_refused (Profile f) h = λ ne. record { parts = parts; held = held; refused = (records, spelled, (h ne).0, (h ne).1) }
+  files_refused Memory h = absurd h

@@ -1,0 +1,17 @@
+use Rattle.std.proofs.lemmas.Result.{err_from_is_err_and}
+use Rattle.tigercanon.proofs.Refusing.{accepted_memory_alone}
+use Rattle.tigercanon.proofs.Succeeding.{memory_alone}
+use Rattle.tigercanon.proofs.checking.check.Goals as goal
+
+pub returns-in_err-tables-clause-succeeds : goal.returns-in_err-tables-clause-succeeds
+returns-in_err-tables-clause-succeeds c = λ records accepted.
+    let p = err_from_is_err_and c.from_residual.result c.from_residual.ensures.1 in
+    rw (p.1, p.2)
+    (memory_alone _ records c.in_err-tables.field-0.0 accepted.spelled c.in_err-tables.ensures.faulty c.in_err-tables.ensures.no_device)
+
+pub returns-in_err-admit_tables-clause-succeeds : goal.returns-in_err-admit_tables-clause-succeeds
+returns-in_err-admit_tables-clause-succeeds c = λ records accepted.
+    let p = err_from_is_err_and c.from_residual-in_err-admit_tables.result c.from_residual-in_err-admit_tables.ensures.1 in
+    let loaded = c.in_ok-tables.ensures.spelled in
+    rw (p.1, p.2) (accepted_memory_alone _ records loaded.0 c.in_err-admit_tables.field-0.0 accepted loaded.2
+    (c.in_err-admit_tables.ensures.refused loaded.0 loaded.1))

@@ -1,0 +1,10 @@
+use Rattle.std.proofs.lemmas.Result.{err_from_is_err_and}
+use Rattle.tigercanon.proofs.Refusing.{files_refused}
+use Rattle.tigercanon.proofs.jobs.judge_set.Goals as goal
+
+pub returns-in_err-admit_tables-clause-refused : goal.returns-in_err-admit_tables-clause-refused
+returns-in_err-admit_tables-clause-refused g c =
+    let p = err_from_is_err_and c.from_residual-in_err-admit_tables.result c.from_residual-in_err-admit_tables.ensures.1 in
+    let l = c.in_ok-tables.ensures.loaded in
+    rw (p.1, p.2) (files_refused g.R.Read.remaining c.args.files.items l.0 l.1 l.2 l.4 c.in_err-admit_tables.field-0.0
+    (c.in_err-admit_tables.ensures.refused l.2 l.3))

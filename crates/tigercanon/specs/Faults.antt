@@ -1,0 +1,45 @@
+-- What a call may tell of parts that it refuses, and of their records.
+use Rattle.std.specs.Prelude.{ℕ, ◌≢◌, List}
+use Rattle.tl_layout.specs.declared.record_type.Record.{Record}
+use Rattle.tl_load.specs.Loaded.{IsOfLines}
+use Rattle.tl_load.specs.declared.fault.LoadFault.TheVariants.{Memory as LoadMemory}
+use Rattle.tl_county.specs.County.{county_of}
+use Rattle.tl_county.specs.LinkRules.{IsLinked, IsFirstBrokenRule}
+use Rattle.tl_county.specs.declared.fault.LinkFault.TheVariants.{Memory as LinkMemory}
+use Rattle.tl_profile.specs.Profile.{IsFirstBrokenClause}
+use Rattle.tl_profile.specs.declared.fault.ProfileFault.TheVariants.{Memory as ProfileMemory}
+use Rattle.tigercanon.specs.Respelling.{IsFirstFault}
+use Rattle.tigercanon.specs.Sets.{IsSetRefusal}
+use Rattle.tigercanon.specs.declared.fault.Fault.{Fault}
+use Rattle.tigercanon.specs.declared.fault.Fault.TheVariants.{Load, Link, Profile, Memory}
+
+-- where the fault is of the set's lines, it is that of the first faulty one; nothing else is told but want of memory and a device
+abbrev pub TellsFirstFault : List (List ℕ) → Fault → Type 0
+TellsFirstFault parts (Load fault) = IsOfLines fault → IsFirstFault parts fault
+TellsFirstFault parts (Link _) = ⊥
+TellsFirstFault parts (Profile _) = ⊥
+TellsFirstFault parts Memory = Unit {0}
+
+-- but for want of memory and the fault of a device, it is what the set is refused for
+abbrev pub TellsRefusal : List (List ℕ) → Fault → Type 0
+TellsRefusal parts (Load fault) = IsOfLines fault → IsSetRefusal parts (Load fault)
+TellsRefusal parts (Link fault) = fault ≢ LinkMemory → IsSetRefusal parts (Link fault)
+TellsRefusal parts (Profile fault) = fault ≢ ProfileMemory → IsSetRefusal parts (Profile fault)
+TellsRefusal parts Memory = Unit {0}
+
+-- but for want of memory, it is what these records are refused for; of lines nothing is told
+abbrev pub RefusesRecords : List Record → Fault → Type 0
+RefusesRecords records (Load _) = ⊥
+RefusesRecords records (Link fault) = fault ≢ LinkMemory → IsFirstBrokenRule records fault
+RefusesRecords records (Profile fault) = fault ≢ ProfileMemory → IsLinked records × IsFirstBrokenClause (county_of records) fault
+RefusesRecords records Memory = ⊥
+
+-- the fault is want of memory
+abbrev pub IsWantOfMemory : Fault → Type 0
+IsWantOfMemory (Load LoadMemory) = Unit {0}
+IsWantOfMemory (Load _) = ⊥
+IsWantOfMemory (Link LinkMemory) = Unit {0}
+IsWantOfMemory (Link _) = ⊥
+IsWantOfMemory (Profile ProfileMemory) = Unit {0}
+IsWantOfMemory (Profile _) = ⊥
+IsWantOfMemory Memory = Unit {0}

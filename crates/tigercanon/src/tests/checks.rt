@@ -1,0 +1,252 @@
+//! Which sets are accepted, and what others are refused for.
+
+use super::devices::{SlowReader, SlowWriter};
+use super::sets::{CHAIN, LINK, expanded};
+use crate::{Fault, Job, Opened, check, run};
+use std::alloc::{AllocError, Global};
+use std::io::ErrorKind;
+use std::test::Fail;
+use tl_county::LinkFault;
+use tl_profile::ProfileFault;
+
+/// The chain of Main St as a loop of its two ends alone.
+const LOOP: &str =
+    "1{11}500{1}A{2}Main{26}St{4}A41{8}101{8}199{8}100{8}19801{2}3600336006{14}0101001001{30}02020002030010012002{1}-86468669+32424914{1}-86468669+32424914";
+
+/// The line of record type I of that loop.
+const LOOP_LINK: &str = "I{4}01001{7}500{8}11{8}11{87}";
+
+/// Two shape points, which give that loop a direction.
+const LOOP_SHAPE: &str = "2{11}500{2}1{1}-86468600+32424990{1}-86468600+32424900";
+
+/// The chain of Main St under the TLID 9.
+const CHAIN_9: &str =
+    "1{13}9{1}A{2}Main{26}St{4}A41{8}101{8}199{8}100{8}19801{2}3600336006{14}0101001001{30}02020002030010012002{1}-86468669+32424914{1}-86468545+32424948";
+
+/// The same street from its other end, under the TLID 4.
+const TURNED_4: &str =
+    "10306{9}4{1}A{2}Main{26}St{4}A41{8}198{8}100{8}199{8}10110{2}3600636003{14}0101001001{30}02030002020020021001{1}-86468545+32424948{1}-86468669+32424914";
+
+/// The lines of the set, each ended by LF.
+fn set_of(alloc: Global, lines: &[&str]) -> Result<Vec<u8>, AllocError> {
+    let mut bytes = Vec::new(alloc);
+    for line in lines {
+        bytes.extend_from_slice(&expanded(alloc, line)?)?;
+        bytes.push(b'\n')?;
+    }
+    Ok(bytes)
+}
+
+/// An open file with these bytes, of which it gives at most 100 at a time. The read after so many fails.
+fn file(bytes: &[u8], reads: Option<usize>) -> Opened<SlowReader<'_>> {
+    Opened::Found(SlowReader {
+        rest: bytes,
+        step: 100,
+        reads,
+        fault: ErrorKind::Other,
+        count: None,
+    })
+}
+
+/// The exit status of checking the files, and what stands on standard output, which has room for so many bytes, and on
+/// standard error.
+fn checked(
+    alloc: Global,
+    files: Vec<Opened<SlowReader<'_>>>,
+    room: usize,
+) -> (u8, Vec<u8>, Vec<u8>) {
+    let mut out = SlowWriter {
+        held: Vec::new(alloc),
+        step: 4,
+        room: Some(room),
+    };
+    let mut err = SlowWriter {
+        held: Vec::new(alloc),
+        step: 7,
+        room: Some(1000),
+    };
+    let status = run(
+        alloc,
+        Job::Check,
+        files,
+        Vec::new(alloc),
+        &mut out,
+        &mut err,
+    );
+    (status, out.held, err.held)
+}
+
+#[test]
+fn accepts_counties_in_the_profile(rt: HostRuntime) -> Result<(), Fail> {
+    let alloc = rt.alloc();
+    let sets: [&[&str]; 4] = [
+        &[],
+        &[CHAIN, LINK],
+        &[LOOP, LOOP_LINK, LOOP_SHAPE],
+        // Another chain with one point more, and a polygon on a side that has a record of type P.
+        &[
+            CHAIN,
+            "I{4}01001{7}500{8}11{8}1200001{8}12{72}",
+            "P{4}0100100001{8}12{19}",
+            TURNED_4,
+            "I{18}4",
+            "2{13}4{2}1{1}-86468600+32424990",
+        ],
+    ];
+    for lines in sets {
+        let set = set_of(alloc, lines)?;
+        let (status, out, err) = checked(alloc, vec![in alloc; file(&set, None)]?, 1000);
+        assert_eq!(rt; err.as_slice(), b"".as_slice());
+        assert_eq!(rt; status, 0);
+        assert_eq!(rt; out.as_slice(), b"accepted\n".as_slice());
+        assert_eq!(rt; check(alloc, [set.as_slice()].as_slice()), Ok(()));
+    }
+    assert_eq!(rt; check(alloc, [].as_slice()), Ok(()));
+    Ok(())
+}
+
+#[test]
+fn tells_what_a_set_is_refused_for(rt: HostRuntime) -> Result<(), Fail> {
+    let alloc = rt.alloc();
+    let refusals: [(&[&str], &str); 12] = [
+        (&[CHAIN, LINK, "A"], "refused 1 UnknownType 1 3\n"),
+        (&[CHAIN, CHAIN], "refused 11 ChainTwice 500\n"),
+        (&[CHAIN, LINK, "2{13}9{2}1"], "refused 12 NoChain 2 9\n"),
+        (
+            &[CHAIN, LINK, "2{11}500{2}1", "2{11}500{2}1"],
+            "refused 13 SequenceBroken 2 500\n",
+        ),
+        (
+            &[CHAIN, LINK, "4{11}500{2}1{7}8"],
+            "refused 17 NameUnknown 500 8\n",
+        ),
+        (
+            &[
+                CHAIN,
+                LINK,
+                "7{4}01001{8}30AD43Lee School",
+                "8{4}0100100001{8}12{8}30",
+            ],
+            "refused 20 PolygonUnknown 3030303031 12\n",
+        ),
+        (&[LOOP, LOOP_LINK], "refused 21 OwnReverse 500\n"),
+        (
+            &[
+                "1{13}9{175}{1}-86468669+32424914{1}-86468669+32424914",
+                "I{18}9",
+                "1{13}4{175}{1}-86468669+32424914{1}-86468669+32424914",
+                "I{18}4",
+            ],
+            "refused 21 OwnReverse 4\n",
+        ),
+        (
+            &[CHAIN_9, "I{18}9", TURNED_4, "I{18}4"],
+            "refused 22 SameShape 4 9\n",
+        ),
+        (
+            &[
+                CHAIN_9,
+                "I{18}9",
+                TURNED_4,
+                "I{18}4",
+                "1{13}7{175}{1}-86468669+32424914{1}-86468545+32424948",
+                "I{18}7",
+            ],
+            "refused 22 SameShape 4 7\n",
+        ),
+        // Of two shapes that stand twice the one with the least TLID is told, though it is the greater shape.
+        (
+            &[
+                "1{13}1{175}+000000009+00000001+000000008+00000001",
+                "I{18}1",
+                "1{13}2{175}+000000001+00000001+000000002+00000001",
+                "I{18}2",
+                "1{13}3{175}+000000002+00000001+000000001+00000001",
+                "I{18}3",
+                "1{13}8{175}+000000009+00000001+000000008+00000001",
+                "I{18}8",
+            ],
+            "refused 22 SameShape 1 8\n",
+        ),
+        (
+            &[
+                CHAIN,
+                LINK,
+                "P{4}0100100001{8}12",
+                "7{4}01001{8}30AD43Lee School",
+                "8{4}0100100001{8}12{8}30",
+            ],
+            "refused 23 PolygonWithoutChain 3030303031 12\n",
+        ),
+    ];
+    for (lines, told) in refusals {
+        let set = set_of(alloc, lines)?;
+        let (status, out, err) = checked(alloc, vec![in alloc; file(&set, None)]?, 1000);
+        assert_eq!(rt; err.as_slice(), told.as_bytes());
+        assert_eq!(rt; status, 3);
+        assert!(rt; out.is_empty());
+    }
+    Ok(())
+}
+
+#[test]
+fn answers_what_a_set_is_refused_for(rt: HostRuntime) -> Result<(), Fail> {
+    let alloc = rt.alloc();
+    let unlinked = set_of(alloc, &[CHAIN, CHAIN])?;
+    assert_eq!(rt;
+        check(alloc, [unlinked.as_slice()].as_slice()),
+        Err(Fault::Link(LinkFault::ChainTwice { tlid: 500 }))
+    );
+    let twins = [
+        set_of(alloc, &[CHAIN_9, "I{18}9"])?,
+        set_of(alloc, &[TURNED_4, "I{18}4"])?,
+    ];
+    let (first, second) = (4, 9);
+    assert_eq!(rt;
+        check(alloc, [twins[0].as_slice(), twins[1].as_slice()].as_slice()),
+        Err(Fault::Profile(ProfileFault::SameShape { first, second }))
+    );
+    let points = set_of(
+        alloc,
+        &[
+            CHAIN,
+            LINK,
+            "P{4}0100100002{8}11",
+            "P{4}0100100001{8}13",
+            "P{4}0100100001{8}12",
+        ],
+    )?;
+    let (cenid, polyid) = (*b"00001", 12);
+    assert_eq!(rt;
+        check(alloc, [points.as_slice()].as_slice()),
+        Err(Fault::Profile(ProfileFault::PolygonWithoutChain { cenid, polyid }))
+    );
+    Ok(())
+}
+
+#[test]
+fn tells_failing_devices(rt: HostRuntime) -> Result<(), Fail> {
+    let alloc = rt.alloc();
+    let set = set_of(alloc, &[CHAIN, LINK])?;
+    for room in [0, 3, 8] {
+        let (status, out, err) = checked(alloc, vec![in alloc; file(&set, None)]?, room);
+        assert_eq!(rt; status, 4);
+        assert_eq!(rt; out.len(), room);
+        assert!(rt; b"accepted\n".starts_with(&out));
+        let told = format!(in alloc; "refused 10 WriteFault {room}\n")?;
+        assert_eq!(rt; err.as_slice(), told.as_bytes());
+    }
+    // What can't be read is told before what is wrong.
+    let twice = set_of(alloc, &[CHAIN, CHAIN])?;
+    for files in [
+        vec![in alloc; file(&twice, Some(2))]?,
+        vec![in alloc; Opened::Absent]?,
+        vec![in alloc; file(&twice, None), Opened::Failed]?,
+    ] {
+        let (status, out, err) = checked(alloc, files, 1000);
+        assert_eq!(rt; status, 4);
+        assert!(rt; out.is_empty());
+        assert_eq!(rt; err.as_slice(), b"refused 8 Device\n".as_slice());
+    }
+    Ok(())
+}
