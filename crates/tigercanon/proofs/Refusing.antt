@@ -2,7 +2,7 @@
 use Rattle.std.proofs.Common.{◌≡◌, ◌≢◌, ◌⊎◌, ℕ, List, Option, Result, Ok, Err, IfErr, inl, inr, refl, sym, subst}
 use Rattle.tl_layout.specs.declared.record_type.Record.{Record}
 use Rattle.tl_load.specs.Choice.{tiger}
-use Rattle.tl_load.specs.Outcome.{Accepts}
+use Rattle.tl_load.specs.Outcome.{SpellsWithin}
 use Rattle.tl_county.specs.County.{county_of}
 use Rattle.tl_county.specs.LinkRules.{IsFirstBrokenRule}
 use Rattle.tl_county.specs.declared.fault.LinkFault.{LinkFault}
@@ -47,7 +47,7 @@ profile_memory_or_not (PolygonWithoutChain c p) = inr (λ e. cc)
 
 -- of the records of an accepted set nothing but want of memory is told
 pub accepted_memory_alone : (parts : List (List ℕ)) (records others : List Record) (f : Fault) → IsAcceptedSet parts records
-    → Accepts tiger record_limit parts others → RefusesRecords others f → IsWantOfMemory f
+    → SpellsWithin tiger record_limit parts others → RefusesRecords others f → IsWantOfMemory f
 accepted_memory_alone parts records others (Load f) a spelled h = absurd h
 accepted_memory_alone parts records others (Link f) a spelled h = go (link_memory_or_not f)
   where
@@ -67,7 +67,7 @@ accepted_memory_alone parts records others Memory a spelled h = absurd h
 
 -- what the records of files are refused for, the files are refused for
 module _ {R : Type 0} (remaining : R → Option (List ℕ)) (files : List (Opened R)) (parts : List (List ℕ)) (held : AreHeld remaining files parts)
-    (records : List Record) (spelled : Accepts tiger record_limit parts records) where
+    (records : List Record) (spelled : SpellsWithin tiger record_limit parts records) where
   pub files_refused : (f : Fault) → RefusesRecords records f → TellsSet remaining files f
   files_refused (Load f) h = absurd h
   files_refused (Link f) h = λ ne. record { parts = parts; held = held; refused = (records, spelled, h ne) }

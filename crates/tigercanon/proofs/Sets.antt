@@ -7,7 +7,7 @@ use Rattle.tl_layout.specs.Limits.{IsWithinLimit}
 use Rattle.tl_layout.specs.RecordText.{FitsRecord, text_of}
 use Rattle.tl_layout.specs.declared.record_type.Record.{Record}
 use Rattle.tl_load.specs.Choice.{tiger}
-use Rattle.tl_load.specs.Outcome.{Spells, Accepts, FaultAt, IsSpelled, IsFaulty}
+use Rattle.tl_load.specs.Outcome.{Spells, SpellsWithin, FaultAt, IsSpelled, IsFaulty}
 use Rattle.tl_load.specs.declared.fault.LoadFault.{LoadFault}
 use Rattle.tl_load.proofs.RecordLines.{tiger_is_sound, spelled_fit, accepted_within}
 use Rattle.tl_load.proofs.Reading.{one_verdict}
@@ -33,7 +33,7 @@ pub set_accepted_or_refused : (parts : List (List ℕ))
     → ((records : List Record) × IsAcceptedSet parts records) ⊎ ((refusal : Fault) × IsSetRefusal parts refusal)
 set_accepted_or_refused parts = go (one_verdict tiger tiger_is_sound record_limit parts)
   where
-    judged : (records : List Record) → Accepts tiger record_limit parts records
+    judged : (records : List Record) → SpellsWithin tiger record_limit parts records
         → IsAccepted records ⊎ ((refusal : Refusal) × IsRefusal records refusal)
         → ((records : List Record) × IsAcceptedSet parts records) ⊎ ((refusal : Fault) × IsSetRefusal parts refusal)
     judged records spelled (inl accepted) = inl (records, record { spelled = spelled; accepted = accepted })
@@ -46,15 +46,15 @@ set_accepted_or_refused parts = go (one_verdict tiger tiger_is_sound record_limi
     go (inr f) = inr (Load f.fault, f.at)
 
 -- the records that accepted parts spell are one list, and then no line is faulty
-pub one_list : (parts : List (List ℕ)) (records others : List Record) → Accepts tiger record_limit parts records
-    → Accepts tiger record_limit parts others → records ≡ others
+pub one_list : (parts : List (List ℕ)) (records others : List Record) → SpellsWithin tiger record_limit parts records
+    → SpellsWithin tiger record_limit parts others → records ≡ others
 one_list parts records others a b = go (one_verdict tiger tiger_is_sound record_limit parts)
   where
     go : IsSpelled tiger record_limit parts ⊎ IsFaulty tiger record_limit parts → records ≡ others
     go (inl s) = s.only records a.spells ∙ sym (s.only others b.spells)
     go (inr f) = absurd (f.none records a)
 
-spelled_not_faulty : (parts : List (List ℕ)) (records : List Record) (fault : LoadFault) → Accepts tiger record_limit parts records
+spelled_not_faulty : (parts : List (List ℕ)) (records : List Record) (fault : LoadFault) → SpellsWithin tiger record_limit parts records
     → FaultAt tiger record_limit parts fault → ⊥
 spelled_not_faulty parts records fault a h = go (one_verdict tiger tiger_is_sound record_limit parts)
   where

@@ -5,7 +5,7 @@ use Rattle.tl_load.proofs.RecordLines.{tiger_is_sound}
 use Rattle.tl_load.proofs.Reading.{accepted_no_fault}
 use Rattle.tl_load.specs.Choice.{tiger}
 use Rattle.tl_load.specs.Loaded.{IsOfLines, IsNotDevice}
-use Rattle.tl_load.specs.Outcome.{Accepts}
+use Rattle.tl_load.specs.Outcome.{SpellsWithin}
 use Rattle.tl_load.specs.declared.fault.LoadFault.{LoadFault}
 use Rattle.tl_load.specs.declared.fault.LoadFault.TheVariants.{UnknownType, LineTooLong, BadByte, BadNumber, BadPoint}
 use Rattle.tl_load.specs.declared.fault.LoadFault.TheVariants.{GapInRecord, TooManyRecords, Device}
@@ -14,7 +14,7 @@ use Rattle.tigercanon.specs.declared.fault.Fault.TheVariants.{Load}
 use Rattle.tigercanon.specs.Respelling.{record_limit, IsFirstFault}
 use Rattle.tigercanon.specs.Faults.{IsWantOfMemory}
 
-pub memory_alone : (parts : List (List ℕ)) (records : List Record) (f : LoadFault) → Accepts tiger record_limit parts records
+pub memory_alone : (parts : List (List ℕ)) (records : List Record) (f : LoadFault) → SpellsWithin tiger record_limit parts records
     → (IsOfLines f → IsFirstFault parts f) → IsNotDevice f → IsWantOfMemory (Load f)
 memory_alone parts records Device accepts first other = other
 memory_alone parts records LoadMemory accepts first other = tt

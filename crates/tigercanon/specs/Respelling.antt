@@ -1,19 +1,20 @@
 -- What a set of parts is respelt as, and its first faulty line.
 use Rattle.std.specs.Prelude.{◌≡◌, ℕ, List}
 use Rattle.tl_layout.specs.declared.record_type.Record.{Record}
+use Rattle.tl_layout.specs.declared.record_type.TheConstants.{MOST_RECORDS}
 use Rattle.tl_layout.specs.RecordText.{text_of}
 use Rattle.tl_load.specs.declared.fault.LoadFault.{LoadFault}
 use Rattle.tl_load.specs.Choice.{tiger}
-use Rattle.tl_load.specs.Outcome.{Accepts, FaultAt}
+use Rattle.tl_load.specs.Outcome.{SpellsWithin, FaultAt}
 
 -- the most records of one type that a set may have
 abbrev pub record_limit : ℕ
-record_limit = 10000000
+record_limit = MOST_RECORDS
 
 -- the parts spell records, and the text is their canonical spelling, each followed by LF
 pub record IsRespelt (parts : List (List ℕ)) (text : List ℕ) : Type 0 where
   pub records : List Record
-  pub spelled : Accepts tiger record_limit parts records
+  pub spelled : SpellsWithin tiger record_limit parts records
   pub text_is : text ≡ text_of records
 
 -- the fault of the first faulty line of the parts

@@ -3,7 +3,7 @@ use Rattle.std.specs.Prelude.{ℕ, ◌≡◌, ◌++◌, ◌∷◌, [], List, cod
 use Rattle.tl_layout.specs.RecordText.{text_of}
 use Rattle.tl_layout.specs.declared.record_type.Record.{Record}
 use Rattle.tl_load.specs.Choice.{tiger}
-use Rattle.tl_load.specs.Outcome.{Accepts}
+use Rattle.tl_load.specs.Outcome.{SpellsWithin}
 use Rattle.tl_county.specs.County.{county_of}
 use Rattle.tl_county.specs.LinkRules.{IsLinked, IsFirstBrokenRule}
 use Rattle.tl_profile.specs.Profile.{IsFirstBrokenClause}
@@ -14,15 +14,15 @@ use Rattle.tigercanon.specs.declared.fault.Fault.TheVariants.{Load, Link, Profil
 
 -- the parts spell these records, which are accepted
 pub record IsAcceptedSet (parts : List (List ℕ)) (records : List Record) : Type 0 where
-  pub spelled : Accepts tiger record_limit parts records
+  pub spelled : SpellsWithin tiger record_limit parts records
   pub accepted : IsAccepted records
 
 -- what a set is refused for: the fault of its first faulty line; of lines that spell records, the first rule that these break;
 -- of records that fit together, the first clause of the profile that their county breaks. Want of memory is no such thing.
 abbrev pub IsSetRefusal : List (List ℕ) → Fault → Type 0
 IsSetRefusal parts (Load fault) = IsFirstFault parts fault
-IsSetRefusal parts (Link fault) = (records : List Record) × Accepts tiger record_limit parts records × IsFirstBrokenRule records fault
-IsSetRefusal parts (Profile fault) = (records : List Record) × Accepts tiger record_limit parts records × IsLinked records
+IsSetRefusal parts (Link fault) = (records : List Record) × SpellsWithin tiger record_limit parts records × IsFirstBrokenRule records fault
+IsSetRefusal parts (Profile fault) = (records : List Record) × SpellsWithin tiger record_limit parts records × IsLinked records
     × IsFirstBrokenClause (county_of records) fault
 IsSetRefusal parts Memory = ⊥
 
@@ -36,6 +36,6 @@ pub record SaysAccepted (parts : List (List ℕ)) (text : List ℕ) : Type 0 whe
 pub record IsCanonicalText (parts : List (List ℕ)) (text : List ℕ) : Type 0 where
   pub records : List Record
   pub canonical : List Record
-  pub spelled : Accepts tiger record_limit parts records
+  pub spelled : SpellsWithin tiger record_limit parts records
   pub canonical_of : IsCanonicalOf records canonical
   pub text_is : text_of canonical ≡ text

@@ -7,7 +7,7 @@ ghost use Rattle.tigercanon.specs.Respelling.{record_limit};
 ghost use Rattle.tl_layout.specs.declared.record_type.Record.{Record};
 ghost use Rattle.tl_load.specs.Choice.{tiger};
 ghost use Rattle.tl_load.specs.Loaded.{IsNotDevice};
-ghost use Rattle.tl_load.specs.Outcome.{Accepts};
+ghost use Rattle.tl_load.specs.Outcome.{SpellsWithin};
 
 use crate::fault::Fault;
 use std::alloc::{AllocError, Global};
@@ -169,7 +169,7 @@ pub(crate) fn load_files<K: Keeper, R: Read + Drop>(
 ) -> Result<K, Fault>
     ensures missing { IsMissing files.items → IsErrOf result (Fault.Load LoadFault.Device) }
     ensures loaded { IfOk result (λ kept. (parts : List (List ℕ)) × AreHeld R.remaining files.items parts
-        × (records : List Record) × K.holds kept records × Accepts tiger record_limit parts records) }
+        × (records : List Record) × K.holds kept records × SpellsWithin tiger record_limit parts records) }
     ensures faulty { IfErr result (TellsLines R.remaining files.items) }
 {
     if is_missing_a_file(&files) {

@@ -5,7 +5,7 @@ ghost use Rattle.tigercanon.specs.Faults.{TellsFirstFault, IsWantOfMemory};
 ghost use Rattle.tigercanon.specs.Respelling.{record_limit, IsRespelt};
 ghost use Rattle.tl_layout.specs.declared.record_type.Record.{Record};
 ghost use Rattle.tl_load.specs.Choice.{tiger};
-ghost use Rattle.tl_load.specs.Outcome.{Accepts};
+ghost use Rattle.tl_load.specs.Outcome.{SpellsWithin};
 
 use crate::fault::Fault;
 use crate::loading::load;
@@ -23,7 +23,7 @@ pub fn respell(alloc: Global, parts: &[&[u8]]) -> Result<Vec<u8>, Fault>
     ensures faulty { IfErr result (TellsFirstFault (map (λ p. p.now) parts.now)) }
     ensures no_device { result ≢ Err (Fault.Load LoadFault.Device) }
     // Where the parts spell records, nothing but want of memory is told.
-    ensures succeeds { (records : List Record) → Accepts tiger record_limit (map (λ p. p.now) parts.now) records → IfErr result IsWantOfMemory }
+    ensures succeeds { (records : List Record) → SpellsWithin tiger record_limit (map (λ p. p.now) parts.now) records → IfErr result IsWantOfMemory }
 {
     let text: CanonicalText = load(alloc, parts)?;
     Ok(text.bytes)

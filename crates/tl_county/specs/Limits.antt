@@ -15,6 +15,7 @@ use Rattle.tl_layout.specs.Type7.{FitsType7}
 use Rattle.tl_layout.specs.TypeI.{FitsTypeI}
 use Rattle.tl_layout.specs.TypeP.{FitsTypeP}
 use Rattle.tl_layout.specs.declared.record_type.Record.{Record}
+use Rattle.tl_layout.specs.declared.record_type.TheConstants.{MOST_RECORDS}
 use Rattle.tl_layout.specs.declared.tables.Tables.{Tables}
 use Rattle.tl_layout.specs.declared.type5.Body5.{Body5}
 use Rattle.tl_layout.specs.declared.type7.Body7.{Body7}
@@ -26,7 +27,7 @@ use Rattle.tl_county.specs.Packing.{inner_points, packed}
 
 -- so many records of one type a set has at most
 abbrev pub most_records : ℕ
-most_records = 10000000
+most_records = MOST_RECORDS
 
 -- the greatest RTSQ; so a chain has no more records of type 2, 4 or 6
 abbrev pub greatest_rtsq : ℕ

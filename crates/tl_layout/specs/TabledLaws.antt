@@ -12,8 +12,9 @@ use Rattle.tl_layout.specs.Type8.{type_8_spelling}
 use Rattle.tl_layout.specs.TypeI.{type_i_spelling}
 use Rattle.tl_layout.specs.TypeP.{type_p_spelling}
 use Rattle.tl_layout.specs.declared.record_type.Record.TheVariants.{One, Two, Four, Five, Six, Seven, Eight, I, P}
+use Rattle.tl_layout.specs.RecordTables.{rtype_1, rtype_2, rtype_4, rtype_5, rtype_6, rtype_7, rtype_8, rtype_i, rtype_p}
 
-pub type_1_type : (r : Fields1) → type_of (One r) ≡ 49
+pub type_1_type : (r : Fields1) → type_of (One r) ≡ rtype_1
 unfolding type_of
 type_1_type r = refl
 
@@ -21,7 +22,7 @@ pub type_1_spelling_is : (r : Fields1) → spelling_of (One r) ≡ type_1_spelli
 unfolding spelling_of
 type_1_spelling_is r = refl
 
-pub type_2_type : (r : Fields2) → type_of (Two r) ≡ 50
+pub type_2_type : (r : Fields2) → type_of (Two r) ≡ rtype_2
 unfolding type_of
 type_2_type r = refl
 
@@ -29,7 +30,7 @@ pub type_2_spelling_is : (r : Fields2) → spelling_of (Two r) ≡ type_2_spelli
 unfolding spelling_of
 type_2_spelling_is r = refl
 
-pub type_4_type : (r : Fields4) → type_of (Four r) ≡ 52
+pub type_4_type : (r : Fields4) → type_of (Four r) ≡ rtype_4
 unfolding type_of
 type_4_type r = refl
 
@@ -37,7 +38,7 @@ pub type_4_spelling_is : (r : Fields4) → spelling_of (Four r) ≡ type_4_spell
 unfolding spelling_of
 type_4_spelling_is r = refl
 
-pub type_5_type : (r : Fields5) → type_of (Five r) ≡ 53
+pub type_5_type : (r : Fields5) → type_of (Five r) ≡ rtype_5
 unfolding type_of
 type_5_type r = refl
 
@@ -45,7 +46,7 @@ pub type_5_spelling_is : (r : Fields5) → spelling_of (Five r) ≡ type_5_spell
 unfolding spelling_of
 type_5_spelling_is r = refl
 
-pub type_6_type : (r : Fields6) → type_of (Six r) ≡ 54
+pub type_6_type : (r : Fields6) → type_of (Six r) ≡ rtype_6
 unfolding type_of
 type_6_type r = refl
 
@@ -53,7 +54,7 @@ pub type_6_spelling_is : (r : Fields6) → spelling_of (Six r) ≡ type_6_spelli
 unfolding spelling_of
 type_6_spelling_is r = refl
 
-pub type_7_type : (r : Fields7) → type_of (Seven r) ≡ 55
+pub type_7_type : (r : Fields7) → type_of (Seven r) ≡ rtype_7
 unfolding type_of
 type_7_type r = refl
 
@@ -61,7 +62,7 @@ pub type_7_spelling_is : (r : Fields7) → spelling_of (Seven r) ≡ type_7_spel
 unfolding spelling_of
 type_7_spelling_is r = refl
 
-pub type_8_type : (r : Fields8) → type_of (Eight r) ≡ 56
+pub type_8_type : (r : Fields8) → type_of (Eight r) ≡ rtype_8
 unfolding type_of
 type_8_type r = refl
 
@@ -69,7 +70,7 @@ pub type_8_spelling_is : (r : Fields8) → spelling_of (Eight r) ≡ type_8_spel
 unfolding spelling_of
 type_8_spelling_is r = refl
 
-pub type_i_type : (r : FieldsI) → type_of (I r) ≡ 73
+pub type_i_type : (r : FieldsI) → type_of (I r) ≡ rtype_i
 unfolding type_of
 type_i_type r = refl
 
@@ -77,7 +78,7 @@ pub type_i_spelling_is : (r : FieldsI) → spelling_of (I r) ≡ type_i_spelling
 unfolding spelling_of
 type_i_spelling_is r = refl
 
-pub type_p_type : (r : FieldsP) → type_of (P r) ≡ 80
+pub type_p_type : (r : FieldsP) → type_of (P r) ≡ rtype_p
 unfolding type_of
 type_p_type r = refl
 

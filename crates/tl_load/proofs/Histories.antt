@@ -10,14 +10,14 @@ use Rattle.tl_load.specs.declared.fault.LoadFault.{LoadFault}
 use Rattle.tl_load.specs.declared.fault.LoadFault.TheVariants as faults
 use Rattle.tl_load.specs.Lines.{is_line_feed, IsWithoutLineFeed, without_return, lines}
 use Rattle.tl_load.specs.Places.{PlacedLine, numbered, lines_from_part, placed_lines}
-use Rattle.tl_load.specs.Outcome.{Accepts, FaultAt, ◌>>=◌, reading, outcome}
+use Rattle.tl_load.specs.Outcome.{SpellsWithin, FaultAt, ◌>>=◌, outcome_after, outcome}
 use Rattle.tl_load.specs.Choice.{tiger}
 use Rattle.tl_load.specs.Loaded.{Loaded, IsOfLines, IsFaultHowever, with_line_feeds, HasLoaded, IsWellSoFar}
 use Rattle.tl_load.specs.Loaded.{IsWellAfter, all_parts}
 use Rattle.tl_load.specs.Keeping.{LoadedInto, seen, AreKept, AreCounted, WasFedInto, HasSome, IsSamePart, Lifts}
 use Rattle.tl_load.specs.Steps.{to_come, to_end, TakesLines, Takes, Ends, IsClosed, Closes, Reads, with_fault}
 use Rattle.tl_load.proofs.RecordLines.{tiger_is_sound}
-use Rattle.tl_load.proofs.Reading.{reading-append, accepts_from_outcome, outcome_from_accepts, fault_from_outcome}
+use Rattle.tl_load.proofs.Reading.{outcome_after-append, accepts_from_outcome, outcome_from_accepts, fault_from_outcome}
 use Rattle.tl_load.proofs.LineLemmas.{lines_none}
 use Rattle.tl_load.proofs.Counts.{none_counted}
 use Rattle.tl_load.proofs.Runs.{lines_after, numbered-append, parts-append}
@@ -78,21 +78,21 @@ ended_then closed ended rest later apart =
 -- what comes of parts whose beginning was loaded
 comes_after : (limit : ℕ) (l : Loaded) (closed : List (List ℕ)) (open_part rest : List ℕ) (later : List (List ℕ)) → l.limit ≡ limit
     → (h : HasLoaded limit l closed open_part)
-    → outcome tiger limit (closed ++ (with_line_feeds h.ended ++ rest) ∷ later) ≡ reading tiger l.limit l.records
+    → outcome tiger limit (closed ++ (with_line_feeds h.ended ++ rest) ∷ later) ≡ outcome_after tiger l.limit l.records
     (numbered (l.parts + 1) (l.judged + 1) (lines rest) ++ lines_from_part (l.parts + 1 + 1) later)
 comes_after limit l closed open_part rest later same h =
     let parts : 1 + length closed ≡ l.parts + 1 = omega (arith, h.parts_are) in
     let judged : 1 + length h.ended ≡ l.judged + 1 = omega (arith, h.judged_are) in
-    ap (reading tiger limit []) (ended_then closed h.ended rest later h.lines_are.each_ended)
-    ∙ reading-append tiger limit [] (placed_lines (closed ++ with_line_feeds h.ended ∷ []))
+    ap (outcome_after tiger limit []) (ended_then closed h.ended rest later h.lines_are.each_ended)
+    ∙ outcome_after-append tiger limit [] (placed_lines (closed ++ with_line_feeds h.ended ∷ []))
     (numbered (1 + length closed) (1 + length h.ended) (lines rest) ++ lines_from_part (1 + length closed + 1) later)
-    ∙ ap (λ (r : Result (List Record) LoadFault). r >>= λ records. reading tiger limit records
+    ∙ ap (λ (r : Result (List Record) LoadFault). r >>= λ records. outcome_after tiger limit records
     (numbered (1 + length closed) (1 + length h.ended) (lines rest) ++ lines_from_part (1 + length closed + 1) later))
     (outcome_from_accepts tiger tiger_is_sound limit (closed ++ with_line_feeds h.ended ∷ []) l.records h.accepts)
-    ∙ ap (λ (k : ℕ). reading tiger limit l.records (numbered k (1 + length h.ended) (lines rest) ++ lines_from_part (k + 1) later)) parts
-    ∙ ap (λ (k : ℕ). reading tiger limit l.records
+    ∙ ap (λ (k : ℕ). outcome_after tiger limit l.records (numbered k (1 + length h.ended) (lines rest) ++ lines_from_part (k + 1) later)) parts
+    ∙ ap (λ (k : ℕ). outcome_after tiger limit l.records
     (numbered (l.parts + 1) k (lines rest) ++ lines_from_part (l.parts + 1 + 1) later)) judged
-    ∙ ap (λ (k : ℕ). reading tiger k l.records (numbered (l.parts + 1) (l.judged + 1) (lines rest) ++ lines_from_part
+    ∙ ap (λ (k : ℕ). outcome_after tiger k l.records (numbered (l.parts + 1) (l.judged + 1) (lines rest) ++ lines_from_part
     (l.parts + 1 + 1) later)) (sym same)
 
 pub comes_of : (limit : ℕ) (l : Loaded) (closed : List (List ℕ)) (open_part : List ℕ) (more : List ℕ) (later : List (List ℕ))
@@ -127,9 +127,9 @@ loaded_more limit before after closed open_part bytes same h t = record {
   accepts = accepts_from_outcome tiger tiger_is_sound limit _ after.records
       (ap (λ (b : List ℕ). outcome tiger limit (closed ++ b ∷ [])) joined
       ∙ comes_after limit before closed open_part (with_line_feeds t.ended) [] same h
-      ∙ ap (λ (ls : List PlacedLine). reading tiger before.limit before.records ls)
+      ∙ ap (λ (ls : List PlacedLine). outcome_after tiger before.limit before.records ls)
       (append-nil (numbered (before.parts + 1) (before.judged + 1) (lines (with_line_feeds t.ended))))
-      ∙ ap (λ (ls : List (List ℕ)). reading tiger before.limit before.records (numbered (before.parts + 1) (before.judged + 1) ls)) alone
+      ∙ ap (λ (ls : List (List ℕ)). outcome_after tiger before.limit before.records (numbered (before.parts + 1) (before.judged + 1) ls)) alone
       ∙ t.reads);
 }
   where
@@ -155,10 +155,10 @@ loaded_closed limit before after closed open_part same h c = record {
   parts_are = omega (arith, c.parts_are, h.parts_are, length-append closed (open_part ∷ []));
   judged_are = c.none_judged;
   accepts = accepts_from_outcome tiger tiger_is_sound limit _ after.records
-      (ap (reading tiger limit []) (empty_last closed open_part)
+      (ap (outcome_after tiger limit []) (empty_last closed open_part)
       ∙ ap (λ (b : List ℕ). outcome tiger limit (closed ++ b ∷ [])) h.lines_are.bytes_are
       ∙ comes_after limit before closed open_part before.unfinished [] same h
-      ∙ ap (λ (ls : List PlacedLine). reading tiger before.limit before.records ls)
+      ∙ ap (λ (ls : List PlacedLine). outcome_after tiger before.limit before.records ls)
       (append-nil (numbered (before.parts + 1) (before.judged + 1) (lines before.unfinished)))
       ∙ c.reads);
 }
@@ -217,7 +217,7 @@ pub fed_nothing : {K : Type 0} (holds : K → List Record → Type 0) (limit : �
       fault =
           None;
     }) [] []
-unfolding lines_from_part reading
+unfolding lines_from_part outcome_after
 fed_nothing holds limit kept counts unfinished empty none open_is = record {
   limit_is = refl;
   comes = (
@@ -233,7 +233,7 @@ fed_nothing holds limit kept counts unfinished empty none open_is = record {
       };
       parts_are = refl;
       judged_are = refl;
-      accepts = accepts_from_outcome tiger tiger_is_sound limit ([] ∷ []) [] (ap (reading tiger limit []) (no_lines 1));
+      accepts = accepts_from_outcome tiger tiger_is_sound limit ([] ∷ []) [] (ap (outcome_after tiger limit []) (no_lines 1));
     },
   );
 }
@@ -345,7 +345,7 @@ fed_closed holds limit before mid (Err f) closed open_part none same stays closi
     let t = closing h.records h.kept in
     let e : (later : List (List ℕ)) → IsOfLines f → to_come (seen before h.records) [] later ≡ Err f =
     λ later is. comes_at_end (seen before h.records) later
-    ∙ ap (λ (r : Result (List Record) LoadFault). r >>= λ records. reading tiger before.limit records
+    ∙ ap (λ (r : Result (List Record) LoadFault). r >>= λ records. outcome_after tiger before.limit records
     (lines_from_part (before.parts + 1 + 1) later)) (t.2 is) in
     record {
       limit_is = same ∙ w.limit_is;
@@ -391,19 +391,19 @@ fault_along limit a b f e h =
 
 outcome_all : (limit : ℕ) (l : Loaded) (closed : List (List ℕ)) (open_part : List ℕ) → l.limit ≡ limit → HasLoaded limit l closed open_part
     → outcome tiger limit (all_parts closed open_part) ≡ to_end l
-unfolding lines_from_part reading
+unfolding lines_from_part outcome_after
 outcome_all limit l closed open_part same h =
-    ap (reading tiger limit []) (placed_all closed open_part) ∙ comes_of limit l closed open_part [] [] same h ∙ comes_at_end l []
+    ap (outcome_after tiger limit []) (placed_all closed open_part) ∙ comes_of limit l closed open_part [] [] same h ∙ comes_at_end l []
     ∙ bind_ok (to_end l)
   where
     bind_ok : (r : Result (List Record) LoadFault)
-        → (r >>= λ records. reading tiger l.limit records (lines_from_part (l.parts + 1 + 1) [])) ≡ r
+        → (r >>= λ records. outcome_after tiger l.limit records (lines_from_part (l.parts + 1 + 1) [])) ≡ r
     bind_ok (Ok x) = refl
     bind_ok (Err f) = refl
 
 pub finished : {K T : Type 0} (holds : K → List Record → Type 0) (x : T) (limit : ℕ) (before after : LoadedInto K) (closed : List (List ℕ))
     (open_part : List ℕ) → before.fault ≡ None → Lifts holds Ends before (Ok x) after → WasFedInto holds limit before closed open_part
-    → (records : List Record) × holds after.kept records × Accepts tiger limit (all_parts closed open_part) records
+    → (records : List Record) × holds after.kept records × SpellsWithin tiger limit (all_parts closed open_part) records
 finished holds x limit before after closed open_part none ends w =
     let h = has_of holds limit before closed open_part none w in
     let t = ends h.records h.kept in (

@@ -9,8 +9,8 @@ use Rattle.tl_load.specs.declared.fault.LoadFault.{LoadFault}
 use Rattle.tl_load.specs.declared.fault.LoadFault.TheVariants as faults
 use Rattle.tl_load.specs.Places.{PlacedLine, placed_lines}
 use Rattle.tl_load.specs.Verdicts.{Judge, fault_at}
-use Rattle.tl_load.specs.Outcome.{count_of, IsWithinLimit, AreSpelled, Spells, Accepts, IsFaultOf, of_line, of_limit, FaultAt}
-use Rattle.tl_load.specs.Outcome.{IsSpelled, IsFaulty, ◌>>=◌, after_verdict, next, reading, outcome}
+use Rattle.tl_load.specs.Outcome.{count_of, IsWithinLimit, AreSpelled, Spells, SpellsWithin, IsFaultOf, of_line, of_limit, FaultAt}
+use Rattle.tl_load.specs.Outcome.{IsSpelled, IsFaulty, ◌>>=◌, after_verdict, next, outcome_after, outcome}
 
 -- ---- verdicts
 
@@ -91,14 +91,14 @@ bind_err (Ok x) f y e = inr (x, refl, e)
 bind_err {A} {B} (Err d) f y e = let same : d ≡ y = cc in inl (ap (λ (z : LoadFault). Err z) same)
 
 -- lines after lines
-pub reading-append : {R : Type 0} (judge : Judge R) (limit : ℕ) (records : List R) (a b : List PlacedLine)
-    → reading judge limit records (a ++ b) ≡ (reading judge limit records a >>= λ more. reading judge limit more b)
-unfolding reading
-reading-append judge limit records [] b = refl
-reading-append judge limit records (x ∷ a) b =
-    bind_same (next judge limit records x) (λ more. reading judge limit more (a ++ b))
-    (λ more. reading judge limit more a >>= λ rest. reading judge limit rest b) (λ more. reading-append judge limit more a b)
-    ∙ sym (bind_assoc (next judge limit records x) (λ more. reading judge limit more a) (λ rest. reading judge limit rest b))
+pub outcome_after-append : {R : Type 0} (judge : Judge R) (limit : ℕ) (records : List R) (a b : List PlacedLine)
+    → outcome_after judge limit records (a ++ b) ≡ (outcome_after judge limit records a >>= λ more. outcome_after judge limit more b)
+unfolding outcome_after
+outcome_after-append judge limit records [] b = refl
+outcome_after-append judge limit records (x ∷ a) b =
+    bind_same (next judge limit records x) (λ more. outcome_after judge limit more (a ++ b))
+    (λ more. outcome_after judge limit more a >>= λ rest. outcome_after judge limit rest b) (λ more. outcome_after-append judge limit more a b)
+    ∙ sym (bind_assoc (next judge limit records x) (λ more. outcome_after judge limit more a) (λ rest. outcome_after judge limit rest b))
 
 -- ---- one line
 
@@ -208,13 +208,13 @@ ok_is : {R E : Type 0} (x y : R) → ◌≡◌ {A = Result R E} (Ok x) (Ok y) �
 ok_is x y e = cc
 
 pub reads_ok : {R : Type 0} (judge : Judge R) (limit : ℕ) (records : List R) (lines : List PlacedLine) (all : List R)
-    → IsWithinLimit judge limit records → reading judge limit records lines ≡ Ok all → Reads judge limit records lines all
-unfolding reading
+    → IsWithinLimit judge limit records → outcome_after judge limit records lines ≡ Ok all → Reads judge limit records lines all
+unfolding outcome_after
 reads_ok {R} judge limit records [] all h e =
     let same : records ≡ all = ok_is records all e in
     record { found = []; judged = refl; all_are = sym same ∙ sym (append-nil records); within = subst (IsWithinLimit judge limit) same h }
 reads_ok {R} judge limit records (x ∷ lines) all h e =
-    let b = bind_ok (next judge limit records x) (λ more. reading judge limit more lines) all e in
+    let b = bind_ok (next judge limit records x) (λ more. outcome_after judge limit more lines) all e in
     let t = next_ok judge limit records x b.0 b.1 in
     let mid : IsWithinLimit judge limit b.0 =
     subst (IsWithinLimit judge limit) (sym t.after) (within_push judge limit records t.found h t.room) in
@@ -228,8 +228,8 @@ reads_ok {R} judge limit records (x ∷ lines) all h e =
     }
 
 pub reads_from : {R : Type 0} (judge : Judge R) (limit : ℕ) (records : List R) (lines : List PlacedLine) (found : List R)
-    → AreJudged judge lines found → IsWithinLimit judge limit (records ++ found) → reading judge limit records lines ≡ Ok (records ++ found)
-unfolding reading
+    → AreJudged judge lines found → IsWithinLimit judge limit (records ++ found) → outcome_after judge limit records lines ≡ Ok (records ++ found)
+unfolding outcome_after
 reads_from judge limit records [] [] e h = ap (λ (z : List _). Ok z) (sym (append-nil records))
 reads_from judge limit records [] (r ∷ found) e h = absurd cc
 reads_from judge limit records (x ∷ lines) [] e h = absurd cc
@@ -239,7 +239,7 @@ reads_from {R} judge limit records (x ∷ lines) (r ∷ found) e h =
     let joined : (records ++ r ∷ []) ++ found ≡ records ++ r ∷ found = append_assoc records (r ∷ []) found in
     let step = next_from judge limit records x r first (room_before judge limit records r found h) in
     let again = reads_from judge limit (records ++ r ∷ []) lines found rest (subst (IsWithinLimit judge limit) (sym joined) h) in
-    ap (λ (z : Result (List R) LoadFault). z >>= λ more. reading judge limit more lines) step ∙ again ∙ ap (λ (z : List R). Ok z) joined
+    ap (λ (z : Result (List R) LoadFault). z >>= λ more. outcome_after judge limit more lines) step ∙ again ∙ ap (λ (z : List R). Ok z) joined
 
 -- the first fault of the lines, after these records
 pub record Stops {R : Type 0} (judge : Judge R) (limit : ℕ) (records : List R) (lines : List PlacedLine) (fault : LoadFault) : Type 0 where
@@ -253,11 +253,11 @@ pub record Stops {R : Type 0} (judge : Judge R) (limit : ℕ) (records : List R)
   pub fault_is : IsVerdictOf judge limit (records ++ found) line fault
 
 pub stops_err : {R : Type 0} (judge : Judge R) (limit : ℕ) (records : List R) (lines : List PlacedLine) (fault : LoadFault)
-    → IsWithinLimit judge limit records → reading judge limit records lines ≡ Err fault → Stops judge limit records lines fault
-unfolding reading
+    → IsWithinLimit judge limit records → outcome_after judge limit records lines ≡ Err fault → Stops judge limit records lines fault
+unfolding outcome_after
 stops_err judge limit records [] fault h e = absurd cc
 stops_err {R} judge limit records (x ∷ lines) fault h e =
-    elim (bind_err (next judge limit records x) (λ more. reading judge limit more lines) fault e) [
+    elim (bind_err (next judge limit records x) (λ more. outcome_after judge limit more lines) fault e) [
       | inl here ↦ record {
         before = [];
         line = x;
@@ -295,7 +295,7 @@ no_records : {R : Type 0} (judge : Judge R) (limit : ℕ) → IsWithinLimit judg
 no_records judge limit t = omega arith
 
 pub accepts_from_outcome : {R : Type 0} (judge : Judge R) → IsSound judge → (limit : ℕ) (parts : List (List ℕ)) (records : List R)
-    → outcome judge limit parts ≡ Ok records → Accepts judge limit parts records
+    → outcome judge limit parts ≡ Ok records → SpellsWithin judge limit parts records
 accepts_from_outcome {R} judge sound limit parts records e =
     let r = reads_ok judge limit [] (placed_lines parts) records (no_records judge limit) e in
     record {
@@ -305,7 +305,7 @@ accepts_from_outcome {R} judge sound limit parts records e =
     }
 
 pub outcome_from_accepts : {R : Type 0} (judge : Judge R) → IsSound judge → (limit : ℕ) (parts : List (List ℕ)) (records : List R)
-    → Accepts judge limit parts records → outcome judge limit parts ≡ Ok records
+    → SpellsWithin judge limit parts records → outcome judge limit parts ≡ Ok records
 outcome_from_accepts judge sound limit parts records a =
     reads_from judge limit [] (placed_lines parts) records (spelled_judged judge sound (placed_lines parts) records a.spells) a.within
 
@@ -328,13 +328,13 @@ fault_from_outcome judge sound limit parts fault e =
 
 pub outcome_from_fault : {R : Type 0} (judge : Judge R) → IsSound judge → (limit : ℕ) (parts : List (List ℕ)) (fault : LoadFault)
     → FaultAt judge limit parts fault → outcome judge limit parts ≡ Err fault
-unfolding reading
+unfolding outcome_after
 outcome_from_fault {R} judge sound limit parts fault f =
-    ap (reading judge limit []) f.split
-    ∙ reading-append judge limit [] f.before (f.line ∷ f.after)
-    ∙ ap (λ (z : Result (List R) LoadFault). z >>= λ more. reading judge limit more (f.line ∷ f.after))
+    ap (outcome_after judge limit []) f.split
+    ∙ outcome_after-append judge limit [] f.before (f.line ∷ f.after)
+    ∙ ap (λ (z : Result (List R) LoadFault). z >>= λ more. outcome_after judge limit more (f.line ∷ f.after))
     (reads_from judge limit [] f.before f.records (spelled_judged judge sound f.before f.records f.well) f.within)
-    ∙ ap (λ (z : Result (List R) LoadFault). z >>= λ more. reading judge limit more f.after)
+    ∙ ap (λ (z : Result (List R) LoadFault). z >>= λ more. outcome_after judge limit more f.after)
     (next_faulty judge limit f.records f.line fault (fault_verdict judge sound limit f.records f.line fault f.fault_is))
 
 -- the same line is judged one way
@@ -381,11 +381,11 @@ one_verdict {R} judge sound limit parts = go (outcome judge limit parts) refl
 
 -- parts that spell a list have no fault
 pub accepted_once : {R : Type 0} (judge : Judge R) → IsSound judge → (limit : ℕ) (parts : List (List ℕ)) (a b : List R)
-    → Accepts judge limit parts a → Accepts judge limit parts b → a ≡ b
+    → SpellsWithin judge limit parts a → SpellsWithin judge limit parts b → a ≡ b
 accepted_once judge sound limit parts a b p q = spelled_once judge sound parts a b p.spells q.spells
 
 pub accepted_no_fault : {R : Type 0} (judge : Judge R) → IsSound judge
-    → (limit : ℕ) (parts : List (List ℕ)) (records : List R) (fault : LoadFault) → Accepts judge limit parts records
+    → (limit : ℕ) (parts : List (List ℕ)) (records : List R) (fault : LoadFault) → SpellsWithin judge limit parts records
     → FaultAt judge limit parts fault → ⊥
 accepted_no_fault judge sound limit parts records fault p q =
     never_both _ records fault (outcome_from_accepts judge sound limit parts records p) (outcome_from_fault judge sound limit parts fault q)

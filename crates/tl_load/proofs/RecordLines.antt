@@ -33,7 +33,7 @@ use Rattle.tl_load.specs.declared.fault.LineFault.TheVariants as line_faults
 use Rattle.tl_load.specs.LineOf.{judged_as}
 use Rattle.tl_load.specs.Choice.{as_record, judged_by, judged, tiger}
 use Rattle.tl_load.specs.Places.{PlacedLine, placed_lines}
-use Rattle.tl_load.specs.Outcome.{AreSpelled, Spells, Accepts}
+use Rattle.tl_load.specs.Outcome.{AreSpelled, Spells, SpellsWithin}
 use Rattle.tl_load.proofs.Reading.{IsSound}
 use Rattle.tl_load.specs.RecordLine.{HasRecord, record_types, BeginsWith, IsFaultOfLine, of_no_type, of_type_1, of_type_2}
 use Rattle.tl_load.specs.RecordLine.{of_type_4, of_type_5, of_type_6, of_type_7, of_type_8, of_type_i, of_type_p}
@@ -324,7 +324,7 @@ pub spelled_fit : (parts : List (List ℕ)) (records : List Record) → Spells t
 spelled_fit parts records h = lines_fit (placed_lines parts) records h
 
 -- of records that are accepted within a limit no type has more than that
-pub accepted_within : (limit : ℕ) (parts : List (List ℕ)) (records : List Record) → Accepts tiger limit parts records
+pub accepted_within : (limit : ℕ) (parts : List (List ℕ)) (records : List Record) → SpellsWithin tiger limit parts records
     → IsWithinLimit limit records
 unfolding tiger
 accepted_within limit parts records h = h.within

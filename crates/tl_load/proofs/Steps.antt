@@ -15,12 +15,12 @@ use Rattle.tl_load.specs.declared.fault.LoadFault.{LoadFault}
 use Rattle.tl_load.specs.Lines.{is_line_feed, IsWithoutLineFeed, without_return, last_line, lines}
 use Rattle.tl_load.specs.Places.{PlacedLine, numbered, lines_from_part}
 use Rattle.tl_load.specs.Verdicts.{fault_at, field_fault_at}
-use Rattle.tl_load.specs.Outcome.{◌>>=◌, after_verdict, next, reading}
+use Rattle.tl_load.specs.Outcome.{◌>>=◌, after_verdict, next, outcome_after}
 use Rattle.tl_load.specs.Choice.{tiger, judged}
 use Rattle.tl_load.specs.Loaded.{Loaded, IsNotDevice, with_line_feeds}
 use Rattle.tl_load.specs.Steps.{to_come, to_end, TakesLines, Takes, LeavesRest, next_place, Judges, Ends}
 use Rattle.tl_load.specs.Steps.{Closes, Reads}
-use Rattle.tl_load.proofs.Reading.{reading-append}
+use Rattle.tl_load.proofs.Reading.{outcome_after-append}
 use Rattle.tl_load.proofs.LineLemmas.{lines_line, lines_rest, lines_none, first_line_of, without_return_front}
 use Rattle.tl_load.proofs.Runs.{lines_after, numbered-append}
 use Rattle.tl_load.proofs.Settled.{judged_long, judged_settles}
@@ -45,23 +45,23 @@ takes_comes before after bytes more later t =
     omega (arith, length-map t.ended without_return, t.judged_are) in
     let parts : before.parts ≡ after.parts = sym t.parts_are in
     let limit : before.limit ≡ after.limit = sym t.limit_is in
-    ap (λ (ls : List (List ℕ)). reading tiger before.limit before.records (numbered (before.parts + 1) (before.judged + 1) ls ++ tail)) cut
-    ∙ ap (λ (ls : List PlacedLine). reading tiger before.limit before.records (ls ++ tail))
+    ap (λ (ls : List (List ℕ)). outcome_after tiger before.limit before.records (numbered (before.parts + 1) (before.judged + 1) ls ++ tail)) cut
+    ∙ ap (λ (ls : List PlacedLine). outcome_after tiger before.limit before.records (ls ++ tail))
     (numbered-append (before.parts + 1) (before.judged + 1) (map without_return t.ended) rest)
-    ∙ ap (reading tiger before.limit before.records)
+    ∙ ap (outcome_after tiger before.limit before.records)
     (append_assoc there (numbered (before.parts + 1) (before.judged + 1 + length (map without_return t.ended)) rest) tail)
-    ∙ reading-append tiger before.limit before.records there
+    ∙ outcome_after-append tiger before.limit before.records there
     (numbered (before.parts + 1) (before.judged + 1 + length (map without_return t.ended)) rest ++ tail)
-    ∙ ap (λ (r : Result (List Record) LoadFault). r >>= λ records. reading tiger before.limit records
+    ∙ ap (λ (r : Result (List Record) LoadFault). r >>= λ records. outcome_after tiger before.limit records
     (numbered (before.parts + 1) (before.judged + 1 + length (map without_return t.ended)) rest ++ tail)) t.reads
-    ∙ ap (λ (k : ℕ). reading tiger before.limit after.records (numbered (before.parts + 1) k rest ++ tail)) place
-    ∙ ap (λ (k : ℕ). reading tiger before.limit after.records
+    ∙ ap (λ (k : ℕ). outcome_after tiger before.limit after.records (numbered (before.parts + 1) k rest ++ tail)) place
+    ∙ ap (λ (k : ℕ). outcome_after tiger before.limit after.records
     (numbered (k + 1) (after.judged + 1) rest ++ lines_from_part (k + 1 + 1) later)) parts
-    ∙ ap (λ (k : ℕ). reading tiger k after.records
+    ∙ ap (λ (k : ℕ). outcome_after tiger k after.records
     (numbered (after.parts + 1) (after.judged + 1) rest ++ lines_from_part (after.parts + 1 + 1) later)) limit
 
 pub takes_none : (l : Loaded) → IsWithoutLineFeed l.unfinished → TakesLines l [] l
-unfolding numbered reading
+unfolding numbered outcome_after
 takes_none l none = record {
   ended = [];
   lines_are = record { bytes_are = append-nil l.unfinished; each_ended = All-nil IsWithoutLineFeed; not_ended = none };
@@ -75,7 +75,7 @@ takes_none l none = record {
 pub holds_more : (before after : Loaded) (bytes : List ℕ) → after.records ≡ before.records → after.parts ≡ before.parts
     → after.judged ≡ before.judged → after.limit ≡ before.limit → after.unfinished ≡ before.unfinished ++ bytes
     → IsWithoutLineFeed before.unfinished → IsWithoutLineFeed bytes → TakesLines before bytes after
-unfolding numbered reading
+unfolding numbered outcome_after
 holds_more before after bytes records parts judged limit unfinished none more = record {
   ended = [];
   lines_are = record {
@@ -106,16 +106,16 @@ takes_both before mid after a b p q =
         each_ended = All-append IsWithoutLineFeed p.ended q.ended p.lines_are.each_ended q.lines_are.each_ended;
         not_ended = q.lines_are.not_ended;
       };
-      reads = ap (λ (ls : List (List ℕ)). reading tiger before.limit before.records (numbered (before.parts + 1) (before.judged + 1) ls))
+      reads = ap (λ (ls : List (List ℕ)). outcome_after tiger before.limit before.records (numbered (before.parts + 1) (before.judged + 1) ls))
           (map-append without_return p.ended q.ended)
-          ∙ ap (reading tiger before.limit before.records) (numbered-append (before.parts + 1) (before.judged + 1) first second)
-          ∙ reading-append tiger before.limit before.records (numbered (before.parts + 1) (before.judged + 1) first)
+          ∙ ap (outcome_after tiger before.limit before.records) (numbered-append (before.parts + 1) (before.judged + 1) first second)
+          ∙ outcome_after-append tiger before.limit before.records (numbered (before.parts + 1) (before.judged + 1) first)
           (numbered (before.parts + 1) (before.judged + 1 + length first) second)
-          ∙ ap (λ (r : Result (List Record) LoadFault). r >>= λ records. reading tiger before.limit records
+          ∙ ap (λ (r : Result (List Record) LoadFault). r >>= λ records. outcome_after tiger before.limit records
           (numbered (before.parts + 1) (before.judged + 1 + length first) second)) p.reads
-          ∙ ap (λ (k : ℕ). reading tiger before.limit mid.records (numbered (before.parts + 1) k second)) place
-          ∙ ap (λ (k : ℕ). reading tiger before.limit mid.records (numbered (k + 1) (mid.judged + 1) second)) (sym p.parts_are)
-          ∙ ap (λ (k : ℕ). reading tiger k mid.records (numbered (mid.parts + 1) (mid.judged + 1) second)) (sym p.limit_is)
+          ∙ ap (λ (k : ℕ). outcome_after tiger before.limit mid.records (numbered (before.parts + 1) k second)) place
+          ∙ ap (λ (k : ℕ). outcome_after tiger before.limit mid.records (numbered (k + 1) (mid.judged + 1) second)) (sym p.parts_are)
+          ∙ ap (λ (k : ℕ). outcome_after tiger k mid.records (numbered (mid.parts + 1) (mid.judged + 1) second)) (sym p.limit_is)
           ∙ q.reads;
       judged_are = omega (arith, p.judged_are, q.judged_are, length-append p.ended q.ended);
       parts_are = q.parts_are ∙ p.parts_are;
@@ -159,10 +159,10 @@ pub record IsBefore (mid before : Loaded) : Type 0 where
 
 -- the next line is judged, and then what follows it
 reading_line : (l : Loaded) (line : List ℕ) (more : List (List ℕ)) (tail : List PlacedLine)
-    → reading tiger l.limit l.records (numbered (l.parts + 1) (l.judged + 1) (line ∷ more) ++ tail)
-    ≡ (after_verdict tiger l.limit l.records (next_place l line) (judged line) >>= λ records. reading tiger l.limit records
+    → outcome_after tiger l.limit l.records (numbered (l.parts + 1) (l.judged + 1) (line ∷ more) ++ tail)
+    ≡ (after_verdict tiger l.limit l.records (next_place l line) (judged line) >>= λ records. outcome_after tiger l.limit records
     (numbered (l.parts + 1) (l.judged + 1 + 1) more ++ tail))
-unfolding numbered reading next tiger
+unfolding numbered outcome_after next tiger
 reading_line l line more tail = refl
 
 verdict_before : (mid before : Loaded) (line : List ℕ) → IsBefore mid before
@@ -170,9 +170,9 @@ verdict_before : (mid before : Loaded) (line : List ℕ) → IsBefore mid before
     (next_place before line) (judged line)
 verdict_before mid before line same = let a = same.records in let b = same.parts in let c = same.judged in let d = same.limit in cc
 
-one_line : (l : Loaded) (line : List ℕ) → reading tiger l.limit l.records (numbered (l.parts + 1) (l.judged + 1) (line ∷ []))
+one_line : (l : Loaded) (line : List ℕ) → outcome_after tiger l.limit l.records (numbered (l.parts + 1) (l.judged + 1) (line ∷ []))
     ≡ (after_verdict tiger l.limit l.records (next_place l line) (judged line) >>= λ records. Ok records)
-unfolding numbered reading next tiger
+unfolding numbered outcome_after next tiger
 one_line l line = refl
 
 -- bytes up to an LF, with what was kept before them, are a line
@@ -206,12 +206,12 @@ ends_line before mid after bytes line (Err f) same is none judges count empty pa
     (judged (without_return whole)) ≡ Err f =
     ap (λ (l : List ℕ). after_verdict tiger before.limit before.records (next_place before l) (judged l)) (sym is)
     ∙ sym (verdict_before mid before line same) ∙ judges of_lines in
-    ap (λ (l : List ℕ). reading tiger before.limit before.records
+    ap (λ (l : List ℕ). outcome_after tiger before.limit before.records
     (numbered (before.parts + 1) (before.judged + 1) (lines l) ++ lines_from_part (before.parts + 1 + 1) later)) joined
-    ∙ ap (λ (l : List (List ℕ)). reading tiger before.limit before.records
+    ∙ ap (λ (l : List (List ℕ)). outcome_after tiger before.limit before.records
     (numbered (before.parts + 1) (before.judged + 1) l ++ lines_from_part (before.parts + 1 + 1) later)) (lines_line whole more none)
     ∙ reading_line before (without_return whole) (lines more) (lines_from_part (before.parts + 1 + 1) later)
-    ∙ ap (λ (r : Result (List Record) LoadFault). r >>= λ records. reading tiger before.limit records
+    ∙ ap (λ (r : Result (List Record) LoadFault). r >>= λ records. outcome_after tiger before.limit records
     (numbered (before.parts + 1) (before.judged + 1 + 1) (lines more) ++ lines_from_part (before.parts + 1 + 1) later)) step
 
 -- ---- a line that is too long, whatever follows
@@ -237,11 +237,11 @@ long_line before bytes line c z fault split long none e more later =
     ap lines (sym (append_assoc u bytes more)) ∙ begins.first ∙ ap (λ (l : List ℕ). without_return l ∷ begins.rest) regroup
     ∙ ap (λ (l : List ℕ). l ∷ begins.rest) front.1 in
     let settled : judged (line ++ front.0) ≡ Err fault = judged_settles line front.0 long ∙ e in
-    ap (λ (l : List (List ℕ)). reading tiger before.limit before.records
+    ap (λ (l : List (List ℕ)). outcome_after tiger before.limit before.records
     (numbered (before.parts + 1) (before.judged + 1) l ++ lines_from_part (before.parts + 1 + 1) later)) first
     ∙ reading_line before (line ++ front.0) begins.rest (lines_from_part (before.parts + 1 + 1) later)
     ∙ ap (λ (v : Result Record LineFault). after_verdict tiger before.limit before.records
-    (next_place before (line ++ front.0)) v >>= λ records. reading tiger before.limit records
+    (next_place before (line ++ front.0)) v >>= λ records. outcome_after tiger before.limit records
     (numbered (before.parts + 1) (before.judged + 1 + 1) begins.rest ++ lines_from_part (before.parts + 1 + 1) later)) settled
 
 pub refuses : {T : Type 0} (before mid after : Loaded) (bytes line rest : List ℕ) (result : Result T LoadFault) → IsBefore mid before
@@ -292,10 +292,10 @@ leaves_fault T before mid after bytes rest line left f p split q =
 
 -- nothing was kept: the part has no more line
 pub ends_empty : (before after : Loaded) → before.unfinished ≡ [] → after.records ≡ before.records → to_end before ≡ Ok after.records
-unfolding numbered reading
+unfolding numbered outcome_after
 ends_empty before after none same =
-    ap (λ (l : List ℕ). reading tiger before.limit before.records (numbered (before.parts + 1) (before.judged + 1) (lines l))) none
-    ∙ ap (λ (l : List (List ℕ)). reading tiger before.limit before.records (numbered (before.parts + 1) (before.judged + 1) l)) lines_none
+    ap (λ (l : List ℕ). outcome_after tiger before.limit before.records (numbered (before.parts + 1) (before.judged + 1) (lines l))) none
+    ∙ ap (λ (l : List (List ℕ)). outcome_after tiger before.limit before.records (numbered (before.parts + 1) (before.judged + 1) l)) lines_none
     ∙ ap (λ (r : List Record). Ok r) (sym same)
 
 last_of : (a : List ℕ) → 0 < length a → last_line a ≡ without_return a ∷ []
@@ -310,7 +310,7 @@ ends_part {T} before mid after line result same some none is judges = go result 
   where
     first : to_end before ≡ (after_verdict tiger mid.limit mid.records (next_place mid line) (judged line) >>= λ records. Ok records)
     first =
-        ap (λ (l : List (List ℕ)). reading tiger before.limit before.records (numbered (before.parts + 1) (before.judged + 1) l))
+        ap (λ (l : List (List ℕ)). outcome_after tiger before.limit before.records (numbered (before.parts + 1) (before.judged + 1) l))
         (lines_rest before.unfinished none ∙ last_of before.unfinished some ∙ ap (λ (l : List ℕ). l ∷ []) (sym is))
         ∙ one_line before line
         ∙ ap (λ (r : Result (List Record) LoadFault). r >>= λ records. Ok records) (sym (verdict_before mid before line same))
@@ -321,18 +321,18 @@ ends_part {T} before mid after line result same some none is judges = go result 
 
 -- what comes where the open part ends
 pub comes_at_end : (l : Loaded) (later : List (List ℕ))
-    → to_come l [] later ≡ (to_end l >>= λ records. reading tiger l.limit records (lines_from_part (l.parts + 1 + 1) later))
+    → to_come l [] later ≡ (to_end l >>= λ records. outcome_after tiger l.limit records (lines_from_part (l.parts + 1 + 1) later))
 unfolding to_come
 comes_at_end l later =
-    ap (λ (b : List ℕ). reading tiger l.limit l.records
+    ap (λ (b : List ℕ). outcome_after tiger l.limit l.records
     (numbered (l.parts + 1) (l.judged + 1) (lines b) ++ lines_from_part (l.parts + 1 + 1) later)) (append-nil l.unfinished)
-    ∙ reading-append tiger l.limit l.records (numbered (l.parts + 1) (l.judged + 1) (lines l.unfinished))
+    ∙ outcome_after-append tiger l.limit l.records (numbered (l.parts + 1) (l.judged + 1) (lines l.unfinished))
     (lines_from_part (l.parts + 1 + 1) later)
 
 pub closed_comes : (T : Type 0) (before after : Loaded) (f : LoadFault) (later : List (List ℕ)) → to_end before ≡ Err f
     → to_come before [] later ≡ Err f
 closed_comes T before after f later e = comes_at_end before later
-    ∙ ap (λ (r : Result (List Record) LoadFault). r >>= λ records. reading tiger before.limit records
+    ∙ ap (λ (r : Result (List Record) LoadFault). r >>= λ records. outcome_after tiger before.limit records
     (lines_from_part (before.parts + 1 + 1) later)) e
 
 -- ---- parts that are read

@@ -8,6 +8,7 @@ use Rattle.tl_load.specs.Choice.{tiger}
 use Rattle.tl_load.specs.Loaded.{Loaded, IsOfLines, HasLoaded, IsFaultHowever}
 use Rattle.tl_load.specs.declared.loader_into.TheConstants.{LINE_BYTES}
 use Rattle.tl_layout.specs.declared.record_type.TheConstants.{MOST_RECORDS}
+use Rattle.tl_layout.specs.RecordTables.{rtype_1, rtype_2, rtype_4, rtype_5, rtype_6, rtype_7, rtype_8, rtype_i, rtype_p}
 
 -- what was kept so far, how many records of each type, by the byte in column 1, the number of closed parts, the lines of the
 -- open part that were judged, the bytes of its unfinished line, the limit of records of one type, and the standing fault
@@ -55,8 +56,8 @@ HasSome holds l = (records : List Record) × AreKept holds l records
 
 -- the records of all nine types
 abbrev pub total : List ℕ → ℕ
-total counts = slice_index counts 49 + slice_index counts 50 + slice_index counts 52 + slice_index counts 53 + slice_index counts 54
-    + slice_index counts 55 + slice_index counts 56 + slice_index counts 73 + slice_index counts 80
+total counts = slice_index counts rtype_1 + slice_index counts rtype_2 + slice_index counts rtype_4 + slice_index counts rtype_5 + slice_index counts rtype_6
+    + slice_index counts rtype_7 + slice_index counts rtype_8 + slice_index counts rtype_i + slice_index counts rtype_p
 
 -- the most bytes that were fed, if each line that was judged had 230 with its end
 abbrev pub bytes_used : {K : Type 0} → LoadedInto K → ℕ

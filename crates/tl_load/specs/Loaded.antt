@@ -6,7 +6,7 @@ use Rattle.tl_layout.specs.declared.record_type.Record.{Record}
 use Rattle.tl_load.specs.declared.fault.LoadFault.{LoadFault}
 use Rattle.tl_load.specs.declared.fault.LoadFault.TheVariants as faults
 use Rattle.tl_load.specs.Lines.{IsWithoutLineFeed}
-use Rattle.tl_load.specs.Outcome.{Accepts, FaultAt}
+use Rattle.tl_load.specs.Outcome.{SpellsWithin, FaultAt}
 use Rattle.tl_load.specs.Choice.{tiger}
 use Rattle.tl_load.specs.declared.loader_into.TheConstants.{LINE_BYTES}
 
@@ -48,7 +48,7 @@ pub record HasLoaded (limit : ℕ) (l : Loaded) (closed : List (List ℕ)) (open
   pub lines_are : AreLines open_part ended l.unfinished
   pub parts_are : l.parts ≡ length closed
   pub judged_are : l.judged ≡ length ended
-  pub accepts : Accepts tiger limit (closed ++ with_line_feeds ended ∷ []) l.records
+  pub accepts : SpellsWithin tiger limit (closed ++ with_line_feeds ended ∷ []) l.records
 
 -- the loader was fed these closed parts and these bytes of the open part; a standing fault of the lines is that of them all,
 -- however they go on
@@ -62,7 +62,7 @@ pub record IsWellSoFar (limit : ℕ) (closed : List (List ℕ)) (open_part : Lis
   pub unfinished : List ℕ
   pub lines_are : AreLines open_part ended unfinished
   pub records : List Record
-  pub accepts : Accepts tiger limit (closed ++ with_line_feeds ended ∷ []) records
+  pub accepts : SpellsWithin tiger limit (closed ++ with_line_feeds ended ∷ []) records
   pub short : length unfinished ≤ LINE_BYTES
 
 -- after these bytes too no line that has ended is faulty, and the open one is short

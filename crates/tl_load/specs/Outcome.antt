@@ -24,7 +24,7 @@ abbrev pub Spells : {R : Type 0} → Judge R → List (List ℕ) → List R → 
 Spells judge parts records = AreSpelled judge (placed_lines parts) records
 
 -- the parts spell these records, with at most limit of each type
-pub record Accepts {R : Type 0} (judge : Judge R) (limit : ℕ) (parts : List (List ℕ)) (records : List R) : Type 0 where
+pub record SpellsWithin {R : Type 0} (judge : Judge R) (limit : ℕ) (parts : List (List ℕ)) (records : List R) : Type 0 where
   pub spells : Spells judge parts records
   pub within : IsWithinLimit judge limit records
 
@@ -50,7 +50,7 @@ pub record FaultAt {R : Type 0} (judge : Judge R) (limit : ℕ) (parts : List (L
 -- the parts spell a list, and no fault is at them
 pub record IsSpelled {R : Type 0} (judge : Judge R) (limit : ℕ) (parts : List (List ℕ)) : Type 0 where
   pub records : List R
-  pub accepts : Accepts judge limit parts records
+  pub accepts : SpellsWithin judge limit parts records
   pub only : (others : List R) → Spells judge parts others → others ≡ records
   pub none : (fault : LoadFault) → FaultAt judge limit parts fault → ⊥
 
@@ -59,7 +59,7 @@ pub record IsFaulty {R : Type 0} (judge : Judge R) (limit : ℕ) (parts : List (
   pub fault : LoadFault
   pub at : FaultAt judge limit parts fault
   pub only : (other : LoadFault) → FaultAt judge limit parts other → other ≡ fault
-  pub none : (records : List R) → Accepts judge limit parts records → ⊥
+  pub none : (records : List R) → SpellsWithin judge limit parts records → ⊥
 
 -- ---- the same by going over the lines
 
@@ -83,10 +83,10 @@ unfoldable pub next : {R : Type 0} → Judge R → ℕ → List R → PlacedLine
 next judge limit records line = after_verdict judge limit records line (judge.verdict line.bytes)
 
 -- the records after the lines, or the first fault
-unfoldable pub reading : {R : Type 0} → Judge R → ℕ → List R → List PlacedLine → Result (List R) LoadFault
-reading judge limit records [] = Ok records
-reading judge limit records (line ∷ lines) = next judge limit records line >>= λ more. reading judge limit more lines
+unfoldable pub outcome_after : {R : Type 0} → Judge R → ℕ → List R → List PlacedLine → Result (List R) LoadFault
+outcome_after judge limit records [] = Ok records
+outcome_after judge limit records (line ∷ lines) = next judge limit records line >>= λ more. outcome_after judge limit more lines
 
 -- what comes of the parts
 abbrev pub outcome : {R : Type 0} → Judge R → ℕ → List (List ℕ) → Result (List R) LoadFault
-outcome judge limit parts = reading judge limit [] (placed_lines parts)
+outcome judge limit parts = outcome_after judge limit [] (placed_lines parts)

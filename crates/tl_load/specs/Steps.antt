@@ -5,7 +5,7 @@ use Rattle.tl_load.specs.declared.fault.LineFault.{LineFault}
 use Rattle.tl_load.specs.declared.fault.LoadFault.{LoadFault}
 use Rattle.tl_load.specs.Lines.{without_return, lines}
 use Rattle.tl_load.specs.Places.{PlacedLine, numbered, lines_from_part}
-use Rattle.tl_load.specs.Outcome.{with_record, after_verdict, reading}
+use Rattle.tl_load.specs.Outcome.{with_record, after_verdict, outcome_after}
 use Rattle.tl_load.specs.Choice.{tiger, judged}
 use Rattle.tl_load.specs.Loaded.{Loaded, IsOfLines, AreLines}
 use Rattle.tl_load.specs.Keeping.{LoadedInto, Lifts}
@@ -14,14 +14,14 @@ use Rattle.tl_load.specs.declared.loader_into.TheConstants.{LINE_BYTES}
 -- what comes of the loader's value, if these bytes follow in its open part, and then these parts
 unfoldable pub to_come : Loaded → List ℕ → List (List ℕ) → Result (List Record) LoadFault
 to_come l more later =
-    reading tiger l.limit l.records (numbered (l.parts + 1) (l.judged + 1) (lines (l.unfinished ++ more)) ++ lines_from_part
+    outcome_after tiger l.limit l.records (numbered (l.parts + 1) (l.judged + 1) (lines (l.unfinished ++ more)) ++ lines_from_part
     (l.parts + 1 + 1) later)
 
 -- the bytes were taken: the lines that they ended are judged, and what no LF has ended is kept
 pub record TakesLines (before : Loaded) (bytes : List ℕ) (after : Loaded) : Type 0 where
   pub ended : List (List ℕ)
   pub lines_are : AreLines (before.unfinished ++ bytes) ended after.unfinished
-  pub reads : reading tiger before.limit before.records
+  pub reads : outcome_after tiger before.limit before.records
       (numbered (before.parts + 1) (before.judged + 1) (map without_return ended)) ≡ Ok after.records
   pub judged_are : after.judged ≡ before.judged + length ended
   pub parts_are : after.parts ≡ before.parts
@@ -40,8 +40,8 @@ pub record LeavesRest (before : Loaded) (bytes rest : List ℕ) (after : Loaded)
   pub takes : TakesLines before taken after
 
 -- the same as a step that was `Ok`
-abbrev pub Leaves : {T : Type 0} → List ℕ → List ℕ → Loaded → Result T LoadFault → Loaded → Type 0
-Leaves bytes rest before _ after = LeavesRest before bytes rest after
+abbrev pub LeavesRestOnOk : {T : Type 0} → List ℕ → List ℕ → Loaded → Result T LoadFault → Loaded → Type 0
+LeavesRestOnOk bytes rest before _ after = LeavesRest before bytes rest after
 
 -- the line that is judged next, if it has these bytes
 abbrev pub next_place : Loaded → List ℕ → PlacedLine
@@ -65,7 +65,7 @@ Adds added before result after = MatchResult result
 
 -- the records after what is left of the open part, or the fault of its last line
 abbrev pub to_end : Loaded → Result (List Record) LoadFault
-to_end l = reading tiger l.limit l.records (numbered (l.parts + 1) (l.judged + 1) (lines l.unfinished))
+to_end l = outcome_after tiger l.limit l.records (numbered (l.parts + 1) (l.judged + 1) (lines l.unfinished))
 
 -- the open part ended: its last line is judged
 abbrev pub Ends : {T : Type 0} → Loaded → Result T LoadFault → Loaded → Type 0

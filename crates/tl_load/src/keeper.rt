@@ -55,7 +55,7 @@ pub struct CanonicalText {
     pub bytes: Vec<u8>,
 }
 
-// Appends the line of one record: its canonical spelling and LF.
+/// Appends the line of one record: its canonical spelling and LF.
 fn append_line<L: Layout>(text: &mut Vec<u8>, found: &L) -> Result<(), AllocError>
     ensures { OnOk result (text.new.items ≡ text.old.items ++ (L.spelling found.now ++ 10 ∷ [])) }
 {

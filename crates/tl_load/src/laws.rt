@@ -6,7 +6,7 @@ ghost use Rattle.tl_layout.specs.RecordText.{FitsRecord, text_of};
 ghost use Rattle.tl_layout.specs.Limits.{IsWithinLimit};
 ghost use Rattle.tl_load.specs.declared.fault.LineFault.{LineFault};
 ghost use Rattle.tl_load.specs.Choice.{tiger};
-ghost use Rattle.tl_load.specs.Outcome.{IsSpelled, IsFaulty, Spells, Accepts};
+ghost use Rattle.tl_load.specs.Outcome.{IsSpelled, IsFaulty, Spells, SpellsWithin};
 ghost use Rattle.tl_load.specs.RecordLine.{HasRecord, IsFaultOfLine};
 ghost use Rattle.tl_load.specs.LineOf.{IsLineOf, IsFaultIn, judged_as};
 
@@ -46,5 +46,5 @@ pub fn spelled_records_fit()
     ensures line { (line : List ℕ) (found : Record) → HasRecord line found → FitsRecord found }
     ensures parts { (parts : List (List ℕ)) (records : List Record) → Spells tiger parts records → All FitsRecord records }
     ensures within { (limit : ℕ) (parts : List (List ℕ)) (records : List Record)
-        → Accepts tiger limit parts records → IsWithinLimit limit records }
+        → SpellsWithin tiger limit parts records → IsWithinLimit limit records }
 {}

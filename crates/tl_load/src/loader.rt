@@ -5,7 +5,7 @@ ghost use Rattle.std.specs.Io.KnownBytes.{IsAtEnd};
 ghost use Rattle.tl_layout.specs.RecordText.{FitsRecord};
 ghost use Rattle.tl_layout.specs.declared.record_type.Record.{Record};
 ghost use Rattle.tl_load.specs.Choice.{tiger};
-ghost use Rattle.tl_load.specs.Outcome.{Accepts, FaultAt};
+ghost use Rattle.tl_load.specs.Outcome.{SpellsWithin, FaultAt};
 ghost use Rattle.tl_load.specs.Loaded.{FedPart, IsNotDevice, is_device, IsOfLines, IsFaultHowever, IsWellAfter, WasFed, all_parts};
 ghost use Rattle.tl_load.specs.Sources.{Gave, StopsThere};
 
@@ -129,13 +129,13 @@ impl Loader {
     pub fn finish(self) -> Result<Vec<Record>, LoadFault>
         // The parts spell these records, with at most limit of each type.
         ensures loaded { (limit : ℕ) (closed : List (List ℕ)) (open_part : List ℕ) → WasFed limit self closed open_part
-            → IfOk result (λ records. Accepts tiger limit (all_parts closed open_part) records.items) }
+            → IfOk result (λ records. SpellsWithin tiger limit (all_parts closed open_part) records.items) }
         // Each of them is in range.
         ensures fits { (limit : ℕ) (closed : List (List ℕ)) (open_part : List ℕ) → WasFed limit self closed open_part
             → IfOk result (λ records. All FitsRecord records.items) }
         // Where they spell records, these are the ones, and no fault of the lines comes.
         ensures only { (limit : ℕ) (closed : List (List ℕ)) (open_part : List ℕ) (records : List Record) → WasFed limit self closed open_part
-            → Accepts tiger limit (all_parts closed open_part) records → MatchResult result (λ found. found.items ≡ records) (λ f. IsOfLines f → ⊥) }
+            → SpellsWithin tiger limit (all_parts closed open_part) records → MatchResult result (λ found. found.items ≡ records) (λ f. IsOfLines f → ⊥) }
         // Or this fault is at them.
         ensures fault { (limit : ℕ) (closed : List (List ℕ)) (open_part : List ℕ) → WasFed limit self closed open_part
             → IfErr result (λ f. IsOfLines f → FaultAt tiger limit (all_parts closed open_part) f) }

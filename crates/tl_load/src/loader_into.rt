@@ -7,7 +7,7 @@ ghost use Rattle.tl_layout.specs.declared.record_type.Record.{Record};
 ghost use Rattle.tl_load.specs.Choice.{tiger, judged, as_record};
 ghost use Rattle.tl_load.specs.Lines.{IsWithoutLineFeed};
 ghost use Rattle.tl_load.specs.LineOf.{judged_as};
-ghost use Rattle.tl_load.specs.Outcome.{Accepts, FaultAt};
+ghost use Rattle.tl_load.specs.Outcome.{SpellsWithin, FaultAt};
 ghost use Rattle.tl_load.specs.Loaded.{FedPart, IsNotDevice, is_device, IsOfLines, IsFaultHowever, IsWellAfter, all_parts};
 ghost use Rattle.tl_load.specs.Keeping.{WasFedInto, HasSome, IsSamePart, Lifts, total, bytes_used};
 ghost use Rattle.tl_load.specs.Sources.{Gave, StopsThere};
@@ -59,7 +59,7 @@ impl<K> Model for LoaderInto<K> {
     ghost invariant = { λ l. IsLoader l.counts l.line.items l.parts l.judged l.limit };
 }
 
-// No record of any type.
+/// No record of any type.
 fn no_counts() -> [u64; 128]
     ensures { result ≡ replicate 128 0 }
 {
@@ -102,7 +102,7 @@ impl<K: Keeper> LoaderInto<K> {
         self.parts
     }
 
-    // Keeps the record of a line, and counts it.
+    /// Keeps the record of a line, and counts it.
     fn add<L: Tabled>(&mut self, found: L) -> Result<(), LoadFault>
         ensures adds { Lifts K.holds (Adds (L.as_record found)) self.old result self.new }
         ensures same_part { IsSamePart self.old self.new }
@@ -126,7 +126,7 @@ impl<K: Keeper> LoaderInto<K> {
         }
     }
 
-    // Judges the next line by the layout of its type.
+    /// Judges the next line by the layout of its type.
     fn judge_as<L: Tabled>(&mut self, line: &[u8]) -> Result<(), LoadFault>
         requires room { self.old.parts < u64.MAX }
         requires begins { take 1 line.now ≡ L.RTYPE ∷ [] }
@@ -144,7 +144,7 @@ impl<K: Keeper> LoaderInto<K> {
         }
     }
 
-    // Refuses a line whose first byte is no record type.
+    /// Refuses a line whose first byte is no record type.
     fn refuse_unknown(&mut self, line: &[u8]) -> Result<(), LoadFault>
         requires room { self.old.parts < u64.MAX }
         requires unknown { judged line.now ≡ Err UnknownType }
@@ -156,7 +156,7 @@ impl<K: Keeper> LoaderInto<K> {
         Err(LineFault::UnknownType.at(self.parts + 1, self.judged + 1))
     }
 
-    // Judges the next line, which has neither LF nor the CR before it, by its first byte.
+    /// Judges the next line, which has neither LF nor the CR before it, by its first byte.
     #[tactic(auto, unfolding(crate::specs::Choice::judged, crate::specs::Choice::judged_by))]
     fn judge_next(&mut self, line: &[u8]) -> Result<(), LoadFault>
         requires { self.old.parts < u64.MAX }
@@ -182,7 +182,7 @@ impl<K: Keeper> LoaderInto<K> {
         }
     }
 
-    // The 230th byte of a line has come: what came of the line is judged, and is too long or of no known type.
+    /// The 230th byte of a line has come: what came of the line is judged, and is too long or of no known type.
     fn refuse_long(&mut self, bytes: &[u8]) -> Result<(), LoadFault>
         requires room { self.old.parts < u64.MAX }
         requires too_long { LINE_BYTES < length self.old.unfinished + length bytes.now }
@@ -198,7 +198,7 @@ impl<K: Keeper> LoaderInto<K> {
         self.judge_next(line.as_slice())
     }
 
-    // Keeps bytes of a line that no LF has ended yet.
+    /// Keeps bytes of a line that no LF has ended yet.
     fn hold(&mut self, bytes: &[u8]) -> Result<(), LoadFault>
         requires room { self.old.parts < u64.MAX }
         requires no_feed { IsWithoutLineFeed bytes.now }
@@ -215,7 +215,7 @@ impl<K: Keeper> LoaderInto<K> {
         }
     }
 
-    // An LF came after bytes that were kept: they are a line.
+    /// An LF came after bytes that were kept: they are a line.
     fn end_held_line(&mut self) -> Result<(), LoadFault>
         requires { self.old.parts < u64.MAX }
         ensures takes { Lifts K.holds (Takes (10 ∷ [])) self.old result self.new }
@@ -227,7 +227,7 @@ impl<K: Keeper> LoaderInto<K> {
         self.judge_next(without_carriage_return(line.as_slice()))
     }
 
-    // Takes the bytes before an LF, and the LF. They are judged where they lie, unless a line was begun.
+    /// Takes the bytes before an LF, and the LF. They are judged where they lie, unless a line was begun.
     fn end_line(&mut self, bytes: &[u8]) -> Result<(), LoadFault>
         requires room { self.old.parts < u64.MAX }
         requires no_feed { IsWithoutLineFeed bytes.now }
@@ -243,7 +243,7 @@ impl<K: Keeper> LoaderInto<K> {
         self.end_held_line()
     }
 
-    // Takes a piece of the open part.
+    /// Takes a piece of the open part.
     fn take_piece(&mut self, piece: &[u8]) -> Result<(), LoadFault>
         requires { self.old.parts < u64.MAX }
         ensures takes { Lifts K.holds (Takes piece.now) self.old result self.new }
@@ -264,7 +264,7 @@ impl<K: Keeper> LoaderInto<K> {
         self.hold(rest)
     }
 
-    // Judges what is left of the open part.
+    /// Judges what is left of the open part.
     fn end_last_line(&mut self) -> Result<(), LoadFault>
         ensures ends { Lifts K.holds Ends self.old result self.new }
         ensures same_part { IsSamePart self.old self.new }
@@ -278,7 +278,7 @@ impl<K: Keeper> LoaderInto<K> {
         self.judge_next(without_carriage_return(tail.as_slice()))
     }
 
-    // Ends the open part, and opens the next one.
+    /// Ends the open part, and opens the next one.
     fn close_part(&mut self) -> Result<(), LoadFault>
         requires { self.old.parts < u64.MAX }
         ensures closes { Lifts K.holds Closes self.old result self.new }
@@ -293,7 +293,7 @@ impl<K: Keeper> LoaderInto<K> {
         Ok(())
     }
 
-    // Feeds what the source gives until it gives nothing, and closes the part.
+    /// Feeds what the source gives until it gives nothing, and closes the part.
     fn read_to_end<R: Source>(&mut self, source: &mut R, room: &mut [u8]) -> Result<(), LoadFault>
         requires parts { self.old.parts < u64.MAX }
         requires some_room { 0 < length room.old }
@@ -320,7 +320,7 @@ impl<K: Keeper> LoaderInto<K> {
         }
     }
 
-    // Keeps the fault of a step: it stands from now on.
+    /// Keeps the fault of a step: it stands from now on.
     fn stand(&mut self, outcome: Result<(), LoadFault>) -> Result<(), LoadFault>
         ensures same { result ≡ outcome }
         ensures stands { self.new ≡ with_fault outcome self.old }
@@ -444,10 +444,10 @@ impl<K: Keeper> LoaderInto<K> {
     pub fn finish(mut self) -> Result<K, LoadFault>
         // What is kept are the records that the parts spell, with at most limit of each type.
         ensures loaded { (limit : ℕ) (closed : List (List ℕ)) (open_part : List ℕ) → WasFedInto K.holds limit self closed open_part
-            → IfOk result (λ kept. (records : List Record) × K.holds kept records × Accepts tiger limit (all_parts closed open_part) records) }
+            → IfOk result (λ kept. (records : List Record) × K.holds kept records × SpellsWithin tiger limit (all_parts closed open_part) records) }
         // Where they spell records, these are the ones, and no fault of the lines comes.
         ensures only { (limit : ℕ) (closed : List (List ℕ)) (open_part : List ℕ) (records : List Record) → WasFedInto K.holds limit self closed open_part
-            → Accepts tiger limit (all_parts closed open_part) records → MatchResult result (λ kept. K.holds kept records) (λ f. IsOfLines f → ⊥) }
+            → SpellsWithin tiger limit (all_parts closed open_part) records → MatchResult result (λ kept. K.holds kept records) (λ f. IsOfLines f → ⊥) }
         // Or this fault is at them.
         ensures fault { (limit : ℕ) (closed : List (List ℕ)) (open_part : List ℕ) → WasFedInto K.holds limit self closed open_part
             → IfErr result (λ f. IsOfLines f → FaultAt tiger limit (all_parts closed open_part) f) }

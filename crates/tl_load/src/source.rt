@@ -129,7 +129,7 @@ impl<'a> SlowSource<'a> {
     }
 }
 
-// Counts a read down, and says whether it is the one that fails.
+/// Counts a read down, and says whether it is the one that fails.
 fn is_failing_read(reads_to_failure: &mut Option<u64>) -> bool
     ensures fails { IsTrue result ↔ (reads_to_failure.old ≡ Some 1) }
     ensures counted { reads_to_failure.new ≡ counted_down reads_to_failure.old }

@@ -16,7 +16,7 @@ use Rattle.tl_shape.specs.Chain.{Chain}
 use Rattle.tl_county.specs.County.{County, county_of}
 use Rattle.tl_county.specs.CountyRules.{IsCounty, tlids, feats, polygon_keys, lands, nodes_along, polygons_along, chain_nodes}
 use Rattle.tl_county.specs.CountyRules.{chain_polygons, link_key, AllStandIn, AllKeysStandIn}
-use Rattle.tl_county.specs.Limits.{FitsNumbers, NumbersFit, IsWithinLimits}
+use Rattle.tl_county.specs.Limits.{most_records, FitsNumbers, NumbersFit, IsWithinLimits}
 use Rattle.tl_county.specs.Orders.{times, stands_in}
 use Rattle.tl_county.specs.Packing.{packed_one, packed_five, packed_sevens, packed_by_type, packed}
 use Rattle.tl_county.specs.PolygonKeys.{PolygonKey, key_cmp, key_on, key_under}
@@ -103,8 +103,8 @@ polyid_fits cenid None a = tt
 polyid_fits cenid (Some polyid) a = a.0
 
 module _ (county : County) (is : IsCounty county) (tidy : IsTidy county)
-    (chains : length county.chains ≤ 10000000) (names : length county.names ≤ 10000000)
-    (landmarks : length county.landmarks ≤ 10000000) where
+    (chains : length county.chains ≤ most_records) (names : length county.names ≤ most_records)
+    (landmarks : length county.landmarks ≤ most_records) where
   counted_fit : (width n : ℕ) (ks : List ℕ) → ks ≡ up_to n → 1 + n ≤ 10 ^ width → AllByRecursion (IsNumber width) ks
   counted_fit width n ks e few =
       subst (AllByRecursion (IsNumber width)) (sym e)
@@ -195,7 +195,7 @@ module _ (county : County) (is : IsCounty county) (tidy : IsTidy county)
         (ltb-true 0 (times nat_cmp l.land (lands county)) t)) county.links is.closed.link_lands;
   }
 
-module _ (limit : ℕ) (low : limit ≤ 10000000) (records : List Record) (accepted : IsAccepted records)
+module _ (limit : ℕ) (low : limit ≤ most_records) (records : List Record) (accepted : IsAccepted records)
     (fits : AllByRecursion FitsRecord records) (few : IsWithinLimit limit records) where
   -- the arranged county is within the limits of the records that it comes of
   pub arranged_within : IsWithinLimits limit (arranged (county_of records) (ascending (county_of records)))

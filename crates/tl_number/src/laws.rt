@@ -5,6 +5,7 @@ ghost use Rattle.std.specs.Prelude.{◌≡◌, ◌≤◌, ◌⊎◌, List, ℕ};
 ghost use Rattle.tl_county.specs.County.{County, county_of};
 ghost use Rattle.tl_county.specs.CountyRules.{AllKeysStandIn, IsCounty, polygon_keys, polygons_along};
 ghost use Rattle.tl_county.specs.Renumbering.{AreSame, Carries, Renumbering};
+ghost use Rattle.tl_county.specs.Limits.{most_records};
 ghost use Rattle.tl_layout.specs.Limits.{IsWithinLimit};
 ghost use Rattle.tl_layout.specs.RecordText.{FitsRecord};
 ghost use Rattle.tl_layout.specs.declared.record_type.Record.{Record};
@@ -63,7 +64,7 @@ pub fn each_accepted_list_has_one_canonical_list()
 /// most limit of each type.
 pub fn canonical_lists_keep_the_limits()
     ensures { (limit : ℕ) (records canonical : List Record) →
-        limit ≤ 10000000 → AllByRecursion FitsRecord records → IsWithinLimit limit records →
+        limit ≤ most_records → AllByRecursion FitsRecord records → IsWithinLimit limit records →
         IsCanonicalOf records canonical → AllByRecursion FitsRecord canonical × IsWithinLimit limit canonical }
 {}
 

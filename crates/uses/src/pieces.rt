@@ -4,7 +4,7 @@ ghost use Rattle.std.specs.Prelude.{◌∷◌, [], map, IfErr, IfOk};
 ghost use Rattle.std.specs.List.{concat};
 ghost use Rattle.tl_load.specs.Choice.{tiger};
 ghost use Rattle.tl_load.specs.Loaded.{IsOfLines};
-ghost use Rattle.tl_load.specs.Outcome.{Accepts, FaultAt};
+ghost use Rattle.tl_load.specs.Outcome.{SpellsWithin, FaultAt};
 
 use std::alloc::Global;
 use tl_layout::{MOST_RECORDS, Record};
@@ -12,7 +12,7 @@ use tl_load::{LoadFault, Loader};
 
 /// The records of one file, whose bytes come in pieces. How it was cut doesn't matter.
 pub fn load_pieces(alloc: Global, pieces: &[&[u8]]) -> Result<Vec<Record>, LoadFault>
-    ensures loaded { IfOk result (λ records. Accepts tiger MOST_RECORDS (concat (map (λ p. p.now) pieces.now) ∷ []) records.items) }
+    ensures loaded { IfOk result (λ records. SpellsWithin tiger MOST_RECORDS (concat (map (λ p. p.now) pieces.now) ∷ []) records.items) }
     ensures fault { IfErr result (λ f. IsOfLines f → FaultAt tiger MOST_RECORDS (concat (map (λ p. p.now) pieces.now) ∷ []) f) }
 {
     let mut loader = Loader::new(alloc);

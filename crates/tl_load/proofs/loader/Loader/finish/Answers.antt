@@ -2,7 +2,7 @@ use Rattle.std.proofs.Common.{ℕ, List}
 use Rattle.std.specs.Prelude.{All}
 use Rattle.tl_layout.specs.RecordText.{FitsRecord}
 use Rattle.tl_load.specs.Choice.{tiger}
-use Rattle.tl_load.specs.Outcome.{Accepts}
+use Rattle.tl_load.specs.Outcome.{SpellsWithin}
 use Rattle.tl_load.specs.Loaded.{WasFed, all_parts}
 use Rattle.tl_load.specs.Keeping.{WasFedInto}
 use Rattle.tl_load.proofs.RecordLines.{spelled_fit}
@@ -15,14 +15,14 @@ fed c limit closed open_part w = into_of limit c.self.inside.inner closed open_p
 
 pub returns-clause-loaded : goal.returns-clause-loaded
 returns-clause-loaded c limit closed open_part w =
-    found_list (Accepts tiger limit (all_parts closed open_part)) c.finish.result
+    found_list (SpellsWithin tiger limit (all_parts closed open_part)) c.finish.result
     (c.finish.ensures.loaded limit closed open_part (fed c limit closed open_part w))
 
 pub returns-clause-fits : goal.returns-clause-fits
 returns-clause-fits c limit closed open_part w =
-    also (Accepts tiger limit (all_parts closed open_part)) (All FitsRecord) c.finish.result
+    also (SpellsWithin tiger limit (all_parts closed open_part)) (All FitsRecord) c.finish.result
     (λ records a. spelled_fit (all_parts closed open_part) records a.spells)
-    (found_list (Accepts tiger limit (all_parts closed open_part)) c.finish.result
+    (found_list (SpellsWithin tiger limit (all_parts closed open_part)) c.finish.result
     (c.finish.ensures.loaded limit closed open_part (fed c limit closed open_part w)))
 
 pub returns-clause-only : goal.returns-clause-only

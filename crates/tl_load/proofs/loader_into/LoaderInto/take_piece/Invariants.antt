@@ -1,11 +1,11 @@
 use Rattle.std.proofs.Common.{◌+◌, ◌≤◌, length, Ok}
 use Rattle.tl_load.specs.Keeping.{Lifts, IsSamePart, bytes_used}
-use Rattle.tl_load.specs.Steps.{Leaves}
+use Rattle.tl_load.specs.Steps.{LeavesRestOnOk}
 use Rattle.tl_load.proofs.loader_into.LoaderInto.take_piece.Given as goal
 
 abbrev pub invariant-loop-end : goal.invariant-loop-end
 invariant-loop-end g l = record {
-  leaves : Lifts {T = Unit {0}} g.K.Keeper.holds (Leaves l.piece l.rest) l.initial.self (Ok tt) l.self;
+  leaves : Lifts {T = Unit {0}} g.K.Keeper.holds (LeavesRestOnOk l.piece l.rest) l.initial.self (Ok tt) l.self;
   same_part : IsSamePart l.initial.self l.self;
   used : bytes_used l.initial.self + length l.piece ≤ bytes_used l.self + length l.rest;
 }
