@@ -1,8 +1,10 @@
 //! The library's calls on worked examples, and jobs over files and devices that fail.
 
+mod arena;
 mod devices;
 mod jobs;
 mod lines;
+mod linked_sets;
 mod linking;
 mod plans;
 mod sets;
