@@ -1,15 +1,22 @@
 //! Records that fit together and records that don't.
 
+ghost use Rattle.std.specs.Prelude.{ℕ, List, [], IfOk};
+ghost use Rattle.tl_county.specs.Limits.{most_records};
+ghost use Rattle.tl_load.specs.Loaded.{WasFed};
+
 use super::sets::{CHAIN, LINK, expanded};
+use bumpalo::Bump;
 use std::alloc::Global;
 use std::process::Abort;
 use std::test::Fail;
-use tl_county::{Chart, County, LinkFault, LinkedType, link};
-use tl_layout::{Point, Record};
+use tl_county::{Chart, County, CountyIn, LinkFault, LinkedType, link, link_in};
+use tl_layout::Point;
 use tl_load::Loader;
 
-/// The records that these lines spell, in their order.
-fn records_of(alloc: Global, lines: &[&str]) -> Result<Vec<Record>, Fail> {
+/// A loader that was fed these lines.
+fn fed(alloc: Global, lines: &[&str]) -> Result<Loader, Fail>
+    ensures { IfOk result (λ loader. (text : List ℕ) × WasFed most_records loader [] text) }
+{
     let mut bytes = Vec::new(alloc);
     for line in lines {
         bytes.extend_from_slice(&expanded(alloc, line)?)?;
@@ -17,12 +24,46 @@ fn records_of(alloc: Global, lines: &[&str]) -> Result<Vec<Record>, Fail> {
     }
     let mut loader = Loader::new(alloc);
     loader.feed(bytes.as_slice())?;
-    Ok(loader.finish()?)
+    Ok(loader)
 }
 
 /// The county of these lines, or the first rule that they break.
-fn linked(alloc: Global, lines: &[&str]) -> Result<Result<County, LinkFault>, Fail> {
-    Ok(link(alloc, records_of(alloc, lines)?))
+pub(super) fn linked(alloc: Global, lines: &[&str]) -> Result<Result<County, LinkFault>, Fail> {
+    let loader = fed(alloc, lines)?;
+    let records = loader.finish()?;
+    Ok(link(alloc, records))
+}
+
+/// The same in an arena.
+pub(super) fn linked_in<'a>(
+    alloc: Global,
+    arena: &'a Bump,
+    lines: &[&str],
+) -> Result<Result<CountyIn<'a>, LinkFault>, Fail> {
+    let loader = fed(alloc, lines)?;
+    let records = loader.finish()?;
+    Ok(link_in(alloc, arena, records))
+}
+
+/// The county of these lines, which are linked.
+pub(super) fn county_of(alloc: Global, lines: &[&str]) -> Result<County, Fail> {
+    Ok(linked(alloc, lines)??)
+}
+
+/// The same in an arena.
+pub(super) fn county_in_of<'a>(
+    alloc: Global,
+    arena: &'a Bump,
+    lines: &[&str],
+) -> Result<CountyIn<'a>, Fail> {
+    Ok(linked_in(alloc, arena, lines)??)
+}
+
+/// These lines from the last to the first.
+pub(super) fn reversed<'a>(alloc: Global, lines: &[&'a str]) -> Result<Vec<&'a str>, Fail> {
+    let mut others = Vec::from_slice(alloc, lines)?;
+    others.reverse();
+    Ok(others)
 }
 
 /// The fault of these lines; none where they are linked.
@@ -71,7 +112,7 @@ fn tells_the_first_rule_that_is_broken(rt: HostRuntime) -> Result<(), Fail> {
 }
 
 /// A chain between polygon 12 under the CENIDs 00001 and 00002, with shape points in two records, two names and landmarks.
-const RICH: [&str; 11] = [
+pub(super) const RICH: [&str; 11] = [
     LINK_TO_30,
     "2{11}500{2}5{1}-86468600+32424930",
     "7{4}01001{8}40AD43Barn{46}",
@@ -120,11 +161,10 @@ fn has_what_the_lines_say(rt: &impl Abort, county: &County) -> Result<(), Fail> 
 #[test]
 fn links_records_in_any_order(rt: HostRuntime) -> Result<(), Fail> {
     let alloc = rt.alloc();
-    let county = link(alloc, records_of(alloc, RICH.as_slice())?)?;
+    let county = county_of(alloc, RICH.as_slice())?;
     has_what_the_lines_say(&rt, &county)?;
-    let mut others = records_of(alloc, RICH.as_slice())?;
-    others.reverse();
-    has_what_the_lines_say(&rt, &link(alloc, others)?)?;
+    let others = reversed(alloc, RICH.as_slice())?;
+    has_what_the_lines_say(&rt, &county_of(alloc, others.as_slice())?)?;
     let bodies = county.landmark_bodies(40);
     let first = bodies.first().ok_or("landmark 40 has a body")?;
     assert_eq!(rt; first.laname.as_bytes().starts_with(b"Annex"), true);
@@ -134,7 +174,7 @@ fn links_records_in_any_order(rt: HostRuntime) -> Result<(), Fail> {
 #[test]
 fn charts_a_county(rt: HostRuntime) -> Result<(), Fail> {
     let alloc = rt.alloc();
-    let county = link(alloc, records_of(alloc, RICH.as_slice())?)?;
+    let county = county_of(alloc, RICH.as_slice())?;
     assert_eq!(rt; county.chain_count(), 1);
     assert_eq!(rt; county.tlid_at(0), Some(500));
     assert_eq!(rt; county.tlid_at(1), None);
@@ -161,7 +201,7 @@ fn charts_a_county(rt: HostRuntime) -> Result<(), Fail> {
 #[test]
 fn links_no_records(rt: HostRuntime) -> Result<(), Fail> {
     let alloc = rt.alloc();
-    let county = link(alloc, Vec::new(alloc))?;
+    let county = county_of(alloc, &[])?;
     assert_eq!(rt; county.chain_count(), 0);
     assert_eq!(rt; county.name_count(), 0);
     assert_eq!(rt; county.polygon_count(), 0);
