@@ -66,7 +66,8 @@ accepted_memory_alone parts records others (Profile f) a spelled h = go (profile
 accepted_memory_alone parts records others Memory a spelled h = absurd h
 
 -- what the records of files are refused for, the files are refused for
-module _ {R : Type 0} (remaining : R → Option (List ℕ)) (files : List (Opened R)) (parts : List (List ℕ)) (held : AreHeld remaining files parts)
+module _ {R : Type 0} (remaining : R → Option (List ℕ)) (files : List (Opened R)) (parts : List (List ℕ))
+    (held : AreHeld remaining files parts)
     (records : List Record) (spelled : SpellsWithin tiger record_limit parts records) where
   pub files_refused : (f : Fault) → RefusesRecords records f → TellsSet remaining files f
   files_refused (Load f) h = absurd h

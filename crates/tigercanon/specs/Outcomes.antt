@@ -25,7 +25,8 @@ IsAnswer Respell = IsRespelt
 IsAnswer Check = SaysAccepted
 
 -- this text is the answer to what the files hold
-pub record AreAnswered {R : Type 0} (answer : Answer) (remaining : R → Option (List ℕ)) (files : List (Opened R)) (text : List ℕ) : Type 0 where
+pub record AreAnswered {R : Type 0} (answer : Answer) (remaining : R → Option (List ℕ)) (files : List (Opened R))
+    (text : List ℕ) : Type 0 where
   pub parts : List (List ℕ)
   pub held : AreHeld remaining files parts
   pub answered : answer parts text

@@ -19,7 +19,8 @@ use tl_profile::{Admitted, admit};
 
 /// The admitted county of tables of records. The tables' order has no meaning.
 pub(crate) fn admit_tables(alloc: Global, tables: Tables) -> Result<Admitted, Fault>
-    ensures accepted { IfOk result (λ admitted. (records : List Record) → HoldsByType tables records → IsAccepted records × (the_county admitted ≡ county_of records)) }
+    ensures accepted { IfOk result (λ admitted. (records : List Record) →
+        HoldsByType tables records → IsAccepted records × (the_county admitted ≡ county_of records)) }
     ensures refused { IfErr result (λ fault. (records : List Record) → HoldsByType tables records → RefusesRecords records fault) }
 {
     let county = link_tables(alloc, tables)?;

@@ -12,7 +12,8 @@ use tl_load::{Keeper, LoadFault, LoaderInto};
 
 /// What a keeper makes of the records that the parts spell, in the order of their lines.
 pub(crate) fn load<K: Keeper>(alloc: Global, parts: &[&[u8]]) -> Result<K, LoadFault>
-    ensures spelled { IfOk result (λ kept. (records : List Record) × K.holds kept records × SpellsWithin tiger record_limit (map (λ p. p.now) parts.now) records) }
+    ensures spelled { IfOk result (λ kept. (records : List Record) × K.holds kept records
+        × SpellsWithin tiger record_limit (map (λ p. p.now) parts.now) records) }
     ensures faulty { IfErr result (λ f. IsOfLines f → IsFirstFault (map (λ p. p.now) parts.now) f) }
     ensures no_device { IfErr result IsNotDevice }
 {

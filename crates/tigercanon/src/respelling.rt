@@ -23,7 +23,8 @@ pub fn respell(alloc: Global, parts: &[&[u8]]) -> Result<Vec<u8>, Fault>
     ensures faulty { IfErr result (TellsFirstFault (map (λ p. p.now) parts.now)) }
     ensures no_device { result ≢ Err (Fault.Load LoadFault.Device) }
     // Where the parts spell records, nothing but want of memory is told.
-    ensures succeeds { (records : List Record) → SpellsWithin tiger record_limit (map (λ p. p.now) parts.now) records → IfErr result IsWantOfMemory }
+    ensures succeeds { (records : List Record) →
+        SpellsWithin tiger record_limit (map (λ p. p.now) parts.now) records → IfErr result IsWantOfMemory }
 {
     let text: CanonicalText = load(alloc, parts)?;
     Ok(text.bytes)
