@@ -2,8 +2,12 @@
 use Rattle.std.proofs.Common.{◌≡◌, ◌≢◌, ◌⊎◌, ℕ, List, Option, Result, Ok, Err, IfErr, inl, inr, refl, sym, subst}
 use Rattle.tl_layout.specs.declared.record_type.Record.{Record}
 use Rattle.tl_load.specs.Choice.{tiger}
+use Rattle.tl_layout.specs.Tables.{HoldsByType}
+use Rattle.tl_layout.specs.declared.tables.Tables.{Tables}
 use Rattle.tl_load.specs.Outcome.{SpellsWithin}
+use Rattle.tl_load.proofs.RecordLines.{spelled_fit, accepted_within}
 use Rattle.tl_county.specs.County.{county_of}
+use Rattle.tl_county.specs.Limits.{HoldsWithinLimits}
 use Rattle.tl_county.specs.LinkRules.{IsFirstBrokenRule}
 use Rattle.tl_county.specs.declared.fault.LinkFault.{LinkFault}
 use Rattle.tl_county.specs.declared.fault.LinkFault.TheVariants.{ChainTwice, NoChain, SequenceBroken, LinkMissing, LinkTwice}
@@ -74,3 +78,13 @@ module _ {R : Type 0} (remaining : R → Option (List ℕ)) (files : List (Opene
   files_refused (Link f) h = λ ne. record { parts = parts; held = held; refused = (records, spelled, h ne) }
   files_refused (Profile f) h = λ ne. record { parts = parts; held = held; refused = (records, spelled, (h ne).0, (h ne).1) }
   files_refused Memory h = absurd h
+
+-- tables of the records that parts spell hold records within their limits
+pub within_limits : (parts : List (List ℕ)) (tables : Tables) (records : List Record) → HoldsByType tables records
+    → SpellsWithin tiger record_limit parts records → HoldsWithinLimits tables
+within_limits parts tables records holds spelled = record {
+  records = records;
+  holds = holds;
+  fits = spelled_fit parts records spelled.spells;
+  few = accepted_within record_limit parts records spelled;
+}

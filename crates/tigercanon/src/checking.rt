@@ -4,6 +4,7 @@ ghost use Rattle.std.specs.Prelude.{◌≡◌, ◌≢◌, Err, List, map, OnOk, 
 ghost use Rattle.tigercanon.specs.Faults.{IsWantOfMemory, TellsRefusal, RefusesRecords};
 ghost use Rattle.tigercanon.specs.Sets.{IsAcceptedSet};
 ghost use Rattle.tl_county.specs.County.{county_of};
+ghost use Rattle.tl_county.specs.Limits.{HoldsWithinLimits};
 ghost use Rattle.tl_county.specs.TheCounty.{the_county};
 ghost use Rattle.tl_layout.specs.Tables.{HoldsByType};
 ghost use Rattle.tl_layout.specs.declared.record_type.Record.{Record};
@@ -17,8 +18,9 @@ use tl_layout::Tables;
 use tl_load::LoadFault;
 use tl_profile::{Admitted, admit};
 
-/// The admitted county of tables of records. The tables' order has no meaning.
+/// The admitted county of tables of records within their limits. The tables' order has no meaning.
 pub(crate) fn admit_tables(alloc: Global, tables: Tables) -> Result<Admitted, Fault>
+    requires { HoldsWithinLimits tables }
     ensures accepted { IfOk result (λ admitted. (records : List Record) →
         HoldsByType tables records → IsAccepted records × (the_county admitted ≡ county_of records)) }
     ensures refused { IfErr result (λ fault. (records : List Record) → HoldsByType tables records → RefusesRecords records fault) }

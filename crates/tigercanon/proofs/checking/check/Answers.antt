@@ -1,7 +1,11 @@
 use Rattle.std.proofs.lemmas.Result.{err_from_is_err_and}
 use Rattle.tigercanon.proofs.Refusing.{accepted_memory_alone}
 use Rattle.tigercanon.proofs.Succeeding.{memory_alone}
+use Rattle.tigercanon.proofs.Refusing.{within_limits}
 use Rattle.tigercanon.proofs.checking.check.Goals as goal
+
+pub admit_tables-requires : goal.admit_tables-requires
+admit_tables-requires c = let l = c.in_ok-tables.ensures.spelled in within_limits _ _ l.0 l.1 l.2
 
 pub returns-in_err-tables-clause-succeeds : goal.returns-in_err-tables-clause-succeeds
 returns-in_err-tables-clause-succeeds c = λ records accepted.

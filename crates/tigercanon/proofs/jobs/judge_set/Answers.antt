@@ -1,6 +1,10 @@
 use Rattle.std.proofs.lemmas.Result.{err_from_is_err_and}
 use Rattle.tigercanon.proofs.Refusing.{files_refused}
+use Rattle.tigercanon.proofs.Refusing.{within_limits}
 use Rattle.tigercanon.proofs.jobs.judge_set.Goals as goal
+
+pub admit_tables-requires : goal.admit_tables-requires
+admit_tables-requires g c = let l = c.in_ok-tables.ensures.loaded in within_limits l.0 _ l.2 l.3 l.4
 
 pub returns-in_err-admit_tables-clause-refused : goal.returns-in_err-admit_tables-clause-refused
 returns-in_err-admit_tables-clause-refused g c =
