@@ -27,7 +27,7 @@ use Rattle.tl_county.proofs.Keys.{nat_keys, same_or_not, same-itself}
 use Rattle.tl_county.proofs.Lists.{all_places, map-map}
 use Rattle.tl_county.proofs.Numbers.{of_number-all}
 use Rattle.tl_county.specs.BodyOrder.{landmark_body_cmp, link_part, link_part_cmp}
-use Rattle.tl_county.specs.County.{County, one_tlid, two_tlid, two_rtsq, four_tlid, four_rtsq, five_feat, six_tlid, six_rtsq}
+use Rattle.tl_county.specs.County.{one_tlid, two_tlid, two_rtsq, four_tlid, four_rtsq, five_feat, six_tlid, six_rtsq}
 use Rattle.tl_county.specs.County.{seven_land, eight_land, i_tlid, county_of}
 use Rattle.tl_county.specs.CountyRules.{IsCounty, chain_nodes, nodes}
 use Rattle.tl_county.specs.declared.fault.LinkFault.{LinkFault}

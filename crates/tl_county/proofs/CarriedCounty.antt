@@ -1,22 +1,21 @@
 -- What a renaming that carries keeps: a closed county is carried onto a closed one, a whole one onto a whole one.
-use Rattle.std.proofs.Common.{◌≡◌, ◌⊎◌, ◌<◌, ◌≤◌, ◌||◌, ℕ, List, [], ◌∷◌, ◌++◌, map, flat_map, length, reverse, Bool, true, false}
-use Rattle.std.proofs.Common.{Option, IsTrue, is_some, option_to_list, Ordering, sym, refl, ap, ◌∙◌, subst, inl, inr, arith}
-use Rattle.std.proofs.Common.{nat_cmp, IsPermutation}
+use Rattle.std.proofs.Common.{◌≡◌, ◌⊎◌, ◌≤◌, ◌||◌, ℕ, List, ◌++◌, map, length, Bool, true, false}
+use Rattle.std.proofs.Common.{Option, IsTrue, is_some, option_to_list, Ordering, sym, refl, subst, inl, inr, arith}
+use Rattle.std.proofs.Common.{nat_cmp}
 use Rattle.std.proofs.lemmas.Bool.{ltb-true, lt-ltb, or_left, or_right, or_cases}
 use Rattle.std.proofs.lemmas.List.{length-reverse}
 use Rattle.std.proofs.lemmas.List.Sorted.{IsPermutation-sym}
-use Rattle.std.specs.List.{AllByRecursion}
 use Rattle.tl_layout.specs.Fields.{Fields8}
 use Rattle.tl_layout.specs.declared.type7.Body7.{Body7}
 use Rattle.tl_layout.specs.declared.type_p.BodyP.{BodyP}
 use Rattle.tl_shape.specs.Chain.{Chain}
 use Rattle.tl_shape.specs.Turned.{turned_if}
 use Rattle.tl_county.specs.County.{County}
-use Rattle.tl_county.specs.CountyRules.{IsCounty, IsClosed, IsWhole, tlids, feats, polygon_keys, lands, polygons_along}
+use Rattle.tl_county.specs.CountyRules.{IsClosed, IsWhole, feats, polygon_keys, lands, polygons_along}
 use Rattle.tl_county.specs.CountyRules.{chain_polygons, chain_nodes, link_key, AllStandIn, AllKeysStandIn}
 use Rattle.tl_county.specs.Orders.{times, stands_in}
 use Rattle.tl_county.specs.PolygonKeys.{PolygonKey, key_cmp, key_on}
-use Rattle.tl_county.specs.Renumbering.{Renumbering, image, turns, renumbered, carried_chain, carried_polygon, carried_landmark}
+use Rattle.tl_county.specs.Renumbering.{Renumbering, image, turns, carried_chain, carried_polygon, carried_landmark}
 use Rattle.tl_county.specs.Renumbering.{carried_link, ArePaired, Carries}
 use Rattle.tl_county.proofs.Carried.{among-turned, among-unappend, among-unpieces, chain_polygons-renumbered}
 use Rattle.tl_county.proofs.FirstFault.{Among, all_among, among_left, among_right}

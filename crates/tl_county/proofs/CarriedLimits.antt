@@ -1,6 +1,6 @@
 -- What a renaming that carries keeps of a county's limits: its contents fit, its lists have room, and it takes as many
 -- records of each type.
-use Rattle.std.proofs.Common.{◌≡◌, ◌⊎◌, ◌+◌, ◌*◌, ◌-◌, ◌<◌, ◌≤◌, ℕ, zero, suc, List, [], ◌∷◌, ◌++◌, map, flat_map, filter_map}
+use Rattle.std.proofs.Common.{◌≡◌, ◌+◌, ◌-◌, ◌≤◌, ℕ, zero, suc, List, [], ◌∷◌, map, flat_map, filter_map}
 use Rattle.std.proofs.Common.{length, reverse, drop, sum_by, Bool, true, false, Option, Some, None, IfSome, sym, refl, ap, ap₂}
 use Rattle.std.proofs.Common.{◌∙◌, subst, arith, nat_cmp, IsPermutation, length-drop}
 use Rattle.std.proofs.lemmas.List.{length-map, length-reverse}
@@ -12,24 +12,22 @@ use Rattle.std.specs.Ordering.{on}
 use Rattle.tl_layout.specs.AddressRanges.{FitsRanges}
 use Rattle.tl_layout.specs.Bytes.{IsText}
 use Rattle.tl_layout.specs.Coordinates.{Coordinates, IsOnMap}
-use Rattle.tl_layout.specs.Fields.{Fields1, Fields8, FieldsP}
 use Rattle.tl_layout.specs.Turned.{turned_ranges, turned_body}
 use Rattle.tl_layout.specs.Type1Groups.{FitsBody1}
 use Rattle.tl_layout.specs.declared.ranges.Ranges.{Ranges}
 use Rattle.tl_layout.specs.declared.type1.Body1.{Body1}
 use Rattle.tl_layout.specs.declared.type5.Body5.{Body5}
 use Rattle.tl_layout.specs.declared.type7.Body7.{Body7}
-use Rattle.tl_layout.specs.declared.type_i.BodyI.{BodyI}
 use Rattle.tl_layout.specs.declared.type_p.BodyP.{BodyP}
 use Rattle.tl_shape.specs.Chain.{Chain}
-use Rattle.tl_shape.specs.Turned.{turned, turned_if}
+use Rattle.tl_shape.specs.Turned.{turned_if}
 use Rattle.tl_county.specs.County.{County}
-use Rattle.tl_county.specs.CountyRules.{IsWhole, link_key}
+use Rattle.tl_county.specs.CountyRules.{link_key}
 use Rattle.tl_county.specs.Limits.{FitsName, FitsLandmark, FitsPolygon, FitsLinkContent, FitsChain, FitsLink, HasRoom, ContentsFit}
 use Rattle.tl_county.specs.Packing.{pieces, in_pieces, numbered_from, without_last, inner_points, packed_one, packed_twos}
 use Rattle.tl_county.specs.Packing.{packed_fours, packed_five, packed_sixes, packed_sevens, packed_i, packed_body, packed_p}
 use Rattle.tl_county.specs.Packing.{p_polyid, packed_by_type}
-use Rattle.tl_county.specs.PolygonKeys.{PolygonKey, key_cmp}
+use Rattle.tl_county.specs.PolygonKeys.{PolygonKey}
 use Rattle.tl_county.specs.Renumbering.{Renumbering, image, turns, renumbered_polygon, renumbered, carried_chain, carried_name}
 use Rattle.tl_county.specs.Renumbering.{carried_polygon, carried_landmark, carried_link, Carries}
 use Rattle.tl_county.proofs.Counted.{length-numbered_from}

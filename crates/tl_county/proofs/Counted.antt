@@ -1,14 +1,14 @@
 -- How many elements lists have: in groups, in pieces, and of numbers within bounds.
 use Rattle.std.proofs.Common.{◌≡◌, ◌⊎◌, ◌+◌, ◌*◌, ◌-◌, ◌<◌, ◌≤◌, ◌==◌, ℕ, zero, suc, List, [], ◌∷◌, ◌++◌, map, filter, flat_map}
 use Rattle.std.proofs.Common.{filter_map, length, length-append, take, drop, Bool, true, false, cond, Option, Some, None, Less}
-use Rattle.std.proofs.Common.{is_eq, IfSome, sym, refl, ap, ◌∙◌, subst, inl, inr, arith, nat_cmp}
+use Rattle.std.proofs.Common.{is_eq, sym, refl, ap, ◌∙◌, subst, inl, inr, arith, nat_cmp}
 use Rattle.std.proofs.lemmas.Bool.{eq-eqb, ne_eqb, cases_eq}
 use Rattle.std.proofs.lemmas.Cmp.{nat_cmp_total, ranked}
 use Rattle.std.proofs.lemmas.List.{length-drop, length-take}
 use Rattle.std.specs.List.{AllByRecursion, cons_option, range_with_len}
 use Rattle.std.specs.List.Sorted.{IsStrictlySortedBy}
-use Rattle.tl_county.specs.Orders.{times, in_order}
-use Rattle.tl_county.specs.Packing.{pieces, in_pieces, numbered_from}
+use Rattle.tl_county.specs.Orders.{in_order}
+use Rattle.tl_county.specs.Packing.{pieces, numbered_from}
 use Rattle.tl_county.proofs.InOrder.{in_order-in_order}
 use Rattle.tl_county.proofs.Keys.{IsApart, nat_keys, same-itself, differ}
 use Rattle.tl_county.proofs.LinkedCounty.{length-in_order}

@@ -1,6 +1,6 @@
 -- Entries as lists of keys and of values.
-use Rattle.std.proofs.Common.{◌≡◌, ◌⊎◌, ◌<◌, ◌≤◌, ℕ, zero, suc, nat_lt, List, [], ◌∷◌, map, length, Bool, true, false, cond}
-use Rattle.std.proofs.Common.{Ordering, Less, Equal, Greater, is_eq, is_gt, sym, refl, ap, ◌∙◌, subst, inl, inr, arith, Option}
+use Rattle.std.proofs.Common.{◌≡◌, ◌⊎◌, ℕ, zero, suc, nat_lt, List, [], ◌∷◌, map, length, true, false, cond}
+use Rattle.std.proofs.Common.{Ordering, Less, is_eq, is_gt, sym, refl, ap, ◌∙◌, subst, inl, inr, arith}
 use Rattle.std.proofs.Common.{Some, None, slice_get}
 use Rattle.std.proofs.lemmas.Bool.{false≢true, lt-ltb}
 use Rattle.std.specs.List.{AllByRecursion, zip}

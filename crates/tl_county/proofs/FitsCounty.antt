@@ -1,5 +1,5 @@
 -- Linked records that fit, and of no type too many, have a county within its limits.
-use Rattle.std.proofs.Common.{◌≡◌, ◌⊎◌, ◌+◌, ◌*◌, ◌-◌, ◌<◌, ◌≤◌, ◌==◌, ℕ, suc, List, [], ◌∷◌, ◌++◌, map, flat_map, filter}
+use Rattle.std.proofs.Common.{◌≡◌, ◌⊎◌, ◌+◌, ◌*◌, ◌-◌, ◌<◌, ◌≤◌, ◌==◌, ℕ, List, [], ◌∷◌, ◌++◌, map, flat_map, filter}
 use Rattle.std.proofs.Common.{filter_map, length, length-append, Bool, true, false, cond, Option, Some, None, IfSome, is_eq}
 use Rattle.std.proofs.Common.{Ordering, sym, refl, ap, ◌∙◌, subst, inl, inr, arith, nat_cmp}
 use Rattle.std.proofs.lemmas.List.{length-map}
@@ -14,7 +14,6 @@ use Rattle.tl_layout.specs.Coordinates.{Coordinates, IsOnMap}
 use Rattle.tl_layout.specs.Fields.{Fields1, Fields2, Fields4, Fields5, Fields6, Fields7, Fields8, FieldsI, FieldsP}
 use Rattle.tl_layout.specs.Limits.{IsWithinLimit}
 use Rattle.tl_layout.specs.Numbers.{IsNumber, IsNumberOrNone}
-use Rattle.tl_layout.specs.PolygonSide.{PolygonSide}
 use Rattle.tl_layout.specs.RecordText.{FitsRecord}
 use Rattle.tl_layout.specs.declared.ranges.Ranges.{Ranges}
 use Rattle.tl_layout.specs.declared.record_type.Record.{Record}
@@ -29,9 +28,9 @@ use Rattle.tl_county.specs.County.{p_key, first, side_keys, shape_points, furthe
 use Rattle.tl_county.specs.County.{polygon_body, county_of}
 use Rattle.tl_county.specs.CountyRules.{tlids}
 use Rattle.tl_county.specs.Limits.{FitsName, FitsLandmark, FitsPolygon, FitsChain, FitsLink, FitsNumbers, HasRoom, ContentsFit}
-use Rattle.tl_county.specs.Limits.{NumbersFit, IsWithinLimits, greatest_rtsq, most_shape_points, most_names}
+use Rattle.tl_county.specs.Limits.{NumbersFit, IsWithinLimits, greatest_rtsq}
 use Rattle.tl_county.specs.LinkRules.{IsLinked}
-use Rattle.tl_county.specs.Orders.{times, in_order, distinct, has_repeat}
+use Rattle.tl_county.specs.Orders.{in_order, distinct, has_repeat}
 use Rattle.tl_county.specs.Packing.{in_pieces, numbered_from, without_last, inner_points, packed_one, packed_twos, packed_fours}
 use Rattle.tl_county.specs.Packing.{packed_five, packed_sixes, packed_sevens, packed_i, packed_body, packed_p, p_polyid, by_type}
 use Rattle.tl_county.specs.Packing.{packed_by_type}
@@ -45,13 +44,12 @@ use Rattle.tl_county.proofs.Distinct.{apart-distinct, apart_from_no_repeat, know
 use Rattle.tl_county.proofs.FieldsFit.{Fit1, Fit2, Fit4, Fit5, Fit6, Fit7, Fit8, FitI, FitP, named_1, named_2, named_4, named_5}
 use Rattle.tl_county.proofs.FieldsFit.{named_6, named_7, named_8, named_i, named_p, left_cenid_fits, right_cenid_fits}
 use Rattle.tl_county.proofs.FieldsFit.{polygon_cenid_fits}
-use Rattle.tl_county.proofs.FirstFault.{Among, all_among}
+use Rattle.tl_county.proofs.FirstFault.{all_among}
 use Rattle.tl_county.proofs.KeyOrders.{key_keys}
 use Rattle.tl_county.proofs.Keys.{IsApart, nat_keys, apart_from_sorted, all_known, known_all, Known, same_or_not, same-true}
 use Rattle.tl_county.proofs.Keys.{differ, differ_apart}
-use Rattle.tl_county.proofs.LinkedCounty.{chains_all, length-in_order, tlids-county, county-is_county, each_from}
-use Rattle.tl_county.proofs.Lists.{all_weaker, all_both, all_map, all_append, all_joined, all_filter, all_everywhere}
-use Rattle.tl_county.proofs.Members.{known_is_among, among-unmap}
+use Rattle.tl_county.proofs.LinkedCounty.{chains_all, length-in_order, tlids-county, county-is_county}
+use Rattle.tl_county.proofs.Lists.{all_weaker, all_map, all_append, all_joined, all_filter, all_everywhere}
 use Rattle.tl_county.proofs.Numbers.{all-in_order, count-map}
 
 -- the records of one type fit

@@ -1,12 +1,11 @@
 -- A whole county whose contents and numbers fit, and whose chains have room, is packed into records that fit.
-use Rattle.std.proofs.Common.{◌≡◌, ◌+◌, ◌*◌, ◌<◌, ◌≤◌, ℕ, suc, List, [], ◌∷◌, map, flat_map, filter_map, length, Option, Some}
+use Rattle.std.proofs.Common.{◌≡◌, ◌+◌, ◌*◌, ◌<◌, ◌≤◌, ℕ, List, [], ◌∷◌, map, flat_map, filter_map, length, Option, Some}
 use Rattle.std.proofs.Common.{None, IfSome, arith, nat_cmp, subst}
 use Rattle.std.specs.List.{AllByRecursion}
 use Rattle.std.specs.Ordering.{on}
 use Rattle.tl_layout.specs.AddressRanges.{FitsRanges}
-use Rattle.tl_layout.specs.Bytes.{IsText}
 use Rattle.tl_layout.specs.Coordinates.{Coordinates, IsOnMap}
-use Rattle.tl_layout.specs.Fields.{Fields1, Fields2, Fields4, Fields5, Fields6, Fields7, Fields8, FieldsI, FieldsP}
+use Rattle.tl_layout.specs.Fields.{Fields8, FieldsP}
 use Rattle.tl_layout.specs.Numbers.{IsNumber}
 use Rattle.tl_layout.specs.RecordText.{FitsRecord}
 use Rattle.tl_layout.specs.declared.ranges.Ranges.{Ranges}
@@ -19,7 +18,7 @@ use Rattle.tl_shape.specs.Chain.{Chain}
 use Rattle.tl_county.specs.County.{County}
 use Rattle.tl_county.specs.CountyRules.{IsWhole}
 use Rattle.tl_county.specs.Limits.{FitsName, FitsLandmark, FitsPolygon, FitsChain, FitsLink, FitsNumbers, HasRoom, ContentsFit}
-use Rattle.tl_county.specs.Limits.{NumbersFit, greatest_rtsq, most_shape_points, most_names}
+use Rattle.tl_county.specs.Limits.{NumbersFit, greatest_rtsq}
 use Rattle.tl_county.specs.Orders.{in_order}
 use Rattle.tl_county.specs.Packing.{in_pieces, numbered_from, first_point, last_point, without_last, inner_points, packed_one}
 use Rattle.tl_county.specs.Packing.{packed_twos, packed_fours, packed_five, packed_sixes, packed_sevens, packed_i, packed_body}

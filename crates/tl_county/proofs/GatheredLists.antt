@@ -1,24 +1,20 @@
 -- What is gathered for linking: keys without repetition, landmarks in order, and tables whose records are those of a list.
-use Rattle.std.proofs.Common.{◌≡◌, ◌⊎◌, ◌<◌, ◌≤◌, ℕ, suc, nat_lt, List, [], ◌∷◌, ◌++◌, map, Bool, true, false, cond, Ordering}
+use Rattle.std.proofs.Common.{◌≡◌, ◌⊎◌, nat_lt, List, [], ◌∷◌, Bool, true, false, cond, Ordering}
 use Rattle.std.proofs.Common.{Less, Equal, Greater, is_eq, is_gt, sym, refl, ap, ◌∙◌, subst, inl, inr, arith, nat_cmp, Option}
 use Rattle.std.proofs.Common.{Some, None, IsPermutation}
 use Rattle.std.proofs.lemmas.Bool.{false≢true, lt-ltb}
 use Rattle.std.specs.List.{AllByRecursion, dedup, dedup_from}
-use Rattle.std.specs.Ordering.{on, ordering_then}
+use Rattle.std.specs.Ordering.{ordering_then}
 use Rattle.tl_layout.specs.Coordinates.{Coordinates}
 use Rattle.tl_layout.specs.Fields.{Fields7}
-use Rattle.tl_layout.specs.declared.type7.Body7.{Body7}
 use Rattle.tl_shape.specs.PointOrder.{point_cmp}
 use Rattle.tl_county.specs.BodyOrder.{bytes_cmp, optional_point_cmp}
 use Rattle.tl_county.specs.OrderedTables.{landmark_cmp}
 use Rattle.tl_county.specs.Orders.{times, stands_in, IsInOrder, put_in_order, distinct}
-use Rattle.tl_county.specs.SequenceKeys.{landmark_sequence}
 use Rattle.tl_county.proofs.Distinct.{known_from_distinct}
-use Rattle.tl_county.proofs.InOrder.{in_order-itself}
-use Rattle.tl_county.proofs.Keys.{IsKeyOrder, Known, times-yes, times-permutation, times-cons, same-itself, same_or_not, all_known}
+use Rattle.tl_county.proofs.Keys.{IsKeyOrder, times-yes, times-permutation, times-cons, same-itself, same_or_not, all_known}
 use Rattle.tl_county.proofs.KeyedLists.{before_all, first_least, less_from}
 use Rattle.tl_county.proofs.Lists.{all_weaker}
-use Rattle.tl_county.proofs.Numbers.{distinct-in_order}
 use Rattle.tl_county.proofs.Reordered.{distinct_same}
 
 module _ {K : Type 0} {cmp : K → K → Ordering} (o : IsKeyOrder cmp) where

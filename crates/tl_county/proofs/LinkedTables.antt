@@ -1,6 +1,6 @@
 -- The county of linked records in the order of their numbers is the one that walking their tables builds.
-use Rattle.std.proofs.Common.{◌≡◌, ◌⊎◌, ◌<◌, ◌≤◌, ◌==◌, ℕ, nat_lt, List, [], ◌∷◌, ◌++◌, map, flat_map, filter, length, Bool, true}
-use Rattle.std.proofs.Common.{false, not, cond, Ordering, Less, Equal, Greater, is_eq, is_gt, sym, refl, ap, ◌∙◌, subst, inl, inr}
+use Rattle.std.proofs.Common.{◌≡◌, ◌⊎◌, ◌<◌, ◌==◌, ℕ, List, [], ◌∷◌, ◌++◌, map, flat_map, filter, Bool, true}
+use Rattle.std.proofs.Common.{false, not, cond, Ordering, Less, Equal, is_eq, is_gt, sym, refl, ap, ◌∙◌, subst, inl, inr}
 use Rattle.std.proofs.Common.{arith, nat_cmp}
 use Rattle.std.proofs.lemmas.Bool.{false≢true, ltb-true, ltb-false, lt-ltb, eq-eqb}
 use Rattle.std.proofs.lemmas.Cmp.{nat_cmp_total, tied_itself}
@@ -8,19 +8,18 @@ use Rattle.std.specs.List.{AllByRecursion, zip}
 use Rattle.std.specs.List.Sorted.{IsStrictlySortedBy}
 use Rattle.std.specs.Ordering.{on, ordering_then, is_lt}
 use Rattle.tl_layout.specs.ByType.{of_type_1, of_type_2, of_type_4, of_type_5, of_type_6, of_type_7, of_type_8, of_type_i}
-use Rattle.tl_layout.specs.ByType.{of_type_p, of_number}
-use Rattle.tl_layout.specs.Fields.{Fields1, Fields2, Fields4, Fields5, Fields6, Fields7, Fields8, FieldsI}
+use Rattle.tl_layout.specs.ByType.{of_number}
+use Rattle.tl_layout.specs.Fields.{Fields1, Fields5, Fields7, Fields8, FieldsI}
 use Rattle.tl_layout.specs.declared.record_type.Record.{Record}
-use Rattle.tl_shape.specs.Chain.{Chain}
 use Rattle.tl_county.specs.declared.fault.LinkFault.TheVariants.{NoChain, LinkTwice, NameTwice, LandUnknown}
 use Rattle.tl_county.specs.declared.fault.LinkedType.TheVariants.{I}
 use Rattle.tl_county.specs.BodyOrder.{landmark_body_cmp, link_cmp, link_part, link_part_cmp}
 use Rattle.tl_county.specs.KeptCounty.{landmark_entry}
 use Rattle.tl_county.specs.LandmarkParts.{LandmarkParts}
 use Rattle.tl_county.proofs.RuleTests.{in_order-first}
-use Rattle.tl_county.specs.Building.{chain_with, chains_along, landmark_of, polygon_body_of, county_along}
+use Rattle.tl_county.specs.Building.{chain_with, chains_along, landmark_of, county_along}
 use Rattle.tl_county.specs.County.{one_tlid, two_tlid, two_rtsq, four_tlid, four_rtsq, five_feat, six_tlid, six_rtsq, seven_land}
-use Rattle.tl_county.specs.County.{eight_land, i_tlid, chain_of, chains_of, names_of, landmarks_of, county_of}
+use Rattle.tl_county.specs.County.{eight_land, i_tlid, chain_of, chains_of, county_of}
 use Rattle.tl_county.specs.LinkRules.{IsLinked, chain_tlids, linked_tlids}
 use Rattle.tl_county.specs.OrderedTables.{AreInOrder}
 use Rattle.tl_county.specs.Orders.{times, stands_in, IsInOrder, in_order, distinct}
@@ -31,9 +30,9 @@ use Rattle.tl_county.proofs.FirstFault.{Among}
 use Rattle.tl_county.proofs.Groups.{group-of_number, number-later, later_than, strict_head, strict_tail}
 use Rattle.tl_county.proofs.InOrder.{in_order-itself, in_order-map, strict-equal}
 use Rattle.tl_county.proofs.KeyedLists.{first_least, in_order-filter, group-and_later, lt_reversed}
-use Rattle.tl_county.proofs.Keys.{IsKeyOrder, Known, nat_keys, known_cases, filter_all, same_or_not}
+use Rattle.tl_county.proofs.Keys.{Known, nat_keys, known_cases, filter_all}
 use Rattle.tl_county.proofs.LinkedCounty.{apart_chains, one_link, the_link, needed}
-use Rattle.tl_county.proofs.Lists.{map-map, map_agree_everywhere, all_weaker, all_filter}
+use Rattle.tl_county.proofs.Lists.{all_weaker}
 use Rattle.tl_county.proofs.Members.{among_known, known_is_among, among-map}
 use Rattle.tl_county.proofs.Numbers.{all_themselves, of_number-all, strict_from_order, distinct-strict}
 use Rattle.tl_county.proofs.Reordered.{to_filter}

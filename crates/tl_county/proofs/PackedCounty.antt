@@ -1,7 +1,7 @@
 -- The county of the packing of a county is that county.
-use Rattle.std.proofs.Common.{◌≡◌, ◌⊎◌, ◌<◌, ◌≤◌, ◌+◌, ◌==◌, ◌||◌, ℕ, zero, suc, List, [], ◌∷◌, ◌++◌, map, flat_map, filter}
-use Rattle.std.proofs.Common.{filter_map, length, take, drop, Bool, true, false, Option, Some, None, IsTrue, Ordering, is_eq, sym}
-use Rattle.std.proofs.Common.{refl, ap, ap₂, ◌∙◌, subst, inl, inr, arith, nat_cmp, map-id, append-nil, take-append-drop}
+use Rattle.std.proofs.Common.{◌≡◌, ◌⊎◌, ◌≤◌, ℕ, zero, suc, List, [], ◌∷◌, ◌++◌, map, flat_map}
+use Rattle.std.proofs.Common.{filter_map, length, take, drop, Option, Some, None, IsTrue, sym}
+use Rattle.std.proofs.Common.{refl, ap, ◌∙◌, subst, inl, inr, arith, nat_cmp, map-id, take-append-drop}
 use Rattle.std.proofs.Common.{length-drop}
 use Rattle.std.proofs.lemmas.Bool.{ltb-true}
 use Rattle.std.proofs.lemmas.List.Concat.{flat_map_single}
@@ -9,20 +9,18 @@ use Rattle.std.specs.List.{AllByRecursion}
 use Rattle.std.specs.List.Sorted.{IsStrictlySortedBy}
 use Rattle.std.specs.Ordering.{on}
 use Rattle.tl_layout.specs.Coordinates.{Coordinates}
-use Rattle.tl_layout.specs.ByType.{of_type_1, of_type_2, of_type_4, of_type_5, of_type_6, of_type_7, of_type_8, of_type_i}
+use Rattle.tl_layout.specs.ByType.{of_type_7, of_type_i}
 use Rattle.tl_layout.specs.ByType.{of_type_p, of_number}
-use Rattle.tl_layout.specs.Fields.{Fields1, Fields2, Fields4, Fields5, Fields6, Fields7, FieldsI, FieldsP}
+use Rattle.tl_layout.specs.Fields.{Fields1, Fields2, Fields4, Fields5, Fields6, Fields7, FieldsP}
 use Rattle.tl_layout.specs.declared.ranges.Ranges.{Ranges}
-use Rattle.tl_layout.specs.declared.record_type.Record.{Record}
-use Rattle.tl_layout.specs.declared.type5.Body5.{Body5}
 use Rattle.tl_layout.specs.declared.type7.Body7.{Body7}
 use Rattle.tl_layout.specs.declared.type_p.BodyP.{BodyP}
 use Rattle.tl_shape.specs.Chain.{Chain}
 use Rattle.tl_county.specs.BodyOrder.{landmark_body_cmp, link_cmp}
 use Rattle.tl_county.specs.County.{County, one_tlid, two_tlid, two_rtsq, four_tlid, four_rtsq, five_feat, six_tlid, six_rtsq}
-use Rattle.tl_county.specs.County.{seven_land, i_tlid, p_key, first, side_keys, shape_points, further_names, further_ranges}
+use Rattle.tl_county.specs.County.{seven_land, i_tlid, p_key, side_keys, shape_points, further_names, further_ranges}
 use Rattle.tl_county.specs.County.{chain_of, chains_of, names_of, polygon_body, polygons_of, landmarks_of, county_of}
-use Rattle.tl_county.specs.CountyRules.{IsCounty, tlids, feats, polygon_keys, lands, polygons_along, chain_polygons}
+use Rattle.tl_county.specs.CountyRules.{IsCounty, polygon_keys, lands, polygons_along, chain_polygons}
 use Rattle.tl_county.specs.Orders.{times, stands_in, IsInOrder, in_order, distinct}
 use Rattle.tl_county.specs.Packing.{pieces, in_pieces, numbered_from, first_point, last_point, without_last, inner_points}
 use Rattle.tl_county.specs.Packing.{packed_one, packed_twos, packed_fours, packed_sixes, packed_five, packed_sevens, packed_i}
@@ -35,16 +33,15 @@ use Rattle.tl_county.proofs.FirstFault.{Among, all_among}
 use Rattle.tl_county.proofs.PackedGroups.{group_of}
 use Rattle.tl_county.proofs.InOrder.{in_order-itself, in_order-from_strict, strict-equal}
 use Rattle.tl_county.proofs.KeyOrders.{key_keys}
-use Rattle.tl_county.proofs.Keys.{IsKeyOrder, IsApart, Known, nat_keys, known_all, known-append, apart_from_sorted}
+use Rattle.tl_county.proofs.Keys.{Known, nat_keys, known_all, known-append, apart_from_sorted}
 use Rattle.tl_county.proofs.LinkedCounty.{each_from}
-use Rattle.tl_county.proofs.Lists.{map-map, map_itself, map_agree_all, map_agree_everywhere, all_joined, all_weaker}
+use Rattle.tl_county.proofs.Lists.{map-map, map_agree_all, map_agree_everywhere, all_joined}
 use Rattle.tl_county.proofs.Members.{among_known, known_is_among, among-map, among-unmap, in_filter_map, to_filter_map, one_entry}
 use Rattle.tl_county.proofs.Numbers.{all_themselves, to_in_order, from_in_order, distinct-strict}
 use Rattle.tl_county.proofs.PackedLinked.{two_own, four_own, six_own, seven_own, numbered_strict, tlids_apart, ones, twos, fours}
 use Rattle.tl_county.proofs.PackedLinked.{fives, sixes, sevens, eights, links_of_chains, polygons_packed, key_stands}
 use Rattle.tl_county.proofs.PackedLinked.{few_polygons, land_stands, sides_along}
 use Rattle.tl_county.proofs.PolygonBodies.{first_body, body_found}
-use Rattle.tl_county.proofs.Sameness.{keys_known}
 
 -- a list of at least two points is its first, those between and its last
 last_behind : (p : Coordinates) (points : List Coordinates) → 1 ≤ length points

@@ -1,18 +1,18 @@
 -- Records that are made entry by entry: those of one number are those of one entry, and they stand in order.
-use Rattle.std.proofs.Common.{◌≡◌, ◌⊎◌, ◌<◌, ◌≤◌, ◌+◌, ◌==◌, ℕ, zero, suc, List, [], ◌∷◌, ◌++◌, map, flat_map, filter, filter_map}
-use Rattle.std.proofs.Common.{length, Bool, true, false, cond, Option, Some, None, Ordering, Less, Equal, is_eq, is_gt, sym, refl}
+use Rattle.std.proofs.Common.{◌≡◌, ◌⊎◌, ◌<◌, ◌≤◌, ◌==◌, ℕ, List, [], ◌∷◌, ◌++◌, map, flat_map, filter_map}
+use Rattle.std.proofs.Common.{true, false, cond, Option, Some, None, Ordering, Less, is_eq, is_gt, sym, refl}
 use Rattle.std.proofs.Common.{ap, ap₂, ◌∙◌, subst, inl, inr, arith, nat_cmp, append-nil}
 use Rattle.std.proofs.lemmas.Bool.{eq-eqb, ne_eqb}
 use Rattle.std.proofs.lemmas.Cmp.{tied_itself, nat_cmp_total}
-use Rattle.std.proofs.lemmas.List.Elements.{filter-append, filter_map-append}
+use Rattle.std.proofs.lemmas.List.Elements.{filter-append}
 use Rattle.std.specs.List.{AllByRecursion, cons_option}
 use Rattle.std.specs.List.Sorted.{IsStrictlySortedBy}
 use Rattle.std.specs.Ordering.{ordering_then}
 use Rattle.tl_layout.specs.ByType.{of_number}
 use Rattle.tl_county.specs.Orders.{times, IsInOrder}
 use Rattle.tl_county.proofs.FirstFault.{Among}
-use Rattle.tl_county.proofs.Keys.{IsApart, Known, nat_keys, same_or_not, times-yes, times-no, apart_tail, differ_apart, filter_all}
-use Rattle.tl_county.proofs.Lists.{all_weaker, all_append, all_everywhere}
+use Rattle.tl_county.proofs.Keys.{IsApart, nat_keys, same_or_not, times-yes, times-no, apart_tail, differ_apart, filter_all}
+use Rattle.tl_county.proofs.Lists.{all_weaker, all_append}
 use Rattle.tl_county.proofs.Members.{among_known, among-map}
 
 -- the selection of what was wrapped

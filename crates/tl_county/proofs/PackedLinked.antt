@@ -1,28 +1,26 @@
 -- The packing of a county is linked.
-use Rattle.std.proofs.Common.{◌≡◌, ◌⊎◌, ◌<◌, ◌≤◌, ◌+◌, ◌==◌, ◌&&◌, ◌||◌, ℕ, zero, suc, nat_lt, List, [], ◌∷◌, ◌++◌, map, flat_map}
-use Rattle.std.proofs.Common.{filter, filter_map, length, Bool, true, false, not, cond, Option, Some, None, IsTrue, is_some}
-use Rattle.std.proofs.Common.{Ordering, Less, Equal, Greater, is_eq, sym, refl, ap, ◌∙◌, subst, inl, inr, arith, nat_cmp}
+use Rattle.std.proofs.Common.{◌≡◌, ◌⊎◌, ◌<◌, ◌≤◌, ◌+◌, ◌==◌, ◌&&◌, ◌||◌, ℕ, suc, nat_lt, List, [], ◌∷◌, ◌++◌, map, flat_map}
+use Rattle.std.proofs.Common.{filter_map, length, Bool, true, false, not, cond, Option, Some, None, IsTrue, is_some}
+use Rattle.std.proofs.Common.{Less, Equal, Greater, is_eq, sym, refl, ap, ◌∙◌, subst, inl, inr, arith, nat_cmp}
 use Rattle.std.proofs.lemmas.Bool.{false≢true, ltb-true, lt-ltb, le-ltb, or_cases}
 use Rattle.std.specs.List.{AllByRecursion, cons_option}
 use Rattle.std.specs.List.Sorted.{IsStrictlySortedBy}
 use Rattle.std.specs.Ordering.{on}
-use Rattle.tl_layout.specs.Fields.{Fields1, Fields2, Fields4, Fields5, Fields6, Fields7, Fields8, FieldsI, FieldsP}
+use Rattle.tl_layout.specs.Fields.{Fields4, Fields7, FieldsP}
 use Rattle.tl_layout.specs.ByType.{of_type_1, of_type_2, of_type_4, of_type_5, of_type_6, of_type_7, of_type_8, of_type_i}
 use Rattle.tl_layout.specs.ByType.{of_type_p, of_number}
 use Rattle.tl_layout.specs.declared.ranges.Ranges.{Ranges}
-use Rattle.tl_layout.specs.declared.type5.Body5.{Body5}
 use Rattle.tl_layout.specs.declared.type7.Body7.{Body7}
 use Rattle.tl_layout.specs.declared.type_p.BodyP.{BodyP}
 use Rattle.tl_shape.specs.Chain.{Chain}
 use Rattle.tl_county.specs.County.{County, one_tlid, two_tlid, two_rtsq, four_tlid, four_rtsq, five_feat, six_tlid, six_rtsq}
 use Rattle.tl_county.specs.County.{seven_land, eight_land, eight_key, i_tlid, p_key, side_keys}
-use Rattle.tl_county.specs.CountyRules.{IsCounty, tlids, feats, polygon_keys, lands, polygons_along, link_key, AllStandIn}
-use Rattle.tl_county.specs.LinkRules.{IsLinked, is_broken, chain_tlids, linked_tlids, rtsqs, named_feats}
+use Rattle.tl_county.specs.CountyRules.{IsCounty, tlids, feats, polygon_keys, lands, polygons_along, AllStandIn}
+use Rattle.tl_county.specs.LinkRules.{IsLinked, chain_tlids, linked_tlids, rtsqs, named_feats}
 use Rattle.tl_county.specs.Orders.{times, stands_in, has_repeat, in_order}
 use Rattle.tl_county.specs.Packing.{in_pieces, numbered_from, inner_points, packed_one, packed_twos, packed_fours, packed_sixes}
 use Rattle.tl_county.specs.Packing.{packed_five, packed_sevens, packed_i, packed_body, packed_p, p_polyid, packed_by_type, packed}
 use Rattle.tl_county.specs.PolygonKeys.{PolygonKey, key_cmp}
-use Rattle.tl_county.specs.declared.fault.LinkFault.{LinkFault}
 use Rattle.tl_county.specs.declared.fault.LinkFault.TheVariants.{ChainTwice, NoChain, SequenceBroken, LinkMissing, LinkTwice}
 use Rattle.tl_county.specs.declared.fault.LinkFault.TheVariants.{NameTwice, NameUnknown, PolygonTwice, LandUnknown}
 use Rattle.tl_county.specs.declared.fault.LinkFault.TheVariants.{PolygonUnknown, Memory}
@@ -30,12 +28,12 @@ use Rattle.tl_county.specs.declared.fault.LinkedType.{LinkedType}
 use Rattle.tl_county.specs.declared.fault.LinkedType.TheVariants.{Two, Four, Six, I}
 use Rattle.tl_county.proofs.Counted.{all_in_pieces, all_numbered_from}
 use Rattle.tl_county.proofs.Distinct.{has_repeat-apart}
-use Rattle.tl_county.proofs.FirstFault.{Among, all_among, among_left, among_right}
+use Rattle.tl_county.proofs.FirstFault.{Among, all_among}
 use Rattle.tl_county.proofs.PackedGroups.{group_holds}
 use Rattle.tl_county.proofs.KeyOrders.{key_keys}
-use Rattle.tl_county.proofs.Keys.{IsApart, Known, nat_keys, known_all, known-left, known-right, known-here, times-yes, times-no}
+use Rattle.tl_county.proofs.Keys.{IsApart, Known, nat_keys, known_all, known-left, known-right, times-yes, times-no}
 use Rattle.tl_county.proofs.Keys.{times-cons, same_or_not, apart_from_sorted}
-use Rattle.tl_county.proofs.LinkedCounty.{needed, each_from}
+use Rattle.tl_county.proofs.LinkedCounty.{each_from}
 use Rattle.tl_county.proofs.Lists.{map-map, map_agree_everywhere, all_weaker, all_map, all_joined, all_everywhere}
 use Rattle.tl_county.proofs.Members.{among_known, known_is_among, among-map, among-unmap, among-pieces, to_filter_map}
 use Rattle.tl_county.proofs.Numbers.{times-in_order, to_in_order}

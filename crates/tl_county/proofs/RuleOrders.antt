@@ -1,7 +1,7 @@
 -- The rules one after the other: what each search says of its rule, and how stretches of rules are joined.
-use Rattle.std.proofs.Common.{◌≡◌, ◌⊎◌, ◌<◌, ◌≤◌, ◌==◌, ℕ, zero, suc, nat_lt, List, [], ◌∷◌, ◌++◌, Bool, true, false, cond, not}
-use Rattle.std.proofs.Common.{◌||◌, Ordering, Less, Equal, Greater, is_eq, is_gt, sym, refl, ap, ◌∙◌, subst, inl, inr, arith}
-use Rattle.std.proofs.Common.{nat_cmp, Option, Some, None}
+use Rattle.std.proofs.Common.{◌≡◌, ◌<◌, ◌≤◌, ◌==◌, ℕ, suc, nat_lt, List, [], ◌∷◌, ◌++◌, Bool, true, false, cond, not}
+use Rattle.std.proofs.Common.{◌||◌, Ordering, Less, Equal, Greater, is_gt, sym, refl, ap, ◌∙◌, subst, inl, inr, arith}
+use Rattle.std.proofs.Common.{nat_cmp, Some, None}
 use Rattle.std.proofs.lemmas.Bool.{false≢true, lt-ltb, ltb-true, ltb-false, eqb-true, and_parts}
 use Rattle.std.specs.Cmp.Lexicographic.{slice_cmp}
 use Rattle.std.specs.Ordering.{ordering_then}
@@ -12,7 +12,7 @@ use Rattle.tl_county.specs.declared.fault.LinkFault.TheVariants.{ChainTwice, NoC
 use Rattle.tl_county.specs.declared.fault.LinkFault.TheVariants.{NameTwice, NameUnknown, PolygonTwice, LandUnknown}
 use Rattle.tl_county.specs.declared.fault.LinkFault.TheVariants.{PolygonUnknown, Memory}
 use Rattle.tl_county.specs.declared.fault.LinkedType.TheVariants.{Two, Four, Six, I}
-use Rattle.tl_county.specs.FirstOf.{IsFirst, place_cmp}
+use Rattle.tl_county.specs.FirstOf.{place_cmp}
 use Rattle.tl_county.specs.Keyed.{IsLeastPassing}
 use Rattle.tl_county.specs.LinkRules.{is_broken, fault_place, IsLinked, IsFirstBrokenRule}
 use Rattle.tl_county.specs.RuleOrder.{rule_place, RulesHold, IsFirstFrom}

@@ -1,33 +1,27 @@
 -- The rules by which records fit together, each as its search sees it.
-use Rattle.std.proofs.Common.{◌≡◌, ◌⊎◌, ◌<◌, ◌≤◌, ◌+◌, ◌==◌, ◌&&◌, ◌||◌, not, ℕ, suc, nat_lt, List, [], ◌∷◌, ◌++◌, map, flat_map}
-use Rattle.std.proofs.Common.{filter, length, Bool, true, false, cond, Ordering, Less, Equal, Greater, is_eq, is_gt, sym, refl}
-use Rattle.std.proofs.Common.{ap, ◌∙◌, subst, inl, inr, arith, nat_cmp, Option, Some, None, zero-add, IsPermutation}
-use Rattle.std.proofs.lemmas.Bool.{false≢true, lt-ltb, ltb-true, ltb-false, or_cases, or_left, or_right, eqb-true, eq-eqb, ne_eqb}
+use Rattle.std.proofs.Common.{◌≡◌, ◌⊎◌, ◌<◌, ◌≤◌, ◌+◌, ◌==◌, ◌&&◌, not, ℕ, suc, nat_lt, List, [], ◌∷◌, ◌++◌, map, flat_map}
+use Rattle.std.proofs.Common.{Bool, true, false, cond, Ordering, Less, Equal, Greater, is_eq, is_gt, sym, refl}
+use Rattle.std.proofs.Common.{ap, ◌∙◌, subst, inl, inr, arith, nat_cmp, Some, None, zero-add, IsPermutation}
+use Rattle.std.proofs.lemmas.Bool.{false≢true, lt-ltb, ltb-true, or_cases, eq-eqb, ne_eqb}
 use Rattle.std.proofs.lemmas.Bool.{and_parts}
 use Rattle.std.proofs.lemmas.Cmp.{nat_cmp_total, tied_itself}
-use Rattle.std.proofs.lemmas.List.Elements.{filter-append}
-use Rattle.std.specs.Ordering.{on, ordering_then}
-use Rattle.std.specs.List.{AllByRecursion}
+use Rattle.std.specs.Ordering.{ordering_then}
 use Rattle.tl_layout.specs.ByType.{of_number}
-use Rattle.tl_layout.specs.Fields.{Fields4, Fields7, Fields8}
+use Rattle.tl_layout.specs.Fields.{Fields4}
 use Rattle.tl_layout.specs.declared.record_type.Record.{Record}
-use Rattle.tl_county.specs.declared.fault.LinkFault.{LinkFault}
 use Rattle.tl_county.specs.declared.fault.LinkFault.TheVariants.{ChainTwice, NoChain, SequenceBroken, LinkMissing, LinkTwice}
 use Rattle.tl_county.specs.declared.fault.LinkFault.TheVariants.{NameTwice, NameUnknown, PolygonTwice, LandUnknown}
-use Rattle.tl_county.specs.declared.fault.LinkFault.TheVariants.{PolygonUnknown, Memory}
+use Rattle.tl_county.specs.declared.fault.LinkFault.TheVariants.{PolygonUnknown}
 use Rattle.tl_county.specs.declared.fault.LinkedType.TheVariants.{Two, Four, Six, I}
 use Rattle.tl_county.specs.BodyOrder.{bytes_cmp}
 use Rattle.tl_county.specs.County.{one_tlid, two_tlid, two_rtsq, four_tlid, four_rtsq, five_feat, six_tlid, six_rtsq, seven_land}
 use Rattle.tl_county.specs.County.{eight_land, eight_key, i_tlid, p_key, side_keys}
 use Rattle.tl_county.specs.Keyed.{IsLeastPassing, is_repeated, is_unknown}
-use Rattle.tl_county.specs.LinkRules.{is_broken}
-use Rattle.tl_county.specs.OrderedTables.{typed_of}
 use Rattle.tl_county.specs.Orders.{times, stands_in, has_repeat, IsInOrder, distinct}
 use Rattle.tl_county.specs.Packing.{Typed, by_type}
 use Rattle.tl_county.specs.PolygonKeys.{PolygonKey, key_cmp}
-use Rattle.tl_county.specs.RuleOrder.{RulesHold, IsFirstFrom}
 use Rattle.tl_county.specs.SequenceKeys.{uses_of, is_unnamed, sequence_cmp}
-use Rattle.tl_county.proofs.Distinct.{has_repeat-apart, apart_from_no_repeat, times-distinct, bit}
+use Rattle.tl_county.proofs.Distinct.{apart_from_no_repeat, times-distinct, bit}
 use Rattle.tl_county.proofs.KeyOrders.{key_keys, pair_keys}
 use Rattle.tl_county.proofs.Keys.{IsKeyOrder, nat_keys, times-yes, times-no, same_or_not, times-permutation, times-append}
 use Rattle.tl_county.proofs.Keys.{times-cons, same-itself, known-here}

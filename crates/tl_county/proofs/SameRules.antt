@@ -1,6 +1,6 @@
 -- Lists with the same records break the same rules at the same places.
-use Rattle.std.proofs.Common.{◌≡◌, ◌⊎◌, ℕ, nat_lt, ◌==◌, List, ◌∷◌, ◌++◌, map, flat_map, filter, Bool, true, false, not, ◌&&◌}
-use Rattle.std.proofs.Common.{is_gt, sym, refl, ap, ap₂, ◌∙◌, subst, inl, inr, nat_cmp, IsPermutation}
+use Rattle.std.proofs.Common.{◌≡◌, ◌⊎◌, ℕ, nat_lt, ◌==◌, List, ◌++◌, map, flat_map, Bool, true, false, not, ◌&&◌}
+use Rattle.std.proofs.Common.{sym, refl, ap, ap₂, ◌∙◌, subst, inl, inr, nat_cmp}
 use Rattle.std.proofs.lemmas.Bool.{false≢true}
 use Rattle.tl_layout.specs.ByType.{as_type_1, as_type_2, as_type_4, as_type_5, as_type_6, as_type_7, as_type_8, as_type_i}
 use Rattle.tl_layout.specs.ByType.{as_type_p, of_type_1, of_type_2, of_type_4, of_type_5, of_type_6, of_type_7, of_type_8}
@@ -15,8 +15,8 @@ use Rattle.tl_county.specs.declared.fault.LinkedType.{LinkedType}
 use Rattle.tl_county.specs.declared.fault.LinkedType.TheVariants.{Two, Four, Six, I}
 use Rattle.tl_county.specs.County.{one_tlid, two_tlid, two_rtsq, four_tlid, four_rtsq, five_feat, six_tlid, six_rtsq, seven_land}
 use Rattle.tl_county.specs.County.{eight_land, eight_key, i_tlid, p_key, side_keys}
-use Rattle.tl_county.specs.LinkRules.{chain_tlids, linked_tlids, rtsqs, named_feats, is_broken, fault_place, IsLinked, IsFirstBrokenRule}
-use Rattle.tl_county.specs.Orders.{times, stands_in, has_repeat}
+use Rattle.tl_county.specs.LinkRules.{chain_tlids, linked_tlids, rtsqs, named_feats, is_broken, IsLinked, IsFirstBrokenRule}
+use Rattle.tl_county.specs.Orders.{stands_in, has_repeat}
 use Rattle.tl_county.specs.PolygonKeys.{PolygonKey, key_cmp}
 use Rattle.tl_county.proofs.Carried.{among-unpieces}
 use Rattle.tl_county.proofs.Distinct.{has_repeat-apart, apart_from_no_repeat}
@@ -24,7 +24,7 @@ use Rattle.tl_county.proofs.FirstFault.{Among}
 use Rattle.tl_county.proofs.KeyOrders.{key_keys}
 use Rattle.tl_county.proofs.Keys.{Known, nat_keys, known-left, known-right, known-append}
 use Rattle.tl_county.proofs.Members.{among-pieces, among_known, known_is_among, among-map, among-unmap}
-use Rattle.tl_county.proofs.Reordered.{SameElements, from_permutation, same-filter_map, same-filter, same-map, times-same}
+use Rattle.tl_county.proofs.Reordered.{SameElements, same-filter_map, same-filter, same-map, times-same}
 use Rattle.tl_county.proofs.Reordered.{apart-same, stands_alike}
 
 -- the same, seen from the other list

@@ -1,5 +1,5 @@
 -- Words for what stands at a place of a county's ascending lists, and under a number.
-use Rattle.std.specs.Prelude.{ℕ, List, [], Option, Some, None, option_map, filter, map, slice_get, unwrap_or, ◌==◌}
+use Rattle.std.specs.Prelude.{ℕ, List, [], Option, Some, None, slice_get, unwrap_or}
 use Rattle.tl_layout.specs.Coordinates.{Coordinates}
 use Rattle.tl_layout.specs.Fields.{Fields8}
 use Rattle.tl_layout.specs.declared.ranges.Ranges.{Ranges}

@@ -1,14 +1,13 @@
 -- Tables of records by type, each in the order of its records' numbers.
-use Rattle.std.specs.Prelude.{ℕ, List, IsPermutation}
+use Rattle.std.specs.Prelude.{IsPermutation}
 use Rattle.std.specs.declared.cmp.Ordering.{Ordering}
 use Rattle.std.specs.Ordering.{nat_cmp, on, ordering_then}
 use Rattle.tl_layout.specs.declared.tables.Tables.{Tables}
 use Rattle.tl_layout.specs.Fields.{Fields7}
-use Rattle.tl_layout.specs.declared.record_type.Record.{Record}
 use Rattle.tl_county.specs.BodyOrder.{landmark_body_cmp, link_cmp}
 use Rattle.tl_county.specs.County.{one_tlid, five_feat, i_tlid, p_key}
 use Rattle.tl_county.specs.Orders.{IsInOrder}
-use Rattle.tl_county.specs.Packing.{Typed, type_after_type}
+use Rattle.tl_county.specs.Packing.{Typed}
 use Rattle.tl_county.specs.PolygonKeys.{key_cmp}
 use Rattle.tl_county.specs.SequenceKeys.{sequence_cmp, two_sequence, four_sequence, six_sequence}
 

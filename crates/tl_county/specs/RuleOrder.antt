@@ -1,12 +1,11 @@
 -- The rules one after the other: which hold, and which is the first that is broken.
-use Rattle.std.specs.Prelude.{ℕ, ◌≡◌, ◌+◌, ◌<◌, ◌≤◌, List, true, false, Option, MatchOption}
+use Rattle.std.specs.Prelude.{ℕ, ◌≡◌, ◌<◌, ◌≤◌, List, true, false, Option, MatchOption}
 use Rattle.std.specs.Ordering.{is_gt}
 use Rattle.tl_layout.specs.declared.record_type.Record.{Record}
 use Rattle.tl_county.specs.declared.fault.LinkFault.{LinkFault}
 use Rattle.tl_county.specs.declared.fault.LinkFault.TheVariants.{ChainTwice, NoChain, SequenceBroken, LinkMissing, LinkTwice}
 use Rattle.tl_county.specs.declared.fault.LinkFault.TheVariants.{NameTwice, NameUnknown, PolygonTwice, LandUnknown}
 use Rattle.tl_county.specs.declared.fault.LinkFault.TheVariants.{PolygonUnknown, Memory}
-use Rattle.tl_county.specs.declared.fault.LinkedType.{LinkedType}
 use Rattle.tl_county.specs.declared.fault.LinkedType.TheVariants.{Two, Four, Six, I}
 use Rattle.tl_county.specs.FirstOf.{place_cmp}
 use Rattle.tl_county.specs.LinkRules.{is_broken, fault_place}

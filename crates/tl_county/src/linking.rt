@@ -215,8 +215,10 @@ fn settle(alloc: Global, tables: &mut Tables) -> Result<Gathered, LinkFault>
     ensures same { OnOk result (ArePermuted (typed_of tables.old) (typed_of tables.new)) }
     ensures linked { OnOk result (IsLinked (type_after_type (typed_of tables.new))) }
     ensures feats { IfOk result (λ gathered. gathered.feats.items ≡ map five_feat tables.new.type_5.items) }
-    ensures polygons { IfOk result (λ gathered. gathered.polygons.items ≡ distinct key_cmp (flat_map side_keys tables.new.type_i.items ++ map p_key tables.new.type_p.items)) }
-    ensures broken { IfErr result (λ fault. fault ≢ Memory → (records : List Record) → HoldsByType tables.old records → IsFirstBrokenRule records fault) }
+    ensures polygons { IfOk result (λ gathered. gathered.polygons.items ≡
+        distinct key_cmp (flat_map side_keys tables.new.type_i.items ++ map p_key tables.new.type_p.items)) }
+    ensures broken { IfErr result (λ fault. fault ≢ Memory → (records : List Record) →
+        HoldsByType tables.old records → IsFirstBrokenRule records fault) }
 {
     order_tables(tables)?;
     let feats = keys_of::<u32, Rec5>(alloc, &tables.type_5)?;
@@ -229,8 +231,10 @@ fn settle(alloc: Global, tables: &mut Tables) -> Result<Gathered, LinkFault>
 /// 10,000,000 records of a type at most.
 pub fn link_tables(alloc: Global, tables: Tables) -> Result<County, LinkFault>
     requires { HoldsWithinLimits tables }
-    ensures linked { IfOk result (λ county. (records : List Record) → HoldsByType tables records → IsLinked records × (the_county county ≡ county_of records)) }
-    ensures broken { IfErr result (λ fault. fault ≢ Memory → (records : List Record) → HoldsByType tables records → IsFirstBrokenRule records fault) }
+    ensures linked { IfOk result (λ county. (records : List Record) →
+        HoldsByType tables records → IsLinked records × (the_county county ≡ county_of records)) }
+    ensures broken { IfErr result (λ fault. fault ≢ Memory → (records : List Record) →
+        HoldsByType tables records → IsFirstBrokenRule records fault) }
 {
     let mut tables = tables;
     let gathered = settle(alloc, &mut tables)?;
@@ -245,8 +249,10 @@ pub fn link_tables_in<'a>(
     tables: Tables,
 ) -> Result<CountyIn<'a>, LinkFault>
     requires { HoldsWithinLimits tables }
-    ensures linked { IfOk result (λ county. (records : List Record) → HoldsByType tables records → IsLinked records × (the_county_in county ≡ county_of records)) }
-    ensures broken { IfErr result (λ fault. fault ≢ Memory → (records : List Record) → HoldsByType tables records → IsFirstBrokenRule records fault) }
+    ensures linked { IfOk result (λ county. (records : List Record) →
+        HoldsByType tables records → IsLinked records × (the_county_in county ≡ county_of records)) }
+    ensures broken { IfErr result (λ fault. fault ≢ Memory → (records : List Record) →
+        HoldsByType tables records → IsFirstBrokenRule records fault) }
 {
     let mut tables = tables;
     let gathered = settle(alloc, &mut tables)?;

@@ -40,7 +40,8 @@ impl<'a> Model for ChainIn<'a> {
       right = c.surroundings.right;
     } };
 
-    ghost invariant = { λ c. (2 ≤ length c.points.now) × AllByRecursion (IsNumber 8) c.feats.now × IsNumberOrNone 10 c.surroundings.start_node × IsNumberOrNone 10 c.surroundings.end_node };
+    ghost invariant = { λ c. (2 ≤ length c.points.now) × AllByRecursion (IsNumber 8) c.feats.now
+        × IsNumberOrNone 10 c.surroundings.start_node × IsNumberOrNone 10 c.surroundings.end_node };
 }
 
 impl<'a> ChainIn<'a> {

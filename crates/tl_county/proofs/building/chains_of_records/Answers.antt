@@ -1,4 +1,4 @@
-use Rattle.std.proofs.Common.{◌≡◌, List, [], ◌∷◌, ◌++◌, map, filter, is_gt, sym, ap, ◌∙◌, subst, nat_cmp, rules}
+use Rattle.std.proofs.Common.{◌≡◌, [], ◌∷◌, ◌++◌, map, is_gt, sym, ap, ◌∙◌, subst, nat_cmp}
 use Rattle.std.proofs.lemmas.List.{map-append}
 use Rattle.std.specs.List.Sorted.{IsStrictlySortedBy}
 use Rattle.std.specs.Ordering.{on}
@@ -6,7 +6,7 @@ use Rattle.tl_county.specs.Orders.{IsInOrder}
 use Rattle.tl_county.proofs.KeyedLists.{in_order-filter}
 use Rattle.tl_county.specs.Building.{chains_along}
 use Rattle.tl_county.specs.County.{one_tlid, two_tlid, four_tlid, six_tlid}
-use Rattle.tl_county.proofs.Groups.{chains-step, later_than, strict_tail}
+use Rattle.tl_county.proofs.Groups.{chains-step, strict_tail}
 use Rattle.tl_county.proofs.building.chains_of_records.Goals as goal
 
 pub loop-head-preserved : goal.loop-head-preserved

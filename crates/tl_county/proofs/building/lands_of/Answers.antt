@@ -1,4 +1,4 @@
-use Rattle.std.proofs.Common.{◌≡◌, is_eq, rules, sym, ap, ◌∙◌, nat_cmp, subst}
+use Rattle.std.proofs.Common.{is_eq, rules, sym, ap, ◌∙◌, nat_cmp, subst}
 use Rattle.std.proofs.lemmas.Fn.{dedup_same}
 use Rattle.tl_county.specs.County.{seven_land}
 use Rattle.tl_county.specs.Orders.{distinct, IsInOrder}

@@ -1,4 +1,4 @@
-use Rattle.std.proofs.Common.{◌≡◌, map, flat_map, take}
+use Rattle.std.proofs.Common.{◌≡◌, map, take}
 use Rattle.tl_layout.specs.Fields.{Fields5}
 use Rattle.tl_county.proofs.building.name_bodies.Given as goal
 

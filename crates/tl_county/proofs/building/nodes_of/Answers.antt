@@ -1,4 +1,4 @@
-use Rattle.std.proofs.Common.{◌≡◌, is_eq, rules, ap, ◌∙◌, nat_cmp}
+use Rattle.std.proofs.Common.{is_eq, rules, ap, ◌∙◌, nat_cmp}
 use Rattle.std.proofs.lemmas.Fn.{dedup_same}
 use Rattle.tl_county.specs.Orders.{distinct}
 use Rattle.tl_county.proofs.GatheredLists.{dedup-distinct, distinct-permuted}

@@ -1,9 +1,8 @@
-use Rattle.std.proofs.Common.{◌≡◌, List, ◌∷◌, ◌++◌, map, filter, is_gt, sym, ap, ◌∙◌, subst, nat_cmp, rules}
+use Rattle.std.proofs.Common.{◌≡◌, ◌∷◌, ◌++◌, map, is_gt, sym, ◌∙◌, subst}
 use Rattle.std.specs.List.Sorted.{IsStrictlySortedBy}
 use Rattle.std.specs.Ordering.{on}
 use Rattle.tl_county.specs.Orders.{IsInOrder}
 use Rattle.tl_county.proofs.KeyedLists.{in_order-filter}
-use Rattle.tl_layout.specs.Fields.{FieldsP}
 use Rattle.tl_county.specs.Building.{polygon_body_of}
 use Rattle.tl_county.specs.County.{p_key}
 use Rattle.tl_county.specs.PolygonKeys.{key_cmp}

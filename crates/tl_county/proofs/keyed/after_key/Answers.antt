@@ -1,4 +1,4 @@
-use Rattle.std.proofs.Common.{◌≡◌, true, List, ◌∷◌, filter, is_gt, sym, ap, ◌∙◌, subst}
+use Rattle.std.proofs.Common.{◌≡◌, true, ◌∷◌, filter, is_gt, sym, ap, ◌∙◌, subst}
 use Rattle.std.specs.Ordering.{on}
 use Rattle.tl_county.specs.Orders.{IsInOrder}
 use Rattle.tl_county.proofs.Keys.{IsKeyOrder}

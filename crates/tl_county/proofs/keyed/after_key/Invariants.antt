@@ -1,5 +1,5 @@
-use Rattle.std.proofs.Common.{◌≡◌, filter, not, length}
-use Rattle.std.specs.Ordering.{on, is_gt, is_lt}
+use Rattle.std.proofs.Common.{◌≡◌, filter, length}
+use Rattle.std.specs.Ordering.{on, is_gt}
 use Rattle.tl_county.specs.Orders.{IsInOrder}
 use Rattle.tl_county.proofs.keyed.after_key.Given as goal
 

@@ -1,4 +1,4 @@
-use Rattle.std.proofs.Common.{◌≡◌, List, [], ◌∷◌, map, true, false, is_eq, refl, sym, ap, ◌∙◌, subst}
+use Rattle.std.proofs.Common.{◌≡◌, [], ◌∷◌, map, true, false, is_eq, ap, ◌∙◌, subst}
 use Rattle.tl_county.specs.Keyed.{is_repeated}
 use Rattle.std.specs.Ordering.{on}
 use Rattle.tl_county.specs.Orders.{IsInOrder}

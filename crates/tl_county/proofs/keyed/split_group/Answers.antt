@@ -1,5 +1,5 @@
-use Rattle.std.proofs.Common.{◌≡◌, ◌≤◌, ◌+◌, List, ◌++◌, length, filter, not, is_eq, is_gt, arith, sym, ap, ◌∙◌, subst, length-append}
-use Rattle.std.specs.Ordering.{on, is_lt}
+use Rattle.std.proofs.Common.{◌≡◌, ◌+◌, ◌++◌, length, filter, is_eq, is_gt, arith, sym, ap, ◌∙◌, subst, length-append}
+use Rattle.std.specs.Ordering.{on}
 use Rattle.tl_county.specs.Orders.{IsInOrder}
 use Rattle.tl_county.proofs.Keys.{IsKeyOrder}
 use Rattle.tl_county.proofs.KeyedLists.{group-and_later, later-from, in_order-filter, take-front}

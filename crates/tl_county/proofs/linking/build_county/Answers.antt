@@ -1,6 +1,5 @@
-use Rattle.std.proofs.Common.{◌≡◌, ℕ, List, map, flat_map, sym, ap, ◌∙◌, subst, nat_cmp}
-use Rattle.tl_shape.specs.Chain.{Chain}
-use Rattle.tl_county.specs.Building.{county_along, landmarks_along, link_nodes}
+use Rattle.std.proofs.Common.{◌≡◌, flat_map, sym, ap, ◌∙◌, subst, nat_cmp}
+use Rattle.tl_county.specs.Building.{county_along, link_nodes}
 use Rattle.tl_county.specs.CountyRules.{IsCounty, nodes}
 use Rattle.tl_county.specs.KeptCounty.{county_with, LinksUnderLands}
 use Rattle.tl_county.specs.Limits.{IsWithinLimits, most_records}

@@ -1,4 +1,4 @@
-use Rattle.std.proofs.Common.{◌≡◌, List, map, sym, ap, ◌∙◌, subst, nat_cmp}
+use Rattle.std.proofs.Common.{List, map, sym, ap, ◌∙◌, subst, nat_cmp}
 use Rattle.std.specs.List.Sorted.{IsStrictlySortedBy}
 use Rattle.tl_layout.specs.Fields.{Fields5}
 use Rattle.tl_county.specs.OrderedTables.{typed_of}

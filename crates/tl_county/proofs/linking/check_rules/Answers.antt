@@ -1,4 +1,4 @@
-use Rattle.std.proofs.Common.{◌≡◌, ◌≢◌, List, Result, Ok, Err, OnOk, IfErr, MatchResult, arith}
+use Rattle.std.proofs.Common.{◌≢◌, List, Result, Ok, Err, OnOk, IfErr, MatchResult, arith}
 use Rattle.tl_layout.specs.declared.record_type.Record.{Record}
 use Rattle.tl_county.specs.declared.fault.LinkFault.{LinkFault}
 use Rattle.tl_county.specs.declared.fault.LinkFault.TheVariants.{Memory}

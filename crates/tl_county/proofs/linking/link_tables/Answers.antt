@@ -1,8 +1,5 @@
-use Rattle.std.proofs.Common.{◌≡◌, sym, ◌∙◌, subst}
-use Rattle.tl_layout.specs.RecordText.{FitsRecord}
-use Rattle.tl_county.specs.Limits.{IsWithinLimits, most_records}
+use Rattle.std.proofs.Common.{◌∙◌}
 use Rattle.tl_county.specs.OrderedTables.{typed_of}
-use Rattle.tl_county.specs.Packing.{type_after_type}
 use Rattle.tl_county.proofs.BuiltTables.{held, also_linked, same_county, within_limits-moved}
 use Rattle.tl_county.proofs.linking.link_tables.Goals as goal
 

@@ -1,13 +1,9 @@
-use Rattle.std.proofs.Common.{◌≡◌, ℕ, List, map, sym, subst, nat_cmp, Option, Some, None, arith}
+use Rattle.std.proofs.Common.{ℕ, List, map, sym, subst, nat_cmp, Option}
 use Rattle.std.specs.Ordering.{on}
-use Rattle.tl_county.specs.County.{one_tlid, two_tlid, two_rtsq, four_tlid, four_rtsq, six_tlid, six_rtsq, i_tlid}
+use Rattle.tl_county.specs.County.{two_tlid, two_rtsq, four_tlid, four_rtsq, six_tlid, six_rtsq}
 use Rattle.tl_county.specs.Keyed.{IsLeastPassing, is_repeated, is_unknown}
-use Rattle.tl_county.specs.OrderedTables.{typed_of}
 use Rattle.tl_county.specs.Orders.{IsInOrder}
-use Rattle.tl_county.specs.RuleOrder.{RulesHold}
-use Rattle.tl_county.proofs.KeyedLists.{at_lists}
-use Rattle.tl_county.proofs.RuleOrders.{rule-holds, rule-broken, rules-join, first-after}
-use Rattle.tl_county.proofs.RuleTests.{in_order-first, rule_11, rule_12_two, rule_12_four, rule_12_six, rule_12_i}
+use Rattle.tl_county.proofs.RuleTests.{in_order-first}
 use Rattle.tl_county.proofs.rules.check_chains.Goals as goal
 
 -- the least TLID of a table that stands twice, or that the other table lacks, or that there is none

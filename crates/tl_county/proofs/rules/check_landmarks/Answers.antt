@@ -1,7 +1,6 @@
-use Rattle.std.proofs.Common.{◌≡◌, ℕ, List, ◌++◌, map, flat_map, sym, ap, ◌∙◌, subst, nat_cmp, Option, Some, None, arith, map-id}
+use Rattle.std.proofs.Common.{◌≡◌, ℕ, List, ◌++◌, map, flat_map, sym, ◌∙◌, subst, nat_cmp, Option, Some, None, arith, map-id}
 use Rattle.std.proofs.Common.{IsPermutation}
 use Rattle.std.specs.Ordering.{on}
-use Rattle.tl_layout.specs.Fields.{Fields7, Fields8}
 use Rattle.tl_county.specs.BodyOrder.{landmark_body_cmp, link_part, link_part_cmp}
 use Rattle.tl_county.specs.County.{seven_land, eight_land, eight_key, p_key, side_keys}
 use Rattle.tl_county.specs.Keyed.{IsLeastPassing, is_repeated, is_unknown}

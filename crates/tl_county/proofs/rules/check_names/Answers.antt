@@ -1,5 +1,4 @@
-use Rattle.std.proofs.Common.{◌≡◌, ℕ, List, map, flat_map, sym, ap, ◌∙◌, subst, nat_cmp, Option, Some, None, arith}
-use Rattle.std.specs.Ordering.{on}
+use Rattle.std.proofs.Common.{ℕ, List, map, flat_map, sym, ap, ◌∙◌, subst, nat_cmp, Option, Some, None, arith}
 use Rattle.tl_county.specs.County.{five_feat}
 use Rattle.tl_county.specs.Keyed.{IsLeastPassing, is_repeated}
 use Rattle.tl_county.specs.OrderedTables.{typed_of}

@@ -1,6 +1,5 @@
-use Rattle.std.proofs.Common.{refl, ◌≡◌, ℕ, List, map, sym, subst, nat_cmp, Option, Some, None, arith, ◌≤◌}
+use Rattle.std.proofs.Common.{refl, ℕ, List, map, sym, subst, Option, Some, None, arith}
 use Rattle.std.specs.Ordering.{on}
-use Rattle.tl_layout.specs.Fields.{Fields2, Fields4, Fields6}
 use Rattle.tl_county.specs.County.{two_tlid, two_rtsq, four_tlid, four_rtsq, six_tlid, six_rtsq}
 use Rattle.tl_county.specs.Keyed.{IsLeastPassing, is_repeated}
 use Rattle.tl_county.specs.OrderedTables.{typed_of}

@@ -1,5 +1,4 @@
-use Rattle.std.proofs.Common.{◌≡◌, ℕ, List, ◌∷◌, false, Some, sym, ap, ◌∙◌, subst, nat_cmp}
-use Rattle.std.proofs.lemmas.Bool.{not-true}
+use Rattle.std.proofs.Common.{◌≡◌, ◌∷◌, false, Some, sym, ap, ◌∙◌, subst, nat_cmp}
 use Rattle.tl_county.specs.Orders.{IsInOrder, stands_in}
 use Rattle.tl_county.specs.SequenceKeys.{is_unnamed, sequence_cmp}
 use Rattle.tl_county.proofs.KeyedLists.{least-same}

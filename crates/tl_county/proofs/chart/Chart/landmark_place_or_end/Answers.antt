@@ -1,5 +1,4 @@
-use Rattle.std.proofs.Common.{◌≡◌, [], sym, ap, ◌∙◌, slice_get, unwrap_or}
-use Rattle.std.proofs.lemmas.List.{length-map}
+use Rattle.std.proofs.Common.{[], ap, ◌∙◌, slice_get, unwrap_or}
 use Rattle.tl_county.specs.ChartWords.{links_with}
 use Rattle.tl_county.specs.CountyRules.{lands}
 use Rattle.tl_county.specs.Entries.{entry_values}

@@ -1,4 +1,4 @@
-use Rattle.std.proofs.Common.{◌≡◌, [], ap, ◌∙◌, unwrap_or, option_map}
+use Rattle.std.proofs.Common.{[], ap, ◌∙◌, unwrap_or, option_map}
 use Rattle.tl_county.specs.LandmarkParts.{LandmarkParts}
 use Rattle.tl_county.proofs.BuiltTables.{bodies-under}
 use Rattle.tl_county.proofs.county_in.CountyIn.landmark_bodies.Goals as goal

@@ -1,4 +1,4 @@
-use Rattle.std.proofs.Common.{◌≡◌, [], sym, ap, ◌∙◌, subst, nat_cmp, unwrap_or}
+use Rattle.std.proofs.Common.{[], sym, ap, ◌∙◌, subst, nat_cmp, unwrap_or}
 use Rattle.std.specs.List.Sorted.{IsStrictlySortedBy}
 use Rattle.tl_county.specs.LandmarkParts.{LandmarkParts}
 use Rattle.tl_county.proofs.BuiltTables.{links-under, lands-kept}

@@ -1,6 +1,6 @@
-use Rattle.std.proofs.Common.{◌≡◌, sym, ap, ◌∙◌, subst}
+use Rattle.std.proofs.Common.{sym, ap, ◌∙◌, subst}
 use Rattle.std.specs.List.Sorted.{IsStrictlySortedBy}
-use Rattle.tl_county.specs.Entries.{entry_keys, entry_values}
+use Rattle.tl_county.specs.Entries.{entry_keys}
 use Rattle.tl_county.proofs.EntryLists.{keys-zip}
 use Rattle.tl_county.proofs.table.Table.keys.Goals as goal
 

@@ -1,6 +1,3 @@
-use Rattle.std.proofs.Common.{◌≡◌, sym, ap, ◌∙◌, subst}
-use Rattle.std.specs.List.Sorted.{IsStrictlySortedBy}
-use Rattle.tl_county.specs.Entries.{entry_keys, entry_values}
 use Rattle.tl_county.proofs.EntryLists.{keys-zip, values-zip}
 use Rattle.tl_county.proofs.table.Table.new.Goals as goal
 

@@ -1,6 +1,5 @@
-use Rattle.std.proofs.Common.{◌≡◌, sym, ap, ◌∙◌, subst}
-use Rattle.std.specs.List.Sorted.{IsStrictlySortedBy}
-use Rattle.tl_county.specs.Entries.{entry_keys, entry_values}
+use Rattle.std.proofs.Common.{sym, ap, ◌∙◌}
+use Rattle.tl_county.specs.Entries.{entry_values}
 use Rattle.tl_county.proofs.EntryLists.{values-zip}
 use Rattle.tl_county.proofs.table.Table.values.Goals as goal
 
