@@ -18,3 +18,7 @@ pub mod Tidied
 pub mod TidyPacking
 pub mod Ascending
 pub mod TidyNumbers
+pub mod SeenKeys
+pub mod StepChains
+pub mod SortedPlaces
+pub mod StepWalks

@@ -2,6 +2,9 @@
 #![tactic(auto)]
 
 mod laws;
+mod numbers;
+mod step;
+mod walks;
 
 pub use laws::{
     a_packed_county_is_read_back, accepted_or_one_refusal, an_arrangement_gives_a_tidy_list,
@@ -9,3 +12,5 @@ pub use laws::{
     each_accepted_list_has_one_canonical_list, one_canonical_list_exactly_for_one_map,
     tidy_lists_are_the_packing_of_their_county, tidy_lists_with_one_choice_are_equal,
 };
+pub use numbers::Numbers;
+pub use step::Step;
