@@ -22,3 +22,5 @@ pub mod SeenKeys
 pub mod StepChains
 pub mod SortedPlaces
 pub mod StepWalks
+pub mod StepPoints
+pub mod AscendingSteps

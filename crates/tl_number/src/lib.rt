@@ -3,6 +3,7 @@
 
 mod laws;
 mod numbers;
+mod order;
 mod step;
 mod walks;
 
@@ -13,4 +14,5 @@ pub use laws::{
     tidy_lists_are_the_packing_of_their_county, tidy_lists_with_one_choice_are_equal,
 };
 pub use numbers::Numbers;
+pub use order::ascending_steps;
 pub use step::Step;

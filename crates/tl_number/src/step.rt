@@ -1,5 +1,7 @@
 //! One chain of an arrangement.
 
+use tl_layout::Point;
+
 /// A chain of a county in an arrangement of its chains.
 #[derive(Clone, Copy, Debug, PartialEq, Eq)]
 pub struct Step {
@@ -7,4 +9,13 @@ pub struct Step {
     pub place: u32,
     /// Whether the chain is turned.
     pub turned: bool,
+}
+
+/// A step with the first point of its chain, which tells most chains apart.
+#[derive(Clone, Copy, Debug, PartialEq, Eq)]
+pub(crate) struct Start {
+    /// The first point in the direction of the step, if the chain is there.
+    pub(crate) first: Option<Point>,
+    /// The step.
+    pub(crate) step: Step,
 }
