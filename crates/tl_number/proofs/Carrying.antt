@@ -179,10 +179,10 @@ module _ (county : County) (steps : Arrangement) (is : IsCounty county) (arrange
   links_arranged = refl
 
   -- the numbers of each kind
-  names_permutation : IsPermutation (names_in_order county steps) county.names
+  pub names_permutation : IsPermutation (names_in_order county steps) county.names
   names_permutation = in_order-is_permutation (on (name_key (all_uses (placed county steps))) name_key_cmp) county.names
 
-  landmarks_permutation : IsPermutation (landmarks_in_order county steps) county.landmarks
+  pub landmarks_permutation : IsPermutation (landmarks_in_order county steps) county.landmarks
   landmarks_permutation = in_order-is_permutation (on (landmark_key (links_relinked county steps)) landmark_key_cmp) county.landmarks
 
   -- a kind whose entries are in a new order and numbered in it
@@ -242,7 +242,7 @@ module _ (county : County) (steps : Arrangement) (is : IsCounty county) (arrange
   node_lefts : lefts (renaming_of county steps).nodes ≡ nodes_in_order county steps
   node_lefts = ap lefts nodes_renamed ∙ lefts-numbered (nodes_in_order county steps)
 
-  node_rights : rights (renaming_of county steps).nodes ≡ up_to (length (nodes_in_order county steps))
+  pub node_rights : rights (renaming_of county steps).nodes ≡ up_to (length (nodes_in_order county steps))
   node_rights = ap rights nodes_renamed ∙ rights-numbered (nodes_in_order county steps)
 
   lefts_apart : IsApart nat_cmp (lefts (renaming_of county steps).nodes)
@@ -284,7 +284,7 @@ module _ (county : County) (steps : Arrangement) (is : IsCounty county) (arrange
       subst (Known nat_cmp (rights (renaming_of county steps).nodes)) (sym old.2)
       (image-known nat_keys (renaming_of county steps).nodes old.0 seen)
 
-  paired_nodes : ArePaired (renaming_of county steps).nodes (nodes county) (nodes (arranged county steps))
+  pub paired_nodes : ArePaired (renaming_of county steps).nodes (nodes county) (nodes (arranged county steps))
   paired_nodes = record {
     left = subst (λ ks. IsPermutation ks (nodes county)) (sym node_lefts)
         (apart-permutation_of nat_keys (nodes_in_order county steps) (nodes county)

@@ -24,3 +24,7 @@ pub mod SortedPlaces
 pub mod StepWalks
 pub mod StepPoints
 pub mod AscendingSteps
+pub mod ViewNumbers
+pub mod ViewChains
+pub mod ViewTables
+pub mod LinkSlices

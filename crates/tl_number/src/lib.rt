@@ -1,12 +1,20 @@
 //! The canonical form of a county: one numbering, one order and one packing for all counties that are the same map.
 #![tactic(auto)]
 
+mod arranged;
+mod arranged_chart;
+mod counted;
 mod laws;
 mod numbers;
 mod order;
+mod renumbering;
+mod slices;
 mod step;
+mod step_readers;
+mod tables;
 mod walks;
 
+pub use arranged::Arranged;
 pub use laws::{
     a_packed_county_is_read_back, accepted_or_one_refusal, an_arrangement_gives_a_tidy_list,
     canonical_lists_keep_the_limits, canonical_lists_of_one_county_are_equal,

@@ -1,6 +1,8 @@
 //! Numbers by first appearance.
 
 ghost use Rattle.std.specs.Prelude.{◌≡◌, ◌∷◌, [], ◌<◌, ◌^◌, length, is_some, IfSome, Some, OnOk, OnErr, slice_get};
+ghost use Rattle.std.specs.List.{position};
+ghost use Rattle.std.specs.Ordering.{is_eq};
 ghost use Rattle.tl_county.specs.Orders.{stands_in};
 ghost use Rattle.tl_number.specs.Growth.{first_seen_after};
 
@@ -63,6 +65,7 @@ impl<K: Key + Hash> Numbers<K> {
     pub fn place(&self, key: K) -> Option<usize>
         ensures found { IfSome result (λ place. slice_get self.now place ≡ Some key) }
         ensures known { is_some result ≡ stands_in K.cmp key self.now }
+        ensures first { result ≡ position (λ other. is_eq (K.cmp key other)) self.now }
         ensures small { IfSome result (λ place. place < 2 ^ 63) }
     {
         match self.keys.get_index_of(&key) {

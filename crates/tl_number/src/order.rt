@@ -1,6 +1,6 @@
 //! The ascending arrangement: each chain in its lesser direction, and the chains in the order of their points.
 
-ghost use Rattle.std.specs.Prelude.{◌≡◌, ◌<◌, ◌^◌, IfOk, length, map, slice_get};
+ghost use Rattle.std.specs.Prelude.{◌≡◌, ◌<◌, ◌^◌, IfOk, length, map};
 ghost use Rattle.std.specs.List.{range_with_len};
 ghost use Rattle.tl_shape.specs.PointOrder.{points_cmp};
 ghost use Rattle.tl_number.specs.Arrangement.{ascending};
@@ -8,26 +8,10 @@ ghost use Rattle.tl_number.specs.AscendingSteps.{least_step, start_at, start_cmp
 ghost use Rattle.tl_number.specs.Steps.{AreSteps, arrangement_of, step_points};
 
 use crate::step::{Start, Step};
+use crate::step_readers::point_of_step;
 use std::alloc::{AllocError, Global};
 use std::cmp::Ordering;
 use tl_county::Chart;
-use tl_layout::Point;
-
-/// A point of the chain of a step, from 0 at the start of its direction.
-pub(crate) fn point_of_step<C: Chart>(chart: &C, step: Step, point: usize) -> Option<Point>
-    ensures { result ≡ slice_get (step_points (C.county chart.now) step) point }
-{
-    let place = step.place as usize;
-    if !step.turned {
-        return chart.point_at(place, point);
-    }
-    let count = chart.point_count_at(place);
-    if point < count {
-        chart.point_at(place, count - 1 - point)
-    } else {
-        None
-    }
-}
 
 /// How the points of the chain of one step stand to those of another, each in the direction of its step.
 fn cmp_points<C: Chart>(chart: &C, a: Step, b: Step) -> Ordering

@@ -5,69 +5,14 @@ ghost use Rattle.std.specs.Ordering.{nat_cmp};
 ghost use Rattle.tl_county.specs.PolygonKeys.{key_cmp};
 ghost use Rattle.tl_number.specs.Arrangement.{nodes_in_order, polygons_in_order};
 ghost use Rattle.tl_number.specs.Growth.{first_seen_after};
-ghost use Rattle.tl_number.specs.Steps.{AreSteps, arrangement_of, step_chain, start_of, end_of, left_of, right_of, polygons_on};
+ghost use Rattle.tl_number.specs.Steps.{AreSteps, arrangement_of, polygons_on};
 
 use crate::numbers::Numbers;
 use crate::step::Step;
+use crate::step_readers::{end_of_step, left_of_step, right_of_step, start_of_step};
 use std::alloc::{AllocError, Global};
 use tl_county::{Chart, PolygonKey};
 use tl_layout::Side;
-
-/// The node where the chain of a step starts, if there is one.
-pub(crate) fn start_of_step<C: Chart>(chart: &C, step: Step) -> Option<u64>
-    ensures { result ≡ start_of (step_chain (C.county chart.now) step) }
-{
-    let place = step.place as usize;
-    let node = if step.turned {
-        chart.end_node_at(place)
-    } else {
-        chart.start_node_at(place)
-    };
-    match node {
-        Some(number) => number,
-        None => None,
-    }
-}
-
-/// The node where the chain of a step ends, if there is one.
-pub(crate) fn end_of_step<C: Chart>(chart: &C, step: Step) -> Option<u64>
-    ensures { result ≡ end_of (step_chain (C.county chart.now) step) }
-{
-    let place = step.place as usize;
-    let node = if step.turned {
-        chart.start_node_at(place)
-    } else {
-        chart.end_node_at(place)
-    };
-    match node {
-        Some(number) => number,
-        None => None,
-    }
-}
-
-/// What stands on the left side of the chain of a step.
-pub(crate) fn left_of_step<C: Chart>(chart: &C, step: Step) -> Option<Side>
-    ensures { result ≡ left_of (step_chain (C.county chart.now) step) }
-{
-    let place = step.place as usize;
-    if step.turned {
-        chart.right_at(place)
-    } else {
-        chart.left_at(place)
-    }
-}
-
-/// What stands on the right side of the chain of a step.
-pub(crate) fn right_of_step<C: Chart>(chart: &C, step: Step) -> Option<Side>
-    ensures { result ≡ right_of (step_chain (C.county chart.now) step) }
-{
-    let place = step.place as usize;
-    if step.turned {
-        chart.left_at(place)
-    } else {
-        chart.right_at(place)
-    }
-}
 
 /// Sees a node, if there is one.
 fn see_node(nodes: &mut Numbers<u64>, node: Option<u64>) -> Result<(), AllocError>
