@@ -27,7 +27,7 @@ use Rattle.tl_number.specs.AscendingSteps.{least_step, start_at, start_cmp, star
 use Rattle.tl_number.specs.Steps.{arrangement_of, AreSteps, step_points, tlid_at}
 use Rattle.tl_number.specs.declared.step.Start.{Start}
 use Rattle.tl_number.specs.declared.step.Step.{Step}
-use Rattle.tl_number.proofs.SortedPlaces.{sorted_places, places_below}
+use Rattle.tl_number.proofs.SortedPlaces.{sorted_items, each_item, item_places, places_below}
 
 -- an order of options, none first
 pub options_total : {X : Type 0} {R : X → X → Ordering} → IsTotalOrder R → IsTotalOrder (option_cmp R)
@@ -67,15 +67,6 @@ firsts_decide R (x ∷ xs) (y ∷ ys) o = go (R x y)
     go Less = refl
     go Equal = refl
     go Greater = refl
-
-in_order-unmap : {X K : Type 0} (cmp : K → K → Ordering) (key : X → K) (xs : List X) → IsInOrder cmp (map key xs) → IsInOrder (on key cmp) xs
-in_order-unmap cmp key [] h = tt
-in_order-unmap {X} {K} cmp key (x ∷ xs) h = (later xs h.0, in_order-unmap cmp key xs h.1)
-  where
-    later : (ys : List X) → AllByRecursion (λ k. is_gt (cmp (key x) k) ≡ false) (map key ys)
-        → AllByRecursion (λ y. is_gt (cmp (key x) (key y)) ≡ false) ys
-    later [] a = tt
-    later (y ∷ ys) a = (a.0, later ys a.1)
 
 module _ (county : County) where
   -- the order of starts is one
@@ -122,29 +113,13 @@ module _ (county : County) where
     abbrev place_of : Start → ℕ
     place_of s = s.step.place
 
-    abbrev range : List ℕ
-    range = range_with_len 0 (length county.chains)
+    read : map (slice_get county.chains) (map place_of starts) ≡ map Some (in_order (on least_points points_cmp) county.chains)
+    read = sorted_items (start_at county) place_of (λ i. refl) (start_cmp county) (on_total least_points points_keys.total) county.chains
+        agrees starts p ordered
 
     each_start : AllByRecursion (λ s. s ≡ start_at county (place_of s)) starts
-    each_start = each_from (λ s. s ≡ start_at county (place_of s)) starts
-        (λ s m. let i = among-unmap (start_at county) s range
-        (among-permutation s starts (map (start_at county) range) (IsPermutation-sym (map (start_at county) range) starts p) m) in
-        i.2 ∙ ap (λ j. start_at county j) (sym (ap place_of i.2)))
-
-    places : IsPermutation range (map place_of starts)
-    places = subst (λ ns. IsPermutation ns (map place_of starts))
-        (map-map place_of (start_at county) range ∙ map_itself (λ i. place_of (start_at county i)) (λ i. refl) range)
-        (IsPermutation-map place_of (map (start_at county) range) starts p)
-
-    starts_at : starts ≡ map (start_at county) (map place_of starts)
-    starts_at = sym (map_itself (λ s. s) (λ s. refl) starts)
-        ∙ map_agree_all (λ s. s) (λ s. start_at county (place_of s)) (λ s. s ≡ start_at county (place_of s)) (λ s e. e) starts each_start
-        ∙ sym (map-map (start_at county) place_of starts)
-
-    read : map (slice_get county.chains) (map place_of starts) ≡ map Some (in_order (on least_points points_cmp) county.chains)
-    read = sorted_places (on_total least_points points_keys.total) county.chains
-        (λ i j. start_cmp county (start_at county i) (start_at county j)) agrees (map place_of starts) places
-        (in_order-unmap (start_cmp county) (start_at county) (map place_of starts) (subst (IsInOrder (start_cmp county)) starts_at ordered))
+    each_start = each_item (start_at county) place_of (λ i. refl) (start_cmp county) (on_total least_points points_keys.total) county.chains
+        agrees starts p ordered
 
     -- The steps of sorted starts are the ascending arrangement.
     pub starts_ascend : arrangement_of county (map start_step starts) ≡ ascending county
@@ -156,4 +131,6 @@ module _ (county : County) where
 
     pub starts_there : AreSteps county (map start_step starts)
     starts_there = all_map (λ (s : Step). s.place < length county.chains) start_step starts
-        (all_unmap (λ n. n < length county.chains) place_of starts (places_below (length county.chains) (map place_of starts) places))
+        (all_unmap (λ n. n < length county.chains) place_of starts (places_below (length county.chains) (map place_of starts)
+        (item_places (start_at county) place_of (λ i. refl) (start_cmp county) (on_total least_points points_keys.total) county.chains
+        agrees starts p ordered)))

@@ -99,7 +99,7 @@ module _ {K : Type 0} {cmp : K → K → Ordering} (o : IsKeyOrder cmp) where
   pub first_seen-apart : (keys : List K) → IsApart cmp (first_seen cmp keys)
   first_seen-apart keys = apart_after [] keys (λ k. omega arith)
 
-  known_after : (seen keys : List K) (k : K) → Known cmp (first_seen_after cmp seen keys) k → Known cmp seen k ⊎ Known cmp keys k
+  pub known_after : (seen keys : List K) (k : K) → Known cmp (first_seen_after cmp seen keys) k → Known cmp seen k ⊎ Known cmp keys k
   known_after seen [] k h = inl h
   known_after seen (j ∷ keys) k h = go (stands_in cmp j seen) h (known_after seen keys k) (known_after (seen ++ (j ∷ [])) keys k)
     where
@@ -133,7 +133,7 @@ module _ {K : Type 0} {cmp : K → K → Ordering} (o : IsKeyOrder cmp) where
   seen_after : (seen keys : List K) (k : K) → Known cmp seen k → Known cmp (first_seen_after cmp seen keys) k
   seen_after seen keys k h = let m = seen_stays seen keys in subst (λ l. Known cmp l k) (sym m.1) (known-left o k seen m.0 h)
 
-  all_after : (seen keys : List K) (k : K) → Known cmp keys k → Known cmp (first_seen_after cmp seen keys) k
+  pub all_after : (seen keys : List K) (k : K) → Known cmp keys k → Known cmp (first_seen_after cmp seen keys) k
   all_after seen [] k h = absurd (omega (arith, h))
   all_after seen (j ∷ keys) k h =
       go (stands_in cmp j seen) refl (all_after seen keys k) (all_after (seen ++ (j ∷ [])) keys k) (known_cases o k j keys h)

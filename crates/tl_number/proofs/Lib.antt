@@ -28,3 +28,7 @@ pub mod ViewNumbers
 pub mod ViewChains
 pub mod ViewTables
 pub mod LinkSlices
+pub mod PolygonOrder
+pub mod SeenLists
+pub mod NameRanks
+pub mod NameOrder

@@ -6,7 +6,7 @@ use Rattle.std.proofs.lemmas.Option.{slice_get-map, get_or_from_slice_get}
 use Rattle.std.specs.List.{AllByRecursion}
 use Rattle.tl_shape.specs.Chain.{Chain}
 use Rattle.tl_shape.specs.Turned.{turned_if}
-use Rattle.tl_county.specs.ChartWords.{chain_at}
+use Rattle.tl_county.specs.ChartWords.{chain_at, feats_of}
 use Rattle.tl_county.specs.County.{County}
 use Rattle.tl_county.specs.CountyRules.{IsCounty, tlids, chain_nodes, chain_polygons, nodes_along, polygons_along}
 use Rattle.tl_county.specs.Packing.{numbered_from}
@@ -103,6 +103,17 @@ module _ (county : County) (is : IsCounty county) where
   same_polygons : (o : Option Chain) → of_chain chain_polygons o ≡ polygons_of o
   same_polygons None = refl
   same_polygons (Some c) = refl
+
+  same_feats : (o : Option Chain) → of_chain (λ c. c.feats) o ≡ feats_of o
+  same_feats None = refl
+  same_feats (Some c) = refl
+
+  pub feats_placed : (steps : List Step) → AreSteps county steps
+      → flat_map (λ (entry : ℕ × Chain). entry.1.feats) (placed county (arrangement_of county steps)) ≡ flat_map
+      (λ step. feats_of (step_chain county step)) steps
+  feats_placed steps h = along_placed (λ c. c.feats) steps h
+      ∙ flat_map_agree (λ (step : Step). of_chain (λ c. c.feats) (step_chain county step)) (λ step. feats_of (step_chain county step))
+      (λ step. same_feats (step_chain county step)) steps
 
   pub nodes_placed : (steps : List Step) → AreSteps county steps
       → nodes_along (placed county (arrangement_of county steps)) ≡ nodes_along_steps county steps

@@ -5,12 +5,15 @@ mod arranged;
 mod arranged_chart;
 mod counted;
 mod laws;
+mod name_order;
 mod numbers;
 mod order;
+mod polygon_order;
 mod renumbering;
 mod slices;
 mod step;
 mod step_readers;
+mod table_items;
 mod tables;
 mod walks;
 
