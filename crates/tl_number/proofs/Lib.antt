@@ -32,3 +32,4 @@ pub mod PolygonOrder
 pub mod SeenLists
 pub mod NameRanks
 pub mod NameOrder
+pub mod LandmarkLinks

@@ -4,6 +4,7 @@
 mod arranged;
 mod arranged_chart;
 mod counted;
+mod landmark_links;
 mod laws;
 mod name_order;
 mod numbers;

@@ -11,9 +11,10 @@ ghost use Rattle.tl_number.specs.Growth.{numbered};
 use crate::numbers::Numbers;
 use tl_county::PolygonKey;
 
-/// The new number of a node.
+/// The new number of a node, or the new LAND of a landmark.
 pub(crate) fn new_node(nodes: &Numbers<u64>, node: u64) -> u64
-    ensures { result ≡ image nat_cmp (numbered nodes.now) node }
+    ensures image { result ≡ image nat_cmp (numbered nodes.now) node }
+    ensures in_range { IsNumber 10 node → length nodes.now < 10 ^ 10 → IsNumber 10 result }
 {
     match nodes.place(node) {
         Some(place) => place as u64 + 1,
