@@ -6,6 +6,7 @@ use Rattle.std.proofs.lemmas.Bool.{true≢false, ltb-true}
 use Rattle.std.proofs.lemmas.Bool.Decides.{leb_tells}
 use Rattle.std.proofs.lemmas.Cmp.{ranked}
 use Rattle.std.proofs.lemmas.List.{map-append, length-map}
+use Rattle.std.proofs.lemmas.List.FromFn.{map-range_with_len_more}
 use Rattle.std.proofs.lemmas.List.Filters.{length-filter_both}
 use Rattle.std.proofs.lemmas.List.Sorted.{IsPermutation-sym, IsPermutation-trans, IsPermutation-map}
 use Rattle.std.specs.List.{range_with_len}
@@ -20,7 +21,7 @@ use Rattle.tl_county.specs.Orders.{IsInOrder, in_order, times, stands_in}
 use Rattle.tl_county.proofs.InOrder.{in_order-in_order, in_order-permutation}
 use Rattle.tl_county.proofs.KeyOrders.{link_keys}
 use Rattle.tl_county.proofs.Keys.{Known, nat_keys, apart_from_sorted}
-use Rattle.tl_county.proofs.Lists.{map-map, all_weaker, flat_map_agree}
+use Rattle.tl_county.proofs.Lists.{map_itself, all_weaker}
 use Rattle.tl_county.proofs.Permutations.{groups-permutation, in_order-is_permutation}
 use Rattle.tl_number.specs.ViewFacts.{links_up_to}
 use Rattle.tl_number.proofs.StepChains.{flat_map-map}
@@ -154,3 +155,9 @@ module _ (links rest later : List Fields8) (land : ℕ)
           go (inl p) q = absurd (true≢false (sym e ∙ above_or_not a n ∙ ap not p.0))
           go (inr p) (inl q) = absurd (let high = p.1 in let low = q.1 in omega (arith, high, low, h))
           go (inr p) (inr q) = above_or_not a land ∙ ap not q.0
+
+-- one more place
+pub range_next : (n : ℕ) → range_with_len 0 n ++ (n ∷ []) ≡ range_with_len 0 (n + 1)
+range_next n =
+    ap (λ ks. ks ++ (n ∷ [])) (sym (map_itself (λ i. i) (λ i. refl) (range_with_len 0 n)))
+    ∙ sym (map-range_with_len_more (λ i. i) 0 n n (omega arith)) ∙ map_itself (λ i. i) (λ i. refl) (range_with_len 0 (n + 1))

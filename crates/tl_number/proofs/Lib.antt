@@ -33,3 +33,4 @@ pub mod SeenLists
 pub mod NameRanks
 pub mod NameOrder
 pub mod LandmarkLinks
+pub mod LandmarkOrder

@@ -113,7 +113,7 @@ named [] = refl
 named (c ∷ cs) = map-append (λ (u : Use × ℕ). u.1) (uses_from c.0 1 c.1.feats) (all_uses cs)
     ∙ ap₂ (λ xs ys. xs ++ ys) (named_from c.0 1 c.1.feats) (named cs)
 
-then_assoc : (a b c : Ordering) → ordering_then a (ordering_then b c) ≡ ordering_then (ordering_then a b) c
+pub then_assoc : (a b c : Ordering) → ordering_then a (ordering_then b c) ≡ ordering_then (ordering_then a b) c
 then_assoc Less b c = refl
 then_assoc Equal b c = refl
 then_assoc Greater b c = refl

@@ -44,7 +44,7 @@ order_from_strict cmp (k ∷ ks) h =
     (all_weaker (λ j. cmp k j ≡ Less) (λ j. is_gt (cmp k j) ≡ false) (λ j e. ap is_gt e) ks h.0, order_from_strict cmp ks h.1)
 
 -- links in order are in the order of their LANDs
-by_land : (links : List Fields8) → IsInOrder link_cmp links → IsInOrder (on eight_land nat_cmp) links
+pub by_land : (links : List Fields8) → IsInOrder link_cmp links → IsInOrder (on eight_land nat_cmp) links
 by_land [] h = tt
 by_land (l ∷ ls) h = (
   all_weaker (λ m. is_gt (link_cmp l m) ≡ false) (λ m. is_gt (nat_cmp l.land m.land) ≡ false) (λ m e. first m (nat_cmp l.land m.land) e)

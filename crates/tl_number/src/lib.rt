@@ -5,6 +5,7 @@ mod arranged;
 mod arranged_chart;
 mod counted;
 mod landmark_links;
+mod landmark_order;
 mod laws;
 mod name_order;
 mod numbers;
