@@ -34,3 +34,4 @@ pub mod NameRanks
 pub mod NameOrder
 pub mod LandmarkLinks
 pub mod LandmarkOrder
+pub mod ArrangedViews

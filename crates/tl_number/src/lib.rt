@@ -3,6 +3,7 @@
 
 mod arranged;
 mod arranged_chart;
+mod arranging;
 mod counted;
 mod landmark_links;
 mod landmark_order;
