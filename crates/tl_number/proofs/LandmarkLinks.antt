@@ -127,7 +127,7 @@ filter_twice {X} p q h (x ∷ xs) = go (q x) (p x) refl refl (filter_twice p q h
 -- the links with a greater LAND, beside those up to it
 module _ (links rest later : List Fields8) (land : ℕ)
     (so_far : (n : ℕ) → land ≤ n → filter (λ link. is_gt (nat_cmp (eight_land link) n)) rest ≡ filter
-      (λ link. is_gt (nat_cmp (eight_land link) n)) links)
+    (λ link. is_gt (nat_cmp (eight_land link) n)) links)
     (cut : later ≡ filter (λ link. is_gt (nat_cmp (eight_land link) land)) rest) where
   counted : length later + links_up_to links land ≡ length links
   counted = ap (λ ls. length ls + links_up_to links land) (cut ∙ so_far land (omega arith))

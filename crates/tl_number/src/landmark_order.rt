@@ -105,7 +105,10 @@ fn cmp_bodies<C: Chart>(chart: &C, a: usize, b: usize) -> Ordering
 {
     let count = chart.body_count_at(a);
     for body in 0..count {
-        match cmp_optional_body(chart.landmark_body_at(a, body), chart.landmark_body_at(b, body)) {
+        match cmp_optional_body(
+            chart.landmark_body_at(a, body),
+            chart.landmark_body_at(b, body),
+        ) {
             Ordering::Equal => {}
             unequal => return unequal,
         }
@@ -186,11 +189,7 @@ fn see_land(lands: &mut Numbers<u64>, land: Option<u64>) -> Result<(), AllocErro
 }
 
 /// The LANDs at places, one after the other.
-fn lands_at<C: Chart>(
-    alloc: Global,
-    chart: &C,
-    places: &[u32],
-) -> Result<Numbers<u64>, AllocError>
+fn lands_at<C: Chart>(alloc: Global, chart: &C, places: &[u32]) -> Result<Numbers<u64>, AllocError>
     requires { has_repeat nat_cmp (filter_map (slice_get (lands (C.county chart.now))) places.now) ≡ false }
     ensures { IfOk result (λ numbers. numbers ≡ filter_map (slice_get (lands (C.county chart.now))) places.now) }
 {
