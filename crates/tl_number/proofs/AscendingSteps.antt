@@ -1,6 +1,8 @@
 -- The steps of all chains in the order of their points and places tell the ascending arrangement.
-use Rattle.std.proofs.Common.{◌≡◌, ◌<◌, ℕ, zero, suc, List, [], ◌∷◌, map, length, Bool, false, Ordering, Less, Equal, Greater, Option, Some, None}
-use Rattle.std.proofs.Common.{option_map, slice_get, get_or, is_gt, is_lt, refl, sym, ap, ap₂, ◌∙◌, subst, arith, nat_cmp, IsPermutation, reverse}
+use Rattle.std.proofs.Common.{◌≡◌, ◌<◌, ℕ, zero, suc, List, [], ◌∷◌, map, length, Bool, false, Ordering, Less, Equal, Greater, Option}
+use Rattle.std.proofs.Common.{Some, None}
+use Rattle.std.proofs.Common.{option_map, slice_get, get_or, is_gt, is_lt, refl, sym, ap, ap₂, ◌∙◌, subst, arith, nat_cmp, IsPermutation}
+use Rattle.std.proofs.Common.{reverse}
 use Rattle.std.proofs.lemmas.Cmp.{on_total, then_total, nat_cmp_total}
 use Rattle.std.proofs.lemmas.List.Sorted.{IsPermutation-map, IsPermutation-sym}
 use Rattle.std.proofs.lemmas.Option.{slice_get-map, get_or_from_slice_get, same_Some}
@@ -56,7 +58,8 @@ options_total {X} {R} o = record { antisymm = antisymm; trans = trans; congr = c
 
 -- the first elements decide nothing that the lists don't
 firsts_decide : {X : Type 0} (R : X → X → Ordering) (xs ys : List X) (o : Ordering)
-    → ordering_then (option_cmp R (slice_get xs 0) (slice_get ys 0)) (ordering_then (slice_cmp R xs ys) o) ≡ ordering_then (slice_cmp R xs ys) o
+    → ordering_then (option_cmp R (slice_get xs 0) (slice_get ys 0)) (ordering_then (slice_cmp R xs ys) o) ≡ ordering_then
+    (slice_cmp R xs ys) o
 firsts_decide R [] [] o = refl
 firsts_decide R [] (y ∷ ys) o = refl
 firsts_decide R (x ∷ xs) [] o = refl
@@ -87,7 +90,8 @@ module _ (county : County) where
       (slice_get-map (λ (d : ℕ × Chain). d.1) county.chains i ∙ ap (option_map (λ (d : ℕ × Chain). d.1)) e)
 
   agrees : (i j : ℕ) (x y : ℕ × Chain) → slice_get county.chains i ≡ Some x → slice_get county.chains j ≡ Some y
-      → start_cmp county (start_at county i) (start_at county j) ≡ ordering_then (points_cmp (least_points x) (least_points y)) (nat_cmp i j)
+      → start_cmp county (start_at county i) (start_at county j) ≡ ordering_then (points_cmp (least_points x) (least_points y))
+      (nat_cmp i j)
   agrees i j x y e f =
       firsts_decide point_cmp (step_points county (least_step county i)) (step_points county (least_step county j)) (nat_cmp i j)
       ∙ ap₂ (λ ps qs. ordering_then (points_cmp ps qs) (nat_cmp i j)) (least_read i x e) (least_read j y f)

@@ -1,5 +1,6 @@
 -- Landmarks sorted by their bodies, their links and their places stand in their new order.
-use Rattle.std.proofs.Common.{◌≡◌, ◌<◌, ◌≤◌, ◌+◌, ◌-◌, ℕ, suc, List, [], ◌∷◌, map, filter, filter_map, length, Option, Some, None, option_map}
+use Rattle.std.proofs.Common.{◌≡◌, ◌<◌, ◌≤◌, ◌+◌, ◌-◌, ℕ, suc, List, [], ◌∷◌, map, filter, filter_map, length, Option, Some, None}
+use Rattle.std.proofs.Common.{option_map}
 use Rattle.std.proofs.Common.{unwrap_or, slice_get, Ordering, refl, sym, ap, ap₂, ◌∙◌, subst, arith, nat_cmp, IsPermutation, IsTrue, false}
 use Rattle.std.proofs.lemmas.Bool.{ltb-true}
 use Rattle.std.proofs.lemmas.Cmp.{on_total, then_total, nat_cmp_total, lists_total}
@@ -178,7 +179,8 @@ module _ (county : County) (steps : List Step) (is : IsCounty county) (whole : A
       lands_once = ap (has_repeat nat_cmp) lands_told
           ∙ has_repeat-apart nat_keys (entry_keys (landmarks_in_order county order))
           (apart-permutation nat_keys (entry_keys (landmarks_in_order county order)) (lands county)
-          (IsPermutation-map (λ (d : ℕ × List Body7). d.0) (landmarks_in_order county order) county.landmarks permuted_landmarks) lands_apart)
+          (IsPermutation-map (λ (d : ℕ × List Body7). d.0) (landmarks_in_order county order) county.landmarks permuted_landmarks)
+          lands_apart)
 
       pub lands_counted : length (filter_map (slice_get (lands county)) places) ≡ length county.landmarks
       lands_counted = ap length lands_told ∙ length-map (landmarks_in_order county order) (λ (d : ℕ × List Body7). d.0)

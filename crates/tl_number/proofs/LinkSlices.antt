@@ -55,7 +55,8 @@ module _ {X : Type 0} (number : X → ℕ) where
         (x ∷ filter (λ y. number y == suc n) xs) (filter (λ y. number y == suc n) xs)
 
     before : Cut true true false
-    before = ap (λ k. take k (drop (upto n xs) xs)) (let t : suc (upto (suc n) xs) - suc (upto n xs) ≡ upto (suc n) xs - upto n xs = omega arith in t)
+    before = ap (λ k. take k (drop (upto n xs) xs)) (let t : suc (upto (suc n) xs) - suc (upto n xs) ≡ upto
+        (suc n) xs - upto n xs = omega arith in t)
         ∙ rest
 
     here : number x ≡ suc n → Cut false true true

@@ -1,6 +1,8 @@
 -- Names sorted by their bytes, the ranks of their first uses and their places stand in their new order.
-use Rattle.std.proofs.Common.{◌≡◌, ◌<◌, ◌≤◌, ◌+◌, ℕ, zero, suc, nat_lt, List, [], ◌∷◌, ◌++◌, map, flat_map, filter_map, length, Bool, true, false}
-use Rattle.std.proofs.Common.{cond, not, Ordering, Less, Equal, Greater, Option, Some, None, option_map, slice_get, is_eq, sym, refl, ap, ap₂}
+use Rattle.std.proofs.Common.{◌≡◌, ◌<◌, ◌≤◌, ◌+◌, ℕ, zero, suc, nat_lt, List, [], ◌∷◌, ◌++◌, map, flat_map, filter_map, length, Bool}
+use Rattle.std.proofs.Common.{true, false}
+use Rattle.std.proofs.Common.{cond, not, Ordering, Less, Equal, Greater, Option, Some, None, option_map, slice_get, is_eq, sym, refl, ap}
+use Rattle.std.proofs.Common.{ap₂}
 use Rattle.std.proofs.Common.{◌∙◌, subst, arith, nat_cmp, IsPermutation, append-nil, append_assoc}
 use Rattle.std.proofs.lemmas.Bool.{ltb-true, ltb-false}
 use Rattle.std.proofs.lemmas.Cmp.{on_total, then_total, nat_cmp_total}
@@ -99,7 +101,8 @@ rank_told ks f = go (nat_lt (position_or_len (λ k. is_eq (nat_cmp f k)) ks) (le
   where
     go : (b : Bool) → nat_lt (position_or_len (λ k. is_eq (nat_cmp f k)) ks) (length ks) ≡ b
         → from_one (cond b (Some (position_or_len (λ k. is_eq (nat_cmp f k)) ks)) None) ≡ place_from nat_keys 1 ks f
-    go true e = (let t : position_or_len (λ k. is_eq (nat_cmp f k)) ks + 1 ≡ 1 + position_or_len (λ k. is_eq (nat_cmp f k)) ks = omega arith in t)
+    go true e = (let t : position_or_len (λ k. is_eq (nat_cmp f k)) ks + 1 ≡ 1 + position_or_len (λ k. is_eq
+        (nat_cmp f k)) ks = omega arith in t)
         ∙ sym (found_rank 1 ks f (ltb-true (position_or_len (λ k. is_eq (nat_cmp f k)) ks) (length ks) e))
     go false e = sym (missing_rank 1 ks f (ltb-false (position_or_len (λ k. is_eq (nat_cmp f k)) ks) (length ks) e))
 
@@ -147,10 +150,12 @@ module _ (county : County) (steps : List Step) (is : IsCounty county) (whole : A
       (up_to-strict (length (arranged_tlids order))))) f g refl refl)
 
   abbrev item_cmp : Option Body5 → Option ℕ → ℕ → Option Body5 → Option ℕ → ℕ → Ordering
-  item_cmp a f i b g j = ordering_then (option_cmp name_body_cmp a b) (ordering_then (nat_cmp (rank_of seen f) (rank_of seen g)) (nat_cmp i j))
+  item_cmp a f i b g j = ordering_then (option_cmp name_body_cmp a b) (ordering_then (nat_cmp (rank_of seen f) (rank_of seen g))
+      (nat_cmp i j))
 
   agrees : (i j : ℕ) (x y : ℕ × Body5) → slice_get county.names i ≡ Some x → slice_get county.names j ≡ Some y
-      → ranked_cmp county (ranked_at county seen i) (ranked_at county seen j) ≡ ordering_then (name_key_cmp (name_key used x) (name_key used y))
+      → ranked_cmp county (ranked_at county seen i) (ranked_at county seen j) ≡ ordering_then (name_key_cmp (name_key used x)
+      (name_key used y))
       (nat_cmp i j)
   agrees i j x y h k =
       let value = λ (n : ℕ) (z : ℕ × Body5) (e : slice_get county.names n ≡ Some z).
@@ -180,4 +185,5 @@ module _ (county : County) (steps : List Step) (is : IsCounty county) (whole : A
 
   pub few_feats : length (filter_map (slice_get (feats county)) (map ranked_place items)) ≡ length county.names
   few_feats = ap length feats_told ∙ length-map (names_in_order county order) (λ (d : ℕ × Body5). d.0)
-      ∙ sym (length_permutation (names_in_order county order) county.names (names_permutation county order is (arranges county steps is whole)))
+      ∙ sym (length_permutation (names_in_order county order) county.names (names_permutation county order is
+      (arranges county steps is whole)))

@@ -1,6 +1,7 @@
 -- Where two names are first used along the chains decides as all their uses do.
 use Rattle.std.proofs.Common.{◌≡◌, ◌⊎◌, ◌<◌, ◌≤◌, ◌+◌, ◌==◌, ℕ, zero, suc, List, [], ◌∷◌, ◌++◌, map, filter, flat_map, length, Bool, true}
-use Rattle.std.proofs.Common.{false, cond, Ordering, Less, Equal, Greater, Option, Some, None, is_eq, sym, refl, ap, ap₂, ◌∙◌, subst, inl, inr}
+use Rattle.std.proofs.Common.{false, cond, Ordering, Less, Equal, Greater, Option, Some, None, is_eq, sym, refl, ap, ap₂, ◌∙◌, subst, inl}
+use Rattle.std.proofs.Common.{inr}
 use Rattle.std.proofs.Common.{arith, nat_cmp, nat_lt, length-append}
 use Rattle.std.proofs.lemmas.List.{length-map}
 use Rattle.std.specs.Cmp.{IsTotalOrder}
@@ -112,14 +113,16 @@ uses_counted us g = length-map (filter (λ (u : Use × ℕ). u.1 == g) us) (λ (
 
 -- the uses of a FEAT where the first use is its own, and where it isn't
 own_use : (u : Use × ℕ) (us : List (Use × ℕ)) (f : ℕ) → u.1 ≡ f → uses_of (u ∷ us) f ≡ u.0 ∷ uses_of us f
-own_use u us f e = ap (λ b. map (λ (w : Use × ℕ). w.0) (cond b (u ∷ filter (λ w. w.1 == f) us) (filter (λ w. w.1 == f) us))) (eq-eqb u.1 f e)
+own_use u us f e = ap (λ b. map (λ (w : Use × ℕ). w.0) (cond b (u ∷ filter (λ w. w.1 == f) us) (filter (λ w. w.1 == f) us)))
+    (eq-eqb u.1 f e)
 
 other_use : (u : Use × ℕ) (us : List (Use × ℕ)) (f : ℕ) → (u.1 ≡ f → ⊥) → uses_of (u ∷ us) f ≡ uses_of us f
 other_use u us f ne = ap (λ b. map (λ (w : Use × ℕ). w.0) (cond b (u ∷ filter (λ w. w.1 == f) us) (filter (λ w. w.1 == f) us)))
     (ne_eqb u.1 f ne)
 
 -- the FEAT of the first use comes before any other
-module _ (seen : List ℕ) (u : Use) (h : ℕ) (us : List (Use × ℕ)) (after : AllByRecursion (λ v. use_cmp u v ≡ Less) (map (λ (w : Use × ℕ). w.0) us))
+module _ (seen : List ℕ) (u : Use) (h : ℕ) (us : List (Use × ℕ)) (after : AllByRecursion (λ v. use_cmp u v ≡ Less) (map (λ
+    (w : Use × ℕ). w.0) us))
     (g : ℕ) (new : times nat_cmp h seen ≡ 0) (unseen : times nat_cmp g seen ≡ 0) (apart : is_eq (nat_cmp g h) ≡ false) where
   abbrev feats : List ℕ
   feats = map (λ (w : Use × ℕ). w.1) us

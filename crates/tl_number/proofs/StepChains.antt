@@ -44,7 +44,8 @@ alone x (y ∷ z ∷ zs) m h = absurd (omega (arith, h))
 
 pub flat_map-append : {X Y : Type 0} (f : X → List Y) (xs ys : List X) → flat_map f (xs ++ ys) ≡ flat_map f xs ++ flat_map f ys
 flat_map-append f [] ys = refl
-flat_map-append f (x ∷ xs) ys = ap (λ zs. f x ++ zs) (flat_map-append f xs ys) ∙ (let t : f x ++ (flat_map f xs ++ flat_map f ys) ≡ (f x ++ flat_map f xs) ++ flat_map f ys = simp append_assoc in t)
+flat_map-append f (x ∷ xs) ys = ap (λ zs. f x ++ zs) (flat_map-append f xs ys) ∙ (let t : f x ++ (flat_map f xs ++ flat_map f ys) ≡
+    (f x ++ flat_map f xs) ++ flat_map f ys = simp append_assoc in t)
 
 pub flat_map-map : {X Y Z : Type 0} (f : Y → List Z) (g : X → Y) (xs : List X) → flat_map f (map g xs) ≡ flat_map (λ x. f (g x)) xs
 flat_map-map f g [] = refl
@@ -58,7 +59,8 @@ of_chain f (Some chain) = f chain
 module _ (county : County) (is : IsCounty county) where
   -- the TLID at a place is that of one entry, which stands there
   pub one_here : (p : ℕ) → p < length county.chains
-      → (e : ℕ × Chain) × (slice_get county.chains p ≡ Some e) × (entries_of county.chains (tlid_at county p) ≡ e ∷ []) × (tlid_at county p ≡ e.0)
+      → (e : ℕ × Chain) × (slice_get county.chains p ≡ Some e) × (entries_of county.chains (tlid_at county p) ≡ e ∷ []) ×
+      (tlid_at county p ≡ e.0)
   one_here p h =
       let e = at_place county.chains p h in
       let tlid : tlid_at county p ≡ e.0.0 =

@@ -1,5 +1,6 @@
 -- The points of steps, point by point: those of a turned chain from its end, and the comparison of two.
-use Rattle.std.proofs.Common.{◌≡◌, ◌≢◌, ◌<◌, ◌≤◌, ◌-◌, ℕ, zero, suc, List, [], ◌∷◌, length, drop, reverse, Bool, true, false, Ordering, Less, Equal}
+use Rattle.std.proofs.Common.{◌≡◌, ◌≢◌, ◌<◌, ◌≤◌, ◌-◌, ℕ, zero, suc, List, [], ◌∷◌, length, drop, reverse, Bool, true, false, Ordering}
+use Rattle.std.proofs.Common.{Less, Equal}
 use Rattle.std.proofs.Common.{Greater, Option, Some, None, option_map, slice_get, get_or, sym, refl, ap, ap₂, ◌∙◌, arith}
 use Rattle.std.proofs.lemmas.List.{drop_all, get_or-reverse, length-reverse}
 use Rattle.std.proofs.lemmas.Option.{slice_get-get_or, slice_get_past}
@@ -37,7 +38,8 @@ module _ (county : County) (s : Step) where
   point_kept t i = ap (λ ps. slice_get ps i) (sym (kept_points t (chain_at county s.place)))
 
   pub point_turned : s.turned ≡ true → (i : ℕ) → i < length (points_of (chain_at county s.place))
-      → slice_get (points_of (chain_at county s.place)) (length (points_of (chain_at county s.place)) - 1 - i) ≡ slice_get (step_points county s) i
+      → slice_get (points_of (chain_at county s.place)) (length (points_of (chain_at county s.place)) - 1 - i) ≡ slice_get
+      (step_points county s) i
   point_turned t i h =
       sym (ap (λ ps. slice_get ps i) (turned_points t (chain_at county s.place)) ∙ get-reverse (points_of (chain_at county s.place)) i h)
 

@@ -44,12 +44,14 @@ module _ {K : Type 0} {cmp : K → K → Ordering} (o : IsKeyOrder cmp) (new : K
   missing_image i [] k h = refl
   missing_image i (x ∷ xs) k h = go (is_eq (cmp k x)) h (missing_image (suc i) xs k)
     where
-      go : (b : Bool) → suc (length xs) ≤ cond (not b) (1 + place k xs) 0 → (length xs ≤ place k xs → image cmp (pairs_from (suc i) xs) k ≡ k)
+      go : (b : Bool) → suc (length xs) ≤ cond (not b) (1 + place k xs) 0 → (length xs ≤ place k xs → image cmp (pairs_from
+          (suc i) xs) k ≡ k)
           → cond b (new x i) (image cmp (pairs_from (suc i) xs) k) ≡ k
       go true l ih = absurd (omega (arith, l))
       go false l ih = ih (omega (arith, l))
 
-  seen_image : (ks : List K) (k : K) (p : ℕ) → Some p ≡ position (λ other. is_eq (cmp k other)) ks → image cmp (pairs_from 1 ks) k ≡ new k (p + 1)
+  seen_image : (ks : List K) (k : K) (p : ℕ) → Some p ≡ position (λ other. is_eq (cmp k other)) ks → image cmp
+      (pairs_from 1 ks) k ≡ new k (p + 1)
   seen_image ks k p e =
       let found = cond_some (nat_lt (place k ks) (length ks)) (place k ks) p (sym e) in
       found_image 1 ks k (ltb-true (place k ks) (length ks) found.0)
@@ -101,7 +103,8 @@ range_bounds a zero = tt
 range_bounds a (suc n) = (
   (omega arith, omega arith),
   all_weaker (λ j. (a + 1 ≤ j) × (j < (a + 1) + n)) (λ j. (a ≤ j) × (j < a + suc n))
-      (λ j h. (let low = h.0 in omega (arith, low), let high = h.1 in omega (arith, high))) (range_with_len (a + 1) n) (range_bounds (a + 1) n),
+      (λ j h. (let low = h.0 in omega (arith, low), let high = h.1 in omega (arith, high))) (range_with_len (a + 1) n) (range_bounds
+      (a + 1) n),
 )
 
 pub known_up_to : (n k : ℕ) → 0 < k → k ≤ n → stands_in nat_cmp k (up_to n) ≡ true

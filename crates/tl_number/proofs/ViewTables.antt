@@ -1,5 +1,6 @@
 -- Nodes, names, polygons and landmarks of a county in an arrangement, read by its tables.
-use Rattle.std.proofs.Common.{◌≡◌, ◌<◌, ◌≤◌, ℕ, zero, suc, List, [], ◌∷◌, map, length, Option, Some, None, option_map, Less, Equal, Greater, is_gt, false, ◌+◌, ◌-◌, ap₂}
+use Rattle.std.proofs.Common.{◌≡◌, ◌<◌, ◌≤◌, ℕ, zero, suc, List, [], ◌∷◌, map, length, Option, Some, None, option_map, Less, Equal}
+use Rattle.std.proofs.Common.{Greater, is_gt, false, ◌+◌, ◌-◌, ap₂}
 use Rattle.std.proofs.Common.{Ordering, slice_get, unwrap_or, sym, refl, ap, ◌∙◌, subst, arith, nat_cmp, IsPermutation}
 use Rattle.std.proofs.lemmas.List.{length-map}
 use Rattle.std.proofs.lemmas.List.FromFn.{length-map-range_with_len}
@@ -87,7 +88,8 @@ module _ (county : County) (steps : List Step) (is : IsCounty county) (whole : A
       let n : ℕ = length (nodes_in_order county order) in
       let permuted : IsPermutation (up_to n) (nodes (stepped county steps)) =
       subst (λ ks. IsPermutation ks (nodes (stepped county steps)))
-      (node_rights county order is (arranges county steps is whole)) (paired_nodes county order is (arranges county steps is whole)).right in
+      (node_rights county order is (arranges county steps is whole)) (paired_nodes county order is
+      (arranges county steps is whole)).right in
       sym (in_order-permutation nat_keys (up_to n) (nodes (stepped county steps)) (order_from_strict nat_cmp (up_to n) (up_to-strict n))
       (distinct-in_order nat_keys (nodes_along (stepped county steps).chains)) permuted) ∙ ap (λ ks. up_to (length ks)) (sym e)
 
@@ -153,7 +155,8 @@ module _ (county : County) (steps : List Step) (is : IsCounty county) (whole : A
         ∙ length-map (landmarks_in_order county order) (carried_landmark (renaming_of county order)) ∙ sym lands_count
 
     pub landmark_there : (i p : ℕ) → Some p ≡ slice_get tables.places.items i
-        → unwrap_or (slice_get (entry_values county.landmarks) p) [] ≡ unwrap_or (slice_get (entry_values (stepped county steps).landmarks) i) []
+        → unwrap_or (slice_get (entry_values county.landmarks) p) [] ≡ unwrap_or (slice_get (entry_values
+        (stepped county steps).landmarks) i) []
     landmark_there i p h = ap (λ (o : Option (List Body7)). unwrap_or o [])
         (value_at county.landmarks (landmarks_in_order county order) tables.places.items told.landmarks i p h
         ∙ ap (λ vs. slice_get vs i) (sym landmark_values))
@@ -187,4 +190,5 @@ module _ (county : County) (steps : List Step) (is : IsCounty county) (whole : A
 
     pub links_ordered : (links : List Fields8) → links ≡ tables.links.items → IsInOrder (on eight_land nat_cmp) links
     links_ordered links e =
-        subst (IsInOrder (on eight_land nat_cmp)) (sym (e ∙ told.links)) (by_land (stepped county steps).links whole.is_county.ascending.links)
+        subst (IsInOrder (on eight_land nat_cmp)) (sym (e ∙ told.links)) (by_land
+        (stepped county steps).links whole.is_county.ascending.links)

@@ -13,7 +13,8 @@ pub record IsCanonCounty (county : County) : Type 0 where
 
 pub GrowsFrom-prop : (greatest : ℕ) (ns : List ℕ) → IsProp (GrowsFrom greatest ns)
 GrowsFrom-prop greatest [] = hlevel props
-GrowsFrom-prop greatest (n ∷ ns) = let rest : IsProp (GrowsFrom (max greatest n) ns) = GrowsFrom-prop (max greatest n) ns in hlevel (props, rest)
+GrowsFrom-prop greatest (n ∷ ns) = let rest : IsProp (GrowsFrom (max greatest n) ns) = GrowsFrom-prop (max greatest n) ns in hlevel
+    (props, rest)
 
 pub IsCanonCounty-prop : (county : County) → IsProp (IsCanonCounty county)
 IsCanonCounty-prop county = hlevel (props, IsInOrder-prop, GrowsFrom-prop)

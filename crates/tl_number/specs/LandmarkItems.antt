@@ -30,4 +30,5 @@ own_links links count place = links_with links (slice_get (up_to count) place)
 abbrev pub landmark_place_cmp : County → List Fields8 → ℕ → ℕ → ℕ → Ordering
 landmark_place_cmp county links count a b =
     ordering_then (slice_cmp landmark_body_cmp (bodies_at county a) (bodies_at county b))
-    (ordering_then (slice_cmp link_part_cmp (map link_part (own_links links count a)) (map link_part (own_links links count b))) (nat_cmp a b))
+    (ordering_then (slice_cmp link_part_cmp (map link_part (own_links links count a)) (map link_part (own_links links count b)))
+    (nat_cmp a b))

@@ -16,7 +16,8 @@ arrange-requires-clause-once g c =
     let is = g.met.C.Chart.is_county c.args.chart in
     let profile = c.requires.profile in
     subst (NamesEachOnce county) (sym c.in_ok-steps.ensures.arrangement)
-    (λ tlid. sym (times-permutation nat_keys tlid (arranged_tlids (ascending county)) (tlids county) (ascending_arranges county is profile)))
+    (λ tlid. sym (times-permutation nat_keys tlid (arranged_tlids (ascending county)) (tlids county)
+    (ascending_arranges county is profile)))
 
 pub arrange-requires-clause-sides : goal.arrange-requires-clause-sides
 arrange-requires-clause-sides g c =

@@ -1,4 +1,5 @@
-use Rattle.std.proofs.Common.{◌≡◌, ◌<◌, ◌+◌, ◌-◌, ◌^◌, ℕ, List, map, length, filter_map, slice_get, false, sym, ap, ap₂, ◌∙◌, subst, nat_cmp, arith}
+use Rattle.std.proofs.Common.{◌≡◌, ◌<◌, ◌+◌, ◌-◌, ◌^◌, ℕ, List, map, length, filter_map, slice_get, false, sym, ap, ap₂, ◌∙◌, subst}
+use Rattle.std.proofs.Common.{nat_cmp, arith}
 use Rattle.std.proofs.lemmas.List.{length-map}
 use Rattle.std.proofs.lemmas.List.FromFn.{length-map-range_with_len}
 use Rattle.std.specs.Ordering.{on}
@@ -132,7 +133,8 @@ links_under-requires-2-clause-few_lands g c =
     subst (λ n. IsInOrder (landmark_place_cmp county links n) places) fewer c.in_ok-places.ensures.in_order in
     let new : c.in_ok-lands.lands ≡ filter_map (slice_get (lands county)) places =
     c.in_ok-lands.ensures ∙ ap (filter_map (slice_get (lands county))) c.deref-3.ensures.value in
-    let count : length c.in_ok-lands.lands ≡ length county.landmarks = ap length new ∙ lands_counted county steps is c.requires.whole ps c.requires.polygons links listed places permuted ordered in
+    let count : length c.in_ok-lands.lands ≡ length county.landmarks = ap length new
+    ∙ lands_counted county steps is c.requires.whole ps c.requires.polygons links listed places permuted ordered in
     let few = c.requires.few in
     omega (arith, count, few)
 
@@ -173,11 +175,13 @@ returns g c =
     let new : c.in_ok-lands.lands ≡ filter_map (slice_get (lands county)) places =
     c.in_ok-lands.ensures ∙ ap (filter_map (slice_get (lands county))) c.deref-3.ensures.value in
     let told : c.in_ok-links.links.items ≡ (stepped county steps).links =
-    c.in_ok-links.ensures ∙ ap (λ ls. in_order link_cmp (map (link_under ps ls) county.links)) new ∙ new_links county steps is c.requires.whole ps c.requires.polygons links listed places permuted ordered in
+    c.in_ok-links.ensures ∙ ap (λ ls. in_order link_cmp (map (link_under ps ls) county.links)) new
+    ∙ new_links county steps is c.requires.whole ps c.requires.polygons links listed places permuted ordered in
     record {
       landmarks = landmarks_told county steps is c.requires.whole ps c.requires.polygons links listed places permuted ordered;
       links = told;
       bounds = c.in_ok-bounds.ensures
           ∙ ap₂ (λ ls n. link_bounds ls n) (c.deref-4.ensures.value ∙ told)
-          (c.landmark_count-count.ensures ∙ sym (places_counted county steps is c.requires.whole ps c.requires.polygons links listed places permuted ordered));
+          (c.landmark_count-count.ensures ∙ sym (places_counted county steps is c.requires.whole ps c.requires.polygons links listed
+          places permuted ordered));
     }

@@ -26,7 +26,8 @@ loop-body-preserved g c =
     let within : c.loop-body.body < length xs = omega arith in
     let next : suc c.loop-body.body ≡ c.loop-body.body + 1 = omega arith in
     subst (λ n. slice_cmp landmark_body_cmp (drop n xs) (drop n ys) ≡ slice_cmp landmark_body_cmp xs ys) next
-    (agrees_at landmark_body_cmp c.loop-body.body xs ys (slice_cmp landmark_body_cmp xs ys) within c.loop-body.invariant (sym answer ∙ c.in-Equal.is))
+    (agrees_at landmark_body_cmp c.loop-body.body xs ys (slice_cmp landmark_body_cmp xs ys) within c.loop-body.invariant (sym answer
+    ∙ c.in-Equal.is))
 
 pub returns-then-count-body_count_at : goal.returns-then-count-body_count_at
 returns-then-count-body_count_at g c =

@@ -1,4 +1,5 @@
-use Rattle.std.proofs.Common.{◌≡◌, ◌<◌, ◌^◌, ℕ, List, map, length, filter_map, slice_get, is_lt, rules, false, sym, ap, ◌∙◌, subst, nat_cmp, arith}
+use Rattle.std.proofs.Common.{◌≡◌, ◌<◌, ◌^◌, ℕ, List, map, length, filter_map, slice_get, is_lt, rules, false, sym, ap, ◌∙◌, subst}
+use Rattle.std.proofs.Common.{nat_cmp, arith}
 use Rattle.std.proofs.Common.{IsPermutation}
 use Rattle.std.proofs.lemmas.Fn.{always_returns_same}
 use Rattle.std.proofs.lemmas.List.Sorted.{ranks_by}
@@ -27,7 +28,8 @@ feats_at-requires g c =
     (always_returns_same _ _ _ (λ a r f' k. search rules))) in
     let permuted : IsPermutation (map (ranked_at county seen) (range_with_len 0 (length county.names))) items =
     subst (λ xs. IsPermutation xs items) c.in_ok-names.ensures c.sort_unstable_by.ensures.permutation in
-    let told : c.in_ok-places.places.items ≡ map ranked_place items = c.in_ok-places.ensures ∙ ap (map ranked_place) c.deref.ensures.value in
+    let told : c.in_ok-places.places.items ≡ map ranked_place items = c.in_ok-places.ensures ∙ ap
+    (map ranked_place) c.deref.ensures.value in
     subst (λ places. has_repeat nat_cmp (filter_map (slice_get (feats county)) places) ≡ false) (sym (c.deref-2.ensures.value ∙ told))
     (feats_once county steps is c.requires.whole seen c.in_ok-uses.ensures items permuted ordered)
 
@@ -44,12 +46,14 @@ returns g c =
     (always_returns_same _ _ _ (λ a r f' k. search rules))) in
     let permuted : IsPermutation (map (ranked_at county seen) (range_with_len 0 (length county.names))) items =
     subst (λ xs. IsPermutation xs items) c.in_ok-names.ensures c.sort_unstable_by.ensures.permutation in
-    let told : c.in_ok-places.places.items ≡ map ranked_place items = c.in_ok-places.ensures ∙ ap (map ranked_place) c.deref.ensures.value in
+    let told : c.in_ok-places.places.items ≡ map ranked_place items = c.in_ok-places.ensures ∙ ap
+    (map ranked_place) c.deref.ensures.value in
     let found : c.in_ok-feats.feats ≡ filter_map (slice_get (feats county)) (map ranked_place items) =
     c.in_ok-feats.ensures ∙ ap (filter_map (slice_get (feats county))) (c.deref-2.ensures.value ∙ told) in
     record {
       feats = found ∙ feats_told county steps is c.requires.whole seen c.in_ok-uses.ensures items permuted ordered;
       names = subst (λ places. AreReadAt county.names places (names_in_order county (arrangement_of county steps))) (sym told)
           (names_told county steps is c.requires.whole seen c.in_ok-uses.ensures items permuted ordered);
-      few = subst (λ n. n < 2 ^ 32) (sym (ap length found ∙ few_feats county steps is c.requires.whole seen c.in_ok-uses.ensures items permuted ordered)) c.requires.few;
+      few = subst (λ n. n < 2 ^ 32) (sym (ap length found
+          ∙ few_feats county steps is c.requires.whole seen c.in_ok-uses.ensures items permuted ordered)) c.requires.few;
     }

@@ -11,5 +11,6 @@ loop-step-preserved g c =
     let county = g.C.Chart.county c.args.chart.now in
     let cut : c.loop-step.rest.now ≡ c.in-Some.step.now ∷ c.in-Some.later.now = c.in-Some.ensures.cases.0 in
     ap (λ seen. first_seen_after nat_cmp seen (feats_along_steps county c.in-Some.later.now)) c.in_ok-see_feats.ensures
-    ∙ sym (seen_append nat_cmp c.loop-step.feats (feats_of (step_chain county c.in-Some.step.now)) (feats_along_steps county c.in-Some.later.now))
+    ∙ sym (seen_append nat_cmp c.loop-step.feats (feats_of (step_chain county c.in-Some.step.now))
+    (feats_along_steps county c.in-Some.later.now))
     ∙ ap (λ steps. first_seen_after nat_cmp c.loop-step.feats (feats_along_steps county steps)) (sym cut) ∙ c.loop-step.invariant

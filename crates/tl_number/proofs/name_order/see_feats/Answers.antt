@@ -6,5 +6,6 @@ use Rattle.tl_number.proofs.name_order.see_feats.Goals as goal
 
 pub loop-name-preserved : goal.loop-name-preserved
 loop-name-preserved g c =
-    seen_next nat_cmp c.loop-name.name c.loop-name.feats c.see_feat.new.feats (feats_of (step_chain (g.C.Chart.county c.args.chart.now) c.args.step))
+    seen_next nat_cmp c.loop-name.name c.loop-name.feats c.see_feat.new.feats (feats_of (step_chain
+    (g.C.Chart.county c.args.chart.now) c.args.step))
     c.feat_of_step.result _ c.in_ok-see_feat.ensures c.feat_of_step.ensures c.loop-name.invariant

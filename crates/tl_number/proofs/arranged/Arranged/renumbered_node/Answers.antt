@@ -10,5 +10,6 @@ returns-in-Some g c =
     let county = g.C.Chart.county c.args.self.now.chart in
     let renaming = renaming_of county (arrangement_of county c.args.self.now.steps.items) in
     ap Some (c.new_node.ensures.image ∙ ap (λ pairs. image nat_cmp pairs c.in-Some.number)
-    (nodes_paired county c.args.self.now.steps.items (g.met.C.Chart.is_county c.args.self.now.chart) c.args.self.now.whole c.args.self.now.nodes c.args.self.now.nodes_told))
+    (nodes_paired county c.args.self.now.steps.items (g.met.C.Chart.is_county c.args.self.now.chart) c.args.self.now.whole
+    c.args.self.now.nodes c.args.self.now.nodes_told))
     ∙ sym (ap (option_map (image nat_cmp renaming.nodes)) c.in-Some.is)

@@ -13,10 +13,14 @@ returns-in-Some g c =
     let county = g.C.Chart.county c.args.self.now.chart in
     let renaming = renaming_of county (arrangement_of county c.args.self.now.steps.items) in
     c.renumbered_feat.ensures ∙ ap (option_map (image nat_cmp renaming.names)) c.feat_of_step.ensures
-    ∙ told (g.C.Chart.county c.args.self.now.chart) c.args.self.now.steps.items (g.met.C.Chart.is_county c.args.self.now.chart) c.args.self.now.whole
-    (λ (o : Option Chain). slice_get (feats_of o) c.args.name) (λ (o : Option Chain). option_map (image nat_cmp renaming.names) (slice_get (feats_of o) c.args.name)) (λ chain. sym (slice_get-map (image nat_cmp renaming.names) chain.feats c.args.name)) c.args.place c.in-Some.step c.in-Some.ensures
+    ∙ told (g.C.Chart.county c.args.self.now.chart) c.args.self.now.steps.items
+    (g.met.C.Chart.is_county c.args.self.now.chart) c.args.self.now.whole
+    (λ (o : Option Chain). slice_get (feats_of o) c.args.name) (λ (o : Option Chain). option_map (image nat_cmp renaming.names)
+    (slice_get (feats_of o) c.args.name)) (λ chain. sym (slice_get-map
+    (image nat_cmp renaming.names) chain.feats c.args.name)) c.args.place c.in-Some.step c.in-Some.ensures
 
 pub returns-in-None : goal.returns-in-None
 returns-in-None g c =
-    untold (g.C.Chart.county c.args.self.now.chart) c.args.self.now.steps.items (g.met.C.Chart.is_county c.args.self.now.chart) c.args.self.now.whole
+    untold (g.C.Chart.county c.args.self.now.chart) c.args.self.now.steps.items
+    (g.met.C.Chart.is_county c.args.self.now.chart) c.args.self.now.whole
     (λ (o : Option Chain). slice_get (feats_of o) c.args.name) c.args.place c.in-None.ensures

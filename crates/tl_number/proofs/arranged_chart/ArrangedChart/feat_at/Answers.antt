@@ -14,9 +14,13 @@ overflow_cast-result g c =
 pub returns-in-Some : goal.returns-in-Some
 returns-in-Some g c =
     c.in-Some.ensures ∙ ap (λ n. slice_get (up_to n) c.args.place) (c.len.ensures.len)
-    ∙ ap (λ numbers. slice_get numbers c.args.place) (sym (feats_stepped (g.C.Chart.county c.args.self.now.chart) c.args.self.now.steps.items (g.met.C.Chart.is_county c.args.self.now.chart) c.args.self.now.whole c.args.self.now.names c.args.self.now.names_told))
+    ∙ ap (λ numbers. slice_get numbers c.args.place) (sym (feats_stepped
+    (g.C.Chart.county c.args.self.now.chart) c.args.self.now.steps.items
+    (g.met.C.Chart.is_county c.args.self.now.chart) c.args.self.now.whole c.args.self.now.names c.args.self.now.names_told))
 
 pub returns-in-None : goal.returns-in-None
 returns-in-None g c =
     c.in-None.ensures ∙ ap (λ n. slice_get (up_to n) c.args.place) (c.len.ensures.len)
-    ∙ ap (λ numbers. slice_get numbers c.args.place) (sym (feats_stepped (g.C.Chart.county c.args.self.now.chart) c.args.self.now.steps.items (g.met.C.Chart.is_county c.args.self.now.chart) c.args.self.now.whole c.args.self.now.names c.args.self.now.names_told))
+    ∙ ap (λ numbers. slice_get numbers c.args.place) (sym (feats_stepped
+    (g.C.Chart.county c.args.self.now.chart) c.args.self.now.steps.items
+    (g.met.C.Chart.is_county c.args.self.now.chart) c.args.self.now.whole c.args.self.now.names c.args.self.now.names_told))

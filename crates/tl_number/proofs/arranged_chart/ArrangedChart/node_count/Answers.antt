@@ -5,4 +5,6 @@ use Rattle.tl_number.proofs.arranged_chart.ArrangedChart.node_count.Goals as goa
 
 pub returns : goal.returns
 returns g c =
-    c.len.ensures.len ∙ sym (length-range_with_len 1 _) ∙ sym (ap length (nodes_stepped (g.C.Chart.county c.args.self.now.chart) c.args.self.now.steps.items (g.met.C.Chart.is_county c.args.self.now.chart) c.args.self.now.whole c.args.self.now.nodes c.args.self.now.nodes_told))
+    c.len.ensures.len ∙ sym (length-range_with_len 1 _) ∙ sym (ap length (nodes_stepped
+    (g.C.Chart.county c.args.self.now.chart) c.args.self.now.steps.items
+    (g.met.C.Chart.is_county c.args.self.now.chart) c.args.self.now.whole c.args.self.now.nodes c.args.self.now.nodes_told))

@@ -11,18 +11,23 @@ returns-in-Some-right_of_step g c =
     let county = g.C.Chart.county c.args.self.now.chart in
     let renaming = renaming_of county (arrangement_of county c.args.self.now.steps.items) in
     ap Some c.renumbered_side.ensures ∙ ap (option_map (renumbered_side renaming)) c.in-Some-right_of_step.ensures
-    ∙ told (g.C.Chart.county c.args.self.now.chart) c.args.self.now.steps.items (g.met.C.Chart.is_county c.args.self.now.chart) c.args.self.now.whole
-    (λ (o : Option Chain). option_map (λ (chain : Chain). chain.right) o) (λ (o : Option Chain). option_map (renumbered_side renaming) (right_of o)) (λ chain. refl) c.args.place c.in-Some.step c.in-Some.ensures
+    ∙ told (g.C.Chart.county c.args.self.now.chart) c.args.self.now.steps.items
+    (g.met.C.Chart.is_county c.args.self.now.chart) c.args.self.now.whole
+    (λ (o : Option Chain). option_map (λ (chain : Chain). chain.right) o) (λ (o : Option Chain). option_map (renumbered_side renaming)
+    (right_of o)) (λ chain. refl) c.args.place c.in-Some.step c.in-Some.ensures
 
 pub returns-in-None-right_of_step : goal.returns-in-None-right_of_step
 returns-in-None-right_of_step g c =
     let county = g.C.Chart.county c.args.self.now.chart in
     let renaming = renaming_of county (arrangement_of county c.args.self.now.steps.items) in
     ap (option_map (renumbered_side renaming)) c.in-None-right_of_step.ensures
-    ∙ told (g.C.Chart.county c.args.self.now.chart) c.args.self.now.steps.items (g.met.C.Chart.is_county c.args.self.now.chart) c.args.self.now.whole
-    (λ (o : Option Chain). option_map (λ (chain : Chain). chain.right) o) (λ (o : Option Chain). option_map (renumbered_side renaming) (right_of o)) (λ chain. refl) c.args.place c.in-Some.step c.in-Some.ensures
+    ∙ told (g.C.Chart.county c.args.self.now.chart) c.args.self.now.steps.items
+    (g.met.C.Chart.is_county c.args.self.now.chart) c.args.self.now.whole
+    (λ (o : Option Chain). option_map (λ (chain : Chain). chain.right) o) (λ (o : Option Chain). option_map (renumbered_side renaming)
+    (right_of o)) (λ chain. refl) c.args.place c.in-Some.step c.in-Some.ensures
 
 pub returns-in-None : goal.returns-in-None
 returns-in-None g c =
-    untold (g.C.Chart.county c.args.self.now.chart) c.args.self.now.steps.items (g.met.C.Chart.is_county c.args.self.now.chart) c.args.self.now.whole
+    untold (g.C.Chart.county c.args.self.now.chart) c.args.self.now.steps.items
+    (g.met.C.Chart.is_county c.args.self.now.chart) c.args.self.now.whole
     (λ (o : Option Chain). option_map (λ (chain : Chain). chain.right) o) c.args.place c.in-None.ensures
