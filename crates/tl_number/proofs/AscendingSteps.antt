@@ -1,11 +1,10 @@
 -- The steps of all chains in the order of their points and places tell the ascending arrangement.
-use Rattle.std.proofs.Common.{◌≡◌, ◌<◌, ℕ, zero, suc, List, [], ◌∷◌, map, length, Bool, false, Ordering, Less, Equal, Greater, Option}
+use Rattle.std.proofs.Common.{◌≡◌, ◌<◌, ℕ, List, [], ◌∷◌, map, length, Ordering, Less, Equal, Greater, Option}
 use Rattle.std.proofs.Common.{Some, None}
-use Rattle.std.proofs.Common.{option_map, slice_get, get_or, is_gt, is_lt, refl, sym, ap, ap₂, ◌∙◌, subst, arith, nat_cmp, IsPermutation}
+use Rattle.std.proofs.Common.{option_map, slice_get, is_gt, refl, ap, ap₂, ◌∙◌, nat_cmp, IsPermutation}
 use Rattle.std.proofs.Common.{reverse}
 use Rattle.std.proofs.lemmas.Cmp.{on_total, then_total, nat_cmp_total}
-use Rattle.std.proofs.lemmas.List.Sorted.{IsPermutation-map, IsPermutation-sym}
-use Rattle.std.proofs.lemmas.Option.{slice_get-map, get_or_from_slice_get, same_Some}
+use Rattle.std.proofs.lemmas.Option.{slice_get-map, get_or_from_slice_get}
 use Rattle.std.specs.Cmp.{IsTotalOrder}
 use Rattle.std.specs.Cmp.Lexicographic.{slice_cmp}
 use Rattle.std.specs.List.{AllByRecursion, range_with_len}
@@ -15,15 +14,12 @@ use Rattle.tl_layout.specs.Coordinates.{Coordinates}
 use Rattle.tl_shape.specs.Chain.{Chain}
 use Rattle.tl_shape.specs.PointOrder.{point_cmp, points_cmp}
 use Rattle.tl_shape.specs.Turned.{turned_if}
-use Rattle.tl_county.specs.ChartWords.{chain_at, points_of}
+use Rattle.tl_county.specs.ChartWords.{points_of}
 use Rattle.tl_county.specs.County.{County}
 use Rattle.tl_county.specs.CountyRules.{tlids}
 use Rattle.tl_county.specs.Orders.{IsInOrder, in_order}
-use Rattle.tl_county.proofs.FirstFault.{Among}
 use Rattle.tl_county.proofs.KeyOrders.{point_keys, points_keys}
-use Rattle.tl_county.proofs.LinkedCounty.{each_from}
-use Rattle.tl_county.proofs.Lists.{map-map, map_itself, map_agree_all, all_weaker, all_map, all_unmap}
-use Rattle.tl_county.proofs.Members.{among-permutation, among-unmap}
+use Rattle.tl_county.proofs.Lists.{map-map, all_weaker, all_map, all_unmap}
 use Rattle.tl_number.specs.Arrangement.{ascending, least_points, comes_turned}
 use Rattle.tl_number.specs.AscendingSteps.{least_step, start_at, start_cmp, start_step}
 use Rattle.tl_number.specs.Steps.{arrangement_of, AreSteps, step_points, tlid_at}

@@ -1,12 +1,11 @@
 -- The renaming of an arrangement carries the county onto the arranged county.
-use Rattle.std.proofs.Common.{◌≡◌, ◌⊎◌, ◌<◌, ◌≤◌, ℕ, List, [], ◌∷◌, ◌++◌, map, filter, flat_map, length, Bool, true, false}
-use Rattle.std.proofs.Common.{Option, option_to_list, IsTrue, sym, refl, ap, ◌∙◌, subst, inl, inr, arith, nat_cmp, IsPermutation}
+use Rattle.std.proofs.Common.{◌≡◌, ℕ, List, map, flat_map, length, Bool}
+use Rattle.std.proofs.Common.{Option, IsTrue, sym, refl, ap, ◌∙◌, subst, nat_cmp, IsPermutation}
 use Rattle.std.proofs.lemmas.Bool.{ltb-true, lt-ltb}
 use Rattle.std.proofs.lemmas.List.{length-map}
 use Rattle.std.proofs.lemmas.List.Sorted.{IsPermutation-refl, IsPermutation-sym, IsPermutation-trans, IsPermutation-map}
 use Rattle.std.specs.List.{AllByRecursion}
 use Rattle.std.specs.Ordering.{on}
-use Rattle.tl_layout.specs.Fields.{Fields8}
 use Rattle.tl_layout.specs.declared.type5.Body5.{Body5}
 use Rattle.tl_layout.specs.declared.type7.Body7.{Body7}
 use Rattle.tl_layout.specs.declared.type_p.BodyP.{BodyP}
@@ -16,18 +15,18 @@ use Rattle.tl_county.specs.BodyOrder.{link_cmp}
 use Rattle.tl_county.specs.County.{County}
 use Rattle.tl_county.specs.CountyRules.{IsCounty, tlids, feats, polygon_keys, lands, nodes, nodes_along, polygons_along}
 use Rattle.tl_county.specs.CountyRules.{chain_nodes, chain_polygons, AllKeysStandIn}
-use Rattle.tl_county.specs.Orders.{times, stands_in, has_repeat, in_order, distinct}
-use Rattle.tl_county.specs.PolygonKeys.{PolygonKey, key_cmp, key_on}
-use Rattle.tl_county.specs.Renumbering.{Renumbering, image, carried_chain, carried_name, carried_polygon, carried_landmark}
+use Rattle.tl_county.specs.Orders.{times, stands_in, has_repeat, in_order}
+use Rattle.tl_county.specs.PolygonKeys.{PolygonKey, key_cmp}
+use Rattle.tl_county.specs.Renumbering.{image, carried_chain, carried_name, carried_polygon, carried_landmark}
 use Rattle.tl_county.specs.Renumbering.{carried_link, ArePaired, NumbersArePaired, Carries}
-use Rattle.tl_county.proofs.Carried.{among-unpieces, among-turned, among-unappend}
+use Rattle.tl_county.proofs.Carried.{among-unpieces, among-turned}
 use Rattle.tl_county.proofs.CarriedCounty.{nodes-turned, nodes-unturned, polygons-unturned}
 use Rattle.tl_county.proofs.Distinct.{apart-distinct, known-distinct, known_from_distinct, has_repeat-apart}
-use Rattle.tl_county.proofs.FirstFault.{Among, all_among, among_left, among_right}
+use Rattle.tl_county.proofs.FirstFault.{Among, all_among}
 use Rattle.tl_county.proofs.KeyOrders.{key_keys}
-use Rattle.tl_county.proofs.Keys.{IsKeyOrder, IsApart, Known, nat_keys, lefts, rights, apart_from_sorted, apart-permutation}
-use Rattle.tl_county.proofs.Keys.{known-permutation, known-permutation_to, known_all, all_known, image-known, images-lefts}
-use Rattle.tl_county.proofs.Lists.{map-map, all_weaker, all_map, all_everywhere, all_joined}
+use Rattle.tl_county.proofs.Keys.{IsApart, Known, nat_keys, lefts, rights, apart_from_sorted, apart-permutation}
+use Rattle.tl_county.proofs.Keys.{known-permutation_to, known_all, all_known, image-known, images-lefts}
+use Rattle.tl_county.proofs.Lists.{map-map, all_map, all_everywhere, all_joined}
 use Rattle.tl_county.proofs.Members.{among-permutation, among-map, among-unmap, among-pieces, among_known, known_is_among}
 use Rattle.tl_county.proofs.Numbers.{of_number-among}
 use Rattle.tl_county.proofs.Permutations.{in_order-is_permutation, apart-permutation_of}

@@ -1,15 +1,12 @@
 -- Keys in the order of their first appearance: each once, the same members, and numbers that grow along the keys.
-use Rattle.std.proofs.Common.{◌≡◌, ◌⊎◌, ◌<◌, ◌≤◌, ◌+◌, ℕ, zero, suc, max, List, [], ◌∷◌, ◌++◌, map, length, Bool, true, false}
+use Rattle.std.proofs.Common.{◌≡◌, ◌⊎◌, ◌<◌, ◌≤◌, ◌+◌, ℕ, suc, max, List, [], ◌∷◌, ◌++◌, map, length, Bool, true, false}
 use Rattle.std.proofs.Common.{cond, Ordering, is_eq, sym, refl, ap, ◌∙◌, subst, inl, inr, arith, append_assoc, append-nil}
 use Rattle.std.proofs.Common.{length-append}
-use Rattle.std.proofs.lemmas.Bool.{false≢true, ltb-true, ltb-false}
-use Rattle.std.specs.List.{AllByRecursion, range_with_len}
+use Rattle.std.proofs.lemmas.Bool.{ltb-true, ltb-false}
 use Rattle.tl_county.specs.Orders.{times, stands_in}
-use Rattle.tl_county.specs.Packing.{numbered_from}
-use Rattle.tl_county.specs.Renumbering.{image}
 use Rattle.tl_county.proofs.Keys.{IsKeyOrder, IsApart, Known, times-yes, times-no, times-append, known-left, known-right}
-use Rattle.tl_county.proofs.Keys.{known-append, known_cases, known-here, known-later, same_or_not, apart_tail}
-use Rattle.tl_number.specs.Growth.{GrowsFrom, Grows, first_seen_after, first_seen, numbered, up_to}
+use Rattle.tl_county.proofs.Keys.{known-append, known_cases, known-here, known-later, same_or_not}
+use Rattle.tl_number.specs.Growth.{GrowsFrom, Grows, first_seen_after, first_seen}
 
 module _ {K : Type 0} {cmp : K → K → Ordering} (o : IsKeyOrder cmp) where
   -- the place of a key in a list whose first place is i

@@ -1,6 +1,6 @@
 -- Links gathered landmark by landmark, and counted LAND by LAND.
 use Rattle.std.proofs.Common.{◌≡◌, ◌⊎◌, ◌<◌, ◌≤◌, ◌+◌, ◌-◌, ℕ, zero, suc, nat_le, List, [], ◌∷◌, ◌++◌, map, filter, flat_map, length, take}
-use Rattle.std.proofs.Common.{Bool, true, false, cond, not, Ordering, Less, Equal, Greater, is_gt, Option, Some, None, option_to_list}
+use Rattle.std.proofs.Common.{Bool, true, false, cond, not, Ordering, Less, Equal, Greater, is_gt, Some, option_to_list}
 use Rattle.std.proofs.Common.{slice_get}
 use Rattle.std.proofs.Common.{refl, sym, ap, ap₂, ◌∙◌, subst, inl, inr, arith, nat_cmp, append-nil, append_assoc, IsPermutation, IsTrue}
 use Rattle.std.proofs.lemmas.Bool.{true≢false, ltb-true}
@@ -11,7 +11,7 @@ use Rattle.std.proofs.lemmas.List.FromFn.{map-range_with_len_more}
 use Rattle.std.proofs.lemmas.List.Filters.{length-filter_both}
 use Rattle.std.proofs.lemmas.List.Sorted.{IsPermutation-sym, IsPermutation-trans, IsPermutation-map}
 use Rattle.std.specs.List.{range_with_len}
-use Rattle.std.specs.Ordering.{on, MatchOrdering}
+use Rattle.std.specs.Ordering.{MatchOrdering}
 use Rattle.tl_layout.specs.ByType.{of_number}
 use Rattle.tl_layout.specs.Fields.{Fields8}
 use Rattle.tl_county.specs.BodyOrder.{link_cmp}

@@ -1,13 +1,13 @@
 -- Landmarks sorted by their bodies, their links and their places stand in their new order.
-use Rattle.std.proofs.Common.{◌≡◌, ◌<◌, ◌≤◌, ◌+◌, ◌-◌, ℕ, suc, List, [], ◌∷◌, map, filter, filter_map, length, Option, Some, None}
+use Rattle.std.proofs.Common.{◌≡◌, ℕ, List, [], ◌∷◌, map, filter_map, length, Option, Some}
 use Rattle.std.proofs.Common.{option_map}
-use Rattle.std.proofs.Common.{unwrap_or, slice_get, Ordering, refl, sym, ap, ap₂, ◌∙◌, subst, arith, nat_cmp, IsPermutation, IsTrue, false}
+use Rattle.std.proofs.Common.{unwrap_or, slice_get, Ordering, refl, sym, ap, ap₂, ◌∙◌, subst, nat_cmp, IsPermutation, IsTrue, false}
 use Rattle.std.proofs.lemmas.Bool.{ltb-true}
 use Rattle.std.proofs.lemmas.Cmp.{on_total, then_total, nat_cmp_total, lists_total}
 use Rattle.std.proofs.lemmas.List.{length-map}
 use Rattle.std.proofs.lemmas.List.FromFn.{length-range_with_len}
 use Rattle.std.proofs.lemmas.List.Sorted.{length_permutation, IsPermutation-map, IsPermutation-sym}
-use Rattle.std.proofs.lemmas.Option.{slice_get-map, slice_get_within}
+use Rattle.std.proofs.lemmas.Option.{slice_get-map}
 use Rattle.std.specs.Cmp.{IsTotalOrder}
 use Rattle.std.specs.Cmp.Lexicographic.{slice_cmp}
 use Rattle.std.specs.List.{AllByRecursion, range_with_len}
@@ -16,29 +16,27 @@ use Rattle.tl_layout.specs.Fields.{Fields8}
 use Rattle.tl_layout.specs.declared.type7.Body7.{Body7}
 use Rattle.tl_county.specs.BodyOrder.{landmark_body_cmp, link_cmp, link_part, link_part_cmp}
 use Rattle.tl_county.specs.ChartWords.{bodies_at, links_with}
-use Rattle.tl_county.specs.County.{County, eight_land}
+use Rattle.tl_county.specs.County.{County}
 use Rattle.tl_county.specs.CountyRules.{IsCounty, lands, link_key}
 use Rattle.tl_county.specs.Entries.{entry_keys}
 use Rattle.tl_county.specs.Orders.{IsInOrder, in_order, times, stands_in, has_repeat}
 use Rattle.tl_county.specs.PolygonKeys.{PolygonKey, key_cmp}
-use Rattle.tl_county.specs.Renumbering.{image, carried_link}
+use Rattle.tl_county.specs.Renumbering.{image}
 use Rattle.tl_county.proofs.Distinct.{has_repeat-apart}
-use Rattle.tl_county.proofs.FirstFault.{Among}
 use Rattle.tl_county.proofs.InOrder.{in_order-in_order, in_order-equal}
 use Rattle.tl_county.proofs.KeyOrders.{landmark_body_keys, link_part_keys, link_keys}
-use Rattle.tl_county.proofs.Keys.{IsApart, Known, nat_keys, lefts, rights, apart_from_sorted, apart-permutation, image-injective}
-use Rattle.tl_county.proofs.Lists.{map-map, map_itself, all_weaker, all_map}
+use Rattle.tl_county.proofs.Keys.{IsApart, Known, nat_keys, apart_from_sorted, apart-permutation, image-injective}
+use Rattle.tl_county.proofs.Lists.{map-map, all_weaker, all_map}
 use Rattle.tl_county.proofs.Members.{among_known}
 use Rattle.tl_county.proofs.Permutations.{in_order-is_permutation}
 use Rattle.tl_number.specs.Arrangement.{Arrangement, landmarks_in_order, links_relinked, relinked, new_keys, polygons_in_order}
-use Rattle.tl_number.specs.Arrangement.{renaming_of, under_cenid}
 use Rattle.tl_number.specs.Growth.{numbered, up_to}
 use Rattle.tl_number.specs.LandmarkItems.{link_under, own_links, landmark_place_cmp}
 use Rattle.tl_number.specs.Steps.{arrangement_of}
 use Rattle.tl_number.specs.Uses.{links_of, landmark_key, landmark_key_cmp}
 use Rattle.tl_number.specs.ViewFacts.{AreWhole, AreReadAt, stepped}
 use Rattle.tl_number.specs.declared.step.Step.{Step}
-use Rattle.tl_number.proofs.Carrying.{landmarks_permutation, links_arranged, lands_renamed, polygons_renamed, images-numbered}
+use Rattle.tl_number.proofs.Carrying.{landmarks_permutation, links_arranged, lands_renamed, images-numbered}
 use Rattle.tl_number.proofs.Counting.{up_to-strict}
 use Rattle.tl_number.proofs.NameOrder.{filter_map_all, then_assoc}
 use Rattle.tl_number.proofs.Placed.{lefts-numbered, rights-numbered}
@@ -49,7 +47,7 @@ use Rattle.tl_number.proofs.SortedPlaces.{sorted_places}
 use Rattle.tl_number.proofs.StepChains.{among-get}
 use Rattle.tl_number.proofs.ViewChains.{arranges}
 use Rattle.tl_number.proofs.LandmarkLinks.{listed}
-use Rattle.tl_number.proofs.ViewTables.{keys_paired, by_land}
+use Rattle.tl_number.proofs.ViewTables.{keys_paired}
 
 -- lists compared by what is made of their elements
 pub cmp_mapped : {X K : Type 0} (f : X → K) (cmp : K → K → Ordering) (xs ys : List X)

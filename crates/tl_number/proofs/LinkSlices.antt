@@ -1,6 +1,6 @@
 -- In a list in the order of its numbers the elements of one number stand between two counts.
-use Rattle.std.proofs.Common.{◌≡◌, ◌⊎◌, ◌≢◌, ◌<◌, ◌≤◌, ◌+◌, ◌-◌, ◌==◌, ℕ, zero, suc, nat_le, List, [], ◌∷◌, map, filter, length, take}
-use Rattle.std.proofs.Common.{drop, Bool, true, false, cond, Less, Equal, Greater, Ordering, is_gt, eqb, get_or, slice_get, Some, None}
+use Rattle.std.proofs.Common.{◌≡◌, ◌⊎◌, ◌≢◌, ◌<◌, ◌≤◌, ◌+◌, ◌-◌, ◌==◌, ℕ, suc, nat_le, List, [], ◌∷◌, filter, length, take}
+use Rattle.std.proofs.Common.{drop, Bool, true, false, cond, Less, Equal, Greater, Ordering, is_gt, eqb, get_or, slice_get}
 use Rattle.std.proofs.Common.{nat_cmp, refl, sym, ap, ap₂, ◌∙◌, subst, inl, inr, arith}
 use Rattle.std.proofs.lemmas.Bool.{true≢false}
 use Rattle.std.proofs.lemmas.Bool.Decides.{leb_tells, eqb_tells}

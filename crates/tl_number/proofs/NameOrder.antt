@@ -1,5 +1,5 @@
 -- Names sorted by their bytes, the ranks of their first uses and their places stand in their new order.
-use Rattle.std.proofs.Common.{◌≡◌, ◌<◌, ◌≤◌, ◌+◌, ℕ, zero, suc, nat_lt, List, [], ◌∷◌, ◌++◌, map, flat_map, filter_map, length, Bool}
+use Rattle.std.proofs.Common.{◌≡◌, ◌<◌, ◌≤◌, ◌+◌, ℕ, suc, nat_lt, List, [], ◌∷◌, ◌++◌, map, flat_map, filter_map, length, Bool}
 use Rattle.std.proofs.Common.{true, false}
 use Rattle.std.proofs.Common.{cond, not, Ordering, Less, Equal, Greater, Option, Some, None, option_map, slice_get, is_eq, sym, refl, ap}
 use Rattle.std.proofs.Common.{ap₂}
@@ -13,19 +13,19 @@ use Rattle.std.specs.Cmp.{IsTotalOrder}
 use Rattle.std.specs.Cmp.Lexicographic.{slice_cmp}
 use Rattle.std.specs.List.Sorted.{IsStrictlySortedBy}
 use Rattle.std.specs.Option.{option_cmp}
-use Rattle.std.specs.List.{cons_option, position, position_or_len, range_with_len}
-use Rattle.std.specs.Ordering.{on, ordering_then}
+use Rattle.std.specs.List.{cons_option, position_or_len, range_with_len}
+use Rattle.std.specs.Ordering.{ordering_then}
 use Rattle.tl_layout.specs.declared.type5.Body5.{Body5}
 use Rattle.tl_shape.specs.Chain.{Chain}
 use Rattle.tl_county.specs.BodyOrder.{name_body_cmp}
 use Rattle.tl_county.specs.ChartWords.{name_at}
 use Rattle.tl_county.specs.County.{County}
 use Rattle.tl_county.specs.CountyRules.{IsCounty, feats}
-use Rattle.tl_county.specs.Entries.{entry_keys, entry_values}
+use Rattle.tl_county.specs.Entries.{entry_keys}
 use Rattle.tl_county.specs.Orders.{IsInOrder, has_repeat, stands_in}
-use Rattle.tl_county.proofs.Distinct.{has_repeat-apart, apart_from_no_repeat}
+use Rattle.tl_county.proofs.Distinct.{has_repeat-apart}
 use Rattle.tl_county.proofs.KeyOrders.{name_body_keys}
-use Rattle.tl_county.proofs.Keys.{IsKeyOrder, IsApart, nat_keys, same-true, times-append, times-yes, apart-permutation, apart_from_sorted}
+use Rattle.tl_county.proofs.Keys.{IsKeyOrder, IsApart, nat_keys, times-append, times-yes, apart-permutation, apart_from_sorted}
 use Rattle.tl_number.specs.Arrangement.{Arrangement, arranged_tlids, placed, names_in_order}
 use Rattle.tl_number.specs.Growth.{first_seen_after, first_seen}
 use Rattle.tl_number.specs.NameItems.{feats_along_steps, from_one, rank_of, ranked_at, ranked_cmp, ranked_place}

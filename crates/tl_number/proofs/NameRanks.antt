@@ -1,6 +1,6 @@
 -- Where two names are first used along the chains decides as all their uses do.
-use Rattle.std.proofs.Common.{◌≡◌, ◌⊎◌, ◌<◌, ◌≤◌, ◌+◌, ◌==◌, ℕ, zero, suc, List, [], ◌∷◌, ◌++◌, map, filter, flat_map, length, Bool, true}
-use Rattle.std.proofs.Common.{false, cond, Ordering, Less, Equal, Greater, Option, Some, None, is_eq, sym, refl, ap, ap₂, ◌∙◌, subst, inl}
+use Rattle.std.proofs.Common.{◌≡◌, ◌⊎◌, ◌<◌, ◌≤◌, ◌+◌, ◌==◌, ℕ, zero, suc, List, [], ◌∷◌, ◌++◌, map, filter, length, Bool, true}
+use Rattle.std.proofs.Common.{false, cond, Less, Greater, is_eq, sym, refl, ap, ap₂, ◌∙◌, subst, inl}
 use Rattle.std.proofs.Common.{inr}
 use Rattle.std.proofs.Common.{arith, nat_cmp, nat_lt, length-append}
 use Rattle.std.proofs.lemmas.List.{length-map}
@@ -18,7 +18,7 @@ use Rattle.tl_county.proofs.Keys.{Known, nat_keys, times-append, times-yes, time
 use Rattle.tl_county.proofs.Keys.{differ_apart}
 use Rattle.tl_county.proofs.Members.{among-map}
 use Rattle.tl_county.proofs.Numbers.{times-of_number}
-use Rattle.tl_number.specs.Growth.{first_seen_after, first_seen}
+use Rattle.tl_number.specs.Growth.{first_seen_after}
 use Rattle.tl_number.specs.Uses.{Use, use_cmp, uses_of}
 use Rattle.tl_number.proofs.Counting.{less}
 use Rattle.tl_number.proofs.FirstSeen.{place_from, place_bounds, place-append, place-new, seen_stays}

@@ -1,7 +1,7 @@
 -- A set of keys in the order of their insertion holds what was first seen, and finds its places.
-use Rattle.std.proofs.Common.{◌≡◌, ◌<◌, ◌+◌, ◌||◌, ℕ, zero, suc, nat_lt, List, [], ◌∷◌, ◌++◌, length, filter, Bool, true, false, cond, not}
-use Rattle.std.proofs.Common.{Ordering, Equal, Option, Some, None, IfSome, is_eq, refl, sym, ap, ◌∙◌, subst, arith, slice_get}
-use Rattle.std.proofs.lemmas.Bool.{false≢true, ltb-true, lt-ltb}
+use Rattle.std.proofs.Common.{◌≡◌, ◌<◌, ◌+◌, ◌||◌, suc, nat_lt, List, [], ◌∷◌, ◌++◌, length, filter, Bool, true, false, cond, not}
+use Rattle.std.proofs.Common.{Ordering, Some, None, IfSome, is_eq, refl, sym, ap, ◌∙◌, arith, slice_get}
+use Rattle.std.proofs.lemmas.Bool.{ltb-true, lt-ltb}
 use Rattle.std.specs.List.{list_any, position, position_or_len}
 use Rattle.indexmap.specs.IndexSet.{insert_key}
 use Rattle.tl_county.specs.Orders.{stands_in}

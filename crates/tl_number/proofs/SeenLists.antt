@@ -1,7 +1,7 @@
 -- What is first seen along a list that is walked piece by piece.
-use Rattle.std.proofs.Common.{◌≡◌, ◌<◌, ◌≤◌, ◌+◌, ℕ, zero, suc, List, [], ◌∷◌, ◌++◌, length, drop, get_or, Bool, true, false, cond}
+use Rattle.std.proofs.Common.{◌≡◌, ◌+◌, ℕ, zero, suc, List, [], ◌∷◌, ◌++◌, drop, Bool, true, false, cond}
 use Rattle.std.proofs.Common.{Ordering}
-use Rattle.std.proofs.Common.{Option, Some, None, option_to_list, slice_get, sym, refl, ap, ap₂, ◌∙◌, subst, arith}
+use Rattle.std.proofs.Common.{Option, option_to_list, slice_get, sym, refl, ap, ap₂, ◌∙◌, arith}
 use Rattle.std.proofs.lemmas.List.{drop_all}
 use Rattle.tl_county.specs.Orders.{stands_in}
 use Rattle.tl_number.specs.Growth.{first_seen_after}

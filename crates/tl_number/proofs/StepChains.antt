@@ -1,9 +1,8 @@
 -- The chains of an arrangement that is told by steps are those at the steps' places.
-use Rattle.std.proofs.Common.{◌≡◌, ◌⊎◌, ◌<◌, ◌≤◌, ◌==◌, ℕ, zero, suc, List, [], ◌∷◌, ◌++◌, map, flat_map, length, Bool, Option, Some, None}
-use Rattle.std.proofs.Common.{option_map, slice_get, get_or, sym, refl, ap, ap₂, ◌∙◌, subst, inl, inr, arith, append-nil, append_assoc}
+use Rattle.std.proofs.Common.{◌≡◌, ◌⊎◌, ◌<◌, ◌≤◌, ◌==◌, ℕ, zero, suc, List, [], ◌∷◌, ◌++◌, map, flat_map, length, Option, Some, None}
+use Rattle.std.proofs.Common.{option_map, slice_get, sym, refl, ap, ap₂, ◌∙◌, inl, inr, arith, append-nil, append_assoc}
 use Rattle.std.proofs.lemmas.Bool.{eq-eqb}
 use Rattle.std.proofs.lemmas.Option.{slice_get-map, get_or_from_slice_get}
-use Rattle.std.specs.List.{AllByRecursion}
 use Rattle.tl_shape.specs.Chain.{Chain}
 use Rattle.tl_shape.specs.Turned.{turned_if}
 use Rattle.tl_county.specs.ChartWords.{chain_at, feats_of}

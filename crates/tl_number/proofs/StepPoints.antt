@@ -1,13 +1,12 @@
 -- The points of steps, point by point: those of a turned chain from its end, and the comparison of two.
 use Rattle.std.proofs.Common.{◌≡◌, ◌≢◌, ◌<◌, ◌≤◌, ◌-◌, ℕ, zero, suc, List, [], ◌∷◌, length, drop, reverse, Bool, true, false, Ordering}
 use Rattle.std.proofs.Common.{Less, Equal}
-use Rattle.std.proofs.Common.{Greater, Option, Some, None, option_map, slice_get, get_or, sym, refl, ap, ap₂, ◌∙◌, arith}
+use Rattle.std.proofs.Common.{Greater, Option, Some, None, option_map, slice_get, sym, refl, ap, ap₂, ◌∙◌, arith}
 use Rattle.std.proofs.lemmas.List.{drop_all, get_or-reverse, length-reverse}
 use Rattle.std.proofs.lemmas.Option.{slice_get-get_or, slice_get_past}
 use Rattle.std.specs.Cmp.Lexicographic.{slice_cmp}
 use Rattle.std.specs.Option.{option_cmp}
 use Rattle.std.specs.Ordering.{ordering_then}
-use Rattle.tl_layout.specs.Coordinates.{Coordinates}
 use Rattle.tl_shape.specs.Chain.{Chain}
 use Rattle.tl_shape.specs.Turned.{turned_if}
 use Rattle.tl_county.specs.ChartWords.{chain_at, points_of}

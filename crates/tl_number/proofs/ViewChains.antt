@@ -1,6 +1,6 @@
 -- The chains of a county in an arrangement, read at the places of its steps.
-use Rattle.std.proofs.Common.{◌≡◌, ◌<◌, ◌≤◌, ℕ, zero, suc, List, [], ◌∷◌, ◌++◌, map, flat_map, length, Option, Some, None, option_map}
-use Rattle.std.proofs.Common.{slice_get, sym, refl, ap, ap₂, ◌∙◌, subst, arith, nat_cmp}
+use Rattle.std.proofs.Common.{◌≡◌, ℕ, zero, suc, List, [], ◌∷◌, ◌++◌, map, flat_map, length, Option, Some, None, option_map}
+use Rattle.std.proofs.Common.{slice_get, sym, refl, ap, ◌∙◌, arith, nat_cmp}
 use Rattle.std.proofs.lemmas.List.{length-map}
 use Rattle.std.proofs.lemmas.Option.{slice_get-map}
 use Rattle.tl_shape.specs.Chain.{Chain}
@@ -9,16 +9,15 @@ use Rattle.tl_county.specs.ChartWords.{chain_at}
 use Rattle.tl_county.specs.County.{County}
 use Rattle.tl_county.specs.CountyRules.{IsCounty, tlids}
 use Rattle.tl_county.specs.Entries.{entry_values}
-use Rattle.tl_county.specs.Packing.{numbered_from}
-use Rattle.tl_county.specs.Renumbering.{Renumbering, renumbered}
+use Rattle.tl_county.specs.Renumbering.{renumbered}
 use Rattle.tl_county.proofs.Counted.{rights-numbered_from}
 use Rattle.tl_county.proofs.Keys.{IsApart, nat_keys, apart_from_sorted}
 use Rattle.tl_county.proofs.Lists.{map-map}
 use Rattle.tl_county.proofs.Permutations.{apart-permutation_of}
-use Rattle.tl_number.specs.Arrangement.{Arrangement, Arranges, arranged_tlids, entries_of, placed, renaming_of, arranged}
+use Rattle.tl_number.specs.Arrangement.{Arrangement, Arranges, arranged_tlids, entries_of, placed, renaming_of}
 use Rattle.tl_number.specs.Growth.{up_to}
 use Rattle.tl_number.specs.Steps.{AreSteps, arrangement_of, step_chain, tlid_at}
-use Rattle.tl_number.specs.ViewFacts.{AreWhole, AreReadAt, stepped}
+use Rattle.tl_number.specs.ViewFacts.{AreWhole, stepped}
 use Rattle.tl_number.specs.declared.step.Step.{Step}
 use Rattle.tl_number.proofs.Carrying.{chains_arranged, tlids_arranged}
 use Rattle.tl_number.proofs.SameNumbers.{kept_entry}

@@ -1,6 +1,6 @@
 -- New numbers by places: the image of a number, and the numbers from 1.
 use Rattle.std.proofs.Common.{◌≡◌, ◌⊎◌, ◌<◌, ◌≤◌, ◌+◌, ◌-◌, ℕ, zero, suc, nat_lt, List, [], ◌∷◌, map, length, Bool, true, false, cond, not}
-use Rattle.std.proofs.Common.{Ordering, Option, Some, None, is_eq, refl, sym, ap, ap₂, ◌∙◌, subst, inl, inr, arith, nat_cmp, slice_get}
+use Rattle.std.proofs.Common.{Ordering, Some, None, is_eq, refl, sym, ap, ap₂, ◌∙◌, inl, inr, arith, nat_cmp, slice_get}
 use Rattle.std.proofs.lemmas.Bool.{ltb-true, ltb-false, lt-ltb, false_from_ne_true}
 use Rattle.std.proofs.lemmas.List.FromFn.{length-range_with_len}
 use Rattle.std.proofs.lemmas.Option.{slice_get_past, cond_some}

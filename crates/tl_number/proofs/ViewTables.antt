@@ -1,11 +1,10 @@
 -- Nodes, names, polygons and landmarks of a county in an arrangement, read by its tables.
-use Rattle.std.proofs.Common.{◌≡◌, ◌<◌, ◌≤◌, ℕ, zero, suc, List, [], ◌∷◌, map, length, Option, Some, None, option_map, Less, Equal}
+use Rattle.std.proofs.Common.{◌≡◌, ℕ, suc, List, [], ◌∷◌, map, length, Option, Some, None, option_map, Less, Equal}
 use Rattle.std.proofs.Common.{Greater, is_gt, false, ◌+◌, ◌-◌, ap₂}
 use Rattle.std.proofs.Common.{Ordering, slice_get, unwrap_or, sym, refl, ap, ◌∙◌, subst, arith, nat_cmp, IsPermutation}
 use Rattle.std.proofs.lemmas.List.{length-map}
 use Rattle.std.proofs.lemmas.List.FromFn.{length-map-range_with_len}
 use Rattle.std.proofs.lemmas.Option.{slice_get-map}
-use Rattle.std.specs.List.{AllByRecursion}
 use Rattle.std.specs.List.Sorted.{IsStrictlySortedBy}
 use Rattle.std.specs.Ordering.{on, ordering_then}
 use Rattle.tl_layout.specs.Fields.{Fields8}
@@ -16,12 +15,12 @@ use Rattle.tl_county.specs.BodyOrder.{link_cmp, link_part, link_part_cmp}
 use Rattle.tl_county.specs.ChartWords.{links_with, links_at}
 use Rattle.tl_county.specs.County.{County, eight_land}
 use Rattle.tl_county.specs.CountyRules.{IsCounty, feats, lands, nodes, nodes_along}
-use Rattle.tl_county.specs.Entries.{entry_keys, entry_values}
+use Rattle.tl_county.specs.Entries.{entry_values}
 use Rattle.tl_county.specs.Orders.{IsInOrder}
 use Rattle.tl_county.specs.PolygonKeys.{PolygonKey, key_cmp}
 use Rattle.tl_county.specs.Renumbering.{image, side_of, renumbered_side, renumbered_polygon, carried_name, carried_landmark}
 use Rattle.tl_county.proofs.InOrder.{in_order-permutation}
-use Rattle.tl_county.proofs.Keys.{nat_keys, rights}
+use Rattle.tl_county.proofs.Keys.{nat_keys}
 use Rattle.tl_county.proofs.Lists.{map-map, all_weaker}
 use Rattle.tl_county.proofs.Numbers.{distinct-in_order}
 use Rattle.tl_number.specs.Arrangement.{Arrangement, nodes_in_order, polygons_in_order, names_in_order, landmarks_in_order}

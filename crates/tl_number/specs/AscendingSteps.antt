@@ -1,9 +1,8 @@
 -- The steps of a county's chains in their lesser directions, and how they stand to each other.
-use Rattle.std.specs.Prelude.{ℕ, reverse, slice_get, Option}
+use Rattle.std.specs.Prelude.{ℕ, reverse, slice_get}
 use Rattle.std.specs.declared.cmp.Ordering.{Ordering}
 use Rattle.std.specs.Option.{option_cmp}
 use Rattle.std.specs.Ordering.{is_gt, nat_cmp, ordering_then}
-use Rattle.tl_shape.specs.Chain.{Chain}
 use Rattle.tl_shape.specs.PointOrder.{point_cmp, points_cmp}
 use Rattle.tl_county.specs.ChartWords.{chain_at, points_of}
 use Rattle.tl_county.specs.County.{County}

@@ -7,7 +7,7 @@ use Rattle.tl_county.specs.County.{County}
 use Rattle.tl_county.specs.CountyRules.{IsCounty, tlids, polygon_keys}
 use Rattle.tl_county.specs.Entries.{entry_keys, entry_values}
 use Rattle.tl_county.specs.Orders.{times}
-use Rattle.tl_number.specs.Arrangement.{Arrangement, arranged_tlids, nodes_in_order, polygons_in_order, names_in_order}
+use Rattle.tl_number.specs.Arrangement.{Arrangement, arranged_tlids, polygons_in_order, names_in_order}
 use Rattle.tl_number.specs.Arrangement.{landmarks_in_order, arranged}
 use Rattle.tl_number.specs.Steps.{AreSteps, arrangement_of}
 use Rattle.tl_number.specs.declared.step.Step.{Step}

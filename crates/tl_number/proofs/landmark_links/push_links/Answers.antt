@@ -1,4 +1,4 @@
-use Rattle.std.proofs.Common.{◌≡◌, ◌++◌, List, Option, map, take, option_to_list, ap₂, ◌∙◌}
+use Rattle.std.proofs.Common.{◌++◌, List, Option, map, option_to_list, ap₂, ◌∙◌}
 use Rattle.tl_layout.specs.Fields.{Fields8}
 use Rattle.tl_county.specs.ChartWords.{links_at}
 use Rattle.tl_number.specs.LandmarkItems.{link_under}

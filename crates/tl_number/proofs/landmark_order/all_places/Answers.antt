@@ -1,4 +1,4 @@
-use Rattle.std.proofs.Common.{◌∷◌, [], ◌++◌, sym, ap, ◌∙◌, arith}
+use Rattle.std.proofs.Common.{◌∷◌, [], ◌++◌, ap, ◌∙◌}
 use Rattle.tl_number.proofs.LandmarkLinks.{range_next}
 use Rattle.tl_number.proofs.landmark_order.all_places.Goals as goal
 

@@ -1,5 +1,5 @@
-use Rattle.std.proofs.Common.{◌≡◌, ◌<◌, ◌^◌, ℕ, List, map, length, filter_map, slice_get, is_lt, rules, false, sym, ap, ◌∙◌, subst}
-use Rattle.std.proofs.Common.{nat_cmp, arith}
+use Rattle.std.proofs.Common.{◌≡◌, ◌<◌, ◌^◌, List, map, length, filter_map, slice_get, is_lt, rules, false, sym, ap, ◌∙◌, subst}
+use Rattle.std.proofs.Common.{nat_cmp}
 use Rattle.std.proofs.Common.{IsPermutation}
 use Rattle.std.proofs.lemmas.Fn.{always_returns_same}
 use Rattle.std.proofs.lemmas.List.Sorted.{ranks_by}

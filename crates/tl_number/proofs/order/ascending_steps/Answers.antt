@@ -9,7 +9,6 @@ use Rattle.tl_number.specs.Arrangement.{ascending}
 use Rattle.tl_number.specs.AscendingSteps.{start_at, start_cmp, start_step}
 use Rattle.tl_number.specs.Steps.{arrangement_of, AreSteps}
 use Rattle.tl_number.specs.declared.step.Start.{Start}
-use Rattle.tl_number.specs.declared.step.Step.{Step}
 use Rattle.tl_number.proofs.AscendingSteps.{starts_total, starts_ascend, starts_there}
 use Rattle.tl_number.proofs.order.ascending_steps.Goals as goal
 

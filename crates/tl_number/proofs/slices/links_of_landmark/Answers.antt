@@ -1,4 +1,4 @@
-use Rattle.std.proofs.Common.{◌≤◌, ◌<◌, ◌+◌, ◌-◌, length, get_or, take, drop, ap, ◌∙◌, arith}
+use Rattle.std.proofs.Common.{◌+◌, ◌-◌, get_or, take, ap, ◌∙◌, arith}
 use Rattle.tl_number.proofs.LinkSlices.{bounds_rise, bounds_within, slice_told}
 use Rattle.tl_number.proofs.slices.links_of_landmark.Goals as goal
 

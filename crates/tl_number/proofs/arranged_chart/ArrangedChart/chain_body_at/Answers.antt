@@ -1,4 +1,4 @@
-use Rattle.std.proofs.Common.{refl, ◌∙◌, List, Option, option_map}
+use Rattle.std.proofs.Common.{refl, ◌∙◌, Option, option_map}
 use Rattle.tl_shape.specs.Chain.{Chain}
 use Rattle.tl_number.proofs.ViewChains.{told, untold}
 use Rattle.tl_number.proofs.arranged_chart.ArrangedChart.chain_body_at.Goals as goal

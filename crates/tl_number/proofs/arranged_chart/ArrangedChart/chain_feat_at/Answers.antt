@@ -1,4 +1,4 @@
-use Rattle.std.proofs.Common.{Option, option_map, slice_get, sym, refl, ap, ◌∙◌, nat_cmp}
+use Rattle.std.proofs.Common.{Option, option_map, slice_get, sym, ap, ◌∙◌, nat_cmp}
 use Rattle.std.proofs.lemmas.Option.{slice_get-map}
 use Rattle.tl_shape.specs.Chain.{Chain}
 use Rattle.tl_county.specs.ChartWords.{feats_of}

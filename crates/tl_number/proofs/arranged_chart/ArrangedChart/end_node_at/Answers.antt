@@ -1,4 +1,4 @@
-use Rattle.std.proofs.Common.{Option, Some, None, option_map, refl, ap, ◌∙◌, nat_cmp}
+use Rattle.std.proofs.Common.{Option, Some, option_map, refl, ap, ◌∙◌, nat_cmp}
 use Rattle.tl_shape.specs.Chain.{Chain}
 use Rattle.tl_county.specs.Renumbering.{image}
 use Rattle.tl_number.specs.Arrangement.{renaming_of}

@@ -1,4 +1,4 @@
-use Rattle.std.proofs.Common.{◌≤◌, Some, None, slice_get, sym, ap, ◌∙◌, arith}
+use Rattle.std.proofs.Common.{◌≤◌, slice_get, sym, ap, ◌∙◌, arith}
 use Rattle.tl_number.specs.Growth.{up_to}
 use Rattle.tl_number.proofs.ViewNumbers.{within_up_to}
 use Rattle.tl_number.proofs.ViewTables.{feats_stepped}

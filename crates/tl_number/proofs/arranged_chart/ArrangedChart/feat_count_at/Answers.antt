@@ -1,4 +1,4 @@
-use Rattle.std.proofs.Common.{refl, ◌∙◌, List, Option, option_map, length, sym}
+use Rattle.std.proofs.Common.{◌∙◌, Option, length, sym}
 use Rattle.tl_county.specs.ChartWords.{feats_of}
 use Rattle.std.proofs.lemmas.List.{length-map}
 use Rattle.tl_shape.specs.Chain.{Chain}

@@ -1,4 +1,4 @@
-use Rattle.std.proofs.Common.{◌<◌, length, slice_get, ap, ◌∙◌, arith}
+use Rattle.std.proofs.Common.{length, ap, ◌∙◌, arith}
 use Rattle.tl_number.proofs.ViewTables.{bounds_counted, bounds_told, links_told, links_ordered}
 use Rattle.tl_number.proofs.arranged_chart.ArrangedChart.link_count_at.Goals as goal
 

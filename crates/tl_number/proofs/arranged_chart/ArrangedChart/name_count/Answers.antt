@@ -1,4 +1,4 @@
-use Rattle.std.proofs.Common.{sym, ap, ◌∙◌}
+use Rattle.std.proofs.Common.{sym, ◌∙◌}
 use Rattle.tl_number.proofs.ViewTables.{names_stepped}
 use Rattle.tl_number.proofs.arranged_chart.ArrangedChart.name_count.Goals as goal
 

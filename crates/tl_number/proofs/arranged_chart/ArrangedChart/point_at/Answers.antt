@@ -1,4 +1,4 @@
-use Rattle.std.proofs.Common.{refl, ◌∙◌, List, Option, option_map, slice_get}
+use Rattle.std.proofs.Common.{refl, ◌∙◌, Option, slice_get}
 use Rattle.tl_county.specs.ChartWords.{points_of}
 use Rattle.tl_shape.specs.Chain.{Chain}
 use Rattle.tl_number.proofs.ViewChains.{told, untold}

@@ -1,4 +1,4 @@
-use Rattle.std.proofs.Common.{Option, Some, option_map, sym, refl, ap, ◌∙◌}
+use Rattle.std.proofs.Common.{Option, Some, option_map, refl, ap, ◌∙◌}
 use Rattle.tl_shape.specs.Chain.{Chain}
 use Rattle.tl_county.specs.Renumbering.{renumbered_side}
 use Rattle.tl_number.specs.Arrangement.{renaming_of}
