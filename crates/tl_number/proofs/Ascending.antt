@@ -1,15 +1,14 @@
 -- The ascending arrangement of a county in the profile: each accepted list of records has a canonical list.
 use Rattle.std.proofs.Common.{◌≡◌, ◌⊎◌, ◌<◌, ◌≤◌, ◌==◌, ◌||◌, ℕ, zero, suc, List, [], ◌∷◌, ◌++◌, map, flat_map, reverse, Bool}
-use Rattle.std.proofs.Common.{true, false, cond, Option, IsTrue, is_some, Ordering, Less, Equal, Greater, is_eq, is_gt, sym, refl}
+use Rattle.std.proofs.Common.{true, false, Option, IsTrue, is_some, Ordering, Less, Equal, Greater, is_eq, is_gt, sym, refl}
 use Rattle.std.proofs.Common.{ap, ◌∙◌, subst, inl, inr, arith, nat_cmp, IsPermutation}
-use Rattle.std.proofs.lemmas.Bool.{false≢true, ltb-true, lt-ltb, or_cases, eq-eqb}
+use Rattle.std.proofs.lemmas.Bool.{false≢true, lt-ltb, or_cases, eq-eqb}
 use Rattle.std.proofs.lemmas.Cmp.{on_total}
 use Rattle.std.proofs.lemmas.List.{reverse-reverse}
 use Rattle.std.proofs.lemmas.List.Sorted.{IsPermutation-map}
 use Rattle.std.specs.List.{AllByRecursion}
 use Rattle.std.specs.List.Sorted.{IsStrictlySortedBy}
 use Rattle.std.specs.Ordering.{on, ordering_reverse}
-use Rattle.tl_layout.specs.Coordinates.{Coordinates}
 use Rattle.tl_layout.specs.declared.record_type.Record.{Record}
 use Rattle.tl_layout.specs.declared.type_p.BodyP.{BodyP}
 use Rattle.tl_shape.specs.Chain.{Chain}
@@ -20,16 +19,16 @@ use Rattle.tl_county.specs.CountyRules.{IsCounty, tlids, polygon_keys, polygons_
 use Rattle.tl_county.specs.Orders.{times, stands_in, in_order}
 use Rattle.tl_county.specs.Packing.{packed}
 use Rattle.tl_county.specs.PolygonKeys.{PolygonKey, key_cmp}
-use Rattle.tl_county.specs.Renumbering.{AreSame, Carries}
+use Rattle.tl_county.specs.Renumbering.{Carries}
 use Rattle.tl_county.proofs.Counted.{rights-numbered_from}
 use Rattle.tl_county.proofs.FirstFault.{Among, all_among}
 use Rattle.tl_county.proofs.InOrder.{in_order-in_order, in_order-map, strict-map}
-use Rattle.tl_county.proofs.KeyOrders.{points_keys, key_keys}
+use Rattle.tl_county.proofs.KeyOrders.{points_keys}
 use Rattle.tl_county.proofs.Keys.{IsKeyOrder, IsApart, Known, nat_keys, times-yes, times-no, same_or_not, apart_tail}
-use Rattle.tl_county.proofs.Keys.{apart_from_sorted, same-true, is_eq-true}
+use Rattle.tl_county.proofs.Keys.{apart_from_sorted}
 use Rattle.tl_county.proofs.LinkedCounty.{county-is_county, each_from}
 use Rattle.tl_county.proofs.Lists.{map-map, all_map, all_unmap}
-use Rattle.tl_county.proofs.Members.{among_known, known_is_among, among-map, among-unmap, among-permutation}
+use Rattle.tl_county.proofs.Members.{among_known, known_is_among, among-map, among-unmap}
 use Rattle.tl_county.proofs.Numbers.{strict_from_order, times-in_order, from_in_order}
 use Rattle.tl_county.proofs.PackedCounty.{packed_county}
 use Rattle.tl_county.proofs.Permutations.{in_order-is_permutation}
@@ -37,9 +36,8 @@ use Rattle.tl_county.proofs.Reordered.{to_filter}
 use Rattle.tl_profile.specs.Profile.{IsInProfile}
 use Rattle.tl_profile.proofs.SameProfile.{OneShape, not_own_reverse, one_shape_one_tlid, body_on_side}
 use Rattle.tl_number.specs.Accepted.{IsAccepted, IsCanonicalOf}
-use Rattle.tl_number.specs.Arrangement.{Arrangement, Arranges, arranged_tlids, entries_of, placed, comes_turned, least_points}
+use Rattle.tl_number.specs.Arrangement.{Arrangement, Arranges, entries_of, placed, comes_turned, least_points}
 use Rattle.tl_number.specs.Arrangement.{ascending, renaming_of, arranged}
-use Rattle.tl_number.specs.Canonical.{IsCanonical}
 use Rattle.tl_number.specs.Tidy.{IsLeast, entry_points}
 use Rattle.tl_number.proofs.Carrying.{arrangement_carries, chains_arranged}
 use Rattle.tl_number.proofs.Placed.{one_chain}

@@ -1,12 +1,11 @@
 -- The renaming of an arrangement carries the county onto the arranged county.
-use Rattle.std.proofs.Common.{◌≡◌, ◌⊎◌, ◌<◌, ◌≤◌, ℕ, List, [], ◌∷◌, ◌++◌, map, filter, flat_map, length, Bool, true, false}
-use Rattle.std.proofs.Common.{Option, option_to_list, IsTrue, sym, refl, ap, ◌∙◌, subst, inl, inr, arith, nat_cmp, IsPermutation}
+use Rattle.std.proofs.Common.{◌≡◌, ℕ, List, map, flat_map, length, Bool}
+use Rattle.std.proofs.Common.{Option, IsTrue, sym, refl, ap, ◌∙◌, subst, nat_cmp, IsPermutation}
 use Rattle.std.proofs.lemmas.Bool.{ltb-true, lt-ltb}
 use Rattle.std.proofs.lemmas.List.{length-map}
 use Rattle.std.proofs.lemmas.List.Sorted.{IsPermutation-refl, IsPermutation-sym, IsPermutation-trans, IsPermutation-map}
 use Rattle.std.specs.List.{AllByRecursion}
 use Rattle.std.specs.Ordering.{on}
-use Rattle.tl_layout.specs.Fields.{Fields8}
 use Rattle.tl_layout.specs.declared.type5.Body5.{Body5}
 use Rattle.tl_layout.specs.declared.type7.Body7.{Body7}
 use Rattle.tl_layout.specs.declared.type_p.BodyP.{BodyP}
@@ -16,18 +15,18 @@ use Rattle.tl_county.specs.BodyOrder.{link_cmp}
 use Rattle.tl_county.specs.County.{County}
 use Rattle.tl_county.specs.CountyRules.{IsCounty, tlids, feats, polygon_keys, lands, nodes, nodes_along, polygons_along}
 use Rattle.tl_county.specs.CountyRules.{chain_nodes, chain_polygons, AllKeysStandIn}
-use Rattle.tl_county.specs.Orders.{times, stands_in, has_repeat, in_order, distinct}
-use Rattle.tl_county.specs.PolygonKeys.{PolygonKey, key_cmp, key_on}
-use Rattle.tl_county.specs.Renumbering.{Renumbering, image, carried_chain, carried_name, carried_polygon, carried_landmark}
+use Rattle.tl_county.specs.Orders.{times, stands_in, has_repeat, in_order}
+use Rattle.tl_county.specs.PolygonKeys.{PolygonKey, key_cmp}
+use Rattle.tl_county.specs.Renumbering.{image, carried_chain, carried_name, carried_polygon, carried_landmark}
 use Rattle.tl_county.specs.Renumbering.{carried_link, ArePaired, NumbersArePaired, Carries}
-use Rattle.tl_county.proofs.Carried.{among-unpieces, among-turned, among-unappend}
+use Rattle.tl_county.proofs.Carried.{among-unpieces, among-turned}
 use Rattle.tl_county.proofs.CarriedCounty.{nodes-turned, nodes-unturned, polygons-unturned}
 use Rattle.tl_county.proofs.Distinct.{apart-distinct, known-distinct, known_from_distinct, has_repeat-apart}
-use Rattle.tl_county.proofs.FirstFault.{Among, all_among, among_left, among_right}
+use Rattle.tl_county.proofs.FirstFault.{Among, all_among}
 use Rattle.tl_county.proofs.KeyOrders.{key_keys}
-use Rattle.tl_county.proofs.Keys.{IsKeyOrder, IsApart, Known, nat_keys, lefts, rights, apart_from_sorted, apart-permutation}
-use Rattle.tl_county.proofs.Keys.{known-permutation, known-permutation_to, known_all, all_known, image-known, images-lefts}
-use Rattle.tl_county.proofs.Lists.{map-map, all_weaker, all_map, all_everywhere, all_joined}
+use Rattle.tl_county.proofs.Keys.{IsApart, Known, nat_keys, lefts, rights, apart_from_sorted, apart-permutation}
+use Rattle.tl_county.proofs.Keys.{known-permutation_to, known_all, all_known, image-known, images-lefts}
+use Rattle.tl_county.proofs.Lists.{map-map, all_map, all_everywhere, all_joined}
 use Rattle.tl_county.proofs.Members.{among-permutation, among-map, among-unmap, among-pieces, among_known, known_is_among}
 use Rattle.tl_county.proofs.Numbers.{of_number-among}
 use Rattle.tl_county.proofs.Permutations.{in_order-is_permutation, apart-permutation_of}
@@ -179,10 +178,10 @@ module _ (county : County) (steps : Arrangement) (is : IsCounty county) (arrange
   links_arranged = refl
 
   -- the numbers of each kind
-  names_permutation : IsPermutation (names_in_order county steps) county.names
+  pub names_permutation : IsPermutation (names_in_order county steps) county.names
   names_permutation = in_order-is_permutation (on (name_key (all_uses (placed county steps))) name_key_cmp) county.names
 
-  landmarks_permutation : IsPermutation (landmarks_in_order county steps) county.landmarks
+  pub landmarks_permutation : IsPermutation (landmarks_in_order county steps) county.landmarks
   landmarks_permutation = in_order-is_permutation (on (landmark_key (links_relinked county steps)) landmark_key_cmp) county.landmarks
 
   -- a kind whose entries are in a new order and numbered in it
@@ -242,7 +241,7 @@ module _ (county : County) (steps : Arrangement) (is : IsCounty county) (arrange
   node_lefts : lefts (renaming_of county steps).nodes ≡ nodes_in_order county steps
   node_lefts = ap lefts nodes_renamed ∙ lefts-numbered (nodes_in_order county steps)
 
-  node_rights : rights (renaming_of county steps).nodes ≡ up_to (length (nodes_in_order county steps))
+  pub node_rights : rights (renaming_of county steps).nodes ≡ up_to (length (nodes_in_order county steps))
   node_rights = ap rights nodes_renamed ∙ rights-numbered (nodes_in_order county steps)
 
   lefts_apart : IsApart nat_cmp (lefts (renaming_of county steps).nodes)
@@ -284,7 +283,7 @@ module _ (county : County) (steps : Arrangement) (is : IsCounty county) (arrange
       subst (Known nat_cmp (rights (renaming_of county steps).nodes)) (sym old.2)
       (image-known nat_keys (renaming_of county steps).nodes old.0 seen)
 
-  paired_nodes : ArePaired (renaming_of county steps).nodes (nodes county) (nodes (arranged county steps))
+  pub paired_nodes : ArePaired (renaming_of county steps).nodes (nodes county) (nodes (arranged county steps))
   paired_nodes = record {
     left = subst (λ ks. IsPermutation ks (nodes county)) (sym node_lefts)
         (apart-permutation_of nat_keys (nodes_in_order county steps) (nodes county)

@@ -1,15 +1,12 @@
 -- Keys in the order of their first appearance: each once, the same members, and numbers that grow along the keys.
-use Rattle.std.proofs.Common.{◌≡◌, ◌⊎◌, ◌<◌, ◌≤◌, ◌+◌, ℕ, zero, suc, max, List, [], ◌∷◌, ◌++◌, map, length, Bool, true, false}
+use Rattle.std.proofs.Common.{◌≡◌, ◌⊎◌, ◌<◌, ◌≤◌, ◌+◌, ℕ, suc, max, List, [], ◌∷◌, ◌++◌, map, length, Bool, true, false}
 use Rattle.std.proofs.Common.{cond, Ordering, is_eq, sym, refl, ap, ◌∙◌, subst, inl, inr, arith, append_assoc, append-nil}
 use Rattle.std.proofs.Common.{length-append}
-use Rattle.std.proofs.lemmas.Bool.{false≢true, ltb-true, ltb-false}
-use Rattle.std.specs.List.{AllByRecursion, range_with_len}
+use Rattle.std.proofs.lemmas.Bool.{ltb-true, ltb-false}
 use Rattle.tl_county.specs.Orders.{times, stands_in}
-use Rattle.tl_county.specs.Packing.{numbered_from}
-use Rattle.tl_county.specs.Renumbering.{image}
 use Rattle.tl_county.proofs.Keys.{IsKeyOrder, IsApart, Known, times-yes, times-no, times-append, known-left, known-right}
-use Rattle.tl_county.proofs.Keys.{known-append, known_cases, known-here, known-later, same_or_not, apart_tail}
-use Rattle.tl_number.specs.Growth.{GrowsFrom, Grows, first_seen_after, first_seen, numbered, up_to}
+use Rattle.tl_county.proofs.Keys.{known-append, known_cases, known-here, known-later, same_or_not}
+use Rattle.tl_number.specs.Growth.{GrowsFrom, Grows, first_seen_after, first_seen}
 
 module _ {K : Type 0} {cmp : K → K → Ordering} (o : IsKeyOrder cmp) where
   -- the place of a key in a list whose first place is i
@@ -99,7 +96,7 @@ module _ {K : Type 0} {cmp : K → K → Ordering} (o : IsKeyOrder cmp) where
   pub first_seen-apart : (keys : List K) → IsApart cmp (first_seen cmp keys)
   first_seen-apart keys = apart_after [] keys (λ k. omega arith)
 
-  known_after : (seen keys : List K) (k : K) → Known cmp (first_seen_after cmp seen keys) k → Known cmp seen k ⊎ Known cmp keys k
+  pub known_after : (seen keys : List K) (k : K) → Known cmp (first_seen_after cmp seen keys) k → Known cmp seen k ⊎ Known cmp keys k
   known_after seen [] k h = inl h
   known_after seen (j ∷ keys) k h = go (stands_in cmp j seen) h (known_after seen keys k) (known_after (seen ++ (j ∷ [])) keys k)
     where
@@ -133,7 +130,7 @@ module _ {K : Type 0} {cmp : K → K → Ordering} (o : IsKeyOrder cmp) where
   seen_after : (seen keys : List K) (k : K) → Known cmp seen k → Known cmp (first_seen_after cmp seen keys) k
   seen_after seen keys k h = let m = seen_stays seen keys in subst (λ l. Known cmp l k) (sym m.1) (known-left o k seen m.0 h)
 
-  all_after : (seen keys : List K) (k : K) → Known cmp keys k → Known cmp (first_seen_after cmp seen keys) k
+  pub all_after : (seen keys : List K) (k : K) → Known cmp keys k → Known cmp (first_seen_after cmp seen keys) k
   all_after seen [] k h = absurd (omega (arith, h))
   all_after seen (j ∷ keys) k h =
       go (stands_in cmp j seen) refl (all_after seen keys k) (all_after (seen ++ (j ∷ [])) keys k) (known_cases o k j keys h)

@@ -1,11 +1,10 @@
 -- The chains of an arrangement, in their new order and direction under their new numbers.
-use Rattle.std.proofs.Common.{◌≡◌, ◌⊎◌, ◌<◌, ◌≤◌, ◌+◌, ◌==◌, ℕ, zero, suc, nat_lt, List, [], ◌∷◌, ◌++◌, map, filter, flat_map}
-use Rattle.std.proofs.Common.{length, Bool, true, false, cond, Ordering, is_eq, sym, refl, ap, ap₂, ◌∙◌, subst, inl, inr, arith}
+use Rattle.std.proofs.Common.{◌≡◌, ◌⊎◌, ◌≤◌, ℕ, zero, suc, nat_lt, List, [], ◌∷◌, ◌++◌, map, filter, flat_map}
+use Rattle.std.proofs.Common.{length, Bool, true, false, cond, is_eq, sym, refl, ap, ap₂, ◌∙◌, subst, inl, inr, arith}
 use Rattle.std.proofs.Common.{nat_cmp, IsPermutation}
-use Rattle.std.proofs.lemmas.Bool.{false≢true, ltb-true, lt-ltb, le-ltb}
+use Rattle.std.proofs.lemmas.Bool.{lt-ltb}
 use Rattle.std.proofs.lemmas.List.{map-append, length-map}
-use Rattle.std.specs.List.{AllByRecursion, range_with_len}
-use Rattle.tl_layout.specs.ByType.{of_number}
+use Rattle.std.specs.List.{AllByRecursion}
 use Rattle.tl_shape.specs.Chain.{Chain}
 use Rattle.tl_shape.specs.Turned.{turned_if}
 use Rattle.tl_county.specs.County.{County}
@@ -15,16 +14,16 @@ use Rattle.tl_county.specs.Packing.{numbered_from}
 use Rattle.tl_county.specs.PolygonKeys.{PolygonKey, key_cmp}
 use Rattle.tl_county.specs.Renumbering.{Renumbering, image, turns, renumbered, carried_chain}
 use Rattle.tl_county.proofs.KeyOrders.{key_keys}
-use Rattle.tl_county.proofs.Keys.{IsKeyOrder, IsApart, Known, nat_keys, lefts, rights, times-yes, times-no, times-cons}
+use Rattle.tl_county.proofs.Keys.{IsApart, Known, nat_keys, times-yes, times-no}
 use Rattle.tl_county.proofs.Keys.{apart_tail, apart_from_sorted, apart-permutation, known-permutation, known-permutation_to}
-use Rattle.tl_county.proofs.Keys.{known_cases, known-here, known-later, known_all, all_known, image-yes, image-no, images-lefts}
+use Rattle.tl_county.proofs.Keys.{known_cases, known-here, known-later, image-yes, image-no, images-lefts}
 use Rattle.tl_county.proofs.Keys.{same_or_not, differ}
 use Rattle.tl_county.proofs.Lists.{map-map, map_agree_all, all_weaker}
 use Rattle.tl_county.proofs.Numbers.{times-of_number, only_one, of_number-all}
 use Rattle.tl_county.proofs.Permutations.{groups-permutation}
 use Rattle.tl_county.proofs.Sameness.{keys_known}
 use Rattle.tl_number.specs.Arrangement.{Arrangement, Arranges, arranged_tlids, entries_of, chains_in_order, placed, under_cenid}
-use Rattle.tl_number.specs.Arrangement.{turned_tlids, renaming_of, arranged}
+use Rattle.tl_number.specs.Arrangement.{turned_tlids}
 use Rattle.tl_number.specs.Growth.{numbered, up_to}
 use Rattle.tl_number.proofs.Counting.{entries_equal}
 use Rattle.tl_county.proofs.Counted.{lefts-numbered_from, rights-numbered_from}

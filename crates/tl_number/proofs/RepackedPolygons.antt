@@ -1,6 +1,6 @@
 -- The type P records of a tidy list are its county's polygons, packed; so the whole list is what its county is packed into.
-use Rattle.std.proofs.Common.{◌≡◌, ◌⊎◌, ◌≤◌, ℕ, suc, List, [], ◌∷◌, ◌++◌, map, flat_map, filter, filter_map, Bool, true, false}
-use Rattle.std.proofs.Common.{cond, Option, Some, None, IsTrue, Ordering, Less, Equal, Greater, is_gt, is_eq, sym, refl, ap, ◌∙◌}
+use Rattle.std.proofs.Common.{◌≡◌, ◌⊎◌, ◌≤◌, ℕ, suc, List, [], ◌∷◌, ◌++◌, map, flat_map, filter_map, false}
+use Rattle.std.proofs.Common.{Option, Some, None, IsTrue, Ordering, Less, Equal, Greater, is_gt, is_eq, sym, refl, ap, ◌∙◌}
 use Rattle.std.proofs.Common.{subst, inl, inr, arith, nat_cmp}
 use Rattle.std.proofs.lemmas.Bool.{true≢false, ltb-true, ltb-false}
 use Rattle.std.proofs.lemmas.Cmp.{nat_cmp_total, on_total}
@@ -12,7 +12,7 @@ use Rattle.tl_layout.specs.declared.record_type.Record.{Record}
 use Rattle.tl_layout.specs.declared.type_p.BodyP.{BodyP}
 use Rattle.tl_layout.specs.ByType.{of_type_p, of_type_i, of_type_8}
 use Rattle.tl_county.specs.BodyOrder.{link_cmp}
-use Rattle.tl_county.specs.County.{p_key, side_keys, first, polygon_body, polygons_of, county_of}
+use Rattle.tl_county.specs.County.{p_key, side_keys, polygon_body, polygons_of, county_of}
 use Rattle.tl_county.specs.CountyRules.{polygon_keys, polygons_along}
 use Rattle.tl_county.specs.LinkRules.{IsLinked}
 use Rattle.tl_county.specs.declared.fault.LinkFault.TheVariants.{PolygonTwice}
@@ -23,8 +23,8 @@ use Rattle.tl_county.proofs.FirstFault.{Among, all_among}
 use Rattle.tl_county.proofs.InOrder.{in_order-itself, in_order-in_order, strict-equal}
 use Rattle.tl_county.proofs.KeyOrders.{key_keys}
 use Rattle.tl_county.proofs.PolygonBodies.{first_body, body_found}
-use Rattle.tl_county.proofs.Keys.{IsKeyOrder, Known, IsApart, nat_keys, times-yes, times-no, times-cons, same_or_not, same-true}
-use Rattle.tl_county.proofs.Keys.{same-itself, apart_tail, known_all, known-right}
+use Rattle.tl_county.proofs.Keys.{IsKeyOrder, Known, IsApart, nat_keys, times-yes, times-no, times-cons, same_or_not}
+use Rattle.tl_county.proofs.Keys.{apart_tail, known_all, known-right}
 use Rattle.tl_county.proofs.LinkedCounty.{keys-county}
 use Rattle.tl_county.proofs.Members.{among-map, among-unmap, among_known, known_is_among, in_filter_map, to_filter_map}
 use Rattle.tl_county.proofs.Numbers.{times-in_order, from_in_order, to_in_order}

@@ -1,11 +1,11 @@
 -- The arranged county is a county, and all its numbers are those of the canonical form for the arrangement's choice.
-use Rattle.std.proofs.Common.{◌≡◌, ◌⊎◌, ◌<◌, ◌≤◌, ◌+◌, ℕ, suc, List, [], ◌∷◌, map, length, Bool, true, false, cond, Option}
-use Rattle.std.proofs.Common.{IsTrue, Ordering, is_eq, is_gt, sym, refl, ap, ap₂, ◌∙◌, subst, inl, inr, arith, nat_cmp}
+use Rattle.std.proofs.Common.{◌≡◌, ◌⊎◌, ◌≤◌, ℕ, suc, List, [], ◌∷◌, map, length, false, Option}
+use Rattle.std.proofs.Common.{IsTrue, Ordering, is_eq, is_gt, sym, ap, ap₂, ◌∙◌, subst, inl, inr, arith, nat_cmp}
 use Rattle.std.proofs.Common.{IsPermutation}
 use Rattle.std.proofs.lemmas.Bool.{ltb-true, lt-ltb}
 use Rattle.std.proofs.lemmas.Cmp.{on_total}
 use Rattle.std.proofs.lemmas.List.{length-map}
-use Rattle.std.proofs.lemmas.List.Sorted.{IsPermutation-sym, IsPermutation-map, IsPermutation-trans}
+use Rattle.std.proofs.lemmas.List.Sorted.{IsPermutation-sym}
 use Rattle.std.specs.List.{AllByRecursion}
 use Rattle.std.specs.List.Sorted.{IsStrictlySortedBy}
 use Rattle.std.specs.Ordering.{on}
@@ -14,35 +14,34 @@ use Rattle.tl_layout.specs.declared.type5.Body5.{Body5}
 use Rattle.tl_layout.specs.declared.type7.Body7.{Body7}
 use Rattle.tl_layout.specs.declared.type_p.BodyP.{BodyP}
 use Rattle.tl_shape.specs.Chain.{Chain}
-use Rattle.tl_shape.specs.Turned.{turned_if}
-use Rattle.tl_county.specs.BodyOrder.{landmark_body_cmp, link_part_cmp, link_cmp, LinkPart}
+use Rattle.tl_county.specs.BodyOrder.{landmark_body_cmp, link_cmp}
 use Rattle.tl_county.specs.County.{County}
-use Rattle.tl_county.specs.CountyRules.{IsCounty, IsAscending, tlids, feats, polygon_keys, lands, nodes, nodes_along}
-use Rattle.tl_county.specs.CountyRules.{polygons_along, chain_polygons, AllStandIn, AllKeysStandIn}
+use Rattle.tl_county.specs.CountyRules.{IsCounty, IsAscending, feats, polygon_keys, lands, nodes_along}
+use Rattle.tl_county.specs.CountyRules.{polygons_along, AllStandIn, AllKeysStandIn}
 use Rattle.tl_county.specs.Orders.{times, stands_in, IsInOrder, in_order}
 use Rattle.tl_county.specs.PolygonKeys.{PolygonKey, key_cmp}
-use Rattle.tl_county.specs.Renumbering.{Renumbering, image, carried_chain, carried_name, carried_polygon, carried_landmark}
+use Rattle.tl_county.specs.Renumbering.{image, carried_name, carried_polygon, carried_landmark}
 use Rattle.tl_county.specs.Renumbering.{carried_link, Carries}
 use Rattle.tl_county.proofs.CarriedCounty.{carried_closed, carried_whole, feats-turned}
 use Rattle.tl_county.proofs.FirstFault.{Among, all_among}
 use Rattle.tl_county.proofs.InOrder.{in_order-in_order, in_order-map, in_order-equal}
-use Rattle.tl_county.proofs.KeyOrders.{key_keys, landmark_body_keys, link_part_keys, link_keys}
+use Rattle.tl_county.proofs.KeyOrders.{key_keys, link_part_keys, link_keys}
 use Rattle.tl_county.proofs.Keys.{IsKeyOrder, IsApart, Known, nat_keys, lefts, rights, times-yes, times-no, same_or_not}
-use Rattle.tl_county.proofs.Keys.{known_cases, known_all, all_known, map_agree, apart_from_sorted, apart-permutation}
-use Rattle.tl_county.proofs.Keys.{times-permutation, known-permutation, known-permutation_to, image-injective}
+use Rattle.tl_county.proofs.Keys.{known_cases, known_all, map_agree, apart_from_sorted, apart-permutation}
+use Rattle.tl_county.proofs.Keys.{times-permutation, known-permutation, image-injective}
 use Rattle.tl_county.proofs.LinkedCounty.{each_from}
-use Rattle.tl_county.proofs.Lists.{map-map, map_agree_all, all_weaker, all_map, all_both}
+use Rattle.tl_county.proofs.Lists.{map-map, all_weaker, all_map}
 use Rattle.tl_county.proofs.Members.{among-permutation, among-map, among-unmap, among_known, known_is_among}
 use Rattle.tl_county.proofs.Numbers.{all-in_order, strict_from_order}
 use Rattle.tl_county.proofs.Permutations.{in_order-is_permutation}
 use Rattle.tl_county.proofs.Sameness.{keys_known}
-use Rattle.tl_number.specs.Arrangement.{Arrangement, Arranges, arranged_tlids, chains_in_order, placed, nodes_in_order}
+use Rattle.tl_number.specs.Arrangement.{Arrangement, Arranges, arranged_tlids, placed, nodes_in_order}
 use Rattle.tl_number.specs.Arrangement.{polygons_in_order, under_cenid, new_keys, names_in_order, relinked, links_relinked}
 use Rattle.tl_number.specs.Arrangement.{landmarks_in_order, renaming_of, arranged}
 use Rattle.tl_number.specs.Growth.{Grows, first_seen, numbered, up_to}
 use Rattle.tl_number.specs.Tidy.{IsTidy, HasOneCenidEach}
 use Rattle.tl_number.specs.Uses.{all_uses, uses_of, name_key, name_key_cmp, links_of, landmark_key, landmark_key_cmp}
-use Rattle.tl_number.proofs.Carrying.{arrangement_carries, from_placed, known_polygon, polygons_to_placed, keys_arranged}
+use Rattle.tl_number.proofs.Carrying.{arrangement_carries, from_placed, polygons_to_placed, keys_arranged}
 use Rattle.tl_number.proofs.Carrying.{tlids_arranged, feats_arranged, lands_arranged, nodes_along_arranged, chains_arranged}
 use Rattle.tl_number.proofs.Carrying.{names_arranged, polygons_arranged, landmarks_arranged, links_arranged, nodes_renamed}
 use Rattle.tl_number.proofs.Carrying.{polygons_renamed}
@@ -51,8 +50,8 @@ use Rattle.tl_number.proofs.FirstSeen.{place_from, place-here, place-later, plac
 use Rattle.tl_number.proofs.Placed.{image-numbered, image-under_cenid, chain_count, rights-numbered}
 use Rattle.tl_number.proofs.SameLandmarks.{landmark_key_keys, relanded, count-permutation, is_link, times-links}
 use Rattle.tl_number.proofs.SameLandmarks.{links_of-in_order, count-relanded}
-use Rattle.tl_number.proofs.SameNames.{name_key_keys, renamed_use, all_uses-kept, all_uses-all, uses_of-renamed}
-use Rattle.tl_number.proofs.SameNumbers.{kept_entry, polygons_along-kept, all_themselves}
+use Rattle.tl_number.proofs.SameNames.{name_key_keys, all_uses-kept, all_uses-all, uses_of-renamed}
+use Rattle.tl_number.proofs.SameNumbers.{kept_entry, polygons_along-kept}
 
 -- places tell keys apart
 place-injective : {K : Type 0} {cmp : K → K → Ordering} (o : IsKeyOrder cmp) (i : ℕ) (xs : List K) (k j : K) → Known cmp xs k

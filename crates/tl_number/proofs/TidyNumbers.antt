@@ -1,6 +1,6 @@
 -- The numbers of a tidy county fit their fields, and canonical lists keep the limits of the lists that they are of.
-use Rattle.std.proofs.Common.{◌≡◌, ◌+◌, ◌*◌, ◌^◌, ◌<◌, ◌≤◌, ℕ, zero, suc, max, List, [], ◌∷◌, ◌++◌, map, flat_map, length}
-use Rattle.std.proofs.Common.{length-append, Option, Some, None, option_to_list, IsTrue, sym, refl, ap, ◌∙◌, subst, arith}
+use Rattle.std.proofs.Common.{◌≡◌, ◌+◌, ◌*◌, ◌^◌, ◌<◌, ◌≤◌, ℕ, zero, suc, max, List, [], ◌∷◌, map, flat_map, length}
+use Rattle.std.proofs.Common.{length-append, Option, Some, None, option_to_list, IsTrue, sym, subst, arith}
 use Rattle.std.proofs.Common.{nat_cmp}
 use Rattle.std.proofs.lemmas.Bool.{ltb-true, lt-ltb}
 use Rattle.std.proofs.lemmas.List.{length-map}
@@ -15,7 +15,7 @@ use Rattle.tl_layout.specs.declared.type_p.BodyP.{BodyP}
 use Rattle.tl_shape.specs.Chain.{Chain}
 use Rattle.tl_county.specs.County.{County, county_of}
 use Rattle.tl_county.specs.CountyRules.{IsCounty, tlids, feats, polygon_keys, lands, nodes_along, polygons_along, chain_nodes}
-use Rattle.tl_county.specs.CountyRules.{chain_polygons, link_key, AllStandIn, AllKeysStandIn}
+use Rattle.tl_county.specs.CountyRules.{chain_polygons, link_key, AllStandIn}
 use Rattle.tl_county.specs.Limits.{most_records, FitsNumbers, NumbersFit, IsWithinLimits}
 use Rattle.tl_county.specs.Orders.{times, stands_in}
 use Rattle.tl_county.specs.Packing.{packed_one, packed_five, packed_sevens, packed_by_type, packed}
@@ -25,9 +25,9 @@ use Rattle.tl_county.proofs.CarriedLimits.{carried_contents, carried_room, carri
 use Rattle.tl_county.proofs.FitsCounty.{county-within_limits}
 use Rattle.tl_county.proofs.FitsPacked.{packed-fits}
 use Rattle.tl_county.proofs.KeyOrders.{key_keys}
-use Rattle.tl_county.proofs.Keys.{Known, nat_keys, known_all, all_known}
+use Rattle.tl_county.proofs.Keys.{nat_keys, known_all, all_known}
 use Rattle.tl_county.proofs.LinkedCounty.{county-is_county}
-use Rattle.tl_county.proofs.Lists.{all_weaker, all_both, all_map, all_unmap, all_pieces, all_left, all_right}
+use Rattle.tl_county.proofs.Lists.{all_weaker, all_both, all_unmap, all_pieces, all_left, all_right}
 use Rattle.tl_county.proofs.PackedTypes.{by_type_of}
 use Rattle.tl_county.proofs.Sameness.{same-reflexive}
 use Rattle.tl_county.proofs.TypeCounts.{HasAtMost, by_type_within, packed_within}

@@ -1,12 +1,12 @@
 -- The packing of a tidy county is a tidy list of records.
-use Rattle.std.proofs.Common.{◌≡◌, ◌<◌, ◌≤◌, ◌+◌, ◌-◌, min, ℕ, zero, suc, List, [], ◌∷◌, map, flat_map, filter_map, length, take}
+use Rattle.std.proofs.Common.{◌≡◌, ◌≤◌, ◌-◌, min, ℕ, zero, suc, List, [], ◌∷◌, map, filter_map, length, take}
 use Rattle.std.proofs.Common.{drop, Ordering, is_gt, false, sym, refl, ap, ap₂, ◌∙◌, subst, arith, nat_cmp, map-id, length-drop}
 use Rattle.std.proofs.lemmas.Cmp.{nat_cmp_total, on_total}
 use Rattle.std.proofs.lemmas.List.{length-map, length-take}
 use Rattle.std.specs.List.{AllByRecursion}
 use Rattle.std.specs.List.Sorted.{IsStrictlySortedBy}
 use Rattle.std.specs.Ordering.{on, then_cmp}
-use Rattle.tl_layout.specs.ByType.{of_type_2, of_type_4, of_type_6, of_number}
+use Rattle.tl_layout.specs.ByType.{of_number}
 use Rattle.tl_layout.specs.Coordinates.{Coordinates}
 use Rattle.tl_layout.specs.Fields.{Fields2, Fields4, Fields6, Fields7}
 use Rattle.tl_layout.specs.declared.ranges.Ranges.{Ranges}
@@ -14,9 +14,9 @@ use Rattle.tl_layout.specs.declared.type7.Body7.{Body7}
 use Rattle.tl_shape.specs.Chain.{Chain}
 use Rattle.tl_county.specs.BodyOrder.{landmark_body_cmp, link_cmp}
 use Rattle.tl_county.specs.County.{County, one_tlid, two_tlid, two_rtsq, four_tlid, four_rtsq, five_feat, six_tlid, six_rtsq}
-use Rattle.tl_county.specs.County.{seven_land, i_tlid, county_of}
+use Rattle.tl_county.specs.County.{seven_land, i_tlid}
 use Rattle.tl_county.specs.CountyRules.{IsCounty}
-use Rattle.tl_county.specs.Orders.{IsInOrder, in_order}
+use Rattle.tl_county.specs.Orders.{IsInOrder}
 use Rattle.tl_county.specs.Packing.{pieces, in_pieces, numbered_from, inner_points, packed_one, packed_twos, packed_fours}
 use Rattle.tl_county.specs.Packing.{packed_five, packed_sixes, packed_sevens, packed_i, packed_p, p_polyid, type_after_type}
 use Rattle.tl_county.specs.Packing.{packed_by_type, packed}

@@ -1,5 +1,5 @@
 -- Uses of names: each stands once in the list of all uses, and a name's uses are those under its FEAT.
-use Rattle.std.proofs.Common.{◌≡◌, ◌<◌, ℕ, suc, ◌==◌, List, [], ◌∷◌, ◌++◌, map, filter, Bool, true, false, cond, Ordering, Less}
+use Rattle.std.proofs.Common.{◌≡◌, ◌<◌, ℕ, suc, ◌==◌, List, [], ◌∷◌, ◌++◌, map, filter, Bool, true, false, cond, Less}
 use Rattle.std.proofs.Common.{sym, refl, ap, ◌∙◌, subst, inl, inr, arith, nat_cmp}
 use Rattle.std.proofs.lemmas.Bool.{eqb-true, eq-eqb}
 use Rattle.std.proofs.lemmas.Cmp.{tied_itself, nat_cmp_total}
@@ -9,8 +9,7 @@ use Rattle.std.specs.Ordering.{ordering_then}
 use Rattle.tl_shape.specs.Chain.{Chain}
 use Rattle.tl_county.proofs.FirstFault.{Among}
 use Rattle.tl_county.proofs.KeyOrders.{pair_keys}
-use Rattle.tl_county.proofs.Keys.{IsKeyOrder, IsApart, nat_keys, times-yes, apart_tail}
-use Rattle.tl_county.proofs.Members.{among_known, among-map}
+use Rattle.tl_county.proofs.Keys.{IsKeyOrder, nat_keys}
 use Rattle.tl_number.specs.Uses.{Use, use_cmp, uses_from, all_uses, uses_of}
 use Rattle.tl_number.proofs.Counting.{less}
 

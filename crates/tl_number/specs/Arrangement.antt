@@ -1,13 +1,11 @@
 -- Arrangements: an order and a direction for each chain of a county, and the renaming and the county that follow from them.
 use Rattle.std.specs.Prelude.{ℕ, List, map, filter, flat_map, reverse, Bool, IsPermutation}
 use Rattle.std.specs.Ordering.{is_gt, on}
-use Rattle.std.specs.declared.cmp.Ordering.{Ordering}
 use Rattle.tl_layout.specs.ByType.{of_number}
 use Rattle.tl_layout.specs.Coordinates.{Coordinates}
 use Rattle.tl_layout.specs.Fields.{Fields8}
 use Rattle.tl_layout.specs.declared.type5.Body5.{Body5}
 use Rattle.tl_layout.specs.declared.type7.Body7.{Body7}
-use Rattle.tl_layout.specs.declared.type_p.BodyP.{BodyP}
 use Rattle.tl_shape.specs.Chain.{Chain}
 use Rattle.tl_shape.specs.PointOrder.{points_cmp}
 use Rattle.tl_shape.specs.Turned.{turned_if}

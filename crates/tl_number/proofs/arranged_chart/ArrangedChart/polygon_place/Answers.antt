@@ -1,0 +1,10 @@
+use Rattle.std.proofs.Common.{sym, ◌∙◌, subst}
+use Rattle.tl_county.specs.Orders.{IsInOrder}
+use Rattle.tl_county.specs.PolygonKeys.{key_cmp}
+use Rattle.tl_number.proofs.ViewTables.{order_from_strict}
+use Rattle.tl_number.proofs.arranged_chart.ArrangedChart.polygon_place.Goals as goal
+
+pub place_of-requires : goal.place_of-requires
+place_of-requires g c =
+    subst (IsInOrder key_cmp) (sym (c.as_slice.ensures.value ∙ c.args.self.now.polygons_told.keys))
+    (order_from_strict key_cmp _ c.args.self.now.whole.is_county.ascending.polygons)

@@ -1,0 +1,46 @@
+use Rattle.std.proofs.Common.{sym, ap, ◌∙◌, subst}
+use Rattle.tl_number.specs.Arrangement.{nodes_in_order}
+use Rattle.tl_number.specs.Steps.{arrangement_of}
+use Rattle.tl_number.specs.ViewFacts.{AreWhole, TellsPolygons, TellsNames, TellsLandmarks}
+use Rattle.tl_number.proofs.ArrangedViews.{whole_steps}
+use Rattle.tl_number.proofs.arranging.arrange.Goals as goal
+
+pub arrange_polygons-requires-clause-whole : goal.arrange_polygons-requires-clause-whole
+arrange_polygons-requires-clause-whole g c =
+    let county = g.C.Chart.county c.args.chart in
+    let whole = whole_steps county c.args.steps.items (g.met.C.Chart.is_county c.args.chart) c.requires.there c.requires.once
+    c.requires.sides
+    c.requires.few.chains in
+    subst (AreWhole county) (sym c.deref-2.ensures.value) whole
+
+pub arrange_names-requires-clause-whole : goal.arrange_names-requires-clause-whole
+arrange_names-requires-clause-whole g c =
+    let county = g.C.Chart.county c.args.chart in
+    let whole = whole_steps county c.args.steps.items (g.met.C.Chart.is_county c.args.chart) c.requires.there c.requires.once
+    c.requires.sides
+    c.requires.few.chains in
+    subst (AreWhole county) (sym c.deref-3.ensures.value) whole
+
+pub arrange_landmarks-requires-clause-whole : goal.arrange_landmarks-requires-clause-whole
+arrange_landmarks-requires-clause-whole g c =
+    let county = g.C.Chart.county c.args.chart in
+    let whole = whole_steps county c.args.steps.items (g.met.C.Chart.is_county c.args.chart) c.requires.there c.requires.once
+    c.requires.sides
+    c.requires.few.chains in
+    subst (AreWhole county) (sym c.deref-4.ensures.value) whole
+
+pub invariant_of-result : goal.invariant_of-result
+invariant_of-result g c =
+    let county = g.C.Chart.county c.args.chart in
+    let whole = whole_steps county c.args.steps.items (g.met.C.Chart.is_county c.args.chart) c.requires.there c.requires.once
+    c.requires.sides
+    c.requires.few.chains in
+    record {
+      whole = whole;
+      nodes_told = c.in_ok-nodes.ensures ∙ ap (λ steps. nodes_in_order county (arrangement_of county steps)) c.deref.ensures.value;
+      polygons_told = subst (λ steps. TellsPolygons county steps c.in_ok-polygons.polygons) c.deref-2.ensures.value
+          c.in_ok-polygons.ensures;
+      names_told = subst (λ steps. TellsNames county steps c.in_ok-names.names) c.deref-3.ensures.value c.in_ok-names.ensures;
+      landmarks_told = subst (λ steps. TellsLandmarks county steps c.in_ok-landmarks.landmarks) c.deref-4.ensures.value
+          c.in_ok-landmarks.ensures;
+    }

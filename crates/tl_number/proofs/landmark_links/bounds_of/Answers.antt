@@ -1,0 +1,28 @@
+use Rattle.std.proofs.Common.{◌∷◌, [], ◌++◌, sym, ap₂, ◌∙◌, subst, arith, is_gt, nat_cmp}
+use Rattle.std.proofs.lemmas.List.FromFn.{map-range_with_len_more}
+use Rattle.std.specs.Ordering.{on}
+use Rattle.tl_county.specs.County.{eight_land}
+use Rattle.tl_county.specs.Orders.{IsInOrder}
+use Rattle.tl_county.proofs.KeyedLists.{in_order-filter}
+use Rattle.tl_number.specs.ViewFacts.{links_up_to}
+use Rattle.tl_number.proofs.LandmarkLinks.{fewer_later, bound_told, later_next}
+use Rattle.tl_number.proofs.landmark_links.bounds_of.Goals as goal
+
+pub overflow_sub-links : goal.overflow_sub-links
+overflow_sub-links c =
+    fewer_later c.args.links.now c.loop-land.rest.now c.split_group.result.1.now c.loop-land.land c.loop-land.invariant.later
+    c.split_group.ensures.later
+
+pub loop-land-preserved : goal.loop-land-preserved
+loop-land-preserved c = record {
+  bounds = c.in_ok-push.ensures.items
+      ∙ ap₂ (λ bounds bound. bounds ++ (bound ∷ [])) c.loop-land.invariant.bounds
+      (bound_told c.args.links.now c.loop-land.rest.now c.split_group.result.1.now c.loop-land.land c.loop-land.invariant.later
+      c.split_group.ensures.later)
+      ∙ sym (map-range_with_len_more (links_up_to c.args.links.now) 0 c.loop-land.land c.loop-land.land (omega arith));
+  in_order = subst (IsInOrder (on eight_land nat_cmp)) (sym c.split_group.ensures.later)
+      (in_order-filter (on eight_land nat_cmp) (λ link. is_gt (nat_cmp (eight_land link) c.loop-land.land)) c.loop-land.rest.now
+      c.loop-land.invariant.in_order);
+  later = later_next c.args.links.now c.loop-land.rest.now c.split_group.result.1.now c.loop-land.land c.loop-land.invariant.later
+      c.split_group.ensures.later;
+}

@@ -1,0 +1,13 @@
+use Rattle.std.proofs.Common.{◌++◌, map, ap, ◌∙◌}
+use Rattle.tl_county.specs.ChartWords.{links_at}
+use Rattle.tl_number.specs.LandmarkItems.{link_under}
+use Rattle.tl_number.proofs.LandmarkLinks.{pieces_next}
+use Rattle.tl_number.proofs.landmark_links.gather_links.Goals as goal
+
+pub loop-place-preserved : goal.loop-place-preserved
+loop-place-preserved g c =
+    let county = g.C.Chart.county c.args.chart.now in
+    c.in_ok-push_links.ensures
+    ∙ ap (λ links. links ++ map (link_under c.args.polygons.now c.args.lands.now)
+    (links_at county c.loop-place.place)) c.loop-place.invariant
+    ∙ pieces_next (λ place. map (link_under c.args.polygons.now c.args.lands.now) (links_at county place)) c.loop-place.place

@@ -1,0 +1,10 @@
+use Rattle.std.proofs.Common.{◌≡◌, map, flat_map}
+use Rattle.std.specs.List.{range_with_len}
+use Rattle.tl_county.specs.ChartWords.{links_at}
+use Rattle.tl_number.specs.LandmarkItems.{link_under}
+use Rattle.tl_number.proofs.landmark_links.gather_links.Given as goal
+
+abbrev pub invariant-loop-place : goal.invariant-loop-place
+invariant-loop-place g l =
+    l.links.items ≡ flat_map (λ place. map (link_under l.polygons l.lands) (links_at (g.C.Chart.county l.chart) place))
+    (range_with_len 0 l.place)

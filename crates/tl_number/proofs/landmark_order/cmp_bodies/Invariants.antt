@@ -1,0 +1,11 @@
+use Rattle.std.proofs.Common.{◌≡◌, drop}
+use Rattle.std.specs.Cmp.Lexicographic.{slice_cmp}
+use Rattle.tl_county.specs.BodyOrder.{landmark_body_cmp}
+use Rattle.tl_county.specs.ChartWords.{bodies_at}
+use Rattle.tl_number.proofs.landmark_order.cmp_bodies.Given as goal
+
+abbrev pub invariant-loop-body : goal.invariant-loop-body
+invariant-loop-body g l =
+    slice_cmp landmark_body_cmp (drop l.body (bodies_at (g.C.Chart.county l.chart) l.a)) (drop l.body (bodies_at
+    (g.C.Chart.county l.chart) l.b))
+    ≡ slice_cmp landmark_body_cmp (bodies_at (g.C.Chart.county l.chart) l.a) (bodies_at (g.C.Chart.county l.chart) l.b)

@@ -1,0 +1,34 @@
+-- The links of landmarks under new numbers, and how landmarks stand to each other.
+use Rattle.std.specs.Prelude.{ℕ, List, map, slice_get}
+use Rattle.std.specs.declared.cmp.Ordering.{Ordering}
+use Rattle.std.specs.Cmp.Lexicographic.{slice_cmp}
+use Rattle.std.specs.Ordering.{nat_cmp, ordering_then}
+use Rattle.tl_layout.specs.Fields.{Fields8}
+use Rattle.tl_county.specs.BodyOrder.{landmark_body_cmp, link_part, link_part_cmp}
+use Rattle.tl_county.specs.ChartWords.{bodies_at, links_with}
+use Rattle.tl_county.specs.County.{County}
+use Rattle.tl_county.specs.CountyRules.{link_key}
+use Rattle.tl_county.specs.PolygonKeys.{PolygonKey, key_cmp}
+use Rattle.tl_county.specs.Renumbering.{image}
+use Rattle.tl_number.specs.Arrangement.{under_cenid}
+use Rattle.tl_number.specs.Growth.{numbered, up_to}
+
+-- a link with its polygon and its landmark under their places in these lists, counted from 1
+abbrev pub link_under : List PolygonKey → List ℕ → Fields8 → Fields8
+link_under polygons lands link = record {
+  file = link.file;
+  cenid = (image key_cmp (map under_cenid (numbered polygons)) (link_key link)).0;
+  polyid = (image key_cmp (map under_cenid (numbered polygons)) (link_key link)).1;
+  land = image nat_cmp (numbered lands) link.land;
+}
+
+-- the links of the landmark at a place, LANDs counted from 1
+abbrev pub own_links : List Fields8 → ℕ → ℕ → List Fields8
+own_links links count place = links_with links (slice_get (up_to count) place)
+
+-- by the bodies, the links, the places
+abbrev pub landmark_place_cmp : County → List Fields8 → ℕ → ℕ → ℕ → Ordering
+landmark_place_cmp county links count a b =
+    ordering_then (slice_cmp landmark_body_cmp (bodies_at county a) (bodies_at county b))
+    (ordering_then (slice_cmp link_part_cmp (map link_part (own_links links count a)) (map link_part (own_links links count b)))
+    (nat_cmp a b))

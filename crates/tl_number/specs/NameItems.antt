@@ -1,0 +1,40 @@
+-- Names with the ranks of their first uses, and how they stand to each other.
+use Rattle.std.specs.Prelude.{ℕ, ◌+◌, List, flat_map, Option, Some, None, slice_get}
+use Rattle.std.specs.declared.cmp.Ordering.{Ordering}
+use Rattle.std.specs.List.{position}
+use Rattle.std.specs.Option.{option_cmp}
+use Rattle.std.specs.Ordering.{is_eq, nat_cmp, ordering_then}
+use Rattle.tl_county.specs.BodyOrder.{name_body_cmp}
+use Rattle.tl_county.specs.ChartWords.{feats_of, name_at}
+use Rattle.tl_county.specs.County.{County}
+use Rattle.tl_county.specs.CountyRules.{feats}
+use Rattle.tl_number.specs.Steps.{step_chain}
+use Rattle.tl_number.specs.declared.step.Step.{Step}
+use Rattle.tl_number.specs.declared.table_items.RankedName.{RankedName}
+
+-- the FEATs that chains name, along steps
+abbrev pub feats_along_steps : County → List Step → List ℕ
+feats_along_steps county steps = flat_map (λ step. feats_of (step_chain county step)) steps
+
+-- a place counted from 1, and 0 for none
+abbrev pub from_one : Option ℕ → ℕ
+from_one None = 0
+from_one (Some place) = place + 1
+
+-- the number of a FEAT among those first seen, from 1, or 0
+abbrev pub rank_of : List ℕ → Option ℕ → ℕ
+rank_of seen None = 0
+rank_of seen (Some feat) = from_one (position (λ other. is_eq (nat_cmp feat other)) seen)
+
+-- the name at a place with its rank
+abbrev pub ranked_at : County → List ℕ → ℕ → RankedName
+ranked_at county seen place = record { rank = rank_of seen (slice_get (feats county) place); place = place }
+
+abbrev pub ranked_place : RankedName → ℕ
+ranked_place name = name.place
+
+-- by the bytes, the rank, the place
+abbrev pub ranked_cmp : County → RankedName → RankedName → Ordering
+ranked_cmp county a b =
+    ordering_then (option_cmp name_body_cmp (name_at county a.place) (name_at county b.place))
+    (ordering_then (nat_cmp a.rank b.rank) (nat_cmp a.place b.place))

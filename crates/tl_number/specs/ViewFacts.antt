@@ -1,0 +1,69 @@
+-- What is true of the tables of a county in an arrangement.
+use Rattle.std.specs.Prelude.{ℕ, ◌≡◌, ◌+◌, ◌<◌, ◌^◌, List, map, filter, length, Some, slice_get, nat_le}
+use Rattle.std.specs.List.{range_with_len}
+use Rattle.std.specs.Ordering.{nat_cmp}
+use Rattle.tl_layout.specs.Fields.{Fields8}
+use Rattle.tl_county.specs.County.{County}
+use Rattle.tl_county.specs.CountyRules.{IsCounty, tlids, polygon_keys}
+use Rattle.tl_county.specs.Entries.{entry_keys, entry_values}
+use Rattle.tl_county.specs.Orders.{times}
+use Rattle.tl_number.specs.Arrangement.{Arrangement, arranged_tlids, polygons_in_order, names_in_order}
+use Rattle.tl_number.specs.Arrangement.{landmarks_in_order, arranged}
+use Rattle.tl_number.specs.Steps.{AreSteps, arrangement_of}
+use Rattle.tl_number.specs.declared.step.Step.{Step}
+use Rattle.tl_number.specs.declared.tables.LandmarkTables.{LandmarkTables}
+use Rattle.tl_number.specs.declared.tables.NameTables.{NameTables}
+use Rattle.tl_number.specs.declared.tables.PolygonTables.{PolygonTables}
+
+-- these elements stand in the list at these places
+abbrev pub AreReadAt : {X : Type 0} → List X → List ℕ → List X → Type 0
+AreReadAt xs places ys = map (slice_get xs) places ≡ map Some ys
+
+-- an arrangement names each TLID as often as the county
+abbrev pub NamesEachOnce : County → Arrangement → Type 0
+NamesEachOnce county steps = (tlid : ℕ) → times nat_cmp tlid (arranged_tlids steps) ≡ times nat_cmp tlid (tlids county)
+
+-- how many of the links have a LAND up to this one
+abbrev pub links_up_to : List Fields8 → ℕ → ℕ
+links_up_to links land = length (filter (λ link. nat_le link.land land) links)
+
+-- the same for each of 0, 1, 2, .., one more than count, so that the links of each LAND lie between two of these
+abbrev pub link_bounds : List Fields8 → ℕ → List ℕ
+link_bounds links count = map (links_up_to links) (range_with_len 0 (count + 1))
+
+-- the county under the arrangement of these steps
+abbrev pub stepped : County → List Step → County
+stepped county steps = arranged county (arrangement_of county steps)
+
+-- the steps are those of an arrangement, each chain once
+pub record AreWhole (county : County) (steps : List Step) : Type 0 where
+  pub there : AreSteps county steps
+  pub once : NamesEachOnce county (arrangement_of county steps)
+  pub few : length county.chains < 2 ^ 32
+  pub is_county : IsCounty (stepped county steps)
+
+-- polygons by first appearance, their new keys in order, and where their contents stand
+pub record TellsPolygons (county : County) (steps : List Step) (tables : PolygonTables) : Type 0 where
+  pub numbers : tables.numbers ≡ polygons_in_order county (arrangement_of county steps)
+  pub few : length tables.numbers < 10 ^ 10
+  pub keys : tables.keys.items ≡ polygon_keys (stepped county steps)
+  pub bodies : AreReadAt (entry_values county.polygons) tables.places.items (entry_values (stepped county steps).polygons)
+
+-- names in their new order
+pub record TellsNames (county : County) (steps : List Step) (tables : NameTables) : Type 0 where
+  pub feats : tables.feats ≡ entry_keys (names_in_order county (arrangement_of county steps))
+  pub names : AreReadAt county.names tables.places.items (names_in_order county (arrangement_of county steps))
+  pub few : length tables.feats < 2 ^ 32
+
+-- landmarks in their new order, their links, and between which bounds each one's links lie
+pub record TellsLandmarks (county : County) (steps : List Step) (tables : LandmarkTables) : Type 0 where
+  pub landmarks : AreReadAt county.landmarks tables.places.items (landmarks_in_order county (arrangement_of county steps))
+  pub links : tables.links.items ≡ (stepped county steps).links
+  pub bounds : tables.bounds.items ≡ link_bounds (stepped county steps).links (length tables.places.items)
+
+-- places of chains, names, polygons and landmarks fit 32 bits
+pub record FitsPlaces (county : County) : Type 0 where
+  pub chains : length county.chains < 2 ^ 32
+  pub names : length county.names < 2 ^ 32
+  pub polygons : length county.polygons < 2 ^ 32
+  pub landmarks : length county.landmarks < 2 ^ 32

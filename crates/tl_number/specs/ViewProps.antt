@@ -1,0 +1,22 @@
+-- The facts of a county in an arrangement have at most one proof each.
+use Rattle.std.specs.Prelude.{List}
+use Rattle.std.proofs.Props.{props}
+use Rattle.tl_county.specs.County.{County}
+use Rattle.tl_county.specs.CountyProps.{IsCounty-prop}
+use Rattle.tl_number.specs.ViewFacts.{AreWhole, TellsPolygons, TellsNames, TellsLandmarks}
+use Rattle.tl_number.specs.declared.step.Step.{Step}
+use Rattle.tl_number.specs.declared.tables.LandmarkTables.{LandmarkTables}
+use Rattle.tl_number.specs.declared.tables.NameTables.{NameTables}
+use Rattle.tl_number.specs.declared.tables.PolygonTables.{PolygonTables}
+
+pub AreWhole-prop : (county : County) (steps : List Step) → IsProp (AreWhole county steps)
+AreWhole-prop county steps = hlevel (props, IsCounty-prop)
+
+pub TellsPolygons-prop : (county : County) (steps : List Step) (tables : PolygonTables) → IsProp (TellsPolygons county steps tables)
+TellsPolygons-prop county steps tables = hlevel props
+
+pub TellsNames-prop : (county : County) (steps : List Step) (tables : NameTables) → IsProp (TellsNames county steps tables)
+TellsNames-prop county steps tables = hlevel props
+
+pub TellsLandmarks-prop : (county : County) (steps : List Step) (tables : LandmarkTables) → IsProp (TellsLandmarks county steps tables)
+TellsLandmarks-prop county steps tables = hlevel props

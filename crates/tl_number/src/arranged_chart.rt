@@ -1,0 +1,211 @@
+//! A county in an arrangement as a chart.
+
+use crate::arranged::{Arranged, old_place};
+use crate::counted::{number_at, place_of_number};
+use crate::slices::{link_at, links_of_landmark};
+use crate::step_readers::{
+    body_of_step, end_of_step, feat_count_of_step, feat_of_step, left_of_step, link_body_of_step,
+    point_count_of_step, point_of_step, range_count_of_step, range_of_step, right_of_step,
+    start_of_step,
+};
+use tl_county::{Chart, PolygonKey, place_of};
+use tl_layout::{Body1, Body5, Body7, BodyI, BodyP, Point, Ranges, Rec8, Side};
+
+/// The county that the arrangement makes of the county behind it.
+impl<C: Chart> Chart for Arranged<C> {
+    ghost use Rattle.tl_number.specs.ViewFacts.{stepped};
+
+    ghost county = { λ view. stepped (C.county view.chart) view.steps.items };
+
+    fn chain_count(&self) -> usize {
+        self.steps.as_slice().len()
+    }
+
+    fn tlid_at(&self, place: usize) -> Option<u64> {
+        number_at(self.steps.as_slice().len(), place)
+    }
+
+    fn chain_place(&self, tlid: u64) -> Option<usize> {
+        place_of_number(self.steps.as_slice().len(), tlid)
+    }
+
+    fn name_count(&self) -> usize {
+        self.names.feats.len()
+    }
+
+    fn feat_at(&self, place: usize) -> Option<u32> {
+        match number_at(self.names.feats.len(), place) {
+            Some(feat) => Some(feat as u32),
+            None => None,
+        }
+    }
+
+    fn name_place(&self, feat: u32) -> Option<usize> {
+        place_of_number(self.names.feats.len(), feat as u64)
+    }
+
+    fn polygon_count(&self) -> usize {
+        self.polygons.keys.as_slice().len()
+    }
+
+    fn polygon_key_at(&self, place: usize) -> Option<PolygonKey> {
+        self.polygons.keys.as_slice().get(place).copied()
+    }
+
+    fn polygon_place(&self, key: PolygonKey) -> Option<usize> {
+        place_of(self.polygons.keys.as_slice(), key)
+    }
+
+    fn landmark_count(&self) -> usize {
+        self.landmarks.places.as_slice().len()
+    }
+
+    fn land_at(&self, place: usize) -> Option<u64> {
+        number_at(self.landmarks.places.as_slice().len(), place)
+    }
+
+    fn landmark_place(&self, land: u64) -> Option<usize> {
+        place_of_number(self.landmarks.places.as_slice().len(), land)
+    }
+
+    fn node_count(&self) -> usize {
+        self.nodes.len()
+    }
+
+    fn node_at(&self, place: usize) -> Option<u64> {
+        number_at(self.nodes.len(), place)
+    }
+
+    fn node_place(&self, node: u64) -> Option<usize> {
+        place_of_number(self.nodes.len(), node)
+    }
+
+    fn chain_body_at(&self, place: usize) -> Option<Body1> {
+        match self.step_at(place) {
+            Some(step) => body_of_step(&self.chart, step),
+            None => None,
+        }
+    }
+
+    fn point_count_at(&self, place: usize) -> usize {
+        match self.step_at(place) {
+            Some(step) => point_count_of_step(&self.chart, step),
+            None => 0,
+        }
+    }
+
+    fn point_at(&self, place: usize, point: usize) -> Option<Point> {
+        match self.step_at(place) {
+            Some(step) => point_of_step(&self.chart, step, point),
+            None => None,
+        }
+    }
+
+    fn feat_count_at(&self, place: usize) -> usize {
+        match self.step_at(place) {
+            Some(step) => feat_count_of_step(&self.chart, step),
+            None => 0,
+        }
+    }
+
+    fn chain_feat_at(&self, place: usize, name: usize) -> Option<u32> {
+        match self.step_at(place) {
+            Some(step) => self.renumbered_feat(feat_of_step(&self.chart, step, name)),
+            None => None,
+        }
+    }
+
+    fn range_count_at(&self, place: usize) -> usize {
+        match self.step_at(place) {
+            Some(step) => range_count_of_step(&self.chart, step),
+            None => 0,
+        }
+    }
+
+    fn range_at(&self, place: usize, range: usize) -> Option<Ranges> {
+        match self.step_at(place) {
+            Some(step) => range_of_step(&self.chart, step, range),
+            None => None,
+        }
+    }
+
+    fn link_body_at(&self, place: usize) -> Option<BodyI> {
+        match self.step_at(place) {
+            Some(step) => link_body_of_step(&self.chart, step),
+            None => None,
+        }
+    }
+
+    fn start_node_at(&self, place: usize) -> Option<Option<u64>> {
+        match self.step_at(place) {
+            Some(step) => Some(self.renumbered_node(start_of_step(&self.chart, step))),
+            None => None,
+        }
+    }
+
+    fn end_node_at(&self, place: usize) -> Option<Option<u64>> {
+        match self.step_at(place) {
+            Some(step) => Some(self.renumbered_node(end_of_step(&self.chart, step))),
+            None => None,
+        }
+    }
+
+    fn left_at(&self, place: usize) -> Option<Side> {
+        match self.step_at(place) {
+            Some(step) => match left_of_step(&self.chart, step) {
+                Some(side) => Some(self.renumbered_side(side)),
+                None => None,
+            },
+            None => None,
+        }
+    }
+
+    fn right_at(&self, place: usize) -> Option<Side> {
+        match self.step_at(place) {
+            Some(step) => match right_of_step(&self.chart, step) {
+                Some(side) => Some(self.renumbered_side(side)),
+                None => None,
+            },
+            None => None,
+        }
+    }
+
+    fn name_body_at(&self, place: usize) -> Option<Body5> {
+        match old_place(&self.names.places, place) {
+            Some(old) => self.chart.name_body_at(old),
+            None => None,
+        }
+    }
+
+    fn polygon_body_at(&self, place: usize) -> Option<Option<BodyP>> {
+        match old_place(&self.polygons.places, place) {
+            Some(old) => self.chart.polygon_body_at(old),
+            None => None,
+        }
+    }
+
+    fn body_count_at(&self, place: usize) -> usize {
+        match old_place(&self.landmarks.places, place) {
+            Some(old) => self.chart.body_count_at(old),
+            None => 0,
+        }
+    }
+
+    fn landmark_body_at(&self, place: usize, body: usize) -> Option<Body7> {
+        match old_place(&self.landmarks.places, place) {
+            Some(old) => self.chart.landmark_body_at(old, body),
+            None => None,
+        }
+    }
+
+    fn link_count_at(&self, place: usize) -> usize {
+        links_of_landmark(&self.landmarks.links, &self.landmarks.bounds, place).len()
+    }
+
+    fn landmark_link_at(&self, place: usize, link: usize) -> Option<Rec8> {
+        let links = links_of_landmark(&self.landmarks.links, &self.landmarks.bounds, place);
+        link_at(links, link)
+    }
+
+    ghost is_county = { λ view. view.whole.is_county };
+}

@@ -1,0 +1,66 @@
+//! The county of an arrangement, and the canonical county.
+
+ghost use Rattle.std.specs.Prelude.{◌≡◌, ◌<◌, ◌^◌, IfOk, length};
+ghost use Rattle.tl_county.specs.CountyRules.{AllKeysStandIn, polygon_keys, polygons_along};
+ghost use Rattle.tl_county.specs.Renumbering.{Carries};
+ghost use Rattle.tl_number.specs.Arrangement.{arranged, ascending, renaming_of};
+ghost use Rattle.tl_number.specs.Steps.{AreSteps, arrangement_of};
+ghost use Rattle.tl_number.specs.ViewFacts.{FitsPlaces, NamesEachOnce};
+ghost use Rattle.tl_number.specs.CanonCounties.{IsCanonCounty};
+ghost use Rattle.tl_profile.specs.Profile.{IsInProfile};
+
+use crate::arranged::Arranged;
+use crate::canon_county::CanonCounty;
+use crate::landmark_order::arrange_landmarks;
+use crate::name_order::arrange_names;
+use crate::order::ascending_steps;
+use crate::polygon_order::arrange_polygons;
+use crate::step::Step;
+use crate::walks::number_nodes;
+use std::alloc::{AllocError, Global};
+use tl_county::Chart;
+
+/// A county whose polygons stand on sides, in the arrangement of these steps, each of which is another chain and which are
+/// all of its chains. Its parts fit places of 32 bits.
+pub fn arrange<C: Chart + Drop>(
+    alloc: Global,
+    chart: C,
+    steps: Vec<Step>,
+) -> Result<Arranged<C>, AllocError>
+    requires there { AreSteps (C.county chart) steps.items }
+    requires once { NamesEachOnce (C.county chart) (arrangement_of (C.county chart) steps.items) }
+    requires sides { AllKeysStandIn (polygons_along (C.county chart).chains) (polygon_keys (C.county chart)) }
+    requires few { FitsPlaces (C.county chart) }
+    ensures source { IfOk result (λ view. view.chart ≡ chart) }
+    ensures county { IfOk result (λ view. ⟦<Arranged<C> as Chart>⟧.county view ≡ arranged (C.county chart) (arrangement_of (C.county chart) steps.items)) }
+{
+    let nodes = number_nodes(alloc, &chart, &steps)?;
+    let polygons = arrange_polygons(alloc, &chart, &steps)?;
+    let names = arrange_names(alloc, &chart, &steps)?;
+    let landmarks = arrange_landmarks(alloc, &chart, &steps, &polygons.numbers)?;
+    Ok(Arranged {
+        chart,
+        steps,
+        nodes,
+        polygons,
+        names,
+        landmarks,
+    })
+}
+
+/// The canonical county of a county in the profile, whose parts fit places of 32 bits: it is that of the ascending
+/// arrangement, its chains run and stand as their points tell, all other numbers follow from that, and it is the same map.
+pub fn canonise_chart<C: Chart + Drop>(
+    alloc: Global,
+    chart: C,
+) -> Result<CanonCounty<C>, AllocError>
+    requires profile { IsInProfile (C.county chart) }
+    requires few { FitsPlaces (C.county chart) }
+    ensures county { IfOk result (λ canon. ⟦<CanonCounty<C> as Chart>⟧.county canon ≡ arranged (C.county chart) (ascending (C.county chart))) }
+    ensures carried { IfOk result (λ canon. Carries (renaming_of (C.county chart) (ascending (C.county chart))) (C.county chart) (⟦<CanonCounty<C> as Chart>⟧.county canon)) }
+    ensures canonical { IfOk result (λ canon. IsCanonCounty (⟦<CanonCounty<C> as Chart>⟧.county canon)) }
+{
+    let steps = ascending_steps(alloc, &chart)?;
+    let view = arrange(alloc, chart, steps)?;
+    Ok(CanonCounty { view })
+}

@@ -1,0 +1,121 @@
+//! The links of a county's landmarks under new numbers.
+
+ghost use Rattle.std.specs.Prelude.{◌≡◌, ◌++◌, ◌+◌, ◌<◌, ◌^◌, IfOk, OnOk, flat_map, length, map, option_to_list};
+ghost use Rattle.std.specs.List.{range_with_len};
+ghost use Rattle.std.specs.Ordering.{nat_cmp, on};
+ghost use Rattle.tl_county.specs.BodyOrder.{link_cmp};
+ghost use Rattle.tl_county.specs.ChartWords.{links_at};
+ghost use Rattle.tl_county.specs.County.{eight_land};
+ghost use Rattle.tl_county.specs.Orders.{IsInOrder, in_order};
+ghost use Rattle.tl_number.specs.LandmarkItems.{link_under};
+ghost use Rattle.tl_number.specs.ViewFacts.{link_bounds};
+
+use crate::numbers::Numbers;
+use crate::renumbering::{new_key, new_node};
+use std::alloc::{AllocError, Global};
+use tl_county::{Chart, PolygonKey, put_in_order, split_group};
+use tl_layout::Rec8;
+
+/// The fields of a link in their order: LAND, POLYID, CENID, FILE.
+type LinkKey = (u64, (u64, ([u8; 5], [u8; 5])));
+
+/// A link with its polygon and its landmark under their new numbers.
+fn renumbered_link(polygons: &Numbers<PolygonKey>, lands: &Numbers<u64>, link: &Rec8) -> Rec8
+    requires few_polygons { length polygons.now < 10 ^ 10 }
+    requires few_lands { length lands.now < 10 ^ 10 }
+    ensures { result ≡ link_under polygons.now lands.now link.now }
+{
+    let cenid = link.cenid();
+    let key = new_key(polygons, (cenid, link.polyid()));
+    let land = new_node(lands, link.land());
+    Rec8::new(link.file(), cenid, key.1, land)
+}
+
+/// Adds a link under its new numbers, if there is one.
+fn push_link(
+    links: &mut Vec<Rec8>,
+    polygons: &Numbers<PolygonKey>,
+    lands: &Numbers<u64>,
+    link: Option<Rec8>,
+) -> Result<(), AllocError>
+    requires few_polygons { length polygons.now < 10 ^ 10 }
+    requires few_lands { length lands.now < 10 ^ 10 }
+    ensures { OnOk result (links.new.items ≡ links.old.items ++ map (link_under polygons.now lands.now) (option_to_list link)) }
+{
+    if let Some(link) = link {
+        links.push(renumbered_link(polygons, lands, &link))?;
+    }
+    Ok(())
+}
+
+/// Adds the links of the landmark at a place under their new numbers.
+fn push_links<C: Chart>(
+    links: &mut Vec<Rec8>,
+    chart: &C,
+    polygons: &Numbers<PolygonKey>,
+    lands: &Numbers<u64>,
+    place: usize,
+) -> Result<(), AllocError>
+    requires few_polygons { length polygons.now < 10 ^ 10 }
+    requires few_lands { length lands.now < 10 ^ 10 }
+    ensures { OnOk result (links.new.items ≡ links.old.items ++ map (link_under polygons.now lands.now) (links_at (C.county chart.now) place)) }
+{
+    for link in 0..chart.link_count_at(place) {
+        push_link(links, polygons, lands, chart.landmark_link_at(place, link))?;
+    }
+    Ok(())
+}
+
+/// The links of all landmarks under their new numbers, landmark after landmark.
+fn gather_links<C: Chart>(
+    alloc: Global,
+    chart: &C,
+    polygons: &Numbers<PolygonKey>,
+    lands: &Numbers<u64>,
+) -> Result<Vec<Rec8>, AllocError>
+    requires few_polygons { length polygons.now < 10 ^ 10 }
+    requires few_lands { length lands.now < 10 ^ 10 }
+    ensures { IfOk result (λ links. links.items ≡ flat_map (λ place. map (link_under polygons.now lands.now) (links_at (C.county chart.now) place)) (range_with_len 0 (length (C.county chart.now).landmarks))) }
+{
+    let mut links = Vec::new(alloc);
+    for place in 0..chart.landmark_count() {
+        push_links(&mut links, chart, polygons, lands, place)?;
+    }
+    Ok(links)
+}
+
+/// The links of a county with their polygons and landmarks under their places in these tables, in order.
+pub(crate) fn links_under<C: Chart>(
+    alloc: Global,
+    chart: &C,
+    polygons: &Numbers<PolygonKey>,
+    lands: &Numbers<u64>,
+) -> Result<Vec<Rec8>, AllocError>
+    requires few_polygons { length polygons.now < 10 ^ 10 }
+    requires few_lands { length lands.now < 10 ^ 10 }
+    ensures { IfOk result (λ links. links.items ≡ in_order link_cmp (map (link_under polygons.now lands.now) (C.county chart.now).links)) }
+{
+    let mut links = gather_links(alloc, chart, polygons, lands)?;
+    put_in_order::<LinkKey, Rec8>(&mut links)?;
+    Ok(links)
+}
+
+/// How many links have a LAND up to 0, 1, 2, .. and so on up to a count.
+pub(crate) fn bounds_of(
+    alloc: Global,
+    links: &[Rec8],
+    count: usize,
+) -> Result<Vec<usize>, AllocError>
+    requires in_order { IsInOrder (on eight_land nat_cmp) links.now }
+    requires few { count < 2 ^ 32 }
+    ensures { IfOk result (λ bounds. bounds.items ≡ link_bounds links.now count) }
+{
+    let mut bounds = Vec::with_capacity(alloc, count + 1)?;
+    let mut rest = links;
+    for land in 0..count + 1 {
+        let (_, later) = split_group::<u64, Rec8>(rest, land as u64);
+        rest = later;
+        bounds.push(links.len() - rest.len())?;
+    }
+    Ok(bounds)
+}

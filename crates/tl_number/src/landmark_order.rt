@@ -1,0 +1,251 @@
+//! The landmarks of a county in their new order: by their bodies, and then by their links under the new numbers.
+
+ghost use Rattle.std.specs.Prelude.{◌≡◌, ◌<◌, ◌^◌, ◌-◌, IfOk, IsPermutation, OnOk, false, filter_map, length, map, option_to_list, slice_get};
+ghost use Rattle.std.specs.Cmp.Lexicographic.{slice_cmp};
+ghost use Rattle.std.specs.List.{range_with_len};
+ghost use Rattle.std.specs.Option.{option_cmp};
+ghost use Rattle.std.specs.Ordering.{nat_cmp, on};
+ghost use Rattle.tl_county.specs.BodyOrder.{landmark_body_cmp, link_part, link_part_cmp};
+ghost use Rattle.tl_county.specs.ChartWords.{bodies_at};
+ghost use Rattle.tl_county.specs.County.{eight_land};
+ghost use Rattle.tl_county.specs.CountyRules.{lands};
+ghost use Rattle.tl_county.specs.CountyProps.{IsInOrder-prop};
+ghost use Rattle.tl_county.specs.Orders.{IsInOrder, has_repeat};
+ghost use Rattle.tl_number.specs.Growth.{first_seen_after};
+ghost use Rattle.tl_number.specs.LandmarkItems.{landmark_place_cmp, own_links};
+ghost use Rattle.tl_number.specs.Steps.{arrangement_of};
+ghost use Rattle.tl_number.specs.Arrangement.{polygons_in_order};
+ghost use Rattle.tl_number.specs.ViewFacts.{AreWhole, TellsLandmarks, link_bounds};
+
+use crate::landmark_links::{bounds_of, links_under};
+use crate::numbers::Numbers;
+use crate::slices::{link_at, links_of_landmark};
+use crate::step::Step;
+use crate::tables::LandmarkTables;
+use std::alloc::{AllocError, Global};
+use std::cmp::Ordering;
+use tl_county::{Chart, PolygonKey};
+use tl_layout::{Body7, Point, Rec8};
+
+/// The fields of a landmark's body in their order: FILE, SOURCE, CFCC, LANAME, the point.
+type LandmarkBytes = ([u8; 5], ([u8; 1], ([u8; 3], ([u8; 30], Option<Point>))));
+
+/// The fields of a link without its LAND in their order: POLYID, CENID, FILE.
+type LinkBytes = (u64, ([u8; 5], [u8; 5]));
+
+/// The fields of a landmark's body in their order.
+fn bytes_of_body(body: &Body7) -> LandmarkBytes
+    ensures { result ≡ (body.now.file, (body.now.source, (body.now.cfcc, (body.now.laname, body.now.point)))) }
+{
+    let file = body.file();
+    let source = body.source();
+    let cfcc = body.cfcc();
+    let laname = body.laname();
+    (file, (source, (cfcc, (laname, body.point()))))
+}
+
+/// The fields of a link in their order.
+fn bytes_of_link(link: &Rec8) -> LinkBytes
+    ensures { result ≡ (link.now.polyid, (link.now.cenid, link.now.file)) }
+{
+    let cenid = link.cenid();
+    let file = link.file();
+    (link.polyid(), (cenid, file))
+}
+
+/// How one body stands to another.
+fn cmp_body(a: &Body7, b: &Body7) -> Ordering
+    ensures { result ≡ landmark_body_cmp a.now b.now }
+{
+    bytes_of_body(a).cmp(&bytes_of_body(b))
+}
+
+/// How one link without its LAND stands to another.
+fn cmp_link(a: &Rec8, b: &Rec8) -> Ordering
+    ensures { result ≡ link_part_cmp (link_part a.now) (link_part b.now) }
+{
+    bytes_of_link(a).cmp(&bytes_of_link(b))
+}
+
+/// How one body stands to another; where there is none it comes first.
+fn cmp_optional_body(a: Option<Body7>, b: Option<Body7>) -> Ordering
+    ensures { result ≡ option_cmp landmark_body_cmp a b }
+{
+    match a {
+        Some(a) => match b {
+            Some(b) => cmp_body(&a, &b),
+            None => Ordering::Greater,
+        },
+        None => match b {
+            Some(_) => Ordering::Less,
+            None => Ordering::Equal,
+        },
+    }
+}
+
+/// How one link stands to another; where there is none it comes first.
+fn cmp_optional_link(a: Option<Rec8>, b: Option<Rec8>) -> Ordering
+    ensures { result ≡ option_cmp (on link_part link_part_cmp) a b }
+{
+    match a {
+        Some(a) => match b {
+            Some(b) => cmp_link(&a, &b),
+            None => Ordering::Greater,
+        },
+        None => match b {
+            Some(_) => Ordering::Less,
+            None => Ordering::Equal,
+        },
+    }
+}
+
+/// How the bodies of the landmark at one place stand to those of another.
+fn cmp_bodies<C: Chart>(chart: &C, a: usize, b: usize) -> Ordering
+    ensures { result ≡ slice_cmp landmark_body_cmp (bodies_at (C.county chart.now) a) (bodies_at (C.county chart.now) b) }
+{
+    let count = chart.body_count_at(a);
+    for body in 0..count {
+        match cmp_optional_body(
+            chart.landmark_body_at(a, body),
+            chart.landmark_body_at(b, body),
+        ) {
+            Ordering::Equal => {}
+            unequal => return unequal,
+        }
+    }
+    if count < chart.body_count_at(b) {
+        Ordering::Less
+    } else {
+        Ordering::Equal
+    }
+}
+
+/// How one list of links stands to another, their LANDs left out.
+fn cmp_links(a: &[Rec8], b: &[Rec8]) -> Ordering
+    ensures { result ≡ slice_cmp link_part_cmp (map link_part a.now) (map link_part b.now) }
+{
+    let count = a.len();
+    for link in 0..count {
+        match cmp_optional_link(link_at(a, link), link_at(b, link)) {
+            Ordering::Equal => {}
+            unequal => return unequal,
+        }
+    }
+    if count < b.len() {
+        Ordering::Less
+    } else {
+        Ordering::Equal
+    }
+}
+
+/// Links under LANDs that count from 1, with how many have a LAND up to 0, 1, 2, ..
+#[derive(Clone, Copy)]
+struct LinkLists<'a> {
+    links: &'a [Rec8],
+    bounds: &'a [usize],
+    ghost in_order: { IsInOrder (on eight_land nat_cmp) links.now } by { IsInOrder-prop (on eight_land nat_cmp) links.now },
+    ghost some: { 0 < length bounds.now },
+    ghost bounded: { bounds.now ≡ link_bounds links.now (length bounds.now - 1) },
+}
+
+/// How the landmark at one place stands to that at another: by the bodies, the links, the places.
+fn cmp_landmarks<C: Chart>(chart: &C, lists: &LinkLists<'_>, a: u32, b: u32) -> Ordering
+    ensures { result ≡ landmark_place_cmp (C.county chart.now) lists.now.links.now (length lists.now.bounds.now - 1) a b }
+{
+    let bodies = cmp_bodies(chart, a as usize, b as usize);
+    if bodies.is_ne() {
+        return bodies;
+    }
+    let own = links_of_landmark(lists.links, lists.bounds, a as usize);
+    let others = links_of_landmark(lists.links, lists.bounds, b as usize);
+    let links = cmp_links(own, others);
+    if links.is_ne() {
+        return links;
+    }
+    a.cmp(&b)
+}
+
+/// The places of the landmarks of a county, ascending.
+fn all_places<C: Chart>(alloc: Global, chart: &C) -> Result<Vec<u32>, AllocError>
+    requires { length (C.county chart.now).landmarks < 2 ^ 32 }
+    ensures { IfOk result (λ places. places.items ≡ range_with_len 0 (length (C.county chart.now).landmarks)) }
+{
+    let count = chart.landmark_count();
+    let mut places = Vec::with_capacity(alloc, count)?;
+    for place in 0..count {
+        places.push(place as u32)?;
+    }
+    Ok(places)
+}
+
+/// Sees a LAND, if there is one.
+fn see_land(lands: &mut Numbers<u64>, land: Option<u64>) -> Result<(), AllocError>
+    ensures { OnOk result (lands.new ≡ first_seen_after nat_cmp lands.old (option_to_list land)) }
+{
+    match land {
+        Some(number) => lands.see(number),
+        None => Ok(()),
+    }
+}
+
+/// The LANDs at places, one after the other.
+fn lands_at<C: Chart>(alloc: Global, chart: &C, places: &[u32]) -> Result<Numbers<u64>, AllocError>
+    requires { has_repeat nat_cmp (filter_map (slice_get (lands (C.county chart.now))) places.now) ≡ false }
+    ensures { IfOk result (λ numbers. numbers ≡ filter_map (slice_get (lands (C.county chart.now))) places.now) }
+{
+    let mut numbers = Numbers::new(alloc);
+    let mut rest = places;
+    while let Some((place, later)) = rest.split_first() {
+        see_land(&mut numbers, chart.land_at(*place as usize))?;
+        rest = later;
+    }
+    Ok(numbers)
+}
+
+/// The places of the landmarks of a county in their new order.
+fn sort_places<C: Chart>(
+    alloc: Global,
+    chart: &C,
+    lists: &LinkLists<'_>,
+) -> Result<Vec<u32>, AllocError>
+    requires { length (C.county chart.now).landmarks < 2 ^ 32 }
+    ensures permutation { IfOk result (λ places. IsPermutation (range_with_len 0 (length (C.county chart.now).landmarks)) places.items) }
+    ensures in_order { IfOk result (λ places. IsInOrder (landmark_place_cmp (C.county chart.now) lists.now.links.now (length lists.now.bounds.now - 1)) places.items) }
+{
+    let mut places = all_places(alloc, chart)?;
+    places.sort_unstable_by(|a, b| cmp_landmarks(chart, lists, *a, *b));
+    Ok(places)
+}
+
+/// The landmarks of a county in the arrangement of these steps, with its polygons by first appearance.
+pub(crate) fn arrange_landmarks<C: Chart>(
+    alloc: Global,
+    chart: &C,
+    steps: &[Step],
+    polygons: &Numbers<PolygonKey>,
+) -> Result<LandmarkTables, AllocError>
+    requires whole { AreWhole (C.county chart.now) steps.now }
+    requires polygons { polygons.now ≡ polygons_in_order (C.county chart.now) (arrangement_of (C.county chart.now) steps.now) }
+    requires few_polygons { length polygons.now < 10 ^ 10 }
+    requires few { length (C.county chart.now).landmarks < 2 ^ 32 }
+    ensures { IfOk result (TellsLandmarks (C.county chart.now) steps.now) }
+{
+    let count = chart.landmark_count();
+    let unordered = all_places(alloc, chart)?;
+    let old_lands = lands_at(alloc, chart, &unordered)?;
+    let old_links = links_under(alloc, chart, polygons, &old_lands)?;
+    let old_bounds = bounds_of(alloc, &old_links, count)?;
+    let lists = LinkLists {
+        links: old_links.as_slice(),
+        bounds: old_bounds.as_slice(),
+    };
+    let places = sort_places(alloc, chart, &lists)?;
+    let lands = lands_at(alloc, chart, &places)?;
+    let links = links_under(alloc, chart, polygons, &lands)?;
+    let bounds = bounds_of(alloc, &links, count)?;
+    Ok(LandmarkTables {
+        places,
+        links,
+        bounds,
+    })
+}

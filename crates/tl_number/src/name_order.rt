@@ -1,0 +1,187 @@
+//! The names of a county in their new order: by their 43 bytes, and then by where chains first use them.
+
+ghost use Rattle.std.specs.Prelude.{◌≡◌, ◌<◌, ◌^◌, IfOk, OnOk, false, filter_map, length, map, option_to_list, slice_get};
+ghost use Rattle.std.specs.List.{range_with_len};
+ghost use Rattle.std.specs.Option.{option_cmp};
+ghost use Rattle.std.specs.Ordering.{nat_cmp};
+ghost use Rattle.tl_county.specs.BodyOrder.{name_body_cmp};
+ghost use Rattle.tl_county.specs.ChartWords.{feats_of};
+ghost use Rattle.tl_county.specs.CountyRules.{feats};
+ghost use Rattle.tl_county.specs.Orders.{has_repeat};
+ghost use Rattle.tl_number.specs.Growth.{first_seen, first_seen_after};
+ghost use Rattle.tl_number.specs.NameItems.{feats_along_steps, rank_of, ranked_at, ranked_cmp, ranked_place};
+ghost use Rattle.tl_number.specs.Steps.{step_chain};
+ghost use Rattle.tl_number.specs.ViewFacts.{AreWhole, TellsNames};
+
+use crate::numbers::Numbers;
+use crate::step::Step;
+use crate::step_readers::{feat_count_of_step, feat_of_step};
+use crate::table_items::RankedName;
+use crate::tables::NameTables;
+use std::alloc::{AllocError, Global};
+use std::cmp::Ordering;
+use tl_county::Chart;
+use tl_layout::Body5;
+
+/// The 43 bytes of a name, field by field: FILE, FEDIRP, FENAME, FETYPE, FEDIRS.
+type NameBytes = ([u8; 5], ([u8; 2], ([u8; 30], ([u8; 4], [u8; 2]))));
+
+/// The fields of a name in their order.
+fn bytes_of(body: &Body5) -> NameBytes
+    ensures { result ≡ (body.now.file, (body.now.name.fedirp, (body.now.name.fename, (body.now.name.fetype, body.now.name.fedirs)))) }
+{
+    let file = body.file();
+    let fedirp = body.fedirp();
+    let fename = body.fename();
+    let fetype = body.fetype();
+    let fedirs = body.fedirs();
+    (file, (fedirp, (fename, (fetype, fedirs))))
+}
+
+/// How one name stands to another by their bytes; where there is none it comes first.
+fn cmp_bodies(a: Option<Body5>, b: Option<Body5>) -> Ordering
+    ensures { result ≡ option_cmp name_body_cmp a b }
+{
+    match a {
+        Some(a) => match b {
+            Some(b) => bytes_of(&a).cmp(&bytes_of(&b)),
+            None => Ordering::Greater,
+        },
+        None => match b {
+            Some(_) => Ordering::Less,
+            None => Ordering::Equal,
+        },
+    }
+}
+
+/// Sees a further name, if there is one.
+fn see_feat(feats: &mut Numbers<u32>, feat: Option<u32>) -> Result<(), AllocError>
+    ensures { OnOk result (feats.new ≡ first_seen_after nat_cmp feats.old (option_to_list feat)) }
+{
+    match feat {
+        Some(number) => feats.see(number),
+        None => Ok(()),
+    }
+}
+
+/// Sees the further names of the chain of a step, one after the other.
+fn see_feats<C: Chart>(feats: &mut Numbers<u32>, chart: &C, step: Step) -> Result<(), AllocError>
+    ensures { OnOk result (feats.new ≡ first_seen_after nat_cmp feats.old (feats_of (step_chain (C.county chart.now) step))) }
+{
+    for name in 0..feat_count_of_step(chart, step) {
+        see_feat(feats, feat_of_step(chart, step, name))?;
+    }
+    Ok(())
+}
+
+/// The FEATs that chains name, in the order in which they are first met along these steps.
+fn number_uses<C: Chart>(
+    alloc: Global,
+    chart: &C,
+    steps: &[Step],
+) -> Result<Numbers<u32>, AllocError>
+    ensures { IfOk result (λ feats. feats ≡ first_seen nat_cmp (feats_along_steps (C.county chart.now) steps.now)) }
+{
+    let mut feats = Numbers::new(alloc);
+    let mut rest = steps;
+    while let Some((step, later)) = rest.split_first() {
+        see_feats(&mut feats, chart, *step)?;
+        rest = later;
+    }
+    Ok(feats)
+}
+
+/// The number of a name by its first use, from 1, or 0 if no chain uses it.
+fn rank(uses: &Numbers<u32>, feat: Option<u32>) -> usize
+    ensures { result ≡ rank_of uses.now feat }
+{
+    match feat {
+        Some(feat) => match uses.place(feat) {
+            Some(place) => place + 1,
+            None => 0,
+        },
+        None => 0,
+    }
+}
+
+/// The names of a county with their ranks, in the order of their places.
+fn ranked_names<C: Chart>(
+    alloc: Global,
+    chart: &C,
+    uses: &Numbers<u32>,
+) -> Result<Vec<RankedName>, AllocError>
+    requires { length (C.county chart.now).names < 2 ^ 32 }
+    ensures { IfOk result (λ names. names.items ≡ map (ranked_at (C.county chart.now) uses.now) (range_with_len 0 (length (C.county chart.now).names))) }
+{
+    let count = chart.name_count();
+    let mut names = Vec::with_capacity(alloc, count)?;
+    for place in 0..count {
+        let first_use = rank(uses, chart.feat_at(place));
+        names.push(RankedName {
+            rank: first_use,
+            place: place as u32,
+        })?;
+    }
+    Ok(names)
+}
+
+/// How one name stands to another: by its bytes, its rank, its place.
+fn cmp_names<C: Chart>(chart: &C, a: &RankedName, b: &RankedName) -> Ordering
+    ensures { result ≡ ranked_cmp (C.county chart.now) a.now b.now }
+{
+    let bodies = cmp_bodies(
+        chart.name_body_at(a.place as usize),
+        chart.name_body_at(b.place as usize),
+    );
+    if bodies.is_ne() {
+        return bodies;
+    }
+    let ranks = a.rank.cmp(&b.rank);
+    if ranks.is_ne() {
+        return ranks;
+    }
+    a.place.cmp(&b.place)
+}
+
+/// The places of names, one after the other.
+fn places_of(alloc: Global, names: &[RankedName]) -> Result<Vec<u32>, AllocError>
+    ensures { IfOk result (λ places. places.items ≡ map ranked_place names.now) }
+{
+    let mut places = Vec::with_capacity(alloc, names.len())?;
+    for name in names {
+        places.push(name.place)?;
+    }
+    Ok(places)
+}
+
+/// The FEATs at places, one after the other.
+fn feats_at<C: Chart>(alloc: Global, chart: &C, places: &[u32]) -> Result<Numbers<u32>, AllocError>
+    requires { has_repeat nat_cmp (filter_map (slice_get (feats (C.county chart.now))) places.now) ≡ false }
+    ensures { IfOk result (λ numbers. numbers ≡ filter_map (slice_get (feats (C.county chart.now))) places.now) }
+{
+    let mut numbers = Numbers::new(alloc);
+    let mut rest = places;
+    while let Some((place, later)) = rest.split_first() {
+        see_feat(&mut numbers, chart.feat_at(*place as usize))?;
+        rest = later;
+    }
+    Ok(numbers)
+}
+
+/// The names of a county in the arrangement of these steps.
+pub(crate) fn arrange_names<C: Chart>(
+    alloc: Global,
+    chart: &C,
+    steps: &[Step],
+) -> Result<NameTables, AllocError>
+    requires whole { AreWhole (C.county chart.now) steps.now }
+    requires few { length (C.county chart.now).names < 2 ^ 32 }
+    ensures { IfOk result (TellsNames (C.county chart.now) steps.now) }
+{
+    let uses = number_uses(alloc, chart, steps)?;
+    let mut names = ranked_names(alloc, chart, &uses)?;
+    names.sort_unstable_by(|a, b| cmp_names(chart, a, b));
+    let places = places_of(alloc, &names)?;
+    let feats = feats_at(alloc, chart, &places)?;
+    Ok(NameTables { feats, places })
+}

@@ -1,0 +1,49 @@
+//! New numbers of old ones, by first appearance. What wasn't seen keeps its number.
+
+ghost use Rattle.std.specs.Prelude.{◌≡◌, ◌<◌, ◌^◌, length, map};
+ghost use Rattle.std.specs.Ordering.{nat_cmp};
+ghost use Rattle.tl_layout.specs.Numbers.{IsNumber};
+ghost use Rattle.tl_county.specs.PolygonKeys.{key_cmp};
+ghost use Rattle.tl_county.specs.Renumbering.{image};
+ghost use Rattle.tl_number.specs.Arrangement.{under_cenid};
+ghost use Rattle.tl_number.specs.Growth.{numbered};
+
+use crate::numbers::Numbers;
+use tl_county::PolygonKey;
+
+/// The new number of a node, or the new LAND of a landmark.
+pub(crate) fn new_node(nodes: &Numbers<u64>, node: u64) -> u64
+    ensures image { result ≡ image nat_cmp (numbered nodes.now) node }
+    ensures in_range { IsNumber 10 node → length nodes.now < 10 ^ 10 → IsNumber 10 result }
+{
+    match nodes.place(node) {
+        Some(place) => place as u64 + 1,
+        None => node,
+    }
+}
+
+/// The new FEAT of a name.
+pub(crate) fn new_feat(feats: &Numbers<u32>, feat: u32) -> u32
+    requires { length feats.now < 2 ^ 32 }
+    ensures { result ≡ image nat_cmp (numbered feats.now) feat }
+{
+    match feats.place(feat) {
+        Some(place) => place as u32 + 1,
+        None => feat,
+    }
+}
+
+/// The new key of a polygon: its CENID with its new POLYID.
+pub(crate) fn new_key(polygons: &Numbers<PolygonKey>, key: PolygonKey) -> PolygonKey
+    ensures image { result ≡ image key_cmp (map under_cenid (numbered polygons.now)) key }
+    ensures cenid { result.0 ≡ key.0 }
+    ensures in_range { IsNumber 10 key.1 → length polygons.now < 10 ^ 10 → IsNumber 10 result.1 }
+{
+    match polygons.place(key) {
+        Some(place) => {
+            let cenid = key.0;
+            (cenid, place as u64 + 1)
+        }
+        None => key,
+    }
+}

@@ -1,0 +1,148 @@
+//! The chain of a step, read through a county's chart in the direction of the step.
+
+ghost use Rattle.std.specs.Prelude.{◌≡◌, length, option_map, slice_get};
+ghost use Rattle.tl_county.specs.ChartWords.{feats_of, ranges_of};
+ghost use Rattle.tl_number.specs.Steps.{end_of, left_of, right_of, start_of, step_chain, step_points};
+
+use crate::step::Step;
+use tl_county::Chart;
+use tl_layout::{Body1, BodyI, Point, Ranges, Side, Turn};
+
+/// The content of the type 1 record of the chain of a step.
+pub(crate) fn body_of_step<C: Chart>(chart: &C, step: Step) -> Option<Body1>
+    ensures { result ≡ option_map (λ chain. chain.body) (step_chain (C.county chart.now) step) }
+{
+    match chart.chain_body_at(step.place as usize) {
+        Some(body) => {
+            let mut body = body;
+            if step.turned {
+                body.turn();
+            }
+            Some(body)
+        }
+        None => None,
+    }
+}
+
+/// How many points the chain of a step has.
+pub(crate) fn point_count_of_step<C: Chart>(chart: &C, step: Step) -> usize
+    ensures { result ≡ length (step_points (C.county chart.now) step) }
+{
+    chart.point_count_at(step.place as usize)
+}
+
+/// A point of the chain of a step, from 0 at the start of its direction.
+pub(crate) fn point_of_step<C: Chart>(chart: &C, step: Step, point: usize) -> Option<Point>
+    ensures { result ≡ slice_get (step_points (C.county chart.now) step) point }
+{
+    let place = step.place as usize;
+    if !step.turned {
+        return chart.point_at(place, point);
+    }
+    let count = chart.point_count_at(place);
+    if point < count {
+        chart.point_at(place, count - 1 - point)
+    } else {
+        None
+    }
+}
+
+/// How many further names the chain of a step has.
+pub(crate) fn feat_count_of_step<C: Chart>(chart: &C, step: Step) -> usize
+    ensures { result ≡ length (feats_of (step_chain (C.county chart.now) step)) }
+{
+    chart.feat_count_at(step.place as usize)
+}
+
+/// The FEAT of a further name of the chain of a step.
+pub(crate) fn feat_of_step<C: Chart>(chart: &C, step: Step, name: usize) -> Option<u32>
+    ensures { result ≡ slice_get (feats_of (step_chain (C.county chart.now) step)) name }
+{
+    chart.chain_feat_at(step.place as usize, name)
+}
+
+/// How many further address ranges the chain of a step has.
+pub(crate) fn range_count_of_step<C: Chart>(chart: &C, step: Step) -> usize
+    ensures { result ≡ length (ranges_of (step_chain (C.county chart.now) step)) }
+{
+    chart.range_count_at(step.place as usize)
+}
+
+/// A further address range of the chain of a step.
+pub(crate) fn range_of_step<C: Chart>(chart: &C, step: Step, range: usize) -> Option<Ranges>
+    ensures { result ≡ slice_get (ranges_of (step_chain (C.county chart.now) step)) range }
+{
+    match chart.range_at(step.place as usize, range) {
+        Some(ranges) => {
+            let mut ranges = ranges;
+            if step.turned {
+                ranges.turn();
+            }
+            Some(ranges)
+        }
+        None => None,
+    }
+}
+
+/// The content of the type I record of the chain of a step.
+pub(crate) fn link_body_of_step<C: Chart>(chart: &C, step: Step) -> Option<BodyI>
+    ensures { result ≡ option_map (λ chain. chain.link_body) (step_chain (C.county chart.now) step) }
+{
+    chart.link_body_at(step.place as usize)
+}
+
+/// The node where the chain of a step starts, if there is one.
+pub(crate) fn start_of_step<C: Chart>(chart: &C, step: Step) -> Option<u64>
+    ensures { result ≡ start_of (step_chain (C.county chart.now) step) }
+{
+    let place = step.place as usize;
+    let node = if step.turned {
+        chart.end_node_at(place)
+    } else {
+        chart.start_node_at(place)
+    };
+    match node {
+        Some(number) => number,
+        None => None,
+    }
+}
+
+/// The node where the chain of a step ends, if there is one.
+pub(crate) fn end_of_step<C: Chart>(chart: &C, step: Step) -> Option<u64>
+    ensures { result ≡ end_of (step_chain (C.county chart.now) step) }
+{
+    let place = step.place as usize;
+    let node = if step.turned {
+        chart.start_node_at(place)
+    } else {
+        chart.end_node_at(place)
+    };
+    match node {
+        Some(number) => number,
+        None => None,
+    }
+}
+
+/// What stands on the left side of the chain of a step.
+pub(crate) fn left_of_step<C: Chart>(chart: &C, step: Step) -> Option<Side>
+    ensures { result ≡ left_of (step_chain (C.county chart.now) step) }
+{
+    let place = step.place as usize;
+    if step.turned {
+        chart.right_at(place)
+    } else {
+        chart.left_at(place)
+    }
+}
+
+/// What stands on the right side of the chain of a step.
+pub(crate) fn right_of_step<C: Chart>(chart: &C, step: Step) -> Option<Side>
+    ensures { result ≡ right_of (step_chain (C.county chart.now) step) }
+{
+    let place = step.place as usize;
+    if step.turned {
+        chart.left_at(place)
+    } else {
+        chart.right_at(place)
+    }
+}
