@@ -2,6 +2,7 @@
 use Rattle.std.proofs.Common.{◌<◌, ◌^◌, length, arith, nat_cmp}
 use Rattle.tl_county.specs.County.{County}
 use Rattle.tl_county.specs.CountyRules.{IsCounty, AllKeysStandIn, polygons_along, polygon_keys, tlids}
+use Rattle.tl_county.specs.Limits.{IsWithinLimits, most_records}
 use Rattle.tl_county.proofs.Keys.{IsApart, nat_keys, apart_from_sorted}
 use Rattle.tl_county.proofs.Permutations.{apart-permutation_of}
 use Rattle.tl_number.specs.Arrangement.{Arrangement, Arranges, arranged_tlids}
@@ -9,6 +10,7 @@ use Rattle.tl_number.specs.Steps.{AreSteps, arrangement_of}
 use Rattle.tl_number.specs.ViewFacts.{AreWhole, NamesEachOnce}
 use Rattle.tl_number.specs.declared.step.Step.{Step}
 use Rattle.tl_number.proofs.Tidied.{arranged_county}
+use Rattle.tl_number.proofs.TidyNumbers.{arrangement_within}
 use Rattle.std.proofs.Common.{List}
 
 pub arranges_once : (county : County) (order : Arrangement) → IsCounty county → NamesEachOnce county order → Arranges order county
@@ -18,13 +20,15 @@ arranges_once county order is once =
     (λ k. let same = once k in let few = apart k in omega (arith, same, few)) apart
     (λ k h. let same = once k in omega (arith, same, h)) (λ k h. let same = once k in omega (arith, same, h))
 
-pub whole_steps : (county : County) (steps : List Step) → IsCounty county → AreSteps county steps
+pub whole_steps : (county : County) (steps : List Step) → IsCounty county → IsWithinLimits most_records county → AreSteps county steps
     → NamesEachOnce county (arrangement_of county steps) → AllKeysStandIn (polygons_along county.chains) (polygon_keys county)
     → length county.chains < 2 ^ 32 → AreWhole county steps
-whole_steps county steps is there once sides few = record {
+whole_steps county steps is within there once sides few = record {
   there = there;
   once = once;
   few = few;
   is_county = arranged_county county (arrangement_of county steps) is
       (arranges_once county (arrangement_of county steps) is once) sides;
+  within_limits = arrangement_within most_records (omega arith) county is (arrangement_of county steps)
+      (arranges_once county (arrangement_of county steps) is once) sides within;
 }

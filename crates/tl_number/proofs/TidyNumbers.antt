@@ -15,7 +15,7 @@ use Rattle.tl_layout.specs.declared.type_p.BodyP.{BodyP}
 use Rattle.tl_shape.specs.Chain.{Chain}
 use Rattle.tl_county.specs.County.{County, county_of}
 use Rattle.tl_county.specs.CountyRules.{IsCounty, tlids, feats, polygon_keys, lands, nodes_along, polygons_along, chain_nodes}
-use Rattle.tl_county.specs.CountyRules.{chain_polygons, link_key, AllStandIn}
+use Rattle.tl_county.specs.CountyRules.{chain_polygons, link_key, AllStandIn, AllKeysStandIn}
 use Rattle.tl_county.specs.Limits.{most_records, FitsNumbers, NumbersFit, IsWithinLimits}
 use Rattle.tl_county.specs.Orders.{times, stands_in}
 use Rattle.tl_county.specs.Packing.{packed_one, packed_five, packed_sevens, packed_by_type, packed}
@@ -32,7 +32,7 @@ use Rattle.tl_county.proofs.PackedTypes.{by_type_of}
 use Rattle.tl_county.proofs.Sameness.{same-reflexive}
 use Rattle.tl_county.proofs.TypeCounts.{HasAtMost, by_type_within, packed_within}
 use Rattle.tl_number.specs.Accepted.{IsAccepted, IsCanonicalOf}
-use Rattle.tl_number.specs.Arrangement.{Arrangement, ascending, renaming_of, arranged}
+use Rattle.tl_number.specs.Arrangement.{Arrangement, Arranges, ascending, renaming_of, arranged}
 use Rattle.tl_number.specs.Growth.{GrowsFrom, up_to}
 use Rattle.tl_number.specs.Tidy.{IsTidy}
 use Rattle.tl_number.proofs.Accepted.{same_one_canonical}
@@ -195,19 +195,14 @@ module _ (county : County) (is : IsCounty county) (tidy : IsTidy county)
         (ltb-true 0 (times nat_cmp l.land (lands county)) t)) county.links is.closed.link_lands;
   }
 
-module _ (limit : ℕ) (low : limit ≤ most_records) (records : List Record) (accepted : IsAccepted records)
-    (fits : AllByRecursion FitsRecord records) (few : IsWithinLimit limit records) where
-  -- the arranged county is within the limits of the records that it comes of
-  pub arranged_within : IsWithinLimits limit (arranged (county_of records) (ascending (county_of records)))
-  arranged_within =
-      let county : County = county_of records in
-      let is : IsCounty county = county-is_county records accepted.linked in
-      let steps : Arrangement = ascending county in
-      let arranges = ascending_arranges county is accepted.profile in
-      let sides = sides_in_profile county is accepted.profile in
+-- the county of any arrangement is within the limits of the county that it comes from
+module _ (limit : ℕ) (low : limit ≤ most_records) (county : County) (is : IsCounty county) (steps : Arrangement)
+    (arranges : Arranges steps county) (sides : AllKeysStandIn (polygons_along county.chains) (polygon_keys county))
+    (within : IsWithinLimits limit county) where
+  pub arrangement_within : IsWithinLimits limit (arranged county steps)
+  arrangement_within =
       let new : IsCounty (arranged county steps) = arranged_county county steps is arranges sides in
       let h : Carries (renaming_of county steps) county (arranged county steps) = arrangement_carries county steps is arranges sides in
-      let within : IsWithinLimits limit county = county-within_limits records accepted.linked fits limit few in
       let counts : HasAtMost limit (packed_by_type (arranged county steps)) =
       carried_counts (renaming_of county steps) county (arranged county steps) h limit
       (subst (HasAtMost limit) (by_type_of (packed_by_type county)) (by_type_within limit (packed county) within.counts)) in
@@ -227,6 +222,16 @@ module _ (limit : ℕ) (low : limit ≤ most_records) (records : List Record) (a
         room = carried_room (renaming_of county steps) county (arranged county steps) h within.room;
         counts = packed_within limit (arranged county steps) counts;
       }
+
+module _ (limit : ℕ) (low : limit ≤ most_records) (records : List Record) (accepted : IsAccepted records)
+    (fits : AllByRecursion FitsRecord records) (few : IsWithinLimit limit records) where
+  -- the arranged county is within the limits of the records that it comes of
+  pub arranged_within : IsWithinLimits limit (arranged (county_of records) (ascending (county_of records)))
+  arranged_within =
+      let county : County = county_of records in
+      let is : IsCounty county = county-is_county records accepted.linked in
+      arrangement_within limit low county is (ascending county) (ascending_arranges county is accepted.profile)
+      (sides_in_profile county is accepted.profile) (county-within_limits records accepted.linked fits limit few)
 
   -- the canonical list keeps the limits
   pub canonical_within : (canonical : List Record) → IsCanonicalOf records canonical

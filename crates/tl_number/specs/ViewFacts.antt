@@ -6,6 +6,7 @@ use Rattle.tl_layout.specs.Fields.{Fields8}
 use Rattle.tl_county.specs.County.{County}
 use Rattle.tl_county.specs.CountyRules.{IsCounty, tlids, polygon_keys}
 use Rattle.tl_county.specs.Entries.{entry_keys, entry_values}
+use Rattle.tl_county.specs.Limits.{IsWithinLimits, most_records}
 use Rattle.tl_county.specs.Orders.{times}
 use Rattle.tl_number.specs.Arrangement.{Arrangement, arranged_tlids, polygons_in_order, names_in_order}
 use Rattle.tl_number.specs.Arrangement.{landmarks_in_order, arranged}
@@ -35,12 +36,13 @@ link_bounds links count = map (links_up_to links) (range_with_len 0 (count + 1))
 abbrev pub stepped : County → List Step → County
 stepped county steps = arranged county (arrangement_of county steps)
 
--- the steps are those of an arrangement, each chain once
+-- the steps are those of an arrangement, each chain once, and what they make is a county within its limits
 pub record AreWhole (county : County) (steps : List Step) : Type 0 where
   pub there : AreSteps county steps
   pub once : NamesEachOnce county (arrangement_of county steps)
   pub few : length county.chains < 2 ^ 32
   pub is_county : IsCounty (stepped county steps)
+  pub within_limits : IsWithinLimits most_records (stepped county steps)
 
 -- polygons by first appearance, their new keys in order, and where their contents stand
 pub record TellsPolygons (county : County) (steps : List Step) (tables : PolygonTables) : Type 0 where

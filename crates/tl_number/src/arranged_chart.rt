@@ -208,4 +208,6 @@ impl<C: Chart> Chart for Arranged<C> {
     }
 
     ghost is_county = { λ view. view.whole.is_county };
+
+    ghost within_limits = { λ view. view.whole.within_limits };
 }

@@ -156,4 +156,6 @@ impl<C: Chart> Chart for CanonCounty<C> {
     }
 
     ghost is_county = { λ canon. canon.view.whole.is_county };
+
+    ghost within_limits = { λ canon. canon.view.whole.within_limits };
 }

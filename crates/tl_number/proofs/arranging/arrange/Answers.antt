@@ -8,7 +8,8 @@ use Rattle.tl_number.proofs.arranging.arrange.Goals as goal
 pub arrange_polygons-requires-clause-whole : goal.arrange_polygons-requires-clause-whole
 arrange_polygons-requires-clause-whole g c =
     let county = g.C.Chart.county c.args.chart in
-    let whole = whole_steps county c.args.steps.items (g.met.C.Chart.is_county c.args.chart) c.requires.there c.requires.once
+    let whole = whole_steps county c.args.steps.items (g.met.C.Chart.is_county c.args.chart)
+    (g.met.C.Chart.within_limits c.args.chart) c.requires.there c.requires.once
     c.requires.sides
     c.requires.few.chains in
     subst (AreWhole county) (sym c.deref-2.ensures.value) whole
@@ -16,7 +17,8 @@ arrange_polygons-requires-clause-whole g c =
 pub arrange_names-requires-clause-whole : goal.arrange_names-requires-clause-whole
 arrange_names-requires-clause-whole g c =
     let county = g.C.Chart.county c.args.chart in
-    let whole = whole_steps county c.args.steps.items (g.met.C.Chart.is_county c.args.chart) c.requires.there c.requires.once
+    let whole = whole_steps county c.args.steps.items (g.met.C.Chart.is_county c.args.chart)
+    (g.met.C.Chart.within_limits c.args.chart) c.requires.there c.requires.once
     c.requires.sides
     c.requires.few.chains in
     subst (AreWhole county) (sym c.deref-3.ensures.value) whole
@@ -24,7 +26,8 @@ arrange_names-requires-clause-whole g c =
 pub arrange_landmarks-requires-clause-whole : goal.arrange_landmarks-requires-clause-whole
 arrange_landmarks-requires-clause-whole g c =
     let county = g.C.Chart.county c.args.chart in
-    let whole = whole_steps county c.args.steps.items (g.met.C.Chart.is_county c.args.chart) c.requires.there c.requires.once
+    let whole = whole_steps county c.args.steps.items (g.met.C.Chart.is_county c.args.chart)
+    (g.met.C.Chart.within_limits c.args.chart) c.requires.there c.requires.once
     c.requires.sides
     c.requires.few.chains in
     subst (AreWhole county) (sym c.deref-4.ensures.value) whole
@@ -32,7 +35,8 @@ arrange_landmarks-requires-clause-whole g c =
 pub invariant_of-result : goal.invariant_of-result
 invariant_of-result g c =
     let county = g.C.Chart.county c.args.chart in
-    let whole = whole_steps county c.args.steps.items (g.met.C.Chart.is_county c.args.chart) c.requires.there c.requires.once
+    let whole = whole_steps county c.args.steps.items (g.met.C.Chart.is_county c.args.chart)
+    (g.met.C.Chart.within_limits c.args.chart) c.requires.there c.requires.once
     c.requires.sides
     c.requires.few.chains in
     record {
