@@ -23,7 +23,9 @@ use arrayvec::ArrayVec;
 use memchr::memchr;
 use std::alloc::Global;
 use std::marker::Model;
-use tl_layout::{LONGEST_LINE, MOST_RECORDS, Rec1, Rec2, Rec4, Rec5, Rec6, Rec7, Rec8, RecI, RecP, Tabled};
+use tl_layout::{
+    LONGEST_LINE, MOST_RECORDS, Rec1, Rec2, Rec4, Rec5, Rec6, Rec7, Rec8, RecI, RecP, Tabled,
+};
 
 /// The most bytes of an unfinished line that are kept: those of the longest line and a CR.
 const LINE_BYTES: usize = 229;

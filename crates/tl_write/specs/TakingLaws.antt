@@ -39,16 +39,14 @@ module _ {W : Type 0} (failed : W → ℕ) (holds : W → List ℕ → Type 0) w
       → PutsText failed holds (text_of (xs ++ ys)) a d result c f
   puts_then xs ys a b c d e f (Ok t) first next held text h =
       let one = first held text h in
-      let two = next held (text ++ text_of xs) one.0 in
-      (
+      let two = next held (text ++ text_of xs) one.0 in (
         subst (λ t. IsGoingOut holds held t c f)
             (append_assoc text (text_of xs) (text_of ys) ∙ ap (λ t. text ++ t) (sym (text_of-append xs ys))) two.0,
         two.1 ∙ one.1,
       )
   puts_then xs ys a b c d e f (Err fault) first next held text h =
       let one = first held text h in
-      let two = next held (text ++ text_of xs) one.0 in
-      (
+      let two = next held (text ++ text_of xs) one.0 in (
         subst (λ t. HoldsBeginning holds held t fault.written f)
             (append_assoc text (text_of xs) (text_of ys) ∙ ap (λ t. text ++ t) (sym (text_of-append xs ys))) two.0,
         two.1 ∙ ap (λ n. n + 1) one.1,
@@ -57,8 +55,7 @@ module _ {W : Type 0} (failed : W → ℕ) (holds : W → List ℕ → Type 0) w
   pub puts_stops : (xs ys : List Record) (a b : Waiting) (d e : W) (fault : WriteFault)
       → PutsText failed holds (text_of xs) a d (Err fault) b e → PutsText failed holds (text_of (xs ++ ys)) a d (Err fault) b e
   puts_stops xs ys a b d e fault stopped held text h =
-      let one = stopped held text h in
-      (
+      let one = stopped held text h in (
         subst (λ t. HoldsBeginning holds held t fault.written e)
             (append_assoc text (text_of xs) (text_of ys) ∙ ap (λ t. text ++ t) (sym (text_of-append xs ys)))
             (longer holds held (text ++ text_of xs) (text_of ys) fault.written e one.0),

@@ -5,9 +5,9 @@ mod fault;
 mod sink;
 mod slow_sink;
 mod taker;
-mod text_buffer;
 #[cfg(test)]
 mod tests;
+mod text_buffer;
 mod writing;
 
 pub use fault::WriteFault;
