@@ -35,3 +35,4 @@ pub mod NameOrder
 pub mod LandmarkLinks
 pub mod LandmarkOrder
 pub mod ArrangedViews
+pub mod PlacesFit

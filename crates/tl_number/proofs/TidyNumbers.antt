@@ -61,11 +61,12 @@ grown_bounds m (k ∷ ks) g =
           (λ j h. (h.0, let few : j ≤ max m k + length ks = h.1 in omega (arith, few, top))) ks (grown_bounds (max m k) ks g.2),
     )
 
-short_joined : {X Y : Type 0} (f : X → List Y) → ((x : X) → length (f x) ≤ 2) → (xs : List X) → length (flat_map f xs) ≤ 2 * length xs
+pub short_joined : {X Y : Type 0} (f : X → List Y) → ((x : X) → length (f x) ≤ 2) → (xs : List X) → length (flat_map f xs) ≤ 2 * length xs
 short_joined f h [] = omega arith
 short_joined f h (x ∷ xs) = omega (arith, length-append (f x) (flat_map f xs), h x, short_joined f h xs)
 
-long_joined : {X Y : Type 0} (f : X → List Y) (xs : List X) → AllByRecursion (λ x. 1 ≤ length (f x)) xs → length xs ≤ length (flat_map f xs)
+pub long_joined : {X Y : Type 0} (f : X → List Y) (xs : List X) → AllByRecursion (λ x. 1 ≤ length (f x)) xs
+    → length xs ≤ length (flat_map f xs)
 long_joined f [] a = omega arith
 long_joined f (x ∷ xs) a = omega (arith, length-append (f x) (flat_map f xs), a.0, long_joined f xs a.1)
 
@@ -85,7 +86,7 @@ few_under : (cenid : List ℕ) (polyid : Option ℕ) → length (key_under cenid
 few_under cenid None = omega arith
 few_under cenid (Some polyid) = omega arith
 
-few_polygons : (e : ℕ × Chain) → length (chain_polygons e.1) ≤ 2
+pub few_polygons : (e : ℕ × Chain) → length (chain_polygons e.1) ≤ 2
 few_polygons e = omega (
   arith,
   length-append (key_on e.1.left) (key_on e.1.right),

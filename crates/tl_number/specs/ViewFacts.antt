@@ -62,10 +62,3 @@ pub record TellsLandmarks (county : County) (steps : List Step) (tables : Landma
   pub landmarks : AreReadAt county.landmarks tables.places.items (landmarks_in_order county (arrangement_of county steps))
   pub links : tables.links.items ≡ (stepped county steps).links
   pub bounds : tables.bounds.items ≡ link_bounds (stepped county steps).links (length tables.places.items)
-
--- places of chains, names, polygons and landmarks fit 32 bits
-pub record FitsPlaces (county : County) : Type 0 where
-  pub chains : length county.chains < 2 ^ 32
-  pub names : length county.names < 2 ^ 32
-  pub polygons : length county.polygons < 2 ^ 32
-  pub landmarks : length county.landmarks < 2 ^ 32

@@ -5,7 +5,7 @@ ghost use Rattle.tl_county.specs.CountyRules.{AllKeysStandIn, polygon_keys, poly
 ghost use Rattle.tl_county.specs.Renumbering.{Carries};
 ghost use Rattle.tl_number.specs.Arrangement.{arranged, ascending, renaming_of};
 ghost use Rattle.tl_number.specs.Steps.{AreSteps, arrangement_of};
-ghost use Rattle.tl_number.specs.ViewFacts.{FitsPlaces, NamesEachOnce};
+ghost use Rattle.tl_number.specs.ViewFacts.{NamesEachOnce};
 ghost use Rattle.tl_number.specs.CanonCounties.{IsCanonCounty};
 ghost use Rattle.tl_profile.specs.Profile.{IsInProfile};
 
@@ -19,9 +19,10 @@ use crate::step::Step;
 use crate::walks::number_nodes;
 use std::alloc::{AllocError, Global};
 use tl_county::Chart;
+use tl_profile::Admitted;
 
 /// A county whose polygons stand on sides, in the arrangement of these steps, each of which is another chain and which are
-/// all of its chains. Its parts fit places of 32 bits.
+/// all of its chains.
 pub fn arrange<C: Chart + Drop>(
     alloc: Global,
     chart: C,
@@ -30,7 +31,6 @@ pub fn arrange<C: Chart + Drop>(
     requires there { AreSteps (C.county chart) steps.items }
     requires once { NamesEachOnce (C.county chart) (arrangement_of (C.county chart) steps.items) }
     requires sides { AllKeysStandIn (polygons_along (C.county chart).chains) (polygon_keys (C.county chart)) }
-    requires few { FitsPlaces (C.county chart) }
     ensures source { IfOk result (λ view. view.chart ≡ chart) }
     ensures county { IfOk result (λ view. ⟦<Arranged<C> as Chart>⟧.county view ≡ arranged (C.county chart) (arrangement_of (C.county chart) steps.items)) }
 {
@@ -48,14 +48,13 @@ pub fn arrange<C: Chart + Drop>(
     })
 }
 
-/// The canonical county of a county in the profile, whose parts fit places of 32 bits: it is that of the ascending
-/// arrangement, its chains run and stand as their points tell, all other numbers follow from that, and it is the same map.
+/// The canonical county of a county in the profile, however it is kept: it is that of the ascending arrangement, its chains
+/// run and stand as their points tell, all other numbers follow from that, and it is the same map.
 pub fn canonise_chart<C: Chart + Drop>(
     alloc: Global,
     chart: C,
 ) -> Result<CanonCounty<C>, AllocError>
     requires profile { IsInProfile (C.county chart) }
-    requires few { FitsPlaces (C.county chart) }
     ensures county { IfOk result (λ canon. ⟦<CanonCounty<C> as Chart>⟧.county canon ≡ arranged (C.county chart) (ascending (C.county chart))) }
     ensures carried { IfOk result (λ canon. Carries (renaming_of (C.county chart) (ascending (C.county chart))) (C.county chart) (⟦<CanonCounty<C> as Chart>⟧.county canon)) }
     ensures canonical { IfOk result (λ canon. IsCanonCounty (⟦<CanonCounty<C> as Chart>⟧.county canon)) }
@@ -63,4 +62,20 @@ pub fn canonise_chart<C: Chart + Drop>(
     let steps = ascending_steps(alloc, &chart)?;
     let view = arrange(alloc, chart, steps)?;
     Ok(CanonCounty { view })
+}
+
+/// The canonical county of an admitted county.
+///
+/// # Errors
+///
+/// Only that memory was lacking.
+pub fn canonise<C: Chart + Drop>(
+    alloc: Global,
+    admitted: Admitted<C>,
+) -> Result<CanonCounty<C>, AllocError>
+    ensures county { IfOk result (λ canon. ⟦<CanonCounty<C> as Chart>⟧.county canon ≡ arranged (C.county admitted) (ascending (C.county admitted))) }
+    ensures carried { IfOk result (λ canon. Carries (renaming_of (C.county admitted) (ascending (C.county admitted))) (C.county admitted) (⟦<CanonCounty<C> as Chart>⟧.county canon)) }
+    ensures canonical { IfOk result (λ canon. IsCanonCounty (⟦<CanonCounty<C> as Chart>⟧.county canon)) }
+{
+    canonise_chart(alloc, admitted.into_chart())
 }

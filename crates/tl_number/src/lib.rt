@@ -22,7 +22,7 @@ mod tables;
 mod walks;
 
 pub use arranged::Arranged;
-pub use arranging::{arrange, canonise_chart};
+pub use arranging::{arrange, canonise, canonise_chart};
 pub use canon_county::CanonCounty;
 pub use laws::{
     a_packed_county_is_read_back, accepted_or_one_refusal, an_arrangement_gives_a_tidy_list,

@@ -37,6 +37,14 @@ impl<C: Chart> Admitted<C> {
     {
         &self.chart
     }
+
+    /// The county's chart, handed back.
+    pub fn into_chart(self) -> C
+        ensures value { result ≡ self }
+        ensures in_profile { IsInProfile (C.county result) }
+    {
+        self.chart
+    }
 }
 
 impl Admitted<County> {

@@ -3,7 +3,23 @@ use Rattle.tl_number.specs.Arrangement.{nodes_in_order}
 use Rattle.tl_number.specs.Steps.{arrangement_of}
 use Rattle.tl_number.specs.ViewFacts.{AreWhole, TellsPolygons, TellsNames, TellsLandmarks}
 use Rattle.tl_number.proofs.ArrangedViews.{whole_steps}
+use Rattle.tl_number.proofs.PlacesFit.{places_fit}
 use Rattle.tl_number.proofs.arranging.arrange.Goals as goal
+
+pub arrange_polygons-requires-clause-few : goal.arrange_polygons-requires-clause-few
+arrange_polygons-requires-clause-few g c =
+    (places_fit (g.C.Chart.county c.args.chart) (g.met.C.Chart.is_county c.args.chart) (g.met.C.Chart.within_limits c.args.chart)
+    c.requires.sides).polygons
+
+pub arrange_names-requires-clause-few : goal.arrange_names-requires-clause-few
+arrange_names-requires-clause-few g c =
+    (places_fit (g.C.Chart.county c.args.chart) (g.met.C.Chart.is_county c.args.chart) (g.met.C.Chart.within_limits c.args.chart)
+    c.requires.sides).names
+
+pub arrange_landmarks-requires-clause-few : goal.arrange_landmarks-requires-clause-few
+arrange_landmarks-requires-clause-few g c =
+    (places_fit (g.C.Chart.county c.args.chart) (g.met.C.Chart.is_county c.args.chart) (g.met.C.Chart.within_limits c.args.chart)
+    c.requires.sides).landmarks
 
 pub arrange_polygons-requires-clause-whole : goal.arrange_polygons-requires-clause-whole
 arrange_polygons-requires-clause-whole g c =
@@ -11,7 +27,7 @@ arrange_polygons-requires-clause-whole g c =
     let whole = whole_steps county c.args.steps.items (g.met.C.Chart.is_county c.args.chart)
     (g.met.C.Chart.within_limits c.args.chart) c.requires.there c.requires.once
     c.requires.sides
-    c.requires.few.chains in
+    (places_fit county (g.met.C.Chart.is_county c.args.chart) (g.met.C.Chart.within_limits c.args.chart) c.requires.sides).chains in
     subst (AreWhole county) (sym c.deref-2.ensures.value) whole
 
 pub arrange_names-requires-clause-whole : goal.arrange_names-requires-clause-whole
@@ -20,7 +36,7 @@ arrange_names-requires-clause-whole g c =
     let whole = whole_steps county c.args.steps.items (g.met.C.Chart.is_county c.args.chart)
     (g.met.C.Chart.within_limits c.args.chart) c.requires.there c.requires.once
     c.requires.sides
-    c.requires.few.chains in
+    (places_fit county (g.met.C.Chart.is_county c.args.chart) (g.met.C.Chart.within_limits c.args.chart) c.requires.sides).chains in
     subst (AreWhole county) (sym c.deref-3.ensures.value) whole
 
 pub arrange_landmarks-requires-clause-whole : goal.arrange_landmarks-requires-clause-whole
@@ -29,7 +45,7 @@ arrange_landmarks-requires-clause-whole g c =
     let whole = whole_steps county c.args.steps.items (g.met.C.Chart.is_county c.args.chart)
     (g.met.C.Chart.within_limits c.args.chart) c.requires.there c.requires.once
     c.requires.sides
-    c.requires.few.chains in
+    (places_fit county (g.met.C.Chart.is_county c.args.chart) (g.met.C.Chart.within_limits c.args.chart) c.requires.sides).chains in
     subst (AreWhole county) (sym c.deref-4.ensures.value) whole
 
 pub invariant_of-result : goal.invariant_of-result
@@ -38,7 +54,7 @@ invariant_of-result g c =
     let whole = whole_steps county c.args.steps.items (g.met.C.Chart.is_county c.args.chart)
     (g.met.C.Chart.within_limits c.args.chart) c.requires.there c.requires.once
     c.requires.sides
-    c.requires.few.chains in
+    (places_fit county (g.met.C.Chart.is_county c.args.chart) (g.met.C.Chart.within_limits c.args.chart) c.requires.sides).chains in
     record {
       whole = whole;
       nodes_told = c.in_ok-nodes.ensures ∙ ap (λ steps. nodes_in_order county (arrangement_of county steps)) c.deref.ensures.value;

@@ -7,8 +7,17 @@ use Rattle.tl_number.specs.CanonCounties.{IsCanonCounty}
 use Rattle.tl_number.specs.ViewFacts.{NamesEachOnce, stepped}
 use Rattle.tl_number.proofs.Ascending.{ascending_arranges, ascending_least, sides_in_profile}
 use Rattle.tl_number.proofs.Carrying.{arrangement_carries}
+use Rattle.tl_number.proofs.PlacesFit.{places_fit}
 use Rattle.tl_number.proofs.Tidied.{arranged_tidy}
 use Rattle.tl_number.proofs.arranging.canonise_chart.Goals as goal
+
+pub ascending_steps-requires : goal.ascending_steps-requires
+ascending_steps-requires g c =
+    let county = g.C.Chart.county c.args.chart in
+    let is = g.met.C.Chart.is_county c.args.chart in
+    record {
+      few = (places_fit county is (g.met.C.Chart.within_limits c.args.chart) (sides_in_profile county is c.requires.profile)).chains;
+    }
 
 pub arrange-requires-clause-once : goal.arrange-requires-clause-once
 arrange-requires-clause-once g c =
