@@ -411,13 +411,12 @@ fn a_fault_stops_the_reading(rt: HostRuntime) {
 fn a_reader_is_a_source(rt: HostRuntime) -> Result<(), Fail> {
     let set = joined(rt.alloc(), &[CHAIN, b"\n", LINK])?;
     let mut source = Counted::new(set.as_slice());
-    let mut loader = Loader::new(rt.alloc());
+    let mut loader = LoaderInto::<CanonicalText>::new(rt.alloc());
     assert_eq!(rt; loader.read_part(&mut source), Ok(()));
     assert_eq!(rt; source.failures(), 0);
-    let records = loader.finish().expect(&rt, "the set is well formed");
-    assert_eq!(rt; records.len(), 2);
-    assert_eq!(rt; records[0].record_type(), b'1');
-    assert_eq!(rt; records[1].record_type(), b'I');
+    let text = loader.finish().expect(&rt, "the set is well formed");
+    let spelled = joined(rt.alloc(), &[CHAIN_SPELLED, b"\n", LINK_SPELLED, b"\n"])?;
+    assert_eq!(rt; text.bytes, spelled);
     Ok(())
 }
 
