@@ -99,7 +99,7 @@ length-without_last (p ∷ []) = refl
 length-without_last (p ∷ q ∷ points) = let rest : length (without_last (q ∷ points)) ≡ suc (length points) - 1 =
     length-without_last (q ∷ points) in omega arith
 
-length-inner : (points : List Coordinates) → length (inner_points points) ≡ length points - 2
+pub length-inner : (points : List Coordinates) → length (inner_points points) ≡ length points - 2
 length-inner [] = refl
 length-inner (p ∷ points) = let rest : length (without_last points) ≡ length points - 1 = length-without_last points in omega arith
 

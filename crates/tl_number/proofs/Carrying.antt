@@ -298,7 +298,7 @@ module _ (county : County) (steps : Arrangement) (is : IsCounty county) (arrange
 
   -- polygons, each of which stands on a side
   module _ (sides : AllKeysStandIn (polygons_along county.chains) (polygon_keys county)) where
-    polygon_lefts : lefts (renaming_of county steps).polygons ≡ polygons_in_order county steps
+    pub polygon_lefts : lefts (renaming_of county steps).polygons ≡ polygons_in_order county steps
     polygon_lefts = ap lefts polygons_renamed ∙ map-map (λ (pair : PolygonKey × PolygonKey). pair.0) under_cenid
         (numbered (polygons_in_order county steps)) ∙ lefts-numbered (polygons_in_order county steps)
 
@@ -317,11 +317,13 @@ module _ (county : County) (steps : Arrangement) (is : IsCounty county) (arrange
         (known_all key_keys (λ j. IsTrue (stands_in key_cmp j (polygon_keys county))) (polygons_along county.chains) all k
         (polygons_from_placed k (from_first_seen key_keys (polygons_along (placed county steps)) k l)))
 
-    polygons_left : IsPermutation (lefts (renaming_of county steps).polygons) (polygon_keys county)
-    polygons_left = subst (λ ks. IsPermutation ks (polygon_keys county)) (sym polygon_lefts)
-        (apart-permutation_of key_keys (polygons_in_order county steps) (polygon_keys county)
+    pub polygons_permutation : IsPermutation (polygons_in_order county steps) (polygon_keys county)
+    polygons_permutation = apart-permutation_of key_keys (polygons_in_order county steps) (polygon_keys county)
         (first_seen-apart key_keys (polygons_along (placed county steps)))
-        (apart_from_sorted key_keys (polygon_keys county) is.ascending.polygons) polygon_known known_polygon)
+        (apart_from_sorted key_keys (polygon_keys county) is.ascending.polygons) polygon_known known_polygon
+
+    polygons_left : IsPermutation (lefts (renaming_of county steps).polygons) (polygon_keys county)
+    polygons_left = subst (λ ks. IsPermutation ks (polygon_keys county)) (sym polygon_lefts) polygons_permutation
 
     -- the new keys are the images of the old ones
     pub keys_arranged : IsPermutation (map (image key_cmp (renaming_of county steps).polygons) (polygon_keys county))

@@ -28,6 +28,7 @@ pub mod ViewNumbers
 pub mod ViewChains
 pub mod ViewTables
 pub mod LinkSlices
+pub mod PolygonNumbers
 pub mod PolygonOrder
 pub mod SeenLists
 pub mod NameRanks

@@ -10,6 +10,8 @@ use Rattle.tl_county.specs.Limits.{IsWithinLimits, most_records}
 use Rattle.tl_county.specs.Orders.{times}
 use Rattle.tl_number.specs.Arrangement.{Arrangement, arranged_tlids, polygons_in_order, names_in_order}
 use Rattle.tl_number.specs.Arrangement.{landmarks_in_order, arranged}
+use Rattle.tl_number.specs.ByNumber.{polygons_by_number, under_number}
+use Rattle.tl_number.specs.Growth.{numbered}
 use Rattle.tl_number.specs.Steps.{AreSteps, arrangement_of}
 use Rattle.tl_number.specs.declared.step.Step.{Step}
 use Rattle.tl_number.specs.declared.tables.LandmarkTables.{LandmarkTables}
@@ -50,6 +52,7 @@ pub record TellsPolygons (county : County) (steps : List Step) (tables : Polygon
   pub few : length tables.numbers < 10 ^ 10
   pub keys : tables.keys.items ≡ polygon_keys (stepped county steps)
   pub bodies : AreReadAt (entry_values county.polygons) tables.places.items (entry_values (stepped county steps).polygons)
+  pub by_number : map (under_number county) (numbered tables.numbers) ≡ polygons_by_number (stepped county steps)
 
 -- names in their new order
 pub record TellsNames (county : County) (steps : List Step) (tables : NameTables) : Type 0 where

@@ -5,15 +5,16 @@ ghost use Rattle.std.specs.Ordering.{nat_cmp};
 ghost use Rattle.tl_county.specs.Renumbering.{image, renumbered_side};
 ghost use Rattle.tl_number.specs.Arrangement.{nodes_in_order, renaming_of};
 ghost use Rattle.tl_number.specs.Steps.{arrangement_of};
-ghost use Rattle.tl_number.specs.ViewFacts.{AreWhole, TellsPolygons, TellsNames, TellsLandmarks};
+ghost use Rattle.tl_number.specs.ByNumber.{polygons_by_number};
+ghost use Rattle.tl_number.specs.ViewFacts.{AreWhole, stepped, TellsPolygons, TellsNames, TellsLandmarks};
 ghost use Rattle.tl_number.specs.ViewProps.{AreWhole-prop, TellsPolygons-prop, TellsNames-prop, TellsLandmarks-prop};
 
 use crate::numbers::Numbers;
 use crate::renumbering::{new_feat, new_key, new_node};
 use crate::step::Step;
 use crate::tables::{LandmarkTables, NameTables, PolygonTables};
-use tl_county::Chart;
-use tl_layout::Side;
+use tl_county::{Chart, PolygonKey};
+use tl_layout::{BodyP, Side};
 
 /// A county whose chains stand in the order and in the directions of an arrangement, with all numbers that follow from
 /// it. Nothing is copied: its answers are those of the county that it comes from, turned and renumbered as they are read.
@@ -66,6 +67,21 @@ impl<C: Chart> Arranged<C> {
     {
         match feat {
             Some(number) => Some(new_feat(&self.names.feats, number)),
+            None => None,
+        }
+    }
+
+    /// The polygon at a place in the order of the new numbers, or none past the last one: its new key, and the content of its
+    /// type P record, if it has one.
+    pub fn polygon_by_number(&self, place: usize) -> Option<(PolygonKey, Option<BodyP>)>
+        ensures { result ≡ slice_get (polygons_by_number (stepped (C.county self.now.chart) self.now.steps.items)) place }
+    {
+        match self.polygons.numbers.key_at(place) {
+            Some(old) => {
+                let cenid = old.0;
+                let body = self.chart.polygon_body_of(old);
+                Some(((cenid, place as u64 + 1), body))
+            }
             None => None,
         }
     }

@@ -1,6 +1,8 @@
 //! The canonical county.
 
+ghost use Rattle.std.specs.Prelude.{◌≡◌, ◌<◌, Some, length, slice_get};
 ghost use Rattle.tl_county.specs.Renumbering.{AreSame};
+ghost use Rattle.tl_number.specs.ByNumber.{polygons_by_number};
 ghost use Rattle.tl_number.specs.CanonCounties.{IsCanonCounty, IsCanonCounty-prop};
 ghost use Rattle.tl_number.specs.ViewFacts.{stepped};
 
@@ -15,6 +17,24 @@ pub struct CanonCounty<C: Chart> {
     pub(crate) view: Arranged<C>,
     ghost canonical: { IsCanonCounty (stepped (C.county view.chart) view.steps.items) } by { IsCanonCounty-prop (stepped (C.county view.chart) view.steps.items) },
     ghost same: { ∥ AreSame (C.county view.chart) (stepped (C.county view.chart) view.steps.items) ∥₁ },
+}
+
+impl<C: Chart> CanonCounty<C> {
+    /// The polygon of the number (POLYID) that is one above the place, which is below the count of polygons: its key, and the
+    /// content of its type P record, if it has one.
+    pub fn polygon_by_number(&self, place: usize) -> (PolygonKey, Option<BodyP>)
+        requires { place < length (⟦<CanonCounty<C> as Chart>⟧.county self.now).polygons }
+        ensures { Some result ≡ slice_get (polygons_by_number (⟦<CanonCounty<C> as Chart>⟧.county self.now)) place }
+    {
+        self.view.polygon_by_number(place).unwrap()
+    }
+
+    /// The links of all landmarks with their polygons (type 8 records), in order.
+    pub fn links(&self) -> &[Rec8]
+        ensures { result.now ≡ (⟦<CanonCounty<C> as Chart>⟧.county self.now).links }
+    {
+        &self.view.landmarks.links
+    }
 }
 
 /// The county in its canonical form.

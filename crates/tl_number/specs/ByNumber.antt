@@ -1,0 +1,21 @@
+-- Polygons in the order of their numbers.
+use Rattle.std.specs.Prelude.{ℕ, List, Option}
+use Rattle.std.specs.Option.{option_and_then}
+use Rattle.std.specs.Ordering.{nat_cmp, on}
+use Rattle.tl_layout.specs.declared.type_p.BodyP.{BodyP}
+use Rattle.tl_county.specs.ChartWords.{polygon_under}
+use Rattle.tl_county.specs.County.{County}
+use Rattle.tl_county.specs.Orders.{in_order}
+use Rattle.tl_county.specs.PolygonKeys.{PolygonKey}
+
+-- the POLYID of a polygon
+abbrev pub entry_polyid : PolygonKey × Option BodyP → ℕ
+entry_polyid entry = entry.0.1
+
+-- the polygons of a county by POLYID
+abbrev pub polygons_by_number : County → List (PolygonKey × Option BodyP)
+polygons_by_number county = in_order (on entry_polyid nat_cmp) county.polygons
+
+-- a polygon under a new number: its CENID and the content of its type P record stay
+abbrev pub under_number : County → PolygonKey × ℕ → PolygonKey × Option BodyP
+under_number county pair = ((pair.0.0, pair.1), option_and_then (λ body. body) (polygon_under county pair.0))
