@@ -1,0 +1,7 @@
+pub mod Pieces
+pub mod Grouped
+pub mod ChainPlaces
+pub mod Selected
+pub mod PackedGroups
+pub mod TextLengths
+pub mod EntryPlaces

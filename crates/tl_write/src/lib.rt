@@ -1,7 +1,12 @@
 //! Canonical records and their text, written to any sink.
 #![tactic(auto)]
 
+mod chain_records;
+mod county_text;
 mod fault;
+mod groups;
+mod name_records;
+mod polygon_records;
 mod sink;
 mod slow_sink;
 mod taker;
@@ -10,6 +15,7 @@ mod tests;
 mod text_buffer;
 mod writing;
 
+pub use county_text::{records_of, write_to};
 pub use fault::WriteFault;
 pub use sink::{CountedOut, Sink};
 pub use slow_sink::SlowSink;

@@ -1,4 +1,4 @@
-use Rattle.std.proofs.Common.{◌≡◌, ◌≤◌, ◌<◌, ◌+◌, ◌++◌, ◌∙◌, ℕ, List, arith, subst, sym, ap, take, drop, length, length-drop, append_assoc, min}
+use Rattle.std.proofs.Common.{◌≡◌, ◌<◌, ◌+◌, ◌++◌, ◌∙◌, ℕ, List, arith, subst, sym, ap, take, drop, length, length-drop, append_assoc, min}
 use Rattle.std.proofs.lemmas.List.{take-append-drop, length-append, length-take}
 use Rattle.tl_write.specs.GoingOut.{IsGoingOut, HoldsBeginning, up_to_most}
 use Rattle.tl_write.proofs.text_buffer.TextBuffer.send.Goals as goal

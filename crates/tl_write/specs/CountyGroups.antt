@@ -1,0 +1,40 @@
+-- The records of a county in groups: those of a chain, of a landmark, of a polygon.
+use Rattle.std.specs.Prelude.{ℕ, List, [], ◌∷◌, map, option_to_list}
+use Rattle.tl_layout.specs.Fields.{Fields1, Fields2, Fields4, Fields5, Fields6, Fields7, Fields8, FieldsI, FieldsP}
+use Rattle.tl_county.specs.County.{County}
+use Rattle.tl_county.specs.Packing.{packed_one, packed_twos, packed_fours, packed_five, packed_sixes, packed_sevens, packed_i, packed_p}
+use Rattle.tl_number.specs.ByNumber.{polygons_by_number}
+
+-- the record of type 1 of each chain
+abbrev pub ones_by_chain : County → List (List Fields1)
+ones_by_chain county = map (λ entry. packed_one entry ∷ []) county.chains
+
+-- the records of types 2, 4 and 6 of each chain
+abbrev pub twos_by_chain : County → List (List Fields2)
+twos_by_chain county = map packed_twos county.chains
+
+abbrev pub fours_by_chain : County → List (List Fields4)
+fours_by_chain county = map packed_fours county.chains
+
+abbrev pub sixes_by_chain : County → List (List Fields6)
+sixes_by_chain county = map packed_sixes county.chains
+
+-- the record of type I of each chain
+abbrev pub is_by_chain : County → List (List FieldsI)
+is_by_chain county = map (λ entry. packed_i entry ∷ []) county.chains
+
+-- the record of type 5 of each name
+abbrev pub fives_by_name : County → List (List Fields5)
+fives_by_name county = map (λ entry. packed_five entry ∷ []) county.names
+
+-- the records of type 7 of each landmark
+abbrev pub sevens_by_landmark : County → List (List Fields7)
+sevens_by_landmark county = map packed_sevens county.landmarks
+
+-- the links of all landmarks, in one group
+abbrev pub eights_together : County → List (List Fields8)
+eights_together county = county.links ∷ []
+
+-- the record of type P of each polygon that has one, by POLYID
+abbrev pub ps_by_number : County → List (List FieldsP)
+ps_by_number county = map (λ entry. option_to_list (packed_p entry)) (polygons_by_number county)

@@ -1,0 +1,198 @@
+//! The records of a county's chains.
+
+ghost use Rattle.std.specs.Prelude.{◌≡◌, ◌<◌, length, take, drop};
+ghost use Rattle.tl_county.specs.ChartWords.{chain_at, feats_of, points_of};
+ghost use Rattle.tl_county.specs.Packing.{inner_points};
+
+use crate::groups::RecordGroups;
+use arrayvec::ArrayVec;
+use tl_county::Chart;
+use tl_layout::{Point, Rec1, Rec2, Rec4, Rec6, RecI};
+
+/// How many shape points a record of type 2 has room for.
+const POINTS_A_RECORD: usize = 10;
+
+/// How many further names a record of type 4 has room for.
+const NAMES_A_RECORD: usize = 5;
+
+/// How many shape points the chain at a place has between its ends.
+fn shape_point_count<C: Chart>(chart: &C, place: usize) -> usize
+    requires { place < length (C.county chart.now).chains }
+    ensures { result ≡ length (inner_points (points_of (chain_at (C.county chart.now) place))) }
+{
+    chart.point_count_at(place) - 2
+}
+
+/// Shape points of the chain at a place, as many as a record of type 2 has room for, from one of them on.
+fn shape_points_from<C: Chart>(chart: &C, place: usize, first: usize) -> ArrayVec<Point, 10>
+    requires place { place < length (C.county chart.now).chains }
+    requires first { first < length (inner_points (points_of (chain_at (C.county chart.now) place))) }
+    ensures { result.items ≡ take 10 (drop first (inner_points (points_of (chain_at (C.county chart.now) place)))) }
+{
+    let end = shape_point_count(chart, place).min(first + POINTS_A_RECORD);
+    let mut points = ArrayVec::new();
+    for shape_point in first..end {
+        points.push(chart.point(place, shape_point + 1));
+    }
+    points
+}
+
+/// Further names of the chain at a place, as many as a record of type 4 has room for, from one of them on.
+fn names_from<C: Chart>(chart: &C, place: usize, first: usize) -> ArrayVec<u32, 5>
+    requires place { place < length (C.county chart.now).chains }
+    requires first { first < length (feats_of (chain_at (C.county chart.now) place)) }
+    ensures { result.items ≡ take 5 (drop first (feats_of (chain_at (C.county chart.now) place))) }
+{
+    let end = chart.feat_count_at(place).min(first + NAMES_A_RECORD);
+    let mut names = ArrayVec::new();
+    for name in first..end {
+        names.push(chart.chain_feat(place, name));
+    }
+    names
+}
+
+/// The record of type 1 of each chain.
+#[derive(Drop)]
+pub(crate) struct ChainRecords<'a, C: Chart> {
+    pub(crate) chart: &'a C,
+}
+
+impl<C: Chart> RecordGroups for ChainRecords<'_, C> {
+    ghost use Rattle.tl_write.specs.CountyGroups.{ones_by_chain};
+
+    type Item = Rec1;
+
+    ghost groups = { λ g. ones_by_chain (C.county g.chart.now) };
+
+    fn count(&self) -> usize {
+        self.chart.chain_count()
+    }
+
+    fn count_in(&self, _group: usize) -> usize {
+        1
+    }
+
+    fn record(&self, group: usize, _place: usize) -> Rec1 {
+        let last = self.chart.point_count_at(group) - 1;
+        Rec1::new(
+            self.chart.tlid(group),
+            self.chart.chain_body(group),
+            self.chart.point(group, 0),
+            self.chart.point(group, last),
+        )
+    }
+}
+
+/// The records of type 2 of each chain: its shape points.
+#[derive(Drop)]
+pub(crate) struct ShapePointRecords<'a, C: Chart> {
+    pub(crate) chart: &'a C,
+}
+
+impl<C: Chart> RecordGroups for ShapePointRecords<'_, C> {
+    ghost use Rattle.tl_write.specs.CountyGroups.{twos_by_chain};
+
+    type Item = Rec2;
+
+    ghost groups = { λ g. twos_by_chain (C.county g.chart.now) };
+
+    fn count(&self) -> usize {
+        self.chart.chain_count()
+    }
+
+    fn count_in(&self, group: usize) -> usize {
+        shape_point_count(self.chart, group).div_ceil(POINTS_A_RECORD)
+    }
+
+    fn record(&self, group: usize, place: usize) -> Rec2 {
+        let points = shape_points_from(self.chart, group, place * POINTS_A_RECORD);
+        Rec2::new(self.chart.tlid(group), place as u16 + 1, points)
+    }
+}
+
+/// The records of type 4 of each chain: its further names.
+#[derive(Drop)]
+pub(crate) struct FurtherNameRecords<'a, C: Chart> {
+    pub(crate) chart: &'a C,
+}
+
+impl<C: Chart> RecordGroups for FurtherNameRecords<'_, C> {
+    ghost use Rattle.tl_write.specs.CountyGroups.{fours_by_chain};
+
+    type Item = Rec4;
+
+    ghost groups = { λ g. fours_by_chain (C.county g.chart.now) };
+
+    fn count(&self) -> usize {
+        self.chart.chain_count()
+    }
+
+    fn count_in(&self, group: usize) -> usize {
+        self.chart.feat_count_at(group).div_ceil(NAMES_A_RECORD)
+    }
+
+    fn record(&self, group: usize, place: usize) -> Rec4 {
+        let names = names_from(self.chart, group, place * NAMES_A_RECORD);
+        Rec4::new(self.chart.tlid(group), place as u16 + 1, names)
+    }
+}
+
+/// The records of type 6 of each chain: its further address ranges.
+#[derive(Drop)]
+pub(crate) struct RangeRecords<'a, C: Chart> {
+    pub(crate) chart: &'a C,
+}
+
+impl<C: Chart> RecordGroups for RangeRecords<'_, C> {
+    ghost use Rattle.tl_write.specs.CountyGroups.{sixes_by_chain};
+
+    type Item = Rec6;
+
+    ghost groups = { λ g. sixes_by_chain (C.county g.chart.now) };
+
+    fn count(&self) -> usize {
+        self.chart.chain_count()
+    }
+
+    fn count_in(&self, group: usize) -> usize {
+        self.chart.range_count_at(group)
+    }
+
+    fn record(&self, group: usize, place: usize) -> Rec6 {
+        let ranges = self.chart.range(group, place);
+        Rec6::new(self.chart.tlid(group), place as u16 + 1, ranges)
+    }
+}
+
+/// The record of type I of each chain: its nodes and what stands on its sides.
+#[derive(Drop)]
+pub(crate) struct LinkRecords<'a, C: Chart> {
+    pub(crate) chart: &'a C,
+}
+
+impl<C: Chart> RecordGroups for LinkRecords<'_, C> {
+    ghost use Rattle.tl_write.specs.CountyGroups.{is_by_chain};
+
+    type Item = RecI;
+
+    ghost groups = { λ g. is_by_chain (C.county g.chart.now) };
+
+    fn count(&self) -> usize {
+        self.chart.chain_count()
+    }
+
+    fn count_in(&self, _group: usize) -> usize {
+        1
+    }
+
+    fn record(&self, group: usize, _place: usize) -> RecI {
+        RecI::new(
+            self.chart.tlid(group),
+            self.chart.link_body(group),
+            self.chart.start_node(group),
+            self.chart.end_node(group),
+            self.chart.left(group),
+            self.chart.right(group),
+        )
+    }
+}

@@ -1,0 +1,82 @@
+//! The records of a canonical county, as a list and as a text.
+
+ghost use Rattle.std.specs.Prelude.{◌≡◌, ◌<◌, ◌+◌, ◌++◌, ℕ, List, length, take, IfErr, IfOk, MatchResult, OnOk, is_ok, if◌then◌else◌};
+ghost use Rattle.tl_county.specs.Packing.{packed};
+ghost use Rattle.tl_layout.specs.RecordText.{text_of};
+ghost use Rattle.tl_number.specs.Canonical.{IsCanonical};
+
+use crate::chain_records::{
+    ChainRecords, FurtherNameRecords, LinkRecords, RangeRecords, ShapePointRecords,
+};
+use crate::fault::WriteFault;
+use crate::groups::give_groups;
+use crate::name_records::{LandmarkLinkRecords, LandmarkRecords, NameRecords};
+use crate::polygon_records::PolygonRecords;
+use crate::sink::Sink;
+use crate::taker::RecordTaker;
+use crate::text_buffer::TextBuffer;
+use std::alloc::{AllocError, Global};
+use tl_county::Chart;
+use tl_layout::Record;
+use tl_number::CanonCounty;
+
+/// Hands on all records of a canonical county, type after type.
+fn give_records<D, C: Chart, T: RecordTaker<D>>(
+    county: &CanonCounty<C>,
+    taker: &mut T,
+    device: &mut D,
+) -> Result<(), T::Fault>
+    requires { T.IsReady taker.old device.old }
+    ensures given { T.Takes (packed (⟦<CanonCounty<C> as Chart>⟧.county county.now)) taker.old device.old result taker.new device.new }
+    ensures ready { OnOk result (T.IsReady taker.new device.new) }
+{
+    give_groups(&ChainRecords { chart: county }, taker, device)?;
+    give_groups(&ShapePointRecords { chart: county }, taker, device)?;
+    give_groups(&FurtherNameRecords { chart: county }, taker, device)?;
+    give_groups(&NameRecords { chart: county }, taker, device)?;
+    give_groups(&RangeRecords { chart: county }, taker, device)?;
+    give_groups(&LandmarkRecords { chart: county }, taker, device)?;
+    give_groups(&LandmarkLinkRecords { county }, taker, device)?;
+    give_groups(&LinkRecords { chart: county }, taker, device)?;
+    give_groups(&PolygonRecords { county }, taker, device)
+}
+
+/// The records of a canonical county: a canonical list, and the packing of the county.
+///
+/// # Errors
+///
+/// Only that memory was lacking.
+pub fn records_of<C: Chart>(
+    alloc: Global,
+    county: &CanonCounty<C>,
+) -> Result<Vec<Record>, AllocError>
+    ensures packed { IfOk result (λ records. records.items ≡ packed (⟦<CanonCounty<C> as Chart>⟧.county county.now)) }
+    ensures canonical { IfOk result (λ records. IsCanonical records.items) }
+{
+    let mut records = Vec::new(alloc);
+    give_records(county, &mut records, &mut ())?;
+    Ok(records)
+}
+
+/// Writes the text of a canonical county, its records in canonical spelling each with a line end, and answers how many bytes
+/// it has. Nothing is tried again, and no memory is taken.
+///
+/// # Errors
+///
+/// The sink failed: exactly the first `written` bytes of the text went out before.
+pub fn write_to<C: Chart, W: Sink>(
+    county: &CanonCounty<C>,
+    w: &mut W,
+) -> Result<u64, WriteFault>
+    requires { W.failed w.old < u64.MAX }
+    ensures length { IfOk result (λ n. n ≡ length (text_of (packed (⟦<CanonCounty<C> as Chart>⟧.county county.now)))) }
+    ensures short { IfErr result (λ f. f.written < length (text_of (packed (⟦<CanonCounty<C> as Chart>⟧.county county.now)))) }
+    ensures failures { W.failed w.new ≡ (if is_ok result then W.failed w.old else W.failed w.old + 1) }
+    ensures bytes { (held : List ℕ) → W.holds w.old held
+        → MatchResult result (λ _. W.holds w.new (held ++ text_of (packed (⟦<CanonCounty<C> as Chart>⟧.county county.now))))
+        (λ f. W.holds w.new (held ++ take f.written (text_of (packed (⟦<CanonCounty<C> as Chart>⟧.county county.now))))) }
+{
+    let mut buffer = TextBuffer::new();
+    give_records(county, &mut buffer, w)?;
+    buffer.finish(w)
+}

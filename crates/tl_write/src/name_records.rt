@@ -1,0 +1,84 @@
+//! The records of a county's names and landmarks.
+
+use crate::groups::RecordGroups;
+use tl_county::Chart;
+use tl_layout::{Rec5, Rec7, Rec8};
+use tl_number::CanonCounty;
+
+/// The record of type 5 of each name.
+#[derive(Drop)]
+pub(crate) struct NameRecords<'a, C: Chart> {
+    pub(crate) chart: &'a C,
+}
+
+impl<C: Chart> RecordGroups for NameRecords<'_, C> {
+    ghost use Rattle.tl_write.specs.CountyGroups.{fives_by_name};
+
+    type Item = Rec5;
+
+    ghost groups = { λ g. fives_by_name (C.county g.chart.now) };
+
+    fn count(&self) -> usize {
+        self.chart.name_count()
+    }
+
+    fn count_in(&self, _group: usize) -> usize {
+        1
+    }
+
+    fn record(&self, group: usize, _place: usize) -> Rec5 {
+        Rec5::new(self.chart.feat(group), self.chart.name_body(group))
+    }
+}
+
+/// The records of type 7 of each landmark.
+#[derive(Drop)]
+pub(crate) struct LandmarkRecords<'a, C: Chart> {
+    pub(crate) chart: &'a C,
+}
+
+impl<C: Chart> RecordGroups for LandmarkRecords<'_, C> {
+    ghost use Rattle.tl_write.specs.CountyGroups.{sevens_by_landmark};
+
+    type Item = Rec7;
+
+    ghost groups = { λ g. sevens_by_landmark (C.county g.chart.now) };
+
+    fn count(&self) -> usize {
+        self.chart.landmark_count()
+    }
+
+    fn count_in(&self, group: usize) -> usize {
+        self.chart.body_count_at(group)
+    }
+
+    fn record(&self, group: usize, place: usize) -> Rec7 {
+        Rec7::new(self.chart.land(group), self.chart.landmark_body(group, place))
+    }
+}
+
+/// The records of type 8 of all landmarks: the polygons that they cover.
+#[derive(Drop)]
+pub(crate) struct LandmarkLinkRecords<'a, C: Chart> {
+    pub(crate) county: &'a CanonCounty<C>,
+}
+
+impl<C: Chart> RecordGroups for LandmarkLinkRecords<'_, C> {
+    ghost use Rattle.tl_write.specs.CountyGroups.{eights_together};
+
+    type Item = Rec8;
+
+    ghost groups = { λ g. eights_together (⟦<CanonCounty<C> as Chart>⟧.county g.county.now) };
+
+    fn count(&self) -> usize {
+        1
+    }
+
+    fn count_in(&self, _group: usize) -> usize {
+        self.county.links().len()
+    }
+
+    fn record(&self, _group: usize, place: usize) -> Rec8 {
+        self.county.links()[place]
+    }
+}
