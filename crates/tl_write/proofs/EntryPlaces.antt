@@ -1,9 +1,8 @@
 -- The name, the landmark and the polygon at a place of a county within its limits.
-use Rattle.std.proofs.Common.{◌≡◌, ◌<◌, ℕ, List, [], ◌∷◌, length, map, Option, Some, None, option_map, option_to_list, unwrap_or, slice_get}
+use Rattle.std.proofs.Common.{◌≡◌, ◌<◌, ℕ, List, [], length, map, Option, Some, None, option_map, option_to_list, unwrap_or, slice_get}
 use Rattle.std.proofs.Common.{IsSome, sym, refl, ap, ◌∙◌, subst, nat_cmp, arith}
 use Rattle.std.proofs.lemmas.List.{length-map}
 use Rattle.std.proofs.lemmas.Option.{slice_get-map}
-use Rattle.std.specs.List.{AllByRecursion}
 use Rattle.std.specs.Ordering.{on}
 use Rattle.tl_layout.specs.Bytes.{IsText}
 use Rattle.tl_layout.specs.Numbers.{IsNumber}

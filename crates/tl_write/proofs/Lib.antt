@@ -5,3 +5,4 @@ pub mod Selected
 pub mod PackedGroups
 pub mod TextLengths
 pub mod EntryPlaces
+pub mod Finished

@@ -1,5 +1,5 @@
 -- The groups of a county's records together are its packing.
-use Rattle.std.proofs.Common.{◌≡◌, ℕ, List, ◌++◌, map, flat_map, filter_map, Option, Some, None, refl, ap, ap₂, ◌∙◌, sym, nat_cmp}
+use Rattle.std.proofs.Common.{◌≡◌, List, ◌++◌, map, flat_map, filter_map, Option, Some, None, ap, ◌∙◌, nat_cmp}
 use Rattle.std.proofs.Common.{append-nil}
 use Rattle.std.specs.Ordering.{on}
 use Rattle.tl_layout.specs.Fields.{FieldsP}

@@ -1,6 +1,6 @@
 -- Pieces of a list, read by place.
-use Rattle.std.proofs.Common.{◌≡◌, ◌+◌, ◌*◌, ◌-◌, ◌<◌, ◌≤◌, ◌/◌, ◌%◌, ℕ, zero, suc, List, [], ◌∷◌, length, take, drop, min, Option}
-use Rattle.std.proofs.Common.{Some, None, option_map, slice_get, map, sym, refl, ap, ◌∙◌, arith}
+use Rattle.std.proofs.Common.{◌≡◌, ◌+◌, ◌*◌, ◌-◌, ◌<◌, ◌≤◌, ◌/◌, ◌%◌, ℕ, zero, suc, List, [], ◌∷◌, length, take, drop, min}
+use Rattle.std.proofs.Common.{Some, option_map, slice_get, map, refl, ap, ◌∙◌, arith}
 use Rattle.std.proofs.lemmas.Grind.{div_ceil_times}
 use Rattle.std.proofs.lemmas.List.{length-drop, length-map, drop-drop}
 use Rattle.std.proofs.lemmas.Option.{slice_get-map}

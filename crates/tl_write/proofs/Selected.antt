@@ -1,6 +1,6 @@
 -- What is selected from a list that is put in order.
-use Rattle.std.proofs.Common.{◌≡◌, ◌≤◌, ℕ, List, [], ◌∷◌, ◌++◌, map, filter_map, Bool, true, false, cond, Option, Some, None, option_to_list}
-use Rattle.std.proofs.Common.{Ordering, is_gt, sym, refl, ap, ◌∙◌, subst, nat_cmp}
+use Rattle.std.proofs.Common.{◌≡◌, ℕ, List, [], ◌∷◌, ◌++◌, map, filter_map, Bool, true, false, cond, Option, Some, None, option_to_list}
+use Rattle.std.proofs.Common.{Ordering, is_gt, sym, refl, ap, ◌∙◌, nat_cmp}
 use Rattle.std.proofs.lemmas.Cmp.{nat_cmp_total, on_total, upto}
 use Rattle.std.specs.List.{AllByRecursion, cons_option}
 use Rattle.std.specs.Ordering.{on}

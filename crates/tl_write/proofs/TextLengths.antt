@@ -1,5 +1,5 @@
 -- How long the text of a county can be.
-use Rattle.std.proofs.Common.{◌≡◌, ◌+◌, ◌*◌, ◌-◌, ◌^◌, ◌<◌, ◌≤◌, ℕ, List, [], ◌∷◌, ◌++◌, map, length, length-append, sym, refl, ap, ◌∙◌, subst, arith}
+use Rattle.std.proofs.Common.{◌≡◌, ◌*◌, ◌-◌, ◌^◌, ◌<◌, ◌≤◌, ℕ, List, [], ◌∷◌, ◌++◌, map, length, length-append, subst, arith}
 use Rattle.std.proofs.lemmas.List.{length-map}
 use Rattle.std.specs.List.{AllByRecursion}
 use Rattle.tl_layout.specs.RecordText.{FitsRecord, len_of, spelling_of, text_of}
@@ -60,8 +60,33 @@ type_lengths t limit h =
     let all = length-append (map One t.of_type_1) (map Two t.of_type_2 ++ (map Four t.of_type_4 ++ (map Five t.of_type_5
     ++ (map Six t.of_type_6 ++ (map Seven t.of_type_7 ++ (map Eight t.of_type_8 ++ (map I t.of_type_i ++ map P t.of_type_p))))))) in
     omega (
-      arith, p, is, eights, sevens, sixes, fives, fours, twos, ones, from_i, from_8, from_7, from_6, from_5, from_4, from_2, all,
-      h.of_type_1, h.of_type_2, h.of_type_4, h.of_type_5, h.of_type_6, h.of_type_7, h.of_type_8, h.of_type_i, h.of_type_p
+      arith,
+      p,
+      is,
+      eights,
+      sevens,
+      sixes,
+      fives,
+      fours,
+      twos,
+      ones,
+      from_i,
+      from_8,
+      from_7,
+      from_6,
+      from_5,
+      from_4,
+      from_2,
+      all,
+      h.of_type_1,
+      h.of_type_2,
+      h.of_type_4,
+      h.of_type_5,
+      h.of_type_6,
+      h.of_type_7,
+      h.of_type_8,
+      h.of_type_i,
+      h.of_type_p,
     )
 
 -- The text of a county within its limits has fewer bytes than 64 bits count.

@@ -1,5 +1,5 @@
 -- The records of a county in groups: those of a chain, of a landmark, of a polygon.
-use Rattle.std.specs.Prelude.{ℕ, List, [], ◌∷◌, map, option_to_list}
+use Rattle.std.specs.Prelude.{List, [], ◌∷◌, map, option_to_list}
 use Rattle.tl_layout.specs.Fields.{Fields1, Fields2, Fields4, Fields5, Fields6, Fields7, Fields8, FieldsI, FieldsP}
 use Rattle.tl_county.specs.County.{County}
 use Rattle.tl_county.specs.Packing.{packed_one, packed_twos, packed_fours, packed_five, packed_sixes, packed_sevens, packed_i, packed_p}

@@ -1,5 +1,5 @@
 -- A text that goes out to a sink through a buffer.
-use Rattle.std.specs.Prelude.{◌≡◌, ◌<◌, ◌-◌, ◌^◌, ℕ, List, ◌++◌, length, min}
+use Rattle.std.specs.Prelude.{◌≡◌, ◌<◌, ◌+◌, ◌-◌, ◌^◌, ℕ, List, ◌++◌, length, min}
 
 -- the bytes that wait to be sent, and how many were sent, or the greatest number of 64 bits
 pub record Waiting : Type 0 where
@@ -9,6 +9,12 @@ pub record Waiting : Type 0 where
 -- a number, or the greatest one of 64 bits
 abbrev pub up_to_most : ℕ → ℕ
 up_to_most n = min n (2 ^ 64 - 1)
+
+-- so many bytes in all were sent or wait
+pub record HasCounted (total : ℕ) (buffer : Waiting) : Type 0 where
+  pub sent : ℕ
+  pub count : buffer.sent ≡ up_to_most sent
+  pub all : total ≡ sent + length buffer.waiting
 
 -- a text is on its way to a sink that held some bytes before: its beginning was sent, and the rest waits
 pub record IsGoingOut {W : Type 0} (holds : W → List ℕ → Type 0) (held text : List ℕ) (buffer : Waiting) (sink : W) : Type 0 where

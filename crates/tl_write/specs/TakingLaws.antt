@@ -1,10 +1,10 @@
 -- Records that are handed on one after the other are handed on together.
-use Rattle.std.proofs.Common.{◌≡◌, ◌∙◌, ◌<◌, ◌+◌, ℕ, length, arith, List, [], ◌∷◌, ◌++◌, flat_map, Result, Ok, Err, refl, sym, ap, subst, append_assoc, append-nil}
+use Rattle.std.proofs.Common.{◌≡◌, ◌∙◌, ◌<◌, ◌+◌, ℕ, length, length-append, arith, List, [], ◌∷◌, ◌++◌, Result, Ok, Err, refl, sym, ap, subst, append_assoc, append-nil}
 use Rattle.std.specs.Bool.{if◌then◌else◌}
 use Rattle.std.specs.Result.{is_ok, MatchResult}
 use Rattle.tl_layout.specs.RecordText.{text_of, spelling_of}
 use Rattle.tl_layout.specs.declared.record_type.Record.{Record}
-use Rattle.tl_write.specs.GoingOut.{Waiting, IsGoingOut, HoldsBeginning}
+use Rattle.tl_write.specs.GoingOut.{Waiting, HasCounted, IsGoingOut, HoldsBeginning}
 use Rattle.tl_write.specs.Taking.{PutsText, ListsRecords}
 use Rattle.tl_write.specs.declared.fault.WriteFault.{WriteFault}
 
@@ -31,50 +31,69 @@ longer holds held text more written sink h = record {
     more_left (x ∷ xs) l = omega arith
 
 module _ {W : Type 0} (failed : W → ℕ) (holds : W → List ℕ → Type 0) where
+  -- what is on its way, behind two texts or behind both together
+  behind_both : (xs ys : List Record) (text : List ℕ) → (text ++ text_of xs) ++ text_of ys ≡ text ++ text_of (xs ++ ys)
+  behind_both xs ys text = append_assoc text (text_of xs) (text_of ys) ∙ ap (λ t. text ++ t) (sym (text_of-append xs ys))
+
+  both_lengths : (xs ys : List Record) → length (text_of (xs ++ ys)) ≡ length (text_of xs) + length (text_of ys)
+  both_lengths xs ys = ap length (text_of-append xs ys) ∙ length-append (text_of xs) (text_of ys)
+
   pub puts_none : (a : Waiting) (d : W) → PutsText failed holds (text_of []) a d (Ok tt) a d
-  puts_none a d held text h = (subst (λ t. IsGoingOut holds held t a d) (sym (append-nil text)) h, refl)
+  puts_none a d = record {
+    failures = refl;
+    counted = λ total h. subst (λ n. HasCounted n a) (let e : total ≡ total + length (text_of []) = omega arith in e) h;
+    bytes = λ held text h. subst (λ t. IsGoingOut holds held t a d) (sym (append-nil text)) h;
+  }
 
   pub puts_then : (xs ys : List Record) (a b c : Waiting) (d e f : W) (result : Result (Unit {0}) WriteFault)
       → PutsText failed holds (text_of xs) a d (Ok tt) b e → PutsText failed holds (text_of ys) b e result c f
       → PutsText failed holds (text_of (xs ++ ys)) a d result c f
-  puts_then xs ys a b c d e f (Ok t) first next held text h =
-      let one = first held text h in
-      let two = next held (text ++ text_of xs) one.0 in (
-        subst (λ t. IsGoingOut holds held t c f)
-            (append_assoc text (text_of xs) (text_of ys) ∙ ap (λ t. text ++ t) (sym (text_of-append xs ys))) two.0,
-        two.1 ∙ one.1,
-      )
-  puts_then xs ys a b c d e f (Err fault) first next held text h =
-      let one = first held text h in
-      let two = next held (text ++ text_of xs) one.0 in (
-        subst (λ t. HoldsBeginning holds held t fault.written f)
-            (append_assoc text (text_of xs) (text_of ys) ∙ ap (λ t. text ++ t) (sym (text_of-append xs ys))) two.0,
-        two.1 ∙ ap (λ n. n + 1) one.1,
-      )
+  puts_then xs ys a b c d e f (Ok t) first next = record {
+    failures = next.failures ∙ first.failures;
+    counted = λ total h. subst (λ n. HasCounted n c)
+        (let g : (total + length (text_of xs)) + length (text_of ys) ≡ total + length (text_of (xs ++ ys)) =
+        omega (arith, both_lengths xs ys) in g)
+        (next.counted (total + length (text_of xs)) (first.counted total h));
+    bytes = λ held text h. subst (λ t. IsGoingOut holds held t c f) (behind_both xs ys text)
+        (next.bytes held (text ++ text_of xs) (first.bytes held text h));
+  }
+  puts_then xs ys a b c d e f (Err fault) first next = record {
+    failures = next.failures ∙ ap (λ n. n + 1) first.failures;
+    counted = λ total h. omega (arith, both_lengths xs ys, next.counted (total + length (text_of xs)) (first.counted total h));
+    bytes = λ held text h. subst (λ t. HoldsBeginning holds held t fault.written f) (behind_both xs ys text)
+        (next.bytes held (text ++ text_of xs) (first.bytes held text h));
+  }
 
   pub puts_stops : (xs ys : List Record) (a b : Waiting) (d e : W) (fault : WriteFault)
       → PutsText failed holds (text_of xs) a d (Err fault) b e → PutsText failed holds (text_of (xs ++ ys)) a d (Err fault) b e
-  puts_stops xs ys a b d e fault stopped held text h =
-      let one = stopped held text h in (
-        subst (λ t. HoldsBeginning holds held t fault.written e)
-            (append_assoc text (text_of xs) (text_of ys) ∙ ap (λ t. text ++ t) (sym (text_of-append xs ys)))
-            (longer holds held (text ++ text_of xs) (text_of ys) fault.written e one.0),
-        one.1,
-      )
+  puts_stops xs ys a b d e fault stopped = record {
+    failures = stopped.failures;
+    counted = λ total h. omega (arith, both_lengths xs ys, stopped.counted total h);
+    bytes = λ held text h. subst (λ t. HoldsBeginning holds held t fault.written e) (behind_both xs ys text)
+        (longer holds held (text ++ text_of xs) (text_of ys) fault.written e (stopped.bytes held text h));
+  }
 
   -- the line of one record
   pub puts_line : (r : Record) (spelling : List ℕ) → spelling_of r ≡ spelling → (a b : Waiting) (d e : W)
       (result : Result (Unit {0}) WriteFault) → failed e ≡ (if is_ok result then failed d else failed d + 1)
+      → ((total : ℕ) → HasCounted total a
+      → MatchResult result (λ _. HasCounted (total + length (spelling ++ 10 ∷ [])) b) (λ f. f.written < total))
       → ((held text : List ℕ) → IsGoingOut holds held text a d
       → MatchResult result (λ _. IsGoingOut holds held (text ++ (spelling ++ 10 ∷ [])) b e) (λ f. HoldsBeginning holds held text f.written e))
       → PutsText failed holds (text_of (r ∷ [])) a d result b e
-  puts_line r spelling same a b d e (Ok t) failures put held text h = (
-    subst (λ s. IsGoingOut holds held (text ++ s) b e)
-        (sym (append-nil (spelling_of r ++ 10 ∷ []) ∙ ap (λ s. s ++ 10 ∷ []) same)) (put held text h),
-    failures,
-  )
-  puts_line r spelling same a b d e (Err f) failures put held text h =
-      (longer holds held text (text_of (r ∷ [])) f.written e (put held text h), failures)
+  puts_line r spelling same a b d e (Ok t) failures counted put = record {
+    failures = failures;
+    counted = λ total h. subst (λ s. HasCounted (total + length s) b) (sym line) (counted total h);
+    bytes = λ held text h. subst (λ s. IsGoingOut holds held (text ++ s) b e) (sym line) (put held text h);
+  }
+    where
+      line : text_of (r ∷ []) ≡ spelling ++ 10 ∷ []
+      line = append-nil (spelling_of r ++ 10 ∷ []) ∙ ap (λ s. s ++ 10 ∷ []) same
+  puts_line r spelling same a b d e (Err f) failures counted put = record {
+    failures = failures;
+    counted = λ total h. omega (arith, counted total h);
+    bytes = λ held text h. longer holds held text (text_of (r ∷ [])) f.written e (put held text h);
+  }
 
 pub lists_then : (E : Type 0) (xs ys a b c : List Record) (result : Result (Unit {0}) E) → ListsRecords {E = E} xs a (Ok tt) b
     → ListsRecords ys b result c → ListsRecords (xs ++ ys) a result c

@@ -64,10 +64,7 @@ pub fn records_of<C: Chart>(
 /// # Errors
 ///
 /// The sink failed: exactly the first `written` bytes of the text went out before.
-pub fn write_to<C: Chart, W: Sink>(
-    county: &CanonCounty<C>,
-    w: &mut W,
-) -> Result<u64, WriteFault>
+pub fn write_to<C: Chart, W: Sink>(county: &CanonCounty<C>, w: &mut W) -> Result<u64, WriteFault>
     requires { W.failed w.old < u64.MAX }
     ensures length { IfOk result (λ n. n ≡ length (text_of (packed (⟦<CanonCounty<C> as Chart>⟧.county county.now)))) }
     ensures short { IfErr result (λ f. f.written < length (text_of (packed (⟦<CanonCounty<C> as Chart>⟧.county county.now)))) }

@@ -53,7 +53,10 @@ impl<C: Chart> RecordGroups for LandmarkRecords<'_, C> {
     }
 
     fn record(&self, group: usize, place: usize) -> Rec7 {
-        Rec7::new(self.chart.land(group), self.chart.landmark_body(group, place))
+        Rec7::new(
+            self.chart.land(group),
+            self.chart.landmark_body(group, place),
+        )
     }
 }
 

@@ -1,7 +1,7 @@
 //! A buffer between the lines of a text and the sink that it goes out to.
 
 ghost use Rattle.std.specs.Prelude.{◌≡◌, ◌<◌, ◌≤◌, ◌+◌, ◌++◌, ◌∷◌, ℕ, List, [], length, MatchResult, OnOk, is_ok, if◌then◌else◌};
-ghost use Rattle.tl_write.specs.GoingOut.{HoldsBeginning, IsGoingOut, up_to_most};
+ghost use Rattle.tl_write.specs.GoingOut.{HasCounted, HoldsBeginning, IsGoingOut, up_to_most};
 
 use crate::fault::WriteFault;
 use crate::sink::Sink;
@@ -58,6 +58,7 @@ impl TextBuffer {
         requires { W.failed w.old < u64.MAX }
         ensures failures { W.failed w.new ≡ (if is_ok result then W.failed w.old else W.failed w.old + 1) }
         ensures empty { OnOk result (self.new.waiting ≡ []) }
+        ensures counted { (total : ℕ) → HasCounted total self.old → MatchResult result (λ _. HasCounted total self.new) (λ f. f.written < total) }
         ensures sent { (held text : List ℕ) → IsGoingOut W.holds held text self.old w.old
             → MatchResult result (λ _. IsGoingOut W.holds held text self.new w.new)
             (λ f. HoldsBeginning W.holds held text f.written w.new) }
@@ -80,6 +81,7 @@ impl TextBuffer {
         requires count { count ≤ BUFFER_BYTES }
         ensures failures { W.failed w.new ≡ (if is_ok result then W.failed w.old else W.failed w.old + 1) }
         ensures room { OnOk result (length self.new.waiting + count ≤ BUFFER_BYTES) }
+        ensures counted { (total : ℕ) → HasCounted total self.old → MatchResult result (λ _. HasCounted total self.new) (λ f. f.written < total) }
         ensures sent { (held text : List ℕ) → IsGoingOut W.holds held text self.old w.old
             → MatchResult result (λ _. IsGoingOut W.holds held text self.new w.new)
             (λ f. HoldsBeginning W.holds held text f.written w.new) }
@@ -108,6 +110,8 @@ impl TextBuffer {
     ) -> Result<(), WriteFault>
         requires { W.failed w.old < u64.MAX }
         ensures failures { W.failed w.new ≡ (if is_ok result then W.failed w.old else W.failed w.old + 1) }
+        ensures counted { (total : ℕ) → HasCounted total self.old
+            → MatchResult result (λ _. HasCounted (total + length (L.spelling found.now ++ 10 ∷ [])) self.new) (λ f. f.written < total) }
         ensures put { (held text : List ℕ) → IsGoingOut W.holds held text self.old w.old
             → MatchResult result (λ _. IsGoingOut W.holds held (text ++ (L.spelling found.now ++ 10 ∷ [])) self.new w.new)
             (λ f. HoldsBeginning W.holds held text f.written w.new) }
@@ -121,6 +125,7 @@ impl TextBuffer {
     pub(crate) fn finish<W: Sink>(mut self, w: &mut W) -> Result<u64, WriteFault>
         requires { W.failed w.old < u64.MAX }
         ensures failures { W.failed w.new ≡ (if is_ok result then W.failed w.old else W.failed w.old + 1) }
+        ensures counted { (total : ℕ) → HasCounted total self → MatchResult result (λ n. n ≡ up_to_most total) (λ f. f.written < total) }
         ensures whole { (held text : List ℕ) → IsGoingOut W.holds held text self w.old
             → MatchResult result (λ n. W.holds w.new (held ++ text) × (n ≡ up_to_most (length text)))
             (λ f. HoldsBeginning W.holds held text f.written w.new) }

@@ -27,8 +27,7 @@ new-requires-clause-nodes g c =
     (ap (option_map (λ chain. chain.start_node)) there.chain) in
     let end_is : c.end_node.result ≡ there.entry.1.end_node =
     some-same (option_map (λ chain. chain.end_node) (chain_at county c.args.group)) c.end_node.result there.entry.1.end_node c.end_node.ensures
-    (ap (option_map (λ chain. chain.end_node)) there.chain) in
-    (
+    (ap (option_map (λ chain. chain.end_node)) there.chain) in (
       subst (IsNumberOrNone 10) (sym start_is) there.named.start_node,
       subst (IsNumberOrNone 10) (sym end_is) there.named.end_node,
     )

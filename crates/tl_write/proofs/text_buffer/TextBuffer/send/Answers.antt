@@ -1,6 +1,6 @@
 use Rattle.std.proofs.Common.{◌≡◌, ◌<◌, ◌+◌, ◌++◌, ◌∙◌, ℕ, List, arith, subst, sym, ap, take, drop, length, length-drop, append_assoc, min}
 use Rattle.std.proofs.lemmas.List.{take-append-drop, length-append, length-take}
-use Rattle.tl_write.specs.GoingOut.{IsGoingOut, HoldsBeginning, up_to_most}
+use Rattle.tl_write.specs.GoingOut.{HasCounted, IsGoingOut, HoldsBeginning, up_to_most}
 use Rattle.tl_write.proofs.text_buffer.TextBuffer.send.Goals as goal
 
 -- a sink that failed holds what was sent before, and the first bytes of what waited
@@ -29,3 +29,16 @@ returns-in-Err-clause-sent g c held text h =
     stopped g.W.Sink.holds held text going.sent waiting n c.saturating_add.result c.write_bytes.new.w going.text_is c.in-Err.ensures.short
     (capped (length going.sent) c.self.inside.sent n c.saturating_add.result c.saturating_add.ensures going.count)
     (c.in-Err.ensures.bytes (held ++ going.sent) going.arrived)
+
+pub returns-in-Ok-clause-counted : goal.returns-in-Ok-clause-counted
+returns-in-Ok-clause-counted g c total h =
+    let waiting = take c.self.inside.filled c.self.inside.bytes in
+    let counted : HasCounted total (record { waiting = waiting; sent = c.self.inside.sent }) =
+    subst (HasCounted total) (sym c.self.view_is) h in
+    let count : c.in-Ok.count ≡ length waiting = c.in-Ok.ensures.length in
+    record {
+      sent = counted.sent + c.in-Ok.count;
+      count = capped counted.sent c.self.inside.sent c.in-Ok.count c.saturating_add-self-inside.result c.saturating_add-self-inside.ensures
+          counted.count;
+      all = omega (arith, counted.all, count);
+    }
