@@ -14,7 +14,7 @@ use Rattle.tigercanon.specs.Respelling.{record_limit}
 use Rattle.tigercanon.specs.declared.files.Opened.{Opened}
 
 -- what was taken to the end is all
-taken_all : (known left : Option (List ℕ)) (taken : List ℕ) → Consumes known left taken → IsAtEnd left
+pub taken_all : (known left : Option (List ℕ)) (taken : List ℕ) → Consumes known left taken → IsAtEnd left
     → IfSome known (λ bytes. taken ≡ bytes)
 taken_all None left taken c e = tt
 taken_all (Some all) None taken c e = absurd c

@@ -50,6 +50,18 @@ without_empty_part parts f at = record {
   fault_is = at.fault_is;
 }
 
+pub with_empty_part : (parts : List (List ℕ)) (f : LoadFault) → IsFirstFault parts f → IsFirstFault (parts ++ [] ∷ []) f
+with_empty_part parts f at = record {
+  before = at.before;
+  line = at.line;
+  after = at.after;
+  records = at.records;
+  split = lines_with_empty_part 1 parts ∙ at.split;
+  well = at.well;
+  within = at.within;
+  fault_is = at.fault_is;
+}
+
 -- a fault that stays however the open part and the set go on is that of the slices, of which the open part is one
 pub fault_of_all : (slices : List (Bor (List ℕ))) (i : ℕ) (d : Bor (List ℕ)) (f : LoadFault) → i < length slices
     → IsFaultHowever record_limit (parts_of (take i slices)) (get_or slices i d).now f → IsFirstFault (parts_of slices) f

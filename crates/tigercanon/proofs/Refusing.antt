@@ -1,5 +1,5 @@
 -- What the records of a set are refused for, the set is refused for.
-use Rattle.std.proofs.Common.{◌≡◌, ◌≢◌, ◌⊎◌, ℕ, List, Option, Result, Ok, Err, IfErr, inl, inr, refl, sym, subst}
+use Rattle.std.proofs.Common.{◌≡◌, ◌≢◌, ◌⊎◌, ℕ, List, Option, inl, inr, refl, sym, subst}
 use Rattle.tl_layout.specs.declared.record_type.Record.{Record}
 use Rattle.tl_load.specs.Choice.{tiger}
 use Rattle.tl_layout.specs.Tables.{HoldsByType}
@@ -20,11 +20,11 @@ use Rattle.tl_profile.specs.declared.fault.ProfileFault.TheVariants.{OwnReverse,
 use Rattle.tl_profile.specs.declared.fault.ProfileFault.TheVariants.{Memory as ProfileMemory}
 use Rattle.tl_profile.proofs.ProfileFaults.{profile_has_none}
 use Rattle.tigercanon.specs.declared.fault.Fault.{Fault}
-use Rattle.tigercanon.specs.declared.fault.Fault.TheVariants.{Load, Link, Profile, Memory}
+use Rattle.tigercanon.specs.declared.fault.Fault.TheVariants.{Load, Link, Profile, Write, Memory}
 use Rattle.tigercanon.specs.declared.files.Opened.{Opened}
 use Rattle.tigercanon.specs.Faults.{RefusesRecords, IsWantOfMemory}
 use Rattle.tigercanon.specs.Files.{AreHeld}
-use Rattle.tigercanon.specs.Outcomes.{AreRefused, TellsSet}
+use Rattle.tigercanon.specs.Outcomes.{TellsSet}
 use Rattle.tigercanon.specs.Respelling.{record_limit}
 use Rattle.tigercanon.specs.Sets.{IsAcceptedSet}
 use Rattle.tigercanon.proofs.Sets.{one_list}
@@ -67,7 +67,8 @@ accepted_memory_alone parts records others (Profile f) a spelled h = go (profile
     go (inr ne) =
         absurd (profile_has_none (county_of records) f a.accepted.profile
         (subst (λ (rs : List Record). IsFirstBrokenClause (county_of rs) f) (one_list parts others records spelled a.spelled) (h ne).1))
-accepted_memory_alone parts records others Memory a spelled h = absurd h
+accepted_memory_alone parts records others (Write f) a spelled h = absurd h
+accepted_memory_alone parts records others Memory a spelled h = tt
 
 -- what the records of files are refused for, the files are refused for
 module _ {R : Type 0} (remaining : R → Option (List ℕ)) (files : List (Opened R)) (parts : List (List ℕ))
@@ -77,7 +78,8 @@ module _ {R : Type 0} (remaining : R → Option (List ℕ)) (files : List (Opene
   files_refused (Load f) h = absurd h
   files_refused (Link f) h = λ ne. record { parts = parts; held = held; refused = (records, spelled, h ne) }
   files_refused (Profile f) h = λ ne. record { parts = parts; held = held; refused = (records, spelled, (h ne).0, (h ne).1) }
-  files_refused Memory h = absurd h
+  files_refused (Write f) h = absurd h
+  files_refused Memory h = tt
 
 -- tables of the records that parts spell hold records within their limits
 pub within_limits : (parts : List (List ℕ)) (tables : Tables) (records : List Record) → HoldsByType tables records

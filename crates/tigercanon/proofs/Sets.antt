@@ -15,10 +15,11 @@ use Rattle.tl_load.proofs.TextLemmas.{text_spells, text_spells_only}
 use Rattle.tl_county.specs.County.{county_of}
 use Rattle.tl_county.specs.Renumbering.{AreSame}
 use Rattle.tl_number.specs.Accepted.{IsAccepted, Refusal, Unlinked, OutOfProfile, IsRefusal}
+use Rattle.tigercanon.specs.Normalising.{IsOnlyText}
 use Rattle.tigercanon.specs.Respelling.{record_limit}
 use Rattle.tigercanon.specs.Sets.{IsAcceptedSet, IsSetRefusal, IsCanonicalText}
 use Rattle.tigercanon.specs.declared.fault.Fault.{Fault}
-use Rattle.tigercanon.specs.declared.fault.Fault.TheVariants.{Load, Link, Profile, Memory}
+use Rattle.tigercanon.specs.declared.fault.Fault.TheVariants.{Load, Link, Profile, Write, Memory}
 use Rattle.tl_county.specs.LinkRules.{IsLinked, IsFirstBrokenRule}
 use Rattle.tl_county.proofs.LinkFaults.{linked_has_none, one_first_rule}
 use Rattle.tl_profile.specs.Profile.{IsFirstBrokenClause}
@@ -71,6 +72,7 @@ accepted_set_not_refused parts records (Link fault) a h =
 accepted_set_not_refused parts records (Profile fault) a h =
     profile_has_none (county_of records) fault a.accepted.profile
     (subst (λ (rs : List Record). IsFirstBrokenClause (county_of rs) fault) (one_list parts h.0 records h.1 a.spelled) h.3)
+accepted_set_not_refused parts records (Write fault) a h = h
 accepted_set_not_refused parts records Memory a h = h
 
 one_fault : (parts : List (List ℕ)) (f g : LoadFault) → FaultAt tiger record_limit parts f → FaultAt tiger record_limit parts g → f ≡ g
@@ -94,7 +96,11 @@ one_set_refusal parts (Profile f) (Link g) h k = absurd (linked_has_none k.0 g (
 one_set_refusal parts (Profile f) (Profile g) h k =
     ap Profile (one_first_clause (county_of k.0) f g
     (subst (λ (rs : List Record). IsFirstBrokenClause (county_of rs) f) (one_list parts h.0 k.0 h.1 k.1) h.3) k.3)
+one_set_refusal parts (Write f) g h k = absurd h
 one_set_refusal parts Memory g h k = absurd h
+one_set_refusal parts (Load f) (Write g) h k = absurd k
+one_set_refusal parts (Link f) (Write g) h k = absurd k
+one_set_refusal parts (Profile f) (Write g) h k = absurd k
 one_set_refusal parts (Load f) Memory h k = absurd k
 one_set_refusal parts (Link f) Memory h k = absurd k
 one_set_refusal parts (Profile f) Memory h k = absurd k
@@ -162,3 +168,14 @@ module _ (parts : List (List ℕ)) (text : List ℕ) (h : IsCanonicalText parts 
     canonical_of = canonical_of_itself h.records h.canonical h.canonical_of;
     text_is = h.text_is;
   }
+
+-- no canonical list of the same map has another text
+pub only_text : (parts : List (List ℕ)) (text : List ℕ) → IsCanonicalText parts text → IsOnlyText parts text
+only_text parts text h records canonical accepted is same = one_text parts (text_of canonical) text
+    (record {
+      records = records;
+      canonical = canonical;
+      spelled = accepted.spelled;
+      canonical_of = record { accepted = accepted.accepted; canonical = is; same = same };
+      text_is = refl;
+    }) h

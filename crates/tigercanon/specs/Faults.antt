@@ -11,13 +11,14 @@ use Rattle.tl_profile.specs.declared.fault.ProfileFault.TheVariants.{Memory as P
 use Rattle.tigercanon.specs.Respelling.{IsFirstFault}
 use Rattle.tigercanon.specs.Sets.{IsSetRefusal}
 use Rattle.tigercanon.specs.declared.fault.Fault.{Fault}
-use Rattle.tigercanon.specs.declared.fault.Fault.TheVariants.{Load, Link, Profile, Memory}
+use Rattle.tigercanon.specs.declared.fault.Fault.TheVariants.{Load, Link, Profile, Write, Memory}
 
 -- where the fault is of the set's lines, it is that of the first faulty one; nothing else is told but want of memory and a device
 abbrev pub TellsFirstFault : List (List ℕ) → Fault → Type 0
 TellsFirstFault parts (Load fault) = IsOfLines fault → IsFirstFault parts fault
 TellsFirstFault parts (Link _) = ⊥
 TellsFirstFault parts (Profile _) = ⊥
+TellsFirstFault parts (Write _) = ⊥
 TellsFirstFault parts Memory = Unit {0}
 
 -- but for want of memory and the fault of a device, it is what the set is refused for
@@ -25,6 +26,7 @@ abbrev pub TellsRefusal : List (List ℕ) → Fault → Type 0
 TellsRefusal parts (Load fault) = IsOfLines fault → IsSetRefusal parts (Load fault)
 TellsRefusal parts (Link fault) = fault ≢ LinkMemory → IsSetRefusal parts (Link fault)
 TellsRefusal parts (Profile fault) = fault ≢ ProfileMemory → IsSetRefusal parts (Profile fault)
+TellsRefusal parts (Write _) = ⊥
 TellsRefusal parts Memory = Unit {0}
 
 -- but for want of memory, it is what these records are refused for; of lines nothing is told
@@ -32,7 +34,8 @@ abbrev pub RefusesRecords : List Record → Fault → Type 0
 RefusesRecords records (Load _) = ⊥
 RefusesRecords records (Link fault) = fault ≢ LinkMemory → IsFirstBrokenRule records fault
 RefusesRecords records (Profile fault) = fault ≢ ProfileMemory → IsLinked records × IsFirstBrokenClause (county_of records) fault
-RefusesRecords records Memory = ⊥
+RefusesRecords records (Write _) = ⊥
+RefusesRecords records Memory = Unit {0}
 
 -- the fault is want of memory
 abbrev pub IsWantOfMemory : Fault → Type 0
@@ -42,4 +45,5 @@ IsWantOfMemory (Link LinkMemory) = Unit {0}
 IsWantOfMemory (Link _) = ⊥
 IsWantOfMemory (Profile ProfileMemory) = Unit {0}
 IsWantOfMemory (Profile _) = ⊥
+IsWantOfMemory (Write _) = ⊥
 IsWantOfMemory Memory = Unit {0}

@@ -1,5 +1,5 @@
 -- What the files of a set hold.
-use Rattle.std.specs.Prelude.{◌≡◌, ℕ, List, [], ◌∷◌, ◌++◌, Option, Some, None, IfSome, slice_get, Contains, ◌⊎◌}
+use Rattle.std.specs.Prelude.{◌≡◌, ℕ, List, [], ◌∷◌, ◌++◌, Option, Some, None, IfSome, slice_get, map, Contains, ◌⊎◌}
 use Rattle.tl_layout.specs.declared.record_type.Record.{Record}
 use Rattle.tl_load.specs.Keeping.{LoadedInto, WasFedInto}
 use Rattle.tigercanon.specs.declared.files.Opened.{Opened}
@@ -22,6 +22,10 @@ AreHeld remaining [] [] = Unit
 AreHeld remaining [] (part ∷ parts) = ⊥
 AreHeld remaining (file ∷ files) [] = ⊥
 AreHeld remaining (file ∷ files) (part ∷ parts) = IfSome (bytes_of remaining file) (λ bytes. part ≡ bytes) × AreHeld remaining files parts
+
+-- each source gives what its file holds, where that is known
+abbrev pub AreSourcesOf : {S R : Type 0} → (S → Option (List ℕ)) → List S → (R → Option (List ℕ)) → List (Opened R) → Type 0
+AreSourcesOf left sources remaining files = map left sources ≡ map (bytes_of remaining) files
 
 -- a loader that was fed closed parts was fed one more, which has these bytes, where they are known
 abbrev pub TakesPart : {K : Type 0} → (K → List Record → Type 0) → LoadedInto K → LoadedInto K → Option (List ℕ) → Type 0

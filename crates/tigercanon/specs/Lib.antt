@@ -5,3 +5,6 @@ pub mod Faults
 pub mod Statuses
 pub mod Outcomes
 pub mod Words
+pub mod Lending
+pub mod Reading
+pub mod Normalising

@@ -6,15 +6,13 @@ use Rattle.tl_load.specs.Loaded.{IsOfLines}
 use Rattle.tl_county.specs.declared.fault.LinkFault.TheVariants.{Memory as LinkMemory}
 use Rattle.tl_profile.specs.declared.fault.ProfileFault.TheVariants.{Memory as ProfileMemory}
 use Rattle.tigercanon.specs.declared.command_line.Job.{Job}
-use Rattle.tigercanon.specs.declared.command_line.Job.TheVariants.{Respell, Check}
+use Rattle.tigercanon.specs.declared.command_line.Job.TheVariants.{Respell, Normalise, Check}
 use Rattle.tigercanon.specs.declared.files.Opened.{Opened}
 use Rattle.tigercanon.specs.declared.fault.Fault.{Fault}
-use Rattle.tigercanon.specs.declared.fault.Fault.TheVariants.{Load, Link, Profile, Memory}
-use Rattle.tigercanon.specs.declared.job_fault.JobFault.{JobFault}
-use Rattle.tigercanon.specs.declared.job_fault.JobFault.TheVariants.{Set, Output}
+use Rattle.tigercanon.specs.declared.fault.Fault.TheVariants.{Load, Link, Profile, Write, Memory}
 use Rattle.tigercanon.specs.Files.{AreHeld}
 use Rattle.tigercanon.specs.Respelling.{IsRespelt}
-use Rattle.tigercanon.specs.Sets.{IsAcceptedSet, IsSetRefusal, SaysAccepted}
+use Rattle.tigercanon.specs.Sets.{IsAcceptedSet, IsCanonicalText, IsSetRefusal, SaysAccepted}
 
 -- the text that a job prints of parts
 abbrev pub Answer : Type 1
@@ -22,6 +20,7 @@ Answer = List (List ℕ) → List ℕ → Type 0
 
 abbrev pub IsAnswer : Job → Answer
 IsAnswer Respell = IsRespelt
+IsAnswer Normalise = IsCanonicalText
 IsAnswer Check = SaysAccepted
 
 -- this text is the answer to what the files hold
@@ -64,6 +63,7 @@ abbrev pub TellsLines : {R : Type 0} → (R → Option (List ℕ)) → List (Ope
 TellsLines remaining files (Load fault) = IsOfLines fault → AreRefused remaining files (Load fault)
 TellsLines remaining files (Link _) = ⊥
 TellsLines remaining files (Profile _) = ⊥
+TellsLines remaining files (Write _) = ⊥
 TellsLines remaining files Memory = Unit {0}
 
 -- but for want of memory and the fault of a device, it is what the files are refused for
@@ -71,22 +71,25 @@ abbrev pub TellsSet : {R : Type 0} → (R → Option (List ℕ)) → List (Opene
 TellsSet remaining files (Load fault) = IsOfLines fault → AreRefused remaining files (Load fault)
 TellsSet remaining files (Link fault) = fault ≢ LinkMemory → AreRefused remaining files (Link fault)
 TellsSet remaining files (Profile fault) = fault ≢ ProfileMemory → AreRefused remaining files (Profile fault)
+TellsSet remaining files (Write _) = ⊥
 TellsSet remaining files Memory = Unit {0}
 
 -- what a job tells of files that it refuses
 abbrev pub Tells : {R : Type 0} → Job → (R → Option (List ℕ)) → List (Opened R) → Fault → Type 0
 Tells Respell = TellsLines
+Tells Normalise = TellsSet
 Tells Check = TellsSet
 
 -- what a job that didn't end well leaves: a refused set nothing, a failing writer the beginning of the answer
-abbrev pub Leaves : {R : Type 0} → Job → (R → Option (List ℕ)) → List (Opened R) → Option (List ℕ) → Option (List ℕ) → JobFault → Type 0
-Leaves job remaining files old new (Set fault) = Keeps old new × Tells job remaining files fault
-Leaves job remaining files old new (Output stopped) = PrintsBeginning (IsAnswer job) remaining files stopped.written old new
+abbrev pub Leaves : {R : Type 0} → Job → (R → Option (List ℕ)) → List (Opened R) → Option (List ℕ) → Option (List ℕ) → Fault → Type 0
+Leaves job remaining files old new (Write fault) = PrintsBeginning (IsAnswer job) remaining files fault.written old new
+Leaves job remaining files old new fault = Keeps old new × Tells job remaining files fault
 
 -- whether a job can refuse files for this: to respell them asks for lines alone
 abbrev pub IsToldBy : Job → Fault → Type 0
 IsToldBy Respell (Load _) = Unit {0}
 IsToldBy Respell _ = ⊥
+IsToldBy Normalise _ = Unit {0}
 IsToldBy Check _ = Unit {0}
 
 -- the files are refused for something that the job asks for

@@ -10,7 +10,7 @@ use Rattle.tl_profile.specs.Profile.{IsFirstBrokenClause}
 use Rattle.tl_number.specs.Accepted.{IsAccepted, IsCanonicalOf}
 use Rattle.tigercanon.specs.Respelling.{record_limit, IsFirstFault}
 use Rattle.tigercanon.specs.declared.fault.Fault.{Fault}
-use Rattle.tigercanon.specs.declared.fault.Fault.TheVariants.{Load, Link, Profile, Memory}
+use Rattle.tigercanon.specs.declared.fault.Fault.TheVariants.{Load, Link, Profile, Write, Memory}
 
 -- the parts spell these records, which are accepted
 pub record IsAcceptedSet (parts : List (List ℕ)) (records : List Record) : Type 0 where
@@ -18,12 +18,13 @@ pub record IsAcceptedSet (parts : List (List ℕ)) (records : List Record) : Typ
   pub accepted : IsAccepted records
 
 -- what a set is refused for: the fault of its first faulty line; of lines that spell records, the first rule that these break;
--- of records that fit together, the first clause of the profile that their county breaks. Want of memory is no such thing.
+-- of records that fit together, the first clause of the profile that their county breaks. Neither a sink's failure nor want of memory is such a thing.
 abbrev pub IsSetRefusal : List (List ℕ) → Fault → Type 0
 IsSetRefusal parts (Load fault) = IsFirstFault parts fault
 IsSetRefusal parts (Link fault) = (records : List Record) × SpellsWithin tiger record_limit parts records × IsFirstBrokenRule records fault
 IsSetRefusal parts (Profile fault) = (records : List Record) × SpellsWithin tiger record_limit parts records × IsLinked records
     × IsFirstBrokenClause (county_of records) fault
+IsSetRefusal parts (Write _) = ⊥
 IsSetRefusal parts Memory = ⊥
 
 -- the parts are accepted, and the text is the line that says so

@@ -4,28 +4,23 @@ use Rattle.tigercanon.specs.declared.command_line.PlanFault.{PlanFault}
 use Rattle.tigercanon.specs.declared.command_line.PlanFault.TheVariants.{Usage}
 use Rattle.tigercanon.specs.declared.command_line.PlanFault.TheVariants.{Memory as PlanMemory}
 use Rattle.tigercanon.specs.declared.fault.Fault.{Fault}
-use Rattle.tigercanon.specs.declared.fault.Fault.TheVariants.{Load, Link, Profile, Memory}
-use Rattle.tigercanon.specs.declared.job_fault.JobFault.{JobFault}
-use Rattle.tigercanon.specs.declared.job_fault.JobFault.TheVariants.{Set, Output}
+use Rattle.tigercanon.specs.declared.fault.Fault.TheVariants.{Load, Link, Profile, Write, Memory}
 use Rattle.tl_county.specs.declared.fault.LinkFault.TheVariants.{Memory as LinkMemory}
 use Rattle.tl_load.specs.declared.fault.LoadFault.TheVariants.{Device}
 use Rattle.tl_load.specs.declared.fault.LoadFault.TheVariants.{Memory as LoadMemory}
 use Rattle.tl_profile.specs.declared.fault.ProfileFault.TheVariants.{Memory as ProfileMemory}
 
--- the status where a set was refused: 4 for a device, 5 for want of memory, else 3
-abbrev pub set_status_of : Fault → ℕ
-set_status_of (Load Device) = 4
-set_status_of (Load LoadMemory) = 5
-set_status_of (Load _) = 3
-set_status_of (Link LinkMemory) = 5
-set_status_of (Link _) = 3
-set_status_of (Profile ProfileMemory) = 5
-set_status_of (Profile _) = 3
-set_status_of Memory = 5
-
-abbrev pub status_of : JobFault → ℕ
-status_of (Set fault) = set_status_of fault
-status_of (Output _) = 4
+-- the status where a job told a fault: 4 for a device, 5 for want of memory, else 3
+abbrev pub status_of : Fault → ℕ
+status_of (Load Device) = 4
+status_of (Load LoadMemory) = 5
+status_of (Load _) = 3
+status_of (Link LinkMemory) = 5
+status_of (Link _) = 3
+status_of (Profile ProfileMemory) = 5
+status_of (Profile _) = 3
+status_of (Write _) = 4
+status_of Memory = 5
 
 -- 2 for the usage, 5 for want of memory
 abbrev pub plan_status_of : PlanFault → ℕ

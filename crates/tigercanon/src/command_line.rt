@@ -11,6 +11,8 @@ use thiserror::Error;
 pub enum Job {
     /// Print a set's records in canonical spelling, in their order and with their numbers.
     Respell,
+    /// Print the canonical text of a set that is accepted.
+    Normalise,
     /// Say whether a set is accepted: its lines spell records, these fit together, and their county is in the profile.
     Check,
 }

@@ -1,15 +1,16 @@
 //! What a whole call can answer in place of its result.
 
 ghost use Rattle.std.specs.Prelude.{◌≡◌};
-ghost use Rattle.tigercanon.specs.declared.fault.Fault.TheVariants.{Load, Link, Profile, Memory};
+ghost use Rattle.tigercanon.specs.declared.fault.Fault.TheVariants.{Load, Link, Profile, Write, Memory};
 
 use std::alloc::{AllocError, AllocFailed};
 use thiserror::Error;
 use tl_county::LinkFault;
 use tl_load::LoadFault;
 use tl_profile::ProfileFault;
+use tl_write::WriteFault;
 
-/// Why a whole call refused its set.
+/// Why a whole call gave no answer, or not all of it.
 #[derive(Clone, Copy, Debug, PartialEq, Eq, Error)]
 pub enum Fault {
     /// Loading refused it: the first faulty line, or what kept the parts from being read.
@@ -21,6 +22,9 @@ pub enum Fault {
     /// Admission refused it: the first clause of the profile that its county breaks.
     #[error(transparent)]
     Profile(ProfileFault),
+    /// The set is accepted, and the sink failed before all of the answer was out.
+    #[error(transparent)]
+    Write(WriteFault),
     /// There was no memory for the answer.
     #[error("out of memory")]
     Memory,
@@ -47,6 +51,14 @@ impl From<ProfileFault> for Fault {
 
     fn from(fault: ProfileFault) -> Fault {
         Fault::Profile(fault)
+    }
+}
+
+impl From<WriteFault> for Fault {
+    ghost from_gives = { λ fault made. made ≡ Write fault };
+
+    fn from(fault: WriteFault) -> Fault {
+        Fault::Write(fault)
     }
 }
 

@@ -1,7 +1,7 @@
 //! The files of a set, as opening them went, and what they hold.
 
-ghost use Rattle.std.specs.Prelude.{◌≡◌, None, ◌<◌, ◌≤◌, ◌+◌, ℕ, List, length, OnOk, IfOk, IfErr, IfSome, MatchResult, IsErrOf, IsTrue, ◌↔◌, vec_len};
-ghost use Rattle.tigercanon.specs.Files.{IsMissing, AreHeld, TakesPart, TakesFiles, bytes_of};
+ghost use Rattle.std.specs.Prelude.{◌≡◌, None, ◌<◌, ◌≤◌, ◌+◌, ℕ, List, length, OnOk, IfOk, IfErr, IfSome, All, MatchResult, IsErrOf, IsTrue, ◌↔◌, vec_len};
+ghost use Rattle.tigercanon.specs.Files.{IsMissing, AreHeld, AreSourcesOf, TakesPart, TakesFiles, bytes_of};
 ghost use Rattle.tigercanon.specs.Outcomes.{TellsLines};
 ghost use Rattle.tigercanon.specs.Respelling.{record_limit};
 ghost use Rattle.tl_layout.specs.declared.record_type.Record.{Record};
@@ -11,7 +11,7 @@ ghost use Rattle.tl_load.specs.Outcome.{SpellsWithin};
 
 use crate::fault::Fault;
 use std::alloc::{AllocError, Global};
-use std::io::Read;
+use std::io::{self, Error, ErrorKind, Read};
 use tl_layout::DeviceFault;
 use tl_load::{Counted, Keeper, LoadFault, LoaderInto, Source};
 
@@ -26,8 +26,21 @@ pub enum Opened<R> {
     Failed,
 }
 
+/// A file as it was opened is a reader: one that isn't there is empty, and one that couldn't be opened fails whenever it is read.
+impl<R: Read> Read for Opened<R> {
+    ghost remaining = { bytes_of R.remaining };
+
+    fn read(&mut self, buf: &mut [u8]) -> io::Result<usize> {
+        match self {
+            Opened::Found(reader) => reader.read(buf),
+            Opened::Absent => Ok(0),
+            Opened::Failed => Err(Error::from(ErrorKind::Other)),
+        }
+    }
+}
+
 /// Whether a set lacks a file that it needs: one couldn't be opened, or the first isn't there.
-fn is_missing_a_file<R>(files: &[Opened<R>]) -> bool
+pub(crate) fn is_missing_a_file<R>(files: &[Opened<R>]) -> bool
     ensures { IsTrue result ↔ IsMissing files.now }
 {
     matches!(files.first(), Some(Opened::Absent))
@@ -179,4 +192,19 @@ pub(crate) fn load_files<K: Keeper, R: Read + Drop>(
     let mut loader = LoaderInto::<K>::new(alloc);
     feed_files(&mut loader, files, &mut room)?;
     Ok(loader.finish()?)
+}
+
+/// The sources of a set's parts, one a file, none of which has failed.
+pub(crate) fn sources_of<R: Read + Drop>(
+    alloc: Global,
+    files: Vec<Opened<R>>,
+) -> Result<Vec<Counted<Opened<R>>>, AllocError>
+    ensures bytes { IfOk result (λ sources. AreSourcesOf ⟦<Counted<Opened<R>> as Source>⟧.remaining sources.items R.remaining files.items) }
+    ensures failures { IfOk result (λ sources. All (λ source. ⟦<Counted<Opened<R>> as Source>⟧.failed source ≡ 0) sources.items) }
+{
+    let mut sources = Vec::with_capacity(alloc, files.len())?;
+    for file in files {
+        sources.push(Counted::new(file))?;
+    }
+    Ok(sources)
 }

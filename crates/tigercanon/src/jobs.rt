@@ -6,14 +6,15 @@ ghost use Rattle.tigercanon.specs.Files.{IsMissing};
 ghost use Rattle.tigercanon.specs.Statuses.{plan_status_of};
 ghost use Rattle.tigercanon.specs.Outcomes.{AreAccepted, AreRefusedBy, IsAnswer, Leaves, PrintsPart, PrintsWhole, TellsSet};
 ghost use Rattle.tigercanon.specs.Respelling.{IsRespelt};
-ghost use Rattle.tigercanon.specs.Sets.{SaysAccepted};
+ghost use Rattle.tigercanon.specs.Sets.{IsCanonicalText, SaysAccepted};
 
 use crate::checking::admit_tables;
 use crate::command_line::{Job, PlanFault};
 use crate::fault::Fault;
-use crate::files::{Opened, load_files};
-use crate::job_fault::JobFault;
-use crate::writing::write_text;
+use crate::files::{Opened, is_missing_a_file, load_files, sources_of};
+use crate::normalising::normalise_to;
+use crate::refusal::Refusal;
+use crate::writing::{LentOut, write_text};
 use std::alloc::Global;
 use std::io::{Read, Write};
 use tl_layout::Tables;
@@ -24,14 +25,49 @@ fn respell_set<R: Read + Drop, W: Write>(
     alloc: Global,
     files: Vec<Opened<R>>,
     out: &mut W,
-) -> Result<(), JobFault>
+) -> Result<(), Fault>
     ensures done { OnOk result (PrintsWhole IsRespelt R.remaining files.items (W.contents out.old) (W.contents out.new)) }
     ensures stopped { IfErr result (Leaves Job.Respell R.remaining files.items (W.contents out.old) (W.contents out.new)) }
-    ensures missing { IsMissing files.items → IsErrOf result (JobFault.Set (Fault.Load LoadFault.Device)) }
+    ensures missing { IsMissing files.items → IsErrOf result (Fault.Load LoadFault.Device) }
 {
     let text: CanonicalText = load_files(alloc, files)?;
     write_text(out, &text.bytes)?;
     Ok(())
+}
+
+/// Prints the canonical text of files, which are read one after the other as far as they are needed, once they are accepted.
+fn normalise_files<R: Read + Drop, W: Write>(
+    alloc: Global,
+    files: Vec<Opened<R>>,
+    out: &mut W,
+) -> Result<(), Fault>
+    ensures done { OnOk result (PrintsWhole IsCanonicalText R.remaining files.items (W.contents out.old) (W.contents out.new)) }
+    ensures stopped { IfErr result (Leaves Job.Normalise R.remaining files.items (W.contents out.old) (W.contents out.new)) }
+{
+    let mut sources = sources_of(alloc, files)?;
+    let mut sink = LentOut::new(out);
+    let outcome = normalise_to(alloc, &mut sources, &mut sink);
+    sink.give_back();
+    match outcome {
+        Ok(_) => Ok(()),
+        Err(fault) => Err(fault),
+    }
+}
+
+/// Prints the canonical text of a set of files, of which none is missing.
+fn normalise_set<R: Read + Drop, W: Write>(
+    alloc: Global,
+    files: Vec<Opened<R>>,
+    out: &mut W,
+) -> Result<(), Fault>
+    ensures done { OnOk result (PrintsWhole IsCanonicalText R.remaining files.items (W.contents out.old) (W.contents out.new)) }
+    ensures stopped { IfErr result (Leaves Job.Normalise R.remaining files.items (W.contents out.old) (W.contents out.new)) }
+    ensures missing { IsMissing files.items → IsErrOf result (Fault.Load LoadFault.Device) }
+{
+    if is_missing_a_file(&files) {
+        return Err(Fault::Load(LoadFault::Device));
+    }
+    normalise_files(alloc, files, out)
 }
 
 /// Reads a set of files, and judges it.
@@ -50,10 +86,10 @@ fn check_set<R: Read + Drop, W: Write>(
     alloc: Global,
     files: Vec<Opened<R>>,
     out: &mut W,
-) -> Result<(), JobFault>
+) -> Result<(), Fault>
     ensures done { OnOk result (PrintsWhole SaysAccepted R.remaining files.items (W.contents out.old) (W.contents out.new)) }
     ensures stopped { IfErr result (Leaves Job.Check R.remaining files.items (W.contents out.old) (W.contents out.new)) }
-    ensures missing { IsMissing files.items → IsErrOf result (JobFault.Set (Fault.Load LoadFault.Device)) }
+    ensures missing { IsMissing files.items → IsErrOf result (Fault.Load LoadFault.Device) }
 {
     judge_set(alloc, files)?;
     write_text(out, b"accepted\n")?;
@@ -66,13 +102,14 @@ fn do_job<R: Read + Drop, W: Write>(
     job: Job,
     files: Vec<Opened<R>>,
     out: &mut W,
-) -> Result<(), JobFault>
+) -> Result<(), Fault>
     ensures done { OnOk result (PrintsWhole (IsAnswer job) R.remaining files.items (W.contents out.old) (W.contents out.new)) }
     ensures stopped { IfErr result (Leaves job R.remaining files.items (W.contents out.old) (W.contents out.new)) }
-    ensures missing { IsMissing files.items → IsErrOf result (JobFault.Set (Fault.Load LoadFault.Device)) }
+    ensures missing { IsMissing files.items → IsErrOf result (Fault.Load LoadFault.Device) }
 {
     match job {
         Job::Respell => respell_set(alloc, files, out),
+        Job::Normalise => normalise_set(alloc, files, out),
         Job::Check => check_set(alloc, files, out),
     }
 }
@@ -105,8 +142,9 @@ pub fn run<R: Read + Drop, W: Write, E: Write>(
     match do_job(alloc, job, first, out) {
         Ok(()) => 0,
         Err(fault) => {
-            let _ = writeln!(err, "{fault}");
-            fault.status()
+            let refusal = Refusal(fault);
+            let _ = writeln!(err, "{refusal}");
+            refusal.status()
         }
     }
 }

@@ -1,19 +1,23 @@
 //! Whole calls over a county's record files, and the command line that makes them.
 //!
-//! [`respell`] gives records in canonical spelling, and [`check`] says whether a set is accepted. [`plan`] reads a command
-//! line, and [`run`] does what was planned, over files that somebody else opened; the crate `tigercanon_main` is the program
-//! around the two.
+//! [`normalise`] gives the canonical text of the map that a set of record files says, and [`normalise_to`] writes it while it
+//! reads the set from its sources. [`respell`] gives records in canonical spelling, and [`check`] says whether a set is
+//! accepted. [`plan`] reads a command line, and [`run`] does what was planned, over files that somebody else opened; the crate
+//! `tigercanon_main` is the program around the two.
 #![tactic(auto)]
 
+mod canonising;
 mod checking;
 mod command_line;
 mod fault;
 mod files;
-mod job_fault;
 mod jobs;
 mod laws;
 mod loading;
+mod normalising;
 mod planning;
+mod reading;
+mod refusal;
 mod respelling;
 mod writing;
 
@@ -26,6 +30,7 @@ pub use laws::{
     a_canonical_text_is_its_own, accepted_set_or_one_refusal,
     an_accepted_set_has_one_canonical_text, one_canonical_text_exactly_for_one_map,
 };
+pub use normalising::{normalise, normalise_to};
 pub use planning::plan;
 pub use respelling::respell;
 

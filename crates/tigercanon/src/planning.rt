@@ -25,6 +25,11 @@ fn command<'a>(alloc: Global) -> Result<Command<'a>, AllocError> {
         "respell",
         "Print the records in canonical spelling, in their order and with their numbers",
     )?;
+    let normalise = subcommand(
+        alloc,
+        "normalise",
+        "Print the canonical text of the map that the records say",
+    )?;
     let check = subcommand(
         alloc,
         "check",
@@ -34,11 +39,12 @@ fn command<'a>(alloc: Global) -> Result<Command<'a>, AllocError> {
         .bin_name("tigercanon")?
         .version("0.1.0")
         .about(
-            "Reads TIGER/Line 2006 record files of one county, checks them, and prints them in canonical spelling",
+            "Reads TIGER/Line 2006 record files of one county, checks them, and prints them in canonical form",
         )
         .no_binary_name(true)
         .subcommand_required(true)
         .subcommand(respell)?
+        .subcommand(normalise)?
         .subcommand(check)
 }
 
@@ -49,6 +55,7 @@ fn job_named(name: &str) -> Option<Job>
 {
     match name {
         "respell" => Some(Job::Respell),
+        "normalise" => Some(Job::Normalise),
         "check" => Some(Job::Check),
         _ => None,
     }

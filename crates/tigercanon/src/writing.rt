@@ -1,31 +1,75 @@
-//! Writing a finished text, with a count of what went out.
+//! Writing to a writer that is lent, as to a sink.
 
 ghost use Rattle.std.specs.Prelude.{◌≡◌, ◌<◌, length, take, OnOk, IfErr};
 ghost use Rattle.std.specs.Io.KnownBytes.{Appends};
 
 use std::io::Write;
+use tl_layout::DeviceFault;
+use tl_write::{Sink, WriteFault, write_bytes};
 
-/// A writer failed, or took nothing, before all of a text was out.
-#[derive(Clone, Copy, Debug, PartialEq, Eq)]
-pub(crate) struct WriteStopped {
-    /// How many bytes of the text went out before that.
-    pub(crate) written: u64,
+/// A sink over a writer that is lent. Every error of the writer is a failure, and so is a write that takes nothing of some
+/// bytes; none is tried again.
+#[derive(Drop)]
+pub(crate) struct LentOut<'a, W> {
+    writer: &'a mut W,
+    failures: u64,
+}
+
+impl<'a, W: Write> LentOut<'a, W> {
+    /// A sink that has not failed yet.
+    pub(crate) fn new(writer: &'a mut W) -> LentOut<'a, W>
+        ensures same { result.writer.ghost_name ≡ writer.entry.ghost_name }
+        ensures now { result.writer.now ≡ writer.old }
+        ensures failures { result.failures ≡ 0 }
+    {
+        LentOut {
+            writer,
+            failures: 0,
+        }
+    }
+
+    /// The writer, handed back.
+    pub(crate) fn give_back(self) -> &'a mut W
+        ensures same { result.ghost_name ≡ self.entry.writer.ghost_name }
+        ensures now { result.now ≡ self.entry.writer.now }
+    {
+        self.writer
+    }
+}
+
+impl<W: Write> Sink for LentOut<'_, W> {
+    ghost use Rattle.tigercanon.specs.Lending.{HoldsUnderName};
+
+    ghost failed = { λ s. s.failures };
+
+    ghost holds = { λ s. HoldsUnderName s.writer.ghost_name (W.contents s.writer.now) };
+
+    fn failures(&self) -> u64 {
+        self.failures
+    }
+
+    fn write(&mut self, buf: &[u8]) -> Result<usize, DeviceFault> {
+        match self.writer.write(buf) {
+            Ok(count) if count > 0 || buf.is_empty() => Ok(count),
+            _ => {
+                self.failures += 1;
+                Err(DeviceFault)
+            }
+        }
+    }
 }
 
 /// Writes the text, by as many calls of `write` as the writer needs. No failing call is tried again.
-pub(crate) fn write_text<W: Write>(out: &mut W, text: &[u8]) -> Result<(), WriteStopped>
+pub(crate) fn write_text<W: Write>(out: &mut W, text: &[u8]) -> Result<(), WriteFault>
     ensures whole { OnOk result (Appends (W.contents out.old) (W.contents out.new) text.now) }
     ensures stopped { IfErr result (λ e. Appends (W.contents out.old) (W.contents out.new) (take e.written text.now)) }
     ensures short { IfErr result (λ e. e.written < length text.now) }
 {
-    let mut written = 0;
-    while written < text.len() {
-        match out.write(&text[written..]) {
-            Ok(0) | Err(_) => return Err(WriteStopped {
-                written: written as u64,
-            }),
-            Ok(count) => written += count,
-        }
+    let mut sink = LentOut::new(out);
+    let outcome = write_bytes(text, &mut sink);
+    sink.give_back();
+    match outcome {
+        Ok(_) => Ok(()),
+        Err(fault) => Err(fault),
     }
-    Ok(())
 }

@@ -43,6 +43,13 @@ impl<T: Write> CountedOut<T> {
     {
         CountedOut { inner, failures: 0 }
     }
+
+    /// The writer, handed back.
+    pub fn into_inner(self) -> T
+        ensures { (held : List ℕ) → ⟦<CountedOut<T> as Sink>⟧.holds self held → T.contents result ≡ Some held }
+    {
+        self.inner
+    }
 }
 
 impl<T: Write> Sink for CountedOut<T> {

@@ -2,7 +2,7 @@
 
 use super::devices::{SlowReader, SlowWriter};
 use super::sets::{CANONICAL, CHAIN, LINK, expanded, joined};
-use crate::job_fault::JobFault;
+use crate::refusal::Refusal;
 use crate::{Fault, Job, Opened, run};
 use std::alloc::Global;
 use std::cell::Cell;
@@ -281,26 +281,26 @@ fn tells_rare_refusals(rt: HostRuntime) -> Result<(), Fail> {
     let alloc = rt.alloc();
     let refusals = [
         (
-            JobFault::Set(Fault::Load(LoadFault::TooManyRecords { rtype: b'8' })),
+            Refusal(Fault::Load(LoadFault::TooManyRecords { rtype: b'8' })),
             "refused 7 TooManyRecords 8",
             3,
         ),
         (
-            JobFault::Set(Fault::Load(LoadFault::Memory)),
+            Refusal(Fault::Load(LoadFault::Memory)),
             "refused 9 Memory",
             5,
         ),
         (
-            JobFault::Set(Fault::Link(LinkFault::Memory)),
+            Refusal(Fault::Link(LinkFault::Memory)),
             "refused 9 Memory",
             5,
         ),
         (
-            JobFault::Set(Fault::Profile(ProfileFault::Memory)),
+            Refusal(Fault::Profile(ProfileFault::Memory)),
             "refused 9 Memory",
             5,
         ),
-        (JobFault::Set(Fault::Memory), "refused 9 Memory", 5),
+        (Refusal(Fault::Memory), "refused 9 Memory", 5),
     ];
     for (refusal, told, status) in refusals {
         assert_eq!(rt; format!(in alloc; "{refusal}")?.as_str(), told);

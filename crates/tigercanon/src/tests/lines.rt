@@ -1,7 +1,7 @@
 //! What parts are respelt as, and which fault is told of them.
 
 use super::sets::{CANONICAL, CHAIN, LINK, expanded, joined};
-use crate::job_fault::JobFault;
+use crate::refusal::Refusal;
 use crate::respell;
 use std::test::Fail;
 
@@ -131,7 +131,7 @@ fn tells_the_first_fault(rt: HostRuntime) -> Result<(), Fail> {
         match respell(alloc, &parts) {
             Ok(_) => assert!(rt; false, "accepted {patterns:?}"),
             Err(fault) => assert_eq!(rt;
-                format!(in alloc; "{}", JobFault::Set(fault))?.as_str(),
+                format!(in alloc; "{}", Refusal(fault))?.as_str(),
                 told,
                 "for {patterns:?}"
             ),
@@ -155,10 +155,7 @@ fn tells_long_lines_by_their_type(rt: HostRuntime) -> Result<(), Fail> {
         let parts = [line.as_slice()];
         match respell(alloc, &parts) {
             Ok(_) => assert!(rt; false, "accepted {len} bytes"),
-            Err(fault) => assert_eq!(rt;
-                format!(in alloc; "{}", JobFault::Set(fault))?.as_str(),
-                told
-            ),
+            Err(fault) => assert_eq!(rt; format!(in alloc; "{}", Refusal(fault))?.as_str(), told),
         }
     }
     Ok(())

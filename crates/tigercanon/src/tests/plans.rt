@@ -12,6 +12,7 @@ fn plans_a_job_over_a_file(rt: HostRuntime) -> Result<(), Fail> {
         ("respell", Job::Respell, "help"),
         ("check", Job::Check, "county.txt"),
         ("check", Job::Check, "a b"),
+        ("normalise", Job::Normalise, "county.txt"),
     ] {
         let words = vec![in alloc;
             String::from_str(alloc, word)?,
@@ -29,7 +30,7 @@ fn plans_a_job_over_a_file(rt: HostRuntime) -> Result<(), Fail> {
 #[test]
 fn tells_the_usage(rt: HostRuntime) -> Result<(), Fail> {
     let alloc = rt.alloc();
-    let lines: [(&[&str], &str); 10] = [
+    let lines: [(&[&str], &str); 11] = [
         (&[], "error: 'tigercanon' requires a subcommand"),
         (&["--help"], "Reads TIGER/Line 2006 record files"),
         (&["--version"], "tigercanon "),
@@ -50,6 +51,10 @@ fn tells_the_usage(rt: HostRuntime) -> Result<(), Fail> {
             "error: unexpected argument '--loud' found",
         ),
         (&["spell", "a"], "error: unrecognized subcommand 'spell'"),
+        (
+            &["help", "normalise"],
+            "Print the canonical text of the map",
+        ),
         (&["help", "check"], "Say whether the records fit together"),
         (&["check", "a", "b"], "error: unexpected argument 'b' found"),
     ];

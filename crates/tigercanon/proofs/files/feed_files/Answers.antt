@@ -1,4 +1,4 @@
-use Rattle.std.proofs.Common.{◌≡◌, ℕ, ◌+◌, ◌≤◌, List, ◌∷◌, [], ◌++◌, length, arith, subst, sym}
+use Rattle.std.proofs.Common.{◌∷◌, [], ◌++◌, arith}
 use Rattle.std.proofs.lemmas.List.{length-append}
 use Rattle.tigercanon.proofs.FileParts.{are_held-snoc, none_device}
 use Rattle.tigercanon.proofs.files.feed_files.Goals as goal

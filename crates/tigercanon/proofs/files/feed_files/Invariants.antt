@@ -1,4 +1,4 @@
-use Rattle.std.proofs.Common.{ℕ, List, [], length, ◌<◌, ◌≤◌}
+use Rattle.std.proofs.Common.{length, ◌≤◌}
 use Rattle.std.specs.Prelude.{IfSome}
 use Rattle.tl_load.specs.Loaded.{IsNotDevice}
 use Rattle.tigercanon.specs.Files.{TakesFiles}

@@ -1,4 +1,4 @@
-use Rattle.std.proofs.Common.{◌≡◌, ap, arith}
+use Rattle.std.proofs.Common.{ap, arith}
 use Rattle.tl_load.proofs.Listed.{at_fault}
 use Rattle.tl_load.proofs.Views.{on_ok_by}
 use Rattle.tl_load.specs.Loaded.{IsNotDevice}

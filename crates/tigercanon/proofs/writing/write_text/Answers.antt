@@ -1,25 +1,20 @@
-use Rattle.std.proofs.Common.{◌≡◌, ◌<◌, ◌+◌, ◌≤◌, arith, subst, sym, ap, ◌∙◌, take, drop, length, length-drop, List, ℕ, ◌-◌, ◌++◌}
-use Rattle.std.specs.declared.option.Option.{Option}
-use Rattle.std.proofs.Math.Seq.{take-add}
-use Rattle.std.proofs.lemmas.List.{take_rest}
-use Rattle.std.proofs.KnownBytes.{Appends-trans}
-use Rattle.std.specs.Io.KnownBytes.{Appends}
+use Rattle.std.proofs.Common.{◌∙◌, take, rules}
+use Rattle.tigercanon.proofs.Leaving.{lent_out}
 use Rattle.tigercanon.proofs.writing.write_text.Goals as goal
 
--- what the writer took is the next n bytes of the text
-next_taken : (text : List ℕ) (i n : ℕ) → take i text ++ take n (take (length text - i) (drop i text)) ≡ take (i + n) text
-next_taken text i n = ap (λ rest. take i text ++ take n rest) (take_rest text i) ∙ sym (take-add i n text)
+pub returns-in-Ok-clause-whole : goal.returns-in-Ok-clause-whole
+returns-in-Ok-clause-whole g c =
+    let first = c.new-sink.result.writer in
+    let last = c.write_bytes-outcome.new.w.writer in
+    lent_out g.W.Write.contents c.args.out.now first.now last.now _ first.ghost_name last.ghost_name c.args.text.now
+    c.new-sink.ensures.now c.in-Ok.ensures.bytes
+    (λ same. let name = c.give_back.ensures.same ∙ same ∙ c.new-sink.ensures.same in let now = c.give_back.ensures.now in search rules)
 
--- after another n bytes of the rest, n more bytes of the text are out
-next_out : (a b c : Option (List ℕ)) (text : List ℕ) (i n : ℕ) → Appends a b (take i text)
-    → Appends b c (take n (take (length text - i) (drop i text))) → n ≤ length (take (length text - i) (drop i text)) → i < length text
-    → Appends a c (take (i + n) text) × (i + n ≤ length text)
-next_out a b c text i n before now short within = (
-  subst (Appends a c) (next_taken text i n) (Appends-trans a b c _ _ before now),
-  (let rest : length (take (length text - i) (drop i text)) ≡ length (drop i text) = ap length (take_rest text i) in
-      omega (arith, length-drop i text)),
-)
-
-pub loop-written-preserved : goal.loop-written-preserved
-loop-written-preserved g c =
-    next_out _ _ _ _ _ _ c.loop-written.invariant.0 c.in-Ok.ensures.bytes c.in-Ok.ensures.bound c.loop-written-test.true
+pub returns-in-Err-clause-stopped : goal.returns-in-Err-clause-stopped
+returns-in-Err-clause-stopped g c =
+    let first = c.new-sink.result.writer in
+    let last = c.write_bytes-outcome.new.w.writer in
+    let bytes = take c.in-Err.fault.written c.args.text.now in
+    lent_out g.W.Write.contents c.args.out.now first.now last.now _ first.ghost_name last.ghost_name bytes
+    c.new-sink.ensures.now c.in-Err.ensures.bytes
+    (λ same. let name = c.give_back.ensures.same ∙ same ∙ c.new-sink.ensures.same in let now = c.give_back.ensures.now in search rules)

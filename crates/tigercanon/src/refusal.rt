@@ -1,88 +1,46 @@
 //! Why a job didn't end well, as the program tells it: one line, and an exit status.
 
 ghost use Rattle.std.specs.Prelude.{◌≡◌};
-ghost use Rattle.tigercanon.specs.Statuses.{set_status_of};
-ghost use Rattle.tigercanon.specs.declared.job_fault.JobFault.TheVariants.{Set, Output};
+ghost use Rattle.tigercanon.specs.Statuses.{status_of};
 
 use crate::fault::Fault;
-use crate::writing::WriteStopped;
 use std::fmt;
 use tl_county::LinkFault;
 use tl_load::LoadFault;
 use tl_profile::ProfileFault;
 
-/// Why a job didn't end well.
-#[derive(Debug, Drop)]
-pub(crate) enum JobFault {
-    /// The set was refused, and nothing was printed.
-    Set(Fault),
-    /// Standard output failed after some of the text.
-    Output(WriteStopped),
-}
+/// A fault as the program tells it.
+#[derive(Clone, Copy, Debug)]
+pub(crate) struct Refusal(pub(crate) Fault);
 
-impl From<Fault> for JobFault {
-    ghost from_gives = { λ fault made. made ≡ Set fault };
-
-    fn from(fault: Fault) -> JobFault {
-        JobFault::Set(fault)
-    }
-}
-
-impl From<WriteStopped> for JobFault {
-    ghost from_gives = { λ stopped made. made ≡ Output stopped };
-
-    fn from(stopped: WriteStopped) -> JobFault {
-        JobFault::Output(stopped)
-    }
-}
-
-impl JobFault {
-    ghost use Rattle.tigercanon.specs.Statuses.{status_of};
-
+impl Refusal {
     /// The exit status: 3 for a refused set, 4 for a device, 5 for want of memory.
     pub(crate) fn status(&self) -> u8
-        ensures { result ≡ status_of self.now }
+        ensures { result ≡ status_of self.now.0 }
     {
-        match self {
-            JobFault::Output(_) => 4,
-            JobFault::Set(fault) => set_status(fault),
+        match self.0 {
+            Fault::Load(LoadFault::Device) | Fault::Write(_) => 4,
+            Fault::Load(LoadFault::Memory) | Fault::Memory => 5,
+            Fault::Link(LinkFault::Memory) => 5,
+            Fault::Profile(ProfileFault::Memory) => 5,
+            Fault::Load(_) | Fault::Link(_) | Fault::Profile(_) => 3,
         }
-    }
-}
-
-/// The exit status where a set was refused: 4 for a device, 5 for want of memory, else 3.
-fn set_status(fault: &Fault) -> u8
-    ensures { result ≡ set_status_of fault.now }
-{
-    match fault {
-        Fault::Load(LoadFault::Device) => 4,
-        Fault::Load(LoadFault::Memory) | Fault::Memory => 5,
-        Fault::Link(LinkFault::Memory) => 5,
-        Fault::Profile(ProfileFault::Memory) => 5,
-        Fault::Load(_) | Fault::Link(_) | Fault::Profile(_) => 3,
     }
 }
 
 /// The line without its end: `refused`, then the number, the name and the places, one blank apart.
-impl fmt::Display for JobFault {
+impl fmt::Display for Refusal {
     fn fmt<W: fmt::Write>(&self, f: &mut fmt::Formatter<W>) -> fmt::Result {
-        match self {
-            JobFault::Set(fault) => write_set_fault(fault, f),
-            JobFault::Output(stopped) => {
-                let written = stopped.written;
+        match &self.0 {
+            Fault::Load(fault) => write_load_fault(fault, f),
+            Fault::Link(fault) => write_link_fault(fault, f),
+            Fault::Profile(fault) => write_profile_fault(fault, f),
+            Fault::Write(fault) => {
+                let written = fault.written;
                 write!(f, "refused 10 WriteFault {written}")
             }
+            Fault::Memory => write!(f, "refused 9 Memory"),
         }
-    }
-}
-
-/// The line for a refused set.
-fn write_set_fault<W: fmt::Write>(fault: &Fault, f: &mut fmt::Formatter<W>) -> fmt::Result {
-    match fault {
-        Fault::Load(fault) => write_load_fault(fault, f),
-        Fault::Link(fault) => write_link_fault(fault, f),
-        Fault::Profile(fault) => write_profile_fault(fault, f),
-        Fault::Memory => write!(f, "refused 9 Memory"),
     }
 }
 

@@ -1,0 +1,124 @@
+-- What was read of sources over files, the files hold.
+use Rattle.std.proofs.Common.{◌≡◌, ◌⊎◌, ℕ, List, [], ◌∷◌, ◌++◌, map, Option, Some, None, inl, inr, refl, sym, ap, ◌∙◌, arith, subst}
+use Rattle.std.proofs.lemmas.List.{map-append}
+use Rattle.std.proofs.lemmas.List.Elements.{All-push}
+use Rattle.std.specs.Prelude.{All, false, IfSome}
+use Rattle.std.specs.Io.KnownBytes.{Consumes}
+use Rattle.tl_load.specs.declared.fault.LoadFault.{LoadFault}
+use Rattle.tigercanon.specs.declared.fault.Fault.{Fault}
+use Rattle.tigercanon.specs.declared.fault.Fault.TheVariants.{Load, Link, Profile, Write, Memory}
+use Rattle.tigercanon.specs.declared.files.Opened.{Opened}
+use Rattle.tigercanon.specs.Files.{AreHeld, AreSourcesOf, bytes_of}
+use Rattle.tigercanon.specs.Normalising.{TellsRead, is_of_sink}
+use Rattle.tigercanon.specs.Outcomes.{AreRefused, TellsSet}
+use Rattle.tigercanon.specs.Reading.{AreRead, AreReadUpTo, IsFaultOfRead}
+use Rattle.tigercanon.specs.Respelling.{IsFirstFault}
+use Rattle.tigercanon.proofs.FileParts.{taken_all}
+use Rattle.tigercanon.proofs.Parts.{without_empty_part}
+
+-- one element more
+pub map_more : {A B C : Type 0} (f : A → C) (h : B → C) (xs zs : List A) (ys : List B) (x : A) (y : B) → zs ≡ xs ++ x ∷ []
+    → map f xs ≡ map h ys → f x ≡ h y → map f zs ≡ map h (ys ++ y ∷ [])
+map_more f h xs zs ys x y e same one = ap (map f) e ∙ map-append f xs (x ∷ []) ∙ ap (λ l. l ++ f x ∷ []) same
+    ∙ ap (λ v. map h ys ++ v ∷ []) one ∙ sym (map-append h ys (y ∷ []))
+
+pub all_more : {X : Type 0} (P : X → Type 0) (xs zs : List X) (x : X) → zs ≡ xs ++ x ∷ [] → All P xs → P x → All P zs
+all_more P xs zs x e all one = subst (All P) (sym e) (All-push P xs x all one)
+
+pub all_none : {X : Type 0} (P : X → Type 0) (xs : List X) → xs ≡ [] → All P xs
+all_none P xs e = subst (All P) (sym e) (λ k d l. absurd (omega (arith, l)))
+
+first_same : (n m : Option (List ℕ)) (ns ms : List (Option (List ℕ))) → n ∷ ns ≡ m ∷ ms → n ≡ m
+first_same n m ns ms e = cc
+
+rest_same : (n m : Option (List ℕ)) (ns ms : List (Option (List ℕ))) → n ∷ ns ≡ m ∷ ms → ns ≡ ms
+rest_same n m ns ms e = cc
+
+-- known bytes, or none
+abbrev pub known_or_none : Option (List ℕ) → List ℕ
+known_or_none None = []
+known_or_none (Some bytes) = bytes
+
+is_known : (known : Option (List ℕ)) → IfSome known (λ bytes. known_or_none known ≡ bytes)
+is_known None = tt
+is_known (Some bytes) = refl
+
+-- bytes that were taken, and what is left of those that are known
+with_left : (known left : Option (List ℕ)) (taken : List ℕ) → Consumes known left taken
+    → (more : List ℕ) × IfSome known (λ bytes. taken ++ more ≡ bytes)
+with_left None left taken c = ([], tt)
+with_left (Some all) None taken c = absurd c
+with_left (Some all) (Some rest) taken c = (rest, sym c)
+
+module _ {S R : Type 0} (left : S → Option (List ℕ)) (given : S → ℕ) (remaining : R → Option (List ℕ)) where
+  -- parts that were read to their ends
+  pub read_held : (files : List (Opened R)) (before after : List S) (parts : List (List ℕ)) → AreSourcesOf left before remaining files
+      → AreRead left given before after parts → AreHeld remaining files parts
+  read_held [] [] [] [] s r = tt
+  read_held (f ∷ fs) (b ∷ bs) (n ∷ ns) (p ∷ ps) s r = (
+    subst (λ known. IfSome known (λ bytes. p ≡ bytes)) (first_same _ _ _ _ s) (taken_all (left b) (left n) p r.0.bytes r.1),
+    read_held fs bs ns ps (rest_same _ _ _ _ s) r.2,
+  )
+  read_held [] (b ∷ bs) after parts s r = absurd cc
+  read_held (f ∷ fs) [] after parts s r = absurd cc
+  read_held [] [] (n ∷ ns) parts s r = absurd r
+  read_held [] [] [] (p ∷ ps) s r = absurd r
+  read_held (f ∷ fs) (b ∷ bs) [] parts s r = absurd r
+  read_held (f ∷ fs) (b ∷ bs) (n ∷ ns) [] s r = absurd r
+
+  -- some parts that files hold
+  some_parts : (files : List (Opened R)) → (parts : List (List ℕ)) × AreHeld remaining files parts
+  some_parts [] = ([], tt)
+  some_parts (f ∷ fs) = let rest = some_parts fs in (known_or_none (bytes_of remaining f) ∷ rest.0, (is_known (bytes_of remaining f), rest.1))
+
+  -- parts that go on from what was read
+  going_on : (files : List (Opened R)) (before after : List S) (closed : List (List ℕ)) (bytes : List ℕ)
+      → AreSourcesOf left before remaining files → AreReadUpTo left given before after closed bytes
+      → ((more : List ℕ) × (later : List (List ℕ)) × AreHeld remaining files (closed ++ (bytes ++ more) ∷ later))
+      ⊎ ((bytes ≡ []) × AreHeld remaining files closed)
+  going_on [] [] [] [] bytes s r = inr (r, tt)
+  going_on (f ∷ fs) (b ∷ bs) (n ∷ ns) [] bytes s r =
+      let rest = some_parts fs in
+      let m = with_left (left b) (left n) bytes r.0.bytes in
+      inl (m.0, rest.0, (subst (λ known. IfSome known (λ all. bytes ++ m.0 ≡ all)) (first_same _ _ _ _ s) m.1, rest.1))
+  going_on (f ∷ fs) (b ∷ bs) (n ∷ ns) (p ∷ ps) bytes s r = behind (going_on fs bs ns ps bytes (rest_same _ _ _ _ s) r.2)
+    where
+      here : IfSome (bytes_of remaining f) (λ all. p ≡ all)
+      here = subst (λ known. IfSome known (λ all. p ≡ all)) (first_same _ _ _ _ s) (taken_all (left b) (left n) p r.0.bytes r.1)
+
+      behind : ((more : List ℕ) × (later : List (List ℕ)) × AreHeld remaining fs (ps ++ (bytes ++ more) ∷ later))
+          ⊎ ((bytes ≡ []) × AreHeld remaining fs ps)
+          → ((more : List ℕ) × (later : List (List ℕ)) × AreHeld remaining (f ∷ fs) ((p ∷ ps) ++ (bytes ++ more) ∷ later))
+          ⊎ ((bytes ≡ []) × AreHeld remaining (f ∷ fs) (p ∷ ps))
+      behind (inl h) = inl (h.0, h.1, (here, h.2))
+      behind (inr h) = inr (h.0, (here, h.1))
+  going_on [] (b ∷ bs) after closed bytes s r = absurd cc
+  going_on (f ∷ fs) [] after closed bytes s r = absurd cc
+  going_on [] [] (n ∷ ns) closed bytes s r = absurd r
+  going_on [] [] [] (p ∷ ps) bytes s r = absurd r
+  going_on (f ∷ fs) (b ∷ bs) [] closed bytes s r = absurd r
+
+  module _ (files : List (Opened R)) (before after : List S) (sources : AreSourcesOf left before remaining files) where
+    -- a fault of what was read is what the files are refused for
+    read_refused : (fault : LoadFault) → IsFaultOfRead left given before after fault → AreRefused remaining files (Load fault)
+    read_refused fault h = go (going_on files before after h.0 h.1 sources h.2)
+      where
+        go : ((more : List ℕ) × (later : List (List ℕ)) × AreHeld remaining files (h.0 ++ (h.1 ++ more) ∷ later))
+            ⊎ ((h.1 ≡ []) × AreHeld remaining files h.0)
+            → AreRefused remaining files (Load fault)
+        go (inl k) = record { parts = _; held = k.2; refused = h.3 k.0 k.1 }
+        go (inr k) = record {
+          parts = h.0;
+          held = k.1;
+          refused = without_empty_part h.0 fault
+              (subst (λ (bytes : List ℕ). IsFirstFault (h.0 ++ (bytes ++ []) ∷ []) fault) k.0 (h.3 [] []));
+        }
+
+    pub tells_files : (fault : Fault) → is_of_sink fault ≡ false → TellsRead left given before after fault → TellsSet remaining files fault
+    tells_files (Load fault) e t = λ lines. read_refused fault (t lines)
+    tells_files (Link fault) e t = λ ne.
+        let r = t ne in record { parts = r.parts; held = read_held files before after r.parts sources r.read; refused = r.refused }
+    tells_files (Profile fault) e t = λ ne.
+        let r = t ne in record { parts = r.parts; held = read_held files before after r.parts sources r.read; refused = r.refused }
+    tells_files (Write fault) e t = absurd cc
+    tells_files Memory e t = tt

@@ -1,0 +1,54 @@
+-- What a loader that was fed closed parts says of faults.
+use Rattle.std.proofs.Common.{◌≡◌, ℕ, ◌+◌, List, [], ◌∷◌, ◌++◌, Option, Some, None, refl, ap, ◌∙◌, subst}
+use Rattle.std.specs.Prelude.{MatchOption, if◌then◌else◌}
+use Rattle.tl_layout.specs.declared.record_type.Record.{Record}
+use Rattle.tl_load.specs.Choice.{tiger}
+use Rattle.tl_load.specs.Keeping.{AreKept, LoadedInto, WasFedInto, seen}
+use Rattle.tl_load.specs.Loaded.{HasLoaded, IsFaultHowever, IsOfLines, is_device_fault, with_line_feeds}
+use Rattle.tl_load.specs.Outcome.{SpellsWithin}
+use Rattle.tl_load.specs.declared.fault.LoadFault.{LoadFault}
+use Rattle.tl_load.specs.declared.fault.LoadFault.TheVariants as faults
+use Rattle.tl_load.proofs.Reading.{accepted_no_fault}
+use Rattle.tl_load.proofs.RecordLines.{tiger_is_sound}
+use Rattle.tigercanon.proofs.FileParts.{no_device_told}
+use Rattle.tigercanon.proofs.Parts.{with_empty_part}
+use Rattle.tigercanon.specs.Respelling.{record_limit, IsFirstFault}
+
+module _ {K : Type 0} (holds : K → List Record → Type 0) (l : LoadedInto K) where
+  Comes : List (List ℕ) → List ℕ → Option LoadFault → Type 0
+  Comes closed bytes fault = MatchOption fault
+      ((records : List Record) × AreKept holds l records × HasLoaded record_limit (seen l records) closed bytes)
+      (λ f. IsOfLines f → IsFaultHowever record_limit closed bytes f)
+
+  -- a fault of lines that stands is that of every set that goes on
+  pub standing_fault : (f : LoadFault) (closed : List (List ℕ)) (bytes : List ℕ) → l.fault ≡ Some f
+      → WasFedInto holds record_limit l closed bytes → IsOfLines f → IsFaultHowever record_limit closed bytes f
+  unfolding Comes
+  standing_fault f closed bytes e w = let known : Comes closed bytes (Some f) = subst (Comes closed bytes) e w.comes in known
+
+  nothing_before : (xs ys : List ℕ) → [] ≡ xs ++ ys → xs ≡ []
+  nothing_before [] ys e = refl
+  nothing_before (x ∷ xs) ys e = absurd cc
+
+  -- where no fault stands, there is none at the closed parts
+  pub none_standing : (f : LoadFault) (closed : List (List ℕ)) → l.fault ≡ None → WasFedInto holds record_limit l closed []
+      → IsFirstFault closed f → ⊥
+  unfolding Comes
+  none_standing f closed e w at = go (subst (Comes closed []) e w.comes)
+    where
+      go : ((records : List Record) × AreKept holds l records × HasLoaded record_limit (seen l records) closed []) → ⊥
+      go h =
+          let none : with_line_feeds h.2.ended ≡ [] = nothing_before (with_line_feeds h.2.ended) l.unfinished h.2.lines_are.bytes_are in
+          accepted_no_fault tiger tiger_is_sound record_limit (closed ++ [] ∷ []) h.0 f
+          (subst (λ (last : List ℕ). SpellsWithin tiger record_limit (closed ++ last ∷ []) h.0) none h.2.accepts)
+          (with_empty_part closed f at)
+
+-- a device's fault is counted, and no other
+pub counted_device : (f : LoadFault) (was now : ℕ) → now ≡ (if is_device_fault f then was + 1 else was) → f ≡ faults.Device
+    → now ≡ was + 1
+counted_device f was now told e =
+    subst (λ (g : LoadFault). now ≡ (if is_device_fault g then was + 1 else was)) e told
+
+pub counted_none : (f : LoadFault) (was now : ℕ) → now ≡ (if is_device_fault f then was + 1 else was) → (f ≡ faults.Device → ⊥)
+    → now ≡ was
+counted_none f was now told other = told ∙ ap (λ b. if b then was + 1 else was) (no_device_told f other)

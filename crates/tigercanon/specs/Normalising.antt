@@ -1,0 +1,65 @@
+-- What comes of normalising a set: its canonical text, in memory or at a sink, or why there is none.
+use Rattle.std.specs.Prelude.{◌≡◌, ◌≢◌, ℕ, ◌<◌, Bool, true, false, ◌++◌, List, length, take, Option, Result, Ok, Err}
+use Rattle.tl_layout.specs.RecordText.{text_of}
+use Rattle.tl_layout.specs.declared.record_type.Record.{Record}
+use Rattle.tl_load.specs.Loaded.{IsOfLines}
+use Rattle.tl_county.specs.County.{county_of}
+use Rattle.tl_county.specs.Renumbering.{AreSame}
+use Rattle.tl_county.specs.declared.fault.LinkFault.TheVariants.{Memory as LinkMemory}
+use Rattle.tl_number.specs.Canonical.{IsCanonical}
+use Rattle.tl_profile.specs.declared.fault.ProfileFault.TheVariants.{Memory as ProfileMemory}
+use Rattle.tigercanon.specs.Reading.{AreRead, IsFaultOfRead}
+use Rattle.tigercanon.specs.Sets.{IsAcceptedSet, IsCanonicalText, IsSetRefusal}
+use Rattle.tigercanon.specs.declared.fault.Fault.{Fault}
+use Rattle.tigercanon.specs.declared.fault.Fault.TheVariants.{Load, Link, Profile, Write, Memory}
+
+-- each canonical list whose county is the same as that of the accepted parts has this text
+abbrev pub IsOnlyText : List (List ℕ) → List ℕ → Type 0
+IsOnlyText parts text = (records canonical : List Record) → IsAcceptedSet parts records → IsCanonical canonical
+    → AreSame (county_of records) (county_of canonical) → text_of canonical ≡ text
+
+-- the sources were read to their ends, and this is the canonical text of the parts that they gave, and no other is
+pub record AreNormalised {R : Type 0} (remaining : R → Option (List ℕ)) (given : R → ℕ) (before after : List R) (text : List ℕ)
+    : Type 0 where
+  pub parts : List (List ℕ)
+  pub read : AreRead remaining given before after parts
+  pub canonical : IsCanonicalText parts text
+  pub only : IsOnlyText parts text
+
+-- the sources were read to their ends, and the parts that they gave are refused for this
+pub record AreRefusedParts {R : Type 0} (remaining : R → Option (List ℕ)) (given : R → ℕ) (before after : List R) (fault : Fault)
+    : Type 0 where
+  pub parts : List (List ℕ)
+  pub read : AreRead remaining given before after parts
+  pub refused : IsSetRefusal parts fault
+
+-- but for want of memory and the failure of a device, it is what the parts are refused for: a fault of lines is that of every
+-- set that goes on from what was read, and any other is that of the parts as they were read to their ends
+abbrev pub TellsRead : {R : Type 0} → (R → Option (List ℕ)) → (R → ℕ) → List R → List R → Fault → Type 0
+TellsRead remaining given before after (Load fault) = IsOfLines fault → IsFaultOfRead remaining given before after fault
+TellsRead remaining given before after (Link fault) = fault ≢ LinkMemory → AreRefusedParts remaining given before after (Link fault)
+TellsRead remaining given before after (Profile fault) =
+    fault ≢ ProfileMemory → AreRefusedParts remaining given before after (Profile fault)
+TellsRead remaining given before after (Write _) = Unit {0}
+TellsRead remaining given before after Memory = Unit {0}
+
+-- a sink took these bytes, behind those that it held
+abbrev pub Took : {W : Type 0} → (W → List ℕ → Type 0) → W → W → List ℕ → Type 0
+Took holds before after bytes = (held : List ℕ) → holds before held → holds after (held ++ bytes)
+
+-- the sink failed, and took the first bytes of the canonical text, as many as are told, and not all of them
+pub record IsCutOff {R W : Type 0} (remaining : R → Option (List ℕ)) (given : R → ℕ) (before after : List R)
+    (holds : W → List ℕ → Type 0) (old new : W) (written : ℕ) : Type 0 where
+  pub text : List ℕ
+  pub normalised : AreNormalised remaining given before after text
+  pub short : written < length text
+  pub took : Took holds old new (take written text)
+
+-- the fault is a failure of the sink
+abbrev pub is_of_sink : Fault → Bool
+is_of_sink (Write _) = true
+is_of_sink _ = false
+
+abbrev pub is_stopped : Result ℕ Fault → Bool
+is_stopped (Ok _) = false
+is_stopped (Err fault) = is_of_sink fault

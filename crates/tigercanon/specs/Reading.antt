@@ -1,0 +1,36 @@
+-- What was read of the sources that give the parts of a set.
+use Rattle.std.specs.Prelude.{◌≡◌, ℕ, ◌+◌, List, [], ◌∷◌, map, Option, ◌⊎◌}
+use Rattle.std.specs.Io.KnownBytes.{IsAtEnd}
+use Rattle.tl_load.specs.Loaded.{IsFaultHowever}
+use Rattle.tl_load.specs.Sources.{Gave}
+use Rattle.tl_load.specs.declared.fault.LoadFault.{LoadFault}
+use Rattle.tigercanon.specs.Respelling.{record_limit}
+
+module _ {R : Type 0} (remaining : R → Option (List ℕ)) (given : R → ℕ) where
+  -- the sources were read to their ends, and gave these parts
+  abbrev pub AreRead : List R → List R → List (List ℕ) → Type 0
+  AreRead [] [] [] = Unit
+  AreRead (b ∷ bs) (n ∷ ns) (part ∷ parts) = Gave remaining given b n part × IsAtEnd (remaining n) × AreRead bs ns parts
+  AreRead _ _ _ = ⊥
+
+  -- the first sources were read to their ends and gave these parts, the next one, if there is one, gave these bytes, and those
+  -- behind it are as they were
+  abbrev pub AreReadUpTo : List R → List R → List (List ℕ) → List ℕ → Type 0
+  AreReadUpTo (b ∷ bs) (n ∷ ns) (part ∷ parts) bytes = Gave remaining given b n part × IsAtEnd (remaining n) × AreReadUpTo bs ns parts bytes
+  AreReadUpTo (b ∷ bs) (n ∷ ns) [] bytes = Gave remaining given b n bytes × (ns ≡ bs)
+  AreReadUpTo [] [] [] bytes = bytes ≡ []
+  AreReadUpTo _ _ _ _ = ⊥
+
+  -- this is the fault of every set that goes on from what was read
+  abbrev pub IsFaultOfRead : List R → List R → LoadFault → Type 0
+  IsFaultOfRead before after fault = (closed : List (List ℕ)) × (bytes : List ℕ) × AreReadUpTo before after closed bytes
+      × IsFaultHowever record_limit closed bytes fault
+
+-- no source has failed
+abbrev pub NoneFailed : {R : Type 0} → (R → ℕ) → List R → List R → Type 0
+NoneFailed failed before after = map failed after ≡ map failed before
+
+-- one source has failed, once, and no other
+abbrev pub OneFailed : {R : Type 0} → (R → ℕ) → List R → List R → Type 0
+OneFailed failed (b ∷ bs) (n ∷ ns) = ((failed n ≡ failed b + 1) × NoneFailed failed bs ns) ⊎ ((failed n ≡ failed b) × OneFailed failed bs ns)
+OneFailed failed _ _ = ⊥

@@ -1,0 +1,74 @@
+//! The canonical text of a set.
+
+ghost use Rattle.std.specs.Prelude.{◌≡◌, ◌≢◌, ◌<◌, ◌+◌, Err, ℕ, List, All, true, false, length, map, IfOk, IfErr, if◌then◌else◌};
+ghost use Rattle.tigercanon.specs.Faults.{IsWantOfMemory, TellsRefusal};
+ghost use Rattle.tigercanon.specs.Normalising.{AreNormalised, IsCutOff, IsOnlyText, TellsRead, Took, is_of_sink, is_stopped};
+ghost use Rattle.tigercanon.specs.Reading.{NoneFailed, OneFailed};
+ghost use Rattle.tigercanon.specs.Sets.{IsAcceptedSet, IsCanonicalText};
+ghost use Rattle.tl_layout.specs.declared.record_type.Record.{Record};
+ghost use Rattle.tl_write.specs.declared.fault.WriteFault.{WriteFault};
+
+use crate::canonising::{canonise_tables, text_in_memory};
+use crate::fault::Fault;
+use crate::loading::load;
+use crate::reading::load_sources;
+use std::alloc::Global;
+use tl_layout::Tables;
+use tl_load::{LoadFault, Source};
+use tl_write::{Sink, write_to};
+
+/// The canonical text of the parts: the records of their map in canonical numbers, order, packing and spelling. All sets of
+/// one map have one canonical text.
+///
+/// # Errors
+///
+/// What the set is refused for: [`Fault::Load`] tells the first faulty line, [`Fault::Link`] the first rule that the records
+/// break, and [`Fault::Profile`] the first clause of the profile that the county breaks. Each of them, and
+/// [`Fault::Memory`], may also tell that memory was lacking.
+pub fn normalise(alloc: Global, parts: &[&[u8]]) -> Result<Vec<u8>, Fault>
+    ensures canonical { IfOk result (λ text. IsCanonicalText (map (λ p. p.now) parts.now) text.items) }
+    // No canonical list of the same map has another text.
+    ensures only { IfOk result (λ text. IsOnlyText (map (λ p. p.now) parts.now) text.items) }
+    ensures refused { IfErr result (TellsRefusal (map (λ p. p.now) parts.now)) }
+    ensures no_device { result ≢ Err (Fault.Load LoadFault.Device) }
+    // Of accepted parts nothing but want of memory is told.
+    ensures succeeds { (records : List Record) → IsAcceptedSet (map (λ p. p.now) parts.now) records → IfErr result IsWantOfMemory }
+{
+    let tables: Tables = load(alloc, parts)?;
+    let county = canonise_tables(alloc, tables)?;
+    text_in_memory(alloc, &county)
+}
+
+/// Reads the parts from their sources, and writes their canonical text to the sink; answers how many bytes that is. No part
+/// and no text is kept in memory. Nothing goes to the sink unless the set is accepted.
+///
+/// # Errors
+///
+/// What the set is refused for, as [`normalise`] tells it; a faulty line is told before the sources behind it are read.
+/// [`LoadFault::Device`] tells that a source failed, and [`Fault::Write`] that the sink did, after exactly the first `written`
+/// bytes of the text.
+pub fn normalise_to<R: Source, W: Sink>(
+    alloc: Global,
+    parts: &mut [R],
+    out: &mut W,
+) -> Result<u64, Fault>
+    requires parts { All (λ part. R.failed part < u64.MAX) parts.old }
+    requires out { W.failed out.old < u64.MAX }
+    // The sink took the whole canonical text of the parts.
+    ensures written { IfOk result (λ n. (text : List ℕ) × AreNormalised R.remaining R.given parts.old parts.new text
+        × (n ≡ length text) × Took W.holds out.old out.new text) }
+    // Or it failed, and took as many bytes from the front of it as are told.
+    ensures stopped { (fault : WriteFault) → result ≡ Err (Fault.Write fault) →
+        IsCutOff R.remaining R.given parts.old parts.new W.holds out.old out.new fault.written }
+    ensures failures { W.failed out.new ≡ (if is_stopped result then W.failed out.old + 1 else W.failed out.old) }
+    // Or the set is refused, and nothing went out.
+    ensures refused { IfErr result (TellsRead R.remaining R.given parts.old parts.new) }
+    ensures silent { IfErr result (λ fault. is_of_sink fault ≡ false → out.new ≡ out.old) }
+    // A device is told exactly where one of the sources has failed.
+    ensures device { result ≡ Err (Fault.Load LoadFault.Device) → OneFailed R.failed parts.old parts.new }
+    ensures no_device { result ≢ Err (Fault.Load LoadFault.Device) → NoneFailed R.failed parts.old parts.new }
+{
+    let tables: Tables = load_sources(alloc, parts)?;
+    let county = canonise_tables(alloc, tables)?;
+    Ok(write_to(&county, out)?)
+}
