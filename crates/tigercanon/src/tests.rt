@@ -1,6 +1,7 @@
 //! The library's calls on worked examples, and jobs over files and devices that fail.
 
 mod arena;
+mod canonical_jobs;
 mod canonical_texts;
 mod checks;
 mod devices;
