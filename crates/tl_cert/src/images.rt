@@ -2,6 +2,7 @@
 
 ghost use Rattle.std.specs.Prelude.{◌≡◌, IfOk};
 ghost use Rattle.tl_county.specs.Entries.{value_under};
+ghost use Rattle.tl_county.specs.Renumbering.{image};
 ghost use Rattle.tl_cert.specs.Images.{AnswersAs};
 
 use indexmap::IndexMap;
@@ -43,5 +44,15 @@ impl<K: Key + Hash> Images<K> {
         ensures { result ≡ value_under K.cmp old self.now }
     {
         self.table.get(&old).copied()
+    }
+
+    /// The new number of an old one, and the old number itself if no pair names it.
+    pub(crate) fn image(&self, old: K) -> K
+        ensures { result ≡ image K.cmp self.now old }
+    {
+        match self.of(old) {
+            Some(new) => new,
+            None => old,
+        }
     }
 }

@@ -1,9 +1,8 @@
 //! Which chains two renamings turn, one after the other.
 
-ghost use Rattle.std.specs.Prelude.{◌≡◌, ◌++◌, [], ◌∷◌, ℕ, IfOk, OnOk, cond, filter, map};
+ghost use Rattle.std.specs.Prelude.{◌≡◌, ◌++◌, [], ◌∷◌, ℕ, IfOk, IsPermutation, OnOk, cond, filter, map};
 ghost use Rattle.std.specs.Ordering.{nat_cmp};
 ghost use Rattle.tl_county.specs.Orders.{IsInOrder, stands_in};
-ghost use Rattle.tl_county.specs.Renumbering.{image};
 ghost use Rattle.tl_cert.specs.Images.{is_turned_once};
 
 use crate::images::Images;
@@ -11,8 +10,9 @@ use std::alloc::{AllocError, Global};
 use tl_county::place_of;
 
 /// The numbers in order.
-fn sorted(alloc: Global, numbers: &[u64]) -> Result<Vec<u64>, AllocError>
+pub(crate) fn sorted(alloc: Global, numbers: &[u64]) -> Result<Vec<u64>, AllocError>
     ensures in_order { IfOk result (λ sorted. IsInOrder nat_cmp sorted.items) }
+    ensures permutation { IfOk result (λ sorted. IsPermutation numbers.now sorted.items) }
     ensures same { IfOk result (λ sorted. (n : ℕ) → stands_in nat_cmp n sorted.items ≡ stands_in nat_cmp n numbers.now) }
 {
     let mut sorted = Vec::from_slice(alloc, numbers)?;
@@ -30,16 +30,6 @@ fn push_if(numbers: &mut Vec<u64>, test: bool, number: u64) -> Result<(), AllocE
     Ok(())
 }
 
-/// The new number of an old one, and itself if no pair names it.
-fn image_of(images: &Images<u64>, old: u64) -> u64
-    ensures { result ≡ image nat_cmp images.now old }
-{
-    match images.of(old) {
-        Some(new) => new,
-        None => old,
-    }
-}
-
 /// Whether exactly one of two renamings turns the chain of an old TLID: the first turns the chains of `firsts`, and the next one
 /// those of `nexts` under the numbers that the first one gives. Both lists are in order.
 fn turns_once(images: &Images<u64>, firsts: &[u64], nexts: &[u64], tlid: u64) -> bool
@@ -48,7 +38,7 @@ fn turns_once(images: &Images<u64>, firsts: &[u64], nexts: &[u64], tlid: u64) ->
     ensures { result ≡ is_turned_once images.now firsts.now nexts.now tlid }
 {
     let by_first = place_of(firsts, tlid).is_some();
-    let by_next = place_of(nexts, image_of(images, tlid)).is_some();
+    let by_next = place_of(nexts, images.image(tlid)).is_some();
     by_first != by_next
 }
 

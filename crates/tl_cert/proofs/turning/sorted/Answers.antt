@@ -10,3 +10,7 @@ returns-clause-in_order c = in_order-from_sorted nat_cmp_total c.sort.new.self.i
 pub returns-clause-same : goal.returns-clause-same
 returns-clause-same c = λ n. ap (nat_lt 0) (times-permutation nat_keys n c.args.numbers.now c.sort.new.self.items
     (subst (λ xs. IsPermutation xs c.sort.new.self.items) c.in_ok-sorted.ensures.items c.in_ok-sort.ensures.permutation))
+
+pub returns-clause-permutation : goal.returns-clause-permutation
+returns-clause-permutation c =
+    subst (λ numbers. IsPermutation numbers c.sort.new.self.items) c.in_ok-sorted.ensures.items c.in_ok-sort.ensures.permutation
