@@ -2,21 +2,35 @@
 
 ghost use Rattle.std.specs.Prelude.{◌≡◌};
 
+use std::alloc::Global;
 use std::marker::Model;
 
 /// A polygon: its CENID and its POLYID.
 pub type PolygonKey = ([u8; 5], u64);
 
+/// The parts of a renaming by their names: pairs of an old and a new number, kind by kind, and the old TLIDs of the chains
+/// that are turned.
+#[derive(Debug, Drop)]
+pub struct RenamingParts {
+    /// TLIDs.
+    pub chains: Vec<(u64, u64)>,
+    /// FEATs.
+    pub names: Vec<(u32, u32)>,
+    /// Polygons; both of a pair have one CENID.
+    pub polygons: Vec<(PolygonKey, PolygonKey)>,
+    /// LANDs.
+    pub lands: Vec<(u64, u64)>,
+    /// Nodes.
+    pub nodes: Vec<(u64, u64)>,
+    /// The old TLIDs of the chains that are turned.
+    pub turned: Vec<u64>,
+}
+
 /// Which old number became which new one, kind by kind, and the old TLIDs of the chains that were turned. The order of
 /// pairs is free.
 #[derive(Debug, Drop)]
 pub struct Renaming {
-    chains: Vec<(u64, u64)>,
-    names: Vec<(u32, u32)>,
-    polygons: Vec<(PolygonKey, PolygonKey)>,
-    lands: Vec<(u64, u64)>,
-    nodes: Vec<(u64, u64)>,
-    turned: Vec<u64>,
+    parts: RenamingParts,
 }
 
 impl Model for Renaming {
@@ -25,12 +39,12 @@ impl Model for Renaming {
     ghost Value = { Renumbering };
 
     ghost view = { λ r. record {
-      chains = r.chains.items;
-      names = r.names.items;
-      polygons = r.polygons.items;
-      lands = r.lands.items;
-      nodes = r.nodes.items;
-      turned = r.turned.items;
+      chains = r.parts.chains.items;
+      names = r.parts.names.items;
+      polygons = r.parts.polygons.items;
+      lands = r.parts.lands.items;
+      nodes = r.parts.nodes.items;
+      turned = r.parts.turned.items;
     } };
 }
 
@@ -53,55 +67,74 @@ impl Renaming {
           turned = turned.items;
         } }
     {
-        Renaming {
+        Renaming::of_parts(RenamingParts {
             chains,
             names,
             polygons,
             lands,
             nodes,
             turned,
-        }
+        })
+    }
+
+    /// The renaming of these parts.
+    pub fn of_parts(parts: RenamingParts) -> Renaming
+        ensures { result ≡ record {
+          chains = parts.chains.items;
+          names = parts.names.items;
+          polygons = parts.polygons.items;
+          lands = parts.lands.items;
+          nodes = parts.nodes.items;
+          turned = parts.turned.items;
+        } }
+    {
+        Renaming { parts }
     }
 
     /// Each old TLID with its new one.
     pub fn chains(&self) -> &[(u64, u64)]
         ensures { result.now ≡ self.now.chains }
     {
-        &self.chains
+        &self.parts.chains
     }
 
     /// Each old FEAT with its new one.
     pub fn names(&self) -> &[(u32, u32)]
         ensures { result.now ≡ self.now.names }
     {
-        &self.names
+        &self.parts.names
     }
 
     /// Each old polygon with its new one; both have one CENID.
     pub fn polygons(&self) -> &[(PolygonKey, PolygonKey)]
         ensures { result.now ≡ self.now.polygons }
     {
-        &self.polygons
+        &self.parts.polygons
     }
 
     /// Each old LAND with its new one.
     pub fn lands(&self) -> &[(u64, u64)]
         ensures { result.now ≡ self.now.lands }
     {
-        &self.lands
+        &self.parts.lands
     }
 
     /// Each old node with its new one.
     pub fn nodes(&self) -> &[(u64, u64)]
         ensures { result.now ≡ self.now.nodes }
     {
-        &self.nodes
+        &self.parts.nodes
     }
 
     /// The old TLIDs of the chains that are turned.
     pub fn turned(&self) -> &[u64]
         ensures { result.now ≡ self.now.turned }
     {
-        &self.turned
+        &self.parts.turned
+    }
+
+    /// The allocator that its lists use.
+    pub(crate) fn allocator(&self) -> Global {
+        *self.parts.chains.allocator()
     }
 }

@@ -1,0 +1,5 @@
+pub mod Tables
+pub mod Places
+pub mod Towards
+pub mod LinksCarried
+pub mod PartsCarried

@@ -1,0 +1,82 @@
+-- The links of landmarks, gathered landmark by landmark, and compared by their fields.
+use Rattle.std.proofs.Common.{◌≡◌, ◌+◌, ℕ, zero, suc, List, [], ◌∷◌, ◌++◌, map, flat_map, take, Bool, IsTrue, slice_get, refl, sym}
+use Rattle.std.proofs.Common.{ap, ◌∙◌, subst, add-one, append_assoc, append-nil, IsPermutation, nat_cmp}
+use Rattle.std.proofs.lemmas.Bool.{ltb-true}
+use Rattle.std.proofs.lemmas.List.{take_all}
+use Rattle.std.proofs.lemmas.List.Sorted.{IsPermutation-sym, IsPermutation-trans, IsPermutation-map}
+use Rattle.std.specs.Bool.{Decides}
+use Rattle.std.specs.List.{AllByRecursion}
+use Rattle.tl_layout.specs.ByType.{of_number}
+use Rattle.tl_layout.specs.Fields.{Fields8}
+use Rattle.tl_county.specs.ChartWords.{links_with}
+use Rattle.tl_county.specs.County.{County, eight_land}
+use Rattle.tl_county.specs.CountyRules.{IsCounty, lands}
+use Rattle.tl_county.specs.Orders.{times, stands_in}
+use Rattle.tl_county.proofs.Keys.{Known, nat_keys, apart_from_sorted}
+use Rattle.tl_county.proofs.Lists.{all_weaker, map-map, map_itself}
+use Rattle.tl_county.proofs.Permutations.{groups-permutation}
+use Rattle.tl_cert.specs.LinkFields.{LinkFields, link_fields}
+use Rattle.tl_cert.proofs.Places.{decides_same}
+
+-- the links of lands, land after land
+abbrev pub under_lands : List Fields8 → List ℕ → List Fields8
+under_lands links ks = flat_map (λ land. of_number eight_land land links) ks
+
+next_at : (links : List Fields8) (ks : List ℕ) (i : ℕ)
+    → under_lands links (take i ks) ++ links_with links (slice_get ks i) ≡ under_lands links (take (suc i) ks)
+next_at links [] zero = refl
+next_at links [] (suc i) = refl
+next_at links (k ∷ ks) zero = sym (append-nil (of_number eight_land k links))
+next_at links (k ∷ ks) (suc i) =
+    append_assoc (of_number eight_land k links) (under_lands links (take i ks)) (links_with links (slice_get ks i))
+    ∙ ap (λ rest. of_number eight_land k links ++ rest) (next_at links ks i)
+
+pub next_land : (links : List Fields8) (ks : List ℕ) (i : ℕ)
+    → under_lands links (take i ks) ++ links_with links (slice_get ks i) ≡ under_lands links (take (i + 1) ks)
+next_land links ks i = rw add-one (next_at links ks i)
+
+-- all lands together have all links of a county
+pub all_lands : (county : County) → IsCounty county → IsPermutation (under_lands county.links (lands county)) county.links
+all_lands county is = groups-permutation eight_land (lands county) county.links
+    (apart_from_sorted nat_keys (lands county) is.ascending.landmarks)
+    (all_weaker (λ l. IsTrue (stands_in nat_cmp l.land (lands county))) (λ l. Known nat_cmp (lands county) l.land)
+    (λ l h. ltb-true 0 (times nat_cmp l.land (lands county)) h) county.links is.closed.link_lands)
+
+-- the link of its fields
+fields_link : LinkFields → Fields8
+fields_link f = record { file = f.1.1.1; cenid = f.1.1.0; polyid = f.1.0; land = f.0 }
+
+back_again : (links : List Fields8) → map fields_link (map link_fields links) ≡ links
+unfolding fields_link
+back_again links = map-map fields_link link_fields links ∙ map_itself (λ l. fields_link (link_fields l)) (λ l. refl) links
+
+-- links are a permutation of others exactly if their fields are
+pub links_decided : (carried : Fields8 → Fields8) (olds those news bs : List Fields8) (fields known : List LinkFields)
+    → IsPermutation olds those → IsPermutation news bs → fields ≡ map (λ l. link_fields (carried l)) olds → known ≡ map link_fields news
+    → (b : Bool) → Decides b (IsPermutation fields known) → Decides b (IsPermutation (map carried those) bs)
+links_decided carried olds those news bs fields known p q e f b d = decides_same b d to from
+  where
+    fields_are : fields ≡ map link_fields (map carried olds)
+    fields_are = e ∙ sym (map-map link_fields carried olds)
+
+    old_links : IsPermutation (map carried olds) (map carried those)
+    old_links = IsPermutation-map carried olds those p
+
+    known_links : IsPermutation (map fields_link known) bs
+    known_links = subst (λ xs. IsPermutation xs bs) (sym (ap (map fields_link) f ∙ back_again news)) q
+
+    to : IsPermutation fields known → IsPermutation (map carried those) bs
+    to h =
+        let links : IsPermutation (map carried olds) (map fields_link known) =
+        subst (λ xs. IsPermutation xs (map fields_link known)) (ap (map fields_link) fields_are ∙ back_again (map carried olds))
+        (IsPermutation-map fields_link fields known h) in
+        IsPermutation-trans (map carried those) (map carried olds) bs (IsPermutation-sym (map carried olds) (map carried those) old_links)
+        (IsPermutation-trans (map carried olds) (map fields_link known) bs links known_links)
+
+    from : IsPermutation (map carried those) bs → IsPermutation fields known
+    from h =
+        let there : IsPermutation (map carried olds) news =
+        IsPermutation-trans (map carried olds) (map carried those) news old_links
+        (IsPermutation-trans (map carried those) bs news h (IsPermutation-sym news bs q)) in
+        subst (λ xs. IsPermutation xs known) (sym fields_are)
+        (subst (IsPermutation (map link_fields (map carried olds))) (sym f) (IsPermutation-map link_fields (map carried olds) news there))

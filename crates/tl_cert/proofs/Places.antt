@@ -1,0 +1,130 @@
+-- Lists that are gone through place by place, and tests that decide.
+use Rattle.std.proofs.Common.{◌≡◌, ◌<◌, ◌≤◌, ◌+◌, ℕ, zero, suc, List, [], ◌∷◌, ◌++◌, length, take, get_or, Bool, true, false, Ordering}
+use Rattle.std.proofs.Common.{is_eq, Option, Some, None, IfSome, slice_get, refl, sym, ap, ◌∙◌, subst, add-one, arith, rules}
+use Rattle.std.proofs.Common.{IsPermutation, nat_cmp, is_gt, ◌||◌}
+use Rattle.std.proofs.lemmas.Bool.{false≢true, le-ltb}
+use Rattle.std.proofs.lemmas.List.{take_all, take_more}
+use Rattle.std.proofs.lemmas.List.Sorted.{IsPermutation-sym, IsPermutation-trans}
+use Rattle.std.specs.Bool.{Decides}
+use Rattle.std.specs.Cmp.Lexicographic.{slice_cmp}
+use Rattle.std.specs.List.{AllByRecursion}
+use Rattle.tl_county.specs.Orders.{IsInOrder, times, has_repeat}
+use Rattle.tl_county.specs.Entries.{entry_keys, entry_values}
+use Rattle.tl_county.specs.Renumbering.{ArePaired}
+use Rattle.tl_county.proofs.InOrder.{in_order-permutation}
+use Rattle.tl_county.proofs.KeyOrders.{lists_keys}
+use Rattle.tl_county.proofs.Keys.{IsKeyOrder, Known, nat_keys, same-true, same-itself, lefts, rights, known_all, order_itself, order_antisymm, apart-permutation}
+use Rattle.tl_county.proofs.Distinct.{has_repeat-apart, apart_from_no_repeat}
+use Rattle.tl_county.proofs.Lists.{all_append}
+
+-- a test whose fact would follow from another's
+pub decides_no : {P Q : Type 0} (b : Bool) → b ≡ false → Decides b P → (Q → P) → Decides false Q
+decides_no b e d f = (λ t. absurd (false≢true t), λ q. absurd (false≢true (sym e ∙ d.1 (f q))))
+
+pub decides_same : {P Q : Type 0} (b : Bool) → Decides b P → (P → Q) → (Q → P) → Decides b Q
+decides_same b d f g = (λ e. f (d.0 e), λ q. d.1 (g q))
+
+-- the same test of equal values
+pub decides_over : {X : Type 0} (b : Bool) (x x' y y' : X) → x ≡ x' → y ≡ y' → Decides b (x ≡ y) → Decides b (x' ≡ y')
+decides_over b x x' y y' p q d = (λ t. sym p ∙ d.0 t ∙ q, λ e. d.1 (p ∙ e ∙ sym q))
+
+-- one more element
+take_next : {X : Type 0} (xs : List X) (i : ℕ) (x : X) → slice_get xs i ≡ Some x → take (suc i) xs ≡ take i xs ++ (x ∷ [])
+take_next [] i x e = cc
+take_next (y ∷ ys) zero x e = let same : y ≡ x = cc in ap (λ z. z ∷ []) same
+take_next (y ∷ ys) (suc i) x e = ap (λ zs. y ∷ zs) (take_next ys i x e)
+
+pub taken_next : {X : Type 0} (xs : List X) (i : ℕ) (x : X) → Some x ≡ slice_get xs i → take i xs ++ (x ∷ []) ≡ take (i + 1) xs
+taken_next xs i x e = rw add-one (sym (take_next xs i x (sym e)))
+
+pub taken_all : {X : Type 0} (xs ys : List X) (i n : ℕ) → ys ≡ take i xs → length xs ≡ n → n ≤ i → ys ≡ xs
+taken_all xs ys i n e l h = e ∙ take_all i xs (omega (arith, l, h))
+
+-- what holds of the elements so far and of the next one
+module _ {X : Type 0} (P : X → Type 0) where
+  all_next_at : (xs : List X) (i : ℕ) → AllByRecursion P (take i xs) → IfSome (slice_get xs i) P → AllByRecursion P (take (suc i) xs)
+  all_next_at [] i a p = tt
+  all_next_at (x ∷ xs) zero a p = (p, tt)
+  all_next_at (x ∷ xs) (suc i) a p = (a.0, all_next_at xs i a.1 p)
+
+  pub all_next : (xs : List X) (i : ℕ) → AllByRecursion P (take i xs) → IfSome (slice_get xs i) P → AllByRecursion P (take (i + 1) xs)
+  all_next xs i a p = rw add-one (all_next_at xs i a p)
+
+  pub all_at : (xs : List X) → AllByRecursion P xs → (i : ℕ) → IfSome (slice_get xs i) P
+  all_at [] a i = tt
+  all_at (x ∷ xs) a zero = a.0
+  all_at (x ∷ xs) a (suc i) = all_at xs a.1 i
+
+  -- the same for the elements that an index reads
+  pub all_next_read : (xs : List X) (i : ℕ) (d : X) → i < length xs → AllByRecursion P (take i xs) → P (get_or xs i d)
+      → AllByRecursion P (take (i + 1) xs)
+  all_next_read xs i d l a p = subst (AllByRecursion P) (sym (take_more xs i d l)) (all_append P (take i xs) (get_or xs i d ∷ []) a (p, tt))
+
+  pub all_read : (xs : List X) (i : ℕ) (d : X) → i < length xs → AllByRecursion P xs → P (get_or xs i d)
+  all_read [] i d l a = absurd (omega (arith, l))
+  all_read (x ∷ xs) zero d l a = a.0
+  all_read (x ∷ xs) (suc i) d l a = all_read xs i d (omega (arith, l)) a.1
+
+  pub all_seen : (xs : List X) (i n : ℕ) → AllByRecursion P (take i xs) → length xs ≡ n → n ≤ i → AllByRecursion P xs
+  all_seen xs i n a l h = subst (AllByRecursion P) (take_all i xs (omega (arith, l, h))) a
+
+-- two lists agree so far and at the next place
+module _ {X : Type 0} where
+  same_next_at : (xs ys : List X) (i : ℕ) → take i xs ≡ take i ys → slice_get xs i ≡ slice_get ys i → take (suc i) xs ≡ take (suc i) ys
+  same_next_at [] [] i e f = refl
+  same_next_at [] (y ∷ ys) zero e f = cc
+  same_next_at [] (y ∷ ys) (suc i) e f = cc
+  same_next_at (x ∷ xs) [] zero e f = cc
+  same_next_at (x ∷ xs) [] (suc i) e f = cc
+  same_next_at (x ∷ xs) (y ∷ ys) zero e f = let same : x ≡ y = cc in ap (λ z. z ∷ []) same
+  same_next_at (x ∷ xs) (y ∷ ys) (suc i) e f =
+      let first : x ≡ y = cc in
+      let rest : take i xs ≡ take i ys = cc in
+      λ j. first j ∷ same_next_at xs ys i rest f j
+
+  pub same_next : (xs ys : List X) (i : ℕ) → take i xs ≡ take i ys → slice_get xs i ≡ slice_get ys i → take (i + 1) xs ≡ take (i + 1) ys
+  same_next xs ys i e f = rw add-one (same_next_at xs ys i e f)
+
+  pub same_seen : (xs ys : List X) (i n : ℕ) → take i xs ≡ take i ys → length xs ≡ n → length ys ≡ n → n ≤ i → xs ≡ ys
+  same_seen xs ys i n e l m h =
+      sym (take_all i xs (omega (arith, l, h))) ∙ e ∙ take_all i ys (omega (arith, m, h))
+
+-- an entry has its key and its value at one place
+module _ {K V : Type 0} where
+  pub decides_entry : (es : List (K × V)) (i : ℕ) (k : K) → Some k ≡ slice_get (entry_keys es) i → (Q : K → Option V → Type 0) (b : Bool)
+      → Decides b (Q k (slice_get (entry_values es) i)) → Decides b (IfSome (slice_get es i) (λ e. Q e.0 (Some e.1)))
+  decides_entry [] i k e Q b d = cc
+  decides_entry (x ∷ xs) zero k e Q b d =
+      let same : k ≡ x.0 = cc in
+      subst (λ j. Decides b (Q j (Some x.1))) same d
+  decides_entry (x ∷ xs) (suc i) k e Q b d = decides_entry xs i k e Q b d
+
+-- a sorted copy is the known list exactly if the numbers are a permutation of it
+module _ {K : Type 0} {cmp : K → K → Ordering} (o : IsKeyOrder cmp) where
+  pub decides_known : (numbers sorted known : List K) → IsPermutation numbers sorted → IsInOrder cmp sorted → IsInOrder cmp known
+      → (b : Bool) → b ≡ is_eq (slice_cmp cmp sorted known) → Decides b (IsPermutation numbers known)
+  decides_known numbers sorted known p g h b e = (
+    λ yes. subst (IsPermutation numbers) (same-true (lists_keys o) sorted known (sym e ∙ yes)) p,
+    λ q. e ∙ subst (λ ys. is_eq (slice_cmp cmp sorted ys) ≡ true)
+        (in_order-permutation o sorted known g h (IsPermutation-trans sorted numbers known (IsPermutation-sym numbers sorted p) q))
+        (same-itself (lists_keys o) sorted),
+  )
+
+pub decides_paired : {K : Type 0} (pairs : List (K × K)) (olds news : List K) → IsPermutation (lefts pairs) olds → (b : Bool)
+    → Decides b (IsPermutation (rights pairs) news) → Decides b (ArePaired pairs olds news)
+decides_paired pairs olds news l b d = decides_same b d (λ r. record { left = l; right = r }) (λ h. h.right)
+
+-- a list in order whose first two differ has a repetition exactly if the list after its first has one
+pub repeat_later : (x y : ℕ) (ys : List ℕ) → IsInOrder nat_cmp (x ∷ y ∷ ys) → (x ≡ y → ⊥) → has_repeat nat_cmp (y ∷ ys) ≡ has_repeat nat_cmp (x ∷ y ∷ ys)
+repeat_later x y ys h ne = sym (ap (λ b. b || has_repeat nat_cmp (y ∷ ys)) (le-ltb 0 (times nat_cmp x (y ∷ ys)) (few (times nat_cmp x (y ∷ ys)) refl)))
+  where
+    above : Known nat_cmp (y ∷ ys) x → is_gt (nat_cmp y x) ≡ false
+    above k = known_all nat_keys (λ z. is_gt (nat_cmp y z) ≡ false) (y ∷ ys) (order_itself nat_keys y, h.1.0) x k
+
+    few : (n : ℕ) → times nat_cmp x (y ∷ ys) ≡ n → times nat_cmp x (y ∷ ys) ≤ 0
+    few zero e = omega (arith, e)
+    few (suc n) e = absurd (ne (order_antisymm nat_keys x y h.0.0 (above (omega (arith, e)))))
+
+-- a permutation has a repetition exactly if the list has one
+pub repeat_permuted : (xs ys : List ℕ) → IsPermutation xs ys → has_repeat nat_cmp ys ≡ false → has_repeat nat_cmp xs ≡ false
+repeat_permuted xs ys p e = has_repeat-apart nat_keys xs (apart-permutation nat_keys xs ys p (apart_from_no_repeat nat_keys ys e))

@@ -1,0 +1,32 @@
+use Rattle.std.proofs.Common.{◌∷◌, [], Some, cond, ◌++◌, sym, ap, ◌∙◌, append_assoc, append-nil}
+use Rattle.tl_county.specs.Entries.{value_under}
+use Rattle.std.specs.Map.{lookup}
+use Rattle.tl_county.proofs.Keys.{IsKeyOrder}
+use Rattle.tl_county.proofs.KeyedLists.{empty_list}
+use Rattle.tl_cert.proofs.Tables.{lookup-under, put_before}
+use Rattle.tl_cert.proofs.images.Images.new.Goals as goal
+
+pub loop-last-init : goal.loop-last-init
+loop-last-init g c = record {
+  done = [];
+  cut = sym (append-nil c.args.pairs.now);
+  told = λ old. ap (lookup (g.K.PartialEq.eq old)) c.in_ok-table.ensures.empty;
+}
+
+pub loop-last-preserved : goal.loop-last-preserved
+loop-last-preserved g c =
+    let o : IsKeyOrder g.K.Ord.cmp = record { total = g.met.K.Ord.total; exact = g.met.K.Key.exact } in
+    record {
+      done = c.in-Some.last.now ∷ c.loop-last.invariant.done;
+      cut = c.loop-last.invariant.cut ∙ ap (λ rest. rest ++ c.loop-last.invariant.done) c.in-Some.ensures.cases.0
+          ∙ append_assoc c.in-Some.before.now (c.in-Some.last.now ∷ []) c.loop-last.invariant.done;
+      told = λ old. c.in_ok-insert.ensures.updates.0 old
+          ∙ ap (cond (g.K.PartialEq.eq c.in-Some.last.now.0 old) (Some c.in-Some.last.now.1)) (c.loop-last.invariant.told old)
+          ∙ put_before g.K.PartialEq.eq g.K.Ord.cmp g.met.K.Ord.matches_eq o c.in-Some.last.now c.loop-last.invariant.done old;
+    }
+
+pub returns : goal.returns
+returns g c = λ old. sym (lookup-under g.K.PartialEq.eq g.K.Ord.cmp g.met.K.Ord.matches_eq old c.loop-last.table.entries)
+    ∙ c.loop-last.invariant.told old
+    ∙ ap (value_under g.K.Ord.cmp old) (sym (c.loop-last.invariant.cut ∙ ap (λ rest. rest ++ c.loop-last.invariant.done)
+    (empty_list c.loop-last.rest.now c.in_default.ensures.cases)))

@@ -1,0 +1,14 @@
+use Rattle.std.proofs.Common.{◌≡◌, ◌++◌, List, length}
+use Rattle.indexmap.specs.IndexMap.{get}
+use Rattle.tl_county.specs.Entries.{value_under}
+use Rattle.tl_cert.proofs.images.Images.new.Given as goal
+
+abbrev pub invariant-loop-last : goal.invariant-loop-last
+invariant-loop-last g l = record {
+  done : List (g.row.K.Denot × g.row.K.Denot);
+  cut : l.pairs ≡ l.rest ++ done;
+  told : (old : g.row.K.Denot) → get g.K.PartialEq.eq l.table old ≡ value_under g.K.Ord.cmp old done;
+}
+
+abbrev pub decreases-loop-last : goal.decreases-loop-last
+decreases-loop-last g l = length l.rest

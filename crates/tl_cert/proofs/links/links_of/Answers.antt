@@ -1,0 +1,23 @@
+use Rattle.std.proofs.Common.{◌++◌, take, ap, refl, sym, ◌∙◌, subst, IsPermutation}
+use Rattle.std.proofs.lemmas.List.{length-map}
+use Rattle.tl_county.specs.ChartWords.{links_at}
+use Rattle.tl_county.specs.CountyRules.{lands}
+use Rattle.tl_cert.proofs.LinksCarried.{under_lands, next_land, all_lands}
+use Rattle.tl_cert.proofs.Places.{taken_all}
+use Rattle.tl_cert.proofs.links.links_of.Goals as goal
+
+pub loop-place-preserved : goal.loop-place-preserved
+loop-place-preserved g c =
+    let county = g.C.Chart.county c.args.chart.now in
+    c.in_ok-push_links.ensures ∙ ap (λ links. links ++ links_at county c.loop-place.place) c.loop-place.invariant
+    ∙ next_land county.links (lands county) c.loop-place.place
+
+pub returns : goal.returns
+returns g c =
+    let county = g.C.Chart.county c.args.chart.now in
+    subst (λ links. IsPermutation links county.links)
+    (sym (c.loop-place.invariant
+    ∙ ap (under_lands county.links) (taken_all (lands county) (take c.loop-place.place (lands county)) c.loop-place.place
+    c.landmark_count-count.result refl (length-map county.landmarks (λ entry. entry.0) ∙ sym c.landmark_count-count.ensures)
+    c.loop-place-test.false)))
+    (all_lands county (g.met.C.Chart.is_county c.args.chart.now))

@@ -1,0 +1,50 @@
+-- What it means that a county has the parts of another under their new numbers.
+use Rattle.std.specs.Prelude.{◌≡◌, ℕ, List, Bool, Option, Some, option_map}
+use Rattle.std.specs.Ordering.{nat_cmp}
+use Rattle.tl_layout.specs.declared.type5.Body5.{Body5}
+use Rattle.tl_layout.specs.declared.type7.Body7.{Body7}
+use Rattle.tl_layout.specs.declared.type_p.BodyP.{BodyP}
+use Rattle.tl_shape.specs.Chain.{Chain}
+use Rattle.tl_shape.specs.Turned.{turned_if}
+use Rattle.tl_county.specs.ChartWords.{chain_at, points_of, feats_of, ranges_of, chain_under, name_under, polygon_under, bodies_under}
+use Rattle.tl_county.specs.County.{County}
+use Rattle.tl_county.specs.PolygonKeys.{PolygonKey, key_cmp}
+use Rattle.tl_county.specs.Renumbering.{Renumbering, image, turns, renumbered}
+
+-- the chain at a place, turned or as it is
+abbrev pub chain_towards : County → ℕ → Bool → Option Chain
+chain_towards county place turned = option_map (turned_if turned) (chain_at county place)
+
+-- b has the chain, turned as the renaming says, under its new TLID
+abbrev pub IsChainThere : Renumbering → County → ℕ × Chain → Type 0
+IsChainThere r b entry = chain_under b (image nat_cmp r.chains entry.0) ≡ Some (renumbered r (turned_if (turns r entry.0) entry.1))
+
+-- b has the name under its new FEAT
+abbrev pub IsNameThere : Renumbering → County → ℕ × Body5 → Type 0
+IsNameThere r b entry = name_under b (image nat_cmp r.names entry.0) ≡ Some entry.1
+
+-- b has the polygon under its new key
+abbrev pub IsPolygonThere : Renumbering → County → PolygonKey × Option BodyP → Type 0
+IsPolygonThere r b entry = polygon_under b (image key_cmp r.polygons entry.0) ≡ Some entry.1
+
+-- b has the landmark's content under its new LAND
+abbrev pub IsLandmarkThere : Renumbering → County → ℕ × List Body7 → Type 0
+IsLandmarkThere r b entry = bodies_under b (image nat_cmp r.lands entry.0) ≡ entry.1
+
+-- two chains, or none, with the same content of their records of types 1 and I
+pub record HaveSameContent (o p : Option Chain) : Type 0 where
+  pub body : option_map (λ c. c.body) o ≡ option_map (λ c. c.body) p
+  pub link_body : option_map (λ c. c.link_body) o ≡ option_map (λ c. c.link_body) p
+
+-- with the same nodes and the same sides
+pub record HaveSameEnds (o p : Option Chain) : Type 0 where
+  pub start_node : option_map (λ c. c.start_node) o ≡ option_map (λ c. c.start_node) p
+  pub end_node : option_map (λ c. c.end_node) o ≡ option_map (λ c. c.end_node) p
+  pub left : option_map (λ c. c.left) o ≡ option_map (λ c. c.left) p
+  pub right : option_map (λ c. c.right) o ≡ option_map (λ c. c.right) p
+
+-- with the same points, names and address ranges
+pub record HaveSameLists (o p : Option Chain) : Type 0 where
+  pub points : points_of o ≡ points_of p
+  pub feats : feats_of o ≡ feats_of p
+  pub ranges : ranges_of o ≡ ranges_of p

@@ -1,0 +1,50 @@
+//! Whether a renaming carries one county onto another.
+
+ghost use Rattle.std.specs.Prelude.{IfOk};
+ghost use Rattle.std.specs.Bool.{Decides};
+ghost use Rattle.tl_county.specs.Renumbering.{Carries};
+
+use crate::chains::are_chains_there;
+use crate::links::are_links_there;
+use crate::numbers_paired::numbers_are_paired;
+use crate::parts::{are_landmarks_there, are_names_there, are_polygons_there};
+use crate::renaming::Renaming;
+use crate::renaming_tables::RenamingTables;
+use std::alloc::{AllocError, Global};
+use tl_county::Chart;
+
+/// Whether the renaming carries `a` onto `b`: its lists name each number of `a` once on the left and each of `b` once on the
+/// right, and under their new numbers, the told chains turned, the parts of `a` are those of `b`. It takes a few copies of the
+/// lists and of the links, and looks numbers up by tables.
+pub fn check<A: Chart, B: Chart>(
+    alloc: Global,
+    a: &A,
+    b: &B,
+    renaming: &Renaming,
+) -> Result<bool, AllocError>
+    ensures { IfOk result (λ yes. Decides yes (Carries renaming.now (A.county a.now) (B.county b.now))) }
+{
+    let paired = numbers_are_paired(alloc, a, b, renaming)?;
+    if !paired {
+        return Ok(false);
+    }
+    let tables = RenamingTables::new(alloc, renaming)?;
+    let chains = are_chains_there(a, b, &tables);
+    if !chains {
+        return Ok(false);
+    }
+    let names = are_names_there(a, b, &tables);
+    if !names {
+        return Ok(false);
+    }
+    let polygons = are_polygons_there(a, b, &tables);
+    if !polygons {
+        return Ok(false);
+    }
+    let landmarks = are_landmarks_there(a, b, &tables);
+    if !landmarks {
+        return Ok(false);
+    }
+    let links = are_links_there(alloc, a, b, &tables)?;
+    Ok(links)
+}

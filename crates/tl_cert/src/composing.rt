@@ -1,0 +1,63 @@
+//! The renaming back, and one renaming after another.
+
+ghost use Rattle.std.specs.Prelude.{◌≡◌, IfOk};
+ghost use Rattle.tl_county.specs.County.{County};
+ghost use Rattle.tl_county.specs.CountyRules.{IsCounty};
+ghost use Rattle.tl_county.specs.Renumbering.{Carries, inverse, then};
+
+use crate::images::Images;
+use crate::pairs::{join_pairs, named_images_of, swap_pairs};
+use crate::renaming::{Renaming, RenamingParts};
+use crate::turning::turned_once;
+use std::alloc::AllocError;
+
+impl Renaming {
+    /// The renaming back. It turns the new chains of those that this one turns; a turned TLID that `chains` doesn't name is
+    /// left out.
+    pub fn inverse(&self) -> Result<Renaming, AllocError>
+        ensures value { IfOk result (λ back. back ≡ inverse self.now) }
+        ensures carries_back { IfOk result (λ back. (a b : County) →
+            IsCounty a → IsCounty b → Carries self.now a b → Carries back b a) }
+    {
+        let alloc = self.allocator();
+        let chains = swap_pairs(alloc, self.chains())?;
+        let names = swap_pairs(alloc, self.names())?;
+        let polygons = swap_pairs(alloc, self.polygons())?;
+        let lands = swap_pairs(alloc, self.lands())?;
+        let nodes = swap_pairs(alloc, self.nodes())?;
+        let images = Images::new(alloc, self.chains())?;
+        let turned = named_images_of(alloc, &images, self.turned())?;
+        Ok(Renaming::of_parts(RenamingParts {
+            chains,
+            names,
+            polygons,
+            lands,
+            nodes,
+            turned,
+        }))
+    }
+
+    /// This renaming and then the next one. A number whose new number `next` doesn't name is left out; a chain is turned if one
+    /// of the two turns it and the other doesn't.
+    pub fn then(&self, next: &Renaming) -> Result<Renaming, AllocError>
+        ensures value { IfOk result (λ both. both ≡ then self.now next.now) }
+        ensures carries_on { IfOk result (λ both. (a b c : County) →
+            IsCounty a → IsCounty b → Carries self.now a b → Carries next.now b c → Carries both a c) }
+    {
+        let alloc = self.allocator();
+        let chains = join_pairs(alloc, self.chains(), next.chains())?;
+        let names = join_pairs(alloc, self.names(), next.names())?;
+        let polygons = join_pairs(alloc, self.polygons(), next.polygons())?;
+        let lands = join_pairs(alloc, self.lands(), next.lands())?;
+        let nodes = join_pairs(alloc, self.nodes(), next.nodes())?;
+        let turned = turned_once(alloc, &chains, self.chains(), self.turned(), next.turned())?;
+        Ok(Renaming::of_parts(RenamingParts {
+            chains,
+            names,
+            polygons,
+            lands,
+            nodes,
+            turned,
+        }))
+    }
+}

@@ -1,0 +1,99 @@
+//! Whether a county has the links of another's landmarks under their new numbers.
+
+ghost use Rattle.std.specs.Prelude.{◌≡◌, ◌++◌, IfOk, IsPermutation, OnOk, map};
+ghost use Rattle.std.specs.Bool.{Decides};
+ghost use Rattle.tl_county.specs.ChartWords.{links_at};
+ghost use Rattle.tl_county.specs.Renumbering.{carried_link};
+ghost use Rattle.tl_cert.specs.LinkFields.{link_fields};
+
+use crate::pairing::are_reordered;
+use crate::renaming_tables::RenamingTables;
+use std::alloc::{AllocError, Global};
+use tl_county::Chart;
+use tl_layout::Rec8;
+
+/// The fields of a link in their order: LAND, POLYID, CENID, FILE.
+type LinkFields = (u64, (u64, ([u8; 5], [u8; 5])));
+
+/// Adds the links of the landmark at a place.
+fn push_links<C: Chart>(links: &mut Vec<Rec8>, chart: &C, place: usize) -> Result<(), AllocError>
+    ensures { OnOk result (links.new.items ≡ links.old.items ++ links_at (C.county chart.now) place) }
+{
+    let count = chart.link_count_at(place);
+    for link in 0..count {
+        links.push(chart.landmark_link(place, link))?;
+    }
+    Ok(())
+}
+
+/// The links of a county, landmark by landmark.
+fn links_of<C: Chart>(alloc: Global, chart: &C) -> Result<Vec<Rec8>, AllocError>
+    ensures { IfOk result (λ links. IsPermutation links.items (C.county chart.now).links) }
+{
+    let count = chart.landmark_count();
+    let mut links = Vec::new(alloc);
+    for place in 0..count {
+        push_links(&mut links, chart, place)?;
+    }
+    Ok(links)
+}
+
+/// The fields of a link.
+fn fields_of(link: &Rec8) -> LinkFields
+    ensures { result ≡ link_fields link.now }
+{
+    (link.land(), (link.polyid(), (link.cenid(), link.file())))
+}
+
+/// The fields of a link under its new numbers.
+fn new_fields_of(tables: &RenamingTables, link: &Rec8) -> LinkFields
+    ensures { result ≡ link_fields (carried_link tables.now link.now) }
+{
+    let old_cenid = link.cenid();
+    let key = tables.polygon((old_cenid, link.polyid()));
+    let cenid = key.0;
+    (tables.land(link.land()), (key.1, (cenid, link.file())))
+}
+
+/// The fields of links.
+fn all_fields(alloc: Global, links: &[Rec8]) -> Result<Vec<LinkFields>, AllocError>
+    ensures { IfOk result (λ fields. fields.items ≡ map link_fields links.now) }
+{
+    let mut fields = Vec::with_capacity(alloc, links.len())?;
+    for link in links {
+        fields.push(fields_of(link))?;
+    }
+    Ok(fields)
+}
+
+/// The fields of links under their new numbers.
+fn all_new_fields(
+    alloc: Global,
+    tables: &RenamingTables,
+    links: &[Rec8],
+) -> Result<Vec<LinkFields>, AllocError>
+    ensures { IfOk result (λ fields. fields.items ≡ map (λ link. link_fields (carried_link tables.now link)) links.now) }
+{
+    let mut fields = Vec::with_capacity(alloc, links.len())?;
+    for link in links {
+        fields.push(new_fields_of(tables, link))?;
+    }
+    Ok(fields)
+}
+
+/// Whether the links of `b` are those of `a` under their new numbers, each as often.
+pub(crate) fn are_links_there<A: Chart, B: Chart>(
+    alloc: Global,
+    a: &A,
+    b: &B,
+    tables: &RenamingTables,
+) -> Result<bool, AllocError>
+    ensures { IfOk result (λ yes. Decides yes (IsPermutation (map (carried_link tables.now) (A.county a.now).links) (B.county b.now).links)) }
+{
+    let olds = links_of(alloc, a)?;
+    let fields = all_new_fields(alloc, tables, &olds)?;
+    let news = links_of(alloc, b)?;
+    let known = all_fields(alloc, &news)?;
+    let there = are_reordered(fields, known)?;
+    Ok(there)
+}

@@ -1,0 +1,190 @@
+//! Whether the lists of a renaming are those of the numbers of two counties.
+
+ghost use Rattle.std.specs.Prelude.{◌≡◌, IfOk, IsTrue, false};
+ghost use Rattle.std.specs.Bool.{Decides};
+ghost use Rattle.std.specs.List.{AllByRecursion};
+ghost use Rattle.std.specs.Ordering.{nat_cmp};
+ghost use Rattle.tl_county.specs.CountyRules.{feats, lands, nodes, polygon_keys, tlids};
+ghost use Rattle.tl_county.specs.Orders.{IsInOrder, has_repeat, stands_in};
+ghost use Rattle.tl_county.specs.Renumbering.{ArePaired, NumbersArePaired};
+
+use crate::numbers::{feats_of, lands_of, nodes_of, polygon_keys_of, tlids_of};
+use crate::pairing::are_paired;
+use crate::renaming::Renaming;
+use crate::turning::sorted;
+use std::alloc::{AllocError, Global};
+use tl_county::{Chart, PolygonKey};
+
+/// Whether the pairs are of the TLIDs of the two counties.
+fn tlids_are_paired<A: Chart, B: Chart>(
+    alloc: Global,
+    a: &A,
+    b: &B,
+    pairs: &[(u64, u64)],
+) -> Result<bool, AllocError>
+    ensures { IfOk result (λ yes. Decides yes (ArePaired pairs.now (tlids (A.county a.now)) (tlids (B.county b.now)))) }
+{
+    let olds = tlids_of(alloc, a)?;
+    let news = tlids_of(alloc, b)?;
+    let paired = are_paired(alloc, pairs, &olds, &news)?;
+    Ok(paired)
+}
+
+/// Whether the pairs are of the FEATs of the two counties.
+fn feats_are_paired<A: Chart, B: Chart>(
+    alloc: Global,
+    a: &A,
+    b: &B,
+    pairs: &[(u32, u32)],
+) -> Result<bool, AllocError>
+    ensures { IfOk result (λ yes. Decides yes (ArePaired pairs.now (feats (A.county a.now)) (feats (B.county b.now)))) }
+{
+    let olds = feats_of(alloc, a)?;
+    let news = feats_of(alloc, b)?;
+    let paired = are_paired(alloc, pairs, &olds, &news)?;
+    Ok(paired)
+}
+
+/// Whether the pairs are of the polygons of the two counties.
+fn polygon_keys_are_paired<A: Chart, B: Chart>(
+    alloc: Global,
+    a: &A,
+    b: &B,
+    pairs: &[(PolygonKey, PolygonKey)],
+) -> Result<bool, AllocError>
+    ensures { IfOk result (λ yes. Decides yes (ArePaired pairs.now (polygon_keys (A.county a.now)) (polygon_keys (B.county b.now)))) }
+{
+    let olds = polygon_keys_of(alloc, a)?;
+    let news = polygon_keys_of(alloc, b)?;
+    let paired = are_paired(alloc, pairs, &olds, &news)?;
+    Ok(paired)
+}
+
+/// Whether the pairs are of the LANDs of the two counties.
+fn lands_are_paired<A: Chart, B: Chart>(
+    alloc: Global,
+    a: &A,
+    b: &B,
+    pairs: &[(u64, u64)],
+) -> Result<bool, AllocError>
+    ensures { IfOk result (λ yes. Decides yes (ArePaired pairs.now (lands (A.county a.now)) (lands (B.county b.now)))) }
+{
+    let olds = lands_of(alloc, a)?;
+    let news = lands_of(alloc, b)?;
+    let paired = are_paired(alloc, pairs, &olds, &news)?;
+    Ok(paired)
+}
+
+/// Whether the pairs are of the nodes of the two counties.
+fn nodes_are_paired<A: Chart, B: Chart>(
+    alloc: Global,
+    a: &A,
+    b: &B,
+    pairs: &[(u64, u64)],
+) -> Result<bool, AllocError>
+    ensures { IfOk result (λ yes. Decides yes (ArePaired pairs.now (nodes (A.county a.now)) (nodes (B.county b.now)))) }
+{
+    let olds = nodes_of(alloc, a)?;
+    let news = nodes_of(alloc, b)?;
+    let paired = are_paired(alloc, pairs, &olds, &news)?;
+    Ok(paired)
+}
+
+/// Whether two polygons have one CENID.
+fn have_one_cenid(old: PolygonKey, new: PolygonKey) -> bool
+    ensures { Decides result (old.0 ≡ new.0) }
+{
+    old.0 == new.0
+}
+
+/// Whether both polygons of each pair have one CENID.
+fn keep_cenids(pairs: &[(PolygonKey, PolygonKey)]) -> bool
+    ensures { Decides result (AllByRecursion (λ pair. pair.0.0 ≡ pair.1.0) pairs.now) }
+{
+    for pair in pairs {
+        let same = have_one_cenid(pair.0, pair.1);
+        if !same {
+            return false;
+        }
+    }
+    true
+}
+
+/// Whether each of these is a TLID of the county.
+fn are_tlids<C: Chart>(chart: &C, turned: &[u64]) -> bool
+    ensures { Decides result (AllByRecursion (λ tlid. IsTrue (stands_in nat_cmp tlid (tlids (C.county chart.now)))) turned.now) }
+{
+    for tlid in turned {
+        if chart.chain_place(*tlid).is_none() {
+            return false;
+        }
+    }
+    true
+}
+
+/// Whether none of the numbers, which are in order, stands twice.
+fn ascend(numbers: &[u64]) -> bool
+    requires { IsInOrder nat_cmp numbers.now }
+    ensures { Decides result (has_repeat nat_cmp numbers.now ≡ false) }
+{
+    let mut rest = numbers;
+    while let Some((first, later)) = rest.split_first() {
+        if let Some((second, _)) = later.split_first() {
+            if *first == *second {
+                return false;
+            }
+        }
+        rest = later;
+    }
+    true
+}
+
+/// Whether none of the numbers stands twice.
+fn stand_once(alloc: Global, numbers: &[u64]) -> Result<bool, AllocError>
+    ensures { IfOk result (λ yes. Decides yes (has_repeat nat_cmp numbers.now ≡ false)) }
+{
+    let sorted = sorted(alloc, numbers)?;
+    Ok(ascend(&sorted))
+}
+
+/// Whether the renaming's lists are those of the numbers of the two counties: each old number stands once on the left and each
+/// new one once on the right, and no other, polygons keep their CENIDs, and each turned TLID is told once.
+pub(crate) fn numbers_are_paired<A: Chart, B: Chart>(
+    alloc: Global,
+    a: &A,
+    b: &B,
+    renaming: &Renaming,
+) -> Result<bool, AllocError>
+    ensures { IfOk result (λ yes. Decides yes (NumbersArePaired renaming.now (A.county a.now) (B.county b.now))) }
+{
+    let chains = tlids_are_paired(alloc, a, b, renaming.chains())?;
+    if !chains {
+        return Ok(false);
+    }
+    let names = feats_are_paired(alloc, a, b, renaming.names())?;
+    if !names {
+        return Ok(false);
+    }
+    let polygons = polygon_keys_are_paired(alloc, a, b, renaming.polygons())?;
+    if !polygons {
+        return Ok(false);
+    }
+    let lands = lands_are_paired(alloc, a, b, renaming.lands())?;
+    if !lands {
+        return Ok(false);
+    }
+    let nodes = nodes_are_paired(alloc, a, b, renaming.nodes())?;
+    if !nodes {
+        return Ok(false);
+    }
+    let cenids = keep_cenids(renaming.polygons());
+    if !cenids {
+        return Ok(false);
+    }
+    let turned = are_tlids(a, renaming.turned());
+    if !turned {
+        return Ok(false);
+    }
+    let once = stand_once(alloc, renaming.turned())?;
+    Ok(once)
+}
