@@ -15,6 +15,10 @@ use Rattle.tl_county.specs.Renumbering.{Renumbering, image, turns, renumbered}
 abbrev pub chain_towards : County → ℕ → Bool → Option Chain
 chain_towards county place turned = option_map (turned_if turned) (chain_at county place)
 
+-- the same under its new numbers
+abbrev pub chain_carried : Renumbering → County → ℕ → Bool → Option Chain
+chain_carried r county place turned = option_map (renumbered r) (chain_towards county place turned)
+
 -- b has the chain, turned as the renaming says, under its new TLID
 abbrev pub IsChainThere : Renumbering → County → ℕ × Chain → Type 0
 IsChainThere r b entry = chain_under b (image nat_cmp r.chains entry.0) ≡ Some (renumbered r (turned_if (turns r entry.0) entry.1))

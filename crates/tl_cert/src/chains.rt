@@ -5,8 +5,9 @@ ghost use Rattle.std.specs.Bool.{Decides};
 ghost use Rattle.std.specs.List.{AllByRecursion};
 ghost use Rattle.std.specs.Ordering.{nat_cmp};
 ghost use Rattle.tl_county.specs.ChartWords.{chain_at, feats_of, points_of, ranges_of};
-ghost use Rattle.tl_county.specs.Renumbering.{image, renumbered, renumbered_side};
-ghost use Rattle.tl_cert.specs.PartsThere.{HaveSameContent, HaveSameEnds, HaveSameLists, IsChainThere, chain_towards};
+ghost use Rattle.tl_county.specs.Renumbering.{image, renumbered_side};
+ghost use Rattle.tl_cert.specs.PartsThere.{HaveSameContent, HaveSameEnds, HaveSameLists, IsChainThere};
+ghost use Rattle.tl_cert.specs.PartsThere.{chain_carried, chain_towards};
 
 use crate::renaming_tables::RenamingTables;
 use tl_county::Chart;
@@ -230,7 +231,8 @@ fn have_same_feats<A: Chart, B: Chart>(
     other: usize,
     tables: &RenamingTables,
 ) -> bool
-    ensures { Decides result (feats_of (chain_at (B.county b.now) other) ≡ map (image nat_cmp tables.now.names) (feats_of (chain_at (A.county a.now) place))) }
+    ensures { Decides result (feats_of (chain_at (B.county b.now) other) ≡
+        map (image nat_cmp tables.now.names) (feats_of (chain_at (A.county a.now) place))) }
 {
     let count = a.feat_count_at(place);
     if b.feat_count_at(other) != count {
@@ -279,7 +281,7 @@ fn have_same_content<A: Chart, B: Chart>(
     other: usize,
     tables: &RenamingTables,
 ) -> bool
-    ensures { Decides result (HaveSameContent (chain_at (B.county b.now) other) (option_map (renumbered tables.now) (chain_towards (A.county a.now) place turned))) }
+    ensures { Decides result (HaveSameContent (chain_at (B.county b.now) other) (chain_carried tables.now (A.county a.now) place turned)) }
 {
     let body = is_same_body(b.chain_body_at(other), body_towards(a, place, turned));
     if !body {
@@ -297,7 +299,7 @@ fn have_same_ends<A: Chart, B: Chart>(
     other: usize,
     tables: &RenamingTables,
 ) -> bool
-    ensures { Decides result (HaveSameEnds (chain_at (B.county b.now) other) (option_map (renumbered tables.now) (chain_towards (A.county a.now) place turned))) }
+    ensures { Decides result (HaveSameEnds (chain_at (B.county b.now) other) (chain_carried tables.now (A.county a.now) place turned)) }
 {
     let start = is_node_there(
         tables,
@@ -318,8 +320,8 @@ fn have_same_ends<A: Chart, B: Chart>(
     is_side_there(tables, right_towards(a, place, turned), b.right_at(other))
 }
 
-/// Whether a chain of `b` has the points, the names and the address ranges of a chain of `a`, turned if told, under their new
-/// numbers.
+/// Whether a chain of `b` has the points, the names and the address ranges of a chain of `a`, turned if told, under
+/// their new numbers.
 fn have_same_lists<A: Chart, B: Chart>(
     a: &A,
     place: usize,
@@ -328,7 +330,7 @@ fn have_same_lists<A: Chart, B: Chart>(
     other: usize,
     tables: &RenamingTables,
 ) -> bool
-    ensures { Decides result (HaveSameLists (chain_at (B.county b.now) other) (option_map (renumbered tables.now) (chain_towards (A.county a.now) place turned))) }
+    ensures { Decides result (HaveSameLists (chain_at (B.county b.now) other) (chain_carried tables.now (A.county a.now) place turned)) }
 {
     let points = have_same_points(a, place, turned, b, other);
     if !points {
@@ -350,7 +352,7 @@ fn is_same_chain<A: Chart, B: Chart>(
     other: usize,
     tables: &RenamingTables,
 ) -> bool
-    ensures { Decides result (chain_at (B.county b.now) other ≡ option_map (renumbered tables.now) (chain_towards (A.county a.now) place turned)) }
+    ensures { Decides result (chain_at (B.county b.now) other ≡ chain_carried tables.now (A.county a.now) place turned) }
 {
     let content = have_same_content(a, place, turned, b, other, tables);
     if !content {

@@ -13,9 +13,9 @@ use crate::renaming_tables::RenamingTables;
 use std::alloc::{AllocError, Global};
 use tl_county::Chart;
 
-/// Whether the renaming carries `a` onto `b`: its lists name each number of `a` once on the left and each of `b` once on the
-/// right, and under their new numbers, the told chains turned, the parts of `a` are those of `b`. It takes a few copies of the
-/// lists and of the links, and looks numbers up by tables.
+/// Whether the renaming carries `a` onto `b`: its lists name each number of `a` once on the left and each of `b` once
+/// on the right, and under their new numbers, the told chains turned, the parts of `a` are those of `b`. It takes a few
+/// copies of the lists and of the links, and looks numbers up by tables.
 pub fn check<A: Chart, B: Chart>(
     alloc: Global,
     a: &A,

@@ -88,7 +88,8 @@ pub(crate) fn are_links_there<A: Chart, B: Chart>(
     b: &B,
     tables: &RenamingTables,
 ) -> Result<bool, AllocError>
-    ensures { IfOk result (λ yes. Decides yes (IsPermutation (map (carried_link tables.now) (A.county a.now).links) (B.county b.now).links)) }
+    ensures { IfOk result (λ yes. Decides yes
+        (IsPermutation (map (carried_link tables.now) (A.county a.now).links) (B.county b.now).links)) }
 {
     let olds = links_of(alloc, a)?;
     let fields = all_new_fields(alloc, tables, &olds)?;

@@ -147,8 +147,8 @@ fn stand_once(alloc: Global, numbers: &[u64]) -> Result<bool, AllocError>
     Ok(ascend(&sorted))
 }
 
-/// Whether the renaming's lists are those of the numbers of the two counties: each old number stands once on the left and each
-/// new one once on the right, and no other, polygons keep their CENIDs, and each turned TLID is told once.
+/// Whether the renaming's lists are those of the numbers of the two counties: each old number stands once on the left
+/// and each new one once on the right, and no other, polygons keep their CENIDs, and each turned TLID is told once.
 pub(crate) fn numbers_are_paired<A: Chart, B: Chart>(
     alloc: Global,
     a: &A,

@@ -50,8 +50,8 @@ pub(crate) fn are_reordered<K: Key>(ones: Vec<K>, others: Vec<K>) -> Result<bool
     Ok(yes)
 }
 
-/// Whether the pairs name each old number once on the left and each new one once on the right, and no other; both lists are in
-/// order.
+/// Whether the pairs name each old number once on the left and each new one once on the right, and no other; both lists
+/// are in order.
 pub(crate) fn are_paired<K: Key>(
     alloc: Global,
     pairs: &[(K, K)],

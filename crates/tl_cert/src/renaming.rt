@@ -8,8 +8,8 @@ use std::marker::Model;
 /// A polygon: its CENID and its POLYID.
 pub type PolygonKey = ([u8; 5], u64);
 
-/// The parts of a renaming by their names: pairs of an old and a new number, kind by kind, and the old TLIDs of the chains
-/// that are turned.
+/// The parts of a renaming by their names: pairs of an old and a new number, kind by kind, and the old TLIDs of the
+/// chains that are turned.
 #[derive(Debug, Drop)]
 pub struct RenamingParts {
     /// TLIDs.

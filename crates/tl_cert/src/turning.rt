@@ -30,8 +30,8 @@ fn push_if(numbers: &mut Vec<u64>, test: bool, number: u64) -> Result<(), AllocE
     Ok(())
 }
 
-/// Whether exactly one of two renamings turns the chain of an old TLID: the first turns the chains of `firsts`, and the next one
-/// those of `nexts` under the numbers that the first one gives. Both lists are in order.
+/// Whether exactly one of two renamings turns the chain of an old TLID: the first turns the chains of `firsts`, and the
+/// next one those of `nexts` under the numbers that the first one gives. Both lists are in order.
 fn turns_once(images: &Images<u64>, firsts: &[u64], nexts: &[u64], tlid: u64) -> bool
     requires firsts { IsInOrder nat_cmp firsts.now }
     requires nexts { IsInOrder nat_cmp nexts.now }
@@ -52,7 +52,8 @@ fn turned_by_one(
 ) -> Result<Vec<u64>, AllocError>
     requires firsts { IsInOrder nat_cmp firsts.now }
     requires nexts { IsInOrder nat_cmp nexts.now }
-    ensures { IfOk result (λ turned. turned.items ≡ filter (is_turned_once images.now firsts.now nexts.now) (map (λ pair. pair.0) pairs.now)) }
+    ensures { IfOk result (λ turned.
+        turned.items ≡ filter (is_turned_once images.now firsts.now nexts.now) (map (λ pair. pair.0) pairs.now)) }
 {
     let mut turned = Vec::new(alloc);
     for pair in pairs {
@@ -62,8 +63,8 @@ fn turned_by_one(
     Ok(turned)
 }
 
-/// The old numbers of those pairs whose chains exactly one of two renamings turns: the first has these chains and turns those
-/// of `firsts`, the next one turns those of `nexts`.
+/// The old numbers of those pairs whose chains exactly one of two renamings turns: the first has these chains and turns
+/// those of `firsts`, the next one turns those of `nexts`.
 pub(crate) fn turned_once(
     alloc: Global,
     pairs: &[(u64, u64)],
@@ -71,7 +72,8 @@ pub(crate) fn turned_once(
     firsts: &[u64],
     nexts: &[u64],
 ) -> Result<Vec<u64>, AllocError>
-    ensures { IfOk result (λ turned. turned.items ≡ filter (is_turned_once chains.now firsts.now nexts.now) (map (λ pair. pair.0) pairs.now)) }
+    ensures { IfOk result (λ turned.
+        turned.items ≡ filter (is_turned_once chains.now firsts.now nexts.now) (map (λ pair. pair.0) pairs.now)) }
 {
     let images = Images::new(alloc, chains)?;
     let firsts = sorted(alloc, firsts)?;
