@@ -84,7 +84,7 @@ fn tells_a_full_writer(rt: HostRuntime) -> Result<(), Fail> {
     let set = joined(alloc, &[CHAIN, "\n", LINK])?;
     let (status, out, err) = normalised(alloc, vec![in alloc; file(&set, None)]?, 300);
     assert_eq!(rt; status, 4);
-    assert_eq!(rt; out.as_slice(), &text[..300]);
+    assert!(rt; out.len() == 300 && text.starts_with(&out));
     assert_eq!(rt; err.as_slice(), b"refused 10 WriteFault 300\n".as_slice());
     Ok(())
 }

@@ -59,17 +59,22 @@ fn lines_of(alloc: Global, patterns: &[&str]) -> Result<Vec<u8>, AllocError> {
     Ok(bytes)
 }
 
-/// The set of one part has this canonical text, in memory and at a sink, whatever the reads and the writes take.
-fn has_text(rt: &impl Abort, alloc: Global, set: &[u8], text: &[u8]) -> Result<(), Fail> {
-    let parts = [set];
-    assert_eq!(rt; normalise(alloc, parts.as_slice())?.as_slice(), text);
-    let mut sources = [SlowSource::new(set, 100, None)];
+/// What goes to a sink is the text, whatever the reads and the writes take.
+fn goes_out(rt: &impl Abort, alloc: Global, set: &[u8], text: &[u8]) -> Result<(), Fail> {
     let mut room = vec![in alloc; 0u8; 1000]?;
     let mut sink = SlowSink::new(&mut room, 7);
+    let mut sources = [SlowSource::new(set, 100, None)];
     let written = normalise_to(alloc, &mut sources, &mut sink)?;
     assert_eq!(rt; written, text.len() as u64);
     assert_eq!(rt; sink.held(), text);
     Ok(())
+}
+
+/// The set of one part has this canonical text, in memory and at a sink.
+fn has_text(rt: &impl Abort, alloc: Global, set: &[u8], text: &[u8]) -> Result<(), Fail> {
+    let parts = [set];
+    assert_eq!(rt; normalise(alloc, parts.as_slice())?.as_slice(), text);
+    goes_out(rt, alloc, set, text)
 }
 
 /// The lines have this canonical text, in whatever order they come, and the text is its own.
