@@ -1,7 +1,10 @@
 //! The library's calls on worked examples, and jobs over files and devices that fail.
 
+mod agreement;
 mod arena;
+mod canonical_counties;
 mod checks;
+mod comparing;
 mod devices;
 mod jobs;
 mod lines;
