@@ -1,9 +1,12 @@
 //! The library's calls on worked examples, and jobs over files and devices that fail.
 
+mod agreement;
 mod arena;
+mod canonical_counties;
 mod canonical_jobs;
 mod canonical_texts;
 mod checks;
+mod comparing;
 mod devices;
 mod jobs;
 mod lines;

@@ -3,14 +3,14 @@
 use super::sets::{CHAIN, LINK};
 
 /// The chain of Main St seen from its other end, with the TLID 77.
-const TURNED: &str =
+pub(super) const TURNED: &str =
     "10306{8}77{1}A{2}Main{26}St{4}A41{8}198{8}100{8}199{8}101{2}103600636003{14}0101001001{30}02030002020020021001{1}-86468545+32424948{1}-86468669+32424914";
 
 /// The line of record type I of that chain.
 const TURNED_LINK: &str = "I{4}01001{8}77{9}6{9}5";
 
 /// The line of record type I of Main St between two polygons 12.
-const SIDES: &str = "I{4}01001{7}500{8}11{8}1200001{8}1200002{8}12";
+pub(super) const SIDES: &str = "I{4}01001{7}500{8}11{8}1200001{8}1200002{8}12";
 
 /// A name.
 const OLD_MILL_8: &str = "5{4}01001{7}8{2}Old{1}Mill{22}Rd";

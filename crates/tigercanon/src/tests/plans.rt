@@ -1,80 +1,98 @@
 //! Command lines.
 
+use super::comparing::{same, same_items};
 use super::devices::SlowWriter;
 use crate::{Job, Plan, PlanFault, plan, tell};
+use std::alloc::Global;
+use std::process::Abort;
 use std::test::Fail;
+
+/// The words of a command line.
+fn words_of(alloc: Global, line: &[&str]) -> Result<Vec<String>, Fail> {
+    let mut words = Vec::new(alloc);
+    for word in line {
+        words.push(String::from_str(alloc, word)?)?;
+    }
+    Ok(words)
+}
+
+/// The subcommand and the file name plan this job.
+fn plans(rt: &impl Abort, alloc: Global, word: &str, name: &str, job: Job) -> Result<(), Fail> {
+    let plan = plan(alloc, &words_of(alloc, &[word, name])?)?;
+    same(rt, &plan.job, &job);
+    same_items(rt, &plan.first, &words_of(alloc, &[name])?);
+    assert!(rt; plan.second.is_empty());
+    Ok(())
+}
 
 #[test]
 fn plans_a_job_over_a_file(rt: HostRuntime) -> Result<(), Fail> {
     let alloc = rt.alloc();
-    for (word, planned, name) in [
-        ("respell", Job::Respell, "county.txt"),
-        ("respell", Job::Respell, "help"),
-        ("check", Job::Check, "county.txt"),
-        ("check", Job::Check, "a b"),
-        ("normalise", Job::Normalise, "county.txt"),
-    ] {
-        let words = vec![in alloc;
-            String::from_str(alloc, word)?,
-            String::from_str(alloc, name)?,
-        ]?;
-        let Plan { job, first, second } = plan(alloc, &words)?;
-        assert_eq!(rt; job, planned);
-        assert_eq!(rt; first.len(), 1);
-        assert_eq!(rt; first[0].as_str(), name);
-        assert!(rt; second.is_empty());
-    }
+    plans(&rt, alloc, "respell", "county.txt", Job::Respell)?;
+    plans(&rt, alloc, "respell", "help", Job::Respell)?;
+    plans(&rt, alloc, "check", "county.txt", Job::Check)?;
+    plans(&rt, alloc, "check", "a b", Job::Check)?;
+    plans(&rt, alloc, "normalise", "county.txt", Job::Normalise)
+}
+
+/// The words of the command line are no plan, and standard error gets text that begins so.
+fn tells_usage(rt: &impl Abort, alloc: Global, line: &[&str], told: &str) -> Result<(), Fail> {
+    let fault = plan(alloc, &words_of(alloc, line)?)
+        .err()
+        .ok_or("nothing is planned")?;
+    let mut err = SlowWriter {
+        held: Vec::new(alloc),
+        step: 7,
+        room: Some(10_000),
+    };
+    same(rt, &tell(&fault, &mut err), &2);
+    assert!(rt; err.held.starts_with(told.as_bytes()), "for {line:?}");
     Ok(())
+}
+
+#[test]
+fn tells_what_is_missing_or_unexpected(rt: HostRuntime) -> Result<(), Fail> {
+    let alloc = rt.alloc();
+    tells_usage(&rt, alloc, &[], "error: 'tigercanon' requires a subcommand")?;
+    let missing = "error: the following required arguments were not provided";
+    tells_usage(&rt, alloc, &["respell"], missing)?;
+    let unexpected = "error: unexpected argument 'b' found";
+    tells_usage(&rt, alloc, &["respell", "a", "b"], unexpected)?;
+    tells_usage(&rt, alloc, &["check", "a", "b"], unexpected)?;
+    let option = "error: unexpected argument '--loud' found";
+    tells_usage(&rt, alloc, &["respell", "--loud", "a"], option)?;
+    tells_usage(
+        &rt,
+        alloc,
+        &["spell", "a"],
+        "error: unrecognized subcommand 'spell'",
+    )
 }
 
 #[test]
 fn tells_the_usage(rt: HostRuntime) -> Result<(), Fail> {
     let alloc = rt.alloc();
-    let lines: [(&[&str], &str); 11] = [
-        (&[], "error: 'tigercanon' requires a subcommand"),
-        (&["--help"], "Reads TIGER/Line 2006 record files"),
-        (&["--version"], "tigercanon "),
-        (
-            &["help", "respell"],
-            "Print the records in canonical spelling",
-        ),
-        (
-            &["respell"],
-            "error: the following required arguments were not provided",
-        ),
-        (
-            &["respell", "a", "b"],
-            "error: unexpected argument 'b' found",
-        ),
-        (
-            &["respell", "--loud", "a"],
-            "error: unexpected argument '--loud' found",
-        ),
-        (&["spell", "a"], "error: unrecognized subcommand 'spell'"),
-        (
-            &["help", "normalise"],
-            "Print the canonical text of the map",
-        ),
-        (&["help", "check"], "Say whether the records fit together"),
-        (&["check", "a", "b"], "error: unexpected argument 'b' found"),
-    ];
-    for (line, told) in lines {
-        let words: Vec<String> = line
-            .iter()
-            .map(|word| String::from_str(alloc, word))
-            .try_collect(alloc)?;
-        let mut err = SlowWriter {
-            held: Vec::new(alloc),
-            step: 7,
-            room: Some(10_000),
-        };
-        match plan(alloc, &words) {
-            Ok(_) => assert!(rt; false, "planned {line:?}"),
-            Err(fault) => assert_eq!(rt; tell(&fault, &mut err), 2, "for {line:?}"),
-        }
-        assert!(rt; err.held.starts_with(told.as_bytes()), "for {line:?}");
-    }
-    Ok(())
+    tells_usage(
+        &rt,
+        alloc,
+        &["--help"],
+        "Reads TIGER/Line 2006 record files",
+    )?;
+    tells_usage(&rt, alloc, &["--version"], "tigercanon ")?;
+    let respell = "Print the records in canonical spelling";
+    tells_usage(&rt, alloc, &["help", "respell"], respell)?;
+    tells_usage(
+        &rt,
+        alloc,
+        &["help", "check"],
+        "Say whether the records fit together",
+    )?;
+    tells_usage(
+        &rt,
+        alloc,
+        &["help", "normalise"],
+        "Print the canonical text of the map",
+    )
 }
 
 #[test]
@@ -85,6 +103,6 @@ fn tells_want_of_memory(rt: HostRuntime) {
         step: 7,
         room: Some(10_000),
     };
-    assert_eq!(rt; tell(&PlanFault::Memory, &mut err), 5);
-    assert_eq!(rt; err.held.as_slice(), b"refused 9 Memory\n".as_slice());
+    same(&rt, &tell(&PlanFault::Memory, &mut err), &5);
+    same_items(&rt, &err.held, b"refused 9 Memory\n");
 }

@@ -1,7 +1,10 @@
 //! A chain as the loader gives it, and its turn.
 
+use super::comparing::{same, same_items};
+use super::linked_sets::{SIDES, TURNED};
 use super::sets::{CHAIN, LINK, expanded};
 use std::alloc::Global;
+use std::process::Abort;
 use std::test::Fail;
 use tl_layout::{Rec1, RecI, Record, Turn};
 use tl_load::Loader;
@@ -36,41 +39,51 @@ fn chain_of(alloc: Global, first: &Rec1, link: &RecI) -> Result<Chain, Fail> {
     ))
 }
 
-/// The chain of Main St.
-fn main_street(alloc: Global) -> Result<Chain, Fail> {
-    match (&record_of(alloc, CHAIN)?, &record_of(alloc, LINK)?) {
+/// The chain of these two lines.
+fn chain_of_lines(alloc: Global, first: &str, link: &str) -> Result<Chain, Fail> {
+    match (&record_of(alloc, first)?, &record_of(alloc, link)?) {
         (Record::One(first), Record::I(link)) => chain_of(alloc, first, link),
         _ => Err("the chain is of types 1 and I")?,
     }
 }
 
+/// The members of two chains are the same.
+fn have_the_same_members(rt: &impl Abort, chain: &Chain, other: &Chain) {
+    same(rt, chain.body(), other.body());
+    same_items(rt, chain.shape().points(), other.shape().points());
+    same_items(rt, chain.feats(), other.feats());
+    same_items(rt, chain.ranges(), other.ranges());
+    same(rt, chain.link_body(), other.link_body());
+    same(rt, &chain.start_node(), &other.start_node());
+    same(rt, &chain.end_node(), &other.end_node());
+    same(rt, chain.left(), other.left());
+    same(rt, chain.right(), other.right());
+}
+
+/// The chain of the first two lines becomes that of the other two by a turn, and itself again by a second one.
+fn turns(rt: &impl Abort, alloc: Global, lines: [&str; 2], others: [&str; 2]) -> Result<(), Fail> {
+    let mut chain = chain_of_lines(alloc, lines[0], lines[1])?;
+    assert!(rt; !chain.shape().needs_turn());
+    chain.turn();
+    have_the_same_members(rt, &chain, &chain_of_lines(alloc, others[0], others[1])?);
+    assert!(rt; chain.shape().needs_turn());
+    chain.turn();
+    have_the_same_members(rt, &chain, &chain_of_lines(alloc, lines[0], lines[1])?);
+    Ok(())
+}
+
+/// The link of Main St from its other end.
+const TURNED_LINK: &str = "I{4}01001{8}77{8}12{8}11{87}";
+
+/// The same between its two polygons.
+const TURNED_SIDES: &str = "I{4}01001{8}77{8}12{8}1100002{8}1200001{8}12";
+
 #[test]
 fn turns_a_chain(rt: HostRuntime) -> Result<(), Fail> {
-    let alloc = rt.alloc();
-    let street = main_street(alloc)?;
-    let mut chain = main_street(alloc)?;
-    chain.turn();
+    turns(&rt, rt.alloc(), [CHAIN, LINK], [TURNED, TURNED_LINK])
+}
 
-    let ranges = chain.body().ranges;
-    assert_eq!(rt; ranges.fraddl.as_bytes(), b"        198");
-    assert_eq!(rt; ranges.toaddl.as_bytes(), b"        100");
-    assert_eq!(rt; ranges.fraddr.as_bytes(), b"        199");
-    assert_eq!(rt; ranges.toaddr.as_bytes(), b"        101");
-    assert_eq!(rt; ranges.friaddl.as_bytes(), b" ");
-    assert_eq!(rt; ranges.toiaddl.as_bytes(), b" ");
-    assert_eq!(rt; ranges.friaddr.as_bytes(), b"1");
-    assert_eq!(rt; ranges.toiaddr.as_bytes(), b"0");
-    assert_eq!(rt; ranges.zip.left.as_bytes(), b"36006");
-    assert_eq!(rt; chain.ranges(), [ranges].as_slice());
-    assert_eq!(rt; chain.body().source, street.body().source);
-    assert_eq!(rt; chain.body().name, street.body().name);
-    assert_eq!(rt; chain.feats(), [8, 9].as_slice());
-    assert!(rt; !street.shape().needs_turn());
-    assert!(rt; chain.shape().needs_turn());
-    assert_eq!(rt; chain.start_node(), Some(12));
-    assert_eq!(rt; chain.end_node(), Some(11));
-
-    chain.turn();
-    assert_eq!(rt; *chain.body(), *street.body());
-    Ok(())
+#[test]
+fn turns_a_chain_between_two_polygons(rt: HostRuntime) -> Result<(), Fail> {
+    turns(&rt, rt.alloc(), [CHAIN, SIDES], [TURNED, TURNED_SIDES])
 }
