@@ -8,5 +8,6 @@ mod lines;
 mod linked_sets;
 mod linking;
 mod plans;
+mod renamings;
 mod sets;
 mod turns;
