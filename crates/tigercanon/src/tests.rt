@@ -13,5 +13,6 @@ mod lines;
 mod linked_sets;
 mod linking;
 mod plans;
+mod renamings;
 mod sets;
 mod turns;
