@@ -2,6 +2,7 @@
 
 ghost use Rattle.std.specs.Prelude.{◌≤◌};
 
+mod comparing;
 mod contents;
 mod fields;
 
@@ -9,6 +10,7 @@ use crate::{
     CanonicalText, Counted, Keeper, LoadFault, Loader, LoaderInto, SlowSource, Source, first_bad,
     line_has_record, line_is_judged_as_its_record, spelled_or_one_fault, text_spells_its_records,
 };
+use comparing::{same, same_items};
 use std::alloc::{AllocError, Global};
 use std::process::Abort;
 use std::test::Fail;
@@ -244,49 +246,55 @@ fn a_fault_of_a_field_has_its_column(rt: HostRuntime) -> Result<(), Fail> {
 }
 
 #[test]
-fn a_line_is_judged_at_its_end_or_its_230th_byte(rt: HostRuntime) {
+fn a_line_is_judged_at_its_end(rt: HostRuntime) {
+    let mut loader = Loader::new(rt.alloc());
+    same(&rt, &loader.feed(b"1"), &Ok(()));
+    same(&rt, &loader.feed(&[b'A'; 227]), &Ok(()));
+    same(&rt, &loader.feed(b"\r"), &Ok(()));
+    let (part, line, column) = (1, 1, 6);
+    let number = LoadFault::BadNumber { part, line, column };
+    same(&rt, &loader.feed(b"\n"), &Err(number));
+}
+
+#[test]
+fn a_line_is_judged_at_its_230th_byte(rt: HostRuntime) {
     let long = LoadFault::LineTooLong { part: 1, line: 1 };
-    let mut ended = Loader::new(rt.alloc());
-    assert_eq!(rt; ended.feed(b"1"), Ok(()));
-    assert_eq!(rt; ended.feed(&[b'A'; 227]), Ok(()));
-    assert_eq!(rt; ended.feed(b"\r"), Ok(()));
-    assert_eq!(rt;
-        ended.feed(b"\n"),
-        Err(LoadFault::BadNumber {
-            part: 1,
-            line: 1,
-            column: 6
-        })
-    );
-    let mut longer = Loader::new(rt.alloc());
-    assert_eq!(rt; longer.feed(&[b'1'; 228]), Ok(()));
-    assert_eq!(rt; longer.feed(b"\r"), Ok(()));
-    assert_eq!(rt; longer.feed(b"A"), Err(long));
-    assert_eq!(rt; longer.feed(b"A"), Err(long));
-    assert_eq!(rt; longer.end_part(), Err(long));
-    assert_eq!(rt; longer.parts(), 0);
-    assert_eq!(rt; longer.finish().err(), Some(long));
+    let mut loader = Loader::new(rt.alloc());
+    same(&rt, &loader.feed(&[b'1'; 228]), &Ok(()));
+    same(&rt, &loader.feed(b"\r"), &Ok(()));
+    same(&rt, &loader.feed(b"A"), &Err(long));
+    same(&rt, &loader.feed(b"A"), &Err(long));
+    same(&rt, &loader.end_part(), &Err(long));
+    same(&rt, &loader.parts(), &0);
+    same(&rt, &loader.finish().err(), &Some(long));
+}
+
+/// A source that fails at this read is told as a device, once.
+fn is_told_at(rt: &impl Abort, alloc: Global, set: &[u8], failing: u64) {
+    let mut source = SlowSource::new(set, 100, Some(failing));
+    let mut loader = Loader::new(alloc);
+    same(rt, &loader.read_part(&mut source), &Err(LoadFault::Device));
+    same(rt, &source.failures(), &1);
+    same(rt, &loader.finish().err(), &Some(LoadFault::Device));
 }
 
 #[test]
 fn a_failing_source_is_told(rt: HostRuntime) -> Result<(), Fail> {
     let set = joined(rt.alloc(), &[CHAIN, b"\n", LINK, b"\n"])?;
     for failing in 1..6 {
-        let mut source = SlowSource::new(set.as_slice(), 100, Some(failing));
-        let mut loader = Loader::new(rt.alloc());
-        assert_eq!(rt;
-            loader.read_part(&mut source),
-            Err(LoadFault::Device),
-            "at read {failing}"
-        );
-        assert_eq!(rt; source.failures(), 1);
-        assert_eq!(rt; loader.finish().err(), Some(LoadFault::Device));
+        is_told_at(&rt, rt.alloc(), &set, failing);
     }
+    Ok(())
+}
+
+#[test]
+fn a_source_that_never_fails_is_read(rt: HostRuntime) -> Result<(), Fail> {
+    let set = joined(rt.alloc(), &[CHAIN, b"\n", LINK, b"\n"])?;
     let mut source = SlowSource::new(set.as_slice(), 100, None);
     let mut loader = Loader::new(rt.alloc());
-    assert_eq!(rt; loader.read_part(&mut source), Ok(()));
-    assert_eq!(rt; loader.parts(), 1);
-    assert_eq!(rt; loader.finish().map(|records| records.len()), Ok(2));
+    same(&rt, &loader.read_part(&mut source), &Ok(()));
+    same(&rt, &loader.parts(), &1);
+    same(&rt, &loader.finish()?.len(), &2);
     Ok(())
 }
 
@@ -295,15 +303,16 @@ fn a_failure_is_told_once_and_nothing_is_tried_again(rt: HostRuntime) -> Result<
     let set = joined(rt.alloc(), &[CHAIN, b"\n", LINK, b"\n"])?;
     let mut source = SlowSource::new(set.as_slice(), 100, Some(2));
     let mut loader = Loader::new(rt.alloc());
-    assert_eq!(rt; loader.read_part(&mut source), Err(LoadFault::Device));
-    assert_eq!(rt; source.failures(), 1);
-    assert_eq!(rt; loader.read_part(&mut source), Err(LoadFault::Device));
-    assert_eq!(rt; loader.feed(b"A"), Err(LoadFault::Device));
-    assert_eq!(rt; loader.end_part(), Err(LoadFault::Device));
-    assert_eq!(rt; source.failures(), 1);
+    let told = Err(LoadFault::Device);
+    same(&rt, &loader.read_part(&mut source), &told);
+    same(&rt, &source.failures(), &1);
+    same(&rt, &loader.read_part(&mut source), &told);
+    same(&rt, &loader.feed(b"A"), &told);
+    same(&rt, &loader.end_part(), &told);
+    same(&rt, &source.failures(), &1);
     let mut next = [0; 100];
-    assert_eq!(rt; source.read(&mut next), Ok(100));
-    assert_eq!(rt; next.as_slice(), &CHAIN[100..200]);
+    same(&rt, &source.read(&mut next), &Ok(100));
+    same_items(&rt, &next, &CHAIN[100..200]);
     Ok(())
 }
 
@@ -311,11 +320,11 @@ fn a_failure_is_told_once_and_nothing_is_tried_again(rt: HostRuntime) -> Result<
 fn a_source_gives_as_much_as_it_can(rt: HostRuntime) {
     let mut source = SlowSource::new(b"abcdefghij", 4, None);
     let mut room = [0; 6];
-    assert_eq!(rt; source.read(&mut room), Ok(4));
-    assert_eq!(rt; source.read(&mut room[..3]), Ok(3));
-    assert_eq!(rt; source.read(&mut room), Ok(3));
-    assert_eq!(rt; source.read(&mut room), Ok(0));
-    assert_eq!(rt; room.as_slice(), b"hijd\0\0".as_slice());
+    same(&rt, &source.read(&mut room), &Ok(4));
+    same(&rt, &source.read(&mut room[..3]), &Ok(3));
+    same(&rt, &source.read(&mut room), &Ok(3));
+    same(&rt, &source.read(&mut room), &Ok(0));
+    same_items(&rt, &room, b"hijd\0\0");
 }
 
 /// What a keeper makes of a part, or its fault.

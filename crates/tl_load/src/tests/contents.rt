@@ -5,18 +5,23 @@ use std::process::Abort;
 use std::test::Fail;
 use tl_layout::{Body1, Body5, Body7, BodyI, BodyP, Ranges, Rec8, RecP, Record, Side};
 
+/// Tells the text of a field.
+fn tells(rt: &impl Abort, name: &str, field: &[u8], text: &[u8]) {
+    assert_eq!(rt; field, text, "of {name}");
+}
+
 /// The address ranges of the chain, and the same made anew.
 fn tells_ranges(rt: &impl Abort, ranges: Ranges) {
-    assert_eq!(rt; ranges.fraddl(), *b"        101");
-    assert_eq!(rt; ranges.toaddl(), *b"        199");
-    assert_eq!(rt; ranges.fraddr(), *b"        100");
-    assert_eq!(rt; ranges.toaddr(), *b"        198");
-    assert_eq!(rt; ranges.friaddl(), *b"0");
-    assert_eq!(rt; ranges.toiaddl(), *b"1");
-    assert_eq!(rt; ranges.friaddr(), *b" ");
-    assert_eq!(rt; ranges.toiaddr(), *b" ");
-    assert_eq!(rt; ranges.zipl(), *b"36003");
-    assert_eq!(rt; ranges.zipr(), *b"36006");
+    tells(rt, "fraddl", &ranges.fraddl(), b"        101");
+    tells(rt, "toaddl", &ranges.toaddl(), b"        199");
+    tells(rt, "fraddr", &ranges.fraddr(), b"        100");
+    tells(rt, "toaddr", &ranges.toaddr(), b"        198");
+    tells(rt, "friaddl", &ranges.friaddl(), b"0");
+    tells(rt, "toiaddl", &ranges.toiaddl(), b"1");
+    tells(rt, "friaddr", &ranges.friaddr(), b" ");
+    tells(rt, "toiaddr", &ranges.toiaddr(), b" ");
+    tells(rt, "zipl", &ranges.zipl(), b"36003");
+    tells(rt, "zipr", &ranges.zipr(), b"36006");
     let again = Ranges::new(
         ranges.fraddl(),
         ranges.toaddl(),
@@ -34,37 +39,42 @@ fn tells_ranges(rt: &impl Abort, ranges: Ranges) {
 
 /// The fields of the chain's content in front of its ranges, and the codes behind them.
 fn tells_chain(rt: &impl Abort, body: &Body1) {
-    assert_eq!(rt; body.side1(), *b" ");
-    assert_eq!(rt; body.source(), *b"A");
-    assert_eq!(rt; body.fedirp(), *b"  ");
-    assert_eq!(rt; body.fename(), *b"Main                          ");
-    assert_eq!(rt; body.fetype(), *b"St  ");
-    assert_eq!(rt; body.fedirs(), *b"  ");
-    assert_eq!(rt; body.cfcc(), *b"A41");
-    assert_eq!(rt; body.aianhhfpl(), *b"     ");
-    assert_eq!(rt; body.aianhhfpr(), *b"     ");
-    assert_eq!(rt; body.aihhtlil(), *b" ");
-    assert_eq!(rt; body.aihhtlir(), *b" ");
-    assert_eq!(rt; body.census1(), *b" ");
-    assert_eq!(rt; body.census2(), *b" ");
+    tells(rt, "side1", &body.side1(), b" ");
+    tells(rt, "source", &body.source(), b"A");
+    tells(rt, "fedirp", &body.fedirp(), b"  ");
+    tells(
+        rt,
+        "fename",
+        &body.fename(),
+        b"Main                          ",
+    );
+    tells(rt, "fetype", &body.fetype(), b"St  ");
+    tells(rt, "fedirs", &body.fedirs(), b"  ");
+    tells(rt, "cfcc", &body.cfcc(), b"A41");
+    tells(rt, "aianhhfpl", &body.aianhhfpl(), b"     ");
+    tells(rt, "aianhhfpr", &body.aianhhfpr(), b"     ");
+    tells(rt, "aihhtlil", &body.aihhtlil(), b" ");
+    tells(rt, "aihhtlir", &body.aihhtlir(), b" ");
+    tells(rt, "census1", &body.census1(), b" ");
+    tells(rt, "census2", &body.census2(), b" ");
 }
 
 /// The geographic entities beside the chain.
 fn tells_entities(rt: &impl Abort, body: &Body1) {
-    assert_eq!(rt; body.statel(), *b"01");
-    assert_eq!(rt; body.stater(), *b"01");
-    assert_eq!(rt; body.countyl(), *b"001");
-    assert_eq!(rt; body.countyr(), *b"001");
-    assert_eq!(rt; body.cousubl(), *b"     ");
-    assert_eq!(rt; body.cousubr(), *b"     ");
-    assert_eq!(rt; body.submcdl(), *b"     ");
-    assert_eq!(rt; body.submcdr(), *b"     ");
-    assert_eq!(rt; body.placel(), *b"     ");
-    assert_eq!(rt; body.placer(), *b"     ");
-    assert_eq!(rt; body.tractl(), *b"020200");
-    assert_eq!(rt; body.tractr(), *b"020300");
-    assert_eq!(rt; body.blockl(), *b"1001");
-    assert_eq!(rt; body.blockr(), *b"2002");
+    tells(rt, "statel", &body.statel(), b"01");
+    tells(rt, "stater", &body.stater(), b"01");
+    tells(rt, "countyl", &body.countyl(), b"001");
+    tells(rt, "countyr", &body.countyr(), b"001");
+    tells(rt, "cousubl", &body.cousubl(), b"     ");
+    tells(rt, "cousubr", &body.cousubr(), b"     ");
+    tells(rt, "submcdl", &body.submcdl(), b"     ");
+    tells(rt, "submcdr", &body.submcdr(), b"     ");
+    tells(rt, "placel", &body.placel(), b"     ");
+    tells(rt, "placer", &body.placer(), b"     ");
+    tells(rt, "tractl", &body.tractl(), b"020200");
+    tells(rt, "tractr", &body.tractr(), b"020300");
+    tells(rt, "blockl", &body.blockl(), b"1001");
+    tells(rt, "blockr", &body.blockr(), b"2002");
 }
 
 /// The chain's content, made anew of its fields.
@@ -103,12 +113,12 @@ fn again_of(body: &Body1) -> Body1 {
 
 /// The fields of the link's content, and the same made anew.
 fn tells_link(rt: &impl Abort, body: &BodyI) {
-    assert_eq!(rt; body.file(), *b"01001");
-    assert_eq!(rt; body.source(), *b"          ");
-    assert_eq!(rt; body.ftseg(), *b"                 ");
-    assert_eq!(rt; body.rs_i1(), *b"          ");
-    assert_eq!(rt; body.rs_i2(), *b"         7");
-    assert_eq!(rt; body.rs_i3(), *b"          ");
+    tells(rt, "file", &body.file(), b"01001");
+    tells(rt, "source", &body.source(), b"          ");
+    tells(rt, "ftseg", &body.ftseg(), b"                 ");
+    tells(rt, "rs_i1", &body.rs_i1(), b"          ");
+    tells(rt, "rs_i2", &body.rs_i2(), b"         7");
+    tells(rt, "rs_i3", &body.rs_i3(), b"          ");
     let again = BodyI::new(
         body.file(),
         body.source(),
@@ -122,18 +132,23 @@ fn tells_link(rt: &impl Abort, body: &BodyI) {
 
 /// The side of a chain, and the same made anew.
 fn tells_side(rt: &impl Abort, side: &Side) {
-    assert_eq!(rt; side.cenid(), *b"00001");
+    tells(rt, "cenid", &side.cenid(), b"00001");
     assert_eq!(rt; side.polyid(), Some(12));
     assert_eq!(rt; Side::new(side.cenid(), side.polyid()), *side);
 }
 
 /// The name of a feature, and the same made anew.
 fn tells_name(rt: &impl Abort, body: &Body5) {
-    assert_eq!(rt; body.file(), *b"01001");
-    assert_eq!(rt; body.fedirp(), *b"  ");
-    assert_eq!(rt; body.fename(), *b"Old Mill                      ");
-    assert_eq!(rt; body.fetype(), *b"Rd  ");
-    assert_eq!(rt; body.fedirs(), *b"  ");
+    tells(rt, "file", &body.file(), b"01001");
+    tells(rt, "fedirp", &body.fedirp(), b"  ");
+    tells(
+        rt,
+        "fename",
+        &body.fename(),
+        b"Old Mill                      ",
+    );
+    tells(rt, "fetype", &body.fetype(), b"Rd  ");
+    tells(rt, "fedirs", &body.fedirs(), b"  ");
     let again = Body5::new(
         body.file(),
         body.fedirp(),
@@ -146,10 +161,15 @@ fn tells_name(rt: &impl Abort, body: &Body5) {
 
 /// The content of a landmark, and the same made anew.
 fn tells_landmark(rt: &impl Abort, body: &Body7) {
-    assert_eq!(rt; body.file(), *b"01001");
-    assert_eq!(rt; body.source(), *b"A");
-    assert_eq!(rt; body.cfcc(), *b"D43");
-    assert_eq!(rt; body.laname(), *b"Barn                          ");
+    tells(rt, "file", &body.file(), b"01001");
+    tells(rt, "source", &body.source(), b"A");
+    tells(rt, "cfcc", &body.cfcc(), b"D43");
+    tells(
+        rt,
+        "laname",
+        &body.laname(),
+        b"Barn                          ",
+    );
     assert_eq!(rt; body.point(), None);
     let again = Body7::new(
         body.file(),
@@ -163,8 +183,8 @@ fn tells_landmark(rt: &impl Abort, body: &Body7) {
 
 /// The polygon of a landmark, and the same made anew.
 fn tells_area(rt: &impl Abort, record: &Rec8) {
-    assert_eq!(rt; record.file(), *b"01001");
-    assert_eq!(rt; record.cenid(), *b"00001");
+    tells(rt, "file", &record.file(), b"01001");
+    tells(rt, "cenid", &record.cenid(), b"00001");
     assert_eq!(rt; record.polyid(), 12);
     assert_eq!(rt; record.land(), 30);
     let again = Rec8::new(
@@ -179,10 +199,10 @@ fn tells_area(rt: &impl Abort, record: &Rec8) {
 /// A polygon and its content, and both made anew.
 fn tells_polygon(rt: &impl Abort, record: &RecP) {
     let body = record.body();
-    assert_eq!(rt; record.cenid(), *b"00001");
+    tells(rt, "cenid", &record.cenid(), b"00001");
     assert_eq!(rt; record.polyid(), 12);
-    assert_eq!(rt; body.file(), *b"01001");
-    assert_eq!(rt; body.water(), *b"1");
+    tells(rt, "file", &body.file(), b"01001");
+    tells(rt, "water", &body.water(), b"1");
     assert_eq!(rt;
         body.point().map(|point| (point.long(), point.lat())),
         Some((-86468669, 32424914))

@@ -1,0 +1,14 @@
+//! Comparisons as functions, so that nothing of one is left to be known where the next one is proved.
+
+use std::fmt::Debug;
+use std::process::Abort;
+
+/// What was found is what was wanted.
+pub(super) fn same<T: PartialEq + Debug>(rt: &impl Abort, found: &T, wanted: &T) {
+    assert_eq!(rt; *found, *wanted);
+}
+
+/// The items that were found are those that were wanted.
+pub(super) fn same_items<T: PartialEq + Debug>(rt: &impl Abort, found: &[T], wanted: &[T]) {
+    assert_eq!(rt; *found, *wanted);
+}
