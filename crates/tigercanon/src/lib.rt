@@ -32,7 +32,5 @@ pub use laws::{
 };
 pub use normalising::{normalise, normalise_to};
 pub use planning::plan;
+pub use refusal::Refusal;
 pub use respelling::respell;
-
-#[cfg(test)]
-mod tests;

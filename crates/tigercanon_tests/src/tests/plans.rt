@@ -2,10 +2,10 @@
 
 use super::comparing::{same, same_items};
 use super::devices::SlowWriter;
-use crate::{Job, Plan, PlanFault, plan, tell};
 use std::alloc::Global;
 use std::process::Abort;
 use std::test::Fail;
+use tigercanon::{Job, Plan, PlanFault, plan, tell};
 
 /// The words of a command line.
 fn words_of(alloc: Global, line: &[&str]) -> Result<Vec<String>, Fail> {

@@ -2,10 +2,10 @@
 
 use super::devices::{SlowReader, SlowWriter};
 use super::sets::{CHAIN, LINK, expanded, joined};
-use crate::{Job, Opened, run};
 use std::alloc::Global;
 use std::io::ErrorKind;
 use std::test::Fail;
+use tigercanon::{Job, Opened, run};
 
 /// The canonical text of Main St.
 const TEXT: &str =
