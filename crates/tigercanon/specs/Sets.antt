@@ -5,6 +5,7 @@ use Rattle.tl_layout.specs.declared.record_type.Record.{Record}
 use Rattle.tl_load.specs.Choice.{tiger}
 use Rattle.tl_load.specs.Outcome.{SpellsWithin}
 use Rattle.tl_county.specs.County.{county_of}
+use Rattle.tl_county.specs.Renumbering.{Renumbering, Carries}
 use Rattle.tl_county.specs.LinkRules.{IsLinked, IsFirstBrokenRule}
 use Rattle.tl_profile.specs.Profile.{IsFirstBrokenClause}
 use Rattle.tl_number.specs.Accepted.{IsAccepted, IsCanonicalOf}
@@ -40,3 +41,11 @@ pub record IsCanonicalText (parts : List (List ℕ)) (text : List ℕ) : Type 0 
   pub spelled : SpellsWithin tiger record_limit parts records
   pub canonical_of : IsCanonicalOf records canonical
   pub text_is : text_of canonical ≡ text
+
+-- both sets are accepted, and the renaming carries the county of the one onto that of the other
+pub record CarriesSet (renaming : Renumbering) (parts others : List (List ℕ)) : Type 0 where
+  pub records : List Record
+  pub other_records : List Record
+  pub accepted : IsAcceptedSet parts records
+  pub other_accepted : IsAcceptedSet others other_records
+  pub carries : Carries renaming (county_of records) (county_of other_records)

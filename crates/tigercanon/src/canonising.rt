@@ -2,8 +2,10 @@
 
 ghost use Rattle.std.specs.Prelude.{◌≡◌, List, IfOk, IfErr};
 ghost use Rattle.tigercanon.specs.Faults.{IsWantOfMemory, RefusesRecords};
+ghost use Rattle.tl_county.specs.County.{county_of};
 ghost use Rattle.tl_county.specs.Limits.{HoldsWithinLimits};
 ghost use Rattle.tl_county.specs.Packing.{packed};
+ghost use Rattle.tl_county.specs.TheCounty.{the_county};
 ghost use Rattle.tl_layout.specs.RecordText.{text_of};
 ghost use Rattle.tl_layout.specs.Tables.{HoldsByType};
 ghost use Rattle.tl_layout.specs.declared.record_type.Record.{Record};
@@ -14,7 +16,7 @@ use crate::fault::Fault;
 use std::alloc::Global;
 use tl_county::{Chart, County};
 use tl_layout::Tables;
-use tl_number::{CanonCounty, canonise};
+use tl_number::{CanonCounty, canonise_chart};
 use tl_write::{CountedOut, write_to};
 
 /// The canonical county of tables of records within their limits. The tables' order has no meaning.
@@ -22,10 +24,11 @@ pub(crate) fn canonise_tables(alloc: Global, tables: Tables) -> Result<CanonCoun
     requires { HoldsWithinLimits tables }
     ensures canonical { IfOk result (λ canon. (records : List Record) →
         HoldsByType tables records → IsCanonicalOf records (packed (⟦<CanonCounty<County> as Chart>⟧.county canon))) }
+    ensures source { IfOk result (λ canon. (records : List Record) → HoldsByType tables records → the_county canon.view.chart ≡ county_of records) }
     ensures refused { IfErr result (λ fault. (records : List Record) → HoldsByType tables records → RefusesRecords records fault) }
 {
     let admitted = admit_tables(alloc, tables)?;
-    Ok(canonise(alloc, admitted)?)
+    Ok(canonise_chart(alloc, admitted.into_chart())?)
 }
 
 /// The text of a canonical county, in memory.

@@ -30,7 +30,7 @@ pub use laws::{
     a_canonical_text_is_its_own, accepted_set_or_one_refusal,
     an_accepted_set_has_one_canonical_text, one_canonical_text_exactly_for_one_map,
 };
-pub use normalising::{normalise, normalise_to};
+pub use normalising::{normalise, normalise_to, normalise_with_renaming};
 pub use planning::plan;
 pub use refusal::Refusal;
 pub use respelling::respell;

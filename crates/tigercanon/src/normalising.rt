@@ -1,10 +1,10 @@
 //! The canonical text of a set.
 
-ghost use Rattle.std.specs.Prelude.{◌≡◌, ◌≢◌, ◌<◌, ◌+◌, Err, ℕ, List, All, true, false, length, map, IfOk, IfErr, if◌then◌else◌};
+ghost use Rattle.std.specs.Prelude.{◌≡◌, ◌≢◌, ◌<◌, ◌+◌, ◌∷◌, [], Err, ℕ, List, All, true, false, length, map, IfOk, IfErr, if◌then◌else◌};
 ghost use Rattle.tigercanon.specs.Faults.{IsWantOfMemory, TellsRefusal};
 ghost use Rattle.tigercanon.specs.Normalising.{AreNormalised, IsCutOff, IsOnlyText, TellsRead, Took, is_of_sink, is_stopped};
 ghost use Rattle.tigercanon.specs.Reading.{NoneFailed, OneFailed};
-ghost use Rattle.tigercanon.specs.Sets.{IsAcceptedSet, IsCanonicalText};
+ghost use Rattle.tigercanon.specs.Sets.{CarriesSet, IsAcceptedSet, IsCanonicalText};
 ghost use Rattle.tl_layout.specs.declared.record_type.Record.{Record};
 ghost use Rattle.tl_write.specs.declared.fault.WriteFault.{WriteFault};
 
@@ -13,6 +13,7 @@ use crate::fault::Fault;
 use crate::loading::load;
 use crate::reading::load_sources;
 use std::alloc::Global;
+use tl_cert::Renaming;
 use tl_layout::Tables;
 use tl_load::{LoadFault, Source};
 use tl_write::{Sink, write_to};
@@ -37,6 +38,32 @@ pub fn normalise(alloc: Global, parts: &[&[u8]]) -> Result<Vec<u8>, Fault>
     let tables: Tables = load(alloc, parts)?;
     let county = canonise_tables(alloc, tables)?;
     text_in_memory(alloc, &county)
+}
+
+/// The canonical text of the parts, and the renaming that carries the county of the parts onto that of the text: each old
+/// number with its new one, and the old TLIDs of the chains that are turned.
+///
+/// # Errors
+///
+/// As [`normalise`] tells them.
+pub fn normalise_with_renaming(
+    alloc: Global,
+    parts: &[&[u8]],
+) -> Result<(Vec<u8>, Renaming), Fault>
+    ensures canonical { IfOk result (λ answer. IsCanonicalText (map (λ p. p.now) parts.now) answer.0.items) }
+    // No canonical list of the same map has another text.
+    ensures only { IfOk result (λ answer. IsOnlyText (map (λ p. p.now) parts.now) answer.0.items) }
+    ensures carries { IfOk result (λ answer. CarriesSet answer.1 (map (λ p. p.now) parts.now) (answer.0.items ∷ [])) }
+    ensures refused { IfErr result (TellsRefusal (map (λ p. p.now) parts.now)) }
+    ensures no_device { result ≢ Err (Fault.Load LoadFault.Device) }
+    // Of accepted parts nothing but want of memory is told.
+    ensures succeeds { (records : List Record) → IsAcceptedSet (map (λ p. p.now) parts.now) records → IfErr result IsWantOfMemory }
+{
+    let tables: Tables = load(alloc, parts)?;
+    let county = canonise_tables(alloc, tables)?;
+    let renaming = county.renaming(alloc)?;
+    let text = text_in_memory(alloc, &county)?;
+    Ok((text, renaming))
 }
 
 /// Reads the parts from their sources, and writes their canonical text to the sink; answers how many bytes that is. No part

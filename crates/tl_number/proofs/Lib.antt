@@ -37,3 +37,4 @@ pub mod LandmarkLinks
 pub mod LandmarkOrder
 pub mod ArrangedViews
 pub mod PlacesFit
+pub mod RenamingPairs

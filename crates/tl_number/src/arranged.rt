@@ -2,12 +2,13 @@
 
 ghost use Rattle.std.specs.Prelude.{◌≡◌, option_map, slice_get};
 ghost use Rattle.std.specs.Ordering.{nat_cmp};
+ghost use Rattle.tl_county.specs.CountyRules.{AllKeysStandIn, polygon_keys, polygons_along};
 ghost use Rattle.tl_county.specs.Renumbering.{image, renumbered_side};
 ghost use Rattle.tl_number.specs.Arrangement.{nodes_in_order, renaming_of};
 ghost use Rattle.tl_number.specs.Steps.{arrangement_of};
 ghost use Rattle.tl_number.specs.ByNumber.{polygons_by_number};
 ghost use Rattle.tl_number.specs.ViewFacts.{AreWhole, stepped, TellsPolygons, TellsNames, TellsLandmarks};
-ghost use Rattle.tl_number.specs.ViewProps.{AreWhole-prop, TellsPolygons-prop, TellsNames-prop, TellsLandmarks-prop};
+ghost use Rattle.tl_number.specs.ViewProps.{AreWhole-prop, StandOnSides-prop, TellsPolygons-prop, TellsNames-prop, TellsLandmarks-prop};
 
 use crate::numbers::Numbers;
 use crate::renumbering::{new_feat, new_key, new_node};
@@ -27,6 +28,7 @@ pub struct Arranged<C: Chart> {
     pub(crate) names: NameTables,
     pub(crate) landmarks: LandmarkTables,
     ghost whole: { AreWhole (C.county chart) steps.items } by { AreWhole-prop (C.county chart) steps.items },
+    ghost sides: { AllKeysStandIn (polygons_along (C.county chart).chains) (polygon_keys (C.county chart)) } by { StandOnSides-prop (C.county chart) },
     ghost nodes_told: { nodes ≡ nodes_in_order (C.county chart) (arrangement_of (C.county chart) steps.items) },
     ghost polygons_told: { TellsPolygons (C.county chart) steps.items polygons } by { TellsPolygons-prop (C.county chart) steps.items polygons },
     ghost names_told: { TellsNames (C.county chart) steps.items names } by { TellsNames-prop (C.county chart) steps.items names },

@@ -18,6 +18,7 @@ use crate::polygon_order::arrange_polygons;
 use crate::step::Step;
 use crate::walks::number_nodes;
 use std::alloc::{AllocError, Global};
+use tl_cert::Renaming;
 use tl_county::Chart;
 use tl_profile::Admitted;
 
@@ -32,6 +33,7 @@ pub fn arrange<C: Chart + Drop>(
     requires once { NamesEachOnce (C.county chart) (arrangement_of (C.county chart) steps.items) }
     requires sides { AllKeysStandIn (polygons_along (C.county chart).chains) (polygon_keys (C.county chart)) }
     ensures source { IfOk result (λ view. view.chart ≡ chart) }
+    ensures order { IfOk result (λ view. view.steps ≡ steps) }
     ensures county { IfOk result (λ view. ⟦<Arranged<C> as Chart>⟧.county view ≡ arranged (C.county chart) (arrangement_of (C.county chart) steps.items)) }
 {
     let nodes = number_nodes(alloc, &chart, &steps)?;
@@ -55,7 +57,9 @@ pub fn canonise_chart<C: Chart + Drop>(
     chart: C,
 ) -> Result<CanonCounty<C>, AllocError>
     requires profile { IsInProfile (C.county chart) }
+    ensures source { IfOk result (λ canon. canon.view.chart ≡ chart) }
     ensures county { IfOk result (λ canon. ⟦<CanonCounty<C> as Chart>⟧.county canon ≡ arranged (C.county chart) (ascending (C.county chart))) }
+    ensures order { IfOk result (λ canon. arrangement_of (C.county chart) canon.view.steps.items ≡ ascending (C.county chart)) }
     ensures carried { IfOk result (λ canon. Carries (renaming_of (C.county chart) (ascending (C.county chart))) (C.county chart) (⟦<CanonCounty<C> as Chart>⟧.county canon)) }
     ensures canonical { IfOk result (λ canon. IsCanonCounty (⟦<CanonCounty<C> as Chart>⟧.county canon)) }
 {
@@ -64,7 +68,7 @@ pub fn canonise_chart<C: Chart + Drop>(
     Ok(CanonCounty { view })
 }
 
-/// The canonical county of an admitted county.
+/// The canonical county of an admitted county, and the renaming that carries the one onto the other.
 ///
 /// # Errors
 ///
@@ -72,10 +76,13 @@ pub fn canonise_chart<C: Chart + Drop>(
 pub fn canonise<C: Chart + Drop>(
     alloc: Global,
     admitted: Admitted<C>,
-) -> Result<CanonCounty<C>, AllocError>
-    ensures county { IfOk result (λ canon. ⟦<CanonCounty<C> as Chart>⟧.county canon ≡ arranged (C.county admitted) (ascending (C.county admitted))) }
-    ensures carried { IfOk result (λ canon. Carries (renaming_of (C.county admitted) (ascending (C.county admitted))) (C.county admitted) (⟦<CanonCounty<C> as Chart>⟧.county canon)) }
-    ensures canonical { IfOk result (λ canon. IsCanonCounty (⟦<CanonCounty<C> as Chart>⟧.county canon)) }
+) -> Result<(CanonCounty<C>, Renaming), AllocError>
+    ensures county { IfOk result (λ pair. ⟦<CanonCounty<C> as Chart>⟧.county pair.0 ≡ arranged (C.county admitted) (ascending (C.county admitted))) }
+    ensures renaming { IfOk result (λ pair. pair.1 ≡ renaming_of (C.county admitted) (ascending (C.county admitted))) }
+    ensures carried { IfOk result (λ pair. Carries pair.1 (C.county admitted) (⟦<CanonCounty<C> as Chart>⟧.county pair.0)) }
+    ensures canonical { IfOk result (λ pair. IsCanonCounty (⟦<CanonCounty<C> as Chart>⟧.county pair.0)) }
 {
-    canonise_chart(alloc, admitted.into_chart())
+    let canon = canonise_chart(alloc, admitted.into_chart())?;
+    let renaming = canon.renaming(alloc)?;
+    Ok((canon, renaming))
 }

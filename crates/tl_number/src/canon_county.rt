@@ -1,12 +1,16 @@
 //! The canonical county.
 
-ghost use Rattle.std.specs.Prelude.{◌≡◌, ◌<◌, Some, length, slice_get};
-ghost use Rattle.tl_county.specs.Renumbering.{AreSame};
+ghost use Rattle.std.specs.Prelude.{◌≡◌, ◌<◌, IfOk, Some, length, slice_get};
+ghost use Rattle.tl_county.specs.Renumbering.{AreSame, Carries};
+ghost use Rattle.tl_number.specs.Arrangement.{renaming_of};
+ghost use Rattle.tl_number.specs.Steps.{arrangement_of};
 ghost use Rattle.tl_number.specs.ByNumber.{polygons_by_number};
 ghost use Rattle.tl_number.specs.CanonCounties.{IsCanonCounty, IsCanonCounty-prop};
 ghost use Rattle.tl_number.specs.ViewFacts.{stepped};
 
 use crate::arranged::Arranged;
+use std::alloc::{AllocError, Global};
+use tl_cert::Renaming;
 use tl_county::{Chart, PolygonKey};
 use tl_layout::{Body1, Body5, Body7, BodyI, BodyP, Point, Ranges, Rec8, Side};
 
@@ -34,6 +38,19 @@ impl<C: Chart> CanonCounty<C> {
         ensures { result.now ≡ (⟦<CanonCounty<C> as Chart>⟧.county self.now).links }
     {
         &self.view.landmarks.links
+    }
+
+    /// The renaming of the county that this one comes from onto this one: each old number with its new one, in the order of
+    /// the new ones, and the old TLIDs of the chains that are turned.
+    ///
+    /// # Errors
+    ///
+    /// Only that memory was lacking.
+    pub fn renaming(&self, alloc: Global) -> Result<Renaming, AllocError>
+        ensures value { IfOk result (λ r. r ≡ renaming_of (C.county self.now.view.chart) (arrangement_of (C.county self.now.view.chart) self.now.view.steps.items)) }
+        ensures carries { IfOk result (λ r. Carries r (C.county self.now.view.chart) (⟦<CanonCounty<C> as Chart>⟧.county self.now)) }
+    {
+        self.view.renaming(alloc)
     }
 }
 

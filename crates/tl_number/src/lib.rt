@@ -13,6 +13,7 @@ mod name_order;
 mod numbers;
 mod order;
 mod polygon_order;
+mod renaming;
 mod renumbering;
 mod slices;
 mod step;

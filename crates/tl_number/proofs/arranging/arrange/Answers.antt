@@ -57,6 +57,7 @@ invariant_of-result g c =
     (places_fit county (g.met.C.Chart.is_county c.args.chart) (g.met.C.Chart.within_limits c.args.chart) c.requires.sides).chains in
     record {
       whole = whole;
+      sides = c.requires.sides;
       nodes_told = c.in_ok-nodes.ensures ∙ ap (λ steps. nodes_in_order county (arrangement_of county steps)) c.deref.ensures.value;
       polygons_told = subst (λ steps. TellsPolygons county steps c.in_ok-polygons.polygons) c.deref-2.ensures.value
           c.in_ok-polygons.ensures;

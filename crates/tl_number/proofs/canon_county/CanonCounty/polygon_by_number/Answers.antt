@@ -1,4 +1,4 @@
-use Rattle.std.proofs.Common.{◌<◌, ◌∙◌, length, sym, subst, nat_cmp}
+use Rattle.std.proofs.Common.{◌<◌, ◌∙◌, sym, subst, nat_cmp}
 use Rattle.std.specs.Ordering.{on}
 use Rattle.tl_county.proofs.LinkedCounty.{length-in_order}
 use Rattle.tl_number.specs.ByNumber.{entry_polyid, polygons_by_number}
