@@ -8,3 +8,4 @@ pub mod Words
 pub mod Lending
 pub mod Reading
 pub mod Normalising
+pub mod Comparing

@@ -9,6 +9,7 @@
 mod canonising;
 mod checking;
 mod command_line;
+mod comparing;
 mod fault;
 mod files;
 mod jobs;
@@ -23,6 +24,7 @@ mod writing;
 
 pub use checking::check;
 pub use command_line::{Job, Plan, PlanFault};
+pub use comparing::{CompareFault, Verdict, compare};
 pub use fault::Fault;
 pub use files::Opened;
 pub use jobs::{run, tell};

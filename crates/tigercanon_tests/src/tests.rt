@@ -16,3 +16,4 @@ mod plans;
 mod renamings;
 mod sets;
 mod turns;
+mod verdicts;

@@ -1,0 +1,115 @@
+//! Whether two sets are one map.
+
+ghost use Rattle.std.specs.Prelude.{◌≡◌, ◌≢◌, Ok, Err, ℕ, List, map, IfOk, IfErr};
+ghost use Rattle.tigercanon.specs.Comparing.{AreDifferent, IsCanonSet, TellsMemoryOfAccepted, TellsRefusalOfOne};
+ghost use Rattle.tigercanon.specs.Faults.{IsWantOfMemory, TellsRefusal};
+ghost use Rattle.tigercanon.specs.Sets.{CarriesSet, IsAcceptedSet};
+ghost use Rattle.tigercanon.specs.declared.comparing.CompareFault.TheVariants.{Memory};
+ghost use Rattle.tl_county.specs.Packing.{packed};
+ghost use Rattle.tl_county.specs.Renumbering.{Carries, Renumbering};
+ghost use Rattle.tl_county.specs.TheCounty.{the_county};
+ghost use Rattle.tl_layout.specs.declared.record_type.Record.{Record};
+
+use crate::canonising::canonise_tables;
+use crate::fault::Fault;
+use crate::loading::load;
+use std::alloc::{AllocError, Global};
+use thiserror::Error;
+use tl_cert::Renaming;
+use tl_county::{Chart, County};
+use tl_layout::Tables;
+use tl_load::LoadFault;
+use tl_number::CanonCounty;
+use tl_write::same_records;
+
+/// What comparing two sets finds.
+#[derive(Debug, Drop)]
+pub enum Verdict {
+    /// They are one map: the renaming carries the county of the first set onto that of the second.
+    Same(Renaming),
+    /// They are different maps: no renaming carries the county of the one onto that of the other.
+    Different,
+}
+
+/// Why comparing two sets finds nothing.
+#[derive(Clone, Copy, Debug, PartialEq, Eq, Error)]
+pub enum CompareFault {
+    /// One of the sets is refused, or there was no memory to judge it or to put it into canonical form.
+    #[error("{fault} in set {set}")]
+    In {
+        /// Which set: 1 or 2.
+        set: u8,
+        /// What it is refused for.
+        fault: Fault,
+    },
+    /// Both sets are accepted, and there was no memory for the verdict.
+    #[error("out of memory")]
+    Memory,
+}
+
+impl From<AllocError> for CompareFault {
+    ghost from_gives = { λ _ made. made ≡ Memory };
+
+    fn from(_error: AllocError) -> CompareFault {
+        CompareFault::Memory
+    }
+}
+
+/// The canonical county of the parts.
+fn canonise_parts(alloc: Global, parts: &[&[u8]]) -> Result<CanonCounty<County>, Fault>
+    ensures canonical { IfOk result (λ canon. IsCanonSet (map (λ p. p.now) parts.now) (the_county canon.view.chart) (⟦<CanonCounty<County> as Chart>⟧.county canon)) }
+    ensures refused { IfErr result (TellsRefusal (map (λ p. p.now) parts.now)) }
+    ensures no_device { result ≢ Err (Fault.Load LoadFault.Device) }
+    // Of accepted parts nothing but want of memory is told.
+    ensures succeeds { (records : List Record) → IsAcceptedSet (map (λ p. p.now) parts.now) records → IfErr result IsWantOfMemory }
+{
+    let tables: Tables = load(alloc, parts)?;
+    canonise_tables(alloc, tables)
+}
+
+/// The verdict on two canonical counties: where they have the same records it is the renaming of the one that the first comes
+/// from onto the one that the second comes from.
+fn verdict_on<A: Chart, B: Chart>(
+    alloc: Global,
+    a: &CanonCounty<A>,
+    b: &CanonCounty<B>,
+) -> Result<Verdict, AllocError>
+    ensures same { (r : Renumbering) → result ≡ Ok (Verdict.Same r) → Carries r (A.county a.now.view.chart) (B.county b.now.view.chart) }
+    ensures different { result ≡ Ok Verdict.Different → packed (⟦<CanonCounty<A> as Chart>⟧.county a.now) ≢ packed (⟦<CanonCounty<B> as Chart>⟧.county b.now) }
+{
+    if !same_records(a, b) {
+        return Ok(Verdict::Different);
+    }
+    let there = a.renaming(alloc)?;
+    let back = b.renaming(alloc)?.inverse()?;
+    Ok(Verdict::Same(there.then(&back)?))
+}
+
+/// Whether two sets of parts are one map: some renumbering and turning of chains carries the county of the first set onto that
+/// of the second, and then such a renaming is given. The first set is judged wholly before the second is looked at.
+///
+/// # Errors
+///
+/// [`CompareFault::In`] tells what a set is refused for, as [`crate::check`] tells it, or that memory was lacking for it.
+/// [`CompareFault::Memory`] tells that memory was lacking for the verdict.
+pub fn compare(alloc: Global, a: &[&[u8]], b: &[&[u8]]) -> Result<Verdict, CompareFault>
+    // The sets are one map only where both are accepted and this renaming carries the one onto the other,
+    ensures same { (r : Renumbering) → result ≡ Ok (Verdict.Same r) → CarriesSet r (map (λ p. p.now) a.now) (map (λ p. p.now) b.now) }
+    // and different only where both are accepted and no renaming does.
+    ensures different { result ≡ Ok Verdict.Different → AreDifferent (map (λ p. p.now) a.now) (map (λ p. p.now) b.now) }
+    // Else one of them is refused, the second only where the first is accepted.
+    ensures refused { IfErr result (TellsRefusalOfOne (map (λ p. p.now) a.now) (map (λ p. p.now) b.now)) }
+    ensures no_device { (set : ℕ) → result ≢ Err (CompareFault.In set (Fault.Load LoadFault.Device)) }
+    // Of an accepted set nothing but want of memory is told.
+    ensures succeeds { IfErr result (TellsMemoryOfAccepted (map (λ p. p.now) a.now) (map (λ p. p.now) b.now)) }
+{
+    let first = match canonise_parts(alloc, a) {
+        Ok(county) => county,
+        Err(fault) => return Err(CompareFault::In { set: 1, fault }),
+    };
+    let second = match canonise_parts(alloc, b) {
+        Ok(county) => county,
+        Err(fault) => return Err(CompareFault::In { set: 2, fault }),
+    };
+    Ok(verdict_on(alloc, &first, &second)?)
+}
