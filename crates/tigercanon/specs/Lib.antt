@@ -8,3 +8,5 @@ pub mod Words
 pub mod Lending
 pub mod Reading
 pub mod Normalising
+pub mod Fingerprints
+pub mod Names

@@ -9,13 +9,13 @@ use tl_county::LinkFault;
 use tl_load::LoadFault;
 use tl_profile::ProfileFault;
 
-/// A fault as the program tells it.
+/// A fault as the program tells it: one line, which this displays without its end, and an exit status.
 #[derive(Clone, Copy, Debug)]
-pub(crate) struct Refusal(pub(crate) Fault);
+pub struct Refusal(pub Fault);
 
 impl Refusal {
     /// The exit status: 3 for a refused set, 4 for a device, 5 for want of memory.
-    pub(crate) fn status(&self) -> u8
+    pub fn status(&self) -> u8
         ensures { result ≡ status_of self.now.0 }
     {
         match self.0 {

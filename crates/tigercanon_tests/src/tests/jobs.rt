@@ -3,13 +3,12 @@
 use super::comparing::{same, same_items};
 use super::devices::{SlowReader, SlowWriter};
 use super::sets::{CANONICAL, CHAIN, LINK, expanded, joined};
-use crate::refusal::Refusal;
-use crate::{Fault, Job, Opened, run};
 use std::alloc::Global;
 use std::cell::Cell;
 use std::io::ErrorKind;
 use std::process::Abort;
 use std::test::Fail;
+use tigercanon::{Fault, Job, Opened, Refusal, run};
 use tl_county::LinkFault;
 use tl_load::LoadFault;
 use tl_profile::ProfileFault;

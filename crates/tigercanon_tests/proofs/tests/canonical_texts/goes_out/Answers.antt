@@ -1,7 +1,7 @@
 use Rattle.std.proofs.Common.{◌≡◌, ◌<◌, ℕ, zero, suc, [], ◌∷◌, ap, arith}
 use Rattle.std.specs.Prelude.{slice_index_or}
 use Rattle.std.below.core.specs.declared.int.u64.TheConstants.{MAX}
-use Rattle.tigercanon.proofs.tests.canonical_texts.goes_out.Goals as goal
+use Rattle.tigercanon_tests.proofs.tests.canonical_texts.goes_out.Goals as goal
 
 -- one source, which has not failed
 one_below : {S : Type 0} (failed : S → ℕ) (x : S) → failed x ≡ 0 → (k : ℕ) (d : S) → k < 1 → failed (slice_index_or (x ∷ []) k d) < MAX

@@ -3,10 +3,10 @@
 use super::linked_sets::*;
 use super::linking::reversed;
 use super::sets::{CHAIN, LINK, expanded, joined};
-use crate::{Fault, normalise, normalise_to};
 use std::alloc::{AllocError, Global};
 use std::process::Abort;
 use std::test::Fail;
+use tigercanon::{Fault, normalise, normalise_to};
 use tl_load::{LoadFault, SlowSource, Source};
 use tl_profile::ProfileFault;
 use tl_write::{Sink, SlowSink, WriteFault};

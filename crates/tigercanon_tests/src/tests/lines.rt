@@ -2,11 +2,10 @@
 
 use super::comparing::same_items;
 use super::sets::{CANONICAL, CHAIN, LINK, expanded, joined};
-use crate::refusal::Refusal;
-use crate::respell;
 use std::alloc::Global;
 use std::process::Abort;
 use std::test::Fail;
+use tigercanon::{Refusal, respell};
 
 /// The parts that the patterns stand for, between which stands `|`, are respelt as this pattern's bytes.
 fn becomes(rt: &impl Abort, alloc: Global, patterns: &[&str], text: &str) -> Result<(), Fail> {

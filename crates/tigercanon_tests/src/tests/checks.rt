@@ -3,11 +3,11 @@
 use super::comparing::{same, same_items};
 use super::devices::{SlowReader, SlowWriter};
 use super::sets::{CHAIN, LINK, expanded};
-use crate::{Fault, Job, Opened, check, run};
 use std::alloc::{AllocError, Global};
 use std::io::ErrorKind;
 use std::process::Abort;
 use std::test::Fail;
+use tigercanon::{Fault, Job, Opened, check, run};
 use tl_county::LinkFault;
 use tl_profile::ProfileFault;
 
