@@ -1,14 +1,16 @@
 -- The canonical text of records that were read, and why there may be none.
-use Rattle.std.proofs.Common.{◌≡◌, ℕ, List, Result, Ok, Err, IfOk, IfErr, sym}
+use Rattle.std.proofs.Common.{◌≡◌, ℕ, List, Result, Ok, Err, [], ◌∷◌, IfOk, IfErr, subst, sym}
 use Rattle.tl_layout.specs.RecordText.{text_of}
 use Rattle.tl_layout.specs.declared.record_type.Record.{Record}
 use Rattle.tl_load.specs.Choice.{tiger}
 use Rattle.tl_load.specs.Outcome.{SpellsWithin}
+use Rattle.tl_county.specs.County.{County, county_of}
+use Rattle.tl_county.specs.Renumbering.{Renumbering, Carries}
 use Rattle.tl_number.specs.Accepted.{IsCanonicalOf}
 use Rattle.tigercanon.specs.Normalising.{IsOnlyText}
 use Rattle.tigercanon.specs.Respelling.{record_limit}
-use Rattle.tigercanon.specs.Sets.{IsCanonicalText}
-use Rattle.tigercanon.proofs.Sets.{only_text}
+use Rattle.tigercanon.specs.Sets.{CarriesSet, IsAcceptedSet, IsCanonicalText, IsOneCanonicalText}
+use Rattle.tigercanon.proofs.Sets.{one_text, only_text, text_accepted, text_itself}
 
 pub if_ok_by : {T E : Type 0} {P Q : T → Type 0} (r : Result T E) → ((x : T) → P x → Q x) → IfOk r P → IfOk r Q
 if_ok_by (Ok x) f h = f x h
@@ -18,6 +20,10 @@ pub if_err_by : {T E : Type 0} {P Q : E → Type 0} (r : Result T E) → ((e : E
 if_err_by (Ok x) f h = tt
 if_err_by (Err e) f h = f e h
 
+pub if_ok_both : {T E : Type 0} {P Q R : T → Type 0} (r : Result T E) → ((x : T) → P x → Q x → R x) → IfOk r P → IfOk r Q → IfOk r R
+if_ok_both (Ok x) f h k = f x h k
+if_ok_both (Err e) f h k = tt
+
 module _ (parts : List (List ℕ)) (records canonical : List Record) (spelled : SpellsWithin tiger record_limit parts records)
     (of : IsCanonicalOf records canonical) where
   pub is_text : (text : List ℕ) → text ≡ text_of canonical → IsCanonicalText parts text
@@ -25,3 +31,30 @@ module _ (parts : List (List ℕ)) (records canonical : List Record) (spelled : 
 
   pub is_only : (text : List ℕ) → text ≡ text_of canonical → IsOnlyText parts text
   is_only text e = only_text parts text (is_text text e)
+
+  -- the renaming onto the canonical county carries the set onto its text
+  pub is_carried : (text : List ℕ) → text ≡ text_of canonical → (renaming : Renumbering) (a b : County) → a ≡ county_of records
+      → county_of canonical ≡ b → Carries renaming a b → CarriesSet renaming parts (text ∷ [])
+  unfolding is_text
+  is_carried text e renaming a b old new carries = record {
+    records = records;
+    other_records = canonical;
+    accepted = record { spelled = spelled; accepted = of.accepted };
+    other_accepted = text_accepted parts text (is_text text e);
+    carries = subst (Carries renaming (county_of records)) (sym new) (subst (λ c. Carries renaming c b) old carries);
+  }
+
+-- a canonical text is answered again
+pub again : (parts : List (List ℕ)) (answer : List ℕ) → IsCanonicalText parts answer → (text : List ℕ) → IsOneCanonicalText parts text
+    → answer ≡ text
+again parts answer h text one =
+    one_text parts answer text h
+    (subst (λ ps. IsCanonicalText ps text) (sym one.parts_are) (text_itself one.whole text one.canonical))
+
+-- and is accepted
+pub one_text_accepted : (parts : List (List ℕ)) (text : List ℕ) → IsOneCanonicalText parts text
+    → (records : List Record) × IsAcceptedSet parts records
+one_text_accepted parts text one = (
+  one.canonical.canonical,
+  subst (λ ps. IsAcceptedSet ps one.canonical.canonical) (sym one.parts_are) (text_accepted one.whole text one.canonical),
+)

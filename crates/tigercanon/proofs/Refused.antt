@@ -10,7 +10,7 @@ use Rattle.tl_load.specs.declared.fault.LoadFault.TheVariants.{Memory as LoadMem
 use Rattle.tl_profile.specs.declared.fault.ProfileFault.{ProfileFault}
 use Rattle.tl_profile.specs.declared.fault.ProfileFault.TheVariants.{Memory as ProfileMemory}
 use Rattle.tigercanon.specs.declared.command_line.Job.{Job}
-use Rattle.tigercanon.specs.declared.command_line.Job.TheVariants.{Respell, Normalise, Check}
+use Rattle.tigercanon.specs.declared.command_line.Job.TheVariants.{Respell, Normalise, Check, Fingerprint}
 use Rattle.tigercanon.specs.declared.fault.Fault.{Fault}
 use Rattle.tigercanon.specs.declared.fault.Fault.TheVariants.{Load, Link, Profile, Write, Memory}
 use Rattle.tigercanon.specs.declared.files.Opened.{Opened}
@@ -61,3 +61,7 @@ module _ {R : Type 0} (remaining : R → Option (List ℕ)) (files : List (Opene
   told_refused Check (Link f) left s = let r = set_refused (Link f) left.1 s in (r.0, tt, r.1)
   told_refused Check (Profile f) left s = let r = set_refused (Profile f) left.1 s in (r.0, tt, r.1)
   told_refused Check Memory left s = absurd (omega (arith, s))
+  told_refused Fingerprint (Load f) left s = let r = set_refused (Load f) left.1 s in (r.0, tt, r.1)
+  told_refused Fingerprint (Link f) left s = let r = set_refused (Link f) left.1 s in (r.0, tt, r.1)
+  told_refused Fingerprint (Profile f) left s = let r = set_refused (Profile f) left.1 s in (r.0, tt, r.1)
+  told_refused Fingerprint Memory left s = absurd (omega (arith, s))

@@ -9,3 +9,5 @@ pub mod Lending
 pub mod Reading
 pub mod Normalising
 pub mod Comparing
+pub mod Fingerprints
+pub mod Names

@@ -6,11 +6,12 @@ use Rattle.tl_load.specs.Loaded.{IsOfLines}
 use Rattle.tl_county.specs.declared.fault.LinkFault.TheVariants.{Memory as LinkMemory}
 use Rattle.tl_profile.specs.declared.fault.ProfileFault.TheVariants.{Memory as ProfileMemory}
 use Rattle.tigercanon.specs.declared.command_line.Job.{Job}
-use Rattle.tigercanon.specs.declared.command_line.Job.TheVariants.{Respell, Normalise, Check}
+use Rattle.tigercanon.specs.declared.command_line.Job.TheVariants.{Respell, Normalise, Check, Fingerprint}
 use Rattle.tigercanon.specs.declared.files.Opened.{Opened}
 use Rattle.tigercanon.specs.declared.fault.Fault.{Fault}
 use Rattle.tigercanon.specs.declared.fault.Fault.TheVariants.{Load, Link, Profile, Write, Memory}
 use Rattle.tigercanon.specs.Files.{AreHeld}
+use Rattle.tigercanon.specs.Fingerprints.{SaysFingerprint}
 use Rattle.tigercanon.specs.Respelling.{IsRespelt}
 use Rattle.tigercanon.specs.Sets.{IsAcceptedSet, IsCanonicalText, IsSetRefusal, SaysAccepted}
 
@@ -22,6 +23,7 @@ abbrev pub IsAnswer : Job → Answer
 IsAnswer Respell = IsRespelt
 IsAnswer Normalise = IsCanonicalText
 IsAnswer Check = SaysAccepted
+IsAnswer Fingerprint = SaysFingerprint
 
 -- this text is the answer to what the files hold
 pub record AreAnswered {R : Type 0} (answer : Answer) (remaining : R → Option (List ℕ)) (files : List (Opened R))
@@ -79,6 +81,7 @@ abbrev pub Tells : {R : Type 0} → Job → (R → Option (List ℕ)) → List (
 Tells Respell = TellsLines
 Tells Normalise = TellsSet
 Tells Check = TellsSet
+Tells Fingerprint = TellsSet
 
 -- what a job that didn't end well leaves: a refused set nothing, a failing writer the beginning of the answer
 abbrev pub Leaves : {R : Type 0} → Job → (R → Option (List ℕ)) → List (Opened R) → Option (List ℕ) → Option (List ℕ) → Fault → Type 0
@@ -91,6 +94,7 @@ IsToldBy Respell (Load _) = Unit {0}
 IsToldBy Respell _ = ⊥
 IsToldBy Normalise _ = Unit {0}
 IsToldBy Check _ = Unit {0}
+IsToldBy Fingerprint _ = Unit {0}
 
 -- the files are refused for something that the job asks for
 abbrev pub AreRefusedBy : {R : Type 0} → Job → (R → Option (List ℕ)) → List (Opened R) → Type 0

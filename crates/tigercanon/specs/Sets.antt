@@ -49,3 +49,9 @@ pub record CarriesSet (renaming : Renumbering) (parts others : List (List ℕ)) 
   pub accepted : IsAcceptedSet parts records
   pub other_accepted : IsAcceptedSet others other_records
   pub carries : Carries renaming (county_of records) (county_of other_records)
+
+-- the one part is a canonical text
+pub record IsOneCanonicalText (parts : List (List ℕ)) (text : List ℕ) : Type 0 where
+  pub whole : List (List ℕ)
+  pub canonical : IsCanonicalText whole text
+  pub parts_are : parts ≡ text ∷ []

@@ -1,10 +1,11 @@
 -- The words of a command line.
 use Rattle.std.specs.Prelude.{ℕ, List, codes}
 use Rattle.tigercanon.specs.declared.command_line.Job.{Job}
-use Rattle.tigercanon.specs.declared.command_line.Job.TheVariants.{Respell, Normalise, Check}
+use Rattle.tigercanon.specs.declared.command_line.Job.TheVariants.{Respell, Normalise, Check, Fingerprint}
 
 -- the word that names a job
 abbrev pub word_of : Job → List ℕ
 word_of Respell = codes "respell"
 word_of Normalise = codes "normalise"
 word_of Check = codes "check"
+word_of Fingerprint = codes "fingerprint"

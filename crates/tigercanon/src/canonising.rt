@@ -5,6 +5,7 @@ ghost use Rattle.tigercanon.specs.Faults.{IsWantOfMemory, RefusesRecords};
 ghost use Rattle.tl_county.specs.County.{county_of};
 ghost use Rattle.tl_county.specs.Limits.{HoldsWithinLimits};
 ghost use Rattle.tl_county.specs.Packing.{packed};
+ghost use Rattle.tl_county.specs.Renumbering.{Carries};
 ghost use Rattle.tl_county.specs.TheCounty.{the_county};
 ghost use Rattle.tl_layout.specs.RecordText.{text_of};
 ghost use Rattle.tl_layout.specs.Tables.{HoldsByType};
@@ -14,6 +15,7 @@ ghost use Rattle.tl_number.specs.Accepted.{IsCanonicalOf};
 use crate::checking::admit_tables;
 use crate::fault::Fault;
 use std::alloc::Global;
+use tl_cert::Renaming;
 use tl_county::{Chart, County};
 use tl_layout::Tables;
 use tl_number::{CanonCounty, canonise_chart};
@@ -45,4 +47,18 @@ pub(crate) fn text_in_memory<C: Chart>(
         // A vector fails only where it can't grow.
         Err(_) => Err(Fault::Memory),
     }
+}
+
+/// The text of a canonical county, in memory, and the renaming of the county that it comes from onto it.
+pub(crate) fn text_and_renaming<C: Chart>(
+    alloc: Global,
+    county: &CanonCounty<C>,
+) -> Result<(Vec<u8>, Renaming), Fault>
+    ensures text { IfOk result (λ told. told.0.items ≡ text_of (packed (⟦<CanonCounty<C> as Chart>⟧.county county.now))) }
+    ensures carries { IfOk result (λ told. Carries told.1 (C.county county.now.view.chart) (⟦<CanonCounty<C> as Chart>⟧.county county.now)) }
+    ensures memory { IfErr result (λ fault. fault ≡ Fault.Memory) }
+{
+    let renaming = county.renaming(alloc)?;
+    let text = text_in_memory(alloc, county)?;
+    Ok((text, renaming))
 }

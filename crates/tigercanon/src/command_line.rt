@@ -15,6 +15,8 @@ pub enum Job {
     Normalise,
     /// Say whether a set is accepted: its lines spell records, these fit together, and their county is in the profile.
     Check,
+    /// Print the fingerprint of a set that is accepted.
+    Fingerprint,
 }
 
 /// A job and the names of the files that it reads.

@@ -73,9 +73,10 @@ fn verdict_on<A: Chart, B: Chart>(
     alloc: Global,
     a: &CanonCounty<A>,
     b: &CanonCounty<B>,
-) -> Result<Verdict, AllocError>
+) -> Result<Verdict, CompareFault>
     ensures same { (r : Renumbering) → result ≡ Ok (Verdict.Same r) → Carries r (A.county a.now.view.chart) (B.county b.now.view.chart) }
     ensures different { result ≡ Ok Verdict.Different → packed (⟦<CanonCounty<A> as Chart>⟧.county a.now) ≢ packed (⟦<CanonCounty<B> as Chart>⟧.county b.now) }
+    ensures memory { IfErr result (λ fault. fault ≡ CompareFault.Memory) }
 {
     if !same_records(a, b) {
         return Ok(Verdict::Different);
@@ -83,6 +84,27 @@ fn verdict_on<A: Chart, B: Chart>(
     let there = a.renaming(alloc)?;
     let back = b.renaming(alloc)?.inverse()?;
     Ok(Verdict::Same(there.then(&back)?))
+}
+
+/// The verdict on a set in canonical form and one that is still to be judged.
+fn compare_with(
+    alloc: Global,
+    first: &CanonCounty<County>,
+    b: &[&[u8]],
+) -> Result<Verdict, CompareFault>
+    ensures same { (a : List (List ℕ)) (r : Renumbering) → IsCanonSet a (the_county first.now.view.chart) (⟦<CanonCounty<County> as Chart>⟧.county first.now)
+        → result ≡ Ok (Verdict.Same r) → CarriesSet r a (map (λ p. p.now) b.now) }
+    ensures different { (a : List (List ℕ)) → IsCanonSet a (the_county first.now.view.chart) (⟦<CanonCounty<County> as Chart>⟧.county first.now)
+        → result ≡ Ok Verdict.Different → AreDifferent a (map (λ p. p.now) b.now) }
+    ensures refused { (a : List (List ℕ)) → IsAcceptable a → IfErr result (TellsRefusalOfOne a (map (λ p. p.now) b.now)) }
+    ensures no_device { (set : ℕ) → result ≢ Err (CompareFault.In set (Fault.Load LoadFault.Device)) }
+    ensures succeeds { (a : List (List ℕ)) → IfErr result (TellsMemoryOfAccepted a (map (λ p. p.now) b.now)) }
+{
+    let second = match canonise_parts(alloc, b) {
+        Ok(county) => county,
+        Err(fault) => return Err(CompareFault::In { set: 2, fault }),
+    };
+    verdict_on(alloc, first, &second)
 }
 
 /// Whether two sets of parts are one map: some renumbering and turning of chains carries the county of the first set onto that
@@ -107,9 +129,5 @@ pub fn compare(alloc: Global, a: &[&[u8]], b: &[&[u8]]) -> Result<Verdict, Compa
         Ok(county) => county,
         Err(fault) => return Err(CompareFault::In { set: 1, fault }),
     };
-    let second = match canonise_parts(alloc, b) {
-        Ok(county) => county,
-        Err(fault) => return Err(CompareFault::In { set: 2, fault }),
-    };
-    Ok(verdict_on(alloc, &first, &second)?)
+    compare_with(alloc, &first, b)
 }

@@ -1,21 +1,25 @@
 //! What the program does, over files that are open already.
 
-ghost use Rattle.std.specs.Prelude.{◌≡◌, ◌∷◌, [], Contains, OnOk, IfErr, IsErrOf};
+ghost use Rattle.hex.specs.Hex.{encode_lower};
+ghost use Rattle.std.specs.Prelude.{◌≡◌, ◌∷◌, ◌++◌, [], Contains, OnOk, IfErr, IfOk, IsErrOf, string_bytes};
 ghost use Rattle.std.specs.Io.KnownBytes.{Keeps};
 ghost use Rattle.tigercanon.specs.Files.{IsMissing};
+ghost use Rattle.tigercanon.specs.Fingerprints.{IsFingerprint, SaysFingerprint};
 ghost use Rattle.tigercanon.specs.Statuses.{plan_status_of};
-ghost use Rattle.tigercanon.specs.Outcomes.{AreAccepted, AreRefusedBy, IsAnswer, Leaves, PrintsPart, PrintsWhole, TellsSet};
+ghost use Rattle.tigercanon.specs.Outcomes.{AreAccepted, AreAnswered, AreRefusedBy, IsAnswer, Leaves, PrintsPart, PrintsWhole, TellsSet};
 ghost use Rattle.tigercanon.specs.Respelling.{IsRespelt};
 ghost use Rattle.tigercanon.specs.Sets.{IsCanonicalText, SaysAccepted};
 
+use crate::canonising::canonise_tables;
 use crate::checking::admit_tables;
 use crate::command_line::{Job, PlanFault};
 use crate::fault::Fault;
 use crate::files::{Opened, is_missing_a_file, load_files, sources_of};
+use crate::fingerprinting::hash_of;
 use crate::normalising::normalise_to;
 use crate::refusal::Refusal;
 use crate::writing::{LentOut, write_text};
-use std::alloc::Global;
+use std::alloc::{AllocError, Global};
 use std::io::{Read, Write};
 use tl_layout::Tables;
 use tl_load::{CanonicalText, LoadFault};
@@ -96,6 +100,45 @@ fn check_set<R: Read + Drop, W: Write>(
     Ok(())
 }
 
+/// The fingerprint of a set of files, once all of it is read and judged.
+fn fingerprint_files<R: Read + Drop>(
+    alloc: Global,
+    files: Vec<Opened<R>>,
+) -> Result<[u8; 32], Fault>
+    ensures accepted { IfOk result (AreAnswered IsFingerprint R.remaining files.items) }
+    ensures refused { IfErr result (TellsSet R.remaining files.items) }
+    ensures missing { IsMissing files.items → IsErrOf result (Fault.Load LoadFault.Device) }
+{
+    let tables: Tables = load_files(alloc, files)?;
+    let county = canonise_tables(alloc, tables)?;
+    Ok(hash_of(&county))
+}
+
+/// The line of these bytes: two lower-case hexadecimal digits a byte, and LF.
+fn line_of_digits(alloc: Global, bytes: &[u8]) -> Result<String, AllocError>
+    ensures { IfOk result (λ line. string_bytes line ≡ encode_lower bytes.now ++ 10 ∷ []) }
+{
+    let mut line = hex::encode(alloc, bytes)?;
+    line.push('\n')?;
+    Ok(line)
+}
+
+/// Prints the fingerprint of a set of files, once all of it is read and judged.
+fn fingerprint_set<R: Read + Drop, W: Write>(
+    alloc: Global,
+    files: Vec<Opened<R>>,
+    out: &mut W,
+) -> Result<(), Fault>
+    ensures done { OnOk result (PrintsWhole SaysFingerprint R.remaining files.items (W.contents out.old) (W.contents out.new)) }
+    ensures stopped { IfErr result (Leaves Job.Fingerprint R.remaining files.items (W.contents out.old) (W.contents out.new)) }
+    ensures missing { IsMissing files.items → IsErrOf result (Fault.Load LoadFault.Device) }
+{
+    let bytes = fingerprint_files(alloc, files)?;
+    let line = line_of_digits(alloc, &bytes)?;
+    write_text(out, line.as_bytes())?;
+    Ok(())
+}
+
 /// Does a job over the files of its set.
 fn do_job<R: Read + Drop, W: Write>(
     alloc: Global,
@@ -111,6 +154,7 @@ fn do_job<R: Read + Drop, W: Write>(
         Job::Respell => respell_set(alloc, files, out),
         Job::Normalise => normalise_set(alloc, files, out),
         Job::Check => check_set(alloc, files, out),
+        Job::Fingerprint => fingerprint_set(alloc, files, out),
     }
 }
 

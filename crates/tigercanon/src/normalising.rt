@@ -4,11 +4,11 @@ ghost use Rattle.std.specs.Prelude.{◌≡◌, ◌≢◌, ◌<◌, ◌+◌, ◌�
 ghost use Rattle.tigercanon.specs.Faults.{IsWantOfMemory, TellsRefusal};
 ghost use Rattle.tigercanon.specs.Normalising.{AreNormalised, IsCutOff, IsOnlyText, TellsRead, Took, is_of_sink, is_stopped};
 ghost use Rattle.tigercanon.specs.Reading.{NoneFailed, OneFailed};
-ghost use Rattle.tigercanon.specs.Sets.{CarriesSet, IsAcceptedSet, IsCanonicalText};
+ghost use Rattle.tigercanon.specs.Sets.{CarriesSet, IsAcceptedSet, IsCanonicalText, IsOneCanonicalText};
 ghost use Rattle.tl_layout.specs.declared.record_type.Record.{Record};
 ghost use Rattle.tl_write.specs.declared.fault.WriteFault.{WriteFault};
 
-use crate::canonising::{canonise_tables, text_in_memory};
+use crate::canonising::{canonise_tables, text_and_renaming, text_in_memory};
 use crate::fault::Fault;
 use crate::loading::load;
 use crate::reading::load_sources;
@@ -30,6 +30,9 @@ pub fn normalise(alloc: Global, parts: &[&[u8]]) -> Result<Vec<u8>, Fault>
     ensures canonical { IfOk result (λ text. IsCanonicalText (map (λ p. p.now) parts.now) text.items) }
     // No canonical list of the same map has another text.
     ensures only { IfOk result (λ text. IsOnlyText (map (λ p. p.now) parts.now) text.items) }
+    // A canonical text is answered again.
+    ensures again { (text : List ℕ) → IsOneCanonicalText (map (λ p. p.now) parts.now) text → IfOk result (λ answer. answer.items ≡ text) }
+    ensures again_succeeds { (text : List ℕ) → IsOneCanonicalText (map (λ p. p.now) parts.now) text → IfErr result IsWantOfMemory }
     ensures refused { IfErr result (TellsRefusal (map (λ p. p.now) parts.now)) }
     ensures no_device { result ≢ Err (Fault.Load LoadFault.Device) }
     // Of accepted parts nothing but want of memory is told.
@@ -46,10 +49,7 @@ pub fn normalise(alloc: Global, parts: &[&[u8]]) -> Result<Vec<u8>, Fault>
 /// # Errors
 ///
 /// As [`normalise`] tells them.
-pub fn normalise_with_renaming(
-    alloc: Global,
-    parts: &[&[u8]],
-) -> Result<(Vec<u8>, Renaming), Fault>
+pub fn normalise_with_renaming(alloc: Global, parts: &[&[u8]]) -> Result<(Vec<u8>, Renaming), Fault>
     ensures canonical { IfOk result (λ answer. IsCanonicalText (map (λ p. p.now) parts.now) answer.0.items) }
     // No canonical list of the same map has another text.
     ensures only { IfOk result (λ answer. IsOnlyText (map (λ p. p.now) parts.now) answer.0.items) }
@@ -61,9 +61,7 @@ pub fn normalise_with_renaming(
 {
     let tables: Tables = load(alloc, parts)?;
     let county = canonise_tables(alloc, tables)?;
-    let renaming = county.renaming(alloc)?;
-    let text = text_in_memory(alloc, &county)?;
-    Ok((text, renaming))
+    text_and_renaming(alloc, &county)
 }
 
 /// Reads the parts from their sources, and writes their canonical text to the sink; answers how many bytes that is. No part

@@ -12,7 +12,7 @@ const TEXT: &str =
     "12006{9}1{1}A{2}Main{26}St{4}A41{8}101{8}199{8}100{8}19801{2}3600336006{14}0101001001{30}02020002030010012002-086468669+32424914-086468545+32424948\nI200601001{9}1{9}1{9}2{87}\n";
 
 /// An open file with these bytes, of which it gives at most 100 at a time. The read after so many fails.
-fn file(bytes: &[u8], reads: Option<usize>) -> Opened<SlowReader<'_>> {
+pub(super) fn file(bytes: &[u8], reads: Option<usize>) -> Opened<SlowReader<'_>> {
     Opened::Found(SlowReader {
         rest: bytes,
         step: 100,
@@ -23,7 +23,7 @@ fn file(bytes: &[u8], reads: Option<usize>) -> Opened<SlowReader<'_>> {
 }
 
 /// A writer that takes 7 bytes at a time, and has room for so many.
-fn writer(alloc: Global, room: usize) -> SlowWriter {
+pub(super) fn writer(alloc: Global, room: usize) -> SlowWriter {
     SlowWriter {
         held: Vec::new(alloc),
         step: 7,

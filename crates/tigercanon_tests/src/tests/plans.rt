@@ -32,7 +32,45 @@ fn plans_a_job_over_a_file(rt: HostRuntime) -> Result<(), Fail> {
     plans(&rt, alloc, "respell", "help", Job::Respell)?;
     plans(&rt, alloc, "check", "county.txt", Job::Check)?;
     plans(&rt, alloc, "check", "a b", Job::Check)?;
-    plans(&rt, alloc, "normalise", "county.txt", Job::Normalise)
+    plans(&rt, alloc, "normalise", "county.txt", Job::Normalise)?;
+    plans(&rt, alloc, "fingerprint", "county.txt", Job::Fingerprint)
+}
+
+/// The files of the stem `2006/TGR06001`, in the order of the parts.
+const FILES: [&str; 9] = [
+    "2006/TGR06001.RT1",
+    "2006/TGR06001.RT2",
+    "2006/TGR06001.RT4",
+    "2006/TGR06001.RT5",
+    "2006/TGR06001.RT6",
+    "2006/TGR06001.RT7",
+    "2006/TGR06001.RT8",
+    "2006/TGR06001.RTI",
+    "2006/TGR06001.RTP",
+];
+
+/// The words plan this job over the files of the stem.
+fn plans_stem(rt: &impl Abort, alloc: Global, line: &[&str], job: Job) -> Result<(), Fail> {
+    let plan = plan(alloc, &words_of(alloc, line)?)?;
+    same(rt, &plan.job, &job);
+    same_items(rt, &plan.first, &words_of(alloc, FILES.as_slice())?);
+    assert!(rt; plan.second.is_empty());
+    Ok(())
+}
+
+#[test]
+fn plans_a_job_over_the_files_of_a_stem(rt: HostRuntime) -> Result<(), Fail> {
+    let alloc = rt.alloc();
+    let stem = "2006/TGR06001";
+    plans_stem(&rt, alloc, &["respell", "--stem", stem], Job::Respell)?;
+    plans_stem(&rt, alloc, &["normalise", "--stem", stem], Job::Normalise)?;
+    plans_stem(&rt, alloc, &["check", stem, "--stem"], Job::Check)?;
+    plans_stem(
+        &rt,
+        alloc,
+        &["fingerprint", "--stem", "--", stem],
+        Job::Fingerprint,
+    )
 }
 
 /// The words of the command line are no plan, and standard error gets text that begins so.
@@ -61,6 +99,9 @@ fn tells_what_is_missing_or_unexpected(rt: HostRuntime) -> Result<(), Fail> {
     tells_usage(&rt, alloc, &["check", "a", "b"], unexpected)?;
     let option = "error: unexpected argument '--loud' found";
     tells_usage(&rt, alloc, &["respell", "--loud", "a"], option)?;
+    tells_usage(&rt, alloc, &["fingerprint", "--stem"], missing)?;
+    let twice = "error: the argument '--stem' cannot be used multiple times";
+    tells_usage(&rt, alloc, &["check", "--stem", "--stem", "a"], twice)?;
     tells_usage(
         &rt,
         alloc,

@@ -1,7 +1,7 @@
 use Rattle.std.proofs.Common.{sym, subst}
 use Rattle.std.proofs.lemmas.Result.{err_from_is_err_and}
 use Rattle.tigercanon.specs.Faults.{IsWantOfMemory, TellsRefusal}
-use Rattle.tigercanon.proofs.CanonicalTexts.{if_ok_by, if_err_by, is_only, is_text}
+use Rattle.tigercanon.proofs.CanonicalTexts.{again, if_ok_by, if_err_by, is_only, is_text, one_text_accepted}
 use Rattle.tigercanon.proofs.Refusing.{accepted_memory_alone, within_limits}
 use Rattle.tigercanon.proofs.Succeeding.{memory_alone}
 use Rattle.tigercanon.proofs.normalising.normalise.Goals as goal
@@ -41,3 +41,19 @@ returns-clause-refused c =
 pub returns-clause-succeeds : goal.returns-clause-succeeds
 returns-clause-succeeds c = λ records accepted.
     if_err_by c.text_in_memory.result (λ fault memory. subst IsWantOfMemory (sym memory) tt) c.text_in_memory.ensures.memory
+
+pub returns-clause-again : goal.returns-clause-again
+returns-clause-again c = λ text one.
+    if_ok_by c.text_in_memory.result (λ answer canonical. again _ answer.items canonical text one) (returns-clause-canonical c)
+
+pub returns-clause-again_succeeds : goal.returns-clause-again_succeeds
+returns-clause-again_succeeds c = λ text one.
+    if_err_by c.text_in_memory.result (λ fault memory. subst IsWantOfMemory (sym memory) tt) c.text_in_memory.ensures.memory
+
+pub returns-in_err-tables-clause-again_succeeds : goal.returns-in_err-tables-clause-again_succeeds
+returns-in_err-tables-clause-again_succeeds c = λ text one.
+    let set = one_text_accepted _ text one in returns-in_err-tables-clause-succeeds c set.0 set.1
+
+pub returns-in_err-county-clause-again_succeeds : goal.returns-in_err-county-clause-again_succeeds
+returns-in_err-county-clause-again_succeeds c = λ text one.
+    let set = one_text_accepted _ text one in returns-in_err-county-clause-succeeds c set.0 set.1
