@@ -1,7 +1,7 @@
 //! Whether two sets are one map.
 
 ghost use Rattle.std.specs.Prelude.{◌≡◌, ◌≢◌, Ok, Err, ℕ, List, map, IfOk, IfErr};
-ghost use Rattle.tigercanon.specs.Comparing.{AreDifferent, IsCanonSet, TellsMemoryOfAccepted, TellsRefusalOfOne};
+ghost use Rattle.tigercanon.specs.Comparing.{AreDifferent, IsAcceptable, IsCanonSet, TellsMemoryOfAccepted, TellsRefusalOfOne};
 ghost use Rattle.tigercanon.specs.Faults.{IsWantOfMemory, TellsRefusal};
 ghost use Rattle.tigercanon.specs.Sets.{CarriesSet, IsAcceptedSet};
 ghost use Rattle.tigercanon.specs.declared.comparing.CompareFault.TheVariants.{Memory};

@@ -32,7 +32,12 @@ fn renaming_of(alloc: Global, a: &[&str], b: &[&str]) -> Result<Option<Renaming>
 /// Whether two sets are one map, by a renaming that does carry the one onto the other.
 fn is_one_map(alloc: Global, a: &[&str], b: &[&str]) -> Result<bool, Fail> {
     match renaming_of(alloc, a, b)? {
-        Some(renaming) => Ok(check(alloc, &county_of(alloc, a)?, &county_of(alloc, b)?, &renaming)?),
+        Some(renaming) => Ok(check(
+            alloc,
+            &county_of(alloc, a)?,
+            &county_of(alloc, b)?,
+            &renaming,
+        )?),
         None => Ok(false),
     }
 }
@@ -60,7 +65,11 @@ fn is_refused(
     set: u8,
     fault: Fault,
 ) -> Result<(), Fail> {
-    same(rt, &verdict(alloc, a, b)?.err(), &Some(CompareFault::In { set, fault }));
+    same(
+        rt,
+        &verdict(alloc, a, b)?.err(),
+        &Some(CompareFault::In { set, fault }),
+    );
     Ok(())
 }
 
