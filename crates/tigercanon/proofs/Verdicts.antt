@@ -5,8 +5,8 @@ use Rattle.tl_county.specs.CountyRules.{IsCounty}
 use Rattle.tl_county.specs.Packing.{packed}
 use Rattle.tl_county.specs.Renumbering.{Carries, Renumbering}
 use Rattle.tl_county.proofs.PackedCounty.{packed_county}
-use Rattle.tl_number.proofs.Accepted.{same_one_canonical}
-use Rattle.tigercanon.specs.Comparing.{AreDifferent, IsAcceptable, IsCanonSet}
+use Rattle.tl_number.proofs.Accepted.{one_canonical_same, same_one_canonical}
+use Rattle.tigercanon.specs.Comparing.{AreDifferent, AreOneMap, IsAcceptable, IsCanonSet}
 use Rattle.tigercanon.specs.Sets.{CarriesSet}
 
 -- counties with one packing are one county
@@ -31,6 +31,19 @@ module _ (parts others : List (List ℕ)) (a a' b b' : County) (first : IsCanonS
     second = second.accepted;
     not_same = λ same. other (same_one_canonical first.records second.records (packed a') (packed b') first.canonical second.canonical same);
   }
+
+  pub sets_one_map : packed a' ≡ packed b' → AreOneMap parts others
+  sets_one_map e =
+      let same = one_canonical_same first.records second.records (packed a') (packed b') first.canonical second.canonical e in (
+        same.by,
+        record {
+          records = first.records;
+          other_records = second.records;
+          accepted = first.accepted;
+          other_accepted = second.accepted;
+          carries = same.carries;
+        },
+      )
 
 pub acceptable : (parts : List (List ℕ)) (a a' : County) → IsCanonSet parts a a' → IsAcceptable parts
 acceptable parts a a' set = (set.records, set.accepted)

@@ -1,12 +1,12 @@
 -- What comes of comparing two sets: whether they are one map, and why there may be no verdict.
-use Rattle.std.specs.Prelude.{ℕ, ◌≡◌, ◌⊎◌, List}
+use Rattle.std.specs.Prelude.{ℕ, ◌≡◌, ◌++◌, ◌∷◌, [], ◌⊎◌, List, codes}
 use Rattle.tl_layout.specs.declared.record_type.Record.{Record}
 use Rattle.tl_county.specs.County.{County, county_of}
 use Rattle.tl_county.specs.Packing.{packed}
-use Rattle.tl_county.specs.Renumbering.{AreSame}
+use Rattle.tl_county.specs.Renumbering.{AreSame, Renumbering}
 use Rattle.tl_number.specs.Accepted.{IsCanonicalOf}
 use Rattle.tigercanon.specs.Faults.{IsWantOfMemory, TellsRefusal}
-use Rattle.tigercanon.specs.Sets.{IsAcceptedSet}
+use Rattle.tigercanon.specs.Sets.{CarriesSet, IsAcceptedSet}
 use Rattle.tigercanon.specs.declared.comparing.CompareFault.{CompareFault}
 use Rattle.tigercanon.specs.declared.comparing.CompareFault.TheVariants.{In, Memory}
 
@@ -17,6 +17,19 @@ pub record AreDifferent (a b : List (List ℕ)) : Type 0 where
   pub first : IsAcceptedSet a records
   pub second : IsAcceptedSet b others
   pub not_same : AreSame (county_of records) (county_of others) → ⊥
+
+-- some renaming carries the one set onto the other
+abbrev pub AreOneMap : List (List ℕ) → List (List ℕ) → Type 0
+AreOneMap a b = (r : Renumbering) × CarriesSet r a b
+
+-- the text is the line that says that the sets are one map, or the line that says that they are different maps
+pub record SaysSame (a b : List (List ℕ)) (text : List ℕ) : Type 0 where
+  pub one_map : AreOneMap a b
+  pub text_is : text ≡ codes "same" ++ 10 ∷ []
+
+pub record SaysDifferent (a b : List (List ℕ)) (text : List ℕ) : Type 0 where
+  pub different : AreDifferent a b
+  pub text_is : text ≡ codes "different" ++ 10 ∷ []
 
 -- the set is accepted
 abbrev pub IsAcceptable : List (List ℕ) → Type 0

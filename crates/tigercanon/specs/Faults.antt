@@ -2,6 +2,7 @@
 use Rattle.std.specs.Prelude.{ℕ, ◌≢◌, List}
 use Rattle.tl_layout.specs.declared.record_type.Record.{Record}
 use Rattle.tl_load.specs.Loaded.{IsOfLines}
+use Rattle.tl_load.specs.declared.fault.LoadFault.TheVariants.{Device}
 use Rattle.tl_load.specs.declared.fault.LoadFault.TheVariants.{Memory as LoadMemory}
 use Rattle.tl_county.specs.County.{county_of}
 use Rattle.tl_county.specs.LinkRules.{IsLinked, IsFirstBrokenRule}
@@ -47,3 +48,9 @@ IsWantOfMemory (Profile ProfileMemory) = Unit {0}
 IsWantOfMemory (Profile _) = ⊥
 IsWantOfMemory (Write _) = ⊥
 IsWantOfMemory Memory = Unit {0}
+
+-- the fault is that of a device, or want of memory to read at all
+abbrev pub IsOfNoLines : Fault → Type 0
+IsOfNoLines (Load Device) = Unit {0}
+IsOfNoLines Memory = Unit {0}
+IsOfNoLines _ = ⊥

@@ -11,3 +11,4 @@ pub mod Normalising
 pub mod Comparing
 pub mod Fingerprints
 pub mod Names
+pub mod TwoSets

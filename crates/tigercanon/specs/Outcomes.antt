@@ -6,7 +6,7 @@ use Rattle.tl_load.specs.Loaded.{IsOfLines}
 use Rattle.tl_county.specs.declared.fault.LinkFault.TheVariants.{Memory as LinkMemory}
 use Rattle.tl_profile.specs.declared.fault.ProfileFault.TheVariants.{Memory as ProfileMemory}
 use Rattle.tigercanon.specs.declared.command_line.Job.{Job}
-use Rattle.tigercanon.specs.declared.command_line.Job.TheVariants.{Respell, Normalise, Check, Fingerprint}
+use Rattle.tigercanon.specs.declared.command_line.Job.TheVariants.{Respell, Normalise, Check, Fingerprint, Compare}
 use Rattle.tigercanon.specs.declared.files.Opened.{Opened}
 use Rattle.tigercanon.specs.declared.fault.Fault.{Fault}
 use Rattle.tigercanon.specs.declared.fault.Fault.TheVariants.{Load, Link, Profile, Write, Memory}
@@ -24,6 +24,8 @@ IsAnswer Respell = IsRespelt
 IsAnswer Normalise = IsCanonicalText
 IsAnswer Check = SaysAccepted
 IsAnswer Fingerprint = SaysFingerprint
+-- a comparison answers two sets, and no one set
+IsAnswer Compare = λ parts text. ⊥
 
 -- this text is the answer to what the files hold
 pub record AreAnswered {R : Type 0} (answer : Answer) (remaining : R → Option (List ℕ)) (files : List (Opened R))
@@ -32,20 +34,26 @@ pub record AreAnswered {R : Type 0} (answer : Answer) (remaining : R → Option 
   pub held : AreHeld remaining files parts
   pub answered : answer parts text
 
--- the writer got the answer
-pub record PrintsWhole {R : Type 0} (answer : Answer) (remaining : R → Option (List ℕ)) (files : List (Opened R))
-    (old new : Option (List ℕ)) : Type 0 where
+-- the writer got a text of which this holds
+pub record Prints (IsText : List ℕ → Type 0) (old new : Option (List ℕ)) : Type 0 where
   pub text : List ℕ
-  pub answered : AreAnswered answer remaining files text
+  pub answered : IsText text
   pub printed : Appends old new text
 
--- the writer got the first so many bytes of the answer, and not all of them
-pub record PrintsBeginning {R : Type 0} (answer : Answer) (remaining : R → Option (List ℕ)) (files : List (Opened R)) (written : ℕ)
-    (old new : Option (List ℕ)) : Type 0 where
+-- the writer got the first so many bytes of such a text, and not all of them
+pub record PrintsFront (IsText : List ℕ → Type 0) (written : ℕ) (old new : Option (List ℕ)) : Type 0 where
   pub text : List ℕ
-  pub answered : AreAnswered answer remaining files text
+  pub answered : IsText text
   pub printed : Appends old new (take written text)
   pub short : written < length text
+
+-- the writer got the answer to what the files hold, or a beginning of it
+abbrev pub PrintsWhole : {R : Type 0} → Answer → (R → Option (List ℕ)) → List (Opened R) → Option (List ℕ) → Option (List ℕ) → Type 0
+PrintsWhole answer remaining files = Prints (AreAnswered answer remaining files)
+
+abbrev pub PrintsBeginning : {R : Type 0} → Answer → (R → Option (List ℕ)) → List (Opened R) → ℕ → Option (List ℕ) → Option (List ℕ)
+    → Type 0
+PrintsBeginning answer remaining files = PrintsFront (AreAnswered answer remaining files)
 
 -- what the files hold is accepted
 pub record AreAccepted {R : Type 0} (remaining : R → Option (List ℕ)) (files : List (Opened R)) : Type 0 where
@@ -82,6 +90,7 @@ Tells Respell = TellsLines
 Tells Normalise = TellsSet
 Tells Check = TellsSet
 Tells Fingerprint = TellsSet
+Tells Compare = λ remaining files fault. ⊥
 
 -- what a job that didn't end well leaves: a refused set nothing, a failing writer the beginning of the answer
 abbrev pub Leaves : {R : Type 0} → Job → (R → Option (List ℕ)) → List (Opened R) → Option (List ℕ) → Option (List ℕ) → Fault → Type 0
@@ -95,6 +104,7 @@ IsToldBy Respell _ = ⊥
 IsToldBy Normalise _ = Unit {0}
 IsToldBy Check _ = Unit {0}
 IsToldBy Fingerprint _ = Unit {0}
+IsToldBy Compare _ = ⊥
 
 -- the files are refused for something that the job asks for
 abbrev pub AreRefusedBy : {R : Type 0} → Job → (R → Option (List ℕ)) → List (Opened R) → Type 0

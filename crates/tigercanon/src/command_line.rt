@@ -17,6 +17,8 @@ pub enum Job {
     Check,
     /// Print the fingerprint of a set that is accepted.
     Fingerprint,
+    /// Say whether two sets that are accepted are one map.
+    Compare,
 }
 
 /// A job and the names of the files that it reads.
@@ -24,7 +26,7 @@ pub enum Job {
 pub struct Plan {
     /// What is to be done.
     pub job: Job,
-    /// The files of the set, in order.
+    /// The files of the set, in order, or of the first of two.
     pub first: Vec<String>,
     /// The files of a second set, for a job that has two.
     pub second: Vec<String>,

@@ -1,11 +1,13 @@
 //! The files of a set, as opening them went, and what they hold.
 
-ghost use Rattle.std.specs.Prelude.{◌≡◌, None, ◌<◌, ◌≤◌, ◌+◌, ℕ, List, length, OnOk, IfOk, IfErr, IfSome, All, MatchResult, IsErrOf, IsTrue, ◌↔◌, vec_len};
+ghost use Rattle.std.specs.Prelude.{◌≡◌, None, ◌<◌, ◌≤◌, ◌+◌, ℕ, List, length, OnOk, IfOk, IfErr, IfSome, All, MatchResult, IsErrOf, IsTrue, [], ◌↔◌, vec_len};
 ghost use Rattle.tigercanon.specs.Files.{IsMissing, AreHeld, AreSourcesOf, TakesPart, TakesFiles, bytes_of};
+ghost use Rattle.tigercanon.specs.Faults.{IsOfNoLines};
 ghost use Rattle.tigercanon.specs.Outcomes.{TellsLines};
 ghost use Rattle.tigercanon.specs.Respelling.{record_limit};
 ghost use Rattle.tl_layout.specs.declared.record_type.Record.{Record};
 ghost use Rattle.tl_load.specs.Choice.{tiger};
+ghost use Rattle.tl_load.specs.Keeping.{WasFedInto};
 ghost use Rattle.tl_load.specs.Loaded.{IsNotDevice};
 ghost use Rattle.tl_load.specs.Outcome.{SpellsWithin};
 
@@ -174,6 +176,21 @@ fn feed_files<K: Keeper, R: Read + Drop>(
     Ok(())
 }
 
+/// A loader that was fed a set of files, each read to its end, in order. What is wrong with their lines is left to it to tell.
+pub(crate) fn read_files<K: Keeper, R: Read + Drop>(
+    alloc: Global,
+    files: Vec<Opened<R>>,
+) -> Result<LoaderInto<K>, Fault>
+    ensures fed { IfOk result (λ loader. (parts : List (List ℕ)) × AreHeld R.remaining files.items parts
+        × WasFedInto K.holds record_limit loader parts []) }
+    ensures no_lines { IfErr result IsOfNoLines }
+{
+    let mut room = room(alloc)?;
+    let mut loader = LoaderInto::<K>::new(alloc);
+    feed_files(&mut loader, files, &mut room)?;
+    Ok(loader)
+}
+
 /// What a keeper makes of the records of a set of files, each read to its end, in order. What couldn't be opened is told
 /// before anything is read, and what can't be read before what is wrong.
 pub(crate) fn load_files<K: Keeper, R: Read + Drop>(
@@ -188,9 +205,7 @@ pub(crate) fn load_files<K: Keeper, R: Read + Drop>(
     if is_missing_a_file(&files) {
         return Err(Fault::Load(LoadFault::Device));
     }
-    let mut room = room(alloc)?;
-    let mut loader = LoaderInto::<K>::new(alloc);
-    feed_files(&mut loader, files, &mut room)?;
+    let loader = read_files::<K, R>(alloc, files)?;
     Ok(loader.finish()?)
 }
 

@@ -1,23 +1,25 @@
 //! What the program does, over files that are open already.
 
 ghost use Rattle.hex.specs.Hex.{encode_lower};
-ghost use Rattle.std.specs.Prelude.{◌≡◌, ◌∷◌, ◌++◌, [], Contains, OnOk, IfErr, IfOk, IsErrOf, string_bytes};
+ghost use Rattle.std.specs.Prelude.{◌≡◌, ◌∷◌, ◌++◌, [], Contains, MatchResult, Ok, OnOk, IfErr, IfOk, IsErrOf, string_bytes};
 ghost use Rattle.std.specs.Io.KnownBytes.{Keeps};
 ghost use Rattle.tigercanon.specs.Files.{IsMissing};
 ghost use Rattle.tigercanon.specs.Fingerprints.{IsFingerprint, SaysFingerprint};
 ghost use Rattle.tigercanon.specs.Statuses.{plan_status_of};
-ghost use Rattle.tigercanon.specs.Outcomes.{AreAccepted, AreAnswered, AreRefusedBy, IsAnswer, Leaves, PrintsPart, PrintsWhole, TellsSet};
+ghost use Rattle.tigercanon.specs.Outcomes.{AreAccepted, AreAnswered, Leaves, PrintsWhole, TellsSet};
+ghost use Rattle.tigercanon.specs.TwoSets.{IsMissingOne, IsRefusedBy, LeavesStopped, PrintsDifferent, PrintsDone, PrintsSome};
 ghost use Rattle.tigercanon.specs.Respelling.{IsRespelt};
 ghost use Rattle.tigercanon.specs.Sets.{IsCanonicalText, SaysAccepted};
 
 use crate::canonising::canonise_tables;
 use crate::checking::admit_tables;
 use crate::command_line::{Job, PlanFault};
+use crate::ending::{Ending, Stopped, ending_of, tell_stopped};
 use crate::fault::Fault;
 use crate::files::{Opened, is_missing_a_file, load_files, sources_of};
 use crate::fingerprinting::hash_of;
 use crate::normalising::normalise_to;
-use crate::refusal::Refusal;
+use crate::two_sets::compare_sets;
 use crate::writing::{LentOut, write_text};
 use std::alloc::{AllocError, Global};
 use std::io::{Read, Write};
@@ -139,57 +141,59 @@ fn fingerprint_set<R: Read + Drop, W: Write>(
     Ok(())
 }
 
-/// Does a job over the files of its set.
+/// Does a job over the files of its sets.
 fn do_job<R: Read + Drop, W: Write>(
     alloc: Global,
     job: Job,
-    files: Vec<Opened<R>>,
+    first: Vec<Opened<R>>,
+    second: Vec<Opened<R>>,
     out: &mut W,
-) -> Result<(), Fault>
-    ensures done { OnOk result (PrintsWhole (IsAnswer job) R.remaining files.items (W.contents out.old) (W.contents out.new)) }
-    ensures stopped { IfErr result (Leaves job R.remaining files.items (W.contents out.old) (W.contents out.new)) }
-    ensures missing { IsMissing files.items → IsErrOf result (Fault.Load LoadFault.Device) }
+) -> Result<Ending, Stopped>
+    ensures done { result ≡ Ok Ending.Done → PrintsDone job R.remaining first.items second.items (W.contents out.old) (W.contents out.new) }
+    ensures different { result ≡ Ok Ending.Different → PrintsDifferent job R.remaining first.items second.items (W.contents out.old) (W.contents out.new) }
+    ensures stopped { IfErr result (λ stopped. LeavesStopped job R.remaining first.items second.items (W.contents out.old) (W.contents out.new) stopped.fault) }
+    ensures missing { IsMissingOne job first.items second.items → MatchResult result (λ _. ⊥) (λ stopped. stopped.fault ≡ Fault.Load LoadFault.Device) }
 {
     match job {
-        Job::Respell => respell_set(alloc, files, out),
-        Job::Normalise => normalise_set(alloc, files, out),
-        Job::Check => check_set(alloc, files, out),
-        Job::Fingerprint => fingerprint_set(alloc, files, out),
+        Job::Respell => ending_of(respell_set(alloc, first, out)),
+        Job::Normalise => ending_of(normalise_set(alloc, first, out)),
+        Job::Check => ending_of(check_set(alloc, first, out)),
+        Job::Fingerprint => ending_of(fingerprint_set(alloc, first, out)),
+        Job::Compare => compare_sets(alloc, first, second, out),
     }
 }
 
-/// Does a job over the files of its sets, and answers the exit status: 0 where it is done, 3 where the set is
-/// refused, 4 where a device failed, 5 where memory was lacking.
+/// Does a job over the files of its sets, and answers the exit status: 0 where it is done, 1 where two sets are different maps,
+/// 3 where a set is refused, 4 where a device failed, 5 where memory was lacking. `second` is looked at by a comparison alone.
 ///
-/// What is asked for goes to `out`, and nothing goes there before the set is accepted. A refusal is one line on `err`,
+/// What is asked for goes to `out`, and nothing goes there before the sets are accepted. A refusal is one line on `err`,
 /// and a failure of `err` changes nothing.
 pub fn run<R: Read + Drop, W: Write, E: Write>(
     alloc: Global,
     job: Job,
     first: Vec<Opened<R>>,
-    _second: Vec<Opened<R>>,
+    second: Vec<Opened<R>>,
     out: &mut W,
     err: &mut E,
 ) -> u8
-    ensures statuses { Contains (0 ∷ 3 ∷ 4 ∷ 5 ∷ []) result }
-    ensures done { result ≡ 0 → PrintsWhole (IsAnswer job) R.remaining first.items (W.contents out.old) (W.contents out.new) }
+    ensures statuses { Contains (0 ∷ 1 ∷ 3 ∷ 4 ∷ 5 ∷ []) result }
+    ensures done { result ≡ 0 → PrintsDone job R.remaining first.items second.items (W.contents out.old) (W.contents out.new) }
+    // Only a comparison comes to this.
+    ensures different { result ≡ 1 → PrintsDifferent job R.remaining first.items second.items (W.contents out.old) (W.contents out.new) }
 
     // A set that isn't accepted leaves nothing behind.
-    ensures refused { result ≡ 3 → AreRefusedBy job R.remaining first.items }
+    ensures refused { result ≡ 3 → IsRefusedBy job R.remaining first.items second.items }
     ensures silent { result ≡ 3 → Keeps (W.contents out.old) (W.contents out.new) }
     ensures memory { result ≡ 5 → Keeps (W.contents out.old) (W.contents out.new) }
 
-    ensures device { result ≡ 4 → PrintsPart (IsAnswer job) R.remaining first.items (W.contents out.old) (W.contents out.new) }
-    ensures missing { IsMissing first.items → result ≡ 4 }
-    ensures missing_silent { IsMissing first.items → Keeps (W.contents out.old) (W.contents out.new) }
+    ensures device { result ≡ 4 → PrintsSome job R.remaining first.items second.items (W.contents out.old) (W.contents out.new) }
+    ensures missing { IsMissingOne job first.items second.items → result ≡ 4 }
+    ensures missing_silent { IsMissingOne job first.items second.items → Keeps (W.contents out.old) (W.contents out.new) }
 {
-    match do_job(alloc, job, first, out) {
-        Ok(()) => 0,
-        Err(fault) => {
-            let refusal = Refusal(fault);
-            let _ = writeln!(err, "{refusal}");
-            refusal.status()
-        }
+    match do_job(alloc, job, first, second, out) {
+        Ok(Ending::Done) => 0,
+        Ok(Ending::Different) => 1,
+        Err(stopped) => tell_stopped(stopped, err),
     }
 }
 

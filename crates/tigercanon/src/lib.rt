@@ -11,6 +11,7 @@ mod checking;
 mod command;
 mod command_line;
 mod comparing;
+mod ending;
 mod fault;
 mod files;
 mod fingerprinting;
@@ -24,6 +25,7 @@ mod planning;
 mod reading;
 mod refusal;
 mod respelling;
+mod two_sets;
 mod writing;
 
 pub use checking::check;

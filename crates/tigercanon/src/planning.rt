@@ -22,6 +22,7 @@ fn job_named(name: &str) -> Option<Job>
         "normalise" => Some(Job::Normalise),
         "check" => Some(Job::Check),
         "fingerprint" => Some(Job::Fingerprint),
+        "compare" => Some(Job::Compare),
         _ => None,
     }
 }

@@ -20,7 +20,7 @@ fn admitted(alloc: Global, lines: &[&str]) -> Result<Admitted, Fail> {
 
 /// The canonical county of these lines.
 fn canonical(alloc: Global, lines: &[&str]) -> Result<CanonCounty<County>, Fail> {
-    Ok(canonise(alloc, admitted(alloc, lines)?)?)
+    Ok(canonise(alloc, admitted(alloc, lines)?)?.0)
 }
 
 /// The canonical county of these lines answers each call as this one does.

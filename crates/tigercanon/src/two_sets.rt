@@ -1,0 +1,182 @@
+//! Comparing two sets of files.
+
+ghost use Rattle.std.specs.Prelude.{◌≡◌, ◌⊎◌, Ok, ℕ, List, [], IfOk, IfErr, MatchResult};
+ghost use Rattle.tigercanon.specs.Comparing.{AreDifferent, AreOneMap, IsAcceptable, IsCanonSet};
+ghost use Rattle.tigercanon.specs.Faults.{TellsRefusal};
+ghost use Rattle.tigercanon.specs.Files.{IsMissing};
+ghost use Rattle.tigercanon.specs.Outcomes.{Prints};
+ghost use Rattle.tigercanon.specs.Respelling.{record_limit};
+ghost use Rattle.tigercanon.specs.TwoSets.{IsLineDifferent, IsLineSame, LeavesComparison, OfTwoSets, TellsOne, line_of_ending, where_ended};
+ghost use Rattle.tl_county.specs.TheCounty.{the_county};
+ghost use Rattle.tl_layout.specs.Tables.{HoldsByType};
+ghost use Rattle.tl_load.specs.Keeping.{WasFedInto};
+
+use crate::canonising::canonise_tables;
+use crate::ending::{Ending, Stopped};
+use crate::fault::Fault;
+use crate::files::{Opened, is_missing_a_file, read_files};
+use crate::writing::write_text;
+use std::alloc::Global;
+use std::io::{Read, Write};
+use tl_county::{Chart, County};
+use tl_layout::Tables;
+use tl_load::{LoadFault, LoaderInto};
+use tl_number::CanonCounty;
+use tl_write::same_records;
+
+/// The canonical county of what a loader was fed.
+fn canonise_loaded(
+    alloc: Global,
+    loader: LoaderInto<Tables>,
+) -> Result<CanonCounty<County>, Fault>
+    requires { (parts : List (List ℕ)) × WasFedInto HoldsByType record_limit loader parts [] }
+    ensures canonical { (parts : List (List ℕ)) → WasFedInto HoldsByType record_limit loader parts [] →
+        IfOk result (λ canon. IsCanonSet parts (the_county canon.view.chart) (⟦<CanonCounty<County> as Chart>⟧.county canon)) }
+    ensures refused { (parts : List (List ℕ)) → WasFedInto HoldsByType record_limit loader parts [] → IfErr result (TellsRefusal parts) }
+{
+    let tables = loader.finish()?;
+    canonise_tables(alloc, tables)
+}
+
+/// Compares a set in canonical form with what a loader was fed.
+fn compare_to(
+    alloc: Global,
+    first: &CanonCounty<County>,
+    second: LoaderInto<Tables>,
+) -> Result<Ending, Stopped>
+    requires { (parts : List (List ℕ)) × WasFedInto HoldsByType record_limit second parts [] }
+    ensures verdict { (a b : List (List ℕ)) → IsCanonSet a (the_county first.now.view.chart) (⟦<CanonCounty<County> as Chart>⟧.county first.now) →
+        WasFedInto HoldsByType record_limit second b [] → IfOk result (λ ending. where_ended ending (AreOneMap a b) (AreDifferent a b)) }
+    ensures refused { (b : List (List ℕ)) → WasFedInto HoldsByType record_limit second b [] → IfErr result (λ stopped. TellsRefusal b stopped.fault) }
+{
+    let second = match canonise_loaded(alloc, second) {
+        Ok(county) => county,
+        Err(fault) => {
+            return Err(Stopped {
+                fault,
+                set: Some(2),
+            });
+        }
+    };
+    if same_records(first, &second) {
+        Ok(Ending::Done)
+    } else {
+        Ok(Ending::Different)
+    }
+}
+
+/// Judges what two loaders were fed, the first wholly before the second, and compares it.
+fn compare_loaded(
+    alloc: Global,
+    first: LoaderInto<Tables>,
+    second: LoaderInto<Tables>,
+) -> Result<Ending, Stopped>
+    requires first { (parts : List (List ℕ)) × WasFedInto HoldsByType record_limit first parts [] }
+    requires second { (parts : List (List ℕ)) × WasFedInto HoldsByType record_limit second parts [] }
+    ensures verdict { (a b : List (List ℕ)) → WasFedInto HoldsByType record_limit first a [] → WasFedInto HoldsByType record_limit second b [] →
+        IfOk result (λ ending. where_ended ending (AreOneMap a b) (AreDifferent a b)) }
+    ensures refused { (a b : List (List ℕ)) → WasFedInto HoldsByType record_limit first a [] → WasFedInto HoldsByType record_limit second b [] →
+        IfErr result (λ stopped. TellsRefusal a stopped.fault ⊎ (IsAcceptable a × TellsRefusal b stopped.fault)) }
+{
+    let first = match canonise_loaded(alloc, first) {
+        Ok(county) => county,
+        Err(fault) => {
+            return Err(Stopped {
+                fault,
+                set: Some(1),
+            });
+        }
+    };
+    compare_to(alloc, &first, second)
+}
+
+/// Reads two sets of files, of which none is missing, and compares them once both are read.
+fn compare_files<R: Read + Drop>(
+    alloc: Global,
+    first: Vec<Opened<R>>,
+    second: Vec<Opened<R>>,
+) -> Result<Ending, Stopped>
+    ensures verdict { IfOk result (λ ending. where_ended ending (OfTwoSets AreOneMap R.remaining first.items second.items)
+        (OfTwoSets AreDifferent R.remaining first.items second.items)) }
+    ensures refused { IfErr result (λ stopped. TellsOne R.remaining first.items second.items stopped.fault) }
+{
+    let first = match read_files::<Tables, R>(alloc, first) {
+        Ok(loader) => loader,
+        Err(fault) => {
+            return Err(Stopped {
+                fault,
+                set: Some(1),
+            });
+        }
+    };
+    let second = match read_files::<Tables, R>(alloc, second) {
+        Ok(loader) => loader,
+        Err(fault) => {
+            return Err(Stopped {
+                fault,
+                set: Some(2),
+            });
+        }
+    };
+    compare_loaded(alloc, first, second)
+}
+
+/// The line that a comparison prints.
+fn line_of(ending: Ending) -> &'static [u8]
+    ensures { result.now ≡ line_of_ending ending }
+{
+    match ending {
+        Ending::Done => b"same\n",
+        Ending::Different => b"different\n",
+    }
+}
+
+/// Prints whether two sets of files, of which none is missing, are one map, once both are read and judged.
+fn compare_found<R: Read + Drop, W: Write>(
+    alloc: Global,
+    first: Vec<Opened<R>>,
+    second: Vec<Opened<R>>,
+    out: &mut W,
+) -> Result<Ending, Stopped>
+    ensures done { result ≡ Ok Ending.Done → Prints (IsLineSame R.remaining first.items second.items) (W.contents out.old) (W.contents out.new) }
+    ensures different { result ≡ Ok Ending.Different → Prints (IsLineDifferent R.remaining first.items second.items) (W.contents out.old) (W.contents out.new) }
+    ensures stopped { IfErr result (λ stopped. LeavesComparison R.remaining first.items second.items (W.contents out.old) (W.contents out.new) stopped.fault) }
+{
+    let ending = compare_files(alloc, first, second)?;
+    match write_text(out, line_of(ending)) {
+        Ok(()) => Ok(ending),
+        Err(fault) => Err(Stopped {
+            fault: Fault::Write(fault),
+            set: None,
+        }),
+    }
+}
+
+/// Prints whether two sets of files are one map. A file of the first set that couldn't be opened is told before one of the
+/// second, and each of them before anything is read; what can't be read is told before what is wrong.
+pub(crate) fn compare_sets<R: Read + Drop, W: Write>(
+    alloc: Global,
+    first: Vec<Opened<R>>,
+    second: Vec<Opened<R>>,
+    out: &mut W,
+) -> Result<Ending, Stopped>
+    ensures done { result ≡ Ok Ending.Done → Prints (IsLineSame R.remaining first.items second.items) (W.contents out.old) (W.contents out.new) }
+    ensures different { result ≡ Ok Ending.Different → Prints (IsLineDifferent R.remaining first.items second.items) (W.contents out.old) (W.contents out.new) }
+    ensures stopped { IfErr result (λ stopped. LeavesComparison R.remaining first.items second.items (W.contents out.old) (W.contents out.new) stopped.fault) }
+    ensures missing { IsMissing first.items ⊎ IsMissing second.items → MatchResult result (λ _. ⊥) (λ stopped. stopped.fault ≡ Fault.Load LoadFault.Device) }
+{
+    let fault = Fault::Load(LoadFault::Device);
+    if is_missing_a_file(&first) {
+        return Err(Stopped {
+            fault,
+            set: Some(1),
+        });
+    }
+    if is_missing_a_file(&second) {
+        return Err(Stopped {
+            fault,
+            set: Some(2),
+        });
+    }
+    compare_found(alloc, first, second, out)
+}
