@@ -3,35 +3,47 @@
 use clap::{Arg, ArgAction, Command};
 use std::alloc::{AllocError, Global};
 
+/// The flag by which sets are named by their stems.
+pub(crate) const STEM: &str = "stem";
+
+/// The argument that names the first set, or the only one.
+pub(crate) const FIRST: &str = "FIRST";
+
+/// The argument that names the second set.
+pub(crate) const SECOND: &str = "SECOND";
+
 /// What stands at the end of the program's help.
 const EXAMPLES: &str = "\
 Examples:
   tigercanon normalise county.txt > canonical.txt
   tigercanon fingerprint --stem 2006/TGR06001
+  tigercanon compare --stem 2006/TGR06001 copy/TGR06001
 
 Exit status:
-  0  done
+  0  done; by compare: the sets are one map
+  1  by compare: the sets are different maps
   2  the command line asks for help, or can't be understood
   3  the set is refused; one line on standard error says why, and where
   4  a file or standard output failed
   5  out of memory
 ";
 
-/// The flag by which a set is named by its stem.
+/// The flag by which sets are named by their stems.
 fn stem<'a>(alloc: Global) -> Arg<'a> {
-    Arg::new(alloc, "stem")
+    Arg::new(alloc, STEM)
         .long("stem")
         .action(ArgAction::SetTrue)
         .help(
-            "Take each set as the files SET.RT1, .RT2, .RT4, .RT5, .RT6, .RT7, .RT8, .RTI and .RTP; all but .RT1 may be absent",
+            "Read a set from the files NAME.RT1, .RT2, .RT4, .RT5, .RT6, .RT7, .RT8, .RTI and .RTP; all but .RT1 may be absent",
         )
 }
 
 /// The name of a set.
-fn set<'a>(alloc: Global, name: &'a str, help: &'a str) -> Arg<'a> {
-    Arg::new(alloc, name)
+fn set<'a>(alloc: Global, id: &'a str, shown: &'a str, help: &'a str) -> Arg<'a> {
+    Arg::new(alloc, id)
         .required(true)
         .action(ArgAction::Set)
+        .value_name(shown)
         .help(help)
 }
 
@@ -43,13 +55,35 @@ fn over_one_set<'a>(
 ) -> Result<Command<'a>, AllocError> {
     let only = set(
         alloc,
+        FIRST,
         "SET",
-        "The file with all records of the county; with --stem what the names of its files begin with",
+        "The file with all records of a county, or by --stem what the names of its files begin with",
     );
     Command::new(alloc, name)
         .about(about)
         .arg(stem(alloc))?
         .arg(only)
+}
+
+/// The subcommand that reads two sets.
+fn compare<'a>(alloc: Global) -> Result<Command<'a>, AllocError> {
+    let first = set(
+        alloc,
+        FIRST,
+        FIRST,
+        "The file with all records of a county, or by --stem what the names of its files begin with",
+    );
+    let second = set(
+        alloc,
+        SECOND,
+        SECOND,
+        "Another county, named in the same way",
+    );
+    Command::new(alloc, "compare")
+        .about("Say whether two sets are one map: same or different")
+        .arg(stem(alloc))?
+        .arg(first)?
+        .arg(second)
 }
 
 /// What the program understands: its subcommands and their arguments.
@@ -67,7 +101,7 @@ pub(crate) fn command<'a>(alloc: Global) -> Result<Command<'a>, AllocError> {
     let check = over_one_set(
         alloc,
         "check",
-        "Say whether the records fit together and the county is in the profile",
+        "Say whether the records fit together to a county that has a canonical text",
     )?;
     let fingerprint = over_one_set(
         alloc,
@@ -86,5 +120,6 @@ pub(crate) fn command<'a>(alloc: Global) -> Result<Command<'a>, AllocError> {
         .subcommand(respell)?
         .subcommand(normalise)?
         .subcommand(check)?
-        .subcommand(fingerprint)
+        .subcommand(fingerprint)?
+        .subcommand(compare(alloc)?)
 }
