@@ -6,30 +6,36 @@ ghost use Rattle.tl_county.specs.County.{county_of};
 ghost use Rattle.tl_county.specs.Limits.{HoldsWithinLimits};
 ghost use Rattle.tl_county.specs.Packing.{packed};
 ghost use Rattle.tl_county.specs.Renumbering.{Carries};
-ghost use Rattle.tl_county.specs.TheCounty.{the_county};
+ghost use Rattle.tl_county.specs.TheCountyIn.{the_county_in};
 ghost use Rattle.tl_layout.specs.RecordText.{text_of};
 ghost use Rattle.tl_layout.specs.Tables.{HoldsByType};
 ghost use Rattle.tl_layout.specs.declared.record_type.Record.{Record};
 ghost use Rattle.tl_number.specs.Accepted.{IsCanonicalOf};
 
-use crate::checking::admit_tables;
+use crate::checking::admit_tables_in;
 use crate::fault::Fault;
+use bumpalo::Bump;
 use std::alloc::Global;
 use tl_cert::Renaming;
-use tl_county::{Chart, County};
+use tl_county::{Chart, CountyIn};
 use tl_layout::Tables;
-use tl_number::{CanonCounty, canonise_chart};
+use tl_number::{CanonCounty, CanonCountyIn, canonise_chart};
 use tl_write::{CountedOut, write_to};
 
-/// The canonical county of tables of records within their limits. The tables' order has no meaning.
-pub(crate) fn canonise_tables(alloc: Global, tables: Tables) -> Result<CanonCounty<County>, Fault>
+/// The canonical county of tables of records within their limits, read through a county in the arena. The tables' order has no
+/// meaning.
+pub(crate) fn canonise_tables<'a>(
+    alloc: Global,
+    arena: &'a Bump,
+    tables: Tables,
+) -> Result<CanonCountyIn<'a>, Fault>
     requires { HoldsWithinLimits tables }
     ensures canonical { IfOk result (λ canon. (records : List Record) →
-        HoldsByType tables records → IsCanonicalOf records (packed (⟦<CanonCounty<County> as Chart>⟧.county canon))) }
-    ensures source { IfOk result (λ canon. (records : List Record) → HoldsByType tables records → the_county canon.view.chart ≡ county_of records) }
+        HoldsByType tables records → IsCanonicalOf records (packed (⟦<CanonCounty<CountyIn<'a>> as Chart>⟧.county canon))) }
+    ensures source { IfOk result (λ canon. (records : List Record) → HoldsByType tables records → the_county_in canon.view.chart ≡ county_of records) }
     ensures refused { IfErr result (λ fault. (records : List Record) → HoldsByType tables records → RefusesRecords records fault) }
 {
-    let admitted = admit_tables(alloc, tables)?;
+    let admitted = admit_tables_in(alloc, arena, tables)?;
     Ok(canonise_chart(alloc, admitted.into_chart())?)
 }
 

@@ -13,6 +13,7 @@ use crate::canonising::canonise_tables;
 use crate::fault::Fault;
 use crate::hashing::Hashing;
 use crate::loading::load;
+use bumpalo::Bump;
 use std::alloc::Global;
 use tl_county::Chart;
 use tl_layout::Tables;
@@ -44,6 +45,7 @@ pub fn fingerprint(alloc: Global, parts: &[&[u8]]) -> Result<[u8; 32], Fault>
     ensures succeeds { (records : List Record) → IsAcceptedSet (map (λ p. p.now) parts.now) records → IfErr result IsWantOfMemory }
 {
     let tables: Tables = load(alloc, parts)?;
-    let county = canonise_tables(alloc, tables)?;
+    let arena = Bump::new(alloc);
+    let county = canonise_tables(alloc, &arena, tables)?;
     Ok(hash_of(&county))
 }
