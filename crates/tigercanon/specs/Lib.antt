@@ -8,5 +8,6 @@ pub mod Words
 pub mod Lending
 pub mod Reading
 pub mod Normalising
+pub mod Comparing
 pub mod Fingerprints
 pub mod Names

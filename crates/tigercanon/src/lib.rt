@@ -10,6 +10,7 @@ mod canonising;
 mod checking;
 mod command;
 mod command_line;
+mod comparing;
 mod fault;
 mod files;
 mod fingerprinting;
@@ -27,6 +28,7 @@ mod writing;
 
 pub use checking::check;
 pub use command_line::{Job, Plan, PlanFault};
+pub use comparing::{CompareFault, Verdict, compare};
 pub use fault::Fault;
 pub use files::Opened;
 pub use fingerprinting::fingerprint;

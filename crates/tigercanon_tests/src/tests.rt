@@ -18,3 +18,4 @@ mod renamings;
 mod sets;
 mod stems;
 mod turns;
+mod verdicts;

@@ -6,3 +6,5 @@ pub mod PackedGroups
 pub mod TextLengths
 pub mod EntryPlaces
 pub mod Finished
+pub mod SameGroups
+pub mod RecordFields

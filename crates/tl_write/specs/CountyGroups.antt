@@ -1,5 +1,5 @@
 -- The records of a county in groups: those of a chain, of a landmark, of a polygon.
-use Rattle.std.specs.Prelude.{List, [], ◌∷◌, map, option_to_list}
+use Rattle.std.specs.Prelude.{◌≡◌, List, [], ◌∷◌, map, length, option_to_list}
 use Rattle.tl_layout.specs.Fields.{Fields1, Fields2, Fields4, Fields5, Fields6, Fields7, Fields8, FieldsI, FieldsP}
 use Rattle.tl_county.specs.County.{County}
 use Rattle.tl_county.specs.Packing.{packed_one, packed_twos, packed_fours, packed_five, packed_sixes, packed_sevens, packed_i, packed_p}
@@ -38,3 +38,10 @@ eights_together county = county.links ∷ []
 -- the record of type P of each polygon that has one, by POLYID
 abbrev pub ps_by_number : County → List (List FieldsP)
 ps_by_number county = map (λ entry. option_to_list (packed_p entry)) (polygons_by_number county)
+
+-- as many chains, names, polygons and landmarks
+pub record HaveSameCounts (a b : County) : Type 0 where
+  pub chains : length a.chains ≡ length b.chains
+  pub names : length a.names ≡ length b.names
+  pub polygons : length a.polygons ≡ length b.polygons
+  pub landmarks : length a.landmarks ≡ length b.landmarks

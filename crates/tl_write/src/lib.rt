@@ -2,11 +2,13 @@
 #![tactic(auto)]
 
 mod chain_records;
+mod comparing;
 mod county_text;
 mod fault;
 mod groups;
 mod name_records;
 mod polygon_records;
+mod record_eq;
 mod sink;
 mod slow_sink;
 mod taker;
@@ -15,6 +17,7 @@ mod tests;
 mod text_buffer;
 mod writing;
 
+pub use comparing::same_records;
 pub use county_text::{records_of, records_of_in, write_in, write_to};
 pub use fault::WriteFault;
 pub use sink::{CountedOut, Sink};

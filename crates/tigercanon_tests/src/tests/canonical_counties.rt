@@ -70,7 +70,7 @@ fn a_street_becomes_the_first_chain(rt: HostRuntime) -> Result<(), Fail> {
 }
 
 /// Main St from its other end with two of its addresses exchanged, so that the numbers on its right are exchanged.
-const OTHER_ADDRESSES: [&str; 2] = [
+pub(super) const OTHER_ADDRESSES: [&str; 2] = [
     "10306{8}77{1}A{2}Main{26}St{4}A41{8}100{8}198{8}199{8}101{2}103600636003{14}0101001001{30}02030002020020021001{1}-86468545+32424948{1}-86468669+32424914",
     "I{4}01001{8}77{9}6{9}5",
 ];

@@ -50,7 +50,7 @@ const LANDMARK_TEXT: [&str; 8] = [
 ];
 
 /// The lines that the patterns stand for, each ended by LF.
-fn lines_of(alloc: Global, patterns: &[&str]) -> Result<Vec<u8>, AllocError> {
+pub(super) fn lines_of(alloc: Global, patterns: &[&str]) -> Result<Vec<u8>, AllocError> {
     let mut bytes = Vec::new(alloc);
     for pattern in patterns {
         bytes.extend_from_slice(&expanded(alloc, pattern)?)?;

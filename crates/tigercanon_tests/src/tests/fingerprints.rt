@@ -28,10 +28,7 @@ fn has_fingerprint(
     for pattern in patterns {
         parts.push(expanded(alloc, pattern)?)?;
     }
-    let lent: Vec<&[u8]> = parts
-        .iter()
-        .map(|part| part.as_slice())
-        .collect(alloc)?;
+    let lent: Vec<&[u8]> = parts.iter().map(|part| part.as_slice()).collect(alloc)?;
     let mut found = String::new(alloc);
     for byte in &fingerprint(alloc, &lent)? {
         found.push_str(&format!(in alloc; "{byte:02x}")?)?;

@@ -24,11 +24,7 @@ fn files_of<'a>(
 }
 
 /// The exit status of a job over the files, and what stands on standard output and standard error.
-fn done(
-    alloc: Global,
-    job: Job,
-    files: Vec<Opened<SlowReader<'_>>>,
-) -> (u8, Vec<u8>, Vec<u8>) {
+fn done(alloc: Global, job: Job, files: Vec<Opened<SlowReader<'_>>>) -> (u8, Vec<u8>, Vec<u8>) {
     let mut out = writer(alloc, 1000);
     let mut err = writer(alloc, 1000);
     let status = run(alloc, job, files, Vec::new(alloc), &mut out, &mut err);

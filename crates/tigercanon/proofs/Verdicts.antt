@@ -1,0 +1,36 @@
+-- Two sets that were put into canonical form.
+use Rattle.std.proofs.Common.{◌≡◌, ◌≢◌, ◌∙◌, ℕ, List, sym, ap, subst}
+use Rattle.tl_county.specs.County.{County, county_of}
+use Rattle.tl_county.specs.CountyRules.{IsCounty}
+use Rattle.tl_county.specs.Packing.{packed}
+use Rattle.tl_county.specs.Renumbering.{Carries, Renumbering}
+use Rattle.tl_county.proofs.PackedCounty.{packed_county}
+use Rattle.tl_number.proofs.Accepted.{same_one_canonical}
+use Rattle.tigercanon.specs.Comparing.{AreDifferent, IsAcceptable}
+use Rattle.tigercanon.specs.Sets.{CarriesSet, IsCanonSet}
+
+-- counties with one packing are one county
+pub one_county : (a b : County) → IsCounty a → IsCounty b → packed a ≡ packed b → a ≡ b
+one_county a b h k e = sym (packed_county a h) ∙ ap county_of e ∙ packed_county b k
+
+module _ (parts others : List (List ℕ)) (a a' b b' : County) (first : IsCanonSet parts a a') (second : IsCanonSet others b b') where
+  pub sets_carried : (r : Renumbering) → Carries r a b → CarriesSet r parts others
+  sets_carried r carries = record {
+    records = first.records;
+    other_records = second.records;
+    accepted = first.accepted;
+    other_accepted = second.accepted;
+    carries = subst (λ c. Carries r c (county_of second.records)) first.county_is (subst (Carries r a) second.county_is carries);
+  }
+
+  pub sets_different : packed a' ≢ packed b' → AreDifferent parts others
+  sets_different other = record {
+    records = first.records;
+    others = second.records;
+    first = first.accepted;
+    second = second.accepted;
+    not_same = λ same. other (same_one_canonical first.records second.records (packed a') (packed b') first.canonical second.canonical same);
+  }
+
+pub acceptable : (parts : List (List ℕ)) (a a' : County) → IsCanonSet parts a a' → IsAcceptable parts
+acceptable parts a a' set = (set.records, set.accepted)

@@ -1,0 +1,34 @@
+-- What comes of comparing two sets: whether they are one map, and why there may be no verdict.
+use Rattle.std.specs.Prelude.{ℕ, ◌≡◌, ◌⊎◌, List}
+use Rattle.tl_layout.specs.declared.record_type.Record.{Record}
+use Rattle.tl_county.specs.County.{county_of}
+use Rattle.tl_county.specs.Renumbering.{AreSame}
+use Rattle.tigercanon.specs.Faults.{IsWantOfMemory, TellsRefusal}
+use Rattle.tigercanon.specs.Sets.{IsAcceptedSet}
+use Rattle.tigercanon.specs.declared.comparing.CompareFault.{CompareFault}
+use Rattle.tigercanon.specs.declared.comparing.CompareFault.TheVariants.{In, Memory}
+
+-- both sets are accepted, and no renaming carries the county of the one onto that of the other
+pub record AreDifferent (a b : List (List ℕ)) : Type 0 where
+  pub records : List Record
+  pub others : List Record
+  pub first : IsAcceptedSet a records
+  pub second : IsAcceptedSet b others
+  pub not_same : AreSame (county_of records) (county_of others) → ⊥
+
+-- the set is accepted
+abbrev pub IsAcceptable : List (List ℕ) → Type 0
+IsAcceptable parts = (records : List Record) × IsAcceptedSet parts records
+
+-- What a fault tells of two sets. But for want of memory it is what the set that it names is refused for: the first set, or the
+-- second one where the first is accepted. Want of memory that is no set's comes where both are accepted.
+abbrev pub TellsRefusalOfOne : List (List ℕ) → List (List ℕ) → CompareFault → Type 0
+TellsRefusalOfOne a b (In set fault) =
+    ((set ≡ 1) × TellsRefusal a fault) ⊎ ((set ≡ 2) × IsAcceptable a × TellsRefusal b fault)
+TellsRefusalOfOne a b Memory = IsAcceptable a × IsAcceptable b
+
+-- of a set that is accepted it tells nothing but want of memory
+abbrev pub TellsMemoryOfAccepted : List (List ℕ) → List (List ℕ) → CompareFault → Type 0
+TellsMemoryOfAccepted a b (In set fault) =
+    (set ≡ 1 → IsAcceptable a → IsWantOfMemory fault) × (set ≡ 2 → IsAcceptable b → IsWantOfMemory fault)
+TellsMemoryOfAccepted a b Memory = Unit {0}

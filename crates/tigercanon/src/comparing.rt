@@ -1,0 +1,122 @@
+//! Whether two sets are one map.
+
+ghost use Rattle.std.specs.Prelude.{◌≡◌, ◌≢◌, Ok, Err, ℕ, List, map, IfOk, IfErr};
+ghost use Rattle.tigercanon.specs.Comparing.{AreDifferent, IsAcceptable, TellsMemoryOfAccepted, TellsRefusalOfOne};
+ghost use Rattle.tigercanon.specs.Faults.{IsWantOfMemory, TellsRefusal};
+ghost use Rattle.tigercanon.specs.Sets.{CarriesSet, IsCanonSet};
+ghost use Rattle.tigercanon.specs.declared.comparing.CompareFault.TheVariants.{Memory};
+ghost use Rattle.tl_county.specs.Packing.{packed};
+ghost use Rattle.tl_county.specs.Renumbering.{Carries, Renumbering};
+ghost use Rattle.tl_county.specs.TheCountyIn.{the_county_in};
+ghost use Rattle.tl_layout.specs.declared.record_type.Record.{Record};
+
+use crate::canonising::canonise_parts;
+use crate::fault::Fault;
+use bumpalo::Bump;
+use std::alloc::{AllocError, Global};
+use thiserror::Error;
+use tl_cert::Renaming;
+use tl_county::{Chart, CountyIn};
+use tl_load::LoadFault;
+use tl_number::{CanonCounty, CanonCountyIn};
+use tl_write::same_records;
+
+/// What comparing two sets finds.
+#[derive(Debug, Drop)]
+pub enum Verdict {
+    /// They are one map: the renaming carries the county of the first set onto that of the second.
+    Same(Renaming),
+    /// They are different maps: no renaming carries the county of the one onto that of the other.
+    Different,
+}
+
+/// Why comparing two sets finds nothing.
+#[derive(Clone, Copy, Debug, PartialEq, Eq, Error)]
+pub enum CompareFault {
+    /// One of the sets is refused, or there was no memory to judge it or to put it into canonical form.
+    #[error("{fault} in set {set}")]
+    In {
+        /// Which set: 1 or 2.
+        set: u8,
+        /// What it is refused for.
+        fault: Fault,
+    },
+    /// Both sets are accepted, and there was no memory for the verdict.
+    #[error("out of memory")]
+    Memory,
+}
+
+impl From<AllocError> for CompareFault {
+    ghost from_gives = { λ _ made. made ≡ Memory };
+
+    fn from(_error: AllocError) -> CompareFault {
+        CompareFault::Memory
+    }
+}
+
+/// The verdict on two canonical counties: where they have the same records it is the renaming of the one that the first comes
+/// from onto the one that the second comes from.
+fn verdict_on<A: Chart, B: Chart>(
+    alloc: Global,
+    a: &CanonCounty<A>,
+    b: &CanonCounty<B>,
+) -> Result<Verdict, CompareFault>
+    ensures same { (r : Renumbering) → result ≡ Ok (Verdict.Same r) → Carries r (A.county a.now.view.chart) (B.county b.now.view.chart) }
+    ensures different { result ≡ Ok Verdict.Different → packed (⟦<CanonCounty<A> as Chart>⟧.county a.now) ≢ packed (⟦<CanonCounty<B> as Chart>⟧.county b.now) }
+    ensures memory { IfErr result (λ fault. fault ≡ CompareFault.Memory) }
+{
+    if !same_records(a, b) {
+        return Ok(Verdict::Different);
+    }
+    let there = a.renaming(alloc)?;
+    let back = b.renaming(alloc)?.inverse()?;
+    Ok(Verdict::Same(there.then(&back)?))
+}
+
+/// The verdict on a set in canonical form and one that is still to be judged.
+fn compare_with<'a>(
+    alloc: Global,
+    first: &CanonCountyIn<'a>,
+    b: &[&[u8]],
+) -> Result<Verdict, CompareFault>
+    ensures same { (a : List (List ℕ)) (r : Renumbering) → IsCanonSet a (the_county_in first.now.view.chart) (⟦<CanonCounty<CountyIn<'a>> as Chart>⟧.county first.now)
+        → result ≡ Ok (Verdict.Same r) → CarriesSet r a (map (λ p. p.now) b.now) }
+    ensures different { (a : List (List ℕ)) → IsCanonSet a (the_county_in first.now.view.chart) (⟦<CanonCounty<CountyIn<'a>> as Chart>⟧.county first.now)
+        → result ≡ Ok Verdict.Different → AreDifferent a (map (λ p. p.now) b.now) }
+    ensures refused { (a : List (List ℕ)) → IsAcceptable a → IfErr result (TellsRefusalOfOne a (map (λ p. p.now) b.now)) }
+    ensures no_device { (set : ℕ) → result ≢ Err (CompareFault.In set (Fault.Load LoadFault.Device)) }
+    ensures succeeds { (a : List (List ℕ)) → IfErr result (TellsMemoryOfAccepted a (map (λ p. p.now) b.now)) }
+{
+    let arena = Bump::new(alloc);
+    let second = match canonise_parts(alloc, &arena, b) {
+        Ok(county) => county,
+        Err(fault) => return Err(CompareFault::In { set: 2, fault }),
+    };
+    verdict_on(alloc, first, &second)
+}
+
+/// Whether two sets of parts are one map: some renumbering and turning of chains carries the county of the first set onto that
+/// of the second, and then such a renaming is given. The first set is judged wholly before the second is looked at.
+///
+/// # Errors
+///
+/// [`CompareFault::In`] tells what a set is refused for, as [`crate::check`] tells it, or that memory was lacking for it.
+/// [`CompareFault::Memory`] tells that memory was lacking for the verdict.
+pub fn compare(alloc: Global, a: &[&[u8]], b: &[&[u8]]) -> Result<Verdict, CompareFault>
+    // The sets are one map only where both are accepted and this renaming carries the one onto the other,
+    ensures same { (r : Renumbering) → result ≡ Ok (Verdict.Same r) → CarriesSet r (map (λ p. p.now) a.now) (map (λ p. p.now) b.now) }
+    // and different only where both are accepted and no renaming does.
+    ensures different { result ≡ Ok Verdict.Different → AreDifferent (map (λ p. p.now) a.now) (map (λ p. p.now) b.now) }
+    // Else one of them is refused, the second only where the first is accepted.
+    ensures refused { IfErr result (TellsRefusalOfOne (map (λ p. p.now) a.now) (map (λ p. p.now) b.now)) }
+    ensures no_device { (set : ℕ) → result ≢ Err (CompareFault.In set (Fault.Load LoadFault.Device)) }
+    // Of an accepted set nothing but want of memory is told.
+    ensures succeeds { IfErr result (TellsMemoryOfAccepted (map (λ p. p.now) a.now) (map (λ p. p.now) b.now)) }
+{
+    let arena = Bump::new(alloc);
+    let first = match canonise_parts(alloc, &arena, a) {
+        Ok(county) => county,
+        Err(fault) => return Err(CompareFault::In { set: 1, fault }),
+    };
+    compare_with(alloc, &first, b)
+}

@@ -1,0 +1,27 @@
+use Rattle.std.proofs.Common.{◌≡◌, ◌∙◌, true, false, rules, refl, sym, ap, slice_get, Some, arith}
+use Rattle.tl_write.specs.Groups.{group_at}
+use Rattle.tl_write.proofs.SameGroups.{decides_no, same_next, same_whole}
+use Rattle.tl_write.proofs.comparing.is_same_group.Goals as goal
+
+pub loop-place-preserved : goal.loop-place-preserved
+loop-place-preserved g c =
+    let same : c.is_same-same.result ≡ true = search rules in
+    same_next (group_at (g.G.RecordGroups.groups c.args.a.now) c.args.group) (group_at (g.H.RecordGroups.groups c.args.b.now) c.args.group)
+    c.loop-place.place c.loop-place.invariant
+    (sym c.record.ensures ∙ ap (λ x. Some x) (c.is_same-same.ensures.0 same) ∙ c.record-in-loop-place.ensures)
+
+pub returns-then-not-same : goal.returns-then-not-same
+returns-then-not-same g c =
+    let other : c.is_same-same.result ≡ false = search rules in
+    decides_no c.is_same-same.result other c.is_same-same.ensures
+    (λ all. let read = c.record.ensures ∙ ap (λ xs. slice_get xs c.loop-place.place) all ∙ sym c.record-in-loop-place.ensures in cc)
+
+pub returns : goal.returns
+returns g c =
+    let xs = group_at (g.G.RecordGroups.groups c.args.a.now) c.args.group in
+    let ys = group_at (g.H.RecordGroups.groups c.args.b.now) c.args.group in (
+      λ e. same_whole xs ys c.loop-place.place c.loop-place.invariant
+          (omega (arith, c.count_in-count.ensures, c.loop-place-test.false))
+          (omega (arith, c.count_in.ensures, c.if-count_in-count.false, c.loop-place-test.false)),
+      λ all. refl,
+    )
