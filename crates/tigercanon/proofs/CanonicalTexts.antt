@@ -5,11 +5,14 @@ use Rattle.tl_layout.specs.declared.record_type.Record.{Record}
 use Rattle.tl_load.specs.Choice.{tiger}
 use Rattle.tl_load.specs.Outcome.{SpellsWithin}
 use Rattle.tl_county.specs.County.{County, county_of}
+use Rattle.tl_county.specs.CountyRules.{IsCounty}
+use Rattle.tl_county.specs.Packing.{packed}
 use Rattle.tl_county.specs.Renumbering.{Renumbering, Carries}
+use Rattle.tl_county.proofs.PackedCounty.{packed_county}
 use Rattle.tl_number.specs.Accepted.{IsCanonicalOf}
 use Rattle.tigercanon.specs.Normalising.{IsOnlyText}
 use Rattle.tigercanon.specs.Respelling.{record_limit}
-use Rattle.tigercanon.specs.Sets.{CarriesSet, IsAcceptedSet, IsCanonicalText, IsOneCanonicalText}
+use Rattle.tigercanon.specs.Sets.{CarriesSet, IsAcceptedSet, IsCanonSet, IsCanonicalText, IsOneCanonicalText}
 use Rattle.tigercanon.proofs.Sets.{one_text, only_text, text_accepted, text_itself}
 
 pub if_ok_by : {T E : Type 0} {P Q : T → Type 0} (r : Result T E) → ((x : T) → P x → Q x) → IfOk r P → IfOk r Q
@@ -58,3 +61,17 @@ one_text_accepted parts text one = (
   one.canonical.canonical,
   subst (λ ps. IsAcceptedSet ps one.canonical.canonical) (sym one.parts_are) (text_accepted one.whole text one.canonical),
 )
+
+-- what comes of a set's canonical county
+module _ (parts : List (List ℕ)) (a canon : County) (set : IsCanonSet parts a canon) where
+  pub text_of_set : (text : List ℕ) → text ≡ text_of (packed canon) → IsCanonicalText parts text
+  text_of_set = is_text parts set.records (packed canon) set.accepted.spelled set.canonical
+
+  pub only_of_set : (text : List ℕ) → text ≡ text_of (packed canon) → IsOnlyText parts text
+  only_of_set = is_only parts set.records (packed canon) set.accepted.spelled set.canonical
+
+  pub carried_of_set : IsCounty canon → (text : List ℕ) → text ≡ text_of (packed canon) → (renaming : Renumbering)
+      → Carries renaming a canon → CarriesSet renaming parts (text ∷ [])
+  carried_of_set is text e renaming =
+      is_carried parts set.records (packed canon) set.accepted.spelled set.canonical text e renaming a canon set.county_is
+      (packed_county canon is)

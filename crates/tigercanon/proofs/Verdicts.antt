@@ -6,8 +6,8 @@ use Rattle.tl_county.specs.Packing.{packed}
 use Rattle.tl_county.specs.Renumbering.{Carries, Renumbering}
 use Rattle.tl_county.proofs.PackedCounty.{packed_county}
 use Rattle.tl_number.proofs.Accepted.{one_canonical_same, same_one_canonical}
-use Rattle.tigercanon.specs.Comparing.{AreDifferent, AreOneMap, IsAcceptable, IsCanonSet}
-use Rattle.tigercanon.specs.Sets.{CarriesSet}
+use Rattle.tigercanon.specs.Comparing.{AreDifferent, AreOneMap, IsAcceptable}
+use Rattle.tigercanon.specs.Sets.{CarriesSet, IsCanonSet}
 
 -- counties with one packing are one county
 pub one_county : (a b : County) → IsCounty a → IsCounty b → packed a ≡ packed b → a ≡ b

@@ -1,10 +1,8 @@
 -- What comes of comparing two sets: whether they are one map, and why there may be no verdict.
 use Rattle.std.specs.Prelude.{ℕ, ◌≡◌, ◌++◌, ◌∷◌, [], ◌⊎◌, List, codes}
 use Rattle.tl_layout.specs.declared.record_type.Record.{Record}
-use Rattle.tl_county.specs.County.{County, county_of}
-use Rattle.tl_county.specs.Packing.{packed}
+use Rattle.tl_county.specs.County.{county_of}
 use Rattle.tl_county.specs.Renumbering.{AreSame, Renumbering}
-use Rattle.tl_number.specs.Accepted.{IsCanonicalOf}
 use Rattle.tigercanon.specs.Faults.{IsWantOfMemory, TellsRefusal}
 use Rattle.tigercanon.specs.Sets.{CarriesSet, IsAcceptedSet}
 use Rattle.tigercanon.specs.declared.comparing.CompareFault.{CompareFault}
@@ -47,10 +45,3 @@ abbrev pub TellsMemoryOfAccepted : List (List ℕ) → List (List ℕ) → Compa
 TellsMemoryOfAccepted a b (In set fault) =
     (set ≡ 1 → IsAcceptable a → IsWantOfMemory fault) × (set ≡ 2 → IsAcceptable b → IsWantOfMemory fault)
 TellsMemoryOfAccepted a b Memory = Unit {0}
-
--- the set is accepted, the one county is that of its records, and the other one has their canonical records
-pub record IsCanonSet (parts : List (List ℕ)) (county canon : County) : Type 0 where
-  pub records : List Record
-  pub accepted : IsAcceptedSet parts records
-  pub county_is : county ≡ county_of records
-  pub canonical : IsCanonicalOf records (packed canon)

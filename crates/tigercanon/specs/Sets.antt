@@ -4,7 +4,8 @@ use Rattle.tl_layout.specs.RecordText.{text_of}
 use Rattle.tl_layout.specs.declared.record_type.Record.{Record}
 use Rattle.tl_load.specs.Choice.{tiger}
 use Rattle.tl_load.specs.Outcome.{SpellsWithin}
-use Rattle.tl_county.specs.County.{county_of}
+use Rattle.tl_county.specs.County.{County, county_of}
+use Rattle.tl_county.specs.Packing.{packed}
 use Rattle.tl_county.specs.Renumbering.{Renumbering, Carries}
 use Rattle.tl_county.specs.LinkRules.{IsLinked, IsFirstBrokenRule}
 use Rattle.tl_profile.specs.Profile.{IsFirstBrokenClause}
@@ -55,3 +56,10 @@ pub record IsOneCanonicalText (parts : List (List ℕ)) (text : List ℕ) : Type
   pub whole : List (List ℕ)
   pub canonical : IsCanonicalText whole text
   pub parts_are : parts ≡ text ∷ []
+
+-- the set is accepted, the one county is that of its records, and the other one has their canonical records
+pub record IsCanonSet (parts : List (List ℕ)) (county canon : County) : Type 0 where
+  pub records : List Record
+  pub accepted : IsAcceptedSet parts records
+  pub county_is : county ≡ county_of records
+  pub canonical : IsCanonicalOf records (packed canon)

@@ -6,17 +6,19 @@ ghost use Rattle.tigercanon.specs.Sets.{IsAcceptedSet};
 ghost use Rattle.tl_county.specs.County.{county_of};
 ghost use Rattle.tl_county.specs.Limits.{HoldsWithinLimits};
 ghost use Rattle.tl_county.specs.TheCounty.{the_county};
+ghost use Rattle.tl_county.specs.TheCountyIn.{the_county_in};
 ghost use Rattle.tl_layout.specs.Tables.{HoldsByType};
 ghost use Rattle.tl_layout.specs.declared.record_type.Record.{Record};
 ghost use Rattle.tl_number.specs.Accepted.{IsAccepted};
 
 use crate::fault::Fault;
 use crate::loading::load;
+use bumpalo::Bump;
 use std::alloc::Global;
-use tl_county::link_tables;
+use tl_county::{link_tables, link_tables_in};
 use tl_layout::Tables;
 use tl_load::LoadFault;
-use tl_profile::{Admitted, admit};
+use tl_profile::{Admitted, AdmittedIn, admit, admit_in};
 
 /// The admitted county of tables of records within their limits. The tables' order has no meaning.
 pub(crate) fn admit_tables(alloc: Global, tables: Tables) -> Result<Admitted, Fault>
@@ -27,6 +29,21 @@ pub(crate) fn admit_tables(alloc: Global, tables: Tables) -> Result<Admitted, Fa
 {
     let county = link_tables(alloc, tables)?;
     Ok(admit(alloc, county)?)
+}
+
+/// The admitted county, in the arena, of tables of records within their limits. The tables' order has no meaning.
+pub(crate) fn admit_tables_in<'a>(
+    alloc: Global,
+    arena: &'a Bump,
+    tables: Tables,
+) -> Result<AdmittedIn<'a>, Fault>
+    requires { HoldsWithinLimits tables }
+    ensures accepted { IfOk result (λ admitted. (records : List Record) →
+        HoldsByType tables records → IsAccepted records × (the_county_in admitted ≡ county_of records)) }
+    ensures refused { IfErr result (λ fault. (records : List Record) → HoldsByType tables records → RefusesRecords records fault) }
+{
+    let county = link_tables_in(alloc, arena, tables)?;
+    Ok(admit_in(alloc, county)?)
 }
 
 /// Whether the parts are accepted: their lines spell records, these fit together, and their county is in the profile.

@@ -1,25 +1,24 @@
 //! Whether two sets are one map.
 
 ghost use Rattle.std.specs.Prelude.{◌≡◌, ◌≢◌, Ok, Err, ℕ, List, map, IfOk, IfErr};
-ghost use Rattle.tigercanon.specs.Comparing.{AreDifferent, IsAcceptable, IsCanonSet, TellsMemoryOfAccepted, TellsRefusalOfOne};
+ghost use Rattle.tigercanon.specs.Comparing.{AreDifferent, IsAcceptable, TellsMemoryOfAccepted, TellsRefusalOfOne};
 ghost use Rattle.tigercanon.specs.Faults.{IsWantOfMemory, TellsRefusal};
-ghost use Rattle.tigercanon.specs.Sets.{CarriesSet, IsAcceptedSet};
+ghost use Rattle.tigercanon.specs.Sets.{CarriesSet, IsCanonSet};
 ghost use Rattle.tigercanon.specs.declared.comparing.CompareFault.TheVariants.{Memory};
 ghost use Rattle.tl_county.specs.Packing.{packed};
 ghost use Rattle.tl_county.specs.Renumbering.{Carries, Renumbering};
-ghost use Rattle.tl_county.specs.TheCounty.{the_county};
+ghost use Rattle.tl_county.specs.TheCountyIn.{the_county_in};
 ghost use Rattle.tl_layout.specs.declared.record_type.Record.{Record};
 
-use crate::canonising::canonise_tables;
+use crate::canonising::canonise_parts;
 use crate::fault::Fault;
-use crate::loading::load;
+use bumpalo::Bump;
 use std::alloc::{AllocError, Global};
 use thiserror::Error;
 use tl_cert::Renaming;
-use tl_county::{Chart, County};
-use tl_layout::Tables;
+use tl_county::{Chart, CountyIn};
 use tl_load::LoadFault;
-use tl_number::CanonCounty;
+use tl_number::{CanonCounty, CanonCountyIn};
 use tl_write::same_records;
 
 /// What comparing two sets finds.
@@ -55,18 +54,6 @@ impl From<AllocError> for CompareFault {
     }
 }
 
-/// The canonical county of the parts.
-fn canonise_parts(alloc: Global, parts: &[&[u8]]) -> Result<CanonCounty<County>, Fault>
-    ensures canonical { IfOk result (λ canon. IsCanonSet (map (λ p. p.now) parts.now) (the_county canon.view.chart) (⟦<CanonCounty<County> as Chart>⟧.county canon)) }
-    ensures refused { IfErr result (TellsRefusal (map (λ p. p.now) parts.now)) }
-    ensures no_device { result ≢ Err (Fault.Load LoadFault.Device) }
-    // Of accepted parts nothing but want of memory is told.
-    ensures succeeds { (records : List Record) → IsAcceptedSet (map (λ p. p.now) parts.now) records → IfErr result IsWantOfMemory }
-{
-    let tables: Tables = load(alloc, parts)?;
-    canonise_tables(alloc, tables)
-}
-
 /// The verdict on two canonical counties: where they have the same records it is the renaming of the one that the first comes
 /// from onto the one that the second comes from.
 fn verdict_on<A: Chart, B: Chart>(
@@ -87,20 +74,21 @@ fn verdict_on<A: Chart, B: Chart>(
 }
 
 /// The verdict on a set in canonical form and one that is still to be judged.
-fn compare_with(
+fn compare_with<'a>(
     alloc: Global,
-    first: &CanonCounty<County>,
+    first: &CanonCountyIn<'a>,
     b: &[&[u8]],
 ) -> Result<Verdict, CompareFault>
-    ensures same { (a : List (List ℕ)) (r : Renumbering) → IsCanonSet a (the_county first.now.view.chart) (⟦<CanonCounty<County> as Chart>⟧.county first.now)
+    ensures same { (a : List (List ℕ)) (r : Renumbering) → IsCanonSet a (the_county_in first.now.view.chart) (⟦<CanonCounty<CountyIn<'a>> as Chart>⟧.county first.now)
         → result ≡ Ok (Verdict.Same r) → CarriesSet r a (map (λ p. p.now) b.now) }
-    ensures different { (a : List (List ℕ)) → IsCanonSet a (the_county first.now.view.chart) (⟦<CanonCounty<County> as Chart>⟧.county first.now)
+    ensures different { (a : List (List ℕ)) → IsCanonSet a (the_county_in first.now.view.chart) (⟦<CanonCounty<CountyIn<'a>> as Chart>⟧.county first.now)
         → result ≡ Ok Verdict.Different → AreDifferent a (map (λ p. p.now) b.now) }
     ensures refused { (a : List (List ℕ)) → IsAcceptable a → IfErr result (TellsRefusalOfOne a (map (λ p. p.now) b.now)) }
     ensures no_device { (set : ℕ) → result ≢ Err (CompareFault.In set (Fault.Load LoadFault.Device)) }
     ensures succeeds { (a : List (List ℕ)) → IfErr result (TellsMemoryOfAccepted a (map (λ p. p.now) b.now)) }
 {
-    let second = match canonise_parts(alloc, b) {
+    let arena = Bump::new(alloc);
+    let second = match canonise_parts(alloc, &arena, b) {
         Ok(county) => county,
         Err(fault) => return Err(CompareFault::In { set: 2, fault }),
     };
@@ -125,7 +113,8 @@ pub fn compare(alloc: Global, a: &[&[u8]], b: &[&[u8]]) -> Result<Verdict, Compa
     // Of an accepted set nothing but want of memory is told.
     ensures succeeds { IfErr result (TellsMemoryOfAccepted (map (λ p. p.now) a.now) (map (λ p. p.now) b.now)) }
 {
-    let first = match canonise_parts(alloc, a) {
+    let arena = Bump::new(alloc);
+    let first = match canonise_parts(alloc, &arena, a) {
         Ok(county) => county,
         Err(fault) => return Err(CompareFault::In { set: 1, fault }),
     };

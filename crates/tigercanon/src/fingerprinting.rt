@@ -9,13 +9,12 @@ ghost use Rattle.tl_county.specs.Packing.{packed};
 ghost use Rattle.tl_layout.specs.RecordText.{text_of};
 ghost use Rattle.tl_layout.specs.declared.record_type.Record.{Record};
 
-use crate::canonising::canonise_tables;
+use crate::canonising::canonise_parts;
 use crate::fault::Fault;
 use crate::hashing::Hashing;
-use crate::loading::load;
+use bumpalo::Bump;
 use std::alloc::Global;
 use tl_county::Chart;
-use tl_layout::Tables;
 use tl_load::LoadFault;
 use tl_number::CanonCounty;
 use tl_write::write_to;
@@ -43,7 +42,7 @@ pub fn fingerprint(alloc: Global, parts: &[&[u8]]) -> Result<[u8; 32], Fault>
     // Of accepted parts nothing but want of memory is told.
     ensures succeeds { (records : List Record) → IsAcceptedSet (map (λ p. p.now) parts.now) records → IfErr result IsWantOfMemory }
 {
-    let tables: Tables = load(alloc, parts)?;
-    let county = canonise_tables(alloc, tables)?;
+    let arena = Bump::new(alloc);
+    let county = canonise_parts(alloc, &arena, parts)?;
     Ok(hash_of(&county))
 }

@@ -21,6 +21,7 @@ use crate::fingerprinting::hash_of;
 use crate::normalising::normalise_to;
 use crate::two_sets::compare_sets;
 use crate::writing::{LentOut, write_text};
+use bumpalo::Bump;
 use std::alloc::{AllocError, Global};
 use std::io::{Read, Write};
 use tl_layout::Tables;
@@ -112,7 +113,8 @@ fn fingerprint_files<R: Read + Drop>(
     ensures missing { IsMissing files.items → IsErrOf result (Fault.Load LoadFault.Device) }
 {
     let tables: Tables = load_files(alloc, files)?;
-    let county = canonise_tables(alloc, tables)?;
+    let arena = Bump::new(alloc);
+    let county = canonise_tables(alloc, &arena, tables)?;
     Ok(hash_of(&county))
 }
 

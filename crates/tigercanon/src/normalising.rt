@@ -8,10 +8,10 @@ ghost use Rattle.tigercanon.specs.Sets.{CarriesSet, IsAcceptedSet, IsCanonicalTe
 ghost use Rattle.tl_layout.specs.declared.record_type.Record.{Record};
 ghost use Rattle.tl_write.specs.declared.fault.WriteFault.{WriteFault};
 
-use crate::canonising::{canonise_tables, text_and_renaming, text_in_memory};
+use crate::canonising::{canonise_parts, canonise_tables, text_and_renaming, text_in_memory};
 use crate::fault::Fault;
-use crate::loading::load;
 use crate::reading::load_sources;
+use bumpalo::Bump;
 use std::alloc::Global;
 use tl_cert::Renaming;
 use tl_layout::Tables;
@@ -38,8 +38,8 @@ pub fn normalise(alloc: Global, parts: &[&[u8]]) -> Result<Vec<u8>, Fault>
     // Of accepted parts nothing but want of memory is told.
     ensures succeeds { (records : List Record) → IsAcceptedSet (map (λ p. p.now) parts.now) records → IfErr result IsWantOfMemory }
 {
-    let tables: Tables = load(alloc, parts)?;
-    let county = canonise_tables(alloc, tables)?;
+    let arena = Bump::new(alloc);
+    let county = canonise_parts(alloc, &arena, parts)?;
     text_in_memory(alloc, &county)
 }
 
@@ -59,8 +59,8 @@ pub fn normalise_with_renaming(alloc: Global, parts: &[&[u8]]) -> Result<(Vec<u8
     // Of accepted parts nothing but want of memory is told.
     ensures succeeds { (records : List Record) → IsAcceptedSet (map (λ p. p.now) parts.now) records → IfErr result IsWantOfMemory }
 {
-    let tables: Tables = load(alloc, parts)?;
-    let county = canonise_tables(alloc, tables)?;
+    let arena = Bump::new(alloc);
+    let county = canonise_parts(alloc, &arena, parts)?;
     text_and_renaming(alloc, &county)
 }
 
@@ -94,6 +94,7 @@ pub fn normalise_to<R: Source, W: Sink>(
     ensures no_device { result ≢ Err (Fault.Load LoadFault.Device) → NoneFailed R.failed parts.old parts.new }
 {
     let tables: Tables = load_sources(alloc, parts)?;
-    let county = canonise_tables(alloc, tables)?;
+    let arena = Bump::new(alloc);
+    let county = canonise_tables(alloc, &arena, tables)?;
     Ok(write_to(&county, out)?)
 }

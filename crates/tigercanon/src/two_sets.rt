@@ -1,13 +1,14 @@
 //! Comparing two sets of files.
 
 ghost use Rattle.std.specs.Prelude.{◌≡◌, ◌⊎◌, Ok, ℕ, List, [], IfOk, IfErr, MatchResult};
-ghost use Rattle.tigercanon.specs.Comparing.{AreDifferent, AreOneMap, IsAcceptable, IsCanonSet};
+ghost use Rattle.tigercanon.specs.Comparing.{AreDifferent, AreOneMap, IsAcceptable};
 ghost use Rattle.tigercanon.specs.Faults.{TellsRefusal};
 ghost use Rattle.tigercanon.specs.Files.{IsMissing};
 ghost use Rattle.tigercanon.specs.Outcomes.{Prints};
 ghost use Rattle.tigercanon.specs.Respelling.{record_limit};
+ghost use Rattle.tigercanon.specs.Sets.{IsCanonSet};
 ghost use Rattle.tigercanon.specs.TwoSets.{IsLineDifferent, IsLineSame, LeavesComparison, OfTwoSets, TellsOne, line_of_ending, where_ended};
-ghost use Rattle.tl_county.specs.TheCounty.{the_county};
+ghost use Rattle.tl_county.specs.TheCountyIn.{the_county_in};
 ghost use Rattle.tl_layout.specs.Tables.{HoldsByType};
 ghost use Rattle.tl_load.specs.Keeping.{WasFedInto};
 
@@ -16,40 +17,43 @@ use crate::ending::{Ending, Stopped};
 use crate::fault::Fault;
 use crate::files::{Opened, is_missing_a_file, read_files};
 use crate::writing::write_text;
+use bumpalo::Bump;
 use std::alloc::Global;
 use std::io::{Read, Write};
-use tl_county::{Chart, County};
+use tl_county::{Chart, CountyIn};
 use tl_layout::Tables;
 use tl_load::{LoadFault, LoaderInto};
-use tl_number::CanonCounty;
+use tl_number::{CanonCounty, CanonCountyIn};
 use tl_write::same_records;
 
-/// The canonical county of what a loader was fed.
-fn canonise_loaded(
+/// The canonical county of what a loader was fed, read through a county in the arena.
+fn canonise_loaded<'a>(
     alloc: Global,
+    arena: &'a Bump,
     loader: LoaderInto<Tables>,
-) -> Result<CanonCounty<County>, Fault>
+) -> Result<CanonCountyIn<'a>, Fault>
     requires { (parts : List (List ℕ)) × WasFedInto HoldsByType record_limit loader parts [] }
     ensures canonical { (parts : List (List ℕ)) → WasFedInto HoldsByType record_limit loader parts [] →
-        IfOk result (λ canon. IsCanonSet parts (the_county canon.view.chart) (⟦<CanonCounty<County> as Chart>⟧.county canon)) }
+        IfOk result (λ canon. IsCanonSet parts (the_county_in canon.view.chart) (⟦<CanonCounty<CountyIn<'a>> as Chart>⟧.county canon)) }
     ensures refused { (parts : List (List ℕ)) → WasFedInto HoldsByType record_limit loader parts [] → IfErr result (TellsRefusal parts) }
 {
     let tables = loader.finish()?;
-    canonise_tables(alloc, tables)
+    canonise_tables(alloc, arena, tables)
 }
 
 /// Compares a set in canonical form with what a loader was fed.
-fn compare_to(
+fn compare_to<'a>(
     alloc: Global,
-    first: &CanonCounty<County>,
+    first: &CanonCountyIn<'a>,
     second: LoaderInto<Tables>,
 ) -> Result<Ending, Stopped>
     requires { (parts : List (List ℕ)) × WasFedInto HoldsByType record_limit second parts [] }
-    ensures verdict { (a b : List (List ℕ)) → IsCanonSet a (the_county first.now.view.chart) (⟦<CanonCounty<County> as Chart>⟧.county first.now) →
+    ensures verdict { (a b : List (List ℕ)) → IsCanonSet a (the_county_in first.now.view.chart) (⟦<CanonCounty<CountyIn<'a>> as Chart>⟧.county first.now) →
         WasFedInto HoldsByType record_limit second b [] → IfOk result (λ ending. where_ended ending (AreOneMap a b) (AreDifferent a b)) }
     ensures refused { (b : List (List ℕ)) → WasFedInto HoldsByType record_limit second b [] → IfErr result (λ stopped. TellsRefusal b stopped.fault) }
 {
-    let second = match canonise_loaded(alloc, second) {
+    let arena = Bump::new(alloc);
+    let second = match canonise_loaded(alloc, &arena, second) {
         Ok(county) => county,
         Err(fault) => {
             return Err(Stopped {
@@ -78,7 +82,8 @@ fn compare_loaded(
     ensures refused { (a b : List (List ℕ)) → WasFedInto HoldsByType record_limit first a [] → WasFedInto HoldsByType record_limit second b [] →
         IfErr result (λ stopped. TellsRefusal a stopped.fault ⊎ (IsAcceptable a × TellsRefusal b stopped.fault)) }
 {
-    let first = match canonise_loaded(alloc, first) {
+    let arena = Bump::new(alloc);
+    let first = match canonise_loaded(alloc, &arena, first) {
         Ok(county) => county,
         Err(fault) => {
             return Err(Stopped {

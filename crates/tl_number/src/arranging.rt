@@ -3,6 +3,7 @@
 ghost use Rattle.std.specs.Prelude.{◌≡◌, ◌<◌, ◌^◌, IfOk, length};
 ghost use Rattle.tl_county.specs.CountyRules.{AllKeysStandIn, polygon_keys, polygons_along};
 ghost use Rattle.tl_county.specs.Renumbering.{Carries};
+ghost use Rattle.tl_county.specs.TheCountyIn.{the_county_in};
 ghost use Rattle.tl_number.specs.Arrangement.{arranged, ascending, renaming_of};
 ghost use Rattle.tl_number.specs.Steps.{AreSteps, arrangement_of};
 ghost use Rattle.tl_number.specs.ViewFacts.{NamesEachOnce};
@@ -10,7 +11,7 @@ ghost use Rattle.tl_number.specs.CanonCounties.{IsCanonCounty};
 ghost use Rattle.tl_profile.specs.Profile.{IsInProfile};
 
 use crate::arranged::Arranged;
-use crate::canon_county::CanonCounty;
+use crate::canon_county::{CanonCounty, CanonCountyIn};
 use crate::landmark_order::arrange_landmarks;
 use crate::name_order::arrange_names;
 use crate::order::ascending_steps;
@@ -19,8 +20,8 @@ use crate::step::Step;
 use crate::walks::number_nodes;
 use std::alloc::{AllocError, Global};
 use tl_cert::Renaming;
-use tl_county::Chart;
-use tl_profile::Admitted;
+use tl_county::{Chart, CountyIn};
+use tl_profile::{Admitted, AdmittedIn};
 
 /// A county whose polygons stand on sides, in the arrangement of these steps, each of which is another chain and which are
 /// all of its chains.
@@ -85,4 +86,21 @@ pub fn canonise<C: Chart + Drop>(
     let canon = canonise_chart(alloc, admitted.into_chart())?;
     let renaming = canon.renaming(alloc)?;
     Ok((canon, renaming))
+}
+
+/// The canonical county of an admitted county in an arena, and the renaming that carries the one onto the other.
+///
+/// # Errors
+///
+/// Only that memory was lacking.
+pub fn canonise_in<'a>(
+    alloc: Global,
+    admitted: AdmittedIn<'a>,
+) -> Result<(CanonCountyIn<'a>, Renaming), AllocError>
+    ensures county { IfOk result (λ pair. ⟦<CanonCounty<CountyIn<'a>> as Chart>⟧.county pair.0 ≡ arranged (the_county_in admitted.entry) (ascending (the_county_in admitted.entry))) }
+    ensures renaming { IfOk result (λ pair. pair.1 ≡ renaming_of (the_county_in admitted.entry) (ascending (the_county_in admitted.entry))) }
+    ensures carried { IfOk result (λ pair. Carries pair.1 (the_county_in admitted.entry) (⟦<CanonCounty<CountyIn<'a>> as Chart>⟧.county pair.0)) }
+    ensures canonical { IfOk result (λ pair. IsCanonCounty (⟦<CanonCounty<CountyIn<'a>> as Chart>⟧.county pair.0)) }
+{
+    canonise(alloc, admitted)
 }

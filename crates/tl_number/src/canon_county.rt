@@ -11,7 +11,7 @@ ghost use Rattle.tl_number.specs.ViewFacts.{stepped};
 use crate::arranged::Arranged;
 use std::alloc::{AllocError, Global};
 use tl_cert::Renaming;
-use tl_county::{Chart, PolygonKey};
+use tl_county::{Chart, CountyIn, PolygonKey};
 use tl_layout::{Body1, Body5, Body7, BodyI, BodyP, Point, Ranges, Rec8, Side};
 
 /// A county in canonical form: its chains run and stand as their points tell, and all numbers follow from that. It is the
@@ -22,6 +22,9 @@ pub struct CanonCounty<C: Chart> {
     ghost canonical: { IsCanonCounty (stepped (C.county view.chart) view.steps.items) } by { IsCanonCounty-prop (stepped (C.county view.chart) view.steps.items) },
     ghost same: { ∥ AreSame (C.county view.chart) (stepped (C.county view.chart) view.steps.items) ∥₁ },
 }
+
+/// A canonical county, read through a county in an arena.
+pub type CanonCountyIn<'a> = CanonCounty<CountyIn<'a>>;
 
 impl<C: Chart> CanonCounty<C> {
     /// The polygon of the number (POLYID) that is one above the place, which is below the count of polygons: its key, and the

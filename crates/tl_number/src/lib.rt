@@ -23,8 +23,8 @@ mod tables;
 mod walks;
 
 pub use arranged::Arranged;
-pub use arranging::{arrange, canonise, canonise_chart};
-pub use canon_county::CanonCounty;
+pub use arranging::{arrange, canonise, canonise_chart, canonise_in};
+pub use canon_county::{CanonCounty, CanonCountyIn};
 pub use laws::{
     a_packed_county_is_read_back, accepted_or_one_refusal, an_arrangement_gives_a_tidy_list,
     canonical_lists_keep_the_limits, canonical_lists_of_one_county_are_equal,

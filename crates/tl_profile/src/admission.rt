@@ -2,6 +2,7 @@
 
 ghost use Rattle.std.specs.Prelude.{◌≡◌, ◌≢◌, OnOk, IfOk, IfErr};
 ghost use Rattle.tl_county.specs.TheCounty.{the_county};
+ghost use Rattle.tl_county.specs.TheCountyIn.{the_county_in};
 ghost use Rattle.tl_profile.specs.Profile.{IsFirstBrokenClause, IsInProfile};
 ghost use Rattle.tl_profile.specs.declared.fault.ProfileFault.TheVariants.{Memory};
 
@@ -10,7 +11,7 @@ use crate::shapes::{least_own_reverse, least_same_shape};
 use crate::sides::least_without_chain;
 use std::alloc::Global;
 use std::marker::Model;
-use tl_county::{Chart, County};
+use tl_county::{Chart, County, CountyIn};
 
 /// A county in the profile, however it is kept: no chain is its own reverse, no two chains have one shape, and each polygon
 /// with a record of type P is on a side of a chain.
@@ -52,6 +53,19 @@ impl Admitted<County> {
     pub fn county(&self) -> &County
         ensures value { result.now ≡ self.now }
         ensures in_profile { IsInProfile (the_county self.now) }
+    {
+        &self.chart
+    }
+}
+
+/// A county in an arena, in the profile.
+pub type AdmittedIn<'a> = Admitted<CountyIn<'a>>;
+
+impl<'a> Admitted<CountyIn<'a>> {
+    /// The county.
+    pub fn county(&self) -> &CountyIn<'a>
+        ensures value { result.now ≡ self.now }
+        ensures in_profile { IsInProfile (the_county_in self.now) }
     {
         &self.chart
     }
@@ -103,6 +117,21 @@ pub fn admit(alloc: Global, county: County) -> Result<Admitted, ProfileFault>
     ensures broken { IfErr result (λ fault. fault ≢ Memory → IsFirstBrokenClause (the_county county) fault) }
     // Of a county in the profile nothing but want of memory is told.
     ensures succeeds { IsInProfile (the_county county) → IfErr result (λ fault. fault ≡ Memory) }
+{
+    admit_chart(alloc, county)
+}
+
+/// Admits a county in an arena if it is in the profile.
+///
+/// # Errors
+///
+/// The first clause that the county breaks, at its least place, or [`ProfileFault::Memory`] where memory was lacking.
+pub fn admit_in<'a>(alloc: Global, county: CountyIn<'a>) -> Result<AdmittedIn<'a>, ProfileFault>
+    ensures same { IfOk result (λ admitted. admitted ≡ county.entry) }
+    ensures within { IfOk result (λ admitted. IsInProfile (the_county_in admitted)) }
+    ensures broken { IfErr result (λ fault. fault ≢ Memory → IsFirstBrokenClause (the_county_in county.entry) fault) }
+    // Of a county in the profile nothing but want of memory is told.
+    ensures succeeds { IsInProfile (the_county_in county.entry) → IfErr result (λ fault. fault ≡ Memory) }
 {
     admit_chart(alloc, county)
 }

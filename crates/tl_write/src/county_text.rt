@@ -16,9 +16,9 @@ use crate::sink::Sink;
 use crate::taker::RecordTaker;
 use crate::text_buffer::TextBuffer;
 use std::alloc::{AllocError, Global};
-use tl_county::Chart;
+use tl_county::{Chart, CountyIn};
 use tl_layout::Record;
-use tl_number::CanonCounty;
+use tl_number::{CanonCounty, CanonCountyIn};
 
 /// Hands on all records of a canonical county, type after type.
 fn give_records<D, C: Chart, T: RecordTaker<D>>(
@@ -76,4 +76,34 @@ pub fn write_to<C: Chart, W: Sink>(county: &CanonCounty<C>, w: &mut W) -> Result
     let mut buffer = TextBuffer::new();
     give_records(county, &mut buffer, w)?;
     buffer.finish(w)
+}
+
+/// The records of a canonical county that is read through a county in an arena.
+///
+/// # Errors
+///
+/// Only that memory was lacking.
+pub fn records_of_in<'a>(alloc: Global, county: &CanonCountyIn<'a>) -> Result<Vec<Record>, AllocError>
+    ensures packed { IfOk result (λ records. records.items ≡ packed (⟦<CanonCounty<CountyIn<'a>> as Chart>⟧.county county.now)) }
+    ensures canonical { IfOk result (λ records. IsCanonical records.items) }
+{
+    records_of(alloc, county)
+}
+
+/// Writes the text of a canonical county that is read through a county in an arena, and answers how many bytes it has. Nothing
+/// is tried again, and no memory is taken.
+///
+/// # Errors
+///
+/// The sink failed: exactly the first `written` bytes of the text went out before.
+pub fn write_in<'a, W: Sink>(county: &CanonCountyIn<'a>, w: &mut W) -> Result<u64, WriteFault>
+    requires { W.failed w.old < u64.MAX }
+    ensures length { IfOk result (λ n. n ≡ length (text_of (packed (⟦<CanonCounty<CountyIn<'a>> as Chart>⟧.county county.now)))) }
+    ensures short { IfErr result (λ f. f.written < length (text_of (packed (⟦<CanonCounty<CountyIn<'a>> as Chart>⟧.county county.now)))) }
+    ensures failures { W.failed w.new ≡ (if is_ok result then W.failed w.old else W.failed w.old + 1) }
+    ensures bytes { (held : List ℕ) → W.holds w.old held
+        → MatchResult result (λ _. W.holds w.new (held ++ text_of (packed (⟦<CanonCounty<CountyIn<'a>> as Chart>⟧.county county.now))))
+        (λ f. W.holds w.new (held ++ take f.written (text_of (packed (⟦<CanonCounty<CountyIn<'a>> as Chart>⟧.county county.now))))) }
+{
+    write_to(county, w)
 }

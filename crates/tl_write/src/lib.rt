@@ -18,7 +18,7 @@ mod text_buffer;
 mod writing;
 
 pub use comparing::same_records;
-pub use county_text::{records_of, write_to};
+pub use county_text::{records_of, records_of_in, write_in, write_to};
 pub use fault::WriteFault;
 pub use sink::{CountedOut, Sink};
 pub use slow_sink::SlowSink;

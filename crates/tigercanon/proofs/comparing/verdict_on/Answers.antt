@@ -1,4 +1,4 @@
-use Rattle.std.proofs.Common.{◌≡◌, false, rules, sym, subst}
+use Rattle.std.proofs.Common.{◌≡◌, rules, sym, subst}
 use Rattle.tl_county.specs.Renumbering.{Carries}
 use Rattle.tl_number.specs.ViewFacts.{stepped}
 use Rattle.tigercanon.proofs.Verdicts.{one_county}

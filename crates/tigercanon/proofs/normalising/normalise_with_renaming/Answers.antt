@@ -1,47 +1,22 @@
 use Rattle.std.proofs.Common.{sym, subst}
-use Rattle.std.proofs.lemmas.Result.{err_from_is_err_and}
-use Rattle.tl_county.proofs.PackedCounty.{packed_county}
 use Rattle.tigercanon.specs.Faults.{IsWantOfMemory, TellsRefusal}
-use Rattle.tigercanon.proofs.CanonicalTexts.{if_ok_both, if_ok_by, if_err_by, is_carried, is_only, is_text}
-use Rattle.tigercanon.proofs.Refusing.{accepted_memory_alone, within_limits}
-use Rattle.tigercanon.proofs.Succeeding.{memory_alone}
+use Rattle.tigercanon.proofs.CanonicalTexts.{carried_of_set, if_ok_both, if_ok_by, if_err_by, only_of_set, text_of_set}
 use Rattle.tigercanon.proofs.normalising.normalise_with_renaming.Goals as goal
-
-pub canonise_tables-requires : goal.canonise_tables-requires
-canonise_tables-requires c = let l = c.in_ok-tables.ensures.spelled in within_limits _ _ l.0 l.1 l.2
-
-pub returns-in_err-tables-clause-succeeds : goal.returns-in_err-tables-clause-succeeds
-returns-in_err-tables-clause-succeeds c = λ records accepted.
-    let p = err_from_is_err_and c.from_residual.result c.from_residual.ensures.1 in
-    rw (p.1, p.2)
-    (memory_alone _ records c.in_err-tables.field-0.0 accepted.spelled c.in_err-tables.ensures.faulty c.in_err-tables.ensures.no_device)
-
-pub returns-in_err-county-clause-succeeds : goal.returns-in_err-county-clause-succeeds
-returns-in_err-county-clause-succeeds c = λ records accepted.
-    let p = err_from_is_err_and c.from_residual-in_err-county.result c.from_residual-in_err-county.ensures.1 in
-    let loaded = c.in_ok-tables.ensures.spelled in
-    rw (p.1, p.2) (accepted_memory_alone _ records loaded.0 c.in_err-county.field-0.0 accepted loaded.2
-    (c.in_err-county.ensures.refused loaded.0 loaded.1))
 
 pub returns-clause-canonical : goal.returns-clause-canonical
 returns-clause-canonical c =
-    let l = c.in_ok-tables.ensures.spelled in
-    if_ok_by c.text_and_renaming.result (λ told. is_text _ l.0 _ l.2 (c.in_ok-county.ensures.canonical l.0 l.1) told.0.items)
+    if_ok_by c.text_and_renaming.result (λ told. text_of_set _ _ _ c.in_ok-county.ensures.canonical told.0.items)
     c.text_and_renaming.ensures.text
 
 pub returns-clause-only : goal.returns-clause-only
 returns-clause-only c =
-    let l = c.in_ok-tables.ensures.spelled in
-    if_ok_by c.text_and_renaming.result (λ told. is_only _ l.0 _ l.2 (c.in_ok-county.ensures.canonical l.0 l.1) told.0.items)
+    if_ok_by c.text_and_renaming.result (λ told. only_of_set _ _ _ c.in_ok-county.ensures.canonical told.0.items)
     c.text_and_renaming.ensures.text
 
 pub returns-clause-carries : goal.returns-clause-carries
 returns-clause-carries c =
-    let l = c.in_ok-tables.ensures.spelled in
-    let canon = c.in_ok-county.county in
     if_ok_both c.text_and_renaming.result
-    (λ told text carries. is_carried _ l.0 _ l.2 (c.in_ok-county.ensures.canonical l.0 l.1) told.0.items text told.1 _ _
-    (c.in_ok-county.ensures.source l.0 l.1) (packed_county _ canon.view.whole.is_county) carries)
+    (λ told text. carried_of_set _ _ _ c.in_ok-county.ensures.canonical c.in_ok-county.county.view.whole.is_county told.0.items text told.1)
     c.text_and_renaming.ensures.text c.text_and_renaming.ensures.carries
 
 pub returns-clause-refused : goal.returns-clause-refused

@@ -2,7 +2,7 @@ use Rattle.std.proofs.lemmas.Result.{err_from_is_err_and}
 use Rattle.tigercanon.proofs.CanonicalTexts.{if_err_by}
 use Rattle.tigercanon.proofs.Refusing.{accepted_memory_alone, within_limits}
 use Rattle.tigercanon.proofs.Succeeding.{memory_alone}
-use Rattle.tigercanon.proofs.comparing.canonise_parts.Goals as goal
+use Rattle.tigercanon.proofs.canonising.canonise_parts.Goals as goal
 
 pub canonise_tables-requires : goal.canonise_tables-requires
 canonise_tables-requires c = let l = c.in_ok-tables.ensures.spelled in within_limits _ _ l.0 l.1 l.2
