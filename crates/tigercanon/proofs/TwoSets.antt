@@ -2,6 +2,8 @@
 use Rattle.std.proofs.Common.{◌≡◌, ◌⊎◌, ℕ, List, Option, None, Result, Ok, Err, inl, inr, refl, arith}
 use Rattle.std.specs.Prelude.{MatchResult, OnOk}
 use Rattle.std.specs.Io.KnownBytes.{Keeps}
+use Rattle.tigercanon.specs.declared.command_line.Job.{Job}
+use Rattle.tigercanon.specs.declared.command_line.Job.TheVariants.{Respell, Normalise, Check, Fingerprint, Compare}
 use Rattle.tigercanon.specs.declared.ending.Ending.{Ending}
 use Rattle.tigercanon.specs.declared.ending.Ending.TheVariants.{Done, Different}
 use Rattle.tigercanon.specs.declared.ending.Stopped.{Stopped}
@@ -11,11 +13,11 @@ use Rattle.tigercanon.specs.declared.files.Opened.{Opened}
 use Rattle.tigercanon.specs.Comparing.{AreDifferent, AreOneMap, IsAcceptable}
 use Rattle.tigercanon.specs.Faults.{TellsRefusal}
 use Rattle.tigercanon.specs.Files.{AreHeld}
-use Rattle.tigercanon.specs.Outcomes.{TellsSet}
+use Rattle.tigercanon.specs.Outcomes.{IsAnswer, Leaves, PrintsPart, TellsSet}
 use Rattle.tigercanon.specs.Statuses.{status_of}
 use Rattle.tigercanon.specs.TwoSets.{IsLineDifferent, IsLineOfVerdict, IsLineSame, IsOneRefused, LeavesComparison, OfTwoSets, TellsOne}
-use Rattle.tigercanon.proofs.Refused.{set_refused}
-use Rattle.tigercanon.specs.TwoSets.{line_of_ending, where_ended}
+use Rattle.tigercanon.proofs.Refused.{set_refused, told_refused}
+use Rattle.tigercanon.specs.TwoSets.{IsRefusedBy, LeavesStopped, PrintsSome, line_of_ending, where_ended}
 
 pub ended_by : {P Q V W : Type 0} (ending : Ending) → (P → V) → (Q → W) → where_ended ending P Q → where_ended ending V W
 ended_by Done f g h = f h
@@ -93,3 +95,32 @@ module _ {R : Type 0} (remaining : R → Option (List ℕ)) where
     one_refused old new (Profile f) left s = refusal (Profile f) left.1 s
     one_refused old new (Write f) left s = absurd (omega (arith, s))
     one_refused old new Memory left s = absurd (omega (arith, s))
+
+    -- what a job that stopped leaves, and why
+    part : (job : Job) (old new : Option (List ℕ)) (fault : Fault) → Leaves job remaining first old new fault
+        → PrintsPart (IsAnswer job) remaining first old new
+    part job old new (Load f) left = inl left.0
+    part job old new (Link f) left = inl left.0
+    part job old new (Profile f) left = inl left.0
+    part job old new (Write f) left = inr (f.written, left)
+    part job old new Memory left = inl left.0
+
+    pub left_some : (job : Job) (old new : Option (List ℕ)) (fault : Fault) → LeavesStopped job remaining first second old new fault
+        → PrintsSome job remaining first second old new
+    left_some Respell old new fault left = part Respell old new fault left
+    left_some Normalise old new fault left = part Normalise old new fault left
+    left_some Check old new fault left = part Check old new fault left
+    left_some Fingerprint old new fault left = part Fingerprint old new fault left
+    left_some Compare old new (Load f) left = inl left.0
+    left_some Compare old new (Link f) left = inl left.0
+    left_some Compare old new (Profile f) left = inl left.0
+    left_some Compare old new (Write f) left = inr (f.written, left)
+    left_some Compare old new Memory left = inl left.0
+
+    pub left_refused : (job : Job) (old new : Option (List ℕ)) (fault : Fault) → LeavesStopped job remaining first second old new fault
+        → status_of fault ≡ 3 → IsRefusedBy job remaining first second
+    left_refused Respell old new fault left s = told_refused remaining first old new Respell fault left s
+    left_refused Normalise old new fault left s = told_refused remaining first old new Normalise fault left s
+    left_refused Check old new fault left s = told_refused remaining first old new Check fault left s
+    left_refused Fingerprint old new fault left s = told_refused remaining first old new Fingerprint fault left s
+    left_refused Compare old new fault left s = one_refused old new fault left s

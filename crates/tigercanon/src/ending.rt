@@ -1,11 +1,11 @@
 //! How jobs end.
 
+ghost use Rattle.std.specs.Prelude.{◌≡◌, Ok, Err, MatchResult, None};
+ghost use Rattle.tigercanon.specs.Statuses.{status_of};
+
 use crate::fault::Fault;
 use crate::refusal::Refusal;
 use std::io::Write;
-
-ghost use Rattle.std.specs.Prelude.{◌≡◌, Ok, Err, MatchResult, None};
-ghost use Rattle.tigercanon.specs.Statuses.{status_of};
 
 /// How a job ended that was done.
 #[derive(Clone, Copy, Debug, PartialEq, Eq)]

@@ -7,6 +7,7 @@ mod canonical_jobs;
 mod canonical_texts;
 mod checks;
 mod comparing;
+mod comparisons;
 mod devices;
 mod fingerprints;
 mod jobs;

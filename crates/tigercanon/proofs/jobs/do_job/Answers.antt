@@ -1,5 +1,3 @@
-use Rattle.std.proofs.Common.{sym, subst}
-use Rattle.tigercanon.specs.TwoSets.{PrintsDifferent, PrintsDone}
 use Rattle.tigercanon.proofs.TwoSets.{done_of_one}
 use Rattle.tigercanon.proofs.jobs.do_job.Goals as goal
 
