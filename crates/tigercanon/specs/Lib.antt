@@ -9,4 +9,5 @@ pub mod Lending
 pub mod Reading
 pub mod Normalising
 pub mod Fingerprints
+pub mod Grammar
 pub mod Names
