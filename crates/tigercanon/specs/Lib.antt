@@ -10,4 +10,5 @@ pub mod Reading
 pub mod Normalising
 pub mod Comparing
 pub mod Fingerprints
+pub mod Grammar
 pub mod Names

@@ -1,7 +1,7 @@
 -- The words of a command line.
 use Rattle.std.specs.Prelude.{ℕ, List, codes}
 use Rattle.tigercanon.specs.declared.command_line.Job.{Job}
-use Rattle.tigercanon.specs.declared.command_line.Job.TheVariants.{Respell, Normalise, Check, Fingerprint}
+use Rattle.tigercanon.specs.declared.command_line.Job.TheVariants.{Respell, Normalise, Check, Fingerprint, Compare}
 
 -- the word that names a job
 abbrev pub word_of : Job → List ℕ
@@ -9,3 +9,4 @@ word_of Respell = codes "respell"
 word_of Normalise = codes "normalise"
 word_of Check = codes "check"
 word_of Fingerprint = codes "fingerprint"
+word_of Compare = codes "compare"

@@ -1,50 +1,73 @@
 //! The commands that the program understands, as its help tells them.
 
+ghost use Rattle.clap.specs.Words.{app_of, rule_of};
+ghost use Rattle.clap.specs.declared.builder.command.Command.TheViews.{out-Command};
+ghost use Rattle.std.specs.Prelude.{◌≡◌, IfOk, codes, false};
+ghost use Rattle.tigercanon.specs.Grammar.{over_one_set, over_two_sets, program_alone, set_argument, stem_flag, understood};
+
 use clap::{Arg, ArgAction, Command};
 use std::alloc::{AllocError, Global};
+
+/// The flag by which sets are named by their stems.
+pub(crate) const STEM: &str = "stem";
+
+/// The argument that names the first set, or the only one.
+pub(crate) const FIRST: &str = "FIRST";
+
+/// The argument that names the second set.
+pub(crate) const SECOND: &str = "SECOND";
 
 /// What stands at the end of the program's help.
 const EXAMPLES: &str = "\
 Examples:
   tigercanon normalise county.txt > canonical.txt
   tigercanon fingerprint --stem 2006/TGR06001
+  tigercanon compare --stem 2006/TGR06001 copy/TGR06001
 
 Exit status:
-  0  done
+  0  done; by compare: the sets are one map
+  1  by compare: the sets are different maps
   2  the command line asks for help, or can't be understood
   3  the set is refused; one line on standard error says why, and where
   4  a file or standard output failed
   5  out of memory
 ";
 
-/// The flag by which a set is named by its stem.
-fn stem<'a>(alloc: Global) -> Arg<'a> {
-    Arg::new(alloc, "stem")
+/// The flag by which sets are named by their stems.
+fn stem<'a>(alloc: Global) -> Arg<'a>
+    ensures rule { rule_of result ≡ stem_flag }
+    ensures local { result.global ≡ false }
+{
+    Arg::new(alloc, STEM)
         .long("stem")
         .action(ArgAction::SetTrue)
         .help(
-            "Take each set as the files SET.RT1, .RT2, .RT4, .RT5, .RT6, .RT7, .RT8, .RTI and .RTP; all but .RT1 may be absent",
+            "Read a set from the files NAME.RT1, .RT2, .RT4, .RT5, .RT6, .RT7, .RT8, .RTI and .RTP; all but .RT1 may be absent",
         )
 }
 
 /// The name of a set.
-fn set<'a>(alloc: Global, name: &'a str, help: &'a str) -> Arg<'a> {
-    Arg::new(alloc, name)
+fn set<'a>(alloc: Global, id: &'a str, shown: &'a str, help: &'a str) -> Arg<'a>
+    ensures rule { rule_of result ≡ set_argument id.entry.now }
+    ensures local { result.global ≡ false }
+{
+    Arg::new(alloc, id)
         .required(true)
         .action(ArgAction::Set)
+        .value_name(shown)
         .help(help)
 }
 
 /// A subcommand that reads one set.
-fn over_one_set<'a>(
-    alloc: Global,
-    name: &'a str,
-    about: &'a str,
-) -> Result<Command<'a>, AllocError> {
+fn over_one_set<'a>(alloc: Global, name: &'a str, about: &'a str) -> Result<Command<'a>, AllocError>
+    ensures app { IfOk result (λ c. app_of c ≡ over_one_set name.entry.now) }
+    ensures local { IfOk result (λ c. (out-Command c).has_globals ≡ false) }
+{
     let only = set(
         alloc,
+        FIRST,
         "SET",
-        "The file with all records of the county; with --stem what the names of its files begin with",
+        "The file with all records of a county, or by --stem what the names of its files begin with",
     );
     Command::new(alloc, name)
         .about(about)
@@ -52,8 +75,51 @@ fn over_one_set<'a>(
         .arg(only)
 }
 
+/// The subcommand that reads two sets.
+fn compare<'a>(alloc: Global) -> Result<Command<'a>, AllocError>
+    ensures app { IfOk result (λ c. app_of c ≡ over_two_sets (codes "compare")) }
+    ensures local { IfOk result (λ c. (out-Command c).has_globals ≡ false) }
+{
+    let first = set(
+        alloc,
+        FIRST,
+        FIRST,
+        "The file with all records of a county, or by --stem what the names of its files begin with",
+    );
+    let second = set(
+        alloc,
+        SECOND,
+        SECOND,
+        "Another county, named in the same way",
+    );
+    Command::new(alloc, "compare")
+        .about("Say whether two sets are one map: same or different")
+        .arg(stem(alloc))?
+        .arg(first)?
+        .arg(second)
+}
+
+/// The program without its subcommands.
+fn program<'a>(alloc: Global) -> Result<Command<'a>, AllocError>
+    ensures { IfOk result (λ c. app_of c ≡ program_alone) }
+{
+    let named = Command::new(alloc, "tigercanon").bin_name("tigercanon")?;
+    Ok(
+        named
+            .version("0.1.0")
+            .about(
+                "Reads TIGER/Line 2006 record files of one county, checks them, and prints them in canonical form",
+            )
+            .after_help(EXAMPLES)
+            .no_binary_name(true)
+            .subcommand_required(true),
+    )
+}
+
 /// What the program understands: its subcommands and their arguments.
-pub(crate) fn command<'a>(alloc: Global) -> Result<Command<'a>, AllocError> {
+pub(crate) fn command<'a>(alloc: Global) -> Result<Command<'a>, AllocError>
+    ensures { IfOk result (λ c. app_of c ≡ understood) }
+{
     let respell = over_one_set(
         alloc,
         "respell",
@@ -67,24 +133,17 @@ pub(crate) fn command<'a>(alloc: Global) -> Result<Command<'a>, AllocError> {
     let check = over_one_set(
         alloc,
         "check",
-        "Say whether the records fit together and the county is in the profile",
+        "Say whether the records fit together to a county that has a canonical text",
     )?;
     let fingerprint = over_one_set(
         alloc,
         "fingerprint",
         "Print the SHA-256 hash of the canonical text, by which the map can be cited",
     )?;
-    Command::new(alloc, "tigercanon")
-        .bin_name("tigercanon")?
-        .version("0.1.0")
-        .about(
-            "Reads TIGER/Line 2006 record files of one county, checks them, and prints them in canonical form",
-        )
-        .after_help(EXAMPLES)
-        .no_binary_name(true)
-        .subcommand_required(true)
+    program(alloc)?
         .subcommand(respell)?
         .subcommand(normalise)?
         .subcommand(check)?
-        .subcommand(fingerprint)
+        .subcommand(fingerprint)?
+        .subcommand(compare(alloc)?)
 }

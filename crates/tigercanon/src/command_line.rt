@@ -17,6 +17,8 @@ pub enum Job {
     Check,
     /// Print the fingerprint of a set that is accepted.
     Fingerprint,
+    /// Say whether two sets that are accepted are one map.
+    Compare,
 }
 
 /// A job and the names of the files that it reads.

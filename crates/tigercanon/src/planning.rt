@@ -1,11 +1,12 @@
 //! Reading the words of a command line.
 
-ghost use Rattle.std.specs.Prelude.{◌≡◌, Some, IfOk, IfSome};
-ghost use Rattle.tigercanon.specs.Names.{PlansOneSet};
+ghost use Rattle.clap.specs.Words.{found_of, rows_of};
+ghost use Rattle.std.specs.Prelude.{◌≡◌, Some, IfOk, IfSome, map, string_bytes};
+ghost use Rattle.tigercanon.specs.Names.{AreFilesOf, AreSecondOf, IsPlanned, NamesItsSets};
 ghost use Rattle.tigercanon.specs.Words.{word_of};
 ghost use Rattle.tigercanon.specs.declared.command_line.Job.{Job};
 
-use crate::command::command;
+use crate::command::{FIRST, SECOND, STEM, command};
 use crate::command_line::{Job, Plan, PlanFault};
 use crate::names::files_of;
 use clap::ArgMatches;
@@ -22,6 +23,7 @@ fn job_named(name: &str) -> Option<Job>
         "normalise" => Some(Job::Normalise),
         "check" => Some(Job::Check),
         "fingerprint" => Some(Job::Fingerprint),
+        "compare" => Some(Job::Compare),
         _ => None,
     }
 }
@@ -48,24 +50,52 @@ fn usage(alloc: Global) -> PlanFault {
     }
 }
 
-/// The plan to do a job over the set that the words name.
+/// The names of the files of a set, which the words name by this argument.
+fn files_given(
+    alloc: Global,
+    given: &ArgMatches<'_>,
+    argument: &str,
+    is_stem: bool,
+) -> Result<Vec<String>, PlanFault>
+    ensures { IfOk result (λ names. AreFilesOf (rows_of (found_of given.now)) argument.now is_stem (map string_bytes names.items)) }
+{
+    match given.get_str(argument) {
+        Some(name) => Ok(files_of(alloc, name, is_stem)?),
+        None => Err(usage(alloc)),
+    }
+}
+
+/// The names of the files of a second set, where the job has one.
+fn second_files_given(
+    alloc: Global,
+    job: Job,
+    given: &ArgMatches<'_>,
+    is_stem: bool,
+) -> Result<Vec<String>, PlanFault>
+    ensures { IfOk result (λ names. AreSecondOf (rows_of (found_of given.now)) job is_stem (map string_bytes names.items)) }
+{
+    match job {
+        Job::Compare => files_given(alloc, given, SECOND, is_stem),
+        Job::Respell | Job::Normalise | Job::Check | Job::Fingerprint => Ok(Vec::new(alloc)),
+    }
+}
+
+/// The plan to do a job over the sets that the words name.
 fn plan_of(alloc: Global, job: Job, given: &ArgMatches<'_>) -> Result<Plan, PlanFault>
     ensures job { IfOk result (λ p. p.job ≡ job) }
-    ensures files { IfOk result PlansOneSet }
+    ensures sets { IfOk result (NamesItsSets (rows_of (found_of given.now))) }
 {
-    let Some(name) = given.get_str("SET") else {
-        return Err(usage(alloc));
-    };
+    let is_stem = given.get_flag(STEM);
     Ok(Plan {
         job,
-        first: files_of(alloc, name, given.get_flag("stem"))?,
-        second: Vec::new(alloc),
+        first: files_given(alloc, given, FIRST, is_stem)?,
+        second: second_files_given(alloc, job, given, is_stem)?,
     })
 }
 
 /// Reads the words of a command line, the program's own name left out.
 pub fn plan(alloc: Global, words: &[String]) -> Result<Plan, PlanFault>
-    ensures files { IfOk result PlansOneSet }
+    ensures planned { IfOk result (IsPlanned (map string_bytes words.now)) }
 {
     let matches = match command(alloc)?.try_get_matches_from(words) {
         Ok(matches) => matches,

@@ -73,6 +73,50 @@ fn plans_a_job_over_the_files_of_a_stem(rt: HostRuntime) -> Result<(), Fail> {
     )
 }
 
+/// The files of the stem `copy`.
+const COPIES: [&str; 9] = [
+    "copy.RT1", "copy.RT2", "copy.RT4", "copy.RT5", "copy.RT6", "copy.RT7", "copy.RT8", "copy.RTI",
+    "copy.RTP",
+];
+
+/// The words plan to compare these files with those.
+fn plans_to_compare(
+    rt: &impl Abort,
+    alloc: Global,
+    line: &[&str],
+    first: &[&str],
+    second: &[&str],
+) -> Result<(), Fail> {
+    let plan = plan(alloc, &words_of(alloc, line)?)?;
+    same(rt, &plan.job, &Job::Compare);
+    same_items(rt, &plan.first, &words_of(alloc, first)?);
+    same_items(rt, &plan.second, &words_of(alloc, second)?);
+    Ok(())
+}
+
+#[test]
+fn plans_to_compare_two_sets(rt: HostRuntime) -> Result<(), Fail> {
+    let alloc = rt.alloc();
+    let words = ["compare", "a.txt", "b.txt"];
+    plans_to_compare(&rt, alloc, words.as_slice(), &["a.txt"], &["b.txt"])?;
+    let stems = ["compare", "--stem", "2006/TGR06001", "copy"];
+    plans_to_compare(
+        &rt,
+        alloc,
+        stems.as_slice(),
+        FILES.as_slice(),
+        COPIES.as_slice(),
+    )?;
+    let behind = ["compare", "copy", "2006/TGR06001", "--stem"];
+    plans_to_compare(
+        &rt,
+        alloc,
+        behind.as_slice(),
+        COPIES.as_slice(),
+        FILES.as_slice(),
+    )
+}
+
 /// The words of the command line are no plan, and standard error gets text that begins so.
 fn tells_usage(rt: &impl Abort, alloc: Global, line: &[&str], told: &str) -> Result<(), Fail> {
     let fault = plan(alloc, &words_of(alloc, line)?)
@@ -100,6 +144,10 @@ fn tells_what_is_missing_or_unexpected(rt: HostRuntime) -> Result<(), Fail> {
     let option = "error: unexpected argument '--loud' found";
     tells_usage(&rt, alloc, &["respell", "--loud", "a"], option)?;
     tells_usage(&rt, alloc, &["fingerprint", "--stem"], missing)?;
+    tells_usage(&rt, alloc, &["compare", "a"], missing)?;
+    tells_usage(&rt, alloc, &["compare", "--stem", "a"], missing)?;
+    let third = "error: unexpected argument 'c' found";
+    tells_usage(&rt, alloc, &["compare", "a", "b", "c"], third)?;
     let twice = "error: the argument '--stem' cannot be used multiple times";
     tells_usage(&rt, alloc, &["check", "--stem", "--stem", "a"], twice)?;
     tells_usage(
@@ -133,6 +181,18 @@ fn tells_the_usage(rt: HostRuntime) -> Result<(), Fail> {
         alloc,
         &["help", "normalise"],
         "Print the canonical text of the map",
+    )?;
+    tells_usage(
+        &rt,
+        alloc,
+        &["help", "fingerprint"],
+        "Print the SHA-256 hash of the canonical text",
+    )?;
+    tells_usage(
+        &rt,
+        alloc,
+        &["compare", "--help"],
+        "Say whether two sets are one map",
     )
 }
 
