@@ -1,5 +1,5 @@
 -- What clap's getters answer, by the values that it found; and a plan, by those of the subcommand.
-use Rattle.std.proofs.Common.{◌≡◌, ◌∙◌, ℕ, List, Bool, true, false, Option, Some, None, Bor, ap, sym, subst, codes, option_map}
+use Rattle.std.proofs.Common.{◌≡◌, ◌∙◌, List, Bool, true, false, Option, Some, None, Bor, ap, sym, subst, codes, option_map}
 use Rattle.clap.specs.Words.{Row, Text, first_of, one_of, rows_of, first_value, one_text}
 use Rattle.clap.specs.declared.parser.matches.Found.{Found}
 use Rattle.clap.proofs.WalkLemmas.{first_value-rows, one_text-rows}

@@ -1,5 +1,5 @@
 -- What the command line may have: the subcommands and their arguments, as clap reads them.
-use Rattle.std.specs.Prelude.{ℕ, List, [], ◌∷◌, true, false, Some, codes}
+use Rattle.std.specs.Prelude.{[], true, Some, codes}
 use Rattle.clap.specs.Words.{App, Rule, Text, new_app, new_rule, with_rule, with_subcommand}
 use Rattle.clap.specs.declared.builder.action.ArgAction.TheVariants.{Set, SetTrue}
 
