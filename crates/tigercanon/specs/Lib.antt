@@ -10,5 +10,6 @@ pub mod Reading
 pub mod Normalising
 pub mod Comparing
 pub mod Fingerprints
+pub mod Grammar
 pub mod Names
 pub mod TwoSets

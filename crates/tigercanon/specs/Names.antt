@@ -1,10 +1,11 @@
 -- The names of the files of a set, and the plan of a command line.
-use Rattle.std.specs.Prelude.{ℕ, ◌≡◌, ◌++◌, ◌∷◌, [], List, Option, Some, Bool, true, false, map, codes, string_bytes}
-use Rattle.clap.specs.Words.{first_value}
-use Rattle.clap.specs.declared.parser.matches.Found.{Found}
+use Rattle.std.specs.Prelude.{ℕ, ◌≡◌, ◌++◌, ◌∷◌, [], List, Option, Some, None, Bool, true, false, map, codes, string_bytes}
+use Rattle.clap.specs.Words.{Row, Text, first_of, one_of, subcommand_of}
 use Rattle.tigercanon.specs.declared.command_line.Job.{Job}
 use Rattle.tigercanon.specs.declared.command_line.Job.TheVariants.{Respell, Normalise, Check, Fingerprint, Compare}
 use Rattle.tigercanon.specs.declared.command_line.Plan.{Plan}
+use Rattle.tigercanon.specs.Grammar.{understood}
+use Rattle.tigercanon.specs.Words.{word_of}
 
 -- what the names of a set's files end in, in the order of its parts
 abbrev pub suffixes : List (List ℕ)
@@ -16,22 +17,38 @@ abbrev pub files_named : Bool → List ℕ → List (List ℕ)
 files_named false file = file ∷ []
 files_named true stem = map (λ suffix. stem ++ suffix) suffixes
 
--- these are the names of the files of the set that is named by an argument of the command line
-pub record AreFilesOf (found : Found) (argument : List ℕ) (is_stem : Bool) (names : List (List ℕ)) : Type 0 where
-  pub name : List ℕ
-  pub given : first_value found argument ≡ Some name
+-- these are the names of the files of the set that is named by an argument, of which clap found these values
+pub record AreFilesOf (rows : List Row) (argument : Text) (is_stem : Bool) (names : List Text) : Type 0 where
+  pub name : Text
+  pub given : first_of argument rows ≡ Some name
   pub named : names ≡ files_named is_stem name
 
 -- the files of a second set, which one job alone has
-abbrev pub AreSecondOf : Found → Job → Bool → List (List ℕ) → Type 0
-AreSecondOf found Compare is_stem names = AreFilesOf found (codes "SECOND") is_stem names
-AreSecondOf found Respell is_stem names = names ≡ []
-AreSecondOf found Normalise is_stem names = names ≡ []
-AreSecondOf found Check is_stem names = names ≡ []
-AreSecondOf found Fingerprint is_stem names = names ≡ []
+abbrev pub AreSecondOf : List Row → Job → Bool → List Text → Type 0
+AreSecondOf rows Compare is_stem names = AreFilesOf rows (codes "SECOND") is_stem names
+AreSecondOf rows Respell is_stem names = names ≡ []
+AreSecondOf rows Normalise is_stem names = names ≡ []
+AreSecondOf rows Check is_stem names = names ≡ []
+AreSecondOf rows Fingerprint is_stem names = names ≡ []
 
--- the plan has the files of as many sets as its job has, which the command line names all in one way
-pub record NamesItsSets (found : Found) (plan : Plan) : Type 0 where
+-- whether the flag was given by which sets are named by their stems
+pub record IsStemGiven (flag : Option Text) (is_stem : Bool) : Type 0 where
+  pub given : flag ≡ Some (codes "true") → is_stem ≡ true
+  pub left_out : flag ≡ Some (codes "false") → is_stem ≡ false
+  pub unknown : flag ≡ None → is_stem ≡ false
+
+-- the plan has the files of as many sets as its job has, all named in one way
+pub record NamesItsSets (rows : List Row) (plan : Plan) : Type 0 where
   pub is_stem : Bool
-  pub first : AreFilesOf found (codes "FIRST") is_stem (map string_bytes plan.first.items)
-  pub second : AreSecondOf found plan.job is_stem (map string_bytes plan.second.items)
+  pub flag : IsStemGiven (one_of (codes "stem") rows) is_stem
+  pub first : AreFilesOf rows (codes "FIRST") is_stem (map string_bytes plan.first.items)
+  pub second : AreSecondOf rows plan.job is_stem (map string_bytes plan.second.items)
+
+-- the plan does the job that a subcommand names, with the files that its arguments name
+abbrev pub IsPlanOf : Option (Text × List Row) → Plan → Type 0
+IsPlanOf None plan = ⊥
+IsPlanOf (Some (name, rows)) plan = (name ≡ word_of plan.job) × NamesItsSets rows plan
+
+-- the plan is that of a command line: its job and its files are what its words say
+abbrev pub IsPlanned : List Text → Plan → Type 0
+IsPlanned words plan = IsPlanOf (subcommand_of understood words) plan

@@ -1,5 +1,10 @@
 //! The commands that the program understands, as its help tells them.
 
+ghost use Rattle.clap.specs.Words.{app_of, rule_of};
+ghost use Rattle.clap.specs.declared.builder.command.Command.TheViews.{out-Command};
+ghost use Rattle.std.specs.Prelude.{◌≡◌, IfOk, codes, false};
+ghost use Rattle.tigercanon.specs.Grammar.{over_one_set, over_two_sets, program_alone, set_argument, stem_flag, understood};
+
 use clap::{Arg, ArgAction, Command};
 use std::alloc::{AllocError, Global};
 
@@ -29,7 +34,10 @@ Exit status:
 ";
 
 /// The flag by which sets are named by their stems.
-fn stem<'a>(alloc: Global) -> Arg<'a> {
+fn stem<'a>(alloc: Global) -> Arg<'a>
+    ensures rule { rule_of result ≡ stem_flag }
+    ensures local { result.global ≡ false }
+{
     Arg::new(alloc, STEM)
         .long("stem")
         .action(ArgAction::SetTrue)
@@ -39,7 +47,10 @@ fn stem<'a>(alloc: Global) -> Arg<'a> {
 }
 
 /// The name of a set.
-fn set<'a>(alloc: Global, id: &'a str, shown: &'a str, help: &'a str) -> Arg<'a> {
+fn set<'a>(alloc: Global, id: &'a str, shown: &'a str, help: &'a str) -> Arg<'a>
+    ensures rule { rule_of result ≡ set_argument id.entry.now }
+    ensures local { result.global ≡ false }
+{
     Arg::new(alloc, id)
         .required(true)
         .action(ArgAction::Set)
@@ -48,11 +59,10 @@ fn set<'a>(alloc: Global, id: &'a str, shown: &'a str, help: &'a str) -> Arg<'a>
 }
 
 /// A subcommand that reads one set.
-fn over_one_set<'a>(
-    alloc: Global,
-    name: &'a str,
-    about: &'a str,
-) -> Result<Command<'a>, AllocError> {
+fn over_one_set<'a>(alloc: Global, name: &'a str, about: &'a str) -> Result<Command<'a>, AllocError>
+    ensures app { IfOk result (λ c. app_of c ≡ over_one_set name.entry.now) }
+    ensures local { IfOk result (λ c. (out-Command c).has_globals ≡ false) }
+{
     let only = set(
         alloc,
         FIRST,
@@ -66,7 +76,10 @@ fn over_one_set<'a>(
 }
 
 /// The subcommand that reads two sets.
-fn compare<'a>(alloc: Global) -> Result<Command<'a>, AllocError> {
+fn compare<'a>(alloc: Global) -> Result<Command<'a>, AllocError>
+    ensures app { IfOk result (λ c. app_of c ≡ over_two_sets (codes "compare")) }
+    ensures local { IfOk result (λ c. (out-Command c).has_globals ≡ false) }
+{
     let first = set(
         alloc,
         FIRST,
@@ -86,8 +99,27 @@ fn compare<'a>(alloc: Global) -> Result<Command<'a>, AllocError> {
         .arg(second)
 }
 
+/// The program without its subcommands.
+fn program<'a>(alloc: Global) -> Result<Command<'a>, AllocError>
+    ensures { IfOk result (λ c. app_of c ≡ program_alone) }
+{
+    let named = Command::new(alloc, "tigercanon").bin_name("tigercanon")?;
+    Ok(
+        named
+            .version("0.1.0")
+            .about(
+                "Reads TIGER/Line 2006 record files of one county, checks them, and prints them in canonical form",
+            )
+            .after_help(EXAMPLES)
+            .no_binary_name(true)
+            .subcommand_required(true),
+    )
+}
+
 /// What the program understands: its subcommands and their arguments.
-pub(crate) fn command<'a>(alloc: Global) -> Result<Command<'a>, AllocError> {
+pub(crate) fn command<'a>(alloc: Global) -> Result<Command<'a>, AllocError>
+    ensures { IfOk result (λ c. app_of c ≡ understood) }
+{
     let respell = over_one_set(
         alloc,
         "respell",
@@ -108,15 +140,7 @@ pub(crate) fn command<'a>(alloc: Global) -> Result<Command<'a>, AllocError> {
         "fingerprint",
         "Print the SHA-256 hash of the canonical text, by which the map can be cited",
     )?;
-    Command::new(alloc, "tigercanon")
-        .bin_name("tigercanon")?
-        .version("0.1.0")
-        .about(
-            "Reads TIGER/Line 2006 record files of one county, checks them, and prints them in canonical form",
-        )
-        .after_help(EXAMPLES)
-        .no_binary_name(true)
-        .subcommand_required(true)
+    program(alloc)?
         .subcommand(respell)?
         .subcommand(normalise)?
         .subcommand(check)?

@@ -1,9 +1,8 @@
 //! Reading the words of a command line.
 
-ghost use Rattle.clap.specs.Words.{found_of};
-ghost use Rattle.clap.specs.declared.parser.matches.Found.{Found};
+ghost use Rattle.clap.specs.Words.{found_of, rows_of};
 ghost use Rattle.std.specs.Prelude.{◌≡◌, Some, IfOk, IfSome, map, string_bytes};
-ghost use Rattle.tigercanon.specs.Names.{AreFilesOf, NamesItsSets};
+ghost use Rattle.tigercanon.specs.Names.{AreFilesOf, AreSecondOf, IsPlanned, NamesItsSets};
 ghost use Rattle.tigercanon.specs.Words.{word_of};
 ghost use Rattle.tigercanon.specs.declared.command_line.Job.{Job};
 
@@ -58,7 +57,7 @@ fn files_given(
     argument: &str,
     is_stem: bool,
 ) -> Result<Vec<String>, PlanFault>
-    ensures { IfOk result (λ names. AreFilesOf (found_of given.now) argument.now is_stem (map string_bytes names.items)) }
+    ensures { IfOk result (λ names. AreFilesOf (rows_of (found_of given.now)) argument.now is_stem (map string_bytes names.items)) }
 {
     match given.get_str(argument) {
         Some(name) => Ok(files_of(alloc, name, is_stem)?),
@@ -66,23 +65,37 @@ fn files_given(
     }
 }
 
+/// The names of the files of a second set, where the job has one.
+fn second_files_given(
+    alloc: Global,
+    job: Job,
+    given: &ArgMatches<'_>,
+    is_stem: bool,
+) -> Result<Vec<String>, PlanFault>
+    ensures { IfOk result (λ names. AreSecondOf (rows_of (found_of given.now)) job is_stem (map string_bytes names.items)) }
+{
+    match job {
+        Job::Compare => files_given(alloc, given, SECOND, is_stem),
+        Job::Respell | Job::Normalise | Job::Check | Job::Fingerprint => Ok(Vec::new(alloc)),
+    }
+}
+
 /// The plan to do a job over the sets that the words name.
 fn plan_of(alloc: Global, job: Job, given: &ArgMatches<'_>) -> Result<Plan, PlanFault>
     ensures job { IfOk result (λ p. p.job ≡ job) }
-    ensures sets { IfOk result (NamesItsSets (found_of given.now)) }
+    ensures sets { IfOk result (NamesItsSets (rows_of (found_of given.now))) }
 {
     let is_stem = given.get_flag(STEM);
-    let first = files_given(alloc, given, FIRST, is_stem)?;
-    let second = match job {
-        Job::Compare => files_given(alloc, given, SECOND, is_stem)?,
-        Job::Respell | Job::Normalise | Job::Check | Job::Fingerprint => Vec::new(alloc),
-    };
-    Ok(Plan { job, first, second })
+    Ok(Plan {
+        job,
+        first: files_given(alloc, given, FIRST, is_stem)?,
+        second: second_files_given(alloc, job, given, is_stem)?,
+    })
 }
 
 /// Reads the words of a command line, the program's own name left out.
 pub fn plan(alloc: Global, words: &[String]) -> Result<Plan, PlanFault>
-    ensures sets { IfOk result (λ p. (found : Found) × NamesItsSets found p) }
+    ensures planned { IfOk result (IsPlanned (map string_bytes words.now)) }
 {
     let matches = match command(alloc)?.try_get_matches_from(words) {
         Ok(matches) => matches,

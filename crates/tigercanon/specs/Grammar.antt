@@ -1,0 +1,32 @@
+-- What the command line may have: the subcommands and their arguments, as clap reads them.
+use Rattle.std.specs.Prelude.{[], true, Some, codes}
+use Rattle.clap.specs.Words.{App, Rule, Text, new_app, new_rule, with_rule, with_subcommand}
+use Rattle.clap.specs.declared.builder.action.ArgAction.TheVariants.{Set, SetTrue}
+
+-- the flag by which sets are named by their stems
+abbrev pub stem_flag : Rule
+stem_flag = record (new_rule (codes "stem")) { long = Some (codes "stem"); action = Some SetTrue }
+
+-- an argument that names a set, and has to be there
+abbrev pub set_argument : Text → Rule
+set_argument id = record (new_rule id) { required = true; action = Some Set; value_names = 1 }
+
+-- a subcommand that reads one set, and the one that reads two
+abbrev pub over_one_set : Text → App
+over_one_set name = with_rule (with_rule (new_app name) stem_flag) (set_argument (codes "FIRST"))
+
+abbrev pub over_two_sets : Text → App
+over_two_sets name = with_rule (over_one_set name) (set_argument (codes "SECOND"))
+
+-- the program: its words begin with a subcommand, which has to be there
+abbrev pub program_alone : App
+program_alone = record {
+  top = record (new_app (codes "tigercanon")).top { has_version = true; no_binary_name = true; subcommand_required = true };
+  subs = [];
+}
+
+abbrev pub understood : App
+understood =
+    with_subcommand (with_subcommand (with_subcommand (with_subcommand (with_subcommand program_alone
+    (over_one_set (codes "respell")).top) (over_one_set (codes "normalise")).top) (over_one_set (codes "check")).top)
+    (over_one_set (codes "fingerprint")).top) (over_two_sets (codes "compare")).top
