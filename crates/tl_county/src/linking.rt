@@ -62,10 +62,10 @@ fn check_rules(
 }
 
 /// The chains of tables in order, under their TLIDs.
-fn build_chains<C: Drop, B: ChainBuilder<C>>(
+pub(crate) fn build_chains<'t, C: Drop, B: ChainBuilder<'t, C>>(
     alloc: Global,
     builder: &mut B,
-    tables: &Tables,
+    tables: &'t Tables,
 ) -> Result<Table<u64, C>, AllocError>
     requires tables { AreInOrder (typed_of tables.now) }
     requires linked { IsLinked (type_after_type (typed_of tables.now)) }
@@ -100,7 +100,7 @@ fn build_names(
 }
 
 /// The polygons of tables in order, under their keys.
-fn build_polygons(
+pub(crate) fn build_polygons(
     alloc: Global,
     tables: &Tables,
     keys: Vec<PolygonKey>,
@@ -114,7 +114,7 @@ fn build_polygons(
 }
 
 /// The landmarks of tables in order, under their LANDs.
-fn build_landmarks<L: Drop, B: LandmarkBuilder<L>>(
+pub(crate) fn build_landmarks<L: Drop, B: LandmarkBuilder<L>>(
     alloc: Global,
     builder: &mut B,
     tables: &Tables,
@@ -204,13 +204,13 @@ fn build_county_in<'a>(
 
 /// What was gathered of tables in order: the FEATs of names and the keys of polygons, both in order.
 #[derive(Drop)]
-struct Gathered {
-    feats: Vec<u32>,
-    polygons: Vec<PolygonKey>,
+pub(crate) struct Gathered {
+    pub(crate) feats: Vec<u32>,
+    pub(crate) polygons: Vec<PolygonKey>,
 }
 
 /// Puts the tables in order and checks the ten rules, or tells the first one that the records break.
-fn settle(alloc: Global, tables: &mut Tables) -> Result<Gathered, LinkFault>
+pub(crate) fn settle(alloc: Global, tables: &mut Tables) -> Result<Gathered, LinkFault>
     ensures in_order { OnOk result (AreInOrder (typed_of tables.new)) }
     ensures same { OnOk result (ArePermuted (typed_of tables.old) (typed_of tables.new)) }
     ensures linked { OnOk result (IsLinked (type_after_type (typed_of tables.new))) }
