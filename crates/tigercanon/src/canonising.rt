@@ -1,32 +1,14 @@
-//! The canonical county of records, and its text in memory.
+//! The text of a canonical county in memory.
 
-ghost use Rattle.std.specs.Prelude.{◌≡◌, List, IfOk, IfErr};
-ghost use Rattle.tigercanon.specs.Faults.{IsWantOfMemory, RefusesRecords};
-ghost use Rattle.tl_county.specs.Limits.{HoldsWithinLimits};
+ghost use Rattle.std.specs.Prelude.{◌≡◌, IfOk, IfErr};
 ghost use Rattle.tl_county.specs.Packing.{packed};
 ghost use Rattle.tl_layout.specs.RecordText.{text_of};
-ghost use Rattle.tl_layout.specs.Tables.{HoldsByType};
-ghost use Rattle.tl_layout.specs.declared.record_type.Record.{Record};
-ghost use Rattle.tl_number.specs.Accepted.{IsCanonicalOf};
 
-use crate::checking::admit_tables;
 use crate::fault::Fault;
 use std::alloc::Global;
-use tl_county::{Chart, County};
-use tl_layout::Tables;
-use tl_number::{CanonCounty, canonise};
+use tl_county::Chart;
+use tl_number::CanonCounty;
 use tl_write::{CountedOut, write_to};
-
-/// The canonical county of tables of records within their limits. The tables' order has no meaning.
-pub(crate) fn canonise_tables(alloc: Global, tables: Tables) -> Result<CanonCounty<County>, Fault>
-    requires { HoldsWithinLimits tables }
-    ensures canonical { IfOk result (λ canon. (records : List Record) →
-        HoldsByType tables records → IsCanonicalOf records (packed (⟦<CanonCounty<County> as Chart>⟧.county canon))) }
-    ensures refused { IfErr result (λ fault. (records : List Record) → HoldsByType tables records → RefusesRecords records fault) }
-{
-    let admitted = admit_tables(alloc, tables)?;
-    Ok(canonise(alloc, admitted)?)
-}
 
 /// The text of a canonical county, in memory.
 pub(crate) fn text_in_memory<C: Chart>(

@@ -8,10 +8,10 @@ ghost use Rattle.tigercanon.specs.Outcomes.{AreAccepted, AreRefusedBy, IsAnswer,
 ghost use Rattle.tigercanon.specs.Respelling.{IsRespelt};
 ghost use Rattle.tigercanon.specs.Sets.{IsCanonicalText, SaysAccepted};
 
-use crate::checking::admit_tables;
 use crate::command_line::{Job, PlanFault};
 use crate::fault::Fault;
 use crate::files::{Opened, is_missing_a_file, load_files, sources_of};
+use crate::linked::judge_tables;
 use crate::normalising::normalise_to;
 use crate::refusal::Refusal;
 use crate::writing::{LentOut, write_text};
@@ -77,7 +77,7 @@ fn judge_set<R: Read + Drop>(alloc: Global, files: Vec<Opened<R>>) -> Result<(),
     ensures missing { IsMissing files.items → IsErrOf result (Fault.Load LoadFault.Device) }
 {
     let tables: Tables = load_files(alloc, files)?;
-    admit_tables(alloc, tables)?;
+    judge_tables(alloc, tables)?;
     Ok(())
 }
 

@@ -13,6 +13,7 @@ mod fault;
 mod files;
 mod jobs;
 mod laws;
+mod linked;
 mod loading;
 mod normalising;
 mod planning;

@@ -8,10 +8,12 @@ ghost use Rattle.tigercanon.specs.Sets.{IsAcceptedSet, IsCanonicalText};
 ghost use Rattle.tl_layout.specs.declared.record_type.Record.{Record};
 ghost use Rattle.tl_write.specs.declared.fault.WriteFault.{WriteFault};
 
-use crate::canonising::{canonise_tables, text_in_memory};
+use crate::canonising::text_in_memory;
 use crate::fault::Fault;
+use crate::linked::{canonise_linked, link_records};
 use crate::loading::load;
 use crate::reading::load_sources;
+use bumpalo::Bump;
 use std::alloc::Global;
 use tl_layout::Tables;
 use tl_load::{LoadFault, Source};
@@ -35,7 +37,9 @@ pub fn normalise(alloc: Global, parts: &[&[u8]]) -> Result<Vec<u8>, Fault>
     ensures succeeds { (records : List Record) → IsAcceptedSet (map (λ p. p.now) parts.now) records → IfErr result IsWantOfMemory }
 {
     let tables: Tables = load(alloc, parts)?;
-    let county = canonise_tables(alloc, tables)?;
+    let linked = link_records(alloc, tables)?;
+    let arena = Bump::new(alloc);
+    let county = canonise_linked(alloc, &arena, &linked)?;
     text_in_memory(alloc, &county)
 }
 
@@ -69,6 +73,8 @@ pub fn normalise_to<R: Source, W: Sink>(
     ensures no_device { result ≢ Err (Fault.Load LoadFault.Device) → NoneFailed R.failed parts.old parts.new }
 {
     let tables: Tables = load_sources(alloc, parts)?;
-    let county = canonise_tables(alloc, tables)?;
+    let linked = link_records(alloc, tables)?;
+    let arena = Bump::new(alloc);
+    let county = canonise_linked(alloc, &arena, &linked)?;
     Ok(write_to(&county, out)?)
 }

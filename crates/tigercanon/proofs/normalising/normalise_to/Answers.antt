@@ -6,13 +6,13 @@ use Rattle.tigercanon.proofs.CanonicalTexts.{is_only, is_text}
 use Rattle.tigercanon.proofs.Refusing.{within_limits}
 use Rattle.tigercanon.proofs.normalising.normalise_to.Goals as goal
 
-pub canonise_tables-requires : goal.canonise_tables-requires
-canonise_tables-requires g c = let l = c.in_ok-tables.ensures.loaded in within_limits _ _ l.2 l.3 l.4
+pub link_records-requires : goal.link_records-requires
+link_records-requires g c = let l = c.in_ok-tables.ensures.loaded in within_limits _ _ l.2 l.3 l.4
 
 pub returns-clause-written : goal.returns-clause-written
 returns-clause-written g c =
     let l = c.in_ok-tables.ensures.loaded in
-    let of = c.in_ok-county.ensures.canonical l.2 l.3 in (
+    let of = c.in_ok-county.ensures.canonical l.2 (c.in_ok-linked.ensures.linked l.2 l.3) in (
       _,
       record {
         parts = l.0;
@@ -28,7 +28,7 @@ pub returns-in_err-write_to-clause-stopped : goal.returns-in_err-write_to-clause
 returns-in_err-write_to-clause-stopped g c = λ fault told.
     let p = err_from_is_err_and c.from_residual-in_err-write_to.result c.from_residual-in_err-write_to.ensures.1 in
     let l = c.in_ok-tables.ensures.loaded in
-    let of = c.in_ok-county.ensures.canonical l.2 l.3 in
+    let of = c.in_ok-county.ensures.canonical l.2 (c.in_ok-linked.ensures.linked l.2 l.3) in
     let is : c.in_err-write_to.field-0.0 ≡ fault = cc in
     subst (λ (f : WriteFault). IsCutOff g.R.Source.remaining g.R.Source.given c.args.parts.now c.load_sources.new.sources g.W.Sink.holds c.args.out.now c.write_to.new.w f.written) is (record {
       text = _;
@@ -51,3 +51,8 @@ pub returns-in_err-write_to-clause-refused : goal.returns-in_err-write_to-clause
 returns-in_err-write_to-clause-refused g c =
     let p = err_from_is_err_and c.from_residual-in_err-write_to.result c.from_residual-in_err-write_to.ensures.1 in
     rw (p.1, p.2) tt
+
+pub returns-in_err-write_to-clause-silent : goal.returns-in_err-write_to-clause-silent
+returns-in_err-write_to-clause-silent g c =
+    let p = err_from_is_err_and c.from_residual-in_err-write_to.result c.from_residual-in_err-write_to.ensures.1 in
+    rw (p.1, p.2) (λ wrong. cc)
