@@ -16,6 +16,7 @@ pub mod Reordered
 pub mod KeyedLists
 pub mod RuleOrders
 pub mod RuleTests
+pub mod TlidsInOrder
 pub mod GatheredLists
 pub mod EntryLists
 pub mod Places

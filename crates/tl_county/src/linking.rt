@@ -36,7 +36,7 @@ use crate::rules::{check_chains, check_landmarks, check_links, check_names, chec
 use crate::table::Table;
 use bumpalo::Bump;
 use std::alloc::{AllocError, Global};
-use tl_layout::{Body5, BodyP, Rec1, Rec5, Record, Tables};
+use tl_layout::{Body5, BodyP, Rec1, Rec5, RecI, Record, Tables};
 use tl_shape::{Chain, ChainIn};
 
 /// The ten rules, over tables in order, with their FEATs and their polygons in order.
@@ -52,9 +52,11 @@ fn check_rules(
     ensures linked { OnOk result ((records : List Record) → by_type records ≡ typed_of tables.now → IsLinked records) }
     ensures broken { IfErr result (λ fault. fault ≢ Memory → (records : List Record) → by_type records ≡ typed_of tables.now → IsFirstBrokenRule records fault) }
 {
-    check_chains(tables)?;
+    let tlids = keys_of::<u64, Rec1>(alloc, &tables.type_1)?;
+    let linked = keys_of::<u64, RecI>(alloc, &tables.type_i)?;
+    check_chains(tables, &tlids, &linked)?;
     check_sequences(tables)?;
-    check_links(tables)?;
+    check_links(tables, &tlids, &linked)?;
     let uses = uses_in_order(alloc, &tables.type_4)?;
     check_names(tables, &uses, feats)?;
     let linked = linked_polygons(alloc, &tables.type_8)?;
