@@ -17,6 +17,7 @@ pub mod KeyedLists
 pub mod RuleOrders
 pub mod RuleTests
 pub mod TlidsInOrder
+pub mod CenidNumbers
 pub mod GatheredLists
 pub mod EntryLists
 pub mod Places

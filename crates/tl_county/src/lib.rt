@@ -39,4 +39,4 @@ pub use laws::{
 };
 pub use linked_records::{LinkedRecords, link_in_order};
 pub use linking::{link, link_in, link_tables, link_tables_in};
-pub use record_keys::PolygonKey;
+pub use record_keys::{PolygonKey, sort_polygons};

@@ -1,4 +1,3 @@
-use Rattle.std.proofs.Common.{rules}
 use Rattle.tl_county.proofs.KeyedLists.{in_order-from_sorted}
 use Rattle.tl_county.proofs.keyed.sort_keys.Goals as goal
 

@@ -1,4 +1,3 @@
-use Rattle.std.proofs.Common.{◌∙◌}
 use Rattle.tl_county.specs.OrderedTables.{typed_of}
 use Rattle.tl_county.proofs.BuiltTables.{held, also_linked, same_county, within_limits-moved}
 use Rattle.tl_county.proofs.linked_records.link_in_order.Goals as goal
