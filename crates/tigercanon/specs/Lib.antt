@@ -2,6 +2,7 @@ pub mod Files
 pub mod Respelling
 pub mod Sets
 pub mod Faults
+pub mod Linked
 pub mod Statuses
 pub mod Outcomes
 pub mod Words

@@ -1,35 +1,24 @@
 //! Whether a set is accepted.
 
 ghost use Rattle.std.specs.Prelude.{◌≡◌, ◌≢◌, Err, List, map, OnOk, IfOk, IfErr};
-ghost use Rattle.tigercanon.specs.Faults.{IsWantOfMemory, TellsRefusal, RefusesRecords};
+ghost use Rattle.tigercanon.specs.Faults.{IsWantOfMemory, RefusesRecords, TellsRefusal};
 ghost use Rattle.tigercanon.specs.Sets.{IsAcceptedSet};
 ghost use Rattle.tl_county.specs.County.{county_of};
 ghost use Rattle.tl_county.specs.Limits.{HoldsWithinLimits};
-ghost use Rattle.tl_county.specs.TheCounty.{the_county};
 ghost use Rattle.tl_county.specs.TheCountyIn.{the_county_in};
 ghost use Rattle.tl_layout.specs.Tables.{HoldsByType};
 ghost use Rattle.tl_layout.specs.declared.record_type.Record.{Record};
 ghost use Rattle.tl_number.specs.Accepted.{IsAccepted};
 
 use crate::fault::Fault;
+use crate::linked::judge_tables;
 use crate::loading::load;
 use bumpalo::Bump;
 use std::alloc::Global;
-use tl_county::{link_tables, link_tables_in};
+use tl_county::link_tables_in;
 use tl_layout::Tables;
 use tl_load::LoadFault;
-use tl_profile::{Admitted, AdmittedIn, admit, admit_in};
-
-/// The admitted county of tables of records within their limits. The tables' order has no meaning.
-pub(crate) fn admit_tables(alloc: Global, tables: Tables) -> Result<Admitted, Fault>
-    requires { HoldsWithinLimits tables }
-    ensures accepted { IfOk result (λ admitted. (records : List Record) →
-        HoldsByType tables records → IsAccepted records × (the_county admitted ≡ county_of records)) }
-    ensures refused { IfErr result (λ fault. (records : List Record) → HoldsByType tables records → RefusesRecords records fault) }
-{
-    let county = link_tables(alloc, tables)?;
-    Ok(admit(alloc, county)?)
-}
+use tl_profile::{AdmittedIn, admit_in};
 
 /// The admitted county, in the arena, of tables of records within their limits. The tables' order has no meaning.
 pub(crate) fn admit_tables_in<'a>(
@@ -61,6 +50,6 @@ pub fn check(alloc: Global, parts: &[&[u8]]) -> Result<(), Fault>
     ensures succeeds { (records : List Record) → IsAcceptedSet (map (λ p. p.now) parts.now) records → IfErr result IsWantOfMemory }
 {
     let tables: Tables = load(alloc, parts)?;
-    admit_tables(alloc, tables)?;
+    judge_tables(alloc, tables)?;
     Ok(())
 }

@@ -12,12 +12,12 @@ ghost use Rattle.tigercanon.specs.Respelling.{IsRespelt};
 ghost use Rattle.tigercanon.specs.Sets.{IsCanonicalText, SaysAccepted};
 
 use crate::canonising::canonise_tables;
-use crate::checking::admit_tables;
 use crate::command_line::{Job, PlanFault};
 use crate::ending::{Ending, Stopped, ending_of, tell_stopped};
 use crate::fault::Fault;
 use crate::files::{Opened, is_missing_a_file, load_files, sources_of};
 use crate::fingerprinting::hash_of;
+use crate::linked::judge_tables;
 use crate::normalising::normalise_to;
 use crate::two_sets::compare_sets;
 use crate::writing::{LentOut, write_text};
@@ -84,7 +84,7 @@ fn judge_set<R: Read + Drop>(alloc: Global, files: Vec<Opened<R>>) -> Result<(),
     ensures missing { IsMissing files.items → IsErrOf result (Fault.Load LoadFault.Device) }
 {
     let tables: Tables = load_files(alloc, files)?;
-    admit_tables(alloc, tables)?;
+    judge_tables(alloc, tables)?;
     Ok(())
 }
 

@@ -18,6 +18,7 @@ mod fingerprinting;
 mod hashing;
 mod jobs;
 mod laws;
+mod linked;
 mod loading;
 mod names;
 mod normalising;

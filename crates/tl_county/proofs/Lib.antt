@@ -16,6 +16,8 @@ pub mod Reordered
 pub mod KeyedLists
 pub mod RuleOrders
 pub mod RuleTests
+pub mod TlidsInOrder
+pub mod CenidNumbers
 pub mod GatheredLists
 pub mod EntryLists
 pub mod Places

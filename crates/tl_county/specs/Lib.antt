@@ -9,6 +9,7 @@ pub mod KeptCounty
 pub mod Building
 pub mod TheCounty
 pub mod TheCountyIn
+pub mod TheCountyOver
 pub mod ChartWords
 pub mod CountyProps
 pub mod PolygonKeys

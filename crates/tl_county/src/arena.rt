@@ -1,12 +1,15 @@
 //! The parts of a county in an arena: each list is a final slice of it. What grows stands in ordinary memory.
 
-ghost use Rattle.std.specs.Prelude.{◌≡◌, IfOk, map};
-ghost use Rattle.tl_layout.specs.Fields.{Fields5};
+ghost use Rattle.std.specs.Prelude.{◌≡◌, ◌∷◌, [], ◌++◌, IfOk, flat_map, map};
+ghost use Rattle.std.specs.List.{AllByRecursion};
+ghost use Rattle.tl_layout.specs.Fields.{Fields2, Fields4, Fields5, Fields6};
+ghost use Rattle.tl_layout.specs.Numbers.{IsNumber};
 
 use crate::building::{
     ChainBuilder, LandmarkBuilder, join_bodies, join_feats, join_points, join_ranges, name_bodies,
     surroundings_of,
 };
+use crate::chain_over::ChainOver;
 use crate::lent::{LandmarkIn, NameIn};
 use bumpalo::Bump;
 use std::alloc::{AllocError, Global};
@@ -19,6 +22,14 @@ fn keep<'a, T: Copy>(arena: &'a Bump, items: &[T]) -> Result<&'a [T], AllocError
 {
     let kept = arena.try_alloc_slice_copy(items)?;
     Ok(kept)
+}
+
+/// The points, the FEATs and the further address ranges of a chain, in the arena.
+#[derive(Drop)]
+struct ChainLists<'a> {
+    points: &'a [Point],
+    feats: &'a [u32],
+    ranges: &'a [Ranges],
 }
 
 /// Builds chains and landmarks whose lists lie in an arena. A list is gathered in a vector, which serves again and again, and
@@ -43,19 +54,20 @@ impl<'a> InArena<'a> {
             bodies: Vec::new(alloc),
         }
     }
-}
 
-impl<'a> ChainBuilder<ChainIn<'a>> for InArena<'a> {
-    ghost chain = { λ built. built };
-
-    fn build_chain(
+    /// The lists of the chain of its records of types 1, 2, 4 and 6.
+    fn join_lists(
         &mut self,
         head: &Rec1,
         shape: &[Rec2],
         names: &[Rec4],
         ranges: &[Rec6],
-        link: &RecI,
-    ) -> Result<ChainIn<'a>, AllocError> {
+    ) -> Result<ChainLists<'a>, AllocError>
+        ensures points { IfOk result (λ lists. lists.points.now ≡ head.now.start ∷ (flat_map (λ (r : Fields2). r.points) shape.now ++ (head.now.end ∷ []))) }
+        ensures feats { IfOk result (λ lists. lists.feats.now ≡ flat_map (λ (r : Fields4). r.feats) names.now) }
+        ensures numbers { IfOk result (λ lists. AllByRecursion (IsNumber 8) lists.feats.now) }
+        ensures ranges { IfOk result (λ lists. lists.ranges.now ≡ map (λ (r : Fields6). r.ranges) ranges.now) }
+    {
         self.points.clear();
         self.points.push(head.start())?;
         join_points(&mut self.points, shape)?;
@@ -66,9 +78,52 @@ impl<'a> ChainBuilder<ChainIn<'a>> for InArena<'a> {
         join_ranges(&mut self.ranges, ranges)?;
         let points = keep(self.arena, &self.points)?;
         let feats = keep(self.arena, &self.feats)?;
-        let entries = keep(self.arena, &self.ranges)?;
+        let ranges = keep(self.arena, &self.ranges)?;
+        Ok(ChainLists {
+            points,
+            feats,
+            ranges,
+        })
+    }
+}
+
+impl<'t, 'a> ChainBuilder<'t, ChainIn<'a>> for InArena<'a> {
+    ghost chain = { λ built. built };
+
+    fn build_chain(
+        &mut self,
+        head: &'t Rec1,
+        shape: &[Rec2],
+        names: &[Rec4],
+        ranges: &[Rec6],
+        link: &'t RecI,
+    ) -> Result<ChainIn<'a>, AllocError> {
+        let lists = self.join_lists(head, shape, names, ranges)?;
         let around = surroundings_of(link);
-        Ok(ChainIn::new(*head.body(), points, feats, entries, *link.body(), around))
+        Ok(ChainIn::new(
+            *head.body(),
+            lists.points,
+            lists.feats,
+            lists.ranges,
+            *link.body(),
+            around,
+        ))
+    }
+}
+
+impl<'a> ChainBuilder<'a, ChainOver<'a>> for InArena<'a> {
+    ghost chain = { λ built. built };
+
+    fn build_chain(
+        &mut self,
+        head: &'a Rec1,
+        shape: &[Rec2],
+        names: &[Rec4],
+        ranges: &[Rec6],
+        link: &'a RecI,
+    ) -> Result<ChainOver<'a>, AllocError> {
+        let lists = self.join_lists(head, shape, names, ranges)?;
+        Ok(ChainOver::new(head, link, lists.points, lists.feats, lists.ranges))
     }
 }
 
@@ -100,6 +155,20 @@ pub(crate) fn names_in<'a>(
     let mut names = Vec::with_capacity(alloc, bodies.len())?;
     for body in bodies {
         names.push(NameIn::new(body))?;
+    }
+    Ok(names)
+}
+
+/// The names of records of type 5, whose contents stay where they are.
+pub(crate) fn names_over<'a>(
+    alloc: Global,
+    records: &'a [Rec5],
+) -> Result<Vec<NameIn<'a>>, AllocError>
+    ensures { IfOk result (λ names. names.items ≡ map (λ (r : Fields5). r.body) records.now) }
+{
+    let mut names = Vec::with_capacity(alloc, records.len())?;
+    for name in records {
+        names.push(NameIn::new(name.body()))?;
     }
     Ok(names)
 }

@@ -13,7 +13,7 @@ ghost use Rattle.tl_county.specs.LandmarkParts.{LandmarkParts};
 ghost use Rattle.tl_county.specs.Orders.{IsInOrder, distinct};
 ghost use Rattle.tl_county.specs.PolygonKeys.{key_cmp};
 
-use crate::keyed::{keys_of, put_in_order, split_group};
+use crate::keyed::{keys_of, sort_keys, split_group};
 use crate::record_keys::PolygonKey;
 use std::alloc::{AllocError, Global};
 use tl_layout::{
@@ -122,29 +122,29 @@ pub(crate) fn surroundings_of(link: &RecI) -> Surroundings
     }
 }
 
-/// What builds the chains of a county, as they are kept there.
-pub(crate) trait ChainBuilder<C: Drop> {
+/// What builds the chains of a county, as they are kept there. They may keep the records of types 1 and I, which live for `'t`.
+pub(crate) trait ChainBuilder<'t, C: Drop> {
     /// The chain that was built.
     ghost chain: { C → Chain };
 
     /// The chain of its records of types 1, 2, 4, 6 and I, those of types 2, 4 and 6 in the order of their RTSQs.
     fn build_chain(
         &mut self,
-        head: &Rec1,
+        head: &'t Rec1,
         shape: &[Rec2],
         names: &[Rec4],
         ranges: &[Rec6],
-        link: &RecI,
+        link: &'t RecI,
     ) -> Result<C, AllocError>
         ensures { IfOk result (λ built. chain built ≡ chain_with head.now link.now shape.now names.now ranges.now) };
 }
 
 /// The chains of records of types 1 and I, which stand side by side, each with its records of types 2, 4 and 6.
-pub(crate) fn chains_of_records<C: Drop, B: ChainBuilder<C>>(
+pub(crate) fn chains_of_records<'t, C: Drop, B: ChainBuilder<'t, C>>(
     alloc: Global,
     builder: &mut B,
-    heads: &[Rec1],
-    links: &[RecI],
+    heads: &'t [Rec1],
+    links: &'t [RecI],
     shapes: &[Rec2],
     names: &[Rec4],
     ranges: &[Rec6],
@@ -254,7 +254,7 @@ pub(crate) fn nodes_of(alloc: Global, links: &[RecI]) -> Result<Vec<u64>, AllocE
     ensures { IfOk result (λ nodes. nodes.items ≡ distinct nat_cmp (flat_map link_nodes links.now)) }
 {
     let mut nodes = gather_nodes(alloc, links)?;
-    put_in_order::<u64, u64>(&mut nodes)?;
+    sort_keys::<u64>(&mut nodes);
     nodes.dedup_by(|later, kept| later.cmp(&kept).is_eq());
     Ok(nodes)
 }

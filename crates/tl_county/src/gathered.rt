@@ -7,8 +7,8 @@ ghost use Rattle.tl_county.specs.Orders.{IsInOrder, distinct};
 ghost use Rattle.tl_county.specs.PolygonKeys.{key_cmp, key_on};
 ghost use Rattle.tl_county.specs.SequenceKeys.{sequence_cmp, uses_of};
 
-use crate::keyed::{Keyed, keys_of, put_in_order};
-use crate::record_keys::{LandmarkKey, LinkKey, PolygonKey};
+use crate::keyed::{Keyed, keys_of, put_in_order, sort_keys};
+use crate::record_keys::{LandmarkKey, LinkKey, PolygonKey, sort_polygons};
 use std::alloc::{AllocError, Global};
 use tl_layout::{Rec1, Rec2, Rec4, Rec5, Rec6, Rec7, Rec8, RecI, RecP, Side, Tables};
 
@@ -49,7 +49,7 @@ pub(crate) fn uses_in_order(alloc: Global, names: &[Rec4]) -> Result<Vec<(u64, u
     for record4 in names {
         push_uses(&mut uses, record4)?;
     }
-    put_in_order::<(u64, u32), (u64, u32)>(&mut uses)?;
+    sort_keys::<(u64, u32)>(&mut uses);
     Ok(uses)
 }
 
@@ -59,7 +59,7 @@ pub(crate) fn linked_polygons(alloc: Global, links: &[Rec8]) -> Result<Vec<Polyg
     ensures same { IfOk result (λ keys. IsPermutation (map eight_key links.now) keys.items) }
 {
     let mut keys = keys_of::<PolygonKey, Rec8>(alloc, links)?;
-    put_in_order::<PolygonKey, PolygonKey>(&mut keys)?;
+    sort_polygons(&mut keys);
     Ok(keys)
 }
 
@@ -82,7 +82,7 @@ fn gather_polygons(
 ) -> Result<Vec<PolygonKey>, AllocError>
     ensures { IfOk result (λ keys. keys.items ≡ flat_map side_keys sides.now ++ map p_key points.now) }
 {
-    let mut keys = Vec::new(alloc);
+    let mut keys = Vec::with_capacity(alloc, 2 * sides.len() + points.len())?;
     for link in sides {
         push_side(&mut keys, link.left())?;
         push_side(&mut keys, link.right())?;
@@ -102,7 +102,7 @@ pub(crate) fn polygon_keys(
     ensures { IfOk result (λ keys. keys.items ≡ distinct key_cmp (flat_map side_keys sides.now ++ map p_key points.now)) }
 {
     let mut keys = gather_polygons(alloc, sides, points)?;
-    put_in_order::<PolygonKey, PolygonKey>(&mut keys)?;
+    sort_polygons(&mut keys);
     keys.dedup_by(|later, kept| later.cmp(&kept).is_eq());
     Ok(keys)
 }

@@ -33,6 +33,14 @@ pub fn put_in_order<K: Ord + Copy, T: Keyed<K>>(items: &mut Vec<T>) -> Result<()
     items.sort_by_key(|item| item.key())
 }
 
+/// Puts keys in order. It takes no memory.
+pub fn sort_keys<K: Key>(keys: &mut Vec<K>)
+    ensures permutation { IsPermutation keys.old.items keys.new.items }
+    ensures in_order { IsInOrder K.cmp keys.new.items }
+{
+    keys.sort_unstable();
+}
+
 /// The least key that stands twice among items in order.
 pub fn least_repeated<K: Key, T: Keyed<K>>(items: &[T]) -> Option<K>
     requires { IsInOrder (on T.key_of K.cmp) items.now }

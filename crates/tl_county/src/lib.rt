@@ -3,17 +3,21 @@
 
 mod arena;
 mod building;
+mod chain_over;
 mod chart;
 mod county;
 mod county_chart;
 mod county_in;
 mod county_in_chart;
+mod county_over;
+mod county_over_chart;
 mod fault;
 mod gathered;
 mod keyed;
 mod landmark;
 mod laws;
 mod lent;
+mod linked_records;
 mod linking;
 mod owned;
 mod record_keys;
@@ -23,12 +27,16 @@ mod table;
 pub use chart::Chart;
 pub use county::County;
 pub use county_in::CountyIn;
+pub use county_over::CountyOver;
 pub use fault::{LinkFault, LinkedType};
-pub use keyed::{Key, Keyed, least_repeated, least_unknown, place_of, put_in_order, split_group};
+pub use keyed::{
+    Key, Keyed, least_repeated, least_unknown, place_of, put_in_order, sort_keys, split_group,
+};
 pub use laws::{
     counties_within_limits_are_packed_into_records_that_fit, linked_or_one_first_broken_rule,
     linked_records_have_a_county_within_limits, linked_records_have_a_well_formed_county,
     renamings_compose, sameness_is_an_equivalence, the_county_is_what_the_records_say,
 };
+pub use linked_records::{LinkedRecords, link_in_order};
 pub use linking::{link, link_in, link_tables, link_tables_in};
-pub use record_keys::PolygonKey;
+pub use record_keys::{PolygonKey, sort_polygons};

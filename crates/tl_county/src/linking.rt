@@ -36,7 +36,7 @@ use crate::rules::{check_chains, check_landmarks, check_links, check_names, chec
 use crate::table::Table;
 use bumpalo::Bump;
 use std::alloc::{AllocError, Global};
-use tl_layout::{Body5, BodyP, Rec1, Rec5, Record, Tables};
+use tl_layout::{Body5, BodyP, Rec1, Rec5, RecI, Record, Tables};
 use tl_shape::{Chain, ChainIn};
 
 /// The ten rules, over tables in order, with their FEATs and their polygons in order.
@@ -52,9 +52,11 @@ fn check_rules(
     ensures linked { OnOk result ((records : List Record) → by_type records ≡ typed_of tables.now → IsLinked records) }
     ensures broken { IfErr result (λ fault. fault ≢ Memory → (records : List Record) → by_type records ≡ typed_of tables.now → IsFirstBrokenRule records fault) }
 {
-    check_chains(tables)?;
+    let tlids = keys_of::<u64, Rec1>(alloc, &tables.type_1)?;
+    let linked = keys_of::<u64, RecI>(alloc, &tables.type_i)?;
+    check_chains(tables, &tlids, &linked)?;
     check_sequences(tables)?;
-    check_links(tables)?;
+    check_links(tables, &tlids, &linked)?;
     let uses = uses_in_order(alloc, &tables.type_4)?;
     check_names(tables, &uses, feats)?;
     let linked = linked_polygons(alloc, &tables.type_8)?;
@@ -62,10 +64,10 @@ fn check_rules(
 }
 
 /// The chains of tables in order, under their TLIDs.
-fn build_chains<C: Drop, B: ChainBuilder<C>>(
+pub(crate) fn build_chains<'t, C: Drop, B: ChainBuilder<'t, C>>(
     alloc: Global,
     builder: &mut B,
-    tables: &Tables,
+    tables: &'t Tables,
 ) -> Result<Table<u64, C>, AllocError>
     requires tables { AreInOrder (typed_of tables.now) }
     requires linked { IsLinked (type_after_type (typed_of tables.now)) }
@@ -100,7 +102,7 @@ fn build_names(
 }
 
 /// The polygons of tables in order, under their keys.
-fn build_polygons(
+pub(crate) fn build_polygons(
     alloc: Global,
     tables: &Tables,
     keys: Vec<PolygonKey>,
@@ -114,7 +116,7 @@ fn build_polygons(
 }
 
 /// The landmarks of tables in order, under their LANDs.
-fn build_landmarks<L: Drop, B: LandmarkBuilder<L>>(
+pub(crate) fn build_landmarks<L: Drop, B: LandmarkBuilder<L>>(
     alloc: Global,
     builder: &mut B,
     tables: &Tables,
@@ -204,13 +206,13 @@ fn build_county_in<'a>(
 
 /// What was gathered of tables in order: the FEATs of names and the keys of polygons, both in order.
 #[derive(Drop)]
-struct Gathered {
-    feats: Vec<u32>,
-    polygons: Vec<PolygonKey>,
+pub(crate) struct Gathered {
+    pub(crate) feats: Vec<u32>,
+    pub(crate) polygons: Vec<PolygonKey>,
 }
 
 /// Puts the tables in order and checks the ten rules, or tells the first one that the records break.
-fn settle(alloc: Global, tables: &mut Tables) -> Result<Gathered, LinkFault>
+pub(crate) fn settle(alloc: Global, tables: &mut Tables) -> Result<Gathered, LinkFault>
     ensures in_order { OnOk result (AreInOrder (typed_of tables.new)) }
     ensures same { OnOk result (ArePermuted (typed_of tables.old) (typed_of tables.new)) }
     ensures linked { OnOk result (IsLinked (type_after_type (typed_of tables.new))) }

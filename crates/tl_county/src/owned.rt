@@ -17,16 +17,16 @@ pub(crate) struct Owned {
     pub(crate) alloc: Global,
 }
 
-impl ChainBuilder<Chain> for Owned {
+impl<'t> ChainBuilder<'t, Chain> for Owned {
     ghost chain = { λ built. built };
 
     fn build_chain(
         &mut self,
-        head: &Rec1,
+        head: &'t Rec1,
         shape: &[Rec2],
         names: &[Rec4],
         ranges: &[Rec6],
-        link: &RecI,
+        link: &'t RecI,
     ) -> Result<Chain, AllocError> {
         let mut inner = Vec::new(self.alloc);
         join_points(&mut inner, shape)?;

@@ -2,7 +2,7 @@
 
 ghost use Rattle.std.specs.Prelude.{◌≡◌, List, map, flat_map, ◌++◌, MatchResult, IfOk, OnOk, IsPermutation};
 ghost use Rattle.std.specs.Ordering.{nat_cmp};
-ghost use Rattle.tl_county.specs.County.{eight_key, five_feat, p_key, side_keys};
+ghost use Rattle.tl_county.specs.County.{eight_key, five_feat, i_tlid, one_tlid, p_key, side_keys};
 ghost use Rattle.tl_county.specs.Keyed.{IsLeastPassing};
 ghost use Rattle.tl_county.specs.PolygonKeys.{key_cmp};
 ghost use Rattle.tl_county.specs.SequenceKeys.{is_unnamed, sequence_cmp, uses_of};
@@ -15,29 +15,32 @@ ghost use Rattle.tl_county.specs.RuleOrder.{RulesHold, IsFirstFrom};
 use crate::fault::{LinkFault, LinkedType};
 use crate::keyed::{least_repeated, least_unknown, place_of};
 use crate::record_keys::PolygonKey;
-use tl_layout::{Rec1, Rec2, Rec4, Rec5, Rec6, Rec7, Rec8, RecI, RecP, Tables};
+use tl_layout::{Rec2, Rec4, Rec5, Rec6, Rec7, Rec8, RecP, Tables};
 
-/// Rules 11 and 12: no TLID has two records of type 1, and each record of types 2, 4, 6 and I has its chain.
-pub(crate) fn check_chains(tables: &Tables) -> Result<(), LinkFault>
-    requires { AreInOrder (typed_of tables.now) }
+/// Rules 11 and 12: no TLID has two records of type 1, and each record of types 2, 4, 6 and I has its chain. The TLIDs are
+/// those of the records of type 1, and the linked ones those of type I, which are searched in place of the records.
+pub(crate) fn check_chains(tables: &Tables, tlids: &[u64], linked: &[u64]) -> Result<(), LinkFault>
+    requires tables { AreInOrder (typed_of tables.now) }
+    requires tlids { tlids.now ≡ map one_tlid tables.now.type_1.items }
+    requires linked { linked.now ≡ map i_tlid tables.now.type_i.items }
     ensures { (records : List Record) → by_type records ≡ typed_of tables.now → MatchResult result (λ _. RulesHold records 0 5) (IsFirstFrom records 0) }
 {
-    if let Some(tlid) = least_repeated::<u64, Rec1>(&tables.type_1) {
+    if let Some(tlid) = least_repeated::<u64, u64>(tlids) {
         return Err(LinkFault::ChainTwice { tlid });
     }
-    if let Some(tlid) = least_unknown::<u64, Rec2, Rec1>(&tables.type_2, &tables.type_1) {
+    if let Some(tlid) = least_unknown::<u64, Rec2, u64>(&tables.type_2, tlids) {
         let rtype = LinkedType::Two;
         return Err(LinkFault::NoChain { rtype, tlid });
     }
-    if let Some(tlid) = least_unknown::<u64, Rec4, Rec1>(&tables.type_4, &tables.type_1) {
+    if let Some(tlid) = least_unknown::<u64, Rec4, u64>(&tables.type_4, tlids) {
         let rtype = LinkedType::Four;
         return Err(LinkFault::NoChain { rtype, tlid });
     }
-    if let Some(tlid) = least_unknown::<u64, Rec6, Rec1>(&tables.type_6, &tables.type_1) {
+    if let Some(tlid) = least_unknown::<u64, Rec6, u64>(&tables.type_6, tlids) {
         let rtype = LinkedType::Six;
         return Err(LinkFault::NoChain { rtype, tlid });
     }
-    if let Some(tlid) = least_unknown::<u64, RecI, Rec1>(&tables.type_i, &tables.type_1) {
+    if let Some(tlid) = least_unknown::<u64, u64, u64>(linked, tlids) {
         let rtype = LinkedType::I;
         return Err(LinkFault::NoChain { rtype, tlid });
     }
@@ -64,15 +67,18 @@ pub(crate) fn check_sequences(tables: &Tables) -> Result<(), LinkFault>
     Ok(())
 }
 
-/// Rules 14 and 15: each record of type 1 has its record of type I, and no TLID has two.
-pub(crate) fn check_links(tables: &Tables) -> Result<(), LinkFault>
-    requires { AreInOrder (typed_of tables.now) }
+/// Rules 14 and 15: each record of type 1 has its record of type I, and no TLID has two. The TLIDs are those of the records
+/// of type 1, and the linked ones those of type I.
+pub(crate) fn check_links(tables: &Tables, tlids: &[u64], linked: &[u64]) -> Result<(), LinkFault>
+    requires tables { AreInOrder (typed_of tables.now) }
+    requires tlids { tlids.now ≡ map one_tlid tables.now.type_1.items }
+    requires linked { linked.now ≡ map i_tlid tables.now.type_i.items }
     ensures { (records : List Record) → by_type records ≡ typed_of tables.now → MatchResult result (λ _. RulesHold records 9 11) (IsFirstFrom records 9) }
 {
-    if let Some(tlid) = least_unknown::<u64, Rec1, RecI>(&tables.type_1, &tables.type_i) {
+    if let Some(tlid) = least_unknown::<u64, u64, u64>(tlids, linked) {
         return Err(LinkFault::LinkMissing { tlid });
     }
-    if let Some(tlid) = least_repeated::<u64, RecI>(&tables.type_i) {
+    if let Some(tlid) = least_repeated::<u64, u64>(linked) {
         return Err(LinkFault::LinkTwice { tlid });
     }
     Ok(())

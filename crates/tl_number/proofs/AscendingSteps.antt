@@ -67,13 +67,29 @@ firsts_decide R (x ∷ xs) (y ∷ ys) o = go (R x y)
     go Equal = refl
     go Greater = refl
 
+-- nor do the first two
+heads_decide : {X : Type 0} (R : X → X → Ordering) (xs ys : List X) (o : Ordering)
+    → ordering_then (option_cmp R (slice_get xs 0) (slice_get ys 0)) (ordering_then (option_cmp R (slice_get xs 1) (slice_get ys 1))
+    (ordering_then (slice_cmp R xs ys) o)) ≡ ordering_then (slice_cmp R xs ys) o
+heads_decide R [] [] o = refl
+heads_decide R [] (y ∷ ys) o = refl
+heads_decide R (x ∷ xs) [] o = refl
+heads_decide R (x ∷ xs) (y ∷ ys) o = go (R x y)
+  where
+    go : (p : Ordering) → ordering_then p (ordering_then (option_cmp R (slice_get xs 0) (slice_get ys 0))
+        (ordering_then (ordering_then p (slice_cmp R xs ys)) o)) ≡ ordering_then (ordering_then p (slice_cmp R xs ys)) o
+    go Less = refl
+    go Equal = firsts_decide R xs ys o
+    go Greater = refl
+
 module _ (county : County) where
   -- the order of starts is one
   pub starts_total : IsTotalOrder (start_cmp county)
   starts_total =
       then_total (on_total (λ (s : Start). s.first) (options_total point_keys.total))
+      (then_total (on_total (λ (s : Start). s.second) (options_total point_keys.total))
       (then_total (on_total (λ (s : Start). step_points county s.step) points_keys.total)
-      (on_total (λ (s : Start). s.step.place) nat_cmp_total))
+      (on_total (λ (s : Start). s.step.place) nat_cmp_total)))
 
   abbrev chosen : Option Chain → List Coordinates
   chosen o = points_of (option_map (turned_if (is_gt (points_cmp (points_of o) (reverse (points_of o))))) o)
@@ -89,7 +105,7 @@ module _ (county : County) where
       → start_cmp county (start_at county i) (start_at county j) ≡ ordering_then (points_cmp (least_points x) (least_points y))
       (nat_cmp i j)
   agrees i j x y e f =
-      firsts_decide point_cmp (step_points county (least_step county i)) (step_points county (least_step county j)) (nat_cmp i j)
+      heads_decide point_cmp (step_points county (least_step county i)) (step_points county (least_step county j)) (nat_cmp i j)
       ∙ ap₂ (λ ps qs. ordering_then (points_cmp ps qs) (nat_cmp i j)) (least_read i x e) (least_read j y f)
 
   -- steps that read the chains in order, each in its lesser direction

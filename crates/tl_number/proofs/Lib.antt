@@ -21,7 +21,6 @@ pub mod TidyNumbers
 pub mod SeenKeys
 pub mod StepChains
 pub mod SortedPlaces
-pub mod StepWalks
 pub mod StepPoints
 pub mod AscendingSteps
 pub mod ViewNumbers

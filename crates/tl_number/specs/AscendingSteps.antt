@@ -17,18 +17,20 @@ least_step county place = record {
   turned = is_gt (points_cmp (points_of (chain_at county place)) (reverse (points_of (chain_at county place))));
 }
 
--- with its first point in this direction
+-- with its first two points in this direction
 abbrev pub start_at : County → ℕ → Start
 start_at county place = record {
   first = slice_get (step_points county (least_step county place)) 0;
+  second = slice_get (step_points county (least_step county place)) 1;
   step = least_step county place;
 }
 
 abbrev pub start_step : Start → Step
 start_step start = start.step
 
--- by the first points, all points, the places
+-- by the first points, the second points, all points, the places
 abbrev pub start_cmp : County → Start → Start → Ordering
 start_cmp county a b =
     ordering_then (option_cmp point_cmp a.first b.first)
-    (ordering_then (points_cmp (step_points county a.step) (step_points county b.step)) (nat_cmp a.step.place b.step.place))
+    (ordering_then (option_cmp point_cmp a.second b.second)
+    (ordering_then (points_cmp (step_points county a.step) (step_points county b.step)) (nat_cmp a.step.place b.step.place)))

@@ -50,13 +50,14 @@ fn directed<C: Chart>(chart: &C, place: u32) -> Step
     }
 }
 
-/// The chain at a place, in its lesser direction, with the first of its points.
+/// The chain at a place, in its lesser direction, with the first two of its points.
 fn start_of_chain<C: Chart>(chart: &C, place: u32) -> Start
     ensures { result ≡ start_at (C.county chart.now) place }
 {
     let step = directed(chart, place);
     Start {
         first: point_of_step(chart, step, 0),
+        second: point_of_step(chart, step, 1),
         step,
     }
 }
@@ -68,6 +69,10 @@ fn cmp_starts<C: Chart>(chart: &C, a: &Start, b: &Start) -> Ordering
     let firsts = a.first.cmp(&b.first);
     if firsts.is_ne() {
         return firsts;
+    }
+    let seconds = a.second.cmp(&b.second);
+    if seconds.is_ne() {
+        return seconds;
     }
     let points = cmp_points(chart, a.step, b.step);
     if points.is_ne() {

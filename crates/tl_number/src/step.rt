@@ -11,11 +11,13 @@ pub struct Step {
     pub turned: bool,
 }
 
-/// A step with the first point of its chain, which tells most chains apart.
+/// A step with the first two points of its chain, which tell most chains apart.
 #[derive(Clone, Copy, Debug, PartialEq, Eq)]
 pub(crate) struct Start {
     /// The first point in the direction of the step, if the chain is there.
     pub(crate) first: Option<Point>,
+    /// The second point in the direction of the step, if the chain is there.
+    pub(crate) second: Option<Point>,
     /// The step.
     pub(crate) step: Step,
 }

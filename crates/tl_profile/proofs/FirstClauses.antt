@@ -1,18 +1,16 @@
 -- The first broken clause is the least place of the first clause that is broken at all.
-use Rattle.std.proofs.Common.{◌≡◌, ℕ, Bool, true, false, not, ◌&&◌, nat_lt, Some, Ordering, Less, Equal, Greater, is_gt}
+use Rattle.std.proofs.Common.{◌≡◌, ℕ, true, false, Some, Ordering, Less, Equal, Greater, is_gt}
 use Rattle.std.proofs.Common.{refl, sym, ◌∙◌, nat_cmp}
 use Rattle.std.specs.Cmp.Lexicographic.{slice_cmp}
 use Rattle.std.specs.Ordering.{ordering_then}
 use Rattle.std.proofs.lemmas.Bool.{false≢true}
 use Rattle.tl_county.specs.County.{County}
-use Rattle.tl_county.specs.CountyRules.{polygons_along}
 use Rattle.tl_county.specs.FirstOf.{place_cmp}
 use Rattle.tl_county.specs.Keyed.{IsLeastPassing}
-use Rattle.tl_county.specs.Orders.{stands_in}
 use Rattle.tl_county.specs.PolygonKeys.{PolygonKey, key_cmp}
 use Rattle.tl_profile.specs.declared.fault.ProfileFault.{ProfileFault}
 use Rattle.tl_profile.specs.declared.fault.ProfileFault.TheVariants.{OwnReverse, SameShape, PolygonWithoutChain, Memory}
-use Rattle.tl_profile.specs.Profile.{is_own_reverse, are_one_shape, has_body, is_broken, fault_place, IsInProfile, IsFirstBrokenClause}
+use Rattle.tl_profile.specs.Profile.{is_own_reverse, is_broken, fault_place, IsInProfile, IsFirstBrokenClause}
 use Rattle.tl_profile.specs.Shapes.{TlidPair, pair_cmp, pair_refused}
 use Rattle.tl_profile.specs.Sides.{polygon_refused}
 

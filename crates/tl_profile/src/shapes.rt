@@ -1,6 +1,6 @@
 //! The shapes of chains, put in order, and which of them are the same.
 
-ghost use Rattle.std.specs.Prelude.{◌≡◌, ◌<◌, Some, length, map, slice_get, reverse, IfOk, OnOk, IsPermutation};
+ghost use Rattle.std.specs.Prelude.{◌≡◌, ◌<◌, Some, length, map, slice_get, reverse, IfOk, IsPermutation};
 ghost use Rattle.std.specs.List.{AllByRecursion};
 ghost use Rattle.std.specs.List.Sorted.{IsStrictlySortedBy};
 ghost use Rattle.std.specs.Ordering.{is_lt, nat_cmp};
@@ -165,11 +165,11 @@ fn compare_placed<C: Chart>(chart: &C, shape: &PlacedShape, other: &PlacedShape)
 }
 
 /// Puts chains in the order of their shapes, and of their TLIDs where shapes are the same.
-fn order_shapes<C: Chart>(chart: &C, shapes: &mut Vec<PlacedShape>) -> Result<(), AllocError>
+fn order_shapes<C: Chart>(chart: &C, shapes: &mut Vec<PlacedShape>)
     ensures permutation { IsPermutation shapes.old.items shapes.new.items }
-    ensures in_order { OnOk result (IsInOrder (placed_key_cmp (C.county chart.now)) shapes.new.items) }
+    ensures in_order { IsInOrder (placed_key_cmp (C.county chart.now)) shapes.new.items }
 {
-    shapes.sort_by(|shape, other| compare_placed(chart, shape, other))
+    shapes.sort_unstable_by(|shape, other| compare_placed(chart, shape, other));
 }
 
 /// The TLIDs of a chain and the one after it, if their shapes are one.
@@ -225,6 +225,6 @@ pub(crate) fn least_same_shape<C: Chart>(
     ensures { IfOk result (IsLeastPassing pair_cmp (pair_refused (C.county chart.now))) }
 {
     let mut shapes = placed_shapes(alloc, chart)?;
-    order_shapes(chart, &mut shapes)?;
+    order_shapes(chart, &mut shapes);
     Ok(least_pair(chart, &shapes))
 }

@@ -4,8 +4,8 @@ use Rattle.tigercanon.proofs.Succeeding.{memory_alone}
 use Rattle.tigercanon.proofs.Refusing.{within_limits}
 use Rattle.tigercanon.proofs.checking.check.Goals as goal
 
-pub admit_tables-requires : goal.admit_tables-requires
-admit_tables-requires c = let l = c.in_ok-tables.ensures.spelled in within_limits _ _ l.0 l.1 l.2
+pub judge_tables-requires : goal.judge_tables-requires
+judge_tables-requires c = let l = c.in_ok-tables.ensures.spelled in within_limits _ _ l.0 l.1 l.2
 
 pub returns-in_err-tables-clause-succeeds : goal.returns-in_err-tables-clause-succeeds
 returns-in_err-tables-clause-succeeds c = λ records accepted.
@@ -13,9 +13,9 @@ returns-in_err-tables-clause-succeeds c = λ records accepted.
     rw (p.1, p.2)
     (memory_alone _ records c.in_err-tables.field-0.0 accepted.spelled c.in_err-tables.ensures.faulty c.in_err-tables.ensures.no_device)
 
-pub returns-in_err-admit_tables-clause-succeeds : goal.returns-in_err-admit_tables-clause-succeeds
-returns-in_err-admit_tables-clause-succeeds c = λ records accepted.
-    let p = err_from_is_err_and c.from_residual-in_err-admit_tables.result c.from_residual-in_err-admit_tables.ensures.1 in
+pub returns-in_err-judge_tables-clause-succeeds : goal.returns-in_err-judge_tables-clause-succeeds
+returns-in_err-judge_tables-clause-succeeds c = λ records accepted.
+    let p = err_from_is_err_and c.from_residual-in_err-judge_tables.result c.from_residual-in_err-judge_tables.ensures.1 in
     let loaded = c.in_ok-tables.ensures.spelled in
-    rw (p.1, p.2) (accepted_memory_alone _ records loaded.0 c.in_err-admit_tables.field-0.0 accepted loaded.2
-    (c.in_err-admit_tables.ensures.refused loaded.0 loaded.1))
+    rw (p.1, p.2) (accepted_memory_alone _ records loaded.0 c.in_err-judge_tables.field-0.0 accepted loaded.2
+    (c.in_err-judge_tables.ensures.refused loaded.0 loaded.1))

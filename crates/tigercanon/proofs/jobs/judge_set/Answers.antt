@@ -3,12 +3,12 @@ use Rattle.tigercanon.proofs.Refusing.{files_refused}
 use Rattle.tigercanon.proofs.Refusing.{within_limits}
 use Rattle.tigercanon.proofs.jobs.judge_set.Goals as goal
 
-pub admit_tables-requires : goal.admit_tables-requires
-admit_tables-requires g c = let l = c.in_ok-tables.ensures.loaded in within_limits l.0 _ l.2 l.3 l.4
+pub judge_tables-requires : goal.judge_tables-requires
+judge_tables-requires g c = let l = c.in_ok-tables.ensures.loaded in within_limits l.0 _ l.2 l.3 l.4
 
-pub returns-in_err-admit_tables-clause-refused : goal.returns-in_err-admit_tables-clause-refused
-returns-in_err-admit_tables-clause-refused g c =
-    let p = err_from_is_err_and c.from_residual-in_err-admit_tables.result c.from_residual-in_err-admit_tables.ensures.1 in
+pub returns-in_err-judge_tables-clause-refused : goal.returns-in_err-judge_tables-clause-refused
+returns-in_err-judge_tables-clause-refused g c =
+    let p = err_from_is_err_and c.from_residual-in_err-judge_tables.result c.from_residual-in_err-judge_tables.ensures.1 in
     let l = c.in_ok-tables.ensures.loaded in
-    rw (p.1, p.2) (files_refused g.R.Read.remaining c.args.files.items l.0 l.1 l.2 l.4 c.in_err-admit_tables.field-0.0
-    (c.in_err-admit_tables.ensures.refused l.2 l.3))
+    rw (p.1, p.2) (files_refused g.R.Read.remaining c.args.files.items l.0 l.1 l.2 l.4 c.in_err-judge_tables.field-0.0
+    (c.in_err-judge_tables.ensures.refused l.2 l.3))

@@ -11,22 +11,15 @@ use Rattle.tl_county.proofs.BuiltTables.{twos-in_order, fours-in_order, sixes-in
 use Rattle.tl_county.proofs.EntryLists.{entries-equal, keys-zip, values-zip, keys-map_values, values-map_values}
 use Rattle.tl_county.proofs.linking.build_chains.Goals as goal
 
-pub chains_of_records-requires-clause-heads : goal.chains_of_records-requires-clause-heads
-chains_of_records-requires-clause-heads g c =
-    subst (λ l. IsStrictlySortedBy nat_cmp (map one_tlid l)) (sym c.deref-2.ensures.value)
-    (tlids-ascend (typed_of c.args.tables.now) c.requires.tables c.requires.linked)
-
-pub chains_of_records-requires-clause-shapes : goal.chains_of_records-requires-clause-shapes
-chains_of_records-requires-clause-shapes g c =
-    subst (IsInOrder (on two_tlid nat_cmp)) (sym c.deref-4.ensures.value) (twos-in_order (typed_of c.args.tables.now) c.requires.tables)
-
-pub chains_of_records-requires-clause-names : goal.chains_of_records-requires-clause-names
-chains_of_records-requires-clause-names g c =
-    subst (IsInOrder (on four_tlid nat_cmp)) (sym c.deref-5.ensures.value) (fours-in_order (typed_of c.args.tables.now) c.requires.tables)
-
-pub chains_of_records-requires-clause-ranges : goal.chains_of_records-requires-clause-ranges
-chains_of_records-requires-clause-ranges g c =
-    subst (IsInOrder (on six_tlid nat_cmp)) (sym c.deref-6.ensures.value) (sixes-in_order (typed_of c.args.tables.now) c.requires.tables)
+pub chains_of_records-requires : goal.chains_of_records-requires
+chains_of_records-requires g c κs =
+    let t = typed_of c.args.tables.now in
+    let heads = subst (λ l. IsStrictlySortedBy nat_cmp (map one_tlid l)) (sym c.deref-2.ensures.value)
+    (tlids-ascend t c.requires.tables c.requires.linked) in
+    let shapes = subst (IsInOrder (on two_tlid nat_cmp)) (sym c.deref-4.ensures.value) (twos-in_order t c.requires.tables) in
+    let names = subst (IsInOrder (on four_tlid nat_cmp)) (sym c.deref-5.ensures.value) (fours-in_order t c.requires.tables) in
+    let ranges = subst (IsInOrder (on six_tlid nat_cmp)) (sym c.deref-6.ensures.value) (sixes-in_order t c.requires.tables) in
+    ((λ i. κs.1.0, tt), (heads, (shapes, (names, ranges))))
 
 pub new-requires-clause-ascending : goal.new-requires-clause-ascending
 new-requires-clause-ascending g c =

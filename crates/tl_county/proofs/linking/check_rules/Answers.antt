@@ -1,4 +1,5 @@
 use Rattle.std.proofs.Common.{◌≢◌, List, Result, Ok, Err, OnOk, IfErr, MatchResult, arith}
+use Rattle.std.proofs.lemmas.Result.{err_from_is_err_and}
 use Rattle.tl_layout.specs.declared.record_type.Record.{Record}
 use Rattle.tl_county.specs.declared.fault.LinkFault.{LinkFault}
 use Rattle.tl_county.specs.declared.fault.LinkFault.TheVariants.{Memory}
@@ -36,3 +37,11 @@ returns-clause-broken c =
     (rules-join records (c.in_ok-check_sequences.ensures records e)
     (rules-join records (c.in_ok-check_links.ensures records e)
     (c.in_ok-check_names.ensures records e)))) c.check_landmarks.result c.check_landmarks.ensures
+
+pub returns-in_err-check_names-clause-broken : goal.returns-in_err-check_names-clause-broken
+returns-in_err-check_names-clause-broken c =
+    let p = err_from_is_err_and c.from_residual-in_err-check_names.result c.from_residual-in_err-check_names.ensures.1 in
+    rw (p.1, p.2) (λ ne records e. first_of_all records c.in_err-check_names.field-0.0
+    (first-after records (omega arith) (rules-join records (c.in_ok-check_chains.ensures records e)
+    (rules-join records (c.in_ok-check_sequences.ensures records e) (c.in_ok-check_links.ensures records e)))
+    (c.in_err-check_names.ensures records e)))

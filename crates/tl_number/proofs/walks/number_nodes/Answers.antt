@@ -1,7 +1,17 @@
-use Rattle.tl_number.proofs.StepWalks.{nodes_walked}
+use Rattle.std.proofs.Common.{◌≡◌, sym, ap, ◌∙◌, nat_cmp}
+use Rattle.std.proofs.lemmas.Result.{IfOk-weaker}
+use Rattle.tl_number.specs.Arrangement.{nodes_in_order}
+use Rattle.tl_number.specs.Growth.{first_seen}
+use Rattle.tl_number.specs.Steps.{arrangement_of}
+use Rattle.tl_number.proofs.StepChains.{nodes_placed}
 use Rattle.tl_number.proofs.walks.number_nodes.Goals as goal
 
 pub returns : goal.returns
 returns g c =
-    nodes_walked (g.C.Chart.county c.args.chart.now) (g.met.C.Chart.is_county c.args.chart.now) c.args.steps.now c.requires
-    c.loop-step.step-index c.loop-step-test.false c.loop-step.nodes c.loop-step.invariant
+    let county = g.C.Chart.county c.args.chart.now in
+    let steps = c.args.steps.now in
+    IfOk-weaker c.number_keys.result (λ numbers. numbers ≡ first_seen nat_cmp c.deref.result.now)
+    (λ numbers. numbers ≡ nodes_in_order county (arrangement_of county steps))
+    (λ numbers e. e ∙ ap (first_seen nat_cmp) (c.deref.ensures.value ∙ c.in_ok-nodes.ensures)
+    ∙ ap (first_seen nat_cmp) (sym (nodes_placed county (g.met.C.Chart.is_county c.args.chart.now) steps c.requires)))
+    c.number_keys.ensures

@@ -1,5 +1,4 @@
 use Rattle.std.proofs.Common.{rules, is_lt}
-use Rattle.std.proofs.lemmas.Result.{on_ok_weaker}
 use Rattle.std.proofs.lemmas.List.Sorted.{ranks_by}
 use Rattle.std.proofs.lemmas.Fn.{always_returns_same}
 use Rattle.tl_county.proofs.KeyedLists.{in_order-from_sorted}
@@ -10,8 +9,6 @@ use Rattle.tl_profile.proofs.shapes.order_shapes.Goals as goal
 pub returns-clause-in_order : goal.returns-clause-in_order
 returns-clause-in_order g c =
     let county = g.C.Chart.county c.args.chart.now in
-    on_ok_weaker c.sort_by.result
-    (λ sorted. in_order-from_sorted (placed_key_total county) c.sort_by.new.self.items
-    (sorted (λ a b. is_lt (placed_key_cmp county a b)) (ranks_by (placed_key_total county) (λ x. x))
-    (always_returns_same _ _ _ (λ a r f' k. search rules))))
-    c.sort_by.ensures.sorted
+    in_order-from_sorted (placed_key_total county) c.sort_unstable_by.new.self.items
+    (c.sort_unstable_by.ensures.sorted (λ a b. is_lt (placed_key_cmp county a b)) (ranks_by (placed_key_total county) (λ x. x))
+    (always_returns_same _ _ _ (λ a r f' k. search rules)))

@@ -18,8 +18,8 @@ pub returns : goal.returns
 returns g c =
     let county = g.C.Chart.county c.args.chart.now in
     let bodies = c.in_ok-bodies.bodies.items in
-    let sides = c.put_in_order.new.items.items in
-    let permuted = subst (λ l. IsPermutation l sides) c.in_ok-sides.ensures c.put_in_order.ensures.permutation in
+    let sides = c.sort_polygons.new.keys.items in
+    let permuted = subst (λ l. IsPermutation l sides) c.in_ok-sides.ensures c.sort_polygons.ensures.permutation in
     least-same key_cmp (is_unknown key_cmp (map (λ k. k) bodies) (map (λ k. k) sides))
     (λ key. has_body county key && not (stands_in key_cmp key (polygons_along county.chains)))
     (same_unknown county sides permuted bodies c.in_ok-bodies.ensures) c.least_unknown.result
