@@ -1,1 +1,2 @@
 mod WholeFile
+mod Cited

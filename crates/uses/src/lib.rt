@@ -2,9 +2,11 @@
 #![tactic(auto)]
 
 mod alike;
+mod citing;
 mod pieces;
 #[cfg(test)]
 mod tests;
 
 pub use alike::spell_alike;
+pub use citing::cited_tlid;
 pub use pieces::load_pieces;

@@ -1,6 +1,7 @@
 //! The callers on lines of a county.
 
-use crate::{load_pieces, spell_alike};
+use crate::{cited_tlid, load_pieces, spell_alike};
+use std::alloc::{AllocError, Global};
 use std::test::Fail;
 use tl_load::LoadFault;
 
@@ -32,4 +33,40 @@ fn zeros_and_ends_of_lines_make_no_difference(rt: HostRuntime) {
         Ok(true)
     );
     assert_eq!(rt; spell_alike(rt.alloc(), LINK, b""), Ok(false));
+}
+
+/// A file of one chain: its records of types 1 and I, with a TLID of ten columns and no content but its two points.
+fn chain_file(alloc: Global, tlid: &[u8], points: &[u8]) -> Result<Vec<u8>, AllocError> {
+    let mut file = Vec::new(alloc);
+    file.extend_from_slice(b"1    ")?;
+    file.extend_from_slice(tlid)?;
+    file.resize(190, b' ')?;
+    file.extend_from_slice(points)?;
+    file.extend_from_slice(b"\nI         ")?;
+    file.extend_from_slice(tlid)?;
+    Ok(file)
+}
+
+#[test]
+fn a_cited_chain_is_found_in_another_file(rt: HostRuntime) -> Result<(), Fail> {
+    let alloc = rt.alloc();
+    let file = chain_file(
+        alloc,
+        b"       500",
+        b"+000000001+00000001+000000002+00000001",
+    )?;
+    let other = chain_file(
+        alloc,
+        b"        77",
+        b"+000000002+00000001+000000001+00000001",
+    )?;
+    let shorter = chain_file(
+        alloc,
+        b"        77",
+        b"+000000002+00000001+000000001+00000002",
+    )?;
+    assert_eq!(rt; cited_tlid(alloc, &file, &other, 500), Ok(Some(77)));
+    assert_eq!(rt; cited_tlid(alloc, &file, &other, 77), Ok(None));
+    assert_eq!(rt; cited_tlid(alloc, &file, &shorter, 500), Ok(None));
+    Ok(())
 }

@@ -1,0 +1,60 @@
+//! A chain that one archive cites, found in another archive of the same map.
+
+ghost use Rattle.std.specs.Prelude.{◌≡◌, ◌∷◌, [], Some, IfOk, IfSome};
+ghost use Rattle.std.specs.Bool.{Decides};
+ghost use Rattle.std.specs.Ordering.{nat_cmp};
+ghost use Rattle.tigercanon.specs.Sets.{CarriesSet};
+ghost use Rattle.tl_county.specs.County.{County};
+ghost use Rattle.tl_county.specs.CountyRules.{IsCounty};
+ghost use Rattle.tl_county.specs.Entries.{value_under};
+ghost use Rattle.tl_county.specs.Renumbering.{Carries, Renumbering};
+
+use std::alloc::{AllocError, Global};
+use tigercanon::{Fault, normalise_with_renaming};
+use tl_cert::Renaming;
+
+/// The new number of an old one, if a pair names it; of several pairs the first counts.
+fn new_number(pairs: &[(u64, u64)], old: u64) -> Option<u64>
+    ensures { result ≡ value_under nat_cmp old pairs.now }
+{
+    for pair in pairs {
+        if pair.0 == old {
+            return Some(pair.1);
+        }
+    }
+    None
+}
+
+/// The renaming of one county onto another, by those of both onto a third.
+fn through(there: &Renaming, back: &Renaming) -> Result<Renaming, AllocError>
+    ensures { IfOk result (λ r. (a b c : County) → IsCounty a → IsCounty b → IsCounty c
+        → Carries there.now a b → Carries back.now c b → Carries r a c) }
+{
+    there.then(&back.inverse()?)
+}
+
+/// Whether two texts are the same.
+fn is_same_text(text: &[u8], other: &[u8]) -> bool
+    ensures { Decides result (text.now ≡ other.now) }
+{
+    text == other
+}
+
+/// The TLID that the other file gives to the chain that has this TLID in the file, if both files are one map and the chain is
+/// there.
+///
+/// # Errors
+///
+/// What one of the files is refused for, or that memory was lacking.
+pub fn cited_tlid(alloc: Global, file: &[u8], other: &[u8], tlid: u64) -> Result<Option<u64>, Fault>
+    ensures { IfOk result (λ found. IfSome found (λ new.
+        (r : Renumbering) × CarriesSet r (file.now ∷ []) (other.now ∷ []) × (value_under nat_cmp tlid r.chains ≡ Some new))) }
+{
+    let cited = normalise_with_renaming(alloc, &[file])?;
+    let kept = normalise_with_renaming(alloc, &[other])?;
+    if !is_same_text(&cited.0, &kept.0) {
+        return Ok(None);
+    }
+    let onto = through(&cited.1, &kept.1)?;
+    Ok(new_number(onto.chains(), tlid))
+}
