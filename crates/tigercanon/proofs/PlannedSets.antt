@@ -1,11 +1,9 @@
--- What clap's getters answer, by the values that it found; and a plan, by those of the subcommand.
-use Rattle.std.proofs.Common.{◌≡◌, ◌∙◌, List, Bool, true, false, Option, Some, None, Bor, ap, sym, subst, codes, option_map}
-use Rattle.clap.specs.Words.{Row, Text, first_of, one_of, rows_of, first_value, one_text}
+-- What clap's getters answer, by the values that it found.
+use Rattle.std.proofs.Common.{◌≡◌, ◌∙◌, Bool, true, false, Option, Some, None, Bor, ap, sym, subst, codes, option_map}
+use Rattle.clap.specs.Words.{Text, first_of, one_of, rows_of, first_value, one_text}
 use Rattle.clap.specs.declared.parser.matches.Found.{Found}
 use Rattle.clap.proofs.WalkLemmas.{first_value-rows, one_text-rows}
-use Rattle.tigercanon.specs.Names.{IsStemGiven, IsPlanOf, NamesItsSets}
-use Rattle.tigercanon.specs.Words.{word_of}
-use Rattle.tigercanon.specs.declared.command_line.Plan.{Plan}
+use Rattle.tigercanon.specs.Names.{IsStemGiven}
 
 -- the value of an argument
 pub value_given : (found : Found) (id : Text) (r : Option (Bor Text)) (value : Bor Text)
@@ -16,9 +14,5 @@ value_given found id r value e is = sym (first_value-rows found id) ∙ sym e �
 pub flag_given : (found : Found) (id : Text) (b : Bool) → (one_text found id ≡ None → b ≡ false)
     → (one_text found id ≡ Some (codes "true") → b ≡ true) → (one_text found id ≡ Some (codes "false") → b ≡ false)
     → IsStemGiven (one_of id (rows_of found)) b
-flag_given found id b none on off = subst (λ flag. IsStemGiven flag b) (one_text-rows found id) (record { given = on; left_out = off; unknown = none })
-
--- the plan of a subcommand
-pub plan_given : (o : Option (Text × List Row)) (name : Text) (rows : List Row) (plan : Plan) → o ≡ Some (name, rows) → name ≡ word_of plan.job
-    → NamesItsSets rows plan → IsPlanOf o plan
-plan_given o name rows plan e named sets = rw e (named, sets)
+flag_given found id b none on off =
+    subst (λ flag. IsStemGiven flag b) (one_text-rows found id) (record { given = on; left_out = off; unknown = none })

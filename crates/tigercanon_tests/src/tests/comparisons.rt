@@ -7,13 +7,23 @@ use super::comparing::{same, same_items};
 use super::devices::SlowReader;
 use super::linked_sets::{CLOSED_ALONE, MAIN, MAIN_TURNED, TWO_OF_ONE_SHAPE};
 use super::sets::{CHAIN, LINK, expanded};
-use std::alloc::Global;
+use std::alloc::{AllocError, Global};
 use std::process::Abort;
 use std::test::Fail;
 use tigercanon::{Job, Opened, run};
 
 /// The files of a set.
 type Files<'a> = Vec<Opened<SlowReader<'a>>>;
+
+/// A set of one file with these bytes, which can be read to its end.
+fn one_file(alloc: Global, bytes: &[u8]) -> Result<Files<'_>, AllocError> {
+    Ok(vec![in alloc; file(bytes, None)]?)
+}
+
+/// A set of one file with these bytes, of which the read after so many fails.
+fn unreadable(alloc: Global, bytes: &[u8], reads: usize) -> Result<Files<'_>, AllocError> {
+    Ok(vec![in alloc; file(bytes, Some(reads))]?)
+}
 
 /// Comparing the files ends with this status, and this stands on standard output, which has room for so many bytes, and on
 /// standard error.
@@ -43,8 +53,8 @@ fn of_lines(
 ) -> Result<(), Fail> {
     let first = lines_of(alloc, first)?;
     let second = lines_of(alloc, second)?;
-    let firsts = vec![in alloc; file(&first, None)]?;
-    let seconds = vec![in alloc; file(&second, None)]?;
+    let firsts = one_file(alloc, &first)?;
+    let seconds = one_file(alloc, &second)?;
     ends(rt, alloc, firsts, seconds, 100, wanted);
     Ok(())
 }
@@ -90,7 +100,7 @@ fn files_of_one_set_may_be_several(rt: HostRuntime) -> Result<(), Fail> {
     let link = expanded(alloc, LINK)?;
     let other = lines_of(alloc, MAIN_TURNED.as_slice())?;
     let several = vec![in alloc; file(&chain, None), Opened::Absent, file(&link, None)]?;
-    let one = vec![in alloc; file(&other, None)]?;
+    let one = one_file(alloc, &other)?;
     ends(&rt, alloc, several, one, 5, (0, "same\n", ""));
     Ok(())
 }
@@ -102,7 +112,7 @@ fn what_fails_is_told_in_the_order_of_opening_and_reading(rt: HostRuntime) -> Re
     let first_fails = (4, "", "refused 8 Device in set 1\n");
     let second_fails = (4, "", "refused 8 Device in set 2\n");
     // What couldn't be opened is told before anything is read.
-    let good = vec![in alloc; file(&set, None)]?;
+    let good = one_file(alloc, &set)?;
     ends(
         &rt,
         alloc,
@@ -111,11 +121,11 @@ fn what_fails_is_told_in_the_order_of_opening_and_reading(rt: HostRuntime) -> Re
         100,
         second_fails,
     );
-    let unreadable = vec![in alloc; file(&set, Some(0))]?;
+    let broken = unreadable(alloc, &set, 0)?;
     ends(
         &rt,
         alloc,
-        unreadable,
+        broken,
         vec![in alloc; Opened::Failed]?,
         100,
         second_fails,
@@ -130,21 +140,21 @@ fn what_fails_is_told_in_the_order_of_opening_and_reading(rt: HostRuntime) -> Re
         first_fails,
     );
     // Both sets are read before one is judged.
-    let refused = vec![in alloc; file(b"A", None)]?;
+    let refused = one_file(alloc, b"A")?;
     ends(
         &rt,
         alloc,
         refused,
-        vec![in alloc; file(&set, Some(1))]?,
+        unreadable(alloc, &set, 1)?,
         100,
         second_fails,
     );
-    let unreadable = vec![in alloc; file(&set, Some(1))]?;
+    let broken = unreadable(alloc, &set, 1)?;
     ends(
         &rt,
         alloc,
-        unreadable,
-        vec![in alloc; file(&set, Some(1))]?,
+        broken,
+        unreadable(alloc, &set, 1)?,
         100,
         first_fails,
     );
@@ -156,8 +166,8 @@ fn a_failing_output_is_of_no_set(rt: HostRuntime) -> Result<(), Fail> {
     let alloc = rt.alloc();
     let set = lines_of(alloc, MAIN.as_slice())?;
     let other = lines_of(alloc, OTHER_ADDRESSES.as_slice())?;
-    let first = vec![in alloc; file(&set, None)]?;
-    let second = vec![in alloc; file(&set, None)]?;
+    let first = one_file(alloc, &set)?;
+    let second = one_file(alloc, &set)?;
     ends(
         &rt,
         alloc,
@@ -166,8 +176,8 @@ fn a_failing_output_is_of_no_set(rt: HostRuntime) -> Result<(), Fail> {
         4,
         (4, "same", "refused 10 WriteFault 4\n"),
     );
-    let first = vec![in alloc; file(&set, None)]?;
-    let second = vec![in alloc; file(&other, None)]?;
+    let first = one_file(alloc, &set)?;
+    let second = one_file(alloc, &other)?;
     ends(
         &rt,
         alloc,

@@ -10,8 +10,8 @@ returns-in_err-bytes-clause-stopped g c =
     let p = err_from_is_err_and c.from_residual.result c.from_residual.ensures.1 in
     let fault = c.in_err-bytes.field-0.0 in
     let told = c.in_err-bytes.ensures.refused in
-    rw (p.1, p.2) (leaves g.R.Read.remaining c.args.files.items Fingerprint _ _ fault (set_not_of_sink g.R.Read.remaining c.args.files.items fault told)
-    (kept (g.W.Write.contents c.args.out.now)) told)
+    rw (p.1, p.2) (leaves g.R.Read.remaining c.args.files.items Fingerprint _ _ fault
+    (set_not_of_sink g.R.Read.remaining c.args.files.items fault told) (kept (g.W.Write.contents c.args.out.now)) told)
 
 pub returns-in_err-write_text-clause-stopped : goal.returns-in_err-write_text-clause-stopped
 returns-in_err-write_text-clause-stopped g c =
