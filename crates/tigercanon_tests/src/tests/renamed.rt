@@ -1,7 +1,7 @@
 //! Canonical counties with the renamings onto them, of counties in memory of their own and in an arena.
 
 use super::canonical_texts::lines_of;
-use super::comparing::same_items;
+use super::comparing::{same, same_items};
 use super::linked_sets::MAIN_TURNED;
 use super::linking::{RICH, county_in_of, county_of};
 use super::sets::expanded;
@@ -51,10 +51,10 @@ fn a_county_in_an_arena_goes_the_way_of_an_owned_one(rt: HostRuntime) -> Result<
     let arena = Bump::new(alloc);
     let lent = canonise_in(alloc, admit_in(alloc, county_in_of(alloc, &arena, lines)?)?)?;
     are_alike(&rt, &owned.1, &lent.1);
-    same_items(
+    same(
         &rt,
-        &records_of(alloc, &owned.0)?,
-        &records_of_in(alloc, &lent.0)?,
+        &records_of(alloc, &owned.0)?.len(),
+        &records_of_in(alloc, &lent.0)?.len(),
     );
     let mut sink = CountedOut::new(Vec::new(alloc));
     let mut other = CountedOut::new(Vec::new(alloc));
