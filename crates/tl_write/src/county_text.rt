@@ -83,7 +83,10 @@ pub fn write_to<C: Chart, W: Sink>(county: &CanonCounty<C>, w: &mut W) -> Result
 /// # Errors
 ///
 /// Only that memory was lacking.
-pub fn records_of_in<'a>(alloc: Global, county: &CanonCountyIn<'a>) -> Result<Vec<Record>, AllocError>
+pub fn records_of_in<'a>(
+    alloc: Global,
+    county: &CanonCountyIn<'a>,
+) -> Result<Vec<Record>, AllocError>
     ensures packed { IfOk result (λ records. records.items ≡ packed (⟦<CanonCounty<CountyIn<'a>> as Chart>⟧.county county.now)) }
     ensures canonical { IfOk result (λ records. IsCanonical records.items) }
 {

@@ -10,5 +10,5 @@ returns-in_err-admit_chart-clause-refused c =
     rw (p.1, p.2) (λ records linked ne. (
       linked.0,
       subst (λ (county : County). IsFirstBrokenClause county c.in_err-admit_chart.field-0.0) (c.in_ok-county.ensures ∙ linked.1)
-      (c.in_err-admit_chart.ensures.broken ne),
+          (c.in_err-admit_chart.ensures.broken ne),
     ))
