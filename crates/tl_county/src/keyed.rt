@@ -1,6 +1,6 @@
 //! Lists of what has a key, in the order of their keys.
 
-ghost use Rattle.std.specs.Prelude.{◌≡◌, List, map, filter, not, false, Some, OnOk, IfOk, IfSome, IsPermutation, slice_get, is_some};
+ghost use Rattle.std.specs.Prelude.{◌≡◌, List, map, filter, not, false, true, Some, OnOk, IfOk, IfSome, IsPermutation, slice_get, is_some};
 ghost use Rattle.std.specs.Ordering.{on, is_eq, is_gt, is_lt};
 ghost use Rattle.std.specs.declared.cmp.Ordering.TheVariants.{Equal};
 ghost use Rattle.tl_county.specs.Keyed.{IsLeastPassing, is_repeated, is_unknown};
@@ -25,12 +25,23 @@ pub trait Keyed<K: Ord + Copy> {
         ensures { result ≡ key_of self.now };
 }
 
-/// Puts the items in the order of their keys, in linear time where they are in order already.
+/// Whether the items stand in the order of their keys.
+fn are_in_order<K: Ord + Copy, T: Keyed<K>>(items: &[T]) -> bool
+    ensures { result ≡ true → IsInOrder (on T.key_of K.cmp) items.now }
+{
+    items.is_sorted_by(|item, next| item.key().cmp(&next.key()).is_le())
+}
+
+/// Puts the items in the order of their keys. Where they are in order already it takes linear time and no memory; else their
+/// keys are sorted, and each item is moved to its place once.
 pub fn put_in_order<K: Ord + Copy, T: Keyed<K>>(items: &mut Vec<T>) -> Result<(), AllocError>
     ensures permutation { IsPermutation items.old.items items.new.items }
     ensures in_order { OnOk result (IsInOrder (on T.key_of K.cmp) items.new.items) }
 {
-    items.sort_by_key(|item| item.key())
+    if are_in_order::<K, T>(items) {
+        return Ok(());
+    }
+    items.sort_by_cached_key(|item| item.key())
 }
 
 /// Puts keys in order. It takes no memory.
