@@ -18,6 +18,7 @@ pub mod RuleOrders
 pub mod RuleTests
 pub mod TlidsInOrder
 pub mod CenidNumbers
+pub mod PolygonNumbers
 pub mod GatheredLists
 pub mod EntryLists
 pub mod Places

@@ -13,6 +13,7 @@ pub mod TheCountyOver
 pub mod ChartWords
 pub mod CountyProps
 pub mod PolygonKeys
+pub mod PolygonNumbers
 pub mod BodyOrder
 pub mod County
 pub mod CountyRules

@@ -8,7 +8,8 @@ ghost use Rattle.tl_county.specs.PolygonKeys.{key_cmp, key_on};
 ghost use Rattle.tl_county.specs.SequenceKeys.{sequence_cmp, uses_of};
 
 use crate::keyed::{Keyed, keys_of, put_in_order, sort_keys};
-use crate::record_keys::{LandmarkKey, LinkKey, PolygonKey, sort_polygons};
+use crate::polygon_numbers::polygons_in_order;
+use crate::record_keys::{LandmarkKey, LinkKey, PolygonKey};
 use std::alloc::{AllocError, Global};
 use tl_layout::{Rec1, Rec2, Rec4, Rec5, Rec6, Rec7, Rec8, RecI, RecP, Side, Tables};
 
@@ -58,9 +59,8 @@ pub(crate) fn linked_polygons(alloc: Global, links: &[Rec8]) -> Result<Vec<Polyg
     ensures in_order { IfOk result (λ keys. IsInOrder key_cmp keys.items) }
     ensures same { IfOk result (λ keys. IsPermutation (map eight_key links.now) keys.items) }
 {
-    let mut keys = keys_of::<PolygonKey, Rec8>(alloc, links)?;
-    sort_polygons(&mut keys);
-    Ok(keys)
+    let keys = keys_of::<PolygonKey, Rec8>(alloc, links)?;
+    polygons_in_order(alloc, &keys)
 }
 
 /// Adds the polygon on a side, if there is one.
@@ -101,8 +101,8 @@ pub(crate) fn polygon_keys(
 ) -> Result<Vec<PolygonKey>, AllocError>
     ensures { IfOk result (λ keys. keys.items ≡ distinct key_cmp (flat_map side_keys sides.now ++ map p_key points.now)) }
 {
-    let mut keys = gather_polygons(alloc, sides, points)?;
-    sort_polygons(&mut keys);
+    let gathered = gather_polygons(alloc, sides, points)?;
+    let mut keys = polygons_in_order(alloc, &gathered)?;
     keys.dedup_by(|later, kept| later.cmp(&kept).is_eq());
     Ok(keys)
 }

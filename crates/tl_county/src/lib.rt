@@ -20,6 +20,7 @@ mod lent;
 mod linked_records;
 mod linking;
 mod owned;
+mod polygon_numbers;
 mod record_keys;
 mod rules;
 mod table;
@@ -39,4 +40,5 @@ pub use laws::{
 };
 pub use linked_records::{LinkedRecords, link_in_order};
 pub use linking::{link, link_in, link_tables, link_tables_in};
-pub use record_keys::{PolygonKey, sort_polygons};
+pub use polygon_numbers::polygons_in_order;
+pub use record_keys::PolygonKey;

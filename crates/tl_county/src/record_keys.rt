@@ -1,43 +1,23 @@
 //! The keys that order records, and the records' keys.
 
-ghost use Rattle.std.specs.Prelude.{◌≡◌, ◌<◌, IsPermutation, length};
+ghost use Rattle.std.specs.Prelude.{◌≡◌, ◌<◌, length};
 ghost use Rattle.std.specs.List.{AllByRecursion};
-ghost use Rattle.tl_county.specs.Orders.{IsInOrder};
-ghost use Rattle.tl_county.specs.PolygonKeys.{key_cmp, number_after};
+ghost use Rattle.tl_county.specs.PolygonKeys.{number_after};
 
 use crate::keyed::{Key, Keyed};
-use std::cmp::Ordering;
 use tl_layout::{Point, Rec1, Rec2, Rec4, Rec5, Rec6, Rec7, Rec8, RecI, RecP};
 
 /// The key of a polygon: its CENID, and its POLYID under that CENID.
 pub type PolygonKey = ([u8; 5], u64);
 
 /// The bytes of a CENID as one number, the first the highest.
-fn cenid_number(cenid: [u8; 5]) -> u64
+pub(crate) fn cenid_number(cenid: [u8; 5]) -> u64
     ensures value { result ≡ number_after 0 cenid }
     ensures length { length cenid ≡ 5 }
     ensures bytes { AllByRecursion (λ byte. byte < 256) cenid }
 {
     let head = (cenid[0] as u64 * 256 + cenid[1] as u64) * 256 + cenid[2] as u64;
     (head * 256 + cenid[3] as u64) * 256 + cenid[4] as u64
-}
-
-/// How one polygon's key stands to another's; CENIDs are compared as numbers.
-fn compare_keys(key: &PolygonKey, other: &PolygonKey) -> Ordering
-    ensures { result ≡ key_cmp key.now other.now }
-{
-    match cenid_number(key.0).cmp(&cenid_number(other.0)) {
-        Ordering::Equal => key.1.cmp(&other.1),
-        unequal => unequal,
-    }
-}
-
-/// Puts the keys of polygons in order. It takes no memory.
-pub fn sort_polygons(keys: &mut Vec<PolygonKey>)
-    ensures permutation { IsPermutation keys.old.items keys.new.items }
-    ensures in_order { IsInOrder key_cmp keys.new.items }
-{
-    keys.sort_unstable_by(|key, other| compare_keys(key, other));
 }
 
 impl Key for u64 {

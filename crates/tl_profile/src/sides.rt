@@ -7,7 +7,7 @@ ghost use Rattle.tl_county.specs.PolygonKeys.{key_cmp};
 ghost use Rattle.tl_profile.specs.Sides.{key_if_bodied, keys_on, keys_with_body, polygon_refused};
 
 use std::alloc::{AllocError, Global};
-use tl_county::{Chart, PolygonKey, least_unknown, sort_polygons};
+use tl_county::{Chart, PolygonKey, least_unknown, polygons_in_order};
 use tl_layout::Side;
 
 /// Adds the polygon on a side, if there is one.
@@ -73,8 +73,8 @@ pub(crate) fn least_without_chain<C: Chart>(
 ) -> Result<Option<PolygonKey>, AllocError>
     ensures { IfOk result (IsLeastPassing key_cmp (polygon_refused (C.county chart.now))) }
 {
-    let mut sides = polygons_on_sides(alloc, chart)?;
-    sort_polygons(&mut sides);
+    let met = polygons_on_sides(alloc, chart)?;
+    let sides = polygons_in_order(alloc, &met)?;
     let bodies = polygons_with_body(alloc, chart)?;
     Ok(least_unknown::<PolygonKey, PolygonKey, PolygonKey>(&bodies, &sides))
 }

@@ -8,8 +8,9 @@ use Rattle.tl_county.proofs.gathered.polygon_keys.Goals as goal
 
 pub returns : goal.returns
 returns c =
+    let ordered = c.in_ok-keys.keys.items in
     dedup_same _ (λ x y. is_eq (key_cmp x y)) _
-    (λ x y b f' x' y' k. search rules) c.sort_polygons.new.keys.items c.dedup_by.new.self.items c.dedup_by.ensures.filtered
-    ∙ dedup-distinct key_keys c.sort_polygons.new.keys.items c.sort_polygons.ensures.in_order
-    ∙ distinct-permuted key_keys c.in_ok-keys.keys.items c.sort_polygons.new.keys.items c.sort_polygons.ensures.permutation
-    ∙ ap (distinct key_cmp) c.in_ok-keys.ensures
+    (λ x y b f' x' y' k. search rules) ordered c.dedup_by.new.self.items c.dedup_by.ensures.filtered
+    ∙ dedup-distinct key_keys ordered c.in_ok-keys.ensures.in_order
+    ∙ distinct-permuted key_keys c.deref.result.now ordered c.in_ok-keys.ensures.permutation
+    ∙ ap (distinct key_cmp) (c.deref.ensures.value ∙ c.in_ok-gathered.ensures)
