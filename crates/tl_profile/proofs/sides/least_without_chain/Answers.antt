@@ -1,4 +1,4 @@
-use Rattle.std.proofs.Common.{◌&&◌, not, map, sym, ◌∙◌, subst, IsPermutation}
+use Rattle.std.proofs.Common.{◌≡◌, ◌&&◌, not, map, sym, ◌∙◌, subst, IsPermutation}
 use Rattle.tl_county.specs.CountyRules.{polygons_along}
 use Rattle.tl_county.specs.Keyed.{IsLeastPassing, is_unknown}
 use Rattle.tl_county.specs.Orders.{IsInOrder, stands_in}
@@ -11,17 +11,18 @@ use Rattle.tl_profile.proofs.sides.least_without_chain.Goals as goal
 pub least_unknown-requires-clause-items : goal.least_unknown-requires-clause-items
 least_unknown-requires-clause-items g c =
     let county = g.C.Chart.county c.args.chart.now in
-    subst (IsInOrder key_cmp) (sym (c.deref.ensures.value ∙ c.in_ok-bodies.ensures))
+    subst (IsInOrder key_cmp) (sym (c.deref-2.ensures.value ∙ c.in_ok-bodies.ensures))
     (bodies_in_order county (g.met.C.Chart.is_county c.args.chart.now))
 
 pub returns : goal.returns
 returns g c =
     let county = g.C.Chart.county c.args.chart.now in
     let bodies = c.in_ok-bodies.bodies.items in
-    let sides = c.sort_polygons.new.keys.items in
-    let permuted = subst (λ l. IsPermutation l sides) c.in_ok-sides.ensures c.sort_polygons.ensures.permutation in
+    let sides = c.in_ok-sides.sides.items in
+    let met : c.deref.result.now ≡ polygons_along county.chains = c.deref.ensures.value ∙ c.in_ok-met.ensures in
+    let permuted = subst (λ l. IsPermutation l sides) met c.in_ok-sides.ensures.permutation in
     least-same key_cmp (is_unknown key_cmp (map (λ k. k) bodies) (map (λ k. k) sides))
     (λ key. has_body county key && not (stands_in key_cmp key (polygons_along county.chains)))
     (same_unknown county sides permuted bodies c.in_ok-bodies.ensures) c.least_unknown.result
     (at_lists (λ xs ys. IsLeastPassing key_cmp (is_unknown key_cmp (map (λ k. k) xs) (map (λ k. k) ys)) c.least_unknown.result)
-    c.deref.ensures.value c.deref-2.ensures.value c.least_unknown.ensures)
+    c.deref-2.ensures.value c.deref-3.ensures.value c.least_unknown.ensures)
