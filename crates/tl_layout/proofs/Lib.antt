@@ -1,4 +1,5 @@
 pub mod NumberLemmas
+pub mod Words
 pub mod Writes
 pub mod PlaceSteps
 pub mod PlaceWrites

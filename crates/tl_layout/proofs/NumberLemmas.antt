@@ -13,10 +13,4 @@ digit_fits v d i h g k =
     let most = pow-le-pow_right {n = 10} (lit< tt) {i = i + 1} {j = 19} (omega arith) in
     omega arith
 
--- sixteen bytes fit 64 bits, whatever they are taken to be the digits of
-pub any_byte_fits : (v d i : ℕ) → v + 29 ≤ 29 * 10 ^ i → d < 256 → i < 16 → 10 * v + d < 2 ^ 64
-any_byte_fits v d i h g k =
-    let most = pow-le-pow_right {n = 10} (lit< tt) {i = i} {j = 15} (omega arith) in
-    omega arith
-
 pub ruleset stepping = (digit_more)
