@@ -1,7 +1,7 @@
 //! Coordinates: longitudes and latitudes in millionths of a degree.
 
 ghost use Rattle.std.specs.Prelude.{◌≡◌, ◌≤◌, ◌-◌, length, IfSome};
-ghost use Rattle.tl_layout.specs.CoordinateReading.{plus_of, minus_of, magnitude_of, coordinate_of};
+ghost use Rattle.tl_layout.specs.CoordinateReading.{plus_of, minus_of, magnitude_of, signed_of, coordinate_of};
 ghost use Rattle.tl_layout.specs.FieldTexts.{sign_of, coordinate_text, digits_text};
 
 use crate::number::{digits, trim_start};
@@ -18,6 +18,7 @@ pub enum Coordinate {
 }
 
 /// The magnitude that one digit or more spell.
+#[inline(always)]
 #[tactic(auto, unfolding(crate::specs::CoordinateReading::magnitude_of))]
 fn magnitude(text: &[u8], limit: u32) -> Option<u32>
     requires { length text.now ≤ 19 }
@@ -45,6 +46,7 @@ fn magnitude(text: &[u8], limit: u32) -> Option<u32>
 }
 
 /// The coordinate of this magnitude, with a plus.
+#[inline(always)]
 fn plus(magnitude: Option<u32>) -> Coordinate
     requires { IfSome magnitude (λ magnitude. magnitude ≤ 999999999) }
     ensures { result ≡ plus_of magnitude }
@@ -56,6 +58,7 @@ fn plus(magnitude: Option<u32>) -> Coordinate
 }
 
 /// The coordinate of this magnitude, with a minus.
+#[inline(always)]
 fn minus(magnitude: Option<u32>) -> Coordinate
     requires { IfSome magnitude (λ magnitude. magnitude ≤ 999999999) }
     ensures { result ≡ minus_of magnitude }
@@ -66,18 +69,33 @@ fn minus(magnitude: Option<u32>) -> Coordinate
     }
 }
 
+/// What a coordinate's field holds, behind the blanks in front of it.
+#[tactic(auto, unfolding(crate::specs::CoordinateReading::signed_of))]
+fn read_trimmed(text: &[u8], limit: u32) -> Coordinate
+    requires len { length text.now ≤ 19 }
+    requires within { limit ≤ 999999999 }
+    ensures { result ≡ signed_of limit text.now }
+{
+    match text {
+        [] => Coordinate::Blank,
+        [b'+', digits @ ..] => plus(magnitude(digits, limit)),
+        [b'-', digits @ ..] => minus(magnitude(digits, limit)),
+        digits => plus(magnitude(digits, limit)),
+    }
+}
+
 /// What a coordinate's field holds, whose magnitude may be up to the limit.
+#[inline(always)]
 #[tactic(auto, unfolding(crate::specs::CoordinateReading::coordinate_of, crate::specs::CoordinateReading::signed_of))]
 pub fn read_coordinate(field: &[u8], limit: u32) -> Coordinate
     requires len { length field.now ≤ 19 }
     requires within { limit ≤ 999999999 }
     ensures { result ≡ coordinate_of limit field.now }
 {
-    match trim_start(field) {
-        [] => Coordinate::Blank,
+    match field {
         [b'+', text @ ..] => plus(magnitude(text, limit)),
         [b'-', text @ ..] => minus(magnitude(text, limit)),
-        text => plus(magnitude(text, limit)),
+        _ => read_trimmed(trim_start(field), limit),
     }
 }
 

@@ -108,6 +108,7 @@ fn usual_number(field: &[u8]) -> Option<u64>
 }
 
 /// The number of digits that nothing but blanks may follow.
+#[inline(always)]
 pub fn digits(field: &[u8]) -> Option<u64>
     requires { length field.now ≤ 19 }
     ensures { result ≡ number_after 0 field.now }
