@@ -1,5 +1,6 @@
 pub mod NumberLemmas
 pub mod Words
+pub mod Columns
 pub mod Writes
 pub mod PlaceSteps
 pub mod PlaceWrites

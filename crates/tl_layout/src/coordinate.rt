@@ -4,6 +4,7 @@ ghost use Rattle.std.specs.Prelude.{◌≡◌, ◌≤◌, ◌-◌, length, IfSom
 ghost use Rattle.tl_layout.specs.CoordinateReading.{plus_of, minus_of, magnitude_of, signed_of, coordinate_of};
 ghost use Rattle.tl_layout.specs.FieldTexts.{sign_of, coordinate_text, digits_text};
 
+use crate::digits::{put_behind, put_eight_digits};
 use crate::number::{digits, trim_start};
 
 /// What a coordinate's field holds.
@@ -100,16 +101,18 @@ pub fn read_coordinate(field: &[u8], limit: u32) -> Coordinate
 }
 
 /// Writes the last digits of a number, as many as there is room for.
-#[tactic(auto, unfolding(crate::specs::FieldTexts::digits_text))]
+#[inline(always)]
+#[tactic(auto, using(crate::proofs::Columns::behind_zeros))]
 fn put_digits(out: &mut [u8], number: u32)
     ensures { out.new ≡ digits_text (length out.old) number }
 {
-    let mut left = number;
-    let mut i = out.len();
-    while i > 0 {
-        i -= 1;
-        out[i] = b'0' + (left % 10) as u8;
-        left /= 10;
+    match out.len() {
+        8 => put_eight_digits(out, number % 100_000_000),
+        9 => {
+            out[0] = b'0' + (number / 100_000_000 % 10) as u8;
+            put_eight_digits(&mut out[1..], number % 100_000_000);
+        }
+        _ => put_behind(out, b'0', u64::from(number)),
     }
 }
 

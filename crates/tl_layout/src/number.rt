@@ -6,6 +6,7 @@ ghost use Rattle.tl_layout.specs.NumberField.{is_blank, is_digit};
 ghost use Rattle.tl_layout.specs.NumberReading.{drop_blanks, number_after, number_of};
 ghost use Rattle.tl_layout.specs.FieldTexts.{number_text};
 
+use crate::digits::{put_behind, put_eight_columns, put_eight_digits};
 use std::simd::prelude::*;
 
 /// What is left of a field behind the blanks in front.
@@ -152,19 +153,34 @@ pub fn number(field: &[u8]) -> Option<u64>
 }
 
 /// Writes a number right justified, blanks for 0.
-#[tactic(auto, unfolding(crate::specs::FieldTexts::number_text))]
+#[inline(always)]
+#[tactic(auto, using(crate::proofs::Columns::behind_blanks))]
 pub fn put_number(out: &mut [u8], number: u64)
     ensures { out.new ≡ number_text (length out.old) number }
 {
-    let mut left = number;
-    let mut i = out.len();
-    while i > 0 {
-        i -= 1;
-        out[i] = if left == 0 {
-            b' '
-        } else {
-            b'0' + (left % 10) as u8
-        };
-        left /= 10;
+    match out.len() {
+        8 if number < 100_000_000 => put_eight_columns(out, number as u32),
+        10 if number < 10_000_000_000 => put_ten_columns(out, number),
+        _ => put_behind(out, b' ', number),
+    }
+}
+
+/// Writes a number into ten columns, right justified, blanks for 0.
+#[inline(always)]
+fn put_ten_columns(out: &mut [u8], number: u64)
+    requires len { length out.old ≡ 10 }
+    requires below { number < 10000000000 }
+    ensures { out.new ≡ number_text 10 number }
+{
+    let high = (number / 100_000_000) as u8;
+    let low = (number % 100_000_000) as u32;
+    if high == 0 {
+        out[0] = b' ';
+        out[1] = b' ';
+        put_eight_columns(&mut out[2..], low);
+    } else {
+        out[0] = if high < 10 { b' ' } else { b'0' + high / 10 };
+        out[1] = b'0' + high % 10;
+        put_eight_digits(&mut out[2..], low);
     }
 }
