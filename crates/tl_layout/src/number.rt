@@ -40,11 +40,12 @@ fn are_digits(bytes: u8x8) -> bool
 /// The number of eight bytes, if each of them is a digit. Of neighbouring digits in a word pairs are made, of these fours,
 /// and of the fours the number.
 #[inline(always)]
-fn eight_digits(bytes: u8x8) -> Option<u64>
+pub fn eight_digits(bytes: u8x8) -> Option<u64>
     ensures value { IfSome result (λ number. number_after 0 bytes ≡ Some number) }
     // Behind other digits they go on from the number of those.
     ensures behind { IfSome result (λ number. (before : ℕ) → number_after before bytes ≡ Some (before * 100000000 + number)) }
     ensures below { IfSome result (λ number. number < 100000000) }
+    ensures begins { IfSome result (λ _. is_digit (slice_index bytes 0) ≡ true) }
 {
     if !are_digits(bytes) {
         return None;
@@ -57,8 +58,10 @@ fn eight_digits(bytes: u8x8) -> Option<u64>
 
 /// The number of nine bytes, if each of them is a digit.
 #[inline(always)]
-fn nine_digits(first: u8, rest: u8x8) -> Option<u64>
-    ensures { IfSome result (λ number. number_after 0 (first ∷ rest) ≡ Some number) }
+pub fn nine_digits(first: u8, rest: u8x8) -> Option<u64>
+    ensures value { IfSome result (λ number. number_after 0 (first ∷ rest) ≡ Some number) }
+    ensures below { IfSome result (λ number. number < 1000000000) }
+    ensures begins { IfSome result (λ _. is_digit first ≡ true) }
 {
     if first < b'0' || first > b'9' {
         return None;
@@ -66,18 +69,6 @@ fn nine_digits(first: u8, rest: u8x8) -> Option<u64>
     match eight_digits(rest) {
         Some(value) => Some(u64::from(first - b'0') * 100_000_000 + value),
         None => None,
-    }
-}
-
-/// The number of digits alone, tried at the widths that most numbers and coordinates have.
-#[inline(always)]
-fn usual_digits(field: &[u8]) -> Option<u64>
-    ensures { IfSome result (λ number. number_after 0 field.now ≡ Some number) }
-{
-    match field.len() {
-        8 => eight_digits(u8x8::from_slice(field)),
-        9 => nine_digits(field[0], u8x8::from_slice(&field[1..])),
-        _ => None,
     }
 }
 
@@ -101,28 +92,21 @@ fn usual_number(field: &[u8]) -> Option<u64>
 {
     match field.len() {
         8 => right_justified(u8x8::from_slice(field)),
-        10 if field[0] == b' ' && field[1] == b' ' => right_justified(u8x8::from_slice(
-            &field[2..],
-        )),
+        10 if field[0] == b' ' => {
+            let last = u8x8::from_slice(&field[2..]);
+            if field[1] == b' ' {
+                right_justified(last)
+            } else {
+                nine_digits(field[1], last)
+            }
+        }
         _ => None,
     }
 }
 
 /// The number of digits that nothing but blanks may follow.
-#[inline(always)]
-pub fn digits(field: &[u8]) -> Option<u64>
-    requires { length field.now ≤ 19 }
-    ensures { result ≡ number_after 0 field.now }
-{
-    match usual_digits(field) {
-        Some(value) => Some(value),
-        None => digits_before_blanks(field),
-    }
-}
-
-/// The number of digits that nothing but blanks may follow, byte by byte.
 #[tactic(auto, using(crate::proofs::NumberLemmas::stepping), unfolding(crate::specs::NumberReading::number_after))]
-fn digits_before_blanks(field: &[u8]) -> Option<u64>
+pub fn digits(field: &[u8]) -> Option<u64>
     requires { length field.now ≤ 19 }
     ensures { result ≡ number_after 0 field.now }
 {

@@ -84,3 +84,6 @@ returns-clause-below c =
     (value_at c 6) (value_at c 7) (value_is c _ _ refl refl) (digit_at c 0 (omega arith)).below (digit_at c 1 (omega arith)).below (digit_at c 2 (omega arith)).below
     (digit_at c 3 (omega arith)).below (digit_at c 4 (omega arith)).below (digit_at c 5 (omega arith)).below (digit_at c 6 (omega arith)).below
     (digit_at c 7 (omega arith)).below
+
+pub returns-clause-begins : goal.returns-clause-begins
+returns-clause-begins c = (digit_at c 0 (omega arith)).passes
