@@ -1,5 +1,5 @@
 -- Number fields: the steps of the loops that read and write them.
-use Rattle.std.proofs.Common.{◌<◌, ◌≤◌, ◌+◌, ◌*◌, ◌^◌, ℕ, arith, add-one, lit<}
+use Rattle.std.proofs.Common.{◌<◌, ◌+◌, ◌*◌, ◌^◌, ℕ, arith, add-one, lit<}
 use Rattle.std.proofs.Math.Nat.{pow-succ', pow-le-pow_right}
 
 -- one more digit keeps below one more power of ten
@@ -11,12 +11,6 @@ pub digit_fits : (v d i : ℕ) → v < 10 ^ i → d < 10 → i < 19 → 10 * v +
 digit_fits v d i h g k =
     let below = digit_more v d i h g in
     let most = pow-le-pow_right {n = 10} (lit< tt) {i = i + 1} {j = 19} (omega arith) in
-    omega arith
-
--- sixteen bytes fit 64 bits, whatever they are taken to be the digits of
-pub any_byte_fits : (v d i : ℕ) → v + 29 ≤ 29 * 10 ^ i → d < 256 → i < 16 → 10 * v + d < 2 ^ 64
-any_byte_fits v d i h g k =
-    let most = pow-le-pow_right {n = 10} (lit< tt) {i = i} {j = 15} (omega arith) in
     omega arith
 
 pub ruleset stepping = (digit_more)

@@ -12,6 +12,11 @@ unfoldable pub number_text : ℕ → ℕ → List ℕ
 number_text zero n = []
 number_text (suc width) n = number_text width (n / 10) ++ (if n == 0 then 32 else 48 + n % 10) ∷ []
 
+-- a number right justified in that many columns, and this byte in each column in front of its digits
+unfoldable pub text_behind : ℕ → ℕ → ℕ → List ℕ
+text_behind filler zero n = []
+text_behind filler (suc width) n = text_behind filler width (n / 10) ++ (if n == 0 then filler else 48 + n % 10) ∷ []
+
 -- that many digits, the last ones of the number
 unfoldable pub digits_text : ℕ → ℕ → List ℕ
 digits_text zero n = []

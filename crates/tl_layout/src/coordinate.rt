@@ -1,10 +1,13 @@
 //! Coordinates: longitudes and latitudes in millionths of a degree.
 
-ghost use Rattle.std.specs.Prelude.{◌≡◌, ◌≤◌, ◌-◌, length, IfSome};
-ghost use Rattle.tl_layout.specs.CoordinateReading.{plus_of, minus_of, magnitude_of, coordinate_of};
+ghost use Rattle.std.specs.Prelude.{◌≡◌, ◌≤◌, ◌<◌, ◌-◌, ◌⊎◌, length, Some, IfSome};
+ghost use Rattle.tl_layout.specs.CoordinateReading.{plus_of, minus_of, magnitude_of, signed_of, coordinate_of};
+ghost use Rattle.tl_layout.specs.declared.coordinate.Coordinate.TheVariants.{Value};
 ghost use Rattle.tl_layout.specs.FieldTexts.{sign_of, coordinate_text, digits_text};
 
-use crate::number::{digits, trim_start};
+use crate::digits::{put_behind, put_eight_digits};
+use crate::number::{digits, eight_digits, nine_digits, trim_start};
+use std::simd::prelude::*;
 
 /// What a coordinate's field holds.
 #[derive(Clone, Copy, Debug, PartialEq, Eq)]
@@ -68,7 +71,7 @@ fn minus(magnitude: Option<u32>) -> Coordinate
 
 /// What a coordinate's field holds, whose magnitude may be up to the limit.
 #[tactic(auto, unfolding(crate::specs::CoordinateReading::coordinate_of, crate::specs::CoordinateReading::signed_of))]
-pub fn read_coordinate(field: &[u8], limit: u32) -> Coordinate
+fn read_coordinate(field: &[u8], limit: u32) -> Coordinate
     requires len { length field.now ≤ 19 }
     requires within { limit ≤ 999999999 }
     ensures { result ≡ coordinate_of limit field.now }
@@ -81,17 +84,81 @@ pub fn read_coordinate(field: &[u8], limit: u32) -> Coordinate
     }
 }
 
+/// The coordinate of this sign, which is told, and of this magnitude.
+#[inline(always)]
+fn signed(sign: u8, magnitude: u64) -> Option<i32>
+    requires { magnitude < 1000000000 }
+    ensures plus { IfSome result (λ value. sign ≡ 43 → Value value ≡ plus_of (Some magnitude)) }
+    ensures minus { IfSome result (λ value. sign ≡ 45 → Value value ≡ minus_of (Some magnitude)) }
+    ensures told { IfSome result (λ _. (sign ≡ 43) ⊎ (sign ≡ 45)) }
+{
+    match sign {
+        b'+' => Some(magnitude as i32),
+        b'-' => Some(-(magnitude as i32)),
+        _ => None,
+    }
+}
+
+/// The longitude in a field of a sign and nine digits.
+#[inline(always)]
+#[tactic(auto, unfolding(crate::specs::CoordinateReading::coordinate_of, crate::specs::CoordinateReading::signed_of, crate::specs::CoordinateReading::magnitude_of))]
+fn usual_longitude(field: &[u8]) -> Option<i32>
+    requires { length field.now ≡ 10 }
+    ensures { IfSome result (λ value. coordinate_of 999999999 field.now ≡ Value value) }
+{
+    signed(
+        field[0],
+        nine_digits(field[1], u8x8::from_slice(&field[2..]))?,
+    )
+}
+
+/// The latitude in a field of a sign and eight digits.
+#[inline(always)]
+#[tactic(auto, unfolding(crate::specs::CoordinateReading::coordinate_of, crate::specs::CoordinateReading::signed_of, crate::specs::CoordinateReading::magnitude_of))]
+fn usual_latitude(field: &[u8]) -> Option<i32>
+    requires { length field.now ≡ 9 }
+    ensures { IfSome result (λ value. coordinate_of 99999999 field.now ≡ Value value) }
+{
+    signed(field[0], eight_digits(u8x8::from_slice(&field[1..]))?)
+}
+
+/// The longitude that a field holds.
+#[inline(always)]
+pub fn read_longitude(field: &[u8]) -> Coordinate
+    requires { length field.now ≡ 10 }
+    ensures { result ≡ coordinate_of 999999999 field.now }
+{
+    match usual_longitude(field) {
+        Some(value) => Coordinate::Value(value),
+        None => read_coordinate(field, 999_999_999),
+    }
+}
+
+/// The latitude that a field holds.
+#[inline(always)]
+pub fn read_latitude(field: &[u8]) -> Coordinate
+    requires { length field.now ≡ 9 }
+    ensures { result ≡ coordinate_of 99999999 field.now }
+{
+    match usual_latitude(field) {
+        Some(value) => Coordinate::Value(value),
+        None => read_coordinate(field, 99_999_999),
+    }
+}
+
 /// Writes the last digits of a number, as many as there is room for.
-#[tactic(auto, unfolding(crate::specs::FieldTexts::digits_text))]
+#[inline(always)]
+#[tactic(auto, using(crate::proofs::Columns::behind_zeros))]
 fn put_digits(out: &mut [u8], number: u32)
     ensures { out.new ≡ digits_text (length out.old) number }
 {
-    let mut left = number;
-    let mut i = out.len();
-    while i > 0 {
-        i -= 1;
-        out[i] = b'0' + (left % 10) as u8;
-        left /= 10;
+    match out.len() {
+        8 => put_eight_digits(out, number % 100_000_000),
+        9 => {
+            out[0] = b'0' + (number / 100_000_000 % 10) as u8;
+            put_eight_digits(&mut out[1..], number % 100_000_000);
+        }
+        _ => put_behind(out, b'0', u64::from(number)),
     }
 }
 

@@ -10,7 +10,7 @@ ghost use Rattle.tl_layout.specs.FieldFaults.{gap};
 ghost use Rattle.tl_layout.specs.FieldReading.{number_at, number_or_none_at, point_at, point_or_none_at};
 ghost use Rattle.tl_layout.specs.FieldFaults.{bad_point};
 
-use crate::coordinate::{Coordinate, put_coordinate, read_coordinate};
+use crate::coordinate::{Coordinate, read_latitude, read_longitude};
 use crate::fault::{FieldFault, FieldKind};
 use crate::layout::LONGEST_LINE;
 use crate::number::{number, put_number};
@@ -100,8 +100,8 @@ pub fn read_point_or_none(line: &[u8], column: usize) -> Result<Option<Point>, F
     requires within { (column + 18 ≤ length line.now) × (column + 18 ≤ LONGEST_LINE) }
     ensures { result ≡ point_or_none_at column line.now }
 {
-    let long = read_coordinate(&line[column - 1..column + 9], 999_999_999);
-    let lat = read_coordinate(&line[column + 9..column + 18], 99_999_999);
+    let long = read_longitude(&line[column - 1..column + 9]);
+    let lat = read_latitude(&line[column + 9..column + 18]);
     match (long, lat) {
         (Coordinate::Malformed, _) => Err(bad_point(column)),
         (_, Coordinate::Malformed) => Err(bad_point(column + 10)),

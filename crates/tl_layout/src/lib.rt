@@ -2,6 +2,7 @@
 #![tactic(auto)]
 
 mod coordinate;
+mod digits;
 mod fault;
 mod field;
 mod laws;

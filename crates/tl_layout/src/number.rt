@@ -1,10 +1,13 @@
 //! Number fields.
 
-ghost use Rattle.std.specs.Prelude.{◌≡◌, ◌≤◌, length, Some, IfSome};
+ghost use Rattle.std.specs.Prelude.{◌≡◌, ◌≤◌, ◌<◌, ◌+◌, ◌*◌, ◌∷◌, ℕ, length, slice_index, true, IsTrue, Some, IfSome};
 ghost use Rattle.std.specs.List.{list_all};
-ghost use Rattle.tl_layout.specs.NumberField.{is_blank};
+ghost use Rattle.tl_layout.specs.NumberField.{is_blank, is_digit};
 ghost use Rattle.tl_layout.specs.NumberReading.{drop_blanks, number_after, number_of};
 ghost use Rattle.tl_layout.specs.FieldTexts.{number_text};
+
+use crate::digits::{put_behind, put_eight_columns, put_eight_digits};
+use std::simd::prelude::*;
 
 /// What is left of a field behind the blanks in front.
 pub fn trim_start(field: &[u8]) -> &[u8]
@@ -25,47 +28,85 @@ pub fn is_blank(field: &[u8]) -> bool
     field.iter().all(|byte| *byte == b' ')
 }
 
-/// The number of these bytes, if each of them is a digit. They are looked at without a branch.
-#[tactic(auto, unfolding(crate::specs::NumberReading::number_after))]
-fn digits_alone<const N: usize>(field: &[u8; N]) -> Option<u64>
-    requires { N ≤ 16 }
-    ensures { IfSome result (λ number. number_after 0 field.now ≡ Some number) }
+/// Whether each of eight bytes is a digit.
+#[inline(always)]
+fn are_digits(bytes: u8x8) -> bool
+    ensures { IsTrue result → (k : ℕ) → k < 8 → is_digit (slice_index bytes k) ≡ true }
 {
-    let mut value = 0;
-    let mut greatest = 0;
-    for i in 0..N {
-        let digit = field[i].wrapping_sub(b'0');
-        greatest = greatest.max(digit);
-        value = 10 * value + u64::from(digit);
-    }
-    if greatest <= 9 { Some(value) } else { None }
+    let values = bytes - u8x8::splat(b'0');
+    values.simd_lt(u8x8::splat(10)).to_bitmask() == 0xff
 }
 
-/// The number of digits alone, tried at the widths that most numbers and coordinates have.
-fn usual_digits(field: &[u8]) -> Option<u64>
-    ensures { IfSome result (λ number. number_after 0 field.now ≡ Some number) }
+/// The number of eight bytes, if each of them is a digit. Of neighbouring digits in a word pairs are made, of these fours,
+/// and of the fours the number.
+#[inline(always)]
+pub fn eight_digits(bytes: u8x8) -> Option<u64>
+    ensures value { IfSome result (λ number. number_after 0 bytes ≡ Some number) }
+    // Behind other digits they go on from the number of those.
+    ensures behind { IfSome result (λ number. (before : ℕ) → number_after before bytes ≡ Some (before * 100000000 + number)) }
+    ensures below { IfSome result (λ number. number < 100000000) }
+    ensures begins { IfSome result (λ _. is_digit (slice_index bytes 0) ≡ true) }
+{
+    if !are_digits(bytes) {
+        return None;
+    }
+    let ones = u64::from_le_bytes(bytes.to_array()) - 0x3030_3030_3030_3030;
+    let pairs = (10 * ones + (ones >> 8)) & 0x00ff_00ff_00ff_00ff;
+    let fours = (100 * pairs + (pairs >> 16)) & 0x0000_ffff_0000_ffff;
+    Some((10_000 * fours + (fours >> 32)) & 0xffff_ffff)
+}
+
+/// The number of nine bytes, if each of them is a digit.
+#[inline(always)]
+pub fn nine_digits(first: u8, rest: u8x8) -> Option<u64>
+    ensures value { IfSome result (λ number. number_after 0 (first ∷ rest) ≡ Some number) }
+    ensures below { IfSome result (λ number. number < 1000000000) }
+    ensures begins { IfSome result (λ _. is_digit first ≡ true) }
+{
+    if first < b'0' || first > b'9' {
+        return None;
+    }
+    match eight_digits(rest) {
+        Some(value) => Some(u64::from(first - b'0') * 100_000_000 + value),
+        None => None,
+    }
+}
+
+/// The number of eight columns with blanks in front and digits up to the last of them, or with blanks alone.
+#[inline(always)]
+fn right_justified(bytes: u8x8) -> Option<u64>
+    ensures { IfSome result (λ number. number_of bytes ≡ Some number) }
+{
+    let blanks = bytes.simd_eq(u8x8::splat(b' '));
+    let mask = blanks.to_bitmask();
+    if mask & (mask + 1) != 0 {
+        return None;
+    }
+    eight_digits(blanks.select(u8x8::splat(b'0'), bytes))
+}
+
+/// The number that a field spells, tried in the form and at the widths that most fields have.
+#[inline(always)]
+fn usual_number(field: &[u8]) -> Option<u64>
+    ensures { IfSome result (λ number. number_of field.now ≡ Some number) }
 {
     match field.len() {
-        8 => digits_alone(field.first_chunk::<8>()?),
-        9 => digits_alone(field.first_chunk::<9>()?),
+        8 => right_justified(u8x8::from_slice(field)),
+        10 if field[0] == b' ' => {
+            let last = u8x8::from_slice(&field[2..]);
+            if field[1] == b' ' {
+                right_justified(last)
+            } else {
+                nine_digits(field[1], last)
+            }
+        }
         _ => None,
     }
 }
 
 /// The number of digits that nothing but blanks may follow.
-pub fn digits(field: &[u8]) -> Option<u64>
-    requires { length field.now ≤ 19 }
-    ensures { result ≡ number_after 0 field.now }
-{
-    match usual_digits(field) {
-        Some(value) => Some(value),
-        None => digits_before_blanks(field),
-    }
-}
-
-/// The number of digits that nothing but blanks may follow, byte by byte.
 #[tactic(auto, using(crate::proofs::NumberLemmas::stepping), unfolding(crate::specs::NumberReading::number_after))]
-fn digits_before_blanks(field: &[u8]) -> Option<u64>
+pub fn digits(field: &[u8]) -> Option<u64>
     requires { length field.now ≤ 19 }
     ensures { result ≡ number_after 0 field.now }
 {
@@ -89,23 +130,41 @@ pub fn number(field: &[u8]) -> Option<u64>
     requires { length field.now ≤ 19 }
     ensures { result ≡ number_of field.now }
 {
-    digits(trim_start(field))
+    match usual_number(field) {
+        Some(value) => Some(value),
+        None => digits(trim_start(field)),
+    }
 }
 
 /// Writes a number right justified, blanks for 0.
-#[tactic(auto, unfolding(crate::specs::FieldTexts::number_text))]
+#[inline(always)]
+#[tactic(auto, using(crate::proofs::Columns::behind_blanks))]
 pub fn put_number(out: &mut [u8], number: u64)
     ensures { out.new ≡ number_text (length out.old) number }
 {
-    let mut left = number;
-    let mut i = out.len();
-    while i > 0 {
-        i -= 1;
-        out[i] = if left == 0 {
-            b' '
-        } else {
-            b'0' + (left % 10) as u8
-        };
-        left /= 10;
+    match out.len() {
+        8 if number < 100_000_000 => put_eight_columns(out, number as u32),
+        10 if number < 10_000_000_000 => put_ten_columns(out, number),
+        _ => put_behind(out, b' ', number),
+    }
+}
+
+/// Writes a number into ten columns, right justified, blanks for 0.
+#[inline(always)]
+fn put_ten_columns(out: &mut [u8], number: u64)
+    requires len { length out.old ≡ 10 }
+    requires below { number < 10000000000 }
+    ensures { out.new ≡ number_text 10 number }
+{
+    let high = (number / 100_000_000) as u8;
+    let low = (number % 100_000_000) as u32;
+    if high == 0 {
+        out[0] = b' ';
+        out[1] = b' ';
+        put_eight_columns(&mut out[2..], low);
+    } else {
+        out[0] = if high < 10 { b' ' } else { b'0' + high / 10 };
+        out[1] = b'0' + high % 10;
+        put_eight_digits(&mut out[2..], low);
     }
 }

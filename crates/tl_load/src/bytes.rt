@@ -19,18 +19,23 @@ pub fn first_bad(bytes: &[u8]) -> Option<usize>
     bytes.iter().position(|byte| !is_allowed_byte(*byte))
 }
 
-/// A line may hold each of the bytes: they are tested 32 at a time, and those that are left one by one.
+/// A line may hold each of the bytes: they are tested 32 at a time, the last of them with those before them, and fewer than
+/// 32 one by one.
 fn is_clean(bytes: &[u8]) -> bool
     ensures { IsTrue result → AreAllowed bytes.now }
 {
+    let len = bytes.len();
+    if len < LANES {
+        return are_clean(bytes);
+    }
     let mut at = 0;
-    while bytes.len() - at >= LANES {
+    while len - at >= LANES {
         if !is_clean_block(bytes, at) {
             return false;
         }
         at += LANES;
     }
-    are_clean_after(bytes, at)
+    is_clean_block(bytes, len - LANES)
 }
 
 /// A line may hold the 32 bytes from this place on. Nothing is said where one is bad.
@@ -46,12 +51,11 @@ fn is_clean_block(bytes: &[u8], at: usize) -> bool
     below_blank == 0 && below_delete == below_latin
 }
 
-/// A line may hold each of the bytes from this place on.
-fn are_clean_after(bytes: &[u8], at: usize) -> bool
-    requires { at ≤ length bytes.now }
-    ensures { IsTrue result → (k : ℕ) → at ≤ k → k < length bytes.now → is_allowed (slice_index bytes.now k) ≡ true }
+/// A line may hold each of the bytes: they are tested one by one.
+fn are_clean(bytes: &[u8]) -> bool
+    ensures { IsTrue result → (k : ℕ) → k < length bytes.now → is_allowed (slice_index bytes.now k) ≡ true }
 {
-    for i in at..bytes.len() {
+    for i in 0..bytes.len() {
         if !is_allowed_byte(bytes[i]) {
             return false;
         }

@@ -1,7 +1,7 @@
 -- Fewer than nineteen digits stand before a digit, so it fits with them.
 use Rattle.std.proofs.Common.{arith}
 use Rattle.tl_layout.proofs.NumberLemmas.{digit_fits}
-use Rattle.tl_layout.proofs.number.digits_before_blanks.Goals as goal
+use Rattle.tl_layout.proofs.number.digits.Goals as goal
 
 pub overflow_mul-value : goal.overflow_mul-value
 overflow_mul-value c =

@@ -1,6 +1,6 @@
 use Rattle.std.proofs.Common.{◌≡◌, ◌<◌, ◌^◌, drop}
 use Rattle.tl_layout.specs.NumberReading.{number_after}
-use Rattle.tl_layout.proofs.number.digits_before_blanks.Given as goal
+use Rattle.tl_layout.proofs.number.digits.Given as goal
 
 abbrev pub invariant-loop-i : goal.invariant-loop-i
 invariant-loop-i l = record {

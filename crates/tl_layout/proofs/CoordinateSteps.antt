@@ -1,0 +1,43 @@
+-- A coordinate of a sign and digits alone.
+use Rattle.std.proofs.Common.{◌≡◌, ℕ, ◌≤◌, ◌⊎◌, inl, inr, true, List, [], ◌∷◌, length, get_or, ℤ, Option, Some, None, IfSome, refl, sym, ap, ◌∙◌, arith}
+use Rattle.std.proofs.lemmas.Bool.{le-leb}
+use Rattle.std.proofs.lemmas.List.{take_all}
+use Rattle.tl_layout.specs.CoordinateReading.{plus_of, minus_of, magnitude_of, signed_of, coordinate_of}
+use Rattle.tl_layout.specs.NumberField.{is_digit}
+use Rattle.tl_layout.specs.NumberReading.{number_after}
+use Rattle.tl_layout.specs.declared.coordinate.Coordinate.TheVariants.{Value}
+use lib.Lanes.{chunk}
+
+-- a number that begins with a digit and is within the limit is a magnitude
+magnitude_is : (limit m : ℕ) (text : List ℕ) → is_digit (get_or text 0 0) ≡ true → number_after 0 text ≡ Some m → m ≤ limit
+    → magnitude_of limit text ≡ Some m
+unfolding magnitude_of
+magnitude_is limit m [] d n h = (cc)
+magnitude_is limit m (first ∷ rest) d n h = rw (d, n, le-leb m limit h) refl
+
+-- the coordinate of a sign and a magnitude
+signed_is : (limit m sign : ℕ) (text : List ℕ) (value : ℤ) → is_digit (get_or text 0 0) ≡ true → number_after 0 text ≡ Some m → m ≤ limit
+    → (sign ≡ 43 → Value value ≡ plus_of (Some m)) → (sign ≡ 45 → Value value ≡ minus_of (Some m)) → (sign ≡ 43) ⊎ (sign ≡ 45)
+    → coordinate_of limit (sign ∷ text) ≡ Value value
+unfolding coordinate_of signed_of
+signed_is limit m sign text value d n h plus minus (inl e) = rw e (ap plus_of (magnitude_is limit m text d n h) ∙ sym (plus e))
+signed_is limit m sign text value d n h plus minus (inr e) = rw e (ap minus_of (magnitude_is limit m text d n h) ∙ sym (minus e))
+
+-- the same of what was found, if anything was
+pub found_is : (limit m sign : ℕ) (text field : List ℕ) (found : Option ℤ) → field ≡ sign ∷ text → is_digit (get_or text 0 0) ≡ true
+    → number_after 0 text ≡ Some m → m ≤ limit → IfSome found (λ value. sign ≡ 43 → Value value ≡ plus_of (Some m))
+    → IfSome found (λ value. sign ≡ 45 → Value value ≡ minus_of (Some m)) → IfSome found (λ _. (sign ≡ 43) ⊎ (sign ≡ 45))
+    → IfSome found (λ value. coordinate_of limit field ≡ Value value)
+found_is limit m sign text field None is d n h plus minus told = tt
+found_is limit m sign text field (Some value) is d n h plus minus told =
+    ap (coordinate_of limit) is ∙ signed_is limit m sign text value d n h plus minus told
+
+-- a field is its first byte and those behind it
+pub first_and_eight : (field : List ℕ) → length field ≡ 9 → field ≡ get_or field 0 0 ∷ chunk 1 8 field
+first_and_eight [] l = absurd (omega arith)
+first_and_eight (x ∷ xs) l = ap (λ (rest : List ℕ). x ∷ rest) (sym (take_all 8 xs (omega arith)))
+
+pub two_and_eight : (field : List ℕ) → length field ≡ 10 → field ≡ get_or field 0 0 ∷ get_or field 1 0 ∷ chunk 2 8 field
+two_and_eight [] l = absurd (omega arith)
+two_and_eight (x ∷ []) l = absurd (omega arith)
+two_and_eight (x ∷ y ∷ xs) l = ap (λ (rest : List ℕ). x ∷ y ∷ rest) (sym (take_all 8 xs (omega arith)))

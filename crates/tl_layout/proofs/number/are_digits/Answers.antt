@@ -1,0 +1,18 @@
+use Rattle.std.proofs.Common.{◌≡◌, ◌+◌, ◌-◌, ◌%◌, ◌^◌, ℕ, length, map, replicate, get_or, ltb, sym, ap, ◌∙◌, arith, lit≤, w8}
+use Rattle.std.proofs.lemmas.Bool.{eqb-true}
+use Rattle.std.proofs.lemmas.Simd.{bitmask_splat, length-zip2, zip2_splat, map-map, Each1-get_or}
+use mir.Val.{Fits}
+use Rattle.tl_layout.proofs.Words.{full_mask, digit_from}
+use lib.Lanes.{mask_l, zip2}
+use Rattle.tl_layout.proofs.number.are_digits.Goals as goal
+
+pub returns : goal.returns
+returns c full k lt =
+    let bytes = c.args.bytes in
+    let below = λ (b : ℕ). (b + (256 - 48)) % 256 in
+    let long : length bytes ≡ 8 = c.fits-bytes.0 in
+    let values : zip2 (λ a b. (a + (256 - b)) % 256) bytes (replicate 8 48) ≡ map below bytes = zip2_splat (λ a b. (a + (256 - b)) % 256) bytes 8 48 long in
+    let lanes : length (zip2 (λ a b. (a + (256 - b)) % 256) bytes (replicate 8 48)) ≡ 8 = omega (arith, length-zip2 (λ a b. (a + (256 - b)) % 256) bytes (replicate 8 48) long) in
+    let mask = sym (bitmask_splat w8 ltb (zip2 (λ a b. (a + (256 - b)) % 256) bytes (replicate 8 48)) 8 10 lanes (lit≤ tt)) ∙ eqb-true _ _ full in
+    let tested : mask_l (map (λ b. ltb (below b) 10) bytes) ≡ 255 = ap mask_l (sym (map-map (λ b. ltb b 10) below bytes) ∙ ap (map (λ b. ltb b 10)) (sym values)) ∙ mask in
+    digit_from (get_or bytes k 0) (Each1-get_or (λ b. Fits w8 b) bytes k 0 (omega arith) c.fits-bytes.1).fits (full_mask (λ b. ltb (below b) 10) bytes k 0 (ap (λ (n : ℕ). n + 1) tested ∙ ap (λ (n : ℕ). 2 ^ n) (sym long)) (omega arith))

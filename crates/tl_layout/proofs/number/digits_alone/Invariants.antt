@@ -1,9 +1,0 @@
-use Rattle.std.proofs.Common.{◌≡◌, ◌≤◌, ◌+◌, ◌*◌, ◌^◌, drop}
-use Rattle.tl_layout.specs.NumberReading.{number_after}
-use Rattle.tl_layout.proofs.number.digits_alone.Given as goal
-
-abbrev pub invariant-loop-i : goal.invariant-loop-i
-invariant-loop-i g l = record {
-  left : l.greatest ≤ 9 → number_after l.value (drop l.i l.field) ≡ number_after 0 l.field;
-  fits : l.value + 29 ≤ 29 * 10 ^ l.i;
-}

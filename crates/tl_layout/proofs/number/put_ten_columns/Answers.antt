@@ -1,0 +1,30 @@
+use Rattle.std.proofs.Common.{◌≡◌, ◌+◌, ◌/◌, ◌%◌, ◌<◌, ◌≤◌, ℕ, ◌∷◌, slice_set, length-set, ◌∙◌, ap, arith}
+use Rattle.std.proofs.lemmas.Bool.{cases_lt}
+use Rattle.tl_layout.proofs.Columns.{ten_columns_low, ten_columns_high, first_of_ten, two_then_rest}
+use Rattle.tl_layout.proofs.number.put_ten_columns.Goals as goal
+use Rattle.tl_layout.proofs.number.put_ten_columns.Goals.{then-high-lt10, else-high-lt10}
+
+pub returns-then-high-eq0 : goal.returns-then-high-eq0
+returns-then-high-eq0 c =
+    let out = c.args.out.now in
+    let n = c.args.number in
+    two_then_rest out 32 32 _ c.put_eight_columns.new.out (omega arith) (omega (arith, length-set out 0 32, length-set (slice_set out 0 32) 1 32))
+    ∙ ap (λ l. 32 ∷ 32 ∷ l) c.put_eight_columns.ensures ∙ ten_columns_low n c.if-high-eq0.true
+
+pub returns-after-high-lt10 : goal.returns-after-high-lt10
+returns-after-high-lt10 c =
+    let out = c.args.out.now in
+    let n = c.args.number in
+    let first : ℕ = c.if-high-lt10.out in
+    let second = 48 + n / 100000000 % 10 in
+    let blank : n / 100000000 < 10 → first ≡ 32 = λ lt. elim c.if-high-lt10.branch [
+      | then-high-lt10 w ↦ w.out-is
+      | else-high-lt10 w ↦ absurd (omega arith)
+    ] in
+    let digit : 10 ≤ n / 100000000 → first ≡ 48 + n / 100000000 / 10 = λ ge. elim c.if-high-lt10.branch [
+      | then-high-lt10 w ↦ absurd (omega arith)
+      | else-high-lt10 w ↦ w.out-is
+    ] in
+    two_then_rest out first second _ c.put_eight_digits.new.out (omega arith) (omega (arith, length-set out 0 first, length-set (slice_set out 0 first) 1 second))
+    ∙ ap (λ l. first ∷ second ∷ l) c.put_eight_digits.ensures
+    ∙ ten_columns_high n first (let some = c.if-high-eq0.false in omega arith) (first_of_ten n first (omega arith) (cases_lt (n / 100000000) 10) blank digit)
