@@ -19,6 +19,7 @@ pub mod CountyRules
 pub mod Renumbering
 pub mod FirstOf
 pub mod LinkRules
+pub mod TypeCharacters
 pub mod Repacked
 pub mod Packing
 pub mod Limits

@@ -17,8 +17,13 @@ pub enum LinkedType {
     I,
 }
 
-/// The number of the record type, as it stands in column 1.
+/// The character of the record type, as it stands in column 1.
 impl fmt::Display for LinkedType {
+    ghost use Rattle.std.specs.Prelude.{Some};
+    ghost use Rattle.tl_county.specs.TypeCharacters.{character_of};
+
+    ghost output = { λ rtype. Some (character_of rtype) };
+
     fn fmt<W: fmt::Write>(&self, f: &mut fmt::Formatter<W>) -> fmt::Result {
         match self {
             LinkedType::Two => write!(f, "2"),
