@@ -18,8 +18,8 @@ pub mod County
 pub mod CountyRules
 pub mod Renumbering
 pub mod FirstOf
+pub mod LinkedTypes
 pub mod LinkRules
-pub mod TypeCharacters
 pub mod Repacked
 pub mod Packing
 pub mod Limits
