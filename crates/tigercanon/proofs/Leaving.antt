@@ -1,6 +1,7 @@
 -- What a job leaves where it told a fault, and what a lent writer holds in the end.
-use Rattle.std.proofs.Common.{◌≡◌, ℕ, List, ◌∷◌, ◌++◌, Option, Some, None, refl, subst}
-use Rattle.std.specs.Prelude.{false}
+use Rattle.std.proofs.Common.{◌≡◌, ℕ, List, ◌∷◌, ◌++◌, Option, Some, None, Result, Ok, Err, length, take, append-nil, refl, sym, subst}
+use Rattle.std.proofs.Math.Seq.{take-length}
+use Rattle.std.specs.Prelude.{false, IfErr, OnOk}
 use Rattle.std.specs.Io.KnownBytes.{Appends, Keeps}
 use Rattle.tigercanon.specs.declared.command_line.Job.{Job}
 use Rattle.tigercanon.specs.declared.fault.Fault.{Fault}
@@ -8,7 +9,8 @@ use Rattle.tigercanon.specs.declared.fault.Fault.TheVariants.{Load, Link, Profil
 use Rattle.tigercanon.specs.declared.files.Opened.{Opened}
 use Rattle.tigercanon.specs.Lending.{HoldsUnderName}
 use Rattle.tigercanon.specs.Normalising.{is_of_sink}
-use Rattle.tigercanon.specs.Outcomes.{Leaves, Tells, TellsLines, TellsSet}
+use Rattle.tigercanon.specs.Outcomes.{Leaves, Tells, TellsLine, TellsLines, TellsSet}
+use Rattle.tl_write.specs.declared.fault.WriteFault.{WriteFault}
 
 pub kept : (known : Option (List ℕ)) → Keeps known known
 kept None = tt
@@ -72,3 +74,14 @@ lent_out contents start first last final name later bytes is took ends =
     go (Some xs) e =
         subst (λ w. Appends (contents first) (contents w) bytes) (ends (lent_same name later (contents first) (contents last) bytes took xs e))
         (lent_appends name later (contents first) (contents last) bytes took)
+
+-- a writer that was given a line has it, or a beginning of it
+pub line_told : (old new : Option (List ℕ)) (line : List ℕ) (outcome : Result (Unit {0}) WriteFault) → OnOk outcome (Appends old new line)
+    → IfErr outcome (λ fault. Appends old new (take fault.written line)) → TellsLine line old new
+line_told old new line (Ok done) whole stopped = (length line, subst (Appends old new) (sym (take-length line)) whole)
+line_told old new line (Err fault) whole stopped = (fault.written, stopped)
+
+-- and it has none of it where it is as it was
+pub none_told : (known : Option (List ℕ)) (line : List ℕ) → TellsLine line known known
+none_told None line = (0, tt)
+none_told (Some bytes) line = (0, sym (append-nil bytes))

@@ -4,6 +4,7 @@ pub mod Sets
 pub mod Faults
 pub mod Linked
 pub mod Statuses
+pub mod Refusals
 pub mod Outcomes
 pub mod Words
 pub mod Lending

@@ -1,6 +1,7 @@
 -- The names of the files of a set, and the plan of a command line.
-use Rattle.std.specs.Prelude.{ℕ, ◌≡◌, ◌++◌, ◌∷◌, [], List, Option, Some, None, Bool, true, false, map, codes, string_bytes}
-use Rattle.clap.specs.Words.{Row, Text, first_of, one_of, subcommand_of}
+use Rattle.std.specs.Prelude.{ℕ, ◌≡◌, ◌≢◌, ◌++◌, ◌∷◌, [], List, Option, Some, None, Bool, true, false}
+use Rattle.std.specs.Prelude.{map, codes, slice_index, string_bytes}
+use Rattle.clap.specs.Words.{Row, Text, fault_of, first_of, one_of, subcommand_of}
 use Rattle.tigercanon.specs.declared.command_line.Job.{Job}
 use Rattle.tigercanon.specs.declared.command_line.Job.TheVariants.{Respell, Normalise, Check, Fingerprint, Compare}
 use Rattle.tigercanon.specs.declared.command_line.Plan.{Plan}
@@ -49,6 +50,41 @@ abbrev pub IsPlanOf : Option (Text × List Row) → Plan → Type 0
 IsPlanOf None plan = ⊥
 IsPlanOf (Some (name, rows)) plan = (name ≡ word_of plan.job) × NamesItsSets rows plan
 
+-- the words are a command line by the grammar: reading them finds nothing at fault, and none of them asks for help
+abbrev pub AreUnderstood : List Text → Type 0
+AreUnderstood words = fault_of understood words ≡ []
+
 -- the plan is that of a command line: its job and its files are what its words say
 abbrev pub IsPlanned : List Text → Plan → Type 0
 IsPlanned words plan = IsPlanOf (subcommand_of understood words) plan
+
+-- the text doesn't begin with a hyphen
+abbrev pub IsPlain : Text → Type 0
+IsPlain text = slice_index text 0 ≢ 45
+
+-- the words of a job as its help has them: its own word, `--stem` where sets are named by their stems, and the name of each set
+abbrev pub stem_words : Bool → List Text
+stem_words false = []
+stem_words true = codes "--stem" ∷ []
+
+abbrev pub set_words : Job → Text → Text → List Text
+set_words Compare first second = first ∷ second ∷ []
+set_words job first second = first ∷ []
+
+abbrev pub usual_words : Job → Bool → Text → Text → List Text
+usual_words job is_stem first second = word_of job ∷ (stem_words is_stem ++ set_words job first second)
+
+-- the plan has the files of the sets of these names
+abbrev pub second_files : Job → Bool → Text → List Text
+second_files Compare is_stem second = files_named is_stem second
+second_files job is_stem second = []
+
+pub record HasFilesOf (is_stem : Bool) (first second : Text) (plan : Plan) : Type 0 where
+  pub first_files : map string_bytes plan.first.items ≡ files_named is_stem first
+  pub second_files_too : map string_bytes plan.second.items ≡ second_files plan.job is_stem second
+
+-- a plan for sets whose names don't begin with hyphens is that of the usual words
+abbrev pub AreUsualWordsPlanned : Type 0
+AreUsualWordsPlanned = (plan : Plan) (is_stem : Bool) (first second : Text) → IsPlain first → IsPlain second
+    → HasFilesOf is_stem first second plan
+    → AreUnderstood (usual_words plan.job is_stem first second) × IsPlanned (usual_words plan.job is_stem first second) plan

@@ -113,3 +113,7 @@ AreRefusedBy job remaining files = (fault : Fault) × IsToldBy job fault × AreR
 -- nothing was printed, or a beginning of the answer that isn't all of it
 abbrev pub PrintsPart : {R : Type 0} → Answer → (R → Option (List ℕ)) → List (Opened R) → Option (List ℕ) → Option (List ℕ) → Type 0
 PrintsPart answer remaining files old new = Keeps old new ⊎ ((written : ℕ) × PrintsBeginning answer remaining files written old new)
+
+-- the writer got the line, or a beginning of it
+abbrev pub TellsLine : List ℕ → Option (List ℕ) → Option (List ℕ) → Type 0
+TellsLine line old new = (written : ℕ) × Appends old new (take written line)

@@ -1,5 +1,5 @@
 -- What a job over files printed, or why it printed nothing, where a comparison has the files of two sets.
-use Rattle.std.specs.Prelude.{ℕ, ◌++◌, ◌∷◌, [], List, Option, ◌⊎◌, codes}
+use Rattle.std.specs.Prelude.{ℕ, ◌≡◌, ◌++◌, ◌∷◌, [], List, Option, Some, None, ◌⊎◌, codes}
 use Rattle.std.specs.Io.KnownBytes.{Keeps}
 use Rattle.tigercanon.specs.declared.command_line.Job.{Job}
 use Rattle.tigercanon.specs.declared.command_line.Job.TheVariants.{Compare}
@@ -7,10 +7,15 @@ use Rattle.tigercanon.specs.declared.ending.Ending.{Ending}
 use Rattle.tigercanon.specs.declared.ending.Ending.TheVariants.{Done, Different}
 use Rattle.tigercanon.specs.declared.files.Opened.{Opened}
 use Rattle.tigercanon.specs.declared.fault.Fault.{Fault}
-use Rattle.tigercanon.specs.declared.fault.Fault.TheVariants.{Write}
+use Rattle.tigercanon.specs.declared.fault.Fault.TheVariants.{Load, Write}
+use Rattle.tl_load.specs.declared.fault.LoadFault.TheVariants.{Device}
 use Rattle.tigercanon.specs.Comparing.{SaysSame, SaysDifferent}
+use Rattle.tigercanon.specs.Faults.{IsOfNoLines}
 use Rattle.tigercanon.specs.Files.{AreHeld, IsMissing}
-use Rattle.tigercanon.specs.Outcomes.{AreAccepted, AreRefused, AreRefusedBy, IsAnswer, Leaves, Prints, PrintsFront, PrintsPart, PrintsWhole, TellsSet}
+use Rattle.tigercanon.specs.Outcomes.{AreAccepted, AreRefused, AreRefusedBy, IsAnswer, Leaves}
+use Rattle.tigercanon.specs.Outcomes.{Prints, PrintsFront, PrintsPart, PrintsWhole, TellsLine, TellsSet}
+use Rattle.tigercanon.specs.Refusals.{fault_line}
+use Rattle.tigercanon.specs.Statuses.{status_of}
 
 -- this holds of what the files of two sets hold
 pub record OfTwoSets {R : Type 0} (holds : List (List ℕ) → List (List ℕ) → Type 0) (remaining : R → Option (List ℕ))
@@ -41,10 +46,11 @@ abbrev pub line_of_ending : Ending → List ℕ
 line_of_ending Done = codes "same" ++ 10 ∷ []
 line_of_ending Different = codes "different" ++ 10 ∷ []
 
--- but for want of memory and the fault of a device, it is what one of the sets is refused for: the first, or the second where
--- the first is accepted
-abbrev pub TellsOne : {R : Type 0} → (R → Option (List ℕ)) → List (Opened R) → List (Opened R) → Fault → Type 0
-TellsOne remaining first second fault = TellsSet remaining first fault ⊎ (AreAccepted remaining first × TellsSet remaining second fault)
+-- But for want of memory and the fault of a device, it is what the set that is named is refused for. What the lines of the second
+-- set are refused for is told only where the first is accepted.
+abbrev pub TellsOne : {R : Type 0} → (R → Option (List ℕ)) → List (Opened R) → List (Opened R) → Fault → Option ℕ → Type 0
+TellsOne remaining first second fault set = ((set ≡ Some 1) × TellsSet remaining first fault)
+    ⊎ ((set ≡ Some 2) × (AreAccepted remaining first ⊎ IsOfNoLines fault) × TellsSet remaining second fault)
 
 -- one of the sets is refused: the first, or the second where the first is accepted
 abbrev pub IsOneRefused : {R : Type 0} → (R → Option (List ℕ)) → List (Opened R) → List (Opened R) → Type 0
@@ -62,16 +68,19 @@ abbrev pub PrintsDifferent : {R : Type 0} → Job → (R → Option (List ℕ)) 
 PrintsDifferent Compare remaining first second = Prints (IsLineDifferent remaining first second)
 PrintsDifferent job remaining first second = λ old new. ⊥
 
--- what a job that stopped leaves: a refused set nothing, a failing writer the beginning of what was to be printed
+-- what a comparison that stopped leaves, and the set that it names: a refused set nothing, and a failing writer, which is no
+-- set's, the beginning of what was to be printed
 abbrev pub LeavesComparison : {R : Type 0} → (R → Option (List ℕ)) → List (Opened R) → List (Opened R) → Option (List ℕ)
-    → Option (List ℕ) → Fault → Type 0
-LeavesComparison remaining first second old new (Write fault) = PrintsFront (IsLineOfVerdict remaining first second) fault.written old new
-LeavesComparison remaining first second old new fault = Keeps old new × TellsOne remaining first second fault
+    → Option (List ℕ) → Fault → Option ℕ → Type 0
+LeavesComparison remaining first second old new (Write fault) set =
+    (set ≡ None) × PrintsFront (IsLineOfVerdict remaining first second) fault.written old new
+LeavesComparison remaining first second old new fault set = Keeps old new × TellsOne remaining first second fault set
 
+-- the same of any job; one that reads one set names none
 abbrev pub LeavesStopped : {R : Type 0} → Job → (R → Option (List ℕ)) → List (Opened R) → List (Opened R) → Option (List ℕ)
-    → Option (List ℕ) → Fault → Type 0
-LeavesStopped Compare remaining first second = LeavesComparison remaining first second
-LeavesStopped job remaining first second = Leaves job remaining first
+    → Option (List ℕ) → Fault → Option ℕ → Type 0
+LeavesStopped Compare remaining first second old new fault set = LeavesComparison remaining first second old new fault set
+LeavesStopped job remaining first second old new fault set = (set ≡ None) × Leaves job remaining first old new fault
 
 -- a set of files is refused for something that the job asks for
 abbrev pub IsRefusedBy : {R : Type 0} → Job → (R → Option (List ℕ)) → List (Opened R) → List (Opened R) → Type 0
@@ -89,3 +98,24 @@ PrintsSome job remaining first second old new = PrintsPart (IsAnswer job) remain
 abbrev pub IsMissingOne : {R : Type 0} → Job → List (Opened R) → List (Opened R) → Type 0
 IsMissingOne Compare first second = IsMissing first ⊎ IsMissing second
 IsMissingOne job first second = IsMissing first
+
+-- the set that is named lacks a file that it needs; of two that do the first is named, and where one set is read none is
+abbrev pub NamesMissing : {R : Type 0} → Job → List (Opened R) → List (Opened R) → Option ℕ → Type 0
+NamesMissing Compare first second set =
+    ((set ≡ Some 1) × IsMissing first) ⊎ ((set ≡ Some 2) × ¬ IsMissing first × IsMissing second)
+NamesMissing job first second set = (set ≡ None) × IsMissing first
+
+-- a line tells that a file is missing, and of two sets which one lacks it
+abbrev pub TellsMissing : {R : Type 0} → Job → List (Opened R) → List (Opened R) → Option (List ℕ) → Option (List ℕ) → Type 0
+TellsMissing job first second old new =
+    (set : Option ℕ) × NamesMissing job first second set × TellsLine (fault_line (Load Device) set) old new
+
+-- Why a job stopped: a fault, which has the exit status, and of two sets the one that is at fault. The files and what was printed
+-- of them are as these say, and so is the line on standard error.
+pub record TellsWhy {R : Type 0} (job : Job) (remaining : R → Option (List ℕ)) (first second : List (Opened R))
+    (old new old_told new_told : Option (List ℕ)) (status : ℕ) : Type 0 where
+  pub fault : Fault
+  pub set : Option ℕ
+  pub status_is : status ≡ status_of fault
+  pub left : LeavesStopped job remaining first second old new fault set
+  pub line : TellsLine (fault_line fault set) old_told new_told

@@ -1,19 +1,21 @@
 //! What the program does, over files that are open already.
 
 ghost use Rattle.hex.specs.Hex.{encode_lower};
-ghost use Rattle.std.specs.Prelude.{◌≡◌, ◌∷◌, ◌++◌, [], Contains, MatchResult, Ok, OnOk, IfErr, IfOk, IsErrOf, string_bytes};
+ghost use Rattle.std.specs.Prelude.{◌≡◌, ◌<◌, ◌≤◌, ◌∷◌, ◌++◌, [], Contains, MatchResult, Ok, OnOk, IfErr, IfOk, IsErrOf, string_bytes};
 ghost use Rattle.std.specs.Io.KnownBytes.{Keeps};
 ghost use Rattle.tigercanon.specs.Files.{IsMissing};
 ghost use Rattle.tigercanon.specs.Fingerprints.{IsFingerprint, SaysFingerprint};
 ghost use Rattle.tigercanon.specs.Statuses.{plan_status_of};
-ghost use Rattle.tigercanon.specs.Outcomes.{AreAccepted, AreAnswered, Leaves, PrintsWhole, TellsSet};
-ghost use Rattle.tigercanon.specs.TwoSets.{IsMissingOne, IsRefusedBy, LeavesStopped, PrintsDifferent, PrintsDone, PrintsSome};
+ghost use Rattle.tigercanon.specs.Refusals.{plan_text_of};
+ghost use Rattle.tigercanon.specs.Outcomes.{AreAccepted, AreAnswered, Leaves, PrintsWhole, TellsLine, TellsSet};
+ghost use Rattle.tigercanon.specs.TwoSets.{IsMissingOne, IsRefusedBy, LeavesStopped, NamesMissing, PrintsDifferent, PrintsDone, PrintsSome};
+ghost use Rattle.tigercanon.specs.TwoSets.{TellsMissing, TellsWhy};
 ghost use Rattle.tigercanon.specs.Respelling.{IsRespelt};
 ghost use Rattle.tigercanon.specs.Sets.{IsCanonicalText, SaysAccepted};
 
 use crate::canonising::canonise_tables;
 use crate::command_line::{Job, PlanFault};
-use crate::ending::{Ending, Stopped, ending_of, tell_stopped};
+use crate::ending::{Ending, Stopped, ending_of, tell_line, tell_stopped};
 use crate::fault::Fault;
 use crate::files::{Opened, is_missing_a_file, load_files, sources_of};
 use crate::fingerprinting::hash_of;
@@ -153,8 +155,11 @@ fn do_job<R: Read + Drop, W: Write>(
 ) -> Result<Ending, Stopped>
     ensures done { result ≡ Ok Ending.Done → PrintsDone job R.remaining first.items second.items (W.contents out.old) (W.contents out.new) }
     ensures different { result ≡ Ok Ending.Different → PrintsDifferent job R.remaining first.items second.items (W.contents out.old) (W.contents out.new) }
-    ensures stopped { IfErr result (λ stopped. LeavesStopped job R.remaining first.items second.items (W.contents out.old) (W.contents out.new) stopped.fault) }
+    ensures stopped { IfErr result (λ stopped.
+        LeavesStopped job R.remaining first.items second.items (W.contents out.old) (W.contents out.new) stopped.fault stopped.set) }
     ensures missing { IsMissingOne job first.items second.items → MatchResult result (λ _. ⊥) (λ stopped. stopped.fault ≡ Fault.Load LoadFault.Device) }
+    ensures lacking { IsMissingOne job first.items second.items →
+        IfErr result (λ stopped. NamesMissing job first.items second.items stopped.set) }
 {
     match job {
         Job::Respell => ending_of(respell_set(alloc, first, out)),
@@ -168,8 +173,8 @@ fn do_job<R: Read + Drop, W: Write>(
 /// Does a job over the files of its sets, and answers the exit status: 0 where it is done, 1 where two sets are different maps,
 /// 3 where a set is refused, 4 where a device failed, 5 where memory was lacking. `second` is looked at by a comparison alone.
 ///
-/// What is asked for goes to `out`, and nothing goes there before the sets are accepted. A refusal is one line on `err`,
-/// and a failure of `err` changes nothing.
+/// What is asked for goes to `out`, and nothing goes there before the sets are accepted. Why a job isn't done is one line on `err`:
+/// the refusal, and of two sets which one is at fault. A failure of `err` changes nothing.
 pub fn run<R: Read + Drop, W: Write, E: Write>(
     alloc: Global,
     job: Job,
@@ -191,6 +196,13 @@ pub fn run<R: Read + Drop, W: Write, E: Write>(
     ensures device { result ≡ 4 → PrintsSome job R.remaining first.items second.items (W.contents out.old) (W.contents out.new) }
     ensures missing { IsMissingOne job first.items second.items → result ≡ 4 }
     ensures missing_silent { IsMissingOne job first.items second.items → Keeps (W.contents out.old) (W.contents out.new) }
+
+    // What `err` gets is a line that says which fault it was, and of two sets which one is at fault; nothing where the job is done.
+    ensures told { 1 < result → TellsWhy job R.remaining first.items second.items (W.contents out.old) (W.contents out.new)
+        (E.contents err.old) (E.contents err.new) result }
+    ensures missing_told { IsMissingOne job first.items second.items →
+        TellsMissing job first.items second.items (E.contents err.old) (E.contents err.new) }
+    ensures untold { result ≤ 1 → Keeps (E.contents err.old) (E.contents err.new) }
 {
     match do_job(alloc, job, first, second, out) {
         Ok(Ending::Done) => 0,
@@ -201,15 +213,16 @@ pub fn run<R: Read + Drop, W: Write, E: Write>(
 
 /// Tells on `err` why a command line is no plan, and answers the exit status: 2 for the usage, 5 for want of memory.
 pub fn tell<E: Write>(fault: &PlanFault, err: &mut E) -> u8
-    ensures { result ≡ plan_status_of fault.now }
+    ensures status { result ≡ plan_status_of fault.now }
+    ensures told { TellsLine (plan_text_of fault.now) (E.contents err.old) (E.contents err.new) }
 {
     match fault {
         PlanFault::Usage(text) => {
-            let _ = write!(err, "{text}");
+            tell_line(text.as_bytes(), err);
             2
         }
         PlanFault::Memory => {
-            let _ = writeln!(err, "{fault}");
+            tell_line(b"refused 9 Memory\n", err);
             5
         }
     }

@@ -1,10 +1,11 @@
-//! Laws of what a set is. The functions do nothing; their contracts are the laws.
+//! Laws of what a set is, and of what words are a command line. The functions do nothing; their contracts are the laws.
 
 ghost use Rattle.std.specs.Prelude.{◌≡◌, ◌⊎◌, [], ◌∷◌, ℕ, List};
 ghost use Rattle.tl_county.specs.County.{county_of};
 ghost use Rattle.tl_county.specs.Renumbering.{AreSame};
 ghost use Rattle.tl_layout.specs.declared.record_type.Record.{Record};
 ghost use Rattle.tigercanon.specs.declared.fault.Fault.{Fault};
+ghost use Rattle.tigercanon.specs.Names.{AreUsualWordsPlanned};
 ghost use Rattle.tigercanon.specs.Sets.{IsAcceptedSet, IsCanonicalText, IsSetRefusal};
 
 /// A set of parts is accepted or has a refusal, never both, and never two.
@@ -42,4 +43,10 @@ pub fn a_canonical_text_is_its_own()
         AreSame (county_of h.records) (county_of h.canonical) }
     ensures itself { (parts : List (List ℕ)) (text : List ℕ) →
         IsCanonicalText parts text → IsCanonicalText (text ∷ []) text }
+{}
+
+/// The usual command lines, as the help has them, are understood, and a plan with the files of the sets that they name is theirs:
+/// the word of a job, `--stem` where sets are named by their stems, and a name for each set that doesn't begin with a hyphen.
+pub fn usual_words_are_planned()
+    ensures { AreUsualWordsPlanned }
 {}

@@ -39,6 +39,7 @@ pub use jobs::{run, tell};
 pub use laws::{
     a_canonical_text_is_its_own, accepted_set_or_one_refusal,
     an_accepted_set_has_one_canonical_text, one_canonical_text_exactly_for_one_map,
+    usual_words_are_planned,
 };
 pub use normalising::{normalise, normalise_to, normalise_with_renaming};
 pub use planning::plan;

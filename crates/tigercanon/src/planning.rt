@@ -1,8 +1,10 @@
 //! Reading the words of a command line.
 
-ghost use Rattle.clap.specs.Words.{found_of, rows_of};
-ghost use Rattle.std.specs.Prelude.{◌≡◌, Some, IfOk, IfSome, map, string_bytes};
-ghost use Rattle.tigercanon.specs.Names.{AreFilesOf, AreSecondOf, IsPlanned, NamesItsSets};
+ghost use Rattle.clap.specs.Words.{Text, first_of, found_of, kind_of, rows_of};
+ghost use Rattle.clap.specs.declared.error.kind.ErrorKind.TheVariants.{OutOfMemory};
+ghost use Rattle.std.specs.Prelude.{◌≡◌, Bool, List, Some, IfErr, IfOk, IfSome, OnOk, map, string_bytes};
+ghost use Rattle.tigercanon.specs.Names.{AreFilesOf, AreSecondOf, AreUnderstood, IsPlanned, NamesItsSets};
+ghost use Rattle.tigercanon.specs.declared.command_line.Plan.{Plan};
 ghost use Rattle.tigercanon.specs.Words.{word_of};
 ghost use Rattle.tigercanon.specs.declared.command_line.Job.{Job};
 
@@ -29,7 +31,9 @@ fn job_named(name: &str) -> Option<Job>
 }
 
 /// The fault that the parser's error stands for.
-fn fault_of(alloc: Global, error: &clap::Error) -> PlanFault {
+fn fault_of(alloc: Global, error: &clap::Error) -> PlanFault
+    ensures { kind_of error.now ≡ OutOfMemory → result ≡ PlanFault.Memory }
+{
     if error.kind() == ErrorKind::OutOfMemory {
         return PlanFault::Memory;
     }
@@ -57,7 +61,9 @@ fn files_given(
     argument: &str,
     is_stem: bool,
 ) -> Result<Vec<String>, PlanFault>
-    ensures { IfOk result (λ names. AreFilesOf (rows_of (found_of given.now)) argument.now is_stem (map string_bytes names.items)) }
+    ensures files { IfOk result (λ names. AreFilesOf (rows_of (found_of given.now)) argument.now is_stem (map string_bytes names.items)) }
+    ensures usage { (name : Text) → first_of argument.now (rows_of (found_of given.now)) ≡ Some name →
+        IfErr result (λ fault. fault ≡ PlanFault.Memory) }
 {
     match given.get_str(argument) {
         Some(name) => Ok(files_of(alloc, name, is_stem)?),
@@ -72,7 +78,9 @@ fn second_files_given(
     given: &ArgMatches<'_>,
     is_stem: bool,
 ) -> Result<Vec<String>, PlanFault>
-    ensures { IfOk result (λ names. AreSecondOf (rows_of (found_of given.now)) job is_stem (map string_bytes names.items)) }
+    ensures files { IfOk result (λ names. AreSecondOf (rows_of (found_of given.now)) job is_stem (map string_bytes names.items)) }
+    ensures usage { (stem : Bool) (names : List Text) → AreSecondOf (rows_of (found_of given.now)) job stem names →
+        IfErr result (λ fault. fault ≡ PlanFault.Memory) }
 {
     match job {
         Job::Compare => files_given(alloc, given, SECOND, is_stem),
@@ -84,6 +92,8 @@ fn second_files_given(
 fn plan_of(alloc: Global, job: Job, given: &ArgMatches<'_>) -> Result<Plan, PlanFault>
     ensures job { IfOk result (λ p. p.job ≡ job) }
     ensures sets { IfOk result (NamesItsSets (rows_of (found_of given.now))) }
+    ensures usage { (p : Plan) → p.job ≡ job → NamesItsSets (rows_of (found_of given.now)) p →
+        IfErr result (λ fault. fault ≡ PlanFault.Memory) }
 {
     let is_stem = given.get_flag(STEM);
     Ok(Plan {
@@ -96,6 +106,10 @@ fn plan_of(alloc: Global, job: Job, given: &ArgMatches<'_>) -> Result<Plan, Plan
 /// Reads the words of a command line, the program's own name left out.
 pub fn plan(alloc: Global, words: &[String]) -> Result<Plan, PlanFault>
     ensures planned { IfOk result (IsPlanned (map string_bytes words.now)) }
+    ensures understood { OnOk result (AreUnderstood (map string_bytes words.now)) }
+    // Words of which there is a plan lead to it, but for want of memory; the usage is told of other words alone.
+    ensures usage { (p : Plan) → AreUnderstood (map string_bytes words.now) → IsPlanned (map string_bytes words.now) p →
+        IfErr result (λ fault. fault ≡ PlanFault.Memory) }
 {
     let matches = match command(alloc)?.try_get_matches_from(words) {
         Ok(matches) => matches,

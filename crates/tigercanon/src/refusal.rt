@@ -1,6 +1,9 @@
 //! Why a job didn't end well, as the program tells it: one line, and an exit status.
 
-ghost use Rattle.std.specs.Prelude.{◌≡◌};
+ghost use Rattle.hex.specs.Hex.{encode_lower};
+ghost use Rattle.std.specs.Fmt.{DisplaysOnOk};
+ghost use Rattle.std.specs.Prelude.{◌≡◌, Some};
+ghost use Rattle.tigercanon.specs.Refusals.{link_refusal, load_refusal, profile_refusal, refusal_of};
 ghost use Rattle.tigercanon.specs.Statuses.{status_of};
 
 use crate::fault::Fault;
@@ -30,6 +33,8 @@ impl Refusal {
 
 /// The line without its end: `refused`, then the number, the name and the places, one blank apart.
 impl fmt::Display for Refusal {
+    ghost output = { λ r. Some (refusal_of r.0) };
+
     fn fmt<W: fmt::Write>(&self, f: &mut fmt::Formatter<W>) -> fmt::Result {
         match &self.0 {
             Fault::Load(fault) => write_load_fault(fault, f),
@@ -45,7 +50,9 @@ impl fmt::Display for Refusal {
 }
 
 /// The line for a fault of loading.
-fn write_load_fault<W: fmt::Write>(fault: &LoadFault, f: &mut fmt::Formatter<W>) -> fmt::Result {
+fn write_load_fault<W: fmt::Write>(fault: &LoadFault, f: &mut fmt::Formatter<W>) -> fmt::Result
+    ensures { DisplaysOnOk W.write_str_gives f.old result (Some (load_refusal fault.now)) f.new }
+{
     match fault {
         LoadFault::UnknownType { part, line } => write!(f, "refused 1 UnknownType {part} {line}"),
         LoadFault::LineTooLong { part, line } => write!(f, "refused 2 LineTooLong {part} {line}"),
@@ -75,7 +82,9 @@ fn write_load_fault<W: fmt::Write>(fault: &LoadFault, f: &mut fmt::Formatter<W>)
 }
 
 /// The line for records that don't fit together.
-fn write_link_fault<W: fmt::Write>(fault: &LinkFault, f: &mut fmt::Formatter<W>) -> fmt::Result {
+fn write_link_fault<W: fmt::Write>(fault: &LinkFault, f: &mut fmt::Formatter<W>) -> fmt::Result
+    ensures { DisplaysOnOk W.write_str_gives f.old result (Some (link_refusal fault.now)) f.new }
+{
     match fault {
         LinkFault::ChainTwice { tlid } => write!(f, "refused 11 ChainTwice {tlid}"),
         LinkFault::NoChain { rtype, tlid } => write!(f, "refused 12 NoChain {rtype} {tlid}"),
@@ -104,7 +113,9 @@ fn write_link_fault<W: fmt::Write>(fault: &LinkFault, f: &mut fmt::Formatter<W>)
 fn write_profile_fault<W: fmt::Write>(
     fault: &ProfileFault,
     f: &mut fmt::Formatter<W>,
-) -> fmt::Result {
+) -> fmt::Result
+    ensures { DisplaysOnOk W.write_str_gives f.old result (Some (profile_refusal fault.now)) f.new }
+{
     match fault {
         ProfileFault::OwnReverse { tlid } => write!(f, "refused 21 OwnReverse {tlid}"),
         ProfileFault::SameShape { first, second } => {
@@ -124,6 +135,8 @@ struct Hexadecimal([u8; 5]);
 
 /// Two lower-case digits a byte.
 impl fmt::Display for Hexadecimal {
+    ghost output = { λ h. Some (encode_lower h.0) };
+
     fn fmt<W: fmt::Write>(&self, f: &mut fmt::Formatter<W>) -> fmt::Result {
         for byte in &self.0 {
             write!(f, "{byte:02x}")?;

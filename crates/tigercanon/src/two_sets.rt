@@ -1,13 +1,15 @@
 //! Comparing two sets of files.
 
-ghost use Rattle.std.specs.Prelude.{◌≡◌, ◌⊎◌, Ok, ℕ, List, [], IfOk, IfErr, MatchResult};
+ghost use Rattle.std.specs.Prelude.{◌≡◌, ◌⊎◌, Ok, Some, ℕ, List, [], IfOk, IfErr, MatchResult};
 ghost use Rattle.tigercanon.specs.Comparing.{AreDifferent, AreOneMap, IsAcceptable};
 ghost use Rattle.tigercanon.specs.Faults.{TellsRefusal};
 ghost use Rattle.tigercanon.specs.Files.{IsMissing};
 ghost use Rattle.tigercanon.specs.Outcomes.{Prints};
 ghost use Rattle.tigercanon.specs.Respelling.{record_limit};
 ghost use Rattle.tigercanon.specs.Sets.{IsCanonSet};
-ghost use Rattle.tigercanon.specs.TwoSets.{IsLineDifferent, IsLineSame, LeavesComparison, OfTwoSets, TellsOne, line_of_ending, where_ended};
+ghost use Rattle.tigercanon.specs.TwoSets.{IsLineDifferent, IsLineSame, LeavesComparison, NamesMissing};
+ghost use Rattle.tigercanon.specs.TwoSets.{OfTwoSets, TellsOne, line_of_ending, where_ended};
+ghost use Rattle.tigercanon.specs.declared.command_line.Job.{Job};
 ghost use Rattle.tl_county.specs.TheCountyIn.{the_county_in};
 ghost use Rattle.tl_layout.specs.Tables.{HoldsByType};
 ghost use Rattle.tl_load.specs.Keeping.{WasFedInto};
@@ -50,7 +52,8 @@ fn compare_to<'a>(
     requires { (parts : List (List ℕ)) × WasFedInto HoldsByType record_limit second parts [] }
     ensures verdict { (a b : List (List ℕ)) → IsCanonSet a (the_county_in first.now.view.chart) (⟦<CanonCounty<CountyIn<'a>> as Chart>⟧.county first.now) →
         WasFedInto HoldsByType record_limit second b [] → IfOk result (λ ending. where_ended ending (AreOneMap a b) (AreDifferent a b)) }
-    ensures refused { (b : List (List ℕ)) → WasFedInto HoldsByType record_limit second b [] → IfErr result (λ stopped. TellsRefusal b stopped.fault) }
+    ensures refused { (b : List (List ℕ)) → WasFedInto HoldsByType record_limit second b [] →
+        IfErr result (λ stopped. (stopped.set ≡ Some 2) × TellsRefusal b stopped.fault) }
 {
     let arena = Bump::new(alloc);
     let second = match canonise_loaded(alloc, &arena, second) {
@@ -80,7 +83,8 @@ fn compare_loaded(
     ensures verdict { (a b : List (List ℕ)) → WasFedInto HoldsByType record_limit first a [] → WasFedInto HoldsByType record_limit second b [] →
         IfOk result (λ ending. where_ended ending (AreOneMap a b) (AreDifferent a b)) }
     ensures refused { (a b : List (List ℕ)) → WasFedInto HoldsByType record_limit first a [] → WasFedInto HoldsByType record_limit second b [] →
-        IfErr result (λ stopped. TellsRefusal a stopped.fault ⊎ (IsAcceptable a × TellsRefusal b stopped.fault)) }
+        IfErr result (λ stopped. ((stopped.set ≡ Some 1) × TellsRefusal a stopped.fault)
+        ⊎ ((stopped.set ≡ Some 2) × IsAcceptable a × TellsRefusal b stopped.fault)) }
 {
     let arena = Bump::new(alloc);
     let first = match canonise_loaded(alloc, &arena, first) {
@@ -103,7 +107,7 @@ fn compare_files<R: Read + Drop>(
 ) -> Result<Ending, Stopped>
     ensures verdict { IfOk result (λ ending. where_ended ending (OfTwoSets AreOneMap R.remaining first.items second.items)
         (OfTwoSets AreDifferent R.remaining first.items second.items)) }
-    ensures refused { IfErr result (λ stopped. TellsOne R.remaining first.items second.items stopped.fault) }
+    ensures refused { IfErr result (λ stopped. TellsOne R.remaining first.items second.items stopped.fault stopped.set) }
 {
     let first = match read_files::<Tables, R>(alloc, first) {
         Ok(loader) => loader,
@@ -145,7 +149,8 @@ fn compare_found<R: Read + Drop, W: Write>(
 ) -> Result<Ending, Stopped>
     ensures done { result ≡ Ok Ending.Done → Prints (IsLineSame R.remaining first.items second.items) (W.contents out.old) (W.contents out.new) }
     ensures different { result ≡ Ok Ending.Different → Prints (IsLineDifferent R.remaining first.items second.items) (W.contents out.old) (W.contents out.new) }
-    ensures stopped { IfErr result (λ stopped. LeavesComparison R.remaining first.items second.items (W.contents out.old) (W.contents out.new) stopped.fault) }
+    ensures stopped { IfErr result (λ stopped.
+        LeavesComparison R.remaining first.items second.items (W.contents out.old) (W.contents out.new) stopped.fault stopped.set) }
 {
     let ending = compare_files(alloc, first, second)?;
     match write_text(out, line_of(ending)) {
@@ -167,8 +172,11 @@ pub(crate) fn compare_sets<R: Read + Drop, W: Write>(
 ) -> Result<Ending, Stopped>
     ensures done { result ≡ Ok Ending.Done → Prints (IsLineSame R.remaining first.items second.items) (W.contents out.old) (W.contents out.new) }
     ensures different { result ≡ Ok Ending.Different → Prints (IsLineDifferent R.remaining first.items second.items) (W.contents out.old) (W.contents out.new) }
-    ensures stopped { IfErr result (λ stopped. LeavesComparison R.remaining first.items second.items (W.contents out.old) (W.contents out.new) stopped.fault) }
+    ensures stopped { IfErr result (λ stopped.
+        LeavesComparison R.remaining first.items second.items (W.contents out.old) (W.contents out.new) stopped.fault stopped.set) }
     ensures missing { IsMissing first.items ⊎ IsMissing second.items → MatchResult result (λ _. ⊥) (λ stopped. stopped.fault ≡ Fault.Load LoadFault.Device) }
+    ensures lacking { IsMissing first.items ⊎ IsMissing second.items →
+        IfErr result (λ stopped. NamesMissing Job.Compare first.items second.items stopped.set) }
 {
     let fault = Fault::Load(LoadFault::Device);
     if is_missing_a_file(&first) {

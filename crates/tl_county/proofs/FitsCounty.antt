@@ -36,7 +36,7 @@ use Rattle.tl_county.specs.Packing.{packed_five, packed_sixes, packed_sevens, pa
 use Rattle.tl_county.specs.Packing.{packed_by_type}
 use Rattle.tl_county.specs.PolygonKeys.{PolygonKey, key_cmp, key_under}
 use Rattle.tl_county.specs.declared.fault.LinkFault.TheVariants.{SequenceBroken}
-use Rattle.tl_county.specs.declared.fault.LinkedType.TheVariants as linked_types
+use Rattle.tl_county.specs.declared.fault.SequencedType.TheVariants as sequenced
 use Rattle.tl_county.proofs.Counted.{few_in_groups, hits_once, filter-agree, shorter_pieces, few_numbers, few_pieces}
 use Rattle.tl_county.proofs.Counted.{all_selected, length-numbered_from}
 use Rattle.tl_county.proofs.TypeCounts.{HasAtMost, by_type_within, packed_within}
@@ -337,15 +337,15 @@ module _ (records : List Record) (linked : IsLinked records) (fits : AllByRecurs
 
   few_twos : (n : ℕ) → length (of_number two_tlid n (of_type_2 records)) ≤ greatest_rtsq
   few_twos n = few_records two_tlid two_rtsq n (of_type_2 records)
-      (all_weaker Fit2 (λ r. IsNumber 3 r.rtsq) (λ r f. f.rtsq) (of_type_2 records) fit_2) (linked (SequenceBroken linked_types.Two n))
+      (all_weaker Fit2 (λ r. IsNumber 3 r.rtsq) (λ r f. f.rtsq) (of_type_2 records) fit_2) (linked (SequenceBroken sequenced.Two n))
 
   few_fours : (n : ℕ) → length (of_number four_tlid n (of_type_4 records)) ≤ greatest_rtsq
   few_fours n = few_records four_tlid four_rtsq n (of_type_4 records)
-      (all_weaker Fit4 (λ r. IsNumber 3 r.rtsq) (λ r f. f.rtsq) (of_type_4 records) fit_4) (linked (SequenceBroken linked_types.Four n))
+      (all_weaker Fit4 (λ r. IsNumber 3 r.rtsq) (λ r f. f.rtsq) (of_type_4 records) fit_4) (linked (SequenceBroken sequenced.Four n))
 
   few_sixes : (n : ℕ) → length (of_number six_tlid n (of_type_6 records)) ≤ greatest_rtsq
   few_sixes n = few_records six_tlid six_rtsq n (of_type_6 records)
-      (all_weaker Fit6 (λ r. IsNumber 3 r.rtsq) (λ r f. f.rtsq) (of_type_6 records) fit_6) (linked (SequenceBroken linked_types.Six n))
+      (all_weaker Fit6 (λ r. IsNumber 3 r.rtsq) (λ r f. f.rtsq) (of_type_6 records) fit_6) (linked (SequenceBroken sequenced.Six n))
 
   -- the records of a chain hold its lists
   held : {X Y : Type 0} (width : ℕ) (tlid rtsq : X → ℕ) (content : X → List Y) (n : ℕ) (xs : List X)

@@ -10,6 +10,9 @@ use Rattle.tl_county.specs.declared.fault.LinkFault.TheVariants.{NameTwice, Name
 use Rattle.tl_county.specs.declared.fault.LinkFault.TheVariants.{PolygonUnknown, Memory}
 use Rattle.tl_county.specs.declared.fault.LinkedType.{LinkedType}
 use Rattle.tl_county.specs.declared.fault.LinkedType.TheVariants.{Two, Four, Six, I}
+use Rattle.tl_county.specs.declared.fault.SequencedType.{SequencedType}
+use Rattle.tl_county.specs.declared.fault.SequencedType.TheVariants as sequenced
+use Rattle.tl_county.specs.LinkedTypes.{linked_type}
 use Rattle.tl_layout.specs.ByType.{of_type_2, of_type_4, of_type_5, of_type_6, of_type_8, of_type_i, of_type_p, of_number}
 use Rattle.tl_county.specs.County.{two_tlid, two_rtsq, four_tlid, four_rtsq, five_feat, six_tlid, six_rtsq, eight_land, eight_key}
 use Rattle.tl_county.specs.County.{i_tlid, p_key}
@@ -37,11 +40,14 @@ number place i = head_of (part place i)
 abbrev type_at : ℕ → LinkedType
 type_at n = cond (n == 2) Two (cond (n == 4) Four (cond (n == 6) Six I))
 
+abbrev sequenced_at : ℕ → SequencedType
+sequenced_at n = cond (n == 2) sequenced.Two (cond (n == 4) sequenced.Four sequenced.Six)
+
 abbrev fault_at : List (List ℕ) → LinkFault
 fault_at p =
     cond (number p 0 == 11) (ChainTwice (number p 1))
     (cond (number p 0 == 12) (NoChain (type_at (number p 1)) (number p 2))
-    (cond (number p 0 == 13) (SequenceBroken (type_at (number p 1)) (number p 2))
+    (cond (number p 0 == 13) (SequenceBroken (sequenced_at (number p 1)) (number p 2))
     (cond (number p 0 == 14) (LinkMissing (number p 1))
     (cond (number p 0 == 15) (LinkTwice (number p 1))
     (cond (number p 0 == 16) (NameTwice (number p 1))
@@ -56,10 +62,9 @@ fault_at-place (NoChain Two tlid) = refl
 fault_at-place (NoChain Four tlid) = refl
 fault_at-place (NoChain Six tlid) = refl
 fault_at-place (NoChain I tlid) = refl
-fault_at-place (SequenceBroken Two tlid) = refl
-fault_at-place (SequenceBroken Four tlid) = refl
-fault_at-place (SequenceBroken Six tlid) = refl
-fault_at-place (SequenceBroken I tlid) = refl
+fault_at-place (SequenceBroken sequenced.Two tlid) = refl
+fault_at-place (SequenceBroken sequenced.Four tlid) = refl
+fault_at-place (SequenceBroken sequenced.Six tlid) = refl
 fault_at-place (LinkMissing tlid) = refl
 fault_at-place (LinkTwice tlid) = refl
 fault_at-place (NameTwice feat) = refl
@@ -73,16 +78,17 @@ fault_at-place Memory = refl
 abbrev pub name_faults : List Fields4 → List LinkFault
 name_faults = flat_map (λ r. map (NameUnknown r.tlid) r.feats)
 
-abbrev pub type_faults : LinkedType → List Record → List LinkFault
-type_faults t records = map (NoChain t) (linked_tlids t records) ++ map (SequenceBroken t) (linked_tlids t records)
+abbrev pub type_faults : SequencedType → List Record → List LinkFault
+type_faults t records =
+    map (NoChain (linked_type t)) (linked_tlids (linked_type t) records) ++ map (SequenceBroken t) (linked_tlids (linked_type t) records)
 
 abbrev pub faults_11_to_15 : List Record → List LinkFault
 faults_11_to_15 records =
     map ChainTwice (chain_tlids records)
-    ++ (type_faults Two records
-    ++ (type_faults Four records
-    ++ (type_faults Six records
-    ++ (type_faults I records
+    ++ (type_faults sequenced.Two records
+    ++ (type_faults sequenced.Four records
+    ++ (type_faults sequenced.Six records
+    ++ (map (NoChain I) (linked_tlids I records)
     ++ (map LinkMissing (chain_tlids records)
     ++ map LinkTwice (map i_tlid (of_type_i records)))))))
 
@@ -135,30 +141,52 @@ name_among x y (r ∷ rs) h = go (r.tlid == x) refl h (name_among x y rs)
     go true e k ih = split (eqb-true r.tlid x e) (known-append nat_keys y r.feats (flat_map (λ q. q.feats) (of_number four_tlid x rs)) k) ih
     go false e k ih = among_right (NameUnknown x y) (map (NameUnknown r.tlid) r.feats) (name_faults rs) (ih k)
 
-type_among_no_chain : (t : LinkedType) (tlid : ℕ) (records : List Record) → Known nat_cmp (linked_tlids t records) tlid
-    → Among (NoChain t tlid) (type_faults t records)
+type_among_no_chain : (t : SequencedType) (tlid : ℕ) (records : List Record) → Known nat_cmp (linked_tlids (linked_type t) records) tlid
+    → Among (NoChain (linked_type t) tlid) (type_faults t records)
 type_among_no_chain t tlid records h =
-    among_left (NoChain t tlid) (map (NoChain t) (linked_tlids t records)) (map (SequenceBroken t) (linked_tlids t records))
-    (known_among nat_keys (NoChain t) tlid (linked_tlids t records) h)
+    among_left (NoChain (linked_type t) tlid) (map (NoChain (linked_type t)) (linked_tlids (linked_type t) records))
+    (map (SequenceBroken t) (linked_tlids (linked_type t) records))
+    (known_among nat_keys (NoChain (linked_type t)) tlid (linked_tlids (linked_type t) records) h)
 
-type_among_sequence : (t : LinkedType) (tlid : ℕ) (records : List Record) → Known nat_cmp (linked_tlids t records) tlid
+type_among_sequence : (t : SequencedType) (tlid : ℕ) (records : List Record) → Known nat_cmp (linked_tlids (linked_type t) records) tlid
     → Among (SequenceBroken t tlid) (type_faults t records)
 type_among_sequence t tlid records h =
-    among_right (SequenceBroken t tlid) (map (NoChain t) (linked_tlids t records)) (map (SequenceBroken t) (linked_tlids t records))
-    (known_among nat_keys (SequenceBroken t) tlid (linked_tlids t records) h)
+    among_right (SequenceBroken t tlid) (map (NoChain (linked_type t)) (linked_tlids (linked_type t) records))
+    (map (SequenceBroken t) (linked_tlids (linked_type t) records))
+    (known_among nat_keys (SequenceBroken t) tlid (linked_tlids (linked_type t) records) h)
 
-among_types : (t : LinkedType) (f : LinkFault) (records : List Record) → Among f (type_faults t records) → Among f (faults_11_to_15 records)
-among_types Two f records h = among_right f (map ChainTwice (chain_tlids records)) _ (among_left f (type_faults Two records) _ h)
-among_types Four f records h =
+among_types : (t : SequencedType) (f : LinkFault) (records : List Record) → Among f (type_faults t records) → Among f (faults_11_to_15 records)
+among_types sequenced.Two f records h =
+    among_right f (map ChainTwice (chain_tlids records)) _ (among_left f (type_faults sequenced.Two records) _ h)
+among_types sequenced.Four f records h =
     among_right f (map ChainTwice (chain_tlids records)) _
-    (among_right f (type_faults Two records) _ (among_left f (type_faults Four records) _ h))
-among_types Six f records h =
+    (among_right f (type_faults sequenced.Two records) _ (among_left f (type_faults sequenced.Four records) _ h))
+among_types sequenced.Six f records h =
     among_right f (map ChainTwice (chain_tlids records)) _
-    (among_right f (type_faults Two records) _ (among_right f (type_faults Four records) _ (among_left f (type_faults Six records) _ h)))
-among_types I f records h =
+    (among_right f (type_faults sequenced.Two records) _
+    (among_right f (type_faults sequenced.Four records) _ (among_left f (type_faults sequenced.Six records) _ h)))
+
+-- the faults of the three types left aside
+after_types : (f : LinkFault) (records : List Record)
+    → Among f (map (NoChain I) (linked_tlids I records)
+    ++ (map LinkMissing (chain_tlids records) ++ map LinkTwice (map i_tlid (of_type_i records)))) → Among f (faults_11_to_15 records)
+after_types f records h =
     among_right f (map ChainTwice (chain_tlids records)) _
-    (among_right f (type_faults Two records) _
-    (among_right f (type_faults Four records) _ (among_right f (type_faults Six records) _ (among_left f (type_faults I records) _ h))))
+    (among_right f (type_faults sequenced.Two records) _
+    (among_right f (type_faults sequenced.Four records) _ (among_right f (type_faults sequenced.Six records) _ h)))
+
+no_chain_among : (t : LinkedType) (tlid : ℕ) (records : List Record) → Known nat_cmp (linked_tlids t records) tlid
+    → Among (NoChain t tlid) (faults_11_to_15 records)
+no_chain_among Two tlid records h =
+    among_types sequenced.Two (NoChain Two tlid) records (type_among_no_chain sequenced.Two tlid records h)
+no_chain_among Four tlid records h =
+    among_types sequenced.Four (NoChain Four tlid) records (type_among_no_chain sequenced.Four tlid records h)
+no_chain_among Six tlid records h =
+    among_types sequenced.Six (NoChain Six tlid) records (type_among_no_chain sequenced.Six tlid records h)
+no_chain_among I tlid records h =
+    after_types (NoChain I tlid) records
+    (among_left (NoChain I tlid) (map (NoChain I) (linked_tlids I records)) _
+    (known_among nat_keys (NoChain I) tlid (linked_tlids I records) h))
 
 some_above : (n : ℕ) → nat_lt 1 n ≡ true → 0 < n
 some_above n e = omega (arith, ltb-true 1 n e)
@@ -176,19 +204,15 @@ first_half records f h = among_left f (faults_11_to_15 records) (faults_16_to_20
 second_half : (records : List Record) (f : LinkFault) → Among f (faults_16_to_20 records) → Among f (all_faults records)
 second_half records f h = among_right f (faults_11_to_15 records) (faults_16_to_20 records) h
 
-sequence_among : (t : LinkedType) (tlid : ℕ) (records : List Record) → has_repeat nat_cmp (rtsqs t tlid records) ≡ true
-    → Known nat_cmp (linked_tlids t records) tlid
-sequence_among Two tlid records e = repeat_known two_tlid two_rtsq tlid (of_type_2 records) e
-sequence_among Four tlid records e = repeat_known four_tlid four_rtsq tlid (of_type_4 records) e
-sequence_among Six tlid records e = repeat_known six_tlid six_rtsq tlid (of_type_6 records) e
-sequence_among I tlid records e = absurd (false≢true e)
+sequence_among : (t : SequencedType) (tlid : ℕ) (records : List Record) → has_repeat nat_cmp (rtsqs t tlid records) ≡ true
+    → Known nat_cmp (linked_tlids (linked_type t) records) tlid
+sequence_among sequenced.Two tlid records e = repeat_known two_tlid two_rtsq tlid (of_type_2 records) e
+sequence_among sequenced.Four tlid records e = repeat_known four_tlid four_rtsq tlid (of_type_4 records) e
+sequence_among sequenced.Six tlid records e = repeat_known six_tlid six_rtsq tlid (of_type_6 records) e
 
 skip_types : (records : List Record) (f : LinkFault)
     → Among f (map LinkMissing (chain_tlids records) ++ map LinkTwice (map i_tlid (of_type_i records))) → Among f (faults_11_to_15 records)
-skip_types records f h =
-    among_right f (map ChainTwice (chain_tlids records)) _
-    (among_right f (type_faults Two records) _
-    (among_right f (type_faults Four records) _ (among_right f (type_faults Six records) _ (among_right f (type_faults I records) _ h))))
+skip_types records f h = after_types f records (among_right f (map (NoChain I) (linked_tlids I records)) _ h)
 
 pub broken_among : (records : List Record) (f : LinkFault) → is_broken records f ≡ true → Among f (all_faults records)
 broken_among records (ChainTwice tlid) e =
@@ -197,9 +221,8 @@ broken_among records (ChainTwice tlid) e =
     (known_among nat_keys ChainTwice tlid (chain_tlids records) (some_above (times nat_cmp tlid (chain_tlids records)) e)))
 broken_among records (NoChain t tlid) e =
     first_half records (NoChain t tlid)
-    (among_types t (NoChain t tlid) records
-    (type_among_no_chain t tlid records
-    (some (times nat_cmp tlid (linked_tlids t records)) (not (stands_in nat_cmp tlid (chain_tlids records))) e)))
+    (no_chain_among t tlid records
+    (some (times nat_cmp tlid (linked_tlids t records)) (not (stands_in nat_cmp tlid (chain_tlids records))) e))
 broken_among records (SequenceBroken t tlid) e =
     first_half records (SequenceBroken t tlid)
     (among_types t (SequenceBroken t tlid) records (type_among_sequence t tlid records (sequence_among t tlid records e)))

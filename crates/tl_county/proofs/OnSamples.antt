@@ -5,7 +5,7 @@ use Rattle.std.proofs.lemmas.Bool.{false≢true}
 use Rattle.std.proofs.lemmas.List.Sorted.{IsPermutation-refl, length_permutation}
 use Rattle.tl_layout.specs.declared.type7.Body7.{Body7}
 use Rattle.tl_county.specs.declared.fault.LinkFault.TheVariants.{ChainTwice, SequenceBroken, NameUnknown, PolygonUnknown}
-use Rattle.tl_county.specs.declared.fault.LinkedType.TheVariants.{Two as Type2}
+use Rattle.tl_county.specs.declared.fault.SequencedType.TheVariants as sequenced
 use Rattle.tl_county.specs.County.{county_of}
 use Rattle.tl_county.specs.CountyRules.{polygon_keys, nodes}
 use Rattle.tl_county.specs.LinkRules.{IsLinked, IsFirstBrokenRule}
@@ -112,8 +112,8 @@ pub name_unknown : IsFirstBrokenRule (four 500 1 (8 ∷ []) ∷ there) (NameUnkn
 name_unknown = first_rule_computed (four 500 1 (8 ∷ []) ∷ there) (NameUnknown 500 8) refl
 
 -- the least rule is told, though another is broken too
-pub sequence_broken : IsFirstBrokenRule (two 500 1 [] ∷ two 500 1 [] ∷ four 500 1 (8 ∷ []) ∷ there) (SequenceBroken Type2 500)
-sequence_broken = first_rule_computed (two 500 1 [] ∷ two 500 1 [] ∷ four 500 1 (8 ∷ []) ∷ there) (SequenceBroken Type2 500) refl
+pub sequence_broken : IsFirstBrokenRule (two 500 1 [] ∷ two 500 1 [] ∷ four 500 1 (8 ∷ []) ∷ there) (SequenceBroken sequenced.Two 500)
+sequence_broken = first_rule_computed (two 500 1 [] ∷ two 500 1 [] ∷ four 500 1 (8 ∷ []) ∷ there) (SequenceBroken sequenced.Two 500) refl
 
 pub polygon_unknown : IsFirstBrokenRule (landmark 30 (codes "Lee School") ∷ in_polygon 12 30 ∷ there) (PolygonUnknown cenid_1 12)
 polygon_unknown = first_rule_computed (landmark 30 (codes "Lee School") ∷ in_polygon 12 30 ∷ there) (PolygonUnknown cenid_1 12) refl

@@ -26,6 +26,8 @@ use Rattle.tl_county.specs.declared.fault.LinkFault.TheVariants.{NameTwice, Name
 use Rattle.tl_county.specs.declared.fault.LinkFault.TheVariants.{PolygonUnknown, Memory}
 use Rattle.tl_county.specs.declared.fault.LinkedType.{LinkedType}
 use Rattle.tl_county.specs.declared.fault.LinkedType.TheVariants.{Two, Four, Six, I}
+use Rattle.tl_county.specs.declared.fault.SequencedType.{SequencedType}
+use Rattle.tl_county.specs.declared.fault.SequencedType.TheVariants as sequenced
 use Rattle.tl_county.proofs.Counted.{all_in_pieces, all_numbered_from}
 use Rattle.tl_county.proofs.Distinct.{has_repeat-apart}
 use Rattle.tl_county.proofs.FirstFault.{Among, all_among}
@@ -183,23 +185,22 @@ module _ (c : County) (is : IsCounty c) where
       ap (has_repeat nat_cmp) numbers ∙ has_repeat-apart nat_keys (map (λ (piece : ℕ × Y). piece.0) (numbered_from 1 ys))
       (apart_from_sorted nat_keys (map (λ (piece : ℕ × Y). piece.0) (numbered_from 1 ys)) (numbered_strict 1 ys))
 
-  sequence : (t : LinkedType) (tlid : ℕ) → has_repeat nat_cmp (rtsqs t tlid (packed c)) ≡ false
-  sequence Two tlid = ap (λ xs. has_repeat nat_cmp (map two_rtsq (of_number two_tlid tlid xs))) twos
+  sequence : (t : SequencedType) (tlid : ℕ) → has_repeat nat_cmp (rtsqs t tlid (packed c)) ≡ false
+  sequence sequenced.Two tlid = ap (λ xs. has_repeat nat_cmp (map two_rtsq (of_number two_tlid tlid xs))) twos
       ∙ group_holds two_tlid packed_twos two_own (λ xs. has_repeat nat_cmp (map two_rtsq xs) ≡ false) refl c.chains tlids_apart
       (all_everywhere (λ e. has_repeat nat_cmp (map two_rtsq (packed_twos e)) ≡ false)
       (λ e. no_repeat two_rtsq (λ (piece : ℕ × List _). record { tlid = e.0; rtsq = piece.0; points = piece.1 }) (λ piece. refl)
       (in_pieces 10 (inner_points e.1.points))) c.chains) tlid
-  sequence Four tlid = ap (λ xs. has_repeat nat_cmp (map four_rtsq (of_number four_tlid tlid xs))) fours
+  sequence sequenced.Four tlid = ap (λ xs. has_repeat nat_cmp (map four_rtsq (of_number four_tlid tlid xs))) fours
       ∙ group_holds four_tlid packed_fours four_own (λ xs. has_repeat nat_cmp (map four_rtsq xs) ≡ false) refl c.chains tlids_apart
       (all_everywhere (λ e. has_repeat nat_cmp (map four_rtsq (packed_fours e)) ≡ false)
       (λ e. no_repeat four_rtsq (λ (piece : ℕ × List ℕ). record { tlid = e.0; rtsq = piece.0; feats = piece.1 }) (λ piece. refl)
       (in_pieces 5 e.1.feats)) c.chains) tlid
-  sequence Six tlid = ap (λ xs. has_repeat nat_cmp (map six_rtsq (of_number six_tlid tlid xs))) sixes
+  sequence sequenced.Six tlid = ap (λ xs. has_repeat nat_cmp (map six_rtsq (of_number six_tlid tlid xs))) sixes
       ∙ group_holds six_tlid packed_sixes six_own (λ xs. has_repeat nat_cmp (map six_rtsq xs) ≡ false) refl c.chains tlids_apart
       (all_everywhere (λ e. has_repeat nat_cmp (map six_rtsq (packed_sixes e)) ≡ false)
       (λ e. no_repeat six_rtsq (λ (piece : ℕ × Ranges). record { tlid = e.0; rtsq = piece.0; ranges = piece.1 })
       (λ piece. refl) e.1.ranges) c.chains) tlid
-  sequence I tlid = refl
 
   -- a test of names, of polygons and of landmarks
   named : (tlid : ℕ) → AllByRecursion (λ n. IsTrue (stands_in nat_cmp n (feats c))) (named_feats tlid (packed c))

@@ -15,6 +15,8 @@ use Rattle.tl_county.specs.declared.fault.LinkFault.TheVariants.{NameTwice, Name
 use Rattle.tl_county.specs.declared.fault.LinkFault.TheVariants.{PolygonUnknown, Memory}
 use Rattle.tl_county.specs.declared.fault.LinkedType.{LinkedType}
 use Rattle.tl_county.specs.declared.fault.LinkedType.TheVariants.{Two as Type2, Four as Type4, Six as Type6, I as TypeI}
+use Rattle.tl_county.specs.declared.fault.SequencedType.{SequencedType}
+use Rattle.tl_county.specs.declared.fault.SequencedType.TheVariants as sequenced
 use Rattle.tl_county.specs.BodyOrder.{landmark_body_cmp, link_cmp}
 use Rattle.tl_layout.specs.ByType.{as_type_1, as_type_2, as_type_4, as_type_5, as_type_6, as_type_7, as_type_8, as_type_i}
 use Rattle.tl_layout.specs.ByType.{as_type_p, of_type_1, of_type_2, of_type_4, of_type_5, of_type_6, of_type_7, of_type_8}
@@ -209,13 +211,13 @@ rtsqs_kept {X} tlid rtsq f new kt kr n xs up =
 
 module _ (q : Sequence) (xs : List Record) (up : KeepsSequence q xs) where
   new_two : Fields2 → Fields2
-  new_two r = record r { rtsq = q Type2 r.tlid r.rtsq }
+  new_two r = record r { rtsq = q sequenced.Two r.tlid r.rtsq }
 
   new_four : Fields4 → Fields4
-  new_four r = record r { rtsq = q Type4 r.tlid r.rtsq }
+  new_four r = record r { rtsq = q sequenced.Four r.tlid r.rtsq }
 
   new_six : Fields6 → Fields6
-  new_six r = record r { rtsq = q Type6 r.tlid r.rtsq }
+  new_six r = record r { rtsq = q sequenced.Six r.tlid r.rtsq }
 
   keeps_one : (r : Record) → as_type_1 (resequenced q r) ≡ as_type_1 r
   keeps_one (One r) = refl
@@ -262,19 +264,19 @@ module _ (q : Sequence) (xs : List Record) (up : KeepsSequence q xs) where
     points = λ n. ap (λ rs. flat_map (λ (r : Fields2). r.points) (in_order (on two_rtsq nat_cmp) (of_number two_tlid n rs)))
         (select-changed as_type_2 (resequenced q) new_two news_two xs)
         ∙ ap (flat_map (λ (r : Fields2). r.points))
-        (sequence_kept two_tlid two_rtsq new_two (q Type2) (λ r. refl) (λ r. refl) n (of_type_2 xs) (up Type2 n))
+        (sequence_kept two_tlid two_rtsq new_two (q sequenced.Two) (λ r. refl) (λ r. refl) n (of_type_2 xs) (up sequenced.Two n))
         ∙ flat_map-kept (λ (r : Fields2). r.points) new_two (λ r. refl)
         (in_order (on two_rtsq nat_cmp) (of_number two_tlid n (of_type_2 xs)));
     names = λ n. ap (λ rs. flat_map (λ (r : Fields4). r.feats) (in_order (on four_rtsq nat_cmp) (of_number four_tlid n rs)))
         (select-changed as_type_4 (resequenced q) new_four news_four xs)
         ∙ ap (flat_map (λ (r : Fields4). r.feats))
-        (sequence_kept four_tlid four_rtsq new_four (q Type4) (λ r. refl) (λ r. refl) n (of_type_4 xs) (up Type4 n))
+        (sequence_kept four_tlid four_rtsq new_four (q sequenced.Four) (λ r. refl) (λ r. refl) n (of_type_4 xs) (up sequenced.Four n))
         ∙ flat_map-kept (λ (r : Fields4). r.feats) new_four (λ r. refl)
         (in_order (on four_rtsq nat_cmp) (of_number four_tlid n (of_type_4 xs)));
     ranges = λ n. ap (λ rs. map (λ (r : Fields6). r.ranges) (in_order (on six_rtsq nat_cmp) (of_number six_tlid n rs)))
         (select-changed as_type_6 (resequenced q) new_six news_six xs)
-        ∙ ap (map (λ (r : Fields6). r.ranges)) (sequence_kept six_tlid six_rtsq new_six (q Type6) (λ r. refl) (λ r. refl) n
-        (of_type_6 xs) (up Type6 n))
+        ∙ ap (map (λ (r : Fields6). r.ranges)) (sequence_kept six_tlid six_rtsq new_six (q sequenced.Six) (λ r. refl) (λ r. refl) n
+        (of_type_6 xs) (up sequenced.Six n))
         ∙ map-map (λ (r : Fields6). r.ranges) new_six (in_order (on six_rtsq nat_cmp) (of_number six_tlid n (of_type_6 xs)));
     of_type_1 = select-kept as_type_1 (resequenced q) keeps_one xs;
     of_type_5 = select-kept as_type_5 (resequenced q) keeps_five xs;
@@ -320,15 +322,14 @@ module _ (q : Sequence) (xs : List Record) (up : KeepsSequence q xs) where
       ∙ ap (flat_map (λ (r : Fields4). r.feats)) (number-kept four_tlid new_four (λ r. refl) n (of_type_4 xs))
       ∙ flat_map-kept (λ (r : Fields4). r.feats) new_four (λ r. refl) (of_number four_tlid n (of_type_4 xs))
 
-  sequence_same : (t : LinkedType) (n : ℕ) → has_repeat nat_cmp (rtsqs t n ys) ≡ has_repeat nat_cmp (rtsqs t n xs)
+  sequence_same : (t : SequencedType) (n : ℕ) → has_repeat nat_cmp (rtsqs t n ys) ≡ has_repeat nat_cmp (rtsqs t n xs)
   unfolding new_two new_four new_six
-  sequence_same Type2 n = ap (λ rs. has_repeat nat_cmp (map two_rtsq (of_number two_tlid n rs))) two_is
-      ∙ rtsqs_kept two_tlid two_rtsq new_two (q Type2) (λ r. refl) (λ r. refl) n (of_type_2 xs) (up Type2 n)
-  sequence_same Type4 n = ap (λ rs. has_repeat nat_cmp (map four_rtsq (of_number four_tlid n rs))) four_is
-      ∙ rtsqs_kept four_tlid four_rtsq new_four (q Type4) (λ r. refl) (λ r. refl) n (of_type_4 xs) (up Type4 n)
-  sequence_same Type6 n = ap (λ rs. has_repeat nat_cmp (map six_rtsq (of_number six_tlid n rs))) six_is
-      ∙ rtsqs_kept six_tlid six_rtsq new_six (q Type6) (λ r. refl) (λ r. refl) n (of_type_6 xs) (up Type6 n)
-  sequence_same TypeI n = refl
+  sequence_same sequenced.Two n = ap (λ rs. has_repeat nat_cmp (map two_rtsq (of_number two_tlid n rs))) two_is
+      ∙ rtsqs_kept two_tlid two_rtsq new_two (q sequenced.Two) (λ r. refl) (λ r. refl) n (of_type_2 xs) (up sequenced.Two n)
+  sequence_same sequenced.Four n = ap (λ rs. has_repeat nat_cmp (map four_rtsq (of_number four_tlid n rs))) four_is
+      ∙ rtsqs_kept four_tlid four_rtsq new_four (q sequenced.Four) (λ r. refl) (λ r. refl) n (of_type_4 xs) (up sequenced.Four n)
+  sequence_same sequenced.Six n = ap (λ rs. has_repeat nat_cmp (map six_rtsq (of_number six_tlid n rs))) six_is
+      ∙ rtsqs_kept six_tlid six_rtsq new_six (q sequenced.Six) (λ r. refl) (λ r. refl) n (of_type_6 xs) (up sequenced.Six n)
 
   same_broken : (f : LinkFault) → is_broken ys f ≡ is_broken xs f
   unfolding ys

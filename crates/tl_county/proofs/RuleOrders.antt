@@ -12,6 +12,7 @@ use Rattle.tl_county.specs.declared.fault.LinkFault.TheVariants.{ChainTwice, NoC
 use Rattle.tl_county.specs.declared.fault.LinkFault.TheVariants.{NameTwice, NameUnknown, PolygonTwice, LandUnknown}
 use Rattle.tl_county.specs.declared.fault.LinkFault.TheVariants.{PolygonUnknown, Memory}
 use Rattle.tl_county.specs.declared.fault.LinkedType.TheVariants.{Two, Four, Six, I}
+use Rattle.tl_county.specs.declared.fault.SequencedType.TheVariants as sequenced
 use Rattle.tl_county.specs.FirstOf.{place_cmp}
 use Rattle.tl_county.specs.Keyed.{IsLeastPassing}
 use Rattle.tl_county.specs.LinkRules.{is_broken, fault_place, IsLinked, IsFirstBrokenRule}
@@ -31,14 +32,13 @@ head_of_rule n =
     (cond (n == 5) ((13 ∷ []) ∷ (2 ∷ []) ∷ [])
     (cond (n == 6) ((13 ∷ []) ∷ (4 ∷ []) ∷ [])
     (cond (n == 7) ((13 ∷ []) ∷ (6 ∷ []) ∷ [])
-    (cond (n == 8) ((13 ∷ []) ∷ (7 ∷ []) ∷ [])
-    (cond (n == 9) ((14 ∷ []) ∷ [])
-    (cond (n == 10) ((15 ∷ []) ∷ [])
-    (cond (n == 11) ((16 ∷ []) ∷ [])
-    (cond (n == 12) ((17 ∷ []) ∷ [])
-    (cond (n == 13) ((18 ∷ []) ∷ [])
-    (cond (n == 14) ((19 ∷ []) ∷ [])
-    (cond (n == 15) ((20 ∷ []) ∷ []) ((9 ∷ []) ∷ []))))))))))))))))
+    (cond (n == 8) ((14 ∷ []) ∷ [])
+    (cond (n == 9) ((15 ∷ []) ∷ [])
+    (cond (n == 10) ((16 ∷ []) ∷ [])
+    (cond (n == 11) ((17 ∷ []) ∷ [])
+    (cond (n == 12) ((18 ∷ []) ∷ [])
+    (cond (n == 13) ((19 ∷ []) ∷ [])
+    (cond (n == 14) ((20 ∷ []) ∷ []) ((9 ∷ []) ∷ [])))))))))))))))
 
 abbrev pub key_place : LinkFault → List (List ℕ)
 key_place (ChainTwice tlid) = (tlid ∷ []) ∷ []
@@ -59,10 +59,9 @@ place-split (NoChain Two tlid) = refl
 place-split (NoChain Four tlid) = refl
 place-split (NoChain Six tlid) = refl
 place-split (NoChain I tlid) = refl
-place-split (SequenceBroken Two tlid) = refl
-place-split (SequenceBroken Four tlid) = refl
-place-split (SequenceBroken Six tlid) = refl
-place-split (SequenceBroken I tlid) = refl
+place-split (SequenceBroken sequenced.Two tlid) = refl
+place-split (SequenceBroken sequenced.Four tlid) = refl
+place-split (SequenceBroken sequenced.Six tlid) = refl
 place-split (LinkMissing tlid) = refl
 place-split (LinkTwice tlid) = refl
 place-split (NameTwice feat) = refl
@@ -80,17 +79,16 @@ fault_of_rule n p =
     (cond (n == 2) (NoChain Four (number p 0))
     (cond (n == 3) (NoChain Six (number p 0))
     (cond (n == 4) (NoChain I (number p 0))
-    (cond (n == 5) (SequenceBroken Two (number p 0))
-    (cond (n == 6) (SequenceBroken Four (number p 0))
-    (cond (n == 7) (SequenceBroken Six (number p 0))
-    (cond (n == 8) (SequenceBroken I (number p 0))
-    (cond (n == 9) (LinkMissing (number p 0))
-    (cond (n == 10) (LinkTwice (number p 0))
-    (cond (n == 11) (NameTwice (number p 0))
-    (cond (n == 12) (NameUnknown (number p 0) (number p 1))
-    (cond (n == 13) (PolygonTwice (part p 0) (number p 1))
-    (cond (n == 14) (LandUnknown (number p 0))
-    (cond (n == 15) (PolygonUnknown (part p 0) (number p 1)) Memory)))))))))))))))
+    (cond (n == 5) (SequenceBroken sequenced.Two (number p 0))
+    (cond (n == 6) (SequenceBroken sequenced.Four (number p 0))
+    (cond (n == 7) (SequenceBroken sequenced.Six (number p 0))
+    (cond (n == 8) (LinkMissing (number p 0))
+    (cond (n == 9) (LinkTwice (number p 0))
+    (cond (n == 10) (NameTwice (number p 0))
+    (cond (n == 11) (NameUnknown (number p 0) (number p 1))
+    (cond (n == 12) (PolygonTwice (part p 0) (number p 1))
+    (cond (n == 13) (LandUnknown (number p 0))
+    (cond (n == 14) (PolygonUnknown (part p 0) (number p 1)) Memory))))))))))))))
 
 pub fault_of_rule-itself : (f : LinkFault) → fault_of_rule (rule_place f) (key_place f) ≡ f
 fault_of_rule-itself (ChainTwice tlid) = refl
@@ -98,10 +96,9 @@ fault_of_rule-itself (NoChain Two tlid) = refl
 fault_of_rule-itself (NoChain Four tlid) = refl
 fault_of_rule-itself (NoChain Six tlid) = refl
 fault_of_rule-itself (NoChain I tlid) = refl
-fault_of_rule-itself (SequenceBroken Two tlid) = refl
-fault_of_rule-itself (SequenceBroken Four tlid) = refl
-fault_of_rule-itself (SequenceBroken Six tlid) = refl
-fault_of_rule-itself (SequenceBroken I tlid) = refl
+fault_of_rule-itself (SequenceBroken sequenced.Two tlid) = refl
+fault_of_rule-itself (SequenceBroken sequenced.Four tlid) = refl
+fault_of_rule-itself (SequenceBroken sequenced.Six tlid) = refl
 fault_of_rule-itself (LinkMissing tlid) = refl
 fault_of_rule-itself (LinkTwice tlid) = refl
 fault_of_rule-itself (NameTwice feat) = refl
@@ -113,7 +110,7 @@ fault_of_rule-itself Memory = refl
 
 -- the places at which the rules stand
 abbrev places : List ℕ
-places = 0 ∷ 1 ∷ 2 ∷ 3 ∷ 4 ∷ 5 ∷ 6 ∷ 7 ∷ 8 ∷ 9 ∷ 10 ∷ 11 ∷ 12 ∷ 13 ∷ 14 ∷ 15 ∷ []
+places = 0 ∷ 1 ∷ 2 ∷ 3 ∷ 4 ∷ 5 ∷ 6 ∷ 7 ∷ 8 ∷ 9 ∷ 10 ∷ 11 ∷ 12 ∷ 13 ∷ 14 ∷ []
 
 -- a fault that is there stands at one of them
 has_place : (records : List Record) (f : LinkFault) → is_broken records f ≡ true → list_any (λ n. n == rule_place f) places ≡ true
@@ -122,10 +119,9 @@ has_place records (NoChain Two tlid) b = refl
 has_place records (NoChain Four tlid) b = refl
 has_place records (NoChain Six tlid) b = refl
 has_place records (NoChain I tlid) b = refl
-has_place records (SequenceBroken Two tlid) b = refl
-has_place records (SequenceBroken Four tlid) b = refl
-has_place records (SequenceBroken Six tlid) b = refl
-has_place records (SequenceBroken I tlid) b = refl
+has_place records (SequenceBroken sequenced.Two tlid) b = refl
+has_place records (SequenceBroken sequenced.Four tlid) b = refl
+has_place records (SequenceBroken sequenced.Six tlid) b = refl
 has_place records (LinkMissing tlid) b = refl
 has_place records (LinkTwice tlid) b = refl
 has_place records (NameTwice feat) b = refl
@@ -248,15 +244,15 @@ first-after records {low} {mid} {f} le h k =
         go false e = k.least g (ltb-false (rule_place g) mid e) b
 
 -- all rules together
-pub all_hold : (records : List Record) → RulesHold records 0 16 → IsLinked records
+pub all_hold : (records : List Record) → RulesHold records 0 15 → IsLinked records
 all_hold records h f = go (is_broken records f) refl
   where
     go : (t : Bool) → is_broken records f ≡ t → is_broken records f ≡ false
     go false e = e
     go true e = h f (omega arith) (below (place_among records f e))
       where
-        below : Among (rule_place f) places → rule_place f < 16
-        below m = ltb-true (rule_place f) 16 (all_of (λ n. nat_lt n 16) places refl (rule_place f) m)
+        below : Among (rule_place f) places → rule_place f < 15
+        below m = ltb-true (rule_place f) 15 (all_of (λ n. nat_lt n 15) places refl (rule_place f) m)
 
 pub first_of_all : (records : List Record) (f : LinkFault) → IsFirstFrom records 0 f → IsFirstBrokenRule records f
 first_of_all records f h = record { there = h.broken; least = λ g b. h.least g (omega arith) b }

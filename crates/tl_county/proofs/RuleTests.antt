@@ -13,6 +13,7 @@ use Rattle.tl_county.specs.declared.fault.LinkFault.TheVariants.{ChainTwice, NoC
 use Rattle.tl_county.specs.declared.fault.LinkFault.TheVariants.{NameTwice, NameUnknown, PolygonTwice, LandUnknown}
 use Rattle.tl_county.specs.declared.fault.LinkFault.TheVariants.{PolygonUnknown}
 use Rattle.tl_county.specs.declared.fault.LinkedType.TheVariants.{Two, Four, Six, I}
+use Rattle.tl_county.specs.declared.fault.SequencedType.TheVariants as sequenced
 use Rattle.tl_county.specs.BodyOrder.{bytes_cmp}
 use Rattle.tl_county.specs.County.{one_tlid, two_tlid, two_rtsq, four_tlid, four_rtsq, five_feat, six_tlid, six_rtsq, seven_land}
 use Rattle.tl_county.specs.County.{eight_land, eight_key, i_tlid, p_key, side_keys}
@@ -275,7 +276,7 @@ module _ (records : List Record) (t : Typed) (e : by_type records ≡ t) where
   }
 
   pub rule_13_two : IsRule nat_cmp (λ k. has_repeat nat_cmp (map two_rtsq (of_number two_tlid k t.of_type_2))) records 5
-      (SequenceBroken Two)
+      (SequenceBroken sequenced.Two)
   rule_13_two = record {
     broken = λ k. ap (λ (u : Typed). has_repeat nat_cmp (map two_rtsq (of_number two_tlid k u.of_type_2))) e;
     place =
@@ -286,7 +287,7 @@ module _ (records : List Record) (t : Typed) (e : by_type records ≡ t) where
   }
 
   pub rule_13_four : IsRule nat_cmp (λ k. has_repeat nat_cmp (map four_rtsq (of_number four_tlid k t.of_type_4))) records 6
-      (SequenceBroken Four)
+      (SequenceBroken sequenced.Four)
   rule_13_four = record {
     broken =
         λ k. ap (λ (u : Typed). has_repeat nat_cmp (map four_rtsq (of_number four_tlid k u.of_type_4))) e;
@@ -298,7 +299,7 @@ module _ (records : List Record) (t : Typed) (e : by_type records ≡ t) where
   }
 
   pub rule_13_six : IsRule nat_cmp (λ k. has_repeat nat_cmp (map six_rtsq (of_number six_tlid k t.of_type_6))) records 7
-      (SequenceBroken Six)
+      (SequenceBroken sequenced.Six)
   rule_13_six = record {
     broken = λ k. ap (λ (u : Typed). has_repeat nat_cmp (map six_rtsq (of_number six_tlid k u.of_type_6))) e;
     place =
@@ -308,18 +309,7 @@ module _ (records : List Record) (t : Typed) (e : by_type records ≡ t) where
     order = λ k j h. single (nat_cmp k j) h;
   }
 
-  -- no record of type I has an RTSQ
-  pub rule_13_i : IsRule nat_cmp (λ k. false) records 8 (SequenceBroken I)
-  rule_13_i = record {
-    broken = λ k. refl;
-    place = λ k. refl;
-    key = λ p. number p 0;
-    only = λ p. refl;
-    order =
-        λ k j h. single (nat_cmp k j) h;
-  }
-
-  pub rule_14 : IsRule nat_cmp (is_unknown nat_cmp (map one_tlid t.of_type_1) (map i_tlid t.of_type_i)) records 9 LinkMissing
+  pub rule_14 : IsRule nat_cmp (is_unknown nat_cmp (map one_tlid t.of_type_1) (map i_tlid t.of_type_i)) records 8 LinkMissing
   rule_14 = record {
     broken = λ k. ap (λ (u : Typed). is_unknown nat_cmp (map one_tlid u.of_type_1) (map i_tlid u.of_type_i) k) e;
     place =
@@ -329,7 +319,7 @@ module _ (records : List Record) (t : Typed) (e : by_type records ≡ t) where
     order = λ k j h. single (nat_cmp k j) h;
   }
 
-  pub rule_15 : IsRule nat_cmp (is_repeated nat_cmp (map i_tlid t.of_type_i)) records 10 LinkTwice
+  pub rule_15 : IsRule nat_cmp (is_repeated nat_cmp (map i_tlid t.of_type_i)) records 9 LinkTwice
   rule_15 = record {
     broken = λ k. ap (λ (u : Typed). is_repeated nat_cmp (map i_tlid u.of_type_i) k) e;
     place = λ k. refl;
@@ -339,7 +329,7 @@ module _ (records : List Record) (t : Typed) (e : by_type records ≡ t) where
     order = λ k j h. single (nat_cmp k j) h;
   }
 
-  pub rule_16 : IsRule nat_cmp (is_repeated nat_cmp (map five_feat t.of_type_5)) records 11 NameTwice
+  pub rule_16 : IsRule nat_cmp (is_repeated nat_cmp (map five_feat t.of_type_5)) records 10 NameTwice
   rule_16 = record {
     broken = λ k. ap (λ (u : Typed). is_repeated nat_cmp (map five_feat u.of_type_5) k) e;
     place = λ k. refl;
@@ -349,7 +339,7 @@ module _ (records : List Record) (t : Typed) (e : by_type records ≡ t) where
     order = λ k j h. single (nat_cmp k j) h;
   }
 
-  pub rule_17 : IsRule sequence_cmp (is_unnamed (flat_map uses_of t.of_type_4) (map five_feat t.of_type_5)) records 12
+  pub rule_17 : IsRule sequence_cmp (is_unnamed (flat_map uses_of t.of_type_4) (map five_feat t.of_type_5)) records 11
       (λ pair. NameUnknown pair.0 pair.1)
   rule_17 = record {
     broken = λ k. ap (λ (u : Typed). stands_in nat_cmp k.1
@@ -362,7 +352,7 @@ module _ (records : List Record) (t : Typed) (e : by_type records ≡ t) where
     order = λ k j h. paired (nat_cmp k.0 j.0) (nat_cmp k.1 j.1) h;
   }
 
-  pub rule_18 : IsRule key_cmp (is_repeated key_cmp (map p_key t.of_type_p)) records 13 (λ key. PolygonTwice key.0 key.1)
+  pub rule_18 : IsRule key_cmp (is_repeated key_cmp (map p_key t.of_type_p)) records 12 (λ key. PolygonTwice key.0 key.1)
   rule_18 = record {
     broken = λ k. ap (λ (u : Typed). is_repeated key_cmp (map p_key u.of_type_p) k) e;
     place = λ k. refl;
@@ -372,7 +362,7 @@ module _ (records : List Record) (t : Typed) (e : by_type records ≡ t) where
     order = λ k j h. keyed (bytes_cmp k.0 j.0) (nat_cmp k.1 j.1) h;
   }
 
-  pub rule_19 : IsRule nat_cmp (is_unknown nat_cmp (map eight_land t.of_type_8) (map seven_land t.of_type_7)) records 14 LandUnknown
+  pub rule_19 : IsRule nat_cmp (is_unknown nat_cmp (map eight_land t.of_type_8) (map seven_land t.of_type_7)) records 13 LandUnknown
   rule_19 = record {
     broken =
         λ k. ap (λ (u : Typed). is_unknown nat_cmp (map eight_land u.of_type_8) (map seven_land u.of_type_7) k) e;
@@ -384,7 +374,7 @@ module _ (records : List Record) (t : Typed) (e : by_type records ≡ t) where
   }
 
   pub rule_20 : IsRule key_cmp (is_unknown key_cmp (map eight_key t.of_type_8)
-      (flat_map side_keys t.of_type_i ++ map p_key t.of_type_p)) records 15 (λ key. PolygonUnknown key.0 key.1)
+      (flat_map side_keys t.of_type_i ++ map p_key t.of_type_p)) records 14 (λ key. PolygonUnknown key.0 key.1)
   rule_20 = record {
     broken =
         λ k. ap (λ (u : Typed). is_unknown key_cmp (map eight_key u.of_type_8) (flat_map side_keys u.of_type_i ++ map p_key u.of_type_p) k) e;

@@ -10,6 +10,8 @@ use Rattle.tl_county.specs.declared.fault.LinkFault.TheVariants.{NameTwice, Name
 use Rattle.tl_county.specs.declared.fault.LinkFault.TheVariants.{PolygonUnknown, Memory}
 use Rattle.tl_county.specs.declared.fault.LinkedType.{LinkedType}
 use Rattle.tl_county.specs.declared.fault.LinkedType.TheVariants.{Two, Four, Six, I}
+use Rattle.tl_county.specs.declared.fault.SequencedType.{SequencedType}
+use Rattle.tl_county.specs.declared.fault.SequencedType.TheVariants as sequenced
 use Rattle.tl_county.specs.BodyOrder.{landmark_body_cmp}
 use Rattle.tl_layout.specs.ByType.{as_type_1, as_type_2, as_type_4, as_type_5, as_type_6, as_type_7, as_type_8, as_type_i}
 use Rattle.tl_layout.specs.ByType.{as_type_p, of_type_1, of_type_2, of_type_4, of_type_5, of_type_6, of_type_7, of_type_8}
@@ -134,11 +136,10 @@ module _ (xs ys : List Record) (p : IsPermutation xs ys) (linked : IsLinked xs) 
       (same-map g (of_number f n us) (of_number f n vs) (same-filter (λ x. f x == n) us vs s))
       (apart_from_no_repeat nat_keys (map g (of_number f n us)) e))
 
-  sequence_same : (t : LinkedType) (n : ℕ) → has_repeat nat_cmp (rtsqs t n xs) ≡ false → has_repeat nat_cmp (rtsqs t n ys) ≡ false
-  sequence_same Two n e = repeat_same two_tlid two_rtsq n (of_type_2 xs) (of_type_2 ys) s_twos e
-  sequence_same Four n e = repeat_same four_tlid four_rtsq n (of_type_4 xs) (of_type_4 ys) s_fours e
-  sequence_same Six n e = repeat_same six_tlid six_rtsq n (of_type_6 xs) (of_type_6 ys) s_sixes e
-  sequence_same I n e = refl
+  sequence_same : (t : SequencedType) (n : ℕ) → has_repeat nat_cmp (rtsqs t n xs) ≡ false → has_repeat nat_cmp (rtsqs t n ys) ≡ false
+  sequence_same sequenced.Two n e = repeat_same two_tlid two_rtsq n (of_type_2 xs) (of_type_2 ys) s_twos e
+  sequence_same sequenced.Four n e = repeat_same four_tlid four_rtsq n (of_type_4 xs) (of_type_4 ys) s_fours e
+  sequence_same sequenced.Six n e = repeat_same six_tlid six_rtsq n (of_type_6 xs) (of_type_6 ys) s_sixes e
 
   pub reordered-linked : IsLinked ys
   reordered-linked (ChainTwice n) = ap (nat_lt 1) (chain_times n) ∙ linked (ChainTwice n)
@@ -170,11 +171,11 @@ module _ (xs ys : List Record) (p : IsPermutation xs ys) (linked : IsLinked xs) 
   chain_same : (r : Fields1) (link : FieldsI) → chain_of xs r link ≡ chain_of ys r link
   chain_same r link = λ i. record (chain_of xs r link) {
     points = r.start ∷ (flat_map (λ (q : Fields2). q.points)
-        (in_sequence two_tlid two_rtsq r.tlid (of_type_2 xs) (of_type_2 ys) s_twos (linked (SequenceBroken Two r.tlid)) i) ++ (r.end ∷ []));
+        (in_sequence two_tlid two_rtsq r.tlid (of_type_2 xs) (of_type_2 ys) s_twos (linked (SequenceBroken sequenced.Two r.tlid)) i) ++ (r.end ∷ []));
     feats = flat_map (λ (q : Fields4). q.feats) (in_sequence four_tlid four_rtsq r.tlid (of_type_4 xs) (of_type_4 ys) s_fours
-        (linked (SequenceBroken Four r.tlid)) i);
+        (linked (SequenceBroken sequenced.Four r.tlid)) i);
     ranges = map (λ (q : Fields6). q.ranges) (in_sequence six_tlid six_rtsq r.tlid (of_type_6 xs) (of_type_6 ys) s_sixes
-        (linked (SequenceBroken Six r.tlid)) i);
+        (linked (SequenceBroken sequenced.Six r.tlid)) i);
   }
 
   links_same : (n : ℕ) → of_number i_tlid n (of_type_i xs) ≡ of_number i_tlid n (of_type_i ys)

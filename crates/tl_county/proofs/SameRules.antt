@@ -13,6 +13,7 @@ use Rattle.tl_county.specs.declared.fault.LinkFault.TheVariants.{NameTwice, Name
 use Rattle.tl_county.specs.declared.fault.LinkFault.TheVariants.{PolygonUnknown, Memory}
 use Rattle.tl_county.specs.declared.fault.LinkedType.{LinkedType}
 use Rattle.tl_county.specs.declared.fault.LinkedType.TheVariants.{Two, Four, Six, I}
+use Rattle.tl_county.specs.declared.fault.SequencedType.TheVariants as sequenced
 use Rattle.tl_county.specs.County.{one_tlid, two_tlid, two_rtsq, four_tlid, four_rtsq, five_feat, six_tlid, six_rtsq, seven_land}
 use Rattle.tl_county.specs.County.{eight_land, eight_key, i_tlid, p_key, side_keys}
 use Rattle.tl_county.specs.LinkRules.{chain_tlids, linked_tlids, rtsqs, named_feats, is_broken, IsLinked, IsFirstBrokenRule}
@@ -115,16 +116,15 @@ module _ (xs ys : List Record) (s : SameElements xs ys) where
   same-broken (NoChain t n) =
       ap₂ (λ a b. nat_lt 0 a && not (nat_lt 0 b)) (times-same nat_cmp (linked_tlids t xs) (linked_tlids t ys) (s_linked t) n)
       (times-same nat_cmp (chain_tlids xs) (chain_tlids ys) s_ones n)
-  same-broken (SequenceBroken Two n) =
-      repeat_same (rtsqs Two n xs) (rtsqs Two n ys)
+  same-broken (SequenceBroken sequenced.Two n) =
+      repeat_same (rtsqs sequenced.Two n xs) (rtsqs sequenced.Two n ys)
       (sequence_of two_tlid two_rtsq n (of_type_2 xs) (of_type_2 ys) (same-filter_map as_type_2 xs ys s))
-  same-broken (SequenceBroken Four n) =
-      repeat_same (rtsqs Four n xs) (rtsqs Four n ys)
+  same-broken (SequenceBroken sequenced.Four n) =
+      repeat_same (rtsqs sequenced.Four n xs) (rtsqs sequenced.Four n ys)
       (sequence_of four_tlid four_rtsq n (of_type_4 xs) (of_type_4 ys) (same-filter_map as_type_4 xs ys s))
-  same-broken (SequenceBroken Six n) =
-      repeat_same (rtsqs Six n xs) (rtsqs Six n ys)
+  same-broken (SequenceBroken sequenced.Six n) =
+      repeat_same (rtsqs sequenced.Six n xs) (rtsqs sequenced.Six n ys)
       (sequence_of six_tlid six_rtsq n (of_type_6 xs) (of_type_6 ys) (same-filter_map as_type_6 xs ys s))
-  same-broken (SequenceBroken I n) = refl
   same-broken (LinkMissing n) =
       ap₂ (λ a b. nat_lt 0 a && not (nat_lt 0 b)) (times-same nat_cmp (chain_tlids xs) (chain_tlids ys) s_ones n)
       (times-same nat_cmp (linked_tlids I xs) (linked_tlids I ys) (s_linked I) n)

@@ -19,6 +19,7 @@ use Rattle.tl_county.specs.declared.fault.LinkFault.TheVariants.{ChainTwice, NoC
 use Rattle.tl_county.specs.declared.fault.LinkFault.TheVariants.{NameTwice, NameUnknown, PolygonTwice, LandUnknown}
 use Rattle.tl_county.specs.declared.fault.LinkFault.TheVariants.{PolygonUnknown, Memory}
 use Rattle.tl_county.specs.declared.fault.LinkedType.TheVariants.{Two as Type2, Four as Type4, Six as Type6, I as TypeI}
+use Rattle.tl_county.specs.declared.fault.SequencedType.TheVariants as sequenced_types
 use Rattle.tl_county.proofs.Keys.{nat_keys, times-no}
 use Rattle.tl_county.proofs.Numbers.{all-in_order}
 use Rattle.tl_county.proofs.Repacking.{AreRepacked, less, greater, repacked-county}
@@ -214,13 +215,12 @@ module _ (others : List Record) (whole first second : Fields2)
   two-broken : (f : LinkFault) → is_broken (Two whole ∷ others) f ≡ is_broken (Two first ∷ Two second ∷ others) f
   two-broken (NoChain Type2 n) = ap (λ b. b && not (stands_in nat_cmp n (chain_tlids others)))
       (known-cut two_tlid two_rtsq (λ (r : Fields2). r.points) (of_type_2 others) whole first second cut n)
-  two-broken (SequenceBroken Type2 n) = repeat-cut two_tlid two_rtsq (λ (r : Fields2). r.points) (of_type_2 others) whole first second cut n
+  two-broken (SequenceBroken sequenced_types.Two n) = repeat-cut two_tlid two_rtsq (λ (r : Fields2). r.points) (of_type_2 others) whole first second cut n
   two-broken (NoChain Type4 n) = refl
   two-broken (NoChain Type6 n) = refl
   two-broken (NoChain TypeI n) = refl
-  two-broken (SequenceBroken Type4 n) = refl
-  two-broken (SequenceBroken Type6 n) = refl
-  two-broken (SequenceBroken TypeI n) = refl
+  two-broken (SequenceBroken sequenced_types.Four n) = refl
+  two-broken (SequenceBroken sequenced_types.Six n) = refl
   two-broken (ChainTwice n) = refl
   two-broken (LinkMissing n) = refl
   two-broken (LinkTwice n) = refl
@@ -250,7 +250,7 @@ module _ (others : List Record) (whole first second : Fields4)
   four-broken : (f : LinkFault) → is_broken (Four whole ∷ others) f ≡ is_broken (Four first ∷ Four second ∷ others) f
   four-broken (NoChain Type4 n) = ap (λ b. b && not (stands_in nat_cmp n (chain_tlids others)))
       (known-cut four_tlid four_rtsq (λ (r : Fields4). r.feats) (of_type_4 others) whole first second cut n)
-  four-broken (SequenceBroken Type4 n) = repeat-cut four_tlid four_rtsq (λ (r : Fields4). r.feats)
+  four-broken (SequenceBroken sequenced_types.Four n) = repeat-cut four_tlid four_rtsq (λ (r : Fields4). r.feats)
       (of_type_4 others) whole first second cut n
   four-broken (NameUnknown n y) = ap (λ feats. stands_in nat_cmp y feats && not (stands_in nat_cmp y (map (λ r. r.feat)
       (of_type_5 others))))
@@ -258,9 +258,8 @@ module _ (others : List Record) (whole first second : Fields4)
   four-broken (NoChain Type2 n) = refl
   four-broken (NoChain Type6 n) = refl
   four-broken (NoChain TypeI n) = refl
-  four-broken (SequenceBroken Type2 n) = refl
-  four-broken (SequenceBroken Type6 n) = refl
-  four-broken (SequenceBroken TypeI n) = refl
+  four-broken (SequenceBroken sequenced_types.Two n) = refl
+  four-broken (SequenceBroken sequenced_types.Six n) = refl
   four-broken (ChainTwice n) = refl
   four-broken (LinkMissing n) = refl
   four-broken (LinkTwice n) = refl
@@ -332,14 +331,13 @@ two-left_out : (others : List Record) (empty : Fields2) → IsLinked (Two empty 
 two-left_out others empty linked (NoChain Type2 n) =
     unknown-empty two_tlid two_rtsq (λ (r : Fields2). r.points) empty n (of_type_2 others) (stands_in nat_cmp n (chain_tlids others))
     (linked (NoChain Type2 n))
-two-left_out others empty linked (SequenceBroken Type2 n) =
-    repeat-empty two_tlid two_rtsq (λ (r : Fields2). r.points) empty n (of_type_2 others) (linked (SequenceBroken Type2 n))
+two-left_out others empty linked (SequenceBroken sequenced_types.Two n) =
+    repeat-empty two_tlid two_rtsq (λ (r : Fields2). r.points) empty n (of_type_2 others) (linked (SequenceBroken sequenced_types.Two n))
 two-left_out others empty linked (NoChain Type4 n) = linked (NoChain Type4 n)
 two-left_out others empty linked (NoChain Type6 n) = linked (NoChain Type6 n)
 two-left_out others empty linked (NoChain TypeI n) = linked (NoChain TypeI n)
-two-left_out others empty linked (SequenceBroken Type4 n) = linked (SequenceBroken Type4 n)
-two-left_out others empty linked (SequenceBroken Type6 n) = linked (SequenceBroken Type6 n)
-two-left_out others empty linked (SequenceBroken TypeI n) = refl
+two-left_out others empty linked (SequenceBroken sequenced_types.Four n) = linked (SequenceBroken sequenced_types.Four n)
+two-left_out others empty linked (SequenceBroken sequenced_types.Six n) = linked (SequenceBroken sequenced_types.Six n)
 two-left_out others empty linked (ChainTwice n) = linked (ChainTwice n)
 two-left_out others empty linked (LinkMissing n) = linked (LinkMissing n)
 two-left_out others empty linked (LinkTwice n) = linked (LinkTwice n)
@@ -354,8 +352,8 @@ four-left_out : (others : List Record) (empty : Fields4) → empty.feats ≡ [] 
 four-left_out others empty none linked (NoChain Type4 n) =
     unknown-empty four_tlid four_rtsq (λ (r : Fields4). r.feats) empty n (of_type_4 others) (stands_in nat_cmp n (chain_tlids others))
     (linked (NoChain Type4 n))
-four-left_out others empty none linked (SequenceBroken Type4 n) =
-    repeat-empty four_tlid four_rtsq (λ (r : Fields4). r.feats) empty n (of_type_4 others) (linked (SequenceBroken Type4 n))
+four-left_out others empty none linked (SequenceBroken sequenced_types.Four n) =
+    repeat-empty four_tlid four_rtsq (λ (r : Fields4). r.feats) empty n (of_type_4 others) (linked (SequenceBroken sequenced_types.Four n))
 four-left_out others empty none linked (NameUnknown n y) =
     ap (λ feats. stands_in nat_cmp y feats && not (stands_in nat_cmp y (map (λ r. r.feat) (of_type_5 others))))
     (sym (held-empty four_tlid four_rtsq (λ (r : Fields4). r.feats) empty none n (of_type_4 others)))
@@ -363,9 +361,8 @@ four-left_out others empty none linked (NameUnknown n y) =
 four-left_out others empty none linked (NoChain Type2 n) = linked (NoChain Type2 n)
 four-left_out others empty none linked (NoChain Type6 n) = linked (NoChain Type6 n)
 four-left_out others empty none linked (NoChain TypeI n) = linked (NoChain TypeI n)
-four-left_out others empty none linked (SequenceBroken Type2 n) = linked (SequenceBroken Type2 n)
-four-left_out others empty none linked (SequenceBroken Type6 n) = linked (SequenceBroken Type6 n)
-four-left_out others empty none linked (SequenceBroken TypeI n) = refl
+four-left_out others empty none linked (SequenceBroken sequenced_types.Two n) = linked (SequenceBroken sequenced_types.Two n)
+four-left_out others empty none linked (SequenceBroken sequenced_types.Six n) = linked (SequenceBroken sequenced_types.Six n)
 four-left_out others empty none linked (ChainTwice n) = linked (ChainTwice n)
 four-left_out others empty none linked (LinkMissing n) = linked (LinkMissing n)
 four-left_out others empty none linked (LinkTwice n) = linked (LinkTwice n)

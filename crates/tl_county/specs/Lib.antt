@@ -19,6 +19,7 @@ pub mod County
 pub mod CountyRules
 pub mod Renumbering
 pub mod FirstOf
+pub mod LinkedTypes
 pub mod LinkRules
 pub mod Repacked
 pub mod Packing

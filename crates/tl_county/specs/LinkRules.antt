@@ -8,11 +8,14 @@ use Rattle.tl_county.specs.declared.fault.LinkFault.TheVariants.{NameTwice, Name
 use Rattle.tl_county.specs.declared.fault.LinkFault.TheVariants.{PolygonUnknown, Memory}
 use Rattle.tl_county.specs.declared.fault.LinkedType.{LinkedType}
 use Rattle.tl_county.specs.declared.fault.LinkedType.TheVariants.{Two, Four, Six, I}
+use Rattle.tl_county.specs.declared.fault.SequencedType.{SequencedType}
+use Rattle.tl_county.specs.declared.fault.SequencedType.TheVariants as sequenced
 use Rattle.tl_layout.specs.ByType.{of_type_1, of_type_2, of_type_4, of_type_5, of_type_6, of_type_7, of_type_8, of_type_i}
 use Rattle.tl_layout.specs.ByType.{of_type_p, of_number}
 use Rattle.tl_county.specs.County.{one_tlid, two_tlid, two_rtsq, four_tlid, four_rtsq, five_feat, six_tlid, six_rtsq, seven_land}
 use Rattle.tl_county.specs.County.{eight_land, eight_key, i_tlid, p_key, side_keys}
 use Rattle.tl_county.specs.FirstOf.{IsFirst}
+use Rattle.tl_county.specs.LinkedTypes.{linked_type}
 use Rattle.tl_county.specs.Orders.{times, stands_in, has_repeat}
 use Rattle.tl_county.specs.PolygonKeys.{key_cmp}
 
@@ -28,11 +31,10 @@ linked_tlids Six records = map six_tlid (of_type_6 records)
 linked_tlids I records = map i_tlid (of_type_i records)
 
 -- the RTSQs of a chain's records of a type
-abbrev pub rtsqs : LinkedType → ℕ → List Record → List ℕ
-rtsqs Two tlid records = map two_rtsq (of_number two_tlid tlid (of_type_2 records))
-rtsqs Four tlid records = map four_rtsq (of_number four_tlid tlid (of_type_4 records))
-rtsqs Six tlid records = map six_rtsq (of_number six_tlid tlid (of_type_6 records))
-rtsqs I tlid records = []
+abbrev pub rtsqs : SequencedType → ℕ → List Record → List ℕ
+rtsqs sequenced.Two tlid records = map two_rtsq (of_number two_tlid tlid (of_type_2 records))
+rtsqs sequenced.Four tlid records = map four_rtsq (of_number four_tlid tlid (of_type_4 records))
+rtsqs sequenced.Six tlid records = map six_rtsq (of_number six_tlid tlid (of_type_6 records))
 
 -- the FEATs that a chain's type 4 records name
 abbrev pub named_feats : ℕ → List Record → List ℕ
@@ -69,7 +71,7 @@ type_place I = 7
 abbrev pub fault_place : LinkFault → List (List ℕ)
 fault_place (ChainTwice tlid) = (11 ∷ []) ∷ (tlid ∷ []) ∷ []
 fault_place (NoChain rtype tlid) = (12 ∷ []) ∷ (type_place rtype ∷ []) ∷ (tlid ∷ []) ∷ []
-fault_place (SequenceBroken rtype tlid) = (13 ∷ []) ∷ (type_place rtype ∷ []) ∷ (tlid ∷ []) ∷ []
+fault_place (SequenceBroken rtype tlid) = (13 ∷ []) ∷ (type_place (linked_type rtype) ∷ []) ∷ (tlid ∷ []) ∷ []
 fault_place (LinkMissing tlid) = (14 ∷ []) ∷ (tlid ∷ []) ∷ []
 fault_place (LinkTwice tlid) = (15 ∷ []) ∷ (tlid ∷ []) ∷ []
 fault_place (NameTwice feat) = (16 ∷ []) ∷ (feat ∷ []) ∷ []

@@ -5,8 +5,8 @@ use Rattle.std.specs.Ordering.{nat_cmp}
 use Rattle.tl_layout.specs.Fields.{Fields2, Fields4}
 use Rattle.tl_layout.specs.declared.record_type.Record.{Record}
 use Rattle.tl_layout.specs.declared.record_type.Record.TheVariants.{One, Two, Four, Five, Six, Seven, Eight, I, P}
-use Rattle.tl_county.specs.declared.fault.LinkedType.{LinkedType}
-use Rattle.tl_county.specs.declared.fault.LinkedType.TheVariants.{Two as Type2, Four as Type4, Six as Type6}
+use Rattle.tl_county.specs.declared.fault.SequencedType.{SequencedType}
+use Rattle.tl_county.specs.declared.fault.SequencedType.TheVariants as sequenced
 use Rattle.tl_layout.specs.ByType.{of_type_2, of_type_4, of_number}
 use Rattle.tl_county.specs.County.{two_tlid, two_rtsq, four_tlid, four_rtsq}
 use Rattle.tl_county.specs.LinkRules.{rtsqs}
@@ -54,13 +54,13 @@ pub record LeavesEmptyOut (records others : List Record) : Type 0 where
 
 -- a new RTSQ for each old one of a chain in a record type
 abbrev pub Sequence : Type 0
-Sequence = LinkedType → ℕ → ℕ → ℕ
+Sequence = SequencedType → ℕ → ℕ → ℕ
 
 -- the record with its new RTSQ
 abbrev pub resequenced : Sequence → Record → Record
-resequenced sequence (Two r) = Two (record r { rtsq = sequence Type2 r.tlid r.rtsq })
-resequenced sequence (Four r) = Four (record r { rtsq = sequence Type4 r.tlid r.rtsq })
-resequenced sequence (Six r) = Six (record r { rtsq = sequence Type6 r.tlid r.rtsq })
+resequenced sequence (Two r) = Two (record r { rtsq = sequence sequenced.Two r.tlid r.rtsq })
+resequenced sequence (Four r) = Four (record r { rtsq = sequence sequenced.Four r.tlid r.rtsq })
+resequenced sequence (Six r) = Six (record r { rtsq = sequence sequenced.Six r.tlid r.rtsq })
 resequenced sequence (One r) = One r
 resequenced sequence (Five r) = Five r
 resequenced sequence (Seven r) = Seven r
@@ -70,6 +70,6 @@ resequenced sequence (P r) = P r
 
 -- the new RTSQs of a chain's records of a type stand in the order of the old ones
 abbrev pub KeepsSequence : Sequence → List Record → Type 0
-KeepsSequence sequence records = (rtype : LinkedType) (tlid old later : ℕ)
+KeepsSequence sequence records = (rtype : SequencedType) (tlid old later : ℕ)
     → IsTrue (stands_in nat_cmp old (rtsqs rtype tlid records)) → IsTrue (stands_in nat_cmp later (rtsqs rtype tlid records))
     → old < later → sequence rtype tlid old < sequence rtype tlid later

@@ -7,6 +7,7 @@ use Rattle.tl_county.specs.declared.fault.LinkFault.TheVariants.{ChainTwice, NoC
 use Rattle.tl_county.specs.declared.fault.LinkFault.TheVariants.{NameTwice, NameUnknown, PolygonTwice, LandUnknown}
 use Rattle.tl_county.specs.declared.fault.LinkFault.TheVariants.{PolygonUnknown, Memory}
 use Rattle.tl_county.specs.declared.fault.LinkedType.TheVariants.{Two, Four, Six, I}
+use Rattle.tl_county.specs.declared.fault.SequencedType.TheVariants as sequenced
 use Rattle.tl_county.specs.FirstOf.{place_cmp}
 use Rattle.tl_county.specs.LinkRules.{is_broken, fault_place}
 
@@ -17,18 +18,17 @@ rule_place (NoChain Two tlid) = 1
 rule_place (NoChain Four tlid) = 2
 rule_place (NoChain Six tlid) = 3
 rule_place (NoChain I tlid) = 4
-rule_place (SequenceBroken Two tlid) = 5
-rule_place (SequenceBroken Four tlid) = 6
-rule_place (SequenceBroken Six tlid) = 7
-rule_place (SequenceBroken I tlid) = 8
-rule_place (LinkMissing tlid) = 9
-rule_place (LinkTwice tlid) = 10
-rule_place (NameTwice feat) = 11
-rule_place (NameUnknown tlid feat) = 12
-rule_place (PolygonTwice cenid polyid) = 13
-rule_place (LandUnknown land) = 14
-rule_place (PolygonUnknown cenid polyid) = 15
-rule_place Memory = 16
+rule_place (SequenceBroken sequenced.Two tlid) = 5
+rule_place (SequenceBroken sequenced.Four tlid) = 6
+rule_place (SequenceBroken sequenced.Six tlid) = 7
+rule_place (LinkMissing tlid) = 8
+rule_place (LinkTwice tlid) = 9
+rule_place (NameTwice feat) = 10
+rule_place (NameUnknown tlid feat) = 11
+rule_place (PolygonTwice cenid polyid) = 12
+rule_place (LandUnknown land) = 13
+rule_place (PolygonUnknown cenid polyid) = 14
+rule_place Memory = 15
 
 -- of the rules from this place on, none before the other place is broken
 abbrev pub RulesHold : List Record → ℕ → ℕ → Type 0

@@ -17,14 +17,46 @@ pub enum LinkedType {
     I,
 }
 
-/// The number of the record type, as it stands in column 1.
+/// A record type whose records of a chain stand in the order of their RTSQs.
+#[derive(Clone, Copy, Debug, PartialEq, Eq)]
+pub enum SequencedType {
+    /// Shape points (record type 2).
+    Two,
+    /// Further names (record type 4).
+    Four,
+    /// Further address ranges (record type 6).
+    Six,
+}
+
+/// The character of the record type, as it stands in column 1.
 impl fmt::Display for LinkedType {
+    ghost use Rattle.std.specs.Prelude.{Some};
+    ghost use Rattle.tl_county.specs.LinkedTypes.{character_of};
+
+    ghost output = { λ rtype. Some (character_of rtype) };
+
     fn fmt<W: fmt::Write>(&self, f: &mut fmt::Formatter<W>) -> fmt::Result {
         match self {
             LinkedType::Two => write!(f, "2"),
             LinkedType::Four => write!(f, "4"),
             LinkedType::Six => write!(f, "6"),
             LinkedType::I => write!(f, "I"),
+        }
+    }
+}
+
+/// The character of the record type, as it stands in column 1.
+impl fmt::Display for SequencedType {
+    ghost use Rattle.std.specs.Prelude.{Some};
+    ghost use Rattle.tl_county.specs.LinkedTypes.{character_of, linked_type};
+
+    ghost output = { λ rtype. Some (character_of (linked_type rtype)) };
+
+    fn fmt<W: fmt::Write>(&self, f: &mut fmt::Formatter<W>) -> fmt::Result {
+        match self {
+            SequencedType::Two => write!(f, "2"),
+            SequencedType::Four => write!(f, "4"),
+            SequencedType::Six => write!(f, "6"),
         }
     }
 }
@@ -40,7 +72,7 @@ pub enum LinkFault {
     NoChain { rtype: LinkedType, tlid: u64 },
     /// An RTSQ stands twice for a chain in one record type (13).
     #[error("an RTSQ stands twice among the records of type {rtype} of the TLID {tlid}")]
-    SequenceBroken { rtype: LinkedType, tlid: u64 },
+    SequenceBroken { rtype: SequencedType, tlid: u64 },
     /// A record of type 1 has no record of type I (14).
     #[error("the TLID {tlid} has no record of type I")]
     LinkMissing { tlid: u64 },

@@ -29,7 +29,7 @@ pub use chart::Chart;
 pub use county::County;
 pub use county_in::CountyIn;
 pub use county_over::CountyOver;
-pub use fault::{LinkFault, LinkedType};
+pub use fault::{LinkFault, LinkedType, SequencedType};
 pub use keyed::{
     Key, Keyed, least_repeated, least_unknown, place_of, put_in_order, sort_keys, split_group,
 };

@@ -12,7 +12,7 @@ ghost use Rattle.tl_county.specs.Orders.{IsInOrder, distinct};
 ghost use Rattle.tl_county.specs.Packing.{by_type};
 ghost use Rattle.tl_county.specs.RuleOrder.{RulesHold, IsFirstFrom};
 
-use crate::fault::{LinkFault, LinkedType};
+use crate::fault::{LinkFault, LinkedType, SequencedType};
 use crate::keyed::{least_repeated, least_unknown, place_of};
 use crate::record_keys::PolygonKey;
 use tl_layout::{Rec2, Rec4, Rec5, Rec6, Rec7, Rec8, RecP, Tables};
@@ -50,18 +50,18 @@ pub(crate) fn check_chains(tables: &Tables, tlids: &[u64], linked: &[u64]) -> Re
 /// Rule 13: no RTSQ stands twice for a chain in a record type.
 pub(crate) fn check_sequences(tables: &Tables) -> Result<(), LinkFault>
     requires { AreInOrder (typed_of tables.now) }
-    ensures { (records : List Record) → by_type records ≡ typed_of tables.now → MatchResult result (λ _. RulesHold records 5 9) (IsFirstFrom records 5) }
+    ensures { (records : List Record) → by_type records ≡ typed_of tables.now → MatchResult result (λ _. RulesHold records 5 8) (IsFirstFrom records 5) }
 {
     if let Some((tlid, _)) = least_repeated::<(u64, u16), Rec2>(&tables.type_2) {
-        let rtype = LinkedType::Two;
+        let rtype = SequencedType::Two;
         return Err(LinkFault::SequenceBroken { rtype, tlid });
     }
     if let Some((tlid, _)) = least_repeated::<(u64, u16), Rec4>(&tables.type_4) {
-        let rtype = LinkedType::Four;
+        let rtype = SequencedType::Four;
         return Err(LinkFault::SequenceBroken { rtype, tlid });
     }
     if let Some((tlid, _)) = least_repeated::<(u64, u16), Rec6>(&tables.type_6) {
-        let rtype = LinkedType::Six;
+        let rtype = SequencedType::Six;
         return Err(LinkFault::SequenceBroken { rtype, tlid });
     }
     Ok(())
@@ -73,7 +73,7 @@ pub(crate) fn check_links(tables: &Tables, tlids: &[u64], linked: &[u64]) -> Res
     requires tables { AreInOrder (typed_of tables.now) }
     requires tlids { tlids.now ≡ map one_tlid tables.now.type_1.items }
     requires linked { linked.now ≡ map i_tlid tables.now.type_i.items }
-    ensures { (records : List Record) → by_type records ≡ typed_of tables.now → MatchResult result (λ _. RulesHold records 9 11) (IsFirstFrom records 9) }
+    ensures { (records : List Record) → by_type records ≡ typed_of tables.now → MatchResult result (λ _. RulesHold records 8 10) (IsFirstFrom records 8) }
 {
     if let Some(tlid) = least_unknown::<u64, u64, u64>(tlids, linked) {
         return Err(LinkFault::LinkMissing { tlid });
@@ -110,7 +110,7 @@ pub(crate) fn check_names(
     requires tables { AreInOrder (typed_of tables.now) }
     requires uses { IsInOrder sequence_cmp uses.now × IsPermutation (flat_map uses_of tables.now.type_4.items) uses.now }
     requires feats { feats.now ≡ map five_feat tables.now.type_5.items }
-    ensures { (records : List Record) → by_type records ≡ typed_of tables.now → MatchResult result (λ _. RulesHold records 11 13) (IsFirstFrom records 11) }
+    ensures { (records : List Record) → by_type records ≡ typed_of tables.now → MatchResult result (λ _. RulesHold records 10 12) (IsFirstFrom records 10) }
 {
     if let Some(feat) = least_repeated::<u32, Rec5>(&tables.type_5) {
         return Err(LinkFault::NameTwice { feat });
@@ -132,7 +132,7 @@ pub(crate) fn check_landmarks(
     requires tables { AreInOrder (typed_of tables.now) }
     requires linked { IsInOrder key_cmp linked.now × IsPermutation (map eight_key tables.now.type_8.items) linked.now }
     requires polygons { polygons.now ≡ distinct key_cmp (flat_map side_keys tables.now.type_i.items ++ map p_key tables.now.type_p.items) }
-    ensures { (records : List Record) → by_type records ≡ typed_of tables.now → MatchResult result (λ _. RulesHold records 13 16) (IsFirstFrom records 13) }
+    ensures { (records : List Record) → by_type records ≡ typed_of tables.now → MatchResult result (λ _. RulesHold records 12 15) (IsFirstFrom records 12) }
 {
     if let Some(key) = least_repeated::<PolygonKey, RecP>(&tables.type_p) {
         let cenid = key.0;

@@ -10,7 +10,7 @@ use bumpalo::Bump;
 use std::alloc::Global;
 use std::process::Abort;
 use std::test::Fail;
-use tl_county::{Chart, County, CountyIn, LinkFault, LinkedType, link, link_in};
+use tl_county::{Chart, County, CountyIn, LinkFault, LinkedType, SequencedType, link, link_in};
 use tl_layout::Point;
 use tl_load::Loader;
 
@@ -91,10 +91,11 @@ fn tells_the_first_broken_rule_of_chains(rt: HostRuntime) -> Result<(), Fail> {
     let alloc = rt.alloc();
     let twice = LinkFault::ChainTwice { tlid: 500 };
     is_refused(&rt, alloc, &[CHAIN, CHAIN], twice)?;
-    let rtype = LinkedType::Two;
     let shape = "2{11}500{2}1";
+    let rtype = SequencedType::Two;
     let sequence = LinkFault::SequenceBroken { rtype, tlid: 500 };
     is_refused(&rt, alloc, &[CHAIN, LINK, NAME_8, shape, shape], sequence)?;
+    let rtype = LinkedType::Two;
     let chain = LinkFault::NoChain { rtype, tlid: 600 };
     is_refused(
         &rt,

@@ -47,13 +47,15 @@ pub returns-in-Ok-Different-clause-statuses : goal.returns-in-Ok-Different-claus
 returns-in-Ok-Different-clause-statuses g c = (1, lit< tt, refl)
 
 pub returns-in-Err-clause-statuses : goal.returns-in-Err-clause-statuses
-returns-in-Err-clause-statuses g c = rw c.tell_stopped.ensures (status_is_one c.in-Err.stopped.fault)
+returns-in-Err-clause-statuses g c = rw c.tell_stopped.ensures.status (status_is_one c.in-Err.stopped.fault)
 
 pub returns-in-Err-clause-refused : goal.returns-in-Err-clause-refused
 returns-in-Err-clause-refused g c = λ three.
-    left_refused g.R.Read.remaining c.args.first.items c.args.second.items c.args.job _ _ c.in-Err.stopped.fault c.in-Err.ensures.stopped
-    (sym c.tell_stopped.ensures ∙ three)
+    left_refused g.R.Read.remaining c.args.first.items c.args.second.items c.args.job _ _ c.in-Err.stopped.fault c.in-Err.stopped.set
+    c.in-Err.ensures.stopped
+    (sym c.tell_stopped.ensures.status ∙ three)
 
 pub returns-in-Err-clause-device : goal.returns-in-Err-clause-device
 returns-in-Err-clause-device g c = λ four.
-    left_some g.R.Read.remaining c.args.first.items c.args.second.items c.args.job _ _ c.in-Err.stopped.fault c.in-Err.ensures.stopped
+    left_some g.R.Read.remaining c.args.first.items c.args.second.items c.args.job _ _ c.in-Err.stopped.fault c.in-Err.stopped.set
+    c.in-Err.ensures.stopped

@@ -16,5 +16,5 @@ returns-clause-refused g c =
     let a = c.in-Ok.ensures.fed in
     let b = c.in-Ok-read_files.ensures.fed in
     if_err_by c.compare_loaded.result
-    (λ stopped. one_told g.R.Read.remaining c.args.first.items c.args.second.items a.0 b.0 a.1 b.1 stopped.fault)
+    (λ stopped. one_told g.R.Read.remaining c.args.first.items c.args.second.items a.0 b.0 a.1 b.1 stopped.fault stopped.set)
     (c.compare_loaded.ensures.refused a.0 b.0 a.2 b.2)

@@ -8,5 +8,5 @@ returns-clause-verdict c = λ a b fed later. c.compare_to.ensures.verdict a b (c
 
 pub returns-clause-refused : goal.returns-clause-refused
 returns-clause-refused c = λ a b fed later.
-    if_err_by c.compare_to.result (λ stopped told. inr (acceptable a _ _ (c.in-Ok.ensures.canonical a fed), told))
+    if_err_by c.compare_to.result (λ stopped told. inr (told.0, acceptable a _ _ (c.in-Ok.ensures.canonical a fed), told.1))
     (c.compare_to.ensures.refused b later)

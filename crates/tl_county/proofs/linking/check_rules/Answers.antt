@@ -8,16 +8,16 @@ use Rattle.tl_county.specs.RuleOrder.{RulesHold, IsFirstFrom}
 use Rattle.tl_county.proofs.RuleOrders.{rules-join, first-after, all_hold, first_of_all}
 use Rattle.tl_county.proofs.linking.check_rules.Goals as goal
 
-module _ (Of : List Record → Type 0) (before : (records : List Record) → Of records → RulesHold records 0 13) where
+module _ (Of : List Record → Type 0) (before : (records : List Record) → Of records → RulesHold records 0 12) where
   -- the last rules decide where those before them hold
   all_linked : (r : Result (Unit {0}) LinkFault) → ((records : List Record) → Of records
-      → MatchResult r (λ _. RulesHold records 13 16) (IsFirstFrom records 13))
+      → MatchResult r (λ _. RulesHold records 12 15) (IsFirstFrom records 12))
       → OnOk r ((records : List Record) → Of records → IsLinked records)
   all_linked (Ok u) h = λ records e. all_hold records (rules-join records (before records e) (h records e))
   all_linked (Err f) h = tt
 
   first_told : (r : Result (Unit {0}) LinkFault) → ((records : List Record) → Of records
-      → MatchResult r (λ _. RulesHold records 13 16) (IsFirstFrom records 13))
+      → MatchResult r (λ _. RulesHold records 12 15) (IsFirstFrom records 12))
       → IfErr r (λ fault. fault ≢ Memory → (records : List Record) → Of records → IsFirstBrokenRule records fault)
   first_told (Ok u) h = tt
   first_told (Err f) h = λ ne records e. first_of_all records f (first-after records (omega arith) (before records e) (h records e))

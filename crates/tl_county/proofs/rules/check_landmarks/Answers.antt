@@ -48,7 +48,7 @@ returns-in-Some c records e =
 
 pub returns-in-Some-least_unknown : goal.returns-in-Some-least_unknown
 returns-in-Some-least_unknown c records e =
-    let ps : RulesHold records 13 14 =
+    let ps : RulesHold records 12 13 =
     rule-holds (rule_18 records (typed_of c.args.tables.now) e) (subst (Twice p_key None) c.deref.ensures.value c.in_default.ensures) in
     first-after records (omega arith) ps (rule-broken (rule_19 records (typed_of c.args.tables.now) e) c.in-Some-least_unknown.land
     (at_lists (Unknown eight_land seven_land
@@ -62,9 +62,9 @@ alike linked polygons keys known p e key = (λ i. is_unknown key_cmp (map-id lin
 
 pub returns-in-Some-least_unknown-2 : goal.returns-in-Some-least_unknown-2
 returns-in-Some-least_unknown-2 c records e =
-    let ps : RulesHold records 13 14 =
+    let ps : RulesHold records 12 13 =
     rule-holds (rule_18 records (typed_of c.args.tables.now) e) (subst (Twice p_key None) c.deref.ensures.value c.in_default.ensures) in
-    let lands : RulesHold records 14 15 =
+    let lands : RulesHold records 13 14 =
     rule-holds (rule_19 records (typed_of c.args.tables.now) e)
     (at_lists (Unknown eight_land seven_land None) c.deref-2.ensures.value c.deref-3.ensures.value c.in_default-least_unknown.ensures) in
     let keys : List PolygonKey = flat_map side_keys c.args.tables.now.type_i.items ++ map p_key c.args.tables.now.type_p.items in
@@ -78,9 +78,9 @@ returns-in-Some-least_unknown-2 c records e =
 
 pub returns : goal.returns
 returns c records e =
-    let ps : RulesHold records 13 14 =
+    let ps : RulesHold records 12 13 =
     rule-holds (rule_18 records (typed_of c.args.tables.now) e) (subst (Twice p_key None) c.deref.ensures.value c.in_default.ensures) in
-    let lands : RulesHold records 14 15 =
+    let lands : RulesHold records 13 14 =
     rule-holds (rule_19 records (typed_of c.args.tables.now) e)
     (at_lists (Unknown eight_land seven_land None) c.deref-2.ensures.value c.deref-3.ensures.value c.in_default-least_unknown.ensures) in
     let keys : List PolygonKey = flat_map side_keys c.args.tables.now.type_i.items ++ map p_key c.args.tables.now.type_p.items in
@@ -88,5 +88,5 @@ returns c records e =
     (is_unknown key_cmp (map eight_key c.args.tables.now.type_8.items) keys)
     (alike c.args.linked.now c.args.polygons.now
     (map eight_key c.args.tables.now.type_8.items) keys c.requires.linked.1 c.requires.polygons) None c.in_default-least_unknown-2.ensures in
-    let polygons : RulesHold records 15 16 = rule-holds (rule_20 records (typed_of c.args.tables.now) e) none in
+    let polygons : RulesHold records 14 15 = rule-holds (rule_20 records (typed_of c.args.tables.now) e) none in
     rules-join records ps (rules-join records lands polygons)

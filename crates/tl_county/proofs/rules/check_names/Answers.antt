@@ -22,7 +22,7 @@ least_unnamed-requires-clause-feats c =
 
 pub returns-in-Some-least_unnamed : goal.returns-in-Some-least_unnamed
 returns-in-Some-least_unnamed c records e =
-    let fives : RulesHold records 11 12 =
+    let fives : RulesHold records 10 11 =
     rule-holds (rule_16 records (typed_of c.args.tables.now) e)
     (subst (Twice five_feat None) c.deref.ensures.value c.in_default.ensures) in
     let found = least-same sequence_cmp (is_unnamed c.args.uses.now c.args.feats.now)
@@ -35,7 +35,7 @@ returns-in-Some-least_unnamed c records e =
 
 pub returns : goal.returns
 returns c records e =
-    let fives : RulesHold records 11 12 =
+    let fives : RulesHold records 10 11 =
     rule-holds (rule_16 records (typed_of c.args.tables.now) e)
     (subst (Twice five_feat None) c.deref.ensures.value c.in_default.ensures) in
     let none = least-same sequence_cmp (is_unnamed c.args.uses.now c.args.feats.now)
@@ -43,5 +43,5 @@ returns c records e =
     (λ pair. unnamed-reordered (flat_map uses_of c.args.tables.now.type_4.items) c.args.uses.now c.args.feats.now c.requires.uses.1 pair
     ∙ ap (λ l. is_unnamed (flat_map uses_of c.args.tables.now.type_4.items) l pair) c.requires.feats)
     None c.in_default-least_unnamed.ensures in
-    let fours : RulesHold records 12 13 = rule-holds (rule_17 records (typed_of c.args.tables.now) e) none in
+    let fours : RulesHold records 11 12 = rule-holds (rule_17 records (typed_of c.args.tables.now) e) none in
     rules-join records fives fours

@@ -1,4 +1,4 @@
-use Rattle.std.proofs.Common.{refl, ℕ, List, map, sym, subst, Option, Some, None, arith}
+use Rattle.std.proofs.Common.{ℕ, List, map, sym, subst, Option, Some, None, arith}
 use Rattle.std.specs.Ordering.{on}
 use Rattle.tl_county.specs.County.{two_tlid, two_rtsq, four_tlid, four_rtsq, six_tlid, six_rtsq}
 use Rattle.tl_county.specs.Keyed.{IsLeastPassing, is_repeated}
@@ -7,7 +7,7 @@ use Rattle.tl_county.specs.Orders.{IsInOrder}
 use Rattle.tl_county.specs.RuleOrder.{RulesHold}
 use Rattle.tl_county.specs.SequenceKeys.{sequence_cmp, two_sequence, four_sequence, six_sequence}
 use Rattle.tl_county.proofs.RuleOrders.{rule-holds, rule-broken, rules-join, first-after}
-use Rattle.tl_county.proofs.RuleTests.{least-repeat, no_repeat, rule_13_two, rule_13_four, rule_13_six, rule_13_i}
+use Rattle.tl_county.proofs.RuleTests.{least-repeat, no_repeat, rule_13_two, rule_13_four, rule_13_six}
 use Rattle.tl_county.proofs.rules.check_sequences.Goals as goal
 
 -- the least pair of a table that stands twice, or that there is none
@@ -76,5 +76,4 @@ returns c records e =
     rule-holds (rule_13_six records (typed_of c.args.tables.now) e)
     (no_repeat six_tlid six_rtsq c.args.tables.now.type_6.items
     (subst (Twice six_sequence None) c.deref-3.ensures.value c.in_default-least_repeated-2.ensures)) in
-    let none : RulesHold records 8 9 = rule-holds (rule_13_i records (typed_of c.args.tables.now) e) (λ k. refl) in
-    rules-join records twos (rules-join records fours (rules-join records sixs none))
+    rules-join records twos (rules-join records fours sixs)

@@ -1,0 +1,23 @@
+use Rattle.std.proofs.Common.{rules, ◌≡◌, Some, map, string_bytes, subst}
+use Rattle.clap.specs.Words.{app_of, found_of, rows_of, subcommand_of}
+use Rattle.tigercanon.specs.Grammar.{understood}
+use Rattle.tigercanon.specs.Names.{IsPlanOf}
+use Rattle.tigercanon.proofs.PlannedSets.{memory_alone, one_job, read_well}
+use Rattle.tigercanon.proofs.planning.plan.Goals as goal
+
+pub returns-in-Err-clause-usage : goal.returns-in-Err-clause-usage
+returns-in-Err-clause-usage c = λ p words planned.
+    c.fault_of.ensures (memory_alone (app_of c.in_ok-command.field-0) (map string_bytes c.args.words.now) c.in-Err.error
+    c.in_ok-command.ensures c.in-Err.ensures.kinds words)
+
+pub returns-in-Some-job_named-clause-understood : goal.returns-in-Some-job_named-clause-understood
+returns-in-Some-job_named-clause-understood c =
+    read_well (app_of c.in_ok-command.field-0) (map string_bytes c.args.words.now) c.plan_of.result c.in_ok-command.ensures
+    c.in-Ok.ensures.kinds
+
+pub returns-in-Some-job_named-clause-usage : goal.returns-in-Some-job_named-clause-usage
+returns-in-Some-job_named-clause-usage c = λ p words planned.
+    let met : subcommand_of understood (map string_bytes c.args.words.now)
+    ≡ Some (c.in-Some.name.now, rows_of (found_of c.in-Some.given.now)) = search rules in
+    let named = subst (λ o. IsPlanOf o p) met planned in
+    c.plan_of.ensures.usage p (one_job c.in-Some-job_named.job p.job (c.in-Some-job_named.ensures.known p.job named.0)) named.1
