@@ -1,6 +1,9 @@
 -- Groups that are made of the entries of a list, and lists read by place.
 use Rattle.std.proofs.Common.{◌≡◌, ◌+◌, ◌<◌, ◌≤◌, ℕ, zero, suc, List, [], ◌∷◌, ◌++◌, length, take, drop, map, flat_map, Option, Some, None}
-use Rattle.std.proofs.Common.{option_map, unwrap_or, slice_get, append-nil, append_assoc, sym, refl, ap, ◌∙◌, arith}
+use Rattle.std.proofs.Common.{option_map, unwrap_or, slice_get, length-drop, min, append-nil, append_assoc, sym, refl, ap, ◌∙◌, arith}
+use Rattle.std.proofs.Math.Seq.{take-add}
+use Rattle.std.proofs.lemmas.Grind.{flat_map-append}
+use Rattle.std.proofs.lemmas.List.{length-take, take-append-drop}
 use Rattle.std.proofs.lemmas.Option.{slice_get-map}
 use Rattle.tl_write.specs.Groups.{group_at, grouped}
 
@@ -77,6 +80,34 @@ grouped_parted [] place h = absurd (omega (arith, h))
 grouped_parted (y ∷ ys) zero h = refl
 grouped_parted (y ∷ ys) (suc place) h = ap (λ l. y ++ l) (grouped_parted ys place (omega (arith, h)))
     ∙ sym (append_assoc y (grouped (take place ys)) (group_at ys place ++ grouped (drop (suc place) ys)))
+
+-- groups up to a place and the next ones, and what is left behind them
+pub grouped_up_to : {X : Type 0} (xs : List (List X)) (first n : ℕ)
+    → grouped (take (first + n) xs) ≡ grouped (take first xs) ++ grouped (take n (drop first xs))
+grouped_up_to xs first n = ap grouped (take-add first n xs) ∙ flat_map-append (λ group. group) (take first xs) (take n (drop first xs))
+
+grouped_both : {X : Type 0} (xs : List (List X)) (n : ℕ) → grouped xs ≡ grouped (take n xs) ++ grouped (drop n xs)
+grouped_both xs n = ap grouped (sym (take-append-drop n xs)) ∙ flat_map-append (λ group. group) (take n xs) (drop n xs)
+
+pub grouped_around : {X : Type 0} (xs : List (List X)) (first n : ℕ)
+    → grouped xs ≡ grouped (take first xs) ++ (grouped (take n (drop first xs)) ++ grouped (drop n (drop first xs)))
+grouped_around xs first n = grouped_both xs first ∙ ap (λ rest. grouped (take first xs) ++ rest) (grouped_both (drop first xs) n)
+
+-- what is read of the first ones
+pub get_taken : {X : Type 0} (xs : List X) (n i : ℕ) → i < n → slice_get (take n xs) i ≡ slice_get xs i
+get_taken xs zero i h = absurd (omega (arith, h))
+get_taken [] (suc n) i h = refl
+get_taken (x ∷ xs) (suc n) zero h = refl
+get_taken (x ∷ xs) (suc n) (suc i) h = get_taken xs n i (omega (arith, h))
+
+-- groups from one of them on
+pub length_headed : {X : Type 0} (xs : List X) (first n : ℕ) → first + n ≤ length xs → length (take n (drop first xs)) ≡ n
+length_headed xs first n h = length-take n (drop first xs) ∙ ap (min n) (length-drop first xs) ∙ omega (arith, h)
+
+pub group_headed : {X : Type 0} (xs : List (List X)) (first n ahead : ℕ) → ahead < n
+    → group_at (take n (drop first xs)) ahead ≡ group_at xs (first + ahead)
+group_headed xs first n ahead h =
+    ap (λ (o : Option (List _)). unwrap_or o []) (get_taken (drop first xs) n ahead h ∙ get_dropped first xs ahead)
 
 -- more are asked for only where none is left
 pub taken_enough : {X : Type 0} (xs : List X) (m n : ℕ) → m ≤ n → (m < n → length xs ≤ m) → take m xs ≡ take n xs

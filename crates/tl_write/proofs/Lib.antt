@@ -8,3 +8,4 @@ pub mod EntryPlaces
 pub mod Finished
 pub mod SameGroups
 pub mod RecordFields
+pub mod ReadHeads

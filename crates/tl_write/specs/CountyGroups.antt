@@ -1,13 +1,21 @@
 -- The records of a county in groups: those of a chain, of a landmark, of a polygon.
-use Rattle.std.specs.Prelude.{◌≡◌, List, [], ◌∷◌, map, length, option_to_list}
+use Rattle.std.specs.Prelude.{◌≡◌, ℕ, List, [], ◌∷◌, map, length, Option, Some, option_map, option_to_list, slice_get}
+use Rattle.tl_layout.specs.Coordinates.{Coordinates}
 use Rattle.tl_layout.specs.Fields.{Fields1, Fields2, Fields4, Fields5, Fields6, Fields7, Fields8, FieldsI, FieldsP}
+use Rattle.tl_layout.specs.declared.type_p.BodyP.{BodyP}
 use Rattle.tl_county.specs.County.{County}
-use Rattle.tl_county.specs.Packing.{packed_one, packed_twos, packed_fours, packed_five, packed_sixes, packed_sevens, packed_i, packed_p}
+use Rattle.tl_county.specs.ChartWords.{chain_at}
+use Rattle.tl_county.specs.Packing.{first_point, last_point, packed_one, packed_twos, packed_fours, packed_five, packed_sixes, packed_sevens, packed_i, packed_p}
+use Rattle.tl_county.specs.PolygonKeys.{PolygonKey}
 use Rattle.tl_number.specs.ByNumber.{polygons_by_number}
 
 -- the record of type 1 of each chain
 abbrev pub ones_by_chain : County → List (List Fields1)
 ones_by_chain county = map (λ entry. packed_one entry ∷ []) county.chains
+
+-- these are the ends of the chain at a place
+abbrev pub AreEndsAt : County → ℕ → Coordinates × Coordinates → Type 0
+AreEndsAt county place ends = Some ends ≡ option_map (λ chain. (first_point chain.points, last_point chain.points)) (chain_at county place)
 
 -- the records of types 2, 4 and 6 of each chain
 abbrev pub twos_by_chain : County → List (List Fields2)
@@ -18,6 +26,10 @@ fours_by_chain county = map packed_fours county.chains
 
 abbrev pub sixes_by_chain : County → List (List Fields6)
 sixes_by_chain county = map packed_sixes county.chains
+
+-- these are the nodes where the chain at a place starts and ends
+abbrev pub AreNodesAt : County → ℕ → Option ℕ × Option ℕ → Type 0
+AreNodesAt county place nodes = Some nodes ≡ option_map (λ chain. (chain.start_node, chain.end_node)) (chain_at county place)
 
 -- the record of type I of each chain
 abbrev pub is_by_chain : County → List (List FieldsI)
@@ -34,6 +46,10 @@ sevens_by_landmark county = map packed_sevens county.landmarks
 -- the links of all landmarks, in one group
 abbrev pub eights_together : County → List (List Fields8)
 eights_together county = county.links ∷ []
+
+-- this is the polygon at a place by POLYID: its key, and the content of its record of type P, if it has one
+abbrev pub IsPolygonAt : County → ℕ → PolygonKey × Option BodyP → Type 0
+IsPolygonAt county place polygon = Some polygon ≡ slice_get (polygons_by_number county) place
 
 -- the record of type P of each polygon that has one, by POLYID
 abbrev pub ps_by_number : County → List (List FieldsP)

@@ -58,27 +58,36 @@ pub(crate) struct ChainRecords<'a, C: Chart> {
 }
 
 impl<C: Chart> RecordGroups for ChainRecords<'_, C> {
-    ghost use Rattle.tl_write.specs.CountyGroups.{ones_by_chain};
+    ghost use Rattle.tl_write.specs.CountyGroups.{AreEndsAt, ones_by_chain};
 
     type Item = Rec1;
 
+    type Head = (Point, Point);
+
     ghost groups = { λ g. ones_by_chain (C.county g.chart.now) };
+
+    ghost IsHead = { λ g. AreEndsAt (C.county g.chart.now) };
 
     fn count(&self) -> usize {
         self.chart.chain_count()
     }
 
-    fn count_in(&self, _group: usize) -> usize {
+    fn head(&self, group: usize) -> (Point, Point) {
+        let last = self.chart.point_count_at(group) - 1;
+        (self.chart.point(group, 0), self.chart.point(group, last))
+    }
+
+    fn count_in(&self, _group: usize, _head: (Point, Point)) -> usize {
         1
     }
 
-    fn record(&self, group: usize, _place: usize) -> Rec1 {
-        let last = self.chart.point_count_at(group) - 1;
+    fn record(&self, group: usize, head: (Point, Point), _place: usize) -> Rec1 {
+        let (start, end) = head;
         Rec1::new(
             self.chart.tlid(group),
             self.chart.chain_body(group),
-            self.chart.point(group, 0),
-            self.chart.point(group, last),
+            start,
+            end,
         )
     }
 }
@@ -91,20 +100,29 @@ pub(crate) struct ShapePointRecords<'a, C: Chart> {
 
 impl<C: Chart> RecordGroups for ShapePointRecords<'_, C> {
     ghost use Rattle.tl_write.specs.CountyGroups.{twos_by_chain};
+    ghost use Rattle.tl_write.specs.Groups.{HasRecords};
 
     type Item = Rec2;
 
+    type Head = usize;
+
     ghost groups = { λ g. twos_by_chain (C.county g.chart.now) };
+
+    ghost IsHead = { λ g. HasRecords (twos_by_chain (C.county g.chart.now)) };
 
     fn count(&self) -> usize {
         self.chart.chain_count()
     }
 
-    fn count_in(&self, group: usize) -> usize {
+    fn head(&self, group: usize) -> usize {
         shape_point_count(self.chart, group).div_ceil(POINTS_A_RECORD)
     }
 
-    fn record(&self, group: usize, place: usize) -> Rec2 {
+    fn count_in(&self, _group: usize, head: usize) -> usize {
+        head
+    }
+
+    fn record(&self, group: usize, _head: usize, place: usize) -> Rec2 {
         let points = shape_points_from(self.chart, group, place * POINTS_A_RECORD);
         Rec2::new(self.chart.tlid(group), place as u16 + 1, points)
     }
@@ -118,20 +136,29 @@ pub(crate) struct FurtherNameRecords<'a, C: Chart> {
 
 impl<C: Chart> RecordGroups for FurtherNameRecords<'_, C> {
     ghost use Rattle.tl_write.specs.CountyGroups.{fours_by_chain};
+    ghost use Rattle.tl_write.specs.Groups.{HasRecords};
 
     type Item = Rec4;
 
+    type Head = usize;
+
     ghost groups = { λ g. fours_by_chain (C.county g.chart.now) };
+
+    ghost IsHead = { λ g. HasRecords (fours_by_chain (C.county g.chart.now)) };
 
     fn count(&self) -> usize {
         self.chart.chain_count()
     }
 
-    fn count_in(&self, group: usize) -> usize {
+    fn head(&self, group: usize) -> usize {
         self.chart.feat_count_at(group).div_ceil(NAMES_A_RECORD)
     }
 
-    fn record(&self, group: usize, place: usize) -> Rec4 {
+    fn count_in(&self, _group: usize, head: usize) -> usize {
+        head
+    }
+
+    fn record(&self, group: usize, _head: usize, place: usize) -> Rec4 {
         let names = names_from(self.chart, group, place * NAMES_A_RECORD);
         Rec4::new(self.chart.tlid(group), place as u16 + 1, names)
     }
@@ -145,20 +172,29 @@ pub(crate) struct RangeRecords<'a, C: Chart> {
 
 impl<C: Chart> RecordGroups for RangeRecords<'_, C> {
     ghost use Rattle.tl_write.specs.CountyGroups.{sixes_by_chain};
+    ghost use Rattle.tl_write.specs.Groups.{HasRecords};
 
     type Item = Rec6;
 
+    type Head = usize;
+
     ghost groups = { λ g. sixes_by_chain (C.county g.chart.now) };
+
+    ghost IsHead = { λ g. HasRecords (sixes_by_chain (C.county g.chart.now)) };
 
     fn count(&self) -> usize {
         self.chart.chain_count()
     }
 
-    fn count_in(&self, group: usize) -> usize {
+    fn head(&self, group: usize) -> usize {
         self.chart.range_count_at(group)
     }
 
-    fn record(&self, group: usize, place: usize) -> Rec6 {
+    fn count_in(&self, _group: usize, head: usize) -> usize {
+        head
+    }
+
+    fn record(&self, group: usize, _head: usize, place: usize) -> Rec6 {
         let ranges = self.chart.range(group, place);
         Rec6::new(self.chart.tlid(group), place as u16 + 1, ranges)
     }
@@ -171,26 +207,35 @@ pub(crate) struct LinkRecords<'a, C: Chart> {
 }
 
 impl<C: Chart> RecordGroups for LinkRecords<'_, C> {
-    ghost use Rattle.tl_write.specs.CountyGroups.{is_by_chain};
+    ghost use Rattle.tl_write.specs.CountyGroups.{AreNodesAt, is_by_chain};
 
     type Item = RecI;
 
+    type Head = (Option<u64>, Option<u64>);
+
     ghost groups = { λ g. is_by_chain (C.county g.chart.now) };
+
+    ghost IsHead = { λ g. AreNodesAt (C.county g.chart.now) };
 
     fn count(&self) -> usize {
         self.chart.chain_count()
     }
 
-    fn count_in(&self, _group: usize) -> usize {
+    fn head(&self, group: usize) -> (Option<u64>, Option<u64>) {
+        (self.chart.start_node(group), self.chart.end_node(group))
+    }
+
+    fn count_in(&self, _group: usize, _head: (Option<u64>, Option<u64>)) -> usize {
         1
     }
 
-    fn record(&self, group: usize, _place: usize) -> RecI {
+    fn record(&self, group: usize, head: (Option<u64>, Option<u64>), _place: usize) -> RecI {
+        let (start_node, end_node) = head;
         RecI::new(
             self.chart.tlid(group),
             self.chart.link_body(group),
-            self.chart.start_node(group),
-            self.chart.end_node(group),
+            start_node,
+            end_node,
             self.chart.left(group),
             self.chart.right(group),
         )

@@ -1,15 +1,16 @@
 //! Whether two canonical counties have the same records.
 
 ghost use Rattle.std.specs.Bool.{Decides};
-ghost use Rattle.std.specs.Prelude.{◌≡◌, ◌<◌, length};
+ghost use Rattle.std.specs.Prelude.{◌≡◌, ◌<◌, ◌≤◌, ◌+◌, length, drop, take};
 ghost use Rattle.tl_county.specs.Packing.{packed};
 ghost use Rattle.tl_write.specs.CountyGroups.{HaveSameCounts};
-ghost use Rattle.tl_write.specs.Groups.{group_at};
+ghost use Rattle.tl_write.specs.Groups.{AreHeads, group_at};
 
 use crate::chain_records::{
     ChainRecords, FurtherNameRecords, LinkRecords, RangeRecords, ShapePointRecords,
 };
-use crate::groups::RecordGroups;
+use crate::groups::{RecordGroups, read_heads};
+use crate::heads::HeadRoom;
 use crate::name_records::{LandmarkLinkRecords, LandmarkRecords, NameRecords};
 use crate::polygon_records::PolygonRecords;
 use crate::record_eq::RecordEq;
@@ -21,17 +22,23 @@ fn is_same_group<L: RecordEq, G: RecordGroups<Item = L>, H: RecordGroups<Item = 
     a: &G,
     b: &H,
     group: usize,
+    head: G::Head,
+    other: H::Head,
 ) -> bool
     requires a { group < length (G.groups a.now) }
     requires b { group < length (H.groups b.now) }
+    requires head { G.IsHead a.now group head }
+    requires other { H.IsHead b.now group other }
     ensures { Decides result (group_at (G.groups a.now) group ≡ group_at (H.groups b.now) group) }
 {
-    let count = a.count_in(group);
-    if b.count_in(group) != count {
+    let count = a.count_in(group, head);
+    if b.count_in(group, other) != count {
         return false;
     }
     for place in 0..count {
-        let same = a.record(group, place).is_same(&b.record(group, place));
+        let same = a
+            .record(group, head, place)
+            .is_same(&b.record(group, other, place));
         if !same {
             return false;
         }
@@ -39,22 +46,55 @@ fn is_same_group<L: RecordEq, G: RecordGroups<Item = L>, H: RecordGroups<Item = 
     true
 }
 
-/// Whether both have the same groups, group by group.
+/// Whether the groups that these heads are of, from one group on, are the same in both.
+fn are_same_headed<L: RecordEq, G: RecordGroups<Item = L>, H: RecordGroups<Item = L>>(
+    a: &G,
+    b: &H,
+    first: usize,
+    heads: &[G::Head],
+    others: &[H::Head],
+) -> bool
+    requires fits { first + length heads.now ≤ usize.MAX }
+    requires a { first + length heads.now ≤ length (G.groups a.now) }
+    requires b { first + length heads.now ≤ length (H.groups b.now) }
+    requires count { length others.now ≡ length heads.now }
+    requires heads { AreHeads (G.IsHead a.now) first heads.now }
+    requires others { AreHeads (H.IsHead b.now) first others.now }
+    ensures { Decides result (take (length heads.now) (drop first (G.groups a.now)) ≡ take (length heads.now) (drop first (H.groups b.now))) }
+{
+    for ahead in 0..heads.len() {
+        let same = is_same_group(a, b, first + ahead, heads[ahead], others[ahead]);
+        if !same {
+            return false;
+        }
+    }
+    true
+}
+
+/// Whether both have the same groups, group by group. The heads are read into rooms of one size.
 fn are_same_groups<L: RecordEq, G: RecordGroups<Item = L>, H: RecordGroups<Item = L>>(
     a: &G,
     b: &H,
+    room: &mut [G::Head],
+    other: &mut [H::Head],
 ) -> bool
+    requires room { 0 < length room.old }
+    requires other { length other.old ≡ length room.old }
     ensures { Decides result (G.groups a.now ≡ H.groups b.now) }
 {
     let count = a.count();
     if b.count() != count {
         return false;
     }
-    for group in 0..count {
-        let same = is_same_group(a, b, group);
+    let mut first = 0;
+    while first < count {
+        let heads = read_heads(a, first, room);
+        let others = read_heads(b, first, other);
+        let same = are_same_headed(a, b, first, &room[..heads], &other[..others]);
         if !same {
             return false;
         }
+        first += heads;
     }
     true
 }
@@ -74,23 +114,61 @@ fn have_same_counts<A: Chart, B: Chart>(a: &A, b: &B) -> bool
 pub fn same_records<A: Chart, B: Chart>(a: &CanonCounty<A>, b: &CanonCounty<B>) -> bool
     ensures { Decides result (packed (⟦<CanonCounty<A> as Chart>⟧.county a.now) ≡ packed (⟦<CanonCounty<B> as Chart>⟧.county b.now)) }
 {
+    let mut room = HeadRoom::new();
+    let mut other = HeadRoom::new();
     have_same_counts(a, b)
-        && are_same_groups(&ChainRecords { chart: a }, &ChainRecords { chart: b })
-        && are_same_groups(&LinkRecords { chart: a }, &LinkRecords { chart: b })
+        && are_same_groups(
+            &ChainRecords { chart: a },
+            &ChainRecords { chart: b },
+            &mut room.ends,
+            &mut other.ends,
+        )
+        && are_same_groups(
+            &LinkRecords { chart: a },
+            &LinkRecords { chart: b },
+            &mut room.nodes,
+            &mut other.nodes,
+        )
         && are_same_groups(
             &ShapePointRecords { chart: a },
             &ShapePointRecords { chart: b },
+            &mut room.counts,
+            &mut other.counts,
         )
         && are_same_groups(
             &FurtherNameRecords { chart: a },
             &FurtherNameRecords { chart: b },
+            &mut room.counts,
+            &mut other.counts,
         )
-        && are_same_groups(&RangeRecords { chart: a }, &RangeRecords { chart: b })
-        && are_same_groups(&NameRecords { chart: a }, &NameRecords { chart: b })
-        && are_same_groups(&LandmarkRecords { chart: a }, &LandmarkRecords { chart: b })
+        && are_same_groups(
+            &RangeRecords { chart: a },
+            &RangeRecords { chart: b },
+            &mut room.counts,
+            &mut other.counts,
+        )
+        && are_same_groups(
+            &NameRecords { chart: a },
+            &NameRecords { chart: b },
+            &mut room.counts,
+            &mut other.counts,
+        )
+        && are_same_groups(
+            &LandmarkRecords { chart: a },
+            &LandmarkRecords { chart: b },
+            &mut room.counts,
+            &mut other.counts,
+        )
         && are_same_groups(
             &LandmarkLinkRecords { county: a },
             &LandmarkLinkRecords { county: b },
+            &mut room.counts,
+            &mut other.counts,
         )
-        && are_same_groups(&PolygonRecords { county: a }, &PolygonRecords { county: b })
+        && are_same_groups(
+            &PolygonRecords { county: a },
+            &PolygonRecords { county: b },
+            &mut room.polygons,
+            &mut other.polygons,
+        )
 }

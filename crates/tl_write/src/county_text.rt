@@ -10,6 +10,7 @@ use crate::chain_records::{
 };
 use crate::fault::WriteFault;
 use crate::groups::give_groups;
+use crate::heads::HeadRoom;
 use crate::name_records::{LandmarkLinkRecords, LandmarkRecords, NameRecords};
 use crate::polygon_records::PolygonRecords;
 use crate::sink::Sink;
@@ -30,15 +31,61 @@ fn give_records<D, C: Chart, T: RecordTaker<D>>(
     ensures given { T.Takes (packed (⟦<CanonCounty<C> as Chart>⟧.county county.now)) taker.old device.old result taker.new device.new }
     ensures ready { OnOk result (T.IsReady taker.new device.new) }
 {
-    give_groups(&ChainRecords { chart: county }, taker, device)?;
-    give_groups(&ShapePointRecords { chart: county }, taker, device)?;
-    give_groups(&FurtherNameRecords { chart: county }, taker, device)?;
-    give_groups(&NameRecords { chart: county }, taker, device)?;
-    give_groups(&RangeRecords { chart: county }, taker, device)?;
-    give_groups(&LandmarkRecords { chart: county }, taker, device)?;
-    give_groups(&LandmarkLinkRecords { county }, taker, device)?;
-    give_groups(&LinkRecords { chart: county }, taker, device)?;
-    give_groups(&PolygonRecords { county }, taker, device)
+    let mut room = HeadRoom::new();
+    give_groups(
+        &ChainRecords { chart: county },
+        &mut room.ends,
+        taker,
+        device,
+    )?;
+    give_groups(
+        &ShapePointRecords { chart: county },
+        &mut room.counts,
+        taker,
+        device,
+    )?;
+    give_groups(
+        &FurtherNameRecords { chart: county },
+        &mut room.counts,
+        taker,
+        device,
+    )?;
+    give_groups(
+        &NameRecords { chart: county },
+        &mut room.counts,
+        taker,
+        device,
+    )?;
+    give_groups(
+        &RangeRecords { chart: county },
+        &mut room.counts,
+        taker,
+        device,
+    )?;
+    give_groups(
+        &LandmarkRecords { chart: county },
+        &mut room.counts,
+        taker,
+        device,
+    )?;
+    give_groups(
+        &LandmarkLinkRecords { county },
+        &mut room.counts,
+        taker,
+        device,
+    )?;
+    give_groups(
+        &LinkRecords { chart: county },
+        &mut room.nodes,
+        taker,
+        device,
+    )?;
+    give_groups(
+        &PolygonRecords { county },
+        &mut room.polygons,
+        taker,
+        device,
+    )
 }
 
 /// The records of a canonical county: a canonical list, and the packing of the county.

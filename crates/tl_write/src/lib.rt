@@ -6,6 +6,7 @@ mod comparing;
 mod county_text;
 mod fault;
 mod groups;
+mod heads;
 mod name_records;
 mod polygon_records;
 mod record_eq;

@@ -13,20 +13,29 @@ pub(crate) struct NameRecords<'a, C: Chart> {
 
 impl<C: Chart> RecordGroups for NameRecords<'_, C> {
     ghost use Rattle.tl_write.specs.CountyGroups.{fives_by_name};
+    ghost use Rattle.tl_write.specs.Groups.{HasRecords};
 
     type Item = Rec5;
 
+    type Head = usize;
+
     ghost groups = { λ g. fives_by_name (C.county g.chart.now) };
+
+    ghost IsHead = { λ g. HasRecords (fives_by_name (C.county g.chart.now)) };
 
     fn count(&self) -> usize {
         self.chart.name_count()
     }
 
-    fn count_in(&self, _group: usize) -> usize {
+    fn head(&self, _group: usize) -> usize {
         1
     }
 
-    fn record(&self, group: usize, _place: usize) -> Rec5 {
+    fn count_in(&self, _group: usize, head: usize) -> usize {
+        head
+    }
+
+    fn record(&self, group: usize, _head: usize, _place: usize) -> Rec5 {
         Rec5::new(self.chart.feat(group), self.chart.name_body(group))
     }
 }
@@ -39,20 +48,29 @@ pub(crate) struct LandmarkRecords<'a, C: Chart> {
 
 impl<C: Chart> RecordGroups for LandmarkRecords<'_, C> {
     ghost use Rattle.tl_write.specs.CountyGroups.{sevens_by_landmark};
+    ghost use Rattle.tl_write.specs.Groups.{HasRecords};
 
     type Item = Rec7;
 
+    type Head = usize;
+
     ghost groups = { λ g. sevens_by_landmark (C.county g.chart.now) };
+
+    ghost IsHead = { λ g. HasRecords (sevens_by_landmark (C.county g.chart.now)) };
 
     fn count(&self) -> usize {
         self.chart.landmark_count()
     }
 
-    fn count_in(&self, group: usize) -> usize {
+    fn head(&self, group: usize) -> usize {
         self.chart.body_count_at(group)
     }
 
-    fn record(&self, group: usize, place: usize) -> Rec7 {
+    fn count_in(&self, _group: usize, head: usize) -> usize {
+        head
+    }
+
+    fn record(&self, group: usize, _head: usize, place: usize) -> Rec7 {
         Rec7::new(
             self.chart.land(group),
             self.chart.landmark_body(group, place),
@@ -68,20 +86,29 @@ pub(crate) struct LandmarkLinkRecords<'a, C: Chart> {
 
 impl<C: Chart> RecordGroups for LandmarkLinkRecords<'_, C> {
     ghost use Rattle.tl_write.specs.CountyGroups.{eights_together};
+    ghost use Rattle.tl_write.specs.Groups.{HasRecords};
 
     type Item = Rec8;
 
+    type Head = usize;
+
     ghost groups = { λ g. eights_together (⟦<CanonCounty<C> as Chart>⟧.county g.county.now) };
+
+    ghost IsHead = { λ g. HasRecords (eights_together (⟦<CanonCounty<C> as Chart>⟧.county g.county.now)) };
 
     fn count(&self) -> usize {
         1
     }
 
-    fn count_in(&self, _group: usize) -> usize {
+    fn head(&self, _group: usize) -> usize {
         self.county.links().len()
     }
 
-    fn record(&self, _group: usize, place: usize) -> Rec8 {
+    fn count_in(&self, _group: usize, head: usize) -> usize {
+        head
+    }
+
+    fn record(&self, _group: usize, _head: usize, place: usize) -> Rec8 {
         self.county.links()[place]
     }
 }

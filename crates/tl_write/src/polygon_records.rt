@@ -1,8 +1,8 @@
 //! The records of a county's polygons.
 
 use crate::groups::RecordGroups;
-use tl_county::Chart;
-use tl_layout::RecP;
+use tl_county::{Chart, PolygonKey};
+use tl_layout::{BodyP, RecP};
 use tl_number::CanonCounty;
 
 /// The record of type P of each polygon that has one, by the numbers of the polygons.
@@ -12,25 +12,33 @@ pub(crate) struct PolygonRecords<'a, C: Chart> {
 }
 
 impl<C: Chart> RecordGroups for PolygonRecords<'_, C> {
-    ghost use Rattle.tl_write.specs.CountyGroups.{ps_by_number};
+    ghost use Rattle.tl_write.specs.CountyGroups.{IsPolygonAt, ps_by_number};
 
     type Item = RecP;
 
+    type Head = (PolygonKey, Option<BodyP>);
+
     ghost groups = { λ g. ps_by_number (⟦<CanonCounty<C> as Chart>⟧.county g.county.now) };
+
+    ghost IsHead = { λ g. IsPolygonAt (⟦<CanonCounty<C> as Chart>⟧.county g.county.now) };
 
     fn count(&self) -> usize {
         self.county.polygon_count()
     }
 
-    fn count_in(&self, group: usize) -> usize {
-        match self.county.polygon_by_number(group).1 {
+    fn head(&self, group: usize) -> (PolygonKey, Option<BodyP>) {
+        self.county.polygon_by_number(group)
+    }
+
+    fn count_in(&self, _group: usize, head: (PolygonKey, Option<BodyP>)) -> usize {
+        match head.1 {
             Some(_) => 1,
             None => 0,
         }
     }
 
-    fn record(&self, group: usize, _place: usize) -> RecP {
-        let (key, body) = self.county.polygon_by_number(group);
+    fn record(&self, _group: usize, head: (PolygonKey, Option<BodyP>), _place: usize) -> RecP {
+        let (key, body) = head;
         RecP::new(key.0, key.1, body.unwrap())
     }
 }

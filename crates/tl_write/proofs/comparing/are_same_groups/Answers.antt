@@ -1,26 +1,41 @@
-use Rattle.std.proofs.Common.{◌≡◌, true, false, rules, refl, ap, arith}
-use Rattle.tl_write.specs.Groups.{group_at}
-use Rattle.tl_write.proofs.SameGroups.{decides_no, same_next, same_whole, same_group}
+use Rattle.std.proofs.Common.{◌≡◌, ◌∙◌, ◌++◌, true, false, rules, drop, length, take, refl, sym, ap, arith}
+use Rattle.std.proofs.Math.Seq.{take-add}
+use Rattle.std.proofs.lemmas.List.{length-take}
+use Rattle.tl_write.proofs.SameGroups.{decides_no, same_whole}
 use Rattle.tl_write.proofs.comparing.are_same_groups.Goals as goal
 
-pub loop-group-preserved : goal.loop-group-preserved
-loop-group-preserved g c =
-    let same : c.is_same_group-same.result ≡ true = search rules in
+pub loop-first-init : goal.loop-first-init
+loop-first-init g c = record { room = refl; other = refl; within = omega arith; same = refl }
+
+pub loop-first-preserved : goal.loop-first-preserved
+loop-first-preserved g c =
+    let same : c.are_same_headed-same.result ≡ true = search rules in
     let xs = g.G.RecordGroups.groups c.args.a.now in
     let ys = g.H.RecordGroups.groups c.args.b.now in
-    same_next xs ys c.loop-group.group c.loop-group.invariant
-    (same_group xs ys c.loop-group.group (omega (arith, c.count-count.ensures, c.loop-group-test.true))
-    (omega (arith, c.count.ensures, c.if-count.false, c.loop-group-test.true)) (c.is_same_group-same.ensures.0 same))
+    let i = c.loop-first.first in
+    let n = c.read_heads-heads.result in
+    let room = c.read_heads-heads.new.room in
+    let counted : length (take n room) ≡ n =
+    length-take n room ∙ omega (arith, c.read_heads-heads.ensures.count, c.read_heads-heads.ensures.room) in
+    let next : take n (drop i xs) ≡ take n (drop i ys) =
+    ap (λ k. take k (drop i xs)) (sym counted) ∙ c.are_same_headed-same.ensures.0 same ∙ ap (λ k. take k (drop i ys)) counted in
+    record {
+      room = c.read_heads-heads.ensures.room ∙ c.loop-first.invariant.room;
+      other = c.read_heads-others.ensures.room ∙ c.loop-first.invariant.other;
+      within = omega (arith, c.read_heads-heads.ensures.count, c.loop-first.invariant.within);
+      same = take-add i n xs ∙ (λ k. c.loop-first.invariant.same k ++ next k) ∙ sym (take-add i n ys);
+    }
 
 pub returns-then-not-same : goal.returns-then-not-same
 returns-then-not-same g c =
-    let other : c.is_same_group-same.result ≡ false = search rules in
-    decides_no c.is_same_group-same.result other c.is_same_group-same.ensures (λ all. ap (λ gs. group_at gs c.loop-group.group) all)
+    let other : c.are_same_headed-same.result ≡ false = search rules in
+    decides_no c.are_same_headed-same.result other c.are_same_headed-same.ensures
+    (λ all. ap (λ gs. take (length (take c.read_heads-heads.result c.read_heads-heads.new.room)) (drop c.loop-first.first gs)) all)
 
 pub returns : goal.returns
 returns g c = (
-  λ e. same_whole (g.G.RecordGroups.groups c.args.a.now) (g.H.RecordGroups.groups c.args.b.now) c.loop-group.group c.loop-group.invariant
-      (omega (arith, c.count-count.ensures, c.loop-group-test.false))
-      (omega (arith, c.count.ensures, c.if-count.false, c.loop-group-test.false)),
+  λ e. same_whole (g.G.RecordGroups.groups c.args.a.now) (g.H.RecordGroups.groups c.args.b.now) c.loop-first.first c.loop-first.invariant.same
+      (omega (arith, c.count-count.ensures, c.loop-first-test.false))
+      (omega (arith, c.count.ensures, c.if-count.false, c.loop-first-test.false)),
   λ all. refl,
 )

@@ -1,6 +1,14 @@
-use Rattle.std.proofs.Common.{◌≡◌, take}
+use Rattle.std.proofs.Common.{◌≡◌, ◌≤◌, ◌-◌, length, take}
 use Rattle.tl_write.proofs.comparing.are_same_groups.Given as goal
 
--- the groups up to the place are the same
-abbrev pub invariant-loop-group : goal.invariant-loop-group
-invariant-loop-group g l = take l.group (g.G.RecordGroups.groups l.a) ≡ take l.group (g.H.RecordGroups.groups l.b)
+-- the groups up to the first one that is left are the same
+abbrev pub invariant-loop-first : goal.invariant-loop-first
+invariant-loop-first g l = record {
+  room : length l.room ≡ length l.initial.room;
+  other : length l.other ≡ length l.initial.other;
+  within : l.first ≤ length (g.G.RecordGroups.groups l.a);
+  same : take l.first (g.G.RecordGroups.groups l.a) ≡ take l.first (g.H.RecordGroups.groups l.b);
+}
+
+abbrev pub decreases-loop-first : goal.decreases-loop-first
+decreases-loop-first g l = length (g.G.RecordGroups.groups l.a) - l.first

@@ -1,27 +1,13 @@
-use Rattle.std.proofs.Common.{◌≡◌, ◌-◌, ◌∙◌, ◌∷◌, [], Some, length, slice_get, option_map, sym, ap, subst, arith}
+use Rattle.std.proofs.Common.{◌≡◌, ◌∙◌, ◌∷◌, [], Some, slice_get, option_map, sym, ap, subst}
 use Rattle.tl_layout.specs.Numbers.{IsNumber}
-use Rattle.tl_county.specs.ChartWords.{chain_at, points_of}
+use Rattle.tl_county.specs.ChartWords.{chain_at}
 use Rattle.tl_county.specs.CountyRules.{tlids}
 use Rattle.tl_county.specs.Packing.{packed_one, first_point, last_point}
 use Rattle.tl_write.specs.CountyGroups.{ones_by_chain}
 use Rattle.tl_write.specs.Groups.{group_at}
-use Rattle.tl_write.proofs.ChainPlaces.{chain_of_group, first_at, last_at}
+use Rattle.tl_write.proofs.ChainPlaces.{chain_of_group}
 use Rattle.tl_write.proofs.Grouped.{group_of, lone, some-same}
 use Rattle.tl_write.proofs.chain_records.ChainRecordsRecordGroups.record.Goals as goal
-
-pub overflow_sub-last : goal.overflow_sub-last
-overflow_sub-last g c =
-    let chart = c.args.self.now.chart.now in
-    let county = g.C.Chart.county chart in
-    let there = chain_of_group (λ entry. packed_one entry ∷ []) county (g.met.C.Chart.is_county chart) (g.met.C.Chart.within_limits chart) c.args.group c.requires.group in
-    omega (arith, c.point_count_at-last.ensures, ap (λ o. length (points_of o)) there.chain, there.two)
-
-pub point-requires : goal.point-requires
-point-requires g c =
-    let chart = c.args.self.now.chart.now in
-    let county = g.C.Chart.county chart in
-    let there = chain_of_group (λ entry. packed_one entry ∷ []) county (g.met.C.Chart.is_county chart) (g.met.C.Chart.within_limits chart) c.args.group c.requires.group in
-    omega (arith, ap (λ o. length (points_of o)) there.chain, there.two)
 
 pub new-requires : goal.new-requires
 new-requires g c =
@@ -41,15 +27,10 @@ returns g c =
     let body_is : c.chain_body.result ≡ there.entry.1.body =
     some-same (option_map (λ chain. chain.body) (chain_at county c.args.group)) c.chain_body.result there.entry.1.body c.chain_body.ensures
     (ap (option_map (λ chain. chain.body)) there.chain) in
-    let start_is : c.point.result ≡ first_point points =
-    some-same (slice_get (points_of (chain_at county c.args.group)) 0) c.point.result (first_point points) c.point.ensures
-    (ap (λ o. slice_get (points_of o) 0) there.chain ∙ first_at points (omega (arith, there.two))) in
-    let count : c.point_count_at-last.result ≡ length points =
-    c.point_count_at-last.ensures ∙ ap (λ o. length (points_of o)) there.chain in
-    let end_is : c.point-2.result ≡ last_point points =
-    some-same (slice_get (points_of (chain_at county c.args.group)) (c.point_count_at-last.result - 1)) c.point-2.result (last_point points)
-    c.point-2.ensures (ap (λ o. slice_get (points_of o) (c.point_count_at-last.result - 1)) there.chain
-    ∙ ap (λ n. slice_get points (n - 1)) count ∙ last_at points (omega (arith, there.two))) in
-    ap Some (c.new.ensures ∙ (λ i. record { tlid = tlid_is i; body = body_is i; start = start_is i; end = end_is i }))
+    let ends_are : c.args.head ≡ (first_point points, last_point points) =
+    some-same (option_map (λ chain. (first_point chain.points, last_point chain.points)) (chain_at county c.args.group)) c.args.head
+    (first_point points, last_point points) c.requires.head
+    (ap (option_map (λ chain. (first_point chain.points, last_point chain.points))) there.chain) in
+    ap Some (c.new.ensures ∙ (λ i. record { tlid = tlid_is i; body = body_is i; start = (ends_are i).0; end = (ends_are i).1 }))
     ∙ sym (lone (group_at (ones_by_chain county) c.args.group) (packed_one there.entry) c.args._place
     (group_of (λ entry. packed_one entry ∷ []) county.chains c.args.group there.entry there.get) c.requires.place)

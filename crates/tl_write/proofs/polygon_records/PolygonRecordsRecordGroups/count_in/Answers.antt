@@ -1,24 +1,19 @@
-use Rattle.std.proofs.Common.{◌<◌, ◌∙◌, length, option_to_list, sym, ap, subst}
-use Rattle.tl_county.specs.Packing.{packed_p, packed_body}
+use Rattle.std.proofs.Common.{◌∙◌, length, option_to_list, sym, ap}
+use Rattle.tl_county.specs.Packing.{packed_body}
 use Rattle.tl_number.specs.ViewFacts.{stepped}
-use Rattle.tl_write.proofs.EntryPlaces.{polygons_counted, polygon_group}
+use Rattle.tl_write.proofs.EntryPlaces.{polygon_group}
 use Rattle.tl_write.proofs.polygon_records.PolygonRecordsRecordGroups.count_in.Goals as goal
-
-pub polygon_by_number-requires : goal.polygon_by_number-requires
-polygon_by_number-requires g c =
-    let county = stepped (g.C.Chart.county c.args.self.now.county.now.view.chart) c.args.self.now.county.now.view.steps.items in
-    subst (λ n. c.args.group < n) (polygons_counted (λ entry. option_to_list (packed_p entry)) county) c.requires
 
 pub returns-in-Some : goal.returns-in-Some
 returns-in-Some g c =
     let county = stepped (g.C.Chart.county c.args.self.now.county.now.view.chart) c.args.self.now.county.now.view.steps.items in
-    let entry = c.polygon_by_number.result in
-    sym (ap length (polygon_group county c.args.group entry c.polygon_by_number.ensures)
+    let entry = c.args.head in
+    sym (ap length (polygon_group county c.args._group entry c.requires.head)
     ∙ ap (λ o. length (option_to_list (packed_body entry.0 o))) c.in-Some.is)
 
 pub returns-in-None : goal.returns-in-None
 returns-in-None g c =
     let county = stepped (g.C.Chart.county c.args.self.now.county.now.view.chart) c.args.self.now.county.now.view.steps.items in
-    let entry = c.polygon_by_number.result in
-    sym (ap length (polygon_group county c.args.group entry c.polygon_by_number.ensures)
+    let entry = c.args.head in
+    sym (ap length (polygon_group county c.args._group entry c.requires.head)
     ∙ ap (λ o. length (option_to_list (packed_body entry.0 o))) c.in-None.is)

@@ -3,7 +3,7 @@ use Rattle.std.proofs.lemmas.List.{length-map}
 use Rattle.tl_county.specs.Packing.{packed_sevens}
 use Rattle.tl_write.proofs.EntryPlaces.{landmark_of_group}
 use Rattle.tl_write.proofs.Grouped.{group_of}
-use Rattle.tl_write.proofs.name_records.LandmarkRecordsRecordGroups.count_in.Goals as goal
+use Rattle.tl_write.proofs.name_records.LandmarkRecordsRecordGroups.head.Goals as goal
 
 pub returns : goal.returns
 returns g c =

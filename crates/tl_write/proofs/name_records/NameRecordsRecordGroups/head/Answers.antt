@@ -2,7 +2,7 @@ use Rattle.std.proofs.Common.{◌∷◌, [], length, sym, ap}
 use Rattle.tl_county.specs.Packing.{packed_five}
 use Rattle.tl_write.proofs.EntryPlaces.{name_of_group}
 use Rattle.tl_write.proofs.Grouped.{group_of}
-use Rattle.tl_write.proofs.name_records.NameRecordsRecordGroups.count_in.Goals as goal
+use Rattle.tl_write.proofs.name_records.NameRecordsRecordGroups.head.Goals as goal
 
 pub returns : goal.returns
 returns g c =

@@ -4,7 +4,7 @@ use Rattle.tl_county.specs.Packing.{packed_sixes}
 use Rattle.tl_write.proofs.ChainPlaces.{chain_of_group}
 use Rattle.tl_write.proofs.Grouped.{group_of}
 use Rattle.tl_write.proofs.Pieces.{numbered_list_length}
-use Rattle.tl_write.proofs.chain_records.RangeRecordsRecordGroups.count_in.Goals as goal
+use Rattle.tl_write.proofs.chain_records.RangeRecordsRecordGroups.head.Goals as goal
 
 pub returns : goal.returns
 returns g c =

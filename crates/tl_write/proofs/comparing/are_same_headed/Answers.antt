@@ -1,0 +1,58 @@
+use Rattle.std.proofs.Common.{◌≡◌, ◌∙◌, true, false, rules, drop, length, take, refl, sym, ap, arith}
+use Rattle.std.proofs.lemmas.Option.{slice_get_read}
+use Rattle.tl_write.specs.Groups.{group_at}
+use Rattle.tl_write.proofs.Grouped.{group_headed, length_headed}
+use Rattle.tl_write.proofs.SameGroups.{decides_no, same_next, same_whole, same_group}
+use Rattle.tl_write.proofs.comparing.are_same_headed.Goals as goal
+
+pub is_same_group-same-requires-clause-head : goal.is_same_group-same-requires-clause-head
+is_same_group-same-requires-clause-head g c =
+    c.requires.heads c.loop-ahead.ahead c.index-heads-ahead.result
+    (slice_get_read c.args.heads.now (length c.args.heads.now) c.loop-ahead.ahead c.index-heads-ahead.result refl c.loop-ahead-test.true
+    c.index-heads-ahead.is)
+
+pub is_same_group-same-requires-clause-other : goal.is_same_group-same-requires-clause-other
+is_same_group-same-requires-clause-other g c =
+    c.requires.others c.loop-ahead.ahead c.index-others-ahead.result
+    (slice_get_read c.args.others.now (length c.args.heads.now) c.loop-ahead.ahead c.index-others-ahead.result (sym c.requires.count)
+    c.loop-ahead-test.true c.index-others-ahead.is)
+
+pub loop-ahead-preserved : goal.loop-ahead-preserved
+loop-ahead-preserved g c =
+    let same : c.is_same_group-same.result ≡ true = search rules in
+    let all_xs = g.G.RecordGroups.groups c.args.a.now in
+    let all_ys = g.H.RecordGroups.groups c.args.b.now in
+    let first = c.args.first in
+    let n = length c.args.heads.now in
+    let i = c.loop-ahead.ahead in
+    let xs = take n (drop first all_xs) in
+    let ys = take n (drop first all_ys) in
+    same_next xs ys i c.loop-ahead.invariant
+    (same_group xs ys i (omega (arith, length_headed all_xs first n c.requires.a, c.loop-ahead-test.true))
+    (omega (arith, length_headed all_ys first n c.requires.b, c.loop-ahead-test.true))
+    (group_headed all_xs first n i c.loop-ahead-test.true ∙ c.is_same_group-same.ensures.0 same
+    ∙ sym (group_headed all_ys first n i c.loop-ahead-test.true)))
+
+pub returns-then-not-same : goal.returns-then-not-same
+returns-then-not-same g c =
+    let other : c.is_same_group-same.result ≡ false = search rules in
+    let all_xs = g.G.RecordGroups.groups c.args.a.now in
+    let all_ys = g.H.RecordGroups.groups c.args.b.now in
+    let first = c.args.first in
+    let n = length c.args.heads.now in
+    let i = c.loop-ahead.ahead in
+    decides_no c.is_same_group-same.result other c.is_same_group-same.ensures
+    (λ all. sym (group_headed all_xs first n i c.loop-ahead-test.true) ∙ ap (λ gs. group_at gs i) all
+    ∙ group_headed all_ys first n i c.loop-ahead-test.true)
+
+pub returns : goal.returns
+returns g c =
+    let all_xs = g.G.RecordGroups.groups c.args.a.now in
+    let all_ys = g.H.RecordGroups.groups c.args.b.now in
+    let first = c.args.first in
+    let n = length c.args.heads.now in (
+      λ e. same_whole (take n (drop first all_xs)) (take n (drop first all_ys)) c.loop-ahead.ahead c.loop-ahead.invariant
+          (omega (arith, length_headed all_xs first n c.requires.a, c.loop-ahead-test.false))
+          (omega (arith, length_headed all_ys first n c.requires.b, c.loop-ahead-test.false)),
+      λ all. refl,
+    )
