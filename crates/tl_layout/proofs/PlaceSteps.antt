@@ -1,6 +1,17 @@
 -- Reading places one after another: what was read so far stands in front of what is read of the rest.
 use Rattle.std.proofs.Common.{◌≡◌, ℕ, suc, ◌+◌, List, [], ◌∷◌, ◌++◌, Bool, true, false, Option, Some, None, Result, Ok, Err, refl}
 use Rattle.std.proofs.Common.{sym, ap, ◌∙◌, subst, append_assoc}
+use Rattle.std.proofs.Common.{◌≤◌, ◌*◌, arith}
+use Rattle.std.proofs.Common.{◌-◌, drop, eqb, take, take-take}
+use Rattle.std.proofs.lemmas.Bool.{and_parts, eqb-true}
+use Rattle.std.proofs.lemmas.List.{drop-drop, drop-take}
+use Rattle.tl_layout.specs.Bytes.{columns}
+use Rattle.tl_layout.specs.CoordinateReading.{coordinate_of, signed_of, magnitude_of}
+use Rattle.tl_layout.specs.FieldReading.{pair_of, point_or_none, point_or_none_at}
+use Rattle.tl_layout.specs.NumberReading.{number_after}
+use Rattle.tl_layout.specs.declared.writing.TheConstants.{ZEROS}
+use lib.Pointwise.{pointwise}
+use Rattle.std.proofs.Math.Nat.{suc-mul}
 use Rattle.std.proofs.lemmas.List.{append-nil}
 use Rattle.tl_layout.specs.FieldReading.{and_then}
 use Rattle.tl_layout.specs.FieldLaws.{reads_on}
@@ -56,3 +67,50 @@ pub at_start : {A : Type 0} (reading : Result (List A) FieldFault) → with_fron
 unfolding and_then
 at_start (Ok xs) = refl
 at_start (Err e) = refl
+
+-- the columns of the places that are left, after one of them
+pub next_column : (n column width all : ℕ) → column + suc n * width ≡ all → column + width + n * width ≡ all
+next_column n column width all h = let one = suc-mul n width in omega arith
+
+-- the columns of one of them are among those of all
+pub column_within : (n column width count wide many : ℕ) → column + suc n * width ≡ 19 + count * width → width ≡ wide → count ≡ many
+    → column + wide ≤ 19 + many * wide
+column_within n column width count wide many h w c =
+    let one = suc-mul n width in
+    let P : ℕ → Type 0 = λ m. column + wide ≤ 19 + m * wide in
+    let Q : ℕ → Type 0 = λ v. column + v ≤ 19 + count * v in
+    subst P c (subst Q w (omega arith))
+
+same_bytes : (xs ys : List ℕ) → pointwise eqb xs ys ≡ true → xs ≡ ys
+same_bytes [] [] h = refl
+same_bytes [] (y ∷ ys) h = (cc)
+same_bytes (x ∷ xs) [] h = (cc)
+same_bytes (x ∷ xs) (y ∷ ys) h =
+    let parts = and_parts (eqb x y) (pointwise eqb xs ys) h in
+    let first = eqb-true x y parts.0 in
+    let rest = same_bytes xs ys parts.1 in
+    λ i. first i ∷ rest i
+
+-- a pair of zeros is no point
+zeros_read : (long lat : List ℕ) → long ≡ take 10 ZEROS → lat ≡ drop 10 ZEROS → (column : ℕ)
+    → pair_of column (coordinate_of 999999999 long) (coordinate_of 99999999 lat) ≡ Ok None
+unfolding coordinate_of signed_of magnitude_of number_after point_or_none
+zeros_read long lat e f column = rw (e, f) refl
+
+-- where a pair of zeros stands there is no point
+pub zeros_are_none : (column : ℕ) (line : List ℕ) → 1 ≤ column → pointwise eqb (columns column (column + 18) line) ZEROS ≡ true
+    → point_or_none_at column line ≡ Ok None
+unfolding point_or_none_at
+zeros_are_none column line one h =
+    let rest = drop (column - 1) line in
+    let nineteen : 19 ≡ column + 18 - (column - 1) = omega arith in
+    let ten : column + 9 - (column - 1) ≡ 10 = omega arith in
+    let nine : column + 18 - (column + 10 - 1) ≡ 9 = omega arith in
+    let from : column + 10 - 1 ≡ column - 1 + 10 = omega arith in
+    let all : take 19 rest ≡ ZEROS = ap (λ (n : ℕ). take n rest) nineteen ∙ same_bytes (columns column (column + 18) line) ZEROS h in
+    let long : columns column (column + 9) line ≡ take 10 ZEROS =
+    ap (λ (n : ℕ). take n rest) ten ∙ sym (take-take 10 19 rest (omega arith)) ∙ ap (take 10) all in
+    let behind : drop (column + 10 - 1) line ≡ drop 10 rest = ap (λ (n : ℕ). drop n line) from ∙ sym (drop-drop 10 (column - 1) line) in
+    let lat : columns (column + 10) (column + 18) line ≡ drop 10 ZEROS =
+    ap (λ (n : ℕ). take n (drop (column + 10 - 1) line)) nine ∙ ap (take 9) behind ∙ sym (drop-take 10 9 rest) ∙ ap (drop 10) all in
+    zeros_read _ _ long lat column

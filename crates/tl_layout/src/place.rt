@@ -1,13 +1,157 @@
 //! Places of one kind that stand side by side in a line.
 
-ghost use Rattle.std.specs.Prelude.{◌≡◌, ◌+◌, ◌-◌, ◌≤◌, ◌++◌, IfSome, length, take, slice_get};
+ghost use Rattle.std.specs.Prelude.{◌≡◌, ◌+◌, ◌-◌, ◌*◌, ◌≤◌, ◌<◌, [], ◌∷◌, ◌++◌, ℕ, List, Option, Result, IfSome, false, length, take, slice_get};
 ghost use Rattle.std.specs.List.{AllByRecursion};
 ghost use Rattle.tl_layout.specs.Coordinates.{IsOnMap};
 ghost use Rattle.tl_layout.specs.FieldTexts.{point_place_text, number_place_text};
 ghost use Rattle.tl_layout.specs.FieldTexts.{places_text};
+ghost use Rattle.tl_layout.specs.FieldReading.{Gives, places_reading};
 
+use crate::fault::FieldFault;
+use crate::field::{gap, read_number_or_none, read_point_or_none};
+use crate::layout::LONGEST_LINE;
 use crate::point::Point;
-use crate::writing::{write_number, write_point, write_zeros};
+use crate::writing::{ZEROS, write_number, write_point, write_zeros};
+use arrayvec::ArrayVec;
+
+/// A list whose items stand in places side by side in a line, from column 19 on.
+pub trait Places: Sized {
+    ghost use Rattle.tl_layout.specs.declared.fault.FieldFault.{FieldFault};
+
+    /// What stands in a place.
+    type Item: Copy;
+
+    /// How many places there are.
+    const COUNT: usize;
+
+    ghost COUNT: { ℕ };
+
+    /// How many columns a place has.
+    const WIDTH: usize;
+
+    ghost WIDTH: { ℕ };
+
+    /// The items of the list.
+    ghost items: { Self → List Self.Item };
+
+    /// What the place of a line that begins in this column is read as.
+    ghost reading: { List ℕ → ℕ → Result (Option Self.Item) FieldFault };
+
+    /// A list without items.
+    fn empty() -> Self
+        ensures { items result ≡ [] };
+
+    /// The item in the place that begins in this column, if it is used.
+    fn read(line: &[u8], column: usize) -> Result<Option<Self::Item>, FieldFault>
+        requires from_one { 1 ≤ column }
+        requires within { (column + WIDTH ≤ length line.now + 1) × (column + WIDTH ≤ LONGEST_LINE + 1) }
+        ensures { result ≡ reading line.now column };
+
+    /// Adds an item behind those that are there.
+    fn add(&mut self, item: Self::Item)
+        requires { length (items self.old) < COUNT }
+        ensures { items self.new ≡ items self.old ++ item ∷ [] };
+}
+
+/// Ten places for points, a pair of zeros where they are unused.
+impl Places for ArrayVec<Point, 10> {
+    ghost use Rattle.tl_layout.specs.FieldReading.{point_or_none_at};
+
+    type Item = Point;
+
+    const COUNT: usize = 10;
+
+    ghost COUNT = { 10 };
+
+    const WIDTH: usize = 19;
+
+    ghost WIDTH = { 19 };
+
+    ghost items = { λ points. points.items };
+
+    ghost reading = { λ line column. point_or_none_at column line };
+
+    fn empty() -> ArrayVec<Point, 10> {
+        ArrayVec::new()
+    }
+
+    fn read(line: &[u8], column: usize) -> Result<Option<Point>, FieldFault> {
+        if line[column - 1..column + 18] == ZEROS[..] {
+            return Ok(None);
+        }
+        read_point_or_none(line, column)
+    }
+
+    fn add(&mut self, point: Point) {
+        self.push(point);
+    }
+}
+
+/// Five places for FEATs.
+impl Places for ArrayVec<u32, 5> {
+    ghost use Rattle.std.specs.Prelude.{◌+◌};
+    ghost use Rattle.tl_layout.specs.FieldReading.{number_or_none_at};
+
+    type Item = u32;
+
+    const COUNT: usize = 5;
+
+    ghost COUNT = { 5 };
+
+    const WIDTH: usize = 8;
+
+    ghost WIDTH = { 8 };
+
+    ghost items = { λ feats. feats.items };
+
+    ghost reading = { λ line column. number_or_none_at column (column + 7) line };
+
+    fn empty() -> ArrayVec<u32, 5> {
+        ArrayVec::new()
+    }
+
+    fn read(line: &[u8], column: usize) -> Result<Option<u32>, FieldFault> {
+        match read_number_or_none(line, column, column + 7) {
+            Ok(Some(number)) => Ok(Some(number as u32)),
+            Ok(None) => Ok(None),
+            Err(fault) => Err(fault),
+        }
+    }
+
+    fn add(&mut self, feat: u32) {
+        self.push(feat);
+    }
+}
+
+/// The items in the places of a full line, of which the used ones stand first.
+pub fn read_places<P: Places + Drop>(line: &[u8]) -> Result<P, FieldFault>
+    requires wide { 1 ≤ P.WIDTH }
+    requires within { (18 + P.COUNT * P.WIDTH ≤ length line.now) × (18 + P.COUNT * P.WIDTH ≤ LONGEST_LINE) }
+    ensures { Gives P.items result (places_reading (P.reading line.now) P.WIDTH false P.COUNT 19) }
+{
+    let count = P::COUNT;
+    let width = P::WIDTH;
+    let mut items = P::empty();
+    let mut unused = false;
+    let mut column = 19;
+    for _place in 0..count {
+        let item = match P::read(line, column) {
+            Ok(item) => item,
+            Err(fault) => return Err(fault),
+        };
+        match item {
+            None => unused = true,
+            Some(item) => {
+                if unused {
+                    return Err(gap(column));
+                }
+                items.add(item);
+            }
+        }
+        column += width;
+    }
+    Ok(items)
+}
 
 /// The item at this place, if the list is that long.
 fn item_at<T: Copy>(items: &[T], place: usize) -> Option<T>

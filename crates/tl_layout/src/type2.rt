@@ -12,9 +12,9 @@ ghost use Rattle.tl_layout.specs.FieldReading.{places_reading};
 ghost use Rattle.tl_layout.specs.FieldTexts.{places_text};
 
 use crate::fault::FieldFault;
-use crate::field::{gap, read_number, read_point_or_none};
+use crate::field::read_number;
 use crate::layout::Layout;
-use crate::place::write_points;
+use crate::place::{read_places, write_points};
 use crate::point::Point;
 use crate::writing::{write_head, write_number};
 use arrayvec::ArrayVec;
@@ -37,32 +37,6 @@ impl Model for Rec2 {
     ghost view = { λ r. record { tlid = r.tlid; rtsq = r.rtsq; points = r.points.items } };
 
     ghost invariant = { λ r. IsNumber 10 r.tlid × IsNumber 3 r.rtsq };
-}
-
-/// The points in the ten places of a full line.
-fn read_points(line: &[u8]) -> Result<ArrayVec<Point, 10>, FieldFault>
-    requires { IsText len_2 line.now }
-    ensures { Gives (λ points. points.items) result (places_reading (λ column. point_or_none_at column line.now) 19 false 10 19) }
-{
-    let mut points = ArrayVec::new();
-    let mut unused = false;
-    for place in 0..10 {
-        let column = 19 + 19 * place;
-        let point = match read_point_or_none(line, column) {
-            Ok(point) => point,
-            Err(fault) => return Err(fault),
-        };
-        match point {
-            None => unused = true,
-            Some(point) => {
-                if unused {
-                    return Err(gap(column));
-                }
-                points.push(point);
-            }
-        }
-    }
-    Ok(points)
 }
 
 impl Rec2 {
@@ -109,7 +83,7 @@ impl Rec2 {
     {
         let tlid = read_number(line, 6, 15)?;
         let rtsq = read_number(line, 16, 18)?;
-        let points = read_points(line)?;
+        let points = read_places(line)?;
         Ok(Rec2::new(tlid, rtsq as u16, points))
     }
 }

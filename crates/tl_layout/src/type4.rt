@@ -9,9 +9,9 @@ ghost use Rattle.tl_layout.specs.FieldReading.{Gives, number_or_none_at};
 ghost use Rattle.tl_layout.specs.FieldReading.{places_reading};
 
 use crate::fault::FieldFault;
-use crate::field::{gap, read_number, read_number_or_none};
+use crate::field::read_number;
 use crate::layout::Layout;
-use crate::place::write_feats;
+use crate::place::{read_places, write_feats};
 use crate::writing::{write_head, write_number};
 use arrayvec::ArrayVec;
 use std::marker::Model;
@@ -34,32 +34,6 @@ impl Model for Rec4 {
     ghost view = { λ r. record { tlid = r.tlid; rtsq = r.rtsq; feats = r.feats.items } };
 
     ghost invariant = { λ r. IsNumber 10 r.tlid × IsNumber 3 r.rtsq × AllByRecursion (IsNumber 8) r.feats.items };
-}
-
-/// The FEATs in the five places of a full line.
-fn read_feats(line: &[u8]) -> Result<ArrayVec<u32, 5>, FieldFault>
-    requires { IsText len_4 line.now }
-    ensures { Gives (λ feats. feats.items) result (places_reading (λ column. number_or_none_at column (column + 7) line.now) 8 false 5 19) }
-{
-    let mut feats = ArrayVec::new();
-    let mut unused = false;
-    for place in 0..5 {
-        let column = 19 + 8 * place;
-        let feat = match read_number_or_none(line, column, column + 7) {
-            Ok(feat) => feat,
-            Err(fault) => return Err(fault),
-        };
-        match feat {
-            None => unused = true,
-            Some(feat) => {
-                if unused {
-                    return Err(gap(column));
-                }
-                feats.push(feat as u32);
-            }
-        }
-    }
-    Ok(feats)
 }
 
 impl Rec4 {
@@ -108,7 +82,7 @@ impl Rec4 {
     {
         let tlid = read_number(line, 6, 15)?;
         let rtsq = read_number(line, 16, 18)?;
-        let feats = read_feats(line)?;
+        let feats = read_places(line)?;
         Ok(Rec4::new(tlid, rtsq as u16, feats))
     }
 }

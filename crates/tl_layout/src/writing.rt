@@ -80,6 +80,9 @@ pub fn write_point(out: &mut [u8], column: usize, point: &Point)
     write_coordinate(out, column + 10, column + 18, point.lat());
 }
 
+/// The pair of zeros that stands in an unused place for a point.
+pub const ZEROS: [u8; 19] = *b"+000000000+00000000";
+
 /// Writes a pair of zeros into the 19 columns from this one on.
 pub fn write_zeros(out: &mut [u8], column: usize)
     requires from_one { 1 ≤ column }
@@ -87,8 +90,7 @@ pub fn write_zeros(out: &mut [u8], column: usize)
     ensures { take (column + 18) out.new
         ≡ joined (take (column - 1) out.old) (coordinate_text 9 (pos 0) ∷ coordinate_text 8 (pos 0) ∷ []) }
 {
-    write_coordinate(out, column, column + 9, 0);
-    write_coordinate(out, column + 10, column + 18, 0);
+    out[column - 1..column + 18].copy_from_slice(&ZEROS);
 }
 
 /// Writes the pair of coordinates of a point into the 19 columns from this one on, blanks where there is none.

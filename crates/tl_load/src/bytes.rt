@@ -45,10 +45,10 @@ fn is_clean_block(bytes: &[u8], at: usize) -> bool
     ensures { IsTrue result → (k : ℕ) → at ≤ k → k < at + 32 → is_allowed (slice_index bytes.now k) ≡ true }
 {
     let block = u8x32::from_slice(&bytes[at..]);
-    let below_blank = block.simd_lt(u8x32::splat(0x20)).to_bitmask();
-    let below_delete = block.simd_lt(u8x32::splat(0x7f)).to_bitmask();
-    let below_latin = block.simd_lt(u8x32::splat(0xa0)).to_bitmask();
-    below_blank == 0 && below_delete == below_latin
+    let controls = block.simd_lt(u8x32::splat(0x20));
+    // Of the bytes from 0x7F on, 0x21 are none that a line may hold.
+    let upper_controls = (block - u8x32::splat(0x7f)).simd_lt(u8x32::splat(0x21));
+    controls.to_bitmask() == 0 && upper_controls.to_bitmask() == 0
 }
 
 /// A line may hold each of the bytes: they are tested one by one.
