@@ -85,9 +85,11 @@ fn compare_with<'a>(
     first: &CanonCounty<CountyOver<'a>>,
     b: &[&[u8]],
 ) -> Result<Verdict, CompareFault>
-    ensures same { (a : List (List ℕ)) (r : Renumbering) → IsCanonSet a (the_county_over first.now.view.chart) (⟦<CanonCounty<CountyOver<'a>> as Chart>⟧.county first.now)
+    ensures same { (a : List (List ℕ)) (r : Renumbering)
+        → IsCanonSet a (the_county_over first.now.view.chart) (⟦<CanonCounty<CountyOver<'a>> as Chart>⟧.county first.now)
         → result ≡ Ok (Verdict.Same r) → CarriesSet r a (map (λ p. p.now) b.now) }
-    ensures different { (a : List (List ℕ)) → IsCanonSet a (the_county_over first.now.view.chart) (⟦<CanonCounty<CountyOver<'a>> as Chart>⟧.county first.now)
+    ensures different { (a : List (List ℕ))
+        → IsCanonSet a (the_county_over first.now.view.chart) (⟦<CanonCounty<CountyOver<'a>> as Chart>⟧.county first.now)
         → result ≡ Ok Verdict.Different → AreDifferent a (map (λ p. p.now) b.now) }
     ensures refused { (a : List (List ℕ)) → IsAcceptable a → IfErr result (TellsRefusalOfOne a (map (λ p. p.now) b.now)) }
     ensures no_device { (set : ℕ) → result ≢ Err (CompareFault.In set (Fault.Load LoadFault.Device)) }

@@ -44,7 +44,8 @@ fn compare_to<'a>(
     second: LoaderInto<Tables>,
 ) -> Result<Ending, Stopped>
     requires { (parts : List (List ℕ)) × WasFedInto HoldsByType record_limit second parts [] }
-    ensures verdict { (a b : List (List ℕ)) → IsCanonSet a (the_county_over first.now.view.chart) (⟦<CanonCounty<CountyOver<'a>> as Chart>⟧.county first.now) →
+    ensures verdict { (a b : List (List ℕ)) →
+        IsCanonSet a (the_county_over first.now.view.chart) (⟦<CanonCounty<CountyOver<'a>> as Chart>⟧.county first.now) →
         WasFedInto HoldsByType record_limit second b [] → IfOk result (λ ending. where_ended ending (AreOneMap a b) (AreDifferent a b)) }
     ensures refused { (b : List (List ℕ)) → WasFedInto HoldsByType record_limit second b [] → IfErr result (λ stopped. TellsRefusal b stopped.fault) }
 {

@@ -3,7 +3,8 @@ use Rattle.tigercanon.proofs.Verdicts.{acceptable}
 use Rattle.tigercanon.proofs.comparing.compare.Goals as goal
 
 pub returns-clause-refused : goal.returns-clause-refused
-returns-clause-refused c = c.compare_with.ensures.refused _ (acceptable _ _ _ (c.in-Ok-canonise_linked.ensures.canonical _ c.in-Ok.ensures.linked))
+returns-clause-refused c =
+    c.compare_with.ensures.refused _ (acceptable _ _ _ (c.in-Ok-canonise_linked.ensures.canonical _ c.in-Ok.ensures.linked))
 
 pub returns-clause-succeeds : goal.returns-clause-succeeds
 returns-clause-succeeds c = c.compare_with.ensures.succeeds _

@@ -11,7 +11,8 @@ returns-clause-same c = λ a r set told.
 
 pub returns-clause-different : goal.returns-clause-different
 returns-clause-different c = λ a set told.
-    sets_different a _ _ _ _ _ set (c.in-Ok-canonise_linked.ensures.canonical _ c.in-Ok.ensures.linked) (c.verdict_on.ensures.different told)
+    sets_different a _ _ _ _ _ set (c.in-Ok-canonise_linked.ensures.canonical _ c.in-Ok.ensures.linked)
+    (c.verdict_on.ensures.different told)
 
 pub returns-in-Err-canonise_linked-clause-refused : goal.returns-in-Err-canonise_linked-clause-refused
 returns-in-Err-canonise_linked-clause-refused c = λ a accepted.

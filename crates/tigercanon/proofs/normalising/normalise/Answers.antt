@@ -1,15 +1,18 @@
 use Rattle.std.proofs.lemmas.Result.{err_from_is_err_and}
-use Rattle.tigercanon.proofs.CanonicalTexts.{again, if_ok_by, memory_is_wanted, memory_refuses, one_text_accepted, only_of_set, text_of_set}
+use Rattle.tigercanon.proofs.CanonicalTexts.{again, if_ok_by, memory_is_wanted, memory_refuses, one_text_accepted}
+use Rattle.tigercanon.proofs.CanonicalTexts.{only_of_set, text_of_set}
 use Rattle.tigercanon.proofs.normalising.normalise.Goals as goal
 
 pub returns-clause-canonical : goal.returns-clause-canonical
 returns-clause-canonical c =
-    if_ok_by c.text_in_memory.result (λ text. text_of_set _ _ _ (c.in_ok-county.ensures.canonical _ c.in_ok-linked.ensures.linked) text.items)
+    let set = c.in_ok-county.ensures.canonical _ c.in_ok-linked.ensures.linked in
+    if_ok_by c.text_in_memory.result (λ text. text_of_set _ _ _ set text.items)
     c.text_in_memory.ensures.text
 
 pub returns-clause-only : goal.returns-clause-only
 returns-clause-only c =
-    if_ok_by c.text_in_memory.result (λ text. only_of_set _ _ _ (c.in_ok-county.ensures.canonical _ c.in_ok-linked.ensures.linked) text.items)
+    let set = c.in_ok-county.ensures.canonical _ c.in_ok-linked.ensures.linked in
+    if_ok_by c.text_in_memory.result (λ text. only_of_set _ _ _ set text.items)
     c.text_in_memory.ensures.text
 
 pub returns-clause-again : goal.returns-clause-again

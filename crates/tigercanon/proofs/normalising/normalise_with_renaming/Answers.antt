@@ -1,21 +1,25 @@
 use Rattle.std.proofs.lemmas.Result.{err_from_is_err_and}
-use Rattle.tigercanon.proofs.CanonicalTexts.{carried_of_set, if_ok_both, if_ok_by, memory_is_wanted, memory_refuses, only_of_set, text_of_set}
+use Rattle.tigercanon.proofs.CanonicalTexts.{carried_of_set, if_ok_both, if_ok_by, memory_is_wanted, memory_refuses}
+use Rattle.tigercanon.proofs.CanonicalTexts.{only_of_set, text_of_set}
 use Rattle.tigercanon.proofs.normalising.normalise_with_renaming.Goals as goal
 
 pub returns-clause-canonical : goal.returns-clause-canonical
 returns-clause-canonical c =
-    if_ok_by c.text_and_renaming.result (λ told. text_of_set _ _ _ (c.in_ok-county.ensures.canonical _ c.in_ok-linked.ensures.linked) told.0.items)
+    let set = c.in_ok-county.ensures.canonical _ c.in_ok-linked.ensures.linked in
+    if_ok_by c.text_and_renaming.result (λ told. text_of_set _ _ _ set told.0.items)
     c.text_and_renaming.ensures.text
 
 pub returns-clause-only : goal.returns-clause-only
 returns-clause-only c =
-    if_ok_by c.text_and_renaming.result (λ told. only_of_set _ _ _ (c.in_ok-county.ensures.canonical _ c.in_ok-linked.ensures.linked) told.0.items)
+    let set = c.in_ok-county.ensures.canonical _ c.in_ok-linked.ensures.linked in
+    if_ok_by c.text_and_renaming.result (λ told. only_of_set _ _ _ set told.0.items)
     c.text_and_renaming.ensures.text
 
 pub returns-clause-carries : goal.returns-clause-carries
 returns-clause-carries c =
+    let set = c.in_ok-county.ensures.canonical _ c.in_ok-linked.ensures.linked in
     if_ok_both c.text_and_renaming.result
-    (λ told text. carried_of_set _ _ _ (c.in_ok-county.ensures.canonical _ c.in_ok-linked.ensures.linked) c.in_ok-county.county.view.whole.is_county told.0.items text told.1)
+    (λ told text. carried_of_set _ _ _ set c.in_ok-county.county.view.whole.is_county told.0.items text told.1)
     c.text_and_renaming.ensures.text c.text_and_renaming.ensures.carries
 
 pub returns-clause-refused : goal.returns-clause-refused
