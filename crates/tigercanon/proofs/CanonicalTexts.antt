@@ -10,9 +10,12 @@ use Rattle.tl_county.specs.Packing.{packed}
 use Rattle.tl_county.specs.Renumbering.{Renumbering, Carries}
 use Rattle.tl_county.proofs.PackedCounty.{packed_county}
 use Rattle.tl_number.specs.Accepted.{IsCanonicalOf}
+use Rattle.tigercanon.specs.Faults.{IsWantOfMemory, TellsRefusal}
 use Rattle.tigercanon.specs.Normalising.{IsOnlyText}
 use Rattle.tigercanon.specs.Respelling.{record_limit}
 use Rattle.tigercanon.specs.Sets.{CarriesSet, IsAcceptedSet, IsCanonSet, IsCanonicalText, IsOneCanonicalText}
+use Rattle.tigercanon.specs.declared.fault.Fault.{Fault}
+use Rattle.tigercanon.specs.declared.fault.Fault.TheVariants.{Memory}
 use Rattle.tigercanon.proofs.Sets.{one_text, only_text, text_accepted, text_itself}
 
 pub if_ok_by : {T E : Type 0} {P Q : T → Type 0} (r : Result T E) → ((x : T) → P x → Q x) → IfOk r P → IfOk r Q
@@ -26,6 +29,13 @@ if_err_by (Err e) f h = f e h
 pub if_ok_both : {T E : Type 0} {P Q R : T → Type 0} (r : Result T E) → ((x : T) → P x → Q x → R x) → IfOk r P → IfOk r Q → IfOk r R
 if_ok_both (Ok x) f h k = f x h k
 if_ok_both (Err e) f h k = tt
+
+-- where nothing but want of memory is told, that is no refusal of a set
+pub memory_refuses : {T : Type 0} (parts : List (List ℕ)) (r : Result T Fault) → IfErr r (λ f. f ≡ Memory) → IfErr r (TellsRefusal parts)
+memory_refuses parts r = if_err_by r (λ f memory. subst (TellsRefusal parts) (sym memory) tt)
+
+pub memory_is_wanted : {T : Type 0} (r : Result T Fault) → IfErr r (λ f. f ≡ Memory) → IfErr r IsWantOfMemory
+memory_is_wanted r = if_err_by r (λ f memory. subst IsWantOfMemory (sym memory) tt)
 
 module _ (parts : List (List ℕ)) (records canonical : List Record) (spelled : SpellsWithin tiger record_limit parts records)
     (of : IsCanonicalOf records canonical) where

@@ -22,9 +22,11 @@ use Rattle.tl_profile.proofs.ProfileFaults.{profile_has_none}
 use Rattle.tigercanon.specs.declared.fault.Fault.{Fault}
 use Rattle.tigercanon.specs.declared.fault.Fault.TheVariants.{Load, Link, Profile, Write, Memory}
 use Rattle.tigercanon.specs.declared.files.Opened.{Opened}
-use Rattle.tigercanon.specs.Faults.{RefusesRecords, IsWantOfMemory}
+use Rattle.tigercanon.specs.Faults.{IsWantOfMemory, RefusesRecords, TellsRefusal}
 use Rattle.tigercanon.specs.Files.{AreHeld}
+use Rattle.tigercanon.specs.Normalising.{TellsRead}
 use Rattle.tigercanon.specs.Outcomes.{TellsSet}
+use Rattle.tigercanon.specs.Reading.{AreRead}
 use Rattle.tigercanon.specs.Respelling.{record_limit}
 use Rattle.tigercanon.specs.Sets.{IsAcceptedSet}
 use Rattle.tigercanon.proofs.Sets.{one_list}
@@ -70,6 +72,15 @@ accepted_memory_alone parts records others (Profile f) a spelled h = go (profile
 accepted_memory_alone parts records others (Write f) a spelled h = absurd h
 accepted_memory_alone parts records others Memory a spelled h = tt
 
+-- what the records of parts are refused for, the parts are refused for
+pub set_refused : (parts : List (List ℕ)) (records : List Record) → SpellsWithin tiger record_limit parts records → (f : Fault)
+    → RefusesRecords records f → TellsRefusal parts f
+set_refused parts records spelled (Load f) h = absurd h
+set_refused parts records spelled (Link f) h = λ ne. (records, spelled, h ne)
+set_refused parts records spelled (Profile f) h = λ ne. (records, spelled, (h ne).0, (h ne).1)
+set_refused parts records spelled (Write f) h = absurd h
+set_refused parts records spelled Memory h = tt
+
 -- what the records of files are refused for, the files are refused for
 module _ {R : Type 0} (remaining : R → Option (List ℕ)) (files : List (Opened R)) (parts : List (List ℕ))
     (held : AreHeld remaining files parts)
@@ -80,6 +91,17 @@ module _ {R : Type 0} (remaining : R → Option (List ℕ)) (files : List (Opene
   files_refused (Profile f) h = λ ne. record { parts = parts; held = held; refused = (records, spelled, (h ne).0, (h ne).1) }
   files_refused (Write f) h = absurd h
   files_refused Memory h = tt
+
+-- what the records of parts that were read are refused for, is told of what was read
+module _ {R : Type 0} (remaining : R → Option (List ℕ)) (given : R → ℕ) (before after : List R) (parts : List (List ℕ))
+    (read : AreRead remaining given before after parts)
+    (records : List Record) (spelled : SpellsWithin tiger record_limit parts records) where
+  pub read_refused : (f : Fault) → RefusesRecords records f → TellsRead remaining given before after f
+  read_refused (Load f) h = absurd h
+  read_refused (Link f) h = λ ne. record { parts = parts; read = read; refused = (records, spelled, h ne) }
+  read_refused (Profile f) h = λ ne. record { parts = parts; read = read; refused = (records, spelled, (h ne).0, (h ne).1) }
+  read_refused (Write f) h = absurd h
+  read_refused Memory h = tt
 
 -- tables of the records that parts spell hold records within their limits
 pub within_limits : (parts : List (List ℕ)) (tables : Tables) (records : List Record) → HoldsByType tables records

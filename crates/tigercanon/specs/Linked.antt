@@ -1,10 +1,17 @@
--- What tables of linked records say of a list of records.
-use Rattle.std.specs.Prelude.{◌≡◌, List}
+-- What tables of linked records say of a list of records, and of the parts that spell one.
+use Rattle.std.specs.Prelude.{ℕ, ◌≡◌, List}
 use Rattle.tl_layout.specs.declared.record_type.Record.{Record}
+use Rattle.tl_load.specs.Choice.{tiger}
+use Rattle.tl_load.specs.Outcome.{SpellsWithin}
 use Rattle.tl_county.specs.County.{county_of}
 use Rattle.tl_county.specs.LinkRules.{IsLinked}
 use Rattle.tl_county.specs.Packing.{Typed, type_after_type}
+use Rattle.tigercanon.specs.Respelling.{record_limit}
 
 -- the records fit together, and their county is that of the tables
 abbrev pub AreLinkedAs : Typed → List Record → Type 0
 AreLinkedAs tables records = IsLinked records × (county_of (type_after_type tables) ≡ county_of records)
+
+-- the parts spell records which fit together, and whose county is that of the tables
+abbrev pub IsLinkedSet : List (List ℕ) → Typed → Type 0
+IsLinkedSet parts tables = (records : List Record) × SpellsWithin tiger record_limit parts records × AreLinkedAs tables records

@@ -7,19 +7,25 @@ ghost use Rattle.tigercanon.specs.Sets.{CarriesSet, IsCanonSet};
 ghost use Rattle.tigercanon.specs.declared.comparing.CompareFault.TheVariants.{Memory};
 ghost use Rattle.tl_county.specs.Packing.{packed};
 ghost use Rattle.tl_county.specs.Renumbering.{Carries, Renumbering};
-ghost use Rattle.tl_county.specs.TheCountyIn.{the_county_in};
+ghost use Rattle.tl_county.specs.TheCountyOver.{the_county_over};
 ghost use Rattle.tl_layout.specs.declared.record_type.Record.{Record};
 
-use crate::canonising::canonise_parts;
 use crate::fault::Fault;
+use crate::linked::{canonise_linked, link_parts};
 use bumpalo::Bump;
 use std::alloc::{AllocError, Global};
 use thiserror::Error;
 use tl_cert::Renaming;
-use tl_county::{Chart, CountyIn};
+use tl_county::{Chart, CountyOver};
 use tl_load::LoadFault;
-use tl_number::{CanonCounty, CanonCountyIn};
+use tl_number::CanonCounty;
 use tl_write::same_records;
+
+/// How a fault tells the first set.
+const FIRST: u8 = 1;
+
+/// How a fault tells the second set.
+const SECOND: u8 = 2;
 
 /// What comparing two sets finds.
 #[derive(Debug, Drop)]
@@ -76,21 +82,27 @@ fn verdict_on<A: Chart, B: Chart>(
 /// The verdict on a set in canonical form and one that is still to be judged.
 fn compare_with<'a>(
     alloc: Global,
-    first: &CanonCountyIn<'a>,
+    first: &CanonCounty<CountyOver<'a>>,
     b: &[&[u8]],
 ) -> Result<Verdict, CompareFault>
-    ensures same { (a : List (List ℕ)) (r : Renumbering) → IsCanonSet a (the_county_in first.now.view.chart) (⟦<CanonCounty<CountyIn<'a>> as Chart>⟧.county first.now)
+    ensures same { (a : List (List ℕ)) (r : Renumbering)
+        → IsCanonSet a (the_county_over first.now.view.chart) (⟦<CanonCounty<CountyOver<'a>> as Chart>⟧.county first.now)
         → result ≡ Ok (Verdict.Same r) → CarriesSet r a (map (λ p. p.now) b.now) }
-    ensures different { (a : List (List ℕ)) → IsCanonSet a (the_county_in first.now.view.chart) (⟦<CanonCounty<CountyIn<'a>> as Chart>⟧.county first.now)
+    ensures different { (a : List (List ℕ))
+        → IsCanonSet a (the_county_over first.now.view.chart) (⟦<CanonCounty<CountyOver<'a>> as Chart>⟧.county first.now)
         → result ≡ Ok Verdict.Different → AreDifferent a (map (λ p. p.now) b.now) }
     ensures refused { (a : List (List ℕ)) → IsAcceptable a → IfErr result (TellsRefusalOfOne a (map (λ p. p.now) b.now)) }
     ensures no_device { (set : ℕ) → result ≢ Err (CompareFault.In set (Fault.Load LoadFault.Device)) }
     ensures succeeds { (a : List (List ℕ)) → IfErr result (TellsMemoryOfAccepted a (map (λ p. p.now) b.now)) }
 {
+    let linked = match link_parts(alloc, b) {
+        Ok(linked) => linked,
+        Err(fault) => return Err(CompareFault::In { set: SECOND, fault }),
+    };
     let arena = Bump::new(alloc);
-    let second = match canonise_parts(alloc, &arena, b) {
+    let second = match canonise_linked(alloc, &arena, &linked) {
         Ok(county) => county,
-        Err(fault) => return Err(CompareFault::In { set: 2, fault }),
+        Err(fault) => return Err(CompareFault::In { set: SECOND, fault }),
     };
     verdict_on(alloc, first, &second)
 }
@@ -113,10 +125,14 @@ pub fn compare(alloc: Global, a: &[&[u8]], b: &[&[u8]]) -> Result<Verdict, Compa
     // Of an accepted set nothing but want of memory is told.
     ensures succeeds { IfErr result (TellsMemoryOfAccepted (map (λ p. p.now) a.now) (map (λ p. p.now) b.now)) }
 {
+    let linked = match link_parts(alloc, a) {
+        Ok(linked) => linked,
+        Err(fault) => return Err(CompareFault::In { set: FIRST, fault }),
+    };
     let arena = Bump::new(alloc);
-    let first = match canonise_parts(alloc, &arena, a) {
+    let first = match canonise_linked(alloc, &arena, &linked) {
         Ok(county) => county,
-        Err(fault) => return Err(CompareFault::In { set: 1, fault }),
+        Err(fault) => return Err(CompareFault::In { set: FIRST, fault }),
     };
     compare_with(alloc, &first, b)
 }

@@ -9,9 +9,9 @@ ghost use Rattle.tl_county.specs.Packing.{packed};
 ghost use Rattle.tl_layout.specs.RecordText.{text_of};
 ghost use Rattle.tl_layout.specs.declared.record_type.Record.{Record};
 
-use crate::canonising::canonise_parts;
 use crate::fault::Fault;
 use crate::hashing::Hashing;
+use crate::linked::{canonise_linked, link_parts};
 use bumpalo::Bump;
 use std::alloc::Global;
 use tl_county::Chart;
@@ -42,7 +42,8 @@ pub fn fingerprint(alloc: Global, parts: &[&[u8]]) -> Result<[u8; 32], Fault>
     // Of accepted parts nothing but want of memory is told.
     ensures succeeds { (records : List Record) → IsAcceptedSet (map (λ p. p.now) parts.now) records → IfErr result IsWantOfMemory }
 {
+    let linked = link_parts(alloc, parts)?;
     let arena = Bump::new(alloc);
-    let county = canonise_parts(alloc, &arena, parts)?;
+    let county = canonise_linked(alloc, &arena, &linked)?;
     Ok(hash_of(&county))
 }

@@ -13,13 +13,12 @@ ghost use Rattle.tigercanon.specs.TwoSets.{TellsMissing, TellsWhy};
 ghost use Rattle.tigercanon.specs.Respelling.{IsRespelt};
 ghost use Rattle.tigercanon.specs.Sets.{IsCanonicalText, SaysAccepted};
 
-use crate::canonising::canonise_tables;
 use crate::command_line::{Job, PlanFault};
 use crate::ending::{Ending, Stopped, ending_of, tell_line, tell_stopped};
 use crate::fault::Fault;
 use crate::files::{Opened, is_missing_a_file, load_files, sources_of};
 use crate::fingerprinting::hash_of;
-use crate::linked::judge_tables;
+use crate::linked::{canonise_linked, judge_tables, link_records};
 use crate::normalising::normalise_to;
 use crate::two_sets::compare_sets;
 use crate::writing::{LentOut, write_text};
@@ -115,8 +114,9 @@ fn fingerprint_files<R: Read + Drop>(
     ensures missing { IsMissing files.items → IsErrOf result (Fault.Load LoadFault.Device) }
 {
     let tables: Tables = load_files(alloc, files)?;
+    let linked = link_records(alloc, tables)?;
     let arena = Bump::new(alloc);
-    let county = canonise_tables(alloc, &arena, tables)?;
+    let county = canonise_linked(alloc, &arena, &linked)?;
     Ok(hash_of(&county))
 }
 

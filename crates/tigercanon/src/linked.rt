@@ -1,8 +1,9 @@
-//! A set's records, linked and judged where they stand.
+//! A set's records, linked, judged and put into canonical form where they stand.
 
-ghost use Rattle.std.specs.Prelude.{◌≡◌, List, OnOk, IfOk, IfErr};
-ghost use Rattle.tigercanon.specs.Faults.{RefusesRecords};
-ghost use Rattle.tigercanon.specs.Linked.{AreLinkedAs};
+ghost use Rattle.std.specs.Prelude.{◌≡◌, ◌≢◌, ℕ, Err, List, map, OnOk, IfOk, IfErr};
+ghost use Rattle.tigercanon.specs.Faults.{IsWantOfMemory, RefusesRecords, TellsRefusal};
+ghost use Rattle.tigercanon.specs.Linked.{AreLinkedAs, IsLinkedSet};
+ghost use Rattle.tigercanon.specs.Sets.{IsAcceptedSet, IsCanonSet};
 ghost use Rattle.tl_county.specs.County.{county_of};
 ghost use Rattle.tl_county.specs.Limits.{HoldsWithinLimits};
 ghost use Rattle.tl_county.specs.TheCountyOver.{the_county_over};
@@ -11,19 +12,34 @@ ghost use Rattle.tl_layout.specs.declared.record_type.Record.{Record};
 ghost use Rattle.tl_number.specs.Accepted.{IsAccepted};
 
 use crate::fault::Fault;
+use crate::loading::load;
 use bumpalo::Bump;
 use std::alloc::Global;
-use tl_county::{CountyOver, LinkedRecords, link_in_order};
+use tl_county::{Chart, CountyOver, LinkedRecords, link_in_order};
 use tl_layout::Tables;
+use tl_load::LoadFault;
+use tl_number::{CanonCounty, canonise_chart};
 use tl_profile::{Admitted, admit_chart};
 
 /// Tables of records within their limits, linked. The tables' order has no meaning.
-fn link_records(alloc: Global, tables: Tables) -> Result<LinkedRecords, Fault>
+pub(crate) fn link_records(alloc: Global, tables: Tables) -> Result<LinkedRecords, Fault>
     requires { HoldsWithinLimits tables }
     ensures linked { IfOk result (λ linked. (records : List Record) → HoldsByType tables records → AreLinkedAs linked records) }
     ensures refused { IfErr result (λ fault. (records : List Record) → HoldsByType tables records → RefusesRecords records fault) }
 {
     Ok(link_in_order(alloc, tables)?)
+}
+
+/// The records of the parts, linked.
+pub(crate) fn link_parts(alloc: Global, parts: &[&[u8]]) -> Result<LinkedRecords, Fault>
+    ensures linked { IfOk result (IsLinkedSet (map (λ p. p.now) parts.now)) }
+    ensures refused { IfErr result (TellsRefusal (map (λ p. p.now) parts.now)) }
+    ensures no_device { result ≢ Err (Fault.Load LoadFault.Device) }
+    // Of accepted parts nothing but want of memory is told.
+    ensures succeeds { (records : List Record) → IsAcceptedSet (map (λ p. p.now) parts.now) records → IfErr result IsWantOfMemory }
+{
+    let tables: Tables = load(alloc, parts)?;
+    link_records(alloc, tables)
 }
 
 /// The admitted county of linked records, over their tables and an arena, which outlive it.
@@ -50,4 +66,23 @@ pub(crate) fn judge_tables(alloc: Global, tables: Tables) -> Result<(), Fault>
     let arena = Bump::new(alloc);
     admit_linked(alloc, &arena, &linked)?;
     Ok(())
+}
+
+/// The canonical county of linked records, over their tables and an arena, which outlive it.
+pub(crate) fn canonise_linked<'a>(
+    alloc: Global,
+    arena: &'a Bump,
+    linked: &'a LinkedRecords,
+) -> Result<CanonCounty<CountyOver<'a>>, Fault>
+    ensures canonical { IfOk result (λ canon. (parts : List (List ℕ)) → IsLinkedSet parts linked.now
+        → IsCanonSet parts (the_county_over canon.view.chart) (⟦<CanonCounty<CountyOver<'a>> as Chart>⟧.county canon)) }
+    ensures refused { IfErr result (λ fault. (records : List Record) → AreLinkedAs linked.now records → RefusesRecords records fault) }
+    ensures set_refused { IfErr result (λ fault. (parts : List (List ℕ)) → IsLinkedSet parts linked.now → TellsRefusal parts fault) }
+    ensures no_device { (parts : List (List ℕ)) → IsLinkedSet parts linked.now → result ≢ Err (Fault.Load LoadFault.Device) }
+    // Of an accepted set nothing but want of memory is told.
+    ensures succeeds { IfErr result (λ fault. (parts : List (List ℕ)) (records : List Record) → IsLinkedSet parts linked.now
+        → IsAcceptedSet parts records → IsWantOfMemory fault) }
+{
+    let admitted = admit_linked(alloc, arena, linked)?;
+    Ok(canonise_chart(alloc, admitted.into_chart())?)
 }

@@ -8,8 +8,9 @@ ghost use Rattle.tigercanon.specs.Sets.{CarriesSet, IsAcceptedSet, IsCanonicalTe
 ghost use Rattle.tl_layout.specs.declared.record_type.Record.{Record};
 ghost use Rattle.tl_write.specs.declared.fault.WriteFault.{WriteFault};
 
-use crate::canonising::{canonise_parts, canonise_tables, text_and_renaming, text_in_memory};
+use crate::canonising::{text_and_renaming, text_in_memory};
 use crate::fault::Fault;
+use crate::linked::{canonise_linked, link_parts, link_records};
 use crate::reading::load_sources;
 use bumpalo::Bump;
 use std::alloc::Global;
@@ -38,8 +39,9 @@ pub fn normalise(alloc: Global, parts: &[&[u8]]) -> Result<Vec<u8>, Fault>
     // Of accepted parts nothing but want of memory is told.
     ensures succeeds { (records : List Record) → IsAcceptedSet (map (λ p. p.now) parts.now) records → IfErr result IsWantOfMemory }
 {
+    let linked = link_parts(alloc, parts)?;
     let arena = Bump::new(alloc);
-    let county = canonise_parts(alloc, &arena, parts)?;
+    let county = canonise_linked(alloc, &arena, &linked)?;
     text_in_memory(alloc, &county)
 }
 
@@ -59,8 +61,9 @@ pub fn normalise_with_renaming(alloc: Global, parts: &[&[u8]]) -> Result<(Vec<u8
     // Of accepted parts nothing but want of memory is told.
     ensures succeeds { (records : List Record) → IsAcceptedSet (map (λ p. p.now) parts.now) records → IfErr result IsWantOfMemory }
 {
+    let linked = link_parts(alloc, parts)?;
     let arena = Bump::new(alloc);
-    let county = canonise_parts(alloc, &arena, parts)?;
+    let county = canonise_linked(alloc, &arena, &linked)?;
     text_and_renaming(alloc, &county)
 }
 
@@ -94,7 +97,8 @@ pub fn normalise_to<R: Source, W: Sink>(
     ensures no_device { result ≢ Err (Fault.Load LoadFault.Device) → NoneFailed R.failed parts.old parts.new }
 {
     let tables: Tables = load_sources(alloc, parts)?;
+    let linked = link_records(alloc, tables)?;
     let arena = Bump::new(alloc);
-    let county = canonise_tables(alloc, &arena, tables)?;
+    let county = canonise_linked(alloc, &arena, &linked)?;
     Ok(write_to(&county, out)?)
 }

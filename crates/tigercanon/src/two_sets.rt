@@ -4,59 +4,65 @@ ghost use Rattle.std.specs.Prelude.{◌≡◌, ◌⊎◌, Ok, Some, ℕ, List, [
 ghost use Rattle.tigercanon.specs.Comparing.{AreDifferent, AreOneMap, IsAcceptable};
 ghost use Rattle.tigercanon.specs.Faults.{TellsRefusal};
 ghost use Rattle.tigercanon.specs.Files.{IsMissing};
+ghost use Rattle.tigercanon.specs.Linked.{IsLinkedSet};
 ghost use Rattle.tigercanon.specs.Outcomes.{Prints};
 ghost use Rattle.tigercanon.specs.Respelling.{record_limit};
 ghost use Rattle.tigercanon.specs.Sets.{IsCanonSet};
 ghost use Rattle.tigercanon.specs.TwoSets.{IsLineDifferent, IsLineSame, LeavesComparison, NamesMissing};
 ghost use Rattle.tigercanon.specs.TwoSets.{OfTwoSets, TellsOne, line_of_ending, where_ended};
 ghost use Rattle.tigercanon.specs.declared.command_line.Job.{Job};
-ghost use Rattle.tl_county.specs.TheCountyIn.{the_county_in};
+ghost use Rattle.tl_county.specs.TheCountyOver.{the_county_over};
 ghost use Rattle.tl_layout.specs.Tables.{HoldsByType};
 ghost use Rattle.tl_load.specs.Keeping.{WasFedInto};
 
-use crate::canonising::canonise_tables;
 use crate::ending::{Ending, Stopped};
 use crate::fault::Fault;
 use crate::files::{Opened, is_missing_a_file, read_files};
+use crate::linked::{canonise_linked, link_records};
 use crate::writing::write_text;
 use bumpalo::Bump;
 use std::alloc::Global;
 use std::io::{Read, Write};
-use tl_county::{Chart, CountyIn};
+use tl_county::{Chart, CountyOver, LinkedRecords};
 use tl_layout::Tables;
 use tl_load::{LoadFault, LoaderInto};
-use tl_number::{CanonCounty, CanonCountyIn};
+use tl_number::CanonCounty;
 use tl_write::same_records;
 
-/// The canonical county of what a loader was fed, read through a county in the arena.
-fn canonise_loaded<'a>(
-    alloc: Global,
-    arena: &'a Bump,
-    loader: LoaderInto<Tables>,
-) -> Result<CanonCountyIn<'a>, Fault>
+/// The records of what a loader was fed, linked.
+fn link_loaded(alloc: Global, loader: LoaderInto<Tables>) -> Result<LinkedRecords, Fault>
     requires { (parts : List (List ℕ)) × WasFedInto HoldsByType record_limit loader parts [] }
-    ensures canonical { (parts : List (List ℕ)) → WasFedInto HoldsByType record_limit loader parts [] →
-        IfOk result (λ canon. IsCanonSet parts (the_county_in canon.view.chart) (⟦<CanonCounty<CountyIn<'a>> as Chart>⟧.county canon)) }
+    ensures linked { (parts : List (List ℕ)) → WasFedInto HoldsByType record_limit loader parts [] → IfOk result (IsLinkedSet parts) }
     ensures refused { (parts : List (List ℕ)) → WasFedInto HoldsByType record_limit loader parts [] → IfErr result (TellsRefusal parts) }
 {
     let tables = loader.finish()?;
-    canonise_tables(alloc, arena, tables)
+    link_records(alloc, tables)
 }
 
 /// Compares a set in canonical form with what a loader was fed.
 fn compare_to<'a>(
     alloc: Global,
-    first: &CanonCountyIn<'a>,
+    first: &CanonCounty<CountyOver<'a>>,
     second: LoaderInto<Tables>,
 ) -> Result<Ending, Stopped>
     requires { (parts : List (List ℕ)) × WasFedInto HoldsByType record_limit second parts [] }
-    ensures verdict { (a b : List (List ℕ)) → IsCanonSet a (the_county_in first.now.view.chart) (⟦<CanonCounty<CountyIn<'a>> as Chart>⟧.county first.now) →
+    ensures verdict { (a b : List (List ℕ)) →
+        IsCanonSet a (the_county_over first.now.view.chart) (⟦<CanonCounty<CountyOver<'a>> as Chart>⟧.county first.now) →
         WasFedInto HoldsByType record_limit second b [] → IfOk result (λ ending. where_ended ending (AreOneMap a b) (AreDifferent a b)) }
     ensures refused { (b : List (List ℕ)) → WasFedInto HoldsByType record_limit second b [] →
         IfErr result (λ stopped. (stopped.set ≡ Some 2) × TellsRefusal b stopped.fault) }
 {
+    let linked = match link_loaded(alloc, second) {
+        Ok(linked) => linked,
+        Err(fault) => {
+            return Err(Stopped {
+                fault,
+                set: Some(2),
+            });
+        }
+    };
     let arena = Bump::new(alloc);
-    let second = match canonise_loaded(alloc, &arena, second) {
+    let second = match canonise_linked(alloc, &arena, &linked) {
         Ok(county) => county,
         Err(fault) => {
             return Err(Stopped {
@@ -86,8 +92,17 @@ fn compare_loaded(
         IfErr result (λ stopped. ((stopped.set ≡ Some 1) × TellsRefusal a stopped.fault)
         ⊎ ((stopped.set ≡ Some 2) × IsAcceptable a × TellsRefusal b stopped.fault)) }
 {
+    let linked = match link_loaded(alloc, first) {
+        Ok(linked) => linked,
+        Err(fault) => {
+            return Err(Stopped {
+                fault,
+                set: Some(1),
+            });
+        }
+    };
     let arena = Bump::new(alloc);
-    let first = match canonise_loaded(alloc, &arena, first) {
+    let first = match canonise_linked(alloc, &arena, &linked) {
         Ok(county) => county,
         Err(fault) => {
             return Err(Stopped {

@@ -3,13 +3,15 @@ use Rattle.std.proofs.Common.{◌≡◌, ◌+◌, ℕ, zero, suc, List, [], ◌�
 use Rattle.tl_write.specs.Groups.{AreHeads}
 
 -- what is read of a list with one more at its end
-at_end : {H : Type 0} (xs : List H) (x y : H) (k : ℕ) → slice_get (xs ++ x ∷ []) k ≡ Some y → (slice_get xs k ≡ Some y) ⊎ ((k ≡ length xs) × (x ≡ y))
+at_end : {H : Type 0} (xs : List H) (x y : H) (k : ℕ) → slice_get (xs ++ x ∷ []) k ≡ Some y
+    → (slice_get xs k ≡ Some y) ⊎ ((k ≡ length xs) × (x ≡ y))
 at_end [] x y zero e = inr (refl, cc)
 at_end [] x y (suc k) e = cc
 at_end (z ∷ xs) x y zero e = inl e
 at_end {H} (z ∷ xs) x y (suc k) e = go (at_end xs x y k e)
   where
-    go : (slice_get xs k ≡ Some y) ⊎ ((k ≡ length xs) × (x ≡ y)) → (slice_get (z ∷ xs) (suc k) ≡ Some y) ⊎ ((suc k ≡ length (z ∷ xs)) × (x ≡ y))
+    go : (slice_get xs k ≡ Some y) ⊎ ((k ≡ length xs) × (x ≡ y))
+        → (slice_get (z ∷ xs) (suc k) ≡ Some y) ⊎ ((suc k ≡ length (z ∷ xs)) × (x ≡ y))
     go (inl f) = inl f
     go (inr p) = inr (ap suc p.0, p.1)
 

@@ -60,7 +60,8 @@ fn are_same_headed<L: RecordEq, G: RecordGroups<Item = L>, H: RecordGroups<Item 
     requires count { length others.now ≡ length heads.now }
     requires heads { AreHeads (G.IsHead a.now) first heads.now }
     requires others { AreHeads (H.IsHead b.now) first others.now }
-    ensures { Decides result (take (length heads.now) (drop first (G.groups a.now)) ≡ take (length heads.now) (drop first (H.groups b.now))) }
+    ensures { Decides result
+        (take (length heads.now) (drop first (G.groups a.now)) ≡ take (length heads.now) (drop first (H.groups b.now))) }
 {
     for ahead in 0..heads.len() {
         let same = is_same_group(a, b, first + ahead, heads[ahead], others[ahead]);

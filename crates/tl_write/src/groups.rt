@@ -89,7 +89,8 @@ fn give_headed<D, G: RecordGroups, T: RecordTaker<D>>(
     requires within { first + length heads.now ≤ length (G.groups groups.now) }
     requires heads { AreHeads (G.IsHead groups.now) first heads.now }
     requires ready { T.IsReady taker.old device.old }
-    ensures given { T.Takes (map G.Item.as_record (grouped (take (length heads.now) (drop first (G.groups groups.now))))) taker.old device.old result taker.new device.new }
+    ensures given { T.Takes (map G.Item.as_record (grouped (take (length heads.now) (drop first (G.groups groups.now)))))
+        taker.old device.old result taker.new device.new }
     ensures ready { OnOk result (T.IsReady taker.new device.new) }
 {
     for ahead in 0..heads.len() {

@@ -1,28 +1,34 @@
-use Rattle.std.proofs.Common.{sym, subst}
-use Rattle.tigercanon.specs.Faults.{IsWantOfMemory, TellsRefusal}
-use Rattle.tigercanon.proofs.CanonicalTexts.{carried_of_set, if_ok_both, if_ok_by, if_err_by, only_of_set, text_of_set}
+use Rattle.std.proofs.lemmas.Result.{err_from_is_err_and}
+use Rattle.tigercanon.proofs.CanonicalTexts.{carried_of_set, if_ok_both, if_ok_by, memory_is_wanted, memory_refuses}
+use Rattle.tigercanon.proofs.CanonicalTexts.{only_of_set, text_of_set}
 use Rattle.tigercanon.proofs.normalising.normalise_with_renaming.Goals as goal
 
 pub returns-clause-canonical : goal.returns-clause-canonical
 returns-clause-canonical c =
-    if_ok_by c.text_and_renaming.result (λ told. text_of_set _ _ _ c.in_ok-county.ensures.canonical told.0.items)
+    let set = c.in_ok-county.ensures.canonical _ c.in_ok-linked.ensures.linked in
+    if_ok_by c.text_and_renaming.result (λ told. text_of_set _ _ _ set told.0.items)
     c.text_and_renaming.ensures.text
 
 pub returns-clause-only : goal.returns-clause-only
 returns-clause-only c =
-    if_ok_by c.text_and_renaming.result (λ told. only_of_set _ _ _ c.in_ok-county.ensures.canonical told.0.items)
+    let set = c.in_ok-county.ensures.canonical _ c.in_ok-linked.ensures.linked in
+    if_ok_by c.text_and_renaming.result (λ told. only_of_set _ _ _ set told.0.items)
     c.text_and_renaming.ensures.text
 
 pub returns-clause-carries : goal.returns-clause-carries
 returns-clause-carries c =
+    let set = c.in_ok-county.ensures.canonical _ c.in_ok-linked.ensures.linked in
     if_ok_both c.text_and_renaming.result
-    (λ told text. carried_of_set _ _ _ c.in_ok-county.ensures.canonical c.in_ok-county.county.view.whole.is_county told.0.items text told.1)
+    (λ told text. carried_of_set _ _ _ set c.in_ok-county.county.view.whole.is_county told.0.items text told.1)
     c.text_and_renaming.ensures.text c.text_and_renaming.ensures.carries
 
 pub returns-clause-refused : goal.returns-clause-refused
-returns-clause-refused c =
-    if_err_by c.text_and_renaming.result (λ fault memory. subst (TellsRefusal _) (sym memory) tt) c.text_and_renaming.ensures.memory
+returns-clause-refused c = memory_refuses _ c.text_and_renaming.result c.text_and_renaming.ensures.memory
 
 pub returns-clause-succeeds : goal.returns-clause-succeeds
-returns-clause-succeeds c = λ records accepted.
-    if_err_by c.text_and_renaming.result (λ fault memory. subst IsWantOfMemory (sym memory) tt) c.text_and_renaming.ensures.memory
+returns-clause-succeeds c = λ records accepted. memory_is_wanted c.text_and_renaming.result c.text_and_renaming.ensures.memory
+
+pub returns-in_err-county-clause-refused : goal.returns-in_err-county-clause-refused
+returns-in_err-county-clause-refused c =
+    let p = err_from_is_err_and c.from_residual-in_err-county.result c.from_residual-in_err-county.ensures.1 in
+    rw (p.1, p.2) (c.in_err-county.ensures.set_refused _ c.in_ok-linked.ensures.linked)

@@ -31,7 +31,8 @@ returns-in_err-give_headed-clause-given g c =
     subst (λ rs. g.T.RecordTaker.Takes rs c.args.taker.now c.args.device.now c.from_residual.result c.give_headed.new.taker
     c.give_headed.new.device) (sym all)
     (rw (p.1, p.2) (g.met.T.RecordTaker.then (map f (grouped (take i gs))) (map f given ++ map f rest) c.args.taker.now
-    c.loop-first.taker c.give_headed.new.taker c.args.device.now c.loop-first.device c.give_headed.new.device (Err c.in_err-give_headed.field-0.0)
+    c.loop-first.taker c.give_headed.new.taker c.args.device.now c.loop-first.device c.give_headed.new.device
+    (Err c.in_err-give_headed.field-0.0)
     c.loop-first.invariant.taken
     (g.met.T.RecordTaker.stops (map f given) (map f rest) c.loop-first.taker c.give_headed.new.taker c.loop-first.device
     c.give_headed.new.device c.in_err-give_headed.field-0.0
@@ -53,7 +54,8 @@ loop-first-preserved g c =
     record {
       room = c.read_heads-heads.ensures.room ∙ c.loop-first.invariant.room;
       within = omega (arith, c.read_heads-heads.ensures.count, c.loop-first.invariant.within);
-      taken = subst (λ rs. g.T.RecordTaker.Takes rs c.args.taker.now c.args.device.now (Ok tt) c.give_headed.new.taker c.give_headed.new.device)
+      taken = subst (λ rs. g.T.RecordTaker.Takes rs
+          c.args.taker.now c.args.device.now (Ok tt) c.give_headed.new.taker c.give_headed.new.device)
           (sym next)
           (g.met.T.RecordTaker.then (map f (grouped (take i gs))) (map f given) c.args.taker.now c.loop-first.taker c.give_headed.new.taker
           c.args.device.now c.loop-first.device c.give_headed.new.device (Ok tt) c.loop-first.invariant.taken
@@ -66,7 +68,8 @@ pub returns-clause-given : goal.returns-clause-given
 returns-clause-given g c =
     let f = g.G.Item.Tabled.as_record in
     let gs = g.G.RecordGroups.groups c.args.groups.now in
-    subst (λ hs. g.T.RecordTaker.Takes (map f (grouped hs)) c.args.taker.now c.args.device.now (Ok tt) c.loop-first.taker c.loop-first.device)
+    subst (λ hs. g.T.RecordTaker.Takes (map f (grouped hs))
+    c.args.taker.now c.args.device.now (Ok tt) c.loop-first.taker c.loop-first.device)
     (taken_all c.loop-first.first gs (omega (arith, c.count-count.ensures, c.loop-first-test.false))) c.loop-first.invariant.taken
 
 pub returns-clause-ready : goal.returns-clause-ready

@@ -33,11 +33,13 @@ returns-in_err-give_group-clause-given g c =
     subst (λ rs. g.T.RecordTaker.Takes rs c.args.taker.now c.args.device.now c.from_residual.result c.give_group.new.taker
     c.give_group.new.device) (sym all)
     (rw (p.1, p.2) (g.met.T.RecordTaker.then (map f (grouped (take i gs))) (map f xs ++ map f (grouped (drop (suc i) gs))) c.args.taker.now
-    c.loop-ahead.taker c.give_group.new.taker c.args.device.now c.loop-ahead.device c.give_group.new.device (Err c.in_err-give_group.field-0.0)
+    c.loop-ahead.taker c.give_group.new.taker c.args.device.now c.loop-ahead.device c.give_group.new.device
+    (Err c.in_err-give_group.field-0.0)
     c.loop-ahead.invariant.taken
     (g.met.T.RecordTaker.stops (map f xs) (map f (grouped (drop (suc i) gs))) c.loop-ahead.taker c.give_group.new.taker c.loop-ahead.device
     c.give_group.new.device c.in_err-give_group.field-0.0
-    (subst (λ rs. g.T.RecordTaker.Takes (map f rs) c.loop-ahead.taker c.loop-ahead.device (Err c.in_err-give_group.field-0.0) c.give_group.new.taker
+    (subst (λ rs. g.T.RecordTaker.Takes (map f rs) c.loop-ahead.taker c.loop-ahead.device
+    (Err c.in_err-give_group.field-0.0) c.give_group.new.taker
     c.give_group.new.device) (sym same) c.in_err-give_group.ensures.given))))
 
 pub loop-ahead-preserved : goal.loop-ahead-preserved
@@ -55,11 +57,13 @@ loop-ahead-preserved g c =
     rw (add-one) (ap (map f) (next_grouped gs i (omega (arith, there, counted)))
     ∙ map-append f (grouped (take i gs)) xs) in
     record {
-      taken = subst (λ rs. g.T.RecordTaker.Takes rs c.args.taker.now c.args.device.now (Ok tt) c.give_group.new.taker c.give_group.new.device)
+      taken = subst (λ rs. g.T.RecordTaker.Takes rs
+          c.args.taker.now c.args.device.now (Ok tt) c.give_group.new.taker c.give_group.new.device)
           (sym next)
           (g.met.T.RecordTaker.then (map f (grouped (take i gs))) (map f xs) c.args.taker.now c.loop-ahead.taker c.give_group.new.taker
           c.args.device.now c.loop-ahead.device c.give_group.new.device (Ok tt) c.loop-ahead.invariant.taken
-          (subst (λ rs. g.T.RecordTaker.Takes (map f rs) c.loop-ahead.taker c.loop-ahead.device (Ok tt) c.give_group.new.taker c.give_group.new.device)
+          (subst (λ rs. g.T.RecordTaker.Takes (map f rs) c.loop-ahead.taker c.loop-ahead.device (Ok tt)
+          c.give_group.new.taker c.give_group.new.device)
           (sym same) c.in_ok-give_group.ensures.given));
       ready = c.in_ok-give_group.ensures.ready;
     }
@@ -70,8 +74,10 @@ returns-clause-given g c =
     let all_groups = g.G.RecordGroups.groups c.args.groups.now in
     let count = length c.args.heads.now in
     let gs = take count (drop c.args.first all_groups) in
-    subst (λ hs. g.T.RecordTaker.Takes (map f (grouped hs)) c.args.taker.now c.args.device.now (Ok tt) c.loop-ahead.taker c.loop-ahead.device)
-    (taken_all c.loop-ahead.ahead gs (omega (arith, length_headed all_groups c.args.first count c.requires.within, c.loop-ahead-test.false))) c.loop-ahead.invariant.taken
+    subst (λ hs. g.T.RecordTaker.Takes (map f (grouped hs))
+    c.args.taker.now c.args.device.now (Ok tt) c.loop-ahead.taker c.loop-ahead.device)
+    (taken_all c.loop-ahead.ahead gs
+    (omega (arith, length_headed all_groups c.args.first count c.requires.within, c.loop-ahead-test.false))) c.loop-ahead.invariant.taken
 
 pub returns-clause-ready : goal.returns-clause-ready
 returns-clause-ready g c = c.loop-ahead.invariant.ready

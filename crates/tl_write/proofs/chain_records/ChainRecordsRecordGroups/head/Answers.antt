@@ -9,21 +9,24 @@ pub overflow_sub-last : goal.overflow_sub-last
 overflow_sub-last g c =
     let chart = c.args.self.now.chart.now in
     let county = g.C.Chart.county chart in
-    let there = chain_of_group (λ entry. packed_one entry ∷ []) county (g.met.C.Chart.is_county chart) (g.met.C.Chart.within_limits chart) c.args.group c.requires in
+    let there = chain_of_group (λ entry. packed_one entry ∷ []) county
+    (g.met.C.Chart.is_county chart) (g.met.C.Chart.within_limits chart) c.args.group c.requires in
     omega (arith, c.point_count_at-last.ensures, ap (λ o. length (points_of o)) there.chain, there.two)
 
 pub point-requires : goal.point-requires
 point-requires g c =
     let chart = c.args.self.now.chart.now in
     let county = g.C.Chart.county chart in
-    let there = chain_of_group (λ entry. packed_one entry ∷ []) county (g.met.C.Chart.is_county chart) (g.met.C.Chart.within_limits chart) c.args.group c.requires in
+    let there = chain_of_group (λ entry. packed_one entry ∷ []) county
+    (g.met.C.Chart.is_county chart) (g.met.C.Chart.within_limits chart) c.args.group c.requires in
     omega (arith, ap (λ o. length (points_of o)) there.chain, there.two)
 
 pub returns : goal.returns
 returns g c =
     let chart = c.args.self.now.chart.now in
     let county = g.C.Chart.county chart in
-    let there = chain_of_group (λ entry. packed_one entry ∷ []) county (g.met.C.Chart.is_county chart) (g.met.C.Chart.within_limits chart) c.args.group c.requires in
+    let there = chain_of_group (λ entry. packed_one entry ∷ []) county
+    (g.met.C.Chart.is_county chart) (g.met.C.Chart.within_limits chart) c.args.group c.requires in
     let points = there.entry.1.points in
     let start_is : c.point.result ≡ first_point points =
     some-same (slice_get (points_of (chain_at county c.args.group)) 0) c.point.result (first_point points) c.point.ensures

@@ -10,7 +10,8 @@ pub returns : goal.returns
 returns g c =
     let chart = c.args.self.now.chart.now in
     let county = g.C.Chart.county chart in
-    let there = chain_of_group packed_fours county (g.met.C.Chart.is_county chart) (g.met.C.Chart.within_limits chart) c.args.group c.requires in
+    let there = chain_of_group packed_fours county
+    (g.met.C.Chart.is_county chart) (g.met.C.Chart.within_limits chart) c.args.group c.requires in
     let xs = there.entry.1.feats in
     let count : c.feat_count_at.result ≡ length xs = c.feat_count_at.ensures ∙ ap (λ o. length (feats_of o)) there.chain in
     c.div_ceil.ensures ∙ pieces_counted 4 xs c.feat_count_at.result count
