@@ -34,10 +34,12 @@ pub fours_kept : (a b c d : ℕ) → a < 65536 → b < 65536 → c < 65536 → d
 fours_kept a b c d la lb lc ld =
     let low : bit_and (b * 65536 + a) 65535 ≡ a = and_mask (b * 65536 + a) 16 ∙ omega arith in
     let high : bit_and (d * 65536 + c) 65535 ≡ c = and_mask (d * 65536 + c) 16 ∙ omega arith in
-    and_block 32 (d * 65536 + c) 65535 (b * 65536 + a) 65535 (omega arith) (lit< tt) ∙ ap (λ (n : ℕ). n * 4294967296 + bit_and (b * 65536 + a) 65535) high
+    and_block 32 (d * 65536 + c) 65535 (b * 65536 + a) 65535 (omega arith) (lit< tt) ∙ ap (λ (n : ℕ). n * 4294967296 + bit_and
+    (b * 65536 + a) 65535) high
     ∙ ap (λ (n : ℕ). c * 4294967296 + n) low
 
-one_lane : (p : ℕ → Bool) (x : ℕ) (xs : List ℕ) (i d : ℕ) (b : Bool) → p x ≡ b → cond {A = ℕ} b 1 0 + 2 * mask_l (map p xs) + 1 ≡ 2 * 2 ^ length xs
+one_lane : (p : ℕ → Bool) (x : ℕ) (xs : List ℕ) (i d : ℕ) (b : Bool) → p x ≡ b → cond {A = ℕ} b 1 0 + 2 * mask_l (map p xs) + 1
+    ≡ 2 * 2 ^ length xs
     → i < length (x ∷ xs) → ((j : ℕ) → mask_l (map p xs) + 1 ≡ 2 ^ length xs → j < length xs → p (get_or xs j d) ≡ true)
     → p (get_or (x ∷ xs) i d) ≡ true
 one_lane p x xs zero d true t e lt more = t
@@ -71,12 +73,27 @@ digit_of b h =
 
 -- eight bytes in a word, the first in its lowest byte, less as many times that of 0
 pub digits_in_word : (w a b c d e f g h : ℕ) → a < 10 → b < 10 → c < 10 → d < 10 → e < 10 → f < 10 → g < 10 → h < 10
-    → w ≡ ((((((((48 + h) * 256 + (48 + g)) * 256 + (48 + f)) * 256 + (48 + e)) * 256 + (48 + d)) * 256 + (48 + c)) * 256 + (48 + b)) * 256 + (48 + a))
+    → w ≡ ((((((((48 + h) * 256 + (48 + g)) * 256 + (48 + f)) * 256 + (48 + e)) * 256 + (48 + d)) * 256 + (48 + c)) * 256 + (48
+    + b)) * 256 + (48 + a))
     → (w - 3472328296227680304 ≡ ((((((h * 256 + g) * 256 + f) * 256 + e) * 256 + d) * 256 + c) * 256 + b) * 256 + a)
     × (3472328296227680304 ≤ w) × (11 * (w - 3472328296227680304) < 2 ^ 64)
 digits_in_word w a b c d e f g h la lb lc ld le lf lg lh is =
-    let all : w ≡ 3472328296227680304 + (((((((h * 256 + g) * 256 + f) * 256 + e) * 256 + d) * 256 + c) * 256 + b) * 256 + a) = omega arith in
+    let all : w ≡ 3472328296227680304 + (((((((h * 256 + g) * 256 + f) * 256 + e) * 256 + d) * 256 + c) * 256 + b) * 256 + a) =
+    omega arith in
     (omega arith, omega arith, omega arith)
+
+-- the number of four pairs of digits in a word
+four_in_word : (a b c d : ℕ) → a < 100 → b < 100 → c < 100 → d < 100 → (pairs fours : ℕ)
+    → pairs ≡ ((d * 65536 + c) * 65536 + b) * 65536 + a
+    → fours ≡ bit_and (100 * pairs + pairs / 65536) 281470681808895
+    → bit_and (10000 * fours + fours / 4294967296) 4294967295 ≡ 100 * (100 * (100 * a + b) + c) + d
+four_in_word a b c d la lb lc ld pairs fours p q =
+    let shifted : pairs / 65536 ≡ (d * 65536 + c) * 65536 + b = omega arith in
+    let joined : 100 * pairs + pairs / 65536
+    ≡ ((100 * d) * 65536 + (100 * c + d)) * 4294967296 + ((100 * b + c) * 65536 + (100 * a + b)) = omega arith in
+    let two : fours ≡ (100 * c + d) * 4294967296 + (100 * a + b) = q ∙ ap (λ (n : ℕ). bit_and n 281470681808895) joined
+    ∙ fours_kept (100 * a + b) (100 * b + c) (100 * c + d) (100 * d) (omega arith) (omega arith) (omega arith) (omega arith) in
+    and_mask (10000 * fours + fours / 4294967296) 32 ∙ omega arith
 
 -- the number of the eight digits in a word, the first digit in its lowest byte
 pub eight_in_word : (a b c d e f g h : ℕ) → a < 10 → b < 10 → c < 10 → d < 10 → e < 10 → f < 10 → g < 10 → h < 10 → (ones pairs fours : ℕ)
@@ -88,24 +105,15 @@ pub eight_in_word : (a b c d e f g h : ℕ) → a < 10 → b < 10 → c < 10 →
 eight_in_word a b c d e f g h la lb lc ld le lf lg lh ones pairs fours o p q =
     let shifted : ones / 256 ≡ (((((h * 256 + g) * 256 + f) * 256 + e) * 256 + d) * 256 + c) * 256 + b = omega arith in
     let joined : 10 * ones + ones / 256
-    ≡ (((((10 * h) * 256 + (10 * g + h)) * 65536 + ((10 * f + g) * 256 + (10 * e + f))) * 65536 + ((10 * d + e) * 256 + (10 * c + d))) * 65536)
-    + ((10 * b + c) * 256 + (10 * a + b)) = omega arith in
+    ≡ (((((10 * h) * 256 + (10 * g + h)) * 65536 + ((10 * f + g) * 256 + (10 * e + f))) * 65536
+    + ((10 * d + e) * 256 + (10 * c + d))) * 65536) + ((10 * b + c) * 256 + (10 * a + b)) = omega arith in
     let two : pairs ≡ (((10 * g + h) * 65536 + (10 * e + f)) * 65536 + (10 * c + d)) * 65536 + (10 * a + b) = p
     ∙ ap (λ (n : ℕ). bit_and n 71777214294589695) joined
     ∙ pairs_kept (10 * a + b) (10 * b + c) (10 * c + d) (10 * d + e) (10 * e + f) (10 * f + g) (10 * g + h) (10 * h)
     (omega arith) (omega arith) (omega arith) (omega arith) (omega arith) (omega arith) (omega arith) (omega arith) in
-    four_in_word (10 * a + b) (10 * c + d) (10 * e + f) (10 * g + h) (omega arith) (omega arith) (omega arith) (omega arith) pairs fours two q
-    ∙ omega arith where
-      four_in_word : (a b c d : ℕ) → a < 100 → b < 100 → c < 100 → d < 100 → (pairs fours : ℕ) → pairs ≡ ((d * 65536 + c) * 65536 + b) * 65536 + a
-          → fours ≡ bit_and (100 * pairs + pairs / 65536) 281470681808895
-          → bit_and (10000 * fours + fours / 4294967296) 4294967295 ≡ 100 * (100 * (100 * a + b) + c) + d
-      four_in_word a b c d la lb lc ld pairs fours p q =
-          let shifted : pairs / 65536 ≡ (d * 65536 + c) * 65536 + b = omega arith in
-          let joined : 100 * pairs + pairs / 65536
-          ≡ ((100 * d) * 65536 + (100 * c + d)) * 4294967296 + ((100 * b + c) * 65536 + (100 * a + b)) = omega arith in
-          let two : fours ≡ (100 * c + d) * 4294967296 + (100 * a + b) = q ∙ ap (λ (n : ℕ). bit_and n 281470681808895) joined
-          ∙ fours_kept (100 * a + b) (100 * b + c) (100 * c + d) (100 * d) (omega arith) (omega arith) (omega arith) (omega arith) in
-          and_mask (10000 * fours + fours / 4294967296) 32 ∙ omega arith
+    four_in_word (10 * a + b) (10 * c + d) (10 * e + f) (10 * g + h) (omega arith) (omega arith) (omega arith)
+    (omega arith) pairs fours two q
+    ∙ omega arith
 
 -- one digit more was read
 number_step : (n i next digit more : ℕ) (bytes : List ℕ) → i < length bytes → next ≡ i + 1 → IsDigitOf (get_or bytes i 0) digit
@@ -116,7 +124,8 @@ number_step n i next digit more bytes lt e h m =
     rw (drop_more bytes i 0 lt, h.passes, e, same) refl
 
 -- what eight digits make behind others, and nothing behind them
-pub number_of_eight : (before : ℕ) (bytes : List ℕ) (a b c d e f g h : ℕ) → length bytes ≡ 8 → IsDigitOf (get_or bytes 0 0) a → IsDigitOf (get_or bytes 1 0) b
+pub number_of_eight : (before : ℕ) (bytes : List ℕ) (a b c d e f g h : ℕ) → length bytes ≡ 8 → IsDigitOf (get_or bytes 0 0) a
+    → IsDigitOf (get_or bytes 1 0) b
     → IsDigitOf (get_or bytes 2 0) c → IsDigitOf (get_or bytes 3 0) d → IsDigitOf (get_or bytes 4 0) e → IsDigitOf (get_or bytes 5 0) f
     → IsDigitOf (get_or bytes 6 0) g → IsDigitOf (get_or bytes 7 0) h → (number : ℕ)
     → number ≡ before * 100000000 + (10 * (10 * (10 * (10 * (10 * (10 * (10 * a + b) + c) + d) + e) + f) + g) + h)
@@ -160,11 +169,13 @@ GivesNumber xs = bit_and (mask_l (map is_blank xs)) (mask_l (map is_blank xs) + 
     → number_after 0 (map filled xs) ≡ number_after 0 (drop_blanks xs)
 
 blank_or_not : (x : ℕ) (xs : List ℕ) (b : Bool) → is_blank x ≡ b
-    → bit_and (cond {A = ℕ} b 1 0 + 2 * mask_l (map is_blank xs)) (cond {A = ℕ} b 1 0 + 2 * mask_l (map is_blank xs) + 1) ≡ 0 → GivesNumber xs
+    → bit_and (cond {A = ℕ} b 1 0 + 2 * mask_l (map is_blank xs)) (cond {A = ℕ} b 1 0 + 2 * mask_l (map is_blank xs) + 1) ≡ 0
+    → GivesNumber xs
     → number_after 0 (map filled (x ∷ xs)) ≡ number_after 0 (drop_blanks (x ∷ xs))
 unfolding number_after
 blank_or_not x xs true e h more =
-    let rest : bit_and (mask_l (map is_blank xs)) (mask_l (map is_blank xs) + 1) ≡ 0 = (let two = odd_with_next (mask_l (map is_blank xs)) in omega arith) in
+    let rest : bit_and (mask_l (map is_blank xs)) (mask_l (map is_blank xs) + 1) ≡ 0 = (let two = odd_with_next (mask_l
+    (map is_blank xs)) in omega arith) in
     rw e (more rest)
 blank_or_not x xs false e h more =
     let none : mask_l (map is_blank xs) ≡ 0 = (let two = even_with_next (mask_l (map is_blank xs)) in
@@ -178,7 +189,8 @@ gives_number [] h = refl
 gives_number (x ∷ xs) h = blank_or_not x xs (is_blank x) refl h (gives_number xs)
 
 -- lanes that pass a test were given one value
-pub selected : (p : ℕ → Bool) (n value : ℕ) (xs : List ℕ) → length xs ≡ n → sel_l (map p xs) (replicate n value) xs ≡ map (λ b. cond (p b) value b) xs
+pub selected : (p : ℕ → Bool) (n value : ℕ) (xs : List ℕ) → length xs ≡ n → sel_l (map p xs) (replicate n value) xs ≡ map (λ b. cond
+    (p b) value b) xs
 selected p zero value [] l = refl
 selected p (suc n) value [] l = absurd (omega arith)
 selected p zero value (x ∷ xs) l = absurd (omega arith)

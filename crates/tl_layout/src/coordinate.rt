@@ -101,7 +101,6 @@ fn signed(sign: u8, magnitude: u64) -> Option<i32>
 
 /// The longitude in a field of a sign and nine digits.
 #[inline(always)]
-#[tactic(auto, unfolding(crate::specs::CoordinateReading::coordinate_of, crate::specs::CoordinateReading::signed_of, crate::specs::CoordinateReading::magnitude_of))]
 fn usual_longitude(field: &[u8]) -> Option<i32>
     requires { length field.now ≡ 10 }
     ensures { IfSome result (λ value. coordinate_of 999999999 field.now ≡ Value value) }
@@ -114,7 +113,6 @@ fn usual_longitude(field: &[u8]) -> Option<i32>
 
 /// The latitude in a field of a sign and eight digits.
 #[inline(always)]
-#[tactic(auto, unfolding(crate::specs::CoordinateReading::coordinate_of, crate::specs::CoordinateReading::signed_of, crate::specs::CoordinateReading::magnitude_of))]
 fn usual_latitude(field: &[u8]) -> Option<i32>
     requires { length field.now ≡ 9 }
     ensures { IfSome result (λ value. coordinate_of 99999999 field.now ≡ Value value) }

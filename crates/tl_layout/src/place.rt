@@ -1,6 +1,7 @@
 //! Places of one kind that stand side by side in a line.
 
-ghost use Rattle.std.specs.Prelude.{◌≡◌, ◌+◌, ◌-◌, ◌*◌, ◌≤◌, ◌<◌, [], ◌∷◌, ◌++◌, ℕ, List, Option, Result, IfSome, false, length, take, slice_get};
+ghost use Rattle.std.specs.Prelude.{◌≡◌, ◌+◌, ◌-◌, ◌*◌, ◌≤◌, ◌<◌, ℕ, false, List, [], ◌∷◌, ◌++◌, length, take, slice_get};
+ghost use Rattle.std.specs.Prelude.{Option, Result, IfSome};
 ghost use Rattle.std.specs.List.{AllByRecursion};
 ghost use Rattle.tl_layout.specs.Coordinates.{IsOnMap};
 ghost use Rattle.tl_layout.specs.FieldTexts.{point_place_text, number_place_text};

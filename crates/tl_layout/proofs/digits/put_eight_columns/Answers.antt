@@ -9,7 +9,8 @@ pub returns : goal.returns
 unfolding number_text
 returns c =
     let n = c.args.number in
-    let sums = c.running_sums.ensures (n / 10000000) (n / 1000000 % 10) (n / 100000 % 10) (n / 10000 % 10) (n / 1000 % 10) (n / 100 % 10) (n / 10 % 10) (n % 10)
+    let sums = c.running_sums.ensures (n / 10000000) (n / 1000000 % 10) (n / 100000 % 10) (n / 10000 % 10) (n / 1000 % 10)
+    (n / 100 % 10) (n / 10 % 10) (n % 10)
     c.digit_values-values.ensures (let low = c.requires.below in omega arith) in
     let blanks = tops_compared w8 eqb c.running_sums.result (replicate 8 0) in
     let text = ap (λ ms. sel_l ms (replicate 8 32) (zip2 (λ a b. (a + b) % 256) (replicate 8 48) c.digit_values-values.result)) blanks

@@ -9,10 +9,14 @@ use Rattle.tl_layout.proofs.number.are_digits.Goals as goal
 pub returns : goal.returns
 returns c full k lt =
     let bytes = c.args.bytes in
-    let below = λ (b : ℕ). (b + (256 - 48)) % 256 in
     let long : length bytes ≡ 8 = c.fits-bytes.0 in
-    let values : zip2 (λ a b. (a + (256 - b)) % 256) bytes (replicate 8 48) ≡ map below bytes = zip2_splat (λ a b. (a + (256 - b)) % 256) bytes 8 48 long in
-    let lanes : length (zip2 (λ a b. (a + (256 - b)) % 256) bytes (replicate 8 48)) ≡ 8 = omega (arith, length-zip2 (λ a b. (a + (256 - b)) % 256) bytes (replicate 8 48) long) in
-    let mask = sym (bitmask_splat w8 ltb (zip2 (λ a b. (a + (256 - b)) % 256) bytes (replicate 8 48)) 8 10 lanes (lit≤ tt)) ∙ eqb-true _ _ full in
-    let tested : mask_l (map (λ b. ltb (below b) 10) bytes) ≡ 255 = ap mask_l (sym (map-map (λ b. ltb b 10) below bytes) ∙ ap (map (λ b. ltb b 10)) (sym values)) ∙ mask in
-    digit_from (get_or bytes k 0) (Each1-get_or (λ b. Fits w8 b) bytes k 0 (omega arith) c.fits-bytes.1).fits (full_mask (λ b. ltb (below b) 10) bytes k 0 (ap (λ (n : ℕ). n + 1) tested ∙ ap (λ (n : ℕ). 2 ^ n) (sym long)) (omega arith))
+    let from_zero = λ (b : ℕ). (b + (256 - 48)) % 256 in
+    let less = zip2 (λ a b. (a + (256 - b)) % 256) bytes (replicate 8 48) in
+    let less_is : less ≡ map from_zero bytes = zip2_splat (λ a b. (a + (256 - b)) % 256) bytes 8 48 long in
+    let lanes : length less ≡ 8 = length-zip2 (λ a b. (a + (256 - b)) % 256) bytes (replicate 8 48) long ∙ long in
+    let tested : mask_l (map (λ b. ltb (from_zero b) 10) bytes) ≡ 255 =
+    ap mask_l (sym (map-map (λ b. ltb b 10) from_zero bytes) ∙ ap (map (λ b. ltb b 10)) (sym less_is))
+    ∙ sym (bitmask_splat w8 ltb less 8 10 lanes (lit≤ tt)) ∙ eqb-true _ _ full in
+    let all = ap (λ (n : ℕ). n + 1) tested ∙ ap (λ (n : ℕ). 2 ^ n) (sym long) in
+    digit_from (get_or bytes k 0) (Each1-get_or (λ b. Fits w8 b) bytes k 0 (omega arith) c.fits-bytes.1).fits
+    (full_mask (λ b. ltb (from_zero b) 10) bytes k 0 all (omega arith))

@@ -35,7 +35,8 @@ in_word : (c : After-from_le_bytes-ones) → (c.from_le_bytes-ones.result - 3472
 in_word c =
     digits_in_word c.from_le_bytes-ones.result (value_at c 0) (value_at c 1) (value_at c 2) (value_at c 3) (value_at c 4) (value_at c 5)
     (value_at c 6) (value_at c 7) (digit_at c 0 (omega arith)).below (digit_at c 1 (omega arith)).below (digit_at c 2 (omega arith)).below
-    (digit_at c 3 (omega arith)).below (digit_at c 4 (omega arith)).below (digit_at c 5 (omega arith)).below (digit_at c 6 (omega arith)).below
+    (digit_at c 3 (omega arith)).below (digit_at c 4 (omega arith)).below (digit_at c 5 (omega arith)).below (digit_at c 6
+    (omega arith)).below
     (digit_at c 7 (omega arith)).below (word_is c)
 
 pub overflow_sub-ones : goal.overflow_sub-ones
@@ -48,12 +49,14 @@ pub overflow_add-pairs : goal.overflow_add-pairs
 overflow_add-pairs c = let fits = (in_word c).2 in omega arith
 
 number_is : (c : After-from_le_bytes-ones) → (number before all : ℕ)
-    → number ≡ 10 * (10 * (10 * (10 * (10 * (10 * (10 * value_at c 0 + value_at c 1) + value_at c 2) + value_at c 3) + value_at c 4) + value_at c 5)
+    → number ≡ 10 * (10 * (10 * (10 * (10 * (10 * (10 * value_at c 0 + value_at c 1) + value_at c 2) + value_at c 3) + value_at c 4)
+    + value_at c 5)
     + value_at c 6) + value_at c 7 → all ≡ before * 100000000 + number → number_after before c.args.bytes ≡ Some all
 number_is c number before all is whole =
     number_of_eight before c.args.bytes (value_at c 0) (value_at c 1) (value_at c 2) (value_at c 3) (value_at c 4) (value_at c 5)
     (value_at c 6) (value_at c 7) c.fits-bytes.0 (digit_at c 0 (omega arith)) (digit_at c 1 (omega arith)) (digit_at c 2 (omega arith))
-    (digit_at c 3 (omega arith)) (digit_at c 4 (omega arith)) (digit_at c 5 (omega arith)) (digit_at c 6 (omega arith)) (digit_at c 7 (omega arith))
+    (digit_at c 3 (omega arith)) (digit_at c 4 (omega arith)) (digit_at c 5 (omega arith)) (digit_at c 6 (omega arith)) (digit_at c 7
+    (omega arith))
     all (rw (← is) whole)
 
 below_is : (number a b c d e f g h : ℕ) → number ≡ 10 * (10 * (10 * (10 * (10 * (10 * (10 * a + b) + c) + d) + e) + f) + g) + h
@@ -61,7 +64,8 @@ below_is : (number a b c d e f g h : ℕ) → number ≡ 10 * (10 * (10 * (10 * 
 below_is number a b c d e f g h is la lb lc ld le lf lg lh = omega arith
 
 value_is : (c : After-from_le_bytes-ones) → (pairs fours : ℕ)
-    → pairs ≡ bit_and (10 * (c.from_le_bytes-ones.result - 3472328296227680304) + (c.from_le_bytes-ones.result - 3472328296227680304) / 256) 71777214294589695
+    → pairs ≡ bit_and (10 * (c.from_le_bytes-ones.result - 3472328296227680304) +
+    (c.from_le_bytes-ones.result - 3472328296227680304) / 256) 71777214294589695
     → fours ≡ bit_and (100 * pairs + pairs / 65536) 281470681808895
     → bit_and (10000 * fours + fours / 4294967296) 4294967295
     ≡ 10 * (10 * (10 * (10 * (10 * (10 * (10 * value_at c 0 + value_at c 1) + value_at c 2) + value_at c 3) + value_at c 4) + value_at c 5)
@@ -69,7 +73,8 @@ value_is : (c : After-from_le_bytes-ones) → (pairs fours : ℕ)
 value_is c pairs fours p q =
     eight_in_word (value_at c 0) (value_at c 1) (value_at c 2) (value_at c 3) (value_at c 4) (value_at c 5)
     (value_at c 6) (value_at c 7) (digit_at c 0 (omega arith)).below (digit_at c 1 (omega arith)).below (digit_at c 2 (omega arith)).below
-    (digit_at c 3 (omega arith)).below (digit_at c 4 (omega arith)).below (digit_at c 5 (omega arith)).below (digit_at c 6 (omega arith)).below
+    (digit_at c 3 (omega arith)).below (digit_at c 4 (omega arith)).below (digit_at c 5 (omega arith)).below (digit_at c 6
+    (omega arith)).below
     (digit_at c 7 (omega arith)).below _ pairs fours (in_word c).0 p q
 
 pub returns-clause-value : goal.returns-clause-value
@@ -81,8 +86,10 @@ returns-clause-behind c before = number_is c _ before _ (value_is c _ _ refl ref
 pub returns-clause-below : goal.returns-clause-below
 returns-clause-below c =
     below_is _ (value_at c 0) (value_at c 1) (value_at c 2) (value_at c 3) (value_at c 4) (value_at c 5)
-    (value_at c 6) (value_at c 7) (value_is c _ _ refl refl) (digit_at c 0 (omega arith)).below (digit_at c 1 (omega arith)).below (digit_at c 2 (omega arith)).below
-    (digit_at c 3 (omega arith)).below (digit_at c 4 (omega arith)).below (digit_at c 5 (omega arith)).below (digit_at c 6 (omega arith)).below
+    (value_at c 6) (value_at c 7) (value_is c _ _ refl refl) (digit_at c 0 (omega arith)).below (digit_at c 1 (omega arith)).below
+    (digit_at c 2 (omega arith)).below
+    (digit_at c 3 (omega arith)).below (digit_at c 4 (omega arith)).below (digit_at c 5 (omega arith)).below (digit_at c 6
+    (omega arith)).below
     (digit_at c 7 (omega arith)).below
 
 pub returns-clause-begins : goal.returns-clause-begins

@@ -8,7 +8,8 @@ pub returns-then-high-eq0 : goal.returns-then-high-eq0
 returns-then-high-eq0 c =
     let out = c.args.out.now in
     let n = c.args.number in
-    two_then_rest out 32 32 _ c.put_eight_columns.new.out (omega arith) (omega (arith, length-set out 0 32, length-set (slice_set out 0 32) 1 32))
+    let len = length-set (slice_set out 0 32) 1 32 ∙ length-set out 0 32 in
+    two_then_rest out 32 32 _ c.put_eight_columns.new.out (omega arith) (omega arith)
     ∙ ap (λ l. 32 ∷ 32 ∷ l) c.put_eight_columns.ensures ∙ ten_columns_low n c.if-high-eq0.true
 
 pub returns-after-high-lt10 : goal.returns-after-high-lt10
@@ -25,6 +26,8 @@ returns-after-high-lt10 c =
       | then-high-lt10 w ↦ absurd (omega arith)
       | else-high-lt10 w ↦ w.out-is
     ] in
-    two_then_rest out first second _ c.put_eight_digits.new.out (omega arith) (omega (arith, length-set out 0 first, length-set (slice_set out 0 first) 1 second))
+    let len = length-set (slice_set out 0 first) 1 second ∙ length-set out 0 first in
+    let first_is = first_of_ten n first (omega arith) (cases_lt (n / 100000000) 10) blank digit in
+    two_then_rest out first second _ c.put_eight_digits.new.out (omega arith) (omega arith)
     ∙ ap (λ l. first ∷ second ∷ l) c.put_eight_digits.ensures
-    ∙ ten_columns_high n first (let some = c.if-high-eq0.false in omega arith) (first_of_ten n first (omega arith) (cases_lt (n / 100000000) 10) blank digit)
+    ∙ ten_columns_high n first (let some = c.if-high-eq0.false in omega arith) first_is

@@ -11,7 +11,8 @@ pub overflow_add-mask : goal.overflow_add-mask
 overflow_add-mask c =
     let v = c.args.bytes in
     let mask = bitmask_splat w8 eqb v 8 32 c.fits-bytes.0 (lit≤ tt) in
-    let low : mask_l (map (λ b. eqb b 32) v) < 256 = rw (length-map v (λ b. eqb b 32), c.fits-bytes.0) at (mask_l-lt (map (λ b. eqb b 32) v)) in
+    let low : mask_l (map (λ b. eqb b 32) v) < 256 = rw (length-map v (λ b. eqb b 32), c.fits-bytes.0) at (mask_l-lt (map
+    (λ b. eqb b 32) v)) in
     omega arith
 
 pub returns : goal.returns

@@ -15,7 +15,8 @@ loop-place-init g c =
       columns = λ n h. (let all : n ≡ c.COUNT-count.result = omega arith in rw all refl);
       left = λ n h.
           let all : n ≡ c.COUNT-count.result = omega arith in
-          rw (c.empty-items.ensures, all) (at_start (places_reading (g.P.Places.reading c.args.line.now) c.WIDTH-width.result false c.COUNT-count.result 19));
+          rw (c.empty-items.ensures, all) (at_start (places_reading
+          (g.P.Places.reading c.args.line.now) c.WIDTH-width.result false c.COUNT-count.result 19));
     }
 
 pub read-requires-clause-within : goal.read-requires-clause-within

@@ -1,4 +1,4 @@
-use Rattle.std.proofs.Common.{◌≡◌, ◌+◌, ◌-◌, ◌%◌, ℕ, length, map, replicate, ltb, sym, ap, ◌∙◌, arith, lit≤, w8}
+use Rattle.std.proofs.Common.{◌≡◌, ◌+◌, ◌-◌, ◌%◌, ℕ, length, map, replicate, ltb, sym, ap, ◌∙◌, lit≤, w8}
 use Rattle.std.proofs.lemmas.Bool.{eqb-true}
 use Rattle.std.proofs.lemmas.Simd.{bitmask_splat, length-chunk, length-zip2, map-map, zip2_splat}
 use lib.Lanes.{chunk, mask_l, zip2}
