@@ -19,7 +19,6 @@ pub mod RuleTests
 pub mod TlidsInOrder
 pub mod CenidNumbers
 pub mod PolygonNumbers
-pub mod KeyedPairs
 pub mod GatheredLists
 pub mod EntryLists
 pub mod Places

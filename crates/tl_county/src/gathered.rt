@@ -7,26 +7,26 @@ ghost use Rattle.tl_county.specs.Orders.{IsInOrder, distinct};
 ghost use Rattle.tl_county.specs.PolygonKeys.{key_cmp, key_on};
 ghost use Rattle.tl_county.specs.SequenceKeys.{sequence_cmp, uses_of};
 
-use crate::keyed::{Keyed, keys_of, put_copies_in_order, put_in_order, sort_keys};
+use crate::keyed::{Keyed, keys_of, put_in_order, sort_keys};
 use crate::polygon_numbers::polygons_in_order;
 use crate::record_keys::{LandmarkKey, LinkKey, PolygonKey};
 use std::alloc::{AllocError, Global};
 use tl_layout::{Rec1, Rec2, Rec4, Rec5, Rec6, Rec7, Rec8, RecI, RecP, Side, Tables};
 
 /// Puts each table in the order of its records' numbers.
-pub(crate) fn order_tables(alloc: Global, tables: &mut Tables) -> Result<(), AllocError>
+pub(crate) fn order_tables(tables: &mut Tables) -> Result<(), AllocError>
     ensures in_order { OnOk result (AreInOrder (typed_of tables.new)) }
     ensures same { OnOk result (ArePermuted (typed_of tables.old) (typed_of tables.new)) }
 {
-    put_copies_in_order::<u64, Rec1>(alloc, &mut tables.type_1)?;
+    put_in_order::<u64, Rec1>(&mut tables.type_1)?;
     put_in_order::<(u64, u16), Rec2>(&mut tables.type_2)?;
     put_in_order::<(u64, u16), Rec4>(&mut tables.type_4)?;
     put_in_order::<u32, Rec5>(&mut tables.type_5)?;
-    put_copies_in_order::<(u64, u16), Rec6>(alloc, &mut tables.type_6)?;
+    put_in_order::<(u64, u16), Rec6>(&mut tables.type_6)?;
     put_in_order::<LandmarkKey, Rec7>(&mut tables.type_7)?;
     put_in_order::<LinkKey, Rec8>(&mut tables.type_8)?;
-    put_copies_in_order::<u64, RecI>(alloc, &mut tables.type_i)?;
-    put_copies_in_order::<PolygonKey, RecP>(alloc, &mut tables.type_p)?;
+    put_in_order::<u64, RecI>(&mut tables.type_i)?;
+    put_in_order::<PolygonKey, RecP>(&mut tables.type_p)?;
     Ok(())
 }
 

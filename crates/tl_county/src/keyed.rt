@@ -1,7 +1,6 @@
 //! Lists of what has a key, in the order of their keys.
 
 ghost use Rattle.std.specs.Prelude.{◌≡◌, List, map, filter, not, false, true, Some, OnOk, IfOk, IfSome, IsPermutation, slice_get, is_some};
-ghost use Rattle.std.specs.List.{AllByRecursion};
 ghost use Rattle.std.specs.Ordering.{on, is_eq, is_gt, is_lt};
 ghost use Rattle.std.specs.declared.cmp.Ordering.TheVariants.{Equal};
 ghost use Rattle.tl_county.specs.Keyed.{IsLeastPassing, is_repeated, is_unknown};
@@ -43,73 +42,6 @@ pub fn put_in_order<K: Ord + Copy, T: Keyed<K>>(items: &mut Vec<T>) -> Result<()
         return Ok(());
     }
     items.sort_by_cached_key(|item| item.key())
-}
-
-/// Each item behind its key.
-fn with_keys<'t, K: Key, T: Keyed<K>>(
-    alloc: Global,
-    items: &'t [T],
-) -> Result<Vec<(K, &'t T)>, AllocError>
-    ensures items { IfOk result (λ pairs. map (λ pair. pair.1.now) pairs.items ≡ items.now) }
-    ensures keys { IfOk result (λ pairs. AllByRecursion (λ pair. pair.0 ≡ T.key_of pair.1.now) pairs.items) }
-{
-    let mut pairs = Vec::with_capacity(alloc, items.len())?;
-    for item in items {
-        pairs.push((item.key(), item))?;
-    }
-    Ok(pairs)
-}
-
-/// Copies of the items behind keys.
-fn copies_of<K: Key, T: Copy>(alloc: Global, pairs: &[(K, &T)]) -> Result<Vec<T>, AllocError>
-    ensures { IfOk result (λ copies. copies.items ≡ map (λ pair. pair.1.now) pairs.now) }
-{
-    let mut copies = Vec::with_capacity(alloc, pairs.len())?;
-    for pair in pairs {
-        copies.push(*pair.1)?;
-    }
-    Ok(copies)
-}
-
-/// The items behind their keys, in order.
-fn sorted_by_key<'t, K: Key, T: Keyed<K>>(
-    alloc: Global,
-    items: &'t [T],
-) -> Result<Vec<(K, &'t T)>, AllocError>
-    ensures permutation { IfOk result (λ pairs. IsPermutation items.now (map (λ pair. pair.1.now) pairs.items)) }
-    ensures in_order { IfOk result (λ pairs. IsInOrder (on T.key_of K.cmp) (map (λ pair. pair.1.now) pairs.items)) }
-{
-    let mut pairs = with_keys::<K, T>(alloc, items)?;
-    pairs.sort_unstable_by(|pair, other| pair.0.cmp(&other.0));
-    Ok(pairs)
-}
-
-/// Copies of the items, in the order of their keys.
-fn copies_in_order<K: Key, T: Keyed<K> + Copy>(
-    alloc: Global,
-    items: &[T],
-) -> Result<Vec<T>, AllocError>
-    ensures permutation { IfOk result (λ copies. IsPermutation items.now copies.items) }
-    ensures in_order { IfOk result (λ copies. IsInOrder (on T.key_of K.cmp) copies.items) }
-{
-    let pairs = sorted_by_key::<K, T>(alloc, items)?;
-    copies_of(alloc, &pairs)
-}
-
-/// As [`put_in_order`], for items that can be copied: each goes to its place in a new list.
-pub(crate) fn put_copies_in_order<K: Key, T: Keyed<K> + Copy>(
-    alloc: Global,
-    items: &mut Vec<T>,
-) -> Result<(), AllocError>
-    ensures permutation { OnOk result (IsPermutation items.old.items items.new.items) }
-    ensures in_order { OnOk result (IsInOrder (on T.key_of K.cmp) items.new.items) }
-{
-    if are_in_order::<K, T>(items) {
-        return Ok(());
-    }
-    let ordered = copies_in_order::<K, T>(alloc, items)?;
-    *items = ordered;
-    Ok(())
 }
 
 /// Puts keys in order. It takes no memory.

@@ -222,7 +222,7 @@ pub(crate) fn settle(alloc: Global, tables: &mut Tables) -> Result<Gathered, Lin
     ensures broken { IfErr result (λ fault. fault ≢ Memory → (records : List Record) →
         HoldsByType tables.old records → IsFirstBrokenRule records fault) }
 {
-    order_tables(alloc, tables)?;
+    order_tables(tables)?;
     let feats = keys_of::<u32, Rec5>(alloc, &tables.type_5)?;
     let polygons = polygon_keys(alloc, &tables.type_i, &tables.type_p)?;
     check_rules(alloc, tables, &feats, &polygons)?;
