@@ -13,6 +13,7 @@ pub mod LinkedCounty
 pub mod Samples
 pub mod OnSamples
 pub mod Reordered
+pub mod KeySets
 pub mod KeyedLists
 pub mod RuleOrders
 pub mod RuleTests

@@ -4,14 +4,15 @@ ghost use Rattle.std.specs.Prelude.{◌≡◌, ◌++◌, map, flat_map, OnOk, If
 ghost use Rattle.tl_county.specs.County.{eight_key, p_key, side_keys};
 ghost use Rattle.tl_county.specs.OrderedTables.{typed_of, AreInOrder, ArePermuted};
 ghost use Rattle.tl_county.specs.Orders.{IsInOrder, distinct};
-ghost use Rattle.tl_county.specs.PolygonKeys.{key_cmp, key_on};
+ghost use Rattle.tl_county.specs.PolygonKeys.{key_cmp};
 ghost use Rattle.tl_county.specs.SequenceKeys.{sequence_cmp, uses_of};
 
+use crate::key_set::KeySet;
 use crate::keyed::{Keyed, keys_of, put_in_order, sort_keys};
 use crate::polygon_numbers::polygons_in_order;
 use crate::record_keys::{LandmarkKey, LinkKey, PolygonKey};
 use std::alloc::{AllocError, Global};
-use tl_layout::{Rec1, Rec2, Rec4, Rec5, Rec6, Rec7, Rec8, RecI, RecP, Side, Tables};
+use tl_layout::{Rec1, Rec2, Rec4, Rec5, Rec6, Rec7, Rec8, RecI, RecP, Tables};
 
 /// Puts each table in the order of its records' numbers.
 pub(crate) fn order_tables(tables: &mut Tables) -> Result<(), AllocError>
@@ -63,34 +64,26 @@ pub(crate) fn linked_polygons(alloc: Global, links: &[Rec8]) -> Result<Vec<Polyg
     polygons_in_order(alloc, &keys)
 }
 
-/// Adds the polygon on a side, if there is one.
-fn push_side(keys: &mut Vec<PolygonKey>, side: &Side) -> Result<(), AllocError>
-    ensures { OnOk result (keys.new.items ≡ keys.old.items ++ key_on side.now) }
+/// The set of the polygons on sides.
+fn polygons_on_sides(alloc: Global, sides: &[RecI]) -> Result<KeySet<PolygonKey>, AllocError>
+    ensures { IfOk result (λ polygons. distinct key_cmp polygons ≡ distinct key_cmp (flat_map side_keys sides.now)) }
 {
-    if let Some(polyid) = side.polyid() {
-        let cenid = side.cenid();
-        keys.push((cenid, polyid))?;
+    let mut polygons = KeySet::new(alloc);
+    for link in sides {
+        polygons.insert_side(link.left())?;
+        polygons.insert_side(link.right())?;
     }
-    Ok(())
+    Ok(polygons)
 }
 
-/// The polygons on sides, chain after chain, and then those of type P.
-fn gather_polygons(
-    alloc: Global,
-    sides: &[RecI],
-    points: &[RecP],
-) -> Result<Vec<PolygonKey>, AllocError>
-    ensures { IfOk result (λ keys. keys.items ≡ flat_map side_keys sides.now ++ map p_key points.now) }
+/// Puts the polygons of type P into a set.
+fn insert_points(polygons: &mut KeySet<PolygonKey>, points: &[RecP]) -> Result<(), AllocError>
+    ensures { OnOk result (distinct key_cmp polygons.new ≡ distinct key_cmp (polygons.old ++ map p_key points.now)) }
 {
-    let mut keys = Vec::with_capacity(alloc, 2 * sides.len() + points.len())?;
-    for link in sides {
-        push_side(&mut keys, link.left())?;
-        push_side(&mut keys, link.right())?;
-    }
     for point in points {
-        keys.push(point.key())?;
+        polygons.insert(point.key())?;
     }
-    Ok(keys)
+    Ok(())
 }
 
 /// The polygons on sides and of type P, in order and each once.
@@ -101,8 +94,7 @@ pub(crate) fn polygon_keys(
 ) -> Result<Vec<PolygonKey>, AllocError>
     ensures { IfOk result (λ keys. keys.items ≡ distinct key_cmp (flat_map side_keys sides.now ++ map p_key points.now)) }
 {
-    let gathered = gather_polygons(alloc, sides, points)?;
-    let mut keys = polygons_in_order(alloc, &gathered)?;
-    keys.dedup_by(|later, kept| later.cmp(&kept).is_eq());
-    Ok(keys)
+    let mut polygons = polygons_on_sides(alloc, sides)?;
+    insert_points(&mut polygons, points)?;
+    polygons.in_order(alloc)
 }

@@ -13,6 +13,7 @@ mod county_over;
 mod county_over_chart;
 mod fault;
 mod gathered;
+mod key_set;
 mod keyed;
 mod landmark;
 mod laws;
@@ -30,6 +31,7 @@ pub use county::County;
 pub use county_in::CountyIn;
 pub use county_over::CountyOver;
 pub use fault::{LinkFault, LinkedType, SequencedType};
+pub use key_set::KeySet;
 pub use keyed::{
     Key, Keyed, least_repeated, least_unknown, place_of, put_in_order, sort_keys, split_group,
 };
@@ -40,5 +42,4 @@ pub use laws::{
 };
 pub use linked_records::{LinkedRecords, link_in_order};
 pub use linking::{link, link_in, link_tables, link_tables_in};
-pub use polygon_numbers::polygons_in_order;
 pub use record_keys::PolygonKey;

@@ -1,7 +1,7 @@
 -- The keys on sides and those with a type P record, gathered place by place, and what the profile says of them.
 use Rattle.std.proofs.Common.{◌≡◌, ℕ, suc, ◌<◌, nat_lt, List, [], ◌∷◌, ◌++◌, map, filter, length, take, slice_get, Bool, true, false}
 use Rattle.std.proofs.Common.{cond, not, ◌&&◌, ◌||◌, Option, Some, None, is_some, option_map, option_to_list, is_eq, refl, sym, ap, ◌∙◌}
-use Rattle.std.proofs.Common.{append_assoc, append-nil, IsPermutation, map-id, arith}
+use Rattle.std.proofs.Common.{append_assoc, append-nil, map-id, arith}
 use Rattle.std.specs.List.{list_any}
 use Rattle.std.specs.Ordering.{on}
 use Rattle.std.proofs.lemmas.Bool.{lt-ltb}
@@ -15,13 +15,13 @@ use Rattle.tl_county.specs.ChartWords.{chain_at}
 use Rattle.tl_county.specs.County.{County}
 use Rattle.tl_county.specs.CountyRules.{IsCounty, chain_polygons, polygons_along}
 use Rattle.tl_county.specs.Keyed.{is_unknown}
-use Rattle.tl_county.specs.Orders.{IsInOrder, stands_in}
+use Rattle.tl_county.specs.Orders.{IsInOrder, distinct, stands_in}
 use Rattle.tl_county.specs.PolygonKeys.{PolygonKey, key_cmp, key_on}
 use Rattle.tl_county.proofs.EntryLists.{in_order-strict}
 use Rattle.tl_county.proofs.InOrder.{strict-map, in_order-map}
 use Rattle.tl_county.proofs.KeyedLists.{in_order-filter}
 use Rattle.tl_county.proofs.KeyOrders.{key_keys}
-use Rattle.tl_county.proofs.Keys.{times-permutation}
+use Rattle.tl_county.proofs.KeySets.{stands_in-distinct}
 use Rattle.tl_profile.specs.Profile.{has_body}
 use Rattle.tl_profile.specs.Sides.{key_if_bodied, keys_on, keys_with_body}
 use Rattle.tl_profile.proofs.Places.{StandsAt, stands_at, ChainStands, chain_stands}
@@ -98,7 +98,7 @@ bodied key (entry ∷ polygons) = go (is_some entry.1) (bodied key polygons)
     go true ih = with_body (is_eq (key_cmp key entry.0)) ih
     go false ih = ih ∙ without (is_eq (key_cmp key entry.0))
 
-module _ (county : County) (sides : List PolygonKey) (p : IsPermutation (polygons_along county.chains) sides) where
+module _ (county : County) (sides : List PolygonKey) (met : sides ≡ distinct key_cmp (polygons_along county.chains)) where
   -- the polygons that the search finds are those that the profile refuses
   pub same_unknown : (bodies : List PolygonKey) → bodies ≡ keys_with_body county.polygons → (key : PolygonKey)
       → is_unknown key_cmp (map (λ k. k) bodies) (map (λ k. k) sides) key
@@ -107,5 +107,5 @@ module _ (county : County) (sides : List PolygonKey) (p : IsPermutation (polygon
       let here : stands_in key_cmp key (map (λ k. k) bodies) ≡ has_body county key =
       ap (stands_in key_cmp key) (map-id bodies ∙ e) ∙ bodied key county.polygons in
       let there : stands_in key_cmp key (map (λ k. k) sides) ≡ stands_in key_cmp key (polygons_along county.chains) =
-      ap (stands_in key_cmp key) (map-id sides) ∙ ap (nat_lt 0) (times-permutation key_keys key (polygons_along county.chains) sides p) in
+      ap (stands_in key_cmp key) (map-id sides ∙ met) ∙ stands_in-distinct key_keys key (polygons_along county.chains) in
       λ i. here i && not (there i)

@@ -3,36 +3,34 @@
 ghost use Rattle.std.specs.Prelude.{◌≡◌, ◌++◌, IfOk, OnOk, option_to_list, slice_get};
 ghost use Rattle.tl_county.specs.CountyRules.{polygons_along};
 ghost use Rattle.tl_county.specs.Keyed.{IsLeastPassing};
+ghost use Rattle.tl_county.specs.Orders.{distinct};
 ghost use Rattle.tl_county.specs.PolygonKeys.{key_cmp};
 ghost use Rattle.tl_profile.specs.Sides.{key_if_bodied, keys_on, keys_with_body, polygon_refused};
 
 use std::alloc::{AllocError, Global};
-use tl_county::{Chart, PolygonKey, least_unknown, polygons_in_order};
+use tl_county::{Chart, KeySet, PolygonKey, least_unknown};
 use tl_layout::Side;
 
-/// Adds the polygon on a side, if there is one.
-fn push_side(keys: &mut Vec<PolygonKey>, side: Option<Side>) -> Result<(), AllocError>
-    ensures { OnOk result (keys.new.items ≡ keys.old.items ++ keys_on side) }
+/// Puts the polygon on a side into a set, if there is one.
+fn insert_side(polygons: &mut KeySet<PolygonKey>, side: Option<Side>) -> Result<(), AllocError>
+    ensures { OnOk result (distinct key_cmp polygons.new ≡ distinct key_cmp (polygons.old ++ keys_on side)) }
 {
-    if let Some(side) = side {
-        if let Some(polyid) = side.polyid() {
-            let cenid = side.cenid();
-            keys.push((cenid, polyid))?;
-        }
+    match side {
+        Some(side) => polygons.insert_side(&side),
+        None => Ok(()),
     }
-    Ok(())
 }
 
-/// The polygons on the sides of chains, chain after chain, left before right.
-fn polygons_on_sides<C: Chart>(alloc: Global, chart: &C) -> Result<Vec<PolygonKey>, AllocError>
-    ensures { IfOk result (λ keys. keys.items ≡ polygons_along (C.county chart.now).chains) }
+/// The set of the polygons on the sides of chains.
+fn polygons_on_sides<C: Chart>(alloc: Global, chart: &C) -> Result<KeySet<PolygonKey>, AllocError>
+    ensures { IfOk result (λ polygons. distinct key_cmp polygons ≡ distinct key_cmp (polygons_along (C.county chart.now).chains)) }
 {
-    let mut keys = Vec::new(alloc);
+    let mut polygons = KeySet::new(alloc);
     for place in 0..chart.chain_count() {
-        push_side(&mut keys, chart.left_at(place))?;
-        push_side(&mut keys, chart.right_at(place))?;
+        insert_side(&mut polygons, chart.left_at(place))?;
+        insert_side(&mut polygons, chart.right_at(place))?;
     }
-    Ok(keys)
+    Ok(polygons)
 }
 
 /// The key of the polygon at a place, if it has a record of type P.
@@ -74,7 +72,7 @@ pub(crate) fn least_without_chain<C: Chart>(
     ensures { IfOk result (IsLeastPassing key_cmp (polygon_refused (C.county chart.now))) }
 {
     let met = polygons_on_sides(alloc, chart)?;
-    let sides = polygons_in_order(alloc, &met)?;
+    let sides = met.in_order(alloc)?;
     let bodies = polygons_with_body(alloc, chart)?;
     Ok(least_unknown::<PolygonKey, PolygonKey, PolygonKey>(&bodies, &sides))
 }

@@ -1,16 +1,14 @@
-use Rattle.std.proofs.Common.{is_eq, rules, ap, ◌∙◌}
-use Rattle.std.proofs.lemmas.Fn.{dedup_same}
-use Rattle.tl_county.specs.Orders.{distinct}
-use Rattle.tl_county.specs.PolygonKeys.{key_cmp}
-use Rattle.tl_county.proofs.GatheredLists.{dedup-distinct, distinct-permuted}
+use Rattle.std.proofs.Common.{map, flat_map, ◌∙◌}
+use Rattle.std.proofs.lemmas.Result.{IfOk-weaker}
+use Rattle.tl_county.specs.County.{p_key, side_keys}
 use Rattle.tl_county.proofs.KeyOrders.{key_keys}
+use Rattle.tl_county.proofs.KeySets.{distinct-more}
 use Rattle.tl_county.proofs.gathered.polygon_keys.Goals as goal
 
 pub returns : goal.returns
 returns c =
-    let ordered = c.in_ok-keys.keys.items in
-    dedup_same _ (λ x y. is_eq (key_cmp x y)) _
-    (λ x y b f' x' y' k. search rules) ordered c.dedup_by.new.self.items c.dedup_by.ensures.filtered
-    ∙ dedup-distinct key_keys ordered c.in_ok-keys.ensures.in_order
-    ∙ distinct-permuted key_keys c.deref.result.now ordered c.in_ok-keys.ensures.permutation
-    ∙ ap (distinct key_cmp) (c.deref.ensures.value ∙ c.in_ok-gathered.ensures)
+    let sides = flat_map side_keys c.args.sides.now in
+    let points = map p_key c.args.points.now in
+    IfOk-weaker c.in_order.result _ _
+    (λ keys e. e ∙ c.in_ok-insert_points.ensures ∙ distinct-more key_keys c.in_ok-polygons.polygons sides points c.in_ok-polygons.ensures)
+    c.in_order.ensures

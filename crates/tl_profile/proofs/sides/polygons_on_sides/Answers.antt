@@ -1,11 +1,25 @@
-use Rattle.std.proofs.Common.{arith, add-one}
+use Rattle.std.proofs.Common.{◌++◌, take, refl, ap, ◌∙◌, arith, add-one}
+use Rattle.tl_county.specs.CountyRules.{polygons_along}
+use Rattle.tl_county.specs.Orders.{distinct}
+use Rattle.tl_county.specs.PolygonKeys.{key_cmp}
+use Rattle.tl_county.proofs.KeyOrders.{key_keys}
+use Rattle.tl_county.proofs.KeySets.{distinct-more}
+use Rattle.tl_profile.specs.Sides.{keys_on}
 use Rattle.tl_profile.proofs.SideKeys.{sides_next}
 use Rattle.tl_profile.proofs.sides.polygons_on_sides.Goals as goal
 
 pub loop-place-preserved : goal.loop-place-preserved
 loop-place-preserved g c =
+    let county = g.C.Chart.county c.args.chart.now in
+    let place = c.loop-place.place in
     let count = c.chain_count-place-end.ensures in
     let test = c.loop-place-test.true in
-    rw (add-one) (sides_next (g.C.Chart.county c.args.chart.now) c.loop-place.place (omega arith) c.loop-place.keys.items
-    c.push_side.new.keys.items c.push_side-in-loop-place.new.keys.items c.left_at.result c.right_at.result c.loop-place.invariant
-    c.left_at.ensures c.in_ok-push_side.ensures c.right_at.ensures c.in_ok-push_side-2.ensures)
+    let met = polygons_along (take place county.chains) in
+    let left = keys_on c.left_at.result in
+    let right = keys_on c.right_at.result in
+    let first = c.in_ok-insert_side.ensures ∙ distinct-more key_keys c.loop-place.polygons met left c.loop-place.invariant in
+    rw (add-one)
+    (c.in_ok-insert_side-2.ensures
+    ∙ distinct-more key_keys c.insert_side.new.polygons (met ++ left) right first
+    ∙ ap (distinct key_cmp) (sides_next county place (omega arith) met (met ++ left) ((met ++ left) ++ right)
+    c.left_at.result c.right_at.result refl c.left_at.ensures refl c.right_at.ensures refl))
