@@ -10,7 +10,7 @@ use Rattle.std.specs.Map.{lookup}
 use Rattle.std.specs.Ordering.{ordering_reverse}
 use Rattle.tl_county.specs.Entries.{value_under}
 use Rattle.tl_county.specs.Orders.{stands_in}
-use Rattle.tl_county.specs.Renumbering.{image, is_named, joined, exactly_one}
+use Rattle.tl_county.specs.Renumbering.{image, is_named, composed, exactly_one}
 use Rattle.tl_county.proofs.Keys.{IsKeyOrder, lefts}
 use Rattle.tl_cert.specs.Images.{AnswersAs, named_images, pair_on, is_turned_once}
 
@@ -63,12 +63,12 @@ module _ {K : Type 0} (cmp : K → K → Ordering) where
   kept_pairs qs p ps b = map (carried_on qs)
       (cond b (p ∷ filter (λ pair. is_named cmp qs pair.1) ps) (filter (λ pair. is_named cmp qs pair.1) ps))
 
-  pub joined-pairs : (ps qs : List (K × K)) → joined cmp ps qs ≡ filter_map (pair_on cmp qs) ps
+  pub joined-pairs : (ps qs : List (K × K)) → composed cmp ps qs ≡ filter_map (pair_on cmp qs) ps
   joined-pairs [] qs = refl
   joined-pairs (p ∷ ps) qs = go (value_under cmp p.1 qs) refl (joined-pairs ps qs)
     where
-      go : (o : Option K) → value_under cmp p.1 qs ≡ o → joined cmp ps qs ≡ filter_map (pair_on cmp qs) ps
-          → joined cmp (p ∷ ps) qs ≡ cons_option (option_map (λ new. (p.0, new)) o) (filter_map (pair_on cmp qs) ps)
+      go : (o : Option K) → value_under cmp p.1 qs ≡ o → composed cmp ps qs ≡ filter_map (pair_on cmp qs) ps
+          → composed cmp (p ∷ ps) qs ≡ cons_option (option_map (λ new. (p.0, new)) o) (filter_map (pair_on cmp qs) ps)
       go None e ih =
           let none : is_named cmp qs p.1 ≡ false = named-under qs p.1 ∙ ap is_some e in
           ap (kept_pairs qs p ps) none ∙ ih

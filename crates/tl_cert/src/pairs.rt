@@ -1,7 +1,7 @@
 //! Lists of pairs of an old and a new number: the other way round, and one list after another.
 
 ghost use Rattle.std.specs.Prelude.{◌≡◌, ◌++◌, IfOk, OnOk, option_to_list, filter_map};
-ghost use Rattle.tl_county.specs.Renumbering.{joined, swapped};
+ghost use Rattle.tl_county.specs.Renumbering.{composed, swapped};
 ghost use Rattle.tl_cert.specs.Images.{named_images, pair_on};
 
 use crate::images::Images;
@@ -76,7 +76,7 @@ pub(crate) fn join_pairs<K: Key + Hash>(
     firsts: &[(K, K)],
     nexts: &[(K, K)],
 ) -> Result<Vec<(K, K)>, AllocError>
-    ensures { IfOk result (λ pairs. pairs.items ≡ joined K.cmp firsts.now nexts.now) }
+    ensures { IfOk result (λ pairs. pairs.items ≡ composed K.cmp firsts.now nexts.now) }
 {
     let images = Images::new(alloc, nexts)?;
     let pairs = pairs_after(alloc, firsts, &images)?;

@@ -10,9 +10,9 @@ use Rattle.tl_layout.specs.declared.type7.Body7.{Body7}
 use Rattle.tl_layout.specs.declared.type_p.BodyP.{BodyP}
 use Rattle.tl_shape.specs.Chain.{Chain}
 use Rattle.tl_shape.specs.Turned.{turned_if}
-use Rattle.tl_county.specs.County.{County}
+use Rattle.tl_county.specs.County.{County, link_key}
 use Rattle.tl_county.specs.CountyRules.{IsClosed, IsWhole, feats, polygon_keys, lands, polygons_along}
-use Rattle.tl_county.specs.CountyRules.{chain_polygons, chain_nodes, link_key, AllStandIn, AllKeysStandIn}
+use Rattle.tl_county.specs.CountyRules.{chain_polygons, chain_nodes, AllStandIn, AllKeysStandIn}
 use Rattle.tl_county.specs.Orders.{times, stands_in}
 use Rattle.tl_county.specs.PolygonKeys.{PolygonKey, key_cmp, key_on}
 use Rattle.tl_county.specs.Renumbering.{Renumbering, image, turns, carried_chain, carried_polygon, carried_landmark}

@@ -21,8 +21,7 @@ use Rattle.tl_layout.specs.declared.type7.Body7.{Body7}
 use Rattle.tl_layout.specs.declared.type_p.BodyP.{BodyP}
 use Rattle.tl_shape.specs.Chain.{Chain}
 use Rattle.tl_shape.specs.Turned.{turned_if}
-use Rattle.tl_county.specs.County.{County}
-use Rattle.tl_county.specs.CountyRules.{link_key}
+use Rattle.tl_county.specs.County.{County, link_key}
 use Rattle.tl_county.specs.Limits.{FitsName, FitsLandmark, FitsPolygon, FitsLinkContent, FitsChain, FitsLink, HasRoom, ContentsFit}
 use Rattle.tl_county.specs.Packing.{pieces, in_pieces, numbered_from, without_last, inner_points, packed_one, packed_twos}
 use Rattle.tl_county.specs.Packing.{packed_fours, packed_five, packed_sixes, packed_sevens, packed_i, packed_body, packed_p}

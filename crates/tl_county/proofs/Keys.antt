@@ -13,7 +13,7 @@ use Rattle.std.specs.Cmp.{IsTotalOrder}
 use Rattle.std.specs.List.{AllByRecursion}
 use Rattle.std.specs.List.Sorted.{IsStrictlySortedBy}
 use Rattle.tl_county.specs.Orders.{times, stands_in, has_repeat}
-use Rattle.tl_county.specs.Renumbering.{image, swapped, joined, is_named, to_itself}
+use Rattle.tl_county.specs.Renumbering.{image, swapped, composed, is_named, to_itself}
 
 -- an order that tells any two keys apart
 pub record IsKeyOrder {K : Type 0} (cmp : K → K → Ordering) : Type 0 where
@@ -212,7 +212,7 @@ module _ {K : Type 0} {cmp : K → K → Ordering} (o : IsKeyOrder cmp) where
       rest : map (image cmp (q ∷ qs)) (lefts qs) ≡ map (image cmp qs) (lefts qs)
       rest = map_agree (image cmp (q ∷ qs)) (image cmp qs) (lefts qs) (λ k l. other k l (same_or_not k q.0))
 
-  -- pairs joined, where the next ones name each right side
+  -- pairs composed, where the next ones name each right side
   abbrev pub followed : List (K × K) → List (K × K) → List (K × K)
   followed ps qs = map (λ pair. (pair.0, image cmp qs pair.1)) ps
 
@@ -225,7 +225,7 @@ module _ {K : Type 0} {cmp : K → K → Ordering} (o : IsKeyOrder cmp) where
   )
 
   pub joined-followed : (ps qs : List (K × K)) → ((k : K) → Known cmp (rights ps) k → Known cmp (lefts qs) k)
-      → joined cmp ps qs ≡ followed ps qs
+      → composed cmp ps qs ≡ followed ps qs
   joined-followed ps qs h =
       ap (map (λ pair. (pair.0, image cmp qs pair.1))) (filter_all (λ pair. is_named cmp qs pair.1) ps (named_all ps qs h))
 

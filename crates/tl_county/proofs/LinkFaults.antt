@@ -14,9 +14,9 @@ use Rattle.tl_county.specs.declared.fault.SequencedType.{SequencedType}
 use Rattle.tl_county.specs.declared.fault.SequencedType.TheVariants as sequenced
 use Rattle.tl_county.specs.LinkedTypes.{linked_type}
 use Rattle.tl_layout.specs.ByType.{of_type_2, of_type_4, of_type_5, of_type_6, of_type_8, of_type_i, of_type_p, of_number}
-use Rattle.tl_county.specs.County.{two_tlid, two_rtsq, four_tlid, four_rtsq, five_feat, six_tlid, six_rtsq, eight_land, eight_key}
+use Rattle.tl_county.specs.County.{two_tlid, two_rtsq, four_tlid, four_rtsq, five_feat, six_tlid, six_rtsq, eight_land, link_key}
 use Rattle.tl_county.specs.County.{i_tlid, p_key}
-use Rattle.tl_county.specs.LinkRules.{chain_tlids, linked_tlids, rtsqs, named_feats, is_broken, fault_place, IsLinked, IsFirstBrokenRule}
+use Rattle.tl_county.specs.LinkRules.{chain_tlids, linked_tlids, rtsqs, named_feats, is_rule_broken, link_fault_place, IsLinked, IsFirstBrokenRule}
 use Rattle.tl_county.specs.Orders.{times, stands_in, has_repeat}
 use Rattle.tl_county.specs.PolygonKeys.{key_cmp}
 use Rattle.tl_county.proofs.FirstFault.{Among, among_left, among_right, known_among, first_or_none, not_first, one_first}
@@ -56,7 +56,7 @@ fault_at p =
     (cond (number p 0 == 19) (LandUnknown (number p 1))
     (cond (number p 0 == 20) (PolygonUnknown (part p 1) (number p 2)) Memory)))))))))
 
-fault_at-place : (f : LinkFault) → fault_at (fault_place f) ≡ f
+fault_at-place : (f : LinkFault) → fault_at (link_fault_place f) ≡ f
 fault_at-place (ChainTwice tlid) = refl
 fault_at-place (NoChain Two tlid) = refl
 fault_at-place (NoChain Four tlid) = refl
@@ -98,7 +98,7 @@ faults_16_to_20 records =
     ++ (name_faults (of_type_4 records)
     ++ (map (λ k. PolygonTwice k.0 k.1) (map p_key (of_type_p records))
     ++ (map LandUnknown (map eight_land (of_type_8 records))
-    ++ map (λ k. PolygonUnknown k.0 k.1) (map eight_key (of_type_8 records)))))
+    ++ map (λ k. PolygonUnknown k.0 k.1) (map link_key (of_type_8 records)))))
 
 -- a chain without records of a type has no RTSQ there
 none_of_number : {X : Type 0} (f : X → ℕ) (n : ℕ) (xs : List X) → times nat_cmp n (map f xs) ≡ 0 → of_number f n xs ≡ []
@@ -214,7 +214,7 @@ skip_types : (records : List Record) (f : LinkFault)
     → Among f (map LinkMissing (chain_tlids records) ++ map LinkTwice (map i_tlid (of_type_i records))) → Among f (faults_11_to_15 records)
 skip_types records f h = after_types f records (among_right f (map (NoChain I) (linked_tlids I records)) _ h)
 
-pub broken_among : (records : List Record) (f : LinkFault) → is_broken records f ≡ true → Among f (all_faults records)
+pub broken_among : (records : List Record) (f : LinkFault) → is_rule_broken records f ≡ true → Among f (all_faults records)
 broken_among records (ChainTwice tlid) e =
     first_half records (ChainTwice tlid)
     (among_left (ChainTwice tlid) (map ChainTwice (chain_tlids records)) _
@@ -270,23 +270,23 @@ broken_among records (PolygonUnknown cenid polyid) e =
     (among_right (PolygonUnknown cenid polyid) (name_faults (of_type_4 records)) _
     (among_right (PolygonUnknown cenid polyid) (map (λ k. PolygonTwice k.0 k.1) (map p_key (of_type_p records))) _
     (among_right (PolygonUnknown cenid polyid) (map LandUnknown (map eight_land (of_type_8 records))) _
-    (known_among key_keys (λ k. PolygonUnknown k.0 k.1) (cenid, polyid) (map eight_key (of_type_8 records))
-    (some (times key_cmp (cenid, polyid) (map eight_key (of_type_8 records))) _ e))))))
+    (known_among key_keys (λ k. PolygonUnknown k.0 k.1) (cenid, polyid) (map link_key (of_type_8 records))
+    (some (times key_cmp (cenid, polyid) (map link_key (of_type_8 records))) _ e))))))
 broken_among records Memory e = absurd (false≢true e)
 
 pub linked_or_first : (records : List Record) → IsLinked records ⊎ ((fault : LinkFault) × IsFirstBrokenRule records fault)
-linked_or_first records = first_or_none (is_broken records) fault_place (all_faults records) (broken_among records)
+linked_or_first records = first_or_none (is_rule_broken records) link_fault_place (all_faults records) (broken_among records)
 
 pub linked_has_none : (records : List Record) (fault : LinkFault) → IsLinked records → IsFirstBrokenRule records fault → ⊥
-linked_has_none records fault linked h = not_first (is_broken records) fault_place fault linked h
+linked_has_none records fault linked h = not_first (is_rule_broken records) link_fault_place fault linked h
 
 pub one_first_rule : (records : List Record) (f g : LinkFault) → IsFirstBrokenRule records f → IsFirstBrokenRule records g → f ≡ g
-one_first_rule records = one_first (is_broken records) fault_place fault_at fault_at-place
+one_first_rule records = one_first (is_rule_broken records) link_fault_place fault_at fault_at-place
 
 -- by computing, for given records
-pub linked_computed : (records : List Record) → none_there (is_broken records) fault_place (all_faults records) ≡ true → IsLinked records
-linked_computed records e = none_computed (is_broken records) fault_place (all_faults records) (broken_among records) e
+pub linked_computed : (records : List Record) → none_there (is_rule_broken records) link_fault_place (all_faults records) ≡ true → IsLinked records
+linked_computed records e = none_computed (is_rule_broken records) link_fault_place (all_faults records) (broken_among records) e
 
 pub first_rule_computed : (records : List Record) (fault : LinkFault)
-    → least_there (is_broken records) fault_place fault (all_faults records) ≡ true → IsFirstBrokenRule records fault
-first_rule_computed records fault e = first_computed (is_broken records) fault_place (all_faults records) (broken_among records) fault e
+    → least_there (is_rule_broken records) link_fault_place fault (all_faults records) ≡ true → IsFirstBrokenRule records fault
+first_rule_computed records fault e = first_computed (is_rule_broken records) link_fault_place (all_faults records) (broken_among records) fault e

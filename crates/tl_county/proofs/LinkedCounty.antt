@@ -19,10 +19,10 @@ use Rattle.tl_layout.specs.declared.type_p.BodyP.{BodyP}
 use Rattle.tl_county.specs.BodyOrder.{landmark_body_cmp, link_cmp}
 use Rattle.tl_layout.specs.ByType.{of_type_1, of_type_4, of_type_5, of_type_7, of_type_8, of_type_i, of_type_p, of_number}
 use Rattle.tl_shape.specs.Chain.{Chain}
-use Rattle.tl_county.specs.County.{one_tlid, four_tlid, four_rtsq, five_feat, seven_land, eight_land, eight_key, i_tlid, p_key}
+use Rattle.tl_county.specs.County.{one_tlid, four_tlid, four_rtsq, five_feat, seven_land, eight_land, link_key, i_tlid, p_key, link_key}
 use Rattle.tl_county.specs.County.{first, shape_points, further_names, chain_of, chains_of, side_keys, polygon_body, county_of}
 use Rattle.tl_county.specs.CountyRules.{IsCounty, IsWhole, tlids, feats, polygon_keys, lands, chain_polygons, polygons_along}
-use Rattle.tl_county.specs.CountyRules.{link_key, AllStandIn, AllKeysStandIn}
+use Rattle.tl_county.specs.CountyRules.{AllStandIn, AllKeysStandIn}
 use Rattle.tl_county.specs.LinkRules.{IsLinked, chain_tlids, named_feats}
 use Rattle.tl_county.specs.Orders.{times, stands_in, put_in_order, in_order, distinct}
 use Rattle.tl_county.specs.PolygonKeys.{PolygonKey, key_cmp}
@@ -187,12 +187,12 @@ module _ (records : List Record) (linked : IsLinked records) where
   link_key_stands : (link : Fields8) → Among link (of_type_8 records)
       → IsTrue (stands_in key_cmp (link_key link) (polygon_keys (county_of records)))
   link_key_stands link m =
-      let named : Known key_cmp (map eight_key (of_type_8 records)) (link_key link) =
-      among_known key_keys (link_key link) (map eight_key (of_type_8 records)) (among-map eight_key link (of_type_8 records) m) in
+      let named : Known key_cmp (map link_key (of_type_8 records)) (link_key link) =
+      among_known key_keys (link_key link) (map link_key (of_type_8 records)) (among-map link_key link (of_type_8 records) m) in
       let t : stands_in key_cmp (link_key link) all_keys ≡ true =
-      needed (stands_in key_cmp (link_key link) (map eight_key (of_type_8 records))) (stands_in key_cmp (link_key link) all_keys)
+      needed (stands_in key_cmp (link_key link) (map link_key (of_type_8 records))) (stands_in key_cmp (link_key link) all_keys)
       (linked (PolygonUnknown link.cenid link.polyid))
-      (lt-ltb 0 (times key_cmp (link_key link) (map eight_key (of_type_8 records))) named) in
+      (lt-ltb 0 (times key_cmp (link_key link) (map link_key (of_type_8 records))) named) in
       key_stands (link_key link) (ltb-true 0 (times key_cmp (link_key link) all_keys) t)
 
   -- each type I record is that of a chain of the county

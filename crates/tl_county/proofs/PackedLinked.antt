@@ -14,7 +14,7 @@ use Rattle.tl_layout.specs.declared.type7.Body7.{Body7}
 use Rattle.tl_layout.specs.declared.type_p.BodyP.{BodyP}
 use Rattle.tl_shape.specs.Chain.{Chain}
 use Rattle.tl_county.specs.County.{County, one_tlid, two_tlid, two_rtsq, four_tlid, four_rtsq, five_feat, six_tlid, six_rtsq}
-use Rattle.tl_county.specs.County.{seven_land, eight_land, eight_key, i_tlid, p_key, side_keys}
+use Rattle.tl_county.specs.County.{seven_land, eight_land, link_key, i_tlid, p_key, side_keys}
 use Rattle.tl_county.specs.CountyRules.{IsCounty, tlids, feats, polygon_keys, lands, polygons_along, AllStandIn}
 use Rattle.tl_county.specs.LinkRules.{IsLinked, chain_tlids, linked_tlids, rtsqs, named_feats}
 use Rattle.tl_county.specs.Orders.{times, stands_in, has_repeat, in_order}
@@ -325,14 +325,14 @@ module _ (c : County) (is : IsCounty c) where
       lt-ltb 0 (times nat_cmp land (map seven_land (of_type_7 (packed c))))
       (land_stands land (ltb-true 0 (times nat_cmp land (lands c)) listed)))
   packed_linked (PolygonUnknown cenid polyid) =
-      implied (stands_in key_cmp (cenid, polyid) (map eight_key (of_type_8 (packed c))))
+      implied (stands_in key_cmp (cenid, polyid) (map link_key (of_type_8 (packed c))))
       (stands_in key_cmp (cenid, polyid) (flat_map side_keys (of_type_i (packed c)) ++ map p_key (of_type_p (packed c))))
-      (λ t. let known : Known key_cmp (map eight_key c.links) (cenid, polyid) =
-      subst (λ xs. Known key_cmp (map eight_key xs) (cenid, polyid)) eights
-      (ltb-true 0 (times key_cmp (cenid, polyid) (map eight_key (of_type_8 (packed c)))) t) in
+      (λ t. let known : Known key_cmp (map link_key c.links) (cenid, polyid) =
+      subst (λ xs. Known key_cmp (map link_key xs) (cenid, polyid)) eights
+      (ltb-true 0 (times key_cmp (cenid, polyid) (map link_key (of_type_8 (packed c)))) t) in
       let listed : IsTrue (stands_in key_cmp (cenid, polyid) (polygon_keys c)) =
-      known_all key_keys (λ k. IsTrue (stands_in key_cmp k (polygon_keys c))) (map eight_key c.links)
-      (all_map (λ k. IsTrue (stands_in key_cmp k (polygon_keys c))) eight_key c.links is.closed.link_polygons) (cenid, polyid) known in
+      known_all key_keys (λ k. IsTrue (stands_in key_cmp k (polygon_keys c))) (map link_key c.links)
+      (all_map (λ k. IsTrue (stands_in key_cmp k (polygon_keys c))) link_key c.links is.closed.link_polygons) (cenid, polyid) known in
       lt-ltb 0 (times key_cmp (cenid, polyid) (flat_map side_keys (of_type_i (packed c)) ++ map p_key (of_type_p (packed c))))
       (key_stands (cenid, polyid) (ltb-true 0 (times key_cmp (cenid, polyid) (polygon_keys c)) listed)))
   packed_linked Memory = refl

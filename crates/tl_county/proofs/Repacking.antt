@@ -22,10 +22,10 @@ use Rattle.tl_layout.specs.ByType.{as_type_1, as_type_2, as_type_4, as_type_5, a
 use Rattle.tl_layout.specs.ByType.{as_type_p, of_type_1, of_type_2, of_type_4, of_type_5, of_type_6, of_type_7, of_type_8}
 use Rattle.tl_layout.specs.ByType.{of_type_i, of_type_p, of_number}
 use Rattle.tl_county.specs.County.{one_tlid, two_tlid, two_rtsq, four_tlid, four_rtsq, five_feat, six_tlid, six_rtsq, seven_land}
-use Rattle.tl_county.specs.County.{eight_land, eight_key}
+use Rattle.tl_county.specs.County.{eight_land, link_key}
 use Rattle.tl_county.specs.County.{i_tlid, p_key, shape_points, further_names, further_ranges, chain_of, chains_of, side_keys, first}
 use Rattle.tl_county.specs.County.{polygons_of, county_of}
-use Rattle.tl_county.specs.LinkRules.{linked_tlids, rtsqs, named_feats, is_broken, IsLinked}
+use Rattle.tl_county.specs.LinkRules.{linked_tlids, rtsqs, named_feats, is_rule_broken, IsLinked}
 use Rattle.tl_county.specs.Orders.{times, stands_in, has_repeat, put_in_order, in_order, distinct}
 use Rattle.tl_county.specs.PolygonKeys.{key_cmp}
 use Rattle.tl_county.specs.Repacked.{Sequence, resequenced, KeepsSequence}
@@ -331,7 +331,7 @@ module _ (q : Sequence) (xs : List Record) (up : KeepsSequence q xs) where
   sequence_same sequenced.Six n = ap (λ rs. has_repeat nat_cmp (map six_rtsq (of_number six_tlid n rs))) six_is
       ∙ rtsqs_kept six_tlid six_rtsq new_six (q sequenced.Six) (λ r. refl) (λ r. refl) n (of_type_6 xs) (up sequenced.Six n)
 
-  same_broken : (f : LinkFault) → is_broken ys f ≡ is_broken xs f
+  same_broken : (f : LinkFault) → is_rule_broken ys f ≡ is_rule_broken xs f
   unfolding ys
   same_broken (ChainTwice n) = ap (λ rs. nat_lt 1 (times nat_cmp n (map one_tlid rs))) resequenced-repacked.of_type_1
   same_broken (NoChain t n) = ap₂ (λ ks rs. stands_in nat_cmp n ks && not (stands_in nat_cmp n (map one_tlid rs))) (linked_same t)
@@ -349,7 +349,7 @@ module _ (q : Sequence) (xs : List Record) (up : KeepsSequence q xs) where
       ap₂ (λ es ss. stands_in nat_cmp n (map eight_land es) && not (stands_in nat_cmp n (map seven_land ss)))
       resequenced-repacked.of_type_8 resequenced-repacked.of_type_7
   same_broken (PolygonUnknown c k) = λ i.
-      stands_in key_cmp (c, k) (map eight_key (resequenced-repacked.of_type_8 i)) && not
+      stands_in key_cmp (c, k) (map link_key (resequenced-repacked.of_type_8 i)) && not
       (stands_in key_cmp (c, k) (flat_map side_keys (resequenced-repacked.of_type_i i) ++ map p_key (resequenced-repacked.of_type_p i)))
   same_broken Memory = refl
 

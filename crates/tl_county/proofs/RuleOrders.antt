@@ -15,7 +15,7 @@ use Rattle.tl_county.specs.declared.fault.LinkedType.TheVariants.{Two, Four, Six
 use Rattle.tl_county.specs.declared.fault.SequencedType.TheVariants as sequenced
 use Rattle.tl_county.specs.FirstOf.{place_cmp}
 use Rattle.tl_county.specs.Keyed.{IsLeastPassing}
-use Rattle.tl_county.specs.LinkRules.{is_broken, fault_place, IsLinked, IsFirstBrokenRule}
+use Rattle.tl_county.specs.LinkRules.{is_rule_broken, link_fault_place, IsLinked, IsFirstBrokenRule}
 use Rattle.tl_county.specs.RuleOrder.{rule_place, RulesHold, IsFirstFrom}
 use Rattle.tl_county.proofs.FirstFault.{Among}
 use Rattle.tl_county.proofs.LinkFaults.{part, number}
@@ -53,7 +53,7 @@ key_place (LandUnknown land) = (land ∷ []) ∷ []
 key_place (PolygonUnknown cenid polyid) = cenid ∷ (polyid ∷ []) ∷ []
 key_place Memory = []
 
-place-split : (f : LinkFault) → fault_place f ≡ head_of_rule (rule_place f) ++ key_place f
+place-split : (f : LinkFault) → link_fault_place f ≡ head_of_rule (rule_place f) ++ key_place f
 place-split (ChainTwice tlid) = refl
 place-split (NoChain Two tlid) = refl
 place-split (NoChain Four tlid) = refl
@@ -113,7 +113,7 @@ abbrev places : List ℕ
 places = 0 ∷ 1 ∷ 2 ∷ 3 ∷ 4 ∷ 5 ∷ 6 ∷ 7 ∷ 8 ∷ 9 ∷ 10 ∷ 11 ∷ 12 ∷ 13 ∷ 14 ∷ []
 
 -- a fault that is there stands at one of them
-has_place : (records : List Record) (f : LinkFault) → is_broken records f ≡ true → list_any (λ n. n == rule_place f) places ≡ true
+has_place : (records : List Record) (f : LinkFault) → is_rule_broken records f ≡ true → list_any (λ n. n == rule_place f) places ≡ true
 has_place records (ChainTwice tlid) b = refl
 has_place records (NoChain Two tlid) b = refl
 has_place records (NoChain Four tlid) b = refl
@@ -131,7 +131,7 @@ has_place records (LandUnknown land) b = refl
 has_place records (PolygonUnknown cenid polyid) b = refl
 has_place records Memory b = absurd (false≢true b)
 
-place_among : (records : List Record) (f : LinkFault) → is_broken records f ≡ true → Among (rule_place f) places
+place_among : (records : List Record) (f : LinkFault) → is_rule_broken records f ≡ true → Among (rule_place f) places
 place_among records f b =
     let found : (n : ℕ) × Among n places × ((n == rule_place f) ≡ true) =
     any_among (λ n. n == rule_place f) places (has_place records f b) in
@@ -169,8 +169,8 @@ all_of p (y ∷ xs) e x (inl f) = ap p f ∙ (and_parts (p y) (list_all p xs) e)
 all_of p (y ∷ xs) e x (inr m) = all_of p xs (and_parts (p y) (list_all p xs) e).1 x m
 
 -- a fault of an earlier rule has the lesser place
-earlier_rule : (records : List Record) (f g : LinkFault) → is_broken records f ≡ true → is_broken records g ≡ true
-    → rule_place f < rule_place g → is_gt (place_cmp (fault_place f) (fault_place g)) ≡ false
+earlier_rule : (records : List Record) (f g : LinkFault) → is_rule_broken records f ≡ true → is_rule_broken records g ≡ true
+    → rule_place f < rule_place g → is_gt (place_cmp (link_fault_place f) (link_fault_place g)) ≡ false
 earlier_rule records f g b d lt =
     let row = all_of (λ m. list_all (λ n. not (nat_lt m n) || comes_before (head_of_rule m) (head_of_rule n)) places) places rules_ascend
     (rule_place f) (place_among records f b) in
@@ -190,11 +190,11 @@ earlier_rule records f g b d lt =
 -- lesser places.
 pub record IsRule {K : Type 0} (cmp : K → K → Ordering) (test : K → Bool) (records : List Record) (n : ℕ) (at : K
     → LinkFault) : Type 0 where
-  pub broken : (k : K) → is_broken records (at k) ≡ test k
+  pub broken : (k : K) → is_rule_broken records (at k) ≡ test k
   pub place : (k : K) → rule_place (at k) ≡ n
   pub key : List (List ℕ) → K
   pub only : (p : List (List ℕ)) → fault_of_rule n p ≡ at (key p)
-  pub order : (k j : K) → is_gt (cmp k j) ≡ false → is_gt (place_cmp (fault_place (at k)) (fault_place (at j))) ≡ false
+  pub order : (k j : K) → is_gt (cmp k j) ≡ false → is_gt (place_cmp (link_fault_place (at k)) (link_fault_place (at j))) ≡ false
 
 module _ {K : Type 0} {cmp : K → K → Ordering} {test : K → Bool} {records : List Record} {n : ℕ} {at : K → LinkFault}
     (rule : IsRule cmp test records n at) where
@@ -204,30 +204,30 @@ module _ {K : Type 0} {cmp : K → K → Ordering} {test : K → Bool} {records 
   pub rule-holds : IsLeastPassing cmp test None → RulesHold records n (suc n)
   rule-holds none f low high =
       let e : rule_place f ≡ n = omega (arith, low, high) in
-      ap (is_broken records) (fault_at_key f e) ∙ rule.broken (rule.key (key_place f)) ∙ none (rule.key (key_place f))
+      ap (is_rule_broken records) (fault_at_key f e) ∙ rule.broken (rule.key (key_place f)) ∙ none (rule.key (key_place f))
 
   pub rule-broken : (k : K) → IsLeastPassing cmp test (Some k) → IsFirstFrom records n (at k)
   rule-broken k h = record { from = omega (arith, rule.place k); broken = rule.broken k ∙ h.0; least = least }
     where
-      least : (g : LinkFault) → n ≤ rule_place g → is_broken records g ≡ true
-          → is_gt (place_cmp (fault_place (at k)) (fault_place g)) ≡ false
+      least : (g : LinkFault) → n ≤ rule_place g → is_rule_broken records g ≡ true
+          → is_gt (place_cmp (link_fault_place (at k)) (link_fault_place g)) ≡ false
       least g low b = go (nat_lt n (rule_place g)) refl
         where
-          go : (t : Bool) → nat_lt n (rule_place g) ≡ t → is_gt (place_cmp (fault_place (at k)) (fault_place g)) ≡ false
+          go : (t : Bool) → nat_lt n (rule_place g) ≡ t → is_gt (place_cmp (link_fault_place (at k)) (link_fault_place g)) ≡ false
           go true e = earlier_rule records (at k) g (rule.broken k ∙ h.0) b (let lt : n < rule_place g = ltb-true n (rule_place g) e in
               omega (arith, rule.place k))
           go false e =
               let le : rule_place g ≤ n = ltb-false n (rule_place g) e in
               let same : g ≡ at (rule.key (key_place g)) = fault_at_key g (omega (arith, low)) in
-              ap (λ f. is_gt (place_cmp (fault_place (at k)) (fault_place f))) same
+              ap (λ f. is_gt (place_cmp (link_fault_place (at k)) (link_fault_place f))) same
               ∙ rule.order k (rule.key (key_place g))
-              (h.1 (rule.key (key_place g)) (sym (rule.broken (rule.key (key_place g))) ∙ ap (is_broken records) (sym same) ∙ b))
+              (h.1 (rule.key (key_place g)) (sym (rule.broken (rule.key (key_place g))) ∙ ap (is_rule_broken records) (sym same) ∙ b))
 
 pub rules-join : (records : List Record) {low mid high : ℕ} → RulesHold records low mid → RulesHold records mid high
     → RulesHold records low high
 rules-join records {low} {mid} {high} h k f from to = go (nat_lt (rule_place f) mid) refl
   where
-    go : (t : Bool) → nat_lt (rule_place f) mid ≡ t → is_broken records f ≡ false
+    go : (t : Bool) → nat_lt (rule_place f) mid ≡ t → is_rule_broken records f ≡ false
     go true e = h f from (ltb-true (rule_place f) mid e)
     go false e = k f (ltb-false (rule_place f) mid e) to
 
@@ -236,18 +236,18 @@ pub first-after : (records : List Record) {low mid : ℕ} {f : LinkFault} → lo
 first-after records {low} {mid} {f} le h k =
     record { from = (let m : mid ≤ rule_place f = k.from in omega (arith, le)); broken = k.broken; least = least }
   where
-    least : (g : LinkFault) → low ≤ rule_place g → is_broken records g ≡ true → is_gt (place_cmp (fault_place f) (fault_place g)) ≡ false
+    least : (g : LinkFault) → low ≤ rule_place g → is_rule_broken records g ≡ true → is_gt (place_cmp (link_fault_place f) (link_fault_place g)) ≡ false
     least g from b = go (nat_lt (rule_place g) mid) refl
       where
-        go : (t : Bool) → nat_lt (rule_place g) mid ≡ t → is_gt (place_cmp (fault_place f) (fault_place g)) ≡ false
+        go : (t : Bool) → nat_lt (rule_place g) mid ≡ t → is_gt (place_cmp (link_fault_place f) (link_fault_place g)) ≡ false
         go true e = absurd (false≢true (sym (h g from (ltb-true (rule_place g) mid e)) ∙ b))
         go false e = k.least g (ltb-false (rule_place g) mid e) b
 
 -- all rules together
 pub all_hold : (records : List Record) → RulesHold records 0 15 → IsLinked records
-all_hold records h f = go (is_broken records f) refl
+all_hold records h f = go (is_rule_broken records f) refl
   where
-    go : (t : Bool) → is_broken records f ≡ t → is_broken records f ≡ false
+    go : (t : Bool) → is_rule_broken records f ≡ t → is_rule_broken records f ≡ false
     go false e = e
     go true e = h f (omega arith) (below (place_among records f e))
       where

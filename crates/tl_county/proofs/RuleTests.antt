@@ -16,7 +16,7 @@ use Rattle.tl_county.specs.declared.fault.LinkedType.TheVariants.{Two, Four, Six
 use Rattle.tl_county.specs.declared.fault.SequencedType.TheVariants as sequenced
 use Rattle.tl_county.specs.BodyOrder.{bytes_cmp}
 use Rattle.tl_county.specs.County.{one_tlid, two_tlid, two_rtsq, four_tlid, four_rtsq, five_feat, six_tlid, six_rtsq, seven_land}
-use Rattle.tl_county.specs.County.{eight_land, eight_key, i_tlid, p_key, side_keys}
+use Rattle.tl_county.specs.County.{eight_land, link_key, i_tlid, p_key, side_keys}
 use Rattle.tl_county.specs.Keyed.{IsLeastPassing, is_repeated, is_unknown}
 use Rattle.tl_county.specs.Orders.{times, stands_in, has_repeat, IsInOrder, distinct}
 use Rattle.tl_county.specs.Packing.{Typed, by_type}
@@ -373,11 +373,11 @@ module _ (records : List Record) (t : Typed) (e : by_type records ≡ t) where
     order = λ k j h. single (nat_cmp k j) h;
   }
 
-  pub rule_20 : IsRule key_cmp (is_unknown key_cmp (map eight_key t.of_type_8)
+  pub rule_20 : IsRule key_cmp (is_unknown key_cmp (map link_key t.of_type_8)
       (flat_map side_keys t.of_type_i ++ map p_key t.of_type_p)) records 14 (λ key. PolygonUnknown key.0 key.1)
   rule_20 = record {
     broken =
-        λ k. ap (λ (u : Typed). is_unknown key_cmp (map eight_key u.of_type_8) (flat_map side_keys u.of_type_i ++ map p_key u.of_type_p) k) e;
+        λ k. ap (λ (u : Typed). is_unknown key_cmp (map link_key u.of_type_8) (flat_map side_keys u.of_type_i ++ map p_key u.of_type_p) k) e;
     place = λ k. refl;
     key = λ p. (part p 0, number p 1);
     only = λ p. refl;

@@ -17,7 +17,7 @@ use Rattle.tl_layout.specs.ByType.{as_type_1, as_type_2, as_type_4, as_type_5, a
 use Rattle.tl_layout.specs.ByType.{as_type_p, of_type_1, of_type_2, of_type_4, of_type_5, of_type_6, of_type_7, of_type_8}
 use Rattle.tl_layout.specs.ByType.{of_type_i, of_type_p, of_number}
 use Rattle.tl_county.specs.County.{one_tlid, two_tlid, two_rtsq, four_tlid, four_rtsq, five_feat, six_tlid, six_rtsq, seven_land}
-use Rattle.tl_county.specs.County.{eight_land, eight_key, i_tlid, p_key, chain_of, chains_of, side_keys, first, polygon_body}
+use Rattle.tl_county.specs.County.{eight_land, link_key, i_tlid, p_key, chain_of, chains_of, side_keys, first, polygon_body}
 use Rattle.tl_county.specs.County.{polygons_of, landmarks_of, county_of}
 use Rattle.tl_county.specs.LinkRules.{chain_tlids, linked_tlids, rtsqs, named_feats, IsLinked}
 use Rattle.tl_county.specs.Orders.{times, stands_in, has_repeat, in_order, distinct}
@@ -156,8 +156,8 @@ module _ (xs ys : List Record) (p : IsPermutation xs ys) (linked : IsLinked xs) 
       (same-map eight_land (of_type_8 xs) (of_type_8 ys) s_eights) n)) (land_times n) ∙ linked (LandUnknown n)
   reordered-linked (PolygonUnknown c k) =
       ap₂ (λ a b. nat_lt 0 a && not b)
-      (sym (times-same key_cmp (map eight_key (of_type_8 xs)) (map eight_key (of_type_8 ys))
-      (same-map eight_key (of_type_8 xs) (of_type_8 ys) s_eights) (c, k))) (keys_alike (c, k)) ∙ linked (PolygonUnknown c k)
+      (sym (times-same key_cmp (map link_key (of_type_8 xs)) (map link_key (of_type_8 ys))
+      (same-map link_key (of_type_8 xs) (of_type_8 ys) s_eights) (c, k))) (keys_alike (c, k)) ∙ linked (PolygonUnknown c k)
   reordered-linked Memory = refl
 
   -- the parts of the county

@@ -15,8 +15,8 @@ use Rattle.tl_county.specs.declared.fault.LinkedType.{LinkedType}
 use Rattle.tl_county.specs.declared.fault.LinkedType.TheVariants.{Two, Four, Six, I}
 use Rattle.tl_county.specs.declared.fault.SequencedType.TheVariants as sequenced
 use Rattle.tl_county.specs.County.{one_tlid, two_tlid, two_rtsq, four_tlid, four_rtsq, five_feat, six_tlid, six_rtsq, seven_land}
-use Rattle.tl_county.specs.County.{eight_land, eight_key, i_tlid, p_key, side_keys}
-use Rattle.tl_county.specs.LinkRules.{chain_tlids, linked_tlids, rtsqs, named_feats, is_broken, IsLinked, IsFirstBrokenRule}
+use Rattle.tl_county.specs.County.{eight_land, link_key, i_tlid, p_key, side_keys}
+use Rattle.tl_county.specs.LinkRules.{chain_tlids, linked_tlids, rtsqs, named_feats, is_rule_broken, IsLinked, IsFirstBrokenRule}
 use Rattle.tl_county.specs.Orders.{stands_in, has_repeat}
 use Rattle.tl_county.specs.PolygonKeys.{PolygonKey, key_cmp}
 use Rattle.tl_county.proofs.Carried.{among-unpieces}
@@ -111,7 +111,7 @@ module _ (xs ys : List Record) (s : SameElements xs ys) where
       (flat_map side_keys (of_type_i ys) ++ map p_key (of_type_p ys)) k
       (one_way xs ys s_is.there s_ps.there k) (one_way ys xs s_is.back s_ps.back k)
 
-  pub same-broken : (f : LinkFault) → is_broken xs f ≡ is_broken ys f
+  pub same-broken : (f : LinkFault) → is_rule_broken xs f ≡ is_rule_broken ys f
   same-broken (ChainTwice n) = ap (nat_lt 1) (times-same nat_cmp (chain_tlids xs) (chain_tlids ys) s_ones n)
   same-broken (NoChain t n) =
       ap₂ (λ a b. nat_lt 0 a && not (nat_lt 0 b)) (times-same nat_cmp (linked_tlids t xs) (linked_tlids t ys) (s_linked t) n)
@@ -142,7 +142,7 @@ module _ (xs ys : List Record) (s : SameElements xs ys) where
       (times-same nat_cmp (map seven_land (of_type_7 xs)) (map seven_land (of_type_7 ys)) s_lands n)
   same-broken (PolygonUnknown c k) =
       ap₂ (λ a b. nat_lt 0 a && not b)
-      (times-same key_cmp (map eight_key (of_type_8 xs)) (map eight_key (of_type_8 ys)) (s_eights eight_key) (c, k)) (keys_alike (c, k))
+      (times-same key_cmp (map link_key (of_type_8 xs)) (map link_key (of_type_8 ys)) (s_eights link_key) (c, k)) (keys_alike (c, k))
   same-broken Memory = refl
 
   pub same-linked : IsLinked xs → IsLinked ys

@@ -7,14 +7,14 @@ use Rattle.std.proofs.lemmas.List.Sorted.{IsPermutation-refl, IsPermutation-map,
 use Rattle.std.specs.List.{AllByRecursion}
 use Rattle.tl_layout.specs.Fields.{Fields8}
 use Rattle.tl_shape.specs.Chain.{Chain}
-use Rattle.tl_county.specs.County.{County}
+use Rattle.tl_county.specs.County.{County, link_key}
 use Rattle.tl_county.specs.CountyRules.{IsCounty, IsClosed, tlids, feats, polygon_keys, lands, nodes, nodes_along, chain_nodes}
-use Rattle.tl_county.specs.CountyRules.{chain_polygons, link_key, AllStandIn, AllKeysStandIn}
+use Rattle.tl_county.specs.CountyRules.{chain_polygons, AllStandIn, AllKeysStandIn}
 use Rattle.tl_county.specs.Orders.{times, stands_in, has_repeat}
 use Rattle.tl_county.specs.PolygonKeys.{PolygonKey, key_cmp, key_on, key_under}
 use Rattle.tl_county.specs.Renumbering.{Renumbering, image, turns, renumbered_polygon, renumbered_side, renumbered, carried_chain}
 use Rattle.tl_county.specs.Renumbering.{carried_name, carried_polygon, carried_landmark, carried_link, ArePaired, Carries}
-use Rattle.tl_county.specs.Renumbering.{AreSame, to_itself, identity, swapped, is_named, inverse, joined, exactly_one, then}
+use Rattle.tl_county.specs.Renumbering.{AreSame, to_itself, identity, swapped, is_named, inverse, composed, exactly_one, then}
 use Rattle.tl_shape.specs.TurnLaws.{turned-turned}
 use Rattle.tl_shape.specs.Turned.{turned, turned_if}
 use Rattle.tl_county.proofs.Lists.{map_itself, map-map, map_agree_all, all_weaker, all_map, all_unmap, all_left, all_right}
@@ -391,11 +391,11 @@ module _ (r : Renumbering) (a b : County) (ca : IsCounty a) (cb : IsCounty b) (h
 
 -- transitive: a renaming and then another carry on
 pub paired_on : {K : Type 0} {cmp : K → K → Ordering} (o : IsKeyOrder cmp) (ps qs : List (K × K)) (olds mids news : List K)
-    → IsApart cmp mids → ArePaired ps olds mids → ArePaired qs mids news → ArePaired (joined cmp ps qs) olds news
+    → IsApart cmp mids → ArePaired ps olds mids → ArePaired qs mids news → ArePaired (composed cmp ps qs) olds news
 paired_on {K} {cmp} o ps qs olds mids news a g h =
     let next : (k : K) → Known cmp (rights ps) k → Known cmp (lefts qs) k =
     λ k l. known-permutation o k (lefts qs) mids h.left (known-permutation_to o k (rights ps) mids g.right l) in
-    let e : joined cmp ps qs ≡ followed o ps qs = joined-followed o ps qs next in
+    let e : composed cmp ps qs ≡ followed o ps qs = joined-followed o ps qs next in
     let middle : IsPermutation (rights ps) (lefts qs) =
     IsPermutation-trans (rights ps) mids (lefts qs) g.right (IsPermutation-sym (lefts qs) mids h.left) in
     let images : IsPermutation (map (image cmp qs) (rights ps)) (rights qs) =
@@ -410,7 +410,7 @@ paired_on {K} {cmp} o ps qs olds mids news a g h =
 -- and the images follow
 pub images_on : {K : Type 0} {cmp : K → K → Ordering} (o : IsKeyOrder cmp) (ps qs : List (K × K)) (olds mids news : List K)
     → ArePaired ps olds mids → ArePaired qs mids news → (k : K) → Known cmp olds k
-    → image cmp qs (image cmp ps k) ≡ image cmp (joined cmp ps qs) k
+    → image cmp qs (image cmp ps k) ≡ image cmp (composed cmp ps qs) k
 images_on {K} {cmp} o ps qs olds mids news g h k l =
     let next : (j : K) → Known cmp (rights ps) j → Known cmp (lefts qs) j =
     λ j m. known-permutation o j (lefts qs) mids h.left (known-permutation_to o j (rights ps) mids g.right m) in

@@ -11,7 +11,7 @@ use Rattle.tl_layout.specs.Fields.{Fields2, Fields4}
 use Rattle.tl_layout.specs.declared.record_type.Record.{Record}
 use Rattle.tl_layout.specs.declared.record_type.Record.TheVariants.{Two, Four}
 use Rattle.tl_county.specs.County.{two_tlid, two_rtsq, four_tlid, four_rtsq, county_of}
-use Rattle.tl_county.specs.LinkRules.{chain_tlids, is_broken, IsLinked}
+use Rattle.tl_county.specs.LinkRules.{chain_tlids, is_rule_broken, IsLinked}
 use Rattle.tl_county.specs.Orders.{stands_in, has_repeat, put_in_order, in_order}
 use Rattle.tl_county.specs.Repacked.{IsCut, AreCut, IsSplit, IsEmpty, LeavesEmptyOut}
 use Rattle.tl_county.specs.declared.fault.LinkFault.{LinkFault}
@@ -212,7 +212,7 @@ module _ {X Y : Type 0} (tlid rtsq : X → ℕ) (held : X → List Y) where
 -- a record of type 2 cut into two, at the head of a list
 module _ (others : List Record) (whole first second : Fields2)
     (cut : IsCut two_tlid two_rtsq (λ (r : Fields2). r.points) (of_type_2 others) whole first second) where
-  two-broken : (f : LinkFault) → is_broken (Two whole ∷ others) f ≡ is_broken (Two first ∷ Two second ∷ others) f
+  two-broken : (f : LinkFault) → is_rule_broken (Two whole ∷ others) f ≡ is_rule_broken (Two first ∷ Two second ∷ others) f
   two-broken (NoChain Type2 n) = ap (λ b. b && not (stands_in nat_cmp n (chain_tlids others)))
       (known-cut two_tlid two_rtsq (λ (r : Fields2). r.points) (of_type_2 others) whole first second cut n)
   two-broken (SequenceBroken sequenced_types.Two n) = repeat-cut two_tlid two_rtsq (λ (r : Fields2). r.points) (of_type_2 others) whole first second cut n
@@ -247,7 +247,7 @@ module _ (others : List Record) (whole first second : Fields2)
 -- a record of type 4 cut into two, at the head of a list
 module _ (others : List Record) (whole first second : Fields4)
     (cut : IsCut four_tlid four_rtsq (λ (r : Fields4). r.feats) (of_type_4 others) whole first second) where
-  four-broken : (f : LinkFault) → is_broken (Four whole ∷ others) f ≡ is_broken (Four first ∷ Four second ∷ others) f
+  four-broken : (f : LinkFault) → is_rule_broken (Four whole ∷ others) f ≡ is_rule_broken (Four first ∷ Four second ∷ others) f
   four-broken (NoChain Type4 n) = ap (λ b. b && not (stands_in nat_cmp n (chain_tlids others)))
       (known-cut four_tlid four_rtsq (λ (r : Fields4). r.feats) (of_type_4 others) whole first second cut n)
   four-broken (SequenceBroken sequenced_types.Four n) = repeat-cut four_tlid four_rtsq (λ (r : Fields4). r.feats)
@@ -284,7 +284,7 @@ module _ (others : List Record) (whole first second : Fields4)
 
 -- the head of a list cut into two
 record IsAlike (xs ys : List Record) : Type 0 where
-  broken : (f : LinkFault) → is_broken xs f ≡ is_broken ys f
+  broken : (f : LinkFault) → is_rule_broken xs f ≡ is_rule_broken ys f
   county : county_of xs ≡ county_of ys
 
 alike : (others : List Record) (whole first second : Record) → AreCut others whole first second

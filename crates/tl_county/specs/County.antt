@@ -59,8 +59,9 @@ seven_land r = r.land
 abbrev pub eight_land : Fields8 → ℕ
 eight_land r = r.land
 
-abbrev pub eight_key : Fields8 → PolygonKey
-eight_key r = (r.cenid, r.polyid)
+-- the polygon of a landmark's link
+abbrev pub link_key : Fields8 → PolygonKey
+link_key link = (link.cenid, link.polyid)
 
 abbrev pub i_tlid : FieldsI → ℕ
 i_tlid r = r.tlid

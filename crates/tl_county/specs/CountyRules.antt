@@ -3,10 +3,9 @@ use Rattle.std.specs.Prelude.{ℕ, List, ◌++◌, ◌≤◌, ◌||◌, map, fla
 use Rattle.std.specs.List.{AllByRecursion}
 use Rattle.std.specs.List.Sorted.{IsStrictlySortedBy}
 use Rattle.std.specs.Ordering.{nat_cmp}
-use Rattle.tl_layout.specs.Fields.{Fields8}
 use Rattle.tl_county.specs.BodyOrder.{landmark_body_cmp, link_cmp}
 use Rattle.tl_shape.specs.Chain.{Chain}
-use Rattle.tl_county.specs.County.{County}
+use Rattle.tl_county.specs.County.{County, link_key}
 use Rattle.tl_county.specs.Orders.{IsInOrder, stands_in, distinct}
 use Rattle.tl_county.specs.PolygonKeys.{PolygonKey, key_cmp, key_on}
 
@@ -42,10 +41,6 @@ polygons_along chains = flat_map (λ entry. chain_polygons entry.1) chains
 -- the county's nodes, in order
 abbrev pub nodes : County → List ℕ
 nodes county = distinct nat_cmp (nodes_along county.chains)
-
--- the polygon of a landmark's link
-abbrev pub link_key : Fields8 → PolygonKey
-link_key link = (link.cenid, link.polyid)
 
 -- each of these numbers stands among those
 abbrev pub AllStandIn : List ℕ → List ℕ → Type 0

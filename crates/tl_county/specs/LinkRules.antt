@@ -13,7 +13,7 @@ use Rattle.tl_county.specs.declared.fault.SequencedType.TheVariants as sequenced
 use Rattle.tl_layout.specs.ByType.{of_type_1, of_type_2, of_type_4, of_type_5, of_type_6, of_type_7, of_type_8, of_type_i}
 use Rattle.tl_layout.specs.ByType.{of_type_p, of_number}
 use Rattle.tl_county.specs.County.{one_tlid, two_tlid, two_rtsq, four_tlid, four_rtsq, five_feat, six_tlid, six_rtsq, seven_land}
-use Rattle.tl_county.specs.County.{eight_land, eight_key, i_tlid, p_key, side_keys}
+use Rattle.tl_county.specs.County.{eight_land, link_key, i_tlid, p_key, side_keys}
 use Rattle.tl_county.specs.FirstOf.{IsFirst}
 use Rattle.tl_county.specs.LinkedTypes.{linked_type}
 use Rattle.tl_county.specs.Orders.{times, stands_in, has_repeat}
@@ -41,24 +41,24 @@ abbrev pub named_feats : ℕ → List Record → List ℕ
 named_feats tlid records = flat_map (λ r. r.feats) (of_number four_tlid tlid (of_type_4 records))
 
 -- whether a rule is broken at a place
-abbrev pub is_broken : List Record → LinkFault → Bool
-is_broken records (ChainTwice tlid) = nat_lt 1 (times nat_cmp tlid (chain_tlids records))
-is_broken records (NoChain rtype tlid) =
+abbrev pub is_rule_broken : List Record → LinkFault → Bool
+is_rule_broken records (ChainTwice tlid) = nat_lt 1 (times nat_cmp tlid (chain_tlids records))
+is_rule_broken records (NoChain rtype tlid) =
     stands_in nat_cmp tlid (linked_tlids rtype records) && not (stands_in nat_cmp tlid (chain_tlids records))
-is_broken records (SequenceBroken rtype tlid) = has_repeat nat_cmp (rtsqs rtype tlid records)
-is_broken records (LinkMissing tlid) =
+is_rule_broken records (SequenceBroken rtype tlid) = has_repeat nat_cmp (rtsqs rtype tlid records)
+is_rule_broken records (LinkMissing tlid) =
     stands_in nat_cmp tlid (chain_tlids records) && not (stands_in nat_cmp tlid (map i_tlid (of_type_i records)))
-is_broken records (LinkTwice tlid) = nat_lt 1 (times nat_cmp tlid (map i_tlid (of_type_i records)))
-is_broken records (NameTwice feat) = nat_lt 1 (times nat_cmp feat (map five_feat (of_type_5 records)))
-is_broken records (NameUnknown tlid feat) =
+is_rule_broken records (LinkTwice tlid) = nat_lt 1 (times nat_cmp tlid (map i_tlid (of_type_i records)))
+is_rule_broken records (NameTwice feat) = nat_lt 1 (times nat_cmp feat (map five_feat (of_type_5 records)))
+is_rule_broken records (NameUnknown tlid feat) =
     stands_in nat_cmp feat (named_feats tlid records) && not (stands_in nat_cmp feat (map five_feat (of_type_5 records)))
-is_broken records (PolygonTwice cenid polyid) = nat_lt 1 (times key_cmp (cenid, polyid) (map p_key (of_type_p records)))
-is_broken records (LandUnknown land) =
+is_rule_broken records (PolygonTwice cenid polyid) = nat_lt 1 (times key_cmp (cenid, polyid) (map p_key (of_type_p records)))
+is_rule_broken records (LandUnknown land) =
     stands_in nat_cmp land (map eight_land (of_type_8 records)) && not (stands_in nat_cmp land (map seven_land (of_type_7 records)))
-is_broken records (PolygonUnknown cenid polyid) =
-    stands_in key_cmp (cenid, polyid) (map eight_key (of_type_8 records)) && not
+is_rule_broken records (PolygonUnknown cenid polyid) =
+    stands_in key_cmp (cenid, polyid) (map link_key (of_type_8 records)) && not
     (stands_in key_cmp (cenid, polyid) (flat_map side_keys (of_type_i records) ++ map p_key (of_type_p records)))
-is_broken records Memory = false
+is_rule_broken records Memory = false
 
 -- the place of a record type among the four: 2, 4 and 6 before I
 abbrev pub type_place : LinkedType → ℕ
@@ -68,23 +68,23 @@ type_place Six = 6
 type_place I = 7
 
 -- the rule's number, and then the place: the type, the TLID, the FEAT; or the CENID's bytes, the POLYID
-abbrev pub fault_place : LinkFault → List (List ℕ)
-fault_place (ChainTwice tlid) = (11 ∷ []) ∷ (tlid ∷ []) ∷ []
-fault_place (NoChain rtype tlid) = (12 ∷ []) ∷ (type_place rtype ∷ []) ∷ (tlid ∷ []) ∷ []
-fault_place (SequenceBroken rtype tlid) = (13 ∷ []) ∷ (type_place (linked_type rtype) ∷ []) ∷ (tlid ∷ []) ∷ []
-fault_place (LinkMissing tlid) = (14 ∷ []) ∷ (tlid ∷ []) ∷ []
-fault_place (LinkTwice tlid) = (15 ∷ []) ∷ (tlid ∷ []) ∷ []
-fault_place (NameTwice feat) = (16 ∷ []) ∷ (feat ∷ []) ∷ []
-fault_place (NameUnknown tlid feat) = (17 ∷ []) ∷ (tlid ∷ []) ∷ (feat ∷ []) ∷ []
-fault_place (PolygonTwice cenid polyid) = (18 ∷ []) ∷ cenid ∷ (polyid ∷ []) ∷ []
-fault_place (LandUnknown land) = (19 ∷ []) ∷ (land ∷ []) ∷ []
-fault_place (PolygonUnknown cenid polyid) = (20 ∷ []) ∷ cenid ∷ (polyid ∷ []) ∷ []
-fault_place Memory = (9 ∷ []) ∷ []
+abbrev pub link_fault_place : LinkFault → List (List ℕ)
+link_fault_place (ChainTwice tlid) = (11 ∷ []) ∷ (tlid ∷ []) ∷ []
+link_fault_place (NoChain rtype tlid) = (12 ∷ []) ∷ (type_place rtype ∷ []) ∷ (tlid ∷ []) ∷ []
+link_fault_place (SequenceBroken rtype tlid) = (13 ∷ []) ∷ (type_place (linked_type rtype) ∷ []) ∷ (tlid ∷ []) ∷ []
+link_fault_place (LinkMissing tlid) = (14 ∷ []) ∷ (tlid ∷ []) ∷ []
+link_fault_place (LinkTwice tlid) = (15 ∷ []) ∷ (tlid ∷ []) ∷ []
+link_fault_place (NameTwice feat) = (16 ∷ []) ∷ (feat ∷ []) ∷ []
+link_fault_place (NameUnknown tlid feat) = (17 ∷ []) ∷ (tlid ∷ []) ∷ (feat ∷ []) ∷ []
+link_fault_place (PolygonTwice cenid polyid) = (18 ∷ []) ∷ cenid ∷ (polyid ∷ []) ∷ []
+link_fault_place (LandUnknown land) = (19 ∷ []) ∷ (land ∷ []) ∷ []
+link_fault_place (PolygonUnknown cenid polyid) = (20 ∷ []) ∷ cenid ∷ (polyid ∷ []) ∷ []
+link_fault_place Memory = (9 ∷ []) ∷ []
 
 -- no rule is broken anywhere
 abbrev pub IsLinked : List Record → Type 0
-IsLinked records = (fault : LinkFault) → is_broken records fault ≡ false
+IsLinked records = (fault : LinkFault) → is_rule_broken records fault ≡ false
 
 -- this rule is broken at this place, no rule of a lesser number is broken, and this one at no lesser place
 abbrev pub IsFirstBrokenRule : List Record → LinkFault → Type 0
-IsFirstBrokenRule records = IsFirst (is_broken records) fault_place
+IsFirstBrokenRule records = IsFirst (is_rule_broken records) link_fault_place

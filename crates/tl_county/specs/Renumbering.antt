@@ -10,8 +10,8 @@ use Rattle.tl_layout.specs.declared.type5.Body5.{Body5}
 use Rattle.tl_layout.specs.declared.type7.Body7.{Body7}
 use Rattle.tl_layout.specs.declared.type_p.BodyP.{BodyP}
 use Rattle.tl_shape.specs.Chain.{Chain}
-use Rattle.tl_county.specs.County.{County}
-use Rattle.tl_county.specs.CountyRules.{tlids, feats, polygon_keys, lands, nodes, link_key}
+use Rattle.tl_county.specs.County.{County, link_key}
+use Rattle.tl_county.specs.CountyRules.{tlids, feats, polygon_keys, lands, nodes}
 use Rattle.tl_county.specs.Orders.{stands_in, has_repeat}
 use Rattle.tl_county.specs.PolygonKeys.{PolygonKey, key_cmp}
 use Rattle.tl_shape.specs.Turned.{turned_if}
@@ -145,8 +145,8 @@ inverse r = record {
 }
 
 -- first by some pairs and then by others; a number whose image the others don't name is left out
-abbrev pub joined : {K : Type 0} → (K → K → Ordering) → List (K × K) → List (K × K) → List (K × K)
-joined cmp firsts nexts = map (λ pair. (pair.0, image cmp nexts pair.1)) (filter (λ pair. is_named cmp nexts pair.1) firsts)
+abbrev pub composed : {K : Type 0} → (K → K → Ordering) → List (K × K) → List (K × K) → List (K × K)
+composed cmp firsts nexts = map (λ pair. (pair.0, image cmp nexts pair.1)) (filter (λ pair. is_named cmp nexts pair.1) firsts)
 
 -- one of two, and not both
 abbrev pub exactly_one : Bool → Bool → Bool
@@ -155,11 +155,11 @@ exactly_one a b = cond a (not b) b
 -- first one renaming and then the next; a chain is turned if one of them does and the other doesn't
 abbrev pub then : Renumbering → Renumbering → Renumbering
 then r next = record {
-  chains = joined nat_cmp r.chains next.chains;
-  names = joined nat_cmp r.names next.names;
-  polygons = joined key_cmp r.polygons next.polygons;
-  lands = joined nat_cmp r.lands next.lands;
-  nodes = joined nat_cmp r.nodes next.nodes;
+  chains = composed nat_cmp r.chains next.chains;
+  names = composed nat_cmp r.names next.names;
+  polygons = composed key_cmp r.polygons next.polygons;
+  lands = composed nat_cmp r.lands next.lands;
+  nodes = composed nat_cmp r.nodes next.nodes;
   turned = filter (λ tlid. exactly_one (turns r tlid) (turns next (image nat_cmp r.chains tlid)))
-      (map (λ pair. pair.0) (joined nat_cmp r.chains next.chains));
+      (map (λ pair. pair.0) (composed nat_cmp r.chains next.chains));
 }

@@ -9,7 +9,7 @@ use Rattle.tl_county.specs.declared.fault.LinkFault.TheVariants.{PolygonUnknown,
 use Rattle.tl_county.specs.declared.fault.LinkedType.TheVariants.{Two, Four, Six, I}
 use Rattle.tl_county.specs.declared.fault.SequencedType.TheVariants as sequenced
 use Rattle.tl_county.specs.FirstOf.{place_cmp}
-use Rattle.tl_county.specs.LinkRules.{is_broken, fault_place}
+use Rattle.tl_county.specs.LinkRules.{is_rule_broken, link_fault_place}
 
 -- the place of a fault's rule among the rules as they are told; rules 12 and 13 count once for each record type
 abbrev pub rule_place : LinkFault → ℕ
@@ -32,14 +32,14 @@ rule_place Memory = 15
 
 -- of the rules from this place on, none before the other place is broken
 abbrev pub RulesHold : List Record → ℕ → ℕ → Type 0
-RulesHold records low high = (fault : LinkFault) → low ≤ rule_place fault → rule_place fault < high → is_broken records fault ≡ false
+RulesHold records low high = (fault : LinkFault) → low ≤ rule_place fault → rule_place fault < high → is_rule_broken records fault ≡ false
 
 -- of the rules from this place on, this is the first that is broken, at its least place
 pub record IsFirstFrom (records : List Record) (low : ℕ) (fault : LinkFault) : Type 0 where
   pub from : low ≤ rule_place fault
-  pub broken : is_broken records fault ≡ true
-  pub least : (other : LinkFault) → low ≤ rule_place other → is_broken records other ≡ true
-      → is_gt (place_cmp (fault_place fault) (fault_place other)) ≡ false
+  pub broken : is_rule_broken records fault ≡ true
+  pub least : (other : LinkFault) → low ≤ rule_place other → is_rule_broken records other ≡ true
+      → is_gt (place_cmp (link_fault_place fault) (link_fault_place other)) ≡ false
 
 -- what was found of the rules from the one place to the other: the first that is broken, or that they hold
 abbrev pub Settles : List Record → ℕ → ℕ → Option LinkFault → Type 0

@@ -1,7 +1,7 @@
 //! Tables put in order, and what linking gathers from them.
 
 ghost use Rattle.std.specs.Prelude.{◌≡◌, ◌++◌, map, flat_map, OnOk, IfOk, IsPermutation};
-ghost use Rattle.tl_county.specs.County.{eight_key, p_key, side_keys};
+ghost use Rattle.tl_county.specs.County.{link_key, p_key, side_keys};
 ghost use Rattle.tl_county.specs.OrderedTables.{typed_of, AreInOrder, ArePermuted};
 ghost use Rattle.tl_county.specs.Orders.{IsInOrder, distinct};
 ghost use Rattle.tl_county.specs.PolygonKeys.{key_cmp};
@@ -58,7 +58,7 @@ pub(crate) fn uses_in_order(alloc: Global, names: &[Rec4]) -> Result<Vec<(u64, u
 /// The polygons of the records of type 8, in order.
 pub(crate) fn linked_polygons(alloc: Global, links: &[Rec8]) -> Result<Vec<PolygonKey>, AllocError>
     ensures in_order { IfOk result (λ keys. IsInOrder key_cmp keys.items) }
-    ensures same { IfOk result (λ keys. IsPermutation (map eight_key links.now) keys.items) }
+    ensures same { IfOk result (λ keys. IsPermutation (map link_key links.now) keys.items) }
 {
     let keys = keys_of::<PolygonKey, Rec8>(alloc, links)?;
     polygons_in_order(alloc, &keys)

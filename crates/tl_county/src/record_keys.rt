@@ -173,9 +173,9 @@ impl Keyed<u64> for RecI {
 
 /// By the polygon's key.
 impl Keyed<PolygonKey> for Rec8 {
-    ghost use Rattle.tl_county.specs.County.{eight_key};
+    ghost use Rattle.tl_county.specs.County.{link_key};
 
-    ghost key_of = { eight_key };
+    ghost key_of = { link_key };
 
     fn key(&self) -> PolygonKey {
         (self.cenid(), self.polyid())

@@ -2,7 +2,7 @@
 
 ghost use Rattle.std.specs.Prelude.{◌≡◌, List, map, flat_map, ◌++◌, MatchResult, IfOk, OnOk, IsPermutation};
 ghost use Rattle.std.specs.Ordering.{nat_cmp};
-ghost use Rattle.tl_county.specs.County.{eight_key, five_feat, i_tlid, one_tlid, p_key, side_keys};
+ghost use Rattle.tl_county.specs.County.{link_key, five_feat, i_tlid, one_tlid, p_key, side_keys};
 ghost use Rattle.tl_county.specs.Keyed.{IsLeastPassing};
 ghost use Rattle.tl_county.specs.PolygonKeys.{key_cmp};
 ghost use Rattle.tl_county.specs.SequenceKeys.{is_unnamed, sequence_cmp, uses_of};
@@ -130,7 +130,7 @@ pub(crate) fn check_landmarks(
     polygons: &[PolygonKey],
 ) -> Result<(), LinkFault>
     requires tables { AreInOrder (typed_of tables.now) }
-    requires linked { IsInOrder key_cmp linked.now × IsPermutation (map eight_key tables.now.type_8.items) linked.now }
+    requires linked { IsInOrder key_cmp linked.now × IsPermutation (map link_key tables.now.type_8.items) linked.now }
     requires polygons { polygons.now ≡ distinct key_cmp (flat_map side_keys tables.now.type_i.items ++ map p_key tables.now.type_p.items) }
     ensures { (records : List Record) → by_type records ≡ typed_of tables.now → MatchResult result (λ _. RulesHold records 12 15) (IsFirstFrom records 12) }
 {

@@ -16,8 +16,8 @@ use Rattle.tl_layout.specs.Fields.{Fields8}
 use Rattle.tl_layout.specs.declared.type7.Body7.{Body7}
 use Rattle.tl_county.specs.BodyOrder.{landmark_body_cmp, link_cmp, link_part, link_part_cmp}
 use Rattle.tl_county.specs.ChartWords.{bodies_at, links_with}
-use Rattle.tl_county.specs.County.{County}
-use Rattle.tl_county.specs.CountyRules.{IsCounty, lands, link_key}
+use Rattle.tl_county.specs.County.{County, link_key}
+use Rattle.tl_county.specs.CountyRules.{IsCounty, lands}
 use Rattle.tl_county.specs.Entries.{entry_keys}
 use Rattle.tl_county.specs.Orders.{IsInOrder, in_order, times, stands_in, has_repeat}
 use Rattle.tl_county.specs.PolygonKeys.{PolygonKey, key_cmp}

@@ -13,8 +13,8 @@ use Rattle.std.specs.Ordering.{ordering_then}
 use Rattle.tl_layout.specs.Fields.{Fields8}
 use Rattle.tl_layout.specs.declared.type7.Body7.{Body7}
 use Rattle.tl_county.specs.BodyOrder.{LinkPart, link_part, link_part_cmp, link_cmp}
-use Rattle.tl_county.specs.County.{County}
-use Rattle.tl_county.specs.CountyRules.{IsAscending, IsClosed, lands, polygon_keys, link_key}
+use Rattle.tl_county.specs.County.{County, link_key}
+use Rattle.tl_county.specs.CountyRules.{IsAscending, IsClosed, lands, polygon_keys}
 use Rattle.tl_county.specs.Orders.{stands_in, times, IsInOrder}
 use Rattle.tl_county.specs.PolygonKeys.{PolygonKey, key_cmp}
 use Rattle.tl_county.specs.Renumbering.{Renumbering, Carries, image, carried_landmark, carried_link}

@@ -13,9 +13,9 @@ use Rattle.tl_layout.specs.declared.type5.Body5.{Body5}
 use Rattle.tl_layout.specs.declared.type7.Body7.{Body7}
 use Rattle.tl_layout.specs.declared.type_p.BodyP.{BodyP}
 use Rattle.tl_shape.specs.Chain.{Chain}
-use Rattle.tl_county.specs.County.{County, county_of}
+use Rattle.tl_county.specs.County.{County, county_of, link_key}
 use Rattle.tl_county.specs.CountyRules.{IsCounty, tlids, feats, polygon_keys, lands, nodes_along, polygons_along, chain_nodes}
-use Rattle.tl_county.specs.CountyRules.{chain_polygons, link_key, AllStandIn, AllKeysStandIn}
+use Rattle.tl_county.specs.CountyRules.{chain_polygons, AllStandIn, AllKeysStandIn}
 use Rattle.tl_county.specs.Limits.{most_records, FitsNumbers, NumbersFit, IsWithinLimits}
 use Rattle.tl_county.specs.Orders.{times, stands_in}
 use Rattle.tl_county.specs.Packing.{packed_one, packed_five, packed_sevens, packed_by_type, packed}

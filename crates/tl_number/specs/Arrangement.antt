@@ -10,8 +10,8 @@ use Rattle.tl_shape.specs.Chain.{Chain}
 use Rattle.tl_shape.specs.PointOrder.{points_cmp}
 use Rattle.tl_shape.specs.Turned.{turned_if}
 use Rattle.tl_county.specs.BodyOrder.{link_cmp}
-use Rattle.tl_county.specs.County.{County}
-use Rattle.tl_county.specs.CountyRules.{tlids, nodes_along, polygons_along, link_key}
+use Rattle.tl_county.specs.County.{County, link_key}
+use Rattle.tl_county.specs.CountyRules.{tlids, nodes_along, polygons_along}
 use Rattle.tl_county.specs.Orders.{in_order}
 use Rattle.tl_county.specs.Packing.{numbered_from}
 use Rattle.tl_county.specs.PolygonKeys.{PolygonKey, key_cmp}

@@ -10,7 +10,7 @@ use Rattle.tl_county.specs.Keyed.{IsLeastPassing}
 use Rattle.tl_county.specs.PolygonKeys.{PolygonKey, key_cmp}
 use Rattle.tl_profile.specs.declared.fault.ProfileFault.{ProfileFault}
 use Rattle.tl_profile.specs.declared.fault.ProfileFault.TheVariants.{OwnReverse, SameShape, PolygonWithoutChain, Memory}
-use Rattle.tl_profile.specs.Profile.{is_own_reverse, is_broken, fault_place, IsInProfile, IsFirstBrokenClause}
+use Rattle.tl_profile.specs.Profile.{is_own_reverse, is_clause_broken, profile_fault_place, IsInProfile, IsFirstBrokenClause}
 use Rattle.tl_profile.specs.Shapes.{TlidPair, pair_cmp, pair_refused}
 use Rattle.tl_profile.specs.Sides.{polygon_refused}
 
@@ -36,8 +36,8 @@ module _ (county : County) where
       → IsFirstBrokenClause county (OwnReverse tlid)
   first_own_reverse tlid h = record { there = h.0; least = least }
     where
-      least : (other : ProfileFault) → is_broken county other ≡ true
-          → is_gt (place_cmp (fault_place (OwnReverse tlid)) (fault_place other)) ≡ false
+      least : (other : ProfileFault) → is_clause_broken county other ≡ true
+          → is_gt (place_cmp (profile_fault_place (OwnReverse tlid)) (profile_fault_place other)) ≡ false
       least (OwnReverse u) t = single (nat_cmp tlid u) (h.1 u t)
       least (SameShape f s) t = refl
       least (PolygonWithoutChain c p) t = refl
@@ -48,8 +48,8 @@ module _ (county : County) where
         → IsFirstBrokenClause county (SameShape p.0 p.1)
     first_same_shape p h = record { there = h.0; least = least }
       where
-        least : (other : ProfileFault) → is_broken county other ≡ true
-            → is_gt (place_cmp (fault_place (SameShape p.0 p.1)) (fault_place other)) ≡ false
+        least : (other : ProfileFault) → is_clause_broken county other ≡ true
+            → is_gt (place_cmp (profile_fault_place (SameShape p.0 p.1)) (profile_fault_place other)) ≡ false
         least (OwnReverse u) t = absurd (false≢true (sym (none u) ∙ t))
         least (SameShape f s) t = paired (nat_cmp p.0 f) (nat_cmp p.1 s) (h.1 (f, s) t)
         least (PolygonWithoutChain c q) t = refl
@@ -60,8 +60,8 @@ module _ (county : County) where
           → IsFirstBrokenClause county (PolygonWithoutChain key.0 key.1)
       first_polygon key h = record { there = h.0; least = least }
         where
-          least : (other : ProfileFault) → is_broken county other ≡ true
-              → is_gt (place_cmp (fault_place (PolygonWithoutChain key.0 key.1)) (fault_place other)) ≡ false
+          least : (other : ProfileFault) → is_clause_broken county other ≡ true
+              → is_gt (place_cmp (profile_fault_place (PolygonWithoutChain key.0 key.1)) (profile_fault_place other)) ≡ false
           least (OwnReverse u) t = absurd (false≢true (sym (none u) ∙ t))
           least (SameShape f s) t = absurd (false≢true (sym (no_pair (f, s)) ∙ t))
           least (PolygonWithoutChain c q) t = keyed (slice_cmp nat_cmp key.0 c) (nat_cmp key.1 q) (h.1 (c, q) t)

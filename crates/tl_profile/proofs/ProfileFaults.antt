@@ -16,7 +16,7 @@ use Rattle.tl_county.proofs.Keys.{same-true}
 use Rattle.tl_county.proofs.Members.{any_among, among-map, among-pieces}
 use Rattle.tl_profile.specs.declared.fault.ProfileFault.{ProfileFault}
 use Rattle.tl_profile.specs.declared.fault.ProfileFault.TheVariants.{OwnReverse, SameShape, PolygonWithoutChain, Memory}
-use Rattle.tl_profile.specs.Profile.{same_points, same_shape, is_own_reverse, are_one_shape, has_body, is_broken, fault_place}
+use Rattle.tl_profile.specs.Profile.{same_points, same_shape, is_own_reverse, are_one_shape, has_body, is_clause_broken, profile_fault_place}
 use Rattle.tl_profile.specs.Profile.{IsInProfile, IsFirstBrokenClause}
 
 -- the fault at a place
@@ -38,7 +38,7 @@ fault_at p =
     (cond (number p 0 == 22) (SameShape (number p 1) (number p 2))
     (cond (number p 0 == 23) (PolygonWithoutChain (part p 1) (number p 2)) Memory))
 
-fault_at-place : (f : ProfileFault) → fault_at (fault_place f) ≡ f
+fault_at-place : (f : ProfileFault) → fault_at (profile_fault_place f) ≡ f
 fault_at-place (OwnReverse tlid) = refl
 fault_at-place (SameShape first second) = refl
 fault_at-place (PolygonWithoutChain cenid polyid) = refl
@@ -110,7 +110,7 @@ body_entry county key h =
     let both : (is_eq (key_cmp key r.0.0) ≡ true) × (is_some r.0.1 ≡ true) = and_parts (is_eq (key_cmp key r.0.0)) (is_some r.0.1) r.2 in
     (r.0, r.1, same-true key_keys key r.0.0 both.0, both.1)
 
-pub broken_among : (county : County) (f : ProfileFault) → is_broken county f ≡ true → Among f (all_faults county)
+pub broken_among : (county : County) (f : ProfileFault) → is_clause_broken county f ≡ true → Among f (all_faults county)
 broken_among county (OwnReverse tlid) h =
     let r = own_reverse_entry county tlid h in
     among_left (OwnReverse tlid) (reverse_faults county) (shape_faults county ++ polygon_faults county)
@@ -138,18 +138,18 @@ broken_among county (PolygonWithoutChain cenid polyid) h =
 broken_among county Memory h = absurd (false≢true h)
 
 pub profile_or_first : (county : County) → IsInProfile county ⊎ ((fault : ProfileFault) × IsFirstBrokenClause county fault)
-profile_or_first county = first_or_none (is_broken county) fault_place (all_faults county) (broken_among county)
+profile_or_first county = first_or_none (is_clause_broken county) profile_fault_place (all_faults county) (broken_among county)
 
 pub profile_has_none : (county : County) (fault : ProfileFault) → IsInProfile county → IsFirstBrokenClause county fault → ⊥
-profile_has_none county fault within h = not_first (is_broken county) fault_place fault within h
+profile_has_none county fault within h = not_first (is_clause_broken county) profile_fault_place fault within h
 
 pub one_first_clause : (county : County) (f g : ProfileFault) → IsFirstBrokenClause county f → IsFirstBrokenClause county g → f ≡ g
-one_first_clause county = one_first (is_broken county) fault_place fault_at fault_at-place
+one_first_clause county = one_first (is_clause_broken county) profile_fault_place fault_at fault_at-place
 
 -- by computing, for a given county
-pub profile_computed : (county : County) → none_there (is_broken county) fault_place (all_faults county) ≡ true → IsInProfile county
-profile_computed county e = none_computed (is_broken county) fault_place (all_faults county) (broken_among county) e
+pub profile_computed : (county : County) → none_there (is_clause_broken county) profile_fault_place (all_faults county) ≡ true → IsInProfile county
+profile_computed county e = none_computed (is_clause_broken county) profile_fault_place (all_faults county) (broken_among county) e
 
 pub first_clause_computed : (county : County) (fault : ProfileFault)
-    → least_there (is_broken county) fault_place fault (all_faults county) ≡ true → IsFirstBrokenClause county fault
-first_clause_computed county fault e = first_computed (is_broken county) fault_place (all_faults county) (broken_among county) fault e
+    → least_there (is_clause_broken county) profile_fault_place fault (all_faults county) ≡ true → IsFirstBrokenClause county fault
+first_clause_computed county fault e = first_computed (is_clause_broken county) profile_fault_place (all_faults county) (broken_among county) fault e

@@ -35,24 +35,24 @@ abbrev pub has_body : County → PolygonKey → Bool
 has_body county key = list_any (λ entry. is_eq (key_cmp key entry.0) && is_some entry.1) county.polygons
 
 -- whether a clause of the profile is broken at a place
-abbrev pub is_broken : County → ProfileFault → Bool
-is_broken county (OwnReverse tlid) = is_own_reverse county tlid
-is_broken county (SameShape first second) = nat_lt first second && are_one_shape county first second
-is_broken county (PolygonWithoutChain cenid polyid) =
+abbrev pub is_clause_broken : County → ProfileFault → Bool
+is_clause_broken county (OwnReverse tlid) = is_own_reverse county tlid
+is_clause_broken county (SameShape first second) = nat_lt first second && are_one_shape county first second
+is_clause_broken county (PolygonWithoutChain cenid polyid) =
     has_body county (cenid, polyid) && not (stands_in key_cmp (cenid, polyid) (polygons_along county.chains))
-is_broken county Memory = false
+is_clause_broken county Memory = false
 
 -- the clause's number, and then the place: the TLID; the two TLIDs; the CENID's bytes, the POLYID
-abbrev pub fault_place : ProfileFault → List (List ℕ)
-fault_place (OwnReverse tlid) = (21 ∷ []) ∷ (tlid ∷ []) ∷ []
-fault_place (SameShape first second) = (22 ∷ []) ∷ (first ∷ []) ∷ (second ∷ []) ∷ []
-fault_place (PolygonWithoutChain cenid polyid) = (23 ∷ []) ∷ cenid ∷ (polyid ∷ []) ∷ []
-fault_place Memory = (9 ∷ []) ∷ []
+abbrev pub profile_fault_place : ProfileFault → List (List ℕ)
+profile_fault_place (OwnReverse tlid) = (21 ∷ []) ∷ (tlid ∷ []) ∷ []
+profile_fault_place (SameShape first second) = (22 ∷ []) ∷ (first ∷ []) ∷ (second ∷ []) ∷ []
+profile_fault_place (PolygonWithoutChain cenid polyid) = (23 ∷ []) ∷ cenid ∷ (polyid ∷ []) ∷ []
+profile_fault_place Memory = (9 ∷ []) ∷ []
 
 -- no clause is broken anywhere: no chain is its own reverse, no two have one shape, each polygon of type P is on a side
 abbrev pub IsInProfile : County → Type 0
-IsInProfile county = (fault : ProfileFault) → is_broken county fault ≡ false
+IsInProfile county = (fault : ProfileFault) → is_clause_broken county fault ≡ false
 
 -- this clause is broken at this place, no clause of a lesser number is broken, and this one at no lesser place
 abbrev pub IsFirstBrokenClause : County → ProfileFault → Type 0
-IsFirstBrokenClause county = IsFirst (is_broken county) fault_place
+IsFirstBrokenClause county = IsFirst (is_clause_broken county) profile_fault_place

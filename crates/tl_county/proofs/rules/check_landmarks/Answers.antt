@@ -2,7 +2,7 @@ use Rattle.std.proofs.Common.{◌≡◌, ℕ, List, ◌++◌, map, flat_map, sym
 use Rattle.std.proofs.Common.{IsPermutation}
 use Rattle.std.specs.Ordering.{on}
 use Rattle.tl_county.specs.BodyOrder.{landmark_body_cmp, link_part, link_part_cmp}
-use Rattle.tl_county.specs.County.{seven_land, eight_land, eight_key, p_key, side_keys}
+use Rattle.tl_county.specs.County.{seven_land, eight_land, link_key, p_key, side_keys}
 use Rattle.tl_county.specs.Keyed.{IsLeastPassing, is_repeated, is_unknown}
 use Rattle.tl_county.specs.OrderedTables.{typed_of}
 use Rattle.tl_county.specs.Orders.{IsInOrder, distinct}
@@ -69,9 +69,9 @@ returns-in-Some-least_unknown-2 c records e =
     (at_lists (Unknown eight_land seven_land None) c.deref-2.ensures.value c.deref-3.ensures.value c.in_default-least_unknown.ensures) in
     let keys : List PolygonKey = flat_map side_keys c.args.tables.now.type_i.items ++ map p_key c.args.tables.now.type_p.items in
     let found = least-same key_cmp (is_unknown key_cmp (map (λ k. k) c.args.linked.now) (map (λ k. k) c.args.polygons.now))
-    (is_unknown key_cmp (map eight_key c.args.tables.now.type_8.items) keys)
+    (is_unknown key_cmp (map link_key c.args.tables.now.type_8.items) keys)
     (alike c.args.linked.now c.args.polygons.now
-    (map eight_key c.args.tables.now.type_8.items) keys c.requires.linked.1 c.requires.polygons)
+    (map link_key c.args.tables.now.type_8.items) keys c.requires.linked.1 c.requires.polygons)
     (Some c.in-Some-least_unknown-2.key) c.in-Some-least_unknown-2.ensures in
     first-after records (omega arith) ps (first-after records (omega arith) lands
     (rule-broken (rule_20 records (typed_of c.args.tables.now) e) c.in-Some-least_unknown-2.key found))
@@ -85,8 +85,8 @@ returns c records e =
     (at_lists (Unknown eight_land seven_land None) c.deref-2.ensures.value c.deref-3.ensures.value c.in_default-least_unknown.ensures) in
     let keys : List PolygonKey = flat_map side_keys c.args.tables.now.type_i.items ++ map p_key c.args.tables.now.type_p.items in
     let none = least-same key_cmp (is_unknown key_cmp (map (λ k. k) c.args.linked.now) (map (λ k. k) c.args.polygons.now))
-    (is_unknown key_cmp (map eight_key c.args.tables.now.type_8.items) keys)
+    (is_unknown key_cmp (map link_key c.args.tables.now.type_8.items) keys)
     (alike c.args.linked.now c.args.polygons.now
-    (map eight_key c.args.tables.now.type_8.items) keys c.requires.linked.1 c.requires.polygons) None c.in_default-least_unknown-2.ensures in
+    (map link_key c.args.tables.now.type_8.items) keys c.requires.linked.1 c.requires.polygons) None c.in_default-least_unknown-2.ensures in
     let polygons : RulesHold records 14 15 = rule-holds (rule_20 records (typed_of c.args.tables.now) e) none in
     rules-join records ps (rules-join records lands polygons)

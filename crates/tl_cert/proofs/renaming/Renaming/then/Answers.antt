@@ -1,20 +1,20 @@
 use Rattle.std.proofs.Common.{◌≡◌, ◌∙◌, ap₂, sym, subst, map, filter, nat_cmp}
 use Rattle.tl_county.specs.PolygonKeys.{key_cmp}
-use Rattle.tl_county.specs.Renumbering.{Carries, joined}
+use Rattle.tl_county.specs.Renumbering.{Carries, composed}
 use Rattle.tl_county.proofs.Sameness.{then_carries}
 use Rattle.tl_cert.specs.Images.{is_turned_once}
 use Rattle.tl_cert.proofs.renaming.Renaming.then.Goals as goal
 
 pub returns-clause-value : goal.returns-clause-value
 returns-clause-value c =
-    let chains_are : c.in_ok-chains.chains.items ≡ joined nat_cmp c.args.self.now.chains c.args.next.now.chains =
-    c.in_ok-chains.ensures ∙ ap₂ (joined nat_cmp) c.chains.ensures c.chains-2.ensures in
+    let chains_are : c.in_ok-chains.chains.items ≡ composed nat_cmp c.args.self.now.chains c.args.next.now.chains =
+    c.in_ok-chains.ensures ∙ ap₂ (composed nat_cmp) c.chains.ensures c.chains-2.ensures in
     c.of_parts.ensures ∙ (λ i. record {
       chains = chains_are i;
-      names = (c.in_ok-names.ensures ∙ ap₂ (joined nat_cmp) c.names.ensures c.names-2.ensures) i;
-      polygons = (c.in_ok-polygons.ensures ∙ ap₂ (joined key_cmp) c.polygons.ensures c.polygons-2.ensures) i;
-      lands = (c.in_ok-lands.ensures ∙ ap₂ (joined nat_cmp) c.lands.ensures c.lands-2.ensures) i;
-      nodes = (c.in_ok-nodes.ensures ∙ ap₂ (joined nat_cmp) c.nodes.ensures c.nodes-2.ensures) i;
+      names = (c.in_ok-names.ensures ∙ ap₂ (composed nat_cmp) c.names.ensures c.names-2.ensures) i;
+      polygons = (c.in_ok-polygons.ensures ∙ ap₂ (composed key_cmp) c.polygons.ensures c.polygons-2.ensures) i;
+      lands = (c.in_ok-lands.ensures ∙ ap₂ (composed nat_cmp) c.lands.ensures c.lands-2.ensures) i;
+      nodes = (c.in_ok-nodes.ensures ∙ ap₂ (composed nat_cmp) c.nodes.ensures c.nodes-2.ensures) i;
       turned = (c.in_ok-turned.ensures
           ∙ (λ j. filter (is_turned_once (c.chains-3.ensures j) (c.turned.ensures j) (c.turned-2.ensures j))
           (map (λ pair. pair.0) ((c.deref.ensures.value ∙ chains_are) j)))) i;
