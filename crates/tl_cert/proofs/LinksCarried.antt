@@ -2,10 +2,8 @@
 use Rattle.std.proofs.Common.{◌≡◌, ◌+◌, ℕ, zero, suc, List, [], ◌∷◌, ◌++◌, map, flat_map, take, Bool, IsTrue, slice_get, refl, sym}
 use Rattle.std.proofs.Common.{ap, ◌∙◌, subst, add-one, append_assoc, append-nil, IsPermutation, nat_cmp}
 use Rattle.std.proofs.lemmas.Bool.{ltb-true}
-use Rattle.std.proofs.lemmas.List.{take_all}
 use Rattle.std.proofs.lemmas.List.Sorted.{IsPermutation-sym, IsPermutation-trans, IsPermutation-map}
 use Rattle.std.specs.Bool.{Decides}
-use Rattle.std.specs.List.{AllByRecursion}
 use Rattle.tl_layout.specs.ByType.{of_number}
 use Rattle.tl_layout.specs.Fields.{Fields8}
 use Rattle.tl_county.specs.ChartWords.{links_with}

@@ -1,7 +1,7 @@
 -- A renaming carries the parts of a county exactly if the other county has each of them under its new number.
-use Rattle.std.proofs.Common.{◌≡◌, ◌⊎◌, ◌<◌, ◌≤◌, ℕ, List, [], ◌∷◌, map, length, Bool, true, false, cond, Ordering, is_eq, Option, Some, None}
+use Rattle.std.proofs.Common.{◌≡◌, ◌⊎◌, ◌≤◌, ℕ, List, [], ◌∷◌, map, length, false, cond, Ordering, is_eq, Option, Some, None}
 use Rattle.std.proofs.Common.{option_map, unwrap_or, refl, sym, ap, ◌∙◌, subst, inl, inr, arith, IsPermutation, nat_cmp}
-use Rattle.std.proofs.lemmas.List.Sorted.{IsPermutation-refl, IsPermutation-sym, IsPermutation-trans, IsPermutation-map, length_permutation, All-permutation}
+use Rattle.std.proofs.lemmas.List.Sorted.{IsPermutation-refl, IsPermutation-sym, IsPermutation-trans, IsPermutation-map, length_permutation}
 use Rattle.std.specs.List.{AllByRecursion}
 use Rattle.tl_layout.specs.Fields.{Fields8}
 use Rattle.tl_layout.specs.declared.type5.Body5.{Body5}
@@ -15,11 +15,11 @@ use Rattle.tl_county.specs.CountyRules.{IsCounty, tlids, feats, polygon_keys, la
 use Rattle.tl_county.specs.Entries.{entry_keys, value_under}
 use Rattle.tl_county.specs.PolygonKeys.{PolygonKey, key_cmp}
 use Rattle.tl_county.specs.Renumbering.{Renumbering, image, turns, renumbered, renumbered_polygon, side_of, carried_chain, carried_name}
-use Rattle.tl_county.specs.Renumbering.{carried_polygon, carried_landmark, carried_link, ArePaired, NumbersArePaired, Carries}
-use Rattle.tl_county.proofs.Keys.{IsKeyOrder, IsApart, Known, nat_keys, lefts, rights, same_or_not, same-itself, times-yes, apart_tail}
+use Rattle.tl_county.specs.Renumbering.{carried_polygon, carried_landmark, carried_link, ArePaired, NumbersArePaired}
+use Rattle.tl_county.proofs.Keys.{IsKeyOrder, IsApart, Known, nat_keys, lefts, same_or_not, same-itself, times-yes, apart_tail}
 use Rattle.tl_county.proofs.Keys.{apart-permutation, images-lefts, apart_from_sorted}
 use Rattle.tl_county.proofs.KeyOrders.{key_keys}
-use Rattle.tl_county.proofs.Lists.{all_weaker, all_both, all_map, all_unmap, map-map, all_places}
+use Rattle.tl_county.proofs.Lists.{all_weaker, all_both, all_map, all_unmap, map-map}
 use Rattle.tl_county.proofs.FirstFault.{Among, all_among}
 use Rattle.tl_county.proofs.Members.{among-permutation}
 use Rattle.tl_county.proofs.Sameness.{keys_known}

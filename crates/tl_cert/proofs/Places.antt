@@ -1,6 +1,6 @@
 -- Lists that are gone through place by place, and tests that decide.
 use Rattle.std.proofs.Common.{◌≡◌, ◌<◌, ◌≤◌, ◌+◌, ℕ, zero, suc, List, [], ◌∷◌, ◌++◌, length, take, get_or, Bool, true, false, Ordering}
-use Rattle.std.proofs.Common.{is_eq, Option, Some, None, IfSome, slice_get, refl, sym, ap, ◌∙◌, subst, add-one, arith, rules}
+use Rattle.std.proofs.Common.{is_eq, Option, Some, IfSome, slice_get, refl, sym, ap, ◌∙◌, subst, add-one, arith}
 use Rattle.std.proofs.Common.{IsPermutation, nat_cmp, is_gt, ◌||◌}
 use Rattle.std.proofs.lemmas.Bool.{false≢true, le-ltb}
 use Rattle.std.proofs.lemmas.List.{take_all, take_more}

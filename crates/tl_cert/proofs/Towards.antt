@@ -1,5 +1,5 @@
 -- Chains turned or as they are: their counts, and what they are made of.
-use Rattle.std.proofs.Common.{◌≡◌, List, Bool, true, false, Option, Some, None, option_map, length, map, reverse, refl, ap, nat_cmp}
+use Rattle.std.proofs.Common.{◌≡◌, List, Bool, true, false, Option, Some, None, option_map, length, map, refl, ap, nat_cmp}
 use Rattle.std.proofs.Common.{ℕ, zero, suc, [], ◌∷◌, slice_get}
 use Rattle.std.proofs.lemmas.List.{length-map, length-reverse}
 use Rattle.tl_layout.specs.Turned.{turned_ranges}

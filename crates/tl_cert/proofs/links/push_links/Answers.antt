@@ -1,4 +1,4 @@
-use Rattle.std.proofs.Common.{◌∷◌, [], ◌++◌, take, ap, refl, sym, ◌∙◌, append_assoc, append-nil}
+use Rattle.std.proofs.Common.{◌∷◌, [], ◌++◌, take, ap, refl, sym, ◌∙◌, append_assoc}
 use Rattle.tl_county.specs.ChartWords.{links_at}
 use Rattle.tl_cert.proofs.Places.{taken_next, taken_all}
 use Rattle.tl_cert.proofs.links.push_links.Goals as goal

@@ -1,4 +1,4 @@
-use Rattle.std.proofs.Common.{◌≡◌, true, get_or, rules, refl}
+use Rattle.std.proofs.Common.{◌≡◌, true, rules, refl}
 use Rattle.tl_cert.proofs.Places.{all_next_read, all_seen}
 use Rattle.tl_cert.proofs.numbers_paired.keep_cenids.Goals as goal
 

@@ -1,4 +1,4 @@
-use Rattle.std.proofs.Common.{◌≡◌, true, false, rules, sym, subst, nat_cmp, IsTrue}
+use Rattle.std.proofs.Common.{◌≡◌, true, false, rules, subst, nat_cmp, IsTrue}
 use Rattle.std.specs.Bool.{Decides}
 use Rattle.std.specs.List.{AllByRecursion}
 use Rattle.tl_county.specs.CountyRules.{tlids, feats, polygon_keys, lands, nodes}

@@ -1,4 +1,4 @@
-use Rattle.std.proofs.Common.{◌∙◌, ◌++◌, ap₂, option_to_list, ap, sym}
+use Rattle.std.proofs.Common.{◌∙◌, ◌++◌, ap₂, option_to_list, ap}
 use Rattle.tl_county.specs.Entries.{value_under}
 use Rattle.tl_cert.proofs.Tables.{next_if_some}
 use Rattle.tl_cert.proofs.pairs.named_images_of.Goals as goal

@@ -1,4 +1,4 @@
-use Rattle.std.proofs.Common.{◌≡◌, ◌∙◌, ap, sym, subst, nat_lt, nat_cmp, IsPermutation}
+use Rattle.std.proofs.Common.{ap, subst, nat_lt, IsPermutation}
 use Rattle.std.proofs.lemmas.Cmp.{nat_cmp_total}
 use Rattle.tl_county.proofs.KeyedLists.{in_order-from_sorted}
 use Rattle.tl_county.proofs.Keys.{nat_keys, times-permutation}

@@ -1,5 +1,5 @@
-use Rattle.std.proofs.Common.{◌≡◌, ◌∙◌, ap, ap₂, sym, subst, map, filter, nat_cmp}
-use Rattle.tl_county.specs.Renumbering.{Carries, image, is_named, swapped}
+use Rattle.std.proofs.Common.{◌∙◌, ap, ap₂, sym, subst, nat_cmp}
+use Rattle.tl_county.specs.Renumbering.{Carries, swapped}
 use Rattle.tl_county.proofs.Sameness.{inverse_carries}
 use Rattle.tl_cert.specs.Images.{named_images}
 use Rattle.tl_cert.proofs.Tables.{named_images-alike, named_images-filtered}

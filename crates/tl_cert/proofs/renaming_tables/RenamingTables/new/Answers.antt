@@ -1,4 +1,4 @@
-use Rattle.std.proofs.Common.{◌≡◌, ◌∙◌, ap, subst, nat_cmp}
+use Rattle.std.proofs.Common.{◌∙◌, ap, subst, nat_cmp}
 use Rattle.tl_county.specs.Orders.{stands_in}
 use Rattle.tl_county.specs.PolygonKeys.{key_cmp}
 use Rattle.tl_cert.specs.Images.{AnswersAs}
