@@ -19,6 +19,7 @@ pub mod TidyPacking
 pub mod Ascending
 pub mod TidyNumbers
 pub mod SeenKeys
+pub mod SeenPlaces
 pub mod StepChains
 pub mod SortedPlaces
 pub mod StepPoints
@@ -37,3 +38,5 @@ pub mod LandmarkOrder
 pub mod ArrangedViews
 pub mod PlacesFit
 pub mod RenamingPairs
+pub mod StepPairs
+pub mod StepTables

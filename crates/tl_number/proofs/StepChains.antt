@@ -7,7 +7,7 @@ use Rattle.tl_shape.specs.Chain.{Chain}
 use Rattle.tl_shape.specs.Turned.{turned_if}
 use Rattle.tl_county.specs.ChartWords.{chain_at, feats_of}
 use Rattle.tl_county.specs.County.{County}
-use Rattle.tl_county.specs.CountyRules.{IsCounty, tlids, chain_nodes, chain_polygons, nodes_along, polygons_along}
+use Rattle.tl_county.specs.CountyRules.{IsCounty, tlids}
 use Rattle.tl_county.specs.Packing.{numbered_from}
 use Rattle.tl_county.proofs.Counted.{rights-numbered_from}
 use Rattle.tl_county.proofs.FirstFault.{Among}
@@ -16,8 +16,7 @@ use Rattle.tl_county.proofs.Lists.{flat_map_agree}
 use Rattle.tl_county.proofs.Numbers.{times-of_number}
 use Rattle.tl_county.proofs.Reordered.{to_filter}
 use Rattle.tl_number.specs.Arrangement.{Arrangement, entries_of, chains_in_order, placed}
-use Rattle.tl_number.specs.Steps.{arrangement_of, AreSteps, tlid_at, step_chain, nodes_of, polygons_of}
-use Rattle.tl_number.specs.Steps.{nodes_along_steps, polygons_along_steps}
+use Rattle.tl_number.specs.Steps.{arrangement_of, AreSteps, tlid_at, step_chain}
 use Rattle.tl_number.specs.declared.step.Step.{Step}
 
 -- what stands at a place is among the elements
@@ -97,14 +96,6 @@ module _ (county : County) (is : IsCounty county) where
       sym (flat_map-map f (λ (entry : ℕ × Chain). entry.1) (numbered_from 1 bs))
       ∙ ap (flat_map f) (rights-numbered_from 1 bs) ∙ along_bodies f steps h
 
-  same_nodes : (o : Option Chain) → of_chain chain_nodes o ≡ nodes_of o
-  same_nodes None = refl
-  same_nodes (Some c) = refl
-
-  same_polygons : (o : Option Chain) → of_chain chain_polygons o ≡ polygons_of o
-  same_polygons None = refl
-  same_polygons (Some c) = refl
-
   same_feats : (o : Option Chain) → of_chain (λ c. c.feats) o ≡ feats_of o
   same_feats None = refl
   same_feats (Some c) = refl
@@ -115,18 +106,6 @@ module _ (county : County) (is : IsCounty county) where
   feats_placed steps h = along_placed (λ c. c.feats) steps h
       ∙ flat_map_agree (λ (step : Step). of_chain (λ c. c.feats) (step_chain county step)) (λ step. feats_of (step_chain county step))
       (λ step. same_feats (step_chain county step)) steps
-
-  pub nodes_placed : (steps : List Step) → AreSteps county steps
-      → nodes_along (placed county (arrangement_of county steps)) ≡ nodes_along_steps county steps
-  nodes_placed steps h = along_placed chain_nodes steps h
-      ∙ flat_map_agree (λ (step : Step). of_chain chain_nodes (step_chain county step)) (λ step. nodes_of (step_chain county step))
-      (λ step. same_nodes (step_chain county step)) steps
-
-  pub polygons_placed : (steps : List Step) → AreSteps county steps
-      → polygons_along (placed county (arrangement_of county steps)) ≡ polygons_along_steps county steps
-  polygons_placed steps h = along_placed chain_polygons steps h
-      ∙ flat_map_agree (λ (step : Step). of_chain chain_polygons (step_chain county step)) (λ step. polygons_of (step_chain county step))
-      (λ step. same_polygons (step_chain county step)) steps
 
   -- the chains in their new order, read at the steps' places
   pub chains_read : (steps : List Step) → AreSteps county steps

@@ -60,7 +60,7 @@ module _ (county : County) (steps : List Step) (is : IsCounty county) (whole : A
       (λ k. let once = whole.once k in let few = apart k in omega (arith, once, few)) apart
       (λ k h. let once = whole.once k in omega (arith, once, h)) (λ k h. let once = whole.once k in omega (arith, once, h))
 
-  bodies_read : (ss : List Step) → AreSteps county ss
+  pub bodies_read : (ss : List Step) → AreSteps county ss
       → map (step_chain county) ss ≡ map Some (flat_map (λ s. map (λ (entry : ℕ × Chain). turned_if s.1 entry.1)
       (entries_of county.chains s.0)) (arrangement_of county ss))
   bodies_read [] h = refl
@@ -73,10 +73,10 @@ module _ (county : County) (steps : List Step) (is : IsCounty county) (whole : A
       (λ i. option_map (turned_if s.turned) (chain i) ∷ bodies_read ss h.1 i)
       ∙ sym (ap (λ es. map Some (map (λ (entry : ℕ × Chain). turned_if s.turned entry.1) es ++ rest)) here.2)
 
-  abbrev chains : List Chain
+  abbrev pub chains : List Chain
   chains = flat_map (λ s. map (λ (entry : ℕ × Chain). turned_if s.1 entry.1) (entries_of county.chains s.0)) order
 
-  values : entry_values (stepped county steps).chains ≡ map (renumbered (renaming_of county order)) chains
+  pub values : entry_values (stepped county steps).chains ≡ map (renumbered (renaming_of county order)) chains
   values =
       ap entry_values (chains_arranged county order is arranges)
       ∙ map-map (λ (e : ℕ × Chain). e.1) (kept_entry (renaming_of county order)) (placed county order)

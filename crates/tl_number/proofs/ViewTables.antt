@@ -8,7 +8,6 @@ use Rattle.std.proofs.lemmas.Option.{slice_get-map}
 use Rattle.std.specs.List.Sorted.{IsStrictlySortedBy}
 use Rattle.std.specs.Ordering.{on, ordering_then}
 use Rattle.tl_layout.specs.Fields.{Fields8}
-use Rattle.tl_layout.specs.PolygonSide.{PolygonSide}
 use Rattle.tl_layout.specs.declared.type5.Body5.{Body5}
 use Rattle.tl_layout.specs.declared.type7.Body7.{Body7}
 use Rattle.tl_county.specs.BodyOrder.{link_cmp, link_part, link_part_cmp}
@@ -17,8 +16,8 @@ use Rattle.tl_county.specs.County.{County, eight_land}
 use Rattle.tl_county.specs.CountyRules.{IsCounty, feats, lands, nodes, nodes_along}
 use Rattle.tl_county.specs.Entries.{entry_values}
 use Rattle.tl_county.specs.Orders.{IsInOrder}
-use Rattle.tl_county.specs.PolygonKeys.{PolygonKey, key_cmp}
-use Rattle.tl_county.specs.Renumbering.{image, side_of, renumbered_side, renumbered_polygon, carried_name, carried_landmark}
+use Rattle.tl_county.specs.PolygonKeys.{PolygonKey}
+use Rattle.tl_county.specs.Renumbering.{carried_name, carried_landmark}
 use Rattle.tl_county.proofs.InOrder.{in_order-permutation}
 use Rattle.tl_county.proofs.Keys.{nat_keys}
 use Rattle.tl_county.proofs.Lists.{map-map, all_weaker}
@@ -99,17 +98,6 @@ module _ (county : County) (steps : List Step) (is : IsCounty county) (whole : A
   pub keys_paired : (ks : List PolygonKey) → ks ≡ polygons_in_order county order
       → map under_cenid (numbered ks) ≡ (renaming_of county order).polygons
   keys_paired ks e = ap (λ js. map under_cenid (numbered js)) e ∙ sym (polygons_renamed county order is (arranges county steps is whole))
-
-  -- a side under its new key
-  pub side_renumbered : (ks : List PolygonKey) → ks ≡ polygons_in_order county order → (side : PolygonSide) (cenid : List ℕ) (polyid : ℕ)
-      (key : PolygonKey) → cenid ≡ side.cenid → Some polyid ≡ side.polyid → key.0 ≡ cenid
-      → key ≡ image key_cmp (map under_cenid (numbered ks)) (cenid, polyid)
-      → record { cenid = cenid; polyid = Some key.1 } ≡ renumbered_side (renaming_of county order) side
-  side_renumbered ks e side cenid polyid key same there kept new =
-      (λ i. side_of (sym kept i, key.1))
-      ∙ ap side_of new
-      ∙ ap (λ pairs. side_of (image key_cmp pairs (cenid, polyid))) (keys_paired ks e)
-      ∙ (λ i. renumbered_polygon (renaming_of county order) (same i) (there i))
 
   module _ (tables : NameTables) (told : TellsNames county steps tables) where
     pub feats_paired : numbered tables.feats ≡ (renaming_of county order).names

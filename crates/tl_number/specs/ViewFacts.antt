@@ -8,14 +8,16 @@ use Rattle.tl_county.specs.CountyRules.{IsCounty, tlids, polygon_keys}
 use Rattle.tl_county.specs.Entries.{entry_keys, entry_values}
 use Rattle.tl_county.specs.Limits.{IsWithinLimits, most_records}
 use Rattle.tl_county.specs.Orders.{times}
-use Rattle.tl_number.specs.Arrangement.{Arrangement, arranged_tlids, polygons_in_order, names_in_order}
+use Rattle.tl_number.specs.Arrangement.{Arrangement, arranged_tlids, nodes_in_order, polygons_in_order, names_in_order}
 use Rattle.tl_number.specs.Arrangement.{landmarks_in_order, arranged}
+use Rattle.tl_number.specs.ByStep.{ends_of, sides_of}
 use Rattle.tl_number.specs.ByNumber.{polygons_by_number, under_number}
 use Rattle.tl_number.specs.Growth.{numbered}
 use Rattle.tl_number.specs.Steps.{AreSteps, arrangement_of}
 use Rattle.tl_number.specs.declared.step.Step.{Step}
 use Rattle.tl_number.specs.declared.tables.LandmarkTables.{LandmarkTables}
 use Rattle.tl_number.specs.declared.tables.NameTables.{NameTables}
+use Rattle.tl_number.specs.declared.tables.NodeTables.{NodeTables}
 use Rattle.tl_number.specs.declared.tables.PolygonTables.{PolygonTables}
 
 -- these elements stand in the list at these places
@@ -46,10 +48,16 @@ pub record AreWhole (county : County) (steps : List Step) : Type 0 where
   pub is_county : IsCounty (stepped county steps)
   pub within_limits : IsWithinLimits most_records (stepped county steps)
 
--- polygons by first appearance, their new keys in order, and where their contents stand
+-- nodes by first appearance, and the ends of each chain
+pub record TellsNodes (county : County) (steps : List Step) (tables : NodeTables) : Type 0 where
+  pub numbers : tables.numbers ≡ nodes_in_order county (arrangement_of county steps)
+  pub ends : tables.ends.items ≡ map ends_of (entry_values (stepped county steps).chains)
+
+-- polygons by first appearance, the sides of each chain, the new keys in order, and where the contents stand
 pub record TellsPolygons (county : County) (steps : List Step) (tables : PolygonTables) : Type 0 where
   pub numbers : tables.numbers ≡ polygons_in_order county (arrangement_of county steps)
   pub few : length tables.numbers < 10 ^ 10
+  pub sides : tables.sides.items ≡ map sides_of (entry_values (stepped county steps).chains)
   pub keys : tables.keys.items ≡ polygon_keys (stepped county steps)
   pub bodies : AreReadAt (entry_values county.polygons) tables.places.items (entry_values (stepped county steps).polygons)
   pub by_number : map (under_number county) (numbered tables.numbers) ≡ polygons_by_number (stepped county steps)

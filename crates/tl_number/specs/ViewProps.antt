@@ -5,10 +5,11 @@ use Rattle.tl_county.specs.County.{County}
 use Rattle.tl_county.specs.CountyProps.{IsCounty-prop}
 use Rattle.tl_county.specs.CountyRules.{AllKeysStandIn, polygon_keys, polygons_along}
 use Rattle.tl_county.specs.LimitsProps.{IsWithinLimits-prop}
-use Rattle.tl_number.specs.ViewFacts.{AreWhole, TellsPolygons, TellsNames, TellsLandmarks}
+use Rattle.tl_number.specs.ViewFacts.{AreWhole, TellsNodes, TellsPolygons, TellsNames, TellsLandmarks}
 use Rattle.tl_number.specs.declared.step.Step.{Step}
 use Rattle.tl_number.specs.declared.tables.LandmarkTables.{LandmarkTables}
 use Rattle.tl_number.specs.declared.tables.NameTables.{NameTables}
+use Rattle.tl_number.specs.declared.tables.NodeTables.{NodeTables}
 use Rattle.tl_number.specs.declared.tables.PolygonTables.{PolygonTables}
 
 pub AreWhole-prop : (county : County) (steps : List Step) → IsProp (AreWhole county steps)
@@ -16,6 +17,9 @@ AreWhole-prop county steps = hlevel (props, IsCounty-prop, IsWithinLimits-prop)
 
 pub StandOnSides-prop : (county : County) → IsProp (AllKeysStandIn (polygons_along county.chains) (polygon_keys county))
 StandOnSides-prop county = hlevel props
+
+pub TellsNodes-prop : (county : County) (steps : List Step) (tables : NodeTables) → IsProp (TellsNodes county steps tables)
+TellsNodes-prop county steps tables = hlevel props
 
 pub TellsPolygons-prop : (county : County) (steps : List Step) (tables : PolygonTables) → IsProp (TellsPolygons county steps tables)
 TellsPolygons-prop county steps tables = hlevel props

@@ -3,33 +3,35 @@
 ghost use Rattle.std.specs.Prelude.{◌≡◌, option_map, slice_get};
 ghost use Rattle.std.specs.Ordering.{nat_cmp};
 ghost use Rattle.tl_county.specs.CountyRules.{AllKeysStandIn, polygon_keys, polygons_along};
-ghost use Rattle.tl_county.specs.Renumbering.{image, renumbered_side};
-ghost use Rattle.tl_number.specs.Arrangement.{nodes_in_order, renaming_of};
+ghost use Rattle.tl_county.specs.ChartWords.{chain_at};
+ghost use Rattle.tl_county.specs.Renumbering.{image};
+ghost use Rattle.tl_number.specs.Arrangement.{renaming_of};
+ghost use Rattle.tl_number.specs.ByStep.{ends_of, sides_of};
 ghost use Rattle.tl_number.specs.Steps.{arrangement_of};
 ghost use Rattle.tl_number.specs.ByNumber.{polygons_by_number};
-ghost use Rattle.tl_number.specs.ViewFacts.{AreWhole, stepped, TellsPolygons, TellsNames, TellsLandmarks};
-ghost use Rattle.tl_number.specs.ViewProps.{AreWhole-prop, StandOnSides-prop, TellsPolygons-prop, TellsNames-prop, TellsLandmarks-prop};
+ghost use Rattle.tl_number.specs.ViewFacts.{AreWhole, stepped, TellsNodes, TellsPolygons, TellsNames, TellsLandmarks};
+ghost use Rattle.tl_number.specs.ViewProps.{AreWhole-prop, StandOnSides-prop, TellsNodes-prop, TellsPolygons-prop, TellsNames-prop, TellsLandmarks-prop};
 
-use crate::numbers::Numbers;
-use crate::renumbering::{new_feat, new_key, new_node};
+use crate::renumbering::new_feat;
 use crate::step::Step;
-use crate::tables::{LandmarkTables, NameTables, PolygonTables};
+use crate::tables::{Ends, LandmarkTables, NameTables, NodeTables, PolygonTables, Sides};
 use tl_county::{Chart, PolygonKey};
-use tl_layout::{BodyP, Side};
+use tl_layout::BodyP;
 
 /// A county whose chains stand in the order and in the directions of an arrangement, with all numbers that follow from
-/// it. Nothing is copied: its answers are those of the county that it comes from, turned and renumbered as they are read.
+/// it. Only the new numbers of nodes and sides are kept chain by chain: all other answers are those of the county that it comes
+/// from, turned and renumbered as they are read.
 #[derive(Drop)]
 pub struct Arranged<C: Chart> {
     pub(crate) chart: C,
     pub(crate) steps: Vec<Step>,
-    pub(crate) nodes: Numbers<u64>,
+    pub(crate) nodes: NodeTables,
     pub(crate) polygons: PolygonTables,
     pub(crate) names: NameTables,
     pub(crate) landmarks: LandmarkTables,
     ghost whole: { AreWhole (C.county chart) steps.items } by { AreWhole-prop (C.county chart) steps.items },
     ghost sides: { AllKeysStandIn (polygons_along (C.county chart).chains) (polygon_keys (C.county chart)) } by { StandOnSides-prop (C.county chart) },
-    ghost nodes_told: { nodes ≡ nodes_in_order (C.county chart) (arrangement_of (C.county chart) steps.items) },
+    ghost nodes_told: { TellsNodes (C.county chart) steps.items nodes } by { TellsNodes-prop (C.county chart) steps.items nodes },
     ghost polygons_told: { TellsPolygons (C.county chart) steps.items polygons } by { TellsPolygons-prop (C.county chart) steps.items polygons },
     ghost names_told: { TellsNames (C.county chart) steps.items names } by { TellsNames-prop (C.county chart) steps.items names },
     ghost landmarks_told: { TellsLandmarks (C.county chart) steps.items landmarks } by { TellsLandmarks-prop (C.county chart) steps.items landmarks },
@@ -45,6 +47,13 @@ pub(crate) fn old_place(places: &[u32], place: usize) -> Option<usize>
     }
 }
 
+/// The sides at a place, or none past the last one.
+fn sides_there(sides: &[Sides], place: usize) -> Option<Sides>
+    ensures { result ≡ slice_get sides.now place }
+{
+    sides.get(place).copied()
+}
+
 impl<C: Chart> Arranged<C> {
     /// The step of the chain at a place in the new order, or none past the last one.
     pub(crate) fn step_at(&self, place: usize) -> Option<Step>
@@ -53,14 +62,18 @@ impl<C: Chart> Arranged<C> {
         self.steps.as_slice().get(place).copied()
     }
 
-    /// A node under its new number, if there is one.
-    pub(crate) fn renumbered_node(&self, node: Option<u64>) -> Option<u64>
-        ensures { result ≡ option_map (image nat_cmp (renaming_of (C.county self.now.chart) (arrangement_of (C.county self.now.chart) self.now.steps.items)).nodes) node }
+    /// The nodes where the chain at a place starts and ends, or none past the last chain.
+    pub(crate) fn ends_at(&self, place: usize) -> Option<Ends>
+        ensures { result ≡ option_map ends_of (chain_at (stepped (C.county self.now.chart) self.now.steps.items) place) }
     {
-        match node {
-            Some(number) => Some(new_node(&self.nodes, number)),
-            None => None,
-        }
+        self.nodes.ends.as_slice().get(place).copied()
+    }
+
+    /// What stands on the left and on the right side of the chain at a place, or none past the last chain.
+    pub(crate) fn sides_at(&self, place: usize) -> Option<Sides>
+        ensures { result ≡ option_map sides_of (chain_at (stepped (C.county self.now.chart) self.now.steps.items) place) }
+    {
+        sides_there(&self.polygons.sides, place)
     }
 
     /// A further name under its new FEAT, if there is one.
@@ -85,20 +98,6 @@ impl<C: Chart> Arranged<C> {
                 Some(((cenid, place as u64 + 1), body))
             }
             None => None,
-        }
-    }
-
-    /// A side with its polygon under the new key, if there is one.
-    pub(crate) fn renumbered_side(&self, side: Side) -> Side
-        ensures { result ≡ renumbered_side (renaming_of (C.county self.now.chart) (arrangement_of (C.county self.now.chart) self.now.steps.items)) side }
-    {
-        match side.polyid() {
-            Some(polyid) => {
-                let cenid = side.cenid();
-                let key = new_key(&self.polygons.numbers, (cenid, polyid));
-                Side::new(cenid, Some(key.1))
-            }
-            None => side,
         }
     }
 }

@@ -4,9 +4,8 @@ use crate::arranged::{Arranged, old_place};
 use crate::counted::{number_at, place_of_number};
 use crate::slices::{link_at, links_of_landmark};
 use crate::step_readers::{
-    body_of_step, end_of_step, feat_count_of_step, feat_of_step, left_of_step, link_body_of_step,
-    point_count_of_step, point_of_step, range_count_of_step, range_of_step, right_of_step,
-    start_of_step,
+    body_of_step, feat_count_of_step, feat_of_step, link_body_of_step, point_count_of_step,
+    point_of_step, range_count_of_step, range_of_step,
 };
 use tl_county::{Chart, PolygonKey, place_of};
 use tl_layout::{Body1, Body5, Body7, BodyI, BodyP, Point, Ranges, Rec8, Side};
@@ -69,15 +68,15 @@ impl<C: Chart> Chart for Arranged<C> {
     }
 
     fn node_count(&self) -> usize {
-        self.nodes.len()
+        self.nodes.numbers.len()
     }
 
     fn node_at(&self, place: usize) -> Option<u64> {
-        number_at(self.nodes.len(), place)
+        number_at(self.nodes.numbers.len(), place)
     }
 
     fn node_place(&self, node: u64) -> Option<usize> {
-        place_of_number(self.nodes.len(), node)
+        place_of_number(self.nodes.numbers.len(), node)
     }
 
     fn chain_body_at(&self, place: usize) -> Option<Body1> {
@@ -137,35 +136,29 @@ impl<C: Chart> Chart for Arranged<C> {
     }
 
     fn start_node_at(&self, place: usize) -> Option<Option<u64>> {
-        match self.step_at(place) {
-            Some(step) => Some(self.renumbered_node(start_of_step(&self.chart, step))),
+        match self.ends_at(place) {
+            Some(pair) => Some(pair.0),
             None => None,
         }
     }
 
     fn end_node_at(&self, place: usize) -> Option<Option<u64>> {
-        match self.step_at(place) {
-            Some(step) => Some(self.renumbered_node(end_of_step(&self.chart, step))),
+        match self.ends_at(place) {
+            Some(pair) => Some(pair.1),
             None => None,
         }
     }
 
     fn left_at(&self, place: usize) -> Option<Side> {
-        match self.step_at(place) {
-            Some(step) => match left_of_step(&self.chart, step) {
-                Some(side) => Some(self.renumbered_side(side)),
-                None => None,
-            },
+        match self.sides_at(place) {
+            Some(pair) => Some(pair.0),
             None => None,
         }
     }
 
     fn right_at(&self, place: usize) -> Option<Side> {
-        match self.step_at(place) {
-            Some(step) => match right_of_step(&self.chart, step) {
-                Some(side) => Some(self.renumbered_side(side)),
-                None => None,
-            },
+        match self.sides_at(place) {
+            Some(pair) => Some(pair.1),
             None => None,
         }
     }

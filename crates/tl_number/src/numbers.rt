@@ -1,6 +1,6 @@
 //! Numbers by first appearance.
 
-ghost use Rattle.std.specs.Prelude.{◌≡◌, ◌∷◌, [], ◌<◌, ◌^◌, length, is_some, IfSome, Some, OnOk, OnErr, slice_get};
+ghost use Rattle.std.specs.Prelude.{◌≡◌, ◌∷◌, [], ◌<◌, ◌^◌, length, is_some, IfSome, Some, IfOk, OnOk, OnErr, slice_get};
 ghost use Rattle.std.specs.List.{position};
 ghost use Rattle.std.specs.Ordering.{is_eq};
 ghost use Rattle.tl_county.specs.Orders.{stands_in};
@@ -44,6 +44,18 @@ impl<K: Key + Hash> Numbers<K> {
     {
         self.keys.insert(key)?;
         Ok(())
+    }
+
+    /// Sees a key as `see` does, and answers its place, from 0.
+    pub fn see_place(&mut self, key: K) -> Result<usize, AllocError>
+        ensures seen { OnOk result (self.new ≡ first_seen_after K.cmp self.old (key ∷ [])) }
+        ensures first { IfOk result (λ place. Some place ≡ position (λ other. is_eq (K.cmp key other)) self.new) }
+        ensures small { IfOk result (λ place. place < 2 ^ 63) }
+        ensures kept { OnErr result (self.new ≡ self.old) }
+    {
+        let (place, _) = self.keys.insert_full(key)?;
+        prove!(place < self.keys.len());
+        Ok(place)
     }
 
     /// How many keys were seen.

@@ -126,7 +126,7 @@ impl<C: Chart> Arranged<C> {
         let names = name_pairs(alloc, &self.names.feats)?;
         let polygons = polygon_pairs(alloc, &self.polygons.numbers)?;
         let lands = land_pairs(alloc, &self.chart, &self.landmarks.places)?;
-        let nodes = node_pairs(alloc, &self.nodes)?;
+        let nodes = node_pairs(alloc, &self.nodes.numbers)?;
         let turned = turned_chains(alloc, &self.chart, &self.steps)?;
         Ok(Renaming::of_parts(RenamingParts {
             chains,

@@ -1,12 +1,14 @@
 //! The chain of a step, read through a county's chart in the direction of the step.
 
-ghost use Rattle.std.specs.Prelude.{◌≡◌, length, option_map, slice_get};
+ghost use Rattle.std.specs.Prelude.{◌≡◌, ◌<◌, Some, length, option_map, slice_get};
 ghost use Rattle.tl_county.specs.ChartWords.{feats_of, ranges_of};
-ghost use Rattle.tl_number.specs.Steps.{end_of, left_of, right_of, start_of, step_chain, step_points};
+ghost use Rattle.tl_number.specs.ByStep.{ends_of, sides_of};
+ghost use Rattle.tl_number.specs.Steps.{step_chain, step_points};
 
 use crate::step::Step;
+use crate::tables::{Ends, Sides};
 use tl_county::Chart;
-use tl_layout::{Body1, BodyI, Point, Ranges, Side, Turn};
+use tl_layout::{Body1, BodyI, Point, Ranges, Turn};
 
 /// The content of the type 1 record of the chain of a step.
 pub(crate) fn body_of_step<C: Chart>(chart: &C, step: Step) -> Option<Body1>
@@ -91,58 +93,32 @@ pub(crate) fn link_body_of_step<C: Chart>(chart: &C, step: Step) -> Option<BodyI
     chart.link_body_at(step.place as usize)
 }
 
-/// The node where the chain of a step starts, if there is one.
-pub(crate) fn start_of_step<C: Chart>(chart: &C, step: Step) -> Option<u64>
-    ensures { result ≡ start_of (step_chain (C.county chart.now) step) }
+/// The nodes where the chain of a step starts and ends.
+pub(crate) fn ends_of_step<C: Chart>(chart: &C, step: Step) -> Ends
+    requires { step.place < length (C.county chart.now).chains }
+    ensures { Some result ≡ option_map ends_of (step_chain (C.county chart.now) step) }
 {
     let place = step.place as usize;
-    let node = if step.turned {
-        chart.end_node_at(place)
-    } else {
-        chart.start_node_at(place)
-    };
-    match node {
-        Some(number) => number,
-        None => None,
-    }
-}
-
-/// The node where the chain of a step ends, if there is one.
-pub(crate) fn end_of_step<C: Chart>(chart: &C, step: Step) -> Option<u64>
-    ensures { result ≡ end_of (step_chain (C.county chart.now) step) }
-{
-    let place = step.place as usize;
-    let node = if step.turned {
-        chart.start_node_at(place)
-    } else {
-        chart.end_node_at(place)
-    };
-    match node {
-        Some(number) => number,
-        None => None,
-    }
-}
-
-/// What stands on the left side of the chain of a step.
-pub(crate) fn left_of_step<C: Chart>(chart: &C, step: Step) -> Option<Side>
-    ensures { result ≡ left_of (step_chain (C.county chart.now) step) }
-{
-    let place = step.place as usize;
+    let start = chart.start_node(place);
+    let end = chart.end_node(place);
     if step.turned {
-        chart.right_at(place)
+        (end, start)
     } else {
-        chart.left_at(place)
+        (start, end)
     }
 }
 
-/// What stands on the right side of the chain of a step.
-pub(crate) fn right_of_step<C: Chart>(chart: &C, step: Step) -> Option<Side>
-    ensures { result ≡ right_of (step_chain (C.county chart.now) step) }
+/// What stands on the left and on the right side of the chain of a step.
+pub(crate) fn sides_of_step<C: Chart>(chart: &C, step: Step) -> Sides
+    requires { step.place < length (C.county chart.now).chains }
+    ensures { Some result ≡ option_map sides_of (step_chain (C.county chart.now) step) }
 {
     let place = step.place as usize;
+    let left = chart.left(place);
+    let right = chart.right(place);
     if step.turned {
-        chart.left_at(place)
+        (right, left)
     } else {
-        chart.right_at(place)
+        (left, right)
     }
 }

@@ -1,14 +1,31 @@
-//! What a county in an arrangement keeps of its polygons, its names and its landmarks.
+//! What a county in an arrangement keeps of its nodes, its polygons, its names and its landmarks.
 
 use crate::numbers::Numbers;
 use tl_county::PolygonKey;
-use tl_layout::Rec8;
+use tl_layout::{Rec8, Side};
+
+/// The nodes where a chain starts and ends.
+pub(crate) type Ends = (Option<u64>, Option<u64>);
+
+/// What stands on the left and on the right side of a chain.
+pub(crate) type Sides = (Side, Side);
+
+/// The nodes of a county in an arrangement.
+#[derive(Drop)]
+pub struct NodeTables {
+    /// The old nodes in the order of the new numbers.
+    pub(crate) numbers: Numbers<u64>,
+    /// The ends of each chain under the new numbers, in the order of the chains.
+    pub(crate) ends: Vec<Ends>,
+}
 
 /// The polygons of a county in an arrangement.
 #[derive(Drop)]
 pub struct PolygonTables {
     /// The old keys in the order of the new numbers.
     pub(crate) numbers: Numbers<PolygonKey>,
+    /// The sides of each chain under the new keys, in the order of the chains.
+    pub(crate) sides: Vec<Sides>,
     /// The new keys, ascending.
     pub(crate) keys: Vec<PolygonKey>,
     /// The old place of each new key.

@@ -1,83 +1,112 @@
-//! Nodes and polygons in the order in which they are first met along an arrangement.
+//! Nodes and polygons in the order in which they are first met along an arrangement, and the chains under these numbers.
 
-ghost use Rattle.std.specs.Prelude.{◌≡◌, ◌++◌, OnOk, IfOk, option_to_list};
+ghost use Rattle.std.specs.Prelude.{◌≡◌, ◌<◌, ◌^◌, ℕ, List, Some, IfOk, OnOk, flat_map, length, map, option_map, option_to_list};
 ghost use Rattle.std.specs.Ordering.{nat_cmp};
-ghost use Rattle.tl_county.specs.PolygonKeys.{key_cmp};
-ghost use Rattle.tl_number.specs.Arrangement.{nodes_in_order, polygons_in_order};
-ghost use Rattle.tl_number.specs.Growth.{first_seen};
-ghost use Rattle.tl_number.specs.Steps.{AreSteps, arrangement_of, nodes_along_steps, polygons_along_steps, polygons_on};
+ghost use Rattle.tl_county.specs.Entries.{entry_values};
+ghost use Rattle.tl_county.specs.PolygonKeys.{PolygonKey, key_cmp, key_on};
+ghost use Rattle.tl_number.specs.Arrangement.{polygons_in_order};
+ghost use Rattle.tl_number.specs.ByStep.{ends_among, ends_of, node_among, nodes_at, polygons_at, side_among, sides_among, sides_of};
+ghost use Rattle.tl_number.specs.Growth.{first_seen, first_seen_after};
+ghost use Rattle.tl_number.specs.Steps.{AreSteps, arrangement_of, step_chain};
+ghost use Rattle.tl_number.specs.ViewFacts.{AreWhole, TellsNodes, stepped};
 
 use crate::numbers::Numbers;
 use crate::step::Step;
-use crate::step_readers::{end_of_step, left_of_step, right_of_step, start_of_step};
+use crate::step_readers::{ends_of_step, sides_of_step};
+use crate::tables::{Ends, NodeTables, Sides};
 use std::alloc::{AllocError, Global};
-use std::hash::Hash;
-use tl_county::{Chart, Key, PolygonKey};
+use tl_county::{Chart, PolygonKey};
 use tl_layout::Side;
 
-/// Adds a node, if there is one.
-fn push_node(nodes: &mut Vec<u64>, node: Option<u64>) -> Result<(), AllocError>
-    ensures { OnOk result (nodes.new.items ≡ nodes.old.items ++ option_to_list node) }
+/// The ends of the chains of these steps. They are read before any node is numbered, so that reading one chain need not wait
+/// for another.
+fn ends_along<C: Chart>(alloc: Global, chart: &C, steps: &[Step]) -> Result<Vec<Ends>, AllocError>
+    requires { AreSteps (C.county chart.now) steps.now }
+    ensures { IfOk result (λ met. map Some met.items ≡ map (λ step. option_map ends_of (step_chain (C.county chart.now) step)) steps.now) }
+{
+    let mut met = Vec::with_capacity(alloc, steps.len())?;
+    for step in steps {
+        met.push(ends_of_step(chart, *step))?;
+    }
+    Ok(met)
+}
+
+/// The sides of the chains of these steps, read before any polygon is numbered.
+fn sides_along<C: Chart>(alloc: Global, chart: &C, steps: &[Step]) -> Result<Vec<Sides>, AllocError>
+    requires { AreSteps (C.county chart.now) steps.now }
+    ensures { IfOk result (λ met. map Some met.items ≡ map (λ step. option_map sides_of (step_chain (C.county chart.now) step)) steps.now) }
+{
+    let mut met = Vec::with_capacity(alloc, steps.len())?;
+    for step in steps {
+        met.push(sides_of_step(chart, *step))?;
+    }
+    Ok(met)
+}
+
+/// Sees a node, if there is one, and answers its number, which stays whatever is seen later.
+fn number_node(nodes: &mut Numbers<u64>, node: Option<u64>) -> Result<Option<u64>, AllocError>
+    ensures seen { OnOk result (nodes.new ≡ first_seen_after nat_cmp nodes.old (option_to_list node)) }
+    ensures number { IfOk result (λ number. (later : List ℕ) → number ≡ node_among (first_seen_after nat_cmp nodes.new later) node) }
 {
     match node {
-        Some(number) => Ok(nodes.push(number)?),
-        None => Ok(()),
+        Some(number) => {
+            let place = nodes.see_place(number)?;
+            Ok(Some(place as u64 + 1))
+        }
+        None => Ok(None),
     }
 }
 
-/// Adds the polygon on a side, if there is one.
-fn push_side(polygons: &mut Vec<PolygonKey>, side: Option<Side>) -> Result<(), AllocError>
-    ensures { OnOk result (polygons.new.items ≡ polygons.old.items ++ polygons_on side) }
+/// Sees the polygon on a side, if there is one, and answers the side with its number, which stays whatever is seen later.
+fn number_side(polygons: &mut Numbers<PolygonKey>, side: Side) -> Result<Side, AllocError>
+    requires few { length (first_seen_after key_cmp polygons.old (key_on side)) < 10 ^ 10 }
+    ensures seen { OnOk result (polygons.new ≡ first_seen_after key_cmp polygons.old (key_on side)) }
+    ensures number { IfOk result (λ new. (later : List PolygonKey) → new ≡ side_among (first_seen_after key_cmp polygons.new later) side) }
 {
-    let Some(side) = side else {
-        return Ok(());
-    };
     match side.polyid() {
-        Some(polyid) => Ok(polygons.push((side.cenid(), polyid))?),
-        None => Ok(()),
+        Some(polyid) => {
+            let cenid = side.cenid();
+            let place = polygons.see_place((cenid, polyid))?;
+            Ok(Side::new(cenid, Some(place as u64 + 1)))
+        }
+        None => Ok(side),
     }
 }
 
-/// The nodes that the chains of these steps meet, start before end. They are read before any is numbered, so that reading one
-/// chain need not wait for another.
-fn nodes_along<C: Chart>(alloc: Global, chart: &C, steps: &[Step]) -> Result<Vec<u64>, AllocError>
-    ensures { IfOk result (λ nodes. nodes.items ≡ nodes_along_steps (C.county chart.now) steps.now) }
-{
-    let mut nodes = Vec::with_capacity(alloc, steps.len())?;
-    for step in steps {
-        push_node(&mut nodes, start_of_step(chart, *step))?;
-        push_node(&mut nodes, end_of_step(chart, *step))?;
-    }
-    Ok(nodes)
-}
-
-/// The polygons that the chains of these steps meet, left before right, read before any is numbered.
-fn polygons_along<C: Chart>(
-    alloc: Global,
-    chart: &C,
-    steps: &[Step],
-) -> Result<Vec<PolygonKey>, AllocError>
-    ensures { IfOk result (λ polygons. polygons.items ≡ polygons_along_steps (C.county chart.now) steps.now) }
-{
-    let mut polygons = Vec::with_capacity(alloc, steps.len())?;
-    for step in steps {
-        push_side(&mut polygons, left_of_step(chart, *step))?;
-        push_side(&mut polygons, right_of_step(chart, *step))?;
-    }
-    Ok(polygons)
-}
-
-/// Keys in the order in which they are first seen.
-fn number_keys<K: Key + Hash>(alloc: Global, keys: &[K]) -> Result<Numbers<K>, AllocError>
-    ensures { IfOk result (λ numbers. numbers ≡ first_seen K.cmp keys.now) }
+/// The nodes of these ends in the order in which they are first met, and the ends under these numbers.
+fn number_ends(alloc: Global, met: &[Ends]) -> Result<NodeTables, AllocError>
+    ensures numbers { IfOk result (λ tables. tables.numbers ≡ first_seen nat_cmp (flat_map nodes_at met.now)) }
+    ensures ends { IfOk result (λ tables. tables.ends.items ≡ map (ends_among (first_seen nat_cmp (flat_map nodes_at met.now))) met.now) }
 {
     let mut numbers = Numbers::new(alloc);
-    let mut rest = keys;
-    while let Some((key, later)) = rest.split_first() {
-        numbers.see(*key)?;
-        rest = later;
+    let mut ends = Vec::with_capacity(alloc, met.len())?;
+    for pair in met {
+        let (start, end) = *pair;
+        let new_start = number_node(&mut numbers, start)?;
+        let new_end = number_node(&mut numbers, end)?;
+        ends.push((new_start, new_end))?;
     }
-    Ok(numbers)
+    Ok(NodeTables { numbers, ends })
+}
+
+/// The polygons on these sides in the order in which they are first met, and the sides under these numbers.
+fn number_sides(
+    alloc: Global,
+    met: &[Sides],
+) -> Result<(Numbers<PolygonKey>, Vec<Sides>), AllocError>
+    requires few { length (first_seen key_cmp (flat_map polygons_at met.now)) < 10 ^ 10 }
+    ensures numbers { IfOk result (λ tables. tables.0 ≡ first_seen key_cmp (flat_map polygons_at met.now)) }
+    ensures sides { IfOk result (λ tables. tables.1.items ≡ map (sides_among (first_seen key_cmp (flat_map polygons_at met.now))) met.now) }
+{
+    let mut numbers = Numbers::new(alloc);
+    let mut sides = Vec::with_capacity(alloc, met.len())?;
+    for pair in met {
+        let (left, right) = *pair;
+        let new_left = number_side(&mut numbers, left)?;
+        let new_right = number_side(&mut numbers, right)?;
+        sides.push((new_left, new_right))?;
+    }
+    Ok((numbers, sides))
 }
 
 /// The nodes of a county in the order in which the chains of these steps first meet them, start before end.
@@ -85,23 +114,25 @@ pub(crate) fn number_nodes<C: Chart>(
     alloc: Global,
     chart: &C,
     steps: &[Step],
-) -> Result<Numbers<u64>, AllocError>
-    requires { AreSteps (C.county chart.now) steps.now }
-    ensures { IfOk result (λ nodes. nodes ≡ nodes_in_order (C.county chart.now) (arrangement_of (C.county chart.now) steps.now)) }
+) -> Result<NodeTables, AllocError>
+    requires { AreWhole (C.county chart.now) steps.now }
+    ensures { IfOk result (TellsNodes (C.county chart.now) steps.now) }
 {
-    let nodes = nodes_along(alloc, chart, steps)?;
-    number_keys(alloc, &nodes)
+    let met = ends_along(alloc, chart, steps)?;
+    number_ends(alloc, &met)
 }
 
-/// The polygons of a county in the order in which the chains of these steps first meet them, left before right.
+/// The polygons of a county in the order in which the chains of these steps first meet them, left before right, and the
+/// sides of these chains under the new keys.
 pub(crate) fn number_polygons<C: Chart>(
     alloc: Global,
     chart: &C,
     steps: &[Step],
-) -> Result<Numbers<PolygonKey>, AllocError>
-    requires { AreSteps (C.county chart.now) steps.now }
-    ensures { IfOk result (λ polygons. polygons ≡ polygons_in_order (C.county chart.now) (arrangement_of (C.county chart.now) steps.now)) }
+) -> Result<(Numbers<PolygonKey>, Vec<Sides>), AllocError>
+    requires { AreWhole (C.county chart.now) steps.now }
+    ensures numbers { IfOk result (λ tables. tables.0 ≡ polygons_in_order (C.county chart.now) (arrangement_of (C.county chart.now) steps.now)) }
+    ensures sides { IfOk result (λ tables. tables.1.items ≡ map sides_of (entry_values (stepped (C.county chart.now) steps.now).chains)) }
 {
-    let polygons = polygons_along(alloc, chart, steps)?;
-    number_keys(alloc, &polygons)
+    let met = sides_along(alloc, chart, steps)?;
+    number_sides(alloc, &met)
 }

@@ -2,6 +2,7 @@
 use Rattle.std.specs.Prelude.{◌≡◌, ℕ, List, [], ◌∷◌, map, length, Option, Some, option_map, option_to_list, slice_get}
 use Rattle.tl_layout.specs.Coordinates.{Coordinates}
 use Rattle.tl_layout.specs.Fields.{Fields1, Fields2, Fields4, Fields5, Fields6, Fields7, Fields8, FieldsI, FieldsP}
+use Rattle.tl_layout.specs.declared.type_i.BodyI.{BodyI}
 use Rattle.tl_layout.specs.declared.type_p.BodyP.{BodyP}
 use Rattle.tl_county.specs.County.{County}
 use Rattle.tl_county.specs.ChartWords.{chain_at}
@@ -28,9 +29,9 @@ fours_by_chain county = map packed_fours county.chains
 abbrev pub sixes_by_chain : County → List (List Fields6)
 sixes_by_chain county = map packed_sixes county.chains
 
--- these are the nodes where the chain at a place starts and ends
-abbrev pub AreNodesAt : County → ℕ → Option ℕ × Option ℕ → Type 0
-AreNodesAt county place nodes = Some nodes ≡ option_map (λ chain. (chain.start_node, chain.end_node)) (chain_at county place)
+-- this is the content of the record of type I of the chain at a place
+abbrev pub IsLinkBodyAt : County → ℕ → Option BodyI → Type 0
+IsLinkBodyAt county place body = body ≡ option_map (λ chain. chain.link_body) (chain_at county place)
 
 -- the record of type I of each chain
 abbrev pub is_by_chain : County → List (List FieldsI)

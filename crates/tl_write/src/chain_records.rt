@@ -7,7 +7,7 @@ ghost use Rattle.tl_county.specs.Packing.{inner_points};
 use crate::groups::RecordGroups;
 use arrayvec::ArrayVec;
 use tl_county::Chart;
-use tl_layout::{Point, Rec1, Rec2, Rec4, Rec6, RecI};
+use tl_layout::{BodyI, Point, Rec1, Rec2, Rec4, Rec6, RecI};
 
 /// How many shape points a record of type 2 has room for.
 const POINTS_A_RECORD: usize = 10;
@@ -207,35 +207,34 @@ pub(crate) struct LinkRecords<'a, C: Chart> {
 }
 
 impl<C: Chart> RecordGroups for LinkRecords<'_, C> {
-    ghost use Rattle.tl_write.specs.CountyGroups.{AreNodesAt, is_by_chain};
+    ghost use Rattle.tl_write.specs.CountyGroups.{IsLinkBodyAt, is_by_chain};
 
     type Item = RecI;
 
-    type Head = (Option<u64>, Option<u64>);
+    type Head = Option<BodyI>;
 
     ghost groups = { λ g. is_by_chain (C.county g.chart.now) };
 
-    ghost IsHead = { λ g. AreNodesAt (C.county g.chart.now) };
+    ghost IsHead = { λ g. IsLinkBodyAt (C.county g.chart.now) };
 
     fn count(&self) -> usize {
         self.chart.chain_count()
     }
 
-    fn head(&self, group: usize) -> (Option<u64>, Option<u64>) {
-        (self.chart.start_node(group), self.chart.end_node(group))
+    fn head(&self, group: usize) -> Option<BodyI> {
+        self.chart.link_body_at(group)
     }
 
-    fn count_in(&self, _group: usize, _head: (Option<u64>, Option<u64>)) -> usize {
+    fn count_in(&self, _group: usize, _head: Option<BodyI>) -> usize {
         1
     }
 
-    fn record(&self, group: usize, head: (Option<u64>, Option<u64>), _place: usize) -> RecI {
-        let (start_node, end_node) = head;
+    fn record(&self, group: usize, head: Option<BodyI>, _place: usize) -> RecI {
         RecI::new(
             self.chart.tlid(group),
-            self.chart.link_body(group),
-            start_node,
-            end_node,
+            head.unwrap(),
+            self.chart.start_node(group),
+            self.chart.end_node(group),
             self.chart.left(group),
             self.chart.right(group),
         )

@@ -127,8 +127,8 @@ pub fn same_records<A: Chart, B: Chart>(a: &CanonCounty<A>, b: &CanonCounty<B>) 
         && are_same_groups(
             &LinkRecords { chart: a },
             &LinkRecords { chart: b },
-            &mut room.nodes,
-            &mut other.nodes,
+            &mut room.link_bodies,
+            &mut other.link_bodies,
         )
         && are_same_groups(
             &ShapePointRecords { chart: a },

@@ -76,7 +76,7 @@ fn give_records<D, C: Chart, T: RecordTaker<D>>(
     )?;
     give_groups(
         &LinkRecords { chart: county },
-        &mut room.nodes,
+        &mut room.link_bodies,
         taker,
         device,
     )?;

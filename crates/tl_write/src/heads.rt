@@ -1,7 +1,7 @@
 //! Room for the heads of groups.
 
 use tl_county::PolygonKey;
-use tl_layout::{BodyP, Point};
+use tl_layout::{BodyI, BodyP, Point};
 
 /// How many heads are read one after the other. What groups are read from lies anywhere in memory, so that no head has to wait
 /// for the one before it.
@@ -14,8 +14,8 @@ pub(crate) struct HeadRoom {
     pub(crate) counts: [usize; HEADS_TOGETHER],
     /// The ends of chains.
     pub(crate) ends: [(Point, Point); HEADS_TOGETHER],
-    /// The nodes where chains start and end.
-    pub(crate) nodes: [(Option<u64>, Option<u64>); HEADS_TOGETHER],
+    /// The contents of the type I records of chains.
+    pub(crate) link_bodies: [Option<BodyI>; HEADS_TOGETHER],
     /// The keys of polygons, and the contents of their type P records.
     pub(crate) polygons: [(PolygonKey, Option<BodyP>); HEADS_TOGETHER],
 }
@@ -26,7 +26,7 @@ impl HeadRoom {
         HeadRoom {
             counts: [0; HEADS_TOGETHER],
             ends: [Default::default(); HEADS_TOGETHER],
-            nodes: [(None, None); HEADS_TOGETHER],
+            link_bodies: [None; HEADS_TOGETHER],
             polygons: [Default::default(); HEADS_TOGETHER],
         }
     }

@@ -1,7 +1,5 @@
-use Rattle.std.proofs.Common.{sym, ap, ◌∙◌, subst}
-use Rattle.tl_number.specs.Arrangement.{nodes_in_order}
-use Rattle.tl_number.specs.Steps.{arrangement_of}
-use Rattle.tl_number.specs.ViewFacts.{AreWhole, TellsPolygons, TellsNames, TellsLandmarks}
+use Rattle.std.proofs.Common.{sym, subst}
+use Rattle.tl_number.specs.ViewFacts.{AreWhole, TellsNodes, TellsPolygons, TellsNames, TellsLandmarks}
 use Rattle.tl_number.proofs.ArrangedViews.{whole_steps}
 use Rattle.tl_number.proofs.PlacesFit.{places_fit}
 use Rattle.tl_number.proofs.arranging.arrange.Goals as goal
@@ -20,6 +18,15 @@ pub arrange_landmarks-requires-clause-few : goal.arrange_landmarks-requires-clau
 arrange_landmarks-requires-clause-few g c =
     (places_fit (g.C.Chart.county c.args.chart) (g.met.C.Chart.is_county c.args.chart) (g.met.C.Chart.within_limits c.args.chart)
     c.requires.sides).landmarks
+
+pub number_nodes-requires : goal.number_nodes-requires
+number_nodes-requires g c =
+    let county = g.C.Chart.county c.args.chart in
+    let whole = whole_steps county c.args.steps.items (g.met.C.Chart.is_county c.args.chart)
+    (g.met.C.Chart.within_limits c.args.chart) c.requires.there c.requires.once
+    c.requires.sides
+    (places_fit county (g.met.C.Chart.is_county c.args.chart) (g.met.C.Chart.within_limits c.args.chart) c.requires.sides).chains in
+    subst (AreWhole county) (sym c.deref.ensures.value) whole
 
 pub arrange_polygons-requires-clause-whole : goal.arrange_polygons-requires-clause-whole
 arrange_polygons-requires-clause-whole g c =
@@ -58,7 +65,7 @@ invariant_of-result g c =
     record {
       whole = whole;
       sides = c.requires.sides;
-      nodes_told = c.in_ok-nodes.ensures ∙ ap (λ steps. nodes_in_order county (arrangement_of county steps)) c.deref.ensures.value;
+      nodes_told = subst (λ steps. TellsNodes county steps c.in_ok-nodes.nodes) c.deref.ensures.value c.in_ok-nodes.ensures;
       polygons_told = subst (λ steps. TellsPolygons county steps c.in_ok-polygons.polygons) c.deref-2.ensures.value
           c.in_ok-polygons.ensures;
       names_told = subst (λ steps. TellsNames county steps c.in_ok-names.names) c.deref-3.ensures.value c.in_ok-names.ensures;

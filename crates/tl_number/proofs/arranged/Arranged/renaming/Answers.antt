@@ -21,7 +21,7 @@ returns-clause-value g c =
       lands = c.in_ok-lands.ensures (landmarks_in_order county order)
           (subst (λ places. AreReadAt county.landmarks places (landmarks_in_order county order)) (sym c.deref-2.ensures.value)
           view.landmarks_told.landmarks) i;
-      nodes = (c.in_ok-nodes.ensures ∙ ap numbered view.nodes_told) i;
+      nodes = (c.in_ok-nodes.ensures ∙ ap numbered view.nodes_told.numbers) i;
       turned = (c.in_ok-turned.ensures ∙ ap (λ steps. turned_tlids (arrangement_of county steps)) c.deref-3.ensures.value) i;
     })
 

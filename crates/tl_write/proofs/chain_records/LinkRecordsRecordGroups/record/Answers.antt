@@ -1,4 +1,4 @@
-use Rattle.std.proofs.Common.{◌≡◌, ◌∙◌, ◌∷◌, [], ℕ, Option, Some, slice_get, option_map, sym, ap, subst}
+use Rattle.std.proofs.Common.{◌≡◌, ◌∙◌, ◌∷◌, [], Some, slice_get, option_map, sym, ap, subst}
 use Rattle.tl_layout.specs.Numbers.{IsNumber, IsNumberOrNone}
 use Rattle.tl_county.specs.ChartWords.{chain_at}
 use Rattle.tl_county.specs.CountyRules.{tlids}
@@ -22,12 +22,14 @@ new-requires-clause-nodes g c =
     let chart = c.args.self.now.chart.now in
     let county = g.C.Chart.county chart in
     let there = chain_of_group (λ entry. packed_i entry ∷ []) county (g.met.C.Chart.is_county chart) (g.met.C.Chart.within_limits chart) c.args.group c.requires.group in
-    let nodes : Option ℕ × Option ℕ = (there.entry.1.start_node, there.entry.1.end_node) in
-    let nodes_are : c.args.head ≡ nodes =
-    some-same (option_map (λ chain. (chain.start_node, chain.end_node)) (chain_at county c.args.group)) c.args.head nodes c.requires.head
-    (ap (option_map (λ chain. (chain.start_node, chain.end_node))) there.chain) in (
-      subst (λ (pair : Option ℕ × Option ℕ). IsNumberOrNone 10 pair.0) (sym nodes_are) there.named.start_node,
-      subst (λ (pair : Option ℕ × Option ℕ). IsNumberOrNone 10 pair.1) (sym nodes_are) there.named.end_node,
+    let start_is : c.start_node.result ≡ there.entry.1.start_node =
+    some-same (option_map (λ chain. chain.start_node) (chain_at county c.args.group)) c.start_node.result there.entry.1.start_node c.start_node.ensures
+    (ap (option_map (λ chain. chain.start_node)) there.chain) in
+    let end_is : c.end_node.result ≡ there.entry.1.end_node =
+    some-same (option_map (λ chain. chain.end_node) (chain_at county c.args.group)) c.end_node.result there.entry.1.end_node c.end_node.ensures
+    (ap (option_map (λ chain. chain.end_node)) there.chain) in (
+      subst (IsNumberOrNone 10) (sym start_is) there.named.start_node,
+      subst (IsNumberOrNone 10) (sym end_is) there.named.end_node,
     )
 
 pub returns : goal.returns
@@ -36,13 +38,15 @@ returns g c =
     let county = g.C.Chart.county chart in
     let there = chain_of_group (λ entry. packed_i entry ∷ []) county (g.met.C.Chart.is_county chart) (g.met.C.Chart.within_limits chart) c.args.group c.requires.group in
     let tlid_is : c.tlid.result ≡ there.entry.0 = some-same (slice_get (tlids county) c.args.group) c.tlid.result there.entry.0 c.tlid.ensures there.tlid in
-    let body_is : c.link_body.result ≡ there.entry.1.link_body =
-    some-same (option_map (λ chain. chain.link_body) (chain_at county c.args.group)) c.link_body.result there.entry.1.link_body c.link_body.ensures
-    (ap (option_map (λ chain. chain.link_body)) there.chain) in
-    let nodes : Option ℕ × Option ℕ = (there.entry.1.start_node, there.entry.1.end_node) in
-    let nodes_are : c.args.head ≡ nodes =
-    some-same (option_map (λ chain. (chain.start_node, chain.end_node)) (chain_at county c.args.group)) c.args.head nodes c.requires.head
-    (ap (option_map (λ chain. (chain.start_node, chain.end_node))) there.chain) in
+    let body_is : c.unwrap.result ≡ there.entry.1.link_body =
+    some-same c.args.head c.unwrap.result there.entry.1.link_body (sym c.unwrap.ensures)
+    (c.requires.head ∙ ap (option_map (λ chain. chain.link_body)) there.chain) in
+    let start_is : c.start_node.result ≡ there.entry.1.start_node =
+    some-same (option_map (λ chain. chain.start_node) (chain_at county c.args.group)) c.start_node.result there.entry.1.start_node c.start_node.ensures
+    (ap (option_map (λ chain. chain.start_node)) there.chain) in
+    let end_is : c.end_node.result ≡ there.entry.1.end_node =
+    some-same (option_map (λ chain. chain.end_node) (chain_at county c.args.group)) c.end_node.result there.entry.1.end_node c.end_node.ensures
+    (ap (option_map (λ chain. chain.end_node)) there.chain) in
     let left_is : c.left.result ≡ there.entry.1.left =
     some-same (option_map (λ chain. chain.left) (chain_at county c.args.group)) c.left.result there.entry.1.left c.left.ensures
     (ap (option_map (λ chain. chain.left)) there.chain) in
@@ -52,8 +56,8 @@ returns g c =
     ap Some (c.new.ensures ∙ (λ i. record {
       tlid = tlid_is i;
       body = body_is i;
-      start_node = (nodes_are i).0;
-      end_node = (nodes_are i).1;
+      start_node = start_is i;
+      end_node = end_is i;
       left = left_is i;
       right = right_is i;
     }))

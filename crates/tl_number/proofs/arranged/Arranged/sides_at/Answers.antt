@@ -1,0 +1,12 @@
+use Rattle.std.proofs.Common.{ap, ◌∙◌, slice_get}
+use Rattle.std.proofs.lemmas.Option.{slice_get-map}
+use Rattle.tl_county.specs.Entries.{entry_values}
+use Rattle.tl_number.specs.ByStep.{sides_of}
+use Rattle.tl_number.specs.ViewFacts.{stepped}
+use Rattle.tl_number.proofs.arranged.Arranged.sides_at.Goals as goal
+
+pub returns : goal.returns
+returns g c =
+    let county = g.C.Chart.county c.args.self.now.chart in
+    c.sides_there.ensures ∙ ap (λ sides. slice_get sides c.args.place) (c.deref.ensures.value ∙ c.args.self.now.polygons_told.sides)
+    ∙ slice_get-map sides_of (entry_values (stepped county c.args.self.now.steps.items).chains) c.args.place
