@@ -14,7 +14,7 @@ use Rattle.tl_load.proofs.Reading.{one_verdict}
 use Rattle.tl_load.proofs.TextLemmas.{text_spells, text_spells_only}
 use Rattle.tl_county.specs.County.{county_of}
 use Rattle.tl_county.specs.Renumbering.{AreSame}
-use Rattle.tl_number.specs.Accepted.{IsAccepted, Refusal, Unlinked, OutOfProfile, IsRefusal}
+use Rattle.tl_number.specs.Accepted.{IsAccepted, RecordsRefusal, Unlinked, OutOfProfile, IsRefusal}
 use Rattle.tigercanon.specs.Normalising.{IsOnlyText}
 use Rattle.tigercanon.specs.Respelling.{record_limit}
 use Rattle.tigercanon.specs.Sets.{IsAcceptedSet, IsSetRefusal, IsCanonicalText}
@@ -27,7 +27,7 @@ use Rattle.tl_profile.proofs.ProfileFaults.{profile_has_none, one_first_clause}
 use Rattle.tl_number.proofs.Accepted.{accepted_or_refused, same_one_canonical}
 use Rattle.tl_number.proofs.Accepted.{one_canonical_same, canonical_of_itself}
 use Rattle.tl_number.proofs.Ascending.{canonical_list, canonical_exists}
-use Rattle.tl_number.proofs.TidyNumbers.{canonical_within}
+use Rattle.tl_number.proofs.ArrangedNumbers.{canonical_within}
 use Rattle.tl_county.proofs.Sameness.{same-reflexive}
 
 pub set_accepted_or_refused : (parts : List (List ℕ))
@@ -35,7 +35,7 @@ pub set_accepted_or_refused : (parts : List (List ℕ))
 set_accepted_or_refused parts = go (one_verdict tiger tiger_is_sound record_limit parts)
   where
     judged : (records : List Record) → SpellsWithin tiger record_limit parts records
-        → IsAccepted records ⊎ ((refusal : Refusal) × IsRefusal records refusal)
+        → IsAccepted records ⊎ ((refusal : RecordsRefusal) × IsRefusal records refusal)
         → ((records : List Record) × IsAcceptedSet parts records) ⊎ ((refusal : Fault) × IsSetRefusal parts refusal)
     judged records spelled (inl accepted) = inl (records, record { spelled = spelled; accepted = accepted })
     judged records spelled (inr (Unlinked f, h)) = inr (Link f, (records, spelled, h))

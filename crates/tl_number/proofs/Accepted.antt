@@ -13,27 +13,27 @@ use Rattle.tl_profile.specs.Profile.{IsInProfile, IsFirstBrokenClause}
 use Rattle.tl_profile.specs.declared.fault.ProfileFault.{ProfileFault}
 use Rattle.tl_profile.proofs.ProfileFaults.{profile_or_first, profile_has_none, one_first_clause}
 use Rattle.tl_profile.proofs.SameProfile.{same_in_profile}
-use Rattle.tl_number.specs.Accepted.{IsAccepted, Refusal, Unlinked, OutOfProfile, IsRefusal, IsCanonicalOf}
+use Rattle.tl_number.specs.Accepted.{IsAccepted, RecordsRefusal, Unlinked, OutOfProfile, IsRefusal, IsCanonicalOf}
 use Rattle.tl_number.proofs.Uniqueness.{unique}
 
-pub accepted_or_refused : (records : List Record) → IsAccepted records ⊎ ((refusal : Refusal) × IsRefusal records refusal)
+pub accepted_or_refused : (records : List Record) → IsAccepted records ⊎ ((refusal : RecordsRefusal) × IsRefusal records refusal)
 accepted_or_refused records = go (linked_or_first records)
   where
     profile : IsLinked records → IsInProfile (county_of records) ⊎ ((fault : ProfileFault) × IsFirstBrokenClause (county_of records) fault)
-        → IsAccepted records ⊎ ((refusal : Refusal) × IsRefusal records refusal)
+        → IsAccepted records ⊎ ((refusal : RecordsRefusal) × IsRefusal records refusal)
     profile linked (inl within) = inl (record { linked = linked; profile = within })
     profile linked (inr f) = inr (OutOfProfile f.0, (linked, f.1))
 
     go : IsLinked records ⊎ ((fault : LinkFault) × IsFirstBrokenRule records fault)
-        → IsAccepted records ⊎ ((refusal : Refusal) × IsRefusal records refusal)
+        → IsAccepted records ⊎ ((refusal : RecordsRefusal) × IsRefusal records refusal)
     go (inl linked) = profile linked (profile_or_first (county_of records))
     go (inr f) = inr (Unlinked f.0, f.1)
 
-pub accepted_not_refused : (records : List Record) (refusal : Refusal) → IsAccepted records → IsRefusal records refusal → ⊥
+pub accepted_not_refused : (records : List Record) (refusal : RecordsRefusal) → IsAccepted records → IsRefusal records refusal → ⊥
 accepted_not_refused records (Unlinked f) a h = linked_has_none records f a.linked h
 accepted_not_refused records (OutOfProfile f) a h = profile_has_none (county_of records) f a.profile h.1
 
-pub one_refusal : (records : List Record) (f g : Refusal) → IsRefusal records f → IsRefusal records g → f ≡ g
+pub one_refusal : (records : List Record) (f g : RecordsRefusal) → IsRefusal records f → IsRefusal records g → f ≡ g
 one_refusal records (Unlinked f) (Unlinked g) h k = ap Unlinked (one_first_rule records f g h k)
 one_refusal records (Unlinked f) (OutOfProfile g) h k = absurd (linked_has_none records f k.0 h)
 one_refusal records (OutOfProfile f) (Unlinked g) h k = absurd (linked_has_none records g h.0 k)
@@ -44,26 +44,26 @@ module _ (xs ys c d : List Record) (h : IsCanonicalOf xs c) (k : IsCanonicalOf y
   same_one_canonical s =
       let back : AreSame (county_of c) (county_of xs) =
       same-symmetric (county_of xs) (county_of c) (county-is_county xs h.accepted.linked)
-      (county-is_county c h.canonical.tidy.linked) h.same in
+      (county-is_county c h.canonical.in_form.linked) h.same in
       let there : AreSame (county_of c) (county_of ys) =
-      same-transitive (county_of c) (county_of xs) (county_of ys) (county-is_county c h.canonical.tidy.linked)
+      same-transitive (county_of c) (county_of xs) (county_of ys) (county-is_county c h.canonical.in_form.linked)
       (county-is_county xs h.accepted.linked) back s in
       unique c d h.canonical k.canonical (same-transitive (county_of c) (county_of ys) (county_of d)
-      (county-is_county c h.canonical.tidy.linked) (county-is_county ys k.accepted.linked) there k.same)
+      (county-is_county c h.canonical.in_form.linked) (county-is_county ys k.accepted.linked) there k.same)
 
   pub one_canonical_same : c ≡ d → AreSame (county_of xs) (county_of ys)
   one_canonical_same e =
       let back : AreSame (county_of d) (county_of ys) =
       same-symmetric (county_of ys) (county_of d) (county-is_county ys k.accepted.linked)
-      (county-is_county d k.canonical.tidy.linked) k.same in
+      (county-is_county d k.canonical.in_form.linked) k.same in
       let there : AreSame (county_of xs) (county_of d) = subst (λ l. AreSame (county_of xs) (county_of l)) e h.same in
       same-transitive (county_of xs) (county_of d) (county_of ys) (county-is_county xs h.accepted.linked)
-      (county-is_county d k.canonical.tidy.linked) there back
+      (county-is_county d k.canonical.in_form.linked) there back
 
 -- a canonical list of an accepted one is its own canonical list
 pub canonical_of_itself : (xs c : List Record) → IsCanonicalOf xs c → IsCanonicalOf c c
 canonical_of_itself xs c h = record {
-  accepted = record { linked = h.canonical.tidy.linked; profile = same_in_profile (county_of xs) (county_of c) h.same h.accepted.profile };
+  accepted = record { linked = h.canonical.in_form.linked; profile = same_in_profile (county_of xs) (county_of c) h.same h.accepted.profile };
   canonical = h.canonical;
   same = same-reflexive (county_of c);
 }

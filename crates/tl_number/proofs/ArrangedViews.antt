@@ -9,8 +9,8 @@ use Rattle.tl_number.specs.Arrangement.{Arrangement, Arranges, arranged_tlids}
 use Rattle.tl_number.specs.Steps.{AreSteps, arrangement_of}
 use Rattle.tl_number.specs.ViewFacts.{AreWhole, NamesEachOnce}
 use Rattle.tl_number.specs.declared.step.Step.{Step}
-use Rattle.tl_number.proofs.Tidied.{arranged_county}
-use Rattle.tl_number.proofs.TidyNumbers.{arrangement_within}
+use Rattle.tl_number.proofs.ArrangedCounties.{arranged_county}
+use Rattle.tl_number.proofs.ArrangedNumbers.{arrangement_within}
 use Rattle.std.proofs.Common.{List}
 
 pub arranges_once : (county : County) (order : Arrangement) → IsCounty county → NamesEachOnce county order → Arranges order county

@@ -36,14 +36,14 @@ use Rattle.tl_county.proofs.Reordered.{to_filter}
 use Rattle.tl_profile.specs.Profile.{IsInProfile}
 use Rattle.tl_profile.proofs.SameProfile.{OneShape, not_own_reverse, one_shape_one_tlid, body_on_side}
 use Rattle.tl_number.specs.Accepted.{IsAccepted, IsCanonicalOf}
-use Rattle.tl_number.specs.Arrangement.{Arrangement, Arranges, entries_of, placed, comes_turned, least_points}
+use Rattle.tl_number.specs.Arrangement.{Arrangement, Arranges, entries_of, placed, comes_turned, entry_shape}
 use Rattle.tl_number.specs.Arrangement.{ascending, renaming_of, arranged}
-use Rattle.tl_number.specs.Tidy.{IsLeast, entry_points}
+use Rattle.tl_number.specs.ArrangedCounty.{IsLeast, entry_points}
 use Rattle.tl_number.proofs.Carrying.{arrangement_carries, chains_arranged}
 use Rattle.tl_number.proofs.Placed.{one_chain}
 use Rattle.tl_number.proofs.SameNumbers.{kept_entry}
-use Rattle.tl_number.proofs.TidyPacking.{packed_tidy}
-use Rattle.tl_number.proofs.Tidied.{arranged_tidy, arranged_county}
+use Rattle.tl_number.proofs.ArrangedPacking.{packed_arranged}
+use Rattle.tl_number.proofs.ArrangedCounties.{is_arranged, arranged_county}
 
 -- values of elements are apart where elements of one value have one number, and numbers are apart
 apart_values : {X K : Type 0} {cmp : K → K → Ordering} (o : IsKeyOrder cmp) (number : X → ℕ) (value : X → K) (xs : List X)
@@ -95,11 +95,11 @@ turned_points : (c : Chain) (b : Bool) → ((turned_if b c).points ≡ c.points)
 turned_points c true = inr refl
 turned_points c false = inl refl
 
-least_one_shape : (e d : ℕ × Chain) → least_points e ≡ least_points d → OneShape e.1.points d.1.points
+least_one_shape : (e d : ℕ × Chain) → entry_shape e ≡ entry_shape d → OneShape e.1.points d.1.points
 least_one_shape e d same = go (turned_points e.1 (comes_turned e.1)) (turned_points d.1 (comes_turned d.1))
   where
-    go : (least_points e ≡ e.1.points) ⊎ (least_points e ≡ reverse e.1.points)
-        → (least_points d ≡ d.1.points) ⊎ (least_points d ≡ reverse d.1.points) → OneShape e.1.points d.1.points
+    go : (entry_shape e ≡ e.1.points) ⊎ (entry_shape e ≡ reverse e.1.points)
+        → (entry_shape d ≡ d.1.points) ⊎ (entry_shape d ≡ reverse d.1.points) → OneShape e.1.points d.1.points
     go (inl f) (inl g) = inl (sym f ∙ same ∙ g)
     go (inl f) (inr g) = inr (sym f ∙ same ∙ g)
     go (inr f) (inl g) = inr (sym (reverse-reverse e.1.points) ∙ ap reverse (sym f ∙ same ∙ g))
@@ -123,13 +123,13 @@ module _ (county : County) (is : IsCounty county) (profile : IsInProfile county)
       go d m (inr side) = side
 
   abbrev ordered : List (ℕ × Chain)
-  ordered = in_order (on least_points points_cmp) county.chains
+  ordered = in_order (on entry_shape points_cmp) county.chains
 
   pub ascending_arranges : Arranges (ascending county) county
   ascending_arranges = subst (λ ns. IsPermutation ns (tlids county))
       (sym (map-map (λ (s : ℕ × Bool). s.0) (λ (e : ℕ × Chain). (e.0, comes_turned e.1)) ordered))
       (IsPermutation-map (λ (e : ℕ × Chain). e.0) ordered county.chains
-      (in_order-is_permutation (on least_points points_cmp) county.chains))
+      (in_order-is_permutation (on entry_shape points_cmp) county.chains))
 
   -- the placed chains are the ordered ones, each in its lesser direction
   bodies_are : (es : List (ℕ × Chain)) → AllByRecursion (λ e. Among e county.chains) es
@@ -159,9 +159,9 @@ module _ (county : County) (is : IsCounty county) (profile : IsInProfile county)
       rights-numbered_from 1 (flat_map (λ (s : ℕ × Bool). map (λ (d : ℕ × Chain). turned_if s.1 d.1) (entries_of county.chains s.0))
       (ascending county))
       ∙ bodies_are ordered (each_from (λ e. Among e county.chains) ordered
-      (λ e m. from_in_order (on least_points points_cmp) county.chains e m))
+      (λ e m. from_in_order (on entry_shape points_cmp) county.chains e m))
 
-  points_arranged : map entry_points (arranged county (ascending county)).chains ≡ map least_points ordered
+  points_arranged : map entry_points (arranged county (ascending county)).chains ≡ map entry_shape ordered
   points_arranged =
       ap (map entry_points) (chains_arranged county (ascending county) is ascending_arranges)
       ∙ map-map entry_points (kept_entry (renaming_of county (ascending county))) (placed county (ascending county))
@@ -169,23 +169,23 @@ module _ (county : County) (is : IsCounty county) (profile : IsInProfile county)
       ∙ ap (map (λ (c : Chain). c.points)) placed_chains
       ∙ map-map (λ (c : Chain). c.points) (λ (e : ℕ × Chain). turned_if (comes_turned e.1) e.1) ordered
 
-  least_apart : IsApart points_cmp (map least_points county.chains)
-  least_apart = apart_values points_keys (λ (e : ℕ × Chain). e.0) least_points county.chains
+  least_apart : IsApart points_cmp (map entry_shape county.chains)
+  least_apart = apart_values points_keys (λ (e : ℕ × Chain). e.0) entry_shape county.chains
       (apart_from_sorted nat_keys (tlids county) is.ascending.chains)
       (λ e d m n same. one_shape_one_tlid county profile e d m n (least_one_shape e d same))
 
   -- The ascending arrangement has the least directions and ascends.
   pub ascending_least : IsLeast (arranged county (ascending county))
   ascending_least =
-      let strict : IsStrictlySortedBy points_cmp (map least_points ordered) =
-      strict_from_order points_keys (map least_points ordered)
-      (in_order-map points_cmp least_points ordered (in_order-in_order (on_total least_points points_keys.total) county.chains))
-      (λ k. subst (λ n. n ≤ 1) (sym (times-in_order points_cmp least_points (on least_points points_cmp) county.chains k))
+      let strict : IsStrictlySortedBy points_cmp (map entry_shape ordered) =
+      strict_from_order points_keys (map entry_shape ordered)
+      (in_order-map points_cmp entry_shape ordered (in_order-in_order (on_total entry_shape points_keys.total) county.chains))
+      (λ k. subst (λ n. n ≤ 1) (sym (times-in_order points_cmp entry_shape (on entry_shape points_cmp) county.chains k))
       (least_apart k)) in
-      let directions : AllByRecursion (λ ps. points_cmp ps (reverse ps) ≡ Less) (map least_points ordered) =
-      all_map (λ ps. points_cmp ps (reverse ps) ≡ Less) least_points ordered
-      (each_from (λ e. points_cmp (least_points e) (reverse (least_points e)) ≡ Less) ordered
-      (λ e m. least_first e.1 (not_own_reverse county profile e (from_in_order (on least_points points_cmp) county.chains e m))
+      let directions : AllByRecursion (λ ps. points_cmp ps (reverse ps) ≡ Less) (map entry_shape ordered) =
+      all_map (λ ps. points_cmp ps (reverse ps) ≡ Less) entry_shape ordered
+      (each_from (λ e. points_cmp (entry_shape e) (reverse (entry_shape e)) ≡ Less) ordered
+      (λ e m. least_first e.1 (not_own_reverse county profile e (from_in_order (on entry_shape points_cmp) county.chains e m))
       (comes_turned e.1) refl)) in
       record {
         directions = all_unmap (λ ps. points_cmp ps (reverse ps) ≡ Less) entry_points (arranged county (ascending county)).chains
@@ -210,7 +210,7 @@ canonical_exists records accepted =
     record {
       accepted = accepted;
       canonical = record {
-        tidy = packed_tidy (arranged county steps) new (arranged_tidy county steps is arranges sides);
+        in_form = packed_arranged (arranged county steps) new (is_arranged county steps is arranges sides);
         least = subst IsLeast (sym back) (ascending_least county is accepted.profile);
       };
       same = record {

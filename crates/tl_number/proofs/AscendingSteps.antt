@@ -20,7 +20,7 @@ use Rattle.tl_county.specs.CountyRules.{tlids}
 use Rattle.tl_county.specs.Orders.{IsInOrder, in_order}
 use Rattle.tl_county.proofs.KeyOrders.{point_keys, points_keys}
 use Rattle.tl_county.proofs.Lists.{map-map, all_weaker, all_map, all_unmap}
-use Rattle.tl_number.specs.Arrangement.{ascending, least_points, comes_turned}
+use Rattle.tl_number.specs.Arrangement.{ascending, entry_shape, comes_turned}
 use Rattle.tl_number.specs.AscendingSteps.{least_step, start_at, start_cmp, start_step}
 use Rattle.tl_number.specs.Steps.{arrangement_of, AreSteps, step_points, tlid_at}
 use Rattle.tl_number.specs.declared.step.Start.{Start}
@@ -94,7 +94,7 @@ module _ (county : County) where
   abbrev chosen : Option Chain → List Coordinates
   chosen o = points_of (option_map (turned_if (is_gt (points_cmp (points_of o) (reverse (points_of o))))) o)
 
-  least_read : (i : ℕ) (x : ℕ × Chain) → slice_get county.chains i ≡ Some x → step_points county (least_step county i) ≡ least_points x
+  least_read : (i : ℕ) (x : ℕ × Chain) → slice_get county.chains i ≡ Some x → step_points county (least_step county i) ≡ entry_shape x
   least_read i x e = ap chosen (slice_get-map (λ (d : ℕ × Chain). d.1) county.chains i ∙ ap (option_map (λ (d : ℕ × Chain). d.1)) e)
 
   turned_read : (i : ℕ) (x : ℕ × Chain) → slice_get county.chains i ≡ Some x → (least_step county i).turned ≡ comes_turned x.1
@@ -102,7 +102,7 @@ module _ (county : County) where
       (slice_get-map (λ (d : ℕ × Chain). d.1) county.chains i ∙ ap (option_map (λ (d : ℕ × Chain). d.1)) e)
 
   agrees : (i j : ℕ) (x y : ℕ × Chain) → slice_get county.chains i ≡ Some x → slice_get county.chains j ≡ Some y
-      → start_cmp county (start_at county i) (start_at county j) ≡ ordering_then (points_cmp (least_points x) (least_points y))
+      → start_cmp county (start_at county i) (start_at county j) ≡ ordering_then (points_cmp (entry_shape x) (entry_shape y))
       (nat_cmp i j)
   agrees i j x y e f =
       heads_decide point_cmp (step_points county (least_step county i)) (step_points county (least_step county j)) (nat_cmp i j)
@@ -129,17 +129,17 @@ module _ (county : County) where
     abbrev place_of : Start → ℕ
     place_of s = s.step.place
 
-    read : map (slice_get county.chains) (map place_of starts) ≡ map Some (in_order (on least_points points_cmp) county.chains)
-    read = sorted_items (start_at county) place_of (λ i. refl) (start_cmp county) (on_total least_points points_keys.total) county.chains
+    read : map (slice_get county.chains) (map place_of starts) ≡ map Some (in_order (on entry_shape points_cmp) county.chains)
+    read = sorted_items (start_at county) place_of (λ i. refl) (start_cmp county) (on_total entry_shape points_keys.total) county.chains
         agrees starts p ordered
 
     each_start : AllByRecursion (λ s. s ≡ start_at county (place_of s)) starts
-    each_start = each_item (start_at county) place_of (λ i. refl) (start_cmp county) (on_total least_points points_keys.total) county.chains
+    each_start = each_item (start_at county) place_of (λ i. refl) (start_cmp county) (on_total entry_shape points_keys.total) county.chains
         agrees starts p ordered
 
     -- The steps of sorted starts are the ascending arrangement.
     pub starts_ascend : arrangement_of county (map start_step starts) ≡ ascending county
-    starts_ascend = steps_told (map start_step starts) (in_order (on least_points points_cmp) county.chains)
+    starts_ascend = steps_told (map start_step starts) (in_order (on entry_shape points_cmp) county.chains)
         (all_map (λ s. s ≡ least_step county s.place) start_step starts
         (all_weaker (λ s. s ≡ start_at county (place_of s)) (λ s. start_step s ≡ least_step county (start_step s).place)
         (λ s e. ap start_step e) starts each_start))
@@ -148,5 +148,5 @@ module _ (county : County) where
     pub starts_there : AreSteps county (map start_step starts)
     starts_there = all_map (λ (s : Step). s.place < length county.chains) start_step starts
         (all_unmap (λ n. n < length county.chains) place_of starts (places_below (length county.chains) (map place_of starts)
-        (item_places (start_at county) place_of (λ i. refl) (start_cmp county) (on_total least_points points_keys.total) county.chains
+        (item_places (start_at county) place_of (λ i. refl) (start_cmp county) (on_total entry_shape points_keys.total) county.chains
         agrees starts p ordered)))

@@ -14,10 +14,10 @@ pub mod Accepted
 pub mod FirstSeen
 pub mod Placed
 pub mod Carrying
-pub mod Tidied
-pub mod TidyPacking
+pub mod ArrangedCounties
+pub mod ArrangedPacking
 pub mod Ascending
-pub mod TidyNumbers
+pub mod ArrangedNumbers
 pub mod SeenKeys
 pub mod SeenPlaces
 pub mod StepChains

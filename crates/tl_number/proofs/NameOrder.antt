@@ -30,7 +30,7 @@ use Rattle.tl_number.specs.Arrangement.{Arrangement, arranged_tlids, placed, nam
 use Rattle.tl_number.specs.Growth.{first_seen_after, first_seen}
 use Rattle.tl_number.specs.NameItems.{feats_along_steps, from_one, rank_of, ranked_at, ranked_cmp, ranked_place}
 use Rattle.tl_number.specs.Steps.{arrangement_of}
-use Rattle.tl_number.specs.Uses.{Use, use_cmp, all_uses, uses_from, uses_of, name_key, name_key_cmp}
+use Rattle.tl_number.specs.Uses.{Use, use_cmp, all_uses, uses_from, uses_of_name, name_key, name_key_cmp}
 use Rattle.tl_number.specs.ViewFacts.{AreWhole, AreReadAt}
 use Rattle.tl_number.specs.declared.step.Step.{Step}
 use Rattle.tl_number.specs.declared.table_items.RankedName.{RankedName}
@@ -142,7 +142,7 @@ module _ (county : County) (steps : List Step) (is : IsCounty county) (whole : A
   ranked : (f : ℕ) → rank_of seen (Some f) ≡ place_from nat_keys 1 (first_seen_after nat_cmp [] (map (λ (u : Use × ℕ). u.1) used)) f
   ranked f = rank_told seen f ∙ ap (λ ks. place_from nat_keys 1 ks f) seen_uses
 
-  by_uses : (f g : ℕ) → nat_cmp (rank_of seen (Some f)) (rank_of seen (Some g)) ≡ slice_cmp use_cmp (uses_of used f) (uses_of used g)
+  by_uses : (f g : ℕ) → nat_cmp (rank_of seen (Some f)) (rank_of seen (Some g)) ≡ slice_cmp use_cmp (uses_of_name used f) (uses_of_name used g)
   by_uses f g =
       ap₂ nat_cmp (ranked f) (ranked g)
       ∙ sym (ranks_decide [] used (all_uses-strict (placed county order)
@@ -164,7 +164,7 @@ module _ (county : County) (steps : List Step) (is : IsCounty county) (whole : A
       slice_get-map (λ (d : ℕ × Body5). d.0) county.names n ∙ ap (option_map (λ (d : ℕ × Body5). d.0)) e in
       (λ l. item_cmp (value i x h l) (number i x h l) i (value j y k l) (number j y k l) j)
       ∙ ap (λ o. ordering_then (name_body_cmp x.1 y.1) (ordering_then o (nat_cmp i j))) (by_uses x.0 y.0)
-      ∙ then_assoc (name_body_cmp x.1 y.1) (slice_cmp use_cmp (uses_of used x.0) (uses_of used y.0)) (nat_cmp i j)
+      ∙ then_assoc (name_body_cmp x.1 y.1) (slice_cmp use_cmp (uses_of_name used x.0) (uses_of_name used y.0)) (nat_cmp i j)
 
   -- the sorted names are those in their new order
   pub names_told : AreReadAt county.names (map ranked_place items) (names_in_order county order)

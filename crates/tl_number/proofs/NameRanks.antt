@@ -19,7 +19,7 @@ use Rattle.tl_county.proofs.Keys.{differ_apart}
 use Rattle.tl_county.proofs.Members.{among-map}
 use Rattle.tl_county.proofs.Numbers.{times-of_number}
 use Rattle.tl_number.specs.Growth.{first_seen_after}
-use Rattle.tl_number.specs.Uses.{Use, use_cmp, uses_of}
+use Rattle.tl_number.specs.Uses.{Use, use_cmp, uses_of_name}
 use Rattle.tl_number.proofs.Counting.{less}
 use Rattle.tl_number.proofs.FirstSeen.{place_from, place_bounds, place-append, place-new, seen_stays}
 use Rattle.tl_number.proofs.FirstSeen.{known_after, all_after}
@@ -107,16 +107,16 @@ uses_total : IsTotalOrder (slice_cmp use_cmp)
 uses_total = (lists_keys use_keys).total
 
 -- a FEAT has as many uses as it is named
-uses_counted : (us : List (Use × ℕ)) (g : ℕ) → length (uses_of us g) ≡ times nat_cmp g (map (λ (u : Use × ℕ). u.1) us)
+uses_counted : (us : List (Use × ℕ)) (g : ℕ) → length (uses_of_name us g) ≡ times nat_cmp g (map (λ (u : Use × ℕ). u.1) us)
 uses_counted us g = length-map (filter (λ (u : Use × ℕ). u.1 == g) us) (λ (u : Use × ℕ). u.0)
     ∙ sym (times-of_number (λ (u : Use × ℕ). u.1) g us)
 
 -- the uses of a FEAT where the first use is its own, and where it isn't
-own_use : (u : Use × ℕ) (us : List (Use × ℕ)) (f : ℕ) → u.1 ≡ f → uses_of (u ∷ us) f ≡ u.0 ∷ uses_of us f
+own_use : (u : Use × ℕ) (us : List (Use × ℕ)) (f : ℕ) → u.1 ≡ f → uses_of_name (u ∷ us) f ≡ u.0 ∷ uses_of_name us f
 own_use u us f e = ap (λ b. map (λ (w : Use × ℕ). w.0) (cond b (u ∷ filter (λ w. w.1 == f) us) (filter (λ w. w.1 == f) us)))
     (eq-eqb u.1 f e)
 
-other_use : (u : Use × ℕ) (us : List (Use × ℕ)) (f : ℕ) → (u.1 ≡ f → ⊥) → uses_of (u ∷ us) f ≡ uses_of us f
+other_use : (u : Use × ℕ) (us : List (Use × ℕ)) (f : ℕ) → (u.1 ≡ f → ⊥) → uses_of_name (u ∷ us) f ≡ uses_of_name us f
 other_use u us f ne = ap (λ b. map (λ (w : Use × ℕ). w.0) (cond b (u ∷ filter (λ w. w.1 == f) us) (filter (λ w. w.1 == f) us)))
     (ne_eqb u.1 f ne)
 
@@ -130,10 +130,10 @@ module _ (seen : List ℕ) (u : Use) (h : ℕ) (us : List (Use × ℕ)) (after :
   abbrev last : List ℕ
   last = first_seen_after nat_cmp (seen ++ (h ∷ [])) feats
 
-  comes_first : (mine : List Use) → slice_cmp use_cmp (u ∷ mine) (uses_of us g) ≡ nat_cmp (rank last h) (rank last g)
-  comes_first mine = go (uses_of us g) refl
+  comes_first : (mine : List Use) → slice_cmp use_cmp (u ∷ mine) (uses_of_name us g) ≡ nat_cmp (rank last h) (rank last g)
+  comes_first mine = go (uses_of_name us g) refl
     where
-      go : (vs : List Use) → uses_of us g ≡ vs → slice_cmp use_cmp (u ∷ mine) (uses_of us g) ≡ nat_cmp (rank last h) (rank last g)
+      go : (vs : List Use) → uses_of_name us g ≡ vs → slice_cmp use_cmp (u ∷ mine) (uses_of_name us g) ≡ nat_cmp (rank last h) (rank last g)
       go [] e =
           let none : times nat_cmp g feats ≡ 0 = sym (uses_counted us g) ∙ ap length e in
           let zero_rank = never_ranked seen feats h g new unseen apart none in
@@ -150,7 +150,7 @@ module _ (seen : List ℕ) (u : Use) (h : ℕ) (us : List (Use × ℕ)) (after :
 -- The ranks of two FEATs stand to each other as their uses do.
 pub ranks_decide : (seen : List ℕ) (us : List (Use × ℕ)) → IsStrictlySortedBy use_cmp (map (λ (w : Use × ℕ). w.0) us) → (f g : ℕ)
     → times nat_cmp f seen ≡ 0 → times nat_cmp g seen ≡ 0
-    → slice_cmp use_cmp (uses_of us f) (uses_of us g) ≡ nat_cmp (rank (first_seen_after nat_cmp seen (map (λ (w : Use × ℕ). w.1) us)) f)
+    → slice_cmp use_cmp (uses_of_name us f) (uses_of_name us g) ≡ nat_cmp (rank (first_seen_after nat_cmp seen (map (λ (w : Use × ℕ). w.1) us)) f)
     (rank (first_seen_after nat_cmp seen (map (λ (w : Use × ℕ). w.1) us)) g)
 unfolding IsStrictlySortedBy
 ranks_decide seen [] strict f g nf ng = ap₂ nat_cmp (sym (unranked 1 seen f nf)) (sym (unranked 1 seen g ng))
@@ -164,36 +164,36 @@ ranks_decide seen (u ∷ us) strict f g nf ng =
         (first_seen_after nat_cmp (seen ++ (u.1 ∷ [])) (map (λ (w : Use × ℕ). w.1) us))) (ap (nat_lt 0) none)
 
     ahead : (k j : ℕ) → k ≡ u.1 → is_eq (nat_cmp j u.1) ≡ false → times nat_cmp k seen ≡ 0 → times nat_cmp j seen ≡ 0
-        → slice_cmp use_cmp (uses_of (u ∷ us) k) (uses_of (u ∷ us) j) ≡ nat_cmp
+        → slice_cmp use_cmp (uses_of_name (u ∷ us) k) (uses_of_name (u ∷ us) j) ≡ nat_cmp
         (rank (first_seen_after nat_cmp seen (u.1 ∷ map (λ (w : Use × ℕ). w.1) us)) k)
         (rank (first_seen_after nat_cmp seen (u.1 ∷ map (λ (w : Use × ℕ). w.1) us)) j)
     ahead k j e ne nk nj =
         let none : times nat_cmp u.1 seen ≡ 0 = subst (λ n. times nat_cmp n seen ≡ 0) e nk in
         ap₂ (slice_cmp use_cmp) (own_use u us k (sym e)) (other_use u us j (λ s. differ_apart nat_keys j u.1 ne (sym s)))
-        ∙ comes_first seen u.0 u.1 us strict.0 j none nj ne (uses_of us k)
+        ∙ comes_first seen u.0 u.1 us strict.0 j none nj ne (uses_of_name us k)
         ∙ ap₂ (λ ks n. nat_cmp (rank ks n) (rank ks j)) (sym (next none)) (sym e)
 
     go : (f ≡ u.1) ⊎ (is_eq (nat_cmp f u.1) ≡ false) → (g ≡ u.1) ⊎ (is_eq (nat_cmp g u.1) ≡ false)
-        → (slice_cmp use_cmp (uses_of us f) (uses_of us g) ≡ nat_cmp
+        → (slice_cmp use_cmp (uses_of_name us f) (uses_of_name us g) ≡ nat_cmp
         (rank (first_seen_after nat_cmp seen (map (λ (w : Use × ℕ). w.1) us)) f)
         (rank (first_seen_after nat_cmp seen (map (λ (w : Use × ℕ). w.1) us)) g))
         → (times nat_cmp f (seen ++ (u.1 ∷ [])) ≡ 0 → times nat_cmp g (seen ++ (u.1 ∷ [])) ≡ 0
-        → slice_cmp use_cmp (uses_of us f) (uses_of us g) ≡ nat_cmp
+        → slice_cmp use_cmp (uses_of_name us f) (uses_of_name us g) ≡ nat_cmp
         (rank (first_seen_after nat_cmp (seen ++ (u.1 ∷ [])) (map (λ (w : Use × ℕ). w.1) us)) f)
         (rank (first_seen_after nat_cmp (seen ++ (u.1 ∷ [])) (map (λ (w : Use × ℕ). w.1) us)) g))
-        → slice_cmp use_cmp (uses_of (u ∷ us) f) (uses_of (u ∷ us) g) ≡ nat_cmp
+        → slice_cmp use_cmp (uses_of_name (u ∷ us) f) (uses_of_name (u ∷ us) g) ≡ nat_cmp
         (rank (first_seen_after nat_cmp seen (u.1 ∷ map (λ (w : Use × ℕ). w.1) us)) f)
         (rank (first_seen_after nat_cmp seen (u.1 ∷ map (λ (w : Use × ℕ). w.1) us)) g)
     go (inl a) (inl b) ih jh =
         let same : f ≡ g = a ∙ sym b in
-        subst (λ n. slice_cmp use_cmp (uses_of (u ∷ us) f) (uses_of (u ∷ us) n) ≡ nat_cmp
+        subst (λ n. slice_cmp use_cmp (uses_of_name (u ∷ us) f) (uses_of_name (u ∷ us) n) ≡ nat_cmp
         (rank (first_seen_after nat_cmp seen (u.1 ∷ map (λ (w : Use × ℕ). w.1) us)) f)
         (rank (first_seen_after nat_cmp seen (u.1 ∷ map (λ (w : Use × ℕ). w.1) us)) n)) same
-        (tied_itself uses_total (uses_of (u ∷ us) f)
+        (tied_itself uses_total (uses_of_name (u ∷ us) f)
         ∙ sym (tied_itself nat_cmp_total (rank (first_seen_after nat_cmp seen (u.1 ∷ map (λ (w : Use × ℕ). w.1) us)) f)))
     go (inl a) (inr b) ih jh = ahead f g a b nf ng
     go (inr a) (inl b) ih jh =
-        uses_total.antisymm (uses_of (u ∷ us) f) (uses_of (u ∷ us) g) ∙ ap ordering_reverse (ahead g f b a ng nf)
+        uses_total.antisymm (uses_of_name (u ∷ us) f) (uses_of_name (u ∷ us) g) ∙ ap ordering_reverse (ahead g f b a ng nf)
         ∙ sym (nat_cmp_total.antisymm (rank (first_seen_after nat_cmp seen (u.1 ∷ map (λ (w : Use × ℕ). w.1) us)) f)
         (rank (first_seen_after nat_cmp seen (u.1 ∷ map (λ (w : Use × ℕ). w.1) us)) g))
     go (inr a) (inr b) ih jh =
@@ -204,13 +204,13 @@ ranks_decide seen (u ∷ us) strict f g nf ng =
         more : (k : ℕ) → times nat_cmp k seen ≡ 0 → is_eq (nat_cmp k u.1) ≡ false → times nat_cmp k (seen ++ (u.1 ∷ [])) ≡ 0
         more k n ne = times-append nat_keys k seen (u.1 ∷ []) ∙ ap₂ (λ x y. x + y) n (times-no nat_keys k u.1 [] ne)
 
-        choose : (b : Bool) → (slice_cmp use_cmp (uses_of us f) (uses_of us g) ≡ nat_cmp
+        choose : (b : Bool) → (slice_cmp use_cmp (uses_of_name us f) (uses_of_name us g) ≡ nat_cmp
             (rank (first_seen_after nat_cmp seen (map (λ (w : Use × ℕ). w.1) us)) f)
             (rank (first_seen_after nat_cmp seen (map (λ (w : Use × ℕ). w.1) us)) g))
-            → (slice_cmp use_cmp (uses_of us f) (uses_of us g) ≡ nat_cmp
+            → (slice_cmp use_cmp (uses_of_name us f) (uses_of_name us g) ≡ nat_cmp
             (rank (first_seen_after nat_cmp (seen ++ (u.1 ∷ [])) (map (λ (w : Use × ℕ). w.1) us)) f)
             (rank (first_seen_after nat_cmp (seen ++ (u.1 ∷ [])) (map (λ (w : Use × ℕ). w.1) us)) g))
-            → slice_cmp use_cmp (uses_of us f) (uses_of us g) ≡ nat_cmp
+            → slice_cmp use_cmp (uses_of_name us f) (uses_of_name us g) ≡ nat_cmp
             (rank (cond b (first_seen_after nat_cmp seen (map (λ (w : Use × ℕ). w.1) us))
             (first_seen_after nat_cmp (seen ++ (u.1 ∷ [])) (map (λ (w : Use × ℕ). w.1) us))) f)
             (rank (cond b (first_seen_after nat_cmp seen (map (λ (w : Use × ℕ). w.1) us))

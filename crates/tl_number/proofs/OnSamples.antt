@@ -12,7 +12,7 @@ use Rattle.tl_county.proofs.Samples.{there, canonical_there, canonical_shaped, c
 use Rattle.tl_county.proofs.Samples.{canonical_schools, canonical_meeting, points_up}
 use Rattle.tl_number.specs.Canonical.{IsCanonical, AreFull}
 use Rattle.tl_county.specs.Packing.{packed}
-use Rattle.tl_number.specs.Tidy.{IsTidy}
+use Rattle.tl_number.specs.ArrangedCounty.{IsArranged}
 
 -- the packing of these counties
 pub packed_there : packed (county_of canonical_there) ≡ canonical_there
@@ -34,7 +34,7 @@ packed_meeting = refl
 pub there_is_canonical : IsCanonical canonical_there
 unfolding IsStrictlySortedBy
 there_is_canonical = record {
-  tidy = record {
+  in_form = record {
     linked = linked_computed canonical_there refl;
     order = record {
       types = refl;
@@ -68,7 +68,7 @@ there_is_canonical = record {
 
 -- its source isn't canonical: its TLID isn't 1
 pub source_is_not : IsCanonical there → ⊥
-source_is_not h = true≢false (ap (λ ns. slice_index ns 0 == 500) h.tidy.numbers.tlids)
+source_is_not h = true≢false (ap (λ ns. slice_index ns 0 == 500) h.in_form.numbers.tlids)
 
 abbrev onto_canonical : Renumbering
 onto_canonical = record { chains = (500, 1) ∷ []; names = []; polygons = []; lands = []; nodes = (11, 1) ∷ (12, 2) ∷ []; turned = [] }
@@ -99,7 +99,7 @@ there_is_same = record {
 pub polygons_are_canonical : IsCanonical canonical_polygons
 unfolding IsStrictlySortedBy
 polygons_are_canonical = record {
-  tidy = record {
+  in_form = record {
     linked = linked_computed canonical_polygons refl;
     order = record {
       types = refl;
@@ -134,7 +134,7 @@ polygons_are_canonical = record {
 pub meeting_is_canonical : IsCanonical canonical_meeting
 unfolding IsStrictlySortedBy
 meeting_is_canonical = record {
-  tidy = record {
+  in_form = record {
     linked = linked_computed canonical_meeting refl;
     order = record {
       types = refl;
@@ -169,7 +169,7 @@ meeting_is_canonical = record {
 pub schools_are_canonical : IsCanonical canonical_schools
 unfolding IsStrictlySortedBy
 schools_are_canonical = record {
-  tidy = record {
+  in_form = record {
     linked = linked_computed canonical_schools refl;
     order = record {
       types = refl;
@@ -202,7 +202,7 @@ schools_are_canonical = record {
 }
 
 -- two names that tie in their content stand in the order of their uses
-pub named_are_canonical : IsTidy (county_of (canonical_named (1 ∷ 2 ∷ [])))
+pub named_are_canonical : IsArranged (county_of (canonical_named (1 ∷ 2 ∷ [])))
 named_are_canonical = record {
   tlids = refl;
   feats = refl;
@@ -216,7 +216,7 @@ named_are_canonical = record {
 }
 
 -- the name without a use comes first
-pub unused_first : IsTidy (county_of (canonical_named (2 ∷ 2 ∷ [])))
+pub unused_first : IsArranged (county_of (canonical_named (2 ∷ 2 ∷ [])))
 unused_first = record {
   tlids = refl;
   feats = refl;
@@ -250,7 +250,7 @@ shaped_rtsqs false = refl
 pub shaped_is_canonical : IsCanonical canonical_shaped
 unfolding IsStrictlySortedBy
 shaped_is_canonical = record {
-  tidy = record {
+  in_form = record {
     linked = linked_computed canonical_shaped refl;
     order = record {
       types = refl;

@@ -23,7 +23,7 @@ use Rattle.tl_county.proofs.Members.{known_is_among}
 use Rattle.tl_county.proofs.PackedTypes.{by_type_of}
 use Rattle.tl_county.proofs.Reordered.{to_filter}
 use Rattle.tl_county.proofs.TypeCounts.{HasAtMost, by_type_within}
-use Rattle.tl_number.proofs.TidyNumbers.{few_polygons, long_joined, short_joined}
+use Rattle.tl_number.proofs.ArrangedNumbers.{few_polygons, long_joined, short_joined}
 
 -- places of chains, names, polygons and landmarks fit 32 bits
 pub record FitsPlaces (county : County) : Type 0 where

@@ -1,4 +1,4 @@
--- The type P records of a tidy list are its county's polygons, packed; so the whole list is what its county is packed into.
+-- The type P records of an arranged list are its county's polygons, packed; so the whole list is what its county is packed into.
 use Rattle.std.proofs.Common.{◌≡◌, ◌⊎◌, ◌≤◌, ℕ, suc, List, [], ◌∷◌, ◌++◌, map, flat_map, filter_map, false}
 use Rattle.std.proofs.Common.{Option, Some, None, IsTrue, Ordering, Less, Equal, Greater, is_gt, is_eq, sym, refl, ap, ◌∙◌}
 use Rattle.std.proofs.Common.{subst, inl, inr, arith, nat_cmp}
@@ -28,9 +28,9 @@ use Rattle.tl_county.proofs.Keys.{apart_tail, known_all, known-right}
 use Rattle.tl_county.proofs.LinkedCounty.{keys-county}
 use Rattle.tl_county.proofs.Members.{among-map, among-unmap, among_known, known_is_among, in_filter_map, to_filter_map}
 use Rattle.tl_county.proofs.Numbers.{times-in_order, from_in_order, to_in_order}
-use Rattle.tl_number.specs.Canonical.{IsTidyList, StandsInOrder, IsPacked}
+use Rattle.tl_number.specs.Canonical.{IsArrangedList, StandsInOrder, IsPacked}
 use Rattle.tl_county.specs.Packing.{by_type, type_after_type, packed_body, packed_p, p_polyid, packed, packed_by_type}
-use Rattle.tl_number.specs.Tidy.{IsTidy}
+use Rattle.tl_number.specs.ArrangedCounty.{IsArranged}
 use Rattle.tl_number.proofs.Repacked.{ones_back, twos_back, fours_back, fives_back, sixes_back, sevens_back, is_back}
 
 -- in order by a number, where equal numbers mean equal keys and no key stands twice
@@ -101,7 +101,7 @@ few_keys g k (d ∷ ds) = go (g d) (few_keys g k ds) (same_or_not key_keys k d)
         times-no key_keys k d (map p_key (filter_map packed_p (map (λ key. (key, g key)) ds))) ne in
         omega arith
 
-module _ (records : List Record) (linked : IsLinked records) (order : StandsInOrder records) (tidy : IsTidy (county_of records)) where
+module _ (records : List Record) (linked : IsLinked records) (order : StandsInOrder records) (in_form : IsArranged (county_of records)) where
   abbrev all_keys : List PolygonKey
   all_keys = flat_map side_keys (of_type_i records) ++ map p_key (of_type_p records)
 
@@ -149,10 +149,10 @@ module _ (records : List Record) (linked : IsLinked records) (order : StandsInOr
       known_is_among key_keys (p_key z) (polygons_along (county_of records).chains)
       (ltb-true 0 (times key_cmp (p_key z) (polygons_along (county_of records).chains))
       (known_all key_keys (λ k. IsTrue (stands_in key_cmp k (polygons_along (county_of records).chains)))
-      (polygon_keys (county_of records)) tidy.on_sides (p_key z) listed)) in
+      (polygon_keys (county_of records)) in_form.on_sides (p_key z) listed)) in
       all_among (λ other. (p_key x).1 ≡ other.1 → p_key x ≡ other) (p_key y) (polygons_along (county_of records).chains)
       (all_among (λ key. AllByRecursion (λ other. key.1 ≡ other.1 → key ≡ other) (polygons_along (county_of records).chains)) (p_key x)
-      (polygons_along (county_of records).chains) tidy.one_cenid (side x m))
+      (polygons_along (county_of records).chains) in_form.one_cenid (side x m))
       (side y n) e
 
   packed_apart : IsApart key_cmp (map p_key (in_order (on p_polyid nat_cmp) packed_ps))
@@ -176,10 +176,10 @@ module _ (records : List Record) (linked : IsLinked records) (order : StandsInOr
       inside
       (λ z m. to_in_order (on p_polyid nat_cmp) packed_ps z (to_packed z m))
 
--- Whatever its choice of TLIDs and directions, a tidy list is what its county is packed into.
-pub tidy_is_packed : (records : List Record) → IsLinked records → StandsInOrder records → IsPacked records → IsTidy (county_of records)
+-- Whatever its choice of TLIDs and directions, an arranged list is what its county is packed into.
+pub arranged_is_packed : (records : List Record) → IsLinked records → StandsInOrder records → IsPacked records → IsArranged (county_of records)
     → records ≡ packed (county_of records)
-tidy_is_packed records linked order full tidy = order.types ∙ ap type_after_type same
+arranged_is_packed records linked order full in_form = order.types ∙ ap type_after_type same
   where
     same : by_type records ≡ packed_by_type (county_of records)
     same = λ i. record {
@@ -191,8 +191,8 @@ tidy_is_packed records linked order full tidy = order.types ∙ ap type_after_ty
       of_type_7 = sym (sevens_back records linked order full) i;
       of_type_8 = sym (in_order-itself link_cmp (of_type_8 records) order.of_type_8) i;
       of_type_i = sym (is_back records linked order full) i;
-      of_type_p = sym (ps_back records linked order tidy) i;
+      of_type_p = sym (ps_back records linked order in_form) i;
     }
 
-pub tidy_list_is_packed : (records : List Record) → IsTidyList records → records ≡ packed (county_of records)
-tidy_list_is_packed records h = tidy_is_packed records h.linked h.order h.packed h.numbers
+pub arranged_list_is_packed : (records : List Record) → IsArrangedList records → records ≡ packed (county_of records)
+arranged_list_is_packed records h = arranged_is_packed records h.linked h.order h.packed h.numbers

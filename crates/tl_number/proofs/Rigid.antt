@@ -1,4 +1,4 @@
--- Tidy counties that are carried onto each other with every TLID kept and nothing turned are equal; and of counties that
+-- Arranged counties that are carried onto each other with every TLID kept and nothing turned are equal; and of counties that
 -- are least besides, any renaming that carries one onto the other is such a one.
 use Rattle.std.proofs.Common.{◌≡◌, ℕ, List, map, length, reverse, Bool, true, false, Option, Some, None, option_map}
 use Rattle.std.proofs.Common.{option_to_list, IsTrue, Ordering, Less, Equal, Greater, sym, refl, ap, ◌∙◌, subst, nat_cmp}
@@ -26,7 +26,7 @@ use Rattle.tl_county.proofs.Lists.{map-map, map_agree_all, all_weaker, all_both,
 use Rattle.tl_county.proofs.Members.{among-permutation, among-map}
 use Rattle.tl_county.proofs.Sameness.{keys_known}
 use Rattle.tl_number.specs.Growth.{up_to}
-use Rattle.tl_number.specs.Tidy.{IsTidy, IsLeast, entry_points}
+use Rattle.tl_number.specs.ArrangedCounty.{IsArranged, IsLeast, entry_points}
 use Rattle.tl_number.proofs.Counting.{map-equal_all}
 use Rattle.tl_number.proofs.SameNumbers.{kept_entry, KeepsChains, nodes_kept, polygons_kept, all_themselves}
 use Rattle.tl_number.proofs.SameNames.{names_equal, feats_kept}
@@ -65,7 +65,7 @@ chain_fixed r e h = λ i. (
   },
 )
 
-module _ (r : Renumbering) (a b : County) (h : Carries r a b) (wa : IsCounty a) (wb : IsCounty b) (ta : IsTidy a) (tb : IsTidy b) where
+module _ (r : Renumbering) (a b : County) (h : Carries r a b) (wa : IsCounty a) (wb : IsCounty b) (ta : IsArranged a) (tb : IsArranged b) where
   -- where the chains are kept, all is
   module _ (e : KeepsChains r a b) where
     chains_equal : a.chains ≡ b.chains

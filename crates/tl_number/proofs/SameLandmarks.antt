@@ -1,4 +1,4 @@
--- Of two tidy counties, one carried onto the other with each TLID kept and no chain turned, the landmarks and their links
+-- Of two arranged counties, one carried onto the other with each TLID kept and no chain turned, the landmarks and their links
 -- are equal: landmarks stand in the order of their bodies and links.
 use Rattle.std.proofs.Common.{◌≡◌, ◌⊎◌, ◌<◌, ℕ, zero, suc, ◌==◌, List, [], ◌∷◌, map, filter, length, Bool, true, false, cond}
 use Rattle.std.proofs.Common.{◌&&◌, IsTrue, Ordering, Less, Equal, Greater, is_eq, is_gt, sym, refl, ap, ◌∙◌, subst, inl, inr}
@@ -25,7 +25,7 @@ use Rattle.tl_county.proofs.Keys.{image-injective, apart_from_sorted, known_all,
 use Rattle.tl_county.proofs.Lists.{map-map, map_agree_all, all_weaker, all_map}
 use Rattle.tl_county.proofs.Sameness.{keys_known}
 use Rattle.tl_number.specs.Growth.{up_to}
-use Rattle.tl_number.specs.Tidy.{IsTidy}
+use Rattle.tl_number.specs.ArrangedCounty.{IsArranged}
 use Rattle.tl_number.specs.Uses.{links_of, LandmarkKey, landmark_key, landmark_key_cmp}
 use Rattle.tl_number.proofs.Counting.{entries_equal, map-equal_all, up_to-strict}
 
@@ -161,7 +161,7 @@ no_links known (x ∷ xs) a y e k = go (cases_eq x.land y) (no_links known xs a.
         (filter (is_link y k) xs))) (ne_eqb x.land y ne) ∙ ih
 
 module _ (r : Renumbering) (a b : County) (h : Carries r a b) (aa : IsAscending a) (ab : IsAscending b) (ca : IsClosed a) (cb : IsClosed b)
-    (ta : IsTidy a) (tb : IsTidy b)
+    (ta : IsArranged a) (tb : IsArranged b)
     (fixed : (k : PolygonKey) → Known key_cmp (polygon_keys a) k → image key_cmp r.polygons k ≡ k) where
   f_land : ℕ → ℕ
   f_land = image nat_cmp r.lands

@@ -1,4 +1,4 @@
--- Of two tidy counties, one carried onto the other with each TLID kept and no chain turned, the names and the FEATs of
+-- Of two arranged counties, one carried onto the other with each TLID kept and no chain turned, the names and the FEATs of
 -- chains are equal: names stand in the order of content and uses, and their uses give the chains' lists back.
 use Rattle.std.proofs.Common.{◌≡◌, ◌⊎◌, ℕ, suc, ◌==◌, List, [], ◌∷◌, ◌++◌, map, filter, length, Bool, true, false, cond, IsTrue}
 use Rattle.std.proofs.Common.{sym, refl, ap, ap₂, ◌∙◌, subst, inl, inr, nat_cmp, IsPermutation}
@@ -22,8 +22,8 @@ use Rattle.tl_county.proofs.Lists.{map-map, map_agree_all, all_weaker, all_map, 
 use Rattle.tl_county.proofs.Members.{among-unmap, one_entry}
 use Rattle.tl_county.proofs.Sameness.{keys_known}
 use Rattle.tl_number.specs.Growth.{up_to}
-use Rattle.tl_number.specs.Tidy.{IsTidy}
-use Rattle.tl_number.specs.Uses.{Use, use_cmp, uses_from, all_uses, uses_of, NameKey, name_key, name_key_cmp}
+use Rattle.tl_number.specs.ArrangedCounty.{IsArranged}
+use Rattle.tl_number.specs.Uses.{Use, use_cmp, uses_from, all_uses, uses_of_name, NameKey, name_key, name_key_cmp}
 use Rattle.tl_number.proofs.Counting.{entries_equal, map-equal_all, up_to-strict}
 use Rattle.tl_number.proofs.SameNumbers.{kept_entry, KeepsChains, all_themselves}
 use Rattle.tl_number.proofs.UsesOrder.{use_keys, all_uses-strict, use_under, under_use}
@@ -70,11 +70,11 @@ from_all_uses P (c ∷ cs) a = (
 
 -- where renaming keeps FEATs apart, a renamed name has the uses that it had
 pub uses_of-renamed : (f : ℕ → ℕ) (Dom : ℕ → Type 0) → ((n m : ℕ) → Dom n → Dom m → f n ≡ f m → n ≡ m) → (us : List (Use × ℕ))
-    → AllByRecursion (λ u. Dom u.1) us → (y : ℕ) → Dom y → uses_of (map (renamed_use f) us) (f y) ≡ uses_of us y
+    → AllByRecursion (λ u. Dom u.1) us → (y : ℕ) → Dom y → uses_of_name (map (renamed_use f) us) (f y) ≡ uses_of_name us y
 uses_of-renamed f Dom inj [] a y d = refl
 uses_of-renamed f Dom inj (u ∷ us) a y d = go (cases_eq u.1 y) (uses_of-renamed f Dom inj us a.1 y d)
   where
-    step : (b c : Bool) → b ≡ c → uses_of (map (renamed_use f) us) (f y) ≡ uses_of us y
+    step : (b c : Bool) → b ≡ c → uses_of_name (map (renamed_use f) us) (f y) ≡ uses_of_name us y
         → map (λ (v : Use × ℕ). v.0)
         (cond b ((u.0, f u.1) ∷ filter (λ v. v.1 == f y) (map (renamed_use f) us)) (filter (λ v. v.1 == f y) (map (renamed_use f) us)))
         ≡ map (λ (v : Use × ℕ). v.0) (cond c (u ∷ filter (λ v. v.1 == y) us) (filter (λ v. v.1 == y) us))
@@ -83,12 +83,12 @@ uses_of-renamed f Dom inj (u ∷ us) a y d = go (cases_eq u.1 y) (uses_of-rename
     step false true e ih = cc
     step false false e ih = ih
 
-    go : (u.1 ≡ y) ⊎ (u.1 ≡ y → ⊥) → uses_of (map (renamed_use f) us) (f y) ≡ uses_of us y
-        → uses_of (map (renamed_use f) (u ∷ us)) (f y) ≡ uses_of (u ∷ us) y
+    go : (u.1 ≡ y) ⊎ (u.1 ≡ y → ⊥) → uses_of_name (map (renamed_use f) us) (f y) ≡ uses_of_name us y
+        → uses_of_name (map (renamed_use f) (u ∷ us)) (f y) ≡ uses_of_name (u ∷ us) y
     go (inl e) ih = step (f u.1 == f y) (u.1 == y) (eq-eqb (f u.1) (f y) (ap f e) ∙ sym (eq-eqb u.1 y e)) ih
     go (inr ne) ih = step (f u.1 == f y) (u.1 == y) (ne_eqb (f u.1) (f y) (λ e. ne (inj u.1 y a.0 d e)) ∙ sym (ne_eqb u.1 y ne)) ih
 
-module _ (r : Renumbering) (a b : County) (h : Carries r a b) (ca : IsClosed a) (ta : IsTidy a) (tb : IsTidy b)
+module _ (r : Renumbering) (a b : County) (h : Carries r a b) (ca : IsClosed a) (ta : IsArranged a) (tb : IsArranged b)
     (e : KeepsChains r a b) where
   f_name : ℕ → ℕ
   f_name = image nat_cmp r.names
@@ -112,8 +112,8 @@ module _ (r : Renumbering) (a b : County) (h : Carries r a b) (ca : IsClosed a) 
       (λ n t. ltb-true 0 (times nat_cmp n (feats a)) t) c.1.feats g)
       a.chains ca.names)
 
-  uses_kept : (y : ℕ) → Known nat_cmp (feats a) y → uses_of (all_uses b.chains) (f_name y) ≡ uses_of (all_uses a.chains) y
-  uses_kept y d = ap (λ us. uses_of us (f_name y)) uses_b
+  uses_kept : (y : ℕ) → Known nat_cmp (feats a) y → uses_of_name (all_uses b.chains) (f_name y) ≡ uses_of_name (all_uses a.chains) y
+  uses_kept y d = ap (λ us. uses_of_name us (f_name y)) uses_b
       ∙ uses_of-renamed f_name (Known nat_cmp (feats a)) name_injective (all_uses a.chains) uses_known y d
 
   -- the names' keys, list by list
@@ -149,19 +149,19 @@ module _ (r : Renumbering) (a b : County) (h : Carries r a b) (ca : IsClosed a) 
       entries_equal a.names b.names left right
 
   -- so each FEAT has the same uses in both
-  same_uses : (y : ℕ) → Known nat_cmp (feats a) y → uses_of (all_uses a.chains) y ≡ uses_of (all_uses b.chains) y
+  same_uses : (y : ℕ) → Known nat_cmp (feats a) y → uses_of_name (all_uses a.chains) y ≡ uses_of_name (all_uses b.chains) y
   unfolding keys_a keys_b
   same_uses y k =
       let keys : map (name_key (all_uses a.chains)) a.names ≡ map (name_key (all_uses b.chains)) a.names = keys_same
       ∙ ap (map (name_key (all_uses b.chains))) (sym names_equal) in
       let each : AllByRecursion (λ d. name_key (all_uses a.chains) d ≡ name_key (all_uses b.chains) d) a.names =
       map-equal_all (name_key (all_uses a.chains)) (name_key (all_uses b.chains)) a.names keys in
-      let uses : AllByRecursion (λ n. uses_of (all_uses a.chains) n ≡ uses_of (all_uses b.chains) n) (feats a) =
-      all_map (λ n. uses_of (all_uses a.chains) n ≡ uses_of (all_uses b.chains) n) (λ (d : ℕ × Body5). d.0) a.names
+      let uses : AllByRecursion (λ n. uses_of_name (all_uses a.chains) n ≡ uses_of_name (all_uses b.chains) n) (feats a) =
+      all_map (λ n. uses_of_name (all_uses a.chains) n ≡ uses_of_name (all_uses b.chains) n) (λ (d : ℕ × Body5). d.0) a.names
       (all_weaker (λ d. name_key (all_uses a.chains) d ≡ name_key (all_uses b.chains) d)
-      (λ d. uses_of (all_uses a.chains) d.0 ≡ uses_of (all_uses b.chains) d.0)
+      (λ d. uses_of_name (all_uses a.chains) d.0 ≡ uses_of_name (all_uses b.chains) d.0)
       (λ d same. ap (λ (key : NameKey). key.1) same) a.names each) in
-      known_all nat_keys (λ n. uses_of (all_uses a.chains) n ≡ uses_of (all_uses b.chains) n) (feats a) uses y k
+      known_all nat_keys (λ n. uses_of_name (all_uses a.chains) n ≡ uses_of_name (all_uses b.chains) n) (feats a) uses y k
 
   uses_apart : IsApart use_cmp (map (λ u. u.0) (all_uses a.chains))
   uses_apart = apart_from_sorted use_keys (map (λ u. u.0) (all_uses a.chains))
@@ -169,7 +169,7 @@ module _ (r : Renumbering) (a b : County) (h : Carries r a b) (ca : IsClosed a) 
 
   use_fixed : (u : Use × ℕ) → Among u (all_uses a.chains) → Known nat_cmp (feats a) u.1 → f_name u.1 ≡ u.1
   use_fixed u m k =
-      let there : Among u.0 (uses_of (all_uses b.chains) u.1) =
+      let there : Among u.0 (uses_of_name (all_uses b.chains) u.1) =
       subst (Among u.0) (same_uses u.1 k) (use_under (all_uses a.chains) u.0 u.1 m) in
       let entry : Among u (map (renamed_use f_name) (all_uses a.chains)) =
       subst (Among u) uses_b (under_use (all_uses b.chains) u.0 u.1 there) in

@@ -1,4 +1,4 @@
--- Of two tidy counties, one carried onto the other with each TLID kept and no chain turned, the nodes and the polygons
+-- Of two arranged counties, one carried onto the other with each TLID kept and no chain turned, the nodes and the polygons
 -- on sides have equal numbers: they are numbered by first appearance along the same chains.
 use Rattle.std.proofs.Common.{◌≡◌, ℕ, List, [], ◌∷◌, ◌++◌, map, IsTrue, sym, refl, ap, ap₂, ◌∙◌, subst, inl, inr, nat_cmp, map-id}
 use Rattle.std.proofs.lemmas.Bool.{ltb-true}
@@ -21,7 +21,7 @@ use Rattle.tl_county.proofs.Lists.{map-map, all_weaker, all_joined}
 use Rattle.tl_county.proofs.Members.{among-map}
 use Rattle.tl_county.proofs.Sameness.{image-keeps}
 use Rattle.tl_number.specs.Growth.{Grows}
-use Rattle.tl_number.specs.Tidy.{IsTidy}
+use Rattle.tl_number.specs.ArrangedCounty.{IsArranged}
 use Rattle.tl_number.proofs.Growth.{grown}
 
 -- an entry under its own TLID, with the chain's numbers renamed
@@ -48,7 +48,7 @@ pub all_themselves : {X : Type 0} (xs : List X) → AllByRecursion (λ x. Among 
 all_themselves [] = tt
 all_themselves (x ∷ xs) = (inl refl, all_weaker (λ y. Among y xs) (λ y. Among y (x ∷ xs)) (λ y m. inr m) xs (all_themselves xs))
 
-module _ (r : Renumbering) (a b : County) (h : Carries r a b) (asc : IsAscending b) (ca : IsClosed a) (ta : IsTidy a) (tb : IsTidy b)
+module _ (r : Renumbering) (a b : County) (h : Carries r a b) (asc : IsAscending b) (ca : IsClosed a) (ta : IsArranged a) (tb : IsArranged b)
     (e : KeepsChains r a b) where
   -- nodes
   node_injective : (n m : ℕ) → Known nat_cmp (nodes a) n → Known nat_cmp (nodes a) m → image nat_cmp r.nodes n ≡ image nat_cmp r.nodes m

@@ -1,27 +1,17 @@
 -- A set of keys in the order of their insertion holds what was first seen, and finds its places.
-use Rattle.std.proofs.Common.{◌≡◌, ◌<◌, ◌+◌, ◌||◌, suc, nat_lt, List, [], ◌∷◌, ◌++◌, length, filter, Bool, true, false, cond, not}
+use Rattle.std.proofs.Common.{◌≡◌, ◌<◌, ◌+◌, suc, nat_lt, List, [], ◌∷◌, ◌++◌, length, Bool, true, false, cond, not}
 use Rattle.std.proofs.Common.{Ordering, Some, None, IfSome, is_eq, refl, sym, ap, ◌∙◌, arith, slice_get}
-use Rattle.std.proofs.lemmas.Bool.{ltb-true, lt-ltb}
-use Rattle.std.specs.List.{list_any, position, position_or_len}
+use Rattle.std.proofs.lemmas.Bool.{ltb-true}
+use Rattle.std.specs.List.{position, position_or_len}
 use Rattle.indexmap.specs.IndexSet.{insert_key}
-use Rattle.tl_county.specs.Orders.{stands_in}
+use Rattle.tl_county.proofs.KeySets.{any-stands_in}
 use Rattle.tl_county.proofs.Keys.{IsKeyOrder, same-true}
 use Rattle.tl_number.specs.Growth.{first_seen_after}
 
 module _ {K : Type 0} (eq : K → K → Bool) (cmp : K → K → Ordering) (same : (x y : K) → eq x y ≡ is_eq (cmp x y)) where
-  -- equality and order find the same keys
-  pub any-stands_in : (k : K) (ks : List K) → list_any (eq k) ks ≡ stands_in cmp k ks
-  any-stands_in k [] = refl
-  any-stands_in k (x ∷ xs) = ap (λ b. b || list_any (eq k) xs) (same k x) ∙ go (is_eq (cmp k x)) (any-stands_in k xs)
-    where
-      go : (b : Bool) → list_any (eq k) xs ≡ stands_in cmp k xs
-          → (b || list_any (eq k) xs) ≡ nat_lt 0 (length (cond b (x ∷ filter (λ y. is_eq (cmp k y)) xs) (filter (λ y. is_eq (cmp k y)) xs)))
-      go true ih = sym (lt-ltb 0 (suc (length (filter (λ y. is_eq (cmp k y)) xs))) (omega arith))
-      go false ih = ih
-
   -- inserting a key is seeing it
   pub inserted-seen : (k : K) (ks : List K) → insert_key eq ks k ≡ first_seen_after cmp ks (k ∷ [])
-  inserted-seen k ks = ap (λ b. cond b ks (ks ++ (k ∷ []))) (any-stands_in k ks)
+  inserted-seen k ks = ap (λ b. cond b ks (ks ++ (k ∷ []))) (any-stands_in eq cmp same k ks)
 
   module _ (o : IsKeyOrder cmp) where
     found_key : (k : K) (ks : List K) → position_or_len (eq k) ks < length ks → slice_get ks (position_or_len (eq k) ks) ≡ Some k

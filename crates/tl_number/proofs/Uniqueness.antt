@@ -7,15 +7,15 @@ use Rattle.tl_county.specs.Orders.{stands_in}
 use Rattle.tl_county.specs.Renumbering.{Renumbering, Carries, AreSame, image}
 use Rattle.tl_county.proofs.Keys.{nat_keys, known_all}
 use Rattle.tl_county.proofs.LinkedCounty.{county-is_county}
-use Rattle.tl_number.specs.Canonical.{IsTidyList, IsCanonical, KeepsChainNumbers}
+use Rattle.tl_number.specs.Canonical.{IsArrangedList, IsCanonical, KeepsChainNumbers}
 use Rattle.tl_county.specs.Packing.{packed}
-use Rattle.tl_number.proofs.RepackedPolygons.{tidy_list_is_packed}
+use Rattle.tl_number.proofs.RepackedPolygons.{arranged_list_is_packed}
 use Rattle.tl_number.proofs.Rigid.{rigid, least_equal}
 
-one_county_one_list : (xs ys : List Record) → IsTidyList xs → IsTidyList ys → county_of xs ≡ county_of ys → xs ≡ ys
-one_county_one_list xs ys g h e = tidy_list_is_packed xs g ∙ ap packed e ∙ sym (tidy_list_is_packed ys h)
+one_county_one_list : (xs ys : List Record) → IsArrangedList xs → IsArrangedList ys → county_of xs ≡ county_of ys → xs ≡ ys
+one_county_one_list xs ys g h e = arranged_list_is_packed xs g ∙ ap packed e ∙ sym (arranged_list_is_packed ys h)
 
-pub rigid_lists : (r : Renumbering) (xs ys : List Record) → IsTidyList xs → IsTidyList ys → Carries r (county_of xs) (county_of ys)
+pub rigid_lists : (r : Renumbering) (xs ys : List Record) → IsArrangedList xs → IsArrangedList ys → Carries r (county_of xs) (county_of ys)
     → KeepsChainNumbers r (county_of xs) → xs ≡ ys
 rigid_lists r xs ys g h c k = one_county_one_list xs ys g h
     (rigid r (county_of xs) (county_of ys) c (county-is_county xs g.linked) (county-is_county ys h.linked) g.numbers h.numbers
@@ -23,6 +23,6 @@ rigid_lists r xs ys g h c k = one_county_one_list xs ys g h
     (λ n l. ap (stands_in nat_cmp n) k.turns_none))
 
 pub unique : (xs ys : List Record) → IsCanonical xs → IsCanonical ys → AreSame (county_of xs) (county_of ys) → xs ≡ ys
-unique xs ys g h s = one_county_one_list xs ys g.tidy h.tidy
-    (least_equal s.by (county_of xs) (county_of ys) s.carries (county-is_county xs g.tidy.linked)
-    (county-is_county ys h.tidy.linked) g.tidy.numbers h.tidy.numbers g.least h.least)
+unique xs ys g h s = one_county_one_list xs ys g.in_form h.in_form
+    (least_equal s.by (county_of xs) (county_of ys) s.carries (county-is_county xs g.in_form.linked)
+    (county-is_county ys h.in_form.linked) g.in_form.numbers h.in_form.numbers g.least h.least)

@@ -10,7 +10,7 @@ use Rattle.tl_shape.specs.Chain.{Chain}
 use Rattle.tl_county.proofs.FirstFault.{Among}
 use Rattle.tl_county.proofs.KeyOrders.{pair_keys}
 use Rattle.tl_county.proofs.Keys.{IsKeyOrder, nat_keys}
-use Rattle.tl_number.specs.Uses.{Use, use_cmp, uses_from, all_uses, uses_of}
+use Rattle.tl_number.specs.Uses.{Use, use_cmp, uses_from, all_uses, uses_of_name}
 use Rattle.tl_number.proofs.Counting.{less}
 
 pub use_keys : IsKeyOrder use_cmp
@@ -59,7 +59,7 @@ all_uses-strict [] h = tt
 all_uses-strict (c ∷ cs) h = chain_strict c.0 1 c.1.feats (all_uses cs) (after_all c.0 cs h.0) (all_uses-strict cs h.1)
 
 -- the uses under a FEAT
-pub use_under : (us : List (Use × ℕ)) (u : Use) (f : ℕ) → Among (u, f) us → Among u (uses_of us f)
+pub use_under : (us : List (Use × ℕ)) (u : Use) (f : ℕ) → Among (u, f) us → Among u (uses_of_name us f)
 use_under [] u f m = absurd m
 use_under (v ∷ us) u f (inl e) =
     let same : (v.1 == f) ≡ true = eq-eqb v.1 f (ap (λ (w : Use × ℕ). w.1) (sym e)) in
@@ -67,17 +67,17 @@ use_under (v ∷ us) u f (inl e) =
     (ap (λ b. cond b (v ∷ filter (λ w. w.1 == f) us) (filter (λ w. w.1 == f) us)) (sym same)) (inl (ap (λ (w : Use × ℕ). w.0) e))
 use_under (v ∷ us) u f (inr m) = go (v.1 == f) (use_under us u f m)
   where
-    go : (b : Bool) → Among u (uses_of us f) → Among u (map (λ (w : Use × ℕ). w.0)
+    go : (b : Bool) → Among u (uses_of_name us f) → Among u (map (λ (w : Use × ℕ). w.0)
         (cond b (v ∷ filter (λ w. w.1 == f) us) (filter (λ w. w.1 == f) us)))
     go true n = inr n
     go false n = n
 
-pub under_use : (us : List (Use × ℕ)) (u : Use) (f : ℕ) → Among u (uses_of us f) → Among (u, f) us
+pub under_use : (us : List (Use × ℕ)) (u : Use) (f : ℕ) → Among u (uses_of_name us f) → Among (u, f) us
 under_use [] u f m = absurd m
 under_use (v ∷ us) u f m = go (v.1 == f) refl m (under_use us u f)
   where
     go : (b : Bool) → (v.1 == f) ≡ b → Among u (map (λ (w : Use × ℕ). w.0)
-        (cond b (v ∷ filter (λ w. w.1 == f) us) (filter (λ w. w.1 == f) us))) → (Among u (uses_of us f) → Among (u, f) us)
+        (cond b (v ∷ filter (λ w. w.1 == f) us) (filter (λ w. w.1 == f) us))) → (Among u (uses_of_name us f) → Among (u, f) us)
         → Among (u, f) (v ∷ us)
     go true e (inl s) ih = inl (λ i. (s i, sym (eqb-true v.1 f e) i))
     go true e (inr n) ih = inr (ih n)

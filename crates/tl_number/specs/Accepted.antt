@@ -15,12 +15,12 @@ pub record IsAccepted (records : List Record) : Type 0 where
   pub profile : IsInProfile (county_of records)
 
 -- why records that were read are refused
-pub data Refusal : Type 0 where
-  Unlinked : LinkFault → Refusal
-  OutOfProfile : ProfileFault → Refusal
+pub data RecordsRefusal : Type 0 where
+  Unlinked : LinkFault → RecordsRefusal
+  OutOfProfile : ProfileFault → RecordsRefusal
 
 -- the first broken rule, or of records that fit together the first broken clause of the profile
-abbrev pub IsRefusal : List Record → Refusal → Type 0
+abbrev pub IsRefusal : List Record → RecordsRefusal → Type 0
 IsRefusal records (Unlinked fault) = IsFirstBrokenRule records fault
 IsRefusal records (OutOfProfile fault) = IsLinked records × IsFirstBrokenClause (county_of records) fault
 

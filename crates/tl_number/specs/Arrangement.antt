@@ -111,9 +111,9 @@ abbrev pub comes_turned : Chain → Bool
 comes_turned chain = is_gt (points_cmp chain.points (reverse chain.points))
 
 -- a chain's points or their reverse, whichever comes first
-abbrev pub least_points : ℕ × Chain → List Coordinates
-least_points entry = (turned_if (comes_turned entry.1) entry.1).points
+abbrev pub entry_shape : ℕ × Chain → List Coordinates
+entry_shape entry = (turned_if (comes_turned entry.1) entry.1).points
 
 -- the arrangement in which each chain has its least points and the chains ascend by them
 abbrev pub ascending : County → Arrangement
-ascending county = map (λ entry. (entry.0, comes_turned entry.1)) (in_order (on least_points points_cmp) county.chains)
+ascending county = map (λ entry. (entry.0, comes_turned entry.1)) (in_order (on entry_shape points_cmp) county.chains)

@@ -4,11 +4,11 @@ use Rattle.std.proofs.Props.{props}
 use Rattle.tl_county.specs.County.{County}
 use Rattle.tl_county.specs.CountyProps.{IsInOrder-prop}
 use Rattle.tl_number.specs.Growth.{GrowsFrom}
-use Rattle.tl_number.specs.Tidy.{IsTidy, IsLeast}
+use Rattle.tl_number.specs.ArrangedCounty.{IsArranged, IsLeast}
 
 -- all numbers are those of the canonical form, and the choice of TLIDs and directions is the least one
 pub record IsCanonCounty (county : County) : Type 0 where
-  pub tidy : IsTidy county
+  pub in_form : IsArranged county
   pub least : IsLeast county
 
 pub GrowsFrom-prop : (greatest : ℕ) (ns : List ℕ) → IsProp (GrowsFrom greatest ns)

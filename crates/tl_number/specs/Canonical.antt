@@ -16,7 +16,7 @@ use Rattle.tl_county.specs.LinkRules.{IsLinked}
 use Rattle.tl_county.specs.Orders.{IsInOrder}
 use Rattle.tl_number.specs.Growth.{up_to}
 use Rattle.tl_county.specs.Packing.{by_type, type_after_type, p_polyid}
-use Rattle.tl_number.specs.Tidy.{IsTidy, IsLeast}
+use Rattle.tl_number.specs.ArrangedCounty.{IsArranged, IsLeast}
 
 -- by LAND, then by the body
 abbrev pub seven_cmp : Fields7 → Fields7 → Ordering
@@ -54,15 +54,15 @@ pub record IsPacked (records : List Record) : Type 0 where
       (length (of_number six_tlid tlid (of_type_6 records)))
 
 -- A list of records in the canonical order, packing and numbering, but for the choice of TLIDs and directions.
-pub record IsTidyList (records : List Record) : Type 0 where
+pub record IsArrangedList (records : List Record) : Type 0 where
   pub linked : IsLinked records
   pub order : StandsInOrder records
   pub packed : IsPacked records
-  pub numbers : IsTidy (county_of records)
+  pub numbers : IsArranged (county_of records)
 
--- A canonical list of records. `tidy` leaves it open which chain has which TLID and direction, and `least` says it.
+-- A canonical list of records. `in_form` leaves it open which chain has which TLID and direction, and `least` says it.
 pub record IsCanonical (records : List Record) : Type 0 where
-  pub tidy : IsTidyList records
+  pub in_form : IsArrangedList records
   pub least : IsLeast (county_of records)
 
 -- the renaming keeps each TLID of the county and turns no chain

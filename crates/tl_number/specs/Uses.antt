@@ -27,15 +27,15 @@ abbrev pub all_uses : List (ℕ × Chain) → List (Use × ℕ)
 all_uses chains = flat_map (λ entry. uses_from entry.0 1 entry.1.feats) chains
 
 -- the uses of one name, in order
-abbrev pub uses_of : List (Use × ℕ) → ℕ → List Use
-uses_of uses feat = map (λ u. u.0) (filter (λ u. u.1 == feat) uses)
+abbrev pub uses_of_name : List (Use × ℕ) → ℕ → List Use
+uses_of_name uses feat = map (λ u. u.0) (filter (λ u. u.1 == feat) uses)
 
 -- what orders a name: its 43 bytes, then its uses
 abbrev pub NameKey : Type 0
 NameKey = Body5 × List Use
 
 abbrev pub name_key : List (Use × ℕ) → ℕ × Body5 → NameKey
-name_key uses entry = (entry.1, uses_of uses entry.0)
+name_key uses entry = (entry.1, uses_of_name uses entry.0)
 
 abbrev pub name_key_cmp : NameKey → NameKey → Ordering
 name_key_cmp k j = ordering_then (name_body_cmp k.0 j.0) (slice_cmp use_cmp k.1 j.1)

@@ -9,23 +9,23 @@ ghost use Rattle.tl_county.specs.Limits.{most_records};
 ghost use Rattle.tl_layout.specs.Limits.{IsWithinLimit};
 ghost use Rattle.tl_layout.specs.RecordText.{FitsRecord};
 ghost use Rattle.tl_layout.specs.declared.record_type.Record.{Record};
-ghost use Rattle.tl_number.specs.Accepted.{IsAccepted, IsCanonicalOf, IsRefusal, Refusal};
+ghost use Rattle.tl_number.specs.Accepted.{IsAccepted, IsCanonicalOf, IsRefusal, RecordsRefusal};
 ghost use Rattle.tl_number.specs.Arrangement.{Arrangement, Arranges, arranged, ascending, renaming_of};
-ghost use Rattle.tl_number.specs.Canonical.{IsCanonical, IsTidyList, KeepsChainNumbers};
+ghost use Rattle.tl_number.specs.Canonical.{IsCanonical, IsArrangedList, KeepsChainNumbers};
 ghost use Rattle.tl_county.specs.Packing.{packed};
-ghost use Rattle.tl_number.specs.Tidy.{IsTidy};
+ghost use Rattle.tl_number.specs.ArrangedCounty.{IsArranged};
 
 /// A list in the canonical order, packing and numbering is the packing of its county, whatever the choice of TLIDs and
 /// directions.
-pub fn tidy_lists_are_the_packing_of_their_county()
-    ensures { (records : List Record) → IsTidyList records → records ≡ packed (county_of records) }
+pub fn arranged_lists_are_the_packing_of_their_county()
+    ensures { (records : List Record) → IsArrangedList records → records ≡ packed (county_of records) }
 {}
 
 /// Two such lists are equal if a renaming that keeps each TLID and turns no chain carries the county of the one onto that
 /// of the other.
-pub fn tidy_lists_with_one_choice_are_equal()
+pub fn arranged_lists_with_one_choice_are_equal()
     ensures { (r : Renumbering) (xs ys : List Record) →
-        IsTidyList xs → IsTidyList ys → Carries r (county_of xs) (county_of ys) → KeepsChainNumbers r (county_of xs) → xs ≡ ys }
+        IsArrangedList xs → IsArrangedList ys → Carries r (county_of xs) (county_of ys) → KeepsChainNumbers r (county_of xs) → xs ≡ ys }
 {}
 
 /// A map has one canonical list at most: two of them are equal if their counties are the same.
@@ -35,15 +35,15 @@ pub fn canonical_lists_of_one_county_are_equal()
 {}
 
 /// Any arrangement of a county whose polygons stand on sides gives a county that is the same, in canonical numbers for the
-/// arrangement's order and directions, and a list of records that is tidy.
-pub fn an_arrangement_gives_a_tidy_list()
+/// arrangement's order and directions, and a list of records that is arranged.
+pub fn an_arrangement_gives_an_arranged_list()
     ensures carries { (county : County) (steps : Arrangement) →
         IsCounty county → Arranges steps county → AllKeysStandIn (polygons_along county.chains) (polygon_keys county) →
         Carries (renaming_of county steps) county (arranged county steps) }
     ensures county { (county : County) (steps : Arrangement) →
         IsCounty county → Arranges steps county → AllKeysStandIn (polygons_along county.chains) (polygon_keys county) →
-        IsCounty (arranged county steps) × IsTidy (arranged county steps) }
-    ensures list { (county : County) → IsCounty county → IsTidy county → IsTidyList (packed county) }
+        IsCounty (arranged county steps) × IsArranged (arranged county steps) }
+    ensures list { (county : County) → IsCounty county → IsArranged county → IsArrangedList (packed county) }
 {}
 
 /// The county of the packing of a county is that county.
@@ -70,9 +70,9 @@ pub fn canonical_lists_keep_the_limits()
 
 /// A list of records is accepted or has a refusal, never both, and never two.
 pub fn accepted_or_one_refusal()
-    ensures either { (records : List Record) → IsAccepted records ⊎ ((refusal : Refusal) × IsRefusal records refusal) }
-    ensures not_both { (records : List Record) (refusal : Refusal) → IsAccepted records → IsRefusal records refusal → ⊥ }
-    ensures only_one { (records : List Record) (refusal other : Refusal) →
+    ensures either { (records : List Record) → IsAccepted records ⊎ ((refusal : RecordsRefusal) × IsRefusal records refusal) }
+    ensures not_both { (records : List Record) (refusal : RecordsRefusal) → IsAccepted records → IsRefusal records refusal → ⊥ }
+    ensures only_one { (records : List Record) (refusal other : RecordsRefusal) →
         IsRefusal records refusal → IsRefusal records other → refusal ≡ other }
 {}
 

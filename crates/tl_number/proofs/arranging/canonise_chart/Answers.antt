@@ -8,7 +8,7 @@ use Rattle.tl_number.specs.ViewFacts.{NamesEachOnce, stepped}
 use Rattle.tl_number.proofs.Ascending.{ascending_arranges, ascending_least, sides_in_profile}
 use Rattle.tl_number.proofs.Carrying.{arrangement_carries}
 use Rattle.tl_number.proofs.PlacesFit.{places_fit}
-use Rattle.tl_number.proofs.Tidied.{arranged_tidy}
+use Rattle.tl_number.proofs.ArrangedCounties.{is_arranged}
 use Rattle.tl_number.proofs.arranging.canonise_chart.Goals as goal
 
 pub ascending_steps-requires : goal.ascending_steps-requires
@@ -48,7 +48,7 @@ invariant_of-result g c =
     c.in_ok-view.ensures.county ∙ ap (arranged county) c.in_ok-steps.ensures.arrangement in
     record {
       canonical = subst IsCanonCounty (sym told)
-          (record { tidy = arranged_tidy county order is arranges sides; least = ascending_least county is profile });
+          (record { in_form = is_arranged county order is arranges sides; least = ascending_least county is profile });
       same = subst (λ source. ∥ AreSame (g.C.Chart.county source) (stepped (g.C.Chart.county view.chart) view.steps.items) ∥₁)
           (sym c.in_ok-view.ensures.source)
           (subst (λ new. ∥ AreSame county new ∥₁) (sym told)

@@ -1,4 +1,4 @@
-use Rattle.tl_number.proofs.TidyNumbers.{canonical_within}
+use Rattle.tl_number.proofs.ArrangedNumbers.{canonical_within}
 use Rattle.tl_number.proofs.laws.canonical_lists_keep_the_limits.Goals as goal
 
 pub returns : goal.returns

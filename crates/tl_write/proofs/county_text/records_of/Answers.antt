@@ -3,9 +3,9 @@ use Rattle.tl_layout.specs.declared.record_type.Record.{Record}
 use Rattle.tl_county.specs.Packing.{packed}
 use Rattle.tl_county.proofs.PackedCounty.{packed_county}
 use Rattle.tl_number.specs.Canonical.{IsCanonical}
-use Rattle.tl_number.specs.Tidy.{IsLeast}
+use Rattle.tl_number.specs.ArrangedCounty.{IsLeast}
 use Rattle.tl_number.specs.ViewFacts.{stepped}
-use Rattle.tl_number.proofs.TidyPacking.{packed_tidy}
+use Rattle.tl_number.proofs.ArrangedPacking.{packed_arranged}
 use Rattle.tl_write.proofs.county_text.records_of.Goals as goal
 
 pub returns-clause-canonical : goal.returns-clause-canonical
@@ -13,7 +13,7 @@ returns-clause-canonical g c =
     let county = stepped (g.C.Chart.county c.args.county.now.view.chart) c.args.county.now.view.steps.items in
     let is = c.args.county.now.view.whole.is_county in
     let canonical : IsCanonical (packed county) = record {
-      tidy = packed_tidy county is c.args.county.now.canonical.tidy;
+      in_form = packed_arranged county is c.args.county.now.canonical.in_form;
       least = subst IsLeast (sym (packed_county county is)) c.args.county.now.canonical.least;
     } in
     subst IsCanonical (sym (c.in_ok-give_records.ensures.given ∙ ap (λ (xs : List Record). xs ++ packed county) c.new-records.ensures.items)) canonical

@@ -39,8 +39,8 @@ use Rattle.tl_number.specs.Arrangement.{Arrangement, Arranges, arranged_tlids, p
 use Rattle.tl_number.specs.Arrangement.{polygons_in_order, under_cenid, new_keys, names_in_order, relinked, links_relinked}
 use Rattle.tl_number.specs.Arrangement.{landmarks_in_order, renaming_of, arranged}
 use Rattle.tl_number.specs.Growth.{Grows, first_seen, numbered, up_to}
-use Rattle.tl_number.specs.Tidy.{IsTidy, HasOneCenidEach}
-use Rattle.tl_number.specs.Uses.{all_uses, uses_of, name_key, name_key_cmp, links_of, landmark_key, landmark_key_cmp}
+use Rattle.tl_number.specs.ArrangedCounty.{IsArranged, HasOneCenidEach}
+use Rattle.tl_number.specs.Uses.{all_uses, uses_of_name, name_key, name_key_cmp, links_of, landmark_key, landmark_key_cmp}
 use Rattle.tl_number.proofs.Carrying.{arrangement_carries, from_placed, polygons_to_placed, keys_arranged}
 use Rattle.tl_number.proofs.Carrying.{tlids_arranged, feats_arranged, lands_arranged, nodes_along_arranged, chains_arranged}
 use Rattle.tl_number.proofs.Carrying.{names_arranged, polygons_arranged, landmarks_arranged, links_arranged, nodes_renamed}
@@ -188,16 +188,16 @@ module _ (county : County) (steps : Arrangement) (is : IsCounty county) (arrange
       (all_among (λ d. AllStandIn (feats county) d.1.feats) o.0 county.chains is.closed.names o.1))))
 
   uses_kept : (n : ℕ) → Known nat_cmp (feats county) n
-      → uses_of (all_uses (arranged county steps).chains) (image nat_cmp (renaming_of county steps).names n) ≡ uses_of
+      → uses_of_name (all_uses (arranged county steps).chains) (image nat_cmp (renaming_of county steps).names n) ≡ uses_of_name
       (all_uses (placed county steps)) n
   uses_kept n k =
-      ap (λ us. uses_of us (image nat_cmp (renaming_of county steps).names n)) (ap all_uses (chains_arranged county steps is arranges)
+      ap (λ us. uses_of_name us (image nat_cmp (renaming_of county steps).names n)) (ap all_uses (chains_arranged county steps is arranges)
       ∙ all_uses-kept (renaming_of county steps) (placed county steps))
       ∙ uses_of-renamed (image nat_cmp (renaming_of county steps).names) (Known nat_cmp (feats county)) name_injective
       (all_uses (placed county steps)) uses_known n k
 
-  names_tidy : IsInOrder (on (name_key (all_uses (arranged county steps).chains)) name_key_cmp) (arranged county steps).names
-  names_tidy =
+  names_ordered : IsInOrder (on (name_key (all_uses (arranged county steps).chains)) name_key_cmp) (arranged county steps).names
+  names_ordered =
       let by : ℕ × Body5 → ℕ × Body5 → Ordering = on (name_key (all_uses (placed county steps))) name_key_cmp in
       subst (IsInOrder (on (name_key (all_uses (arranged county steps).chains)) name_key_cmp))
       (sym (names_arranged county steps is arranges))
@@ -261,8 +261,8 @@ module _ (county : County) (steps : Arrangement) (is : IsCounty county) (arrange
       ∙ sym (count-permutation (is_link n k) (links_relinked county steps) relinks (in_order-is_permutation link_cmp relinks))
       ∙ sym (times-links (links_relinked county steps) n k))
 
-  landmarks_tidy : IsInOrder (on (landmark_key (arranged county steps).links) landmark_key_cmp) (arranged county steps).landmarks
-  landmarks_tidy =
+  landmarks_ordered : IsInOrder (on (landmark_key (arranged county steps).links) landmark_key_cmp) (arranged county steps).landmarks
+  landmarks_ordered =
       let by : ℕ × List Body7 → ℕ × List Body7 → Ordering = on (landmark_key (links_relinked county steps)) landmark_key_cmp in
       subst (IsInOrder (on (landmark_key (arranged county steps).links) landmark_key_cmp))
       (sym (landmarks_arranged county steps is arranges))
@@ -275,8 +275,8 @@ module _ (county : County) (steps : Arrangement) (is : IsCounty county) (arrange
       (links_relinked county steps) e) (λ e k i. (e.1, links_kept e.0 k i)) county.landmarks (keys_known nat_keys county.landmarks)))
       (in_order-in_order (on_total (landmark_key (links_relinked county steps)) landmark_key_keys.total) county.landmarks))
 
-  pub arranged_tidy : IsTidy (arranged county steps)
-  arranged_tidy = record {
+  pub is_arranged : IsArranged (arranged county steps)
+  is_arranged = record {
     tlids = tlids_arranged county steps is arranges
         ∙ ap up_to (sym (ap length (chains_arranged county steps is arranges)
         ∙ length-map (placed county steps) (kept_entry (renaming_of county steps)) ∙ chain_count county steps is arranges));
@@ -290,8 +290,8 @@ module _ (county : County) (steps : Arrangement) (is : IsCounty county) (arrange
     polygons = polygons_grow;
     one_cenid = one_cenid;
     on_sides = on_sides;
-    names = names_tidy;
-    landmarks = landmarks_tidy;
+    names = names_ordered;
+    landmarks = landmarks_ordered;
   }
 
   -- the new keys are apart, as no two have one number

@@ -1,4 +1,4 @@
--- The numbers of a tidy county fit their fields, and canonical lists keep the limits of the lists that they are of.
+-- The numbers of an arranged county fit their fields, and canonical lists keep the limits of the lists that they are of.
 use Rattle.std.proofs.Common.{◌≡◌, ◌+◌, ◌*◌, ◌^◌, ◌<◌, ◌≤◌, ℕ, zero, suc, max, List, [], ◌∷◌, map, flat_map, length}
 use Rattle.std.proofs.Common.{length-append, Option, Some, None, option_to_list, IsTrue, sym, subst, arith}
 use Rattle.std.proofs.Common.{nat_cmp}
@@ -34,11 +34,11 @@ use Rattle.tl_county.proofs.TypeCounts.{HasAtMost, by_type_within, packed_within
 use Rattle.tl_number.specs.Accepted.{IsAccepted, IsCanonicalOf}
 use Rattle.tl_number.specs.Arrangement.{Arrangement, Arranges, ascending, renaming_of, arranged}
 use Rattle.tl_number.specs.Growth.{GrowsFrom, up_to}
-use Rattle.tl_number.specs.Tidy.{IsTidy}
+use Rattle.tl_number.specs.ArrangedCounty.{IsArranged}
 use Rattle.tl_number.proofs.Accepted.{same_one_canonical}
 use Rattle.tl_number.proofs.Ascending.{ascending_arranges, sides_in_profile, canonical_list, canonical_exists}
 use Rattle.tl_number.proofs.Carrying.{arrangement_carries}
-use Rattle.tl_number.proofs.Tidied.{arranged_tidy, arranged_county}
+use Rattle.tl_number.proofs.ArrangedCounties.{is_arranged, arranged_county}
 
 -- numbers that count up are within their bounds
 counted_bounds : (i n : ℕ) → AllByRecursion (λ k. (i ≤ k) × (k < i + n)) (range_with_len i n)
@@ -103,7 +103,7 @@ polyid_fits : (cenid : List ℕ) (polyid : Option ℕ) → AllByRecursion (λ (k
 polyid_fits cenid None a = tt
 polyid_fits cenid (Some polyid) a = a.0
 
-module _ (county : County) (is : IsCounty county) (tidy : IsTidy county)
+module _ (county : County) (is : IsCounty county) (in_form : IsArranged county)
     (chains : length county.chains ≤ most_records) (names : length county.names ≤ most_records)
     (landmarks : length county.landmarks ≤ most_records) where
   counted_fit : (width n : ℕ) (ks : List ℕ) → ks ≡ up_to n → 1 + n ≤ 10 ^ width → AllByRecursion (IsNumber width) ks
@@ -114,13 +114,13 @@ module _ (county : County) (is : IsCounty county) (tidy : IsTidy county)
       (counted_bounds 1 n))
 
   tlids_fit : AllByRecursion (IsNumber 10) (tlids county)
-  tlids_fit = counted_fit 10 (length county.chains) (tlids county) tidy.tlids (omega arith)
+  tlids_fit = counted_fit 10 (length county.chains) (tlids county) in_form.tlids (omega arith)
 
   feats_fit : AllByRecursion (IsNumber 8) (feats county)
-  feats_fit = counted_fit 8 (length county.names) (feats county) tidy.feats (omega arith)
+  feats_fit = counted_fit 8 (length county.names) (feats county) in_form.feats (omega arith)
 
   lands_fit : AllByRecursion (IsNumber 10) (lands county)
-  lands_fit = counted_fit 10 (length county.landmarks) (lands county) tidy.lands (omega arith)
+  lands_fit = counted_fit 10 (length county.landmarks) (lands county) in_form.lands (omega arith)
 
   nodes_fit : AllByRecursion (IsNumber 10) (nodes_along county.chains)
   nodes_fit =
@@ -131,7 +131,7 @@ module _ (county : County) (is : IsCounty county) (tidy : IsTidy county)
         let low : 1 ≤ k = h.0 in omega arith,
         let high : k ≤ 0 + length (nodes_along county.chains) = h.1 in
             omega (arith, high, few, chains),
-      )) (nodes_along county.chains) (grown_bounds 0 (nodes_along county.chains) tidy.nodes)
+      )) (nodes_along county.chains) (grown_bounds 0 (nodes_along county.chains) in_form.nodes)
 
   polygons_fit : AllByRecursion (λ (k : PolygonKey). IsNumber 10 k.1) (polygons_along county.chains)
   polygons_fit =
@@ -146,12 +146,12 @@ module _ (county : County) (is : IsCounty county) (tidy : IsTidy county)
         let low : 1 ≤ k = h.0 in omega arith,
         let high : k ≤ 0 + length numbers = h.1 in
             omega (arith, high, few, count, chains),
-      )) numbers (grown_bounds 0 numbers tidy.polygons))
+      )) numbers (grown_bounds 0 numbers in_form.polygons))
 
   key_fits : (k : PolygonKey) → IsTrue (stands_in key_cmp k (polygon_keys county)) → IsNumber 10 k.1
   key_fits k t =
       let side : IsTrue (stands_in key_cmp k (polygons_along county.chains)) =
-      known_all key_keys (λ j. IsTrue (stands_in key_cmp j (polygons_along county.chains))) (polygon_keys county) tidy.on_sides k
+      known_all key_keys (λ j. IsTrue (stands_in key_cmp j (polygons_along county.chains))) (polygon_keys county) in_form.on_sides k
       (ltb-true 0 (times key_cmp k (polygon_keys county)) t) in
       known_all key_keys (λ (j : PolygonKey). IsNumber 10 j.1) (polygons_along county.chains) polygons_fit k
       (ltb-true 0 (times key_cmp k (polygons_along county.chains)) side)
@@ -180,8 +180,8 @@ module _ (county : County) (is : IsCounty county) (tidy : IsTidy county)
       (all_pieces (IsNumber 10) (λ (e : ℕ × Chain). chain_nodes e.1) county.chains nodes_fit)
       (all_pieces (λ (k : PolygonKey). IsNumber 10 k.1) (λ (e : ℕ × Chain). chain_polygons e.1) county.chains polygons_fit)))
 
-  pub tidy_numbers_fit : NumbersFit county
-  tidy_numbers_fit = record {
+  pub arranged_numbers_fit : NumbersFit county
+  arranged_numbers_fit = record {
     chains = all_unmap (IsNumber 10) (λ (e : ℕ × Chain). e.0) county.chains tlids_fit;
     named = named_fit;
     names = all_unmap (IsNumber 8) (λ (e : ℕ × Body5). e.0) county.names feats_fit;
@@ -217,7 +217,7 @@ module _ (limit : ℕ) (low : limit ≤ most_records) (county : County) (is : Is
       (arranged county steps).landmarks new.whole.bodies) in
       record {
         contents = carried_contents (renaming_of county steps) county (arranged county steps) h within.contents;
-        numbers = tidy_numbers_fit (arranged county steps) new (arranged_tidy county steps is arranges sides)
+        numbers = arranged_numbers_fit (arranged county steps) new (is_arranged county steps is arranges sides)
             (omega (arith, ones, length-map (arranged county steps).chains packed_one, low))
             (omega (arith, fives, length-map (arranged county steps).names packed_five, low)) (omega (arith, sevens, some, low));
         room = carried_room (renaming_of county steps) county (arranged county steps) h within.room;

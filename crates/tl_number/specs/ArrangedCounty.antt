@@ -19,7 +19,7 @@ abbrev pub HasOneCenidEach : List PolygonKey → Type 0
 HasOneCenidEach keys = AllByRecursion (λ key. AllByRecursion (λ other. key.1 ≡ other.1 → key ≡ other) keys) keys
 
 -- All numbers but the choice of TLIDs and directions, which these follow.
-pub record IsTidy (county : County) : Type 0 where
+pub record IsArranged (county : County) : Type 0 where
   -- TLIDs, FEATs and LANDs count from 1
   pub tlids : tlids county ≡ up_to (length county.chains)
   pub feats : feats county ≡ up_to (length county.names)

@@ -1,4 +1,4 @@
--- The packing of a tidy county is a tidy list of records.
+-- The packing of an arranged county is an arranged list of records.
 use Rattle.std.proofs.Common.{◌≡◌, ◌≤◌, ◌-◌, min, ℕ, zero, suc, List, [], ◌∷◌, map, filter_map, length, take}
 use Rattle.std.proofs.Common.{drop, Ordering, is_gt, false, sym, refl, ap, ap₂, ◌∙◌, subst, arith, nat_cmp, map-id, length-drop}
 use Rattle.std.proofs.lemmas.Cmp.{nat_cmp_total, on_total}
@@ -28,9 +28,9 @@ use Rattle.tl_county.proofs.PackedCounty.{packed_county}
 use Rattle.tl_county.proofs.PackedLinked.{two_own, four_own, six_own, seven_own, numbered_strict, tlids_apart, ones, twos, fours}
 use Rattle.tl_county.proofs.PackedLinked.{fives, sixes, sevens, eights, links_of_chains, polygons_packed, packed_linked}
 use Rattle.tl_county.proofs.PackedTypes.{by_type_of}
-use Rattle.tl_number.specs.Canonical.{StandsInOrder, IsPacked, IsTidyList, AreFull, seven_cmp}
+use Rattle.tl_number.specs.Canonical.{StandsInOrder, IsPacked, IsArrangedList, AreFull, seven_cmp}
 use Rattle.tl_number.specs.Growth.{up_to}
-use Rattle.tl_number.specs.Tidy.{IsTidy}
+use Rattle.tl_number.specs.ArrangedCounty.{IsArranged}
 
 -- pieces are full but for the last
 full_pieces : {X : Type 0} (n room : ℕ) (xs : List X) → 1 ≤ n → length xs ≤ room → AreFull n (pieces n room xs)
@@ -161,11 +161,11 @@ module _ (c : County) (is : IsCounty c) where
         (λ e. rtsqs_counted six_rtsq (make_6 e) (λ piece. refl) e.1.ranges) c.chains) tlid);
   }
 
-  -- The packing of a tidy county is a tidy list.
-  pub packed_tidy : IsTidy c → IsTidyList (packed c)
-  packed_tidy tidy = record {
+  -- The packing of an arranged county is an arranged list.
+  pub packed_arranged : IsArranged c → IsArrangedList (packed c)
+  packed_arranged in_form = record {
     linked = packed_linked c is;
     order = packed_stands_in_order;
     packed = packed_is_packed;
-    numbers = subst IsTidy (sym (packed_county c is)) tidy;
+    numbers = subst IsArranged (sym (packed_county c is)) in_form;
   }

@@ -1,5 +1,0 @@
-use Rattle.tl_number.proofs.RepackedPolygons.{tidy_list_is_packed}
-use Rattle.tl_number.proofs.laws.tidy_lists_are_the_packing_of_their_county.Goals as goal
-
-pub returns : goal.returns
-returns c = tidy_list_is_packed
