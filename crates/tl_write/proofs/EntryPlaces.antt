@@ -18,7 +18,7 @@ use Rattle.tl_county.proofs.LinkedCounty.{length-in_order}
 use Rattle.tl_county.proofs.Numbers.{all-in_order}
 use Rattle.tl_number.specs.ByNumber.{entry_polyid, polygons_by_number}
 use Rattle.tl_county.specs.Packing.{packed_p, packed_body}
-use Rattle.tl_write.specs.CountyGroups.{ps_by_number}
+use Rattle.tl_write.specs.CountyGroups.{type_p_by_number}
 use Rattle.tl_write.specs.Groups.{group_at}
 use Rattle.tl_write.proofs.ChainPlaces.{all_at, some_at}
 use Rattle.tl_write.proofs.Grouped.{group_of}
@@ -77,7 +77,7 @@ polygons_counted f county = length-map (polygons_by_number county) f ∙ length-
 
 -- the group of a polygon by number
 pub polygon_group : (county : County) (place : ℕ) (entry : PolygonKey × Option BodyP) → Some entry ≡ slice_get (polygons_by_number county) place
-    → group_at (ps_by_number county) place ≡ option_to_list (packed_p entry)
+    → group_at (type_p_by_number county) place ≡ option_to_list (packed_p entry)
 polygon_group county place entry e = group_of (λ (e : PolygonKey × Option BodyP). option_to_list (packed_p e)) (polygons_by_number county) place
     entry (sym e)
 

@@ -12,8 +12,8 @@ use Rattle.tl_county.specs.Packing.{packed_one, packed_twos, packed_fours, packe
 use Rattle.tl_county.specs.Packing.{p_polyid, packed_body, packed}
 use Rattle.tl_county.specs.PolygonKeys.{PolygonKey}
 use Rattle.tl_number.specs.ByNumber.{entry_polyid, polygons_by_number}
-use Rattle.tl_write.specs.CountyGroups.{ones_by_chain, twos_by_chain, fours_by_chain, fives_by_name, sixes_by_chain}
-use Rattle.tl_write.specs.CountyGroups.{sevens_by_landmark, eights_together, is_by_chain, ps_by_number}
+use Rattle.tl_write.specs.CountyGroups.{type_1_by_chain, type_2_by_chain, type_4_by_chain, type_5_by_name, type_6_by_chain}
+use Rattle.tl_write.specs.CountyGroups.{type_7_by_landmark, type_8_together, type_i_by_chain, type_p_by_number}
 use Rattle.tl_write.specs.Groups.{grouped}
 use Rattle.tl_write.proofs.Grouped.{grouped_map, grouped_lone}
 use Rattle.tl_write.proofs.Selected.{grouped_selected, selected_in_order}
@@ -26,61 +26,61 @@ same_polyid entry r e = go entry.1 e
     go (Some body) f = ap p_polyid (let same : record { cenid = entry.0.0; polyid = entry.0.1; body = body } ≡ r = cc in same)
 
 module _ (county : County) where
-  pub ones : map One (grouped (ones_by_chain county)) ≡ map One (map packed_one county.chains)
+  pub ones : map One (grouped (type_1_by_chain county)) ≡ map One (map packed_one county.chains)
   ones = ap (map One) (grouped_lone packed_one county.chains)
 
-  pub twos : map Two (grouped (twos_by_chain county)) ≡ map Two (flat_map packed_twos county.chains)
+  pub twos : map Two (grouped (type_2_by_chain county)) ≡ map Two (flat_map packed_twos county.chains)
   twos = ap (map Two) (grouped_map packed_twos county.chains)
 
-  pub fours : map Four (grouped (fours_by_chain county)) ≡ map Four (flat_map packed_fours county.chains)
+  pub fours : map Four (grouped (type_4_by_chain county)) ≡ map Four (flat_map packed_fours county.chains)
   fours = ap (map Four) (grouped_map packed_fours county.chains)
 
-  pub fives : map Five (grouped (fives_by_name county)) ≡ map Five (map packed_five county.names)
+  pub fives : map Five (grouped (type_5_by_name county)) ≡ map Five (map packed_five county.names)
   fives = ap (map Five) (grouped_lone packed_five county.names)
 
-  pub sixes : map Six (grouped (sixes_by_chain county)) ≡ map Six (flat_map packed_sixes county.chains)
+  pub sixes : map Six (grouped (type_6_by_chain county)) ≡ map Six (flat_map packed_sixes county.chains)
   sixes = ap (map Six) (grouped_map packed_sixes county.chains)
 
-  pub sevens : map Seven (grouped (sevens_by_landmark county)) ≡ map Seven (flat_map packed_sevens county.landmarks)
+  pub sevens : map Seven (grouped (type_7_by_landmark county)) ≡ map Seven (flat_map packed_sevens county.landmarks)
   sevens = ap (map Seven) (grouped_map packed_sevens county.landmarks)
 
-  pub eights : map Eight (grouped (eights_together county)) ≡ map Eight county.links
+  pub eights : map Eight (grouped (type_8_together county)) ≡ map Eight county.links
   eights = ap (map Eight) (append-nil county.links)
 
-  pub is : map I (grouped (is_by_chain county)) ≡ map I (map packed_i county.chains)
+  pub is : map I (grouped (type_i_by_chain county)) ≡ map I (map packed_i county.chains)
   is = ap (map I) (grouped_lone packed_i county.chains)
 
-  pub ps : map P (grouped (ps_by_number county)) ≡ map P (in_order (on p_polyid nat_cmp) (filter_map packed_p county.polygons))
+  pub ps : map P (grouped (type_p_by_number county)) ≡ map P (in_order (on p_polyid nat_cmp) (filter_map packed_p county.polygons))
   ps = ap (map P) (grouped_selected packed_p (polygons_by_number county)
       ∙ selected_in_order entry_polyid p_polyid packed_p same_polyid county.polygons)
 
   -- the records from each type on
   abbrev pub from_p : List Record
-  from_p = map P (grouped (ps_by_number county))
+  from_p = map P (grouped (type_p_by_number county))
 
   abbrev pub from_i : List Record
-  from_i = map I (grouped (is_by_chain county)) ++ from_p
+  from_i = map I (grouped (type_i_by_chain county)) ++ from_p
 
   abbrev pub from_8 : List Record
-  from_8 = map Eight (grouped (eights_together county)) ++ from_i
+  from_8 = map Eight (grouped (type_8_together county)) ++ from_i
 
   abbrev pub from_7 : List Record
-  from_7 = map Seven (grouped (sevens_by_landmark county)) ++ from_8
+  from_7 = map Seven (grouped (type_7_by_landmark county)) ++ from_8
 
   abbrev pub from_6 : List Record
-  from_6 = map Six (grouped (sixes_by_chain county)) ++ from_7
+  from_6 = map Six (grouped (type_6_by_chain county)) ++ from_7
 
   abbrev pub from_5 : List Record
-  from_5 = map Five (grouped (fives_by_name county)) ++ from_6
+  from_5 = map Five (grouped (type_5_by_name county)) ++ from_6
 
   abbrev pub from_4 : List Record
-  from_4 = map Four (grouped (fours_by_chain county)) ++ from_5
+  from_4 = map Four (grouped (type_4_by_chain county)) ++ from_5
 
   abbrev pub from_2 : List Record
-  from_2 = map Two (grouped (twos_by_chain county)) ++ from_4
+  from_2 = map Two (grouped (type_2_by_chain county)) ++ from_4
 
   abbrev pub from_1 : List Record
-  from_1 = map One (grouped (ones_by_chain county)) ++ from_2
+  from_1 = map One (grouped (type_1_by_chain county)) ++ from_2
 
   -- The groups of all types are the packing.
   pub all_groups : from_1 ≡ packed county

@@ -8,8 +8,8 @@ use Rattle.tl_county.specs.CountyRules.{IsCounty}
 use Rattle.tl_county.specs.Packing.{packed}
 use Rattle.tl_county.proofs.PackedCounty.{packed_county}
 use Rattle.tl_layout.specs.declared.record_type.Record.TheVariants.{One, Two, Four, Five, Six, Seven, Eight, I, P}
-use Rattle.tl_write.specs.CountyGroups.{ones_by_chain, twos_by_chain, fours_by_chain, fives_by_name, sixes_by_chain}
-use Rattle.tl_write.specs.CountyGroups.{HaveSameCounts, sevens_by_landmark, eights_together, is_by_chain, ps_by_number}
+use Rattle.tl_write.specs.CountyGroups.{type_1_by_chain, type_2_by_chain, type_4_by_chain, type_5_by_name, type_6_by_chain}
+use Rattle.tl_write.specs.CountyGroups.{HaveSameCounts, type_7_by_landmark, type_8_together, type_i_by_chain, type_p_by_number}
 use Rattle.tl_write.specs.Groups.{group_at, grouped}
 use Rattle.tl_write.proofs.Grouped.{taken_all}
 use Rattle.tl_write.proofs.PackedGroups.{all_groups}
@@ -60,31 +60,31 @@ same_group (x ∷ xs) (y ∷ ys) (suc place) h k e = same_group xs ys place (ome
 -- Counties that have the same groups up to some type, in the order in which they are compared.
 module _ (a b : County) where
   abbrev pub UpToChains : Type 0
-  UpToChains = HaveSameCounts a b × (ones_by_chain a ≡ ones_by_chain b)
+  UpToChains = HaveSameCounts a b × (type_1_by_chain a ≡ type_1_by_chain b)
 
   abbrev pub UpToLinks : Type 0
-  UpToLinks = UpToChains × (is_by_chain a ≡ is_by_chain b)
+  UpToLinks = UpToChains × (type_i_by_chain a ≡ type_i_by_chain b)
 
   abbrev pub UpToShapePoints : Type 0
-  UpToShapePoints = UpToLinks × (twos_by_chain a ≡ twos_by_chain b)
+  UpToShapePoints = UpToLinks × (type_2_by_chain a ≡ type_2_by_chain b)
 
   abbrev pub UpToFurtherNames : Type 0
-  UpToFurtherNames = UpToShapePoints × (fours_by_chain a ≡ fours_by_chain b)
+  UpToFurtherNames = UpToShapePoints × (type_4_by_chain a ≡ type_4_by_chain b)
 
   abbrev pub UpToRanges : Type 0
-  UpToRanges = UpToFurtherNames × (sixes_by_chain a ≡ sixes_by_chain b)
+  UpToRanges = UpToFurtherNames × (type_6_by_chain a ≡ type_6_by_chain b)
 
   abbrev pub UpToNames : Type 0
-  UpToNames = UpToRanges × (fives_by_name a ≡ fives_by_name b)
+  UpToNames = UpToRanges × (type_5_by_name a ≡ type_5_by_name b)
 
   abbrev pub UpToLandmarks : Type 0
-  UpToLandmarks = UpToNames × (sevens_by_landmark a ≡ sevens_by_landmark b)
+  UpToLandmarks = UpToNames × (type_7_by_landmark a ≡ type_7_by_landmark b)
 
   abbrev pub UpToLandmarkLinks : Type 0
-  UpToLandmarkLinks = UpToLandmarks × (eights_together a ≡ eights_together b)
+  UpToLandmarkLinks = UpToLandmarks × (type_8_together a ≡ type_8_together b)
 
   -- with those of all types their packing is the same
-  same_packing : UpToLandmarkLinks → ps_by_number a ≡ ps_by_number b → packed a ≡ packed b
+  same_packing : UpToLandmarkLinks → type_p_by_number a ≡ type_p_by_number b → packed a ≡ packed b
   same_packing h ps = let fives = h.0.0 in let fours = fives.0.0 in let twos = fours.0 in
       sym (all_groups a)
       ∙ (λ k. map One (grouped (twos.0.0.1 k)) ++ (map Two (grouped (twos.1 k)) ++ (map Four (grouped (fours.1 k))
@@ -104,22 +104,22 @@ module _ (a b : County) where
     landmarks = ap (λ c. length c.landmarks) e;
   }
 
-  same_groups : IsCounty a → IsCounty b → packed a ≡ packed b → UpToLandmarkLinks × (ps_by_number a ≡ ps_by_number b)
+  same_groups : IsCounty a → IsCounty b → packed a ≡ packed b → UpToLandmarkLinks × (type_p_by_number a ≡ type_p_by_number b)
   same_groups h k packings = let e = same_county h k packings in (
     (
       (
         (
-          (((((same_counts e, ap ones_by_chain e), ap is_by_chain e), ap twos_by_chain e), ap fours_by_chain e), ap sixes_by_chain e),
-          ap fives_by_name e,
+          (((((same_counts e, ap type_1_by_chain e), ap type_i_by_chain e), ap type_2_by_chain e), ap type_4_by_chain e), ap type_6_by_chain e),
+          ap type_5_by_name e,
         ),
-        ap sevens_by_landmark e,
+        ap type_7_by_landmark e,
       ),
-      ap eights_together e,
+      ap type_8_together e,
     ),
-    ap ps_by_number e,
+    ap type_p_by_number e,
   )
 
   -- So what decides that they have the same groups of all types decides that their packing is the same.
-  pub decides_packing : IsCounty a → IsCounty b → (test : Bool) → Decides test (UpToLandmarkLinks × (ps_by_number a ≡ ps_by_number b))
+  pub decides_packing : IsCounty a → IsCounty b → (test : Bool) → Decides test (UpToLandmarkLinks × (type_p_by_number a ≡ type_p_by_number b))
       → Decides test (packed a ≡ packed b)
   decides_packing h k test d = (λ e. same_packing (d.0 e).0 (d.0 e).1, λ packings. d.1 (same_groups h k packings))

@@ -12,50 +12,50 @@ use Rattle.tl_county.specs.PolygonKeys.{PolygonKey}
 use Rattle.tl_number.specs.ByNumber.{polygons_by_number}
 
 -- the record of type 1 of each chain
-abbrev pub ones_by_chain : County → List (List Fields1)
-ones_by_chain county = map (λ entry. packed_one entry ∷ []) county.chains
+abbrev pub type_1_by_chain : County → List (List Fields1)
+type_1_by_chain county = map (λ entry. packed_one entry ∷ []) county.chains
 
 -- these are the ends of the chain at a place
 abbrev pub AreEndsAt : County → ℕ → Coordinates × Coordinates → Type 0
 AreEndsAt county place ends = Some ends ≡ option_map (λ chain. (first_point chain.points, last_point chain.points)) (chain_at county place)
 
 -- the records of types 2, 4 and 6 of each chain
-abbrev pub twos_by_chain : County → List (List Fields2)
-twos_by_chain county = map packed_twos county.chains
+abbrev pub type_2_by_chain : County → List (List Fields2)
+type_2_by_chain county = map packed_twos county.chains
 
-abbrev pub fours_by_chain : County → List (List Fields4)
-fours_by_chain county = map packed_fours county.chains
+abbrev pub type_4_by_chain : County → List (List Fields4)
+type_4_by_chain county = map packed_fours county.chains
 
-abbrev pub sixes_by_chain : County → List (List Fields6)
-sixes_by_chain county = map packed_sixes county.chains
+abbrev pub type_6_by_chain : County → List (List Fields6)
+type_6_by_chain county = map packed_sixes county.chains
 
 -- this is the content of the record of type I of the chain at a place
 abbrev pub IsLinkBodyAt : County → ℕ → Option BodyI → Type 0
 IsLinkBodyAt county place body = body ≡ option_map (λ chain. chain.link_body) (chain_at county place)
 
 -- the record of type I of each chain
-abbrev pub is_by_chain : County → List (List FieldsI)
-is_by_chain county = map (λ entry. packed_i entry ∷ []) county.chains
+abbrev pub type_i_by_chain : County → List (List FieldsI)
+type_i_by_chain county = map (λ entry. packed_i entry ∷ []) county.chains
 
 -- the record of type 5 of each name
-abbrev pub fives_by_name : County → List (List Fields5)
-fives_by_name county = map (λ entry. packed_five entry ∷ []) county.names
+abbrev pub type_5_by_name : County → List (List Fields5)
+type_5_by_name county = map (λ entry. packed_five entry ∷ []) county.names
 
 -- the records of type 7 of each landmark
-abbrev pub sevens_by_landmark : County → List (List Fields7)
-sevens_by_landmark county = map packed_sevens county.landmarks
+abbrev pub type_7_by_landmark : County → List (List Fields7)
+type_7_by_landmark county = map packed_sevens county.landmarks
 
 -- the links of all landmarks, in one group
-abbrev pub eights_together : County → List (List Fields8)
-eights_together county = county.links ∷ []
+abbrev pub type_8_together : County → List (List Fields8)
+type_8_together county = county.links ∷ []
 
 -- this is the polygon at a place by POLYID: its key, and the content of its record of type P, if it has one
 abbrev pub IsPolygonAt : County → ℕ → PolygonKey × Option BodyP → Type 0
 IsPolygonAt county place polygon = Some polygon ≡ slice_get (polygons_by_number county) place
 
 -- the record of type P of each polygon that has one, by POLYID
-abbrev pub ps_by_number : County → List (List FieldsP)
-ps_by_number county = map (λ entry. option_to_list (packed_p entry)) (polygons_by_number county)
+abbrev pub type_p_by_number : County → List (List FieldsP)
+type_p_by_number county = map (λ entry. option_to_list (packed_p entry)) (polygons_by_number county)
 
 -- as many chains, names, polygons and landmarks
 pub record HaveSameCounts (a b : County) : Type 0 where

@@ -58,13 +58,13 @@ pub(crate) struct ChainRecords<'a, C: Chart> {
 }
 
 impl<C: Chart> RecordGroups for ChainRecords<'_, C> {
-    ghost use Rattle.tl_write.specs.CountyGroups.{AreEndsAt, ones_by_chain};
+    ghost use Rattle.tl_write.specs.CountyGroups.{AreEndsAt, type_1_by_chain};
 
     type Item = Rec1;
 
     type Head = (Point, Point);
 
-    ghost groups = { λ g. ones_by_chain (C.county g.chart.now) };
+    ghost groups = { λ g. type_1_by_chain (C.county g.chart.now) };
 
     ghost IsHead = { λ g. AreEndsAt (C.county g.chart.now) };
 
@@ -99,16 +99,16 @@ pub(crate) struct ShapePointRecords<'a, C: Chart> {
 }
 
 impl<C: Chart> RecordGroups for ShapePointRecords<'_, C> {
-    ghost use Rattle.tl_write.specs.CountyGroups.{twos_by_chain};
+    ghost use Rattle.tl_write.specs.CountyGroups.{type_2_by_chain};
     ghost use Rattle.tl_write.specs.Groups.{HasRecords};
 
     type Item = Rec2;
 
     type Head = usize;
 
-    ghost groups = { λ g. twos_by_chain (C.county g.chart.now) };
+    ghost groups = { λ g. type_2_by_chain (C.county g.chart.now) };
 
-    ghost IsHead = { λ g. HasRecords (twos_by_chain (C.county g.chart.now)) };
+    ghost IsHead = { λ g. HasRecords (type_2_by_chain (C.county g.chart.now)) };
 
     fn count(&self) -> usize {
         self.chart.chain_count()
@@ -135,16 +135,16 @@ pub(crate) struct FurtherNameRecords<'a, C: Chart> {
 }
 
 impl<C: Chart> RecordGroups for FurtherNameRecords<'_, C> {
-    ghost use Rattle.tl_write.specs.CountyGroups.{fours_by_chain};
+    ghost use Rattle.tl_write.specs.CountyGroups.{type_4_by_chain};
     ghost use Rattle.tl_write.specs.Groups.{HasRecords};
 
     type Item = Rec4;
 
     type Head = usize;
 
-    ghost groups = { λ g. fours_by_chain (C.county g.chart.now) };
+    ghost groups = { λ g. type_4_by_chain (C.county g.chart.now) };
 
-    ghost IsHead = { λ g. HasRecords (fours_by_chain (C.county g.chart.now)) };
+    ghost IsHead = { λ g. HasRecords (type_4_by_chain (C.county g.chart.now)) };
 
     fn count(&self) -> usize {
         self.chart.chain_count()
@@ -171,16 +171,16 @@ pub(crate) struct RangeRecords<'a, C: Chart> {
 }
 
 impl<C: Chart> RecordGroups for RangeRecords<'_, C> {
-    ghost use Rattle.tl_write.specs.CountyGroups.{sixes_by_chain};
+    ghost use Rattle.tl_write.specs.CountyGroups.{type_6_by_chain};
     ghost use Rattle.tl_write.specs.Groups.{HasRecords};
 
     type Item = Rec6;
 
     type Head = usize;
 
-    ghost groups = { λ g. sixes_by_chain (C.county g.chart.now) };
+    ghost groups = { λ g. type_6_by_chain (C.county g.chart.now) };
 
-    ghost IsHead = { λ g. HasRecords (sixes_by_chain (C.county g.chart.now)) };
+    ghost IsHead = { λ g. HasRecords (type_6_by_chain (C.county g.chart.now)) };
 
     fn count(&self) -> usize {
         self.chart.chain_count()
@@ -207,13 +207,13 @@ pub(crate) struct LinkRecords<'a, C: Chart> {
 }
 
 impl<C: Chart> RecordGroups for LinkRecords<'_, C> {
-    ghost use Rattle.tl_write.specs.CountyGroups.{IsLinkBodyAt, is_by_chain};
+    ghost use Rattle.tl_write.specs.CountyGroups.{IsLinkBodyAt, type_i_by_chain};
 
     type Item = RecI;
 
     type Head = Option<BodyI>;
 
-    ghost groups = { λ g. is_by_chain (C.county g.chart.now) };
+    ghost groups = { λ g. type_i_by_chain (C.county g.chart.now) };
 
     ghost IsHead = { λ g. IsLinkBodyAt (C.county g.chart.now) };
 

@@ -12,16 +12,16 @@ pub(crate) struct NameRecords<'a, C: Chart> {
 }
 
 impl<C: Chart> RecordGroups for NameRecords<'_, C> {
-    ghost use Rattle.tl_write.specs.CountyGroups.{fives_by_name};
+    ghost use Rattle.tl_write.specs.CountyGroups.{type_5_by_name};
     ghost use Rattle.tl_write.specs.Groups.{HasRecords};
 
     type Item = Rec5;
 
     type Head = usize;
 
-    ghost groups = { λ g. fives_by_name (C.county g.chart.now) };
+    ghost groups = { λ g. type_5_by_name (C.county g.chart.now) };
 
-    ghost IsHead = { λ g. HasRecords (fives_by_name (C.county g.chart.now)) };
+    ghost IsHead = { λ g. HasRecords (type_5_by_name (C.county g.chart.now)) };
 
     fn count(&self) -> usize {
         self.chart.name_count()
@@ -47,16 +47,16 @@ pub(crate) struct LandmarkRecords<'a, C: Chart> {
 }
 
 impl<C: Chart> RecordGroups for LandmarkRecords<'_, C> {
-    ghost use Rattle.tl_write.specs.CountyGroups.{sevens_by_landmark};
+    ghost use Rattle.tl_write.specs.CountyGroups.{type_7_by_landmark};
     ghost use Rattle.tl_write.specs.Groups.{HasRecords};
 
     type Item = Rec7;
 
     type Head = usize;
 
-    ghost groups = { λ g. sevens_by_landmark (C.county g.chart.now) };
+    ghost groups = { λ g. type_7_by_landmark (C.county g.chart.now) };
 
-    ghost IsHead = { λ g. HasRecords (sevens_by_landmark (C.county g.chart.now)) };
+    ghost IsHead = { λ g. HasRecords (type_7_by_landmark (C.county g.chart.now)) };
 
     fn count(&self) -> usize {
         self.chart.landmark_count()
@@ -85,16 +85,16 @@ pub(crate) struct LandmarkLinkRecords<'a, C: Chart> {
 }
 
 impl<C: Chart> RecordGroups for LandmarkLinkRecords<'_, C> {
-    ghost use Rattle.tl_write.specs.CountyGroups.{eights_together};
+    ghost use Rattle.tl_write.specs.CountyGroups.{type_8_together};
     ghost use Rattle.tl_write.specs.Groups.{HasRecords};
 
     type Item = Rec8;
 
     type Head = usize;
 
-    ghost groups = { λ g. eights_together (⟦<CanonCounty<C> as Chart>⟧.county g.county.now) };
+    ghost groups = { λ g. type_8_together (⟦<CanonCounty<C> as Chart>⟧.county g.county.now) };
 
-    ghost IsHead = { λ g. HasRecords (eights_together (⟦<CanonCounty<C> as Chart>⟧.county g.county.now)) };
+    ghost IsHead = { λ g. HasRecords (type_8_together (⟦<CanonCounty<C> as Chart>⟧.county g.county.now)) };
 
     fn count(&self) -> usize {
         1

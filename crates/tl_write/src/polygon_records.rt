@@ -12,13 +12,13 @@ pub(crate) struct PolygonRecords<'a, C: Chart> {
 }
 
 impl<C: Chart> RecordGroups for PolygonRecords<'_, C> {
-    ghost use Rattle.tl_write.specs.CountyGroups.{IsPolygonAt, ps_by_number};
+    ghost use Rattle.tl_write.specs.CountyGroups.{IsPolygonAt, type_p_by_number};
 
     type Item = RecP;
 
     type Head = (PolygonKey, Option<BodyP>);
 
-    ghost groups = { λ g. ps_by_number (⟦<CanonCounty<C> as Chart>⟧.county g.county.now) };
+    ghost groups = { λ g. type_p_by_number (⟦<CanonCounty<C> as Chart>⟧.county g.county.now) };
 
     ghost IsHead = { λ g. IsPolygonAt (⟦<CanonCounty<C> as Chart>⟧.county g.county.now) };
 

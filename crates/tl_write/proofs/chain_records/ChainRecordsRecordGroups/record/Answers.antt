@@ -3,7 +3,7 @@ use Rattle.tl_layout.specs.Numbers.{IsNumber}
 use Rattle.tl_county.specs.ChartWords.{chain_at}
 use Rattle.tl_county.specs.CountyRules.{tlids}
 use Rattle.tl_county.specs.Packing.{packed_one, first_point, last_point}
-use Rattle.tl_write.specs.CountyGroups.{ones_by_chain}
+use Rattle.tl_write.specs.CountyGroups.{type_1_by_chain}
 use Rattle.tl_write.specs.Groups.{group_at}
 use Rattle.tl_write.proofs.ChainPlaces.{chain_of_group}
 use Rattle.tl_write.proofs.Grouped.{group_of, lone, some-same}
@@ -32,5 +32,5 @@ returns g c =
     (first_point points, last_point points) c.requires.head
     (ap (option_map (λ chain. (first_point chain.points, last_point chain.points))) there.chain) in
     ap Some (c.new.ensures ∙ (λ i. record { tlid = tlid_is i; body = body_is i; start = (ends_are i).0; end = (ends_are i).1 }))
-    ∙ sym (lone (group_at (ones_by_chain county) c.args.group) (packed_one there.entry) c.args._place
+    ∙ sym (lone (group_at (type_1_by_chain county) c.args.group) (packed_one there.entry) c.args._place
     (group_of (λ entry. packed_one entry ∷ []) county.chains c.args.group there.entry there.get) c.requires.place)

@@ -3,7 +3,7 @@ use Rattle.tl_layout.specs.Numbers.{IsNumber, IsNumberOrNone}
 use Rattle.tl_county.specs.ChartWords.{chain_at}
 use Rattle.tl_county.specs.CountyRules.{tlids}
 use Rattle.tl_county.specs.Packing.{packed_i}
-use Rattle.tl_write.specs.CountyGroups.{is_by_chain}
+use Rattle.tl_write.specs.CountyGroups.{type_i_by_chain}
 use Rattle.tl_write.specs.Groups.{group_at}
 use Rattle.tl_write.proofs.ChainPlaces.{chain_of_group}
 use Rattle.tl_write.proofs.Grouped.{group_of, lone, some-same}
@@ -61,5 +61,5 @@ returns g c =
       left = left_is i;
       right = right_is i;
     }))
-    ∙ sym (lone (group_at (is_by_chain county) c.args.group) (packed_i there.entry) c.args._place
+    ∙ sym (lone (group_at (type_i_by_chain county) c.args.group) (packed_i there.entry) c.args._place
     (group_of (λ entry. packed_i entry ∷ []) county.chains c.args.group there.entry there.get) c.requires.place)

@@ -3,7 +3,7 @@ use Rattle.tl_layout.specs.Numbers.{IsNumber}
 use Rattle.tl_county.specs.ChartWords.{name_at}
 use Rattle.tl_county.specs.CountyRules.{feats}
 use Rattle.tl_county.specs.Packing.{packed_five}
-use Rattle.tl_write.specs.CountyGroups.{fives_by_name}
+use Rattle.tl_write.specs.CountyGroups.{type_5_by_name}
 use Rattle.tl_write.specs.Groups.{group_at}
 use Rattle.tl_write.proofs.EntryPlaces.{name_of_group}
 use Rattle.tl_write.proofs.Grouped.{group_of, lone, some-same}
@@ -26,5 +26,5 @@ returns g c =
     let body_is : c.name_body.result ≡ there.entry.1 =
     some-same (name_at county c.args.group) c.name_body.result there.entry.1 c.name_body.ensures there.name in
     ap Some (c.new.ensures ∙ (λ i. record { feat = feat_is i; body = body_is i }))
-    ∙ sym (lone (group_at (fives_by_name county) c.args.group) (packed_five there.entry) c.args._place
+    ∙ sym (lone (group_at (type_5_by_name county) c.args.group) (packed_five there.entry) c.args._place
     (group_of (λ entry. packed_five entry ∷ []) county.names c.args.group there.entry there.get) c.requires.place)
