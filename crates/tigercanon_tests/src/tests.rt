@@ -15,6 +15,7 @@ mod lines;
 mod linked_sets;
 mod linking;
 mod plans;
+mod polygon_sets;
 mod renamed;
 mod renamings;
 mod sets;
