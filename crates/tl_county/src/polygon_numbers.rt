@@ -68,7 +68,10 @@ fn keys_of(alloc: Global, numbers: &[u128]) -> Result<Vec<PolygonKey>, AllocErro
 /// # Errors
 ///
 /// Only that memory was lacking.
-pub(crate) fn polygons_in_order(alloc: Global, keys: &[PolygonKey]) -> Result<Vec<PolygonKey>, AllocError>
+pub(crate) fn polygons_in_order(
+    alloc: Global,
+    keys: &[PolygonKey],
+) -> Result<Vec<PolygonKey>, AllocError>
     ensures permutation { IfOk result (λ ordered. IsPermutation keys.now ordered.items) }
     ensures in_order { IfOk result (λ ordered. IsInOrder key_cmp ordered.items) }
 {

@@ -27,9 +27,9 @@ pub use arranging::{arrange, canonise, canonise_chart, canonise_in};
 pub use canon_county::{CanonCounty, CanonCountyIn};
 pub use laws::{
     a_packed_county_is_read_back, accepted_or_one_refusal, an_arrangement_gives_an_arranged_list,
+    arranged_lists_are_the_packing_of_their_county, arranged_lists_with_one_choice_are_equal,
     canonical_lists_keep_the_limits, canonical_lists_of_one_county_are_equal,
     each_accepted_list_has_one_canonical_list, one_canonical_list_exactly_for_one_map,
-    arranged_lists_are_the_packing_of_their_county, arranged_lists_with_one_choice_are_equal,
 };
 pub use numbers::Numbers;
 pub use order::ascending_steps;
