@@ -2,19 +2,17 @@
 
 use std::test::Fail;
 use tl_county::{KeySet, PolygonKey};
-use tl_layout::Side;
 
-/// Each polygon stands in the set once, however often it is met; sides without one add nothing. In order the CENID's bytes come
-/// first, and then the POLYID as a number.
+/// Each polygon stands in the set once, however often it is met. In order the CENID's bytes come first, and then the POLYID as a
+/// number.
 #[test]
 fn polygons_of_a_set_stand_once_and_in_order(rt: HostRuntime) -> Result<(), Fail> {
     let alloc = rt.alloc();
     let mut polygons: KeySet<PolygonKey> = KeySet::new(alloc);
     assert!(rt; polygons.in_order(alloc)?.is_empty());
-    polygons.insert_side(&Side::new(*b"B4701", Some(9)))?;
-    polygons.insert_side(&Side::new(*b"A4701", Some(10)))?;
-    polygons.insert_side(&Side::new(*b"A4701", None))?;
-    polygons.insert_side(&Side::new(*b"B4701", Some(9)))?;
+    polygons.insert((*b"B4701", 9))?;
+    polygons.insert((*b"A4701", 10))?;
+    polygons.insert((*b"B4701", 9))?;
     polygons.insert((*b"A4701", 2))?;
     polygons.insert((*b"A4701", 10))?;
     let met = [(*b"B4701", 9), (*b"A4701", 10), (*b"A4701", 2)];
