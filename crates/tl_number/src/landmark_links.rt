@@ -11,7 +11,7 @@ ghost use Rattle.tl_number.specs.LandmarkItems.{link_under};
 ghost use Rattle.tl_number.specs.ViewFacts.{link_bounds};
 
 use crate::numbers::Numbers;
-use crate::renumbering::{new_key, new_node};
+use crate::renumbering::{new_key, new_land};
 use std::alloc::{AllocError, Global};
 use tl_county::{Chart, PolygonKey, put_in_order, split_group};
 use tl_layout::Rec8;
@@ -27,7 +27,7 @@ fn renumbered_link(polygons: &Numbers<PolygonKey>, lands: &Numbers<u64>, link: &
 {
     let cenid = link.cenid();
     let key = new_key(polygons, (cenid, link.polyid()));
-    let land = new_node(lands, link.land());
+    let land = new_land(lands, link.land());
     Rec8::new(link.file(), cenid, key.1, land)
 }
 

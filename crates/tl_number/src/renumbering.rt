@@ -11,14 +11,14 @@ ghost use Rattle.tl_number.specs.Growth.{numbered};
 use crate::numbers::Numbers;
 use tl_county::PolygonKey;
 
-/// The new number of a node, or the new LAND of a landmark.
-pub(crate) fn new_node(nodes: &Numbers<u64>, node: u64) -> u64
-    ensures image { result ≡ image nat_cmp (numbered nodes.now) node }
-    ensures in_range { IsNumber 10 node → length nodes.now < 10 ^ 10 → IsNumber 10 result }
+/// The new LAND of a landmark.
+pub(crate) fn new_land(lands: &Numbers<u64>, land: u64) -> u64
+    ensures image { result ≡ image nat_cmp (numbered lands.now) land }
+    ensures in_range { IsNumber 10 land → length lands.now < 10 ^ 10 → IsNumber 10 result }
 {
-    match nodes.place(node) {
+    match lands.place(land) {
         Some(place) => place as u64 + 1,
-        None => node,
+        None => land,
     }
 }
 
