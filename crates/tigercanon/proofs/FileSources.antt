@@ -69,7 +69,10 @@ module _ {S R : Type 0} (left : S → Option (List ℕ)) (given : S → ℕ) (re
   -- some parts that files hold
   some_parts : (files : List (Opened R)) → (parts : List (List ℕ)) × AreHeld remaining files parts
   some_parts [] = ([], tt)
-  some_parts (f ∷ fs) = let rest = some_parts fs in (known_or_none (bytes_of remaining f) ∷ rest.0, (is_known (bytes_of remaining f), rest.1))
+  some_parts (f ∷ fs) = let rest = some_parts fs in (
+    known_or_none (bytes_of remaining f) ∷ rest.0,
+    (is_known (bytes_of remaining f), rest.1),
+  )
 
   -- parts that go on from what was read
   going_on : (files : List (Opened R)) (before after : List S) (closed : List (List ℕ)) (bytes : List ℕ)

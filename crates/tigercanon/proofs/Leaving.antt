@@ -72,7 +72,8 @@ lent_out contents start first last final name later bytes is took ends =
     go : (known : Option (List ℕ)) → contents first ≡ known → Appends (contents first) (contents final) bytes
     go None e = rw e tt
     go (Some xs) e =
-        subst (λ w. Appends (contents first) (contents w) bytes) (ends (lent_same name later (contents first) (contents last) bytes took xs e))
+        subst (λ w. Appends (contents first) (contents w) bytes)
+        (ends (lent_same name later (contents first) (contents last) bytes took xs e))
         (lent_appends name later (contents first) (contents last) bytes took)
 
 -- a writer that was given a line has it, or a beginning of it

@@ -47,7 +47,8 @@ module _ {S R W X : Type 0} (left : S → Option (List ℕ)) (given : S → ℕ)
   prints_beginning written cut = record {
     text = cut.text;
     answered = answered cut.text cut.normalised;
-    printed = lent_out contents start (writer first) (writer last) final (name first) (name last) (take written cut.text) lent cut.took ends;
+    printed = lent_out contents start (writer first) (writer last) final (name first) (name last) (take written cut.text) lent cut.took
+        ends;
     short = cut.short;
   }
 
@@ -55,16 +56,20 @@ module _ {S R W X : Type 0} (left : S → Option (List ℕ)) (given : S → ℕ)
   keeps e = subst (λ w. Keeps (contents start) (contents w)) (sym lent ∙ sym (ap writer e) ∙ ends (ap name e)) (kept (contents start))
 
   pub leaves_normalised : (fault : Fault)
-      → ((f : WriteFault) → ◌≡◌ {A = Result ℕ Fault} (Err fault) (Err (Write f)) → IsCutOff left given before after LentHolds first last f.written)
+      → ((f : WriteFault) → ◌≡◌ {A = Result ℕ Fault} (Err fault) (Err (Write f)) → IsCutOff left given before after LentHolds first last
+      f.written)
       → TellsRead left given before after fault → (is_of_sink fault ≡ false → last ≡ first)
       → Leaves Normalise remaining files (contents start) (contents final) fault
   leaves_normalised (Write f) cut told same = prints_beginning f.written (cut f refl)
   leaves_normalised (Load f) cut told same =
-      leaves remaining files Normalise _ _ (Load f) refl (keeps (same refl)) (tells_files left given remaining files before after sources (Load f) refl told)
+      leaves remaining files Normalise _ _ (Load f) refl (keeps (same refl))
+      (tells_files left given remaining files before after sources (Load f) refl told)
   leaves_normalised (Link f) cut told same =
-      leaves remaining files Normalise _ _ (Link f) refl (keeps (same refl)) (tells_files left given remaining files before after sources (Link f) refl told)
+      leaves remaining files Normalise _ _ (Link f) refl (keeps (same refl))
+      (tells_files left given remaining files before after sources (Link f) refl told)
   leaves_normalised (Profile f) cut told same =
       leaves remaining files Normalise _ _ (Profile f) refl (keeps (same refl))
       (tells_files left given remaining files before after sources (Profile f) refl told)
   leaves_normalised Memory cut told same =
-      leaves remaining files Normalise _ _ Memory refl (keeps (same refl)) (tells_files left given remaining files before after sources Memory refl told)
+      leaves remaining files Normalise _ _ Memory refl (keeps (same refl))
+      (tells_files left given remaining files before after sources Memory refl told)

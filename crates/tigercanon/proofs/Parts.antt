@@ -5,7 +5,7 @@ use Rattle.std.proofs.Math.Seq.{drop-cons}
 use Rattle.std.proofs.lemmas.List.{take_more, take-append-drop, map-append}
 use Rattle.tl_load.proofs.LineLemmas.{lines_none}
 use Rattle.tl_load.specs.Lines.{lines}
-use Rattle.tl_load.specs.Places.{numbered, lines_from_part}
+use Rattle.tl_load.specs.Places.{numbered_lines, lines_from_part}
 use Rattle.tl_load.specs.Loaded.{IsFaultHowever}
 use Rattle.tl_load.specs.declared.fault.LoadFault.{LoadFault}
 use Rattle.tigercanon.specs.Respelling.{record_limit, IsFirstFault}
@@ -27,15 +27,15 @@ parts_so_far slices i d within =
     sym (ap parts_of (take_more slices i d within) ∙ map-append (λ p. p.now) (take i slices) (get_or slices i d ∷ []))
 
 -- an empty part has no lines
-lines_of_empty_part : (n : ℕ) → numbered n 1 (lines []) ≡ []
-unfolding numbered
-lines_of_empty_part n = ap (numbered n 1) lines_none
+lines_of_empty_part : (n : ℕ) → numbered_lines n 1 (lines []) ≡ []
+unfolding numbered_lines
+lines_of_empty_part n = ap (numbered_lines n 1) lines_none
 
 -- one empty part more changes no line
 lines_with_empty_part : (n : ℕ) (parts : List (List ℕ)) → lines_from_part n (parts ++ [] ∷ []) ≡ lines_from_part n parts
 unfolding lines_from_part
 lines_with_empty_part n [] = ap (λ ls. ls ++ []) (lines_of_empty_part n)
-lines_with_empty_part n (part ∷ parts) = ap (λ ls. numbered n 1 (lines part) ++ ls) (lines_with_empty_part (n + 1) parts)
+lines_with_empty_part n (part ∷ parts) = ap (λ ls. numbered_lines n 1 (lines part) ++ ls) (lines_with_empty_part (n + 1) parts)
 
 -- and no fault
 pub without_empty_part : (parts : List (List ℕ)) (f : LoadFault) → IsFirstFault (parts ++ [] ∷ []) f → IsFirstFault parts f

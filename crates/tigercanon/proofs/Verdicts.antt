@@ -29,7 +29,8 @@ module _ (parts others : List (List ℕ)) (a a' b b' : County) (first : IsCanonS
     others = second.records;
     first = first.accepted;
     second = second.accepted;
-    not_same = λ same. other (same_one_canonical first.records second.records (packed a') (packed b') first.canonical second.canonical same);
+    not_same = λ same. other (same_one_canonical first.records second.records (packed a') (packed b') first.canonical second.canonical
+        same);
   }
 
   pub sets_one_map : packed a' ≡ packed b' → AreOneMap parts others

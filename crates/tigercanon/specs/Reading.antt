@@ -32,5 +32,6 @@ NoneFailed failed before after = map failed after ≡ map failed before
 
 -- one source has failed, once, and no other
 abbrev pub OneFailed : {R : Type 0} → (R → ℕ) → List R → List R → Type 0
-OneFailed failed (b ∷ bs) (n ∷ ns) = ((failed n ≡ failed b + 1) × NoneFailed failed bs ns) ⊎ ((failed n ≡ failed b) × OneFailed failed bs ns)
+OneFailed failed (b ∷ bs) (n ∷ ns) = ((failed n ≡ failed b + 1) × NoneFailed failed bs ns) ⊎
+    ((failed n ≡ failed b) × OneFailed failed bs ns)
 OneFailed failed _ _ = ⊥

@@ -20,7 +20,8 @@ pub record IsAcceptedSet (parts : List (List ℕ)) (records : List Record) : Typ
   pub accepted : IsAccepted records
 
 -- what a set is refused for: the fault of its first faulty line; of lines that spell records, the first rule that these break;
--- of records that fit together, the first clause of the profile that their county breaks. Neither a sink's failure nor want of memory is such a thing.
+-- of records that fit together, the first clause of the profile that their county breaks. Neither a sink's failure nor want of
+-- memory is such a thing.
 abbrev pub IsSetRefusal : List (List ℕ) → Fault → Type 0
 IsSetRefusal parts (Load fault) = IsFirstFault parts fault
 IsSetRefusal parts (Link fault) = (records : List Record) × SpellsWithin tiger record_limit parts records × IsFirstBrokenRule records fault

@@ -54,7 +54,8 @@ TellsOne remaining first second fault set = ((set ≡ Some 1) × TellsSet remain
 
 -- one of the sets is refused: the first, or the second where the first is accepted
 abbrev pub IsOneRefused : {R : Type 0} → (R → Option (List ℕ)) → List (Opened R) → List (Opened R) → Type 0
-IsOneRefused remaining first second = (fault : Fault) × (AreRefused remaining first fault ⊎ (AreAccepted remaining first × AreRefused remaining second fault))
+IsOneRefused remaining first second = (fault : Fault) × (AreRefused remaining first fault ⊎
+    (AreAccepted remaining first × AreRefused remaining second fault))
 
 -- what a job prints where it is done: a comparison the line that its sets are one map
 abbrev pub PrintsDone : {R : Type 0} → Job → (R → Option (List ℕ)) → List (Opened R) → List (Opened R) → Option (List ℕ) → Option (List ℕ)

@@ -10,6 +10,7 @@ ghost use Rattle.tl_county.specs.TheCountyOver.{the_county_over};
 ghost use Rattle.tl_layout.specs.Tables.{HoldsByType};
 ghost use Rattle.tl_layout.specs.declared.record_type.Record.{Record};
 ghost use Rattle.tl_number.specs.Accepted.{IsAccepted};
+ghost use Rattle.tl_profile.specs.ShapeOrder.{IsShapeOrder};
 
 use crate::fault::Fault;
 use crate::loading::load;
@@ -18,8 +19,8 @@ use std::alloc::Global;
 use tl_county::{Chart, CountyOver, LinkedRecords, link_in_order};
 use tl_layout::Tables;
 use tl_load::LoadFault;
-use tl_number::{CanonCounty, canonise_chart};
-use tl_profile::{Admitted, admit_chart};
+use tl_number::{CanonCounty, canonise_in_order};
+use tl_profile::{Admitted, ShapeOrder, admit_linked};
 
 /// Tables of records within their limits, linked. The tables' order has no meaning.
 pub(crate) fn link_records(alloc: Global, tables: Tables) -> Result<LinkedRecords, Fault>
@@ -42,18 +43,19 @@ pub(crate) fn link_parts(alloc: Global, parts: &[&[u8]]) -> Result<LinkedRecords
     link_records(alloc, tables)
 }
 
-/// The admitted county of linked records, over their tables and an arena, which outlive it.
-fn admit_linked<'a>(
+/// The admitted county of linked records, over their tables and an arena, which outlive it, and the order of its chains by their
+/// shapes.
+fn admit_records<'a>(
     alloc: Global,
     arena: &'a Bump,
     linked: &'a LinkedRecords,
-) -> Result<Admitted<CountyOver<'a>>, Fault>
-    ensures accepted { IfOk result (λ admitted. (records : List Record) →
-        AreLinkedAs linked.now records → IsAccepted records × (the_county_over admitted ≡ county_of records)) }
+) -> Result<(Admitted<CountyOver<'a>>, ShapeOrder), Fault>
+    ensures accepted { IfOk result (λ pair. (records : List Record) →
+        AreLinkedAs linked.now records → IsAccepted records × (the_county_over pair.0 ≡ county_of records)) }
+    ensures order { IfOk result (λ pair. IsShapeOrder (the_county_over pair.0) pair.1) }
     ensures refused { IfErr result (λ fault. (records : List Record) → AreLinkedAs linked.now records → RefusesRecords records fault) }
 {
-    let county = linked.county(alloc, arena)?;
-    Ok(admit_chart(alloc, county)?)
+    Ok(admit_linked(alloc, arena, linked)?)
 }
 
 /// Whether records in tables within their limits are accepted. The tables' order has no meaning.
@@ -64,7 +66,7 @@ pub(crate) fn judge_tables(alloc: Global, tables: Tables) -> Result<(), Fault>
 {
     let linked = link_records(alloc, tables)?;
     let arena = Bump::new(alloc);
-    admit_linked(alloc, &arena, &linked)?;
+    admit_records(alloc, &arena, &linked)?;
     Ok(())
 }
 
@@ -83,6 +85,6 @@ pub(crate) fn canonise_linked<'a>(
     ensures succeeds { IfErr result (λ fault. (parts : List (List ℕ)) (records : List Record) → IsLinkedSet parts linked.now
         → IsAcceptedSet parts records → IsWantOfMemory fault) }
 {
-    let admitted = admit_linked(alloc, arena, linked)?;
-    Ok(canonise_chart(alloc, admitted.into_chart())?)
+    let (admitted, order) = admit_records(alloc, arena, linked)?;
+    Ok(canonise_in_order(alloc, admitted.into_chart(), &order)?)
 }

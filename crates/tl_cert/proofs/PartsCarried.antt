@@ -71,7 +71,8 @@ module _ {K V : Type 0} {cmp : K → K → Ordering} (o : IsKeyOrder cmp) where
   entries_permuted [] ds p a h = no_keys ds p
   entries_permuted (e ∷ es) ds p a h =
       subst (λ xs. IsPermutation xs ds) (retold ds e.1 (e ∷ es) h)
-      (subst (IsPermutation (map (λ k. (k, unwrap_or (value_under cmp k ds) e.1)) (entry_keys (e ∷ es)))) (retold ds e.1 ds (each_under ds a))
+      (subst (IsPermutation (map (λ k. (k, unwrap_or (value_under cmp k ds) e.1)) (entry_keys (e ∷ es))))
+      (retold ds e.1 ds (each_under ds a))
       (IsPermutation-map (λ k. (k, unwrap_or (value_under cmp k ds) e.1)) (entry_keys (e ∷ es)) (entry_keys ds) p))
 
   permuted_entries : (es ds : List (K × V)) → IsPermutation es ds → IsApart cmp (entry_keys ds)
@@ -88,7 +89,8 @@ module _ {K V W : Type 0} {cmp : K → K → Ordering} (o : IsKeyOrder cmp) (ps 
   keys_carried : IsPermutation (entry_keys (map carried es)) (entry_keys ds)
   keys_carried =
       let images : IsPermutation (map (image cmp ps) (lefts ps)) (entry_keys ds) =
-      subst (λ ks. IsPermutation ks (entry_keys ds)) (sym (images-lefts o ps (apart-permutation o (lefts ps) (entry_keys es) paired.left olds)))
+      subst (λ ks. IsPermutation ks (entry_keys ds)) (sym (images-lefts o ps
+      (apart-permutation o (lefts ps) (entry_keys es) paired.left olds)))
       paired.right in
       subst (λ ks. IsPermutation ks (entry_keys ds)) (map-map (image cmp ps) (λ e. e.0) es ∙ sym (map-map (λ e. e.0) carried es))
       (IsPermutation-trans (map (image cmp ps) (entry_keys es)) (map (image cmp ps) (lefts ps)) (entry_keys ds)
@@ -199,8 +201,10 @@ module _ (s r : Renumbering) (t : RenumbersAs s r) where
         (ap (bodies_under b) (sym (land_alike e.0)) ∙ k.1)) a.landmarks
         (all_both (λ (e : ℕ × List Body7). 1 ≤ length e.1) (IsLandmarkThere s b) a.landmarks ca.whole.bodies h))
 
-  pub links_there : (a b : County) → IsPermutation (map (carried_link r) a.links) b.links → IsPermutation (map (carried_link s) a.links) b.links
+  pub links_there : (a b : County) → IsPermutation (map (carried_link r) a.links) b.links → IsPermutation (map (carried_link s) a.links)
+      b.links
   links_there a b p = subst (λ xs. IsPermutation xs b.links) (λ i. map (λ l. sym (link_alike l) i) a.links) p
 
-  pub links_carried : (a b : County) → IsPermutation (map (carried_link s) a.links) b.links → IsPermutation (map (carried_link r) a.links) b.links
+  pub links_carried : (a b : County) → IsPermutation (map (carried_link s) a.links) b.links → IsPermutation (map (carried_link r) a.links)
+      b.links
   links_carried a b p = subst (λ xs. IsPermutation xs b.links) (λ i. map (λ l. link_alike l i) a.links) p

@@ -13,7 +13,19 @@ use Rattle.tl_county.specs.Entries.{entry_keys, entry_values}
 use Rattle.tl_county.specs.Renumbering.{ArePaired}
 use Rattle.tl_county.proofs.InOrder.{in_order-permutation}
 use Rattle.tl_county.proofs.KeyOrders.{lists_keys}
-use Rattle.tl_county.proofs.Keys.{IsKeyOrder, Known, nat_keys, same-true, same-itself, lefts, rights, known_all, order_itself, order_antisymm, apart-permutation}
+use Rattle.tl_county.proofs.Keys.{
+  IsKeyOrder,
+  Known,
+  nat_keys,
+  same-true,
+  same-itself,
+  lefts,
+  rights,
+  known_all,
+  order_itself,
+  order_antisymm,
+  apart-permutation,
+}
 use Rattle.tl_county.proofs.Distinct.{has_repeat-apart, apart_from_no_repeat}
 use Rattle.tl_county.proofs.Lists.{all_append}
 
@@ -115,8 +127,10 @@ pub decides_paired : {K : Type 0} (pairs : List (K × K)) (olds news : List K) �
 decides_paired pairs olds news l b d = decides_same b d (λ r. record { left = l; right = r }) (λ h. h.right)
 
 -- a list in order whose first two differ has a repetition exactly if the list after its first has one
-pub repeat_later : (x y : ℕ) (ys : List ℕ) → IsInOrder nat_cmp (x ∷ y ∷ ys) → (x ≡ y → ⊥) → has_repeat nat_cmp (y ∷ ys) ≡ has_repeat nat_cmp (x ∷ y ∷ ys)
-repeat_later x y ys h ne = sym (ap (λ b. b || has_repeat nat_cmp (y ∷ ys)) (le-ltb 0 (times nat_cmp x (y ∷ ys)) (few (times nat_cmp x (y ∷ ys)) refl)))
+pub repeat_later : (x y : ℕ) (ys : List ℕ) → IsInOrder nat_cmp (x ∷ y ∷ ys) → (x ≡ y → ⊥) → has_repeat nat_cmp (y ∷ ys) ≡ has_repeat nat_cmp
+    (x ∷ y ∷ ys)
+repeat_later x y ys h ne = sym (ap (λ b. b || has_repeat nat_cmp (y ∷ ys))
+    (le-ltb 0 (times nat_cmp x (y ∷ ys)) (few (times nat_cmp x (y ∷ ys)) refl)))
   where
     above : Known nat_cmp (y ∷ ys) x → is_gt (nat_cmp y x) ≡ false
     above k = known_all nat_keys (λ z. is_gt (nat_cmp y z) ≡ false) (y ∷ ys) (order_itself nat_keys y, h.1.0) x k

@@ -110,7 +110,8 @@ module _ {K : Type 0} (cmp : K → K → Ordering) where
 
 -- whether a chain is turned once doesn't depend on how the tables are kept
 pub turned_once-alike : (chains others : List (ℕ × ℕ)) (firsts firsts' nexts nexts' : List ℕ) → AnswersAs nat_cmp chains others
-    → ((n : ℕ) → stands_in nat_cmp n firsts ≡ stands_in nat_cmp n firsts') → ((n : ℕ) → stands_in nat_cmp n nexts ≡ stands_in nat_cmp n nexts')
+    → ((n : ℕ) → stands_in nat_cmp n firsts ≡ stands_in nat_cmp n firsts') →
+    ((n : ℕ) → stands_in nat_cmp n nexts ≡ stands_in nat_cmp n nexts')
     → (tlids : List ℕ) → filter (is_turned_once chains firsts nexts) tlids ≡ filter (is_turned_once others firsts' nexts') tlids
 turned_once-alike chains others firsts firsts' nexts nexts' h f g [] = refl
 turned_once-alike chains others firsts firsts' nexts nexts' h f g (t ∷ ts) = λ i. cond

@@ -22,7 +22,7 @@ use Rattle.tl_layout.specs.declared.type_p.BodyP.{BodyP}
 use Rattle.tl_shape.specs.Chain.{Chain}
 use Rattle.tl_shape.specs.Turned.{turned_if}
 use Rattle.tl_county.specs.County.{County, link_key}
-use Rattle.tl_county.specs.Limits.{FitsName, FitsLandmark, FitsPolygon, FitsLinkContent, FitsChain, FitsLink, HasRoom, ContentsFit}
+use Rattle.tl_county.specs.Limits.{FitsNameBody, FitsLandmark, FitsPolygon, FitsLinkContent, FitsChain, FitsLink, HasRoom, ContentsFit}
 use Rattle.tl_county.specs.Packing.{pieces, in_pieces, numbered_from, without_last, inner_points, packed_one, packed_twos}
 use Rattle.tl_county.specs.Packing.{packed_fours, packed_five, packed_sixes, packed_sevens, packed_i, packed_body, packed_p}
 use Rattle.tl_county.specs.Packing.{p_polyid, packed_by_type}
@@ -185,10 +185,10 @@ module _ (r : Renumbering) (a b : County) (h : Carries r a b) where
         subst (λ (c : ℕ × Chain). FitsChain c.1) (sym o.2)
         (chain_renumbered_fits (turned_if (turns r o.0.0) o.0.1)
         (chain_turned_fits (turns r o.0.0) o.0.1 (all_among (λ d. FitsChain d.1) o.0 a.chains fits.chains o.1))));
-    names = each_from (λ e. FitsName e.1) b.names (λ e m. let o =
+    names = each_from (λ e. FitsNameBody e.1) b.names (λ e m. let o =
         among-unmap (carried_name r) e a.names
         (among-permutation e b.names (map (carried_name r) a.names) (IsPermutation-sym (map (carried_name r) a.names) b.names h.names) m) in
-        subst (λ (c : ℕ × Body5). FitsName c.1) (sym o.2) (all_among (λ d. FitsName d.1) o.0 a.names fits.names o.1));
+        subst (λ (c : ℕ × Body5). FitsNameBody c.1) (sym o.2) (all_among (λ d. FitsNameBody d.1) o.0 a.names fits.names o.1));
     cenids = each_from (λ e. IsText 5 e.0.0) b.polygons (λ e m. let o = old_polygon e m in
         subst (λ (c : PolygonKey × Option BodyP). IsText 5 c.0.0) (sym o.2)
         (subst (IsText 5) (sym (image-keeps r.polygons h.numbers.cenids o.0.0))

@@ -19,7 +19,7 @@ use Rattle.tl_layout.specs.TypeI.{FitsTypeI}
 use Rattle.tl_layout.specs.TypeP.{FitsTypeP}
 use Rattle.tl_layout.specs.declared.type_i.BodyI.{BodyI}
 use Rattle.tl_layout.specs.declared.type_p.BodyP.{BodyP}
-use Rattle.tl_county.specs.Limits.{FitsName, FitsLandmark, FitsPolygon, FitsLinkContent}
+use Rattle.tl_county.specs.Limits.{FitsNameBody, FitsLandmark, FitsPolygon, FitsLinkContent}
 
 pub record Fit1 (r : Fields1) : Type 0 where
   pub tlid : IsNumber 10 r.tlid
@@ -41,7 +41,7 @@ pub record Fit4 (r : Fields4) : Type 0 where
 
 pub record Fit5 (r : Fields5) : Type 0 where
   pub feat : IsNumber 8 r.feat
-  pub body : FitsName r.body
+  pub body : FitsNameBody r.body
 
 pub record Fit6 (r : Fields6) : Type 0 where
   pub tlid : IsNumber 10 r.tlid

@@ -27,7 +27,7 @@ use Rattle.tl_county.specs.County.{one_tlid, two_tlid, two_rtsq, four_tlid, four
 use Rattle.tl_county.specs.County.{p_key, first, side_keys, shape_points, further_names, further_ranges, chain_of, chains_of}
 use Rattle.tl_county.specs.County.{polygon_body, county_of}
 use Rattle.tl_county.specs.CountyRules.{tlids}
-use Rattle.tl_county.specs.Limits.{FitsName, FitsLandmark, FitsPolygon, FitsChain, FitsLink, FitsNumbers, HasRoom, ContentsFit}
+use Rattle.tl_county.specs.Limits.{FitsNameBody, FitsLandmark, FitsPolygon, FitsChain, FitsLink, FitsNumbers, HasRoom, ContentsFit}
 use Rattle.tl_county.specs.Limits.{NumbersFit, IsWithinLimits, greatest_rtsq}
 use Rattle.tl_county.specs.LinkRules.{IsLinked}
 use Rattle.tl_county.specs.Orders.{in_order, distinct, has_repeat}
@@ -281,10 +281,10 @@ module _ (records : List Record) (linked : IsLinked records) (fits : AllByRecurs
   contents : ContentsFit (county_of records)
   contents = record {
     chains = all_chains (λ entry. FitsChain entry.1) chain_fits;
-    names = all_map (λ (entry : ℕ × Body5). FitsName entry.1) (λ (r : Fields5). (r.feat, r.body))
+    names = all_map (λ (entry : ℕ × Body5). FitsNameBody entry.1) (λ (r : Fields5). (r.feat, r.body))
         (in_order (on five_feat nat_cmp) (of_type_5 records))
-        (all-in_order (λ r. FitsName r.body) (on five_feat nat_cmp) (of_type_5 records)
-        (all_weaker Fit5 (λ r. FitsName r.body) (λ r f. f.body) (of_type_5 records) fit_5));
+        (all-in_order (λ r. FitsNameBody r.body) (on five_feat nat_cmp) (of_type_5 records)
+        (all_weaker Fit5 (λ r. FitsNameBody r.body) (λ r f. f.body) (of_type_5 records) fit_5));
     cenids = all_map (λ (entry : PolygonKey × Option BodyP). IsText 5 entry.0.0) (λ key. (key, polygon_body records key))
         (distinct key_cmp keys)
         (all_weaker (λ key. IsText 5 key.0 × IsNumber 10 key.1) (λ key. IsText 5 key.0) (λ key f. f.0)

@@ -17,7 +17,7 @@ use Rattle.tl_layout.specs.declared.type_p.BodyP.{BodyP}
 use Rattle.tl_shape.specs.Chain.{Chain}
 use Rattle.tl_county.specs.County.{County}
 use Rattle.tl_county.specs.CountyRules.{IsWhole}
-use Rattle.tl_county.specs.Limits.{FitsName, FitsLandmark, FitsPolygon, FitsChain, FitsLink, FitsNumbers, HasRoom, ContentsFit}
+use Rattle.tl_county.specs.Limits.{FitsNameBody, FitsLandmark, FitsPolygon, FitsChain, FitsLink, FitsNumbers, HasRoom, ContentsFit}
 use Rattle.tl_county.specs.Limits.{NumbersFit, greatest_rtsq}
 use Rattle.tl_county.specs.Orders.{in_order}
 use Rattle.tl_county.specs.Packing.{in_pieces, numbered_from, first_point, last_point, without_last, inner_points, packed_one}
@@ -190,9 +190,9 @@ module _ (county : County) (whole : IsWhole county) (contents : ContentsFit coun
       (all_append FitsRecord (map Five (map packed_five county.names)) _
       (wrapped Fit5 Five columns_5 (map packed_five county.names)
       (all_map Fit5 packed_five county.names
-      (all_weaker (λ (entry : ℕ × Body5). IsNumber 8 entry.0 × FitsName entry.1) (λ entry. Fit5 (packed_five entry))
+      (all_weaker (λ (entry : ℕ × Body5). IsNumber 8 entry.0 × FitsNameBody entry.1) (λ entry. Fit5 (packed_five entry))
       (λ entry h. record { feat = h.0; body = h.1 }) county.names
-      (all_both (λ (entry : ℕ × Body5). IsNumber 8 entry.0) (λ entry. FitsName entry.1) county.names numbers.names contents.names))))
+      (all_both (λ (entry : ℕ × Body5). IsNumber 8 entry.0) (λ entry. FitsNameBody entry.1) county.names numbers.names contents.names))))
       (all_append FitsRecord (map Six (flat_map packed_sixes county.chains)) _
       (wrapped Fit6 Six columns_6 (flat_map packed_sixes county.chains)
       (each_chain Fit6 packed_sixes (λ entry h. sixes_fit entry h.1.0 h.1.1.0 h.1.1.1.1)))

@@ -151,7 +151,8 @@ pub landmarks-step : (done whole : List LandmarkParts) (land : ℕ) (later lands
     → lands ≡ land ∷ later → IsStrictlySortedBy nat_cmp lands
     → done ++ map (landmark_of sevens eights) lands ≡ whole
     → (done ++ (landmark ∷ [])) ++ map (landmark_of (later_than seven_land land sevens) (later_than eight_land land eights)) later ≡ whole
-landmarks-step done whole land later lands sevens group eights linked bodies landmark group_is linked_is bodies_are landmark_is lands_are ascending before =
+landmarks-step done whole land later lands sevens group eights linked bodies landmark group_is linked_is bodies_are landmark_is lands_are
+    ascending before =
     one_done done (landmark_of sevens eights land) landmark (map (landmark_of sevens eights) later)
     (map (landmark_of (later_than seven_land land sevens) (later_than eight_land land eights)) later) whole
     (ap (λ l. done ++ map (landmark_of sevens eights) l) (sym lands_are) ∙ before)

@@ -18,7 +18,8 @@ pub mod KeyedLists
 pub mod RuleOrders
 pub mod RuleTests
 pub mod TlidsInOrder
-pub mod CenidNumbers
+pub mod SortedKeys
+pub mod PlacesOfCenids
 pub mod PolygonNumbers
 pub mod GatheredLists
 pub mod EntryLists
@@ -41,6 +42,7 @@ pub mod FieldsFit
 pub mod PackedGroups
 pub mod CarriedLimits
 pub mod TypedRecords
+pub mod WithoutChain
 pub mod SameRules
 pub mod LinkedTables
 pub mod BuiltTables

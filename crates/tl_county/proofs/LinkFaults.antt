@@ -16,7 +16,16 @@ use Rattle.tl_county.specs.LinkedTypes.{linked_type}
 use Rattle.tl_layout.specs.ByType.{of_type_2, of_type_4, of_type_5, of_type_6, of_type_8, of_type_i, of_type_p, of_number}
 use Rattle.tl_county.specs.County.{two_tlid, two_rtsq, four_tlid, four_rtsq, five_feat, six_tlid, six_rtsq, eight_land, link_key}
 use Rattle.tl_county.specs.County.{i_tlid, p_key}
-use Rattle.tl_county.specs.LinkRules.{chain_tlids, linked_tlids, rtsqs, named_feats, is_rule_broken, link_fault_place, IsLinked, IsFirstBrokenRule}
+use Rattle.tl_county.specs.LinkRules.{
+  chain_tlids,
+  linked_tlids,
+  rtsqs,
+  named_feats,
+  is_rule_broken,
+  link_fault_place,
+  IsLinked,
+  IsFirstBrokenRule,
+}
 use Rattle.tl_county.specs.Orders.{times, stands_in, has_repeat}
 use Rattle.tl_county.specs.PolygonKeys.{key_cmp}
 use Rattle.tl_county.proofs.FirstFault.{Among, among_left, among_right, known_among, first_or_none, not_first, one_first}
@@ -155,7 +164,8 @@ type_among_sequence t tlid records h =
     (map (SequenceBroken t) (linked_tlids (linked_type t) records))
     (known_among nat_keys (SequenceBroken t) tlid (linked_tlids (linked_type t) records) h)
 
-among_types : (t : SequencedType) (f : LinkFault) (records : List Record) → Among f (type_faults t records) → Among f (faults_11_to_15 records)
+among_types : (t : SequencedType) (f : LinkFault) (records : List Record) → Among f (type_faults t records) → Among f
+    (faults_11_to_15 records)
 among_types sequenced.Two f records h =
     among_right f (map ChainTwice (chain_tlids records)) _ (among_left f (type_faults sequenced.Two records) _ h)
 among_types sequenced.Four f records h =
@@ -284,9 +294,11 @@ pub one_first_rule : (records : List Record) (f g : LinkFault) → IsFirstBroken
 one_first_rule records = one_first (is_rule_broken records) link_fault_place fault_at fault_at-place
 
 -- by computing, for given records
-pub linked_computed : (records : List Record) → none_there (is_rule_broken records) link_fault_place (all_faults records) ≡ true → IsLinked records
+pub linked_computed : (records : List Record) → none_there (is_rule_broken records) link_fault_place (all_faults records) ≡ true → IsLinked
+    records
 linked_computed records e = none_computed (is_rule_broken records) link_fault_place (all_faults records) (broken_among records) e
 
 pub first_rule_computed : (records : List Record) (fault : LinkFault)
     → least_there (is_rule_broken records) link_fault_place fault (all_faults records) ≡ true → IsFirstBrokenRule records fault
-first_rule_computed records fault e = first_computed (is_rule_broken records) link_fault_place (all_faults records) (broken_among records) fault e
+first_rule_computed records fault e = first_computed (is_rule_broken records) link_fault_place (all_faults records) (broken_among records)
+    fault e

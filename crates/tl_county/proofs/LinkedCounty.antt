@@ -196,7 +196,7 @@ module _ (records : List Record) (linked : IsLinked records) where
       key_stands (link_key link) (ltb-true 0 (times key_cmp (link_key link) all_keys) t)
 
   -- each type I record is that of a chain of the county
-  linked_chain : (link : FieldsI) → Among link (of_type_i records)
+  pub linked_chain : (link : FieldsI) → Among link (of_type_i records)
       → (r : Fields1) × Among (r.tlid, chain_of records r link) (chains_of records)
   linked_chain link m =
       let named : Known nat_cmp (map i_tlid (of_type_i records)) link.tlid =

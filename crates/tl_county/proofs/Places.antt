@@ -1,6 +1,22 @@
 -- Places: what a list begins with from a place on, and what stands at the place of a key, or past the end.
 use Rattle.std.proofs.Common.{◌≡◌, ℕ, zero, suc, List, [], ◌∷◌, length, drop, true, false, cond, IsTrue}
-use Rattle.std.proofs.Common.{Option, Some, None, IfSome, is_some, slice_get, unwrap_or, Ordering, nat_cmp, refl, sym, ap, ◌∙◌, subst, arith}
+use Rattle.std.proofs.Common.{
+  Option,
+  Some,
+  None,
+  IfSome,
+  is_some,
+  slice_get,
+  unwrap_or,
+  Ordering,
+  nat_cmp,
+  refl,
+  sym,
+  ap,
+  ◌∙◌,
+  subst,
+  arith,
+}
 use Rattle.std.proofs.lemmas.Bool.{false≢true, ne_eqb}
 use Rattle.std.proofs.lemmas.Option.{slice_get_past}
 use Rattle.std.specs.List.{AllByRecursion}

@@ -236,7 +236,8 @@ pub first-after : (records : List Record) {low mid : ℕ} {f : LinkFault} → lo
 first-after records {low} {mid} {f} le h k =
     record { from = (let m : mid ≤ rule_place f = k.from in omega (arith, le)); broken = k.broken; least = least }
   where
-    least : (g : LinkFault) → low ≤ rule_place g → is_rule_broken records g ≡ true → is_gt (place_cmp (link_fault_place f) (link_fault_place g)) ≡ false
+    least : (g : LinkFault) → low ≤ rule_place g → is_rule_broken records g ≡ true → is_gt
+        (place_cmp (link_fault_place f) (link_fault_place g)) ≡ false
     least g from b = go (nat_lt (rule_place g) mid) refl
       where
         go : (t : Bool) → nat_lt (rule_place g) mid ≡ t → is_gt (place_cmp (link_fault_place f) (link_fault_place g)) ≡ false

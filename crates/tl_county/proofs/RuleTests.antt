@@ -377,7 +377,8 @@ module _ (records : List Record) (t : Typed) (e : by_type records ≡ t) where
       (flat_map side_keys t.of_type_i ++ map p_key t.of_type_p)) records 14 (λ key. PolygonUnknown key.0 key.1)
   rule_20 = record {
     broken =
-        λ k. ap (λ (u : Typed). is_unknown key_cmp (map link_key u.of_type_8) (flat_map side_keys u.of_type_i ++ map p_key u.of_type_p) k) e;
+        λ k. ap (λ (u : Typed). is_unknown key_cmp (map link_key u.of_type_8) (flat_map side_keys u.of_type_i ++ map p_key u.of_type_p) k)
+        e;
     place = λ k. refl;
     key = λ p. (part p 0, number p 1);
     only = λ p. refl;

@@ -171,7 +171,8 @@ module _ (xs ys : List Record) (p : IsPermutation xs ys) (linked : IsLinked xs) 
   chain_same : (r : Fields1) (link : FieldsI) → chain_of xs r link ≡ chain_of ys r link
   chain_same r link = λ i. record (chain_of xs r link) {
     points = r.start ∷ (flat_map (λ (q : Fields2). q.points)
-        (in_sequence two_tlid two_rtsq r.tlid (of_type_2 xs) (of_type_2 ys) s_twos (linked (SequenceBroken sequenced.Two r.tlid)) i) ++ (r.end ∷ []));
+        (in_sequence two_tlid two_rtsq r.tlid (of_type_2 xs) (of_type_2 ys) s_twos (linked (SequenceBroken sequenced.Two r.tlid)) i) ++
+        (r.end ∷ []));
     feats = flat_map (λ (q : Fields4). q.feats) (in_sequence four_tlid four_rtsq r.tlid (of_type_4 xs) (of_type_4 ys) s_fours
         (linked (SequenceBroken sequenced.Four r.tlid)) i);
     ranges = map (λ (q : Fields6). q.ranges) (in_sequence six_tlid six_rtsq r.tlid (of_type_6 xs) (of_type_6 ys) s_sixes

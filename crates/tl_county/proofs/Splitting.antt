@@ -215,7 +215,8 @@ module _ (others : List Record) (whole first second : Fields2)
   two-broken : (f : LinkFault) → is_rule_broken (Two whole ∷ others) f ≡ is_rule_broken (Two first ∷ Two second ∷ others) f
   two-broken (NoChain Type2 n) = ap (λ b. b && not (stands_in nat_cmp n (chain_tlids others)))
       (known-cut two_tlid two_rtsq (λ (r : Fields2). r.points) (of_type_2 others) whole first second cut n)
-  two-broken (SequenceBroken sequenced_types.Two n) = repeat-cut two_tlid two_rtsq (λ (r : Fields2). r.points) (of_type_2 others) whole first second cut n
+  two-broken (SequenceBroken sequenced_types.Two n) = repeat-cut two_tlid two_rtsq (λ (r : Fields2). r.points) (of_type_2 others) whole
+      first second cut n
   two-broken (NoChain Type4 n) = refl
   two-broken (NoChain Type6 n) = refl
   two-broken (NoChain TypeI n) = refl

@@ -1,8 +1,8 @@
 -- What holds of the county of each linked list of records: its numbers ascend, and each number that it names is there.
-use Rattle.std.specs.Prelude.{ℕ, List, ◌++◌, ◌≤◌, ◌||◌, map, flat_map, length, IsTrue, is_some, option_to_list}
-use Rattle.std.specs.List.{AllByRecursion}
+use Rattle.std.specs.Prelude.{ℕ, List, ◌++◌, ◌≤◌, ◌||◌, ◌&&◌, map, flat_map, length, Bool, not, IsTrue, is_some, option_to_list}
+use Rattle.std.specs.List.{AllByRecursion, list_any}
 use Rattle.std.specs.List.Sorted.{IsStrictlySortedBy}
-use Rattle.std.specs.Ordering.{nat_cmp}
+use Rattle.std.specs.Ordering.{is_eq, nat_cmp}
 use Rattle.tl_county.specs.BodyOrder.{landmark_body_cmp, link_cmp}
 use Rattle.tl_shape.specs.Chain.{Chain}
 use Rattle.tl_county.specs.County.{County, link_key}
@@ -37,6 +37,14 @@ nodes_along chains = flat_map (λ entry. chain_nodes entry.1) chains
 -- the polygons of all chains, chain after chain
 abbrev pub polygons_along : List (ℕ × Chain) → List PolygonKey
 polygons_along chains = flat_map (λ entry. chain_polygons entry.1) chains
+
+-- whether the county has a type P record of this polygon
+abbrev pub has_body : County → PolygonKey → Bool
+has_body county key = list_any (λ entry. is_eq (key_cmp key entry.0) && is_some entry.1) county.polygons
+
+-- whether this polygon has a type P record and is on no side of a chain
+abbrev pub is_without_chain : County → PolygonKey → Bool
+is_without_chain county key = has_body county key && not (stands_in key_cmp key (polygons_along county.chains))
 
 -- the county's nodes, in order
 abbrev pub nodes : County → List ℕ

@@ -41,8 +41,8 @@ abbrev pub most_names : ℕ
 most_names = 4995
 
 -- A content fits if a record of it does; the number, which is no content, is here 1.
-abbrev pub FitsName : Body5 → Type 0
-FitsName body = FitsType5 (record { feat = 1; body = body })
+abbrev pub FitsNameBody : Body5 → Type 0
+FitsNameBody body = FitsType5 (record { feat = 1; body = body })
 
 abbrev pub FitsLandmark : Body7 → Type 0
 FitsLandmark body = FitsType7 (record { land = 1; body = body })
@@ -82,7 +82,7 @@ pub record FitsLink (link : Fields8) : Type 0 where
 -- all of a county but its numbers fits the fields of its records
 pub record ContentsFit (county : County) : Type 0 where
   pub chains : AllByRecursion (λ entry. FitsChain entry.1) county.chains
-  pub names : AllByRecursion (λ entry. FitsName entry.1) county.names
+  pub names : AllByRecursion (λ entry. FitsNameBody entry.1) county.names
   pub cenids : AllByRecursion (λ entry. IsText 5 entry.0.0) county.polygons
   pub polygons : AllByRecursion (λ entry. IfSome entry.1 (FitsPolygon entry.0.0)) county.polygons
   pub landmarks : AllByRecursion (λ entry. AllByRecursion FitsLandmark entry.1) county.landmarks

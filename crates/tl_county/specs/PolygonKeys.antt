@@ -1,5 +1,5 @@
 -- The key of a polygon: a CENID with a POLYID.
-use Rattle.std.specs.Prelude.{ℕ, ◌+◌, ◌*◌, List, [], ◌∷◌, Option, Some, None}
+use Rattle.std.specs.Prelude.{ℕ, List, [], ◌∷◌, Option, Some, None}
 use Rattle.std.specs.declared.cmp.Ordering.{Ordering}
 use Rattle.std.specs.Ordering.{nat_cmp, ordering_then}
 use Rattle.std.specs.Cmp.Lexicographic.{slice_cmp}
@@ -21,8 +21,3 @@ key_under cenid (Some polyid) = (cenid, polyid) ∷ []
 -- the polygon on a side; a CENID without a POLYID is no polygon
 abbrev pub key_on : PolygonSide → List PolygonKey
 key_on side = key_under side.cenid side.polyid
-
--- the bytes as one number, after a number that stands before them; the first byte is the highest
-abbrev pub number_after : ℕ → List ℕ → ℕ
-number_after n [] = n
-number_after n (byte ∷ bytes) = number_after (n * 256 + byte) bytes

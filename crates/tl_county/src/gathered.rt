@@ -2,17 +2,18 @@
 
 ghost use Rattle.std.specs.Prelude.{◌≡◌, ◌++◌, map, flat_map, OnOk, IfOk, IsPermutation};
 ghost use Rattle.tl_county.specs.County.{link_key, p_key, side_keys};
+ghost use Rattle.std.specs.Ordering.{on};
+ghost use Rattle.tl_county.specs.Keyed.{IsLeastPassing, is_unknown};
 ghost use Rattle.tl_county.specs.OrderedTables.{typed_of, AreInOrder, ArePermuted};
 ghost use Rattle.tl_county.specs.Orders.{IsInOrder, distinct};
-ghost use Rattle.tl_county.specs.PolygonKeys.{key_cmp};
+ghost use Rattle.tl_county.specs.PolygonKeys.{key_cmp, key_on};
 ghost use Rattle.tl_county.specs.SequenceKeys.{sequence_cmp, uses_of};
 
-use crate::key_set::KeySet;
-use crate::keyed::{Keyed, keys_of, put_in_order, sort_keys};
-use crate::polygon_numbers::polygons_in_order;
+use crate::keyed::{Keyed, keys_of, least_unknown, put_in_order, sort_keys};
+use crate::polygon_numbers::distinct_polygons;
 use crate::record_keys::{LandmarkKey, LinkKey, PolygonKey};
 use std::alloc::{AllocError, Global};
-use tl_layout::{Rec1, Rec2, Rec4, Rec5, Rec6, Rec7, Rec8, RecI, RecP, Tables};
+use tl_layout::{Rec1, Rec2, Rec4, Rec5, Rec6, Rec7, Rec8, RecI, RecP, Side, Tables};
 
 /// Puts each table in the order of its records' numbers.
 pub(crate) fn order_tables(tables: &mut Tables) -> Result<(), AllocError>
@@ -60,41 +61,70 @@ pub(crate) fn linked_polygons(alloc: Global, links: &[Rec8]) -> Result<Vec<Polyg
     ensures in_order { IfOk result (λ keys. IsInOrder key_cmp keys.items) }
     ensures same { IfOk result (λ keys. IsPermutation (map link_key links.now) keys.items) }
 {
-    let keys = keys_of::<PolygonKey, Rec8>(alloc, links)?;
-    polygons_in_order(alloc, &keys)
+    let mut keys = keys_of::<PolygonKey, Rec8>(alloc, links)?;
+    sort_keys::<PolygonKey>(&mut keys);
+    Ok(keys)
 }
 
-/// The set of the polygons on sides.
-fn polygons_on_sides(alloc: Global, sides: &[RecI]) -> Result<KeySet<PolygonKey>, AllocError>
-    ensures { IfOk result (λ polygons. distinct key_cmp polygons ≡ distinct key_cmp (flat_map side_keys sides.now)) }
+/// Adds the polygon on a side, if there is one.
+fn push_side(polygons: &mut Vec<PolygonKey>, side: &Side) -> Result<(), AllocError>
+    ensures { OnOk result (polygons.new.items ≡ polygons.old.items ++ key_on side.now) }
 {
-    let mut polygons = KeySet::new(alloc);
-    for link in sides {
-        polygons.insert_side(link.left())?;
-        polygons.insert_side(link.right())?;
-    }
-    Ok(polygons)
-}
-
-/// Puts the polygons of type P into a set.
-fn insert_points(polygons: &mut KeySet<PolygonKey>, points: &[RecP]) -> Result<(), AllocError>
-    ensures { OnOk result (distinct key_cmp polygons.new ≡ distinct key_cmp (polygons.old ++ map p_key points.now)) }
-{
-    for point in points {
-        polygons.insert(point.key())?;
+    if let Some(polyid) = side.polyid() {
+        polygons.push((side.cenid(), polyid))?;
     }
     Ok(())
 }
 
-/// The polygons on sides and of type P, in order and each once.
-pub(crate) fn polygon_keys(
+/// The polygons on sides, one after the other.
+fn polygons_on_sides(alloc: Global, sides: &[RecI]) -> Result<Vec<PolygonKey>, AllocError>
+    ensures { IfOk result (λ polygons. polygons.items ≡ flat_map side_keys sides.now) }
+{
+    let mut polygons = Vec::with_capacity(alloc, 2 * sides.len())?;
+    for link in sides {
+        push_side(&mut polygons, link.left())?;
+        push_side(&mut polygons, link.right())?;
+    }
+    Ok(polygons)
+}
+
+/// Adds the polygons of type P.
+fn push_points(polygons: &mut Vec<PolygonKey>, points: &[RecP]) -> Result<(), AllocError>
+    ensures { OnOk result (polygons.new.items ≡ polygons.old.items ++ map p_key points.now) }
+{
+    for point in points {
+        polygons.push(point.key())?;
+    }
+    Ok(())
+}
+
+/// The polygons on sides and of type P.
+#[derive(Drop)]
+pub(crate) struct Polygons {
+    /// The polygons in order, each once.
+    pub(crate) keys: Vec<PolygonKey>,
+    /// The least polygon of type P that is on no side.
+    pub(crate) without_side: Option<PolygonKey>,
+}
+
+/// The polygons on sides and of type P, those of type P in order. Mostly each of type P is on a side: then those on sides
+/// are all.
+pub(crate) fn gather_polygons(
     alloc: Global,
     sides: &[RecI],
     points: &[RecP],
-) -> Result<Vec<PolygonKey>, AllocError>
-    ensures { IfOk result (λ keys. keys.items ≡ distinct key_cmp (flat_map side_keys sides.now ++ map p_key points.now)) }
+) -> Result<Polygons, AllocError>
+    requires { IsInOrder (on p_key key_cmp) points.now }
+    ensures keys { IfOk result (λ polygons. polygons.keys.items ≡ distinct key_cmp (flat_map side_keys sides.now ++ map p_key points.now)) }
+    ensures without_side { IfOk result (λ polygons.
+        IsLeastPassing key_cmp (is_unknown key_cmp (map p_key points.now) (flat_map side_keys sides.now)) polygons.without_side) }
 {
-    let mut polygons = polygons_on_sides(alloc, sides)?;
-    insert_points(&mut polygons, points)?;
-    polygons.in_order(alloc)
+    let on_sides = polygons_on_sides(alloc, sides)?;
+    let mut keys = distinct_polygons(alloc, &on_sides)?;
+    let without_side = least_unknown::<PolygonKey, RecP, PolygonKey>(points, &keys);
+    if without_side.is_some() {
+        push_points(&mut keys, points)?;
+        keys = distinct_polygons(alloc, &keys)?;
+    }
+    Ok(Polygons { keys, without_side })
 }

@@ -5,6 +5,8 @@ ghost use Rattle.tl_layout.specs.Tables.{HoldsByType};
 ghost use Rattle.tl_layout.specs.declared.record_type.Record.{Record};
 ghost use Rattle.tl_county.specs.Building.{county_along};
 ghost use Rattle.tl_county.specs.County.{county_of, five_feat, p_key, side_keys};
+ghost use Rattle.tl_county.specs.CountyRules.{is_without_chain};
+ghost use Rattle.tl_county.specs.Keyed.{IsLeastPassing};
 ghost use Rattle.tl_county.specs.Limits.{HoldsWithinLimits, IsWithinLimits, most_records};
 ghost use Rattle.tl_county.specs.LinkRules.{IsFirstBrokenRule, IsLinked};
 ghost use Rattle.tl_county.specs.OrderedTables.{typed_of, AreInOrder};
@@ -19,6 +21,7 @@ use crate::building::nodes_of;
 use crate::chain_over::ChainOver;
 use crate::county_over::CountyOver;
 use crate::fault::LinkFault;
+use crate::gathered::Polygons;
 use crate::lent::{LandmarkIn, NameIn};
 use crate::linking::{build_chains, build_landmarks, build_polygons, settle};
 use crate::record_keys::PolygonKey;
@@ -33,12 +36,13 @@ use tl_layout::Tables;
 pub struct LinkedRecords {
     tables: Tables,
     feats: Vec<u32>,
-    polygons: Vec<PolygonKey>,
+    polygons: Polygons,
 }
 
 impl Model for LinkedRecords {
     ghost use Rattle.std.specs.Prelude.{◌≡◌, ◌++◌, map, flat_map};
     ghost use Rattle.tl_county.specs.County.{county_of, five_feat, p_key, side_keys};
+    ghost use Rattle.tl_county.specs.Keyed.{IsLeastPassing, is_unknown};
     ghost use Rattle.tl_county.specs.Limits.{IsWithinLimits, most_records};
     ghost use Rattle.tl_county.specs.LinkRules.{IsLinked};
     ghost use Rattle.tl_county.specs.OrderedTables.{typed_of, AreInOrder};
@@ -54,7 +58,9 @@ impl Model for LinkedRecords {
         × IsLinked (type_after_type (typed_of l.tables))
         × IsWithinLimits most_records (county_of (type_after_type (typed_of l.tables)))
         × (l.feats.items ≡ map five_feat l.tables.type_5.items)
-        × (l.polygons.items ≡ distinct key_cmp (flat_map side_keys l.tables.type_i.items ++ map p_key l.tables.type_p.items)) };
+        × (l.polygons.keys.items ≡ distinct key_cmp (flat_map side_keys l.tables.type_i.items ++ map p_key l.tables.type_p.items))
+        × IsLeastPassing key_cmp (is_unknown key_cmp (map p_key l.tables.type_p.items) (flat_map side_keys l.tables.type_i.items))
+        l.polygons.without_side };
 }
 
 /// The names of tables in order, under their FEATs, their contents where they are.
@@ -116,8 +122,15 @@ impl LinkedRecords {
         ensures { IfOk result (λ county. the_county_over county ≡ county_of (type_after_type self.now)) }
     {
         let feats = Vec::from_slice(alloc, &self.feats)?;
-        let polygons = Vec::from_slice(alloc, &self.polygons)?;
+        let polygons = Vec::from_slice(alloc, &self.polygons.keys)?;
         build_county_over(alloc, arena, &self.tables, feats, polygons)
+    }
+
+    /// The least polygon with a record of type P that is on no side of a chain, by the bytes of the CENID and then by POLYID.
+    pub fn polygon_without_chain(&self) -> Option<PolygonKey>
+        ensures { IsLeastPassing key_cmp (is_without_chain (county_of (type_after_type self.now))) result }
+    {
+        self.polygons.without_side
     }
 }
 

@@ -10,6 +10,7 @@ ghost use Rattle.tl_county.specs.County.{county_of, five_feat, p_key, side_keys}
 ghost use Rattle.tl_county.specs.Limits.{HoldsWithinLimits, IsWithinLimits, most_records};
 ghost use Rattle.tl_county.specs.LinkRules.{IsFirstBrokenRule, IsLinked};
 ghost use Rattle.tl_county.specs.Entries.{map_values};
+ghost use Rattle.tl_county.specs.Keyed.{IsLeastPassing, is_unknown};
 ghost use Rattle.tl_county.specs.OrderedTables.{typed_of, AreInOrder, ArePermuted};
 ghost use Rattle.tl_county.specs.Orders.{distinct};
 ghost use Rattle.tl_county.specs.Packing.{by_type, type_after_type};
@@ -26,7 +27,7 @@ use crate::building::{
 use crate::county::County;
 use crate::county_in::CountyIn;
 use crate::fault::LinkFault;
-use crate::gathered::{linked_polygons, order_tables, polygon_keys, uses_in_order};
+use crate::gathered::{Polygons, gather_polygons, linked_polygons, order_tables, uses_in_order};
 use crate::keyed::keys_of;
 use crate::landmark::Landmark;
 use crate::lent::{LandmarkIn, NameIn};
@@ -204,11 +205,11 @@ fn build_county_in<'a>(
     })
 }
 
-/// What was gathered of tables in order: the FEATs of names and the keys of polygons, both in order.
+/// What was gathered of tables in order: the FEATs of names, in order, and the polygons.
 #[derive(Drop)]
 pub(crate) struct Gathered {
     pub(crate) feats: Vec<u32>,
-    pub(crate) polygons: Vec<PolygonKey>,
+    pub(crate) polygons: Polygons,
 }
 
 /// Puts the tables in order and checks the ten rules, or tells the first one that the records break.
@@ -217,15 +218,17 @@ pub(crate) fn settle(alloc: Global, tables: &mut Tables) -> Result<Gathered, Lin
     ensures same { OnOk result (ArePermuted (typed_of tables.old) (typed_of tables.new)) }
     ensures linked { OnOk result (IsLinked (type_after_type (typed_of tables.new))) }
     ensures feats { IfOk result (λ gathered. gathered.feats.items ≡ map five_feat tables.new.type_5.items) }
-    ensures polygons { IfOk result (λ gathered. gathered.polygons.items ≡
+    ensures polygons { IfOk result (λ gathered. gathered.polygons.keys.items ≡
         distinct key_cmp (flat_map side_keys tables.new.type_i.items ++ map p_key tables.new.type_p.items)) }
+    ensures without_side { IfOk result (λ gathered. IsLeastPassing key_cmp
+        (is_unknown key_cmp (map p_key tables.new.type_p.items) (flat_map side_keys tables.new.type_i.items)) gathered.polygons.without_side) }
     ensures broken { IfErr result (λ fault. fault ≢ Memory → (records : List Record) →
         HoldsByType tables.old records → IsFirstBrokenRule records fault) }
 {
     order_tables(tables)?;
     let feats = keys_of::<u32, Rec5>(alloc, &tables.type_5)?;
-    let polygons = polygon_keys(alloc, &tables.type_i, &tables.type_p)?;
-    check_rules(alloc, tables, &feats, &polygons)?;
+    let polygons = gather_polygons(alloc, &tables.type_i, &tables.type_p)?;
+    check_rules(alloc, tables, &feats, &polygons.keys)?;
     Ok(Gathered { feats, polygons })
 }
 
@@ -240,7 +243,7 @@ pub fn link_tables(alloc: Global, tables: Tables) -> Result<County, LinkFault>
 {
     let mut tables = tables;
     let gathered = settle(alloc, &mut tables)?;
-    Ok(build_county(alloc, &tables, gathered.feats, gathered.polygons)?)
+    Ok(build_county(alloc, &tables, gathered.feats, gathered.polygons.keys)?)
 }
 
 /// The county of tables of records in an arena, which outlives it, or the first rule that the records break. The tables' order
@@ -258,7 +261,13 @@ pub fn link_tables_in<'a>(
 {
     let mut tables = tables;
     let gathered = settle(alloc, &mut tables)?;
-    Ok(build_county_in(alloc, arena, &tables, gathered.feats, gathered.polygons)?)
+    Ok(build_county_in(
+        alloc,
+        arena,
+        &tables,
+        gathered.feats,
+        gathered.polygons.keys,
+    )?)
 }
 
 /// The county of a list of records, or the first rule that the records break. The list's order has no meaning. It has

@@ -1,81 +1,133 @@
-//! The keys of polygons put in order. They are sorted as numbers, which takes a fraction of the time.
+//! The keys of polygons put in order, each once. They are sorted as numbers, which takes a fraction of the time.
 
-ghost use Rattle.std.specs.Prelude.{◌≡◌, ◌<◌, length, map, IfOk, IsPermutation};
+ghost use Rattle.std.specs.Prelude.{◌≡◌, ◌<◌, ◌*◌, ◌+◌, ◌/◌, ◌^◌, Some, length, map, slice_get, IfOk, IfSome};
 ghost use Rattle.std.specs.List.{AllByRecursion};
-ghost use Rattle.tl_county.specs.Orders.{IsInOrder};
-ghost use Rattle.tl_county.specs.PolygonKeys.{key_cmp, number_after};
-ghost use Rattle.tl_county.specs.PolygonNumbers.{IsOfKey, key_of_number};
+ghost use Rattle.tl_county.specs.BodyOrder.{bytes_cmp};
+ghost use Rattle.tl_county.specs.Orders.{IsInOrder, distinct};
+ghost use Rattle.tl_county.specs.PolygonKeys.{key_cmp};
+ghost use Rattle.tl_county.specs.PolygonNumbers.{IsOfKey, cenid_of, key_of_number};
 
-use crate::record_keys::{PolygonKey, cenid_number};
+use crate::keyed::{Key, place_of};
+use crate::record_keys::PolygonKey;
 use std::alloc::{AllocError, Global};
 
-/// One more than the greatest POLYID that a key can hold.
-const POLYIDS: u128 = 1 << 64;
+/// One more than the greatest POLYID in a number, which has room for those of ten digits.
+const POLYIDS: u64 = 1 << 34;
 
-/// The CENID as a number, and the POLYID.
-fn halves_of(key: &PolygonKey) -> (u64, u64)
-    ensures cenid { result.0 ≡ number_after 0 key.now.0 }
-    ensures polyid { result.1 ≡ key.now.1 }
-    ensures length { length key.now.0 ≡ 5 }
-    ensures bytes { AllByRecursion (λ byte. byte < 256) key.now.0 }
+/// How many places of CENIDs there are in a number.
+const PLACES: usize = 1 << 30;
+
+/// Puts keys in order, each once. It takes no memory.
+fn sort_distinct<K: Key>(keys: &mut Vec<K>)
+    ensures { keys.new.items ≡ distinct K.cmp keys.old.items }
 {
-    (cenid_number(key.0), key.1)
+    keys.sort_unstable();
+    keys.dedup();
 }
 
-/// The key as a number: the bytes of the CENID, then the POLYID.
-fn number_of(key: &PolygonKey) -> u128
-    ensures key { key_of_number result ≡ key.now }
-    ensures whole { IsOfKey result }
+/// The CENIDs of keys in order, each once. Mostly a key has the CENID of the key before it.
+fn cenids_of(alloc: Global, keys: &[PolygonKey]) -> Result<Vec<[u8; 5]>, AllocError>
+    ensures { IfOk result (λ cenids. cenids.items ≡ distinct bytes_cmp (map cenid_of keys.now)) }
 {
-    let (cenid, polyid) = halves_of(key);
-    u128::from(cenid) * POLYIDS + u128::from(polyid)
+    let mut cenids: Vec<[u8; 5]> = Vec::new(alloc);
+    for (cenid, _) in keys {
+        if cenids.last() != Some(cenid) {
+            cenids.push(*cenid)?;
+        }
+    }
+    sort_distinct::<[u8; 5]>(&mut cenids);
+    Ok(cenids)
+}
+
+/// The place of a CENID among those in order, or none where it doesn't stand there. It's looked for only where it isn't at `last`.
+fn place_from(cenids: &[[u8; 5]], last: usize, cenid: &[u8; 5]) -> Option<usize>
+    requires { IsInOrder bytes_cmp cenids.now }
+    ensures { IfSome result (λ place. slice_get cenids.now place ≡ Some cenid.now) }
+{
+    if cenids.get(last) == Some(cenid) {
+        return Some(last);
+    }
+    place_of::<[u8; 5]>(cenids, *cenid)
+}
+
+/// The number of a place and a POLYID, or none where there is no room for them.
+fn number_of(place: usize, polyid: u64) -> Option<u64>
+    ensures number { IfSome result (λ number. number ≡ place * 2 ^ 34 + polyid) }
+    ensures room { IfSome result (λ _. polyid < 2 ^ 34) }
+{
+    if place < PLACES && polyid < POLYIDS {
+        Some(place as u64 * POLYIDS + polyid)
+    } else {
+        None
+    }
+}
+
+/// The numbers of keys, or none where a key has none.
+fn numbers_of(
+    alloc: Global,
+    cenids: &[[u8; 5]],
+    keys: &[PolygonKey],
+) -> Result<Option<Vec<u64>>, AllocError>
+    requires { IsInOrder bytes_cmp cenids.now }
+    ensures keys { IfOk result (λ known. IfSome known (λ numbers. map (key_of_number cenids.now) numbers.items ≡ keys.now)) }
+    ensures whole { IfOk result (λ known. IfSome known (λ numbers. AllByRecursion (IsOfKey cenids.now) numbers.items)) }
+{
+    let mut numbers = Vec::with_capacity(alloc, keys.len())?;
+    let mut last = 0;
+    for (cenid, polyid) in keys {
+        let Some(place) = place_from(cenids, last, cenid) else {
+            return Ok(None);
+        };
+        let Some(number) = number_of(place, *polyid) else {
+            return Ok(None);
+        };
+        numbers.push(number)?;
+        last = place;
+    }
+    Ok(Some(numbers))
 }
 
 /// The key of a number.
-fn key_of(number: u128) -> PolygonKey
-    ensures { result ≡ key_of_number number }
+fn key_of(cenids: &[[u8; 5]], number: u64) -> PolygonKey
+    requires { IsOfKey cenids.now number }
+    ensures { result ≡ key_of_number cenids.now number }
 {
-    let bytes = ((number / POLYIDS) as u64).to_be_bytes();
-    let cenid = [bytes[3], bytes[4], bytes[5], bytes[6], bytes[7]];
-    (cenid, (number % POLYIDS) as u64)
-}
-
-/// The numbers of keys, one after the other.
-fn numbers_of(alloc: Global, keys: &[PolygonKey]) -> Result<Vec<u128>, AllocError>
-    ensures keys { IfOk result (λ numbers. map key_of_number numbers.items ≡ keys.now) }
-    ensures whole { IfOk result (λ numbers. AllByRecursion IsOfKey numbers.items) }
-{
-    let mut numbers = Vec::with_capacity(alloc, keys.len())?;
-    for key in keys {
-        numbers.push(number_of(key))?;
-    }
-    Ok(numbers)
+    (cenids[(number / POLYIDS) as usize], number % POLYIDS)
 }
 
 /// The keys of numbers, one after the other.
-fn keys_of(alloc: Global, numbers: &[u128]) -> Result<Vec<PolygonKey>, AllocError>
-    ensures { IfOk result (λ keys. keys.items ≡ map key_of_number numbers.now) }
+fn keys_of(
+    alloc: Global,
+    cenids: &[[u8; 5]],
+    numbers: &[u64],
+) -> Result<Vec<PolygonKey>, AllocError>
+    requires { AllByRecursion (IsOfKey cenids.now) numbers.now }
+    ensures { IfOk result (λ keys. keys.items ≡ map (key_of_number cenids.now) numbers.now) }
 {
     let mut keys = Vec::with_capacity(alloc, numbers.len())?;
     for number in numbers {
-        keys.push(key_of(*number))?;
+        keys.push(key_of(cenids, *number))?;
     }
     Ok(keys)
 }
 
-/// The keys of polygons, put in order.
+/// The keys of polygons in order, each once. Where a key has no number the keys themselves are sorted.
 ///
 /// # Errors
 ///
 /// Only that memory was lacking.
-pub(crate) fn polygons_in_order(
+pub(crate) fn distinct_polygons(
     alloc: Global,
     keys: &[PolygonKey],
 ) -> Result<Vec<PolygonKey>, AllocError>
-    ensures permutation { IfOk result (λ ordered. IsPermutation keys.now ordered.items) }
-    ensures in_order { IfOk result (λ ordered. IsInOrder key_cmp ordered.items) }
+    ensures { IfOk result (λ found. found.items ≡ distinct key_cmp keys.now) }
 {
-    let mut numbers = numbers_of(alloc, keys)?;
-    numbers.sort_unstable();
-    keys_of(alloc, &numbers)
+    let cenids = cenids_of(alloc, keys)?;
+    let Some(mut numbers) = numbers_of(alloc, &cenids, keys)? else {
+        let mut found: Vec<PolygonKey> = keys.iter().copied().collect(alloc)?;
+        sort_distinct::<PolygonKey>(&mut found);
+        return Ok(found);
+    };
+    sort_distinct::<u64>(&mut numbers);
+    keys_of(alloc, &cenids, &numbers)
 }

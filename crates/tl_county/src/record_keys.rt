@@ -1,24 +1,10 @@
 //! The keys that order records, and the records' keys.
 
-ghost use Rattle.std.specs.Prelude.{◌≡◌, ◌<◌, length};
-ghost use Rattle.std.specs.List.{AllByRecursion};
-ghost use Rattle.tl_county.specs.PolygonKeys.{number_after};
-
 use crate::keyed::{Key, Keyed};
 use tl_layout::{Point, Rec1, Rec2, Rec4, Rec5, Rec6, Rec7, Rec8, RecI, RecP};
 
 /// The key of a polygon: its CENID, and its POLYID under that CENID.
 pub type PolygonKey = ([u8; 5], u64);
-
-/// The bytes of a CENID as one number, the first the highest.
-pub(crate) fn cenid_number(cenid: [u8; 5]) -> u64
-    ensures value { result ≡ number_after 0 cenid }
-    ensures length { length cenid ≡ 5 }
-    ensures bytes { AllByRecursion (λ byte. byte < 256) cenid }
-{
-    let head = (cenid[0] as u64 * 256 + cenid[1] as u64) * 256 + cenid[2] as u64;
-    (head * 256 + cenid[3] as u64) * 256 + cenid[4] as u64
-}
 
 impl Key for u64 {
     ghost use Rattle.std.proofs.lemmas.Map.Lookups.{exact_unsigned};

@@ -11,8 +11,8 @@ pub record FitsName (name : FeatureName) : Type 0 where
   pub fedirs : IsText 2 name.fedirs
 
 -- the name that begins in this column of a line
-abbrev pub name_at : ℕ → List ℕ → FeatureName
-name_at first line =
+abbrev pub feature_name_at : ℕ → List ℕ → FeatureName
+feature_name_at first line =
     record {
       fedirp = columns first (first + 1) line;
       fename = columns (first + 2) (first + 31) line;

@@ -5,7 +5,7 @@ use Rattle.tl_layout.specs.Bytes.{IsText, columns}
 use Rattle.tl_layout.specs.Coordinates.{Coordinates}
 use Rattle.tl_layout.specs.FieldTexts.{coordinate_text}
 use Rattle.tl_layout.specs.Pairs.{FitsPair, pair_at, pair_texts}
-use Rattle.tl_layout.specs.Names.{FitsName, name_at, name_texts}
+use Rattle.tl_layout.specs.Names.{FitsName, feature_name_at, name_texts}
 use Rattle.tl_layout.specs.AddressRanges.{FitsRanges, ranges_at, ranges_texts}
 use Rattle.tl_layout.specs.declared.type1.NativeAreas.{NativeAreas}
 use Rattle.tl_layout.specs.declared.type1.GeographicEntities.{GeographicEntities}
@@ -55,7 +55,7 @@ body_1_at line =
     record {
       side1 = columns 16 16 line;
       source = columns 17 17 line;
-      name = name_at 18 line;
+      name = feature_name_at 18 line;
       cfcc = columns 56 58 line;
       ranges = ranges_at 59 line;
       native_areas = record { aianhhfp = pair_at 5 117 line; aihhtli = pair_at 1 127 line };

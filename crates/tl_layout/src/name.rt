@@ -23,7 +23,7 @@ pub struct FeatureName {
 }
 
 impl FeatureName {
-    ghost use Rattle.tl_layout.specs.Names.{FitsName, name_at, name_texts};
+    ghost use Rattle.tl_layout.specs.Names.{FitsName, feature_name_at, name_texts};
 
     /// The name of these fields, each of bytes that a line may hold.
     pub(crate) fn new(
@@ -51,7 +51,7 @@ impl FeatureName {
         requires allowed { AreAllowed line.now }
         requires from_one { 1 ≤ first }
         requires within { (first + 37 ≤ length line.now) × (first + 37 ≤ LONGEST_LINE) }
-        ensures { result ≡ name_at first line.now }
+        ensures { result ≡ feature_name_at first line.now }
     {
         FeatureName {
             fedirp: text_at(line, first, first + 1),

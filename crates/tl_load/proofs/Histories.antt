@@ -9,18 +9,18 @@ use Rattle.tl_layout.specs.declared.record_type.Record.{Record}
 use Rattle.tl_load.specs.declared.fault.LoadFault.{LoadFault}
 use Rattle.tl_load.specs.declared.fault.LoadFault.TheVariants as faults
 use Rattle.tl_load.specs.Lines.{is_line_feed, IsWithoutLineFeed, without_return, lines}
-use Rattle.tl_load.specs.Places.{PlacedLine, numbered, lines_from_part, placed_lines}
+use Rattle.tl_load.specs.Places.{PlacedLine, numbered_lines, lines_from_part, placed_lines}
 use Rattle.tl_load.specs.Outcome.{SpellsWithin, FaultAt, ◌>>=◌, outcome_after, outcome}
 use Rattle.tl_load.specs.Choice.{tiger}
 use Rattle.tl_load.specs.Loaded.{Loaded, IsOfLines, IsFaultHowever, with_line_feeds, HasLoaded, IsWellSoFar}
 use Rattle.tl_load.specs.Loaded.{IsWellAfter, all_parts}
 use Rattle.tl_load.specs.Keeping.{LoadedInto, seen, AreKept, AreCounted, WasFedInto, HasSome, IsSamePart, Lifts}
-use Rattle.tl_load.specs.Steps.{to_come, to_end, TakesLines, Takes, Ends, IsClosed, Closes, Reads, with_fault}
+use Rattle.tl_load.specs.Steps.{to_come, to_end, TakesLines, Takes, Ends, IsPartClosed, Closes, ReadsPart, with_fault}
 use Rattle.tl_load.proofs.RecordLines.{tiger_is_sound}
 use Rattle.tl_load.proofs.Reading.{outcome_after-append, accepts_from_outcome, outcome_from_accepts, fault_from_outcome}
 use Rattle.tl_load.proofs.LineLemmas.{lines_none}
 use Rattle.tl_load.proofs.Counts.{none_counted}
-use Rattle.tl_load.proofs.Runs.{lines_after, numbered-append, parts-append}
+use Rattle.tl_load.proofs.Runs.{lines_after, numbered_lines-append, parts-append}
 use Rattle.tl_load.proofs.Steps.{comes_at_end}
 use Rattle.tl_load.specs.declared.loader_into.TheConstants.{LINE_BYTES}
 
@@ -44,55 +44,58 @@ from_some P Q (Some y) x e h = let same : x ≡ y = cc in subst Q same h
 
 -- an empty part has no lines
 no_lines : (n : ℕ) → lines_from_part n ([] ∷ []) ≡ []
-unfolding lines_from_part numbered
-no_lines n = ap (λ (l : List (List ℕ)). numbered n 1 l ++ []) lines_none
+unfolding lines_from_part numbered_lines
+no_lines n = ap (λ (l : List (List ℕ)). numbered_lines n 1 l ++ []) lines_none
 
 -- the lines of closed parts and of lines that have ended in the next one, and then what follows
 ended_then : (closed : List (List ℕ)) (ended : List (List ℕ)) (rest : List ℕ) (later : List (List ℕ)) → All IsWithoutLineFeed ended
     → placed_lines (closed ++ (with_line_feeds ended ++ rest) ∷ later)
     ≡ placed_lines (closed ++ with_line_feeds ended ∷ []) ++
-    (numbered (1 + length closed) (1 + length ended) (lines rest) ++ lines_from_part (1 + length closed + 1) later)
+    (numbered_lines (1 + length closed) (1 + length ended) (lines rest) ++ lines_from_part (1 + length closed + 1) later)
 unfolding lines_from_part
 ended_then closed ended rest later apart =
     let n = 1 + length closed in
-    let first = numbered n 1 (map without_return ended) in
+    let first = numbered_lines n 1 (map without_return ended) in
     let place : 1 + length (map without_return ended) ≡ 1 + length ended = omega (arith, length-map ended without_return) in
     let alone : lines (with_line_feeds ended) ≡ map without_return ended =
     ap lines (sym (append-nil (with_line_feeds ended))) ∙ lines_after ended [] apart
     ∙ ap (λ (l : List (List ℕ)). map without_return ended ++ l) lines_none ∙ append-nil (map without_return ended) in
     let before : placed_lines (closed ++ with_line_feeds ended ∷ []) ≡ lines_from_part 1 closed ++ first =
     parts-append 1 closed (with_line_feeds ended ∷ [])
-    ∙ ap (λ (l : List PlacedLine). lines_from_part 1 closed ++ l) (append-nil (numbered n 1 (lines (with_line_feeds ended)))
-    ∙ ap (numbered n 1) alone) in
+    ∙ ap (λ (l : List PlacedLine). lines_from_part 1 closed ++ l) (append-nil (numbered_lines n 1 (lines (with_line_feeds ended)))
+    ∙ ap (numbered_lines n 1) alone) in
     parts-append 1 closed ((with_line_feeds ended ++ rest) ∷ later)
-    ∙ ap (λ (l : List (List ℕ)). lines_from_part 1 closed ++ (numbered n 1 l ++ lines_from_part (n + 1) later))
+    ∙ ap (λ (l : List (List ℕ)). lines_from_part 1 closed ++ (numbered_lines n 1 l ++ lines_from_part (n + 1) later))
     (lines_after ended rest apart)
     ∙ ap (λ (l : List PlacedLine). lines_from_part 1 closed ++ (l ++ lines_from_part (n + 1) later))
-    (numbered-append n 1 (map without_return ended) (lines rest))
-    ∙ ap (λ (k : ℕ). lines_from_part 1 closed ++ ((first ++ numbered n k (lines rest)) ++ lines_from_part (n + 1) later)) place
+    (numbered_lines-append n 1 (map without_return ended) (lines rest))
+    ∙ ap (λ (k : ℕ). lines_from_part 1 closed ++ ((first ++ numbered_lines n k (lines rest)) ++ lines_from_part (n + 1) later)) place
     ∙ ap (λ (l : List PlacedLine). lines_from_part 1 closed ++ l)
-    (append_assoc first (numbered n (1 + length ended) (lines rest)) (lines_from_part (n + 1) later))
-    ∙ sym (append_assoc (lines_from_part 1 closed) first (numbered n (1 + length ended) (lines rest) ++ lines_from_part (n + 1) later))
-    ∙ ap (λ (l : List PlacedLine). l ++ (numbered n (1 + length ended) (lines rest) ++ lines_from_part (n + 1) later)) (sym before)
+    (append_assoc first (numbered_lines n (1 + length ended) (lines rest)) (lines_from_part (n + 1) later))
+    ∙ sym (append_assoc (lines_from_part 1 closed) first (numbered_lines n (1 + length ended) (lines rest) ++ lines_from_part (n + 1)
+    later))
+    ∙ ap (λ (l : List PlacedLine). l ++ (numbered_lines n (1 + length ended) (lines rest) ++ lines_from_part (n + 1) later)) (sym before)
 
 -- what comes of parts whose beginning was loaded
 comes_after : (limit : ℕ) (l : Loaded) (closed : List (List ℕ)) (open_part rest : List ℕ) (later : List (List ℕ)) → l.limit ≡ limit
     → (h : HasLoaded limit l closed open_part)
     → outcome tiger limit (closed ++ (with_line_feeds h.ended ++ rest) ∷ later) ≡ outcome_after tiger l.limit l.records
-    (numbered (l.parts + 1) (l.judged + 1) (lines rest) ++ lines_from_part (l.parts + 1 + 1) later)
+    (numbered_lines (l.parts + 1) (l.judged + 1) (lines rest) ++ lines_from_part (l.parts + 1 + 1) later)
 comes_after limit l closed open_part rest later same h =
     let parts : 1 + length closed ≡ l.parts + 1 = omega (arith, h.parts_are) in
     let judged : 1 + length h.ended ≡ l.judged + 1 = omega (arith, h.judged_are) in
     ap (outcome_after tiger limit []) (ended_then closed h.ended rest later h.lines_are.each_ended)
     ∙ outcome_after-append tiger limit [] (placed_lines (closed ++ with_line_feeds h.ended ∷ []))
-    (numbered (1 + length closed) (1 + length h.ended) (lines rest) ++ lines_from_part (1 + length closed + 1) later)
+    (numbered_lines (1 + length closed) (1 + length h.ended) (lines rest) ++ lines_from_part (1 + length closed + 1) later)
     ∙ ap (λ (r : Result (List Record) LoadFault). r >>= λ records. outcome_after tiger limit records
-    (numbered (1 + length closed) (1 + length h.ended) (lines rest) ++ lines_from_part (1 + length closed + 1) later))
+    (numbered_lines (1 + length closed) (1 + length h.ended) (lines rest) ++ lines_from_part (1 + length closed + 1) later))
     (outcome_from_accepts tiger tiger_is_sound limit (closed ++ with_line_feeds h.ended ∷ []) l.records h.accepts)
-    ∙ ap (λ (k : ℕ). outcome_after tiger limit l.records (numbered k (1 + length h.ended) (lines rest) ++ lines_from_part (k + 1) later)) parts
+    ∙ ap (λ (k : ℕ). outcome_after tiger limit l.records (numbered_lines k (1 + length h.ended) (lines rest) ++ lines_from_part (k + 1)
+    later))
+    parts
     ∙ ap (λ (k : ℕ). outcome_after tiger limit l.records
-    (numbered (l.parts + 1) k (lines rest) ++ lines_from_part (l.parts + 1 + 1) later)) judged
-    ∙ ap (λ (k : ℕ). outcome_after tiger k l.records (numbered (l.parts + 1) (l.judged + 1) (lines rest) ++ lines_from_part
+    (numbered_lines (l.parts + 1) k (lines rest) ++ lines_from_part (l.parts + 1 + 1) later)) judged
+    ∙ ap (λ (k : ℕ). outcome_after tiger k l.records (numbered_lines (l.parts + 1) (l.judged + 1) (lines rest) ++ lines_from_part
     (l.parts + 1 + 1) later)) (sym same)
 
 pub comes_of : (limit : ℕ) (l : Loaded) (closed : List (List ℕ)) (open_part : List ℕ) (more : List ℕ) (later : List (List ℕ))
@@ -104,9 +107,9 @@ comes_of limit l closed open_part more later same h =
     ∙ append_assoc (with_line_feeds h.ended) l.unfinished more)
     ∙ comes_after limit l closed open_part (l.unfinished ++ more) later same h
 
-none_follow : (n k : ℕ) → numbered n k (lines []) ++ lines_from_part (n + 1) [] ≡ []
-unfolding numbered lines_from_part
-none_follow n k = ap (λ (l : List (List ℕ)). numbered n k l ++ []) lines_none
+none_follow : (n k : ℕ) → numbered_lines n k (lines []) ++ lines_from_part (n + 1) [] ≡ []
+unfolding numbered_lines lines_from_part
+none_follow n k = ap (λ (l : List (List ℕ)). numbered_lines n k l ++ []) lines_none
 
 -- lines that end are loaded
 loaded_more : (limit : ℕ) (before after : Loaded) (closed : List (List ℕ)) (open_part bytes : List ℕ) → before.limit ≡ limit
@@ -128,8 +131,10 @@ loaded_more limit before after closed open_part bytes same h t = record {
       (ap (λ (b : List ℕ). outcome tiger limit (closed ++ b ∷ [])) joined
       ∙ comes_after limit before closed open_part (with_line_feeds t.ended) [] same h
       ∙ ap (λ (ls : List PlacedLine). outcome_after tiger before.limit before.records ls)
-      (append-nil (numbered (before.parts + 1) (before.judged + 1) (lines (with_line_feeds t.ended))))
-      ∙ ap (λ (ls : List (List ℕ)). outcome_after tiger before.limit before.records (numbered (before.parts + 1) (before.judged + 1) ls)) alone
+      (append-nil (numbered_lines (before.parts + 1) (before.judged + 1) (lines (with_line_feeds t.ended))))
+      ∙ ap (λ (ls : List (List ℕ)). outcome_after tiger before.limit before.records
+      (numbered_lines (before.parts + 1) (before.judged + 1) ls))
+      alone
       ∙ t.reads);
 }
   where
@@ -142,8 +147,8 @@ loaded_more limit before after closed open_part bytes same h t = record {
 
 -- a part that ends is loaded
 loaded_closed : (limit : ℕ) (before after : Loaded) (closed : List (List ℕ)) (open_part : List ℕ) → before.limit ≡ limit
-    → HasLoaded limit before closed open_part → IsClosed before after → HasLoaded limit after (closed ++ open_part ∷ []) []
-unfolding lines_from_part numbered
+    → HasLoaded limit before closed open_part → IsPartClosed before after → HasLoaded limit after (closed ++ open_part ∷ []) []
+unfolding lines_from_part numbered_lines
 loaded_closed limit before after closed open_part same h c = record {
   ended = [];
   lines_are = record {
@@ -159,12 +164,12 @@ loaded_closed limit before after closed open_part same h c = record {
       ∙ ap (λ (b : List ℕ). outcome tiger limit (closed ++ b ∷ [])) h.lines_are.bytes_are
       ∙ comes_after limit before closed open_part before.unfinished [] same h
       ∙ ap (λ (ls : List PlacedLine). outcome_after tiger before.limit before.records ls)
-      (append-nil (numbered (before.parts + 1) (before.judged + 1) (lines before.unfinished)))
+      (append-nil (numbered_lines (before.parts + 1) (before.judged + 1) (lines before.unfinished)))
       ∙ c.reads);
 }
   where
     no_lines : (n : ℕ) → lines_from_part n ([] ∷ []) ≡ []
-    no_lines n = ap (λ (l : List (List ℕ)). numbered n 1 l ++ []) lines_none
+    no_lines n = ap (λ (l : List (List ℕ)). numbered_lines n 1 l ++ []) lines_none
 
     empty_last : (parts : List (List ℕ)) (part : List ℕ)
         → placed_lines ((parts ++ part ∷ []) ++ [] ∷ []) ≡ placed_lines (parts ++ part ∷ [])
@@ -434,7 +439,7 @@ finished_standing holds limit l f closed open_part e w is =
 pub fed_read : {K T : Type 0} (holds : K → List Record → Type 0) (limit : ℕ) (before mid : LoadedInto K) (taken : List ℕ) (at_end : Type 0)
     (result : Result T LoadFault) (closed : List (List ℕ)) (open_part : List ℕ) → before.fault ≡ None → mid.limit ≡ before.limit
     → mid.fault ≡ before.fault
-    → Lifts holds (Reads taken at_end) before result mid → WasFedInto holds limit before closed open_part → MatchResult result
+    → Lifts holds (ReadsPart taken at_end) before result mid → WasFedInto holds limit before closed open_part → MatchResult result
     (λ _. at_end × WasFedInto holds limit (with_fault result mid) (closed ++ (open_part ++ taken) ∷ []) [])
     (λ _. (at_end × WasFedInto holds limit (with_fault result mid) (closed ++ (open_part ++ taken) ∷ []) [])
     ⊎ WasFedInto holds limit (with_fault result mid) closed (open_part ++ taken))

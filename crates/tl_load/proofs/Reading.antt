@@ -9,7 +9,7 @@ use Rattle.tl_load.specs.declared.fault.LoadFault.{LoadFault}
 use Rattle.tl_load.specs.declared.fault.LoadFault.TheVariants as faults
 use Rattle.tl_load.specs.Places.{PlacedLine, placed_lines}
 use Rattle.tl_load.specs.Verdicts.{Judge, fault_at}
-use Rattle.tl_load.specs.Outcome.{count_of, IsWithinLimit, AreSpelled, Spells, SpellsWithin, IsFaultOf, of_line, of_limit, FaultAt}
+use Rattle.tl_load.specs.Outcome.{count_of, IsWithinLimitBy, AreLinesSpelled, Spells, SpellsWithin, IsFaultOf, of_line, of_limit, FaultAt}
 use Rattle.tl_load.specs.Outcome.{IsSpelled, IsFaulty, ◌>>=◌, after_verdict, next, outcome_after, outcome}
 
 -- ---- verdicts
@@ -32,7 +32,7 @@ IsVerdictOf judge limit records line fault = MatchResult (judge.verdict line.byt
     (λ f. fault ≡ fault_at line.part line.line f)
 
 pub spelled_judged : {R : Type 0} (judge : Judge R) → IsSound judge → (lines : List PlacedLine) (records : List R)
-    → AreSpelled judge lines records → AreJudged judge lines records
+    → AreLinesSpelled judge lines records → AreJudged judge lines records
 spelled_judged judge sound [] [] h = refl
 spelled_judged judge sound [] (r ∷ records) h = absurd h
 spelled_judged judge sound (l ∷ lines) [] h = absurd h
@@ -41,7 +41,7 @@ spelled_judged {R} judge sound (l ∷ lines) (r ∷ records) h =
     ∙ ap (λ (z : List (Result R LineFault)). Ok r ∷ z) (spelled_judged judge sound lines records h.1)
 
 pub judged_spelled : {R : Type 0} (judge : Judge R) → IsSound judge → (lines : List PlacedLine) (records : List R)
-    → AreJudged judge lines records → AreSpelled judge lines records
+    → AreJudged judge lines records → AreLinesSpelled judge lines records
 judged_spelled judge sound [] [] h = tt
 judged_spelled judge sound [] (r ∷ records) h = absurd cc
 judged_spelled judge sound (l ∷ lines) [] h = absurd cc
@@ -97,7 +97,8 @@ unfolding outcome_after
 outcome_after-append judge limit records [] b = refl
 outcome_after-append judge limit records (x ∷ a) b =
     bind_same (next judge limit records x) (λ more. outcome_after judge limit more (a ++ b))
-    (λ more. outcome_after judge limit more a >>= λ rest. outcome_after judge limit rest b) (λ more. outcome_after-append judge limit more a b)
+    (λ more. outcome_after judge limit more a >>= λ rest. outcome_after judge limit rest b)
+    (λ more. outcome_after-append judge limit more a b)
     ∙ sym (bind_assoc (next judge limit records x) (λ more. outcome_after judge limit more a) (λ rest. outcome_after judge limit rest b))
 
 -- ---- one line
@@ -170,8 +171,8 @@ pub count_push : {R : Type 0} (judge : Judge R) (records : List R) (r : R) (t : 
     → count_of judge t (records ++ r ∷ []) ≡ count_of judge t records + cond (eqb (judge.rtype r) t) 1 0
 count_push judge records r t = sum_by-append (λ s. cond (eqb (judge.rtype s) t) 1 0) records (r ∷ []) ∙ omega arith
 
-pub within_push : {R : Type 0} (judge : Judge R) (limit : ℕ) (records : List R) (r : R) → IsWithinLimit judge limit records
-    → count_of judge (judge.rtype r) records < limit → IsWithinLimit judge limit (records ++ r ∷ [])
+pub within_push : {R : Type 0} (judge : Judge R) (limit : ℕ) (records : List R) (r : R) → IsWithinLimitBy judge limit records
+    → count_of judge (judge.rtype r) records < limit → IsWithinLimitBy judge limit (records ++ r ∷ [])
 within_push judge limit records r h room t = elim (cases_eq (judge.rtype r) t) [
   | inl same ↦ let e = count_push judge records r t in let b = eq-eqb (judge.rtype r) t same in let le : count_of judge t records < limit =
       subst (λ (u : ℕ). count_of judge u records < limit) same room in rw (e, b) (omega arith)
@@ -180,7 +181,7 @@ within_push judge limit records r h room t = elim (cases_eq (judge.rtype r) t) [
 
 -- a list within the limit has room for its next record
 pub room_before : {R : Type 0} (judge : Judge R) (limit : ℕ) (records : List R) (r : R) (more : List R)
-    → IsWithinLimit judge limit (records ++ r ∷ more) → count_of judge (judge.rtype r) records < limit
+    → IsWithinLimitBy judge limit (records ++ r ∷ more) → count_of judge (judge.rtype r) records < limit
 room_before judge limit records r more h =
     let e = sum_by-append (λ s. cond (eqb (judge.rtype s) (judge.rtype r)) 1 0) records (r ∷ more) in
     let b = eq-eqb (judge.rtype r) (judge.rtype r) refl in
@@ -189,8 +190,8 @@ room_before judge limit records r more h =
     let one : count_of judge (judge.rtype r) (r ∷ []) ≡ 0 + 1 = ap (λ (z : Bool). 0 + cond z 1 0) b in
     omega (arith, e, first, one, all)
 
-pub within_front : {R : Type 0} (judge : Judge R) (limit : ℕ) (a b : List R) → IsWithinLimit judge limit (a ++ b)
-    → IsWithinLimit judge limit a
+pub within_front : {R : Type 0} (judge : Judge R) (limit : ℕ) (a b : List R) → IsWithinLimitBy judge limit (a ++ b)
+    → IsWithinLimitBy judge limit a
 within_front judge limit a b h t =
     let e = sum_by-append (λ s. cond (eqb (judge.rtype s) t) 1 0) a b in
     let all = h t in omega (arith, e, all)
@@ -198,26 +199,26 @@ within_front judge limit a b h t =
 -- ---- many lines
 
 -- what the lines were judged as, after these records
-pub record Reads {R : Type 0} (judge : Judge R) (limit : ℕ) (records : List R) (lines : List PlacedLine) (all : List R) : Type 0 where
+pub record ReadsOn {R : Type 0} (judge : Judge R) (limit : ℕ) (records : List R) (lines : List PlacedLine) (all : List R) : Type 0 where
   pub found : List R
   pub judged : AreJudged judge lines found
   pub all_are : all ≡ records ++ found
-  pub within : IsWithinLimit judge limit all
+  pub within : IsWithinLimitBy judge limit all
 
 ok_is : {R E : Type 0} (x y : R) → ◌≡◌ {A = Result R E} (Ok x) (Ok y) → x ≡ y
 ok_is x y e = cc
 
 pub reads_ok : {R : Type 0} (judge : Judge R) (limit : ℕ) (records : List R) (lines : List PlacedLine) (all : List R)
-    → IsWithinLimit judge limit records → outcome_after judge limit records lines ≡ Ok all → Reads judge limit records lines all
+    → IsWithinLimitBy judge limit records → outcome_after judge limit records lines ≡ Ok all → ReadsOn judge limit records lines all
 unfolding outcome_after
 reads_ok {R} judge limit records [] all h e =
     let same : records ≡ all = ok_is records all e in
-    record { found = []; judged = refl; all_are = sym same ∙ sym (append-nil records); within = subst (IsWithinLimit judge limit) same h }
+    record { found = []; judged = refl; all_are = sym same ∙ sym (append-nil records); within = subst (IsWithinLimitBy judge limit) same h }
 reads_ok {R} judge limit records (x ∷ lines) all h e =
     let b = bind_ok (next judge limit records x) (λ more. outcome_after judge limit more lines) all e in
     let t = next_ok judge limit records x b.0 b.1 in
-    let mid : IsWithinLimit judge limit b.0 =
-    subst (IsWithinLimit judge limit) (sym t.after) (within_push judge limit records t.found h t.room) in
+    let mid : IsWithinLimitBy judge limit b.0 =
+    subst (IsWithinLimitBy judge limit) (sym t.after) (within_push judge limit records t.found h t.room) in
     let rest = reads_ok judge limit b.0 lines all mid b.2 in
     record {
       found = t.found ∷ rest.found;
@@ -228,7 +229,8 @@ reads_ok {R} judge limit records (x ∷ lines) all h e =
     }
 
 pub reads_from : {R : Type 0} (judge : Judge R) (limit : ℕ) (records : List R) (lines : List PlacedLine) (found : List R)
-    → AreJudged judge lines found → IsWithinLimit judge limit (records ++ found) → outcome_after judge limit records lines ≡ Ok (records ++ found)
+    → AreJudged judge lines found → IsWithinLimitBy judge limit (records ++ found) → outcome_after judge limit records lines ≡ Ok
+    (records ++ found)
 unfolding outcome_after
 reads_from judge limit records [] [] e h = ap (λ (z : List _). Ok z) (sym (append-nil records))
 reads_from judge limit records [] (r ∷ found) e h = absurd cc
@@ -238,8 +240,9 @@ reads_from {R} judge limit records (x ∷ lines) (r ∷ found) e h =
     let rest : AreJudged judge lines found = cc in
     let joined : (records ++ r ∷ []) ++ found ≡ records ++ r ∷ found = append_assoc records (r ∷ []) found in
     let step = next_from judge limit records x r first (room_before judge limit records r found h) in
-    let again = reads_from judge limit (records ++ r ∷ []) lines found rest (subst (IsWithinLimit judge limit) (sym joined) h) in
-    ap (λ (z : Result (List R) LoadFault). z >>= λ more. outcome_after judge limit more lines) step ∙ again ∙ ap (λ (z : List R). Ok z) joined
+    let again = reads_from judge limit (records ++ r ∷ []) lines found rest (subst (IsWithinLimitBy judge limit) (sym joined) h) in
+    ap (λ (z : Result (List R) LoadFault). z >>= λ more. outcome_after judge limit more lines) step ∙ again ∙ ap (λ (z : List R). Ok z)
+    joined
 
 -- the first fault of the lines, after these records
 pub record Stops {R : Type 0} (judge : Judge R) (limit : ℕ) (records : List R) (lines : List PlacedLine) (fault : LoadFault) : Type 0 where
@@ -249,11 +252,11 @@ pub record Stops {R : Type 0} (judge : Judge R) (limit : ℕ) (records : List R)
   pub found : List R
   pub split : lines ≡ before ++ line ∷ after
   pub well : AreJudged judge before found
-  pub within : IsWithinLimit judge limit (records ++ found)
+  pub within : IsWithinLimitBy judge limit (records ++ found)
   pub fault_is : IsVerdictOf judge limit (records ++ found) line fault
 
 pub stops_err : {R : Type 0} (judge : Judge R) (limit : ℕ) (records : List R) (lines : List PlacedLine) (fault : LoadFault)
-    → IsWithinLimit judge limit records → outcome_after judge limit records lines ≡ Err fault → Stops judge limit records lines fault
+    → IsWithinLimitBy judge limit records → outcome_after judge limit records lines ≡ Err fault → Stops judge limit records lines fault
 unfolding outcome_after
 stops_err judge limit records [] fault h e = absurd cc
 stops_err {R} judge limit records (x ∷ lines) fault h e =
@@ -265,14 +268,14 @@ stops_err {R} judge limit records (x ∷ lines) fault h e =
         found = [];
         split = refl;
         well = refl;
-        within = subst (IsWithinLimit judge limit) (sym (append-nil records)) h;
+        within = subst (IsWithinLimitBy judge limit) (sym (append-nil records)) h;
         fault_is = subst (λ (rs : List R). IsVerdictOf judge limit rs x fault) (sym (append-nil records))
             (next_err judge limit records x fault here);
       }
       | inr b ↦
           let t = next_ok judge limit records x b.0 b.1 in
-          let mid : IsWithinLimit judge limit b.0 =
-          subst (IsWithinLimit judge limit) (sym t.after) (within_push judge limit records t.found h t.room) in
+          let mid : IsWithinLimitBy judge limit b.0 =
+          subst (IsWithinLimitBy judge limit) (sym t.after) (within_push judge limit records t.found h t.room) in
           let rest = stops_err judge limit b.0 lines fault mid b.2 in
           let joined : b.0 ++ rest.found ≡ records ++ t.found ∷ rest.found = ap (λ (z : List R). z ++ rest.found) t.after
           ∙ append_assoc records (t.found ∷ []) rest.found in
@@ -284,14 +287,14 @@ stops_err {R} judge limit records (x ∷ lines) fault h e =
             split = ap (λ (z : List PlacedLine). x ∷ z) rest.split;
             well = ap (λ (z : Result R LineFault). z ∷ map (λ (l : PlacedLine). judge.verdict l.bytes) rest.before) t.verdict
                 ∙ ap (λ (z : List (Result R LineFault)). Ok t.found ∷ z) rest.well;
-            within = subst (IsWithinLimit judge limit) joined rest.within;
+            within = subst (IsWithinLimitBy judge limit) joined rest.within;
             fault_is = subst (λ (rs : List R). IsVerdictOf judge limit rs rest.line fault) joined rest.fault_is;
           }
     ]
 
 -- ---- parts
 
-no_records : {R : Type 0} (judge : Judge R) (limit : ℕ) → IsWithinLimit judge limit []
+no_records : {R : Type 0} (judge : Judge R) (limit : ℕ) → IsWithinLimitBy judge limit []
 no_records judge limit t = omega arith
 
 pub accepts_from_outcome : {R : Type 0} (judge : Judge R) → IsSound judge → (limit : ℕ) (parts : List (List ℕ)) (records : List R)

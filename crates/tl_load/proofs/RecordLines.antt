@@ -33,7 +33,7 @@ use Rattle.tl_load.specs.declared.fault.LineFault.TheVariants as line_faults
 use Rattle.tl_load.specs.LineOf.{judged_as}
 use Rattle.tl_load.specs.Choice.{as_record, judged_by, judged, tiger}
 use Rattle.tl_load.specs.Places.{PlacedLine, placed_lines}
-use Rattle.tl_load.specs.Outcome.{AreSpelled, Spells, SpellsWithin}
+use Rattle.tl_load.specs.Outcome.{AreLinesSpelled, Spells, SpellsWithin}
 use Rattle.tl_load.proofs.Reading.{IsSound}
 use Rattle.tl_load.specs.RecordLine.{HasRecord, record_types, BeginsWith, IsFaultOfLine, of_no_type, of_type_1, of_type_2}
 use Rattle.tl_load.specs.RecordLine.{of_type_4, of_type_5, of_type_6, of_type_7, of_type_8, of_type_i, of_type_p}
@@ -312,7 +312,7 @@ record_fits line (P r) h =
     line_fits rtype_p len_p SpellsTypeP _ (λ l x is s. (type_p_reads_spelled l x is (type_p_spelled_is_read l x is s)).0) line r h
 
 -- lines that have records have records that fit
-lines_fit : (lines : List PlacedLine) (records : List Record) → AreSpelled tiger lines records → All FitsRecord records
+lines_fit : (lines : List PlacedLine) (records : List Record) → AreLinesSpelled tiger lines records → All FitsRecord records
 unfolding tiger
 lines_fit [] [] h = All-nil FitsRecord
 lines_fit [] (r ∷ records) h = absurd h

@@ -2,7 +2,7 @@
 use Rattle.std.proofs.Common.{◌≡◌, ℕ, suc, ◌+◌, List, [], ◌∷◌, ◌++◌, length, map, refl, sym, ap, ◌∙◌, append_assoc, arith}
 use Rattle.std.specs.Prelude.{All}
 use Rattle.tl_load.specs.Lines.{IsWithoutLineFeed, without_return, lines}
-use Rattle.tl_load.specs.Places.{PlacedLine, numbered, lines_from_part}
+use Rattle.tl_load.specs.Places.{PlacedLine, numbered_lines, lines_from_part}
 use Rattle.tl_load.specs.Loaded.{with_line_feeds}
 use Rattle.tl_load.proofs.LineLemmas.{lines_line}
 
@@ -22,19 +22,20 @@ lines_after (line ∷ ended) rest h =
     ∙ lines_line line (with_line_feeds ended ++ rest) (first_of IsWithoutLineFeed line ended h)
     ∙ ap (λ (ls : List (List ℕ)). without_return line ∷ ls) (lines_after ended rest (rest_of IsWithoutLineFeed line ended h))
 
-pub numbered-append : (part n : ℕ) (a b : List (List ℕ)) → numbered part n (a ++ b) ≡ numbered part n a ++ numbered part (n + length a) b
-unfolding numbered
-numbered-append part n [] b = ap (λ (k : ℕ). numbered part k b) (omega arith)
-numbered-append part n (x ∷ a) b =
+pub numbered_lines-append : (part n : ℕ) (a b : List (List ℕ)) → numbered_lines part n (a ++ b) ≡ numbered_lines part n a ++ numbered_lines
+    part (n + length a) b
+unfolding numbered_lines
+numbered_lines-append part n [] b = ap (λ (k : ℕ). numbered_lines part k b) (omega arith)
+numbered_lines-append part n (x ∷ a) b =
     let place : n + 1 + length a ≡ n + length (x ∷ a) = omega arith in
-    ap (λ (ls : List PlacedLine). record { part = part; line = n; bytes = x } ∷ ls) (numbered-append part (n + 1) a b
-    ∙ ap (λ (k : ℕ). numbered part (n + 1) a ++ numbered part k b) place)
+    ap (λ (ls : List PlacedLine). record { part = part; line = n; bytes = x } ∷ ls) (numbered_lines-append part (n + 1) a b
+    ∙ ap (λ (k : ℕ). numbered_lines part (n + 1) a ++ numbered_lines part k b) place)
 
 pub parts-append : (n : ℕ) (a b : List (List ℕ)) → lines_from_part n (a ++ b) ≡ lines_from_part n a ++ lines_from_part (n + length a) b
 unfolding lines_from_part
 parts-append n [] b = ap (λ (k : ℕ). lines_from_part k b) (omega arith)
 parts-append n (x ∷ a) b =
     let place : n + 1 + length a ≡ n + length (x ∷ a) = omega arith in
-    ap (λ (ls : List PlacedLine). numbered n 1 (lines x) ++ ls) (parts-append (n + 1) a b
+    ap (λ (ls : List PlacedLine). numbered_lines n 1 (lines x) ++ ls) (parts-append (n + 1) a b
     ∙ ap (λ (k : ℕ). lines_from_part (n + 1) a ++ lines_from_part k b) place)
-    ∙ sym (append_assoc (numbered n 1 (lines x)) (lines_from_part (n + 1) a) (lines_from_part (n + length (x ∷ a)) b))
+    ∙ sym (append_assoc (numbered_lines n 1 (lines x)) (lines_from_part (n + 1) a) (lines_from_part (n + length (x ∷ a)) b))

@@ -13,16 +13,16 @@ use Rattle.tl_load.specs.declared.fault.LineFault.{LineFault}
 use Rattle.tl_load.specs.declared.fault.LineFault.TheVariants as line_faults
 use Rattle.tl_load.specs.declared.fault.LoadFault.{LoadFault}
 use Rattle.tl_load.specs.Lines.{is_line_feed, IsWithoutLineFeed, without_return, last_line, lines}
-use Rattle.tl_load.specs.Places.{PlacedLine, numbered, lines_from_part}
+use Rattle.tl_load.specs.Places.{PlacedLine, numbered_lines, lines_from_part}
 use Rattle.tl_load.specs.Verdicts.{fault_at, field_fault_at}
 use Rattle.tl_load.specs.Outcome.{◌>>=◌, after_verdict, next, outcome_after}
 use Rattle.tl_load.specs.Choice.{tiger, judged}
 use Rattle.tl_load.specs.Loaded.{Loaded, IsNotDevice, with_line_feeds}
 use Rattle.tl_load.specs.Steps.{to_come, to_end, TakesLines, Takes, LeavesRest, next_place, Judges, Ends}
-use Rattle.tl_load.specs.Steps.{Closes, Reads}
+use Rattle.tl_load.specs.Steps.{Closes, ReadsPart}
 use Rattle.tl_load.proofs.Reading.{outcome_after-append}
 use Rattle.tl_load.proofs.LineLemmas.{lines_line, lines_rest, lines_none, first_line_of, without_return_front}
-use Rattle.tl_load.proofs.Runs.{lines_after, numbered-append}
+use Rattle.tl_load.proofs.Runs.{lines_after, numbered_lines-append}
 use Rattle.tl_load.proofs.Settled.{judged_long, judged_settles}
 use Rattle.tl_layout.specs.declared.layout.TheConstants.{LONGEST_LINE}
 
@@ -35,7 +35,7 @@ unfolding to_come
 takes_comes before after bytes more later t =
     let tail = lines_from_part (before.parts + 1 + 1) later in
     let rest = lines (after.unfinished ++ more) in
-    let there = numbered (before.parts + 1) (before.judged + 1) (map without_return t.ended) in
+    let there = numbered_lines (before.parts + 1) (before.judged + 1) (map without_return t.ended) in
     let split : before.unfinished ++ (bytes ++ more) ≡ with_line_feeds t.ended ++ (after.unfinished ++ more) =
     sym (append_assoc before.unfinished bytes more) ∙ ap (λ (l : List ℕ). l ++ more) t.lines_are.bytes_are
     ∙ append_assoc (with_line_feeds t.ended) after.unfinished more in
@@ -45,23 +45,24 @@ takes_comes before after bytes more later t =
     omega (arith, length-map t.ended without_return, t.judged_are) in
     let parts : before.parts ≡ after.parts = sym t.parts_are in
     let limit : before.limit ≡ after.limit = sym t.limit_is in
-    ap (λ (ls : List (List ℕ)). outcome_after tiger before.limit before.records (numbered (before.parts + 1) (before.judged + 1) ls ++ tail)) cut
+    ap (λ (ls : List (List ℕ)). outcome_after tiger before.limit before.records
+    (numbered_lines (before.parts + 1) (before.judged + 1) ls ++ tail)) cut
     ∙ ap (λ (ls : List PlacedLine). outcome_after tiger before.limit before.records (ls ++ tail))
-    (numbered-append (before.parts + 1) (before.judged + 1) (map without_return t.ended) rest)
+    (numbered_lines-append (before.parts + 1) (before.judged + 1) (map without_return t.ended) rest)
     ∙ ap (outcome_after tiger before.limit before.records)
-    (append_assoc there (numbered (before.parts + 1) (before.judged + 1 + length (map without_return t.ended)) rest) tail)
+    (append_assoc there (numbered_lines (before.parts + 1) (before.judged + 1 + length (map without_return t.ended)) rest) tail)
     ∙ outcome_after-append tiger before.limit before.records there
-    (numbered (before.parts + 1) (before.judged + 1 + length (map without_return t.ended)) rest ++ tail)
+    (numbered_lines (before.parts + 1) (before.judged + 1 + length (map without_return t.ended)) rest ++ tail)
     ∙ ap (λ (r : Result (List Record) LoadFault). r >>= λ records. outcome_after tiger before.limit records
-    (numbered (before.parts + 1) (before.judged + 1 + length (map without_return t.ended)) rest ++ tail)) t.reads
-    ∙ ap (λ (k : ℕ). outcome_after tiger before.limit after.records (numbered (before.parts + 1) k rest ++ tail)) place
+    (numbered_lines (before.parts + 1) (before.judged + 1 + length (map without_return t.ended)) rest ++ tail)) t.reads
+    ∙ ap (λ (k : ℕ). outcome_after tiger before.limit after.records (numbered_lines (before.parts + 1) k rest ++ tail)) place
     ∙ ap (λ (k : ℕ). outcome_after tiger before.limit after.records
-    (numbered (k + 1) (after.judged + 1) rest ++ lines_from_part (k + 1 + 1) later)) parts
+    (numbered_lines (k + 1) (after.judged + 1) rest ++ lines_from_part (k + 1 + 1) later)) parts
     ∙ ap (λ (k : ℕ). outcome_after tiger k after.records
-    (numbered (after.parts + 1) (after.judged + 1) rest ++ lines_from_part (after.parts + 1 + 1) later)) limit
+    (numbered_lines (after.parts + 1) (after.judged + 1) rest ++ lines_from_part (after.parts + 1 + 1) later)) limit
 
 pub takes_none : (l : Loaded) → IsWithoutLineFeed l.unfinished → TakesLines l [] l
-unfolding numbered outcome_after
+unfolding numbered_lines outcome_after
 takes_none l none = record {
   ended = [];
   lines_are = record { bytes_are = append-nil l.unfinished; each_ended = All-nil IsWithoutLineFeed; not_ended = none };
@@ -75,7 +76,7 @@ takes_none l none = record {
 pub holds_more : (before after : Loaded) (bytes : List ℕ) → after.records ≡ before.records → after.parts ≡ before.parts
     → after.judged ≡ before.judged → after.limit ≡ before.limit → after.unfinished ≡ before.unfinished ++ bytes
     → IsWithoutLineFeed before.unfinished → IsWithoutLineFeed bytes → TakesLines before bytes after
-unfolding numbered outcome_after
+unfolding numbered_lines outcome_after
 holds_more before after bytes records parts judged limit unfinished none more = record {
   ended = [];
   lines_are = record {
@@ -106,16 +107,17 @@ takes_both before mid after a b p q =
         each_ended = All-append IsWithoutLineFeed p.ended q.ended p.lines_are.each_ended q.lines_are.each_ended;
         not_ended = q.lines_are.not_ended;
       };
-      reads = ap (λ (ls : List (List ℕ)). outcome_after tiger before.limit before.records (numbered (before.parts + 1) (before.judged + 1) ls))
+      reads = ap (λ (ls : List (List ℕ)). outcome_after tiger before.limit before.records
+          (numbered_lines (before.parts + 1) (before.judged + 1) ls))
           (map-append without_return p.ended q.ended)
-          ∙ ap (outcome_after tiger before.limit before.records) (numbered-append (before.parts + 1) (before.judged + 1) first second)
-          ∙ outcome_after-append tiger before.limit before.records (numbered (before.parts + 1) (before.judged + 1) first)
-          (numbered (before.parts + 1) (before.judged + 1 + length first) second)
+          ∙ ap (outcome_after tiger before.limit before.records) (numbered_lines-append (before.parts + 1) (before.judged + 1) first second)
+          ∙ outcome_after-append tiger before.limit before.records (numbered_lines (before.parts + 1) (before.judged + 1) first)
+          (numbered_lines (before.parts + 1) (before.judged + 1 + length first) second)
           ∙ ap (λ (r : Result (List Record) LoadFault). r >>= λ records. outcome_after tiger before.limit records
-          (numbered (before.parts + 1) (before.judged + 1 + length first) second)) p.reads
-          ∙ ap (λ (k : ℕ). outcome_after tiger before.limit mid.records (numbered (before.parts + 1) k second)) place
-          ∙ ap (λ (k : ℕ). outcome_after tiger before.limit mid.records (numbered (k + 1) (mid.judged + 1) second)) (sym p.parts_are)
-          ∙ ap (λ (k : ℕ). outcome_after tiger k mid.records (numbered (mid.parts + 1) (mid.judged + 1) second)) (sym p.limit_is)
+          (numbered_lines (before.parts + 1) (before.judged + 1 + length first) second)) p.reads
+          ∙ ap (λ (k : ℕ). outcome_after tiger before.limit mid.records (numbered_lines (before.parts + 1) k second)) place
+          ∙ ap (λ (k : ℕ). outcome_after tiger before.limit mid.records (numbered_lines (k + 1) (mid.judged + 1) second)) (sym p.parts_are)
+          ∙ ap (λ (k : ℕ). outcome_after tiger k mid.records (numbered_lines (mid.parts + 1) (mid.judged + 1) second)) (sym p.limit_is)
           ∙ q.reads;
       judged_are = omega (arith, p.judged_are, q.judged_are, length-append p.ended q.ended);
       parts_are = q.parts_are ∙ p.parts_are;
@@ -159,10 +161,10 @@ pub record IsBefore (mid before : Loaded) : Type 0 where
 
 -- the next line is judged, and then what follows it
 reading_line : (l : Loaded) (line : List ℕ) (more : List (List ℕ)) (tail : List PlacedLine)
-    → outcome_after tiger l.limit l.records (numbered (l.parts + 1) (l.judged + 1) (line ∷ more) ++ tail)
+    → outcome_after tiger l.limit l.records (numbered_lines (l.parts + 1) (l.judged + 1) (line ∷ more) ++ tail)
     ≡ (after_verdict tiger l.limit l.records (next_place l line) (judged line) >>= λ records. outcome_after tiger l.limit records
-    (numbered (l.parts + 1) (l.judged + 1 + 1) more ++ tail))
-unfolding numbered outcome_after next tiger
+    (numbered_lines (l.parts + 1) (l.judged + 1 + 1) more ++ tail))
+unfolding numbered_lines outcome_after next tiger
 reading_line l line more tail = refl
 
 verdict_before : (mid before : Loaded) (line : List ℕ) → IsBefore mid before
@@ -170,9 +172,9 @@ verdict_before : (mid before : Loaded) (line : List ℕ) → IsBefore mid before
     (next_place before line) (judged line)
 verdict_before mid before line same = let a = same.records in let b = same.parts in let c = same.judged in let d = same.limit in cc
 
-one_line : (l : Loaded) (line : List ℕ) → outcome_after tiger l.limit l.records (numbered (l.parts + 1) (l.judged + 1) (line ∷ []))
+one_line : (l : Loaded) (line : List ℕ) → outcome_after tiger l.limit l.records (numbered_lines (l.parts + 1) (l.judged + 1) (line ∷ []))
     ≡ (after_verdict tiger l.limit l.records (next_place l line) (judged line) >>= λ records. Ok records)
-unfolding numbered outcome_after next tiger
+unfolding numbered_lines outcome_after next tiger
 one_line l line = refl
 
 -- bytes up to an LF, with what was kept before them, are a line
@@ -207,12 +209,12 @@ ends_line before mid after bytes line (Err f) same is none judges count empty pa
     ap (λ (l : List ℕ). after_verdict tiger before.limit before.records (next_place before l) (judged l)) (sym is)
     ∙ sym (verdict_before mid before line same) ∙ judges of_lines in
     ap (λ (l : List ℕ). outcome_after tiger before.limit before.records
-    (numbered (before.parts + 1) (before.judged + 1) (lines l) ++ lines_from_part (before.parts + 1 + 1) later)) joined
+    (numbered_lines (before.parts + 1) (before.judged + 1) (lines l) ++ lines_from_part (before.parts + 1 + 1) later)) joined
     ∙ ap (λ (l : List (List ℕ)). outcome_after tiger before.limit before.records
-    (numbered (before.parts + 1) (before.judged + 1) l ++ lines_from_part (before.parts + 1 + 1) later)) (lines_line whole more none)
+    (numbered_lines (before.parts + 1) (before.judged + 1) l ++ lines_from_part (before.parts + 1 + 1) later)) (lines_line whole more none)
     ∙ reading_line before (without_return whole) (lines more) (lines_from_part (before.parts + 1 + 1) later)
     ∙ ap (λ (r : Result (List Record) LoadFault). r >>= λ records. outcome_after tiger before.limit records
-    (numbered (before.parts + 1) (before.judged + 1 + 1) (lines more) ++ lines_from_part (before.parts + 1 + 1) later)) step
+    (numbered_lines (before.parts + 1) (before.judged + 1 + 1) (lines more) ++ lines_from_part (before.parts + 1 + 1) later)) step
 
 -- ---- a line that is too long, whatever follows
 
@@ -238,11 +240,11 @@ long_line before bytes line c z fault split long none e more later =
     ∙ ap (λ (l : List ℕ). l ∷ begins.rest) front.1 in
     let settled : judged (line ++ front.0) ≡ Err fault = judged_settles line front.0 long ∙ e in
     ap (λ (l : List (List ℕ)). outcome_after tiger before.limit before.records
-    (numbered (before.parts + 1) (before.judged + 1) l ++ lines_from_part (before.parts + 1 + 1) later)) first
+    (numbered_lines (before.parts + 1) (before.judged + 1) l ++ lines_from_part (before.parts + 1 + 1) later)) first
     ∙ reading_line before (line ++ front.0) begins.rest (lines_from_part (before.parts + 1 + 1) later)
     ∙ ap (λ (v : Result Record LineFault). after_verdict tiger before.limit before.records
     (next_place before (line ++ front.0)) v >>= λ records. outcome_after tiger before.limit records
-    (numbered (before.parts + 1) (before.judged + 1 + 1) begins.rest ++ lines_from_part (before.parts + 1 + 1) later)) settled
+    (numbered_lines (before.parts + 1) (before.judged + 1 + 1) begins.rest ++ lines_from_part (before.parts + 1 + 1) later)) settled
 
 pub refuses : {T : Type 0} (before mid after : Loaded) (bytes line rest : List ℕ) (result : Result T LoadFault) → IsBefore mid before
     → before.unfinished ++ bytes ≡ line ++ rest → 0 < length rest → LONGEST_LINE < length line
@@ -292,10 +294,12 @@ leaves_fault T before mid after bytes rest line left f p split q =
 
 -- nothing was kept: the part has no more line
 pub ends_empty : (before after : Loaded) → before.unfinished ≡ [] → after.records ≡ before.records → to_end before ≡ Ok after.records
-unfolding numbered outcome_after
+unfolding numbered_lines outcome_after
 ends_empty before after none same =
-    ap (λ (l : List ℕ). outcome_after tiger before.limit before.records (numbered (before.parts + 1) (before.judged + 1) (lines l))) none
-    ∙ ap (λ (l : List (List ℕ)). outcome_after tiger before.limit before.records (numbered (before.parts + 1) (before.judged + 1) l)) lines_none
+    ap (λ (l : List ℕ). outcome_after tiger before.limit before.records (numbered_lines (before.parts + 1) (before.judged + 1) (lines l)))
+    none
+    ∙ ap (λ (l : List (List ℕ)). outcome_after tiger before.limit before.records (numbered_lines (before.parts + 1) (before.judged + 1) l))
+    lines_none
     ∙ ap (λ (r : List Record). Ok r) (sym same)
 
 last_of : (a : List ℕ) → 0 < length a → last_line a ≡ without_return a ∷ []
@@ -310,7 +314,8 @@ ends_part {T} before mid after line result same some none is judges = go result 
   where
     first : to_end before ≡ (after_verdict tiger mid.limit mid.records (next_place mid line) (judged line) >>= λ records. Ok records)
     first =
-        ap (λ (l : List (List ℕ)). outcome_after tiger before.limit before.records (numbered (before.parts + 1) (before.judged + 1) l))
+        ap (λ (l : List (List ℕ)). outcome_after tiger before.limit before.records
+        (numbered_lines (before.parts + 1) (before.judged + 1) l))
         (lines_rest before.unfinished none ∙ last_of before.unfinished some ∙ ap (λ (l : List ℕ). l ∷ []) (sym is))
         ∙ one_line before line
         ∙ ap (λ (r : Result (List Record) LoadFault). r >>= λ records. Ok records) (sym (verdict_before mid before line same))
@@ -325,8 +330,8 @@ pub comes_at_end : (l : Loaded) (later : List (List ℕ))
 unfolding to_come
 comes_at_end l later =
     ap (λ (b : List ℕ). outcome_after tiger l.limit l.records
-    (numbered (l.parts + 1) (l.judged + 1) (lines b) ++ lines_from_part (l.parts + 1 + 1) later)) (append-nil l.unfinished)
-    ∙ outcome_after-append tiger l.limit l.records (numbered (l.parts + 1) (l.judged + 1) (lines l.unfinished))
+    (numbered_lines (l.parts + 1) (l.judged + 1) (lines b) ++ lines_from_part (l.parts + 1 + 1) later)) (append-nil l.unfinished)
+    ∙ outcome_after-append tiger l.limit l.records (numbered_lines (l.parts + 1) (l.judged + 1) (lines l.unfinished))
     (lines_from_part (l.parts + 1 + 1) later)
 
 pub closed_comes : (T : Type 0) (before after : Loaded) (f : LoadFault) (later : List (List ℕ)) → to_end before ≡ Err f
@@ -338,7 +343,7 @@ closed_comes T before after f later e = comes_at_end before later
 -- ---- parts that are read
 
 pub reads_closed : {T : Type 0} (a b c : Loaded) (taken : List ℕ) (at_end : Type 0) (result : Result T LoadFault) → TakesLines a taken b
-    → Closes b result c → at_end → Reads taken at_end a result c
+    → Closes b result c → at_end → ReadsPart taken at_end a result c
 reads_closed a b c taken at_end (Ok x) p q e = (e, record { at_end = b; takes = p; closes = q })
 reads_closed {T} a b c taken at_end (Err f) p q e = λ is. inl (
   e,
@@ -348,7 +353,7 @@ reads_closed {T} a b c taken at_end (Err f) p q e = λ is. inl (
 )
 
 pub reads_fault : (T : Type 0) (a b c : Loaded) (taken bytes : List ℕ) (at_end : Type 0) (f : LoadFault) → TakesLines a taken b
-    → Takes {T = T} bytes b (Err f) c → Reads {T = T} (taken ++ bytes) at_end a (Err f) c
+    → Takes {T = T} bytes b (Err f) c → ReadsPart {T = T} (taken ++ bytes) at_end a (Err f) c
 reads_fault T a b c taken bytes at_end f p q = λ is. inr (λ more later.
     ap (λ (l : List ℕ). to_come a l later) (append_assoc taken bytes more) ∙ takes_comes a b taken (bytes ++ more) later p
     ∙ q is more later)

@@ -31,7 +31,7 @@ use Rattle.tl_layout.specs.TypePLaws.{type_p_reads_spelling}
 use Rattle.tl_load.specs.declared.fault.LineFault.{LineFault}
 use Rattle.tl_load.specs.declared.fault.LineFault.TheVariants as line_faults
 use Rattle.tl_load.specs.Lines.{IsWithoutLineFeed, without_return, lines}
-use Rattle.tl_load.specs.Places.{PlacedLine, numbered, lines_from_part, placed_lines}
+use Rattle.tl_load.specs.Places.{PlacedLine, numbered_lines, lines_from_part, placed_lines}
 use Rattle.tl_load.specs.Outcome.{Spells}
 use Rattle.tl_load.proofs.RecordLines.{by_first, tiger_is_sound}
 use Rattle.tl_load.specs.LineOf.{filled, first_bad, of_reading, judged_full, judged_as}
@@ -118,21 +118,22 @@ lines_of_text (r ∷ records) h =
     ∙ ap (λ (ls : List (List ℕ)). spelling_of r ∷ ls) (lines_of_text records (rest_fit r records h))
 
 judged_lines : (part line : ℕ) (records : List Record) → AllFit records
-    → AreJudged tiger (numbered part line (map spelling_of records)) records
-unfolding numbered tiger
+    → AreJudged tiger (numbered_lines part line (map spelling_of records)) records
+unfolding numbered_lines tiger
 judged_lines part line [] h = refl
 judged_lines part line (r ∷ records) h =
-    ap (λ (v : Result Record LineFault). v ∷ map (λ (l : PlacedLine). judged l.bytes) (numbered part (line + 1) (map spelling_of records)))
+    ap (λ (v : Result Record LineFault). v ∷ map (λ (l : PlacedLine). judged l.bytes)
+    (numbered_lines part (line + 1) (map spelling_of records)))
     (judged_spelling r (first_fits r records h))
     ∙ ap (λ (vs : List (Result Record LineFault)). Ok r ∷ vs) (judged_lines part (line + 1) records (rest_fit r records h))
 
-one_part : (text : List ℕ) → placed_lines (text ∷ []) ≡ numbered 1 1 (lines text)
+one_part : (text : List ℕ) → placed_lines (text ∷ []) ≡ numbered_lines 1 1 (lines text)
 unfolding lines_from_part
-one_part text = append-nil (numbered 1 1 (lines text))
+one_part text = append-nil (numbered_lines 1 1 (lines text))
 
 pub text_spells : (records : List Record) → AllFit records → Spells tiger (text_of records ∷ []) records
 text_spells records h =
-    let lines = sym (one_part (text_of records) ∙ ap (numbered 1 1) (lines_of_text records h)) in
+    let lines = sym (one_part (text_of records) ∙ ap (numbered_lines 1 1) (lines_of_text records h)) in
     judged_spelled tiger tiger_is_sound _ records (subst (λ (ls : List PlacedLine). AreJudged tiger ls records) lines
     (judged_lines 1 1 records h))
 

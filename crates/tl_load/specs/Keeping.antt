@@ -56,7 +56,8 @@ HasSome holds l = (records : List Record) × AreKept holds l records
 
 -- the records of all nine types
 abbrev pub total : List ℕ → ℕ
-total counts = slice_index counts rtype_1 + slice_index counts rtype_2 + slice_index counts rtype_4 + slice_index counts rtype_5 + slice_index counts rtype_6
+total counts = slice_index counts rtype_1 + slice_index counts rtype_2 + slice_index counts rtype_4 + slice_index counts rtype_5 +
+    slice_index counts rtype_6
     + slice_index counts rtype_7 + slice_index counts rtype_8 + slice_index counts rtype_i + slice_index counts rtype_p
 
 -- the most bytes that were fed, if each line that was judged had 230 with its end

@@ -12,21 +12,21 @@ abbrev pub count_of : {R : Type 0} → Judge R → ℕ → List R → ℕ
 count_of judge rtype records = count_by (λ r. judge.rtype r == rtype) records
 
 -- there are at most limit records of each type
-abbrev pub IsWithinLimit : {R : Type 0} → Judge R → ℕ → List R → Type 0
-IsWithinLimit judge limit records = (rtype : ℕ) → count_of judge rtype records ≤ limit
+abbrev pub IsWithinLimitBy : {R : Type 0} → Judge R → ℕ → List R → Type 0
+IsWithinLimitBy judge limit records = (rtype : ℕ) → count_of judge rtype records ≤ limit
 
 -- the lines are as many as the records, and each has its record
-abbrev pub AreSpelled : {R : Type 0} → Judge R → List PlacedLine → List R → Type 0
-AreSpelled judge lines records = AllZip (λ (line : PlacedLine) r. judge.Has line.bytes r) lines records
+abbrev pub AreLinesSpelled : {R : Type 0} → Judge R → List PlacedLine → List R → Type 0
+AreLinesSpelled judge lines records = AllZip (λ (line : PlacedLine) r. judge.Has line.bytes r) lines records
 
 -- the lines of the parts, part after part, are as many as the records, and each has its record
 abbrev pub Spells : {R : Type 0} → Judge R → List (List ℕ) → List R → Type 0
-Spells judge parts records = AreSpelled judge (placed_lines parts) records
+Spells judge parts records = AreLinesSpelled judge (placed_lines parts) records
 
 -- the parts spell these records, with at most limit of each type
 pub record SpellsWithin {R : Type 0} (judge : Judge R) (limit : ℕ) (parts : List (List ℕ)) (records : List R) : Type 0 where
   pub spells : Spells judge parts records
-  pub within : IsWithinLimit judge limit records
+  pub within : IsWithinLimitBy judge limit records
 
 -- the fault of a line that comes after these records: its own, told with its place, or it has a record of whose type there are
 -- limit already
@@ -43,8 +43,8 @@ pub record FaultAt {R : Type 0} (judge : Judge R) (limit : ℕ) (parts : List (L
   pub after : List PlacedLine
   pub records : List R
   pub split : placed_lines parts ≡ before ++ line ∷ after
-  pub well : AreSpelled judge before records
-  pub within : IsWithinLimit judge limit records
+  pub well : AreLinesSpelled judge before records
+  pub within : IsWithinLimitBy judge limit records
   pub fault_is : IsFaultOf judge limit records line fault
 
 -- the parts spell a list, and no fault is at them

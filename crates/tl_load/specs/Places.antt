@@ -8,14 +8,14 @@ pub record PlacedLine : Type 0 where
   pub bytes : List ℕ
 
 -- lines of a part, the first of which has this number
-unfoldable pub numbered : ℕ → ℕ → List (List ℕ) → List PlacedLine
-numbered part line [] = []
-numbered part line (bytes ∷ more) = record { part = part; line = line; bytes = bytes } ∷ numbered part (line + 1) more
+unfoldable pub numbered_lines : ℕ → ℕ → List (List ℕ) → List PlacedLine
+numbered_lines part line [] = []
+numbered_lines part line (bytes ∷ more) = record { part = part; line = line; bytes = bytes } ∷ numbered_lines part (line + 1) more
 
 -- the lines of parts, the first of which has this number
 unfoldable pub lines_from_part : ℕ → List (List ℕ) → List PlacedLine
 lines_from_part part [] = []
-lines_from_part part (bytes ∷ more) = numbered part 1 (lines bytes) ++ lines_from_part (part + 1) more
+lines_from_part part (bytes ∷ more) = numbered_lines part 1 (lines bytes) ++ lines_from_part (part + 1) more
 
 -- all lines, part after part
 abbrev pub placed_lines : List (List ℕ) → List PlacedLine

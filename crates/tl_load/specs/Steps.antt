@@ -4,7 +4,7 @@ use Rattle.tl_layout.specs.declared.record_type.Record.{Record}
 use Rattle.tl_load.specs.declared.fault.LineFault.{LineFault}
 use Rattle.tl_load.specs.declared.fault.LoadFault.{LoadFault}
 use Rattle.tl_load.specs.Lines.{without_return, lines}
-use Rattle.tl_load.specs.Places.{PlacedLine, numbered, lines_from_part}
+use Rattle.tl_load.specs.Places.{PlacedLine, numbered_lines, lines_from_part}
 use Rattle.tl_load.specs.Outcome.{with_record, after_verdict, outcome_after}
 use Rattle.tl_load.specs.Choice.{tiger, judged}
 use Rattle.tl_load.specs.Loaded.{Loaded, IsOfLines, AreLines}
@@ -14,7 +14,7 @@ use Rattle.tl_load.specs.declared.loader_into.TheConstants.{LINE_BYTES}
 -- what comes of the loader's value, if these bytes follow in its open part, and then these parts
 unfoldable pub to_come : Loaded → List ℕ → List (List ℕ) → Result (List Record) LoadFault
 to_come l more later =
-    outcome_after tiger l.limit l.records (numbered (l.parts + 1) (l.judged + 1) (lines (l.unfinished ++ more)) ++ lines_from_part
+    outcome_after tiger l.limit l.records (numbered_lines (l.parts + 1) (l.judged + 1) (lines (l.unfinished ++ more)) ++ lines_from_part
     (l.parts + 1 + 1) later)
 
 -- the bytes were taken: the lines that they ended are judged, and what no LF has ended is kept
@@ -22,7 +22,7 @@ pub record TakesLines (before : Loaded) (bytes : List ℕ) (after : Loaded) : Ty
   pub ended : List (List ℕ)
   pub lines_are : AreLines (before.unfinished ++ bytes) ended after.unfinished
   pub reads : outcome_after tiger before.limit before.records
-      (numbered (before.parts + 1) (before.judged + 1) (map without_return ended)) ≡ Ok after.records
+      (numbered_lines (before.parts + 1) (before.judged + 1) (map without_return ended)) ≡ Ok after.records
   pub judged_are : after.judged ≡ before.judged + length ended
   pub parts_are : after.parts ≡ before.parts
   pub limit_is : after.limit ≡ before.limit
@@ -65,14 +65,14 @@ Adds added before result after = MatchResult result
 
 -- the records after what is left of the open part, or the fault of its last line
 abbrev pub to_end : Loaded → Result (List Record) LoadFault
-to_end l = outcome_after tiger l.limit l.records (numbered (l.parts + 1) (l.judged + 1) (lines l.unfinished))
+to_end l = outcome_after tiger l.limit l.records (numbered_lines (l.parts + 1) (l.judged + 1) (lines l.unfinished))
 
 -- the open part ended: its last line is judged
 abbrev pub Ends : {T : Type 0} → Loaded → Result T LoadFault → Loaded → Type 0
 Ends before result after = MatchResult result (λ _. to_end before ≡ Ok after.records) (λ f. IsOfLines f → to_end before ≡ Err f)
 
 -- the open part ended, and the next one is open
-pub record IsClosed (before after : Loaded) : Type 0 where
+pub record IsPartClosed (before after : Loaded) : Type 0 where
   pub reads : to_end before ≡ Ok after.records
   pub parts_are : after.parts ≡ before.parts + 1
   pub none_judged : after.judged ≡ 0
@@ -80,17 +80,17 @@ pub record IsClosed (before after : Loaded) : Type 0 where
   pub limit_is : after.limit ≡ before.limit
 
 abbrev pub Closes : {T : Type 0} → Loaded → Result T LoadFault → Loaded → Type 0
-Closes before result after = MatchResult result (λ _. IsClosed before after) (λ f. IsOfLines f → to_end before ≡ Err f)
+Closes before result after = MatchResult result (λ _. IsPartClosed before after) (λ f. IsOfLines f → to_end before ≡ Err f)
 
 -- bytes went into the open part, and it was closed
 pub record ReadsAll (before : Loaded) (taken : List ℕ) (after : Loaded) : Type 0 where
   pub at_end : Loaded
   pub takes : TakesLines before taken at_end
-  pub closes : IsClosed at_end after
+  pub closes : IsPartClosed at_end after
 
 -- bytes went into the open part: it was read to its end and is closed now, or a fault came
-abbrev pub Reads : {T : Type 0} → List ℕ → Type 0 → Loaded → Result T LoadFault → Loaded → Type 0
-Reads taken at_end before result after = MatchResult result
+abbrev pub ReadsPart : {T : Type 0} → List ℕ → Type 0 → Loaded → Result T LoadFault → Loaded → Type 0
+ReadsPart taken at_end before result after = MatchResult result
     (λ _. at_end × ReadsAll before taken after)
     (λ f. IsOfLines f → (at_end × ((later : List (List ℕ)) → to_come before taken later ≡ Err f))
     ⊎ ((more : List ℕ) (later : List (List ℕ)) → to_come before (taken ++ more) later ≡ Err f))

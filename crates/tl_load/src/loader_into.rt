@@ -11,7 +11,7 @@ ghost use Rattle.tl_load.specs.Outcome.{SpellsWithin, FaultAt};
 ghost use Rattle.tl_load.specs.Loaded.{FedPart, IsNotDevice, is_device, IsOfLines, IsFaultHowever, IsWellAfter, all_parts};
 ghost use Rattle.tl_load.specs.Keeping.{WasFedInto, HasSome, IsSamePart, Lifts, total, bytes_used};
 ghost use Rattle.tl_load.specs.Sources.{Gave, StopsThere};
-ghost use Rattle.tl_load.specs.Steps.{Takes, Ends, Closes, Judges, JudgesAs, Adds, Reads, TakesWell, with_fault};
+ghost use Rattle.tl_load.specs.Steps.{Takes, Ends, Closes, Judges, JudgesAs, Adds, ReadsPart, TakesWell, with_fault};
 ghost use Rattle.tl_load.specs.declared.fault.LineFault.TheVariants.{UnknownType};
 
 use crate::fault::{LineFault, LoadFault};
@@ -301,7 +301,7 @@ impl<K: Keeper> LoaderInto<K> {
         requires some_room { 0 < length room.old }
         requires failures { R.failed source.old < u64.MAX }
         ensures reads { (taken : List ℕ) × Gave R.remaining R.given source.old source.new taken × (length taken ≤ MOST_BYTES + length room.old)
-            × Lifts K.holds (Reads taken (IsAtEnd (R.remaining source.new))) self.old result self.new }
+            × Lifts K.holds (ReadsPart taken (IsAtEnd (R.remaining source.new))) self.old result self.new }
         ensures stops { StopsThere R.remaining R.given R.reads source.old source.new (TakesWell K.holds self.old) }
         ensures limit { self.new.limit ≡ self.old.limit }
         ensures fault { self.new.fault ≡ self.old.fault }

@@ -330,7 +330,7 @@ fn a_source_gives_as_much_as_it_can(rt: HostRuntime) {
 /// What a keeper makes of a part, or its fault.
 fn kept<K: Keeper>(alloc: Global, part: &[u8], limit: u64) -> Result<K, LoadFault>
     requires some { 1 ≤ limit }
-    requires most { limit ≤ 10000000 }
+    requires most { limit ≤ MOST_RECORDS }
 {
     let mut loader = LoaderInto::with_limit(alloc, limit);
     loader.feed(part)?;

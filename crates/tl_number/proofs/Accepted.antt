@@ -63,7 +63,10 @@ module _ (xs ys c d : List Record) (h : IsCanonicalOf xs c) (k : IsCanonicalOf y
 -- a canonical list of an accepted one is its own canonical list
 pub canonical_of_itself : (xs c : List Record) → IsCanonicalOf xs c → IsCanonicalOf c c
 canonical_of_itself xs c h = record {
-  accepted = record { linked = h.canonical.in_form.linked; profile = same_in_profile (county_of xs) (county_of c) h.same h.accepted.profile };
+  accepted = record {
+    linked = h.canonical.in_form.linked;
+    profile = same_in_profile (county_of xs) (county_of c) h.same h.accepted.profile;
+  };
   canonical = h.canonical;
   same = same-reflexive (county_of c);
 }

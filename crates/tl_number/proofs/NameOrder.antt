@@ -142,7 +142,8 @@ module _ (county : County) (steps : List Step) (is : IsCounty county) (whole : A
   ranked : (f : ℕ) → rank_of seen (Some f) ≡ place_from nat_keys 1 (first_seen_after nat_cmp [] (map (λ (u : Use × ℕ). u.1) used)) f
   ranked f = rank_told seen f ∙ ap (λ ks. place_from nat_keys 1 ks f) seen_uses
 
-  by_uses : (f g : ℕ) → nat_cmp (rank_of seen (Some f)) (rank_of seen (Some g)) ≡ slice_cmp use_cmp (uses_of_name used f) (uses_of_name used g)
+  by_uses : (f g : ℕ) → nat_cmp (rank_of seen (Some f)) (rank_of seen (Some g)) ≡ slice_cmp use_cmp (uses_of_name used f)
+      (uses_of_name used g)
   by_uses f g =
       ap₂ nat_cmp (ranked f) (ranked g)
       ∙ sym (ranks_decide [] used (all_uses-strict (placed county order)

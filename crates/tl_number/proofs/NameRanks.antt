@@ -150,7 +150,8 @@ module _ (seen : List ℕ) (u : Use) (h : ℕ) (us : List (Use × ℕ)) (after :
 -- The ranks of two FEATs stand to each other as their uses do.
 pub ranks_decide : (seen : List ℕ) (us : List (Use × ℕ)) → IsStrictlySortedBy use_cmp (map (λ (w : Use × ℕ). w.0) us) → (f g : ℕ)
     → times nat_cmp f seen ≡ 0 → times nat_cmp g seen ≡ 0
-    → slice_cmp use_cmp (uses_of_name us f) (uses_of_name us g) ≡ nat_cmp (rank (first_seen_after nat_cmp seen (map (λ (w : Use × ℕ). w.1) us)) f)
+    → slice_cmp use_cmp (uses_of_name us f) (uses_of_name us g) ≡ nat_cmp
+    (rank (first_seen_after nat_cmp seen (map (λ (w : Use × ℕ). w.1) us)) f)
     (rank (first_seen_after nat_cmp seen (map (λ (w : Use × ℕ). w.1) us)) g)
 unfolding IsStrictlySortedBy
 ranks_decide seen [] strict f g nf ng = ap₂ nat_cmp (sym (unranked 1 seen f nf)) (sym (unranked 1 seen g ng))

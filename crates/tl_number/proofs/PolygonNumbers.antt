@@ -32,14 +32,16 @@ use Rattle.tl_number.proofs.FirstSeen.{first_seen-apart}
 use Rattle.tl_number.proofs.Placed.{lefts-numbered, rights-numbered}
 
 -- numbered elements, read by place
-pub numbered_at : {X : Type 0} (i : ℕ) (xs : List X) (k : ℕ) → slice_get (numbered_from i xs) k ≡ option_map (λ x. (i + k, x)) (slice_get xs k)
+pub numbered_at : {X : Type 0} (i : ℕ) (xs : List X) (k : ℕ) → slice_get (numbered_from i xs) k ≡ option_map (λ x. (i + k, x))
+    (slice_get xs k)
 numbered_at i [] k = refl
 numbered_at i (x ∷ xs) zero = ap (λ j. Some (j, x)) (let e : i ≡ i + 0 = omega arith in e)
 numbered_at i (x ∷ xs) (suc k) = numbered_at (suc i) xs k
     ∙ ap (λ j. option_map (λ x. (j, x)) (slice_get xs k)) (let e : suc i + k ≡ i + suc k = omega arith in e)
 
 -- the number of a key is one more than its place
-pub key_numbered : {K : Type 0} (keys : List K) (i : ℕ) → slice_get (numbered keys) i ≡ option_map {U = K × ℕ} (λ key. (key, i + 1)) (slice_get keys i)
+pub key_numbered : {K : Type 0} (keys : List K) (i : ℕ) → slice_get (numbered keys) i ≡ option_map {U = K × ℕ} (λ key. (key, i + 1))
+    (slice_get keys i)
 key_numbered {K} keys i = slice_get-map (λ (pair : ℕ × K). (pair.1, pair.0)) (numbered_from 1 keys) i
     ∙ ap (option_map (λ (pair : ℕ × K). (pair.1, pair.0))) (numbered_at 1 keys i) ∙ go (slice_get keys i)
   where
@@ -135,9 +137,11 @@ module _ (county : County) (steps : Arrangement) (is : IsCounty county) (arrange
       (in_order-is_permutation (on (λ (e : PolygonKey × Option BodyP). e.0) key_cmp) carried))) in
       let numbers : map entry_polyid ours ≡ up_to (length seen) =
       map-map entry_polyid (under_number county) (numbered seen) ∙ rights-numbered seen in
-      let strict : IsStrictlySortedBy nat_cmp (map entry_polyid ours) = subst (IsStrictlySortedBy nat_cmp) (sym numbers) (up_to-strict (length seen)) in
+      let strict : IsStrictlySortedBy nat_cmp (map entry_polyid ours) = subst (IsStrictlySortedBy nat_cmp) (sym numbers)
+      (up_to-strict (length seen)) in
       let same : map entry_polyid ours ≡ map entry_polyid theirs =
-      in_order-permutation nat_keys (map entry_polyid ours) (map entry_polyid theirs) (in_order-strict nat_cmp (map entry_polyid ours) strict)
+      in_order-permutation nat_keys (map entry_polyid ours) (map entry_polyid theirs)
+      (in_order-strict nat_cmp (map entry_polyid ours) strict)
       (in_order-map nat_cmp entry_polyid theirs (in_order-in_order (on_total entry_polyid nat_cmp_total) (arranged county steps).polygons))
       (IsPermutation-map entry_polyid ours theirs both) in
       strict-permutation nat_cmp_total entry_polyid ours theirs (strict-map nat_cmp entry_polyid ours strict)

@@ -20,12 +20,14 @@ use Rattle.tl_number.proofs.ViewChains.{read_length}
 use Rattle.tl_number.proofs.ViewTables.{read_at}
 
 -- the elements up to a place, and with the one that stands there
-pub next_taken : {X : Type 0} (xs : List X) (place : ℕ) (x : X) → Some x ≡ slice_get xs place → take (suc place) xs ≡ take place xs ++ (x ∷ [])
+pub next_taken : {X : Type 0} (xs : List X) (place : ℕ) (x : X) → Some x ≡ slice_get xs place → take (suc place) xs ≡ take place xs ++
+    (x ∷ [])
 next_taken [] place x e = cc
 next_taken (y ∷ ys) zero x e = let same : y ≡ x = cc in ap (λ z. z ∷ []) same
 next_taken (y ∷ ys) (suc place) x e = ap (λ l. y ∷ l) (next_taken ys place x e)
 
-pub one_more_taken : {X : Type 0} (xs : List X) (place : ℕ) (x : X) → Some x ≡ slice_get xs place → take (place + 1) xs ≡ take place xs ++ (x ∷ [])
+pub one_more_taken : {X : Type 0} (xs : List X) (place : ℕ) (x : X) → Some x ≡ slice_get xs place → take (place + 1) xs ≡ take place xs ++
+    (x ∷ [])
 one_more_taken xs place x e = ap (λ n. take n xs) (let next : place + 1 ≡ suc place = omega arith in next) ∙ next_taken xs place x e
 
 length-numbered_from : {K : Type 0} (i : ℕ) (keys : List K) → length (numbered_from i keys) ≡ length keys
@@ -53,7 +55,8 @@ next_polygon keys place key e =
     (ap (λ o. option_map under_cenid (option_map (λ (k : PolygonKey). (k, place + 1)) o)) e
     ∙ ap (option_map under_cenid) (sym (key_numbered keys place)) ∙ sym (slice_get-map under_cenid (numbered keys) place))
 
-pub all_polygons : (keys : List PolygonKey) (n : ℕ) → length keys ≤ n → take n (map under_cenid (numbered keys)) ≡ map under_cenid (numbered keys)
+pub all_polygons : (keys : List PolygonKey) (n : ℕ) → length keys ≤ n → take n (map under_cenid (numbered keys)) ≡ map under_cenid
+    (numbered keys)
 all_polygons keys n h =
     let count = length-numbered keys in
     let same = length-map (numbered keys) under_cenid in
@@ -74,7 +77,8 @@ module _ (county : County) where
       ∙ ap (option_map (λ (s : ℕ × Bool). s.0)) (slice_get-map (λ (s : Step). (tlid_at county s.place, s.turned)) steps place)
       ∙ both (slice_get steps place))
     where
-      both : (o : Option Step) → option_map (λ (s : ℕ × Bool). s.0) (option_map {U = ℕ × Bool} (λ (s : Step). (tlid_at county s.place, s.turned)) o)
+      both : (o : Option Step) → option_map (λ (s : ℕ × Bool). s.0)
+          (option_map {U = ℕ × Bool} (λ (s : Step). (tlid_at county s.place, s.turned)) o)
           ≡ option_map {U = ℕ} (λ (s : Step). tlid_at county s.place) o
       both None = refl
       both (Some s) = refl
@@ -94,7 +98,8 @@ module _ (county : County) where
       go : (turned : Bool) → turned_tlids (arrangement_of county (take (suc place) ss))
           ≡ turned_tlids (arrangement_of county (take place ss)) ++ turned_tlids (arrangement_of county (step ∷ []))
           → turned_tlids ((tlid_at county s.place, turned) ∷ arrangement_of county (take (suc place) ss))
-          ≡ turned_tlids ((tlid_at county s.place, turned) ∷ arrangement_of county (take place ss)) ++ turned_tlids (arrangement_of county (step ∷ []))
+          ≡ turned_tlids ((tlid_at county s.place, turned) ∷ arrangement_of county (take place ss)) ++ turned_tlids
+          (arrangement_of county (step ∷ []))
       go true e = ap (λ l. tlid_at county s.place ∷ l) e
       go false e = e
 
@@ -118,7 +123,8 @@ module _ (county : County) where
   -- a turned chain's TLID is one more
   pub turned_more : (steps : List Step) (place : ℕ) (step : Step) (tlid : ℕ) → slice_get steps place ≡ Some step → step.turned ≡ true
       → Some tlid ≡ slice_get (tlids county) step.place
-      → turned_tlids (arrangement_of county (take (place + 1) steps)) ≡ turned_tlids (arrangement_of county (take place steps)) ++ (tlid ∷ [])
+      → turned_tlids (arrangement_of county (take (place + 1) steps)) ≡ turned_tlids (arrangement_of county (take place steps)) ++
+      (tlid ∷ [])
   turned_more steps place step tlid e turned there =
       ap (λ l. turned_tlids (arrangement_of county l)) (one_more steps place) ∙ turned_next steps place step (sym e)
       ∙ ap (λ l. turned_tlids (arrangement_of county (take place steps)) ++ l)

@@ -101,83 +101,85 @@ few_keys g k (d ∷ ds) = go (g d) (few_keys g k ds) (same_or_not key_keys k d)
         times-no key_keys k d (map p_key (filter_map packed_p (map (λ key. (key, g key)) ds))) ne in
         omega arith
 
-module _ (records : List Record) (linked : IsLinked records) (order : StandsInOrder records) (in_form : IsArranged (county_of records)) where
-  abbrev all_keys : List PolygonKey
-  all_keys = flat_map side_keys (of_type_i records) ++ map p_key (of_type_p records)
+module _ (records : List Record) (linked : IsLinked records) (order : StandsInOrder records) (in_form : IsArranged (county_of records))
+  where
+    abbrev all_keys : List PolygonKey
+    all_keys = flat_map side_keys (of_type_i records) ++ map p_key (of_type_p records)
 
-  abbrev packed_ps : List FieldsP
-  packed_ps = filter_map packed_p (polygons_of records)
+    abbrev packed_ps : List FieldsP
+    packed_ps = filter_map packed_p (polygons_of records)
 
-  ps_apart : IsApart key_cmp (map p_key (of_type_p records))
-  ps_apart k = ltb-false 1 (times key_cmp k (map p_key (of_type_p records))) (linked (PolygonTwice k.0 k.1))
+    ps_apart : IsApart key_cmp (map p_key (of_type_p records))
+    ps_apart k = ltb-false 1 (times key_cmp k (map p_key (of_type_p records))) (linked (PolygonTwice k.0 k.1))
 
-  -- a listed polygon has the content that is found for its key
-  listed_body : (key : PolygonKey) (e : PolygonKey × Option BodyP) → e ≡ (key, polygon_body records key) → polygon_body records e.0 ≡ e.1
-  listed_body key e h = ap (λ (x : PolygonKey × Option BodyP). polygon_body records x.0) h
-      ∙ sym (ap (λ (x : PolygonKey × Option BodyP). x.1) h)
+    -- a listed polygon has the content that is found for its key
+    listed_body : (key : PolygonKey) (e : PolygonKey × Option BodyP) → e ≡ (key, polygon_body records key) → polygon_body records e.0 ≡ e.1
+    listed_body key e h = ap (λ (x : PolygonKey × Option BodyP). polygon_body records x.0) h
+        ∙ sym (ap (λ (x : PolygonKey × Option BodyP). x.1) h)
 
-  from_packed : (z : FieldsP) → Among z packed_ps → Among z (of_type_p records)
-  from_packed z m =
-      let e = in_filter_map packed_p z (polygons_of records) m in
-      let d = among-unmap (λ key. (key, polygon_body records key)) e.0 (distinct key_cmp all_keys) e.1 in
-      let p = packed_key e.0.0 e.0.1 z e.2 in
-      let found : polygon_body records e.0.0 ≡ Some p.0 = listed_body d.0 e.0 d.2 ∙ p.1 in
-      let r = first_body e.0.0 p.0 (of_type_p records) found in
-      let same : z ≡ r.0 = p.2 ∙ (λ i. record { cenid = (r.2 i).0; polyid = (r.2 i).1; body = sym r.3 i }) in
-      subst (λ y. Among y (of_type_p records)) (sym same) r.1
+    from_packed : (z : FieldsP) → Among z packed_ps → Among z (of_type_p records)
+    from_packed z m =
+        let e = in_filter_map packed_p z (polygons_of records) m in
+        let d = among-unmap (λ key. (key, polygon_body records key)) e.0 (distinct key_cmp all_keys) e.1 in
+        let p = packed_key e.0.0 e.0.1 z e.2 in
+        let found : polygon_body records e.0.0 ≡ Some p.0 = listed_body d.0 e.0 d.2 ∙ p.1 in
+        let r = first_body e.0.0 p.0 (of_type_p records) found in
+        let same : z ≡ r.0 = p.2 ∙ (λ i. record { cenid = (r.2 i).0; polyid = (r.2 i).1; body = sym r.3 i }) in
+        subst (λ y. Among y (of_type_p records)) (sym same) r.1
 
-  to_packed : (r : FieldsP) → Among r (of_type_p records) → Among r packed_ps
-  to_packed r m =
-      let known : Known key_cmp all_keys (p_key r) =
-      known-right key_keys (p_key r) (flat_map side_keys (of_type_i records)) (map p_key (of_type_p records))
-      (among_known key_keys (p_key r) (map p_key (of_type_p records)) (among-map p_key r (of_type_p records) m)) in
-      let there : Among (p_key r) (distinct key_cmp all_keys) =
-      known_is_among key_keys (p_key r) (distinct key_cmp all_keys) (known-distinct key_keys all_keys (p_key r) known) in
-      to_filter_map packed_p (p_key r, polygon_body records (p_key r)) r (polygons_of records)
-      (among-map (λ key. (key, polygon_body records key)) (p_key r) (distinct key_cmp all_keys) there)
-      (ap (packed_body (p_key r)) (body_found r (of_type_p records) ps_apart m))
+    to_packed : (r : FieldsP) → Among r (of_type_p records) → Among r packed_ps
+    to_packed r m =
+        let known : Known key_cmp all_keys (p_key r) =
+        known-right key_keys (p_key r) (flat_map side_keys (of_type_i records)) (map p_key (of_type_p records))
+        (among_known key_keys (p_key r) (map p_key (of_type_p records)) (among-map p_key r (of_type_p records) m)) in
+        let there : Among (p_key r) (distinct key_cmp all_keys) =
+        known_is_among key_keys (p_key r) (distinct key_cmp all_keys) (known-distinct key_keys all_keys (p_key r) known) in
+        to_filter_map packed_p (p_key r, polygon_body records (p_key r)) r (polygons_of records)
+        (among-map (λ key. (key, polygon_body records key)) (p_key r) (distinct key_cmp all_keys) there)
+        (ap (packed_body (p_key r)) (body_found r (of_type_p records) ps_apart m))
 
-  -- a POLYID of type P stands under one CENID
-  one_cenid : (x y : FieldsP) → Among x (of_type_p records) → Among y (of_type_p records) → x.polyid ≡ y.polyid → p_key x ≡ p_key y
-  one_cenid x y m n e =
-      let side : (z : FieldsP) → Among z (of_type_p records) → Among (p_key z) (polygons_along (county_of records).chains) =
-      λ z l. let known : Known key_cmp all_keys (p_key z) =
-      known-right key_keys (p_key z) (flat_map side_keys (of_type_i records)) (map p_key (of_type_p records))
-      (among_known key_keys (p_key z) (map p_key (of_type_p records)) (among-map p_key z (of_type_p records) l)) in
-      let listed : Known key_cmp (polygon_keys (county_of records)) (p_key z) =
-      subst (λ ks. Known key_cmp ks (p_key z)) (sym (keys-county records linked)) (known-distinct key_keys all_keys (p_key z) known) in
-      known_is_among key_keys (p_key z) (polygons_along (county_of records).chains)
-      (ltb-true 0 (times key_cmp (p_key z) (polygons_along (county_of records).chains))
-      (known_all key_keys (λ k. IsTrue (stands_in key_cmp k (polygons_along (county_of records).chains)))
-      (polygon_keys (county_of records)) in_form.on_sides (p_key z) listed)) in
-      all_among (λ other. (p_key x).1 ≡ other.1 → p_key x ≡ other) (p_key y) (polygons_along (county_of records).chains)
-      (all_among (λ key. AllByRecursion (λ other. key.1 ≡ other.1 → key ≡ other) (polygons_along (county_of records).chains)) (p_key x)
-      (polygons_along (county_of records).chains) in_form.one_cenid (side x m))
-      (side y n) e
+    -- a POLYID of type P stands under one CENID
+    one_cenid : (x y : FieldsP) → Among x (of_type_p records) → Among y (of_type_p records) → x.polyid ≡ y.polyid → p_key x ≡ p_key y
+    one_cenid x y m n e =
+        let side : (z : FieldsP) → Among z (of_type_p records) → Among (p_key z) (polygons_along (county_of records).chains) =
+        λ z l. let known : Known key_cmp all_keys (p_key z) =
+        known-right key_keys (p_key z) (flat_map side_keys (of_type_i records)) (map p_key (of_type_p records))
+        (among_known key_keys (p_key z) (map p_key (of_type_p records)) (among-map p_key z (of_type_p records) l)) in
+        let listed : Known key_cmp (polygon_keys (county_of records)) (p_key z) =
+        subst (λ ks. Known key_cmp ks (p_key z)) (sym (keys-county records linked)) (known-distinct key_keys all_keys (p_key z) known) in
+        known_is_among key_keys (p_key z) (polygons_along (county_of records).chains)
+        (ltb-true 0 (times key_cmp (p_key z) (polygons_along (county_of records).chains))
+        (known_all key_keys (λ k. IsTrue (stands_in key_cmp k (polygons_along (county_of records).chains)))
+        (polygon_keys (county_of records)) in_form.on_sides (p_key z) listed)) in
+        all_among (λ other. (p_key x).1 ≡ other.1 → p_key x ≡ other) (p_key y) (polygons_along (county_of records).chains)
+        (all_among (λ key. AllByRecursion (λ other. key.1 ≡ other.1 → key ≡ other) (polygons_along (county_of records).chains)) (p_key x)
+        (polygons_along (county_of records).chains) in_form.one_cenid (side x m))
+        (side y n) e
 
-  packed_apart : IsApart key_cmp (map p_key (in_order (on p_polyid nat_cmp) packed_ps))
-  packed_apart k =
-      let s : times key_cmp k (map p_key (in_order (on p_polyid nat_cmp) packed_ps)) ≡ times key_cmp k (map p_key packed_ps) =
-      times-in_order key_cmp p_key (on p_polyid nat_cmp) packed_ps k in
-      let t : times key_cmp k (map p_key packed_ps) ≤ times key_cmp k (distinct key_cmp all_keys) =
-      few_keys (polygon_body records) k (distinct key_cmp all_keys) in
-      let u : times key_cmp k (distinct key_cmp all_keys) ≤ 1 = apart-distinct key_keys all_keys k in
-      omega arith
+    packed_apart : IsApart key_cmp (map p_key (in_order (on p_polyid nat_cmp) packed_ps))
+    packed_apart k =
+        let s : times key_cmp k (map p_key (in_order (on p_polyid nat_cmp) packed_ps)) ≡ times key_cmp k (map p_key packed_ps) =
+        times-in_order key_cmp p_key (on p_polyid nat_cmp) packed_ps k in
+        let t : times key_cmp k (map p_key packed_ps) ≤ times key_cmp k (distinct key_cmp all_keys) =
+        few_keys (polygon_body records) k (distinct key_cmp all_keys) in
+        let u : times key_cmp k (distinct key_cmp all_keys) ≤ 1 = apart-distinct key_keys all_keys k in
+        omega arith
 
-  pub ps_back : in_order (on p_polyid nat_cmp) packed_ps ≡ of_type_p records
-  ps_back =
-      let sorted : List FieldsP = in_order (on p_polyid nat_cmp) packed_ps in
-      let inside : (z : FieldsP) → Among z (in_order (on p_polyid nat_cmp) packed_ps) → Among z (of_type_p records) =
-      λ z m. from_packed z (from_in_order (on p_polyid nat_cmp) packed_ps z m) in
-      strict-equal nat_cmp_total p_polyid (in_order (on p_polyid nat_cmp) packed_ps) (of_type_p records)
-      (strict_from_keys key_keys p_polyid p_key (in_order (on p_polyid nat_cmp) packed_ps)
-      (in_order-in_order (on_total p_polyid nat_cmp_total) packed_ps) packed_apart (λ x y m n. one_cenid x y (inside x m) (inside y n)))
-      (strict_from_keys key_keys p_polyid p_key (of_type_p records) order.of_type_p ps_apart one_cenid)
-      inside
-      (λ z m. to_in_order (on p_polyid nat_cmp) packed_ps z (to_packed z m))
+    pub ps_back : in_order (on p_polyid nat_cmp) packed_ps ≡ of_type_p records
+    ps_back =
+        let sorted : List FieldsP = in_order (on p_polyid nat_cmp) packed_ps in
+        let inside : (z : FieldsP) → Among z (in_order (on p_polyid nat_cmp) packed_ps) → Among z (of_type_p records) =
+        λ z m. from_packed z (from_in_order (on p_polyid nat_cmp) packed_ps z m) in
+        strict-equal nat_cmp_total p_polyid (in_order (on p_polyid nat_cmp) packed_ps) (of_type_p records)
+        (strict_from_keys key_keys p_polyid p_key (in_order (on p_polyid nat_cmp) packed_ps)
+        (in_order-in_order (on_total p_polyid nat_cmp_total) packed_ps) packed_apart (λ x y m n. one_cenid x y (inside x m) (inside y n)))
+        (strict_from_keys key_keys p_polyid p_key (of_type_p records) order.of_type_p ps_apart one_cenid)
+        inside
+        (λ z m. to_in_order (on p_polyid nat_cmp) packed_ps z (to_packed z m))
 
 -- Whatever its choice of TLIDs and directions, an arranged list is what its county is packed into.
-pub arranged_is_packed : (records : List Record) → IsLinked records → StandsInOrder records → IsPacked records → IsArranged (county_of records)
+pub arranged_is_packed : (records : List Record) → IsLinked records → StandsInOrder records → IsPacked records → IsArranged
+    (county_of records)
     → records ≡ packed (county_of records)
 arranged_is_packed records linked order full in_form = order.types ∙ ap type_after_type same
   where

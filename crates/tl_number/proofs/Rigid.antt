@@ -65,124 +65,125 @@ chain_fixed r e h = λ i. (
   },
 )
 
-module _ (r : Renumbering) (a b : County) (h : Carries r a b) (wa : IsCounty a) (wb : IsCounty b) (ta : IsArranged a) (tb : IsArranged b) where
-  -- where the chains are kept, all is
-  module _ (e : KeepsChains r a b) where
-    chains_equal : a.chains ≡ b.chains
-    chains_equal =
-        let nodes : AllByRecursion (λ c. AllByRecursion (λ n. n ≡ image nat_cmp r.nodes n) (chain_nodes c.1)) a.chains =
-        all_pieces (λ n. n ≡ image nat_cmp r.nodes n) (λ c. chain_nodes c.1) a.chains
-        (nodes_kept r a b h wb.ascending wa.closed ta tb e) in
-        let polygons : AllByRecursion (λ c. AllByRecursion (λ k. k ≡ image key_cmp r.polygons k) (chain_polygons c.1)) a.chains =
-        all_pieces (λ k. k ≡ image key_cmp r.polygons k) (λ c. chain_polygons c.1) a.chains
-        (polygons_kept r a b h wb.ascending wa.closed ta tb e) in
-        let both : AllByRecursion (λ c. AllByRecursion (λ n. n ≡ image nat_cmp r.nodes n) (chain_nodes c.1)
-        × AllByRecursion (λ k. k ≡ image key_cmp r.polygons k) (chain_polygons c.1)) a.chains =
-        all_both (λ c. AllByRecursion (λ n. n ≡ image nat_cmp r.nodes n) (chain_nodes c.1))
-        (λ c. AllByRecursion (λ k. k ≡ image key_cmp r.polygons k) (chain_polygons c.1)) a.chains nodes polygons in
-        let all : AllByRecursion (IsFixed r) a.chains =
-        all_both (λ c. AllByRecursion (λ y. image nat_cmp r.names y ≡ y) c.1.feats)
-        (λ c. AllByRecursion (λ n. n ≡ image nat_cmp r.nodes n) (chain_nodes c.1)
-        × AllByRecursion (λ k. k ≡ image key_cmp r.polygons k) (chain_polygons c.1)) a.chains
-        (feats_kept r a b h wa.closed ta tb e) both in
-        sym (e ∙ map_agree_all (kept_entry r) (λ c. c) (IsFixed r) (chain_fixed r) a.chains all ∙ map-id a.chains)
+module _ (r : Renumbering) (a b : County) (h : Carries r a b) (wa : IsCounty a) (wb : IsCounty b) (ta : IsArranged a) (tb : IsArranged b)
+  where
+    -- where the chains are kept, all is
+    module _ (e : KeepsChains r a b) where
+      chains_equal : a.chains ≡ b.chains
+      chains_equal =
+          let nodes : AllByRecursion (λ c. AllByRecursion (λ n. n ≡ image nat_cmp r.nodes n) (chain_nodes c.1)) a.chains =
+          all_pieces (λ n. n ≡ image nat_cmp r.nodes n) (λ c. chain_nodes c.1) a.chains
+          (nodes_kept r a b h wb.ascending wa.closed ta tb e) in
+          let polygons : AllByRecursion (λ c. AllByRecursion (λ k. k ≡ image key_cmp r.polygons k) (chain_polygons c.1)) a.chains =
+          all_pieces (λ k. k ≡ image key_cmp r.polygons k) (λ c. chain_polygons c.1) a.chains
+          (polygons_kept r a b h wb.ascending wa.closed ta tb e) in
+          let both : AllByRecursion (λ c. AllByRecursion (λ n. n ≡ image nat_cmp r.nodes n) (chain_nodes c.1)
+          × AllByRecursion (λ k. k ≡ image key_cmp r.polygons k) (chain_polygons c.1)) a.chains =
+          all_both (λ c. AllByRecursion (λ n. n ≡ image nat_cmp r.nodes n) (chain_nodes c.1))
+          (λ c. AllByRecursion (λ k. k ≡ image key_cmp r.polygons k) (chain_polygons c.1)) a.chains nodes polygons in
+          let all : AllByRecursion (IsFixed r) a.chains =
+          all_both (λ c. AllByRecursion (λ y. image nat_cmp r.names y ≡ y) c.1.feats)
+          (λ c. AllByRecursion (λ n. n ≡ image nat_cmp r.nodes n) (chain_nodes c.1)
+          × AllByRecursion (λ k. k ≡ image key_cmp r.polygons k) (chain_polygons c.1)) a.chains
+          (feats_kept r a b h wa.closed ta tb e) both in
+          sym (e ∙ map_agree_all (kept_entry r) (λ c. c) (IsFixed r) (chain_fixed r) a.chains all ∙ map-id a.chains)
 
-    -- each polygon is on a side, so none has another number
-    polygon_fixed : (k : PolygonKey) → Known key_cmp (polygon_keys a) k → image key_cmp r.polygons k ≡ k
-    polygon_fixed k l =
-        let known : Known key_cmp (polygons_along a.chains) k =
-        ltb-true 0 (times key_cmp k (polygons_along a.chains))
-        (known_all key_keys (λ j. IsTrue (stands_in key_cmp j (polygons_along a.chains))) (polygon_keys a) ta.on_sides k l) in
-        sym (known_all key_keys (λ j. j ≡ image key_cmp r.polygons j) (polygons_along a.chains)
-        (polygons_kept r a b h wb.ascending wa.closed ta tb e) k known)
+      -- each polygon is on a side, so none has another number
+      polygon_fixed : (k : PolygonKey) → Known key_cmp (polygon_keys a) k → image key_cmp r.polygons k ≡ k
+      polygon_fixed k l =
+          let known : Known key_cmp (polygons_along a.chains) k =
+          ltb-true 0 (times key_cmp k (polygons_along a.chains))
+          (known_all key_keys (λ j. IsTrue (stands_in key_cmp j (polygons_along a.chains))) (polygon_keys a) ta.on_sides k l) in
+          sym (known_all key_keys (λ j. j ≡ image key_cmp r.polygons j) (polygons_along a.chains)
+          (polygons_kept r a b h wb.ascending wa.closed ta tb e) k known)
 
-    polygons_equal : a.polygons ≡ b.polygons
-    polygons_equal =
-        let same : map (carried_polygon r) a.polygons ≡ a.polygons =
-        map_agree_all (carried_polygon r) (λ d. d) (λ d. Known key_cmp (polygon_keys a) d.0)
-        (λ d k i. (polygon_fixed d.0 k i, d.1)) a.polygons (keys_known key_keys a.polygons) ∙ map-id a.polygons in
-        strict-permutation key_keys.total (λ (d : PolygonKey × Option BodyP). d.0) a.polygons b.polygons
-        (strict-map key_cmp (λ (d : PolygonKey × Option BodyP). d.0) a.polygons wa.ascending.polygons)
-        (strict-map key_cmp (λ (d : PolygonKey × Option BodyP). d.0) b.polygons wb.ascending.polygons)
-        (subst (λ ds. IsPermutation ds b.polygons) same h.polygons)
+      polygons_equal : a.polygons ≡ b.polygons
+      polygons_equal =
+          let same : map (carried_polygon r) a.polygons ≡ a.polygons =
+          map_agree_all (carried_polygon r) (λ d. d) (λ d. Known key_cmp (polygon_keys a) d.0)
+          (λ d k i. (polygon_fixed d.0 k i, d.1)) a.polygons (keys_known key_keys a.polygons) ∙ map-id a.polygons in
+          strict-permutation key_keys.total (λ (d : PolygonKey × Option BodyP). d.0) a.polygons b.polygons
+          (strict-map key_cmp (λ (d : PolygonKey × Option BodyP). d.0) a.polygons wa.ascending.polygons)
+          (strict-map key_cmp (λ (d : PolygonKey × Option BodyP). d.0) b.polygons wb.ascending.polygons)
+          (subst (λ ds. IsPermutation ds b.polygons) same h.polygons)
 
-    pub kept_equal : a ≡ b
-    kept_equal = λ i. record {
-      chains = chains_equal i;
-      names = names_equal r a b h wa.closed ta tb e i;
-      polygons = polygons_equal i;
-      landmarks = landmarks_equal r a b h wa.ascending wb.ascending wa.closed wb.closed ta tb polygon_fixed i;
-      links = links_equal r a b h wa.ascending wb.ascending wa.closed wb.closed ta tb polygon_fixed i;
-    }
+      pub kept_equal : a ≡ b
+      kept_equal = λ i. record {
+        chains = chains_equal i;
+        names = names_equal r a b h wa.closed ta tb e i;
+        polygons = polygons_equal i;
+        landmarks = landmarks_equal r a b h wa.ascending wb.ascending wa.closed wb.closed ta tb polygon_fixed i;
+        links = links_equal r a b h wa.ascending wb.ascending wa.closed wb.closed ta tb polygon_fixed i;
+      }
 
-  -- a renaming that keeps each TLID and turns nothing keeps the chains
-  pub rigid : ((n : ℕ) → Known nat_cmp (tlids a) n → image nat_cmp r.chains n ≡ n)
-      → ((n : ℕ) → Known nat_cmp (tlids a) n → turns r n ≡ false) → a ≡ b
-  rigid keeps still =
-      let same : map (carried_chain r) a.chains ≡ map (kept_entry r) a.chains =
-      map_agree_all (carried_chain r) (kept_entry r) (λ c. Known nat_cmp (tlids a) c.0)
-      (λ c k i. (keeps c.0 k i, ap (λ t. renumbered r (turned_if t c.1)) (still c.0 k) i)) a.chains (keys_known nat_keys a.chains) in
-      let tl : map (λ (c : ℕ × Chain). c.0) (map (kept_entry r) a.chains) ≡ tlids a =
-      map-map (λ (c : ℕ × Chain). c.0) (kept_entry r) a.chains in
-      kept_equal (sym (strict-permutation nat_cmp_total (λ (c : ℕ × Chain). c.0) (map (kept_entry r) a.chains) b.chains
-      (strict-map nat_cmp (λ (c : ℕ × Chain). c.0) (map (kept_entry r) a.chains)
-      (subst (IsStrictlySortedBy nat_cmp) (sym tl) wa.ascending.chains))
-      (strict-map nat_cmp (λ (c : ℕ × Chain). c.0) b.chains wb.ascending.chains)
-      (subst (λ cs. IsPermutation cs b.chains) same h.chains)))
+    -- a renaming that keeps each TLID and turns nothing keeps the chains
+    pub rigid : ((n : ℕ) → Known nat_cmp (tlids a) n → image nat_cmp r.chains n ≡ n)
+        → ((n : ℕ) → Known nat_cmp (tlids a) n → turns r n ≡ false) → a ≡ b
+    rigid keeps still =
+        let same : map (carried_chain r) a.chains ≡ map (kept_entry r) a.chains =
+        map_agree_all (carried_chain r) (kept_entry r) (λ c. Known nat_cmp (tlids a) c.0)
+        (λ c k i. (keeps c.0 k i, ap (λ t. renumbered r (turned_if t c.1)) (still c.0 k) i)) a.chains (keys_known nat_keys a.chains) in
+        let tl : map (λ (c : ℕ × Chain). c.0) (map (kept_entry r) a.chains) ≡ tlids a =
+        map-map (λ (c : ℕ × Chain). c.0) (kept_entry r) a.chains in
+        kept_equal (sym (strict-permutation nat_cmp_total (λ (c : ℕ × Chain). c.0) (map (kept_entry r) a.chains) b.chains
+        (strict-map nat_cmp (λ (c : ℕ × Chain). c.0) (map (kept_entry r) a.chains)
+        (subst (IsStrictlySortedBy nat_cmp) (sym tl) wa.ascending.chains))
+        (strict-map nat_cmp (λ (c : ℕ × Chain). c.0) b.chains wb.ascending.chains)
+        (subst (λ cs. IsPermutation cs b.chains) same h.chains)))
 
-  -- Counties that are least leave no choice of directions and TLIDs.
-  module _ (la : IsLeast a) (lb : IsLeast b) where
-    not_both_less : (x y : Ordering) → x ≡ ordering_reverse y → x ≡ Less → y ≡ Less → ⊥
-    not_both_less x Less e f g = cc
-    not_both_less x Equal e f g = cc
-    not_both_less x Greater e f g = cc
+    -- Counties that are least leave no choice of directions and TLIDs.
+    module _ (la : IsLeast a) (lb : IsLeast b) where
+      not_both_less : (x y : Ordering) → x ≡ ordering_reverse y → x ≡ Less → y ≡ Less → ⊥
+      not_both_less x Less e f g = cc
+      not_both_less x Equal e f g = cc
+      not_both_less x Greater e f g = cc
 
-    no_turn_at : (c : ℕ × Chain) → Among c a.chains → (t : Bool) → turns r c.0 ≡ t → t ≡ false
-    no_turn_at c m false e = refl
-    no_turn_at c m true e =
-        let there : Among (carried_chain r c) b.chains =
-        among-permutation (carried_chain r c) (map (carried_chain r) a.chains) b.chains h.chains
-        (among-map (carried_chain r) c a.chains m) in
-        let mine : points_cmp c.1.points (reverse c.1.points) ≡ Less =
-        all_among (λ d. points_cmp (entry_points d) (reverse (entry_points d)) ≡ Less) c a.chains la.directions m in
-        let yours : points_cmp (carried_chain r c).1.points (reverse (carried_chain r c).1.points) ≡ Less =
-        all_among (λ d. points_cmp (entry_points d) (reverse (entry_points d)) ≡ Less)
-        (carried_chain r c) b.chains lb.directions there in
-        let turned : points_cmp (reverse c.1.points) (reverse (reverse c.1.points)) ≡ Less =
-        subst (λ t. points_cmp (turned_if t c.1).points (reverse (turned_if t c.1).points) ≡ Less) e yours in
-        let back : points_cmp (reverse c.1.points) c.1.points ≡ Less =
-        subst (λ ps. points_cmp (reverse c.1.points) ps ≡ Less) (reverse-reverse c.1.points) turned in
-        absurd (not_both_less (points_cmp c.1.points (reverse c.1.points)) (points_cmp (reverse c.1.points) c.1.points)
-        (points_keys.total.antisymm c.1.points (reverse c.1.points)) mine back)
+      no_turn_at : (c : ℕ × Chain) → Among c a.chains → (t : Bool) → turns r c.0 ≡ t → t ≡ false
+      no_turn_at c m false e = refl
+      no_turn_at c m true e =
+          let there : Among (carried_chain r c) b.chains =
+          among-permutation (carried_chain r c) (map (carried_chain r) a.chains) b.chains h.chains
+          (among-map (carried_chain r) c a.chains m) in
+          let mine : points_cmp c.1.points (reverse c.1.points) ≡ Less =
+          all_among (λ d. points_cmp (entry_points d) (reverse (entry_points d)) ≡ Less) c a.chains la.directions m in
+          let yours : points_cmp (carried_chain r c).1.points (reverse (carried_chain r c).1.points) ≡ Less =
+          all_among (λ d. points_cmp (entry_points d) (reverse (entry_points d)) ≡ Less)
+          (carried_chain r c) b.chains lb.directions there in
+          let turned : points_cmp (reverse c.1.points) (reverse (reverse c.1.points)) ≡ Less =
+          subst (λ t. points_cmp (turned_if t c.1).points (reverse (turned_if t c.1).points) ≡ Less) e yours in
+          let back : points_cmp (reverse c.1.points) c.1.points ≡ Less =
+          subst (λ ps. points_cmp (reverse c.1.points) ps ≡ Less) (reverse-reverse c.1.points) turned in
+          absurd (not_both_less (points_cmp c.1.points (reverse c.1.points)) (points_cmp (reverse c.1.points) c.1.points)
+          (points_keys.total.antisymm c.1.points (reverse c.1.points)) mine back)
 
-    none_turned : AllByRecursion (λ c. turns r c.0 ≡ false) a.chains
-    none_turned = all_weaker (λ c. Among c a.chains) (λ c. turns r c.0 ≡ false) (λ c m. no_turn_at c m (turns r c.0) refl) a.chains
-        (all_themselves a.chains)
+      none_turned : AllByRecursion (λ c. turns r c.0 ≡ false) a.chains
+      none_turned = all_weaker (λ c. Among c a.chains) (λ c. turns r c.0 ≡ false) (λ c m. no_turn_at c m (turns r c.0) refl) a.chains
+          (all_themselves a.chains)
 
-    carried_is : map (carried_chain r) a.chains ≡ b.chains
-    carried_is =
-        let points : map entry_points (map (carried_chain r) a.chains) ≡ map entry_points a.chains =
-        map-map entry_points (carried_chain r) a.chains
-        ∙ map_agree_all (λ c. entry_points (carried_chain r c)) entry_points (λ c. turns r c.0 ≡ false)
-        (λ c f. ap (λ t. (turned_if t c.1).points) f) a.chains none_turned in
-        strict-permutation points_keys.total entry_points (map (carried_chain r) a.chains) b.chains
-        (strict-map points_cmp entry_points (map (carried_chain r) a.chains)
-        (subst (IsStrictlySortedBy points_cmp) (sym points) (strict-unmap points_cmp entry_points a.chains la.ascending)))
-        lb.ascending h.chains
+      carried_is : map (carried_chain r) a.chains ≡ b.chains
+      carried_is =
+          let points : map entry_points (map (carried_chain r) a.chains) ≡ map entry_points a.chains =
+          map-map entry_points (carried_chain r) a.chains
+          ∙ map_agree_all (λ c. entry_points (carried_chain r c)) entry_points (λ c. turns r c.0 ≡ false)
+          (λ c f. ap (λ t. (turned_if t c.1).points) f) a.chains none_turned in
+          strict-permutation points_keys.total entry_points (map (carried_chain r) a.chains) b.chains
+          (strict-map points_cmp entry_points (map (carried_chain r) a.chains)
+          (subst (IsStrictlySortedBy points_cmp) (sym points) (strict-unmap points_cmp entry_points a.chains la.ascending)))
+          lb.ascending h.chains
 
-    images_kept : AllByRecursion (λ c. image nat_cmp r.chains c.0 ≡ c.0) a.chains
-    images_kept =
-        let len : length a.chains ≡ length b.chains = sym (length-map a.chains (carried_chain r)) ∙ ap length carried_is in
-        let left : map (λ (c : ℕ × Chain). image nat_cmp r.chains c.0) a.chains ≡ map (λ (c : ℕ × Chain). c.0) a.chains =
-        sym (map-map (λ (c : ℕ × Chain). c.0) (carried_chain r) a.chains) ∙ ap (map (λ (c : ℕ × Chain). c.0)) carried_is ∙ tb.tlids
-        ∙ ap up_to (sym len) ∙ sym ta.tlids in
-        map-equal_all (λ (c : ℕ × Chain). image nat_cmp r.chains c.0) (λ (c : ℕ × Chain). c.0) a.chains left
+      images_kept : AllByRecursion (λ c. image nat_cmp r.chains c.0 ≡ c.0) a.chains
+      images_kept =
+          let len : length a.chains ≡ length b.chains = sym (length-map a.chains (carried_chain r)) ∙ ap length carried_is in
+          let left : map (λ (c : ℕ × Chain). image nat_cmp r.chains c.0) a.chains ≡ map (λ (c : ℕ × Chain). c.0) a.chains =
+          sym (map-map (λ (c : ℕ × Chain). c.0) (carried_chain r) a.chains) ∙ ap (map (λ (c : ℕ × Chain). c.0)) carried_is ∙ tb.tlids
+          ∙ ap up_to (sym len) ∙ sym ta.tlids in
+          map-equal_all (λ (c : ℕ × Chain). image nat_cmp r.chains c.0) (λ (c : ℕ × Chain). c.0) a.chains left
 
-    keeps_chains : KeepsChains r a b
-    keeps_chains = sym carried_is ∙ map_agree_all (carried_chain r) (kept_entry r)
-        (λ c. (turns r c.0 ≡ false) × (image nat_cmp r.chains c.0 ≡ c.0))
-        (λ c s i. (s.1 i, ap (λ t. renumbered r (turned_if t c.1)) s.0 i)) a.chains
-        (all_both (λ c. turns r c.0 ≡ false) (λ c. image nat_cmp r.chains c.0 ≡ c.0) a.chains none_turned images_kept)
+      keeps_chains : KeepsChains r a b
+      keeps_chains = sym carried_is ∙ map_agree_all (carried_chain r) (kept_entry r)
+          (λ c. (turns r c.0 ≡ false) × (image nat_cmp r.chains c.0 ≡ c.0))
+          (λ c s i. (s.1 i, ap (λ t. renumbered r (turned_if t c.1)) s.0 i)) a.chains
+          (all_both (λ c. turns r c.0 ≡ false) (λ c. image nat_cmp r.chains c.0 ≡ c.0) a.chains none_turned images_kept)
 
-    pub least_equal : a ≡ b
-    least_equal = kept_equal keeps_chains
+      pub least_equal : a ≡ b
+      least_equal = kept_equal keeps_chains

@@ -48,7 +48,8 @@ pub all_themselves : {X : Type 0} (xs : List X) → AllByRecursion (λ x. Among 
 all_themselves [] = tt
 all_themselves (x ∷ xs) = (inl refl, all_weaker (λ y. Among y xs) (λ y. Among y (x ∷ xs)) (λ y m. inr m) xs (all_themselves xs))
 
-module _ (r : Renumbering) (a b : County) (h : Carries r a b) (asc : IsAscending b) (ca : IsClosed a) (ta : IsArranged a) (tb : IsArranged b)
+module _ (r : Renumbering) (a b : County) (h : Carries r a b) (asc : IsAscending b) (ca : IsClosed a) (ta : IsArranged a)
+    (tb : IsArranged b)
     (e : KeepsChains r a b) where
   -- nodes
   node_injective : (n m : ℕ) → Known nat_cmp (nodes a) n → Known nat_cmp (nodes a) m → image nat_cmp r.nodes n ≡ image nat_cmp r.nodes m

@@ -50,7 +50,8 @@ module _ {X : Type 0} (p : X → Bool) where
     where
       go : (b : Bool) → (b || list_any p xs) ≡ false
           → (list_any p xs ≡ false → (position_or_len p xs ≡ length xs) × (position_or_len p (xs ++ (x ∷ [])) ≡ length xs))
-          → (cond (not b) (1 + position_or_len p xs) 0 ≡ suc (length xs)) × (cond (not b) (1 + position_or_len p (xs ++ (x ∷ []))) 0 ≡ suc (length xs))
+          → (cond (not b) (1 + position_or_len p xs) 0 ≡ suc (length xs)) ×
+          (cond (not b) (1 + position_or_len p (xs ++ (x ∷ []))) 0 ≡ suc (length xs))
       go true e ih = cc
       go false e ih =
           let h = ih e in

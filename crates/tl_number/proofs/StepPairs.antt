@@ -90,7 +90,8 @@ module _ (side : PolygonSide) (cenid : List ℕ) (polyid : ℕ) (same : cenid �
   pub key_there : key_on side ≡ (cenid, polyid) ∷ []
   key_there = sym (λ i. key_under (same i) (there i))
 
-  pub side_numbered : (place : ℕ) (seen later : List PolygonKey) → Some place ≡ position (λ other. is_eq (key_cmp (cenid, polyid) other)) seen
+  pub side_numbered : (place : ℕ) (seen later : List PolygonKey) → Some place ≡ position (λ other. is_eq (key_cmp (cenid, polyid) other))
+      seen
       → record { cenid = cenid; polyid = Some (place + 1) } ≡ side_among (first_seen_after key_cmp seen later) side
   side_numbered place seen later e =
       ap side_of (sym (key_seen (first_seen_after key_cmp seen later) (cenid, polyid) place

@@ -1,60 +1,11 @@
--- The points of steps, point by point: those of a turned chain from its end, and the comparison of two.
-use Rattle.std.proofs.Common.{◌≡◌, ◌≢◌, ◌<◌, ◌≤◌, ◌-◌, ℕ, zero, suc, List, [], ◌∷◌, length, drop, reverse, Bool, true, false, Ordering}
+-- Two lists compared, item by item.
+use Rattle.std.proofs.Common.{◌≡◌, ◌≢◌, ◌<◌, ◌≤◌, ℕ, zero, suc, List, [], ◌∷◌, length, drop, Ordering}
 use Rattle.std.proofs.Common.{Less, Equal}
-use Rattle.std.proofs.Common.{Greater, Option, Some, None, option_map, slice_get, sym, refl, ap, ap₂, ◌∙◌, arith}
-use Rattle.std.proofs.lemmas.List.{drop_all, get_or-reverse, length-reverse}
-use Rattle.std.proofs.lemmas.Option.{slice_get-get_or, slice_get_past}
+use Rattle.std.proofs.Common.{Greater, None, slice_get, sym, refl, ap, ap₂, ◌∙◌, arith}
+use Rattle.std.proofs.lemmas.List.{drop_all}
 use Rattle.std.specs.Cmp.Lexicographic.{slice_cmp}
 use Rattle.std.specs.Option.{option_cmp}
 use Rattle.std.specs.Ordering.{ordering_then}
-use Rattle.tl_shape.specs.Chain.{Chain}
-use Rattle.tl_shape.specs.Turned.{turned_if}
-use Rattle.tl_county.specs.ChartWords.{chain_at, points_of}
-use Rattle.tl_county.specs.County.{County}
-use Rattle.tl_number.specs.Steps.{step_points}
-use Rattle.tl_number.specs.declared.step.Step.{Step}
-
--- the element at a place of a reversed list stands as far from the end
-pub get-reverse : {X : Type 0} (xs : List X) (i : ℕ) → i < length xs → slice_get (reverse xs) i ≡ slice_get xs (length xs - 1 - i)
-get-reverse [] i h = absurd (omega (arith, h))
-get-reverse {X} (x ∷ xs) i h =
-    let turned : List X = reverse (x ∷ xs) in
-    let len : length (reverse (x ∷ xs)) ≡ length (x ∷ xs) = length-reverse (x ∷ xs) in
-    slice_get-get_or (reverse (x ∷ xs)) i x (omega (arith, len, h))
-    ∙ ap Some (get_or-reverse (x ∷ xs) i x h)
-    ∙ sym (slice_get-get_or (x ∷ xs) (length (x ∷ xs) - 1 - i) x (omega (arith, h)))
-
-module _ (county : County) (s : Step) where
-  turned_points : s.turned ≡ true → (o : Option Chain) → points_of (option_map (turned_if s.turned) o) ≡ reverse (points_of o)
-  turned_points t None = refl
-  turned_points t (Some c) = ap (λ b. (turned_if b c).points) t
-
-  kept_points : s.turned ≡ false → (o : Option Chain) → points_of (option_map (turned_if s.turned) o) ≡ points_of o
-  kept_points t None = refl
-  kept_points t (Some c) = ap (λ b. (turned_if b c).points) t
-
-  pub point_kept : s.turned ≡ false → (i : ℕ) → slice_get (points_of (chain_at county s.place)) i ≡ slice_get (step_points county s) i
-  point_kept t i = ap (λ ps. slice_get ps i) (sym (kept_points t (chain_at county s.place)))
-
-  pub point_turned : s.turned ≡ true → (i : ℕ) → i < length (points_of (chain_at county s.place))
-      → slice_get (points_of (chain_at county s.place)) (length (points_of (chain_at county s.place)) - 1 - i) ≡ slice_get
-      (step_points county s) i
-  point_turned t i h =
-      sym (ap (λ ps. slice_get ps i) (turned_points t (chain_at county s.place)) ∙ get-reverse (points_of (chain_at county s.place)) i h)
-
-  pub no_point : s.turned ≡ true → (i : ℕ) → length (points_of (chain_at county s.place)) ≤ i → None ≡ slice_get (step_points county s) i
-  no_point t i h =
-      sym (ap (λ ps. slice_get ps i) (turned_points t (chain_at county s.place))
-      ∙ slice_get_past (reverse (points_of (chain_at county s.place))) i
-      (let len = length-reverse (points_of (chain_at county s.place)) in omega (arith, len, h)))
-
-  points_counted : (b : Bool) → s.turned ≡ b → length (step_points county s) ≡ length (points_of (chain_at county s.place))
-  points_counted true t = ap length (turned_points t (chain_at county s.place)) ∙ length-reverse (points_of (chain_at county s.place))
-  points_counted false t = ap length (kept_points t (chain_at county s.place))
-
-  -- turning keeps how many there are
-  pub point_count : length (step_points county s) ≡ length (points_of (chain_at county s.place))
-  point_count = points_counted s.turned refl
 
 module _ {X : Type 0} (R : X → X → Ordering) where
   rest_greater : (i : ℕ) (xs : List X) → i < length xs → slice_cmp R (drop i xs) [] ≡ Greater

@@ -73,33 +73,36 @@ module _ (county : County) (steps : List Step) (is : IsCounty county) (whole : A
         let r = renaming_of county order in
         ap (map (ends_among seen)) (met_along ends_of met read)
         ∙ map-map (ends_among seen) ends_of bodies
-        ∙ ap (λ pairs. map (λ (c : Chain). (option_map (image nat_cmp pairs) c.start_node, option_map (image nat_cmp pairs) c.end_node)) bodies)
+        ∙ ap (λ pairs. map (λ (c : Chain). (option_map (image nat_cmp pairs) c.start_node, option_map (image nat_cmp pairs) c.end_node))
+        bodies)
         (nodes_paired county steps is whole seen nodes_met)
         ∙ sym (map-map ends_of (renumbered r) bodies)
         ∙ ap (map ends_of) (sym (values county steps is whole))
 
-  module _ (met : List (PolygonSide × PolygonSide)) (read : map Some met ≡ map (λ step. option_map sides_of (step_chain county step)) steps) where
-    pub polygons_met : first_seen key_cmp (flat_map polygons_at met) ≡ polygons_in_order county order
-    polygons_met = ap (λ pairs. first_seen key_cmp (flat_map polygons_at pairs)) (met_along sides_of met read)
-        ∙ ap (first_seen key_cmp) (keys_along sides_of polygons_at)
+  module _ (met : List (PolygonSide × PolygonSide)) (read : map Some met ≡ map (λ step. option_map sides_of (step_chain county step)) steps)
+    where
+      pub polygons_met : first_seen key_cmp (flat_map polygons_at met) ≡ polygons_in_order county order
+      polygons_met = ap (λ pairs. first_seen key_cmp (flat_map polygons_at pairs)) (met_along sides_of met read)
+          ∙ ap (first_seen key_cmp) (keys_along sides_of polygons_at)
 
-    pub few_met : length (first_seen key_cmp (flat_map polygons_at met)) < 10 ^ 10
-    few_met = few_polygons county steps is whole (first_seen key_cmp (flat_map polygons_at met)) polygons_met
+      pub few_met : length (first_seen key_cmp (flat_map polygons_at met)) < 10 ^ 10
+      few_met = few_polygons county steps is whole (first_seen key_cmp (flat_map polygons_at met)) polygons_met
 
-    polygon_met : (cenid : List ℕ) (polyid : Option ℕ)
-        → polygon_among (first_seen key_cmp (flat_map polygons_at met)) cenid polyid ≡ renumbered_polygon (renaming_of county order) cenid polyid
-    polygon_met cenid None = refl
-    polygon_met cenid (Some polyid) =
-        ap (λ pairs. side_of (image key_cmp pairs (cenid, polyid)))
-        (keys_paired county steps is whole (first_seen key_cmp (flat_map polygons_at met)) polygons_met)
+      polygon_met : (cenid : List ℕ) (polyid : Option ℕ)
+          → polygon_among (first_seen key_cmp (flat_map polygons_at met)) cenid polyid ≡ renumbered_polygon (renaming_of county order) cenid
+          polyid
+      polygon_met cenid None = refl
+      polygon_met cenid (Some polyid) =
+          ap (λ pairs. side_of (image key_cmp pairs (cenid, polyid)))
+          (keys_paired county steps is whole (first_seen key_cmp (flat_map polygons_at met)) polygons_met)
 
-    pub sides_met : map (sides_among (first_seen key_cmp (flat_map polygons_at met))) met
-        ≡ map sides_of (entry_values (stepped county steps).chains)
-    sides_met =
-        let seen = first_seen key_cmp (flat_map polygons_at met) in
-        let r = renaming_of county order in
-        ap (map (sides_among seen)) (met_along sides_of met read)
-        ∙ map-map (sides_among seen) sides_of bodies
-        ∙ (λ i. map (λ (c : Chain). (polygon_met c.left.cenid c.left.polyid i, polygon_met c.right.cenid c.right.polyid i)) bodies)
-        ∙ sym (map-map sides_of (renumbered r) bodies)
-        ∙ ap (map sides_of) (sym (values county steps is whole))
+      pub sides_met : map (sides_among (first_seen key_cmp (flat_map polygons_at met))) met
+          ≡ map sides_of (entry_values (stepped county steps).chains)
+      sides_met =
+          let seen = first_seen key_cmp (flat_map polygons_at met) in
+          let r = renaming_of county order in
+          ap (map (sides_among seen)) (met_along sides_of met read)
+          ∙ map-map (sides_among seen) sides_of bodies
+          ∙ (λ i. map (λ (c : Chain). (polygon_met c.left.cenid c.left.polyid i, polygon_met c.right.cenid c.right.polyid i)) bodies)
+          ∙ sym (map-map sides_of (renumbered r) bodies)
+          ∙ ap (map sides_of) (sym (values county steps is whole))

@@ -9,19 +9,20 @@ ghost use Rattle.tl_number.specs.Steps.{AreSteps, arrangement_of};
 ghost use Rattle.tl_number.specs.ViewFacts.{NamesEachOnce};
 ghost use Rattle.tl_number.specs.CanonCounties.{IsCanonCounty};
 ghost use Rattle.tl_profile.specs.Profile.{IsInProfile};
+ghost use Rattle.tl_profile.specs.ShapeOrder.{IsShapeOrder};
 
 use crate::arranged::Arranged;
 use crate::canon_county::{CanonCounty, CanonCountyIn};
 use crate::landmark_order::arrange_landmarks;
 use crate::name_order::arrange_names;
-use crate::order::ascending_steps;
+use crate::order::steps_in_order;
 use crate::polygon_order::arrange_polygons;
 use crate::step::Step;
 use crate::walks::number_nodes;
 use std::alloc::{AllocError, Global};
 use tl_cert::Renaming;
 use tl_county::{Chart, CountyIn};
-use tl_profile::{Admitted, AdmittedIn};
+use tl_profile::{Admitted, AdmittedIn, ShapeOrder, order_by_shape};
 
 /// A county whose polygons stand on sides, in the arrangement of these steps, each of which is another chain and which are
 /// all of its chains.
@@ -35,7 +36,8 @@ pub fn arrange<C: Chart + Drop>(
     requires sides { AllKeysStandIn (polygons_along (C.county chart).chains) (polygon_keys (C.county chart)) }
     ensures source { IfOk result (λ view. view.chart ≡ chart) }
     ensures order { IfOk result (λ view. view.steps ≡ steps) }
-    ensures county { IfOk result (λ view. ⟦<Arranged<C> as Chart>⟧.county view ≡ arranged (C.county chart) (arrangement_of (C.county chart) steps.items)) }
+    ensures county { IfOk result
+        (λ view. ⟦<Arranged<C> as Chart>⟧.county view ≡ arranged (C.county chart) (arrangement_of (C.county chart) steps.items)) }
 {
     let nodes = number_nodes(alloc, &chart, &steps)?;
     let polygons = arrange_polygons(alloc, &chart, &steps)?;
@@ -51,6 +53,33 @@ pub fn arrange<C: Chart + Drop>(
     })
 }
 
+/// The canonical county of a county in the profile, from the order of its chains by their shapes: it is that of the ascending
+/// arrangement, its chains run and stand as their points tell, all other numbers follow from that, and it is the same map.
+///
+/// # Errors
+///
+/// Only that memory was lacking.
+pub fn canonise_in_order<C: Chart + Drop>(
+    alloc: Global,
+    chart: C,
+    order: &ShapeOrder,
+) -> Result<CanonCounty<C>, AllocError>
+    requires profile { IsInProfile (C.county chart) }
+    requires shapes { IsShapeOrder (C.county chart) order.now }
+    ensures source { IfOk result (λ canon. canon.view.chart ≡ chart) }
+    ensures county { IfOk result
+        (λ canon. ⟦<CanonCounty<C> as Chart>⟧.county canon ≡ arranged (C.county chart) (ascending (C.county chart))) }
+    ensures order { IfOk result (λ canon. arrangement_of (C.county chart) canon.view.steps.items ≡ ascending (C.county chart)) }
+    ensures carried { IfOk result
+        (λ canon. Carries (renaming_of (C.county chart) (ascending (C.county chart))) (C.county chart)
+        (⟦<CanonCounty<C> as Chart>⟧.county canon)) }
+    ensures canonical { IfOk result (λ canon. IsCanonCounty (⟦<CanonCounty<C> as Chart>⟧.county canon)) }
+{
+    let steps = steps_in_order(alloc, order)?;
+    let view = arrange(alloc, chart, steps)?;
+    Ok(CanonCounty { view })
+}
+
 /// The canonical county of a county in the profile, however it is kept: it is that of the ascending arrangement, its chains
 /// run and stand as their points tell, all other numbers follow from that, and it is the same map.
 pub fn canonise_chart<C: Chart + Drop>(
@@ -59,14 +88,16 @@ pub fn canonise_chart<C: Chart + Drop>(
 ) -> Result<CanonCounty<C>, AllocError>
     requires profile { IsInProfile (C.county chart) }
     ensures source { IfOk result (λ canon. canon.view.chart ≡ chart) }
-    ensures county { IfOk result (λ canon. ⟦<CanonCounty<C> as Chart>⟧.county canon ≡ arranged (C.county chart) (ascending (C.county chart))) }
+    ensures county { IfOk result
+        (λ canon. ⟦<CanonCounty<C> as Chart>⟧.county canon ≡ arranged (C.county chart) (ascending (C.county chart))) }
     ensures order { IfOk result (λ canon. arrangement_of (C.county chart) canon.view.steps.items ≡ ascending (C.county chart)) }
-    ensures carried { IfOk result (λ canon. Carries (renaming_of (C.county chart) (ascending (C.county chart))) (C.county chart) (⟦<CanonCounty<C> as Chart>⟧.county canon)) }
+    ensures carried { IfOk result
+        (λ canon. Carries (renaming_of (C.county chart) (ascending (C.county chart))) (C.county chart)
+        (⟦<CanonCounty<C> as Chart>⟧.county canon)) }
     ensures canonical { IfOk result (λ canon. IsCanonCounty (⟦<CanonCounty<C> as Chart>⟧.county canon)) }
 {
-    let steps = ascending_steps(alloc, &chart)?;
-    let view = arrange(alloc, chart, steps)?;
-    Ok(CanonCounty { view })
+    let order = order_by_shape(alloc, &chart)?;
+    canonise_in_order(alloc, chart, &order)
 }
 
 /// The canonical county of an admitted county, and the renaming that carries the one onto the other.
@@ -78,7 +109,8 @@ pub fn canonise<C: Chart + Drop>(
     alloc: Global,
     admitted: Admitted<C>,
 ) -> Result<(CanonCounty<C>, Renaming), AllocError>
-    ensures county { IfOk result (λ pair. ⟦<CanonCounty<C> as Chart>⟧.county pair.0 ≡ arranged (C.county admitted) (ascending (C.county admitted))) }
+    ensures county { IfOk result
+        (λ pair. ⟦<CanonCounty<C> as Chart>⟧.county pair.0 ≡ arranged (C.county admitted) (ascending (C.county admitted))) }
     ensures renaming { IfOk result (λ pair. pair.1 ≡ renaming_of (C.county admitted) (ascending (C.county admitted))) }
     ensures carried { IfOk result (λ pair. Carries pair.1 (C.county admitted) (⟦<CanonCounty<C> as Chart>⟧.county pair.0)) }
     ensures canonical { IfOk result (λ pair. IsCanonCounty (⟦<CanonCounty<C> as Chart>⟧.county pair.0)) }
@@ -97,9 +129,13 @@ pub fn canonise_in<'a>(
     alloc: Global,
     admitted: AdmittedIn<'a>,
 ) -> Result<(CanonCountyIn<'a>, Renaming), AllocError>
-    ensures county { IfOk result (λ pair. ⟦<CanonCounty<CountyIn<'a>> as Chart>⟧.county pair.0 ≡ arranged (the_county_in admitted.entry) (ascending (the_county_in admitted.entry))) }
-    ensures renaming { IfOk result (λ pair. pair.1 ≡ renaming_of (the_county_in admitted.entry) (ascending (the_county_in admitted.entry))) }
-    ensures carried { IfOk result (λ pair. Carries pair.1 (the_county_in admitted.entry) (⟦<CanonCounty<CountyIn<'a>> as Chart>⟧.county pair.0)) }
+    ensures county { IfOk result
+        (λ pair. ⟦<CanonCounty<CountyIn<'a>> as Chart>⟧.county pair.0
+        ≡ arranged (the_county_in admitted.entry) (ascending (the_county_in admitted.entry))) }
+    ensures renaming { IfOk result
+        (λ pair. pair.1 ≡ renaming_of (the_county_in admitted.entry) (ascending (the_county_in admitted.entry))) }
+    ensures carried { IfOk result
+        (λ pair. Carries pair.1 (the_county_in admitted.entry) (⟦<CanonCounty<CountyIn<'a>> as Chart>⟧.county pair.0)) }
     ensures canonical { IfOk result (λ pair. IsCanonCounty (⟦<CanonCounty<CountyIn<'a>> as Chart>⟧.county pair.0)) }
 {
     canonise(alloc, admitted)

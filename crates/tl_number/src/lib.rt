@@ -23,7 +23,7 @@ mod tables;
 mod walks;
 
 pub use arranged::Arranged;
-pub use arranging::{arrange, canonise, canonise_chart, canonise_in};
+pub use arranging::{arrange, canonise, canonise_chart, canonise_in, canonise_in_order};
 pub use canon_county::{CanonCounty, CanonCountyIn};
 pub use laws::{
     a_packed_county_is_read_back, accepted_or_one_refusal, an_arrangement_gives_an_arranged_list,

@@ -12,7 +12,7 @@ use Rattle.tl_profile.specs.declared.fault.ProfileFault.{ProfileFault}
 use Rattle.tl_profile.specs.declared.fault.ProfileFault.TheVariants.{OwnReverse, SameShape, PolygonWithoutChain, Memory}
 use Rattle.tl_profile.specs.Profile.{is_own_reverse, is_clause_broken, profile_fault_place, IsInProfile, IsFirstBrokenClause}
 use Rattle.tl_profile.specs.Shapes.{TlidPair, pair_cmp, pair_refused}
-use Rattle.tl_profile.specs.Sides.{polygon_refused}
+use Rattle.tl_county.specs.CountyRules.{is_without_chain}
 
 -- orders of lists of one or two numbers
 single : (a : Ordering) → is_gt a ≡ false → is_gt (ordering_then (ordering_then a Equal) Equal) ≡ false
@@ -56,7 +56,7 @@ module _ (county : County) where
         least Memory t = absurd (false≢true t)
 
     module _ (no_pair : (p : TlidPair) → pair_refused county p ≡ false) where
-      pub first_polygon : (key : PolygonKey) → IsLeastPassing key_cmp (polygon_refused county) (Some key)
+      pub first_polygon : (key : PolygonKey) → IsLeastPassing key_cmp (is_without_chain county) (Some key)
           → IsFirstBrokenClause county (PolygonWithoutChain key.0 key.1)
       first_polygon key h = record { there = h.0; least = least }
         where
@@ -67,7 +67,7 @@ module _ (county : County) where
           least (PolygonWithoutChain c q) t = keyed (slice_cmp nat_cmp key.0 c) (nat_cmp key.1 q) (h.1 (c, q) t)
           least Memory t = absurd (false≢true t)
 
-      pub all_clauses : ((key : PolygonKey) → polygon_refused county key ≡ false) → IsInProfile county
+      pub all_clauses : ((key : PolygonKey) → is_without_chain county key ≡ false) → IsInProfile county
       all_clauses no_polygon (OwnReverse tlid) = none tlid
       all_clauses no_polygon (SameShape first second) = no_pair (first, second)
       all_clauses no_polygon (PolygonWithoutChain cenid polyid) = no_polygon (cenid, polyid)

@@ -9,5 +9,6 @@ pub mod Lessers
 pub mod Pairs
 pub mod ShapesOfCounty
 pub mod SideKeys
-pub mod ShapeOrder
+pub mod KeysInOrder
 pub mod FirstClauses
+pub mod FewChains

@@ -1,17 +1,19 @@
--- The order of placed shapes is the order of their shapes.
+-- The order of placed shapes is the order of their walks.
 use Rattle.std.proofs.Common.{◌≡◌, ◌∷◌, [], List, map, false, Ordering, Less, Equal}
-use Rattle.std.proofs.Common.{Greater, is_gt, refl, sym, ap, ap₂, ◌∙◌, subst, nat_cmp}
+use Rattle.std.proofs.Common.{Greater, is_gt, refl, sym, ap, ap₂, ◌∙◌, subst, nat_cmp, IsPermutation}
 use Rattle.std.specs.Cmp.{IsTotalOrder}
 use Rattle.std.specs.List.{AllByRecursion}
 use Rattle.std.specs.Ordering.{ordering_then}
 use Rattle.std.proofs.lemmas.Cmp.{nat_cmp_total, then_total, on_total}
+use Rattle.std.proofs.lemmas.List.Sorted.{IsPermutation-map}
 use Rattle.tl_shape.specs.PointOrder.{point_cmp, points_cmp}
 use Rattle.tl_county.specs.County.{County}
 use Rattle.tl_county.specs.Orders.{IsInOrder}
 use Rattle.tl_county.proofs.KeyOrders.{point_keys, points_keys, pair_keys}
 use Rattle.tl_county.proofs.Keys.{IsKeyOrder, nat_keys}
 use Rattle.tl_profile.specs.Shapes.{shape_key_cmp, pair_cmp}
-use Rattle.tl_profile.specs.PlacedShapes.{HasHead, key_of_shape, placed_cmp, placed_key_cmp, whole_shape}
+use Rattle.tl_profile.specs.ShapeOrder.{IsShapeOrder, least_walks, walk_cmp}
+use Rattle.tl_profile.specs.PlacedShapes.{HasHead, placed_cmp, placed_key_cmp, placed_walk, whole_shape}
 use Rattle.tl_profile.specs.declared.shapes.PlacedShape.{PlacedShape}
 
 pub shape_key_keys : IsKeyOrder shape_key_cmp
@@ -24,7 +26,7 @@ pub placed_key_total : (county : County) → IsTotalOrder (placed_key_cmp county
 placed_key_total county =
     then_total (then_total (on_total (λ (s : PlacedShape). s.first) point_keys.total)
     (then_total (on_total (λ (s : PlacedShape). s.second) point_keys.total) (on_total (whole_shape county) points_keys.total)))
-    (on_total (λ (s : PlacedShape). s.tlid) nat_cmp_total)
+    (on_total (λ (s : PlacedShape). s.walk.place) nat_cmp_total)
 
 -- what decided once decides again
 again : (a b c : Ordering) → ordering_then a (ordering_then b (ordering_then a (ordering_then b c))) ≡ ordering_then a (ordering_then b c)
@@ -44,16 +46,26 @@ placed-whole county a b h k =
     ∙ again (point_cmp a.first b.first) (point_cmp a.second b.second) (points_cmp h.rest k.rest)
     ∙ sym same
 
--- so a list in their order is in the order of the shapes and TLIDs
-pub keys_in_order : (county : County) (shapes : List PlacedShape) → AllByRecursion (HasHead county) shapes
-    → IsInOrder (placed_key_cmp county) shapes → IsInOrder shape_key_cmp (map (key_of_shape county) shapes)
-keys_in_order county [] a h = tt
-keys_in_order county (s ∷ ss) a h = (each ss a.1 h.0, keys_in_order county ss a.1 h.1)
+-- so the walks of a list in their order are in order
+pub walks_in_order : (county : County) (shapes : List PlacedShape) → AllByRecursion (HasHead county) shapes
+    → IsInOrder (placed_key_cmp county) shapes → IsInOrder (walk_cmp county) (map placed_walk shapes)
+walks_in_order county [] a h = tt
+walks_in_order county (s ∷ ss) a h = (each ss a.1 h.0, walks_in_order county ss a.1 h.1)
   where
     each : (ts : List PlacedShape) → AllByRecursion (HasHead county) ts → AllByRecursion (λ t. is_gt (placed_key_cmp county s t) ≡ false) ts
-        → AllByRecursion (λ k. is_gt (shape_key_cmp (key_of_shape county s) k) ≡ false) (map (key_of_shape county) ts)
+        → AllByRecursion (λ w. is_gt (walk_cmp county (placed_walk s) w) ≡ false) (map placed_walk ts)
     each [] b g = tt
     each (t ∷ ts) b g = (
-      subst (λ o. is_gt (ordering_then o (nat_cmp s.tlid t.tlid)) ≡ false) (placed-whole county s t a.0 b.0) g.0,
+      subst (λ o. is_gt (ordering_then o (nat_cmp s.walk.place t.walk.place)) ≡ false) (placed-whole county s t a.0 b.0) g.0,
       each ts b.1 g.1,
     )
+
+-- The walks of all placed shapes, sorted, are the order of the county's shapes.
+pub sorted_walks : (county : County) (shapes sorted : List PlacedShape) → map placed_walk shapes ≡ least_walks county
+    → IsPermutation shapes sorted → AllByRecursion (HasHead county) sorted → IsInOrder (placed_key_cmp county) sorted
+    → IsShapeOrder county (map placed_walk sorted)
+sorted_walks county shapes sorted walks p heads ordered =
+    record {
+      all = subst (λ ws. IsPermutation ws (map placed_walk sorted)) walks (IsPermutation-map placed_walk shapes sorted p);
+      in_order = walks_in_order county sorted heads ordered;
+    }

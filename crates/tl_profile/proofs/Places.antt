@@ -15,8 +15,6 @@ use Rattle.tl_county.specs.County.{County}
 use Rattle.tl_county.specs.CountyRules.{IsCounty, tlids}
 use Rattle.tl_county.proofs.FirstFault.{Among, all_among}
 use Rattle.tl_profile.specs.Shapes.{least_points, points_at, points_from}
-use Rattle.tl_profile.specs.PlacedShapes.{points_along}
-use Rattle.tl_profile.specs.declared.shapes.ChainWalk.{ChainWalk}
 
 -- an item, and the list before and behind it
 pub record StandsAt {X : Type 0} (xs : List X) (place : ℕ) : Type 0 where
@@ -121,13 +119,6 @@ shape_two county is place h =
     behind : (xs : List (ℕ × Chain)) (y : ℕ × Chain) (zs : List (ℕ × Chain)) → Among y (xs ++ (y ∷ zs))
     behind [] y zs = inl refl
     behind (x ∷ xs) y zs = inr (behind xs y zs)
-
--- a walk whose direction is the lesser one comes to the shape
-pub walk_is_shape : (county : County) (place : ℕ) (walk : ChainWalk) → walk.place ≡ place
-    → walk.turned ≡ is_lt (points_cmp (reverse (points_at county place)) (points_at county place))
-    → points_along county walk ≡ least_points (points_at county place)
-walk_is_shape county place walk p t = ap (λ q. points_from walk.turned (points_at county q)) p
-    ∙ ap (λ b. points_from b (points_at county place)) t
 
 pub some-same : {X : Type 0} (o : Option X) (x y : X) → o ≡ Some x → o ≡ Some y → x ≡ y
 some-same o x y e f = cc

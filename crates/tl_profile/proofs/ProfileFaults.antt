@@ -5,6 +5,7 @@ use Rattle.std.proofs.lemmas.Bool.{false≢true, and_parts, eqb-true}
 use Rattle.std.specs.List.{list_any}
 use Rattle.tl_layout.specs.declared.type_p.BodyP.{BodyP}
 use Rattle.tl_shape.specs.Chain.{Chain}
+use Rattle.tl_county.specs.CountyRules.{has_body}
 use Rattle.tl_county.specs.County.{County}
 use Rattle.tl_county.specs.CountyRules.{polygons_along}
 use Rattle.tl_county.specs.Orders.{stands_in}
@@ -16,7 +17,14 @@ use Rattle.tl_county.proofs.Keys.{same-true}
 use Rattle.tl_county.proofs.Members.{any_among, among-map, among-pieces}
 use Rattle.tl_profile.specs.declared.fault.ProfileFault.{ProfileFault}
 use Rattle.tl_profile.specs.declared.fault.ProfileFault.TheVariants.{OwnReverse, SameShape, PolygonWithoutChain, Memory}
-use Rattle.tl_profile.specs.Profile.{same_points, same_shape, is_own_reverse, are_one_shape, has_body, is_clause_broken, profile_fault_place}
+use Rattle.tl_profile.specs.Profile.{
+  same_points,
+  same_shape,
+  is_own_reverse,
+  are_one_shape,
+  is_clause_broken,
+  profile_fault_place,
+}
 use Rattle.tl_profile.specs.Profile.{IsInProfile, IsFirstBrokenClause}
 
 -- the fault at a place
@@ -147,9 +155,11 @@ pub one_first_clause : (county : County) (f g : ProfileFault) → IsFirstBrokenC
 one_first_clause county = one_first (is_clause_broken county) profile_fault_place fault_at fault_at-place
 
 -- by computing, for a given county
-pub profile_computed : (county : County) → none_there (is_clause_broken county) profile_fault_place (all_faults county) ≡ true → IsInProfile county
+pub profile_computed : (county : County) → none_there (is_clause_broken county) profile_fault_place (all_faults county) ≡ true → IsInProfile
+    county
 profile_computed county e = none_computed (is_clause_broken county) profile_fault_place (all_faults county) (broken_among county) e
 
 pub first_clause_computed : (county : County) (fault : ProfileFault)
     → least_there (is_clause_broken county) profile_fault_place fault (all_faults county) ≡ true → IsFirstBrokenClause county fault
-first_clause_computed county fault e = first_computed (is_clause_broken county) profile_fault_place (all_faults county) (broken_among county) fault e
+first_clause_computed county fault e = first_computed (is_clause_broken county) profile_fault_place (all_faults county)
+    (broken_among county) fault e

@@ -9,6 +9,7 @@ use Rattle.std.specs.List.{list_any}
 use Rattle.tl_layout.specs.Coordinates.{Coordinates}
 use Rattle.tl_layout.specs.declared.type_p.BodyP.{BodyP}
 use Rattle.tl_shape.specs.Chain.{Chain}
+use Rattle.tl_county.specs.CountyRules.{has_body}
 use Rattle.tl_county.specs.County.{County}
 use Rattle.tl_county.specs.CountyRules.{IsCounty, polygons_along, chain_polygons}
 use Rattle.tl_county.specs.Orders.{stands_in, times}
@@ -22,7 +23,7 @@ use Rattle.tl_county.proofs.Keys.{Known, same-true, same-itself}
 use Rattle.tl_county.proofs.Sameness.{same-symmetric}
 use Rattle.tl_county.proofs.Members.{among-permutation, among-map, among-unmap, among-pieces, among_any, among_known, known_is_among}
 use Rattle.tl_profile.specs.declared.fault.ProfileFault.TheVariants.{OwnReverse, SameShape, PolygonWithoutChain, Memory}
-use Rattle.tl_profile.specs.Profile.{same_points, same_shape, is_own_reverse, are_one_shape, has_body, IsInProfile}
+use Rattle.tl_profile.specs.Profile.{same_points, same_shape, is_own_reverse, are_one_shape, IsInProfile}
 use Rattle.tl_profile.proofs.ProfileFaults.{own_reverse_entry, AreOneShape, one_shape_entries, body_entry}
 
 -- one shape, forward or reversed

@@ -12,6 +12,7 @@ use Rattle.tl_layout.specs.PolygonSide.{PolygonSide}
 use Rattle.tl_layout.specs.declared.type_p.BodyP.{BodyP}
 use Rattle.tl_shape.specs.Chain.{Chain}
 use Rattle.tl_county.specs.ChartWords.{chain_at}
+use Rattle.tl_county.specs.CountyRules.{has_body}
 use Rattle.tl_county.specs.County.{County}
 use Rattle.tl_county.specs.CountyRules.{IsCounty, chain_polygons, polygons_along}
 use Rattle.tl_county.specs.Keyed.{is_unknown}
@@ -22,7 +23,6 @@ use Rattle.tl_county.proofs.InOrder.{strict-map, in_order-map}
 use Rattle.tl_county.proofs.KeyedLists.{in_order-filter}
 use Rattle.tl_county.proofs.KeyOrders.{key_keys}
 use Rattle.tl_county.proofs.KeySets.{stands_in-distinct}
-use Rattle.tl_profile.specs.Profile.{has_body}
 use Rattle.tl_profile.specs.Sides.{key_if_bodied, keys_on, keys_with_body}
 use Rattle.tl_profile.proofs.Places.{StandsAt, stands_at, ChainStands, chain_stands}
 

@@ -5,21 +5,22 @@ use Rattle.std.specs.Ordering.{nat_cmp, ordering_then}
 use Rattle.tl_layout.specs.Coordinates.{Coordinates}
 use Rattle.tl_shape.specs.PointOrder.{point_cmp, points_cmp}
 use Rattle.tl_county.specs.County.{County}
-use Rattle.tl_profile.specs.Shapes.{ShapeKey, least_points, points_at, points_from}
-use Rattle.tl_profile.specs.declared.shapes.ChainWalk.{ChainWalk}
+use Rattle.tl_profile.specs.Shapes.{ShapeKey}
+use Rattle.tl_profile.specs.ShapeOrder.{key_of_walk, points_along}
+use Rattle.tl_profile.specs.declared.chain_walk.ChainWalk.{ChainWalk}
 use Rattle.tl_profile.specs.declared.shapes.PlacedShape.{PlacedShape}
 
--- the points that a walk comes to
-abbrev pub points_along : County → ChainWalk → List Coordinates
-points_along county walk = points_from walk.turned (points_at county walk.place)
+-- the walk along the chain
+abbrev pub placed_walk : PlacedShape → ChainWalk
+placed_walk shape = shape.walk
 
 -- the whole shape of the chain
 abbrev pub whole_shape : County → PlacedShape → List Coordinates
-whole_shape county shape = least_points (points_at county shape.place)
+whole_shape county shape = points_along county shape.walk
 
 -- the shape with its TLID
 abbrev pub key_of_shape : County → PlacedShape → ShapeKey
-key_of_shape county shape = (whole_shape county shape, shape.tlid)
+key_of_shape county shape = key_of_walk county shape.walk
 
 -- the first two points are those of the shape
 pub record HasHead (county : County) (shape : PlacedShape) : Type 0 where
@@ -31,6 +32,6 @@ abbrev pub placed_cmp : County → PlacedShape → PlacedShape → Ordering
 placed_cmp county a b = ordering_then (point_cmp a.first b.first)
     (ordering_then (point_cmp a.second b.second) (points_cmp (whole_shape county a) (whole_shape county b)))
 
--- the same, and then by the TLID
+-- the same, and then by the place
 abbrev pub placed_key_cmp : County → PlacedShape → PlacedShape → Ordering
-placed_key_cmp county a b = ordering_then (placed_cmp county a b) (nat_cmp a.tlid b.tlid)
+placed_key_cmp county a b = ordering_then (placed_cmp county a b) (nat_cmp a.walk.place b.walk.place)

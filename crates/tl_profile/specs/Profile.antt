@@ -1,14 +1,12 @@
 -- The profile of a county, and where a county falls outside it.
-use Rattle.std.specs.Prelude.{ℕ, ◌≡◌, ◌==◌, List, [], ◌∷◌, reverse, Bool, false, not, ◌&&◌, ◌||◌, nat_lt, is_some}
+use Rattle.std.specs.Prelude.{ℕ, ◌≡◌, ◌==◌, List, [], ◌∷◌, reverse, Bool, false, ◌&&◌, ◌||◌, nat_lt}
 use Rattle.std.specs.List.{list_any}
 use Rattle.std.specs.Ordering.{is_eq}
 use Rattle.tl_layout.specs.Coordinates.{Coordinates}
 use Rattle.tl_county.specs.County.{County}
-use Rattle.tl_county.specs.CountyRules.{polygons_along}
+use Rattle.tl_county.specs.CountyRules.{is_without_chain}
 use Rattle.tl_county.specs.FirstOf.{IsFirst}
-use Rattle.tl_county.specs.Orders.{stands_in}
 use Rattle.tl_shape.specs.PointOrder.{points_cmp}
-use Rattle.tl_county.specs.PolygonKeys.{PolygonKey, key_cmp}
 use Rattle.tl_profile.specs.declared.fault.ProfileFault.{ProfileFault}
 use Rattle.tl_profile.specs.declared.fault.ProfileFault.TheVariants.{OwnReverse, SameShape, PolygonWithoutChain, Memory}
 
@@ -30,16 +28,11 @@ are_one_shape county first second =
     list_any (λ entry. (first == entry.0) && list_any
     (λ other. (second == other.0) && same_shape entry.1.points other.1.points) county.chains) county.chains
 
--- whether the county has a type P record of this polygon
-abbrev pub has_body : County → PolygonKey → Bool
-has_body county key = list_any (λ entry. is_eq (key_cmp key entry.0) && is_some entry.1) county.polygons
-
 -- whether a clause of the profile is broken at a place
 abbrev pub is_clause_broken : County → ProfileFault → Bool
 is_clause_broken county (OwnReverse tlid) = is_own_reverse county tlid
 is_clause_broken county (SameShape first second) = nat_lt first second && are_one_shape county first second
-is_clause_broken county (PolygonWithoutChain cenid polyid) =
-    has_body county (cenid, polyid) && not (stands_in key_cmp (cenid, polyid) (polygons_along county.chains))
+is_clause_broken county (PolygonWithoutChain cenid polyid) = is_without_chain county (cenid, polyid)
 is_clause_broken county Memory = false
 
 -- the clause's number, and then the place: the TLID; the two TLIDs; the CENID's bytes, the POLYID

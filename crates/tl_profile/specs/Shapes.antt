@@ -1,5 +1,5 @@
 -- The shapes of chains: a chain's points, from whichever end they are less.
-use Rattle.std.specs.Prelude.{ℕ, ◌==◌, List, [], ◌∷◌, map, reverse, Bool, cond, ◌&&◌, nat_lt, Option, Some, None}
+use Rattle.std.specs.Prelude.{ℕ, ◌≡◌, ◌==◌, List, [], ◌∷◌, map, reverse, Bool, false, cond, ◌&&◌, nat_lt, Option, Some, None}
 use Rattle.std.specs.List.{list_any}
 use Rattle.std.specs.declared.cmp.Ordering.{Ordering}
 use Rattle.std.specs.Ordering.{is_gt, is_lt, nat_cmp, ordering_then}
@@ -7,7 +7,7 @@ use Rattle.tl_layout.specs.Coordinates.{Coordinates}
 use Rattle.tl_shape.specs.PointOrder.{points_cmp}
 use Rattle.tl_county.specs.ChartWords.{chain_at, points_of}
 use Rattle.tl_county.specs.County.{County}
-use Rattle.tl_profile.specs.Profile.{are_one_shape, same_points}
+use Rattle.tl_profile.specs.Profile.{are_one_shape, is_own_reverse, same_points}
 
 -- points as they stand, or from the other end
 abbrev pub points_from : Bool → List Coordinates → List Coordinates
@@ -44,6 +44,11 @@ pair_cmp p q = ordering_then (nat_cmp p.0 q.0) (nat_cmp p.1 q.1)
 -- whether the profile refuses chains of these TLIDs for having one shape
 abbrev pub pair_refused : County → TlidPair → Bool
 pair_refused county p = nat_lt p.0 p.1 && are_one_shape county p.0 p.1
+
+-- the clauses of shapes hold: no chain is its own reverse, and no two chains have one shape
+pub record HasDistinctShapes (county : County) : Type 0 where
+  pub no_own_reverse : (tlid : ℕ) → is_own_reverse county tlid ≡ false
+  pub no_shared_shape : (pair : TlidPair) → pair_refused county pair ≡ false
 
 -- whether these shapes are one, of a lesser TLID and a greater one
 abbrev pub is_one_shape : List ShapeKey → TlidPair → Bool

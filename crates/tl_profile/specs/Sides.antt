@@ -1,12 +1,8 @@
 -- The polygons on the sides of chains, and those with a type P record.
-use Rattle.std.specs.Prelude.{List, [], map, filter, cond, Option, Some, None, is_some, Bool, not, ◌&&◌}
+use Rattle.std.specs.Prelude.{List, [], map, filter, cond, Option, Some, None, is_some}
 use Rattle.tl_layout.specs.PolygonSide.{PolygonSide}
 use Rattle.tl_layout.specs.declared.type_p.BodyP.{BodyP}
-use Rattle.tl_county.specs.County.{County}
-use Rattle.tl_county.specs.CountyRules.{polygons_along}
-use Rattle.tl_county.specs.Orders.{stands_in}
-use Rattle.tl_county.specs.PolygonKeys.{PolygonKey, key_cmp, key_on}
-use Rattle.tl_profile.specs.Profile.{has_body}
+use Rattle.tl_county.specs.PolygonKeys.{PolygonKey, key_on}
 
 -- the polygon on a side, if there is a side
 abbrev pub keys_on : Option PolygonSide → List PolygonKey
@@ -17,10 +13,6 @@ keys_on (Some side) = key_on side
 abbrev pub key_if_bodied : Option (PolygonKey × Option BodyP) → Option PolygonKey
 key_if_bodied None = None
 key_if_bodied (Some entry) = cond (is_some entry.1) (Some entry.0) None
-
--- whether the profile refuses this polygon for being on no side
-abbrev pub polygon_refused : County → PolygonKey → Bool
-polygon_refused county key = has_body county key && not (stands_in key_cmp key (polygons_along county.chains))
 
 -- the keys of the polygons with a type P record
 abbrev pub keys_with_body : List (PolygonKey × Option BodyP) → List PolygonKey

@@ -4,11 +4,14 @@ ghost use Rattle.std.specs.Prelude.{◌≡◌, ◌≢◌, OnOk, IfOk, IfErr};
 ghost use Rattle.tl_county.specs.TheCounty.{the_county};
 ghost use Rattle.tl_county.specs.TheCountyIn.{the_county_in};
 ghost use Rattle.tl_profile.specs.Profile.{IsFirstBrokenClause, IsInProfile};
+ghost use Rattle.tl_profile.specs.ShapeOrder.{IsShapeOrder};
+ghost use Rattle.tl_profile.specs.Shapes.{HasDistinctShapes};
 ghost use Rattle.tl_profile.specs.declared.fault.ProfileFault.TheVariants.{Memory};
 
 use crate::fault::ProfileFault;
-use crate::shapes::{least_own_reverse, least_same_shape};
-use crate::sides::least_without_chain;
+use crate::shape_order::ShapeOrder;
+use crate::shapes::{least_own_reverse, least_same_shape, ordered_shapes};
+use crate::sides::check_polygons;
 use std::alloc::Global;
 use std::marker::Model;
 use tl_county::{Chart, County, CountyIn};
@@ -17,7 +20,7 @@ use tl_county::{Chart, County, CountyIn};
 /// with a record of type P is on a side of a chain.
 #[derive(Drop)]
 pub struct Admitted<C: Chart = County> {
-    chart: C,
+    pub(crate) chart: C,
 }
 
 impl<C: Chart> Model for Admitted<C> {
@@ -71,23 +74,43 @@ impl<'a> Admitted<CountyIn<'a>> {
     }
 }
 
-/// The three clauses of the profile.
-fn check_profile<C: Chart>(alloc: Global, chart: &C) -> Result<(), ProfileFault>
-    ensures within { OnOk result (IsInProfile (C.county chart.now)) }
+/// The clauses of shapes: no chain is its own reverse, and no two chains have one shape. Where they hold, the order of the
+/// shapes is what was found on the way.
+pub(crate) fn check_shapes<C: Chart>(alloc: Global, chart: &C) -> Result<ShapeOrder, ProfileFault>
+    ensures order { IfOk result (IsShapeOrder (C.county chart.now)) }
+    ensures distinct { IfOk result (λ _. HasDistinctShapes (C.county chart.now)) }
     ensures broken { IfErr result (λ fault. fault ≢ Memory → IsFirstBrokenClause (C.county chart.now) fault) }
 {
     if let Some(tlid) = least_own_reverse(chart) {
         return Err(ProfileFault::OwnReverse { tlid });
     }
-    if let Some((first, second)) = least_same_shape(alloc, chart)? {
+    let shapes = ordered_shapes(alloc, chart)?;
+    if let Some((first, second)) = least_same_shape(chart, &shapes) {
         return Err(ProfileFault::SameShape { first, second });
     }
-    if let Some(key) = least_without_chain(alloc, chart)? {
-        let cenid = key.0;
-        let polyid = key.1;
-        return Err(ProfileFault::PolygonWithoutChain { cenid, polyid });
-    }
-    Ok(())
+    Ok(ShapeOrder::of_shapes(alloc, &shapes)?)
+}
+
+/// Admits a county, however it is kept, if it is in the profile, and hands on the order of its chains by their shapes, which
+/// is found on the way.
+///
+/// # Errors
+///
+/// The first clause that the county breaks, at its least place, or [`ProfileFault::Memory`] where memory was lacking.
+pub fn admit_with_order<C: Chart + Drop>(
+    alloc: Global,
+    chart: C,
+) -> Result<(Admitted<C>, ShapeOrder), ProfileFault>
+    ensures same { IfOk result (λ pair. pair.0 ≡ chart) }
+    ensures within { IfOk result (λ pair. IsInProfile (C.county pair.0)) }
+    ensures order { IfOk result (λ pair. IsShapeOrder (C.county pair.0) pair.1) }
+    ensures broken { IfErr result (λ fault. fault ≢ Memory → IsFirstBrokenClause (C.county chart) fault) }
+    // Of a county in the profile nothing but want of memory is told.
+    ensures succeeds { IsInProfile (C.county chart) → IfErr result (λ fault. fault ≡ Memory) }
+{
+    let order = check_shapes(alloc, &chart)?;
+    check_polygons(alloc, &chart)?;
+    Ok((Admitted { chart }, order))
 }
 
 /// Admits a county, however it is kept, if it is in the profile.
@@ -102,8 +125,8 @@ pub fn admit_chart<C: Chart + Drop>(alloc: Global, chart: C) -> Result<Admitted<
     // Of a county in the profile nothing but want of memory is told.
     ensures succeeds { IsInProfile (C.county chart) → IfErr result (λ fault. fault ≡ Memory) }
 {
-    check_profile(alloc, &chart)?;
-    Ok(Admitted { chart })
+    let (admitted, _) = admit_with_order(alloc, chart)?;
+    Ok(admitted)
 }
 
 /// Admits a county if it is in the profile.

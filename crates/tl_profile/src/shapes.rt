@@ -1,29 +1,22 @@
 //! The shapes of chains, put in order, and which of them are the same.
 
-ghost use Rattle.std.specs.Prelude.{◌≡◌, ◌<◌, Some, length, map, slice_get, reverse, IfOk, IsPermutation};
+ghost use Rattle.std.specs.Prelude.{◌≡◌, ◌<◌, length, map, slice_index, IfOk, IsPermutation};
 ghost use Rattle.std.specs.List.{AllByRecursion};
 ghost use Rattle.std.specs.List.Sorted.{IsStrictlySortedBy};
-ghost use Rattle.std.specs.Ordering.{is_lt, nat_cmp};
-ghost use Rattle.tl_shape.specs.PointOrder.{points_cmp};
+ghost use Rattle.std.specs.Ordering.{nat_cmp};
+ghost use Rattle.tl_county.specs.CountyRules.{tlids};
 ghost use Rattle.tl_county.specs.Keyed.{IsLeastPassing};
 ghost use Rattle.tl_county.specs.Orders.{IsInOrder};
 ghost use Rattle.tl_profile.specs.Profile.{is_own_reverse};
-ghost use Rattle.tl_profile.specs.Shapes.{is_one_shape, lesser, next_pair, pair_cmp, pair_refused, points_at, shape_key_cmp, shape_keys};
-ghost use Rattle.tl_profile.specs.PlacedShapes.{HasHead, key_of_shape, placed_cmp, placed_key_cmp, points_along};
+ghost use Rattle.tl_profile.specs.Shapes.{is_one_shape, lesser, next_pair, pair_cmp, pair_refused, shape_key_cmp};
+ghost use Rattle.tl_profile.specs.ShapeOrder.{IsShapeOrder, least_walk, least_walks};
+ghost use Rattle.tl_profile.specs.PlacedShapes.{HasHead, key_of_shape, placed_cmp, placed_key_cmp, placed_walk};
 
+use crate::chain_walk::{ChainWalk, compare_reverse, compare_walks, point_along, shape_walk};
 use std::alloc::{AllocError, Global};
 use std::cmp::Ordering;
 use tl_county::Chart;
 use tl_layout::Point;
-
-/// A way along a chain's points: from its start node on, or turned, from its end node on.
-#[derive(Clone, Copy)]
-pub(crate) struct ChainWalk {
-    /// Place of the chain in the county.
-    pub(crate) place: usize,
-    /// Whether the walk begins at the end node.
-    pub(crate) turned: bool,
-}
 
 /// A chain with the beginning of its shape, by which most shapes differ. Its shape is the lesser of its points and their
 /// reverse.
@@ -33,57 +26,8 @@ pub(crate) struct PlacedShape {
     pub(crate) first: Point,
     /// The second point of the shape.
     pub(crate) second: Point,
-    /// Place of the chain in the county.
-    pub(crate) place: usize,
-    /// TLID of the chain.
-    pub(crate) tlid: u64,
-}
-
-/// The point that a walk comes to at an index, from 0, or none past its last.
-fn point_along<C: Chart>(chart: &C, walk: ChainWalk, index: usize) -> Option<Point>
-    ensures { result ≡ slice_get (points_along (C.county chart.now) walk) index }
-{
-    if !walk.turned {
-        return chart.point_at(walk.place, index);
-    }
-    let count = chart.point_count_at(walk.place);
-    if index < count {
-        chart.point_at(walk.place, count - 1 - index)
-    } else {
-        None
-    }
-}
-
-/// How the points along one walk stand to those along another: the first that differ decide, and a beginning comes first.
-fn compare_walks<C: Chart>(chart: &C, walk: ChainWalk, other: ChainWalk) -> Ordering
-    ensures { result ≡ points_cmp (points_along (C.county chart.now) walk) (points_along (C.county chart.now) other) }
-{
-    let count = chart.point_count_at(walk.place);
-    for index in 0..count {
-        match point_along(chart, walk, index).cmp(&point_along(chart, other, index)) {
-            Ordering::Equal => {}
-            unequal => return unequal,
-        }
-    }
-    match point_along(chart, other, count) {
-        Some(_) => Ordering::Less,
-        None => Ordering::Equal,
-    }
-}
-
-/// How the points of the chain at a place, taken in reverse, stand to the points as they are.
-fn compare_reverse<C: Chart>(chart: &C, place: usize) -> Ordering
-    ensures { let points = points_at (C.county chart.now) place in result ≡ points_cmp (reverse points) points }
-{
-    let backward = ChainWalk {
-        place,
-        turned: true,
-    };
-    let forward = ChainWalk {
-        place,
-        turned: false,
-    };
-    compare_walks(chart, backward, forward)
+    /// The walk along the chain on which its points are the shape.
+    pub(crate) walk: ChainWalk,
 }
 
 /// The least TLID of a chain whose points are their own reverse.
@@ -91,48 +35,36 @@ pub(crate) fn least_own_reverse<C: Chart>(chart: &C) -> Option<u64>
     ensures { IsLeastPassing nat_cmp (is_own_reverse (C.county chart.now)) result }
 {
     for place in 0..chart.chain_count() {
-        if compare_reverse(chart, place).is_eq() {
+        if compare_reverse(chart, place as u32).is_eq() {
             return chart.tlid_at(place);
         }
     }
     None
 }
 
-/// The walk along which the points of the chain at a place are its shape.
-fn shape_walk<C: Chart>(chart: &C, place: usize) -> ChainWalk
-    ensures place { result.place ≡ place }
-    ensures least { let points = points_at (C.county chart.now) place in result.turned ≡ is_lt (points_cmp (reverse points) points) }
-{
-    ChainWalk {
-        place,
-        turned: compare_reverse(chart, place).is_lt(),
-    }
-}
-
 /// The chain at a place with the beginning of its shape.
-fn placed_shape<C: Chart>(chart: &C, place: usize) -> PlacedShape
+fn placed_shape<C: Chart>(chart: &C, place: u32) -> PlacedShape
     requires { place < length (C.county chart.now).chains }
-    ensures key { slice_get (shape_keys (C.county chart.now)) place ≡ Some (key_of_shape (C.county chart.now) result) }
+    ensures walk { result.walk ≡ least_walk (C.county chart.now) place }
     ensures head { HasHead (C.county chart.now) result }
 {
     let walk = shape_walk(chart, place);
     PlacedShape {
         first: point_along(chart, walk, 0).unwrap(),
         second: point_along(chart, walk, 1).unwrap(),
-        place,
-        tlid: chart.tlid_at(place).unwrap(),
+        walk,
     }
 }
 
 /// The chains with the beginnings of their shapes, by their places.
 fn placed_shapes<C: Chart>(alloc: Global, chart: &C) -> Result<Vec<PlacedShape>, AllocError>
-    ensures keys { IfOk result (λ shapes. map (key_of_shape (C.county chart.now)) shapes.items ≡ shape_keys (C.county chart.now)) }
+    ensures walks { IfOk result (λ shapes. map placed_walk shapes.items ≡ least_walks (C.county chart.now)) }
     ensures heads { IfOk result (λ shapes. AllByRecursion (HasHead (C.county chart.now)) shapes.items) }
 {
     let count = chart.chain_count();
     let mut shapes = Vec::with_capacity(alloc, count)?;
     for place in 0..count {
-        shapes.push(placed_shape(chart, place))?;
+        shapes.push(placed_shape(chart, place as u32))?;
     }
     Ok(shapes)
 }
@@ -149,27 +81,46 @@ fn compare_shapes<C: Chart>(chart: &C, shape: &PlacedShape, other: &PlacedShape)
         Ordering::Equal => {}
         unequal => return unequal,
     }
-    let walk = shape_walk(chart, shape.place);
-    let other_walk = shape_walk(chart, other.place);
-    compare_walks(chart, walk, other_walk)
+    compare_walks(chart, shape.walk, other.walk)
 }
 
-/// How two chains stand by their shapes, and by their TLIDs where the shapes are one.
+/// How two chains stand by their shapes, and by their places where the shapes are one.
 fn compare_placed<C: Chart>(chart: &C, shape: &PlacedShape, other: &PlacedShape) -> Ordering
     ensures { result ≡ placed_key_cmp (C.county chart.now) shape.now other.now }
 {
     match compare_shapes(chart, shape, other) {
-        Ordering::Equal => shape.tlid.cmp(&other.tlid),
+        Ordering::Equal => shape.walk.place.cmp(&other.walk.place),
         unequal => unequal,
     }
 }
 
-/// Puts chains in the order of their shapes, and of their TLIDs where shapes are the same.
+/// Puts chains in the order of their shapes, and of their places where shapes are the same.
 fn order_shapes<C: Chart>(chart: &C, shapes: &mut Vec<PlacedShape>)
     ensures permutation { IsPermutation shapes.old.items shapes.new.items }
     ensures in_order { IsInOrder (placed_key_cmp (C.county chart.now)) shapes.new.items }
 {
     shapes.sort_unstable_by(|shape, other| compare_placed(chart, shape, other));
+}
+
+/// The chains of a county with the beginnings of their shapes, in the order of the shapes.
+pub(crate) fn ordered_shapes<C: Chart>(
+    alloc: Global,
+    chart: &C,
+) -> Result<Vec<PlacedShape>, AllocError>
+    ensures order { IfOk result (λ shapes. IsShapeOrder (C.county chart.now) (map placed_walk shapes.items)) }
+    ensures heads { IfOk result (λ shapes. AllByRecursion (HasHead (C.county chart.now)) shapes.items) }
+{
+    let mut shapes = placed_shapes(alloc, chart)?;
+    order_shapes(chart, &mut shapes);
+    Ok(shapes)
+}
+
+/// The TLID of a chain.
+fn tlid_of<C: Chart>(chart: &C, shape: &PlacedShape) -> u64
+    requires { HasHead (C.county chart.now) shape.now }
+    ensures { result ≡ slice_index (tlids (C.county chart.now)) shape.now.walk.place }
+{
+    chart.tlid_at(shape.walk.place as usize).unwrap()
 }
 
 /// The TLIDs of a chain and the one after it, if their shapes are one.
@@ -184,7 +135,7 @@ fn pair_with_next<C: Chart>(
 {
     match later.split_first() {
         Some((next, _)) if compare_shapes(chart, shape, next).is_eq() => {
-            Some((shape.tlid, next.tlid))
+            Some((tlid_of(chart, shape), tlid_of(chart, next)))
         }
         _ => None,
     }
@@ -217,14 +168,11 @@ fn least_pair<C: Chart>(chart: &C, shapes: &[PlacedShape]) -> Option<(u64, u64)>
 }
 
 /// The least pair of TLIDs of chains whose points are equal, as they are or with one of them reversed; the lesser TLID
-/// is the first.
-pub(crate) fn least_same_shape<C: Chart>(
-    alloc: Global,
-    chart: &C,
-) -> Result<Option<(u64, u64)>, AllocError>
-    ensures { IfOk result (IsLeastPassing pair_cmp (pair_refused (C.county chart.now))) }
+/// is the first. The chains are all of the county's, in the order of their shapes.
+pub(crate) fn least_same_shape<C: Chart>(chart: &C, shapes: &[PlacedShape]) -> Option<(u64, u64)>
+    requires heads { AllByRecursion (HasHead (C.county chart.now)) shapes.now }
+    requires order { IsShapeOrder (C.county chart.now) (map placed_walk shapes.now) }
+    ensures { IsLeastPassing pair_cmp (pair_refused (C.county chart.now)) result }
 {
-    let mut shapes = placed_shapes(alloc, chart)?;
-    order_shapes(chart, &mut shapes);
-    Ok(least_pair(chart, &shapes))
+    least_pair(chart, shapes)
 }

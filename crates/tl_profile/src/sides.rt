@@ -1,12 +1,17 @@
 //! Polygons with a record of type P that are on no side of a chain.
 
-ghost use Rattle.std.specs.Prelude.{◌≡◌, ◌++◌, IfOk, OnOk, option_to_list, slice_get};
-ghost use Rattle.tl_county.specs.CountyRules.{polygons_along};
+ghost use Rattle.std.specs.Prelude.{◌≡◌, ◌≢◌, ◌++◌, IfOk, IfErr, OnOk, option_to_list, slice_get};
+ghost use Rattle.tl_county.specs.County.{County};
+ghost use Rattle.tl_county.specs.CountyRules.{is_without_chain, polygons_along};
 ghost use Rattle.tl_county.specs.Keyed.{IsLeastPassing};
 ghost use Rattle.tl_county.specs.Orders.{distinct};
 ghost use Rattle.tl_county.specs.PolygonKeys.{key_cmp};
-ghost use Rattle.tl_profile.specs.Sides.{key_if_bodied, keys_on, keys_with_body, polygon_refused};
+ghost use Rattle.tl_profile.specs.Profile.{IsFirstBrokenClause, IsInProfile};
+ghost use Rattle.tl_profile.specs.Shapes.{HasDistinctShapes};
+ghost use Rattle.tl_profile.specs.declared.fault.ProfileFault.TheVariants.{Memory};
+ghost use Rattle.tl_profile.specs.Sides.{key_if_bodied, keys_on, keys_with_body};
 
+use crate::fault::ProfileFault;
 use std::alloc::{AllocError, Global};
 use tl_county::{Chart, KeySet, PolygonKey, least_unknown};
 use tl_layout::Side;
@@ -65,14 +70,36 @@ fn polygons_with_body<C: Chart>(alloc: Global, chart: &C) -> Result<Vec<PolygonK
 }
 
 /// The least polygon with a record of type P that is on no side of a chain, by the bytes of the CENID and then by POLYID.
-pub(crate) fn least_without_chain<C: Chart>(
-    alloc: Global,
-    chart: &C,
-) -> Result<Option<PolygonKey>, AllocError>
-    ensures { IfOk result (IsLeastPassing key_cmp (polygon_refused (C.county chart.now))) }
+fn least_without_chain<C: Chart>(alloc: Global, chart: &C) -> Result<Option<PolygonKey>, AllocError>
+    ensures { IfOk result (IsLeastPassing key_cmp (is_without_chain (C.county chart.now))) }
 {
     let met = polygons_on_sides(alloc, chart)?;
     let sides = met.in_order(alloc)?;
     let bodies = polygons_with_body(alloc, chart)?;
     Ok(least_unknown::<PolygonKey, PolygonKey, PolygonKey>(&bodies, &sides))
+}
+
+/// The clause of polygons, of a county that keeps those of shapes: each polygon with a record of type P is on a side of a chain.
+/// Given is the least polygon that isn't, if there is one.
+pub(crate) fn refuse_without_chain(least: Option<PolygonKey>) -> Result<(), ProfileFault>
+    ensures within { OnOk result ((county : County) → HasDistinctShapes county → IsLeastPassing key_cmp (is_without_chain county) least
+        → IsInProfile county) }
+    ensures broken { IfErr result (λ fault. (county : County) → HasDistinctShapes county → IsLeastPassing key_cmp (is_without_chain county) least
+        → IsFirstBrokenClause county fault) }
+{
+    if let Some(key) = least {
+        let cenid = key.0;
+        let polyid = key.1;
+        return Err(ProfileFault::PolygonWithoutChain { cenid, polyid });
+    }
+    Ok(())
+}
+
+/// The clause of polygons, of a county that keeps those of shapes.
+pub(crate) fn check_polygons<C: Chart>(alloc: Global, chart: &C) -> Result<(), ProfileFault>
+    requires shapes { HasDistinctShapes (C.county chart.now) }
+    ensures within { OnOk result (IsInProfile (C.county chart.now)) }
+    ensures broken { IfErr result (λ fault. fault ≢ Memory → IsFirstBrokenClause (C.county chart.now) fault) }
+{
+    refuse_without_chain(least_without_chain(alloc, chart)?)
 }

@@ -66,9 +66,11 @@ module _ (county : County) (within : IsWithinLimits most_records county) (place 
       → IsText 5 entry.0.0 × IsNumber 10 entry.0.1
   polygon_fits entry e = (
     all_at (λ (e : PolygonKey × Option BodyP). IsText 5 e.0.0) (polygons_by_number county) place entry
-        (all-in_order (λ (e : PolygonKey × Option BodyP). IsText 5 e.0.0) (on entry_polyid nat_cmp) county.polygons within.contents.cenids) e,
+        (all-in_order (λ (e : PolygonKey × Option BodyP). IsText 5 e.0.0) (on entry_polyid nat_cmp) county.polygons within.contents.cenids)
+        e,
     all_at (λ (e : PolygonKey × Option BodyP). IsNumber 10 e.0.1) (polygons_by_number county) place entry
-        (all-in_order (λ (e : PolygonKey × Option BodyP). IsNumber 10 e.0.1) (on entry_polyid nat_cmp) county.polygons within.numbers.polygons) e,
+        (all-in_order (λ (e : PolygonKey × Option BodyP). IsNumber 10 e.0.1) (on entry_polyid nat_cmp) county.polygons
+        within.numbers.polygons) e,
   )
 
 pub polygons_counted : {Y : Type 0} (f : PolygonKey × Option BodyP → List Y) (county : County)
@@ -76,9 +78,11 @@ pub polygons_counted : {Y : Type 0} (f : PolygonKey × Option BodyP → List Y) 
 polygons_counted f county = length-map (polygons_by_number county) f ∙ length-in_order (on entry_polyid nat_cmp) county.polygons
 
 -- the group of a polygon by number
-pub polygon_group : (county : County) (place : ℕ) (entry : PolygonKey × Option BodyP) → Some entry ≡ slice_get (polygons_by_number county) place
+pub polygon_group : (county : County) (place : ℕ) (entry : PolygonKey × Option BodyP) → Some entry ≡ slice_get (polygons_by_number county)
+    place
     → group_at (type_p_by_number county) place ≡ option_to_list (packed_p entry)
-polygon_group county place entry e = group_of (λ (e : PolygonKey × Option BodyP). option_to_list (packed_p e)) (polygons_by_number county) place
+polygon_group county place entry e = group_of (λ (e : PolygonKey × Option BodyP). option_to_list (packed_p e)) (polygons_by_number county)
+    place
     entry (sym e)
 
 -- a group that isn't empty is that of a polygon with content

@@ -30,7 +30,8 @@ module _ {W : Type 0} (holds : W → List ℕ → Type 0) where
   begun held text written sink few h =
       let both : length text ≡ length h.sent + length h.rest = ap length h.text_is ∙ length-append h.sent h.rest in
       let count : written ≡ length h.sent = let c = h.count in omega (arith, c, both, few) in
-      let front : take written text ≡ h.sent = ap (λ n. take n text) count ∙ ap (take (length h.sent)) h.text_is ∙ taken_front h.sent h.rest in
+      let front : take written text ≡ h.sent = ap (λ n. take n text) count ∙ ap (take (length h.sent)) h.text_is ∙ taken_front h.sent h.rest
+      in
       subst (λ t. holds sink (held ++ t)) (sym front) h.arrived
 
   -- of a finished text
@@ -45,7 +46,8 @@ module _ {W : Type 0} (holds : W → List ℕ → Type 0) where
   whole_short text (Err f) h = h
 
   pub whole_bytes : (held text : List ℕ) (sink : W) → length text < 2 ^ 64 - 1 → (result : Result ℕ WriteFault)
-      → MatchResult result (λ n. holds sink (held ++ text) × (n ≡ up_to_most (length text))) (λ f. HoldsBeginning holds held text f.written sink)
+      → MatchResult result (λ n. holds sink (held ++ text) × (n ≡ up_to_most (length text)))
+      (λ f. HoldsBeginning holds held text f.written sink)
       → MatchResult result (λ _. holds sink (held ++ text)) (λ f. holds sink (held ++ take f.written text))
   whole_bytes held text sink few (Ok n) h = h.0
   whole_bytes held text sink few (Err f) h = begun held text f.written sink few h

@@ -16,7 +16,8 @@ none_past (y ∷ ys) zero x e = omega arith
 none_past (y ∷ ys) (suc i) x e = omega (arith, none_past ys i x e)
 
 -- the group of an entry
-pub group_of : {X Y : Type 0} (f : X → List Y) (xs : List X) (place : ℕ) (x : X) → slice_get xs place ≡ Some x → group_at (map f xs) place ≡ f x
+pub group_of : {X Y : Type 0} (f : X → List Y) (xs : List X) (place : ℕ) (x : X) → slice_get xs place ≡ Some x → group_at (map f xs) place ≡
+    f x
 group_of f xs place x e = ap (λ (o : Option (List _)). unwrap_or o []) (slice_get-map f xs place ∙ ap (option_map f) e)
 
 -- what is one in its group
@@ -40,7 +41,8 @@ map-append f [] ys = refl
 map-append f (x ∷ xs) ys = ap (λ zs. f x ∷ zs) (map-append f xs ys)
 
 -- a list up to a place, and up to the next one
-pub next_taken : {X : Type 0} (xs : List X) (place : ℕ) (x : X) → Some x ≡ slice_get xs place → take (suc place) xs ≡ take place xs ++ (x ∷ [])
+pub next_taken : {X : Type 0} (xs : List X) (place : ℕ) (x : X) → Some x ≡ slice_get xs place → take (suc place) xs ≡ take place xs ++
+    (x ∷ [])
 next_taken [] place x e = cc
 next_taken (y ∷ ys) zero x e = let same : y ≡ x = cc in ap (λ z. z ∷ []) same
 next_taken (y ∷ ys) (suc place) x e = ap (λ l. y ∷ l) (next_taken ys place x e)
@@ -119,4 +121,5 @@ taken_enough {X} [] m n l h = nothing m ∙ sym (nothing n)
 taken_enough (x ∷ xs) zero zero l h = refl
 taken_enough (x ∷ xs) zero (suc n) l h = absurd (omega (arith, h (omega arith)))
 taken_enough (x ∷ xs) (suc m) zero l h = absurd (omega (arith, l))
-taken_enough (x ∷ xs) (suc m) (suc n) l h = ap (λ ys. x ∷ ys) (taken_enough xs m n (omega (arith, l)) (λ k. omega (arith, h (omega (arith, k)))))
+taken_enough (x ∷ xs) (suc m) (suc n) l h = ap (λ ys. x ∷ ys)
+    (taken_enough xs m n (omega (arith, l)) (λ k. omega (arith, h (omega (arith, k)))))

@@ -109,7 +109,11 @@ module _ (a b : County) where
     (
       (
         (
-          (((((same_counts e, ap type_1_by_chain e), ap type_i_by_chain e), ap type_2_by_chain e), ap type_4_by_chain e), ap type_6_by_chain e),
+          (
+            ((((same_counts e, ap type_1_by_chain e), ap type_i_by_chain e), ap type_2_by_chain e), ap type_4_by_chain e),
+            ap type_6_by_chain
+                e,
+          ),
           ap type_5_by_name e,
         ),
         ap type_7_by_landmark e,
@@ -120,6 +124,7 @@ module _ (a b : County) where
   )
 
   -- So what decides that they have the same groups of all types decides that their packing is the same.
-  pub decides_packing : IsCounty a → IsCounty b → (test : Bool) → Decides test (UpToLandmarkLinks × (type_p_by_number a ≡ type_p_by_number b))
+  pub decides_packing : IsCounty a → IsCounty b → (test : Bool) → Decides test
+      (UpToLandmarkLinks × (type_p_by_number a ≡ type_p_by_number b))
       → Decides test (packed a ≡ packed b)
   decides_packing h k test d = (λ e. same_packing (d.0 e).0 (d.0 e).1, λ packings. d.1 (same_groups h k packings))

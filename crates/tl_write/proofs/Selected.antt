@@ -19,7 +19,8 @@ grouped_selected {X} {Y} h (x ∷ xs) = go (h x) (grouped_selected h xs)
     go (Some y) ih = ap (λ ys. y ∷ ys) ih
 
 -- an element that none comes before
-first_put : {Y : Type 0} (by : Y → Y → Ordering) (y : Y) (ys : List Y) → AllByRecursion (λ z. is_gt (by y z) ≡ false) ys → put_in_order by y ys ≡ y ∷ ys
+first_put : {Y : Type 0} (by : Y → Y → Ordering) (y : Y) (ys : List Y) → AllByRecursion (λ z. is_gt (by y z) ≡ false) ys → put_in_order by y
+    ys ≡ y ∷ ys
 first_put by y [] a = refl
 first_put by y (z ∷ zs) a = ap (λ b. cond b (z ∷ put_in_order by y zs) (y ∷ z ∷ zs)) a.0
 
@@ -52,14 +53,16 @@ module _ {X Y : Type 0} (f : X → ℕ) (g : Y → ℕ) (h : X → Option Y) (ag
   put_selected x z e (y ∷ ys) i = go (is_gt (nat_cmp (f x) (f y))) refl (put_selected x z e ys i.1)
     where
       behind : (o : Option Y) → h y ≡ o → is_gt (nat_cmp (f x) (f y)) ≡ true
-          → cons_option o (put_in_order (on g nat_cmp) z (filter_map h ys)) ≡ put_in_order (on g nat_cmp) z (cons_option o (filter_map h ys))
+          → cons_option o (put_in_order (on g nat_cmp) z (filter_map h ys)) ≡ put_in_order (on g nat_cmp) z
+          (cons_option o (filter_map h ys))
       behind None f b = refl
       behind (Some w) k b = sym (ap (λ c. cond c (w ∷ put_in_order (on g nat_cmp) z (filter_map h ys)) (z ∷ w ∷ filter_map h ys))
           ((λ j. is_gt (nat_cmp (sym (agrees x z e) j) (sym (agrees y w k) j))) ∙ b))
 
       go : (b : Bool) → is_gt (nat_cmp (f x) (f y)) ≡ b
           → filter_map h (put_in_order (on f nat_cmp) x ys) ≡ put_in_order (on g nat_cmp) z (filter_map h ys)
-          → filter_map h (cond b (y ∷ put_in_order (on f nat_cmp) x ys) (x ∷ y ∷ ys)) ≡ put_in_order (on g nat_cmp) z (filter_map h (y ∷ ys))
+          → filter_map h (cond b (y ∷ put_in_order (on f nat_cmp) x ys) (x ∷ y ∷ ys)) ≡ put_in_order (on g nat_cmp) z
+          (filter_map h (y ∷ ys))
       go true b ih = ap (cons_option (h y)) ih ∙ behind (h y) refl b
       go false b ih =
           let later : AllByRecursion (λ w. is_gt (nat_cmp (f x) (f w)) ≡ false) ys =

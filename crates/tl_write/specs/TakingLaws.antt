@@ -1,5 +1,27 @@
 -- Records that are handed on one after the other are handed on together.
-use Rattle.std.proofs.Common.{◌≡◌, ◌∙◌, ◌<◌, ◌+◌, ℕ, length, length-append, arith, List, [], ◌∷◌, ◌++◌, Result, Ok, Err, refl, sym, ap, subst, append_assoc, append-nil}
+use Rattle.std.proofs.Common.{
+  ◌≡◌,
+  ◌∙◌,
+  ◌<◌,
+  ◌+◌,
+  ℕ,
+  length,
+  length-append,
+  arith,
+  List,
+  [],
+  ◌∷◌,
+  ◌++◌,
+  Result,
+  Ok,
+  Err,
+  refl,
+  sym,
+  ap,
+  subst,
+  append_assoc,
+  append-nil,
+}
 use Rattle.std.specs.Bool.{if◌then◌else◌}
 use Rattle.std.specs.Result.{is_ok, MatchResult}
 use Rattle.tl_layout.specs.RecordText.{text_of, spelling_of}
@@ -79,7 +101,8 @@ module _ {W : Type 0} (failed : W → ℕ) (holds : W → List ℕ → Type 0) w
       → ((total : ℕ) → HasCounted total a
       → MatchResult result (λ _. HasCounted (total + length (spelling ++ 10 ∷ [])) b) (λ f. f.written < total))
       → ((held text : List ℕ) → IsGoingOut holds held text a d
-      → MatchResult result (λ _. IsGoingOut holds held (text ++ (spelling ++ 10 ∷ [])) b e) (λ f. HoldsBeginning holds held text f.written e))
+      → MatchResult result (λ _. IsGoingOut holds held (text ++ (spelling ++ 10 ∷ [])) b e)
+      (λ f. HoldsBeginning holds held text f.written e))
       → PutsText failed holds (text_of (r ∷ [])) a d result b e
   puts_line r spelling same a b d e (Ok t) failures counted put = record {
     failures = failures;

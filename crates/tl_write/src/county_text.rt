@@ -32,60 +32,24 @@ fn give_records<D, C: Chart, T: RecordTaker<D>>(
     ensures ready { OnOk result (T.IsReady taker.new device.new) }
 {
     let mut room = HeadRoom::new();
-    give_groups(
-        &ChainRecords { chart: county },
-        &mut room.ends,
-        taker,
-        device,
-    )?;
-    give_groups(
-        &ShapePointRecords { chart: county },
-        &mut room.counts,
-        taker,
-        device,
-    )?;
-    give_groups(
-        &FurtherNameRecords { chart: county },
-        &mut room.counts,
-        taker,
-        device,
-    )?;
-    give_groups(
-        &NameRecords { chart: county },
-        &mut room.counts,
-        taker,
-        device,
-    )?;
-    give_groups(
-        &RangeRecords { chart: county },
-        &mut room.counts,
-        taker,
-        device,
-    )?;
-    give_groups(
-        &LandmarkRecords { chart: county },
-        &mut room.counts,
-        taker,
-        device,
-    )?;
-    give_groups(
-        &LandmarkLinkRecords { county },
-        &mut room.counts,
-        taker,
-        device,
-    )?;
-    give_groups(
-        &LinkRecords { chart: county },
-        &mut room.link_bodies,
-        taker,
-        device,
-    )?;
-    give_groups(
-        &PolygonRecords { county },
-        &mut room.polygons,
-        taker,
-        device,
-    )
+    let chains = ChainRecords { chart: county };
+    give_groups(&chains, &mut room.ends, taker, device)?;
+    let shape_points = ShapePointRecords { chart: county };
+    give_groups(&shape_points, &mut room.counts, taker, device)?;
+    let further_names = FurtherNameRecords { chart: county };
+    give_groups(&further_names, &mut room.counts, taker, device)?;
+    let names = NameRecords { chart: county };
+    give_groups(&names, &mut room.counts, taker, device)?;
+    let ranges = RangeRecords { chart: county };
+    give_groups(&ranges, &mut room.counts, taker, device)?;
+    let landmarks = LandmarkRecords { chart: county };
+    give_groups(&landmarks, &mut room.counts, taker, device)?;
+    let landmark_links = LandmarkLinkRecords { county };
+    give_groups(&landmark_links, &mut room.counts, taker, device)?;
+    let links = LinkRecords { chart: county };
+    give_groups(&links, &mut room.link_bodies, taker, device)?;
+    let polygons = PolygonRecords { county };
+    give_groups(&polygons, &mut room.polygons, taker, device)
 }
 
 /// The records of a canonical county: a canonical list, and the packing of the county.

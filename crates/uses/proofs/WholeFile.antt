@@ -1,5 +1,26 @@
 -- Pieces of a file, and the whole file.
-use Rattle.std.proofs.Common.{◌≡◌, ◌∙◌, ◌<◌, ◌+◌, ◌++◌, ℕ, suc, List, [], ◌∷◌, take, drop, length, get_or, Bor, sym, ap, subst, append-nil, append_assoc}
+use Rattle.std.proofs.Common.{
+  ◌≡◌,
+  ◌∙◌,
+  ◌<◌,
+  ◌+◌,
+  ◌++◌,
+  ℕ,
+  suc,
+  List,
+  [],
+  ◌∷◌,
+  take,
+  drop,
+  length,
+  get_or,
+  Bor,
+  sym,
+  ap,
+  subst,
+  append-nil,
+  append_assoc,
+}
 use Rattle.std.proofs.lemmas.List.Folds.{concat-append}
 use Rattle.std.specs.List.{concat}
 use Rattle.tl_load.specs.Choice.{tiger}

@@ -8,5 +8,6 @@ returns-in_err-judge_set-clause-stopped g c =
     let p = err_from_is_err_and c.from_residual.result c.from_residual.ensures.1 in
     let fault = c.in_err-judge_set.field-0.0 in
     let told = c.in_err-judge_set.ensures.refused in
-    rw (p.1, p.2) (leaves g.R.Read.remaining c.args.files.items Check _ _ fault (set_not_of_sink g.R.Read.remaining c.args.files.items fault told)
+    rw (p.1, p.2) (leaves g.R.Read.remaining c.args.files.items Check _ _ fault
+    (set_not_of_sink g.R.Read.remaining c.args.files.items fault told)
     (kept (g.W.Write.contents c.args.out.now)) told)

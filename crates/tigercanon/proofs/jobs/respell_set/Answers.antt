@@ -10,7 +10,8 @@ returns-in_err-text-clause-stopped g c =
     let p = err_from_is_err_and c.from_residual.result c.from_residual.ensures.1 in
     let fault = c.in_err-text.field-0.0 in
     let told = c.in_err-text.ensures.faulty in
-    rw (p.1, p.2) (leaves g.R.Read.remaining c.args.files.items Respell _ _ fault (lines_not_of_sink g.R.Read.remaining c.args.files.items fault told)
+    rw (p.1, p.2) (leaves g.R.Read.remaining c.args.files.items Respell _ _ fault
+    (lines_not_of_sink g.R.Read.remaining c.args.files.items fault told)
     (kept (g.W.Write.contents c.args.out.now)) told)
 
 pub returns-in_err-write_text-clause-stopped : goal.returns-in_err-write_text-clause-stopped

@@ -18,10 +18,10 @@ returns-clause-canonical c = λ parts set.
     record {
       records = set.0;
       accepted = record { spelled = set.1; accepted = a.0 };
-      county_is = ap the_county_over (c.in_ok-canonise_chart.ensures.source ∙ c.into_chart.ensures.value) ∙ a.1;
+      county_is = ap the_county_over (c.in_ok-canonise_in_order.ensures.source ∙ c.into_chart.ensures.value) ∙ a.1;
       canonical = subst (λ (county : County). IsCanonicalOf set.0 (packed county))
           (ap (λ (county : County). arranged county (ascending county)) (sym (ap the_county_over c.into_chart.ensures.value ∙ a.1))
-          ∙ sym c.in_ok-canonise_chart.ensures.county)
+          ∙ sym c.in_ok-canonise_in_order.ensures.county)
           (canonical_exists set.0 a.0);
     }
 

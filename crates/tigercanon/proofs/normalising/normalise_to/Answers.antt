@@ -30,7 +30,8 @@ returns-in_err-write_to-clause-stopped g c = λ fault told.
     let l = c.in_ok-tables.ensures.loaded in
     let set = c.in_ok-county.ensures.canonical l.0 (l.2, l.4, c.in_ok-linked.ensures.linked l.2 l.3) in
     let is : c.in_err-write_to.field-0.0 ≡ fault = cc in
-    subst (λ (f : WriteFault). IsCutOff g.R.Source.remaining g.R.Source.given c.args.parts.now c.load_sources.new.sources g.W.Sink.holds c.args.out.now c.write_to.new.w f.written) is (record {
+    subst (λ (f : WriteFault). IsCutOff g.R.Source.remaining g.R.Source.given c.args.parts.now c.load_sources.new.sources g.W.Sink.holds
+    c.args.out.now c.write_to.new.w f.written) is (record {
       text = _;
       normalised = record {
         parts = l.0;

@@ -5,4 +5,5 @@ use Rattle.tl_cert.proofs.chains.have_same_points.Given as goal
 
 abbrev pub invariant-loop-point : goal.invariant-loop-point
 invariant-loop-point g l =
-    take l.point (points_of (chain_at (g.B.Chart.county l.b) l.other)) ≡ take l.point (points_of (chain_towards (g.A.Chart.county l.a) l.place l.turned))
+    take l.point (points_of (chain_at (g.B.Chart.county l.b) l.other)) ≡ take l.point
+    (points_of (chain_towards (g.A.Chart.county l.a) l.place l.turned))

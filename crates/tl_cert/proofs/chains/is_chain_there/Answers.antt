@@ -12,7 +12,8 @@ returns g c =
     let b = g.B.Chart.county c.args.b.now in
     let r = c.args.tables.now in
     decides_entry a.chains c.args.place c.tlid-tlid.result c.tlid-tlid.ensures
-    (λ number value. chain_under b (image nat_cmp r.chains number) ≡ option_map (renumbered r) (option_map (turned_if (turns r number)) value))
+    (λ number value. chain_under b (image nat_cmp r.chains number) ≡ option_map (renumbered r)
+    (option_map (turned_if (turns r number)) value))
     c.is_same_chain.result
     (decides_over c.is_same_chain.result (chain_at b c.chain_place_or_end-other.result)
     (chain_under b (image nat_cmp r.chains c.tlid-tlid.result))

@@ -12,4 +12,5 @@ loop-place-preserved g c =
 pub returns : goal.returns
 returns g c =
     taken_all (tlids (g.C.Chart.county c.args.chart.now)) c.loop-place.numbers.items c.loop-place.place c.chain_count-count.result
-    c.loop-place.invariant (length-map (g.C.Chart.county c.args.chart.now).chains (λ entry. entry.0) ∙ sym c.chain_count-count.ensures) c.loop-place-test.false
+    c.loop-place.invariant (length-map (g.C.Chart.county c.args.chart.now).chains (λ entry. entry.0) ∙ sym c.chain_count-count.ensures)
+    c.loop-place-test.false

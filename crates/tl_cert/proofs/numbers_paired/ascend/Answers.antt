@@ -12,7 +12,8 @@ loop-first-preserved-else-first-second c =
     record {
       in_order = (subst (IsInOrder nat_cmp) first c.loop-first.invariant.in_order).1;
       same = ap (has_repeat nat_cmp) later
-          ∙ repeat_later c.in-Some.first.now c.in-Some-split_first.second.now _ (subst (IsInOrder nat_cmp) both c.loop-first.invariant.in_order) c.if-first-second.false
+          ∙ repeat_later c.in-Some.first.now c.in-Some-split_first.second.now _
+          (subst (IsInOrder nat_cmp) both c.loop-first.invariant.in_order) c.if-first-second.false
           ∙ sym (ap (has_repeat nat_cmp) both) ∙ c.loop-first.invariant.same;
     }
 

@@ -11,12 +11,14 @@ use Rattle.tl_cert.proofs.numbers_paired.nodes_are_paired.Goals as goal
 pub are_paired-requires-clause-olds : goal.are_paired-requires-clause-olds
 are_paired-requires-clause-olds g c =
     subst (IsInOrder nat_cmp) (sym (c.deref.ensures.value ∙ c.in_ok-olds.ensures))
-    (in_order-strict nat_cmp (nodes (g.A.Chart.county c.args.a.now)) (distinct-strict nat_keys (nodes_along (g.A.Chart.county c.args.a.now).chains)))
+    (in_order-strict nat_cmp (nodes (g.A.Chart.county c.args.a.now))
+    (distinct-strict nat_keys (nodes_along (g.A.Chart.county c.args.a.now).chains)))
 
 pub are_paired-requires-clause-news : goal.are_paired-requires-clause-news
 are_paired-requires-clause-news g c =
     subst (IsInOrder nat_cmp) (sym (c.deref-2.ensures.value ∙ c.in_ok-news.ensures))
-    (in_order-strict nat_cmp (nodes (g.B.Chart.county c.args.b.now)) (distinct-strict nat_keys (nodes_along (g.B.Chart.county c.args.b.now).chains)))
+    (in_order-strict nat_cmp (nodes (g.B.Chart.county c.args.b.now))
+    (distinct-strict nat_keys (nodes_along (g.B.Chart.county c.args.b.now).chains)))
 
 pub returns : goal.returns
 returns g c =

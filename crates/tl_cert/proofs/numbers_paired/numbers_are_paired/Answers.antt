@@ -23,7 +23,8 @@ returns g c =
     (λ once. record {
       chains = subst (λ pairs. ArePaired pairs (tlids a) (tlids b)) c.chains.ensures (c.in_ok-chains.ensures.0 chains_are);
       names = subst (λ pairs. ArePaired pairs (feats a) (feats b)) c.names.ensures (c.in_ok-names.ensures.0 names_are);
-      polygons = subst (λ pairs. ArePaired pairs (polygon_keys a) (polygon_keys b)) c.polygons.ensures (c.in_ok-polygons.ensures.0 polygons_are);
+      polygons = subst (λ pairs. ArePaired pairs (polygon_keys a) (polygon_keys b)) c.polygons.ensures
+          (c.in_ok-polygons.ensures.0 polygons_are);
       lands = subst (λ pairs. ArePaired pairs (lands a) (lands b)) c.lands.ensures (c.in_ok-lands.ensures.0 lands_are);
       nodes = subst (λ pairs. ArePaired pairs (nodes a) (nodes b)) c.nodes.ensures (c.in_ok-nodes.ensures.0 nodes_are);
       cenids = subst (AllByRecursion (λ pair. pair.0.0 ≡ pair.1.0)) c.polygons-2.ensures (c.keep_cenids-cenids.ensures.0 cenids_are);

@@ -6,18 +6,21 @@ use Rattle.tl_cert.proofs.parts.are_landmarks_there.Goals as goal
 pub loop-place-preserved : goal.loop-place-preserved
 loop-place-preserved g c =
     let yes : c.is_landmark_there-there.result ≡ true = search rules in
-    all_next (IsLandmarkThere c.args.tables.now (g.B.Chart.county c.args.b.now)) (g.A.Chart.county c.args.a.now).landmarks c.loop-place.place c.loop-place.invariant
+    all_next (IsLandmarkThere c.args.tables.now (g.B.Chart.county c.args.b.now)) (g.A.Chart.county c.args.a.now).landmarks
+    c.loop-place.place c.loop-place.invariant
     (c.is_landmark_there-there.ensures.0 yes)
 
 pub returns-then-not-there : goal.returns-then-not-there
 returns-then-not-there g c =
     let not_there : c.is_landmark_there-there.result ≡ false = search rules in
     decides_no c.is_landmark_there-there.result not_there c.is_landmark_there-there.ensures
-    (λ all. all_at (IsLandmarkThere c.args.tables.now (g.B.Chart.county c.args.b.now)) (g.A.Chart.county c.args.a.now).landmarks all c.loop-place.place)
+    (λ all. all_at (IsLandmarkThere c.args.tables.now (g.B.Chart.county c.args.b.now)) (g.A.Chart.county c.args.a.now).landmarks all
+    c.loop-place.place)
 
 pub returns : goal.returns
 returns g c = (
-  λ e. all_seen (IsLandmarkThere c.args.tables.now (g.B.Chart.county c.args.b.now)) (g.A.Chart.county c.args.a.now).landmarks c.loop-place.place c.landmark_count-place-end.result c.loop-place.invariant
+  λ e. all_seen (IsLandmarkThere c.args.tables.now (g.B.Chart.county c.args.b.now)) (g.A.Chart.county c.args.a.now).landmarks
+      c.loop-place.place c.landmark_count-place-end.result c.loop-place.invariant
       (sym c.landmark_count-place-end.ensures) c.loop-place-test.false,
   λ a. refl,
 )

@@ -6,18 +6,21 @@ use Rattle.tl_cert.proofs.parts.are_polygons_there.Goals as goal
 pub loop-place-preserved : goal.loop-place-preserved
 loop-place-preserved g c =
     let yes : c.is_polygon_there-there.result ≡ true = search rules in
-    all_next (IsPolygonThere c.args.tables.now (g.B.Chart.county c.args.b.now)) (g.A.Chart.county c.args.a.now).polygons c.loop-place.place c.loop-place.invariant
+    all_next (IsPolygonThere c.args.tables.now (g.B.Chart.county c.args.b.now)) (g.A.Chart.county c.args.a.now).polygons c.loop-place.place
+    c.loop-place.invariant
     (c.is_polygon_there-there.ensures.0 yes)
 
 pub returns-then-not-there : goal.returns-then-not-there
 returns-then-not-there g c =
     let not_there : c.is_polygon_there-there.result ≡ false = search rules in
     decides_no c.is_polygon_there-there.result not_there c.is_polygon_there-there.ensures
-    (λ all. all_at (IsPolygonThere c.args.tables.now (g.B.Chart.county c.args.b.now)) (g.A.Chart.county c.args.a.now).polygons all c.loop-place.place)
+    (λ all. all_at (IsPolygonThere c.args.tables.now (g.B.Chart.county c.args.b.now)) (g.A.Chart.county c.args.a.now).polygons all
+    c.loop-place.place)
 
 pub returns : goal.returns
 returns g c = (
-  λ e. all_seen (IsPolygonThere c.args.tables.now (g.B.Chart.county c.args.b.now)) (g.A.Chart.county c.args.a.now).polygons c.loop-place.place c.polygon_count-place-end.result c.loop-place.invariant
+  λ e. all_seen (IsPolygonThere c.args.tables.now (g.B.Chart.county c.args.b.now)) (g.A.Chart.county c.args.a.now).polygons
+      c.loop-place.place c.polygon_count-place-end.result c.loop-place.invariant
       (sym c.polygon_count-place-end.ensures) c.loop-place-test.false,
   λ a. refl,
 )

@@ -11,6 +11,8 @@ returns g c =
     let b = g.B.Chart.county c.args.b.now in
     decides_entry a.names c.args.place c.feat.result c.feat.ensures
     (λ number value. name_under b (image nat_cmp c.args.tables.now.names number) ≡ value) c.is_same_name.result
-    (decides_over c.is_same_name.result c.name_body_at.result (name_under b (image nat_cmp c.args.tables.now.names c.feat.result)) c.name_body_at-2.result
+    (decides_over c.is_same_name.result c.name_body_at.result (name_under b (image nat_cmp c.args.tables.now.names c.feat.result))
+    c.name_body_at-2.result
     (slice_get (entry_values a.names) c.args.place)
-    (c.name_body_at.ensures ∙ c.name_place_or_end-other.ensures ∙ ap (name_under b) c.feat-2.ensures) c.name_body_at-2.ensures c.is_same_name.ensures)
+    (c.name_body_at.ensures ∙ c.name_place_or_end-other.ensures ∙ ap (name_under b) c.feat-2.ensures) c.name_body_at-2.ensures
+    c.is_same_name.ensures)

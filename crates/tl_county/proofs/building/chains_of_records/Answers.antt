@@ -27,9 +27,13 @@ loop-head-preserved g c =
           (in_order-filter (on four_tlid nat_cmp) (λ x. is_gt (nat_cmp (four_tlid x) c.tlid-tlid.result)) at.names.now at.invariant.names);
       ranges = subst (IsInOrder (on six_tlid nat_cmp)) (sym ranges)
           (in_order-filter (on six_tlid nat_cmp) (λ x. is_gt (nat_cmp (six_tlid x) c.tlid-tlid.result)) at.ranges.now at.invariant.ranges);
-      done = (λ i. (ap (map f) c.in_ok-push.ensures.items ∙ map-append f at.chains.items (c.in_ok-build_chain.field-0 ∷ [])) i ++ chains_along (shapes i) (names i)
+      done = (λ i. (ap (map f) c.in_ok-push.ensures.items ∙ map-append f at.chains.items (c.in_ok-build_chain.field-0 ∷ [])) i ++
+          chains_along (shapes i) (names i)
           (ranges i) c.in-Some.later.now c.in-Some-split_first.others.now)
-          ∙ chains-step (map f at.chains.items) _ c.in-Some.head.now c.in-Some.later.now at.heads.now c.in-Some-split_first.link.now c.in-Some-split_first.others.now at.links.now
-          at.shapes.now c.split_group.result.0.now at.names.now c.split_group-in-Some.result.0.now at.ranges.now c.split_group-in-Some-2.result.0.now c.tlid-tlid.result (f c.in_ok-build_chain.field-0)
-          c.tlid-tlid.ensures.value c.split_group.ensures.group c.split_group-in-Some.ensures.group c.split_group-in-Some-2.ensures.group c.in_ok-build_chain.ensures heads links at.invariant.heads at.invariant.done;
+          ∙ chains-step (map f at.chains.items) _ c.in-Some.head.now c.in-Some.later.now at.heads.now c.in-Some-split_first.link.now
+          c.in-Some-split_first.others.now at.links.now
+          at.shapes.now c.split_group.result.0.now at.names.now c.split_group-in-Some.result.0.now at.ranges.now
+          c.split_group-in-Some-2.result.0.now c.tlid-tlid.result (f c.in_ok-build_chain.field-0)
+          c.tlid-tlid.ensures.value c.split_group.ensures.group c.split_group-in-Some.ensures.group c.split_group-in-Some-2.ensures.group
+          c.in_ok-build_chain.ensures heads links at.invariant.heads at.invariant.done;
     }

@@ -26,7 +26,9 @@ loop-land-preserved g c =
           (λ x. is_gt (nat_cmp (eight_land x) c.in-Some.land.now)) at.links.now at.invariant.links);
       done = (λ i. (ap (map f) c.in_ok-push.ensures.items ∙ map-append f at.found.items (c.in_ok-build_landmark.field-0 ∷ [])) i
           ++ map (landmark_of (landmarks i) (links i)) c.in-Some.later.now)
-          ∙ landmarks-step (map f at.found.items) _ c.in-Some.land.now c.in-Some.later.now at.lands.now at.landmarks.now c.split_group.result.0.now
+          ∙ landmarks-step (map f at.found.items) _ c.in-Some.land.now c.in-Some.later.now at.lands.now at.landmarks.now
+          c.split_group.result.0.now
           at.links.now c.split_group-in-Some.result.0.now _ (f c.in_ok-build_landmark.field-0)
-          c.split_group.ensures.group c.split_group-in-Some.ensures.group refl c.in_ok-build_landmark.ensures lands at.invariant.lands at.invariant.done;
+          c.split_group.ensures.group c.split_group-in-Some.ensures.group refl c.in_ok-build_landmark.ensures lands at.invariant.lands
+          at.invariant.done;
     }

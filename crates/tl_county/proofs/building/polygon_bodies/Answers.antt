@@ -20,6 +20,7 @@ loop-key-preserved c =
       in_order = subst (IsInOrder (on p_key key_cmp)) (sym rest)
           (in_order-filter (on p_key key_cmp) (λ x. is_gt (key_cmp (p_key x) c.in-Some.key.now)) at.rest.now at.invariant.in_order);
       done = (λ i. c.in_ok-push.ensures.items i ++ map (polygon_body_of (rest i)) c.in-Some.later.now)
-          ∙ polygons-step at.bodies.items _ c.in-Some.key.now c.in-Some.later.now at.keys.now at.rest.now c.split_group.result.0.now c.first_body.result
+          ∙ polygons-step at.bodies.items _ c.in-Some.key.now c.in-Some.later.now at.keys.now at.rest.now c.split_group.result.0.now
+          c.first_body.result
           c.split_group.ensures.group c.first_body.ensures keys at.invariant.ascending at.invariant.done;
     }

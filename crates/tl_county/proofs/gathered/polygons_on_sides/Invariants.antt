@@ -1,8 +1,6 @@
 use Rattle.std.proofs.Common.{◌≡◌, flat_map, take}
 use Rattle.tl_county.specs.County.{side_keys}
-use Rattle.tl_county.specs.Orders.{distinct}
-use Rattle.tl_county.specs.PolygonKeys.{key_cmp}
 use Rattle.tl_county.proofs.gathered.polygons_on_sides.Given as goal
 
 abbrev pub invariant-loop-link : goal.invariant-loop-link
-invariant-loop-link l = distinct key_cmp l.polygons ≡ distinct key_cmp (flat_map side_keys (take l.link-index l.sides))
+invariant-loop-link l = l.polygons.items ≡ flat_map side_keys (take l.link-index l.sides)

@@ -39,5 +39,6 @@ loop-first-preserved g c =
     record {
       in_order = (subst (IsInOrder (on g.T.Keyed.key_of g.K.Ord.cmp)) first c.loop-first.invariant.in_order).1;
       same = λ k. ap (λ l. is_repeated g.K.Ord.cmp (map g.T.Keyed.key_of l) k) none
-          ∙ left-one o g.T.Keyed.key_of _ c.loop-first.rest.now c.loop-first.invariant.same c.loop-first.invariant.in_order c.in-Some.first.now (first ∙ ap (λ l. c.in-Some.first.now ∷ l) none) k;
+          ∙ left-one o g.T.Keyed.key_of _ c.loop-first.rest.now c.loop-first.invariant.same c.loop-first.invariant.in_order
+          c.in-Some.first.now (first ∙ ap (λ l. c.in-Some.first.now ∷ l) none) k;
     }

@@ -7,4 +7,5 @@ pub returns-clause-known : goal.returns-clause-known
 returns-clause-known g c =
     let o : IsKeyOrder g.K.Ord.cmp = record { total = g.met.K.Ord.total; exact = g.met.K.Key.exact } in
     ap is_some c.ok.ensures.value
-    ∙ place-known o c.args.key c.args.keys.now c.requires c.binary_search.result c.binary_search.ensures.bound c.binary_search.ensures.position
+    ∙ place-known o c.args.key c.args.keys.now c.requires c.binary_search.result c.binary_search.ensures.bound
+    c.binary_search.ensures.position

@@ -10,6 +10,7 @@ invariant_of-result c =
       within_limits-moved c.args.tables c.settle.new.tables c.requires told.same told.linked,
       told.feats,
       told.polygons,
+      told.without_side,
     )
 
 pub returns-clause-linked : goal.returns-clause-linked
@@ -17,5 +18,8 @@ returns-clause-linked c records h =
     let t = typed_of c.args.tables in
     let u = typed_of c.settle.new.tables in
     let holds = held c.args.tables records h in
-    let permuted = c.in_ok-gathered.ensures.same in
-    (also_linked records t u holds permuted c.in_ok-gathered.ensures.linked, same_county records t u holds permuted c.in_ok-gathered.ensures.linked)
+    let permuted = c.in_ok-gathered.ensures.same in (
+      also_linked records t u holds permuted c.in_ok-gathered.ensures.linked,
+      same_county records t u holds permuted
+          c.in_ok-gathered.ensures.linked,
+    )

@@ -29,7 +29,8 @@ new-requires-clause-ascending g c =
 pub new-requires-clause-same_length : goal.new-requires-clause-same_length
 new-requires-clause-same_length g c =
     let t = typed_of c.args.tables.now in
-    let chains : map g.B.ChainBuilder.chain c.in_ok-chains.chains.items ≡ chains_along t.of_type_2 t.of_type_4 t.of_type_6 t.of_type_1 t.of_type_i =
+    let chains : map g.B.ChainBuilder.chain c.in_ok-chains.chains.items ≡ chains_along t.of_type_2 t.of_type_4 t.of_type_6 t.of_type_1
+    t.of_type_i =
     c.in_ok-chains.ensures ∙ (λ i. chains_along (c.deref-4.ensures.value i) (c.deref-5.ensures.value i) (c.deref-6.ensures.value i)
     (c.deref-2.ensures.value i) (c.deref-3.ensures.value i)) in
     ap length (c.in_ok-tlids.ensures ∙ ap (map one_tlid) c.deref.ensures.value)
@@ -39,7 +40,8 @@ new-requires-clause-same_length g c =
 pub returns : goal.returns
 returns g c =
     let t = typed_of c.args.tables.now in
-    let chains : map g.B.ChainBuilder.chain c.in_ok-chains.chains.items ≡ chains_along t.of_type_2 t.of_type_4 t.of_type_6 t.of_type_1 t.of_type_i =
+    let chains : map g.B.ChainBuilder.chain c.in_ok-chains.chains.items ≡ chains_along t.of_type_2 t.of_type_4 t.of_type_6 t.of_type_1
+    t.of_type_i =
     c.in_ok-chains.ensures ∙ (λ i. chains_along (c.deref-4.ensures.value i) (c.deref-5.ensures.value i) (c.deref-6.ensures.value i)
     (c.deref-2.ensures.value i) (c.deref-3.ensures.value i)) in
     let same_length = length-chains_along t.of_type_2 t.of_type_4 t.of_type_6 t.of_type_1 t.of_type_i

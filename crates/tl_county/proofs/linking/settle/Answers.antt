@@ -23,7 +23,9 @@ returns-clause-linked c =
 pub returns-in_err-check_rules-clause-broken : goal.returns-in_err-check_rules-clause-broken
 returns-in_err-check_rules-clause-broken c =
     let u = typed_of c.order_tables.new.tables in
-    exit_with _ _ (λ fault. fault ≢ Memory → (records : List Record) → HoldsByType c.args.tables.now records → IsFirstBrokenRule records fault)
+    exit_with _ _ (λ fault. fault ≢ Memory → (records : List Record) → HoldsByType c.args.tables.now records → IsFirstBrokenRule records
+    fault)
     c.from_residual-in_err-check_rules.ensures.1
-    (λ ne records h. also_first records (typed_of c.args.tables.now) u (held c.args.tables.now records h) c.in_ok-order_tables.ensures.same _
+    (λ ne records h. also_first records (typed_of c.args.tables.now) u (held c.args.tables.now records h) c.in_ok-order_tables.ensures.same
+    _
     (c.in_err-check_rules.ensures.broken ne (type_after_type u) (by_type-after u)))

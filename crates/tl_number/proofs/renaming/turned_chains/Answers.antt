@@ -26,4 +26,5 @@ loop-step-preserved g c =
 pub returns : goal.returns
 returns g c =
     let county = g.C.Chart.county c.args.chart.now in
-    c.loop-step.invariant ∙ ap (λ l. turned_tlids (arrangement_of county l)) (take_all c.loop-step.step-index c.args.steps.now c.loop-step-test.false)
+    c.loop-step.invariant ∙ ap (λ l. turned_tlids (arrangement_of county l))
+    (take_all c.loop-step.step-index c.args.steps.now c.loop-step-test.false)

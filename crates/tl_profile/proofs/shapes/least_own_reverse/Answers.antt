@@ -1,4 +1,5 @@
 use Rattle.std.proofs.Common.{sym, ◌∙◌, arith, add-one}
+use Rattle.tl_profile.proofs.FewChains.{few_chains}
 use Rattle.tl_profile.proofs.OwnReverses.{none_next, first_mirrored, none_mirrored}
 use Rattle.tl_profile.proofs.shapes.least_own_reverse.Goals as goal
 
@@ -25,3 +26,9 @@ returns g c =
     let count = c.chain_count-place-end.ensures in
     let test = c.loop-place-test.false in
     none_mirrored county c.loop-place.place (omega arith) c.loop-place.invariant
+
+pub overflow_cast-place : goal.overflow_cast-place
+overflow_cast-place g c =
+    let few = few_chains (g.C.Chart.county c.args.chart.now) (g.met.C.Chart.within_limits c.args.chart.now) in
+    let count = c.chain_count-place-end.ensures in
+    omega (arith, few, count)

@@ -1,36 +1,30 @@
-use Rattle.std.proofs.Common.{map, sym, subst}
-use Rattle.std.specs.List.{AllByRecursion}
+use Rattle.std.proofs.Common.{◌≡◌, map, sym, subst}
 use Rattle.std.specs.List.Sorted.{IsStrictlySortedBy}
 use Rattle.tl_county.specs.Keyed.{IsLeastPassing}
 use Rattle.tl_county.proofs.KeyedLists.{least-same}
-use Rattle.tl_profile.specs.PlacedShapes.{HasHead, key_of_shape}
+use Rattle.tl_county.proofs.Lists.{map-map}
+use Rattle.tl_profile.specs.PlacedShapes.{key_of_shape, placed_walk}
+use Rattle.tl_profile.specs.ShapeOrder.{key_of_walk}
 use Rattle.tl_profile.specs.Shapes.{is_one_shape, pair_cmp, pair_refused, shape_key_cmp}
-use Rattle.tl_profile.proofs.ShapeOrder.{all_permuted, sorted_permutation, sorted_strict}
+use Rattle.tl_profile.proofs.KeysInOrder.{keys_permuted, keys_strict, walks_there}
 use Rattle.tl_profile.proofs.ShapesOfCounty.{same_pairs}
 use Rattle.tl_profile.proofs.shapes.least_same_shape.Goals as goal
-
-pub least_pair-requires-clause-heads : goal.least_pair-requires-clause-heads
-least_pair-requires-clause-heads g c =
-    let county = g.C.Chart.county c.args.chart.now in
-    subst (AllByRecursion (HasHead county)) (sym c.deref.ensures.value)
-    (all_permuted (HasHead county) c.in_ok-shapes.shapes.items c.order_shapes.new.shapes.items c.order_shapes.ensures.permutation
-    c.in_ok-shapes.ensures.heads)
 
 pub least_pair-requires-clause-in_order : goal.least_pair-requires-clause-in_order
 least_pair-requires-clause-in_order g c =
     let county = g.C.Chart.county c.args.chart.now in
-    subst (λ l. IsStrictlySortedBy shape_key_cmp (map (key_of_shape county) l)) (sym c.deref.ensures.value)
-    (sorted_strict county (g.met.C.Chart.is_county c.args.chart.now) c.in_ok-shapes.shapes.items c.order_shapes.new.shapes.items
-    c.in_ok-shapes.ensures.keys
-    c.order_shapes.ensures.permutation c.in_ok-shapes.ensures.heads c.order_shapes.ensures.in_order)
+    let shapes = c.args.shapes.now in
+    subst (IsStrictlySortedBy shape_key_cmp) (map-map (key_of_walk county) placed_walk shapes)
+    (keys_strict county (g.met.C.Chart.is_county c.args.chart.now) (map placed_walk shapes) c.requires.order
+    (walks_there county shapes c.requires.heads))
 
 pub returns : goal.returns
 returns g c =
     let county = g.C.Chart.county c.args.chart.now in
-    let sorted = c.order_shapes.new.shapes.items in
-    least-same pair_cmp (is_one_shape (map (key_of_shape county) sorted)) (pair_refused county)
-    (same_pairs county (map (key_of_shape county) sorted)
-    (sorted_permutation county (g.met.C.Chart.is_county c.args.chart.now) c.in_ok-shapes.shapes.items sorted c.in_ok-shapes.ensures.keys
-    c.order_shapes.ensures.permutation)) c.least_pair.result
-    (subst (λ l. IsLeastPassing pair_cmp (is_one_shape (map (key_of_shape county) l)) c.least_pair.result)
-    c.deref.ensures.value c.least_pair.ensures)
+    let shapes = c.args.shapes.now in
+    let keys = map (key_of_walk county) (map placed_walk shapes) in
+    let same : keys ≡ map (key_of_shape county) shapes = map-map (key_of_walk county) placed_walk shapes in
+    least-same pair_cmp (is_one_shape keys) (pair_refused county)
+    (same_pairs county keys (keys_permuted county (g.met.C.Chart.is_county c.args.chart.now) (map placed_walk shapes) c.requires.order))
+    c.least_pair.result
+    (subst (λ l. IsLeastPassing pair_cmp (is_one_shape l) c.least_pair.result) (sym same) c.least_pair.ensures)

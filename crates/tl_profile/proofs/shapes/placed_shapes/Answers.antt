@@ -1,9 +1,11 @@
-use Rattle.std.proofs.Common.{◌∷◌, ◌++◌, [], map, sym, ap, ◌∙◌, subst, add-one}
+use Rattle.std.proofs.Common.{◌∷◌, ◌++◌, [], map, sym, ap, ap₂, ◌∙◌, subst, arith}
 use Rattle.std.specs.List.{AllByRecursion}
 use Rattle.std.proofs.lemmas.List.{map-append}
-use Rattle.tl_profile.specs.Shapes.{shape_keys}
-use Rattle.tl_profile.specs.PlacedShapes.{HasHead, key_of_shape}
-use Rattle.tl_profile.proofs.Places.{take_next, all_next}
+use Rattle.std.proofs.lemmas.List.FromFn.{map-range_with_len_more}
+use Rattle.tl_profile.specs.ShapeOrder.{least_walk}
+use Rattle.tl_profile.specs.PlacedShapes.{HasHead, placed_walk}
+use Rattle.tl_profile.proofs.FewChains.{few_chains}
+use Rattle.tl_profile.proofs.Places.{all_next}
 use Rattle.tl_profile.proofs.shapes.placed_shapes.Goals as goal
 
 pub loop-place-preserved : goal.loop-place-preserved
@@ -12,10 +14,16 @@ loop-place-preserved g c =
     let shape = c.placed_shape.result in
     let items = c.in_ok-push.ensures.items in
     record {
-      keys = rw (add-one) (ap (map (key_of_shape county)) items
-          ∙ map-append (key_of_shape county) c.loop-place.shapes.items (shape ∷ [])
-          ∙ ap (λ l. l ++ (key_of_shape county shape ∷ [])) c.loop-place.invariant.keys
-          ∙ sym (take_next (shape_keys county) c.loop-place.place (key_of_shape county shape) c.placed_shape.ensures.key));
+      walks = ap (map placed_walk) items
+          ∙ map-append placed_walk c.loop-place.shapes.items (shape ∷ [])
+          ∙ ap₂ (λ walks walk. walks ++ (walk ∷ [])) c.loop-place.invariant.walks c.placed_shape.ensures.walk
+          ∙ sym (map-range_with_len_more (least_walk county) 0 c.loop-place.place c.loop-place.place (omega arith));
       heads = subst (AllByRecursion (HasHead county)) (sym items)
           (all_next (HasHead county) c.loop-place.shapes.items shape c.loop-place.invariant.heads c.placed_shape.ensures.head);
     }
+
+pub overflow_cast-place : goal.overflow_cast-place
+overflow_cast-place g c =
+    let few = few_chains (g.C.Chart.county c.args.chart.now) (g.met.C.Chart.within_limits c.args.chart.now) in
+    let count = c.chain_count-count.ensures in
+    omega (arith, few, count)

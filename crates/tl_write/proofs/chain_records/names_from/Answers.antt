@@ -9,7 +9,8 @@ use Rattle.tl_write.proofs.chain_records.names_from.Goals as goal
 pub overflow_add-first : goal.overflow_add-first
 overflow_add-first g c =
     let county = g.C.Chart.county c.args.chart.now in
-    let there = chain_there county (g.met.C.Chart.is_county c.args.chart.now) (g.met.C.Chart.within_limits c.args.chart.now) c.args.place c.requires.place in
+    let there = chain_there county (g.met.C.Chart.is_county c.args.chart.now) (g.met.C.Chart.within_limits c.args.chart.now) c.args.place
+    c.requires.place in
     omega (arith, c.requires.first, ap (λ o. length (feats_of o)) there.chain, there.room.feats)
 
 pub loop-name-preserved : goal.loop-name-preserved

@@ -7,7 +7,8 @@ use Rattle.tl_write.proofs.chain_records.shape_point_count.Goals as goal
 pub overflow_sub-result : goal.overflow_sub-result
 overflow_sub-result g c =
     let county = g.C.Chart.county c.args.chart.now in
-    let there = chain_there county (g.met.C.Chart.is_county c.args.chart.now) (g.met.C.Chart.within_limits c.args.chart.now) c.args.place c.requires in
+    let there = chain_there county (g.met.C.Chart.is_county c.args.chart.now) (g.met.C.Chart.within_limits c.args.chart.now) c.args.place
+    c.requires in
     omega (arith, c.point_count_at.ensures, ap (λ o. length (points_of o)) there.chain, there.two)
 
 pub returns : goal.returns

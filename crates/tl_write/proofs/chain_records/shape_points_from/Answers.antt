@@ -11,7 +11,8 @@ use Rattle.tl_write.proofs.chain_records.shape_points_from.Goals as goal
 pub overflow_add-first : goal.overflow_add-first
 overflow_add-first g c =
     let county = g.C.Chart.county c.args.chart.now in
-    let there = chain_there county (g.met.C.Chart.is_county c.args.chart.now) (g.met.C.Chart.within_limits c.args.chart.now) c.args.place c.requires.place in
+    let there = chain_there county (g.met.C.Chart.is_county c.args.chart.now) (g.met.C.Chart.within_limits c.args.chart.now) c.args.place
+    c.requires.place in
     omega (arith, c.requires.first, ap (λ o. length (inner_points (points_of o))) there.chain, there.room.points)
 
 pub point-requires : goal.point-requires
@@ -25,7 +26,12 @@ loop-shape_point-preserved g c =
     let first = c.args.first in
     let i = c.loop-shape_point.shape_point in
     let from = c.loop-shape_point.invariant.from in
-    let inner : i < length (inner_points points) = omega (arith, c.shape_point_count.ensures, c.min-end.ensures, c.loop-shape_point-test.true) in
+    let inner : i < length (inner_points points) = omega (
+      arith,
+      c.shape_point_count.ensures,
+      c.min-end.ensures,
+      c.loop-shape_point-test.true,
+    ) in
     let read : slice_get (drop first (inner_points points)) (i - first) ≡ Some c.point.result =
     get_dropped first (inner_points points) (i - first)
     ∙ ap (slice_get (inner_points points)) (let e : first + (i - first) ≡ i = omega (arith, from) in e)

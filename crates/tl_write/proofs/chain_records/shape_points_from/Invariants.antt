@@ -7,5 +7,6 @@ use Rattle.tl_write.proofs.chain_records.shape_points_from.Given as goal
 abbrev pub invariant-loop-shape_point : goal.invariant-loop-shape_point
 invariant-loop-shape_point g l = record {
   from : l.first ≤ l.shape_point;
-  points : l.points.items ≡ take (l.shape_point - l.first) (drop l.first (inner_points (points_of (chain_at (g.C.Chart.county l.chart) l.place))));
+  points : l.points.items ≡ take (l.shape_point - l.first) (drop l.first
+      (inner_points (points_of (chain_at (g.C.Chart.county l.chart) l.place))));
 }

@@ -34,7 +34,8 @@ returns-then-not-same g c =
 
 pub returns : goal.returns
 returns g c = (
-  λ e. same_whole (g.G.RecordGroups.groups c.args.a.now) (g.H.RecordGroups.groups c.args.b.now) c.loop-first.first c.loop-first.invariant.same
+  λ e. same_whole (g.G.RecordGroups.groups c.args.a.now) (g.H.RecordGroups.groups c.args.b.now) c.loop-first.first
+      c.loop-first.invariant.same
       (omega (arith, c.count-count.ensures, c.loop-first-test.false))
       (omega (arith, c.count.ensures, c.if-count.false, c.loop-first-test.false)),
   λ all. refl,

@@ -4,10 +4,30 @@ use Rattle.tl_number.specs.ViewFacts.{stepped}
 use Rattle.tl_write.proofs.SameGroups.{also, not_also, decides_packing, UpToChains, UpToLinks, UpToShapePoints, UpToFurtherNames}
 use Rattle.tl_write.proofs.SameGroups.{UpToRanges, UpToNames, UpToLandmarks, UpToLandmarkLinks}
 use Rattle.tl_write.proofs.comparing.same_records.Goals as goal
-use Rattle.tl_write.proofs.comparing.same_records.Goals.{then-have_same_counts, else-have_same_counts, then-are_same_groups, else-are_same_groups}
-use Rattle.tl_write.proofs.comparing.same_records.Goals.{then-are_same_groups-2, else-are_same_groups-2, then-are_same_groups-3, else-are_same_groups-3}
-use Rattle.tl_write.proofs.comparing.same_records.Goals.{then-are_same_groups-4, else-are_same_groups-4, then-are_same_groups-5, else-are_same_groups-5}
-use Rattle.tl_write.proofs.comparing.same_records.Goals.{then-are_same_groups-6, else-are_same_groups-6, then-are_same_groups-7, else-are_same_groups-7}
+use Rattle.tl_write.proofs.comparing.same_records.Goals.{
+  then-have_same_counts,
+  else-have_same_counts,
+  then-are_same_groups,
+  else-are_same_groups,
+}
+use Rattle.tl_write.proofs.comparing.same_records.Goals.{
+  then-are_same_groups-2,
+  else-are_same_groups-2,
+  then-are_same_groups-3,
+  else-are_same_groups-3,
+}
+use Rattle.tl_write.proofs.comparing.same_records.Goals.{
+  then-are_same_groups-4,
+  else-are_same_groups-4,
+  then-are_same_groups-5,
+  else-are_same_groups-5,
+}
+use Rattle.tl_write.proofs.comparing.same_records.Goals.{
+  then-are_same_groups-6,
+  else-are_same_groups-6,
+  then-are_same_groups-7,
+  else-are_same_groups-7,
+}
 
 pub returns-then-are_same_groups-8 : goal.returns-then-are_same_groups-8
 returns-then-are_same_groups-8 g c =
@@ -42,7 +62,8 @@ returns-then-are_same_groups-8 g c =
       | else-are_same_groups-6 w ↦ not_also _ _ w.if-are_same_groups-6.false w.value-is fives
     ] in
     let all : Decides c.if-are_same_groups-7.value (UpToLandmarkLinks a b) = elim c.if-are_same_groups-7.branch [
-      | then-are_same_groups-7 w ↦ also _ _ _ w.if-are_same_groups-7.true w.value-is landmarks w.are_same_groups-then-are_same_groups-7.ensures
+      | then-are_same_groups-7 w ↦ also _ _ _ w.if-are_same_groups-7.true w.value-is landmarks
+          w.are_same_groups-then-are_same_groups-7.ensures
       | else-are_same_groups-7 w ↦ not_also _ _ w.if-are_same_groups-7.false w.value-is landmarks
     ] in
     decides_packing a b c.args.a.now.view.whole.is_county c.args.b.now.view.whole.is_county _
@@ -81,7 +102,8 @@ returns-else-are_same_groups-8 g c =
       | else-are_same_groups-6 w ↦ not_also _ _ w.if-are_same_groups-6.false w.value-is fives
     ] in
     let all : Decides c.if-are_same_groups-7.value (UpToLandmarkLinks a b) = elim c.if-are_same_groups-7.branch [
-      | then-are_same_groups-7 w ↦ also _ _ _ w.if-are_same_groups-7.true w.value-is landmarks w.are_same_groups-then-are_same_groups-7.ensures
+      | then-are_same_groups-7 w ↦ also _ _ _ w.if-are_same_groups-7.true w.value-is landmarks
+          w.are_same_groups-then-are_same_groups-7.ensures
       | else-are_same_groups-7 w ↦ not_also _ _ w.if-are_same_groups-7.false w.value-is landmarks
     ] in
     decides_packing a b c.args.a.now.view.whole.is_county c.args.b.now.view.whole.is_county _

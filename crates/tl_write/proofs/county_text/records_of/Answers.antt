@@ -16,4 +16,5 @@ returns-clause-canonical g c =
       in_form = packed_arranged county is c.args.county.now.canonical.in_form;
       least = subst IsLeast (sym (packed_county county is)) c.args.county.now.canonical.least;
     } in
-    subst IsCanonical (sym (c.in_ok-give_records.ensures.given ∙ ap (λ (xs : List Record). xs ++ packed county) c.new-records.ensures.items)) canonical
+    subst IsCanonical (sym (c.in_ok-give_records.ensures.given ∙ ap (λ (xs : List Record). xs ++ packed county)
+    c.new-records.ensures.items)) canonical

@@ -22,8 +22,10 @@ returns-in_err-take-clause-given g c =
     let p = err_from_is_err_and c.from_residual.result c.from_residual.ensures.1 in
     let all : map f xs ≡ map f (take i xs) ++ ((f x ∷ []) ++ map f (drop (suc i) xs)) =
     ap (map f) (parted xs i x c.record.ensures) ∙ map-append f (take i xs) (x ∷ drop (suc i) xs) in
-    subst (λ rs. g.T.RecordTaker.Takes rs c.args.taker.now c.args.device.now c.from_residual.result c.take.new.self c.take.new.device) (sym all)
-    (rw (p.1, p.2) (g.met.T.RecordTaker.then (map f (take i xs)) ((f x ∷ []) ++ map f (drop (suc i) xs)) c.args.taker.now c.loop-place.taker c.take.new.self
+    subst (λ rs. g.T.RecordTaker.Takes rs c.args.taker.now c.args.device.now c.from_residual.result c.take.new.self c.take.new.device)
+    (sym all)
+    (rw (p.1, p.2) (g.met.T.RecordTaker.then (map f (take i xs)) ((f x ∷ []) ++ map f (drop (suc i) xs)) c.args.taker.now c.loop-place.taker
+    c.take.new.self
     c.args.device.now c.loop-place.device c.take.new.device (Err c.in_err-take.field-0.0) c.loop-place.invariant.taken
     (g.met.T.RecordTaker.stops (f x ∷ []) (map f (drop (suc i) xs)) c.loop-place.taker c.take.new.self c.loop-place.device c.take.new.device
     c.in_err-take.field-0.0 c.in_err-take.ensures.takes)))

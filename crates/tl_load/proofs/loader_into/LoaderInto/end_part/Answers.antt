@@ -23,7 +23,8 @@ goes_on : (g : given.Over) (c : goal.After-stand g) (limit : ℕ) (closed : List
 goes_on g c limit closed open_part w =
     let none : c.args.self.now.fault ≡ None = rw (← c.self.view_is) c.in_default.is in
     rw c.stand.ensures.stands
-    (fed_closed g.K.Keeper.holds limit c.args.self.now c.close_part-outcome.new.self c.close_part-outcome.result closed open_part none c.close_part-outcome.ensures.limit c.close_part-outcome.ensures.fault c.close_part-outcome.ensures.closes w)
+    (fed_closed g.K.Keeper.holds limit c.args.self.now c.close_part-outcome.new.self c.close_part-outcome.result closed open_part none
+    c.close_part-outcome.ensures.limit c.close_part-outcome.ensures.fault c.close_part-outcome.ensures.closes w)
 
 pub returns-clause-fed : goal.returns-clause-fed
 returns-clause-fed g c = goes_on g c
@@ -37,4 +38,5 @@ returns-clause-fault g c limit closed open_part w =
 pub returns-clause-kept : goal.returns-clause-kept
 returns-clause-kept g c some =
     rw (c.stand.ensures.same, c.stand.ensures.stands)
-    (some_after g.K.Keeper.holds Closes c.args.self.now c.close_part-outcome.new.self c.close_part-outcome.result c.close_part-outcome.ensures.closes some)
+    (some_after g.K.Keeper.holds Closes c.args.self.now c.close_part-outcome.new.self c.close_part-outcome.result
+    c.close_part-outcome.ensures.closes some)

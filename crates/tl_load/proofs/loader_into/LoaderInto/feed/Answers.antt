@@ -23,7 +23,8 @@ goes_on : (g : given.Over) (c : goal.After-stand g) (limit : ℕ) (closed : List
 goes_on g c limit closed open_part w =
     let none : c.args.self.now.fault ≡ None = rw (← c.self.view_is) c.in_default.is in
     rw c.stand.ensures.stands
-    (fed_piece g.K.Keeper.holds limit c.args.self.now c.take_piece-outcome.new.self c.args.piece.now c.take_piece-outcome.result closed open_part none c.take_piece-outcome.ensures.same_part c.take_piece-outcome.ensures.takes w)
+    (fed_piece g.K.Keeper.holds limit c.args.self.now c.take_piece-outcome.new.self c.args.piece.now c.take_piece-outcome.result closed
+    open_part none c.take_piece-outcome.ensures.same_part c.take_piece-outcome.ensures.takes w)
 
 pub returns-clause-fed : goal.returns-clause-fed
 returns-clause-fed g c = goes_on g c
@@ -38,10 +39,12 @@ pub returns-clause-well : goal.returns-clause-well
 returns-clause-well g c =
     let none : c.args.self.now.fault ≡ None = rw (← c.self.view_is) c.in_default.is in
     rw c.stand.ensures.same
-    (well_of_step g.K.Keeper.holds c.args.self.now c.take_piece-outcome.new.self c.args.piece.now c.take_piece-outcome.result none c.take_piece-outcome.ensures.takes c.take_piece-outcome.ensures.short)
+    (well_of_step g.K.Keeper.holds c.args.self.now c.take_piece-outcome.new.self c.args.piece.now c.take_piece-outcome.result none
+    c.take_piece-outcome.ensures.takes c.take_piece-outcome.ensures.short)
 
 pub returns-clause-kept : goal.returns-clause-kept
 returns-clause-kept g c some =
     rw (c.stand.ensures.same, c.stand.ensures.stands)
     (some_after g.K.Keeper.holds
-    (Takes c.args.piece.now) c.args.self.now c.take_piece-outcome.new.self c.take_piece-outcome.result c.take_piece-outcome.ensures.takes some)
+    (Takes c.args.piece.now) c.args.self.now c.take_piece-outcome.new.self c.take_piece-outcome.result c.take_piece-outcome.ensures.takes
+    some)

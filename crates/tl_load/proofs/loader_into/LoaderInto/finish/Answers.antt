@@ -39,7 +39,8 @@ returns-in_err-end_last_line-clause-only g c limit closed open_part records w a 
     let p = err_from_is_err_and c.from_residual.result c.from_residual.ensures.1 in
     rw (p.1, p.2) (λ is. accepted_no_fault tiger tiger_is_sound limit (all_parts closed open_part) records _ a
     (finished_fault
-    (Unit {0}) g.K.Keeper.holds limit c.args.self c.end_last_line.new.self _ closed open_part none c.in_err-end_last_line.ensures.ends w is))
+    (Unit {0}) g.K.Keeper.holds limit c.args.self c.end_last_line.new.self _ closed open_part none c.in_err-end_last_line.ensures.ends w
+    is))
 
 pub returns-clause-loaded : goal.returns-clause-loaded
 returns-clause-loaded g c limit closed open_part w =

@@ -3,7 +3,7 @@ use Rattle.std.specs.Prelude.{None}
 use Rattle.std.specs.Io.KnownBytes.{IsAtEnd}
 use Rattle.tl_load.specs.Keeping.{WasFedInto}
 use Rattle.tl_load.proofs.ReadSteps.{gave_none}
-use Rattle.tl_load.specs.Steps.{Reads}
+use Rattle.tl_load.specs.Steps.{ReadsPart}
 use Rattle.tl_load.proofs.Histories.{fed_read, well_after, some_after}
 use Rattle.tl_load.proofs.loader_into.LoaderInto.read_part_by.Goals as goal
 
@@ -26,7 +26,8 @@ returns-in-None-clause-fed g c =
       r.2,
       λ limit closed open_part w. rw (c.stand.ensures.same, c.stand.ensures.stands)
           (fed_read g.K.Keeper.holds limit c.args.self.now c.read_to_end-outcome.new.self r.0
-          (IsAtEnd (g.R.Source.remaining c.read_to_end-outcome.new.source)) c.read_to_end-outcome.result closed open_part none e.limit e.fault r.3 w),
+          (IsAtEnd (g.R.Source.remaining c.read_to_end-outcome.new.source)) c.read_to_end-outcome.result closed open_part none e.limit
+          e.fault r.3 w),
     )
 
 pub returns-in-None-clause-stops : goal.returns-in-None-clause-stops
@@ -46,5 +47,6 @@ returns-in-None-clause-kept g c some =
     let r = c.read_to_end-outcome.ensures.reads in
     rw (c.stand.ensures.same, c.stand.ensures.stands)
     (some_after g.K.Keeper.holds
-    (Reads r.0 (IsAtEnd
-    (g.R.Source.remaining c.read_to_end-outcome.new.source))) c.args.self.now c.read_to_end-outcome.new.self c.read_to_end-outcome.result r.3 some)
+    (ReadsPart r.0 (IsAtEnd
+    (g.R.Source.remaining c.read_to_end-outcome.new.source))) c.args.self.now c.read_to_end-outcome.new.self c.read_to_end-outcome.result
+    r.3 some)

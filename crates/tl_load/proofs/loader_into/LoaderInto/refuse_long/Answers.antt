@@ -19,7 +19,8 @@ returns-clause-takes g c =
     let len : c.len-rest.result ≡ length c.take-line.result.items = c.len-rest.ensures.value in
     let same : length c.take-line.result.items ≡ length c.self.inside.line.items = ap length kept_bytes in
     let short : length c.self.inside.line.items ≤ LINE_BYTES = c.self.invariant.short in
-    let fits : length c.take-line.result.items + length (take n bytes) ≤ LINE_BYTES = omega (arith, len, same, short, length-take n bytes) in
+    let fits : length c.take-line.result.items + length (take n bytes) ≤ LINE_BYTES = omega (arith, len, same, short, length-take n bytes)
+    in
     let line : c.as_slice.result.now ≡ c.take-line.result.items ++ take n bytes = c.as_slice.ensures.value
     ∙ on_ok_of c.try_extend_from_slice.result (c.try_extend_from_slice.ensures.variant.1 fits) c.try_extend_from_slice.ensures.ok in
     let split : c.self.inside.line.items ++ bytes ≡ c.as_slice.result.now ++ drop n bytes =

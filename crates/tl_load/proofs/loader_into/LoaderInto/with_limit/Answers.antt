@@ -7,4 +7,5 @@ invariant_of-result g c = rw (c.no_counts.ensures, c.new.ensures) (empty_loader 
 
 pub returns-clause-fed : goal.returns-clause-fed
 returns-clause-fed g c =
-    fed_nothing g.K.Keeper.holds c.args.limit c.empty.result c.no_counts.result c.new.result.items c.empty.ensures c.no_counts.ensures c.new.ensures
+    fed_nothing g.K.Keeper.holds c.args.limit c.empty.result c.no_counts.result c.new.result.items c.empty.ensures c.no_counts.ensures
+    c.new.ensures

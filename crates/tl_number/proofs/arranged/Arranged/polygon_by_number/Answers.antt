@@ -11,7 +11,8 @@ returns-in-Some g c =
     let county = g.C.Chart.county c.args.self.now.chart in
     let keys = c.args.self.now.polygons.numbers in
     ap (λ body. Some ((c.in-Some.old.0, c.args.place + 1), body)) c.polygon_body_of-body.ensures
-    ∙ ap (option_map (under_number county)) (ap (option_map (λ (key : PolygonKey). (key, c.args.place + 1))) (sym c.in-Some.is ∙ c.key_at.ensures)
+    ∙ ap (option_map (under_number county)) (ap (option_map (λ (key : PolygonKey). (key, c.args.place + 1)))
+    (sym c.in-Some.is ∙ c.key_at.ensures)
     ∙ sym (key_numbered keys c.args.place))
     ∙ sym (slice_get-map (under_number county) (numbered keys) c.args.place)
     ∙ ap (λ es. slice_get es c.args.place) c.args.self.now.polygons_told.by_number
@@ -20,7 +21,8 @@ pub returns-in-None : goal.returns-in-None
 returns-in-None g c =
     let county = g.C.Chart.county c.args.self.now.chart in
     let keys = c.args.self.now.polygons.numbers in
-    ap (option_map (under_number county)) (ap (option_map (λ (key : PolygonKey). (key, c.args.place + 1))) (sym c.in-None.is ∙ c.key_at.ensures)
+    ap (option_map (under_number county)) (ap (option_map (λ (key : PolygonKey). (key, c.args.place + 1)))
+    (sym c.in-None.is ∙ c.key_at.ensures)
     ∙ sym (key_numbered keys c.args.place))
     ∙ sym (slice_get-map (under_number county) (numbered keys) c.args.place)
     ∙ ap (λ es. slice_get es c.args.place) c.args.self.now.polygons_told.by_number

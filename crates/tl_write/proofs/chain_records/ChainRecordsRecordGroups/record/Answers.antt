@@ -13,16 +13,20 @@ pub new-requires : goal.new-requires
 new-requires g c =
     let chart = c.args.self.now.chart.now in
     let county = g.C.Chart.county chart in
-    let there = chain_of_group (λ entry. packed_one entry ∷ []) county (g.met.C.Chart.is_county chart) (g.met.C.Chart.within_limits chart) c.args.group c.requires.group in
-    let tlid_is : c.tlid.result ≡ there.entry.0 = some-same (slice_get (tlids county) c.args.group) c.tlid.result there.entry.0 c.tlid.ensures there.tlid in
+    let there = chain_of_group (λ entry. packed_one entry ∷ []) county (g.met.C.Chart.is_county chart) (g.met.C.Chart.within_limits chart)
+    c.args.group c.requires.group in
+    let tlid_is : c.tlid.result ≡ there.entry.0 = some-same (slice_get (tlids county) c.args.group) c.tlid.result there.entry.0
+    c.tlid.ensures there.tlid in
     subst (IsNumber 10) (sym tlid_is) there.is_number
 
 pub returns : goal.returns
 returns g c =
     let chart = c.args.self.now.chart.now in
     let county = g.C.Chart.county chart in
-    let there = chain_of_group (λ entry. packed_one entry ∷ []) county (g.met.C.Chart.is_county chart) (g.met.C.Chart.within_limits chart) c.args.group c.requires.group in
-    let tlid_is : c.tlid.result ≡ there.entry.0 = some-same (slice_get (tlids county) c.args.group) c.tlid.result there.entry.0 c.tlid.ensures there.tlid in
+    let there = chain_of_group (λ entry. packed_one entry ∷ []) county (g.met.C.Chart.is_county chart) (g.met.C.Chart.within_limits chart)
+    c.args.group c.requires.group in
+    let tlid_is : c.tlid.result ≡ there.entry.0 = some-same (slice_get (tlids county) c.args.group) c.tlid.result there.entry.0
+    c.tlid.ensures there.tlid in
     let points = there.entry.1.points in
     let body_is : c.chain_body.result ≡ there.entry.1.body =
     some-same (option_map (λ chain. chain.body) (chain_at county c.args.group)) c.chain_body.result there.entry.1.body c.chain_body.ensures

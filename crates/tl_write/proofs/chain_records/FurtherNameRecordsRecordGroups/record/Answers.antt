@@ -14,7 +14,8 @@ pub overflow_mul-place : goal.overflow_mul-place
 overflow_mul-place g c =
     let chart = c.args.self.now.chart.now in
     let county = g.C.Chart.county chart in
-    let there = chain_of_group packed_fours county (g.met.C.Chart.is_county chart) (g.met.C.Chart.within_limits chart) c.args.group c.requires.group in
+    let there = chain_of_group packed_fours county (g.met.C.Chart.is_county chart) (g.met.C.Chart.within_limits chart) c.args.group
+    c.requires.group in
     let xs = there.entry.1.feats in
     let count : c.args.place < length (in_pieces 5 xs) =
     subst (λ n. c.args.place < n) (ap length (group_of packed_fours county.chains c.args.group there.entry there.get)
@@ -26,7 +27,8 @@ pub names_from-names-requires-clause-first : goal.names_from-names-requires-clau
 names_from-names-requires-clause-first g c =
     let chart = c.args.self.now.chart.now in
     let county = g.C.Chart.county chart in
-    let there = chain_of_group packed_fours county (g.met.C.Chart.is_county chart) (g.met.C.Chart.within_limits chart) c.args.group c.requires.group in
+    let there = chain_of_group packed_fours county (g.met.C.Chart.is_county chart) (g.met.C.Chart.within_limits chart) c.args.group
+    c.requires.group in
     let xs = there.entry.1.feats in
     let count : c.args.place < length (in_pieces 5 xs) =
     subst (λ n. c.args.place < n) (ap length (group_of packed_fours county.chains c.args.group there.entry there.get)
@@ -38,7 +40,8 @@ pub overflow_cast-place : goal.overflow_cast-place
 overflow_cast-place g c =
     let chart = c.args.self.now.chart.now in
     let county = g.C.Chart.county chart in
-    let there = chain_of_group packed_fours county (g.met.C.Chart.is_county chart) (g.met.C.Chart.within_limits chart) c.args.group c.requires.group in
+    let there = chain_of_group packed_fours county (g.met.C.Chart.is_county chart) (g.met.C.Chart.within_limits chart) c.args.group
+    c.requires.group in
     let xs = there.entry.1.feats in
     let count : c.args.place < length (in_pieces 5 xs) =
     subst (λ n. c.args.place < n) (ap length (group_of packed_fours county.chains c.args.group there.entry there.get)
@@ -50,7 +53,8 @@ pub overflow_add-place : goal.overflow_add-place
 overflow_add-place g c =
     let chart = c.args.self.now.chart.now in
     let county = g.C.Chart.county chart in
-    let there = chain_of_group packed_fours county (g.met.C.Chart.is_county chart) (g.met.C.Chart.within_limits chart) c.args.group c.requires.group in
+    let there = chain_of_group packed_fours county (g.met.C.Chart.is_county chart) (g.met.C.Chart.within_limits chart) c.args.group
+    c.requires.group in
     let xs = there.entry.1.feats in
     let count : c.args.place < length (in_pieces 5 xs) =
     subst (λ n. c.args.place < n) (ap length (group_of packed_fours county.chains c.args.group there.entry there.get)
@@ -62,15 +66,18 @@ pub new-requires-clause-tlid : goal.new-requires-clause-tlid
 new-requires-clause-tlid g c =
     let chart = c.args.self.now.chart.now in
     let county = g.C.Chart.county chart in
-    let there = chain_of_group packed_fours county (g.met.C.Chart.is_county chart) (g.met.C.Chart.within_limits chart) c.args.group c.requires.group in
-    let tlid_is : c.tlid.result ≡ there.entry.0 = some-same (slice_get (tlids county) c.args.group) c.tlid.result there.entry.0 c.tlid.ensures there.tlid in
+    let there = chain_of_group packed_fours county (g.met.C.Chart.is_county chart) (g.met.C.Chart.within_limits chart) c.args.group
+    c.requires.group in
+    let tlid_is : c.tlid.result ≡ there.entry.0 = some-same (slice_get (tlids county) c.args.group) c.tlid.result there.entry.0
+    c.tlid.ensures there.tlid in
     subst (IsNumber 10) (sym tlid_is) there.is_number
 
 pub new-requires-clause-feats : goal.new-requires-clause-feats
 new-requires-clause-feats g c =
     let chart = c.args.self.now.chart.now in
     let county = g.C.Chart.county chart in
-    let there = chain_of_group packed_fours county (g.met.C.Chart.is_county chart) (g.met.C.Chart.within_limits chart) c.args.group c.requires.group in
+    let there = chain_of_group packed_fours county (g.met.C.Chart.is_county chart) (g.met.C.Chart.within_limits chart) c.args.group
+    c.requires.group in
     let xs = there.entry.1.feats in
     let count : c.args.place < length (in_pieces 5 xs) =
     subst (λ n. c.args.place < n) (ap length (group_of packed_fours county.chains c.args.group there.entry there.get)
@@ -84,7 +91,8 @@ pub new-requires-clause-rtsq : goal.new-requires-clause-rtsq
 new-requires-clause-rtsq g c =
     let chart = c.args.self.now.chart.now in
     let county = g.C.Chart.county chart in
-    let there = chain_of_group packed_fours county (g.met.C.Chart.is_county chart) (g.met.C.Chart.within_limits chart) c.args.group c.requires.group in
+    let there = chain_of_group packed_fours county (g.met.C.Chart.is_county chart) (g.met.C.Chart.within_limits chart) c.args.group
+    c.requires.group in
     let xs = there.entry.1.feats in
     let count : c.args.place < length (in_pieces 5 xs) =
     subst (λ n. c.args.place < n) (ap length (group_of packed_fours county.chains c.args.group there.entry there.get)
@@ -96,8 +104,10 @@ pub returns : goal.returns
 returns g c =
     let chart = c.args.self.now.chart.now in
     let county = g.C.Chart.county chart in
-    let there = chain_of_group packed_fours county (g.met.C.Chart.is_county chart) (g.met.C.Chart.within_limits chart) c.args.group c.requires.group in
-    let tlid_is : c.tlid.result ≡ there.entry.0 = some-same (slice_get (tlids county) c.args.group) c.tlid.result there.entry.0 c.tlid.ensures there.tlid in
+    let there = chain_of_group packed_fours county (g.met.C.Chart.is_county chart) (g.met.C.Chart.within_limits chart) c.args.group
+    c.requires.group in
+    let tlid_is : c.tlid.result ≡ there.entry.0 = some-same (slice_get (tlids county) c.args.group) c.tlid.result there.entry.0
+    c.tlid.ensures there.tlid in
     let xs = there.entry.1.feats in
     let count : c.args.place < length (in_pieces 5 xs) =
     subst (λ n. c.args.place < n) (ap length (group_of packed_fours county.chains c.args.group there.entry there.get)

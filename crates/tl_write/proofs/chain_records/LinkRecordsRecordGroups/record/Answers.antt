@@ -13,20 +13,25 @@ pub new-requires-clause-tlid : goal.new-requires-clause-tlid
 new-requires-clause-tlid g c =
     let chart = c.args.self.now.chart.now in
     let county = g.C.Chart.county chart in
-    let there = chain_of_group (λ entry. packed_i entry ∷ []) county (g.met.C.Chart.is_county chart) (g.met.C.Chart.within_limits chart) c.args.group c.requires.group in
-    let tlid_is : c.tlid.result ≡ there.entry.0 = some-same (slice_get (tlids county) c.args.group) c.tlid.result there.entry.0 c.tlid.ensures there.tlid in
+    let there = chain_of_group (λ entry. packed_i entry ∷ []) county (g.met.C.Chart.is_county chart) (g.met.C.Chart.within_limits chart)
+    c.args.group c.requires.group in
+    let tlid_is : c.tlid.result ≡ there.entry.0 = some-same (slice_get (tlids county) c.args.group) c.tlid.result there.entry.0
+    c.tlid.ensures there.tlid in
     subst (IsNumber 10) (sym tlid_is) there.is_number
 
 pub new-requires-clause-nodes : goal.new-requires-clause-nodes
 new-requires-clause-nodes g c =
     let chart = c.args.self.now.chart.now in
     let county = g.C.Chart.county chart in
-    let there = chain_of_group (λ entry. packed_i entry ∷ []) county (g.met.C.Chart.is_county chart) (g.met.C.Chart.within_limits chart) c.args.group c.requires.group in
+    let there = chain_of_group (λ entry. packed_i entry ∷ []) county (g.met.C.Chart.is_county chart) (g.met.C.Chart.within_limits chart)
+    c.args.group c.requires.group in
     let start_is : c.start_node.result ≡ there.entry.1.start_node =
-    some-same (option_map (λ chain. chain.start_node) (chain_at county c.args.group)) c.start_node.result there.entry.1.start_node c.start_node.ensures
+    some-same (option_map (λ chain. chain.start_node) (chain_at county c.args.group)) c.start_node.result there.entry.1.start_node
+    c.start_node.ensures
     (ap (option_map (λ chain. chain.start_node)) there.chain) in
     let end_is : c.end_node.result ≡ there.entry.1.end_node =
-    some-same (option_map (λ chain. chain.end_node) (chain_at county c.args.group)) c.end_node.result there.entry.1.end_node c.end_node.ensures
+    some-same (option_map (λ chain. chain.end_node) (chain_at county c.args.group)) c.end_node.result there.entry.1.end_node
+    c.end_node.ensures
     (ap (option_map (λ chain. chain.end_node)) there.chain) in (
       subst (IsNumberOrNone 10) (sym start_is) there.named.start_node,
       subst (IsNumberOrNone 10) (sym end_is) there.named.end_node,
@@ -36,16 +41,20 @@ pub returns : goal.returns
 returns g c =
     let chart = c.args.self.now.chart.now in
     let county = g.C.Chart.county chart in
-    let there = chain_of_group (λ entry. packed_i entry ∷ []) county (g.met.C.Chart.is_county chart) (g.met.C.Chart.within_limits chart) c.args.group c.requires.group in
-    let tlid_is : c.tlid.result ≡ there.entry.0 = some-same (slice_get (tlids county) c.args.group) c.tlid.result there.entry.0 c.tlid.ensures there.tlid in
+    let there = chain_of_group (λ entry. packed_i entry ∷ []) county (g.met.C.Chart.is_county chart) (g.met.C.Chart.within_limits chart)
+    c.args.group c.requires.group in
+    let tlid_is : c.tlid.result ≡ there.entry.0 = some-same (slice_get (tlids county) c.args.group) c.tlid.result there.entry.0
+    c.tlid.ensures there.tlid in
     let body_is : c.unwrap.result ≡ there.entry.1.link_body =
     some-same c.args.head c.unwrap.result there.entry.1.link_body (sym c.unwrap.ensures)
     (c.requires.head ∙ ap (option_map (λ chain. chain.link_body)) there.chain) in
     let start_is : c.start_node.result ≡ there.entry.1.start_node =
-    some-same (option_map (λ chain. chain.start_node) (chain_at county c.args.group)) c.start_node.result there.entry.1.start_node c.start_node.ensures
+    some-same (option_map (λ chain. chain.start_node) (chain_at county c.args.group)) c.start_node.result there.entry.1.start_node
+    c.start_node.ensures
     (ap (option_map (λ chain. chain.start_node)) there.chain) in
     let end_is : c.end_node.result ≡ there.entry.1.end_node =
-    some-same (option_map (λ chain. chain.end_node) (chain_at county c.args.group)) c.end_node.result there.entry.1.end_node c.end_node.ensures
+    some-same (option_map (λ chain. chain.end_node) (chain_at county c.args.group)) c.end_node.result there.entry.1.end_node
+    c.end_node.ensures
     (ap (option_map (λ chain. chain.end_node)) there.chain) in
     let left_is : c.left.result ≡ there.entry.1.left =
     some-same (option_map (λ chain. chain.left) (chain_at county c.args.group)) c.left.result there.entry.1.left c.left.ensures

@@ -12,7 +12,8 @@ pub overflow_mul-place : goal.overflow_mul-place
 overflow_mul-place g c =
     let chart = c.args.self.now.chart.now in
     let county = g.C.Chart.county chart in
-    let there = chain_of_group packed_twos county (g.met.C.Chart.is_county chart) (g.met.C.Chart.within_limits chart) c.args.group c.requires.group in
+    let there = chain_of_group packed_twos county (g.met.C.Chart.is_county chart) (g.met.C.Chart.within_limits chart) c.args.group
+    c.requires.group in
     let xs = inner_points there.entry.1.points in
     let count : c.args.place < length (in_pieces 10 xs) =
     subst (λ n. c.args.place < n) (ap length (group_of packed_twos county.chains c.args.group there.entry there.get)
@@ -24,7 +25,8 @@ pub shape_points_from-points-requires-clause-first : goal.shape_points_from-poin
 shape_points_from-points-requires-clause-first g c =
     let chart = c.args.self.now.chart.now in
     let county = g.C.Chart.county chart in
-    let there = chain_of_group packed_twos county (g.met.C.Chart.is_county chart) (g.met.C.Chart.within_limits chart) c.args.group c.requires.group in
+    let there = chain_of_group packed_twos county (g.met.C.Chart.is_county chart) (g.met.C.Chart.within_limits chart) c.args.group
+    c.requires.group in
     let xs = inner_points there.entry.1.points in
     let count : c.args.place < length (in_pieces 10 xs) =
     subst (λ n. c.args.place < n) (ap length (group_of packed_twos county.chains c.args.group there.entry there.get)
@@ -36,7 +38,8 @@ pub overflow_cast-place : goal.overflow_cast-place
 overflow_cast-place g c =
     let chart = c.args.self.now.chart.now in
     let county = g.C.Chart.county chart in
-    let there = chain_of_group packed_twos county (g.met.C.Chart.is_county chart) (g.met.C.Chart.within_limits chart) c.args.group c.requires.group in
+    let there = chain_of_group packed_twos county (g.met.C.Chart.is_county chart) (g.met.C.Chart.within_limits chart) c.args.group
+    c.requires.group in
     let xs = inner_points there.entry.1.points in
     let count : c.args.place < length (in_pieces 10 xs) =
     subst (λ n. c.args.place < n) (ap length (group_of packed_twos county.chains c.args.group there.entry there.get)
@@ -48,7 +51,8 @@ pub overflow_add-place : goal.overflow_add-place
 overflow_add-place g c =
     let chart = c.args.self.now.chart.now in
     let county = g.C.Chart.county chart in
-    let there = chain_of_group packed_twos county (g.met.C.Chart.is_county chart) (g.met.C.Chart.within_limits chart) c.args.group c.requires.group in
+    let there = chain_of_group packed_twos county (g.met.C.Chart.is_county chart) (g.met.C.Chart.within_limits chart) c.args.group
+    c.requires.group in
     let xs = inner_points there.entry.1.points in
     let count : c.args.place < length (in_pieces 10 xs) =
     subst (λ n. c.args.place < n) (ap length (group_of packed_twos county.chains c.args.group there.entry there.get)
@@ -60,15 +64,18 @@ pub new-requires-clause-tlid : goal.new-requires-clause-tlid
 new-requires-clause-tlid g c =
     let chart = c.args.self.now.chart.now in
     let county = g.C.Chart.county chart in
-    let there = chain_of_group packed_twos county (g.met.C.Chart.is_county chart) (g.met.C.Chart.within_limits chart) c.args.group c.requires.group in
-    let tlid_is : c.tlid.result ≡ there.entry.0 = some-same (slice_get (tlids county) c.args.group) c.tlid.result there.entry.0 c.tlid.ensures there.tlid in
+    let there = chain_of_group packed_twos county (g.met.C.Chart.is_county chart) (g.met.C.Chart.within_limits chart) c.args.group
+    c.requires.group in
+    let tlid_is : c.tlid.result ≡ there.entry.0 = some-same (slice_get (tlids county) c.args.group) c.tlid.result there.entry.0
+    c.tlid.ensures there.tlid in
     subst (IsNumber 10) (sym tlid_is) there.is_number
 
 pub new-requires-clause-rtsq : goal.new-requires-clause-rtsq
 new-requires-clause-rtsq g c =
     let chart = c.args.self.now.chart.now in
     let county = g.C.Chart.county chart in
-    let there = chain_of_group packed_twos county (g.met.C.Chart.is_county chart) (g.met.C.Chart.within_limits chart) c.args.group c.requires.group in
+    let there = chain_of_group packed_twos county (g.met.C.Chart.is_county chart) (g.met.C.Chart.within_limits chart) c.args.group
+    c.requires.group in
     let xs = inner_points there.entry.1.points in
     let count : c.args.place < length (in_pieces 10 xs) =
     subst (λ n. c.args.place < n) (ap length (group_of packed_twos county.chains c.args.group there.entry there.get)
@@ -80,8 +87,10 @@ pub returns : goal.returns
 returns g c =
     let chart = c.args.self.now.chart.now in
     let county = g.C.Chart.county chart in
-    let there = chain_of_group packed_twos county (g.met.C.Chart.is_county chart) (g.met.C.Chart.within_limits chart) c.args.group c.requires.group in
-    let tlid_is : c.tlid.result ≡ there.entry.0 = some-same (slice_get (tlids county) c.args.group) c.tlid.result there.entry.0 c.tlid.ensures there.tlid in
+    let there = chain_of_group packed_twos county (g.met.C.Chart.is_county chart) (g.met.C.Chart.within_limits chart) c.args.group
+    c.requires.group in
+    let tlid_is : c.tlid.result ≡ there.entry.0 = some-same (slice_get (tlids county) c.args.group) c.tlid.result there.entry.0
+    c.tlid.ensures there.tlid in
     let xs = inner_points there.entry.1.points in
     let count : c.args.place < length (in_pieces 10 xs) =
     subst (λ n. c.args.place < n) (ap length (group_of packed_twos county.chains c.args.group there.entry there.get)

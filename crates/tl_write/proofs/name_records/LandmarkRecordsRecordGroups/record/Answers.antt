@@ -23,7 +23,8 @@ new-requires g c =
     let chart = c.args.self.now.chart.now in
     let county = g.C.Chart.county chart in
     let there = landmark_of_group county (g.met.C.Chart.within_limits chart) c.args.group packed_sevens c.requires.group in
-    let land_is : c.land.result ≡ there.entry.0 = some-same (slice_get (lands county) c.args.group) c.land.result there.entry.0 c.land.ensures there.land in
+    let land_is : c.land.result ≡ there.entry.0 = some-same (slice_get (lands county) c.args.group) c.land.result there.entry.0
+    c.land.ensures there.land in
     subst (IsNumber 10) (sym land_is) there.is_number
 
 pub returns : goal.returns
@@ -31,7 +32,8 @@ returns g c =
     let chart = c.args.self.now.chart.now in
     let county = g.C.Chart.county chart in
     let there = landmark_of_group county (g.met.C.Chart.within_limits chart) c.args.group packed_sevens c.requires.group in
-    let land_is : c.land.result ≡ there.entry.0 = some-same (slice_get (lands county) c.args.group) c.land.result there.entry.0 c.land.ensures there.land in
+    let land_is : c.land.result ≡ there.entry.0 = some-same (slice_get (lands county) c.args.group) c.land.result there.entry.0
+    c.land.ensures there.land in
     let make : Body7 → Fields7 = λ body. record { land = there.entry.0; body = body } in
     let read : slice_get there.entry.1 c.args.place ≡ Some c.landmark_body.result =
     sym (c.landmark_body.ensures ∙ ap (λ bodies. slice_get bodies c.args.place) there.bodies) in

@@ -29,6 +29,7 @@ returns g c =
     let county = stepped (g.C.Chart.county c.args.self.now.county.now.view.chart) c.args.self.now.county.now.view.steps.items in
     let entry = c.args.head in
     ap Some c.new.ensures
-    ∙ sym (lone (group_at (type_p_by_number county) c.args._group) (record { cenid = entry.0.0; polyid = entry.0.1; body = c.unwrap.result }) c.args._place
+    ∙ sym (lone (group_at (type_p_by_number county) c.args._group)
+    (record { cenid = entry.0.0; polyid = entry.0.1; body = c.unwrap.result }) c.args._place
     (polygon_group county c.args._group entry c.requires.head
     ∙ ap (λ o. option_to_list (packed_body entry.0 o)) c.unwrap.ensures) c.requires.place)

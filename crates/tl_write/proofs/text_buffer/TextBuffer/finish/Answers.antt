@@ -13,7 +13,8 @@ all_sent holds held text buffer sink none h =
 
 pub returns-clause-whole : goal.returns-clause-whole
 returns-clause-whole g c held text h =
-    let done = all_sent g.W.Sink.holds held text c.send.new.self c.send.new.w c.in_ok-send.ensures.empty (c.in_ok-send.ensures.sent held text h) in
+    let done = all_sent g.W.Sink.holds held text c.send.new.self c.send.new.w c.in_ok-send.ensures.empty
+    (c.in_ok-send.ensures.sent held text h) in
     (done.0, ap (λ b. b.sent) c.self.view_is ∙ done.1)
 
 pub returns-in_err-send-clause-counted : goal.returns-in_err-send-clause-counted

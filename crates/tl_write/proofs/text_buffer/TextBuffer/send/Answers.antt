@@ -12,7 +12,8 @@ stopped holds held text sent waiting n total sink is short count arrived = recor
   rest = drop n waiting;
   text_is = is ∙ ap (λ w. sent ++ w) (sym (take-append-drop n waiting)) ∙ sym (append_assoc sent (take n waiting) (drop n waiting));
   some_left = omega (arith, length-drop n waiting, short);
-  count = count ∙ ap up_to_most (sym (length-append sent (take n waiting) ∙ ap (λ m. length sent + m) (omega (arith, length-take n waiting, short))));
+  count = count ∙ ap up_to_most (sym (length-append sent (take n waiting) ∙ ap (λ m. length sent + m)
+      (omega (arith, length-take n waiting, short))));
   arrived = subst (holds sink) (append_assoc held sent (take n waiting)) arrived;
 }
 

@@ -1,0 +1,82 @@
+use Rattle.std.proofs.Common.{◌≡◌, sym, ap, ◌∙◌, subst}
+use Rattle.tl_county.specs.Renumbering.{AreSame, Carries}
+use Rattle.tl_county.proofs.Keys.{nat_keys, times-permutation}
+use Rattle.tl_county.specs.CountyRules.{tlids}
+use Rattle.tl_number.specs.Arrangement.{arranged, arranged_tlids, ascending, renaming_of}
+use Rattle.tl_number.specs.CanonCounties.{IsCanonCounty}
+use Rattle.tl_number.specs.ViewFacts.{NamesEachOnce, stepped}
+use Rattle.tl_number.specs.Steps.{arrangement_of}
+use Rattle.tl_number.proofs.AscendingSteps.{steps_ascend, steps_there}
+use Rattle.tl_number.proofs.Ascending.{ascending_arranges, ascending_least, sides_in_profile}
+use Rattle.tl_number.proofs.Carrying.{arrangement_carries}
+use Rattle.tl_number.proofs.ArrangedCounties.{is_arranged}
+use Rattle.tl_number.proofs.arranging.canonise_in_order.Goals as goal
+
+pub arrange-requires-clause-there : goal.arrange-requires-clause-there
+arrange-requires-clause-there g c =
+    let county = g.C.Chart.county c.args.chart in
+    steps_there county c.args.order.now c.requires.shapes c.in_ok-steps.steps.items c.in_ok-steps.ensures
+
+pub arrange-requires-clause-once : goal.arrange-requires-clause-once
+arrange-requires-clause-once g c =
+    let county = g.C.Chart.county c.args.chart in
+    let is = g.met.C.Chart.is_county c.args.chart in
+    let profile = c.requires.profile in
+    let ascends = steps_ascend county c.args.order.now c.requires.shapes c.in_ok-steps.steps.items c.in_ok-steps.ensures in
+    subst (NamesEachOnce county) (sym ascends)
+    (λ tlid. sym (times-permutation nat_keys tlid (arranged_tlids (ascending county)) (tlids county)
+    (ascending_arranges county is profile)))
+
+pub arrange-requires-clause-sides : goal.arrange-requires-clause-sides
+arrange-requires-clause-sides g c =
+    let county = g.C.Chart.county c.args.chart in
+    let is = g.met.C.Chart.is_county c.args.chart in
+    let profile = c.requires.profile in
+    sides_in_profile county is profile
+
+pub invariant_of-result : goal.invariant_of-result
+invariant_of-result g c =
+    let county = g.C.Chart.county c.args.chart in
+    let is = g.met.C.Chart.is_county c.args.chart in
+    let profile = c.requires.profile in
+    let order = ascending county in
+    let arranges = ascending_arranges county is profile in
+    let sides = sides_in_profile county is profile in
+    let view = c.in_ok-view.view in
+    let ascends = steps_ascend county c.args.order.now c.requires.shapes c.in_ok-steps.steps.items c.in_ok-steps.ensures in
+    let told : stepped (g.C.Chart.county view.chart) view.steps.items ≡ arranged county order =
+    c.in_ok-view.ensures.county ∙ ap (arranged county) ascends in
+    record {
+      canonical = subst IsCanonCounty (sym told)
+          (record { in_form = is_arranged county order is arranges sides; least = ascending_least county is profile });
+      same = subst (λ source. ∥ AreSame (g.C.Chart.county source) (stepped (g.C.Chart.county view.chart) view.steps.items) ∥₁)
+          (sym c.in_ok-view.ensures.source)
+          (subst (λ new. ∥ AreSame county new ∥₁) (sym told)
+          (∣ record { by = renaming_of county order; carries = arrangement_carries county order is arranges sides } ∣₁));
+    }
+
+pub returns-clause-county : goal.returns-clause-county
+returns-clause-county g c =
+    let county = g.C.Chart.county c.args.chart in
+    let ascends = steps_ascend county c.args.order.now c.requires.shapes c.in_ok-steps.steps.items c.in_ok-steps.ensures in
+    c.in_ok-view.ensures.county ∙ ap (arranged county) ascends
+
+pub returns-clause-order : goal.returns-clause-order
+returns-clause-order g c =
+    let county = g.C.Chart.county c.args.chart in
+    let ascends = steps_ascend county c.args.order.now c.requires.shapes c.in_ok-steps.steps.items c.in_ok-steps.ensures in
+    ap (λ steps. arrangement_of county steps.items) c.in_ok-view.ensures.order ∙ ascends
+
+pub returns-clause-carried : goal.returns-clause-carried
+returns-clause-carried g c =
+    let county = g.C.Chart.county c.args.chart in
+    let is = g.met.C.Chart.is_county c.args.chart in
+    let profile = c.requires.profile in
+    let order = ascending county in
+    let arranges = ascending_arranges county is profile in
+    let sides = sides_in_profile county is profile in
+    let view = c.in_ok-view.view in
+    let ascends = steps_ascend county c.args.order.now c.requires.shapes c.in_ok-steps.steps.items c.in_ok-steps.ensures in
+    let told : stepped (g.C.Chart.county view.chart) view.steps.items ≡ arranged county order =
+    c.in_ok-view.ensures.county ∙ ap (arranged county) ascends in
+    subst (Carries (renaming_of county order) county) (sym told) (arrangement_carries county order is arranges sides)

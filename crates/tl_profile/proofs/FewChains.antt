@@ -1,0 +1,15 @@
+-- The chains of a county within its limits are few enough for places of 32 bits.
+use Rattle.std.proofs.Common.{◌^◌, ◌<◌, ◌≤◌, map, length, subst, arith}
+use Rattle.std.proofs.lemmas.List.{length-map}
+use Rattle.tl_county.specs.County.{County}
+use Rattle.tl_county.specs.Limits.{IsWithinLimits, most_records}
+use Rattle.tl_county.specs.Packing.{packed, packed_by_type, packed_one}
+use Rattle.tl_county.proofs.PackedTypes.{by_type_of}
+use Rattle.tl_county.proofs.TypeCounts.{HasAtMost, by_type_within}
+
+pub few_chains : (county : County) → IsWithinLimits most_records county → length county.chains < 2 ^ 32
+few_chains county within =
+    let counts : HasAtMost most_records (packed_by_type county) =
+    subst (HasAtMost most_records) (by_type_of (packed_by_type county)) (by_type_within most_records (packed county) within.counts) in
+    let ones : length (map packed_one county.chains) ≤ most_records = counts.of_type_1 in
+    omega (arith, ones, length-map county.chains packed_one)

@@ -1,0 +1,18 @@
+use Rattle.tl_profile.specs.PlacedShapes.{HasHead}
+use Rattle.tl_profile.proofs.PlacedOrder.{sorted_walks}
+use Rattle.tl_profile.proofs.KeysInOrder.{all_permuted}
+use Rattle.tl_profile.proofs.shapes.ordered_shapes.Goals as goal
+
+pub returns-clause-heads : goal.returns-clause-heads
+returns-clause-heads g c =
+    all_permuted (HasHead (g.C.Chart.county c.args.chart.now)) c.in_ok-shapes.shapes.items c.order_shapes.new.shapes.items
+    c.order_shapes.ensures.permutation c.in_ok-shapes.ensures.heads
+
+pub returns-clause-order : goal.returns-clause-order
+returns-clause-order g c =
+    let county = g.C.Chart.county c.args.chart.now in
+    let shapes = c.in_ok-shapes.shapes.items in
+    let sorted = c.order_shapes.new.shapes.items in
+    sorted_walks county shapes sorted c.in_ok-shapes.ensures.walks c.order_shapes.ensures.permutation
+    (all_permuted (HasHead county) shapes sorted c.order_shapes.ensures.permutation c.in_ok-shapes.ensures.heads)
+    c.order_shapes.ensures.in_order

@@ -1,0 +1,40 @@
+-- The order of a county's chains by their shapes.
+use Rattle.std.specs.Prelude.{ℕ, List, map, reverse, length, slice_index, IsPermutation}
+use Rattle.std.specs.List.{range_with_len}
+use Rattle.std.specs.declared.cmp.Ordering.{Ordering}
+use Rattle.std.specs.Ordering.{is_lt, nat_cmp, ordering_then}
+use Rattle.tl_layout.specs.Coordinates.{Coordinates}
+use Rattle.tl_shape.specs.PointOrder.{points_cmp}
+use Rattle.tl_county.specs.County.{County}
+use Rattle.tl_county.specs.CountyRules.{tlids}
+use Rattle.tl_county.specs.Orders.{IsInOrder}
+use Rattle.tl_profile.specs.Shapes.{ShapeKey, points_at, points_from}
+use Rattle.tl_profile.specs.declared.chain_walk.ChainWalk.{ChainWalk}
+
+-- the points that a walk comes to
+abbrev pub points_along : County → ChainWalk → List Coordinates
+points_along county walk = points_from walk.turned (points_at county walk.place)
+
+-- the walk along which the points of the chain at a place are its shape: it is turned if their reverse comes before them
+abbrev pub least_walk : County → ℕ → ChainWalk
+least_walk county place = record {
+  place = place;
+  turned = is_lt (points_cmp (reverse (points_at county place)) (points_at county place));
+}
+
+-- those of all chains, by their places
+abbrev pub least_walks : County → List ChainWalk
+least_walks county = map (least_walk county) (range_with_len 0 (length county.chains))
+
+-- by the points along the walks, and then by the places
+abbrev pub walk_cmp : County → ChainWalk → ChainWalk → Ordering
+walk_cmp county a b = ordering_then (points_cmp (points_along county a) (points_along county b)) (nat_cmp a.place b.place)
+
+-- the walks of all chains along their shapes, in the order of the shapes; where shapes are the same, by their places
+pub record IsShapeOrder (county : County) (walks : List ChainWalk) : Type 0 where
+  pub all : IsPermutation (least_walks county) walks
+  pub in_order : IsInOrder (walk_cmp county) walks
+
+-- the points along a walk, with the TLID of its chain
+abbrev pub key_of_walk : County → ChainWalk → ShapeKey
+key_of_walk county walk = (points_along county walk, slice_index (tlids county) walk.place)

@@ -1,0 +1,77 @@
+//! Ways along the points of chains.
+
+ghost use Rattle.std.specs.Prelude.{◌≡◌, reverse, slice_get};
+ghost use Rattle.tl_shape.specs.PointOrder.{points_cmp};
+ghost use Rattle.tl_profile.specs.Shapes.{points_at};
+ghost use Rattle.tl_profile.specs.ShapeOrder.{least_walk, points_along};
+
+use std::cmp::Ordering;
+use tl_county::Chart;
+use tl_layout::Point;
+
+/// A way along a chain's points: from its start node on, or turned, from its end node on.
+#[derive(Clone, Copy, Debug, PartialEq, Eq)]
+pub struct ChainWalk {
+    /// Place of the chain in the ascending list of TLIDs, from 0.
+    pub place: u32,
+    /// Whether the walk begins at the end node.
+    pub turned: bool,
+}
+
+/// The point that a walk comes to at an index, from 0, or none past its last.
+pub(crate) fn point_along<C: Chart>(chart: &C, walk: ChainWalk, index: usize) -> Option<Point>
+    ensures { result ≡ slice_get (points_along (C.county chart.now) walk) index }
+{
+    let place = walk.place as usize;
+    if !walk.turned {
+        return chart.point_at(place, index);
+    }
+    let count = chart.point_count_at(place);
+    if index < count {
+        chart.point_at(place, count - 1 - index)
+    } else {
+        None
+    }
+}
+
+/// How the points along one walk stand to those along another: the first that differ decide, and a beginning comes first.
+pub(crate) fn compare_walks<C: Chart>(chart: &C, walk: ChainWalk, other: ChainWalk) -> Ordering
+    ensures { result ≡ points_cmp (points_along (C.county chart.now) walk) (points_along (C.county chart.now) other) }
+{
+    let count = chart.point_count_at(walk.place as usize);
+    for index in 0..count {
+        match point_along(chart, walk, index).cmp(&point_along(chart, other, index)) {
+            Ordering::Equal => {}
+            unequal => return unequal,
+        }
+    }
+    match point_along(chart, other, count) {
+        Some(_) => Ordering::Less,
+        None => Ordering::Equal,
+    }
+}
+
+/// How the points of the chain at a place, taken in reverse, stand to the points as they are.
+pub(crate) fn compare_reverse<C: Chart>(chart: &C, place: u32) -> Ordering
+    ensures { let points = points_at (C.county chart.now) place in result ≡ points_cmp (reverse points) points }
+{
+    let backward = ChainWalk {
+        place,
+        turned: true,
+    };
+    let forward = ChainWalk {
+        place,
+        turned: false,
+    };
+    compare_walks(chart, backward, forward)
+}
+
+/// The walk along which the points of the chain at a place are its shape.
+pub(crate) fn shape_walk<C: Chart>(chart: &C, place: u32) -> ChainWalk
+    ensures { result ≡ least_walk (C.county chart.now) place }
+{
+    ChainWalk {
+        place,
+        turned: compare_reverse(chart, place).is_lt(),
+    }
+}
