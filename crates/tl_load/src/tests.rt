@@ -14,7 +14,7 @@ use comparing::{same, same_items};
 use std::alloc::{AllocError, Global};
 use std::process::Abort;
 use std::test::Fail;
-use tl_layout::{RecI, Record, Tables};
+use tl_layout::{MOST_RECORDS, RecI, Record, Tables};
 
 /// A chain and its link, with blank VERSION and coordinates without sign, and their canonical spellings.
 const CHAIN: &[u8] =
