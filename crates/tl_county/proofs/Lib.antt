@@ -9,6 +9,7 @@ pub mod Members
 pub mod Carried
 pub mod InOrder
 pub mod Numbers
+pub mod NumberSets
 pub mod LinkedCounty
 pub mod Samples
 pub mod OnSamples

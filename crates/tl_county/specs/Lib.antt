@@ -14,6 +14,7 @@ pub mod ChartWords
 pub mod CountyProps
 pub mod PolygonKeys
 pub mod PolygonNumbers
+pub mod NumberSets
 pub mod BodyOrder
 pub mod County
 pub mod CountyRules

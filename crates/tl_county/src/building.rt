@@ -13,7 +13,8 @@ ghost use Rattle.tl_county.specs.LandmarkParts.{LandmarkParts};
 ghost use Rattle.tl_county.specs.Orders.{IsInOrder, distinct};
 ghost use Rattle.tl_county.specs.PolygonKeys.{key_cmp};
 
-use crate::keyed::{keys_of, sort_keys, split_group};
+use crate::keyed::{keys_of, split_group};
+use crate::number_set::NumberSet;
 use crate::record_keys::PolygonKey;
 use std::alloc::{AllocError, Global};
 use tl_layout::{
@@ -227,34 +228,24 @@ pub(crate) fn landmarks_of<L: Drop, B: LandmarkBuilder<L>>(
     Ok(found)
 }
 
-/// Adds a node, if there is one.
-fn push_node(nodes: &mut Vec<u64>, node: Option<u64>) -> Result<(), AllocError>
-    ensures { OnOk result (nodes.new.items ≡ nodes.old.items ++ option_to_list node) }
+/// Puts a node into the set, if there is one.
+fn insert_node(nodes: &mut NumberSet, node: Option<u64>) -> Result<(), AllocError>
+    ensures { OnOk result (distinct nat_cmp nodes.new ≡ distinct nat_cmp (nodes.old ++ option_to_list node)) }
 {
     if let Some(number) = node {
-        nodes.push(number)?;
+        nodes.insert(number)?;
     }
     Ok(())
 }
 
-/// The nodes of records of type I, start before end, one record after the other.
-fn gather_nodes(alloc: Global, links: &[RecI]) -> Result<Vec<u64>, AllocError>
-    ensures { IfOk result (λ nodes. nodes.items ≡ flat_map link_nodes links.now) }
-{
-    let mut nodes = Vec::new(alloc);
-    for link in links {
-        push_node(&mut nodes, link.start_node())?;
-        push_node(&mut nodes, link.end_node())?;
-    }
-    Ok(nodes)
-}
-
-/// The nodes of records of type I in order, each once.
+/// The nodes of records of type I in order, each once. Nodes that are numbered from 1 on without gaps have a mark each.
 pub(crate) fn nodes_of(alloc: Global, links: &[RecI]) -> Result<Vec<u64>, AllocError>
     ensures { IfOk result (λ nodes. nodes.items ≡ distinct nat_cmp (flat_map link_nodes links.now)) }
 {
-    let mut nodes = gather_nodes(alloc, links)?;
-    sort_keys::<u64>(&mut nodes);
-    nodes.dedup_by(|later, kept| later.cmp(&kept).is_eq());
-    Ok(nodes)
+    let mut nodes = NumberSet::new(alloc, 2 * links.len())?;
+    for link in links {
+        insert_node(&mut nodes, link.start_node())?;
+        insert_node(&mut nodes, link.end_node())?;
+    }
+    nodes.in_order(alloc)
 }

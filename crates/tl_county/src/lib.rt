@@ -20,6 +20,7 @@ mod laws;
 mod lent;
 mod linked_records;
 mod linking;
+mod number_set;
 mod owned;
 mod polygon_numbers;
 mod record_keys;

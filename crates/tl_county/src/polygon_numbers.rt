@@ -18,7 +18,7 @@ const POLYIDS: u64 = 1 << 34;
 const PLACES: usize = 1 << 30;
 
 /// Puts keys in order, each once. It takes no memory.
-fn sort_distinct<K: Key>(keys: &mut Vec<K>)
+pub(crate) fn sort_distinct<K: Key>(keys: &mut Vec<K>)
     ensures { keys.new.items ≡ distinct K.cmp keys.old.items }
 {
     keys.sort_unstable();
