@@ -21,7 +21,7 @@ pub mod RuleTests
 pub mod TlidsInOrder
 pub mod SortedKeys
 pub mod PlacesOfCenids
-pub mod PolygonNumbers
+pub mod PolygonSets
 pub mod GatheredLists
 pub mod EntryLists
 pub mod Places

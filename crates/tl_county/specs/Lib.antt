@@ -13,7 +13,7 @@ pub mod TheCountyOver
 pub mod ChartWords
 pub mod CountyProps
 pub mod PolygonKeys
-pub mod PolygonNumbers
+pub mod PolygonSets
 pub mod NumberSets
 pub mod BodyOrder
 pub mod County

@@ -6,14 +6,14 @@ ghost use Rattle.std.specs.Ordering.{on};
 ghost use Rattle.tl_county.specs.Keyed.{IsLeastPassing, is_unknown};
 ghost use Rattle.tl_county.specs.OrderedTables.{typed_of, AreInOrder, ArePermuted};
 ghost use Rattle.tl_county.specs.Orders.{IsInOrder, distinct};
-ghost use Rattle.tl_county.specs.PolygonKeys.{key_cmp, key_on};
+ghost use Rattle.tl_county.specs.PolygonKeys.{key_cmp};
 ghost use Rattle.tl_county.specs.SequenceKeys.{sequence_cmp, uses_of};
 
 use crate::keyed::{Keyed, keys_of, least_unknown, put_in_order, sort_keys};
-use crate::polygon_numbers::distinct_polygons;
+use crate::polygon_set::distinct_polygons;
 use crate::record_keys::{LandmarkKey, LinkKey, PolygonKey};
 use std::alloc::{AllocError, Global};
-use tl_layout::{Rec1, Rec2, Rec4, Rec5, Rec6, Rec7, Rec8, RecI, RecP, Side, Tables};
+use tl_layout::{Rec1, Rec2, Rec4, Rec5, Rec6, Rec7, Rec8, RecI, RecP, Tables};
 
 /// Puts each table in the order of its records' numbers.
 pub(crate) fn order_tables(tables: &mut Tables) -> Result<(), AllocError>
@@ -66,28 +66,6 @@ pub(crate) fn linked_polygons(alloc: Global, links: &[Rec8]) -> Result<Vec<Polyg
     Ok(keys)
 }
 
-/// Adds the polygon on a side, if there is one.
-fn push_side(polygons: &mut Vec<PolygonKey>, side: &Side) -> Result<(), AllocError>
-    ensures { OnOk result (polygons.new.items ≡ polygons.old.items ++ key_on side.now) }
-{
-    if let Some(polyid) = side.polyid() {
-        polygons.push((side.cenid(), polyid))?;
-    }
-    Ok(())
-}
-
-/// The polygons on sides, one after the other.
-fn polygons_on_sides(alloc: Global, sides: &[RecI]) -> Result<Vec<PolygonKey>, AllocError>
-    ensures { IfOk result (λ polygons. polygons.items ≡ flat_map side_keys sides.now) }
-{
-    let mut polygons = Vec::with_capacity(alloc, 2 * sides.len())?;
-    for link in sides {
-        push_side(&mut polygons, link.left())?;
-        push_side(&mut polygons, link.right())?;
-    }
-    Ok(polygons)
-}
-
 /// Adds the polygons of type P.
 fn push_points(polygons: &mut Vec<PolygonKey>, points: &[RecP]) -> Result<(), AllocError>
     ensures { OnOk result (polygons.new.items ≡ polygons.old.items ++ map p_key points.now) }
@@ -119,12 +97,11 @@ pub(crate) fn gather_polygons(
     ensures without_side { IfOk result (λ polygons.
         IsLeastPassing key_cmp (is_unknown key_cmp (map p_key points.now) (flat_map side_keys sides.now)) polygons.without_side) }
 {
-    let on_sides = polygons_on_sides(alloc, sides)?;
-    let mut keys = distinct_polygons(alloc, &on_sides)?;
+    let mut keys = distinct_polygons::<RecI>(alloc, sides)?;
     let without_side = least_unknown::<PolygonKey, RecP, PolygonKey>(points, &keys);
     if without_side.is_some() {
         push_points(&mut keys, points)?;
-        keys = distinct_polygons(alloc, &keys)?;
+        keys = distinct_polygons::<PolygonKey>(alloc, &keys)?;
     }
     Ok(Polygons { keys, without_side })
 }

@@ -4,7 +4,7 @@ ghost use Rattle.std.specs.Prelude.{◌≡◌, List, map, filter, not, false, tr
 ghost use Rattle.std.specs.Ordering.{on, is_eq, is_gt, is_lt};
 ghost use Rattle.std.specs.declared.cmp.Ordering.TheVariants.{Equal};
 ghost use Rattle.tl_county.specs.Keyed.{IsLeastPassing, is_repeated, is_unknown};
-ghost use Rattle.tl_county.specs.Orders.{IsInOrder, stands_in};
+ghost use Rattle.tl_county.specs.Orders.{IsInOrder, distinct, stands_in};
 
 use std::alloc::{AllocError, Global};
 use std::cmp::Ordering;
@@ -51,6 +51,14 @@ pub fn sort_keys<K: Key>(keys: &mut Vec<K>)
     ensures in_order { IsInOrder K.cmp keys.new.items }
 {
     keys.sort_unstable();
+}
+
+/// Puts keys in order, each once. It takes no memory.
+pub(crate) fn sort_distinct<K: Key>(keys: &mut Vec<K>)
+    ensures { keys.new.items ≡ distinct K.cmp keys.old.items }
+{
+    keys.sort_unstable();
+    keys.dedup();
 }
 
 /// The least key that stands twice among items in order.

@@ -22,7 +22,7 @@ mod linked_records;
 mod linking;
 mod number_set;
 mod owned;
-mod polygon_numbers;
+mod polygon_set;
 mod record_keys;
 mod rules;
 mod table;

@@ -7,6 +7,7 @@ use Rattle.tl_county.proofs.KeyOrders.{key_keys}
 use Rattle.tl_county.proofs.KeySets.{distinct-more, stands_in-distinct}
 use Rattle.tl_county.proofs.KeyedLists.{least-same}
 use Rattle.tl_county.proofs.Numbers.{distinct-in_order}
+use Rattle.tl_county.proofs.PolygonSets.{keys_themselves}
 use Rattle.tl_county.proofs.Reordered.{distinct_same}
 use Rattle.tl_county.proofs.WithoutChain.{distinct-all_known, none_passes, unknown-distinct}
 use Rattle.tl_county.proofs.gathered.gather_polygons.Goals as goal
@@ -14,25 +15,24 @@ use Rattle.tl_county.proofs.gathered.gather_polygons.Goals.{then-is_some+in_ok-p
 
 pub least_unknown-without_side-requires-clause-known : goal.least_unknown-without_side-requires-clause-known
 least_unknown-without_side-requires-clause-known c =
-    subst (IsInOrder key_cmp) (sym (c.deref-2.ensures.value ∙ c.in_ok-keys.ensures)) (distinct-in_order key_keys c.deref.result.now)
+    subst (IsInOrder key_cmp) (sym (c.deref.ensures.value ∙ c.in_ok-keys.ensures)) (distinct-in_order key_keys (flat_map side_keys c.args.sides.now))
 
 pub returns-clause-keys : goal.returns-clause-keys
 returns-clause-keys c =
     let sides : List PolygonKey = flat_map side_keys c.args.sides.now in
     let points : List PolygonKey = map p_key c.args.points.now in
-    let met : c.in_ok-keys.keys.items ≡ distinct key_cmp sides =
-    c.in_ok-keys.ensures ∙ ap (distinct key_cmp) (c.deref.ensures.value ∙ c.in_ok-on_sides.ensures) in
+    let met : c.in_ok-keys.keys.items ≡ distinct key_cmp sides = c.in_ok-keys.ensures in
     elim c.if-is_some.branch [
       | then-is_some+in_ok-push_points+in_ok-keys-2 w ↦
           ap (λ keys. keys.items) w.keys-is
           ∙ w.in_ok-keys-2.ensures
-          ∙ ap (distinct key_cmp) (w.deref-then-is_some.ensures.value ∙ w.in_ok-push_points.ensures ∙ ap (λ keys. keys ++ points) met)
+          ∙ ap (distinct key_cmp) (keys_themselves w.deref-then-is_some.result.now ∙ w.deref-then-is_some.ensures.value ∙ w.in_ok-push_points.ensures ∙ ap (λ keys. keys ++ points) met)
           ∙ distinct-more key_keys (distinct key_cmp sides) sides points
           (distinct_same key_keys (distinct key_cmp sides) sides (λ k. stands_in-distinct key_keys k sides))
       | else-is_some w ↦
           let least : IsLeastPassing key_cmp (is_unknown key_cmp points sides) c.least_unknown-without_side.result =
-          least-same key_cmp (is_unknown key_cmp points (map (λ k. k) c.deref-2.result.now)) (is_unknown key_cmp points sides)
-          (unknown-distinct key_keys points sides c.deref-2.result.now (c.deref-2.ensures.value ∙ met)) c.least_unknown-without_side.result
+          least-same key_cmp (is_unknown key_cmp points (map (λ k. k) c.deref.result.now)) (is_unknown key_cmp points sides)
+          (unknown-distinct key_keys points sides c.deref.result.now (c.deref.ensures.value ∙ met)) c.least_unknown-without_side.result
           c.least_unknown-without_side.ensures in
           ap (λ keys. keys.items) w.keys-is
           ∙ met
@@ -45,8 +45,7 @@ pub returns-clause-without_side : goal.returns-clause-without_side
 returns-clause-without_side c =
     let sides : List PolygonKey = flat_map side_keys c.args.sides.now in
     let points : List PolygonKey = map p_key c.args.points.now in
-    let met : c.in_ok-keys.keys.items ≡ distinct key_cmp sides =
-    c.in_ok-keys.ensures ∙ ap (distinct key_cmp) (c.deref.ensures.value ∙ c.in_ok-on_sides.ensures) in
-    least-same key_cmp (is_unknown key_cmp points (map (λ k. k) c.deref-2.result.now)) (is_unknown key_cmp points sides)
-    (unknown-distinct key_keys points sides c.deref-2.result.now (c.deref-2.ensures.value ∙ met)) c.least_unknown-without_side.result
+    let met : c.in_ok-keys.keys.items ≡ distinct key_cmp sides = c.in_ok-keys.ensures in
+    least-same key_cmp (is_unknown key_cmp points (map (λ k. k) c.deref.result.now)) (is_unknown key_cmp points sides)
+    (unknown-distinct key_keys points sides c.deref.result.now (c.deref.ensures.value ∙ met)) c.least_unknown-without_side.result
     c.least_unknown-without_side.ensures

@@ -3,7 +3,7 @@ use Rattle.std.proofs.lemmas.List.Filters.{dedup_is}
 use Rattle.tl_county.proofs.Keys.{IsKeyOrder}
 use Rattle.tl_county.proofs.KeyedLists.{in_order-from_sorted}
 use Rattle.tl_county.proofs.SortedKeys.{dedup-distinct}
-use Rattle.tl_county.proofs.polygon_numbers.sort_distinct.Goals as goal
+use Rattle.tl_county.proofs.keyed.sort_distinct.Goals as goal
 
 pub returns : goal.returns
 returns g c =
