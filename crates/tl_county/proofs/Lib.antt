@@ -20,6 +20,7 @@ pub mod RuleTests
 pub mod TlidsInOrder
 pub mod SortedKeys
 pub mod PlacesOfCenids
+pub mod MarkedNames
 pub mod PolygonNumbers
 pub mod GatheredLists
 pub mod EntryLists
