@@ -22,6 +22,7 @@ pub mod TlidsInOrder
 pub mod SortedKeys
 pub mod PlacesOfCenids
 pub mod PolygonSets
+pub mod MarkedNames
 pub mod GatheredLists
 pub mod EntryLists
 pub mod Places

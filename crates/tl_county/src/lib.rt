@@ -20,6 +20,7 @@ mod laws;
 mod lent;
 mod linked_records;
 mod linking;
+mod marks;
 mod number_set;
 mod owned;
 mod polygon_set;

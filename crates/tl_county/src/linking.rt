@@ -27,13 +27,15 @@ use crate::building::{
 use crate::county::County;
 use crate::county_in::CountyIn;
 use crate::fault::LinkFault;
-use crate::gathered::{Polygons, gather_polygons, linked_polygons, order_tables, uses_in_order};
+use crate::gathered::{Polygons, gather_polygons, linked_polygons, order_tables};
 use crate::keyed::keys_of;
 use crate::landmark::Landmark;
 use crate::lent::{LandmarkIn, NameIn};
 use crate::owned::Owned;
 use crate::record_keys::PolygonKey;
-use crate::rules::{check_chains, check_landmarks, check_links, check_names, check_sequences};
+use crate::rules::{
+    check_chains, check_landmarks, check_links, check_names, check_sequences, unnamed_use,
+};
 use crate::table::Table;
 use bumpalo::Bump;
 use std::alloc::{AllocError, Global};
@@ -58,8 +60,8 @@ fn check_rules(
     check_chains(tables, &tlids, &linked)?;
     check_sequences(tables)?;
     check_links(tables, &tlids, &linked)?;
-    let uses = uses_in_order(alloc, &tables.type_4)?;
-    check_names(tables, &uses, feats)?;
+    let unnamed = unnamed_use(alloc, &tables.type_4, feats)?;
+    check_names(tables, unnamed)?;
     let linked = linked_polygons(alloc, &tables.type_8)?;
     check_landmarks(tables, &linked, polygons)
 }

@@ -1,9 +1,10 @@
 //! The rules by which records fit together, over tables in order.
 
-ghost use Rattle.std.specs.Prelude.{◌≡◌, List, map, flat_map, ◌++◌, MatchResult, IfOk, OnOk, IsPermutation};
+ghost use Rattle.std.specs.Prelude.{◌≡◌, true, List, map, flat_map, ◌++◌, MatchResult, IfOk, OnOk, IsPermutation};
 ghost use Rattle.std.specs.Ordering.{nat_cmp};
 ghost use Rattle.tl_county.specs.County.{link_key, five_feat, i_tlid, one_tlid, p_key, side_keys};
 ghost use Rattle.tl_county.specs.Keyed.{IsLeastPassing};
+ghost use Rattle.tl_county.specs.Marks.{AllNamed, AreMarksOf, AreNamed};
 ghost use Rattle.tl_county.specs.PolygonKeys.{key_cmp};
 ghost use Rattle.tl_county.specs.SequenceKeys.{is_unnamed, sequence_cmp, uses_of};
 ghost use Rattle.tl_layout.specs.declared.record_type.Record.{Record};
@@ -13,8 +14,11 @@ ghost use Rattle.tl_county.specs.Packing.{by_type};
 ghost use Rattle.tl_county.specs.RuleOrder.{RulesHold, IsFirstFrom};
 
 use crate::fault::{LinkFault, LinkedType, SequencedType};
+use crate::gathered::uses_in_order;
 use crate::keyed::{least_repeated, least_unknown, place_of};
+use crate::marks::{is_marked, marks_of};
 use crate::record_keys::PolygonKey;
+use std::alloc::{AllocError, Global};
 use tl_layout::{Rec2, Rec4, Rec5, Rec6, Rec7, Rec8, RecP, Tables};
 
 /// Rules 11 and 12: no TLID has two records of type 1, and each record of types 2, 4, 6 and I has its chain. The TLIDs are
@@ -100,22 +104,64 @@ fn least_unnamed(uses: &[(u64, u32)], feats: &[u32]) -> Option<(u64, u32)>
     None
 }
 
-/// Rules 16 and 17: no FEAT has two records of type 5, and each FEAT that a record of type 4 names has one. The uses are
-/// those of the records of type 4, and the FEATs those of the records of type 5, both in order.
-pub(crate) fn check_names(
-    tables: &Tables,
-    uses: &[(u64, u32)],
+/// Whether each FEAT that a record of type 4 names is among `feats`, which are in order.
+fn are_named(names: &Rec4, feats: &[u32], marks: &[bool]) -> bool
+    requires feats { IsInOrder nat_cmp feats.now }
+    requires marks { AreMarksOf feats.now marks.now }
+    ensures { result ≡ true → AreNamed feats.now names.now.feats }
+{
+    for feat in names.feats() {
+        if !is_marked(marks, feats, *feat) {
+            return false;
+        }
+    }
+    true
+}
+
+/// Whether each FEAT that records of type 4 name is among `feats`, which are in order. The records are read once, as they
+/// stand.
+fn all_named(alloc: Global, names: &[Rec4], feats: &[u32]) -> Result<bool, AllocError>
+    requires { IsInOrder nat_cmp feats.now }
+    ensures { IfOk result (λ all. all ≡ true → AllNamed feats.now names.now) }
+{
+    let marks = marks_of(alloc, feats)?;
+    for record in names {
+        if !are_named(record, feats, &marks) {
+            return Ok(false);
+        }
+    }
+    Ok(true)
+}
+
+/// The least use, as TLID and FEAT, of a FEAT that isn't among `feats`, which are in order. Mostly there is none: then no use
+/// is drawn out.
+pub(crate) fn unnamed_use(
+    alloc: Global,
+    names: &[Rec4],
     feats: &[u32],
-) -> Result<(), LinkFault>
+) -> Result<Option<(u64, u32)>, AllocError>
+    requires { IsInOrder nat_cmp feats.now }
+    ensures { IfOk result (λ found. IsLeastPassing sequence_cmp (is_unnamed (flat_map uses_of names.now) feats.now) found) }
+{
+    if all_named(alloc, names, feats)? {
+        return Ok(None);
+    }
+    let uses = uses_in_order(alloc, names)?;
+    Ok(least_unnamed(&uses, feats))
+}
+
+/// Rules 16 and 17: no FEAT has two records of type 5, and each FEAT that a record of type 4 names has one. The unnamed use
+/// is the least one of a FEAT that has none.
+pub(crate) fn check_names(tables: &Tables, unnamed: Option<(u64, u32)>) -> Result<(), LinkFault>
     requires tables { AreInOrder (typed_of tables.now) }
-    requires uses { IsInOrder sequence_cmp uses.now × IsPermutation (flat_map uses_of tables.now.type_4.items) uses.now }
-    requires feats { feats.now ≡ map five_feat tables.now.type_5.items }
+    requires unnamed { IsLeastPassing sequence_cmp
+        (is_unnamed (flat_map uses_of tables.now.type_4.items) (map five_feat tables.now.type_5.items)) unnamed }
     ensures { (records : List Record) → by_type records ≡ typed_of tables.now → MatchResult result (λ _. RulesHold records 10 12) (IsFirstFrom records 10) }
 {
     if let Some(feat) = least_repeated::<u32, Rec5>(&tables.type_5) {
         return Err(LinkFault::NameTwice { feat });
     }
-    if let Some((tlid, feat)) = least_unnamed(uses, feats) {
+    if let Some((tlid, feat)) = unnamed {
         return Err(LinkFault::NameUnknown { tlid, feat });
     }
     Ok(())

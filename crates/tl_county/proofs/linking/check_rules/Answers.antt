@@ -1,10 +1,13 @@
-use Rattle.std.proofs.Common.{◌≢◌, List, Result, Ok, Err, OnOk, IfErr, MatchResult, arith}
+use Rattle.std.proofs.Common.{◌≢◌, List, Result, Ok, Err, OnOk, IfErr, MatchResult, nat_cmp, sym, subst, arith}
 use Rattle.std.proofs.lemmas.Result.{err_from_is_err_and}
 use Rattle.tl_layout.specs.declared.record_type.Record.{Record}
 use Rattle.tl_county.specs.declared.fault.LinkFault.{LinkFault}
 use Rattle.tl_county.specs.declared.fault.LinkFault.TheVariants.{Memory}
+use Rattle.tl_county.specs.County.{five_feat}
 use Rattle.tl_county.specs.LinkRules.{IsFirstBrokenRule, IsLinked}
+use Rattle.tl_county.specs.Orders.{IsInOrder}
 use Rattle.tl_county.specs.RuleOrder.{RulesHold, IsFirstFrom}
+use Rattle.tl_county.proofs.InOrder.{in_order-map}
 use Rattle.tl_county.proofs.RuleOrders.{rules-join, first-after, all_hold, first_of_all}
 use Rattle.tl_county.proofs.linking.check_rules.Goals as goal
 
@@ -21,6 +24,11 @@ module _ (Of : List Record → Type 0) (before : (records : List Record) → Of 
       → IfErr r (λ fault. fault ≢ Memory → (records : List Record) → Of records → IsFirstBrokenRule records fault)
   first_told (Ok u) h = tt
   first_told (Err f) h = λ ne records e. first_of_all records f (first-after records (omega arith) (before records e) (h records e))
+
+pub unnamed_use-requires : goal.unnamed_use-requires
+unnamed_use-requires c =
+    subst (IsInOrder nat_cmp) (sym c.requires.feats)
+    (in_order-map nat_cmp five_feat c.args.tables.now.type_5.items c.requires.tables.type_5)
 
 pub returns-clause-linked : goal.returns-clause-linked
 returns-clause-linked c =

@@ -1,0 +1,5 @@
+use Rattle.tl_county.specs.Marks.{AreMarksOf}
+use Rattle.tl_county.proofs.marks.marks_of.Given as goal
+
+abbrev pub invariant-loop-number : goal.invariant-loop-number
+invariant-loop-number l = AreMarksOf l.numbers l.marks.items

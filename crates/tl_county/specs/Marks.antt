@@ -1,0 +1,18 @@
+-- Marks by number, and records of type 4 of which each FEAT has a name.
+use Rattle.std.specs.Prelude.{◌≡◌, ℕ, Bool, true, List, Some, slice_get}
+use Rattle.std.specs.List.{AllByRecursion}
+use Rattle.std.specs.Ordering.{nat_cmp}
+use Rattle.tl_layout.specs.Fields.{Fields4}
+use Rattle.tl_county.specs.Orders.{stands_in}
+
+-- each number whose place is marked stands in the list
+abbrev pub AreMarksOf : List ℕ → List Bool → Type 0
+AreMarksOf numbers marks = (number : ℕ) → slice_get marks number ≡ Some true → stands_in nat_cmp number numbers ≡ true
+
+-- each of these FEATs is one of the names
+abbrev pub AreNamed : List ℕ → List ℕ → Type 0
+AreNamed names feats = AllByRecursion (λ feat. stands_in nat_cmp feat names ≡ true) feats
+
+-- each FEAT of these records is one of the names
+abbrev pub AllNamed : List ℕ → List Fields4 → Type 0
+AllNamed names records = AllByRecursion (λ r. AreNamed names r.feats) records
