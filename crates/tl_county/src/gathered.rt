@@ -2,7 +2,9 @@
 
 ghost use Rattle.std.specs.Prelude.{◌≡◌, ◌++◌, map, flat_map, OnOk, IfOk, IsPermutation};
 ghost use Rattle.tl_county.specs.County.{link_key, p_key, side_keys};
+ghost use Rattle.std.specs.List.Sorted.{IsStrictlySortedBy};
 ghost use Rattle.std.specs.Ordering.{on};
+ghost use Rattle.tl_county.specs.BodyOrder.{bytes_cmp};
 ghost use Rattle.tl_county.specs.Keyed.{IsLeastPassing, is_unknown};
 ghost use Rattle.tl_county.specs.OrderedTables.{typed_of, AreInOrder, ArePermuted};
 ghost use Rattle.tl_county.specs.Orders.{IsInOrder, distinct};
@@ -10,7 +12,7 @@ ghost use Rattle.tl_county.specs.PolygonKeys.{key_cmp};
 ghost use Rattle.tl_county.specs.SequenceKeys.{sequence_cmp, uses_of};
 
 use crate::keyed::{Keyed, keys_of, least_unknown, put_in_order, sort_keys};
-use crate::polygon_set::distinct_polygons;
+use crate::polygon_set::{cenids_of, distinct_polygons};
 use crate::record_keys::{LandmarkKey, LinkKey, PolygonKey};
 use std::alloc::{AllocError, Global};
 use tl_layout::{Rec1, Rec2, Rec4, Rec5, Rec6, Rec7, Rec8, RecI, RecP, Tables};
@@ -76,6 +78,16 @@ fn push_points(polygons: &mut Vec<PolygonKey>, points: &[RecP]) -> Result<(), Al
     Ok(())
 }
 
+/// The CENIDs of most polygons on sides, in order: those of type P, as mostly each polygon has a record of type P.
+fn likely_cenids(alloc: Global, sides: &[RecI], points: &[RecP]) -> Result<Vec<[u8; 5]>, AllocError>
+    ensures { IfOk result (λ cenids. IsStrictlySortedBy bytes_cmp cenids.items) }
+{
+    if points.is_empty() {
+        return cenids_of::<RecI>(alloc, sides);
+    }
+    cenids_of::<RecP>(alloc, points)
+}
+
 /// The polygons on sides and of type P.
 #[derive(Drop)]
 pub(crate) struct Polygons {
@@ -97,11 +109,13 @@ pub(crate) fn gather_polygons(
     ensures without_side { IfOk result (λ polygons.
         IsLeastPassing key_cmp (is_unknown key_cmp (map p_key points.now) (flat_map side_keys sides.now)) polygons.without_side) }
 {
-    let mut keys = distinct_polygons::<RecI>(alloc, sides)?;
+    let cenids = likely_cenids(alloc, sides, points)?;
+    let mut keys = distinct_polygons::<RecI>(alloc, cenids, sides)?;
     let without_side = least_unknown::<PolygonKey, RecP, PolygonKey>(points, &keys);
     if without_side.is_some() {
         push_points(&mut keys, points)?;
-        keys = distinct_polygons::<PolygonKey>(alloc, &keys)?;
+        let cenids = cenids_of::<PolygonKey>(alloc, &keys)?;
+        keys = distinct_polygons::<PolygonKey>(alloc, cenids, &keys)?;
     }
     Ok(Polygons { keys, without_side })
 }

@@ -5,7 +5,7 @@ ghost use Rattle.tl_county.specs.Orders.{distinct, has_repeat};
 ghost use Rattle.tl_county.specs.PolygonKeys.{key_cmp, key_on};
 
 use crate::keyed::Key;
-use crate::polygon_set::distinct_polygons;
+use crate::polygon_set::{cenids_of, distinct_polygons};
 use crate::record_keys::PolygonKey;
 use indexmap::IndexSet;
 use std::alloc::{AllocError, Global};
@@ -86,6 +86,8 @@ impl KeySet<PolygonKey> {
     pub fn in_order(&self, alloc: Global) -> Result<Vec<PolygonKey>, AllocError>
         ensures { IfOk result (λ keys. keys.items ≡ distinct key_cmp self.now) }
     {
-        distinct_polygons::<PolygonKey>(alloc, self.as_slice())
+        let keys = self.as_slice();
+        let cenids = cenids_of::<PolygonKey>(alloc, keys)?;
+        distinct_polygons::<PolygonKey>(alloc, cenids, keys)
     }
 }

@@ -11,7 +11,7 @@ use Rattle.tl_county.proofs.PolygonSets.{keys_themselves}
 use Rattle.tl_county.proofs.Reordered.{distinct_same}
 use Rattle.tl_county.proofs.WithoutChain.{distinct-all_known, none_passes, unknown-distinct}
 use Rattle.tl_county.proofs.gathered.gather_polygons.Goals as goal
-use Rattle.tl_county.proofs.gathered.gather_polygons.Goals.{then-is_some+in_ok-push_points+in_ok-keys-2, else-is_some}
+use Rattle.tl_county.proofs.gathered.gather_polygons.Goals.{then-is_some+in_ok-push_points+in_ok-cenids-2+in_ok-keys-2, else-is_some}
 
 pub least_unknown-without_side-requires-clause-known : goal.least_unknown-without_side-requires-clause-known
 least_unknown-without_side-requires-clause-known c =
@@ -23,10 +23,10 @@ returns-clause-keys c =
     let points : List PolygonKey = map p_key c.args.points.now in
     let met : c.in_ok-keys.keys.items ≡ distinct key_cmp sides = c.in_ok-keys.ensures in
     elim c.if-is_some.branch [
-      | then-is_some+in_ok-push_points+in_ok-keys-2 w ↦
+      | then-is_some+in_ok-push_points+in_ok-cenids-2+in_ok-keys-2 w ↦
           ap (λ keys. keys.items) w.keys-is
           ∙ w.in_ok-keys-2.ensures
-          ∙ ap (distinct key_cmp) (keys_themselves w.deref-then-is_some.result.now ∙ w.deref-then-is_some.ensures.value ∙ w.in_ok-push_points.ensures ∙ ap (λ keys. keys ++ points) met)
+          ∙ ap (distinct key_cmp) (keys_themselves w.deref-then-is_some-2.result.now ∙ w.deref-then-is_some-2.ensures.value ∙ w.in_ok-push_points.ensures ∙ ap (λ keys. keys ++ points) met)
           ∙ distinct-more key_keys (distinct key_cmp sides) sides points
           (distinct_same key_keys (distinct key_cmp sides) sides (λ k. stands_in-distinct key_keys k sides))
       | else-is_some w ↦
