@@ -45,6 +45,25 @@ pub fn put_in_order<K: Ord + Copy, T: Keyed<K>>(items: &mut Vec<T>) -> Result<()
     items.sort_by_cached_key(|item| item.key())
 }
 
+/// Puts the items in the order of their keys, and answers their keys in that order. Where the items are in order already their
+/// keys are read once; else the items are moved as `put_in_order` moves them, and their keys are read anew.
+pub(crate) fn put_in_order_with_keys<K: Key, T: Keyed<K>>(
+    alloc: Global,
+    items: &mut Vec<T>,
+) -> Result<Vec<K>, AllocError>
+    ensures permutation { IsPermutation items.old.items items.new.items }
+    ensures in_order { OnOk result (IsInOrder (on T.key_of K.cmp) items.new.items) }
+    ensures keys { IfOk result (λ keys. keys.items ≡ map T.key_of items.new.items) }
+{
+    let keys = keys_of::<K, T>(alloc, items)?;
+    if are_in_order::<K, K>(&keys) {
+        return Ok(keys);
+    }
+    drop(keys);
+    items.sort_by_cached_key(|item| item.key())?;
+    keys_of::<K, T>(alloc, items)
+}
+
 /// Puts keys in order. It takes no memory.
 pub fn sort_keys<K: Key>(keys: &mut Vec<K>)
     ensures permutation { IsPermutation keys.old.items keys.new.items }

@@ -6,7 +6,7 @@ ghost use Rattle.tl_layout.specs.RecordText.{FitsRecord};
 ghost use Rattle.tl_layout.specs.declared.record_type.Record.{Record};
 ghost use Rattle.tl_layout.specs.Tables.{HoldsByType};
 ghost use Rattle.tl_county.specs.Building.{county_along, landmarks_along};
-ghost use Rattle.tl_county.specs.County.{county_of, five_feat, p_key, side_keys};
+ghost use Rattle.tl_county.specs.County.{county_of, five_feat, i_tlid, one_tlid, p_key, side_keys};
 ghost use Rattle.tl_county.specs.Limits.{HoldsWithinLimits, IsWithinLimits, most_records};
 ghost use Rattle.tl_county.specs.LinkRules.{IsFirstBrokenRule, IsLinked};
 ghost use Rattle.tl_county.specs.Entries.{map_values};
@@ -27,7 +27,9 @@ use crate::building::{
 use crate::county::County;
 use crate::county_in::CountyIn;
 use crate::fault::LinkFault;
-use crate::gathered::{Polygons, gather_polygons, linked_polygons, order_tables, uses_in_order};
+use crate::gathered::{
+    Polygons, Tlids, gather_polygons, linked_polygons, order_tables, uses_in_order,
+};
 use crate::keyed::keys_of;
 use crate::landmark::Landmark;
 use crate::lent::{LandmarkIn, NameIn};
@@ -37,27 +39,28 @@ use crate::rules::{check_chains, check_landmarks, check_links, check_names, chec
 use crate::table::Table;
 use bumpalo::Bump;
 use std::alloc::{AllocError, Global};
-use tl_layout::{Body5, BodyP, Rec1, Rec5, RecI, Record, Tables};
+use tl_layout::{Body5, BodyP, Rec5, Record, Tables};
 use tl_shape::{Chain, ChainIn};
 
-/// The ten rules, over tables in order, with their FEATs and their polygons in order.
+/// The ten rules, over tables in order, with their TLIDs, their FEATs and their polygons in order.
 fn check_rules(
     alloc: Global,
     tables: &Tables,
+    tlids: &Tlids,
     feats: &[u32],
     polygons: &[PolygonKey],
 ) -> Result<(), LinkFault>
     requires tables { AreInOrder (typed_of tables.now) }
+    requires chains { tlids.now.chains.items ≡ map one_tlid tables.now.type_1.items }
+    requires links { tlids.now.links.items ≡ map i_tlid tables.now.type_i.items }
     requires feats { feats.now ≡ map five_feat tables.now.type_5.items }
     requires polygons { polygons.now ≡ distinct key_cmp (flat_map side_keys tables.now.type_i.items ++ map p_key tables.now.type_p.items) }
     ensures linked { OnOk result ((records : List Record) → by_type records ≡ typed_of tables.now → IsLinked records) }
     ensures broken { IfErr result (λ fault. fault ≢ Memory → (records : List Record) → by_type records ≡ typed_of tables.now → IsFirstBrokenRule records fault) }
 {
-    let tlids = keys_of::<u64, Rec1>(alloc, &tables.type_1)?;
-    let linked = keys_of::<u64, RecI>(alloc, &tables.type_i)?;
-    check_chains(tables, &tlids, &linked)?;
+    check_chains(tables, &tlids.chains, &tlids.links)?;
     check_sequences(tables)?;
-    check_links(tables, &tlids, &linked)?;
+    check_links(tables, &tlids.chains, &tlids.links)?;
     let uses = uses_in_order(alloc, &tables.type_4)?;
     check_names(tables, &uses, feats)?;
     let linked = linked_polygons(alloc, &tables.type_8)?;
@@ -69,12 +72,13 @@ pub(crate) fn build_chains<'t, C: Drop, B: ChainBuilder<'t, C>>(
     alloc: Global,
     builder: &mut B,
     tables: &'t Tables,
+    tlids: Vec<u64>,
 ) -> Result<Table<u64, C>, AllocError>
     requires tables { AreInOrder (typed_of tables.now) }
     requires linked { IsLinked (type_after_type (typed_of tables.now)) }
+    requires tlids { tlids.items ≡ map one_tlid tables.now.type_1.items }
     ensures { IfOk result (λ chains. map_values B.chain chains ≡ (county_along (typed_of tables.now)).chains) }
 {
-    let tlids = keys_of::<u64, Rec1>(alloc, &tables.type_1)?;
     let chains = chains_of_records::<C, B>(
         alloc,
         builder,
@@ -134,18 +138,20 @@ pub(crate) fn build_landmarks<L: Drop, B: LandmarkBuilder<L>>(
 fn build_county(
     alloc: Global,
     tables: &Tables,
+    tlids: Vec<u64>,
     feats: Vec<u32>,
     polygons: Vec<PolygonKey>,
 ) -> Result<County, AllocError>
     requires tables { AreInOrder (typed_of tables.now) }
     requires linked { IsLinked (type_after_type (typed_of tables.now)) }
+    requires tlids { tlids.items ≡ map one_tlid tables.now.type_1.items }
     requires feats { feats.items ≡ map five_feat tables.now.type_5.items }
     requires polygons { polygons.items ≡ distinct key_cmp (flat_map side_keys tables.now.type_i.items ++ map p_key tables.now.type_p.items) }
     requires limits { IsWithinLimits most_records (county_of (type_after_type (typed_of tables.now))) }
     ensures { IfOk result (λ county. the_county county ≡ county_of (type_after_type (typed_of tables.now))) }
 {
     let mut owned = Owned { alloc };
-    let chains = build_chains::<Chain, Owned>(alloc, &mut owned, tables)?;
+    let chains = build_chains::<Chain, Owned>(alloc, &mut owned, tables, tlids)?;
     let nodes = nodes_of(alloc, &tables.type_i)?;
     let names = build_names(alloc, tables, feats)?;
     let polygons = build_polygons(alloc, tables, polygons)?;
@@ -180,18 +186,20 @@ fn build_county_in<'a>(
     alloc: Global,
     arena: &'a Bump,
     tables: &Tables,
+    tlids: Vec<u64>,
     feats: Vec<u32>,
     polygons: Vec<PolygonKey>,
 ) -> Result<CountyIn<'a>, AllocError>
     requires tables { AreInOrder (typed_of tables.now) }
     requires linked { IsLinked (type_after_type (typed_of tables.now)) }
+    requires tlids { tlids.items ≡ map one_tlid tables.now.type_1.items }
     requires feats { feats.items ≡ map five_feat tables.now.type_5.items }
     requires polygons { polygons.items ≡ distinct key_cmp (flat_map side_keys tables.now.type_i.items ++ map p_key tables.now.type_p.items) }
     requires limits { IsWithinLimits most_records (county_of (type_after_type (typed_of tables.now))) }
     ensures { IfOk result (λ county. the_county_in county ≡ county_of (type_after_type (typed_of tables.now))) }
 {
     let mut builder = InArena::new(alloc, arena);
-    let chains = build_chains::<ChainIn<'a>, InArena<'a>>(alloc, &mut builder, tables)?;
+    let chains = build_chains::<ChainIn<'a>, InArena<'a>>(alloc, &mut builder, tables, tlids)?;
     let nodes = nodes_of(alloc, &tables.type_i)?;
     let names = build_names_in(alloc, arena, tables, feats)?;
     let polygons = build_polygons(alloc, tables, polygons)?;
@@ -205,9 +213,10 @@ fn build_county_in<'a>(
     })
 }
 
-/// What was gathered of tables in order: the FEATs of names, in order, and the polygons.
+/// What was gathered of tables in order: the TLIDs of chains and the FEATs of names, both in order, and the polygons.
 #[derive(Drop)]
 pub(crate) struct Gathered {
+    pub(crate) tlids: Vec<u64>,
     pub(crate) feats: Vec<u32>,
     pub(crate) polygons: Polygons,
 }
@@ -217,6 +226,7 @@ pub(crate) fn settle(alloc: Global, tables: &mut Tables) -> Result<Gathered, Lin
     ensures in_order { OnOk result (AreInOrder (typed_of tables.new)) }
     ensures same { OnOk result (ArePermuted (typed_of tables.old) (typed_of tables.new)) }
     ensures linked { OnOk result (IsLinked (type_after_type (typed_of tables.new))) }
+    ensures tlids { IfOk result (λ gathered. gathered.tlids.items ≡ map one_tlid tables.new.type_1.items) }
     ensures feats { IfOk result (λ gathered. gathered.feats.items ≡ map five_feat tables.new.type_5.items) }
     ensures polygons { IfOk result (λ gathered. gathered.polygons.keys.items ≡
         distinct key_cmp (flat_map side_keys tables.new.type_i.items ++ map p_key tables.new.type_p.items)) }
@@ -225,11 +235,15 @@ pub(crate) fn settle(alloc: Global, tables: &mut Tables) -> Result<Gathered, Lin
     ensures broken { IfErr result (λ fault. fault ≢ Memory → (records : List Record) →
         HoldsByType tables.old records → IsFirstBrokenRule records fault) }
 {
-    order_tables(tables)?;
+    let tlids = order_tables(alloc, tables)?;
     let feats = keys_of::<u32, Rec5>(alloc, &tables.type_5)?;
     let polygons = gather_polygons(alloc, &tables.type_i, &tables.type_p)?;
-    check_rules(alloc, tables, &feats, &polygons.keys)?;
-    Ok(Gathered { feats, polygons })
+    check_rules(alloc, tables, &tlids, &feats, &polygons.keys)?;
+    Ok(Gathered {
+        tlids: tlids.chains,
+        feats,
+        polygons,
+    })
 }
 
 /// The county of tables of records, or the first rule that the records break. The tables' order has no meaning. They hold
@@ -243,7 +257,13 @@ pub fn link_tables(alloc: Global, tables: Tables) -> Result<County, LinkFault>
 {
     let mut tables = tables;
     let gathered = settle(alloc, &mut tables)?;
-    Ok(build_county(alloc, &tables, gathered.feats, gathered.polygons.keys)?)
+    Ok(build_county(
+        alloc,
+        &tables,
+        gathered.tlids,
+        gathered.feats,
+        gathered.polygons.keys,
+    )?)
 }
 
 /// The county of tables of records in an arena, which outlives it, or the first rule that the records break. The tables' order
@@ -265,6 +285,7 @@ pub fn link_tables_in<'a>(
         alloc,
         arena,
         &tables,
+        gathered.tlids,
         gathered.feats,
         gathered.polygons.keys,
     )?)
