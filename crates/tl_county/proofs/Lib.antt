@@ -14,6 +14,7 @@ pub mod Samples
 pub mod OnSamples
 pub mod Reordered
 pub mod KeySets
+pub mod KeysInOrder
 pub mod KeyedLists
 pub mod RuleOrders
 pub mod RuleTests

@@ -45,8 +45,32 @@ pub fn put_in_order<K: Ord + Copy, T: Keyed<K>>(items: &mut Vec<T>) -> Result<()
     items.sort_by_cached_key(|item| item.key())
 }
 
-/// Puts the items in the order of their keys, and answers their keys in that order. Where the items are in order already their
-/// keys are read once; else the items are moved as `put_in_order` moves them, and their keys are read anew.
+/// The keys of the items, if they stand in the order of their keys.
+fn keys_in_order<K: Key, T: Keyed<K>>(
+    alloc: Global,
+    items: &[T],
+) -> Result<Option<Vec<K>>, AllocError>
+    ensures in_order { IfOk result (λ found. IfSome found (λ keys. IsInOrder (on T.key_of K.cmp) items.now)) }
+    ensures keys { IfOk result (λ found. IfSome found (λ keys. keys.items ≡ map T.key_of items.now)) }
+{
+    let mut keys = Vec::with_capacity(alloc, items.len())?;
+    let Some(first) = items.first() else {
+        return Ok(Some(keys));
+    };
+    let mut last = first.key();
+    for item in items {
+        let key = item.key();
+        if last.cmp(&key).is_gt() {
+            return Ok(None);
+        }
+        keys.push(key)?;
+        last = key;
+    }
+    Ok(Some(keys))
+}
+
+/// Puts the items in the order of their keys, and answers their keys in that order. Where the items are in order already each
+/// is read once; else they are moved as `put_in_order` moves them.
 pub(crate) fn put_in_order_with_keys<K: Key, T: Keyed<K>>(
     alloc: Global,
     items: &mut Vec<T>,
@@ -55,11 +79,9 @@ pub(crate) fn put_in_order_with_keys<K: Key, T: Keyed<K>>(
     ensures in_order { OnOk result (IsInOrder (on T.key_of K.cmp) items.new.items) }
     ensures keys { IfOk result (λ keys. keys.items ≡ map T.key_of items.new.items) }
 {
-    let keys = keys_of::<K, T>(alloc, items)?;
-    if are_in_order::<K, K>(&keys) {
+    if let Some(keys) = keys_in_order::<K, T>(alloc, items)? {
         return Ok(keys);
     }
-    drop(keys);
     items.sort_by_cached_key(|item| item.key())?;
     keys_of::<K, T>(alloc, items)
 }

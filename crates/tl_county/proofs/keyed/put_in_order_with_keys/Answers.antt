@@ -1,17 +1,8 @@
-use Rattle.std.proofs.Common.{map, rules, Result, Ok, Err, OnOk, subst, ◌∙◌, ap}
+use Rattle.std.proofs.Common.{rules, Result, Ok, Err, OnOk}
 use Rattle.std.proofs.lemmas.Cmp.{on_total}
 use Rattle.std.proofs.lemmas.Fn.{always_returns_same}
-use Rattle.tl_county.specs.Orders.{IsInOrder}
-use Rattle.tl_county.proofs.InOrder.{in_order-unmap}
 use Rattle.tl_county.proofs.KeyedLists.{in_order-from_sorted}
 use Rattle.tl_county.proofs.keyed.put_in_order_with_keys.Goals as goal
-
-pub returns-then-are_in_order-clause-in_order : goal.returns-then-are_in_order-clause-in_order
-returns-then-are_in_order-clause-in_order g c =
-    in_order-unmap g.K.Ord.cmp g.T.Keyed.key_of c.args.items.now.items
-    (subst (IsInOrder g.K.Ord.cmp)
-    (c.deref-2.ensures.value ∙ c.in_ok-keys.ensures ∙ ap (map g.T.Keyed.key_of) c.deref.ensures.value)
-    (c.are_in_order.ensures.in_order c.if-are_in_order.true))
 
 -- what holds anyway holds where there is a value
 where_ok : {T E P : Type 0} (r : Result T E) → P → OnOk r P
@@ -20,6 +11,6 @@ where_ok (Err e) p = tt
 
 pub returns-clause-in_order : goal.returns-clause-in_order
 returns-clause-in_order g c =
-    where_ok c.keys_of-2.result
+    where_ok c.keys_of.result
     (in_order-from_sorted (on_total g.T.Keyed.key_of g.met.K.Ord.total) c.sort_by_cached_key.new.self.items
     (c.in_ok-sort_by_cached_key.ensures.sorted g.T.Keyed.key_of (always_returns_same _ _ _ (λ a r f' k. search rules))))
