@@ -16,6 +16,7 @@ pub mod Reordered
 pub mod KeySets
 pub mod KeysInOrder
 pub mod KeyedLists
+pub mod KeysAscend
 pub mod RuleOrders
 pub mod RuleTests
 pub mod TlidsInOrder

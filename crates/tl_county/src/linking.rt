@@ -13,6 +13,7 @@ ghost use Rattle.tl_county.specs.Entries.{map_values};
 ghost use Rattle.tl_county.specs.Keyed.{IsLeastPassing, is_unknown};
 ghost use Rattle.tl_county.specs.OrderedTables.{typed_of, AreInOrder, ArePermuted};
 ghost use Rattle.tl_county.specs.Orders.{distinct};
+ghost use Rattle.tl_county.specs.RepeatedKeys.{AreLeastRepeated};
 ghost use Rattle.tl_county.specs.Packing.{by_type, type_after_type};
 ghost use Rattle.tl_county.specs.TheCounty.{the_county};
 ghost use Rattle.tl_county.specs.TheCountyIn.{the_county_in};
@@ -28,7 +29,7 @@ use crate::county::County;
 use crate::county_in::CountyIn;
 use crate::fault::LinkFault;
 use crate::gathered::{
-    Polygons, Tlids, gather_polygons, linked_polygons, order_tables, uses_in_order,
+    Ordered, Polygons, gather_polygons, linked_polygons, order_tables, uses_in_order,
 };
 use crate::keyed::keys_of;
 use crate::landmark::Landmark;
@@ -42,29 +43,31 @@ use std::alloc::{AllocError, Global};
 use tl_layout::{Body5, BodyP, Rec5, Record, Tables};
 use tl_shape::{Chain, ChainIn};
 
-/// The ten rules, over tables in order, with their TLIDs, their FEATs and their polygons in order.
+/// The ten rules, over tables in order, with what that told, and their FEATs and their polygons in order.
 fn check_rules(
     alloc: Global,
     tables: &Tables,
-    tlids: &Tlids,
+    ordered: &Ordered,
     feats: &[u32],
     polygons: &[PolygonKey],
 ) -> Result<(), LinkFault>
     requires tables { AreInOrder (typed_of tables.now) }
-    requires chains { tlids.now.chains.items ≡ map one_tlid tables.now.type_1.items }
-    requires links { tlids.now.links.items ≡ map i_tlid tables.now.type_i.items }
+    requires chains { ordered.now.tlids.chains.items ≡ map one_tlid tables.now.type_1.items }
+    requires links { ordered.now.tlids.links.items ≡ map i_tlid tables.now.type_i.items }
+    requires repeated { AreLeastRepeated ordered.now.repeated (typed_of tables.now) }
     requires feats { feats.now ≡ map five_feat tables.now.type_5.items }
     requires polygons { polygons.now ≡ distinct key_cmp (flat_map side_keys tables.now.type_i.items ++ map p_key tables.now.type_p.items) }
     ensures linked { OnOk result ((records : List Record) → by_type records ≡ typed_of tables.now → IsLinked records) }
     ensures broken { IfErr result (λ fault. fault ≢ Memory → (records : List Record) → by_type records ≡ typed_of tables.now → IsFirstBrokenRule records fault) }
 {
+    let tlids = &ordered.tlids;
     check_chains(tables, &tlids.chains, &tlids.links)?;
-    check_sequences(tables)?;
+    check_sequences(&ordered.repeated)?;
     check_links(tables, &tlids.chains, &tlids.links)?;
     let uses = uses_in_order(alloc, &tables.type_4)?;
     check_names(tables, &uses, feats)?;
     let linked = linked_polygons(alloc, &tables.type_8)?;
-    check_landmarks(tables, &linked, polygons)
+    check_landmarks(tables, ordered.repeated.type_p, &linked, polygons)
 }
 
 /// The chains of tables in order, under their TLIDs.
@@ -235,12 +238,12 @@ pub(crate) fn settle(alloc: Global, tables: &mut Tables) -> Result<Gathered, Lin
     ensures broken { IfErr result (λ fault. fault ≢ Memory → (records : List Record) →
         HoldsByType tables.old records → IsFirstBrokenRule records fault) }
 {
-    let tlids = order_tables(alloc, tables)?;
+    let ordered = order_tables(alloc, tables)?;
     let feats = keys_of::<u32, Rec5>(alloc, &tables.type_5)?;
     let polygons = gather_polygons(alloc, &tables.type_i, &tables.type_p)?;
-    check_rules(alloc, tables, &tlids, &feats, &polygons.keys)?;
+    check_rules(alloc, tables, &ordered, &feats, &polygons.keys)?;
     Ok(Gathered {
-        tlids: tlids.chains,
+        tlids: ordered.tlids.chains,
         feats,
         polygons,
     })
