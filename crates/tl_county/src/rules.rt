@@ -51,7 +51,8 @@ pub(crate) fn check_chains(tables: &Tables, tlids: &[u64], linked: &[u64]) -> Re
 
 /// Rule 13: no RTSQ stands twice for a chain in a record type. The least that do are given.
 pub(crate) fn check_sequences(repeated: &Repeated) -> Result<(), LinkFault>
-    ensures { (records : List Record) → AreLeastRepeated repeated.now (by_type records) → MatchResult result (λ _. RulesHold records 5 8) (IsFirstFrom records 5) }
+    ensures { (records : List Record) → AreLeastRepeated repeated.now (by_type records) →
+        MatchResult result (λ _. RulesHold records 5 8) (IsFirstFrom records 5) }
 {
     if let Some((tlid, _)) = repeated.type_2 {
         let rtype = SequencedType::Two;
