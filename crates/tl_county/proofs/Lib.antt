@@ -15,7 +15,9 @@ pub mod Samples
 pub mod OnSamples
 pub mod Reordered
 pub mod KeySets
+pub mod KeysInOrder
 pub mod KeyedLists
+pub mod KeysAscend
 pub mod RuleOrders
 pub mod RuleTests
 pub mod TlidsInOrder

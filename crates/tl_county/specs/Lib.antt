@@ -2,6 +2,7 @@ pub mod Orders
 pub mod Keyed
 pub mod SequenceKeys
 pub mod Marks
+pub mod RepeatedKeys
 pub mod RuleOrder
 pub mod OrderedTables
 pub mod Entries

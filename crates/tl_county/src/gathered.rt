@@ -1,7 +1,7 @@
 //! Tables put in order, and what linking gathers from them.
 
 ghost use Rattle.std.specs.Prelude.{◌≡◌, ◌++◌, map, flat_map, OnOk, IfOk, IsPermutation};
-ghost use Rattle.tl_county.specs.County.{link_key, p_key, side_keys};
+ghost use Rattle.tl_county.specs.County.{i_tlid, link_key, one_tlid, p_key, side_keys};
 ghost use Rattle.std.specs.List.Sorted.{IsStrictlySortedBy};
 ghost use Rattle.std.specs.Ordering.{on};
 ghost use Rattle.tl_county.specs.BodyOrder.{bytes_cmp};
@@ -9,29 +9,75 @@ ghost use Rattle.tl_county.specs.Keyed.{IsLeastPassing, is_unknown};
 ghost use Rattle.tl_county.specs.OrderedTables.{typed_of, AreInOrder, ArePermuted};
 ghost use Rattle.tl_county.specs.Orders.{IsInOrder, distinct};
 ghost use Rattle.tl_county.specs.PolygonKeys.{key_cmp};
+ghost use Rattle.tl_county.specs.RepeatedKeys.{AreLeastRepeated};
 ghost use Rattle.tl_county.specs.SequenceKeys.{sequence_cmp, uses_of};
 
-use crate::keyed::{Keyed, keys_of, least_unknown, put_in_order, sort_keys};
+use crate::keyed::{
+    Keyed, keys_of, least_unknown, put_in_order, put_in_order_with_keys,
+    put_in_order_with_repeated, sort_keys,
+};
 use crate::polygon_set::{cenids_of, distinct_polygons};
 use crate::record_keys::{LandmarkKey, LinkKey, PolygonKey};
 use std::alloc::{AllocError, Global};
 use tl_layout::{Rec1, Rec2, Rec4, Rec5, Rec6, Rec7, Rec8, RecI, RecP, Tables};
 
-/// Puts each table in the order of its records' numbers.
-pub(crate) fn order_tables(tables: &mut Tables) -> Result<(), AllocError>
+/// The TLIDs of the records of types 1 and I.
+#[derive(Drop)]
+pub(crate) struct Tlids {
+    /// Those of the records of type 1.
+    pub(crate) chains: Vec<u64>,
+    /// Those of the records of type I.
+    pub(crate) links: Vec<u64>,
+}
+
+/// The least keys that two records of a type have, where two have one.
+#[derive(Drop)]
+pub(crate) struct Repeated {
+    /// TLID and RTSQ of records of type 2.
+    pub(crate) type_2: Option<(u64, u16)>,
+    /// TLID and RTSQ of records of type 4.
+    pub(crate) type_4: Option<(u64, u16)>,
+    /// TLID and RTSQ of records of type 6.
+    pub(crate) type_6: Option<(u64, u16)>,
+    /// The polygon of records of type P.
+    pub(crate) type_p: Option<PolygonKey>,
+}
+
+/// What is told of records by putting them in order.
+#[derive(Drop)]
+pub(crate) struct Ordered {
+    /// The TLIDs in order.
+    pub(crate) tlids: Tlids,
+    /// The keys that stand twice.
+    pub(crate) repeated: Repeated,
+}
+
+/// Puts each table in the order of its records' numbers. It answers the TLIDs of the records of types 1 and I in that order, and
+/// the keys of types 2, 4, 6 and P that stand twice.
+pub(crate) fn order_tables(alloc: Global, tables: &mut Tables) -> Result<Ordered, AllocError>
     ensures in_order { OnOk result (AreInOrder (typed_of tables.new)) }
     ensures same { OnOk result (ArePermuted (typed_of tables.old) (typed_of tables.new)) }
+    ensures chains { IfOk result (λ ordered. ordered.tlids.chains.items ≡ map one_tlid tables.new.type_1.items) }
+    ensures links { IfOk result (λ ordered. ordered.tlids.links.items ≡ map i_tlid tables.new.type_i.items) }
+    ensures repeated { IfOk result (λ ordered. AreLeastRepeated ordered.repeated (typed_of tables.new)) }
 {
-    put_in_order::<u64, Rec1>(&mut tables.type_1)?;
-    put_in_order::<(u64, u16), Rec2>(&mut tables.type_2)?;
-    put_in_order::<(u64, u16), Rec4>(&mut tables.type_4)?;
+    let chains = put_in_order_with_keys::<u64, Rec1>(alloc, &mut tables.type_1)?;
+    let type_2 = put_in_order_with_repeated::<(u64, u16), Rec2>(&mut tables.type_2)?;
+    let type_4 = put_in_order_with_repeated::<(u64, u16), Rec4>(&mut tables.type_4)?;
     put_in_order::<u32, Rec5>(&mut tables.type_5)?;
-    put_in_order::<(u64, u16), Rec6>(&mut tables.type_6)?;
+    let type_6 = put_in_order_with_repeated::<(u64, u16), Rec6>(&mut tables.type_6)?;
     put_in_order::<LandmarkKey, Rec7>(&mut tables.type_7)?;
     put_in_order::<LinkKey, Rec8>(&mut tables.type_8)?;
-    put_in_order::<u64, RecI>(&mut tables.type_i)?;
-    put_in_order::<PolygonKey, RecP>(&mut tables.type_p)?;
-    Ok(())
+    let links = put_in_order_with_keys::<u64, RecI>(alloc, &mut tables.type_i)?;
+    let type_p = put_in_order_with_repeated::<PolygonKey, RecP>(&mut tables.type_p)?;
+    let tlids = Tlids { chains, links };
+    let repeated = Repeated {
+        type_2,
+        type_4,
+        type_6,
+        type_p,
+    };
+    Ok(Ordered { tlids, repeated })
 }
 
 /// Adds the FEATs that a record of type 4 names, each with its TLID.

@@ -1,6 +1,7 @@
 //! Lists of what has a key, in the order of their keys.
 
-ghost use Rattle.std.specs.Prelude.{◌≡◌, List, map, filter, not, false, true, Some, OnOk, IfOk, IfSome, IsPermutation, slice_get, is_some};
+ghost use Rattle.std.specs.Prelude.{◌≡◌, List, map, filter, not, false, true, Some, None, OnOk, IfOk, IfSome};
+ghost use Rattle.std.specs.Prelude.{IsPermutation, slice_get, is_some};
 ghost use Rattle.std.specs.Ordering.{on, is_eq, is_gt, is_lt};
 ghost use Rattle.std.specs.declared.cmp.Ordering.TheVariants.{Equal};
 ghost use Rattle.tl_county.specs.Keyed.{IsLeastPassing, is_repeated, is_unknown};
@@ -45,6 +46,47 @@ pub fn put_in_order<K: Ord + Copy, T: Keyed<K>>(items: &mut Vec<T>) -> Result<()
     items.sort_by_cached_key(|item| item.key())
 }
 
+/// The keys of the items, if they stand in the order of their keys.
+fn keys_in_order<K: Key, T: Keyed<K>>(
+    alloc: Global,
+    items: &[T],
+) -> Result<Option<Vec<K>>, AllocError>
+    ensures in_order { IfOk result (λ found. IfSome found (λ keys. IsInOrder (on T.key_of K.cmp) items.now)) }
+    ensures keys { IfOk result (λ found. IfSome found (λ keys. keys.items ≡ map T.key_of items.now)) }
+{
+    let mut keys = Vec::with_capacity(alloc, items.len())?;
+    let Some(first) = items.first() else {
+        return Ok(Some(keys));
+    };
+    let mut last = first.key();
+    for item in items {
+        let key = item.key();
+        if last.cmp(&key).is_gt() {
+            return Ok(None);
+        }
+        keys.push(key)?;
+        last = key;
+    }
+    Ok(Some(keys))
+}
+
+/// Puts the items in the order of their keys, and answers their keys in that order. Where the items are in order already each
+/// is read once; else they are moved as `put_in_order` moves them.
+pub(crate) fn put_in_order_with_keys<K: Key, T: Keyed<K>>(
+    alloc: Global,
+    items: &mut Vec<T>,
+) -> Result<Vec<K>, AllocError>
+    ensures permutation { IsPermutation items.old.items items.new.items }
+    ensures in_order { OnOk result (IsInOrder (on T.key_of K.cmp) items.new.items) }
+    ensures keys { IfOk result (λ keys. keys.items ≡ map T.key_of items.new.items) }
+{
+    if let Some(keys) = keys_in_order::<K, T>(alloc, items)? {
+        return Ok(keys);
+    }
+    items.sort_by_cached_key(|item| item.key())?;
+    keys_of::<K, T>(alloc, items)
+}
+
 /// Puts keys in order. It takes no memory.
 pub fn sort_keys<K: Key>(keys: &mut Vec<K>)
     ensures permutation { IsPermutation keys.old.items keys.new.items }
@@ -76,6 +118,30 @@ pub fn least_repeated<K: Key, T: Keyed<K>>(items: &[T]) -> Option<K>
         rest = later;
     }
     None
+}
+
+/// Whether each item's key is below the next one's; then no key stands twice.
+fn are_ascending<K: Key, T: Keyed<K>>(items: &[T]) -> bool
+    ensures in_order { result ≡ true → IsInOrder (on T.key_of K.cmp) items.now }
+    ensures apart { result ≡ true → IsLeastPassing K.cmp (is_repeated K.cmp (map T.key_of items.now)) None }
+{
+    items.is_sorted_by(|item, next| item.key().cmp(&next.key()).is_lt())
+}
+
+/// Puts the items in the order of their keys, and answers the least key that stands twice. Where each key is below the next
+/// one already, one walk tells both.
+pub(crate) fn put_in_order_with_repeated<K: Key, T: Keyed<K>>(
+    items: &mut Vec<T>,
+) -> Result<Option<K>, AllocError>
+    ensures permutation { IsPermutation items.old.items items.new.items }
+    ensures in_order { OnOk result (IsInOrder (on T.key_of K.cmp) items.new.items) }
+    ensures repeated { IfOk result (IsLeastPassing K.cmp (is_repeated K.cmp (map T.key_of items.new.items))) }
+{
+    if are_ascending::<K, T>(items) {
+        return Ok(None);
+    }
+    put_in_order::<K, T>(items)?;
+    Ok(least_repeated::<K, T>(items))
 }
 
 /// The least key of the items that none of `known` has, both in order.

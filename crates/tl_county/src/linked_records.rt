@@ -4,7 +4,7 @@ ghost use Rattle.std.specs.Prelude.{◌≡◌, ◌≢◌, ◌++◌, List, map, f
 ghost use Rattle.tl_layout.specs.Tables.{HoldsByType};
 ghost use Rattle.tl_layout.specs.declared.record_type.Record.{Record};
 ghost use Rattle.tl_county.specs.Building.{county_along};
-ghost use Rattle.tl_county.specs.County.{county_of, five_feat, p_key, side_keys};
+ghost use Rattle.tl_county.specs.County.{county_of, five_feat, one_tlid, p_key, side_keys};
 ghost use Rattle.tl_county.specs.CountyRules.{is_without_chain};
 ghost use Rattle.tl_county.specs.Keyed.{IsLeastPassing};
 ghost use Rattle.tl_county.specs.Limits.{HoldsWithinLimits, IsWithinLimits, most_records};
@@ -35,13 +35,14 @@ use tl_layout::Tables;
 #[derive(Drop)]
 pub struct LinkedRecords {
     tables: Tables,
+    tlids: Vec<u64>,
     feats: Vec<u32>,
     polygons: Polygons,
 }
 
 impl Model for LinkedRecords {
     ghost use Rattle.std.specs.Prelude.{◌≡◌, ◌++◌, map, flat_map};
-    ghost use Rattle.tl_county.specs.County.{county_of, five_feat, p_key, side_keys};
+    ghost use Rattle.tl_county.specs.County.{county_of, five_feat, one_tlid, p_key, side_keys};
     ghost use Rattle.tl_county.specs.Keyed.{IsLeastPassing, is_unknown};
     ghost use Rattle.tl_county.specs.Limits.{IsWithinLimits, most_records};
     ghost use Rattle.tl_county.specs.LinkRules.{IsLinked};
@@ -57,6 +58,7 @@ impl Model for LinkedRecords {
     ghost invariant = { λ l. AreInOrder (typed_of l.tables)
         × IsLinked (type_after_type (typed_of l.tables))
         × IsWithinLimits most_records (county_of (type_after_type (typed_of l.tables)))
+        × (l.tlids.items ≡ map one_tlid l.tables.type_1.items)
         × (l.feats.items ≡ map five_feat l.tables.type_5.items)
         × (l.polygons.keys.items ≡ distinct key_cmp (flat_map side_keys l.tables.type_i.items ++ map p_key l.tables.type_p.items))
         × IsLeastPassing key_cmp (is_unknown key_cmp (map p_key l.tables.type_p.items) (flat_map side_keys l.tables.type_i.items))
@@ -83,18 +85,20 @@ fn build_county_over<'a>(
     alloc: Global,
     arena: &'a Bump,
     tables: &'a Tables,
+    tlids: Vec<u64>,
     feats: Vec<u32>,
     polygons: Vec<PolygonKey>,
 ) -> Result<CountyOver<'a>, AllocError>
     requires tables { AreInOrder (typed_of tables.now) }
     requires linked { IsLinked (type_after_type (typed_of tables.now)) }
+    requires tlids { tlids.items ≡ map one_tlid tables.now.type_1.items }
     requires feats { feats.items ≡ map five_feat tables.now.type_5.items }
     requires polygons { polygons.items ≡ distinct key_cmp (flat_map side_keys tables.now.type_i.items ++ map p_key tables.now.type_p.items) }
     requires limits { IsWithinLimits most_records (county_of (type_after_type (typed_of tables.now))) }
     ensures { IfOk result (λ county. the_county_over county ≡ county_of (type_after_type (typed_of tables.now))) }
 {
     let mut builder = InArena::new(alloc, arena);
-    let chains = build_chains::<ChainOver<'a>, InArena<'a>>(alloc, &mut builder, tables)?;
+    let chains = build_chains::<ChainOver<'a>, InArena<'a>>(alloc, &mut builder, tables, tlids)?;
     let nodes = nodes_of(alloc, &tables.type_i)?;
     let names = build_names_over(alloc, tables, feats)?;
     let polygons = build_polygons(alloc, tables, polygons)?;
@@ -121,9 +125,10 @@ impl LinkedRecords {
     ) -> Result<CountyOver<'a>, AllocError>
         ensures { IfOk result (λ county. the_county_over county ≡ county_of (type_after_type self.now)) }
     {
+        let tlids = Vec::from_slice(alloc, &self.tlids)?;
         let feats = Vec::from_slice(alloc, &self.feats)?;
         let polygons = Vec::from_slice(alloc, &self.polygons.keys)?;
-        build_county_over(alloc, arena, &self.tables, feats, polygons)
+        build_county_over(alloc, arena, &self.tables, tlids, feats, polygons)
     }
 
     /// The least polygon with a record of type P that is on no side of a chain, by the bytes of the CENID and then by POLYID.
@@ -145,10 +150,12 @@ pub fn link_in_order(alloc: Global, tables: Tables) -> Result<LinkedRecords, Lin
 {
     let mut tables = tables;
     let gathered = settle(alloc, &mut tables)?;
+    let tlids = gathered.tlids;
     let feats = gathered.feats;
     let polygons = gathered.polygons;
     Ok(LinkedRecords {
         tables,
+        tlids,
         feats,
         polygons,
     })

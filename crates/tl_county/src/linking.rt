@@ -6,13 +6,14 @@ ghost use Rattle.tl_layout.specs.RecordText.{FitsRecord};
 ghost use Rattle.tl_layout.specs.declared.record_type.Record.{Record};
 ghost use Rattle.tl_layout.specs.Tables.{HoldsByType};
 ghost use Rattle.tl_county.specs.Building.{county_along, landmarks_along};
-ghost use Rattle.tl_county.specs.County.{county_of, five_feat, p_key, side_keys};
+ghost use Rattle.tl_county.specs.County.{county_of, five_feat, i_tlid, one_tlid, p_key, side_keys};
 ghost use Rattle.tl_county.specs.Limits.{HoldsWithinLimits, IsWithinLimits, most_records};
 ghost use Rattle.tl_county.specs.LinkRules.{IsFirstBrokenRule, IsLinked};
 ghost use Rattle.tl_county.specs.Entries.{map_values};
 ghost use Rattle.tl_county.specs.Keyed.{IsLeastPassing, is_unknown};
 ghost use Rattle.tl_county.specs.OrderedTables.{typed_of, AreInOrder, ArePermuted};
 ghost use Rattle.tl_county.specs.Orders.{distinct};
+ghost use Rattle.tl_county.specs.RepeatedKeys.{AreLeastRepeated};
 ghost use Rattle.tl_county.specs.Packing.{by_type, type_after_type};
 ghost use Rattle.tl_county.specs.TheCounty.{the_county};
 ghost use Rattle.tl_county.specs.TheCountyIn.{the_county_in};
@@ -27,7 +28,7 @@ use crate::building::{
 use crate::county::County;
 use crate::county_in::CountyIn;
 use crate::fault::LinkFault;
-use crate::gathered::{Polygons, gather_polygons, linked_polygons, order_tables};
+use crate::gathered::{Ordered, Polygons, gather_polygons, linked_polygons, order_tables};
 use crate::keyed::keys_of;
 use crate::landmark::Landmark;
 use crate::lent::{LandmarkIn, NameIn};
@@ -39,31 +40,34 @@ use crate::rules::{
 use crate::table::Table;
 use bumpalo::Bump;
 use std::alloc::{AllocError, Global};
-use tl_layout::{Body5, BodyP, Rec1, Rec5, RecI, Record, Tables};
+use tl_layout::{Body5, BodyP, Rec5, Record, Tables};
 use tl_shape::{Chain, ChainIn};
 
-/// The ten rules, over tables in order, with their FEATs and their polygons in order.
+/// The ten rules, over tables in order, with what that told, and their FEATs and their polygons in order.
 fn check_rules(
     alloc: Global,
     tables: &Tables,
+    ordered: &Ordered,
     feats: &[u32],
     polygons: &[PolygonKey],
 ) -> Result<(), LinkFault>
     requires tables { AreInOrder (typed_of tables.now) }
+    requires chains { ordered.now.tlids.chains.items ≡ map one_tlid tables.now.type_1.items }
+    requires links { ordered.now.tlids.links.items ≡ map i_tlid tables.now.type_i.items }
+    requires repeated { AreLeastRepeated ordered.now.repeated (typed_of tables.now) }
     requires feats { feats.now ≡ map five_feat tables.now.type_5.items }
     requires polygons { polygons.now ≡ distinct key_cmp (flat_map side_keys tables.now.type_i.items ++ map p_key tables.now.type_p.items) }
     ensures linked { OnOk result ((records : List Record) → by_type records ≡ typed_of tables.now → IsLinked records) }
     ensures broken { IfErr result (λ fault. fault ≢ Memory → (records : List Record) → by_type records ≡ typed_of tables.now → IsFirstBrokenRule records fault) }
 {
-    let tlids = keys_of::<u64, Rec1>(alloc, &tables.type_1)?;
-    let linked = keys_of::<u64, RecI>(alloc, &tables.type_i)?;
-    check_chains(tables, &tlids, &linked)?;
-    check_sequences(tables)?;
-    check_links(tables, &tlids, &linked)?;
+    let tlids = &ordered.tlids;
+    check_chains(tables, &tlids.chains, &tlids.links)?;
+    check_sequences(&ordered.repeated)?;
+    check_links(tables, &tlids.chains, &tlids.links)?;
     let unnamed = unnamed_use(alloc, &tables.type_4, feats)?;
     check_names(tables, unnamed)?;
     let linked = linked_polygons(alloc, &tables.type_8)?;
-    check_landmarks(tables, &linked, polygons)
+    check_landmarks(tables, ordered.repeated.type_p, &linked, polygons)
 }
 
 /// The chains of tables in order, under their TLIDs.
@@ -71,12 +75,13 @@ pub(crate) fn build_chains<'t, C: Drop, B: ChainBuilder<'t, C>>(
     alloc: Global,
     builder: &mut B,
     tables: &'t Tables,
+    tlids: Vec<u64>,
 ) -> Result<Table<u64, C>, AllocError>
     requires tables { AreInOrder (typed_of tables.now) }
     requires linked { IsLinked (type_after_type (typed_of tables.now)) }
+    requires tlids { tlids.items ≡ map one_tlid tables.now.type_1.items }
     ensures { IfOk result (λ chains. map_values B.chain chains ≡ (county_along (typed_of tables.now)).chains) }
 {
-    let tlids = keys_of::<u64, Rec1>(alloc, &tables.type_1)?;
     let chains = chains_of_records::<C, B>(
         alloc,
         builder,
@@ -136,18 +141,20 @@ pub(crate) fn build_landmarks<L: Drop, B: LandmarkBuilder<L>>(
 fn build_county(
     alloc: Global,
     tables: &Tables,
+    tlids: Vec<u64>,
     feats: Vec<u32>,
     polygons: Vec<PolygonKey>,
 ) -> Result<County, AllocError>
     requires tables { AreInOrder (typed_of tables.now) }
     requires linked { IsLinked (type_after_type (typed_of tables.now)) }
+    requires tlids { tlids.items ≡ map one_tlid tables.now.type_1.items }
     requires feats { feats.items ≡ map five_feat tables.now.type_5.items }
     requires polygons { polygons.items ≡ distinct key_cmp (flat_map side_keys tables.now.type_i.items ++ map p_key tables.now.type_p.items) }
     requires limits { IsWithinLimits most_records (county_of (type_after_type (typed_of tables.now))) }
     ensures { IfOk result (λ county. the_county county ≡ county_of (type_after_type (typed_of tables.now))) }
 {
     let mut owned = Owned { alloc };
-    let chains = build_chains::<Chain, Owned>(alloc, &mut owned, tables)?;
+    let chains = build_chains::<Chain, Owned>(alloc, &mut owned, tables, tlids)?;
     let nodes = nodes_of(alloc, &tables.type_i)?;
     let names = build_names(alloc, tables, feats)?;
     let polygons = build_polygons(alloc, tables, polygons)?;
@@ -182,18 +189,20 @@ fn build_county_in<'a>(
     alloc: Global,
     arena: &'a Bump,
     tables: &Tables,
+    tlids: Vec<u64>,
     feats: Vec<u32>,
     polygons: Vec<PolygonKey>,
 ) -> Result<CountyIn<'a>, AllocError>
     requires tables { AreInOrder (typed_of tables.now) }
     requires linked { IsLinked (type_after_type (typed_of tables.now)) }
+    requires tlids { tlids.items ≡ map one_tlid tables.now.type_1.items }
     requires feats { feats.items ≡ map five_feat tables.now.type_5.items }
     requires polygons { polygons.items ≡ distinct key_cmp (flat_map side_keys tables.now.type_i.items ++ map p_key tables.now.type_p.items) }
     requires limits { IsWithinLimits most_records (county_of (type_after_type (typed_of tables.now))) }
     ensures { IfOk result (λ county. the_county_in county ≡ county_of (type_after_type (typed_of tables.now))) }
 {
     let mut builder = InArena::new(alloc, arena);
-    let chains = build_chains::<ChainIn<'a>, InArena<'a>>(alloc, &mut builder, tables)?;
+    let chains = build_chains::<ChainIn<'a>, InArena<'a>>(alloc, &mut builder, tables, tlids)?;
     let nodes = nodes_of(alloc, &tables.type_i)?;
     let names = build_names_in(alloc, arena, tables, feats)?;
     let polygons = build_polygons(alloc, tables, polygons)?;
@@ -207,9 +216,10 @@ fn build_county_in<'a>(
     })
 }
 
-/// What was gathered of tables in order: the FEATs of names, in order, and the polygons.
+/// What was gathered of tables in order: the TLIDs of chains and the FEATs of names, both in order, and the polygons.
 #[derive(Drop)]
 pub(crate) struct Gathered {
+    pub(crate) tlids: Vec<u64>,
     pub(crate) feats: Vec<u32>,
     pub(crate) polygons: Polygons,
 }
@@ -219,6 +229,7 @@ pub(crate) fn settle(alloc: Global, tables: &mut Tables) -> Result<Gathered, Lin
     ensures in_order { OnOk result (AreInOrder (typed_of tables.new)) }
     ensures same { OnOk result (ArePermuted (typed_of tables.old) (typed_of tables.new)) }
     ensures linked { OnOk result (IsLinked (type_after_type (typed_of tables.new))) }
+    ensures tlids { IfOk result (λ gathered. gathered.tlids.items ≡ map one_tlid tables.new.type_1.items) }
     ensures feats { IfOk result (λ gathered. gathered.feats.items ≡ map five_feat tables.new.type_5.items) }
     ensures polygons { IfOk result (λ gathered. gathered.polygons.keys.items ≡
         distinct key_cmp (flat_map side_keys tables.new.type_i.items ++ map p_key tables.new.type_p.items)) }
@@ -227,11 +238,15 @@ pub(crate) fn settle(alloc: Global, tables: &mut Tables) -> Result<Gathered, Lin
     ensures broken { IfErr result (λ fault. fault ≢ Memory → (records : List Record) →
         HoldsByType tables.old records → IsFirstBrokenRule records fault) }
 {
-    order_tables(tables)?;
+    let ordered = order_tables(alloc, tables)?;
     let feats = keys_of::<u32, Rec5>(alloc, &tables.type_5)?;
     let polygons = gather_polygons(alloc, &tables.type_i, &tables.type_p)?;
-    check_rules(alloc, tables, &feats, &polygons.keys)?;
-    Ok(Gathered { feats, polygons })
+    check_rules(alloc, tables, &ordered, &feats, &polygons.keys)?;
+    Ok(Gathered {
+        tlids: ordered.tlids.chains,
+        feats,
+        polygons,
+    })
 }
 
 /// The county of tables of records, or the first rule that the records break. The tables' order has no meaning. They hold
@@ -245,7 +260,13 @@ pub fn link_tables(alloc: Global, tables: Tables) -> Result<County, LinkFault>
 {
     let mut tables = tables;
     let gathered = settle(alloc, &mut tables)?;
-    Ok(build_county(alloc, &tables, gathered.feats, gathered.polygons.keys)?)
+    Ok(build_county(
+        alloc,
+        &tables,
+        gathered.tlids,
+        gathered.feats,
+        gathered.polygons.keys,
+    )?)
 }
 
 /// The county of tables of records in an arena, which outlives it, or the first rule that the records break. The tables' order
@@ -267,6 +288,7 @@ pub fn link_tables_in<'a>(
         alloc,
         arena,
         &tables,
+        gathered.tlids,
         gathered.feats,
         gathered.polygons.keys,
     )?)

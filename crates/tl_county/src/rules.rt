@@ -3,7 +3,7 @@
 ghost use Rattle.std.specs.Prelude.{◌≡◌, true, List, map, flat_map, ◌++◌, MatchResult, IfOk, OnOk, IsPermutation};
 ghost use Rattle.std.specs.Ordering.{nat_cmp};
 ghost use Rattle.tl_county.specs.County.{link_key, five_feat, i_tlid, one_tlid, p_key, side_keys};
-ghost use Rattle.tl_county.specs.Keyed.{IsLeastPassing};
+ghost use Rattle.tl_county.specs.Keyed.{IsLeastPassing, is_repeated};
 ghost use Rattle.tl_county.specs.Marks.{AllNamed, AreMarksOf, AreNamed};
 ghost use Rattle.tl_county.specs.PolygonKeys.{key_cmp};
 ghost use Rattle.tl_county.specs.SequenceKeys.{is_unnamed, sequence_cmp, uses_of};
@@ -11,15 +11,16 @@ ghost use Rattle.tl_layout.specs.declared.record_type.Record.{Record};
 ghost use Rattle.tl_county.specs.OrderedTables.{typed_of, AreInOrder};
 ghost use Rattle.tl_county.specs.Orders.{IsInOrder, distinct};
 ghost use Rattle.tl_county.specs.Packing.{by_type};
+ghost use Rattle.tl_county.specs.RepeatedKeys.{AreLeastRepeated};
 ghost use Rattle.tl_county.specs.RuleOrder.{RulesHold, IsFirstFrom};
 
 use crate::fault::{LinkFault, LinkedType, SequencedType};
-use crate::gathered::uses_in_order;
+use crate::gathered::{Repeated, uses_in_order};
 use crate::keyed::{least_repeated, least_unknown, place_of};
 use crate::marks::{is_marked, marks_of};
 use crate::record_keys::PolygonKey;
 use std::alloc::{AllocError, Global};
-use tl_layout::{Rec2, Rec4, Rec5, Rec6, Rec7, Rec8, RecP, Tables};
+use tl_layout::{Rec2, Rec4, Rec5, Rec6, Rec7, Rec8, Tables};
 
 /// Rules 11 and 12: no TLID has two records of type 1, and each record of types 2, 4, 6 and I has its chain. The TLIDs are
 /// those of the records of type 1, and the linked ones those of type I, which are searched in place of the records.
@@ -51,20 +52,20 @@ pub(crate) fn check_chains(tables: &Tables, tlids: &[u64], linked: &[u64]) -> Re
     Ok(())
 }
 
-/// Rule 13: no RTSQ stands twice for a chain in a record type.
-pub(crate) fn check_sequences(tables: &Tables) -> Result<(), LinkFault>
-    requires { AreInOrder (typed_of tables.now) }
-    ensures { (records : List Record) → by_type records ≡ typed_of tables.now → MatchResult result (λ _. RulesHold records 5 8) (IsFirstFrom records 5) }
+/// Rule 13: no RTSQ stands twice for a chain in a record type. The least that do are given.
+pub(crate) fn check_sequences(repeated: &Repeated) -> Result<(), LinkFault>
+    ensures { (records : List Record) → AreLeastRepeated repeated.now (by_type records) →
+        MatchResult result (λ _. RulesHold records 5 8) (IsFirstFrom records 5) }
 {
-    if let Some((tlid, _)) = least_repeated::<(u64, u16), Rec2>(&tables.type_2) {
+    if let Some((tlid, _)) = repeated.type_2 {
         let rtype = SequencedType::Two;
         return Err(LinkFault::SequenceBroken { rtype, tlid });
     }
-    if let Some((tlid, _)) = least_repeated::<(u64, u16), Rec4>(&tables.type_4) {
+    if let Some((tlid, _)) = repeated.type_4 {
         let rtype = SequencedType::Four;
         return Err(LinkFault::SequenceBroken { rtype, tlid });
     }
-    if let Some((tlid, _)) = least_repeated::<(u64, u16), Rec6>(&tables.type_6) {
+    if let Some((tlid, _)) = repeated.type_6 {
         let rtype = SequencedType::Six;
         return Err(LinkFault::SequenceBroken { rtype, tlid });
     }
@@ -169,18 +170,20 @@ pub(crate) fn check_names(tables: &Tables, unnamed: Option<(u64, u32)>) -> Resul
 
 /// Rules 18 to 20: no polygon has two records of type P, each landmark of a record of type 8 has a record of type 7, and
 /// each polygon of one stands on a side or has a record of type P. The linked polygons are those of the records of type 8,
-/// and the polygons are the keys on sides and of type P, both in order.
+/// and the polygons are the keys on sides and of type P, both in order. The least polygon that has two records is given.
 pub(crate) fn check_landmarks(
     tables: &Tables,
+    repeated: Option<PolygonKey>,
     linked: &[PolygonKey],
     polygons: &[PolygonKey],
 ) -> Result<(), LinkFault>
     requires tables { AreInOrder (typed_of tables.now) }
+    requires repeated { IsLeastPassing key_cmp (is_repeated key_cmp (map p_key tables.now.type_p.items)) repeated }
     requires linked { IsInOrder key_cmp linked.now × IsPermutation (map link_key tables.now.type_8.items) linked.now }
     requires polygons { polygons.now ≡ distinct key_cmp (flat_map side_keys tables.now.type_i.items ++ map p_key tables.now.type_p.items) }
     ensures { (records : List Record) → by_type records ≡ typed_of tables.now → MatchResult result (λ _. RulesHold records 12 15) (IsFirstFrom records 12) }
 {
-    if let Some(key) = least_repeated::<PolygonKey, RecP>(&tables.type_p) {
+    if let Some(key) = repeated {
         let cenid = key.0;
         let polyid = key.1;
         return Err(LinkFault::PolygonTwice { cenid, polyid });

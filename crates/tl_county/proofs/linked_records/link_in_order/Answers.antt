@@ -8,6 +8,7 @@ invariant_of-result c =
       told.in_order,
       told.linked,
       within_limits-moved c.args.tables c.settle.new.tables c.requires told.same told.linked,
+      told.tlids,
       told.feats,
       told.polygons,
       told.without_side,

@@ -14,16 +14,16 @@ use Rattle.tl_county.proofs.linking.build_chains.Goals as goal
 pub chains_of_records-requires : goal.chains_of_records-requires
 chains_of_records-requires g c κs =
     let t = typed_of c.args.tables.now in
-    let heads = subst (λ l. IsStrictlySortedBy nat_cmp (map one_tlid l)) (sym c.deref-2.ensures.value)
+    let heads = subst (λ l. IsStrictlySortedBy nat_cmp (map one_tlid l)) (sym c.deref.ensures.value)
     (tlids-ascend t c.requires.tables c.requires.linked) in
-    let shapes = subst (IsInOrder (on two_tlid nat_cmp)) (sym c.deref-4.ensures.value) (twos-in_order t c.requires.tables) in
-    let names = subst (IsInOrder (on four_tlid nat_cmp)) (sym c.deref-5.ensures.value) (fours-in_order t c.requires.tables) in
-    let ranges = subst (IsInOrder (on six_tlid nat_cmp)) (sym c.deref-6.ensures.value) (sixes-in_order t c.requires.tables) in
+    let shapes = subst (IsInOrder (on two_tlid nat_cmp)) (sym c.deref-3.ensures.value) (twos-in_order t c.requires.tables) in
+    let names = subst (IsInOrder (on four_tlid nat_cmp)) (sym c.deref-4.ensures.value) (fours-in_order t c.requires.tables) in
+    let ranges = subst (IsInOrder (on six_tlid nat_cmp)) (sym c.deref-5.ensures.value) (sixes-in_order t c.requires.tables) in
     ((λ i. κs.1.0, tt), (heads, (shapes, (names, ranges))))
 
 pub new-requires-clause-ascending : goal.new-requires-clause-ascending
 new-requires-clause-ascending g c =
-    subst (IsStrictlySortedBy nat_cmp) (sym (c.in_ok-tlids.ensures ∙ ap (map one_tlid) c.deref.ensures.value))
+    subst (IsStrictlySortedBy nat_cmp) (sym c.requires.tlids)
     (tlids-ascend (typed_of c.args.tables.now) c.requires.tables c.requires.linked)
 
 pub new-requires-clause-same_length : goal.new-requires-clause-same_length
@@ -31,9 +31,9 @@ new-requires-clause-same_length g c =
     let t = typed_of c.args.tables.now in
     let chains : map g.B.ChainBuilder.chain c.in_ok-chains.chains.items ≡ chains_along t.of_type_2 t.of_type_4 t.of_type_6 t.of_type_1
     t.of_type_i =
-    c.in_ok-chains.ensures ∙ (λ i. chains_along (c.deref-4.ensures.value i) (c.deref-5.ensures.value i) (c.deref-6.ensures.value i)
-    (c.deref-2.ensures.value i) (c.deref-3.ensures.value i)) in
-    ap length (c.in_ok-tlids.ensures ∙ ap (map one_tlid) c.deref.ensures.value)
+    c.in_ok-chains.ensures ∙ (λ i. chains_along (c.deref-3.ensures.value i) (c.deref-4.ensures.value i) (c.deref-5.ensures.value i)
+    (c.deref.ensures.value i) (c.deref-2.ensures.value i)) in
+    ap length c.requires.tlids
     ∙ length-chains_along t.of_type_2 t.of_type_4 t.of_type_6 t.of_type_1 t.of_type_i (beside t c.requires.tables c.requires.linked)
     ∙ ap length (sym chains) ∙ length-map c.in_ok-chains.chains.items g.B.ChainBuilder.chain
 
@@ -42,13 +42,13 @@ returns g c =
     let t = typed_of c.args.tables.now in
     let chains : map g.B.ChainBuilder.chain c.in_ok-chains.chains.items ≡ chains_along t.of_type_2 t.of_type_4 t.of_type_6 t.of_type_1
     t.of_type_i =
-    c.in_ok-chains.ensures ∙ (λ i. chains_along (c.deref-4.ensures.value i) (c.deref-5.ensures.value i) (c.deref-6.ensures.value i)
-    (c.deref-2.ensures.value i) (c.deref-3.ensures.value i)) in
+    c.in_ok-chains.ensures ∙ (λ i. chains_along (c.deref-3.ensures.value i) (c.deref-4.ensures.value i) (c.deref-5.ensures.value i)
+    (c.deref.ensures.value i) (c.deref-2.ensures.value i)) in
     let same_length = length-chains_along t.of_type_2 t.of_type_4 t.of_type_6 t.of_type_1 t.of_type_i
     (beside t c.requires.tables c.requires.linked) in
     let f = g.B.ChainBuilder.chain in
     entries-equal (map_values f c.new.result) _
-    (keys-map_values f c.new.result ∙ c.new.ensures.keys ∙ c.in_ok-tlids.ensures ∙ ap (map one_tlid) c.deref.ensures.value
+    (keys-map_values f c.new.result ∙ c.new.ensures.keys ∙ c.requires.tlids
     ∙ sym (keys-zip (map one_tlid t.of_type_1) (chains_along t.of_type_2 t.of_type_4 t.of_type_6 t.of_type_1 t.of_type_i) same_length))
     (values-map_values f c.new.result ∙ ap (map f) c.new.ensures.values ∙ chains ∙ sym (values-zip (map one_tlid t.of_type_1)
     (chains_along t.of_type_2 t.of_type_4 t.of_type_6 t.of_type_1 t.of_type_i) same_length))

@@ -6,6 +6,7 @@ use Rattle.tl_county.specs.declared.fault.LinkFault.TheVariants.{Memory}
 use Rattle.tl_county.specs.County.{five_feat}
 use Rattle.tl_county.specs.LinkRules.{IsFirstBrokenRule, IsLinked}
 use Rattle.tl_county.specs.Orders.{IsInOrder}
+use Rattle.tl_county.specs.RepeatedKeys.{AreLeastRepeated}
 use Rattle.tl_county.specs.RuleOrder.{RulesHold, IsFirstFrom}
 use Rattle.tl_county.proofs.InOrder.{in_order-map}
 use Rattle.tl_county.proofs.RuleOrders.{rules-join, first-after, all_hold, first_of_all}
@@ -34,7 +35,8 @@ pub returns-clause-linked : goal.returns-clause-linked
 returns-clause-linked c =
     all_linked _
     (λ records e. rules-join records (c.in_ok-check_chains.ensures records e)
-    (rules-join records (c.in_ok-check_sequences.ensures records e)
+    (rules-join records
+    (c.in_ok-check_sequences.ensures records (subst (AreLeastRepeated c.args.ordered.now.repeated) (sym e) c.requires.repeated))
     (rules-join records (c.in_ok-check_links.ensures records e)
     (c.in_ok-check_names.ensures records e)))) c.check_landmarks.result c.check_landmarks.ensures
 
@@ -42,14 +44,33 @@ pub returns-clause-broken : goal.returns-clause-broken
 returns-clause-broken c =
     first_told _
     (λ records e. rules-join records (c.in_ok-check_chains.ensures records e)
-    (rules-join records (c.in_ok-check_sequences.ensures records e)
+    (rules-join records
+    (c.in_ok-check_sequences.ensures records (subst (AreLeastRepeated c.args.ordered.now.repeated) (sym e) c.requires.repeated))
     (rules-join records (c.in_ok-check_links.ensures records e)
     (c.in_ok-check_names.ensures records e)))) c.check_landmarks.result c.check_landmarks.ensures
+
+pub returns-in_err-check_sequences-clause-broken : goal.returns-in_err-check_sequences-clause-broken
+returns-in_err-check_sequences-clause-broken c =
+    let p = err_from_is_err_and c.from_residual-in_err-check_sequences.result c.from_residual-in_err-check_sequences.ensures.1 in
+    rw (p.1, p.2) (λ ne records e. first_of_all records c.in_err-check_sequences.field-0.0
+    (first-after records (omega arith) (c.in_ok-check_chains.ensures records e)
+    (c.in_err-check_sequences.ensures records
+    (subst (AreLeastRepeated c.args.ordered.now.repeated) (sym e) c.requires.repeated))))
+
+pub returns-in_err-check_links-clause-broken : goal.returns-in_err-check_links-clause-broken
+returns-in_err-check_links-clause-broken c =
+    let p = err_from_is_err_and c.from_residual-in_err-check_links.result c.from_residual-in_err-check_links.ensures.1 in
+    rw (p.1, p.2) (λ ne records e. first_of_all records c.in_err-check_links.field-0.0
+    (first-after records (omega arith) (rules-join records (c.in_ok-check_chains.ensures records e)
+    (c.in_ok-check_sequences.ensures records (subst (AreLeastRepeated c.args.ordered.now.repeated) (sym e) c.requires.repeated)))
+    (c.in_err-check_links.ensures records e)))
 
 pub returns-in_err-check_names-clause-broken : goal.returns-in_err-check_names-clause-broken
 returns-in_err-check_names-clause-broken c =
     let p = err_from_is_err_and c.from_residual-in_err-check_names.result c.from_residual-in_err-check_names.ensures.1 in
     rw (p.1, p.2) (λ ne records e. first_of_all records c.in_err-check_names.field-0.0
     (first-after records (omega arith) (rules-join records (c.in_ok-check_chains.ensures records e)
-    (rules-join records (c.in_ok-check_sequences.ensures records e) (c.in_ok-check_links.ensures records e)))
+    (rules-join records
+    (c.in_ok-check_sequences.ensures records (subst (AreLeastRepeated c.args.ordered.now.repeated) (sym e) c.requires.repeated))
+    (c.in_ok-check_links.ensures records e)))
     (c.in_err-check_names.ensures records e)))

@@ -1,6 +1,7 @@
 use Rattle.std.proofs.Common.{◌≡◌, ℕ, List, ◌++◌, map, flat_map, sym, ◌∙◌, subst, nat_cmp, Option, Some, None, arith, map-id}
 use Rattle.std.proofs.Common.{IsPermutation}
 use Rattle.std.specs.Ordering.{on}
+use Rattle.tl_layout.specs.Fields.{FieldsP}
 use Rattle.tl_county.specs.BodyOrder.{landmark_body_cmp, link_part, link_part_cmp}
 use Rattle.tl_county.specs.County.{seven_land, eight_land, link_key, p_key, side_keys}
 use Rattle.tl_county.specs.Keyed.{IsLeastPassing, is_repeated, is_unknown}
@@ -15,24 +16,21 @@ use Rattle.tl_county.proofs.RuleOrders.{rule-holds, rule-broken, rules-join, fir
 use Rattle.tl_county.proofs.RuleTests.{in_order-first, unknown-distinct, rule_18, rule_19, rule_20}
 use Rattle.tl_county.proofs.rules.check_landmarks.Goals as goal
 
--- the least polygon of a table that stands twice, the least LAND that the other table lacks, or that there is none
-abbrev Twice : {X : Type 0} → (X → PolygonKey) → Option PolygonKey → List X → Type 0
-Twice key found xs = IsLeastPassing key_cmp (is_repeated key_cmp (map key xs)) found
+-- the least polygon of the records of type P that stands twice, the least LAND that the other table lacks, or that there is none
+abbrev Twice : List FieldsP → Option PolygonKey → Type 0
+Twice points found = IsLeastPassing key_cmp (is_repeated key_cmp (map p_key points)) found
 
 abbrev Unknown : {X Y : Type 0} → (X → ℕ) → (Y → ℕ) → Option ℕ → List X → List Y → Type 0
 Unknown number other found xs ys = IsLeastPassing nat_cmp (is_unknown nat_cmp (map number xs) (map other ys)) found
 
-pub least_repeated-requires : goal.least_repeated-requires
-least_repeated-requires c = subst (IsInOrder (on p_key key_cmp)) (sym c.deref.ensures.value) c.requires.tables.type_p
-
 pub least_unknown-requires-clause-items : goal.least_unknown-requires-clause-items
 least_unknown-requires-clause-items c =
-    subst (IsInOrder (on eight_land nat_cmp)) (sym c.deref-2.ensures.value)
+    subst (IsInOrder (on eight_land nat_cmp)) (sym c.deref.ensures.value)
     (in_order-first (on eight_land nat_cmp) (on link_part link_part_cmp) c.args.tables.now.type_8.items c.requires.tables.type_8)
 
 pub least_unknown-requires-clause-known : goal.least_unknown-requires-clause-known
 least_unknown-requires-clause-known c =
-    subst (IsInOrder (on seven_land nat_cmp)) (sym c.deref-3.ensures.value)
+    subst (IsInOrder (on seven_land nat_cmp)) (sym c.deref-2.ensures.value)
     (in_order-first (on seven_land nat_cmp)
     (λ a b. landmark_body_cmp a.body b.body) c.args.tables.now.type_7.items c.requires.tables.type_7)
 
@@ -44,15 +42,16 @@ least_unknown-requires-2-clause-known c =
 pub returns-in-Some : goal.returns-in-Some
 returns-in-Some c records e =
     rule-broken (rule_18 records (typed_of c.args.tables.now) e) c.in-Some.key
-    (subst (Twice p_key (Some c.in-Some.key)) c.deref.ensures.value c.in-Some.ensures)
+    (subst (Twice c.args.tables.now.type_p.items) c.in-Some.is c.requires.repeated)
 
 pub returns-in-Some-least_unknown : goal.returns-in-Some-least_unknown
 returns-in-Some-least_unknown c records e =
     let ps : RulesHold records 12 13 =
-    rule-holds (rule_18 records (typed_of c.args.tables.now) e) (subst (Twice p_key None) c.deref.ensures.value c.in_default.ensures) in
+    rule-holds (rule_18 records (typed_of c.args.tables.now) e)
+    (subst (Twice c.args.tables.now.type_p.items) c.in_default.is c.requires.repeated) in
     first-after records (omega arith) ps (rule-broken (rule_19 records (typed_of c.args.tables.now) e) c.in-Some-least_unknown.land
     (at_lists (Unknown eight_land seven_land
-    (Some c.in-Some-least_unknown.land)) c.deref-2.ensures.value c.deref-3.ensures.value c.in-Some-least_unknown.ensures))
+    (Some c.in-Some-least_unknown.land)) c.deref.ensures.value c.deref-2.ensures.value c.in-Some-least_unknown.ensures))
 
 -- the polygons asked for and known, as the lists that they were gathered from have them
 alike : (linked polygons keys known : List PolygonKey) → IsPermutation keys linked → polygons ≡ distinct key_cmp known → (key : PolygonKey)
@@ -63,10 +62,11 @@ alike linked polygons keys known p e key = (λ i. is_unknown key_cmp (map-id lin
 pub returns-in-Some-least_unknown-2 : goal.returns-in-Some-least_unknown-2
 returns-in-Some-least_unknown-2 c records e =
     let ps : RulesHold records 12 13 =
-    rule-holds (rule_18 records (typed_of c.args.tables.now) e) (subst (Twice p_key None) c.deref.ensures.value c.in_default.ensures) in
+    rule-holds (rule_18 records (typed_of c.args.tables.now) e)
+    (subst (Twice c.args.tables.now.type_p.items) c.in_default.is c.requires.repeated) in
     let lands : RulesHold records 13 14 =
     rule-holds (rule_19 records (typed_of c.args.tables.now) e)
-    (at_lists (Unknown eight_land seven_land None) c.deref-2.ensures.value c.deref-3.ensures.value c.in_default-least_unknown.ensures) in
+    (at_lists (Unknown eight_land seven_land None) c.deref.ensures.value c.deref-2.ensures.value c.in_default-least_unknown.ensures) in
     let keys : List PolygonKey = flat_map side_keys c.args.tables.now.type_i.items ++ map p_key c.args.tables.now.type_p.items in
     let found = least-same key_cmp (is_unknown key_cmp (map (λ k. k) c.args.linked.now) (map (λ k. k) c.args.polygons.now))
     (is_unknown key_cmp (map link_key c.args.tables.now.type_8.items) keys)
@@ -79,10 +79,11 @@ returns-in-Some-least_unknown-2 c records e =
 pub returns : goal.returns
 returns c records e =
     let ps : RulesHold records 12 13 =
-    rule-holds (rule_18 records (typed_of c.args.tables.now) e) (subst (Twice p_key None) c.deref.ensures.value c.in_default.ensures) in
+    rule-holds (rule_18 records (typed_of c.args.tables.now) e)
+    (subst (Twice c.args.tables.now.type_p.items) c.in_default.is c.requires.repeated) in
     let lands : RulesHold records 13 14 =
     rule-holds (rule_19 records (typed_of c.args.tables.now) e)
-    (at_lists (Unknown eight_land seven_land None) c.deref-2.ensures.value c.deref-3.ensures.value c.in_default-least_unknown.ensures) in
+    (at_lists (Unknown eight_land seven_land None) c.deref.ensures.value c.deref-2.ensures.value c.in_default-least_unknown.ensures) in
     let keys : List PolygonKey = flat_map side_keys c.args.tables.now.type_i.items ++ map p_key c.args.tables.now.type_p.items in
     let none = least-same key_cmp (is_unknown key_cmp (map (λ k. k) c.args.linked.now) (map (λ k. k) c.args.polygons.now))
     (is_unknown key_cmp (map link_key c.args.tables.now.type_8.items) keys)

@@ -19,4 +19,4 @@ returns c =
     (is_without_chain (county_of (type_after_type t)))
     (λ key. ap (λ (u : Typed). is_unknown key_cmp (map p_key u.of_type_p) (flat_map side_keys u.of_type_i) key) (sym (by_type-after t))
     ∙ same_without_chain (type_after_type t) c.self.invariant.1 key)
-    c.self.inside.polygons.without_side c.self.invariant.5)
+    c.self.inside.polygons.without_side c.self.invariant.6)

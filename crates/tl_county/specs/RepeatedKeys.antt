@@ -1,0 +1,15 @@
+-- The keys that two records of a type have.
+use Rattle.std.specs.Prelude.{map}
+use Rattle.tl_county.specs.declared.gathered.Repeated.{Repeated}
+use Rattle.tl_county.specs.County.{p_key}
+use Rattle.tl_county.specs.Keyed.{IsLeastPassing, is_repeated}
+use Rattle.tl_county.specs.Packing.{Typed}
+use Rattle.tl_county.specs.PolygonKeys.{key_cmp}
+use Rattle.tl_county.specs.SequenceKeys.{sequence_cmp, two_sequence, four_sequence, six_sequence}
+
+-- of each of these types, the least key that two records have, or none where no two have one
+pub record AreLeastRepeated (r : Repeated) (t : Typed) : Type 0 where
+  pub type_2 : IsLeastPassing sequence_cmp (is_repeated sequence_cmp (map two_sequence t.of_type_2)) r.type_2
+  pub type_4 : IsLeastPassing sequence_cmp (is_repeated sequence_cmp (map four_sequence t.of_type_4)) r.type_4
+  pub type_6 : IsLeastPassing sequence_cmp (is_repeated sequence_cmp (map six_sequence t.of_type_6)) r.type_6
+  pub type_p : IsLeastPassing key_cmp (is_repeated key_cmp (map p_key t.of_type_p)) r.type_p
