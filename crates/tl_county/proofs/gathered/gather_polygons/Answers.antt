@@ -15,7 +15,8 @@ use Rattle.tl_county.proofs.gathered.gather_polygons.Goals.{then-is_some+in_ok-p
 
 pub least_unknown-without_side-requires-clause-known : goal.least_unknown-without_side-requires-clause-known
 least_unknown-without_side-requires-clause-known c =
-    subst (IsInOrder key_cmp) (sym (c.deref.ensures.value ∙ c.in_ok-keys.ensures)) (distinct-in_order key_keys (flat_map side_keys c.args.sides.now))
+    subst (IsInOrder key_cmp) (sym (c.deref.ensures.value ∙ c.in_ok-keys.ensures))
+    (distinct-in_order key_keys (flat_map side_keys c.args.sides.now))
 
 pub returns-clause-keys : goal.returns-clause-keys
 returns-clause-keys c =
@@ -26,7 +27,8 @@ returns-clause-keys c =
       | then-is_some+in_ok-push_points+in_ok-cenids-2+in_ok-keys-2 w ↦
           ap (λ keys. keys.items) w.keys-is
           ∙ w.in_ok-keys-2.ensures
-          ∙ ap (distinct key_cmp) (keys_themselves w.deref-then-is_some-2.result.now ∙ w.deref-then-is_some-2.ensures.value ∙ w.in_ok-push_points.ensures ∙ ap (λ keys. keys ++ points) met)
+          ∙ ap (distinct key_cmp) (keys_themselves w.deref-then-is_some-2.result.now ∙ w.deref-then-is_some-2.ensures.value ∙
+          w.in_ok-push_points.ensures ∙ ap (λ keys. keys ++ points) met)
           ∙ distinct-more key_keys (distinct key_cmp sides) sides points
           (distinct_same key_keys (distinct key_cmp sides) sides (λ k. stands_in-distinct key_keys k sides))
       | else-is_some w ↦

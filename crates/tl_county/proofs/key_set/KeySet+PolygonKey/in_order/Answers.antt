@@ -8,4 +8,5 @@ use Rattle.tl_county.proofs.key_set.KeySet+PolygonKey.in_order.Goals as goal
 pub returns : goal.returns
 returns c =
     IfOk-weaker c.distinct_polygons.result _ _
-    (λ keys e. e ∙ ap (distinct key_cmp) (keys_themselves c.as_slice-keys.result.now ∙ c.as_slice-keys.ensures.keys)) c.distinct_polygons.ensures
+    (λ keys e. e ∙ ap (distinct key_cmp) (keys_themselves c.as_slice-keys.result.now ∙ c.as_slice-keys.ensures.keys))
+    c.distinct_polygons.ensures
