@@ -1,6 +1,6 @@
 //! Marks by number. Where a number has a mark, one reading tells that it stands in a list.
 
-ghost use Rattle.std.specs.Prelude.{◌≡◌, ◌≤◌, ◌*◌, true, length, IfOk};
+ghost use Rattle.std.specs.Prelude.{◌≡◌, ◌≤◌, ◌*◌, length, IfOk};
 ghost use Rattle.std.specs.Ordering.{nat_cmp};
 ghost use Rattle.tl_county.specs.Marks.{AreMarksOf};
 ghost use Rattle.tl_county.specs.Orders.{IsInOrder, stands_in};
@@ -40,7 +40,7 @@ pub(crate) fn marks_of(alloc: Global, numbers: &[u32]) -> Result<Vec<bool>, Allo
 pub(crate) fn is_marked(marks: &[bool], numbers: &[u32], number: u32) -> bool
     requires marks { AreMarksOf numbers.now marks.now }
     requires numbers { IsInOrder nat_cmp numbers.now }
-    ensures { result ≡ true → stands_in nat_cmp number numbers.now ≡ true }
+    ensures { result ≡ stands_in nat_cmp number numbers.now }
 {
     match marks.get(number as usize) {
         Some(mark) => *mark,

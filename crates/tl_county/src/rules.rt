@@ -1,6 +1,6 @@
 //! The rules by which records fit together, over tables in order.
 
-ghost use Rattle.std.specs.Prelude.{◌≡◌, true, List, map, flat_map, ◌++◌, MatchResult, IfOk, OnOk, IsPermutation};
+ghost use Rattle.std.specs.Prelude.{◌≡◌, false, true, List, map, flat_map, ◌++◌, MatchResult, IfOk, OnOk, IsPermutation};
 ghost use Rattle.std.specs.Ordering.{nat_cmp};
 ghost use Rattle.tl_county.specs.County.{link_key, five_feat, i_tlid, one_tlid, p_key, side_keys};
 ghost use Rattle.tl_county.specs.Keyed.{IsLeastPassing, is_repeated};
@@ -109,7 +109,8 @@ fn least_unnamed(uses: &[(u64, u32)], feats: &[u32]) -> Option<(u64, u32)>
 fn are_named(names: &Rec4, feats: &[u32], marks: &[bool]) -> bool
     requires feats { IsInOrder nat_cmp feats.now }
     requires marks { AreMarksOf feats.now marks.now }
-    ensures { result ≡ true → AreNamed feats.now names.now.feats }
+    ensures named { result ≡ true → AreNamed feats.now names.now.feats }
+    ensures unnamed { result ≡ false → AreNamed feats.now names.now.feats → ⊥ }
 {
     for feat in names.feats() {
         if !is_marked(marks, feats, *feat) {
@@ -123,7 +124,8 @@ fn are_named(names: &Rec4, feats: &[u32], marks: &[bool]) -> bool
 /// stand.
 fn all_named(alloc: Global, names: &[Rec4], feats: &[u32]) -> Result<bool, AllocError>
     requires { IsInOrder nat_cmp feats.now }
-    ensures { IfOk result (λ all. all ≡ true → AllNamed feats.now names.now) }
+    ensures named { IfOk result (λ all. all ≡ true → AllNamed feats.now names.now) }
+    ensures unnamed { IfOk result (λ all. all ≡ false → AllNamed feats.now names.now → ⊥) }
 {
     let marks = marks_of(alloc, feats)?;
     for record in names {

@@ -6,7 +6,7 @@ use Rattle.tl_county.proofs.RuleTests.{unnamed-reordered}
 use Rattle.tl_county.proofs.rules.unnamed_use.Goals as goal
 
 pub returns-then-branch : goal.returns-then-branch
-returns-then-branch c = none_unnamed c.args.feats.now c.args.names.now (c.in_ok-all_named.ensures c.if-branch.true)
+returns-then-branch c = none_unnamed c.args.feats.now c.args.names.now (c.in_ok-all_named.ensures.named c.if-branch.true)
 
 pub returns : goal.returns
 returns c =
