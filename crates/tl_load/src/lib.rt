@@ -10,8 +10,6 @@ mod line;
 mod loader;
 mod loader_into;
 mod source;
-#[cfg(test)]
-mod tests;
 
 pub use bytes::first_bad;
 pub use fault::{LineFault, LoadFault};

@@ -9,8 +9,6 @@ mod linked;
 mod shape_order;
 mod shapes;
 mod sides;
-#[cfg(test)]
-mod tests;
 
 pub use admission::{Admitted, AdmittedIn, admit, admit_chart, admit_in, admit_with_order};
 pub use chain_walk::ChainWalk;

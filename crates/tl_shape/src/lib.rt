@@ -5,8 +5,6 @@ mod chain;
 mod chain_in;
 mod laws;
 mod shape;
-#[cfg(test)]
-mod tests;
 
 pub use chain::{Chain, Surroundings};
 pub use chain_in::ChainIn;
