@@ -49,32 +49,27 @@ unfolding fields_link
 back_again links = map-map fields_link link_fields links ∙ map_itself (λ l. fields_link (link_fields l)) (λ l. refl) links
 
 -- links are a permutation of others exactly if their fields are
-pub links_decided : (carried : Fields8 → Fields8) (olds those news bs : List Fields8) (fields known : List LinkFields)
-    → IsPermutation olds those → IsPermutation news bs → fields ≡ map (λ l. link_fields (carried l)) olds → known ≡ map link_fields news
+pub links_decided : (carried : Fields8 → Fields8) (those bs : List Fields8) (fields known : List LinkFields)
+    → IsPermutation fields (map (λ l. link_fields (carried l)) those) → IsPermutation known (map link_fields bs)
     → (b : Bool) → Decides b (IsPermutation fields known) → Decides b (IsPermutation (map carried those) bs)
-links_decided carried olds those news bs fields known p q e f b d = decides_same b d to from
+links_decided carried those bs fields known p q b d = decides_same b d to from
   where
-    fields_are : fields ≡ map link_fields (map carried olds)
-    fields_are = e ∙ sym (map-map link_fields carried olds)
+    renumbered : List LinkFields
+    renumbered = map link_fields (map carried those)
 
-    old_links : IsPermutation (map carried olds) (map carried those)
-    old_links = IsPermutation-map carried olds those p
-
-    known_links : IsPermutation (map fields_link known) bs
-    known_links = subst (λ xs. IsPermutation xs bs) (sym (ap (map fields_link) f ∙ back_again news)) q
+    fields_are : IsPermutation fields renumbered
+    fields_are = subst (IsPermutation fields) (sym (map-map link_fields carried those)) p
 
     to : IsPermutation fields known → IsPermutation (map carried those) bs
     to h =
-        let links : IsPermutation (map carried olds) (map fields_link known) =
-        subst (λ xs. IsPermutation xs (map fields_link known)) (ap (map fields_link) fields_are ∙ back_again (map carried olds))
-        (IsPermutation-map fields_link fields known h) in
-        IsPermutation-trans (map carried those) (map carried olds) bs (IsPermutation-sym (map carried olds) (map carried those) old_links)
-        (IsPermutation-trans (map carried olds) (map fields_link known) bs links known_links)
+        let links : IsPermutation renumbered (map link_fields bs) =
+        IsPermutation-trans renumbered fields (map link_fields bs) (IsPermutation-sym fields renumbered fields_are)
+        (IsPermutation-trans fields known (map link_fields bs) h q) in
+        subst (IsPermutation (map carried those)) (back_again bs)
+        (subst (λ xs. IsPermutation xs (map fields_link (map link_fields bs))) (back_again (map carried those))
+        (IsPermutation-map fields_link renumbered (map link_fields bs) links))
 
     from : IsPermutation (map carried those) bs → IsPermutation fields known
-    from h =
-        let there : IsPermutation (map carried olds) news =
-        IsPermutation-trans (map carried olds) (map carried those) news old_links
-        (IsPermutation-trans (map carried those) bs news h (IsPermutation-sym news bs q)) in
-        subst (λ xs. IsPermutation xs known) (sym fields_are)
-        (subst (IsPermutation (map link_fields (map carried olds))) (sym f) (IsPermutation-map link_fields (map carried olds) news there))
+    from h = IsPermutation-trans fields renumbered known fields_are
+        (IsPermutation-trans renumbered (map link_fields bs) known (IsPermutation-map link_fields (map carried those) bs h)
+        (IsPermutation-sym known (map link_fields bs) q))

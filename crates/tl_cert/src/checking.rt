@@ -2,7 +2,8 @@
 
 ghost use Rattle.std.specs.Prelude.{IfOk};
 ghost use Rattle.std.specs.Bool.{Decides};
-ghost use Rattle.tl_county.specs.Renumbering.{Carries};
+ghost use Rattle.tl_cert.specs.RenamingTables.{RenumbersAs};
+ghost use Rattle.tl_county.specs.Renumbering.{Carries, NumbersArePaired, Renumbering};
 
 use crate::chains::are_chains_there;
 use crate::links::are_links_there;
@@ -12,6 +13,52 @@ use crate::renaming::Renaming;
 use crate::renaming_tables::RenamingTables;
 use std::alloc::{AllocError, Global};
 use tl_county::Chart;
+
+/// Whether the parts of `a` under the new numbers of these tables, the told chains turned, are those of `b`.
+fn are_parts_there<A: Chart, B: Chart>(
+    alloc: Global,
+    a: &A,
+    b: &B,
+    tables: &RenamingTables,
+) -> Result<bool, AllocError>
+    ensures { (r : Renumbering) → RenumbersAs tables.now r → NumbersArePaired r (A.county a.now) (B.county b.now) →
+        IfOk result (λ yes. Decides yes (Carries r (A.county a.now) (B.county b.now))) }
+{
+    let chains = are_chains_there(a, b, tables);
+    if !chains {
+        return Ok(false);
+    }
+    let names = are_names_there(a, b, tables);
+    if !names {
+        return Ok(false);
+    }
+    let polygons = are_polygons_there(a, b, tables);
+    if !polygons {
+        return Ok(false);
+    }
+    let landmarks = are_landmarks_there(a, b, tables);
+    if !landmarks {
+        return Ok(false);
+    }
+    let links = are_links_there(alloc, a, b, tables)?;
+    Ok(links)
+}
+
+/// Whether the parts of `a` under the new numbers of a renaming, which pairs the numbers of the two, are those of `b`.
+fn carries_parts<A: Chart, B: Chart>(
+    alloc: Global,
+    a: &A,
+    b: &B,
+    renaming: &Renaming,
+) -> Result<bool, AllocError>
+    requires { NumbersArePaired renaming.now (A.county a.now) (B.county b.now) }
+    ensures { IfOk result (λ yes. Decides yes (Carries renaming.now (A.county a.now) (B.county b.now))) }
+{
+    match RenamingTables::new(alloc, renaming) {
+        Ok(tables) => are_parts_there(alloc, a, b, &tables),
+        Err(error) => Err(error),
+    }
+}
 
 /// Whether the renaming carries `a` onto `b`: its lists name each number of `a` once on the left and each of `b` once
 /// on the right, and under their new numbers, the told chains turned, the parts of `a` are those of `b`. It takes a few
@@ -28,23 +75,5 @@ pub fn check<A: Chart, B: Chart>(
     if !paired {
         return Ok(false);
     }
-    let tables = RenamingTables::new(alloc, renaming)?;
-    let chains = are_chains_there(a, b, &tables);
-    if !chains {
-        return Ok(false);
-    }
-    let names = are_names_there(a, b, &tables);
-    if !names {
-        return Ok(false);
-    }
-    let polygons = are_polygons_there(a, b, &tables);
-    if !polygons {
-        return Ok(false);
-    }
-    let landmarks = are_landmarks_there(a, b, &tables);
-    if !landmarks {
-        return Ok(false);
-    }
-    let links = are_links_there(alloc, a, b, &tables)?;
-    Ok(links)
+    carries_parts(alloc, a, b, renaming)
 }

@@ -5,10 +5,9 @@ ghost use Rattle.tl_county.specs.County.{County};
 ghost use Rattle.tl_county.specs.CountyRules.{IsCounty};
 ghost use Rattle.tl_county.specs.Renumbering.{Carries, inverse, then};
 
-use crate::images::Images;
-use crate::pairs::{join_pairs, named_images_of, swap_pairs};
+use crate::pairs::{join_pairs, swap_pairs};
 use crate::renaming::{Renaming, RenamingParts};
-use crate::turning::turned_once;
+use crate::turning::{turned_back, turned_once};
 use std::alloc::AllocError;
 
 impl Renaming {
@@ -25,8 +24,7 @@ impl Renaming {
         let polygons = swap_pairs(alloc, self.polygons())?;
         let lands = swap_pairs(alloc, self.lands())?;
         let nodes = swap_pairs(alloc, self.nodes())?;
-        let images = Images::new(alloc, self.chains())?;
-        let turned = named_images_of(alloc, &images, self.turned())?;
+        let turned = turned_back(alloc, self.chains(), self.turned())?;
         Ok(Renaming::of_parts(RenamingParts {
             chains,
             names,

@@ -13,8 +13,6 @@ mod pairs;
 mod parts;
 mod renaming;
 mod renaming_tables;
-#[cfg(test)]
-mod tests;
 mod turning;
 
 pub use checking::check;

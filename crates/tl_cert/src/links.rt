@@ -81,6 +81,29 @@ fn all_new_fields(
     Ok(fields)
 }
 
+/// The fields of a county's links.
+fn known_links<C: Chart>(alloc: Global, chart: &C) -> Result<Vec<LinkFields>, AllocError>
+    ensures { IfOk result (λ fields. IsPermutation fields.items (map link_fields (C.county chart.now).links)) }
+{
+    let links = links_of(alloc, chart)?;
+    let fields = all_fields(alloc, &links)?;
+    Ok(fields)
+}
+
+/// The fields of a county's links under their new numbers.
+fn renumbered_links<C: Chart>(
+    alloc: Global,
+    chart: &C,
+    tables: &RenamingTables,
+) -> Result<Vec<LinkFields>, AllocError>
+    ensures { IfOk result (λ fields.
+        IsPermutation fields.items (map (λ link. link_fields (carried_link tables.now link)) (C.county chart.now).links)) }
+{
+    let links = links_of(alloc, chart)?;
+    let fields = all_new_fields(alloc, tables, &links)?;
+    Ok(fields)
+}
+
 /// Whether the links of `b` are those of `a` under their new numbers, each as often.
 pub(crate) fn are_links_there<A: Chart, B: Chart>(
     alloc: Global,
@@ -91,10 +114,8 @@ pub(crate) fn are_links_there<A: Chart, B: Chart>(
     ensures { IfOk result (λ yes. Decides yes
         (IsPermutation (map (carried_link tables.now) (A.county a.now).links) (B.county b.now).links)) }
 {
-    let olds = links_of(alloc, a)?;
-    let fields = all_new_fields(alloc, tables, &olds)?;
-    let news = links_of(alloc, b)?;
-    let known = all_fields(alloc, &news)?;
+    let fields = renumbered_links(alloc, a, tables)?;
+    let known = known_links(alloc, b)?;
     let there = are_reordered(fields, known)?;
     Ok(there)
 }

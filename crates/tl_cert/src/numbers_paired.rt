@@ -110,6 +110,20 @@ fn keep_cenids(pairs: &[(PolygonKey, PolygonKey)]) -> bool
     true
 }
 
+/// Whether the pairs are of the polygons of the two counties, and keep their CENIDs.
+fn polygons_are_paired<A: Chart, B: Chart>(
+    alloc: Global,
+    a: &A,
+    b: &B,
+    pairs: &[(PolygonKey, PolygonKey)],
+) -> Result<bool, AllocError>
+    ensures { IfOk result (λ yes. Decides yes (ArePaired pairs.now (polygon_keys (A.county a.now)) (polygon_keys (B.county b.now))
+        × AllByRecursion (λ pair. pair.0.0 ≡ pair.1.0) pairs.now)) }
+{
+    let paired = polygon_keys_are_paired(alloc, a, b, pairs)?;
+    Ok(paired && keep_cenids(pairs))
+}
+
 /// Whether each of these is a TLID of the county.
 fn are_tlids<C: Chart>(chart: &C, turned: &[u64]) -> bool
     ensures { Decides result (AllByRecursion (λ tlid. IsTrue (stands_in nat_cmp tlid (tlids (C.county chart.now)))) turned.now) }
@@ -147,6 +161,38 @@ fn stand_once(alloc: Global, numbers: &[u64]) -> Result<bool, AllocError>
     Ok(ascend(&sorted))
 }
 
+/// Whether each of these is a TLID of the county, and none stands twice.
+fn turned_are_told<C: Chart>(alloc: Global, chart: &C, turned: &[u64]) -> Result<bool, AllocError>
+    ensures { IfOk result (λ yes. Decides yes (AllByRecursion (λ tlid. IsTrue (stands_in nat_cmp tlid (tlids (C.county chart.now)))) turned.now
+        × (has_repeat nat_cmp turned.now ≡ false))) }
+{
+    let once = stand_once(alloc, turned)?;
+    Ok(once && are_tlids(chart, turned))
+}
+
+/// Whether the pairs of chains, names and nodes are of the numbers of the two counties.
+fn lines_are_paired<A: Chart, B: Chart>(
+    alloc: Global,
+    a: &A,
+    b: &B,
+    renaming: &Renaming,
+) -> Result<bool, AllocError>
+    ensures { IfOk result (λ yes. Decides yes (ArePaired renaming.now.chains (tlids (A.county a.now)) (tlids (B.county b.now))
+        × ArePaired renaming.now.names (feats (A.county a.now)) (feats (B.county b.now))
+        × ArePaired renaming.now.nodes (nodes (A.county a.now)) (nodes (B.county b.now)))) }
+{
+    let chains = tlids_are_paired(alloc, a, b, renaming.chains())?;
+    if !chains {
+        return Ok(false);
+    }
+    let names = feats_are_paired(alloc, a, b, renaming.names())?;
+    if !names {
+        return Ok(false);
+    }
+    let nodes = nodes_are_paired(alloc, a, b, renaming.nodes())?;
+    Ok(nodes)
+}
+
 /// Whether the renaming's lists are those of the numbers of the two counties: each old number stands once on the left
 /// and each new one once on the right, and no other, polygons keep their CENIDs, and each turned TLID is told once.
 pub(crate) fn numbers_are_paired<A: Chart, B: Chart>(
@@ -157,15 +203,11 @@ pub(crate) fn numbers_are_paired<A: Chart, B: Chart>(
 ) -> Result<bool, AllocError>
     ensures { IfOk result (λ yes. Decides yes (NumbersArePaired renaming.now (A.county a.now) (B.county b.now))) }
 {
-    let chains = tlids_are_paired(alloc, a, b, renaming.chains())?;
-    if !chains {
+    let lines = lines_are_paired(alloc, a, b, renaming)?;
+    if !lines {
         return Ok(false);
     }
-    let names = feats_are_paired(alloc, a, b, renaming.names())?;
-    if !names {
-        return Ok(false);
-    }
-    let polygons = polygon_keys_are_paired(alloc, a, b, renaming.polygons())?;
+    let polygons = polygons_are_paired(alloc, a, b, renaming.polygons())?;
     if !polygons {
         return Ok(false);
     }
@@ -173,18 +215,6 @@ pub(crate) fn numbers_are_paired<A: Chart, B: Chart>(
     if !lands {
         return Ok(false);
     }
-    let nodes = nodes_are_paired(alloc, a, b, renaming.nodes())?;
-    if !nodes {
-        return Ok(false);
-    }
-    let cenids = keep_cenids(renaming.polygons());
-    if !cenids {
-        return Ok(false);
-    }
-    let turned = are_tlids(a, renaming.turned());
-    if !turned {
-        return Ok(false);
-    }
-    let once = stand_once(alloc, renaming.turned())?;
-    Ok(once)
+    let turned = turned_are_told(alloc, a, renaming.turned())?;
+    Ok(turned)
 }

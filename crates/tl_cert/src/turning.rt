@@ -3,9 +3,11 @@
 ghost use Rattle.std.specs.Prelude.{◌≡◌, ◌++◌, [], ◌∷◌, ℕ, IfOk, IsPermutation, OnOk, cond, filter, map};
 ghost use Rattle.std.specs.Ordering.{nat_cmp};
 ghost use Rattle.tl_county.specs.Orders.{IsInOrder, stands_in};
+ghost use Rattle.tl_county.specs.Renumbering.{image, is_named};
 ghost use Rattle.tl_cert.specs.Images.{is_turned_once};
 
 use crate::images::Images;
+use crate::pairs::named_images_of;
 use std::alloc::{AllocError, Global};
 use tl_county::place_of;
 
@@ -80,4 +82,17 @@ pub(crate) fn turned_once(
     let nexts = sorted(alloc, nexts)?;
     let turned = turned_by_one(alloc, pairs, &images, &firsts, &nexts)?;
     Ok(turned)
+}
+
+/// The new numbers of the turned chains, of those that the pairs name.
+pub(crate) fn turned_back(
+    alloc: Global,
+    chains: &[(u64, u64)],
+    turned: &[u64],
+) -> Result<Vec<u64>, AllocError>
+    ensures { IfOk result (λ back. back.items ≡ map (image nat_cmp chains.now) (filter (is_named nat_cmp chains.now) turned.now)) }
+{
+    let images = Images::new(alloc, chains)?;
+    let back = named_images_of(alloc, &images, turned)?;
+    Ok(back)
 }

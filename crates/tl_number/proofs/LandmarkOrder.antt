@@ -1,5 +1,5 @@
 -- Landmarks sorted by their bodies, their links and their places stand in their new order.
-use Rattle.std.proofs.Common.{◌≡◌, ℕ, List, [], ◌∷◌, map, filter_map, length, Option, Some}
+use Rattle.std.proofs.Common.{◌≡◌, ◌≤◌, ℕ, suc, List, [], ◌∷◌, map, filter_map, length, Option, Some, None, arith}
 use Rattle.std.proofs.Common.{option_map}
 use Rattle.std.proofs.Common.{unwrap_or, slice_get, Ordering, refl, sym, ap, ap₂, ◌∙◌, subst, nat_cmp, IsPermutation, IsTrue, false}
 use Rattle.std.proofs.lemmas.Bool.{ltb-true}
@@ -10,13 +10,13 @@ use Rattle.std.proofs.lemmas.List.Sorted.{length_permutation, IsPermutation-map,
 use Rattle.std.proofs.lemmas.Option.{slice_get-map}
 use Rattle.std.specs.Cmp.{IsTotalOrder}
 use Rattle.std.specs.Cmp.Lexicographic.{slice_cmp}
-use Rattle.std.specs.List.{AllByRecursion, range_with_len}
+use Rattle.std.specs.List.{AllByRecursion, cons_option, range_with_len}
 use Rattle.std.specs.Ordering.{on, ordering_then}
 use Rattle.tl_layout.specs.Fields.{Fields8}
 use Rattle.tl_layout.specs.declared.type7.Body7.{Body7}
 use Rattle.tl_county.specs.BodyOrder.{landmark_body_cmp, link_cmp, link_part, link_part_cmp}
 use Rattle.tl_county.specs.ChartWords.{bodies_at, links_with}
-use Rattle.tl_county.specs.County.{County, link_key}
+use Rattle.tl_county.specs.County.{County, eight_land, link_key}
 use Rattle.tl_county.specs.CountyRules.{IsCounty, lands}
 use Rattle.tl_county.specs.Entries.{entry_keys}
 use Rattle.tl_county.specs.Orders.{IsInOrder, in_order, times, stands_in, has_repeat}
@@ -31,7 +31,7 @@ use Rattle.tl_county.proofs.Members.{among_known}
 use Rattle.tl_county.proofs.Permutations.{in_order-is_permutation}
 use Rattle.tl_number.specs.Arrangement.{Arrangement, landmarks_in_order, links_relinked, relinked, new_keys, polygons_in_order}
 use Rattle.tl_number.specs.Growth.{numbered, up_to}
-use Rattle.tl_number.specs.LandmarkItems.{link_under, own_links, landmark_place_cmp}
+use Rattle.tl_number.specs.LandmarkItems.{link_under, lands_at, numbered_links, own_links, landmark_place_cmp}
 use Rattle.tl_number.specs.Steps.{arrangement_of}
 use Rattle.tl_number.specs.Uses.{links_of, landmark_key, landmark_key_cmp}
 use Rattle.tl_number.specs.ViewFacts.{AreWhole, AreReadAt, stepped}
@@ -47,7 +47,7 @@ use Rattle.tl_number.proofs.SortedPlaces.{sorted_places}
 use Rattle.tl_number.proofs.StepChains.{among-get}
 use Rattle.tl_number.proofs.ViewChains.{arranges}
 use Rattle.tl_number.proofs.LandmarkLinks.{listed}
-use Rattle.tl_number.proofs.ViewTables.{keys_paired}
+use Rattle.tl_number.proofs.ViewTables.{by_land, keys_paired}
 
 -- lists compared by what is made of their elements
 pub cmp_mapped : {X K : Type 0} (f : X → K) (cmp : K → K → Ordering) (xs ys : List X)
@@ -64,16 +64,37 @@ landmark_places_total county links count =
     (then_total (on_total (λ i. map link_part (own_links links count i)) (lists_total link_part_keys.total)) nat_cmp_total)
 
 -- the LANDs at all places are all LANDs
-pub all_lands : (county : County) → filter_map (slice_get (lands county)) (range_with_len 0 (length county.landmarks)) ≡ lands county
+pub all_lands : (county : County) → lands_at county (range_with_len 0 (length county.landmarks)) ≡ lands county
 all_lands county =
     (let len : length county.landmarks ≡ length (lands county) = sym (length-map county.landmarks (λ (d : ℕ × List Body7). d.0)) in
     ap (λ n. filter_map (slice_get (lands county)) (range_with_len 0 n)) len)
     ∙ filter_map_all (slice_get (lands county)) (range_with_len 0 (length (lands county))) (lands county) (listed (lands county))
 
 pub all_lands_once : (county : County) → IsCounty county
-    → has_repeat nat_cmp (filter_map (slice_get (lands county)) (range_with_len 0 (length county.landmarks))) ≡ false
+    → has_repeat nat_cmp (lands_at county (range_with_len 0 (length county.landmarks))) ≡ false
 all_lands_once county is = ap (has_repeat nat_cmp) (all_lands county)
     ∙ has_repeat-apart nat_keys (lands county) (apart_from_sorted nat_keys (lands county) is.ascending.landmarks)
+
+-- there are as many places as landmarks
+pub places_counted : (county : County) (places : List ℕ) → IsPermutation (range_with_len 0 (length county.landmarks)) places
+    → length places ≡ length county.landmarks
+places_counted county places p = length_permutation (range_with_len 0 (length county.landmarks)) places p
+    ∙ length-range_with_len 0 (length county.landmarks)
+
+-- there are no more LANDs than places
+pub few_lands : {X Y : Type 0} (h : X → Option Y) (xs : List X) → length (filter_map h xs) ≤ length xs
+few_lands h [] = omega arith
+few_lands h (x ∷ xs) = go (h x) (few_lands h xs)
+  where
+    go : (o : Option _) → length (filter_map h xs) ≤ length xs → length (cons_option o (filter_map h xs)) ≤ suc (length xs)
+    go None l = omega (arith, l)
+    go (Some y) l = omega (arith, l)
+
+-- links under new numbers stand in the order of their LANDs
+pub numbered_by_land : (county : County) (polygons : List PolygonKey) (numbers : List ℕ)
+    → IsInOrder (on eight_land nat_cmp) (numbered_links county polygons numbers)
+numbered_by_land county polygons numbers =
+    by_land (numbered_links county polygons numbers) (in_order-in_order link_keys.total (map (link_under polygons numbers) county.links))
 
 module _ (county : County) (steps : List Step) (is : IsCounty county) (whole : AreWhole county steps) (polygons : List PolygonKey)
     (told : polygons ≡ polygons_in_order county (arrangement_of county steps)) where
@@ -106,7 +127,7 @@ module _ (county : County) (steps : List Step) (is : IsCounty county) (whole : A
       (λ l t. ltb-true 0 (times nat_cmp l.land (lands county)) t) county.links is.closed.link_lands)
 
   module _ (links : List Fields8) (sorted : links ≡ in_order link_cmp (map (link_under polygons (lands county)) county.links)) where
-    pub links_ordered : IsInOrder link_cmp links
+    links_ordered : IsInOrder link_cmp links
     links_ordered = subst (IsInOrder link_cmp) (sym sorted)
         (in_order-in_order link_keys.total (map (link_under polygons (lands county)) county.links))
 
@@ -166,30 +187,21 @@ module _ (county : County) (steps : List Step) (is : IsCounty county) (whole : A
       landmarks_told = sorted_places (on_total (landmark_key (links_relinked county order)) landmark_key_keys.total) county.landmarks
           (landmark_place_cmp county links (length county.landmarks)) agrees places p ordered
 
-      pub lands_told : filter_map (slice_get (lands county)) places ≡ entry_keys (landmarks_in_order county order)
+      lands_told : lands_at county places ≡ entry_keys (landmarks_in_order county order)
       lands_told = filter_map_all (slice_get (lands county)) places (entry_keys (landmarks_in_order county order))
           (read_mapped (λ (d : ℕ × List Body7). d.0) county.landmarks (landmarks_in_order county order) places landmarks_told)
 
       permuted_landmarks : IsPermutation (landmarks_in_order county order) county.landmarks
       permuted_landmarks = landmarks_permutation county order is (arranges county steps is whole)
 
-      pub lands_once : has_repeat nat_cmp (filter_map (slice_get (lands county)) places) ≡ false
+      pub lands_once : has_repeat nat_cmp (lands_at county places) ≡ false
       lands_once = ap (has_repeat nat_cmp) lands_told
           ∙ has_repeat-apart nat_keys (entry_keys (landmarks_in_order county order))
           (apart-permutation nat_keys (entry_keys (landmarks_in_order county order)) (lands county)
           (IsPermutation-map (λ (d : ℕ × List Body7). d.0) (landmarks_in_order county order) county.landmarks permuted_landmarks)
           lands_apart)
 
-      pub lands_counted : length (filter_map (slice_get (lands county)) places) ≡ length county.landmarks
-      lands_counted = ap length lands_told ∙ length-map (landmarks_in_order county order) (λ (d : ℕ × List Body7). d.0)
-          ∙ sym (length_permutation (landmarks_in_order county order) county.landmarks permuted_landmarks)
-
-      pub places_counted : length places ≡ length county.landmarks
-      places_counted = length_permutation (range_with_len 0 (length county.landmarks)) places p
-          ∙ length-range_with_len 0 (length county.landmarks)
-
-      pub new_links : in_order link_cmp (map (link_under polygons (filter_map (slice_get (lands county)) places)) county.links) ≡
-          (stepped county steps).links
+      pub new_links : numbered_links county polygons (lands_at county places) ≡ (stepped county steps).links
       new_links =
           ap₂ (λ ps ls. in_order link_cmp (map (λ (l : Fields8). record {
             file = l.file;

@@ -172,19 +172,26 @@ module _ (county : County) (steps : List Step) (is : IsCounty county) (whole : A
   names_told = sorted_items (ranked_at county seen) ranked_place (λ i. refl) (ranked_cmp county)
       (on_total (name_key used) name_key_keys.total) county.names agrees items p ordered
 
-  pub feats_told : filter_map (slice_get (feats county)) (map ranked_place items) ≡ entry_keys (names_in_order county order)
-  feats_told = filter_map_all (slice_get (feats county)) (map ranked_place items) (entry_keys (names_in_order county order))
-      (read_mapped (λ (d : ℕ × Body5). d.0) county.names (names_in_order county order) (map ranked_place items) names_told)
+-- what the names at these places tell, if they are those in their new order
+module _ (county : County) (steps : List Step) (is : IsCounty county) (whole : AreWhole county steps) (places : List ℕ)
+    (told : AreReadAt county.names places (names_in_order county (arrangement_of county steps))) where
+  abbrev reordered : List (ℕ × Body5)
+  reordered = names_in_order county (arrangement_of county steps)
 
-  pub feats_once : has_repeat nat_cmp (filter_map (slice_get (feats county)) (map ranked_place items)) ≡ false
+  permuted_names : IsPermutation reordered county.names
+  permuted_names = names_permutation county (arrangement_of county steps) is (arranges county steps is whole)
+
+  pub feats_told : filter_map (slice_get (feats county)) places ≡ entry_keys reordered
+  feats_told = filter_map_all (slice_get (feats county)) places (entry_keys reordered)
+      (read_mapped (λ (d : ℕ × Body5). d.0) county.names reordered places told)
+
+  pub feats_once : has_repeat nat_cmp (filter_map (slice_get (feats county)) places) ≡ false
   feats_once = ap (has_repeat nat_cmp) feats_told
-      ∙ has_repeat-apart nat_keys (entry_keys (names_in_order county order))
-      (apart-permutation nat_keys (entry_keys (names_in_order county order)) (feats county)
-      (IsPermutation-map (λ (d : ℕ × Body5). d.0) (names_in_order county order) county.names
-      (names_permutation county order is (arranges county steps is whole)))
+      ∙ has_repeat-apart nat_keys (entry_keys reordered)
+      (apart-permutation nat_keys (entry_keys reordered) (feats county)
+      (IsPermutation-map (λ (d : ℕ × Body5). d.0) reordered county.names permuted_names)
       (apart_from_sorted nat_keys (feats county) is.ascending.names))
 
-  pub few_feats : length (filter_map (slice_get (feats county)) (map ranked_place items)) ≡ length county.names
-  few_feats = ap length feats_told ∙ length-map (names_in_order county order) (λ (d : ℕ × Body5). d.0)
-      ∙ sym (length_permutation (names_in_order county order) county.names (names_permutation county order is
-      (arranges county steps is whole)))
+  pub few_feats : length (filter_map (slice_get (feats county)) places) ≡ length county.names
+  few_feats = ap length feats_told ∙ length-map reordered (λ (d : ℕ × Body5). d.0)
+      ∙ sym (length_permutation reordered county.names permuted_names)

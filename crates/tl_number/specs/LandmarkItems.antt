@@ -1,12 +1,14 @@
 -- The links of landmarks under new numbers, and how landmarks stand to each other.
-use Rattle.std.specs.Prelude.{ℕ, List, map, slice_get}
+use Rattle.std.specs.Prelude.{ℕ, List, filter_map, length, map, slice_get}
 use Rattle.std.specs.declared.cmp.Ordering.{Ordering}
 use Rattle.std.specs.Cmp.Lexicographic.{slice_cmp}
 use Rattle.std.specs.Ordering.{nat_cmp, ordering_then}
 use Rattle.tl_layout.specs.Fields.{Fields8}
-use Rattle.tl_county.specs.BodyOrder.{landmark_body_cmp, link_part, link_part_cmp}
+use Rattle.tl_county.specs.BodyOrder.{landmark_body_cmp, link_cmp, link_part, link_part_cmp}
 use Rattle.tl_county.specs.ChartWords.{bodies_at, links_with}
 use Rattle.tl_county.specs.County.{County, link_key}
+use Rattle.tl_county.specs.CountyRules.{lands}
+use Rattle.tl_county.specs.Orders.{in_order}
 use Rattle.tl_county.specs.PolygonKeys.{PolygonKey, key_cmp}
 use Rattle.tl_county.specs.Renumbering.{image}
 use Rattle.tl_number.specs.Arrangement.{under_cenid}
@@ -21,6 +23,14 @@ link_under polygons lands link = record {
   land = image nat_cmp (numbered lands) link.land;
 }
 
+-- the LANDs of the landmarks at these places
+abbrev pub lands_at : County → List ℕ → List ℕ
+lands_at county places = filter_map (slice_get (lands county)) places
+
+-- the links with their polygons and landmarks under their places in these lists, in order
+abbrev pub numbered_links : County → List PolygonKey → List ℕ → List Fields8
+numbered_links county polygons numbers = in_order link_cmp (map (link_under polygons numbers) county.links)
+
 -- the links of the landmark at a place, LANDs counted from 1
 abbrev pub own_links : List Fields8 → ℕ → ℕ → List Fields8
 own_links links count place = links_with links (slice_get (up_to count) place)
@@ -31,3 +41,7 @@ landmark_place_cmp county links count a b =
     ordering_then (slice_cmp landmark_body_cmp (bodies_at county a) (bodies_at county b))
     (ordering_then (slice_cmp link_part_cmp (map link_part (own_links links count a)) (map link_part (own_links links count b)))
     (nat_cmp a b))
+
+-- the same with these polygons, and with the landmarks as they stand in the county
+abbrev pub place_cmp_under : County → List PolygonKey → ℕ → ℕ → Ordering
+place_cmp_under county polygons = landmark_place_cmp county (numbered_links county polygons (lands county)) (length county.landmarks)

@@ -4,9 +4,9 @@ ghost use Rattle.std.specs.Prelude.{◌≡◌, ◌<◌, ◌^◌, IfOk, length};
 ghost use Rattle.tl_county.specs.CountyRules.{AllKeysStandIn, polygon_keys, polygons_along};
 ghost use Rattle.tl_county.specs.Renumbering.{Carries};
 ghost use Rattle.tl_county.specs.TheCountyIn.{the_county_in};
-ghost use Rattle.tl_number.specs.Arrangement.{arranged, ascending, renaming_of};
+ghost use Rattle.tl_number.specs.Arrangement.{arranged, ascending, polygons_in_order, renaming_of};
 ghost use Rattle.tl_number.specs.Steps.{AreSteps, arrangement_of};
-ghost use Rattle.tl_number.specs.ViewFacts.{NamesEachOnce};
+ghost use Rattle.tl_number.specs.ViewFacts.{AreWhole, NamesEachOnce, TellsLandmarks, TellsNames, TellsNodes, TellsPolygons};
 ghost use Rattle.tl_number.specs.CanonCounties.{IsCanonCounty};
 ghost use Rattle.tl_profile.specs.Profile.{IsInProfile};
 ghost use Rattle.tl_profile.specs.ShapeOrder.{IsShapeOrder};
@@ -15,14 +15,73 @@ use crate::arranged::Arranged;
 use crate::canon_county::{CanonCounty, CanonCountyIn};
 use crate::landmark_order::arrange_landmarks;
 use crate::name_order::arrange_names;
+use crate::numbers::Numbers;
 use crate::order::steps_in_order;
 use crate::polygon_order::arrange_polygons;
 use crate::step::Step;
+use crate::tables::{LandmarkTables, NameTables, NodeTables, PolygonTables};
 use crate::walks::number_nodes;
 use std::alloc::{AllocError, Global};
 use tl_cert::Renaming;
-use tl_county::{Chart, CountyIn};
+use tl_county::{Chart, CountyIn, PolygonKey};
 use tl_profile::{Admitted, AdmittedIn, ShapeOrder, order_by_shape};
+
+/// The tables of a county in an arrangement: of its nodes, its polygons, its names and its landmarks.
+type Tables = (NodeTables, PolygonTables, NameTables, LandmarkTables);
+
+/// The nodes and the polygons of a county in the arrangement of these steps.
+fn arrange_nodes_and_polygons<C: Chart>(
+    alloc: Global,
+    chart: &C,
+    steps: &[Step],
+) -> Result<(NodeTables, PolygonTables), AllocError>
+    requires whole { AreWhole (C.county chart.now) steps.now }
+    requires few { length (C.county chart.now).polygons < 2 ^ 32 }
+    requires sides { AllKeysStandIn (polygons_along (C.county chart.now).chains) (polygon_keys (C.county chart.now)) }
+    ensures nodes { IfOk result (λ tables. TellsNodes (C.county chart.now) steps.now tables.0) }
+    ensures polygons { IfOk result (λ tables. TellsPolygons (C.county chart.now) steps.now tables.1) }
+{
+    let nodes = number_nodes(alloc, chart, steps)?;
+    let polygons = arrange_polygons(alloc, chart, steps)?;
+    Ok((nodes, polygons))
+}
+
+/// The names and the landmarks of a county in the arrangement of these steps, with its polygons by first appearance.
+fn arrange_names_and_landmarks<C: Chart>(
+    alloc: Global,
+    chart: &C,
+    steps: &[Step],
+    polygons: &Numbers<PolygonKey>,
+) -> Result<(NameTables, LandmarkTables), AllocError>
+    requires whole { AreWhole (C.county chart.now) steps.now }
+    requires polygons { polygons.now ≡ polygons_in_order (C.county chart.now) (arrangement_of (C.county chart.now) steps.now) }
+    requires few_polygons { length polygons.now < 10 ^ 10 }
+    requires few_names { length (C.county chart.now).names < 2 ^ 32 }
+    requires few_landmarks { length (C.county chart.now).landmarks < 2 ^ 32 }
+    ensures names { IfOk result (λ tables. TellsNames (C.county chart.now) steps.now tables.0) }
+    ensures landmarks { IfOk result (λ tables. TellsLandmarks (C.county chart.now) steps.now tables.1) }
+{
+    let names = arrange_names(alloc, chart, steps)?;
+    let landmarks = arrange_landmarks(alloc, chart, steps, polygons)?;
+    Ok((names, landmarks))
+}
+
+/// All that a county in the arrangement of these steps keeps.
+fn arrange_tables<C: Chart>(alloc: Global, chart: &C, steps: &[Step]) -> Result<Tables, AllocError>
+    requires whole { AreWhole (C.county chart.now) steps.now }
+    requires sides { AllKeysStandIn (polygons_along (C.county chart.now).chains) (polygon_keys (C.county chart.now)) }
+    requires few_polygons { length (C.county chart.now).polygons < 2 ^ 32 }
+    requires few_names { length (C.county chart.now).names < 2 ^ 32 }
+    requires few_landmarks { length (C.county chart.now).landmarks < 2 ^ 32 }
+    ensures nodes { IfOk result (λ tables. TellsNodes (C.county chart.now) steps.now tables.0) }
+    ensures polygons { IfOk result (λ tables. TellsPolygons (C.county chart.now) steps.now tables.1) }
+    ensures names { IfOk result (λ tables. TellsNames (C.county chart.now) steps.now tables.2) }
+    ensures landmarks { IfOk result (λ tables. TellsLandmarks (C.county chart.now) steps.now tables.3) }
+{
+    let (nodes, polygons) = arrange_nodes_and_polygons(alloc, chart, steps)?;
+    let (names, landmarks) = arrange_names_and_landmarks(alloc, chart, steps, &polygons.numbers)?;
+    Ok((nodes, polygons, names, landmarks))
+}
 
 /// A county whose polygons stand on sides, in the arrangement of these steps, each of which is another chain and which are
 /// all of its chains.
@@ -39,10 +98,7 @@ pub fn arrange<C: Chart + Drop>(
     ensures county { IfOk result
         (λ view. ⟦<Arranged<C> as Chart>⟧.county view ≡ arranged (C.county chart) (arrangement_of (C.county chart) steps.items)) }
 {
-    let nodes = number_nodes(alloc, &chart, &steps)?;
-    let polygons = arrange_polygons(alloc, &chart, &steps)?;
-    let names = arrange_names(alloc, &chart, &steps)?;
-    let landmarks = arrange_landmarks(alloc, &chart, &steps, &polygons.numbers)?;
+    let (nodes, polygons, names, landmarks) = arrange_tables(alloc, &chart, &steps)?;
     Ok(Arranged {
         chart,
         steps,

@@ -12,7 +12,7 @@ ghost use Rattle.tl_county.specs.CountyRules.{lands};
 ghost use Rattle.tl_county.specs.CountyProps.{IsInOrder-prop};
 ghost use Rattle.tl_county.specs.Orders.{IsInOrder, has_repeat};
 ghost use Rattle.tl_number.specs.Growth.{first_seen_after};
-ghost use Rattle.tl_number.specs.LandmarkItems.{landmark_place_cmp, own_links};
+ghost use Rattle.tl_number.specs.LandmarkItems.{landmark_place_cmp, lands_at, numbered_links, own_links, place_cmp_under};
 ghost use Rattle.tl_number.specs.Steps.{arrangement_of};
 ghost use Rattle.tl_number.specs.Arrangement.{polygons_in_order};
 ghost use Rattle.tl_number.specs.ViewFacts.{AreWhole, TellsLandmarks, link_bounds};
@@ -217,6 +217,46 @@ fn sort_places<C: Chart>(
     Ok(places)
 }
 
+/// The links of a county with its landmarks in the order of these places, and how many have a LAND up to 0, 1, 2, ..
+fn links_by_land<C: Chart>(
+    alloc: Global,
+    chart: &C,
+    polygons: &Numbers<PolygonKey>,
+    places: &[u32],
+) -> Result<(Vec<Rec8>, Vec<usize>), AllocError>
+    requires few_polygons { length polygons.now < 10 ^ 10 }
+    requires few_places { length places.now < 2 ^ 32 }
+    requires once { has_repeat nat_cmp (lands_at (C.county chart.now) places.now) ≡ false }
+    ensures links { IfOk result
+        (λ lists. lists.0.items ≡ numbered_links (C.county chart.now) polygons.now (lands_at (C.county chart.now) places.now)) }
+    ensures bounds { IfOk result (λ lists. lists.1.items ≡ link_bounds lists.0.items (length places.now)) }
+{
+    let lands = lands_at(alloc, chart, places)?;
+    let links = links_under(alloc, chart, polygons, &lands)?;
+    let bounds = bounds_of(alloc, &links, places.len())?;
+    Ok((links, bounds))
+}
+
+/// The places of the landmarks of a county in their new order, with its polygons by first appearance.
+fn places_in_order<C: Chart>(
+    alloc: Global,
+    chart: &C,
+    polygons: &Numbers<PolygonKey>,
+) -> Result<Vec<u32>, AllocError>
+    requires few_polygons { length polygons.now < 10 ^ 10 }
+    requires few { length (C.county chart.now).landmarks < 2 ^ 32 }
+    ensures permutation { IfOk result (λ places. IsPermutation (range_with_len 0 (length (C.county chart.now).landmarks)) places.items) }
+    ensures in_order { IfOk result (λ places. IsInOrder (place_cmp_under (C.county chart.now) polygons.now) places.items) }
+{
+    let unordered = all_places(alloc, chart)?;
+    let (links, bounds) = links_by_land(alloc, chart, polygons, &unordered)?;
+    let lists = LinkLists {
+        links: links.as_slice(),
+        bounds: bounds.as_slice(),
+    };
+    sort_places(alloc, chart, &lists)
+}
+
 /// The landmarks of a county in the arrangement of these steps, with its polygons by first appearance.
 pub(crate) fn arrange_landmarks<C: Chart>(
     alloc: Global,
@@ -230,19 +270,8 @@ pub(crate) fn arrange_landmarks<C: Chart>(
     requires few { length (C.county chart.now).landmarks < 2 ^ 32 }
     ensures { IfOk result (TellsLandmarks (C.county chart.now) steps.now) }
 {
-    let count = chart.landmark_count();
-    let unordered = all_places(alloc, chart)?;
-    let old_lands = lands_at(alloc, chart, &unordered)?;
-    let old_links = links_under(alloc, chart, polygons, &old_lands)?;
-    let old_bounds = bounds_of(alloc, &old_links, count)?;
-    let lists = LinkLists {
-        links: old_links.as_slice(),
-        bounds: old_bounds.as_slice(),
-    };
-    let places = sort_places(alloc, chart, &lists)?;
-    let lands = lands_at(alloc, chart, &places)?;
-    let links = links_under(alloc, chart, polygons, &lands)?;
-    let bounds = bounds_of(alloc, &links, count)?;
+    let places = places_in_order(alloc, chart, polygons)?;
+    let (links, bounds) = links_by_land(alloc, chart, polygons, &places)?;
     Ok(LandmarkTables {
         places,
         links,

@@ -8,10 +8,11 @@ ghost use Rattle.tl_county.specs.BodyOrder.{name_body_cmp};
 ghost use Rattle.tl_county.specs.ChartWords.{feats_of};
 ghost use Rattle.tl_county.specs.CountyRules.{feats};
 ghost use Rattle.tl_county.specs.Orders.{has_repeat};
+ghost use Rattle.tl_number.specs.Arrangement.{names_in_order};
 ghost use Rattle.tl_number.specs.Growth.{first_seen, first_seen_after};
 ghost use Rattle.tl_number.specs.NameItems.{feats_along_steps, rank_of, ranked_at, ranked_cmp, ranked_place};
-ghost use Rattle.tl_number.specs.Steps.{step_chain};
-ghost use Rattle.tl_number.specs.ViewFacts.{AreWhole, TellsNames};
+ghost use Rattle.tl_number.specs.Steps.{arrangement_of, step_chain};
+ghost use Rattle.tl_number.specs.ViewFacts.{AreReadAt, AreWhole, TellsNames};
 
 use crate::numbers::Numbers;
 use crate::step::Step;
@@ -168,6 +169,23 @@ fn feats_at<C: Chart>(alloc: Global, chart: &C, places: &[u32]) -> Result<Number
     Ok(numbers)
 }
 
+/// The places of the names of a county in their new order.
+fn places_in_order<C: Chart>(
+    alloc: Global,
+    chart: &C,
+    steps: &[Step],
+) -> Result<Vec<u32>, AllocError>
+    requires whole { AreWhole (C.county chart.now) steps.now }
+    requires few { length (C.county chart.now).names < 2 ^ 32 }
+    ensures { IfOk result (λ places. AreReadAt (C.county chart.now).names places.items
+        (names_in_order (C.county chart.now) (arrangement_of (C.county chart.now) steps.now))) }
+{
+    let uses = number_uses(alloc, chart, steps)?;
+    let mut names = ranked_names(alloc, chart, &uses)?;
+    names.sort_unstable_by(|a, b| cmp_names(chart, a, b));
+    places_of(alloc, &names)
+}
+
 /// The names of a county in the arrangement of these steps.
 pub(crate) fn arrange_names<C: Chart>(
     alloc: Global,
@@ -178,10 +196,7 @@ pub(crate) fn arrange_names<C: Chart>(
     requires few { length (C.county chart.now).names < 2 ^ 32 }
     ensures { IfOk result (TellsNames (C.county chart.now) steps.now) }
 {
-    let uses = number_uses(alloc, chart, steps)?;
-    let mut names = ranked_names(alloc, chart, &uses)?;
-    names.sort_unstable_by(|a, b| cmp_names(chart, a, b));
-    let places = places_of(alloc, &names)?;
+    let places = places_in_order(alloc, chart, steps)?;
     let feats = feats_at(alloc, chart, &places)?;
     Ok(NameTables { feats, places })
 }

@@ -1,9 +1,8 @@
 -- The groups of a county's records together are its packing.
 use Rattle.std.proofs.Common.{◌≡◌, List, ◌++◌, map, flat_map, filter_map, Option, Some, None, ap, ◌∙◌, nat_cmp}
-use Rattle.std.proofs.Common.{append-nil}
+use Rattle.std.proofs.Common.{append-nil, append_assoc}
 use Rattle.std.specs.Ordering.{on}
 use Rattle.tl_layout.specs.Fields.{FieldsP}
-use Rattle.tl_layout.specs.declared.record_type.Record.{Record}
 use Rattle.tl_layout.specs.declared.record_type.Record.TheVariants.{One, Two, Four, Five, Six, Seven, Eight, I, P}
 use Rattle.tl_layout.specs.declared.type_p.BodyP.{BodyP}
 use Rattle.tl_county.specs.County.{County}
@@ -14,6 +13,7 @@ use Rattle.tl_county.specs.PolygonKeys.{PolygonKey}
 use Rattle.tl_number.specs.ByNumber.{entry_polyid, polygons_by_number}
 use Rattle.tl_write.specs.CountyGroups.{type_1_by_chain, type_2_by_chain, type_4_by_chain, type_5_by_name, type_6_by_chain}
 use Rattle.tl_write.specs.CountyGroups.{type_7_by_landmark, type_8_together, type_i_by_chain, type_p_by_number}
+use Rattle.tl_write.specs.CountyGroups.{types_1_to_4, types_5_to_7, types_8_to_p}
 use Rattle.tl_write.specs.Groups.{grouped}
 use Rattle.tl_write.proofs.Grouped.{grouped_map, grouped_lone}
 use Rattle.tl_write.proofs.Selected.{grouped_selected, selected_in_order}
@@ -24,6 +24,10 @@ same_polyid entry r e = go entry.1 e
     go : (o : Option BodyP) → packed_body entry.0 o ≡ Some r → entry.0.1 ≡ p_polyid r
     go None f = cc
     go (Some body) f = ap p_polyid (let same : record { cenid = entry.0.0; polyid = entry.0.1; body = body } ≡ r = cc in same)
+
+-- three lists before a fourth
+three_more : {X : Type 0} (a b c rest : List X) → (a ++ (b ++ c)) ++ rest ≡ a ++ (b ++ (c ++ rest))
+three_more a b c rest = append_assoc a (b ++ c) rest ∙ ap (λ xs. a ++ xs) (append_assoc b c rest)
 
 module _ (county : County) where
   pub ones : map One (grouped (type_1_by_chain county)) ≡ map One (map packed_one county.chains)
@@ -54,34 +58,11 @@ module _ (county : County) where
   ps = ap (map P) (grouped_selected packed_p (polygons_by_number county)
       ∙ selected_in_order entry_polyid p_polyid packed_p same_polyid county.polygons)
 
-  -- the records from each type on
-  abbrev pub from_p : List Record
-  from_p = map P (grouped (type_p_by_number county))
-
-  abbrev pub from_i : List Record
-  from_i = map I (grouped (type_i_by_chain county)) ++ from_p
-
-  abbrev pub from_8 : List Record
-  from_8 = map Eight (grouped (type_8_together county)) ++ from_i
-
-  abbrev pub from_7 : List Record
-  from_7 = map Seven (grouped (type_7_by_landmark county)) ++ from_8
-
-  abbrev pub from_6 : List Record
-  from_6 = map Six (grouped (type_6_by_chain county)) ++ from_7
-
-  abbrev pub from_5 : List Record
-  from_5 = map Five (grouped (type_5_by_name county)) ++ from_6
-
-  abbrev pub from_4 : List Record
-  from_4 = map Four (grouped (type_4_by_chain county)) ++ from_5
-
-  abbrev pub from_2 : List Record
-  from_2 = map Two (grouped (type_2_by_chain county)) ++ from_4
-
-  abbrev pub from_1 : List Record
-  from_1 = map One (grouped (type_1_by_chain county)) ++ from_2
-
   -- The groups of all types are the packing.
-  pub all_groups : from_1 ≡ packed county
-  all_groups = λ i. ones i ++ (twos i ++ (fours i ++ (fives i ++ (sixes i ++ (sevens i ++ (eights i ++ (is i ++ ps i)))))))
+  pub all_groups : types_1_to_4 county ++ (types_5_to_7 county ++ types_8_to_p county) ≡ packed county
+  all_groups = three_more (map One (grouped (type_1_by_chain county))) (map Two (grouped (type_2_by_chain county)))
+      (map Four (grouped (type_4_by_chain county))) (types_5_to_7 county ++ types_8_to_p county)
+      ∙ (λ i. ones i ++ (twos i ++ (fours i ++ three_more (map Five (grouped (type_5_by_name county)))
+      (map Six (grouped (type_6_by_chain county))) (map Seven (grouped (type_7_by_landmark county))) (types_8_to_p county) i)))
+      ∙ (λ i. map One (map packed_one county.chains) ++ (map Two (flat_map packed_twos county.chains)
+      ++ (map Four (flat_map packed_fours county.chains) ++ (fives i ++ (sixes i ++ (sevens i ++ (eights i ++ (is i ++ ps i))))))))

@@ -9,7 +9,8 @@ use Rattle.tl_county.specs.Packing.{packed}
 use Rattle.tl_county.proofs.PackedCounty.{packed_county}
 use Rattle.tl_layout.specs.declared.record_type.Record.TheVariants.{One, Two, Four, Five, Six, Seven, Eight, I, P}
 use Rattle.tl_write.specs.CountyGroups.{type_1_by_chain, type_2_by_chain, type_4_by_chain, type_5_by_name, type_6_by_chain}
-use Rattle.tl_write.specs.CountyGroups.{HaveSameCounts, type_7_by_landmark, type_8_together, type_i_by_chain, type_p_by_number}
+use Rattle.tl_write.specs.CountyGroups.{HaveSameCounts, HaveSameChains, HaveSameEntries}
+use Rattle.tl_write.specs.CountyGroups.{type_7_by_landmark, type_8_together, type_i_by_chain, type_p_by_number}
 use Rattle.tl_write.specs.Groups.{group_at, grouped}
 use Rattle.tl_write.proofs.Grouped.{taken_all}
 use Rattle.tl_write.proofs.PackedGroups.{all_groups}
@@ -57,39 +58,14 @@ same_group (x ∷ xs) [] place h k e = absurd (omega (arith, k))
 same_group (x ∷ xs) (y ∷ ys) zero h k e = ap (λ z. Some z) e
 same_group (x ∷ xs) (y ∷ ys) (suc place) h k e = same_group xs ys place (omega (arith, h)) (omega (arith, k)) e
 
--- Counties that have the same groups up to some type, in the order in which they are compared.
 module _ (a b : County) where
-  abbrev pub UpToChains : Type 0
-  UpToChains = HaveSameCounts a b × (type_1_by_chain a ≡ type_1_by_chain b)
-
-  abbrev pub UpToLinks : Type 0
-  UpToLinks = UpToChains × (type_i_by_chain a ≡ type_i_by_chain b)
-
-  abbrev pub UpToShapePoints : Type 0
-  UpToShapePoints = UpToLinks × (type_2_by_chain a ≡ type_2_by_chain b)
-
-  abbrev pub UpToFurtherNames : Type 0
-  UpToFurtherNames = UpToShapePoints × (type_4_by_chain a ≡ type_4_by_chain b)
-
-  abbrev pub UpToRanges : Type 0
-  UpToRanges = UpToFurtherNames × (type_6_by_chain a ≡ type_6_by_chain b)
-
-  abbrev pub UpToNames : Type 0
-  UpToNames = UpToRanges × (type_5_by_name a ≡ type_5_by_name b)
-
-  abbrev pub UpToLandmarks : Type 0
-  UpToLandmarks = UpToNames × (type_7_by_landmark a ≡ type_7_by_landmark b)
-
-  abbrev pub UpToLandmarkLinks : Type 0
-  UpToLandmarkLinks = UpToLandmarks × (type_8_together a ≡ type_8_together b)
-
-  -- with those of all types their packing is the same
-  same_packing : UpToLandmarkLinks → type_p_by_number a ≡ type_p_by_number b → packed a ≡ packed b
-  same_packing h ps = let fives = h.0.0 in let fours = fives.0.0 in let twos = fours.0 in
-      sym (all_groups a)
-      ∙ (λ k. map One (grouped (twos.0.0.1 k)) ++ (map Two (grouped (twos.1 k)) ++ (map Four (grouped (fours.1 k))
-      ++ (map Five (grouped (fives.1 k)) ++ (map Six (grouped (fives.0.1 k)) ++ (map Seven (grouped (h.0.1 k))
-      ++ (map Eight (grouped (h.1 k)) ++ (map I (grouped (twos.0.1 k)) ++ map P (grouped (ps k))))))))))
+  -- with the same groups of all types their packing is the same
+  same_packing : HaveSameChains a b → HaveSameEntries a b → packed a ≡ packed b
+  same_packing chains entries = sym (all_groups a)
+      ∙ (λ k. (map One (grouped (chains.chains k)) ++ (map Two (grouped (chains.shape_points k))
+      ++ map Four (grouped (chains.further_names k)))) ++ ((map Five (grouped (entries.names k))
+      ++ (map Six (grouped (chains.ranges k)) ++ map Seven (grouped (entries.landmarks k))))
+      ++ (map Eight (grouped (entries.landmark_links k)) ++ (map I (grouped (chains.links k)) ++ map P (grouped (entries.polygons k))))))
       ∙ all_groups b
 
   -- and with the same packing they are one county, which has all the same groups
@@ -104,27 +80,27 @@ module _ (a b : County) where
     landmarks = ap (λ c. length c.landmarks) e;
   }
 
-  same_groups : IsCounty a → IsCounty b → packed a ≡ packed b → UpToLandmarkLinks × (type_p_by_number a ≡ type_p_by_number b)
-  same_groups h k packings = let e = same_county h k packings in (
-    (
-      (
-        (
-          (
-            ((((same_counts e, ap type_1_by_chain e), ap type_i_by_chain e), ap type_2_by_chain e), ap type_4_by_chain e),
-            ap type_6_by_chain
-                e,
-          ),
-          ap type_5_by_name e,
-        ),
-        ap type_7_by_landmark e,
-      ),
-      ap type_8_together e,
-    ),
-    ap type_p_by_number e,
-  )
+  same_chains : a ≡ b → HaveSameChains a b
+  same_chains e = record {
+    chains = ap type_1_by_chain e;
+    links = ap type_i_by_chain e;
+    shape_points = ap type_2_by_chain e;
+    further_names = ap type_4_by_chain e;
+    ranges = ap type_6_by_chain e;
+  }
+
+  same_entries : a ≡ b → HaveSameEntries a b
+  same_entries e = record {
+    names = ap type_5_by_name e;
+    landmarks = ap type_7_by_landmark e;
+    landmark_links = ap type_8_together e;
+    polygons = ap type_p_by_number e;
+  }
 
   -- So what decides that they have the same groups of all types decides that their packing is the same.
-  pub decides_packing : IsCounty a → IsCounty b → (test : Bool) → Decides test
-      (UpToLandmarkLinks × (type_p_by_number a ≡ type_p_by_number b))
-      → Decides test (packed a ≡ packed b)
-  decides_packing h k test d = (λ e. same_packing (d.0 e).0 (d.0 e).1, λ packings. d.1 (same_groups h k packings))
+  pub decides_packing : IsCounty a → IsCounty b → (test : Bool)
+      → Decides test ((HaveSameCounts a b × HaveSameChains a b) × HaveSameEntries a b) → Decides test (packed a ≡ packed b)
+  decides_packing h k test d = (
+    λ e. same_packing (d.0 e).0.1 (d.0 e).1,
+    λ packings. let e = same_county h k packings in d.1 ((same_counts e, same_chains e), same_entries e),
+  )

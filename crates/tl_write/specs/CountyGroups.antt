@@ -1,7 +1,9 @@
 -- The records of a county in groups: those of a chain, of a landmark, of a polygon.
-use Rattle.std.specs.Prelude.{◌≡◌, ℕ, List, [], ◌∷◌, map, length, Option, Some, option_map, option_to_list, slice_get}
+use Rattle.std.specs.Prelude.{◌≡◌, ℕ, List, [], ◌∷◌, ◌++◌, map, length, Option, Some, option_map, option_to_list, slice_get}
 use Rattle.tl_layout.specs.Coordinates.{Coordinates}
 use Rattle.tl_layout.specs.Fields.{Fields1, Fields2, Fields4, Fields5, Fields6, Fields7, Fields8, FieldsI, FieldsP}
+use Rattle.tl_layout.specs.declared.record_type.Record.{Record}
+use Rattle.tl_layout.specs.declared.record_type.Record.TheVariants.{One, Two, Four, Five, Six, Seven, Eight, I, P}
 use Rattle.tl_layout.specs.declared.type_i.BodyI.{BodyI}
 use Rattle.tl_layout.specs.declared.type_p.BodyP.{BodyP}
 use Rattle.tl_county.specs.County.{County}
@@ -10,6 +12,7 @@ use Rattle.tl_county.specs.Packing.{first_point, last_point, packed_one, packed_
 use Rattle.tl_county.specs.Packing.{packed_sevens, packed_i, packed_p}
 use Rattle.tl_county.specs.PolygonKeys.{PolygonKey}
 use Rattle.tl_number.specs.ByNumber.{polygons_by_number}
+use Rattle.tl_write.specs.Groups.{grouped}
 
 -- the record of type 1 of each chain
 abbrev pub type_1_by_chain : County → List (List Fields1)
@@ -63,3 +66,33 @@ pub record HaveSameCounts (a b : County) : Type 0 where
   pub names : length a.names ≡ length b.names
   pub polygons : length a.polygons ≡ length b.polygons
   pub landmarks : length a.landmarks ≡ length b.landmarks
+
+-- the same records of each chain
+pub record HaveSameChains (a b : County) : Type 0 where
+  pub chains : type_1_by_chain a ≡ type_1_by_chain b
+  pub links : type_i_by_chain a ≡ type_i_by_chain b
+  pub shape_points : type_2_by_chain a ≡ type_2_by_chain b
+  pub further_names : type_4_by_chain a ≡ type_4_by_chain b
+  pub ranges : type_6_by_chain a ≡ type_6_by_chain b
+
+-- the same records of each name, each landmark and each polygon
+pub record HaveSameEntries (a b : County) : Type 0 where
+  pub names : type_5_by_name a ≡ type_5_by_name b
+  pub landmarks : type_7_by_landmark a ≡ type_7_by_landmark b
+  pub landmark_links : type_8_together a ≡ type_8_together b
+  pub polygons : type_p_by_number a ≡ type_p_by_number b
+
+-- the records of types 1, 2 and 4, type after type
+abbrev pub types_1_to_4 : County → List Record
+types_1_to_4 county = map One (grouped (type_1_by_chain county))
+    ++ (map Two (grouped (type_2_by_chain county)) ++ map Four (grouped (type_4_by_chain county)))
+
+-- the records of types 5, 6 and 7, type after type
+abbrev pub types_5_to_7 : County → List Record
+types_5_to_7 county = map Five (grouped (type_5_by_name county))
+    ++ (map Six (grouped (type_6_by_chain county)) ++ map Seven (grouped (type_7_by_landmark county)))
+
+-- the records of types 8, I and P, type after type
+abbrev pub types_8_to_p : County → List Record
+types_8_to_p county = map Eight (grouped (type_8_together county))
+    ++ (map I (grouped (type_i_by_chain county)) ++ map P (grouped (type_p_by_number county)))

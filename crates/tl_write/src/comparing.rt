@@ -3,7 +3,7 @@
 ghost use Rattle.std.specs.Bool.{Decides};
 ghost use Rattle.std.specs.Prelude.{◌≡◌, ◌<◌, ◌≤◌, ◌+◌, length, drop, take};
 ghost use Rattle.tl_county.specs.Packing.{packed};
-ghost use Rattle.tl_write.specs.CountyGroups.{HaveSameCounts};
+ghost use Rattle.tl_write.specs.CountyGroups.{HaveSameChains, HaveSameCounts, HaveSameEntries};
 ghost use Rattle.tl_write.specs.Groups.{AreHeads, group_at};
 
 use crate::chain_records::{
@@ -110,6 +110,76 @@ fn have_same_counts<A: Chart, B: Chart>(a: &A, b: &B) -> bool
         && a.landmark_count() == b.landmark_count()
 }
 
+/// Whether two counties have the same records of each chain. The heads are read into rooms that are lent.
+fn have_same_chains<A: Chart, B: Chart>(
+    a: &A,
+    b: &B,
+    room: &mut HeadRoom,
+    other: &mut HeadRoom,
+) -> bool
+    ensures { Decides result (HaveSameChains (A.county a.now) (B.county b.now)) }
+{
+    are_same_groups(
+        &ChainRecords { chart: a },
+        &ChainRecords { chart: b },
+        &mut room.ends,
+        &mut other.ends,
+    ) && are_same_groups(
+        &LinkRecords { chart: a },
+        &LinkRecords { chart: b },
+        &mut room.link_bodies,
+        &mut other.link_bodies,
+    ) && are_same_groups(
+        &ShapePointRecords { chart: a },
+        &ShapePointRecords { chart: b },
+        &mut room.counts,
+        &mut other.counts,
+    ) && are_same_groups(
+        &FurtherNameRecords { chart: a },
+        &FurtherNameRecords { chart: b },
+        &mut room.counts,
+        &mut other.counts,
+    ) && are_same_groups(
+        &RangeRecords { chart: a },
+        &RangeRecords { chart: b },
+        &mut room.counts,
+        &mut other.counts,
+    )
+}
+
+/// Whether two counties have the same records of each name, each landmark and each polygon. The heads are read into rooms
+/// that are lent.
+fn have_same_entries<A: Chart, B: Chart>(
+    a: &CanonCounty<A>,
+    b: &CanonCounty<B>,
+    room: &mut HeadRoom,
+    other: &mut HeadRoom,
+) -> bool
+    ensures { Decides result (HaveSameEntries (⟦<CanonCounty<A> as Chart>⟧.county a.now) (⟦<CanonCounty<B> as Chart>⟧.county b.now)) }
+{
+    are_same_groups(
+        &NameRecords { chart: a },
+        &NameRecords { chart: b },
+        &mut room.counts,
+        &mut other.counts,
+    ) && are_same_groups(
+        &LandmarkRecords { chart: a },
+        &LandmarkRecords { chart: b },
+        &mut room.counts,
+        &mut other.counts,
+    ) && are_same_groups(
+        &LandmarkLinkRecords { county: a },
+        &LandmarkLinkRecords { county: b },
+        &mut room.counts,
+        &mut other.counts,
+    ) && are_same_groups(
+        &PolygonRecords { county: a },
+        &PolygonRecords { county: b },
+        &mut room.polygons,
+        &mut other.polygons,
+    )
+}
+
 /// Whether two canonical counties have the same records, and so are one map. It stops at the first record that differs, makes
 /// no text, and takes no memory.
 pub fn same_records<A: Chart, B: Chart>(a: &CanonCounty<A>, b: &CanonCounty<B>) -> bool
@@ -118,58 +188,6 @@ pub fn same_records<A: Chart, B: Chart>(a: &CanonCounty<A>, b: &CanonCounty<B>) 
     let mut room = HeadRoom::new();
     let mut other = HeadRoom::new();
     have_same_counts(a, b)
-        && are_same_groups(
-            &ChainRecords { chart: a },
-            &ChainRecords { chart: b },
-            &mut room.ends,
-            &mut other.ends,
-        )
-        && are_same_groups(
-            &LinkRecords { chart: a },
-            &LinkRecords { chart: b },
-            &mut room.link_bodies,
-            &mut other.link_bodies,
-        )
-        && are_same_groups(
-            &ShapePointRecords { chart: a },
-            &ShapePointRecords { chart: b },
-            &mut room.counts,
-            &mut other.counts,
-        )
-        && are_same_groups(
-            &FurtherNameRecords { chart: a },
-            &FurtherNameRecords { chart: b },
-            &mut room.counts,
-            &mut other.counts,
-        )
-        && are_same_groups(
-            &RangeRecords { chart: a },
-            &RangeRecords { chart: b },
-            &mut room.counts,
-            &mut other.counts,
-        )
-        && are_same_groups(
-            &NameRecords { chart: a },
-            &NameRecords { chart: b },
-            &mut room.counts,
-            &mut other.counts,
-        )
-        && are_same_groups(
-            &LandmarkRecords { chart: a },
-            &LandmarkRecords { chart: b },
-            &mut room.counts,
-            &mut other.counts,
-        )
-        && are_same_groups(
-            &LandmarkLinkRecords { county: a },
-            &LandmarkLinkRecords { county: b },
-            &mut room.counts,
-            &mut other.counts,
-        )
-        && are_same_groups(
-            &PolygonRecords { county: a },
-            &PolygonRecords { county: b },
-            &mut room.polygons,
-            &mut other.polygons,
-        )
+        && have_same_chains(a, b, &mut room, &mut other)
+        && have_same_entries(a, b, &mut room, &mut other)
 }

@@ -13,8 +13,6 @@ mod record_eq;
 mod sink;
 mod slow_sink;
 mod taker;
-#[cfg(test)]
-mod tests;
 mod text_buffer;
 mod writing;
 

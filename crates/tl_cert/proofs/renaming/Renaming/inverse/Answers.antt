@@ -1,8 +1,6 @@
-use Rattle.std.proofs.Common.{◌∙◌, ap, ap₂, sym, subst, nat_cmp}
-use Rattle.tl_county.specs.Renumbering.{Carries, swapped}
+use Rattle.std.proofs.Common.{◌∙◌, ap, ap₂, sym, subst, map, filter, nat_cmp}
+use Rattle.tl_county.specs.Renumbering.{Carries, image, is_named, swapped}
 use Rattle.tl_county.proofs.Sameness.{inverse_carries}
-use Rattle.tl_cert.specs.Images.{named_images}
-use Rattle.tl_cert.proofs.Tables.{named_images-alike, named_images-filtered}
 use Rattle.tl_cert.proofs.renaming.Renaming.inverse.Goals as goal
 
 pub returns-clause-value : goal.returns-clause-value
@@ -13,9 +11,7 @@ returns-clause-value c = c.of_parts.ensures ∙ (λ i. record {
   lands = (c.in_ok-lands.ensures ∙ ap swapped c.lands.ensures) i;
   nodes = (c.in_ok-nodes.ensures ∙ ap swapped c.nodes.ensures) i;
   turned = (c.in_ok-turned.ensures
-      ∙ named_images-alike nat_cmp c.in_ok-images.images c.chains-2.result.now c.in_ok-images.ensures c.turned.result.now
-      ∙ ap₂ (named_images nat_cmp) c.chains-2.ensures c.turned.ensures
-      ∙ sym (named_images-filtered nat_cmp c.args.self.now.chains c.args.self.now.turned)) i;
+      ∙ ap₂ (λ pairs tlids. map (image nat_cmp pairs) (filter (is_named nat_cmp pairs) tlids)) c.chains-2.ensures c.turned.ensures) i;
 })
 
 pub returns-clause-carries_back : goal.returns-clause-carries_back

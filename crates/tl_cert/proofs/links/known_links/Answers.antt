@@ -1,0 +1,11 @@
+use Rattle.std.proofs.Common.{◌∙◌, IsPermutation, ap, map, subst, sym}
+use Rattle.std.proofs.lemmas.List.Sorted.{IsPermutation-map}
+use Rattle.tl_cert.specs.LinkFields.{link_fields}
+use Rattle.tl_cert.proofs.links.known_links.Goals as goal
+
+pub returns : goal.returns
+returns g c =
+    let links = (g.C.Chart.county c.args.chart.now).links in
+    subst (λ fields. IsPermutation fields (map link_fields links))
+    (sym (c.in_ok-fields.ensures ∙ ap (map link_fields) c.deref.ensures.value))
+    (IsPermutation-map link_fields c.in_ok-links.links.items links c.in_ok-links.ensures)

@@ -1,0 +1,28 @@
+use Rattle.std.proofs.Common.{length, nat_cmp, sym, ap, ◌∙◌, subst, slice_get, arith}
+use Rattle.std.specs.Ordering.{on}
+use Rattle.tl_county.specs.County.{eight_land}
+use Rattle.tl_county.specs.CountyRules.{lands}
+use Rattle.tl_county.specs.Orders.{IsInOrder}
+use Rattle.tl_number.specs.LandmarkItems.{numbered_links}
+use Rattle.tl_number.specs.ViewFacts.{link_bounds}
+use Rattle.tl_number.proofs.LandmarkOrder.{few_lands, numbered_by_land}
+use Rattle.tl_number.proofs.landmark_order.links_by_land.Goals as goal
+
+pub links_under-requires-clause-few_lands : goal.links_under-requires-clause-few_lands
+links_under-requires-clause-few_lands g c =
+    let fewer = few_lands (slice_get (lands (g.C.Chart.county c.args.chart.now))) c.args.places.now in
+    let count = ap length c.in_ok-lands.ensures in
+    let few = c.requires.few_places in
+    omega (arith, fewer, count, few)
+
+pub bounds_of-requires-clause-in_order : goal.bounds_of-requires-clause-in_order
+bounds_of-requires-clause-in_order g c =
+    subst (IsInOrder (on eight_land nat_cmp)) (sym (c.deref.ensures.value ∙ c.in_ok-links.ensures))
+    (numbered_by_land (g.C.Chart.county c.args.chart.now) c.args.polygons.now c.in_ok-lands.lands)
+
+pub returns-clause-links : goal.returns-clause-links
+returns-clause-links g c = c.in_ok-links.ensures
+    ∙ ap (numbered_links (g.C.Chart.county c.args.chart.now) c.args.polygons.now) c.in_ok-lands.ensures
+
+pub returns-clause-bounds : goal.returns-clause-bounds
+returns-clause-bounds g c = c.in_ok-bounds.ensures ∙ ap (λ links. link_bounds links (length c.args.places.now)) c.deref.ensures.value
