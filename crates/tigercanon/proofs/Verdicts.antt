@@ -8,6 +8,9 @@ use Rattle.tl_county.proofs.PackedCounty.{packed_county}
 use Rattle.tl_number.proofs.Accepted.{one_canonical_same, same_one_canonical}
 use Rattle.tigercanon.specs.Comparing.{AreDifferent, AreOneMap, IsAcceptable}
 use Rattle.tigercanon.specs.Sets.{CarriesSet, IsCanonSet}
+use Rattle.tigercanon.specs.TwoSets.{where_ended}
+use Rattle.tigercanon.specs.declared.ending.Ending.{Ending}
+use Rattle.tigercanon.specs.declared.ending.Ending.TheVariants.{Done, Different}
 
 -- counties with one packing are one county
 pub one_county : (a b : County) → IsCounty a → IsCounty b → packed a ≡ packed b → a ≡ b
@@ -45,6 +48,12 @@ module _ (parts others : List (List ℕ)) (a a' b b' : County) (first : IsCanonS
           carries = same.carries;
         },
       )
+
+  -- what an ending says of the packings it says of the sets
+  pub verdict_of_sets : (ending : Ending) → where_ended ending (packed a' ≡ packed b') (packed a' ≢ packed b')
+      → where_ended ending (AreOneMap parts others) (AreDifferent parts others)
+  verdict_of_sets Done same = sets_one_map same
+  verdict_of_sets Different other = sets_different other
 
 pub acceptable : (parts : List (List ℕ)) (a a' : County) → IsCanonSet parts a a' → IsAcceptable parts
 acceptable parts a a' set = (set.records, set.accepted)

@@ -47,6 +47,14 @@ TellsRead remaining given before after Memory = Unit {0}
 abbrev pub Took : {W : Type 0} → (W → List ℕ → Type 0) → W → W → List ℕ → Type 0
 Took holds before after bytes = (held : List ℕ) → holds before held → holds after (held ++ bytes)
 
+-- the sink took the whole text, which has so many bytes
+abbrev pub GoesOut : {W : Type 0} → (W → List ℕ → Type 0) → W → W → List ℕ → ℕ → Type 0
+GoesOut holds before after text count = (count ≡ length text) × Took holds before after text
+
+-- the sink took so many bytes from the front of the text, and not all of it
+abbrev pub StopsShort : {W : Type 0} → (W → List ℕ → Type 0) → W → W → List ℕ → ℕ → Type 0
+StopsShort holds before after text written = (written < length text) × Took holds before after (take written text)
+
 -- the sink failed, and took the first bytes of the canonical text, as many as are told, and not all of them
 pub record IsCutOff {R W : Type 0} (remaining : R → Option (List ℕ)) (given : R → ℕ) (before after : List R)
     (holds : W → List ℕ → Type 0) (old new : W) (written : ℕ) : Type 0 where

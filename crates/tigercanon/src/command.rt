@@ -1,6 +1,6 @@
 //! The commands that the program understands, as its help tells them.
 
-ghost use Rattle.clap.specs.Words.{app_of, rule_of};
+ghost use Rattle.clap.specs.Words.{app_of, rule_of, with_subcommand};
 ghost use Rattle.clap.specs.declared.builder.command.Command.TheViews.{out-Command};
 ghost use Rattle.std.specs.Prelude.{◌≡◌, IfOk, codes, false};
 ghost use Rattle.tigercanon.specs.Grammar.{over_one_set, over_two_sets, program_alone, set_argument, stem_flag, understood};
@@ -116,34 +116,46 @@ fn program<'a>(alloc: Global) -> Result<Command<'a>, AllocError>
     )
 }
 
+/// The program with one more subcommand, which reads one set.
+fn with_job<'a>(
+    alloc: Global,
+    program: Command<'a>,
+    name: &'a str,
+    about: &'a str,
+) -> Result<Command<'a>, AllocError>
+    ensures { IfOk result (λ c. app_of c ≡ with_subcommand (app_of program.entry) (over_one_set name.entry.now).top) }
+{
+    program.subcommand(over_one_set(alloc, name, about)?)
+}
+
 /// What the program understands: its subcommands and their arguments.
 pub(crate) fn command<'a>(alloc: Global) -> Result<Command<'a>, AllocError>
     ensures { IfOk result (λ c. app_of c ≡ understood) }
 {
-    let respell = over_one_set(
+    let program = program(alloc)?;
+    let program = with_job(
         alloc,
+        program,
         "respell",
         "Print the records in canonical spelling, in their order and with their numbers",
     )?;
-    let normalise = over_one_set(
+    let program = with_job(
         alloc,
+        program,
         "normalise",
         "Print the canonical text of the map that the records say",
     )?;
-    let check = over_one_set(
+    let program = with_job(
         alloc,
+        program,
         "check",
         "Say whether the records fit together to a county that has a canonical text",
     )?;
-    let fingerprint = over_one_set(
+    let program = with_job(
         alloc,
+        program,
         "fingerprint",
         "Print the SHA-256 hash of the canonical text, by which the map can be cited",
     )?;
-    program(alloc)?
-        .subcommand(respell)?
-        .subcommand(normalise)?
-        .subcommand(check)?
-        .subcommand(fingerprint)?
-        .subcommand(compare(alloc)?)
+    program.subcommand(compare(alloc)?)
 }

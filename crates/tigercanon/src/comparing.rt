@@ -3,6 +3,7 @@
 ghost use Rattle.std.specs.Prelude.{◌≡◌, ◌≢◌, Ok, Err, ℕ, List, map, IfOk, IfErr};
 ghost use Rattle.tigercanon.specs.Comparing.{AreDifferent, IsAcceptable, TellsMemoryOfAccepted, TellsRefusalOfOne};
 ghost use Rattle.tigercanon.specs.Faults.{IsWantOfMemory, TellsRefusal};
+ghost use Rattle.tigercanon.specs.Linked.{IsLinkedSet};
 ghost use Rattle.tigercanon.specs.Sets.{CarriesSet, IsCanonSet};
 ghost use Rattle.tigercanon.specs.declared.comparing.CompareFault.TheVariants.{Memory};
 ghost use Rattle.tl_county.specs.Packing.{packed};
@@ -16,7 +17,7 @@ use bumpalo::Bump;
 use std::alloc::{AllocError, Global};
 use thiserror::Error;
 use tl_cert::Renaming;
-use tl_county::{Chart, CountyOver};
+use tl_county::{Chart, CountyOver, LinkedRecords};
 use tl_load::LoadFault;
 use tl_number::CanonCounty;
 use tl_write::same_records;
@@ -79,6 +80,30 @@ fn verdict_on<A: Chart, B: Chart>(
     Ok(Verdict::Same(there.then(&back)?))
 }
 
+/// The verdict on a set in canonical form and the linked records of another.
+fn compare_linked<'a>(
+    alloc: Global,
+    first: &CanonCounty<CountyOver<'a>>,
+    second: &LinkedRecords,
+) -> Result<Verdict, CompareFault>
+    ensures same { (a b : List (List ℕ)) (r : Renumbering)
+        → IsCanonSet a (the_county_over first.now.view.chart) (⟦<CanonCounty<CountyOver<'a>> as Chart>⟧.county first.now)
+        → IsLinkedSet b second.now → result ≡ Ok (Verdict.Same r) → CarriesSet r a b }
+    ensures different { (a b : List (List ℕ))
+        → IsCanonSet a (the_county_over first.now.view.chart) (⟦<CanonCounty<CountyOver<'a>> as Chart>⟧.county first.now)
+        → IsLinkedSet b second.now → result ≡ Ok Verdict.Different → AreDifferent a b }
+    ensures refused { (a b : List (List ℕ)) → IsAcceptable a → IsLinkedSet b second.now → IfErr result (TellsRefusalOfOne a b) }
+    ensures no_device { (b : List (List ℕ)) (set : ℕ) → IsLinkedSet b second.now
+        → result ≢ Err (CompareFault.In set (Fault.Load LoadFault.Device)) }
+    ensures succeeds { (a b : List (List ℕ)) → IsLinkedSet b second.now → IfErr result (TellsMemoryOfAccepted a b) }
+{
+    let arena = Bump::new(alloc);
+    match canonise_linked(alloc, &arena, second) {
+        Ok(second) => verdict_on(alloc, first, &second),
+        Err(fault) => Err(CompareFault::In { set: SECOND, fault }),
+    }
+}
+
 /// The verdict on a set in canonical form and one that is still to be judged.
 fn compare_with<'a>(
     alloc: Global,
@@ -95,16 +120,28 @@ fn compare_with<'a>(
     ensures no_device { (set : ℕ) → result ≢ Err (CompareFault.In set (Fault.Load LoadFault.Device)) }
     ensures succeeds { (a : List (List ℕ)) → IfErr result (TellsMemoryOfAccepted a (map (λ p. p.now) b.now)) }
 {
-    let linked = match link_parts(alloc, b) {
-        Ok(linked) => linked,
-        Err(fault) => return Err(CompareFault::In { set: SECOND, fault }),
-    };
+    match link_parts(alloc, b) {
+        Ok(linked) => compare_linked(alloc, first, &linked),
+        Err(fault) => Err(CompareFault::In { set: SECOND, fault }),
+    }
+}
+
+/// The verdict on the linked records of one set and another that is still to be judged.
+fn compare_first(alloc: Global, first: &LinkedRecords, b: &[&[u8]]) -> Result<Verdict, CompareFault>
+    ensures same { (a : List (List ℕ)) (r : Renumbering) → IsLinkedSet a first.now
+        → result ≡ Ok (Verdict.Same r) → CarriesSet r a (map (λ p. p.now) b.now) }
+    ensures different { (a : List (List ℕ)) → IsLinkedSet a first.now
+        → result ≡ Ok Verdict.Different → AreDifferent a (map (λ p. p.now) b.now) }
+    ensures refused { (a : List (List ℕ)) → IsLinkedSet a first.now → IfErr result (TellsRefusalOfOne a (map (λ p. p.now) b.now)) }
+    ensures no_device { (a : List (List ℕ)) (set : ℕ) → IsLinkedSet a first.now
+        → result ≢ Err (CompareFault.In set (Fault.Load LoadFault.Device)) }
+    ensures succeeds { (a : List (List ℕ)) → IsLinkedSet a first.now → IfErr result (TellsMemoryOfAccepted a (map (λ p. p.now) b.now)) }
+{
     let arena = Bump::new(alloc);
-    let second = match canonise_linked(alloc, &arena, &linked) {
-        Ok(county) => county,
-        Err(fault) => return Err(CompareFault::In { set: SECOND, fault }),
-    };
-    verdict_on(alloc, first, &second)
+    match canonise_linked(alloc, &arena, first) {
+        Ok(first) => compare_with(alloc, &first, b),
+        Err(fault) => Err(CompareFault::In { set: FIRST, fault }),
+    }
 }
 
 /// Whether two sets of parts are one map: some renumbering and turning of chains carries the county of the first set onto that
@@ -125,14 +162,8 @@ pub fn compare(alloc: Global, a: &[&[u8]], b: &[&[u8]]) -> Result<Verdict, Compa
     // Of an accepted set nothing but want of memory is told.
     ensures succeeds { IfErr result (TellsMemoryOfAccepted (map (λ p. p.now) a.now) (map (λ p. p.now) b.now)) }
 {
-    let linked = match link_parts(alloc, a) {
-        Ok(linked) => linked,
-        Err(fault) => return Err(CompareFault::In { set: FIRST, fault }),
-    };
-    let arena = Bump::new(alloc);
-    let first = match canonise_linked(alloc, &arena, &linked) {
-        Ok(county) => county,
-        Err(fault) => return Err(CompareFault::In { set: FIRST, fault }),
-    };
-    compare_with(alloc, &first, b)
+    match link_parts(alloc, a) {
+        Ok(linked) => compare_first(alloc, &linked, b),
+        Err(fault) => Err(CompareFault::In { set: FIRST, fault }),
+    }
 }

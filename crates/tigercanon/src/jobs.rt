@@ -17,12 +17,11 @@ use crate::command_line::{Job, PlanFault};
 use crate::ending::{Ending, Stopped, ending_of, tell_line, tell_stopped};
 use crate::fault::Fault;
 use crate::files::{Opened, is_missing_a_file, load_files, sources_of};
-use crate::fingerprinting::hash_of;
-use crate::linked::{canonise_linked, judge_tables, link_records};
+use crate::fingerprinting::fingerprint_linked;
+use crate::linked::{judge_tables, link_records};
 use crate::normalising::normalise_to;
 use crate::two_sets::compare_sets;
 use crate::writing::{LentOut, write_text};
-use bumpalo::Bump;
 use std::alloc::{AllocError, Global};
 use std::io::{Read, Write};
 use tl_layout::Tables;
@@ -115,9 +114,7 @@ fn fingerprint_files<R: Read + Drop>(
 {
     let tables: Tables = load_files(alloc, files)?;
     let linked = link_records(alloc, tables)?;
-    let arena = Bump::new(alloc);
-    let county = canonise_linked(alloc, &arena, &linked)?;
-    Ok(hash_of(&county))
+    fingerprint_linked(alloc, &linked)
 }
 
 /// The line of these bytes: two lower-case hexadecimal digits a byte, and LF.

@@ -1,8 +1,9 @@
 //! A set's records, linked, judged and put into canonical form where they stand.
 
-ghost use Rattle.std.specs.Prelude.{◌≡◌, ◌≢◌, ℕ, Err, List, map, OnOk, IfOk, IfErr};
+ghost use Rattle.std.specs.Prelude.{◌≡◌, ◌≢◌, ℕ, Err, List, map, false, OnOk, IfOk, IfErr};
 ghost use Rattle.tigercanon.specs.Faults.{IsWantOfMemory, RefusesRecords, TellsRefusal};
 ghost use Rattle.tigercanon.specs.Linked.{AreLinkedAs, IsLinkedSet};
+ghost use Rattle.tigercanon.specs.Normalising.{is_of_sink};
 ghost use Rattle.tigercanon.specs.Sets.{IsAcceptedSet, IsCanonSet};
 ghost use Rattle.tl_county.specs.County.{county_of};
 ghost use Rattle.tl_county.specs.Limits.{HoldsWithinLimits};
@@ -26,6 +27,7 @@ use tl_profile::{Admitted, ShapeOrder, admit_linked};
 pub(crate) fn link_records(alloc: Global, tables: Tables) -> Result<LinkedRecords, Fault>
     requires { HoldsWithinLimits tables }
     ensures linked { IfOk result (λ linked. (records : List Record) → HoldsByType tables records → AreLinkedAs linked records) }
+    ensures of_no_sink { IfErr result (λ fault. is_of_sink fault ≡ false) }
     ensures refused { IfErr result (λ fault. (records : List Record) → HoldsByType tables records → RefusesRecords records fault) }
 {
     Ok(link_in_order(alloc, tables)?)
@@ -53,6 +55,7 @@ fn admit_records<'a>(
     ensures accepted { IfOk result (λ pair. (records : List Record) →
         AreLinkedAs linked.now records → IsAccepted records × (the_county_over pair.0 ≡ county_of records)) }
     ensures order { IfOk result (λ pair. IsShapeOrder (the_county_over pair.0) pair.1) }
+    ensures of_no_sink { IfErr result (λ fault. is_of_sink fault ≡ false) }
     ensures refused { IfErr result (λ fault. (records : List Record) → AreLinkedAs linked.now records → RefusesRecords records fault) }
 {
     Ok(admit_linked(alloc, arena, linked)?)
@@ -78,6 +81,7 @@ pub(crate) fn canonise_linked<'a>(
 ) -> Result<CanonCounty<CountyOver<'a>>, Fault>
     ensures canonical { IfOk result (λ canon. (parts : List (List ℕ)) → IsLinkedSet parts linked.now
         → IsCanonSet parts (the_county_over canon.view.chart) (⟦<CanonCounty<CountyOver<'a>> as Chart>⟧.county canon)) }
+    ensures of_no_sink { IfErr result (λ fault. is_of_sink fault ≡ false) }
     ensures refused { IfErr result (λ fault. (records : List Record) → AreLinkedAs linked.now records → RefusesRecords records fault) }
     ensures set_refused { IfErr result (λ fault. (parts : List (List ℕ)) → IsLinkedSet parts linked.now → TellsRefusal parts fault) }
     ensures no_device { (parts : List (List ℕ)) → IsLinkedSet parts linked.now → result ≢ Err (Fault.Load LoadFault.Device) }

@@ -1,10 +1,14 @@
 //! The canonical text of a set.
 
 ghost use Rattle.std.specs.Prelude.{◌≡◌, ◌≢◌, ◌<◌, ◌+◌, ◌∷◌, [], Err, ℕ, List, All, true, false, length, map, IfOk, IfErr, if◌then◌else◌};
-ghost use Rattle.tigercanon.specs.Faults.{IsWantOfMemory, TellsRefusal};
-ghost use Rattle.tigercanon.specs.Normalising.{AreNormalised, IsCutOff, IsOnlyText, TellsRead, Took, is_of_sink, is_stopped};
-ghost use Rattle.tigercanon.specs.Reading.{NoneFailed, OneFailed};
+ghost use Rattle.tigercanon.specs.Faults.{IsWantOfMemory, RefusesRecords, TellsRefusal};
+ghost use Rattle.tigercanon.specs.Linked.{AreLinkedAs, IsLinkedSet};
+ghost use Rattle.tigercanon.specs.Normalising.{AreNormalised, GoesOut, IsCutOff, IsOnlyText, StopsShort, TellsRead, Took};
+ghost use Rattle.tigercanon.specs.Normalising.{is_of_sink, is_stopped};
+ghost use Rattle.tigercanon.specs.Reading.{AreRead, NoneFailed, OneFailed};
 ghost use Rattle.tigercanon.specs.Sets.{CarriesSet, IsAcceptedSet, IsCanonicalText, IsOneCanonicalText};
+ghost use Rattle.tl_county.specs.Packing.{packed};
+ghost use Rattle.tl_layout.specs.RecordText.{text_of};
 ghost use Rattle.tl_layout.specs.declared.record_type.Record.{Record};
 ghost use Rattle.tl_write.specs.declared.fault.WriteFault.{WriteFault};
 
@@ -15,8 +19,10 @@ use crate::reading::load_sources;
 use bumpalo::Bump;
 use std::alloc::Global;
 use tl_cert::Renaming;
+use tl_county::{Chart, LinkedRecords};
 use tl_layout::Tables;
 use tl_load::{LoadFault, Source};
+use tl_number::CanonCounty;
 use tl_write::{Sink, write_to};
 
 /// The canonical text of the parts: the records of their map in canonical numbers, order, packing and spelling. All sets of
@@ -67,6 +73,51 @@ pub fn normalise_with_renaming(alloc: Global, parts: &[&[u8]]) -> Result<(Vec<u8
     text_and_renaming(alloc, &county)
 }
 
+/// The records of the parts that sources give, linked. Each source is read to its end, in order, and no further than the read
+/// that brings a fault.
+fn link_sources<R: Source>(alloc: Global, parts: &mut [R]) -> Result<LinkedRecords, Fault>
+    requires { All (λ part. R.failed part < u64.MAX) parts.old }
+    ensures linked { IfOk result (λ linked. (set : List (List ℕ)) × AreRead R.remaining R.given parts.old parts.new set
+        × IsLinkedSet set linked) }
+    ensures refused { IfErr result (TellsRead R.remaining R.given parts.old parts.new) }
+    ensures of_no_sink { IfErr result (λ fault. is_of_sink fault ≡ false) }
+    ensures device { result ≡ Err (Fault.Load LoadFault.Device) → OneFailed R.failed parts.old parts.new }
+    ensures no_device { result ≢ Err (Fault.Load LoadFault.Device) → NoneFailed R.failed parts.old parts.new }
+{
+    let tables: Tables = load_sources(alloc, parts)?;
+    link_records(alloc, tables)
+}
+
+/// Writes the text of a canonical county to the sink, and answers how many bytes that is.
+fn write_county<C: Chart, W: Sink>(county: &CanonCounty<C>, out: &mut W) -> Result<u64, Fault>
+    requires { W.failed out.old < u64.MAX }
+    ensures written { IfOk result (λ n. GoesOut W.holds out.old out.new (text_of (packed (⟦<CanonCounty<C> as Chart>⟧.county county.now))) n) }
+    ensures stopped { (fault : WriteFault) → result ≡ Err (Fault.Write fault) →
+        StopsShort W.holds out.old out.new (text_of (packed (⟦<CanonCounty<C> as Chart>⟧.county county.now))) fault.written }
+    ensures failures { W.failed out.new ≡ (if is_stopped result then W.failed out.old + 1 else W.failed out.old) }
+    ensures of_sink { IfErr result (λ fault. is_of_sink fault ≡ true) }
+{
+    Ok(write_to(county, out)?)
+}
+
+/// Writes the canonical text of linked records to the sink, and answers how many bytes that is.
+fn write_linked<W: Sink>(alloc: Global, linked: &LinkedRecords, out: &mut W) -> Result<u64, Fault>
+    requires { W.failed out.old < u64.MAX }
+    ensures written { (parts : List (List ℕ)) → IsLinkedSet parts linked.now → IfOk result (λ n.
+        (text : List ℕ) × IsCanonicalText parts text × IsOnlyText parts text × GoesOut W.holds out.old out.new text n) }
+    ensures stopped { (parts : List (List ℕ)) (fault : WriteFault) → IsLinkedSet parts linked.now → result ≡ Err (Fault.Write fault) →
+        (text : List ℕ) × IsCanonicalText parts text × IsOnlyText parts text × StopsShort W.holds out.old out.new text fault.written }
+    ensures failures { W.failed out.new ≡ (if is_stopped result then W.failed out.old + 1 else W.failed out.old) }
+    ensures refused { (records : List Record) → AreLinkedAs linked.now records →
+        IfErr result (λ fault. is_of_sink fault ≡ false → RefusesRecords records fault) }
+    ensures silent { IfErr result (λ fault. is_of_sink fault ≡ false → out.new ≡ out.old) }
+    ensures no_device { (parts : List (List ℕ)) → IsLinkedSet parts linked.now → result ≢ Err (Fault.Load LoadFault.Device) }
+{
+    let arena = Bump::new(alloc);
+    let county = canonise_linked(alloc, &arena, linked)?;
+    write_county(&county, out)
+}
+
 /// Reads the parts from their sources, and writes their canonical text to the sink; answers how many bytes that is. No part
 /// and no text is kept in memory. Nothing goes to the sink unless the set is accepted.
 ///
@@ -96,9 +147,6 @@ pub fn normalise_to<R: Source, W: Sink>(
     ensures device { result ≡ Err (Fault.Load LoadFault.Device) → OneFailed R.failed parts.old parts.new }
     ensures no_device { result ≢ Err (Fault.Load LoadFault.Device) → NoneFailed R.failed parts.old parts.new }
 {
-    let tables: Tables = load_sources(alloc, parts)?;
-    let linked = link_records(alloc, tables)?;
-    let arena = Bump::new(alloc);
-    let county = canonise_linked(alloc, &arena, &linked)?;
-    Ok(write_to(&county, out)?)
+    let linked = link_sources(alloc, parts)?;
+    write_linked(alloc, &linked, out)
 }

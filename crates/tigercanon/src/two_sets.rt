@@ -1,6 +1,6 @@
 //! Comparing two sets of files.
 
-ghost use Rattle.std.specs.Prelude.{◌≡◌, ◌⊎◌, Ok, Some, ℕ, List, [], IfOk, IfErr, MatchResult};
+ghost use Rattle.std.specs.Prelude.{◌≡◌, ◌≢◌, ◌⊎◌, Ok, Some, ℕ, List, [], IfOk, IfErr, MatchResult};
 ghost use Rattle.tigercanon.specs.Comparing.{AreDifferent, AreOneMap, IsAcceptable};
 ghost use Rattle.tigercanon.specs.Faults.{TellsRefusal};
 ghost use Rattle.tigercanon.specs.Files.{IsMissing};
@@ -11,6 +11,7 @@ ghost use Rattle.tigercanon.specs.Sets.{IsCanonSet};
 ghost use Rattle.tigercanon.specs.TwoSets.{IsLineDifferent, IsLineSame, LeavesComparison, NamesMissing};
 ghost use Rattle.tigercanon.specs.TwoSets.{OfTwoSets, TellsOne, line_of_ending, where_ended};
 ghost use Rattle.tigercanon.specs.declared.command_line.Job.{Job};
+ghost use Rattle.tl_county.specs.Packing.{packed};
 ghost use Rattle.tl_county.specs.TheCountyOver.{the_county_over};
 ghost use Rattle.tl_layout.specs.Tables.{HoldsByType};
 ghost use Rattle.tl_load.specs.Keeping.{WasFedInto};
@@ -39,6 +40,41 @@ fn link_loaded(alloc: Global, loader: LoaderInto<Tables>) -> Result<LinkedRecord
     link_records(alloc, tables)
 }
 
+/// How a comparison of two canonical counties ends.
+fn compare_counties<A: Chart, B: Chart>(first: &CanonCounty<A>, second: &CanonCounty<B>) -> Ending
+    ensures { where_ended result
+        (packed (⟦<CanonCounty<A> as Chart>⟧.county first.now) ≡ packed (⟦<CanonCounty<B> as Chart>⟧.county second.now))
+        (packed (⟦<CanonCounty<A> as Chart>⟧.county first.now) ≢ packed (⟦<CanonCounty<B> as Chart>⟧.county second.now)) }
+{
+    if same_records(first, second) {
+        Ending::Done
+    } else {
+        Ending::Different
+    }
+}
+
+/// Compares a set in canonical form with the linked records of another.
+fn compare_linked<'a>(
+    alloc: Global,
+    first: &CanonCounty<CountyOver<'a>>,
+    second: &LinkedRecords,
+) -> Result<Ending, Stopped>
+    ensures verdict { (a b : List (List ℕ)) →
+        IsCanonSet a (the_county_over first.now.view.chart) (⟦<CanonCounty<CountyOver<'a>> as Chart>⟧.county first.now) →
+        IsLinkedSet b second.now → IfOk result (λ ending. where_ended ending (AreOneMap a b) (AreDifferent a b)) }
+    ensures refused { (b : List (List ℕ)) → IsLinkedSet b second.now →
+        IfErr result (λ stopped. (stopped.set ≡ Some 2) × TellsRefusal b stopped.fault) }
+{
+    let arena = Bump::new(alloc);
+    match canonise_linked(alloc, &arena, second) {
+        Ok(second) => Ok(compare_counties(first, &second)),
+        Err(fault) => Err(Stopped {
+            fault,
+            set: Some(2),
+        }),
+    }
+}
+
 /// Compares a set in canonical form with what a loader was fed.
 fn compare_to<'a>(
     alloc: Global,
@@ -52,29 +88,35 @@ fn compare_to<'a>(
     ensures refused { (b : List (List ℕ)) → WasFedInto HoldsByType record_limit second b [] →
         IfErr result (λ stopped. (stopped.set ≡ Some 2) × TellsRefusal b stopped.fault) }
 {
-    let linked = match link_loaded(alloc, second) {
-        Ok(linked) => linked,
-        Err(fault) => {
-            return Err(Stopped {
-                fault,
-                set: Some(2),
-            });
-        }
-    };
+    match link_loaded(alloc, second) {
+        Ok(linked) => compare_linked(alloc, first, &linked),
+        Err(fault) => Err(Stopped {
+            fault,
+            set: Some(2),
+        }),
+    }
+}
+
+/// Judges the linked records of one set and what a loader was fed, in this order, and compares them.
+fn compare_first(
+    alloc: Global,
+    first: &LinkedRecords,
+    second: LoaderInto<Tables>,
+) -> Result<Ending, Stopped>
+    requires { (parts : List (List ℕ)) × WasFedInto HoldsByType record_limit second parts [] }
+    ensures verdict { (a b : List (List ℕ)) → IsLinkedSet a first.now → WasFedInto HoldsByType record_limit second b [] →
+        IfOk result (λ ending. where_ended ending (AreOneMap a b) (AreDifferent a b)) }
+    ensures refused { (a b : List (List ℕ)) → IsLinkedSet a first.now → WasFedInto HoldsByType record_limit second b [] →
+        IfErr result (λ stopped. ((stopped.set ≡ Some 1) × TellsRefusal a stopped.fault)
+        ⊎ ((stopped.set ≡ Some 2) × IsAcceptable a × TellsRefusal b stopped.fault)) }
+{
     let arena = Bump::new(alloc);
-    let second = match canonise_linked(alloc, &arena, &linked) {
-        Ok(county) => county,
-        Err(fault) => {
-            return Err(Stopped {
-                fault,
-                set: Some(2),
-            });
-        }
-    };
-    if same_records(first, &second) {
-        Ok(Ending::Done)
-    } else {
-        Ok(Ending::Different)
+    match canonise_linked(alloc, &arena, first) {
+        Ok(first) => compare_to(alloc, &first, second),
+        Err(fault) => Err(Stopped {
+            fault,
+            set: Some(1),
+        }),
     }
 }
 
@@ -92,26 +134,13 @@ fn compare_loaded(
         IfErr result (λ stopped. ((stopped.set ≡ Some 1) × TellsRefusal a stopped.fault)
         ⊎ ((stopped.set ≡ Some 2) × IsAcceptable a × TellsRefusal b stopped.fault)) }
 {
-    let linked = match link_loaded(alloc, first) {
-        Ok(linked) => linked,
-        Err(fault) => {
-            return Err(Stopped {
-                fault,
-                set: Some(1),
-            });
-        }
-    };
-    let arena = Bump::new(alloc);
-    let first = match canonise_linked(alloc, &arena, &linked) {
-        Ok(county) => county,
-        Err(fault) => {
-            return Err(Stopped {
-                fault,
-                set: Some(1),
-            });
-        }
-    };
-    compare_to(alloc, &first, second)
+    match link_loaded(alloc, first) {
+        Ok(linked) => compare_first(alloc, &linked, second),
+        Err(fault) => Err(Stopped {
+            fault,
+            set: Some(1),
+        }),
+    }
 }
 
 /// Reads two sets of files, of which none is missing, and compares them once both are read.

@@ -4,8 +4,6 @@
 mod alike;
 mod citing;
 mod pieces;
-#[cfg(test)]
-mod tests;
 
 pub use alike::spell_alike;
 pub use citing::cited_tlid;

@@ -1,6 +1,7 @@
-use Rattle.std.proofs.Common.{◌≡◌, ◌∙◌, ap, ap₂}
+use Rattle.std.proofs.Common.{◌≡◌, ◌∙◌, ap, ap₂, codes}
 use Rattle.std.proofs.lemmas.Result.{IfOk-weaker}
 use Rattle.clap.specs.Words.{App, with_subcommand}
+use Rattle.tigercanon.specs.Grammar.{over_one_set}
 use Rattle.tigercanon.proofs.command.command.Goals as goal
 
 -- the top of what a subcommand is
@@ -9,14 +10,10 @@ top_of a b e = ap (λ (x : App). x.top) e
 
 pub returns : goal.returns
 returns c =
-    let one = c.in_ok-subcommand.ensures.shape c.in_ok-respell.ensures.local
-    ∙ ap₂ with_subcommand c.in_ok-program.ensures (top_of _ _ c.in_ok-respell.ensures.app) in
-    let two = c.in_ok-subcommand-2.ensures.shape c.in_ok-normalise.ensures.local
-    ∙ ap₂ with_subcommand one (top_of _ _ c.in_ok-normalise.ensures.app) in
-    let three = c.in_ok-subcommand-3.ensures.shape c.in_ok-check.ensures.local
-    ∙ ap₂ with_subcommand two (top_of _ _ c.in_ok-check.ensures.app) in
-    let four = c.in_ok-subcommand-4.ensures.shape c.in_ok-fingerprint.ensures.local
-    ∙ ap₂ with_subcommand three (top_of _ _ c.in_ok-fingerprint.ensures.app) in
-    IfOk-weaker c.subcommand-5.result _ _
+    let one = c.in_ok-program-2.ensures ∙ ap (λ a. with_subcommand a (over_one_set (codes "respell")).top) c.in_ok-program.ensures in
+    let two = c.in_ok-program-3.ensures ∙ ap (λ a. with_subcommand a (over_one_set (codes "normalise")).top) one in
+    let three = c.in_ok-program-4.ensures ∙ ap (λ a. with_subcommand a (over_one_set (codes "check")).top) two in
+    let four = c.in_ok-program-5.ensures ∙ ap (λ a. with_subcommand a (over_one_set (codes "fingerprint")).top) three in
+    IfOk-weaker c.subcommand.result _ _
     (λ r h. h.shape c.in_ok-compare.ensures.local ∙ ap₂ with_subcommand four (top_of _ _ c.in_ok-compare.ensures.app))
-    c.subcommand-5.ensures
+    c.subcommand.ensures

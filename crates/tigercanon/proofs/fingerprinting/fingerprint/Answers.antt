@@ -1,19 +1,14 @@
-use Rattle.std.proofs.Common.{refl}
-use Rattle.std.proofs.lemmas.Result.{err_from_is_err_and}
-use Rattle.tigercanon.proofs.CanonicalTexts.{only_of_set, text_of_set}
 use Rattle.tigercanon.proofs.fingerprinting.fingerprint.Goals as goal
 
 pub returns-clause-fingerprint : goal.returns-clause-fingerprint
-returns-clause-fingerprint c =
-    let set = (c.in_ok-county.ensures.canonical _ c.in_ok-linked.ensures.linked) in
-    record {
-      text = _;
-      canonical = text_of_set _ _ _ set _ refl;
-      only = only_of_set _ _ _ set _ refl;
-      bytes_are = c.hash_of.ensures;
-    }
+returns-clause-fingerprint c = c.fingerprint_linked.ensures.fingerprint _ c.in_ok-linked.ensures.linked
 
-pub returns-in_err-county-clause-refused : goal.returns-in_err-county-clause-refused
-returns-in_err-county-clause-refused c =
-    let p = err_from_is_err_and c.from_residual-in_err-county.result c.from_residual-in_err-county.ensures.1 in
-    rw (p.1, p.2) (c.in_err-county.ensures.set_refused _ c.in_ok-linked.ensures.linked)
+pub returns-clause-refused : goal.returns-clause-refused
+returns-clause-refused c = c.fingerprint_linked.ensures.set_refused _ c.in_ok-linked.ensures.linked
+
+pub returns-clause-no_device : goal.returns-clause-no_device
+returns-clause-no_device c = c.fingerprint_linked.ensures.no_device _ c.in_ok-linked.ensures.linked
+
+pub returns-clause-succeeds : goal.returns-clause-succeeds
+returns-clause-succeeds c = λ records accepted.
+    c.fingerprint_linked.ensures.succeeds _ records c.in_ok-linked.ensures.linked accepted
