@@ -1,24 +1,20 @@
-//! The library's calls on worked examples, and jobs over files and devices that fail.
+//! What only a call shows: pieces, keepers, getters, counties and renamings as values, and devices that give little and fail.
 
+mod admission;
 mod agreement;
-mod arena;
-mod canonical_counties;
-mod canonical_jobs;
-mod canonical_texts;
-mod checks;
+mod callers;
 mod comparing;
-mod comparisons;
+mod counties;
 mod devices;
-mod fingerprints;
-mod jobs;
-mod lines;
-mod linked_sets;
-mod linking;
+mod fields;
+mod loading;
+mod numbering;
 mod plans;
-mod polygon_sets;
-mod renamed;
+mod reading;
 mod renamings;
+mod running;
 mod sets;
-mod stems;
-mod turns;
-mod verdicts;
+mod shapes;
+mod sinks;
+mod whole_calls;
+mod worked_sets;

@@ -12,3 +12,8 @@ pub(super) fn same<T: PartialEq + Debug>(rt: &impl Abort, found: &T, wanted: &T)
 pub(super) fn same_items<T: PartialEq + Debug>(rt: &impl Abort, found: &[T], wanted: &[T]) {
     assert_eq!(rt; *found, *wanted);
 }
+
+/// What was found in this row of a table is what was wanted.
+pub(super) fn same_in<T: PartialEq + Debug>(rt: &impl Abort, row: &str, found: &T, wanted: &T) {
+    assert_eq!(rt; *found, *wanted, "in the row: {row}");
+}

@@ -3,21 +3,20 @@
 use std::cell::Cell;
 use std::io::{self, Error, ErrorKind, Read, Write};
 
-/// Gives its bytes at most `step` at a time. The read after `reads` of them fails, and no other.
+/// Gives its bytes at most `step` at a time, and counts its reads. The read after `reads` of them fails, and no other.
 #[derive(Drop)]
 pub(super) struct SlowReader<'a> {
-    pub(super) rest: &'a [u8],
+    pub(super) bytes: Vec<u8>,
+    pub(super) place: usize,
     pub(super) step: usize,
     pub(super) reads: Option<usize>,
     pub(super) fault: ErrorKind,
-    pub(super) count: Option<&'a Cell<usize>>,
+    pub(super) count: &'a Cell<usize>,
 }
 
 impl Read for SlowReader<'_> {
     fn read(&mut self, buf: &mut [u8]) -> io::Result<usize> {
-        if let Some(count) = self.count {
-            count.set(count.get().saturating_add(1));
-        }
+        self.count.set(self.count.get().saturating_add(1));
         match self.reads {
             Some(0) => {
                 self.reads = None;
@@ -26,10 +25,10 @@ impl Read for SlowReader<'_> {
             Some(reads) => self.reads = Some(reads - 1),
             None => {}
         }
-        let count = self.step.min(buf.len()).min(self.rest.len());
-        let (front, rest) = self.rest.split_at(count);
-        buf[..count].copy_from_slice(front);
-        self.rest = rest;
+        let rest = self.bytes.get(self.place..).unwrap_or_default();
+        let count = self.step.min(buf.len()).min(rest.len());
+        buf[..count].copy_from_slice(&rest[..count]);
+        self.place = self.place.saturating_add(count);
         Ok(count)
     }
 }

@@ -1,17 +1,7 @@
-//! Sets to try, as patterns: `{n}` stands for n blanks, `~` for the byte 0xA0 and `^` for 0x1A.
+//! Patterns of bytes: `{n}` stands for n blanks, `~` for the byte 0xA0 and `^` for 0x1A.
 
 use std::alloc::{AllocError, Global};
-
-/// A chain of Main St: its line of record type 1.
-pub(super) const CHAIN: &str =
-    "1{11}500{1}A{2}Main{26}St{4}A41{8}101{8}199{8}100{8}19801{2}3600336006{14}0101001001{30}02020002030010012002{1}-86468669+32424914{1}-86468545+32424948";
-
-/// The line of record type I of that chain.
-pub(super) const LINK: &str = "I{4}01001{7}500{8}11{8}12{87}";
-
-/// Both lines in canonical spelling.
-pub(super) const CANONICAL: &str =
-    "12006{7}500{1}A{2}Main{26}St{4}A41{8}101{8}199{8}100{8}19801{2}3600336006{14}0101001001{30}02020002030010012002-086468669+32424914-086468545+32424948\nI200601001{7}500{8}11{8}12{87}\n";
+use tl_layout::Record;
 
 /// The number in braces so far, and one more digit.
 fn with_digit(count: usize, digit: u8) -> usize {
@@ -20,9 +10,8 @@ fn with_digit(count: usize, digit: u8) -> usize {
         .saturating_add(usize::from(digit.saturating_sub(b'0')))
 }
 
-/// The bytes that a pattern stands for.
-pub(super) fn expanded(alloc: Global, pattern: &str) -> Result<Vec<u8>, AllocError> {
-    let mut bytes = Vec::new(alloc);
+/// Appends the bytes that a pattern stands for.
+fn append(bytes: &mut Vec<u8>, pattern: &str) -> Result<(), AllocError> {
     let mut is_counting = false;
     let mut count = 0;
     for byte in pattern.bytes() {
@@ -41,14 +30,47 @@ pub(super) fn expanded(alloc: Global, pattern: &str) -> Result<Vec<u8>, AllocErr
             plain => bytes.push(plain)?,
         }
     }
-    Ok(bytes)
+    Ok(())
 }
 
 /// The bytes that the patterns stand for, one after the other.
 pub(super) fn joined(alloc: Global, patterns: &[&str]) -> Result<Vec<u8>, AllocError> {
     let mut bytes = Vec::new(alloc);
     for pattern in patterns {
-        bytes.extend_from_slice(&expanded(alloc, pattern)?)?;
+        append(&mut bytes, pattern)?;
     }
     Ok(bytes)
+}
+
+/// The lines that the patterns stand for, each ended by LF.
+pub(super) fn lines_of(alloc: Global, patterns: &[&str]) -> Result<Vec<u8>, AllocError> {
+    let mut bytes = Vec::new(alloc);
+    for pattern in patterns {
+        append(&mut bytes, pattern)?;
+        bytes.push(b'\n')?;
+    }
+    Ok(bytes)
+}
+
+/// The same lines from the last to the first.
+pub(super) fn lines_backwards(alloc: Global, patterns: &[&str]) -> Result<Vec<u8>, AllocError> {
+    let mut bytes = Vec::new(alloc);
+    for pattern in patterns.iter().rev() {
+        append(&mut bytes, pattern)?;
+        bytes.push(b'\n')?;
+    }
+    Ok(bytes)
+}
+
+/// The canonical spellings of records, each ended by LF.
+pub(super) fn spelled(alloc: Global, records: &[Record]) -> Result<Vec<u8>, AllocError> {
+    let mut text = Vec::new(alloc);
+    for record in records {
+        let mut line = [0; 228];
+        let len = record.line_len();
+        record.put(&mut line[..len]);
+        text.extend_from_slice(&line[..len])?;
+        text.push(b'\n')?;
+    }
+    Ok(text)
 }

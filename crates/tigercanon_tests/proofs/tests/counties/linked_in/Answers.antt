@@ -2,7 +2,7 @@ use Rattle.std.proofs.Common.{[]}
 use Rattle.tl_county.specs.Limits.{most_records}
 use Rattle.tl_load.proofs.RecordLines.{accepted_within}
 use Rattle.tl_load.specs.Loaded.{all_parts}
-use Rattle.tigercanon_tests.proofs.tests.linking.linked_in.Goals as goal
+use Rattle.tigercanon_tests.proofs.tests.counties.linked_in.Goals as goal
 
 pub link_in-requires-clause-few : goal.link_in-requires-clause-few
 link_in-requires-clause-few c =

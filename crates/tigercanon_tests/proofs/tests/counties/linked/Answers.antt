@@ -2,7 +2,7 @@ use Rattle.std.proofs.Common.{[]}
 use Rattle.tl_county.specs.Limits.{most_records}
 use Rattle.tl_load.proofs.RecordLines.{accepted_within}
 use Rattle.tl_load.specs.Loaded.{all_parts}
-use Rattle.tigercanon_tests.proofs.tests.linking.linked.Goals as goal
+use Rattle.tigercanon_tests.proofs.tests.counties.linked.Goals as goal
 
 pub link-requires-clause-few : goal.link-requires-clause-few
 link-requires-clause-few c =
