@@ -1,6 +1,6 @@
 //! The county of an arrangement, and the canonical county.
 
-ghost use Rattle.std.specs.Prelude.{◌≡◌, ◌<◌, ◌^◌, IfOk, length};
+ghost use Rattle.std.specs.Prelude.{◌≡◌, ◌<◌, ◌^◌, Err, IfOk, MatchResult, Ok, length};
 ghost use Rattle.tl_county.specs.CountyRules.{AllKeysStandIn, polygon_keys, polygons_along};
 ghost use Rattle.tl_county.specs.Renumbering.{Carries};
 ghost use Rattle.tl_county.specs.TheCountyIn.{the_county_in};
@@ -156,6 +156,13 @@ pub fn canonise_chart<C: Chart + Drop>(
     canonise_in_order(alloc, chart, &order)
 }
 
+/// A value with another one, if there is the other.
+fn with<A: Drop, B: Drop>(first: A, second: Result<B, AllocError>) -> Result<(A, B), AllocError>
+    ensures { MatchResult second (λ other. result ≡ Ok (first, other)) (λ error. result ≡ Err error) }
+{
+    Ok((first, second?))
+}
+
 /// The canonical county of an admitted county, and the renaming that carries the one onto the other.
 ///
 /// # Errors
@@ -172,8 +179,8 @@ pub fn canonise<C: Chart + Drop>(
     ensures canonical { IfOk result (λ pair. IsCanonCounty (⟦<CanonCounty<C> as Chart>⟧.county pair.0)) }
 {
     let canon = canonise_chart(alloc, admitted.into_chart())?;
-    let renaming = canon.renaming(alloc)?;
-    Ok((canon, renaming))
+    let renaming = canon.renaming(alloc);
+    with(canon, renaming)
 }
 
 /// The canonical county of an admitted county in an arena, and the renaming that carries the one onto the other.

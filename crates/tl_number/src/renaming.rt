@@ -112,6 +112,21 @@ fn node_pairs(alloc: Global, nodes: &Numbers<u64>) -> Result<Vec<(u64, u64)>, Al
 }
 
 impl<C: Chart> Arranged<C> {
+    /// The pairs of polygons and the pairs of landmarks: each old number with its new one, in the order of the new ones.
+    fn place_pairs(
+        &self,
+        alloc: Global,
+    ) -> Result<(Vec<(PolygonKey, PolygonKey)>, Vec<(u64, u64)>), AllocError>
+        ensures polygons { IfOk result (λ pairs. pairs.0.items ≡
+            (renaming_of (C.county self.now.chart) (arrangement_of (C.county self.now.chart) self.now.steps.items)).polygons) }
+        ensures lands { IfOk result (λ pairs. pairs.1.items ≡
+            (renaming_of (C.county self.now.chart) (arrangement_of (C.county self.now.chart) self.now.steps.items)).lands) }
+    {
+        let polygons = polygon_pairs(alloc, &self.polygons.numbers)?;
+        let lands = land_pairs(alloc, &self.chart, &self.landmarks.places)?;
+        Ok((polygons, lands))
+    }
+
     /// The renaming of the county that this one comes from onto this one: each old number with its new one, in the order
     /// of the new ones, and the old TLIDs of the chains that are turned.
     ///
@@ -124,8 +139,7 @@ impl<C: Chart> Arranged<C> {
     {
         let chains = chain_pairs(alloc, &self.chart, &self.steps)?;
         let names = name_pairs(alloc, &self.names.feats)?;
-        let polygons = polygon_pairs(alloc, &self.polygons.numbers)?;
-        let lands = land_pairs(alloc, &self.chart, &self.landmarks.places)?;
+        let (polygons, lands) = self.place_pairs(alloc)?;
         let nodes = node_pairs(alloc, &self.nodes.numbers)?;
         let turned = turned_chains(alloc, &self.chart, &self.steps)?;
         Ok(Renaming::of_parts(RenamingParts {

@@ -1,6 +1,6 @@
 //! Nodes and polygons in the order in which they are first met along an arrangement, and the chains under these numbers.
 
-ghost use Rattle.std.specs.Prelude.{◌≡◌, ◌<◌, ◌^◌, ℕ, List, Some, IfOk, OnOk, flat_map, length, map, option_map, option_to_list};
+ghost use Rattle.std.specs.Prelude.{◌≡◌, [], ◌<◌, ◌^◌, ℕ, List, Some, IfOk, OnOk, flat_map, length, map, option_map, option_to_list};
 ghost use Rattle.std.specs.Ordering.{nat_cmp};
 ghost use Rattle.tl_county.specs.Entries.{entry_values};
 ghost use Rattle.tl_county.specs.PolygonKeys.{PolygonKey, key_cmp, key_on};
@@ -73,20 +73,56 @@ fn number_side(polygons: &mut Numbers<PolygonKey>, side: Side) -> Result<Side, A
     }
 }
 
+/// Sees the nodes of these ends, and keeps the ends under their numbers.
+fn see_ends(
+    numbers: &mut Numbers<u64>,
+    ends: &mut Vec<Ends>,
+    met: &[Ends],
+) -> Result<(), AllocError>
+    requires first { numbers.old ≡ [] }
+    requires none { ends.old.items ≡ [] }
+    ensures numbers { OnOk result (numbers.new ≡ first_seen nat_cmp (flat_map nodes_at met.now)) }
+    ensures ends { OnOk result (ends.new.items ≡ map (ends_among (first_seen nat_cmp (flat_map nodes_at met.now))) met.now) }
+{
+    for pair in met {
+        let (start, end) = *pair;
+        let new_start = number_node(numbers, start)?;
+        let new_end = number_node(numbers, end)?;
+        ends.push((new_start, new_end))?;
+    }
+    Ok(())
+}
+
 /// The nodes of these ends in the order in which they are first met, and the ends under these numbers.
 fn number_ends(alloc: Global, met: &[Ends]) -> Result<NodeTables, AllocError>
     ensures numbers { IfOk result (λ tables. tables.numbers ≡ first_seen nat_cmp (flat_map nodes_at met.now)) }
     ensures ends { IfOk result (λ tables. tables.ends.items ≡ map (ends_among (first_seen nat_cmp (flat_map nodes_at met.now))) met.now) }
 {
-    let mut numbers = Numbers::new(alloc);
     let mut ends = Vec::with_capacity(alloc, met.len())?;
-    for pair in met {
-        let (start, end) = *pair;
-        let new_start = number_node(&mut numbers, start)?;
-        let new_end = number_node(&mut numbers, end)?;
-        ends.push((new_start, new_end))?;
-    }
+    let mut numbers = Numbers::new(alloc);
+    see_ends(&mut numbers, &mut ends, met)?;
     Ok(NodeTables { numbers, ends })
+}
+
+/// Sees the polygons on these sides, and keeps the sides under their numbers.
+fn see_sides(
+    numbers: &mut Numbers<PolygonKey>,
+    sides: &mut Vec<Sides>,
+    met: &[Sides],
+) -> Result<(), AllocError>
+    requires first { numbers.old ≡ [] }
+    requires none { sides.old.items ≡ [] }
+    requires few { length (first_seen key_cmp (flat_map polygons_at met.now)) < 10 ^ 10 }
+    ensures numbers { OnOk result (numbers.new ≡ first_seen key_cmp (flat_map polygons_at met.now)) }
+    ensures sides { OnOk result (sides.new.items ≡ map (sides_among (first_seen key_cmp (flat_map polygons_at met.now))) met.now) }
+{
+    for pair in met {
+        let (left, right) = *pair;
+        let new_left = number_side(numbers, left)?;
+        let new_right = number_side(numbers, right)?;
+        sides.push((new_left, new_right))?;
+    }
+    Ok(())
 }
 
 /// The polygons on these sides in the order in which they are first met, and the sides under these numbers.
@@ -98,14 +134,9 @@ fn number_sides(
     ensures numbers { IfOk result (λ tables. tables.0 ≡ first_seen key_cmp (flat_map polygons_at met.now)) }
     ensures sides { IfOk result (λ tables. tables.1.items ≡ map (sides_among (first_seen key_cmp (flat_map polygons_at met.now))) met.now) }
 {
-    let mut numbers = Numbers::new(alloc);
     let mut sides = Vec::with_capacity(alloc, met.len())?;
-    for pair in met {
-        let (left, right) = *pair;
-        let new_left = number_side(&mut numbers, left)?;
-        let new_right = number_side(&mut numbers, right)?;
-        sides.push((new_left, new_right))?;
-    }
+    let mut numbers = Numbers::new(alloc);
+    see_sides(&mut numbers, &mut sides, met)?;
     Ok((numbers, sides))
 }
 

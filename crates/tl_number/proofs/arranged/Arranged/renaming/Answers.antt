@@ -1,9 +1,9 @@
-use Rattle.std.proofs.Common.{◌∙◌, ap, map, subst, sym}
+use Rattle.std.proofs.Common.{◌∙◌, ap, subst, sym}
 use Rattle.tl_county.specs.Renumbering.{Carries}
-use Rattle.tl_number.specs.Arrangement.{arranged_tlids, landmarks_in_order, renaming_of, turned_tlids, under_cenid}
+use Rattle.tl_number.specs.Arrangement.{arranged_tlids, renaming_of, turned_tlids}
 use Rattle.tl_number.specs.Growth.{numbered}
 use Rattle.tl_number.specs.Steps.{arrangement_of}
-use Rattle.tl_number.specs.ViewFacts.{AreReadAt, stepped}
+use Rattle.tl_number.specs.ViewFacts.{stepped}
 use Rattle.tl_number.proofs.Carrying.{arrangement_carries}
 use Rattle.tl_number.proofs.ViewChains.{arranges}
 use Rattle.tl_number.proofs.arranged.Arranged.renaming.Goals as goal
@@ -17,12 +17,10 @@ returns-clause-value g c =
     c.of_parts.ensures ∙ (λ i. record {
       chains = (c.in_ok-chains.ensures ∙ ap (λ steps. numbered (arranged_tlids (arrangement_of county steps))) c.deref.ensures.value) i;
       names = (c.in_ok-names.ensures ∙ ap numbered view.names_told.feats) i;
-      polygons = (c.in_ok-polygons.ensures ∙ ap (λ keys. map under_cenid (numbered keys)) view.polygons_told.numbers) i;
-      lands = c.in_ok-lands.ensures (landmarks_in_order county order)
-          (subst (λ places. AreReadAt county.landmarks places (landmarks_in_order county order)) (sym c.deref-2.ensures.value)
-          view.landmarks_told.landmarks) i;
+      polygons = c.in_ok-polygons.ensures.polygons i;
+      lands = c.in_ok-polygons.ensures.lands i;
       nodes = (c.in_ok-nodes.ensures ∙ ap numbered view.nodes_told.numbers) i;
-      turned = (c.in_ok-turned.ensures ∙ ap (λ steps. turned_tlids (arrangement_of county steps)) c.deref-3.ensures.value) i;
+      turned = (c.in_ok-turned.ensures ∙ ap (λ steps. turned_tlids (arrangement_of county steps)) c.deref-2.ensures.value) i;
     })
 
 pub returns-clause-carries : goal.returns-clause-carries

@@ -4,7 +4,7 @@ use Rattle.tl_county.proofs.Keys.{nat_keys}
 use Rattle.tl_number.specs.ByStep.{node_among, nodes_at}
 use Rattle.tl_number.specs.Growth.{first_seen}
 use Rattle.tl_number.proofs.StepPairs.{pair_numbered, pair_seen}
-use Rattle.tl_number.proofs.walks.number_ends.Goals as goal
+use Rattle.tl_number.proofs.walks.see_ends.Goals as goal
 
 pub loop-pair-preserved : goal.loop-pair-preserved
 loop-pair-preserved c =

@@ -3,7 +3,7 @@ use Rattle.std.proofs.Common.{◌≡◌, drop, flat_map, map, take}
 use Rattle.tl_county.specs.PolygonKeys.{key_cmp}
 use Rattle.tl_number.specs.ByStep.{polygons_at, sides_among}
 use Rattle.tl_number.specs.Growth.{first_seen, first_seen_after}
-use Rattle.tl_number.proofs.walks.number_sides.Given as goal
+use Rattle.tl_number.proofs.walks.see_sides.Given as goal
 
 abbrev pub invariant-loop-pair : goal.invariant-loop-pair
 invariant-loop-pair l =

@@ -6,7 +6,7 @@ use Rattle.tl_county.proofs.KeyOrders.{key_keys}
 use Rattle.tl_number.specs.ByStep.{polygons_at, side_among}
 use Rattle.tl_number.specs.Growth.{first_seen}
 use Rattle.tl_number.proofs.StepPairs.{first_few, pair_numbered, pair_seen, second_few}
-use Rattle.tl_number.proofs.walks.number_sides.Goals as goal
+use Rattle.tl_number.proofs.walks.see_sides.Goals as goal
 
 pub number_side-requires : goal.number_side-requires
 number_side-requires c =

@@ -2,7 +2,7 @@
 use Rattle.std.proofs.Common.{◌≡◌, drop, flat_map, map, nat_cmp, take}
 use Rattle.tl_number.specs.ByStep.{ends_among, nodes_at}
 use Rattle.tl_number.specs.Growth.{first_seen, first_seen_after}
-use Rattle.tl_number.proofs.walks.number_ends.Given as goal
+use Rattle.tl_number.proofs.walks.see_ends.Given as goal
 
 abbrev pub invariant-loop-pair : goal.invariant-loop-pair
 invariant-loop-pair l =
