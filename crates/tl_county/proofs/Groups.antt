@@ -115,33 +115,41 @@ pub strict_tail : {K : Type 0} (cmp : K → K → Ordering) (k : K) (ks : List K
 unfolding IsStrictlySortedBy
 strict_tail cmp k ks h = h.1
 
+-- the chain of the groups of its TLID
+pub chain-of_groups : (head : Fields1) (link : FieldsI) (twos shape : List Fields2) (fours named : List Fields4)
+    (sixes ranged : List Fields6) (tlid : ℕ) → tlid ≡ head.tlid
+    → shape ≡ filter (λ x. is_eq (nat_cmp (two_tlid x) tlid)) twos → named ≡ filter (λ x. is_eq (nat_cmp (four_tlid x) tlid)) fours
+    → ranged ≡ filter (λ x. is_eq (nat_cmp (six_tlid x) tlid)) sixes
+    → chain_with head link shape named ranged
+    ≡ chain_with head link (of_number two_tlid head.tlid twos) (of_number four_tlid head.tlid fours) (of_number six_tlid head.tlid sixes)
+chain-of_groups head link twos shape fours named sixes ranged tlid e shape_is named_is ranged_is =
+    λ i. chain_with head link
+    ((shape_is ∙ group-of_number two_tlid tlid twos ∙ ap (λ n. of_number two_tlid n twos) e) i)
+    ((named_is ∙ group-of_number four_tlid tlid fours ∙ ap (λ n. of_number four_tlid n fours) e) i)
+    ((ranged_is ∙ group-of_number six_tlid tlid sixes ∙ ap (λ n. of_number six_tlid n sixes) e) i)
+
 -- a step of the walk along the chains
 module _ (done whole : List Chain) (head : Fields1) (later heads : List Fields1) (link : FieldsI) (others links : List FieldsI)
-    (twos shape : List Fields2) (fours named : List Fields4) (sixes ranged : List Fields6) (tlid : ℕ) where
-  pub chains-step : (chain : Chain) → tlid ≡ head.tlid
-      → shape ≡ filter (λ x. is_eq (nat_cmp (two_tlid x) tlid)) twos → named ≡ filter (λ x. is_eq (nat_cmp (four_tlid x) tlid)) fours
-      → ranged ≡ filter (λ x. is_eq (nat_cmp (six_tlid x) tlid)) sixes
-      → chain ≡ chain_with head link shape named ranged
-      → heads ≡ head ∷ later → links ≡ link ∷ others
+    (twos : List Fields2) (fours : List Fields4) (sixes : List Fields6) where
+  abbrev chain_of_head : Chain
+  chain_of_head = chain_with head link (of_number two_tlid head.tlid twos) (of_number four_tlid head.tlid fours)
+      (of_number six_tlid head.tlid sixes)
+
+  pub chains-step : heads ≡ head ∷ later → links ≡ link ∷ others
       → IsStrictlySortedBy nat_cmp (map one_tlid heads)
       → done ++ chains_along twos fours sixes heads links ≡ whole
-      → (done ++ (chain ∷ [])) ++ chains_along (later_than two_tlid tlid twos) (later_than four_tlid tlid fours)
-      (later_than six_tlid tlid sixes) later others ≡ whole
-  chains-step chain e shape_is named_is ranged_is chain_is heads_are links_are ascending before =
-      one_done done (chain_with head link (of_number two_tlid head.tlid twos) (of_number four_tlid head.tlid fours)
-      (of_number six_tlid head.tlid sixes)) chain
+      → (done ++ (chain_of_head ∷ [])) ++ chains_along (later_than two_tlid head.tlid twos) (later_than four_tlid head.tlid fours)
+      (later_than six_tlid head.tlid sixes) later others ≡ whole
+  chains-step heads_are links_are ascending before =
+      one_done done chain_of_head chain_of_head
       (chains_along twos fours sixes later others)
-      (chains_along (later_than two_tlid tlid twos) (later_than four_tlid tlid fours)
-      (later_than six_tlid tlid sixes) later others) whole
+      (chains_along (later_than two_tlid head.tlid twos) (later_than four_tlid head.tlid fours)
+      (later_than six_tlid head.tlid sixes) later others) whole
       ((λ i. done ++ chains_along twos fours sixes (sym heads_are i) (sym links_are i)) ∙ before)
-      (chain_is ∙ (λ i. chain_with head link
-      ((shape_is ∙ group-of_number two_tlid tlid twos ∙ ap (λ n. of_number two_tlid n twos) e) i)
-      ((named_is ∙ group-of_number four_tlid tlid fours ∙ ap (λ n. of_number four_tlid n fours) e) i)
-      ((ranged_is ∙ group-of_number six_tlid tlid sixes ∙ ap (λ n. of_number six_tlid n sixes) e) i)))
-      (chains_along-later tlid twos fours sixes later others
-      (subst (λ n. AllByRecursion (λ m. nat_cmp n m ≡ Less) (map one_tlid later)) (sym e)
+      refl
+      (chains_along-later head.tlid twos fours sixes later others
       (strict_head nat_cmp head.tlid (map one_tlid later)
-      (subst (λ l. IsStrictlySortedBy nat_cmp (map one_tlid l)) heads_are ascending))))
+      (subst (λ l. IsStrictlySortedBy nat_cmp (map one_tlid l)) heads_are ascending)))
 
 -- a step of the walk along the landmarks
 pub landmarks-step : (done whole : List LandmarkParts) (land : ℕ) (later lands : List ℕ) (sevens group : List Fields7)

@@ -5,6 +5,7 @@ pub mod Marks
 pub mod RepeatedKeys
 pub mod RuleOrder
 pub mod OrderedTables
+pub mod PutInOrder
 pub mod Entries
 pub mod LandmarkParts
 pub mod KeptCounty

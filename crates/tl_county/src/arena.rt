@@ -55,6 +55,36 @@ impl<'a> InArena<'a> {
         }
     }
 
+    /// The points of a chain, of its records of types 1 and 2.
+    fn keep_points(&mut self, head: &Rec1, shape: &[Rec2]) -> Result<&'a [Point], AllocError>
+        ensures { IfOk result (λ points. points.now ≡ head.now.start ∷ (flat_map (λ (r : Fields2). r.points) shape.now ++ (head.now.end ∷ []))) }
+    {
+        self.points.clear();
+        self.points.push(head.start())?;
+        join_points(&mut self.points, shape)?;
+        self.points.push(head.end())?;
+        keep(self.arena, &self.points)
+    }
+
+    /// The FEATs of a chain, of its records of type 4.
+    fn keep_feats(&mut self, names: &[Rec4]) -> Result<&'a [u32], AllocError>
+        ensures value { IfOk result (λ feats. feats.now ≡ flat_map (λ (r : Fields4). r.feats) names.now) }
+        ensures in_range { IfOk result (λ feats. AllByRecursion (IsNumber 8) feats.now) }
+    {
+        self.feats.clear();
+        join_feats(&mut self.feats, names)?;
+        keep(self.arena, &self.feats)
+    }
+
+    /// The further address ranges of a chain, of its records of type 6.
+    fn keep_ranges(&mut self, ranges: &[Rec6]) -> Result<&'a [Ranges], AllocError>
+        ensures { IfOk result (λ kept. kept.now ≡ map (λ (r : Fields6). r.ranges) ranges.now) }
+    {
+        self.ranges.clear();
+        join_ranges(&mut self.ranges, ranges)?;
+        keep(self.arena, &self.ranges)
+    }
+
     /// The lists of the chain of its records of types 1, 2, 4 and 6.
     fn join_lists(
         &mut self,
@@ -68,17 +98,9 @@ impl<'a> InArena<'a> {
         ensures numbers { IfOk result (λ lists. AllByRecursion (IsNumber 8) lists.feats.now) }
         ensures ranges { IfOk result (λ lists. lists.ranges.now ≡ map (λ (r : Fields6). r.ranges) ranges.now) }
     {
-        self.points.clear();
-        self.points.push(head.start())?;
-        join_points(&mut self.points, shape)?;
-        self.points.push(head.end())?;
-        self.feats.clear();
-        join_feats(&mut self.feats, names)?;
-        self.ranges.clear();
-        join_ranges(&mut self.ranges, ranges)?;
-        let points = keep(self.arena, &self.points)?;
-        let feats = keep(self.arena, &self.feats)?;
-        let ranges = keep(self.arena, &self.ranges)?;
+        let points = self.keep_points(head, shape)?;
+        let feats = self.keep_feats(names)?;
+        let ranges = self.keep_ranges(ranges)?;
         Ok(ChainLists {
             points,
             feats,

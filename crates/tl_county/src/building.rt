@@ -3,7 +3,8 @@
 ghost use Rattle.std.specs.Prelude.{◌≡◌, ◌∷◌, [], ◌++◌, List, map, filter, flat_map, option_to_list, OnOk, IfOk};
 ghost use Rattle.std.specs.List.{AllByRecursion};
 ghost use Rattle.std.specs.List.Sorted.{IsStrictlySortedBy};
-ghost use Rattle.std.specs.Ordering.{nat_cmp, on};
+ghost use Rattle.std.specs.Ordering.{is_gt, nat_cmp, on};
+ghost use Rattle.tl_layout.specs.ByType.{of_number};
 ghost use Rattle.tl_layout.specs.Fields.{Fields2, Fields4, Fields5, Fields6, Fields7, FieldsP};
 ghost use Rattle.tl_shape.specs.Chain.{Chain};
 ghost use Rattle.tl_layout.specs.Numbers.{IsNumber, IsNumberOrNone};
@@ -140,6 +141,45 @@ pub(crate) trait ChainBuilder<'t, C: Drop> {
         ensures { IfOk result (λ built. chain built ≡ chain_with head.now link.now shape.now names.now ranges.now) };
 }
 
+/// Records of types 2, 4 and 6, which tell of chains what their records of types 1 and I don't.
+#[derive(Drop)]
+struct Details<'r> {
+    shapes: &'r [Rec2],
+    names: &'r [Rec4],
+    ranges: &'r [Rec6],
+}
+
+/// Adds the chain of its records of types 1 and I and of those of its TLID among the details, which are left with the records
+/// of greater TLIDs.
+fn push_chain<'t, 'r, C: Drop, B: ChainBuilder<'t, C>>(
+    chains: &mut Vec<C>,
+    builder: &mut B,
+    head: &'t Rec1,
+    link: &'t RecI,
+    details: &mut Details<'r>,
+) -> Result<(), AllocError>
+    requires shapes { IsInOrder (on two_tlid nat_cmp) details.old.shapes.now }
+    requires names { IsInOrder (on four_tlid nat_cmp) details.old.names.now }
+    requires ranges { IsInOrder (on six_tlid nat_cmp) details.old.ranges.now }
+    ensures chains { OnOk result (map B.chain chains.new.items ≡ map B.chain chains.old.items ++ (chain_with head.now link.now
+        (of_number two_tlid head.now.tlid details.old.shapes.now)
+        (of_number four_tlid head.now.tlid details.old.names.now)
+        (of_number six_tlid head.now.tlid details.old.ranges.now) ∷ [])) }
+    ensures shapes { OnOk result (details.new.shapes.now ≡ filter (λ r. is_gt (nat_cmp (two_tlid r) head.now.tlid)) details.old.shapes.now) }
+    ensures names { OnOk result (details.new.names.now ≡ filter (λ r. is_gt (nat_cmp (four_tlid r) head.now.tlid)) details.old.names.now) }
+    ensures ranges { OnOk result (details.new.ranges.now ≡ filter (λ r. is_gt (nat_cmp (six_tlid r) head.now.tlid)) details.old.ranges.now) }
+{
+    let tlid = head.tlid();
+    let (shape, shapes) = split_group::<u64, Rec2>(details.shapes, tlid);
+    let (named, names) = split_group::<u64, Rec4>(details.names, tlid);
+    let (ranged, ranges) = split_group::<u64, Rec6>(details.ranges, tlid);
+    details.shapes = shapes;
+    details.names = names;
+    details.ranges = ranges;
+    chains.push(builder.build_chain(head, shape, named, ranged, link)?)?;
+    Ok(())
+}
+
 /// The chains of records of types 1 and I, which stand side by side, each with its records of types 2, 4 and 6.
 pub(crate) fn chains_of_records<'t, C: Drop, B: ChainBuilder<'t, C>>(
     alloc: Global,
@@ -157,23 +197,18 @@ pub(crate) fn chains_of_records<'t, C: Drop, B: ChainBuilder<'t, C>>(
     ensures { IfOk result (λ chains. map B.chain chains.items ≡ chains_along shapes.now names.now ranges.now heads.now links.now) }
 {
     let mut chains = Vec::with_capacity(alloc, heads.len())?;
-    let mut shapes = shapes;
-    let mut names = names;
-    let mut ranges = ranges;
+    let mut details = Details {
+        shapes,
+        names,
+        ranges,
+    };
     let mut links = links;
     let mut heads = heads;
     while let Some((head, later)) = heads.split_first() {
         let Some((link, others)) = links.split_first() else {
             break;
         };
-        let tlid = head.tlid();
-        let (shape, more_shapes) = split_group::<u64, Rec2>(shapes, tlid);
-        let (named, more_names) = split_group::<u64, Rec4>(names, tlid);
-        let (ranged, more_ranges) = split_group::<u64, Rec6>(ranges, tlid);
-        chains.push(builder.build_chain(head, shape, named, ranged, link)?)?;
-        shapes = more_shapes;
-        names = more_names;
-        ranges = more_ranges;
+        push_chain::<C, B>(&mut chains, builder, head, link, &mut details)?;
         links = others;
         heads = later;
     }

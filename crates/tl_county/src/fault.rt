@@ -65,38 +65,126 @@ impl fmt::Display for SequencedType {
 #[derive(Clone, Copy, Debug, PartialEq, Eq, Error)]
 pub enum LinkFault {
     /// Two records of type 1 have one TLID (11).
-    #[error("two records of type 1 have the TLID {tlid}")]
+    #[error(fmt = tell_chain_twice)]
     ChainTwice { tlid: u64 },
     /// A record of type 2, 4, 6 or I has the TLID of no record of type 1 (12).
-    #[error("a record of type {rtype} has the TLID {tlid}, which no record of type 1 has")]
+    #[error(fmt = tell_no_chain)]
     NoChain { rtype: LinkedType, tlid: u64 },
     /// An RTSQ stands twice for a chain in one record type (13).
-    #[error("an RTSQ stands twice among the records of type {rtype} of the TLID {tlid}")]
+    #[error(fmt = tell_sequence_broken)]
     SequenceBroken { rtype: SequencedType, tlid: u64 },
     /// A record of type 1 has no record of type I (14).
-    #[error("the TLID {tlid} has no record of type I")]
+    #[error(fmt = tell_link_missing)]
     LinkMissing { tlid: u64 },
     /// Two records of type I have one TLID (15).
-    #[error("two records of type I have the TLID {tlid}")]
+    #[error(fmt = tell_link_twice)]
     LinkTwice { tlid: u64 },
     /// Two records of type 5 have one FEAT (16).
-    #[error("two records of type 5 have the FEAT {feat}")]
+    #[error(fmt = tell_name_twice)]
     NameTwice { feat: u32 },
     /// A record of type 4 names a FEAT that no record of type 5 has (17).
-    #[error("the chain with the TLID {tlid} names the FEAT {feat}, which no record of type 5 has")]
+    #[error(fmt = tell_name_unknown)]
     NameUnknown { tlid: u64, feat: u32 },
     /// Two records of type P are of one polygon (18).
-    #[error("two records of type P have the POLYID {polyid} under the CENID {cenid:?}")]
+    #[error(fmt = tell_polygon_twice)]
     PolygonTwice { cenid: [u8; 5], polyid: u64 },
     /// A record of type 8 has a LAND that no record of type 7 has (19).
-    #[error("a record of type 8 has the LAND {land}, which no record of type 7 has")]
+    #[error(fmt = tell_land_unknown)]
     LandUnknown { land: u64 },
     /// The polygon of a record of type 8 is on no side and has no record of type P (20).
-    #[error("a record of type 8 has the POLYID {polyid} under the CENID {cenid:?}, which stands on no side and has no record of type P")]
+    #[error(fmt = tell_polygon_unknown)]
     PolygonUnknown { cenid: [u8; 5], polyid: u64 },
     /// There was no memory (9).
     #[error("there is not enough memory")]
     Memory,
+}
+
+/// Tells that a TLID stands twice in type 1.
+fn tell_chain_twice<W: fmt::Write>(tlid: &u64, f: &mut fmt::Formatter<W>) -> fmt::Result {
+    write!(f, "two records of type 1 have the TLID {tlid}")
+}
+
+/// Tells that a record belongs to no chain.
+fn tell_no_chain<W: fmt::Write>(
+    rtype: &LinkedType,
+    tlid: &u64,
+    f: &mut fmt::Formatter<W>,
+) -> fmt::Result {
+    write!(
+        f,
+        "a record of type {rtype} has the TLID {tlid}, which no record of type 1 has"
+    )
+}
+
+/// Tells that an RTSQ stands twice for a chain.
+fn tell_sequence_broken<W: fmt::Write>(
+    rtype: &SequencedType,
+    tlid: &u64,
+    f: &mut fmt::Formatter<W>,
+) -> fmt::Result {
+    write!(
+        f,
+        "an RTSQ stands twice among the records of type {rtype} of the TLID {tlid}"
+    )
+}
+
+/// Tells that a chain has no record of type I.
+fn tell_link_missing<W: fmt::Write>(tlid: &u64, f: &mut fmt::Formatter<W>) -> fmt::Result {
+    write!(f, "the TLID {tlid} has no record of type I")
+}
+
+/// Tells that a TLID stands twice in type I.
+fn tell_link_twice<W: fmt::Write>(tlid: &u64, f: &mut fmt::Formatter<W>) -> fmt::Result {
+    write!(f, "two records of type I have the TLID {tlid}")
+}
+
+/// Tells that a FEAT stands twice in type 5.
+fn tell_name_twice<W: fmt::Write>(feat: &u32, f: &mut fmt::Formatter<W>) -> fmt::Result {
+    write!(f, "two records of type 5 have the FEAT {feat}")
+}
+
+/// Tells that a chain names a FEAT without a name.
+fn tell_name_unknown<W: fmt::Write>(
+    tlid: &u64,
+    feat: &u32,
+    f: &mut fmt::Formatter<W>,
+) -> fmt::Result {
+    write!(
+        f,
+        "the chain with the TLID {tlid} names the FEAT {feat}, which no record of type 5 has"
+    )
+}
+
+/// Tells that a polygon has two records of type P.
+fn tell_polygon_twice<W: fmt::Write>(
+    cenid: &[u8; 5],
+    polyid: &u64,
+    f: &mut fmt::Formatter<W>,
+) -> fmt::Result {
+    write!(
+        f,
+        "two records of type P have the POLYID {polyid} under the CENID {cenid:?}"
+    )
+}
+
+/// Tells that a record of type 8 belongs to no landmark.
+fn tell_land_unknown<W: fmt::Write>(land: &u64, f: &mut fmt::Formatter<W>) -> fmt::Result {
+    write!(
+        f,
+        "a record of type 8 has the LAND {land}, which no record of type 7 has"
+    )
+}
+
+/// Tells that the polygon of a record of type 8 stands nowhere else.
+fn tell_polygon_unknown<W: fmt::Write>(
+    cenid: &[u8; 5],
+    polyid: &u64,
+    f: &mut fmt::Formatter<W>,
+) -> fmt::Result {
+    write!(
+        f,
+        "a record of type 8 has the POLYID {polyid} under the CENID {cenid:?}, which stands on no side and has no record of type P"
+    )
 }
 
 impl From<AllocError> for LinkFault {

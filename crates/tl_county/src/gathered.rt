@@ -1,16 +1,17 @@
 //! Tables put in order, and what linking gathers from them.
 
 ghost use Rattle.std.specs.Prelude.{◌≡◌, ◌++◌, map, flat_map, OnOk, IfOk, IsPermutation};
-ghost use Rattle.tl_county.specs.County.{i_tlid, link_key, one_tlid, p_key, side_keys};
+ghost use Rattle.tl_county.specs.County.{five_feat, i_tlid, link_key, one_tlid, p_key, side_keys};
 ghost use Rattle.std.specs.List.Sorted.{IsStrictlySortedBy};
-ghost use Rattle.std.specs.Ordering.{on};
-ghost use Rattle.tl_county.specs.BodyOrder.{bytes_cmp};
-ghost use Rattle.tl_county.specs.Keyed.{IsLeastPassing, is_unknown};
-ghost use Rattle.tl_county.specs.OrderedTables.{typed_of, AreInOrder, ArePermuted};
+ghost use Rattle.std.specs.Ordering.{nat_cmp, on};
+ghost use Rattle.tl_county.specs.BodyOrder.{bytes_cmp, link_cmp};
+ghost use Rattle.tl_county.specs.Keyed.{IsLeastPassing, is_repeated, is_unknown};
+ghost use Rattle.tl_county.specs.OrderedTables.{landmark_cmp, typed_of, AreInOrder, ArePermuted};
 ghost use Rattle.tl_county.specs.Orders.{IsInOrder, distinct};
 ghost use Rattle.tl_county.specs.PolygonKeys.{key_cmp};
+ghost use Rattle.tl_county.specs.PutInOrder.{IsPutInOrder};
 ghost use Rattle.tl_county.specs.RepeatedKeys.{AreLeastRepeated};
-ghost use Rattle.tl_county.specs.SequenceKeys.{sequence_cmp, uses_of};
+ghost use Rattle.tl_county.specs.SequenceKeys.{sequence_cmp, two_sequence, four_sequence, six_sequence, uses_of};
 
 use crate::keyed::{
     Keyed, keys_of, least_unknown, put_in_order, put_in_order_with_keys,
@@ -52,6 +53,65 @@ pub(crate) struct Ordered {
     pub(crate) repeated: Repeated,
 }
 
+/// Puts the records of types 2, 4, 6 and P in the order of their keys, and answers the least key of each type that stands twice.
+fn order_repeated(
+    shapes: &mut Vec<Rec2>,
+    names: &mut Vec<Rec4>,
+    ranges: &mut Vec<Rec6>,
+    points: &mut Vec<RecP>,
+) -> Result<Repeated, AllocError>
+    ensures shapes { OnOk result (IsPutInOrder (on two_sequence sequence_cmp) shapes.old.items shapes.new.items) }
+    ensures names { OnOk result (IsPutInOrder (on four_sequence sequence_cmp) names.old.items names.new.items) }
+    ensures ranges { OnOk result (IsPutInOrder (on six_sequence sequence_cmp) ranges.old.items ranges.new.items) }
+    ensures points { OnOk result (IsPutInOrder (on p_key key_cmp) points.old.items points.new.items) }
+    ensures type_2 { IfOk result (λ repeated. IsLeastPassing sequence_cmp (is_repeated sequence_cmp (map two_sequence shapes.new.items)) repeated.type_2) }
+    ensures type_4 { IfOk result (λ repeated. IsLeastPassing sequence_cmp (is_repeated sequence_cmp (map four_sequence names.new.items)) repeated.type_4) }
+    ensures type_6 { IfOk result (λ repeated. IsLeastPassing sequence_cmp (is_repeated sequence_cmp (map six_sequence ranges.new.items)) repeated.type_6) }
+    ensures type_p { IfOk result (λ repeated. IsLeastPassing key_cmp (is_repeated key_cmp (map p_key points.new.items)) repeated.type_p) }
+{
+    let type_2 = put_in_order_with_repeated::<(u64, u16), Rec2>(shapes)?;
+    let type_4 = put_in_order_with_repeated::<(u64, u16), Rec4>(names)?;
+    let type_6 = put_in_order_with_repeated::<(u64, u16), Rec6>(ranges)?;
+    let type_p = put_in_order_with_repeated::<PolygonKey, RecP>(points)?;
+    Ok(Repeated {
+        type_2,
+        type_4,
+        type_6,
+        type_p,
+    })
+}
+
+/// Puts the records of types 5, 7 and 8 in the order of their numbers.
+fn order_named(
+    names: &mut Vec<Rec5>,
+    landmarks: &mut Vec<Rec7>,
+    links: &mut Vec<Rec8>,
+) -> Result<(), AllocError>
+    ensures names { OnOk result (IsPutInOrder (on five_feat nat_cmp) names.old.items names.new.items) }
+    ensures landmarks { OnOk result (IsPutInOrder landmark_cmp landmarks.old.items landmarks.new.items) }
+    ensures links { OnOk result (IsPutInOrder link_cmp links.old.items links.new.items) }
+{
+    put_in_order::<u32, Rec5>(names)?;
+    put_in_order::<LandmarkKey, Rec7>(landmarks)?;
+    put_in_order::<LinkKey, Rec8>(links)
+}
+
+/// Puts the records of types 1 and I in the order of their TLIDs, and answers these.
+fn order_chains(
+    alloc: Global,
+    heads: &mut Vec<Rec1>,
+    links: &mut Vec<RecI>,
+) -> Result<Tlids, AllocError>
+    ensures heads { OnOk result (IsPutInOrder (on one_tlid nat_cmp) heads.old.items heads.new.items) }
+    ensures links { OnOk result (IsPutInOrder (on i_tlid nat_cmp) links.old.items links.new.items) }
+    ensures tlids_of_heads { IfOk result (λ tlids. tlids.chains.items ≡ map one_tlid heads.new.items) }
+    ensures tlids_of_links { IfOk result (λ tlids. tlids.links.items ≡ map i_tlid links.new.items) }
+{
+    let chains = put_in_order_with_keys::<u64, Rec1>(alloc, heads)?;
+    let links = put_in_order_with_keys::<u64, RecI>(alloc, links)?;
+    Ok(Tlids { chains, links })
+}
+
 /// Puts each table in the order of its records' numbers. It answers the TLIDs of the records of types 1 and I in that order, and
 /// the keys of types 2, 4, 6 and P that stand twice.
 pub(crate) fn order_tables(alloc: Global, tables: &mut Tables) -> Result<Ordered, AllocError>
@@ -61,22 +121,14 @@ pub(crate) fn order_tables(alloc: Global, tables: &mut Tables) -> Result<Ordered
     ensures links { IfOk result (λ ordered. ordered.tlids.links.items ≡ map i_tlid tables.new.type_i.items) }
     ensures repeated { IfOk result (λ ordered. AreLeastRepeated ordered.repeated (typed_of tables.new)) }
 {
-    let chains = put_in_order_with_keys::<u64, Rec1>(alloc, &mut tables.type_1)?;
-    let type_2 = put_in_order_with_repeated::<(u64, u16), Rec2>(&mut tables.type_2)?;
-    let type_4 = put_in_order_with_repeated::<(u64, u16), Rec4>(&mut tables.type_4)?;
-    put_in_order::<u32, Rec5>(&mut tables.type_5)?;
-    let type_6 = put_in_order_with_repeated::<(u64, u16), Rec6>(&mut tables.type_6)?;
-    put_in_order::<LandmarkKey, Rec7>(&mut tables.type_7)?;
-    put_in_order::<LinkKey, Rec8>(&mut tables.type_8)?;
-    let links = put_in_order_with_keys::<u64, RecI>(alloc, &mut tables.type_i)?;
-    let type_p = put_in_order_with_repeated::<PolygonKey, RecP>(&mut tables.type_p)?;
-    let tlids = Tlids { chains, links };
-    let repeated = Repeated {
-        type_2,
-        type_4,
-        type_6,
-        type_p,
-    };
+    let repeated = order_repeated(
+        &mut tables.type_2,
+        &mut tables.type_4,
+        &mut tables.type_6,
+        &mut tables.type_p,
+    )?;
+    order_named(&mut tables.type_5, &mut tables.type_7, &mut tables.type_8)?;
+    let tlids = order_chains(alloc, &mut tables.type_1, &mut tables.type_i)?;
     Ok(Ordered { tlids, repeated })
 }
 

@@ -17,13 +17,12 @@ ghost use Rattle.tl_county.specs.TheCountyOver.{the_county_over};
 ghost use Rattle.tl_county.specs.declared.fault.LinkFault.TheVariants.{Memory};
 
 use crate::arena::{InArena, names_over};
-use crate::building::nodes_of;
 use crate::chain_over::ChainOver;
 use crate::county_over::CountyOver;
 use crate::fault::LinkFault;
 use crate::gathered::Polygons;
 use crate::lent::{LandmarkIn, NameIn};
-use crate::linking::{build_chains, build_landmarks, build_polygons, settle};
+use crate::linking::{build_parts, settle};
 use crate::record_keys::PolygonKey;
 use crate::table::Table;
 use bumpalo::Bump;
@@ -98,17 +97,20 @@ fn build_county_over<'a>(
     ensures { IfOk result (λ county. the_county_over county ≡ county_of (type_after_type (typed_of tables.now))) }
 {
     let mut builder = InArena::new(alloc, arena);
-    let chains = build_chains::<ChainOver<'a>, InArena<'a>>(alloc, &mut builder, tables, tlids)?;
-    let nodes = nodes_of(alloc, &tables.type_i)?;
-    let names = build_names_over(alloc, tables, feats)?;
-    let polygons = build_polygons(alloc, tables, polygons)?;
-    let landmarks = build_landmarks::<LandmarkIn<'a>, InArena<'a>>(alloc, &mut builder, tables)?;
-    Ok(CountyOver {
-        chains,
-        names,
+    let parts = build_parts::<ChainOver<'a>, LandmarkIn<'a>, InArena<'a>>(
+        alloc,
+        &mut builder,
+        tables,
+        tlids,
         polygons,
-        landmarks,
-        nodes,
+    )?;
+    let names = build_names_over(alloc, tables, feats)?;
+    Ok(CountyOver {
+        chains: parts.chains,
+        names,
+        polygons: parts.polygons,
+        landmarks: parts.landmarks,
+        nodes: parts.nodes,
     })
 }
 

@@ -1,11 +1,12 @@
 //! Linking: records become a county, or the first rule that they break is told.
 
 ghost use Rattle.std.specs.Prelude.{◌≡◌, ◌≢◌, ◌++◌, List, All, map, flat_map, OnOk, IfOk, IfErr};
+ghost use Rattle.std.specs.Ordering.{nat_cmp};
 ghost use Rattle.tl_layout.specs.Limits.{IsWithinLimit};
 ghost use Rattle.tl_layout.specs.RecordText.{FitsRecord};
 ghost use Rattle.tl_layout.specs.declared.record_type.Record.{Record};
 ghost use Rattle.tl_layout.specs.Tables.{HoldsByType};
-ghost use Rattle.tl_county.specs.Building.{county_along, landmarks_along};
+ghost use Rattle.tl_county.specs.Building.{county_along, landmarks_along, link_nodes};
 ghost use Rattle.tl_county.specs.County.{county_of, five_feat, i_tlid, one_tlid, p_key, side_keys};
 ghost use Rattle.tl_county.specs.Limits.{HoldsWithinLimits, IsWithinLimits, most_records};
 ghost use Rattle.tl_county.specs.LinkRules.{IsFirstBrokenRule, IsLinked};
@@ -71,7 +72,7 @@ fn check_rules(
 }
 
 /// The chains of tables in order, under their TLIDs.
-pub(crate) fn build_chains<'t, C: Drop, B: ChainBuilder<'t, C>>(
+fn build_chains<'t, C: Drop, B: ChainBuilder<'t, C>>(
     alloc: Global,
     builder: &mut B,
     tables: &'t Tables,
@@ -110,7 +111,7 @@ fn build_names(
 }
 
 /// The polygons of tables in order, under their keys.
-pub(crate) fn build_polygons(
+fn build_polygons(
     alloc: Global,
     tables: &Tables,
     keys: Vec<PolygonKey>,
@@ -124,7 +125,7 @@ pub(crate) fn build_polygons(
 }
 
 /// The landmarks of tables in order, under their LANDs.
-pub(crate) fn build_landmarks<L: Drop, B: LandmarkBuilder<L>>(
+fn build_landmarks<L: Drop, B: LandmarkBuilder<L>>(
     alloc: Global,
     builder: &mut B,
     tables: &Tables,
@@ -135,6 +136,59 @@ pub(crate) fn build_landmarks<L: Drop, B: LandmarkBuilder<L>>(
     let lands = lands_of(alloc, &tables.type_7)?;
     let landmarks = landmarks_of::<L, B>(alloc, builder, &lands, &tables.type_7, &tables.type_8)?;
     Ok(Table::new(lands, landmarks))
+}
+
+/// The nodes and the polygons of tables in order.
+fn build_nodes_and_polygons(
+    alloc: Global,
+    tables: &Tables,
+    keys: Vec<PolygonKey>,
+) -> Result<(Vec<u64>, Table<PolygonKey, Option<BodyP>>), AllocError>
+    requires tables { AreInOrder (typed_of tables.now) }
+    requires keys { keys.items ≡ distinct key_cmp (flat_map side_keys tables.now.type_i.items ++ map p_key tables.now.type_p.items) }
+    ensures nodes { IfOk result (λ built. built.0.items ≡ distinct nat_cmp (flat_map link_nodes tables.now.type_i.items)) }
+    ensures polygons { IfOk result (λ built. built.1 ≡ (county_along (typed_of tables.now)).polygons) }
+{
+    let nodes = nodes_of(alloc, &tables.type_i)?;
+    let polygons = build_polygons(alloc, tables, keys)?;
+    Ok((nodes, polygons))
+}
+
+/// The chains, nodes, polygons and landmarks of a county, which are all of it but its names.
+#[derive(Drop)]
+pub(crate) struct CountyParts<C: Drop, L: Drop> {
+    pub(crate) chains: Table<u64, C>,
+    pub(crate) nodes: Vec<u64>,
+    pub(crate) polygons: Table<PolygonKey, Option<BodyP>>,
+    pub(crate) landmarks: Table<u64, L>,
+}
+
+/// The parts of the county of linked tables in order, all but the names.
+pub(crate) fn build_parts<'t, C: Drop, L: Drop, B: ChainBuilder<'t, C> + LandmarkBuilder<L>>(
+    alloc: Global,
+    builder: &mut B,
+    tables: &'t Tables,
+    tlids: Vec<u64>,
+    polygons: Vec<PolygonKey>,
+) -> Result<CountyParts<C, L>, AllocError>
+    requires tables { AreInOrder (typed_of tables.now) }
+    requires linked { IsLinked (type_after_type (typed_of tables.now)) }
+    requires tlids { tlids.items ≡ map one_tlid tables.now.type_1.items }
+    requires polygons { polygons.items ≡ distinct key_cmp (flat_map side_keys tables.now.type_i.items ++ map p_key tables.now.type_p.items) }
+    ensures chains { IfOk result (λ parts. map_values B.chain parts.chains ≡ (county_along (typed_of tables.now)).chains) }
+    ensures nodes { IfOk result (λ parts. parts.nodes.items ≡ distinct nat_cmp (flat_map link_nodes tables.now.type_i.items)) }
+    ensures polygons { IfOk result (λ parts. parts.polygons ≡ (county_along (typed_of tables.now)).polygons) }
+    ensures landmarks { IfOk result (λ parts. map_values B.landmark parts.landmarks ≡ landmarks_along (typed_of tables.now)) }
+{
+    let chains = build_chains::<C, B>(alloc, builder, tables, tlids)?;
+    let (nodes, polygons) = build_nodes_and_polygons(alloc, tables, polygons)?;
+    let landmarks = build_landmarks::<L, B>(alloc, builder, tables)?;
+    Ok(CountyParts {
+        chains,
+        nodes,
+        polygons,
+        landmarks,
+    })
 }
 
 /// The county of linked records, their tables in order.
@@ -154,17 +208,14 @@ fn build_county(
     ensures { IfOk result (λ county. the_county county ≡ county_of (type_after_type (typed_of tables.now))) }
 {
     let mut owned = Owned { alloc };
-    let chains = build_chains::<Chain, Owned>(alloc, &mut owned, tables, tlids)?;
-    let nodes = nodes_of(alloc, &tables.type_i)?;
+    let parts = build_parts::<Chain, Landmark, Owned>(alloc, &mut owned, tables, tlids, polygons)?;
     let names = build_names(alloc, tables, feats)?;
-    let polygons = build_polygons(alloc, tables, polygons)?;
-    let landmarks = build_landmarks::<Landmark, Owned>(alloc, &mut owned, tables)?;
     Ok(County {
-        chains,
+        chains: parts.chains,
         names,
-        polygons,
-        landmarks,
-        nodes,
+        polygons: parts.polygons,
+        landmarks: parts.landmarks,
+        nodes: parts.nodes,
     })
 }
 
@@ -202,17 +253,20 @@ fn build_county_in<'a>(
     ensures { IfOk result (λ county. the_county_in county ≡ county_of (type_after_type (typed_of tables.now))) }
 {
     let mut builder = InArena::new(alloc, arena);
-    let chains = build_chains::<ChainIn<'a>, InArena<'a>>(alloc, &mut builder, tables, tlids)?;
-    let nodes = nodes_of(alloc, &tables.type_i)?;
-    let names = build_names_in(alloc, arena, tables, feats)?;
-    let polygons = build_polygons(alloc, tables, polygons)?;
-    let landmarks = build_landmarks::<LandmarkIn<'a>, InArena<'a>>(alloc, &mut builder, tables)?;
-    Ok(CountyIn {
-        chains,
-        names,
+    let parts = build_parts::<ChainIn<'a>, LandmarkIn<'a>, InArena<'a>>(
+        alloc,
+        &mut builder,
+        tables,
+        tlids,
         polygons,
-        landmarks,
-        nodes,
+    )?;
+    let names = build_names_in(alloc, arena, tables, feats)?;
+    Ok(CountyIn {
+        chains: parts.chains,
+        names,
+        polygons: parts.polygons,
+        landmarks: parts.landmarks,
+        nodes: parts.nodes,
     })
 }
 

@@ -9,10 +9,10 @@ use Rattle.tl_county.proofs.building.chains_of_records.Given as goal
 abbrev pub invariant-loop-head : goal.invariant-loop-head
 invariant-loop-head g l = record {
   heads : IsStrictlySortedBy nat_cmp (map one_tlid l.heads);
-  shapes : IsInOrder (on two_tlid nat_cmp) l.shapes;
-  names : IsInOrder (on four_tlid nat_cmp) l.names;
-  ranges : IsInOrder (on six_tlid nat_cmp) l.ranges;
-  done : map g.B.ChainBuilder.chain l.chains.items ++ chains_along l.shapes l.names l.ranges l.heads l.links
+  shapes : IsInOrder (on two_tlid nat_cmp) l.details.shapes.now;
+  names : IsInOrder (on four_tlid nat_cmp) l.details.names.now;
+  ranges : IsInOrder (on six_tlid nat_cmp) l.details.ranges.now;
+  done : map g.B.ChainBuilder.chain l.chains.items ++ chains_along l.details.shapes.now l.details.names.now l.details.ranges.now l.heads l.links
       ≡ chains_along l.fn.shapes l.fn.names l.fn.ranges l.fn.heads l.fn.links;
 }
 
