@@ -38,6 +38,14 @@ fn polygons_on_sides<C: Chart>(alloc: Global, chart: &C) -> Result<KeySet<Polygo
     Ok(polygons)
 }
 
+/// The polygons on the sides of chains, in order and each once.
+fn sides_in_order<C: Chart>(alloc: Global, chart: &C) -> Result<Vec<PolygonKey>, AllocError>
+    ensures { IfOk result (λ keys. keys.items ≡ distinct key_cmp (polygons_along (C.county chart.now).chains)) }
+{
+    let polygons = polygons_on_sides(alloc, chart)?;
+    polygons.in_order(alloc)
+}
+
 /// The key of the polygon at a place, if it has a record of type P.
 fn key_with_body<C: Chart>(chart: &C, place: usize) -> Option<PolygonKey>
     ensures { result ≡ key_if_bodied (slice_get (C.county chart.now).polygons place) }
@@ -73,8 +81,7 @@ fn polygons_with_body<C: Chart>(alloc: Global, chart: &C) -> Result<Vec<PolygonK
 fn least_without_chain<C: Chart>(alloc: Global, chart: &C) -> Result<Option<PolygonKey>, AllocError>
     ensures { IfOk result (IsLeastPassing key_cmp (is_without_chain (C.county chart.now))) }
 {
-    let met = polygons_on_sides(alloc, chart)?;
-    let sides = met.in_order(alloc)?;
+    let sides = sides_in_order(alloc, chart)?;
     let bodies = polygons_with_body(alloc, chart)?;
     Ok(least_unknown::<PolygonKey, PolygonKey, PolygonKey>(&bodies, &sides))
 }

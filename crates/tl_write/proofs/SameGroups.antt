@@ -62,10 +62,10 @@ module _ (a b : County) where
   -- with the same groups of all types their packing is the same
   same_packing : HaveSameChains a b → HaveSameEntries a b → packed a ≡ packed b
   same_packing chains entries = sym (all_groups a)
-      ∙ (λ k. (map One (grouped (chains.chains k)) ++ (map Two (grouped (chains.shape_points k))
-      ++ map Four (grouped (chains.further_names k)))) ++ ((map Five (grouped (entries.names k))
-      ++ (map Six (grouped (chains.ranges k)) ++ map Seven (grouped (entries.landmarks k))))
-      ++ (map Eight (grouped (entries.landmark_links k)) ++ (map I (grouped (chains.links k)) ++ map P (grouped (entries.polygons k))))))
+      ∙ (λ k. (map One (grouped (chains.heads.chains k)) ++ (map Two (grouped (chains.lists.shape_points k))
+      ++ map Four (grouped (chains.lists.further_names k)))) ++ ((map Five (grouped (entries.names k))
+      ++ (map Six (grouped (chains.lists.ranges k)) ++ map Seven (grouped (entries.landmarks.landmarks k))))
+      ++ (map Eight (grouped (entries.landmarks.landmark_links k)) ++ (map I (grouped (chains.heads.links k)) ++ map P (grouped (entries.polygons k))))))
       ∙ all_groups b
 
   -- and with the same packing they are one county, which has all the same groups
@@ -82,18 +82,18 @@ module _ (a b : County) where
 
   same_chains : a ≡ b → HaveSameChains a b
   same_chains e = record {
-    chains = ap type_1_by_chain e;
-    links = ap type_i_by_chain e;
-    shape_points = ap type_2_by_chain e;
-    further_names = ap type_4_by_chain e;
-    ranges = ap type_6_by_chain e;
+    heads = record { chains = ap type_1_by_chain e; links = ap type_i_by_chain e };
+    lists = record {
+      shape_points = ap type_2_by_chain e;
+      further_names = ap type_4_by_chain e;
+      ranges = ap type_6_by_chain e;
+    };
   }
 
   same_entries : a ≡ b → HaveSameEntries a b
   same_entries e = record {
     names = ap type_5_by_name e;
-    landmarks = ap type_7_by_landmark e;
-    landmark_links = ap type_8_together e;
+    landmarks = record { landmarks = ap type_7_by_landmark e; landmark_links = ap type_8_together e };
     polygons = ap type_p_by_number e;
   }
 

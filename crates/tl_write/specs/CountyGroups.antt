@@ -67,19 +67,31 @@ pub record HaveSameCounts (a b : County) : Type 0 where
   pub polygons : length a.polygons ≡ length b.polygons
   pub landmarks : length a.landmarks ≡ length b.landmarks
 
--- the same records of each chain
-pub record HaveSameChains (a b : County) : Type 0 where
+-- the same records of types 1 and I of each chain, which has one of each
+pub record HaveSameHeads (a b : County) : Type 0 where
   pub chains : type_1_by_chain a ≡ type_1_by_chain b
   pub links : type_i_by_chain a ≡ type_i_by_chain b
+
+-- the same records of types 2, 4 and 6 of each chain, which may have any number of them
+pub record HaveSameLists (a b : County) : Type 0 where
   pub shape_points : type_2_by_chain a ≡ type_2_by_chain b
   pub further_names : type_4_by_chain a ≡ type_4_by_chain b
   pub ranges : type_6_by_chain a ≡ type_6_by_chain b
 
+-- the same records of each chain
+pub record HaveSameChains (a b : County) : Type 0 where
+  pub heads : HaveSameHeads a b
+  pub lists : HaveSameLists a b
+
+-- the same records of types 7 and 8 of each landmark
+pub record HaveSameLandmarks (a b : County) : Type 0 where
+  pub landmarks : type_7_by_landmark a ≡ type_7_by_landmark b
+  pub landmark_links : type_8_together a ≡ type_8_together b
+
 -- the same records of each name, each landmark and each polygon
 pub record HaveSameEntries (a b : County) : Type 0 where
   pub names : type_5_by_name a ≡ type_5_by_name b
-  pub landmarks : type_7_by_landmark a ≡ type_7_by_landmark b
-  pub landmark_links : type_8_together a ≡ type_8_together b
+  pub landmarks : HaveSameLandmarks a b
   pub polygons : type_p_by_number a ≡ type_p_by_number b
 
 -- the records of types 1, 2 and 4, type after type

@@ -3,7 +3,7 @@
 ghost use Rattle.std.specs.Bool.{Decides};
 ghost use Rattle.std.specs.Prelude.{◌≡◌, ◌<◌, ◌≤◌, ◌+◌, length, drop, take};
 ghost use Rattle.tl_county.specs.Packing.{packed};
-ghost use Rattle.tl_write.specs.CountyGroups.{HaveSameChains, HaveSameCounts, HaveSameEntries};
+ghost use Rattle.tl_write.specs.CountyGroups.{HaveSameChains, HaveSameCounts, HaveSameEntries, HaveSameHeads, HaveSameLandmarks, HaveSameLists};
 ghost use Rattle.tl_write.specs.Groups.{AreHeads, group_at};
 
 use crate::chain_records::{
@@ -110,14 +110,14 @@ fn have_same_counts<A: Chart, B: Chart>(a: &A, b: &B) -> bool
         && a.landmark_count() == b.landmark_count()
 }
 
-/// Whether two counties have the same records of each chain. The heads are read into rooms that are lent.
-fn have_same_chains<A: Chart, B: Chart>(
+/// Whether two counties have the same records of types 1 and I.
+fn have_same_heads<A: Chart, B: Chart>(
     a: &A,
     b: &B,
     room: &mut HeadRoom,
     other: &mut HeadRoom,
 ) -> bool
-    ensures { Decides result (HaveSameChains (A.county a.now) (B.county b.now)) }
+    ensures { Decides result (HaveSameHeads (A.county a.now) (B.county b.now)) }
 {
     are_same_groups(
         &ChainRecords { chart: a },
@@ -129,7 +129,19 @@ fn have_same_chains<A: Chart, B: Chart>(
         &LinkRecords { chart: b },
         &mut room.link_bodies,
         &mut other.link_bodies,
-    ) && are_same_groups(
+    )
+}
+
+/// Whether two counties have the same records of types 2, 4 and 6.
+fn have_same_lists<A: Chart, B: Chart>(
+    a: &A,
+    b: &B,
+    room: &mut HeadRoom,
+    other: &mut HeadRoom,
+) -> bool
+    ensures { Decides result (HaveSameLists (A.county a.now) (B.county b.now)) }
+{
+    are_same_groups(
         &ShapePointRecords { chart: a },
         &ShapePointRecords { chart: b },
         &mut room.counts,
@@ -142,6 +154,40 @@ fn have_same_chains<A: Chart, B: Chart>(
     ) && are_same_groups(
         &RangeRecords { chart: a },
         &RangeRecords { chart: b },
+        &mut room.counts,
+        &mut other.counts,
+    )
+}
+
+/// Whether two counties have the same records of each chain. The heads are read into rooms that are lent.
+fn have_same_chains<A: Chart, B: Chart>(
+    a: &A,
+    b: &B,
+    room: &mut HeadRoom,
+    other: &mut HeadRoom,
+) -> bool
+    ensures { Decides result (HaveSameChains (A.county a.now) (B.county b.now)) }
+{
+    have_same_heads(a, b, room, other) && have_same_lists(a, b, room, other)
+}
+
+/// Whether two counties have the same records of types 7 and 8.
+fn have_same_landmarks<A: Chart, B: Chart>(
+    a: &CanonCounty<A>,
+    b: &CanonCounty<B>,
+    room: &mut HeadRoom,
+    other: &mut HeadRoom,
+) -> bool
+    ensures { Decides result (HaveSameLandmarks (⟦<CanonCounty<A> as Chart>⟧.county a.now) (⟦<CanonCounty<B> as Chart>⟧.county b.now)) }
+{
+    are_same_groups(
+        &LandmarkRecords { chart: a },
+        &LandmarkRecords { chart: b },
+        &mut room.counts,
+        &mut other.counts,
+    ) && are_same_groups(
+        &LandmarkLinkRecords { county: a },
+        &LandmarkLinkRecords { county: b },
         &mut room.counts,
         &mut other.counts,
     )
@@ -162,22 +208,13 @@ fn have_same_entries<A: Chart, B: Chart>(
         &NameRecords { chart: b },
         &mut room.counts,
         &mut other.counts,
-    ) && are_same_groups(
-        &LandmarkRecords { chart: a },
-        &LandmarkRecords { chart: b },
-        &mut room.counts,
-        &mut other.counts,
-    ) && are_same_groups(
-        &LandmarkLinkRecords { county: a },
-        &LandmarkLinkRecords { county: b },
-        &mut room.counts,
-        &mut other.counts,
-    ) && are_same_groups(
-        &PolygonRecords { county: a },
-        &PolygonRecords { county: b },
-        &mut room.polygons,
-        &mut other.polygons,
-    )
+    ) && have_same_landmarks(a, b, room, other)
+        && are_same_groups(
+            &PolygonRecords { county: a },
+            &PolygonRecords { county: b },
+            &mut room.polygons,
+            &mut other.polygons,
+        )
 }
 
 /// Whether two canonical counties have the same records, and so are one map. It stops at the first record that differs, makes

@@ -1,7 +1,7 @@
-use Rattle.std.proofs.Common.{◌≡◌, ◌&&◌, not, map, sym, ◌∙◌, subst}
+use Rattle.std.proofs.Common.{◌&&◌, not, map, sym, ◌∙◌, subst}
 use Rattle.tl_county.specs.CountyRules.{has_body, polygons_along}
 use Rattle.tl_county.specs.Keyed.{IsLeastPassing, is_unknown}
-use Rattle.tl_county.specs.Orders.{IsInOrder, distinct, stands_in}
+use Rattle.tl_county.specs.Orders.{IsInOrder, stands_in}
 use Rattle.tl_county.specs.PolygonKeys.{key_cmp}
 use Rattle.tl_county.proofs.KeyOrders.{key_keys}
 use Rattle.tl_county.proofs.KeyedLists.{at_lists, least-same}
@@ -17,16 +17,16 @@ least_unknown-requires-clause-items g c =
 
 pub least_unknown-requires-clause-known : goal.least_unknown-requires-clause-known
 least_unknown-requires-clause-known g c =
-    subst (IsInOrder key_cmp) (sym (c.deref-2.ensures.value ∙ c.in_ok-sides.ensures)) (distinct-in_order key_keys c.in_ok-met.met)
+    let county = g.C.Chart.county c.args.chart.now in
+    subst (IsInOrder key_cmp) (sym (c.deref-2.ensures.value ∙ c.in_ok-sides.ensures)) (distinct-in_order key_keys (polygons_along county.chains))
 
 pub returns : goal.returns
 returns g c =
     let county = g.C.Chart.county c.args.chart.now in
     let bodies = c.in_ok-bodies.bodies.items in
     let sides = c.in_ok-sides.sides.items in
-    let met : sides ≡ distinct key_cmp (polygons_along county.chains) = c.in_ok-sides.ensures ∙ c.in_ok-met.ensures in
     least-same key_cmp (is_unknown key_cmp (map (λ k. k) bodies) (map (λ k. k) sides))
     (λ key. has_body county key && not (stands_in key_cmp key (polygons_along county.chains)))
-    (same_unknown county sides met bodies c.in_ok-bodies.ensures) c.least_unknown.result
+    (same_unknown county sides c.in_ok-sides.ensures bodies c.in_ok-bodies.ensures) c.least_unknown.result
     (at_lists (λ xs ys. IsLeastPassing key_cmp (is_unknown key_cmp (map (λ k. k) xs) (map (λ k. k) ys)) c.least_unknown.result)
     c.deref.ensures.value c.deref-2.ensures.value c.least_unknown.ensures)
