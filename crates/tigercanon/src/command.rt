@@ -80,23 +80,21 @@ fn compare<'a>(alloc: Global) -> Result<Command<'a>, AllocError>
     ensures app { IfOk result (λ c. app_of c ≡ over_two_sets (codes "compare")) }
     ensures local { IfOk result (λ c. (out-Command c).has_globals ≡ false) }
 {
-    let first = set(
+    let of_stems = Command::new(alloc, "compare")
+        .about("Say whether two sets are one map: same or different")
+        .arg(stem(alloc))?;
+    let of_one = of_stems.arg(set(
         alloc,
         FIRST,
         FIRST,
         "The file with all records of a county, or by --stem what the names of its files begin with",
-    );
-    let second = set(
+    ))?;
+    of_one.arg(set(
         alloc,
         SECOND,
         SECOND,
         "Another county, named in the same way",
-    );
-    Command::new(alloc, "compare")
-        .about("Say whether two sets are one map: same or different")
-        .arg(stem(alloc))?
-        .arg(first)?
-        .arg(second)
+    ))
 }
 
 /// The program without its subcommands.
@@ -128,23 +126,31 @@ fn with_job<'a>(
     program.subcommand(over_one_set(alloc, name, about)?)
 }
 
-/// What the program understands: its subcommands and their arguments.
-pub(crate) fn command<'a>(alloc: Global) -> Result<Command<'a>, AllocError>
-    ensures { IfOk result (λ c. app_of c ≡ understood) }
+/// The program with the two subcommands that print a set's records.
+fn with_texts<'a>(alloc: Global, program: Command<'a>) -> Result<Command<'a>, AllocError>
+    ensures { IfOk result (λ c. app_of c ≡
+        with_subcommand (with_subcommand (app_of program.entry) (over_one_set (codes "respell")).top) (over_one_set (codes "normalise")).top) }
 {
-    let program = program(alloc)?;
     let program = with_job(
         alloc,
         program,
         "respell",
         "Print the records in canonical spelling, in their order and with their numbers",
     )?;
-    let program = with_job(
+    with_job(
         alloc,
         program,
         "normalise",
         "Print the canonical text of the map that the records say",
-    )?;
+    )
+}
+
+/// What the program understands: its subcommands and their arguments.
+pub(crate) fn command<'a>(alloc: Global) -> Result<Command<'a>, AllocError>
+    ensures { IfOk result (λ c. app_of c ≡ understood) }
+{
+    let program = program(alloc)?;
+    let program = with_texts(alloc, program)?;
     let program = with_job(
         alloc,
         program,

@@ -61,6 +61,29 @@ impl From<AllocError> for CompareFault {
     }
 }
 
+/// The renaming of a canonical county onto the county that it comes from.
+fn renaming_back<C: Chart>(alloc: Global, canon: &CanonCounty<C>) -> Result<Renaming, AllocError>
+    ensures { IfOk result (λ r. Carries r (⟦<CanonCounty<C> as Chart>⟧.county canon.now) (C.county canon.now.view.chart)) }
+{
+    let onto = canon.renaming(alloc)?;
+    onto.inverse()
+}
+
+/// The renaming of the county that a canonical county comes from onto the one that another comes from, which has the same
+/// records.
+fn renaming_between<A: Chart, B: Chart>(
+    alloc: Global,
+    a: &CanonCounty<A>,
+    b: &CanonCounty<B>,
+) -> Result<Renaming, AllocError>
+    requires { packed (⟦<CanonCounty<A> as Chart>⟧.county a.now) ≡ packed (⟦<CanonCounty<B> as Chart>⟧.county b.now) }
+    ensures { IfOk result (λ r. Carries r (A.county a.now.view.chart) (B.county b.now.view.chart)) }
+{
+    let there = a.renaming(alloc)?;
+    let back = renaming_back(alloc, b)?;
+    there.then(&back)
+}
+
 /// The verdict on two canonical counties: where they have the same records it is the renaming of the one that the first comes
 /// from onto the one that the second comes from.
 fn verdict_on<A: Chart, B: Chart>(
@@ -75,16 +98,15 @@ fn verdict_on<A: Chart, B: Chart>(
     if !same_records(a, b) {
         return Ok(Verdict::Different);
     }
-    let there = a.renaming(alloc)?;
-    let back = b.renaming(alloc)?.inverse()?;
-    Ok(Verdict::Same(there.then(&back)?))
+    Ok(Verdict::Same(renaming_between(alloc, a, b)?))
 }
 
 /// The verdict on a set in canonical form and the linked records of another.
-fn compare_linked<'a>(
+fn compare_linked<'a, 'b>(
     alloc: Global,
+    arena: &'b Bump,
     first: &CanonCounty<CountyOver<'a>>,
-    second: &LinkedRecords,
+    second: &'b LinkedRecords,
 ) -> Result<Verdict, CompareFault>
     ensures same { (a b : List (List ℕ)) (r : Renumbering)
         → IsCanonSet a (the_county_over first.now.view.chart) (⟦<CanonCounty<CountyOver<'a>> as Chart>⟧.county first.now)
@@ -97,8 +119,7 @@ fn compare_linked<'a>(
         → result ≢ Err (CompareFault.In set (Fault.Load LoadFault.Device)) }
     ensures succeeds { (a b : List (List ℕ)) → IsLinkedSet b second.now → IfErr result (TellsMemoryOfAccepted a b) }
 {
-    let arena = Bump::new(alloc);
-    match canonise_linked(alloc, &arena, second) {
+    match canonise_linked(alloc, arena, second) {
         Ok(second) => verdict_on(alloc, first, &second),
         Err(fault) => Err(CompareFault::In { set: SECOND, fault }),
     }
@@ -121,13 +142,21 @@ fn compare_with<'a>(
     ensures succeeds { (a : List (List ℕ)) → IfErr result (TellsMemoryOfAccepted a (map (λ p. p.now) b.now)) }
 {
     match link_parts(alloc, b) {
-        Ok(linked) => compare_linked(alloc, first, &linked),
+        Ok(linked) => {
+            let arena = Bump::new(alloc);
+            compare_linked(alloc, &arena, first, &linked)
+        }
         Err(fault) => Err(CompareFault::In { set: SECOND, fault }),
     }
 }
 
 /// The verdict on the linked records of one set and another that is still to be judged.
-fn compare_first(alloc: Global, first: &LinkedRecords, b: &[&[u8]]) -> Result<Verdict, CompareFault>
+fn compare_first<'a>(
+    alloc: Global,
+    arena: &'a Bump,
+    first: &'a LinkedRecords,
+    b: &[&[u8]],
+) -> Result<Verdict, CompareFault>
     ensures same { (a : List (List ℕ)) (r : Renumbering) → IsLinkedSet a first.now
         → result ≡ Ok (Verdict.Same r) → CarriesSet r a (map (λ p. p.now) b.now) }
     ensures different { (a : List (List ℕ)) → IsLinkedSet a first.now
@@ -137,8 +166,7 @@ fn compare_first(alloc: Global, first: &LinkedRecords, b: &[&[u8]]) -> Result<Ve
         → result ≢ Err (CompareFault.In set (Fault.Load LoadFault.Device)) }
     ensures succeeds { (a : List (List ℕ)) → IsLinkedSet a first.now → IfErr result (TellsMemoryOfAccepted a (map (λ p. p.now) b.now)) }
 {
-    let arena = Bump::new(alloc);
-    match canonise_linked(alloc, &arena, first) {
+    match canonise_linked(alloc, arena, first) {
         Ok(first) => compare_with(alloc, &first, b),
         Err(fault) => Err(CompareFault::In { set: FIRST, fault }),
     }
@@ -163,7 +191,10 @@ pub fn compare(alloc: Global, a: &[&[u8]], b: &[&[u8]]) -> Result<Verdict, Compa
     ensures succeeds { IfErr result (TellsMemoryOfAccepted (map (λ p. p.now) a.now) (map (λ p. p.now) b.now)) }
 {
     match link_parts(alloc, a) {
-        Ok(linked) => compare_first(alloc, &linked, b),
+        Ok(linked) => {
+            let arena = Bump::new(alloc);
+            compare_first(alloc, &arena, &linked, b)
+        }
         Err(fault) => Err(CompareFault::In { set: FIRST, fault }),
     }
 }

@@ -21,17 +21,21 @@ use tl_number::CanonCounty;
 use tl_write::write_to;
 
 /// The SHA-256 hash of the text of a canonical county. The text is hashed as it is written, and never held.
-fn hash_of<C: Chart>(county: &CanonCounty<C>) -> [u8; 32]
-    ensures { result ≡ sha256 (text_of (packed (⟦<CanonCounty<C> as Chart>⟧.county county.now))) }
+fn hash_of<C: Chart + Drop>(county: CanonCounty<C>) -> [u8; 32]
+    ensures { result ≡ sha256 (text_of (packed (⟦<CanonCounty<C> as Chart>⟧.county county))) }
 {
     let mut hashing = Hashing::new();
     // To hash never fails.
-    let _ = write_to(county, &mut hashing);
+    let _ = write_to(&county, &mut hashing);
     hashing.hash()
 }
 
-/// The fingerprint of linked records.
-pub(crate) fn fingerprint_linked(alloc: Global, linked: &LinkedRecords) -> Result<[u8; 32], Fault>
+/// The fingerprint of linked records, whose county is put into canonical form over an arena.
+pub(crate) fn fingerprint_linked<'a>(
+    alloc: Global,
+    arena: &'a Bump,
+    linked: &'a LinkedRecords,
+) -> Result<[u8; 32], Fault>
     ensures fingerprint { (parts : List (List ℕ)) → IsLinkedSet parts linked.now → IfOk result (IsFingerprint parts) }
     ensures refused { (records : List Record) → AreLinkedAs linked.now records → IfErr result (RefusesRecords records) }
     ensures set_refused { (parts : List (List ℕ)) → IsLinkedSet parts linked.now → IfErr result (TellsRefusal parts) }
@@ -40,9 +44,8 @@ pub(crate) fn fingerprint_linked(alloc: Global, linked: &LinkedRecords) -> Resul
     ensures succeeds { (parts : List (List ℕ)) (records : List Record) → IsLinkedSet parts linked.now
         → IsAcceptedSet parts records → IfErr result IsWantOfMemory }
 {
-    let arena = Bump::new(alloc);
-    let county = canonise_linked(alloc, &arena, linked)?;
-    Ok(hash_of(&county))
+    let county = canonise_linked(alloc, arena, linked)?;
+    Ok(hash_of(county))
 }
 
 /// The fingerprint of the parts: the SHA-256 hash of the text that [`normalise`](crate::normalise) gives for them. All sets of
@@ -59,5 +62,6 @@ pub fn fingerprint(alloc: Global, parts: &[&[u8]]) -> Result<[u8; 32], Fault>
     ensures succeeds { (records : List Record) → IsAcceptedSet (map (λ p. p.now) parts.now) records → IfErr result IsWantOfMemory }
 {
     let linked = link_parts(alloc, parts)?;
-    fingerprint_linked(alloc, &linked)
+    let arena = Bump::new(alloc);
+    fingerprint_linked(alloc, &arena, &linked)
 }

@@ -22,6 +22,7 @@ use crate::linked::{judge_tables, link_records};
 use crate::normalising::normalise_to;
 use crate::two_sets::compare_sets;
 use crate::writing::{LentOut, write_text};
+use bumpalo::Bump;
 use std::alloc::{AllocError, Global};
 use std::io::{Read, Write};
 use tl_layout::Tables;
@@ -114,7 +115,8 @@ fn fingerprint_files<R: Read + Drop>(
 {
     let tables: Tables = load_files(alloc, files)?;
     let linked = link_records(alloc, tables)?;
-    fingerprint_linked(alloc, &linked)
+    let arena = Bump::new(alloc);
+    fingerprint_linked(alloc, &arena, &linked)
 }
 
 /// The line of these bytes: two lower-case hexadecimal digits a byte, and LF.

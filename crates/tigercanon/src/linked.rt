@@ -61,6 +61,16 @@ fn admit_records<'a>(
     Ok(admit_linked(alloc, arena, linked)?)
 }
 
+/// Whether linked records are accepted.
+fn judge_linked(alloc: Global, linked: &LinkedRecords) -> Result<(), Fault>
+    ensures accepted { OnOk result ((records : List Record) → AreLinkedAs linked.now records → IsAccepted records) }
+    ensures refused { IfErr result (λ fault. (records : List Record) → AreLinkedAs linked.now records → RefusesRecords records fault) }
+{
+    let arena = Bump::new(alloc);
+    admit_records(alloc, &arena, linked)?;
+    Ok(())
+}
+
 /// Whether records in tables within their limits are accepted. The tables' order has no meaning.
 pub(crate) fn judge_tables(alloc: Global, tables: Tables) -> Result<(), Fault>
     requires { HoldsWithinLimits tables }
@@ -68,9 +78,7 @@ pub(crate) fn judge_tables(alloc: Global, tables: Tables) -> Result<(), Fault>
     ensures refused { IfErr result (λ fault. (records : List Record) → HoldsByType tables records → RefusesRecords records fault) }
 {
     let linked = link_records(alloc, tables)?;
-    let arena = Bump::new(alloc);
-    admit_records(alloc, &arena, &linked)?;
-    Ok(())
+    judge_linked(alloc, &linked)
 }
 
 /// The canonical county of linked records, over their tables and an arena, which outlive it.

@@ -25,6 +25,42 @@ use tl_load::{LoadFault, Source};
 use tl_number::CanonCounty;
 use tl_write::{Sink, write_to};
 
+/// The canonical text of linked records, whose county is put into canonical form over an arena.
+fn text_of_linked<'a>(
+    alloc: Global,
+    arena: &'a Bump,
+    linked: &'a LinkedRecords,
+) -> Result<Vec<u8>, Fault>
+    ensures canonical { (parts : List (List ℕ)) → IsLinkedSet parts linked.now → IfOk result (λ text. IsCanonicalText parts text.items) }
+    ensures only { (parts : List (List ℕ)) → IsLinkedSet parts linked.now → IfOk result (λ text. IsOnlyText parts text.items) }
+    ensures refused { (parts : List (List ℕ)) → IsLinkedSet parts linked.now → IfErr result (TellsRefusal parts) }
+    ensures no_device { (parts : List (List ℕ)) → IsLinkedSet parts linked.now → result ≢ Err (Fault.Load LoadFault.Device) }
+    ensures succeeds { (parts : List (List ℕ)) (records : List Record) → IsLinkedSet parts linked.now
+        → IsAcceptedSet parts records → IfErr result IsWantOfMemory }
+{
+    let county = canonise_linked(alloc, arena, linked)?;
+    text_in_memory(alloc, &county)
+}
+
+/// The canonical text of linked records, whose county is put into canonical form over an arena, and the renaming onto it.
+fn text_and_renaming_of_linked<'a>(
+    alloc: Global,
+    arena: &'a Bump,
+    linked: &'a LinkedRecords,
+) -> Result<(Vec<u8>, Renaming), Fault>
+    ensures canonical { (parts : List (List ℕ)) → IsLinkedSet parts linked.now → IfOk result (λ answer. IsCanonicalText parts answer.0.items) }
+    ensures only { (parts : List (List ℕ)) → IsLinkedSet parts linked.now → IfOk result (λ answer. IsOnlyText parts answer.0.items) }
+    ensures carries { (parts : List (List ℕ)) → IsLinkedSet parts linked.now →
+        IfOk result (λ answer. CarriesSet answer.1 parts (answer.0.items ∷ [])) }
+    ensures refused { (parts : List (List ℕ)) → IsLinkedSet parts linked.now → IfErr result (TellsRefusal parts) }
+    ensures no_device { (parts : List (List ℕ)) → IsLinkedSet parts linked.now → result ≢ Err (Fault.Load LoadFault.Device) }
+    ensures succeeds { (parts : List (List ℕ)) (records : List Record) → IsLinkedSet parts linked.now
+        → IsAcceptedSet parts records → IfErr result IsWantOfMemory }
+{
+    let county = canonise_linked(alloc, arena, linked)?;
+    text_and_renaming(alloc, &county)
+}
+
 /// The canonical text of the parts: the records of their map in canonical numbers, order, packing and spelling. All sets of
 /// one map have one canonical text.
 ///
@@ -47,8 +83,7 @@ pub fn normalise(alloc: Global, parts: &[&[u8]]) -> Result<Vec<u8>, Fault>
 {
     let linked = link_parts(alloc, parts)?;
     let arena = Bump::new(alloc);
-    let county = canonise_linked(alloc, &arena, &linked)?;
-    text_in_memory(alloc, &county)
+    text_of_linked(alloc, &arena, &linked)
 }
 
 /// The canonical text of the parts, and the renaming that carries the county of the parts onto that of the text: each old
@@ -69,8 +104,7 @@ pub fn normalise_with_renaming(alloc: Global, parts: &[&[u8]]) -> Result<(Vec<u8
 {
     let linked = link_parts(alloc, parts)?;
     let arena = Bump::new(alloc);
-    let county = canonise_linked(alloc, &arena, &linked)?;
-    text_and_renaming(alloc, &county)
+    text_and_renaming_of_linked(alloc, &arena, &linked)
 }
 
 /// The records of the parts that sources give, linked. Each source is read to its end, in order, and no further than the read
@@ -100,8 +134,14 @@ fn write_county<C: Chart, W: Sink>(county: &CanonCounty<C>, out: &mut W) -> Resu
     Ok(write_to(county, out)?)
 }
 
-/// Writes the canonical text of linked records to the sink, and answers how many bytes that is.
-fn write_linked<W: Sink>(alloc: Global, linked: &LinkedRecords, out: &mut W) -> Result<u64, Fault>
+/// Writes the canonical text of linked records, whose county is put into canonical form over an arena, to the sink, and answers
+/// how many bytes that is.
+fn write_linked<'a, W: Sink>(
+    alloc: Global,
+    arena: &'a Bump,
+    linked: &'a LinkedRecords,
+    out: &mut W,
+) -> Result<u64, Fault>
     requires { W.failed out.old < u64.MAX }
     ensures written { (parts : List (List ℕ)) → IsLinkedSet parts linked.now → IfOk result (λ n.
         (text : List ℕ) × IsCanonicalText parts text × IsOnlyText parts text × GoesOut W.holds out.old out.new text n) }
@@ -113,8 +153,7 @@ fn write_linked<W: Sink>(alloc: Global, linked: &LinkedRecords, out: &mut W) -> 
     ensures silent { IfErr result (λ fault. is_of_sink fault ≡ false → out.new ≡ out.old) }
     ensures no_device { (parts : List (List ℕ)) → IsLinkedSet parts linked.now → result ≢ Err (Fault.Load LoadFault.Device) }
 {
-    let arena = Bump::new(alloc);
-    let county = canonise_linked(alloc, &arena, linked)?;
+    let county = canonise_linked(alloc, arena, linked)?;
     write_county(&county, out)
 }
 
@@ -148,5 +187,6 @@ pub fn normalise_to<R: Source, W: Sink>(
     ensures no_device { result ≢ Err (Fault.Load LoadFault.Device) → NoneFailed R.failed parts.old parts.new }
 {
     let linked = link_sources(alloc, parts)?;
-    write_linked(alloc, &linked, out)
+    let arena = Bump::new(alloc);
+    write_linked(alloc, &arena, &linked, out)
 }

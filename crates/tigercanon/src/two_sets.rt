@@ -54,10 +54,11 @@ fn compare_counties<A: Chart, B: Chart>(first: &CanonCounty<A>, second: &CanonCo
 }
 
 /// Compares a set in canonical form with the linked records of another.
-fn compare_linked<'a>(
+fn compare_linked<'a, 'b>(
     alloc: Global,
+    arena: &'b Bump,
     first: &CanonCounty<CountyOver<'a>>,
-    second: &LinkedRecords,
+    second: &'b LinkedRecords,
 ) -> Result<Ending, Stopped>
     ensures verdict { (a b : List (List ℕ)) →
         IsCanonSet a (the_county_over first.now.view.chart) (⟦<CanonCounty<CountyOver<'a>> as Chart>⟧.county first.now) →
@@ -65,8 +66,7 @@ fn compare_linked<'a>(
     ensures refused { (b : List (List ℕ)) → IsLinkedSet b second.now →
         IfErr result (λ stopped. (stopped.set ≡ Some 2) × TellsRefusal b stopped.fault) }
 {
-    let arena = Bump::new(alloc);
-    match canonise_linked(alloc, &arena, second) {
+    match canonise_linked(alloc, arena, second) {
         Ok(second) => Ok(compare_counties(first, &second)),
         Err(fault) => Err(Stopped {
             fault,
@@ -89,7 +89,10 @@ fn compare_to<'a>(
         IfErr result (λ stopped. (stopped.set ≡ Some 2) × TellsRefusal b stopped.fault) }
 {
     match link_loaded(alloc, second) {
-        Ok(linked) => compare_linked(alloc, first, &linked),
+        Ok(linked) => {
+            let arena = Bump::new(alloc);
+            compare_linked(alloc, &arena, first, &linked)
+        }
         Err(fault) => Err(Stopped {
             fault,
             set: Some(2),
@@ -98,9 +101,10 @@ fn compare_to<'a>(
 }
 
 /// Judges the linked records of one set and what a loader was fed, in this order, and compares them.
-fn compare_first(
+fn compare_first<'a>(
     alloc: Global,
-    first: &LinkedRecords,
+    arena: &'a Bump,
+    first: &'a LinkedRecords,
     second: LoaderInto<Tables>,
 ) -> Result<Ending, Stopped>
     requires { (parts : List (List ℕ)) × WasFedInto HoldsByType record_limit second parts [] }
@@ -110,8 +114,7 @@ fn compare_first(
         IfErr result (λ stopped. ((stopped.set ≡ Some 1) × TellsRefusal a stopped.fault)
         ⊎ ((stopped.set ≡ Some 2) × IsAcceptable a × TellsRefusal b stopped.fault)) }
 {
-    let arena = Bump::new(alloc);
-    match canonise_linked(alloc, &arena, first) {
+    match canonise_linked(alloc, arena, first) {
         Ok(first) => compare_to(alloc, &first, second),
         Err(fault) => Err(Stopped {
             fault,
@@ -135,7 +138,10 @@ fn compare_loaded(
         ⊎ ((stopped.set ≡ Some 2) × IsAcceptable a × TellsRefusal b stopped.fault)) }
 {
     match link_loaded(alloc, first) {
-        Ok(linked) => compare_first(alloc, &linked, second),
+        Ok(linked) => {
+            let arena = Bump::new(alloc);
+            compare_first(alloc, &arena, &linked, second)
+        }
         Err(fault) => Err(Stopped {
             fault,
             set: Some(1),

@@ -14,5 +14,5 @@ returns-in-Ok-clause-refused c = λ a linked. c.compare_with.ensures.refused a (
 pub returns-in-Ok-clause-succeeds : goal.returns-in-Ok-clause-succeeds
 returns-in-Ok-clause-succeeds c = λ a linked. c.compare_with.ensures.succeeds a
 
-pub returns-clause-refused : goal.returns-clause-refused
-returns-clause-refused c = λ a linked. inl (refl, c.in-Err.ensures.set_refused a linked)
+pub returns-in-Err-clause-refused : goal.returns-in-Err-clause-refused
+returns-in-Err-clause-refused c = λ a linked. inl (refl, c.in-Err.ensures.set_refused a linked)

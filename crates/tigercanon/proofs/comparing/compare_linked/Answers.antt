@@ -12,8 +12,8 @@ pub returns-in-Ok-clause-different : goal.returns-in-Ok-clause-different
 returns-in-Ok-clause-different c = λ a b set linked told.
     sets_different a b _ _ _ _ set (c.in-Ok.ensures.canonical b linked) (c.verdict_on.ensures.different told)
 
-pub returns-clause-refused : goal.returns-clause-refused
-returns-clause-refused c = λ a b accepted linked. inr (refl, accepted, c.in-Err.ensures.set_refused b linked)
+pub returns-in-Err-clause-refused : goal.returns-in-Err-clause-refused
+returns-in-Err-clause-refused c = λ a b accepted linked. inr (refl, accepted, c.in-Err.ensures.set_refused b linked)
 
 pub returns-in-Ok-clause-refused : goal.returns-in-Ok-clause-refused
 returns-in-Ok-clause-refused c = λ a b accepted linked.

@@ -1,34 +1,20 @@
-use Rattle.std.proofs.lemmas.Result.{err_from_is_err_and}
-use Rattle.tigercanon.proofs.CanonicalTexts.{carried_of_set, if_ok_both, if_ok_by, memory_is_wanted, memory_refuses}
-use Rattle.tigercanon.proofs.CanonicalTexts.{only_of_set, text_of_set}
 use Rattle.tigercanon.proofs.normalising.normalise_with_renaming.Goals as goal
 
 pub returns-clause-canonical : goal.returns-clause-canonical
-returns-clause-canonical c =
-    let set = c.in_ok-county.ensures.canonical _ c.in_ok-linked.ensures.linked in
-    if_ok_by c.text_and_renaming.result (λ told. text_of_set _ _ _ set told.0.items)
-    c.text_and_renaming.ensures.text
+returns-clause-canonical c = c.text_and_renaming_of_linked.ensures.canonical _ c.in_ok-linked.ensures.linked
 
 pub returns-clause-only : goal.returns-clause-only
-returns-clause-only c =
-    let set = c.in_ok-county.ensures.canonical _ c.in_ok-linked.ensures.linked in
-    if_ok_by c.text_and_renaming.result (λ told. only_of_set _ _ _ set told.0.items)
-    c.text_and_renaming.ensures.text
+returns-clause-only c = c.text_and_renaming_of_linked.ensures.only _ c.in_ok-linked.ensures.linked
 
 pub returns-clause-carries : goal.returns-clause-carries
-returns-clause-carries c =
-    let set = c.in_ok-county.ensures.canonical _ c.in_ok-linked.ensures.linked in
-    if_ok_both c.text_and_renaming.result
-    (λ told text. carried_of_set _ _ _ set c.in_ok-county.county.view.whole.is_county told.0.items text told.1)
-    c.text_and_renaming.ensures.text c.text_and_renaming.ensures.carries
+returns-clause-carries c = c.text_and_renaming_of_linked.ensures.carries _ c.in_ok-linked.ensures.linked
 
 pub returns-clause-refused : goal.returns-clause-refused
-returns-clause-refused c = memory_refuses _ c.text_and_renaming.result c.text_and_renaming.ensures.memory
+returns-clause-refused c = c.text_and_renaming_of_linked.ensures.refused _ c.in_ok-linked.ensures.linked
+
+pub returns-clause-no_device : goal.returns-clause-no_device
+returns-clause-no_device c = c.text_and_renaming_of_linked.ensures.no_device _ c.in_ok-linked.ensures.linked
 
 pub returns-clause-succeeds : goal.returns-clause-succeeds
-returns-clause-succeeds c = λ records accepted. memory_is_wanted c.text_and_renaming.result c.text_and_renaming.ensures.memory
-
-pub returns-in_err-county-clause-refused : goal.returns-in_err-county-clause-refused
-returns-in_err-county-clause-refused c =
-    let p = err_from_is_err_and c.from_residual-in_err-county.result c.from_residual-in_err-county.ensures.1 in
-    rw (p.1, p.2) (c.in_err-county.ensures.set_refused _ c.in_ok-linked.ensures.linked)
+returns-clause-succeeds c = λ records accepted.
+    c.text_and_renaming_of_linked.ensures.succeeds _ records c.in_ok-linked.ensures.linked accepted

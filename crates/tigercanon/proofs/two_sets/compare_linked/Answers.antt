@@ -6,5 +6,5 @@ pub returns-in-Ok-clause-verdict : goal.returns-in-Ok-clause-verdict
 returns-in-Ok-clause-verdict c = λ a b set linked.
     verdict_of_sets a b _ _ _ _ set (c.in-Ok.ensures.canonical b linked) _ c.compare_counties.ensures
 
-pub returns-clause-refused : goal.returns-clause-refused
-returns-clause-refused c = λ b linked. (refl, c.in-Err.ensures.set_refused b linked)
+pub returns-in-Err-clause-refused : goal.returns-in-Err-clause-refused
+returns-in-Err-clause-refused c = λ b linked. (refl, c.in-Err.ensures.set_refused b linked)
