@@ -211,7 +211,16 @@ fn getters_tell_what_the_lines_say(rt: HostRuntime) -> Result<(), Fail> {
     Ok(())
 }
 
-/// The polygons of a set are these, in the order of their first appearance, and these in order.
+/// The set of these polygons.
+fn set_of(alloc: Global, polygons: &[PolygonKey]) -> Result<KeySet<PolygonKey>, AllocError> {
+    let mut set = KeySet::new(alloc);
+    for key in polygons {
+        set.insert(*key)?;
+    }
+    Ok(set)
+}
+
+/// The set has these polygons in the order of their first appearance, and these in order.
 fn has_polygons(
     rt: &impl Abort,
     alloc: Global,
@@ -227,11 +236,8 @@ fn has_polygons(
 /// Each polygon stands in the set once, however often it is met. In order the CENID's bytes come first, and then the POLYID as a
 /// number.
 #[test]
-fn polygons_of_a_set_stand_once_and_in_order(rt: HostRuntime) -> Result<(), Fail> {
+fn polygons_of_a_set_stand_once_and_in_order(rt: HostRuntime) -> Result<(), AllocError> {
     let (b9, a10, a2) = ((*b"B4701", 9), (*b"A4701", 10), (*b"A4701", 2));
-    let mut set = KeySet::new(rt.alloc());
-    for key in [b9, a10, b9, a2, a10] {
-        set.insert(key)?;
-    }
-    Ok(has_polygons(&rt, rt.alloc(), &set, &[b9, a10, a2], &[a2, a10, b9])?)
+    let set = set_of(rt.alloc(), &[b9, a10, b9, a2, a10])?;
+    has_polygons(&rt, rt.alloc(), &set, &[b9, a10, a2], &[a2, a10, b9])
 }

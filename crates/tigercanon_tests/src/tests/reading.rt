@@ -13,6 +13,13 @@ use tl_load::{
     CanonicalText, Counted, Keeper, LoadFault, Loader, LoaderInto, SlowSource, Source, first_bad,
 };
 
+/// The records are those of Main St.
+fn are_the_street(rt: &impl Abort, alloc: Global, records: &[Record]) -> Result<(), Fail> {
+    let text = lines_of(alloc, street_respelt())?;
+    same_items(rt, &spelled(alloc, records)?, &text);
+    Ok(())
+}
+
 /// The source gives Main St.
 fn gives_the_street<S: Source>(rt: &impl Abort, alloc: Global, source: &mut S) -> Result<(), Fail> {
     let mut loader = Loader::new(alloc);
@@ -20,9 +27,7 @@ fn gives_the_street<S: Source>(rt: &impl Abort, alloc: Global, source: &mut S) -
     same(rt, &loader.read_part(source), &Ok(()));
     same(rt, &loader.parts(), &1);
     let records = loader.finish()?;
-    let text = lines_of(alloc, street_respelt())?;
-    same_items(rt, &spelled(alloc, &records)?, &text);
-    Ok(())
+    are_the_street(rt, alloc, &records)
 }
 
 #[test]
