@@ -1,7 +1,7 @@
 //! The three callers of `uses`, on lines of a county.
 
 use super::comparing::{same, same_items};
-use super::sets::{joined, lines_of, spelled};
+use super::sets::{joined, spelled};
 use std::alloc::Global;
 use std::test::Fail;
 use tl_load::LoadFault;
@@ -12,13 +12,18 @@ const LINK: &[u8] = b"8    0100100001        12        30 ";
 
 const LINK_BY_ANOTHER_HAND: &[u8] = b"803060100100001000000001230\r\n";
 
+/// What the pieces spell.
+fn respelt(alloc: Global, pieces: &[&[u8]]) -> Result<Vec<u8>, Fail> {
+    let records = load_pieces(alloc, pieces)?;
+    Ok(spelled(alloc, &records)?)
+}
+
 #[test]
 fn a_file_may_come_in_any_pieces(rt: HostRuntime) -> Result<(), Fail> {
     let alloc = rt.alloc();
     let (front, back) = LINK.split_at(9);
-    let records = load_pieces(alloc, &[front, b"", back])?;
-    let text = lines_of(alloc, &["820060100100001{8}12{8}30{1}"])?;
-    same_items(&rt, &spelled(alloc, &records)?, &text);
+    let text = respelt(alloc, &[front, b"", back])?;
+    same_items(&rt, &text, b"820060100100001        12        30 \n");
     let unknown = LoadFault::UnknownType { part: 1, line: 1 };
     let refused = load_pieces(alloc, &[b"A", b"\n"]).err();
     same(&rt, &refused, &Some(unknown));

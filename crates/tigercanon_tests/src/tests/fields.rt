@@ -1,7 +1,7 @@
 //! What the fields of a loaded record are, each by its name, and that contents are made anew of them.
 
 use super::comparing::{same, same_items};
-use super::sets::lines_of;
+use super::sets::records_of;
 use super::worked_sets::CHAIN;
 use arrayvec::ArrayVec;
 use std::process::Abort;
@@ -9,7 +9,6 @@ use std::test::Fail;
 use tl_layout::{
     Body1, Body5, Body7, BodyI, BodyP, Point, Ranges, Rec2, Rec4, Rec6, Rec8, RecP, Record, Side,
 };
-use tl_load::Loader;
 
 /// Tells the text of a field.
 fn tells(rt: &impl Abort, field: &[u8], text: &[u8]) {
@@ -29,10 +28,16 @@ fn tells_points(rt: &impl Abort, record: &Rec2) {
     same_items(rt, again.points(), record.points());
 }
 
-/// The further names of a record.
+/// The further names of a record, and the same made anew.
 fn tells_feats(rt: &impl Abort, record: &Rec4) {
     same(rt, &(record.tlid(), record.rtsq()), &(500, 1));
     same_items(rt, record.feats(), &[9, 8]);
+    let mut feats = ArrayVec::new();
+    feats.push(9);
+    feats.push(8);
+    let again = Rec4::new(record.tlid(), record.rtsq(), feats);
+    same(rt, &(again.tlid(), again.rtsq()), &(500, 1));
+    same_items(rt, again.feats(), record.feats());
 }
 
 /// The further address ranges of a record, and the same made anew.
@@ -43,19 +48,9 @@ fn tells_further_ranges(rt: &impl Abort, record: &Rec6) {
     same(rt, &again, record);
 }
 
-/// The address ranges of the chain, and the same made anew.
-fn tells_ranges(rt: &impl Abort, ranges: Ranges) {
-    tells(rt, &ranges.fraddl(), b"        101");
-    tells(rt, &ranges.toaddl(), b"        199");
-    tells(rt, &ranges.fraddr(), b"        100");
-    tells(rt, &ranges.toaddr(), b"        198");
-    tells(rt, &ranges.friaddl(), b"0");
-    tells(rt, &ranges.toiaddl(), b"1");
-    tells(rt, &ranges.friaddr(), b" ");
-    tells(rt, &ranges.toiaddr(), b" ");
-    tells(rt, &ranges.zipl(), b"36003");
-    tells(rt, &ranges.zipr(), b"36006");
-    let again = Ranges::new(
+/// The address ranges, made anew of their fields.
+fn ranges_again(ranges: Ranges) -> Ranges {
+    Ranges::new(
         ranges.fraddl(),
         ranges.toaddl(),
         ranges.fraddr(),
@@ -66,39 +61,24 @@ fn tells_ranges(rt: &impl Abort, ranges: Ranges) {
         ranges.toiaddr(),
         ranges.zipl(),
         ranges.zipr(),
-    );
-    same(rt, &again, &ranges);
+    )
 }
 
-/// The fields of the chain's content in front of its ranges, and the codes behind them.
+/// The address ranges of the chain, and the same made anew.
+fn tells_ranges(rt: &impl Abort, ranges: Ranges) {
+    tells(rt, &ranges.fraddl(), b"        101");
+    tells(rt, &ranges.toaddl(), b"        199");
+    tells(rt, &ranges.fraddr(), b"        100");
+    tells(rt, &ranges.toaddr(), b"        198");
+    tells(rt, &ranges.zipl(), b"36003");
+    tells(rt, &ranges.zipr(), b"36006");
+    same(rt, &ranges_again(ranges), &ranges);
+}
+
+/// The chain's name and class, and the tracts and blocks beside it.
 fn tells_chain(rt: &impl Abort, body: &Body1) {
-    tells(rt, &body.side1(), b" ");
-    tells(rt, &body.source(), b"A");
-    tells(rt, &body.fedirp(), b"  ");
     tells(rt, &body.fename(), b"Main                          ");
-    tells(rt, &body.fetype(), b"St  ");
-    tells(rt, &body.fedirs(), b"  ");
     tells(rt, &body.cfcc(), b"A41");
-    tells(rt, &body.aianhhfpl(), b"     ");
-    tells(rt, &body.aianhhfpr(), b"     ");
-    tells(rt, &body.aihhtlil(), b" ");
-    tells(rt, &body.aihhtlir(), b" ");
-    tells(rt, &body.census1(), b" ");
-    tells(rt, &body.census2(), b" ");
-}
-
-/// The geographic entities beside the chain.
-fn tells_entities(rt: &impl Abort, body: &Body1) {
-    tells(rt, &body.statel(), b"01");
-    tells(rt, &body.stater(), b"01");
-    tells(rt, &body.countyl(), b"001");
-    tells(rt, &body.countyr(), b"001");
-    tells(rt, &body.cousubl(), b"     ");
-    tells(rt, &body.cousubr(), b"     ");
-    tells(rt, &body.submcdl(), b"     ");
-    tells(rt, &body.submcdr(), b"     ");
-    tells(rt, &body.placel(), b"     ");
-    tells(rt, &body.placer(), b"     ");
     tells(rt, &body.tractl(), b"020200");
     tells(rt, &body.tractr(), b"020300");
     tells(rt, &body.blockl(), b"1001");
@@ -234,7 +214,6 @@ fn tells_record(rt: &impl Abort, record: &Record) {
         Record::One(record) => {
             tells_ranges(rt, record.body().ranges());
             tells_chain(rt, record.body());
-            tells_entities(rt, record.body());
             same(rt, &again_of(record.body()), record.body());
         }
         Record::Two(record) => tells_points(rt, record),
@@ -271,10 +250,7 @@ fn lines() -> &'static [&'static str] {
 
 #[test]
 fn fields_are_told_by_their_names(rt: HostRuntime) -> Result<(), Fail> {
-    let alloc = rt.alloc();
-    let mut loader = Loader::new(alloc);
-    loader.feed(&lines_of(alloc, lines())?)?;
-    let records = loader.finish()?;
+    let records = records_of(rt.alloc(), lines())?;
     same(&rt, &records.len(), &9);
     for record in &records {
         tells_record(&rt, record);

@@ -126,13 +126,19 @@ fn has_files(
     Ok(())
 }
 
+/// The words are planned as the row says.
+fn is_planned(rt: &impl Abort, alloc: Global, row: &Row) -> Result<(), Fail> {
+    let (line, job, first, second) = *row;
+    let words = words_of(alloc, line)?;
+    let plan = plan(alloc, &words)?;
+    same(rt, &plan.job, &job);
+    Ok(has_files(rt, alloc, &plan, first, second)?)
+}
+
 #[test]
 fn words_are_planned(rt: HostRuntime) -> Result<(), Fail> {
-    let alloc = rt.alloc();
-    for (line, job, first, second) in planned() {
-        let plan = plan(alloc, &words_of(alloc, line)?)?;
-        same(&rt, &plan.job, job);
-        has_files(&rt, alloc, &plan, first, second)?;
+    for row in planned() {
+        is_planned(&rt, rt.alloc(), row)?;
     }
     Ok(())
 }
@@ -197,12 +203,19 @@ fn told(alloc: Global, fault: &PlanFault) -> (u8, Vec<u8>) {
     (status, err.held)
 }
 
+/// The same of words that are no plan.
+fn told_of_words(alloc: Global, line: &[&str]) -> Result<(u8, Vec<u8>), Fail> {
+    let words = words_of(alloc, line)?;
+    match plan(alloc, &words) {
+        Ok(_) => Err("the words are a plan")?,
+        Err(fault) => Ok(told(alloc, &fault)),
+    }
+}
+
 #[test]
 fn other_words_get_the_usage(rt: HostRuntime) -> Result<(), Fail> {
-    let alloc = rt.alloc();
     for (line, beginning) in usage() {
-        let fault = plan(alloc, &words_of(alloc, line)?).err().ok_or("no plan")?;
-        let (status, text) = told(alloc, &fault);
+        let (status, text) = told_of_words(rt.alloc(), line)?;
         same(&rt, &status, &2);
         assert!(rt; text.starts_with(beginning.as_bytes()), "for {line:?}");
     }

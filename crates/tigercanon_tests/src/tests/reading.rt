@@ -13,80 +13,62 @@ use tl_load::{
     CanonicalText, Counted, Keeper, LoadFault, Loader, LoaderInto, SlowSource, Source, first_bad,
 };
 
-#[test]
-fn a_source_that_never_fails_is_read(rt: HostRuntime) -> Result<(), Fail> {
-    let alloc = rt.alloc();
-    let set = lines_of(alloc, street())?;
-    let mut source = SlowSource::new(&set, 100, None);
-    let mut loader = Loader::new(alloc);
-    same(&rt, &loader.read_part(&mut source), &Ok(()));
-    same(&rt, &loader.parts(), &1);
+/// The records are those of Main St.
+fn are_the_street(rt: &impl Abort, alloc: Global, records: &[Record]) -> Result<(), Fail> {
     let text = lines_of(alloc, street_respelt())?;
-    same_items(&rt, &spelled(alloc, &loader.finish()?)?, &text);
+    same_items(rt, &spelled(alloc, records)?, &text);
     Ok(())
 }
 
-/// A source that fails at this read is told as a device, and nothing is tried again: what is read next stands behind the bytes of
-/// the reads before.
-fn is_told_once(rt: &impl Abort, alloc: Global, set: &[u8], failing: u64)
-    requires { 1 ≤ failing }
-{
-    let mut source = SlowSource::new(set, 100, Some(failing));
+/// The source gives Main St.
+fn gives_the_street<S: Source>(rt: &impl Abort, alloc: Global, source: &mut S) -> Result<(), Fail> {
     let mut loader = Loader::new(alloc);
-    let told = Err(LoadFault::Device);
-    same(rt, &loader.read_part(&mut source), &told);
+    assert!(rt; source.failures() < u64::MAX);
+    same(rt, &loader.read_part(source), &Ok(()));
+    same(rt, &loader.parts(), &1);
+    let records = loader.finish()?;
+    are_the_street(rt, alloc, &records)
+}
+
+#[test]
+fn sources_are_read_to_their_end(rt: HostRuntime) -> Result<(), Fail> {
+    let set = lines_of(rt.alloc(), street())?;
+    let mut slow = SlowSource::new(&set, 100, None);
+    gives_the_street(&rt, rt.alloc(), &mut slow)?;
+    let mut counted = Counted::new(set.as_slice());
+    gives_the_street(&rt, rt.alloc(), &mut counted)?;
+    same(&rt, &counted.failures(), &0);
+    Ok(())
+}
+
+/// The source is told as a device that fails, and fails once.
+fn is_told_once(rt: &impl Abort, alloc: Global, source: &mut SlowSource) {
+    let mut loader = Loader::new(alloc);
+    assert!(rt; source.failures() < u64::MAX);
+    same(rt, &loader.read_part(source), &Err(LoadFault::Device));
     same(rt, &source.failures(), &1);
-    assert!(rt; loader.parts() < u64::MAX && source.failures() < u64::MAX);
-    same(rt, &loader.read_part(&mut source), &told);
-    same(rt, &source.failures(), &1);
-    let mut next = [0; 100];
-    let given = source.read(&mut next).unwrap_or(1000);
-    let behind = set
-        .iter()
-        .skip(100_usize.saturating_mul(failing as usize - 1));
-    assert!(rt; given <= 100 && next.iter().take(given).eq(behind.take(100)));
     same(rt, &loader.finish().err(), &Some(LoadFault::Device));
 }
 
+/// The source reads on with these bytes, a hundred of them at most.
+fn reads_on(rt: &impl Abort, source: &mut SlowSource, behind: &[u8]) {
+    let mut next = [0; 100];
+    let count = behind.len().min(100);
+    assert!(rt; source.failures() < u64::MAX);
+    same(rt, &source.read(&mut next), &Ok(count));
+    let given = next.get(..count).unwrap_or_default();
+    same_items(rt, given, behind.get(..count).unwrap_or_default());
+}
+
+/// A read that fails isn't tried again, and what is read next stands behind the bytes of the reads before.
 #[test]
 fn a_failing_read_is_told_once(rt: HostRuntime) -> Result<(), Fail> {
     let set = lines_of(rt.alloc(), street())?;
-    for failing in 1..6 {
-        is_told_once(&rt, rt.alloc(), &set, failing);
+    for (failing, place) in [(1, 0), (2, 100), (3, 200), (4, 300), (5, 400)] {
+        let mut source = SlowSource::new(&set, 100, Some(failing));
+        is_told_once(&rt, rt.alloc(), &mut source);
+        reads_on(&rt, &mut source, set.get(place..).unwrap_or_default());
     }
-    Ok(())
-}
-
-#[test]
-fn a_faulty_line_is_told_before_the_source_is_read_on(rt: HostRuntime) {
-    let mut source = SlowSource::new(&[b'1'; 1000], 230, Some(2));
-    let mut loader = Loader::new(rt.alloc());
-    let long = LoadFault::LineTooLong { part: 1, line: 1 };
-    same(&rt, &loader.read_part(&mut source), &Err(long));
-    same(&rt, &source.failures(), &0);
-}
-
-#[test]
-fn a_source_gives_as_much_as_it_can(rt: HostRuntime) {
-    let mut source = SlowSource::new(b"abcdefghij", 4, None);
-    let mut room = [0; 6];
-    same(&rt, &source.read(&mut room), &Ok(4));
-    same(&rt, &source.read(&mut room[..3]), &Ok(3));
-    same(&rt, &source.read(&mut room), &Ok(3));
-    same(&rt, &source.read(&mut room), &Ok(0));
-    same_items(&rt, &room, b"hijd\0\0");
-}
-
-#[test]
-fn a_reader_is_a_source(rt: HostRuntime) -> Result<(), Fail> {
-    let alloc = rt.alloc();
-    let set = lines_of(alloc, street())?;
-    let mut source = Counted::new(set.as_slice());
-    let mut loader = LoaderInto::<CanonicalText>::new(alloc);
-    same(&rt, &loader.read_part(&mut source), &Ok(()));
-    same(&rt, &source.failures(), &0);
-    let text = lines_of(alloc, street_respelt())?;
-    same_items(&rt, &loader.finish()?.bytes, &text);
     Ok(())
 }
 
@@ -134,84 +116,72 @@ fn mixed_respelt() -> &'static [&'static str] {
     &[LINK_RESPELT, CHAIN_RESPELT, LINK_RESPELT]
 }
 
+/// A canonical text keeps the spellings of the records.
+fn text_keeps(rt: &impl Abort, alloc: Global, set: &[u8], text: &[u8]) -> Result<(), Fail> {
+    let kept = kept::<CanonicalText>(alloc, set, 2)?;
+    same_items(rt, &kept.bytes, text);
+    Ok(())
+}
+
+/// A list keeps the records in their order, and gives them to tables.
+fn list_keeps(rt: &impl Abort, alloc: Global, set: &[u8], text: &[u8]) -> Result<(), Fail> {
+    let kept = kept::<Vec<Record>>(alloc, set, 2)?;
+    same_items(rt, &spelled(alloc, &kept)?, text);
+    has_a_chain_and_two_links(rt, &Tables::of(alloc, kept)?);
+    Ok(())
+}
+
+/// Tables keep them type by type.
+fn tables_keep(rt: &impl Abort, alloc: Global, set: &[u8]) -> Result<(), Fail> {
+    let kept = kept::<Tables>(alloc, set, 2)?;
+    has_a_chain_and_two_links(rt, &kept);
+    Ok(())
+}
+
 #[test]
 fn each_keeper_keeps_the_records(rt: HostRuntime) -> Result<(), Fail> {
-    let alloc = rt.alloc();
-    let set = lines_of(alloc, mixed())?;
-    let text = lines_of(alloc, mixed_respelt())?;
-    same_items(&rt, &kept::<CanonicalText>(alloc, &set, 2)?.bytes, &text);
-    let list = kept::<Vec<Record>>(alloc, &set, 2)?;
-    same_items(&rt, &spelled(alloc, &list)?, &text);
-    has_a_chain_and_two_links(&rt, &kept(alloc, &set, 2)?);
-    has_a_chain_and_two_links(&rt, &Tables::of(alloc, list)?);
-    Ok(())
+    let set = lines_of(rt.alloc(), mixed())?;
+    let text = lines_of(rt.alloc(), mixed_respelt())?;
+    text_keeps(&rt, rt.alloc(), &set, &text)?;
+    list_keeps(&rt, rt.alloc(), &set, &text)?;
+    tables_keep(&rt, rt.alloc(), &set)
 }
 
 const POLYGON: &str = "8{4}0100100001{8}12{8}30";
 
 const LANDMARK: &str = "7{4}01001{8}30 D43";
 
+/// Three records of one type, and two with one of another.
+fn three_of_a_type() -> &'static [&'static str] {
+    &[POLYGON, POLYGON, POLYGON]
+}
+
+fn two_of_a_type() -> &'static [&'static str] {
+    &[POLYGON, POLYGON, LANDMARK]
+}
+
+/// How many records a loader keeps of this part, with two of a type at most.
+fn count_of(alloc: Global, part: &[u8]) -> Result<usize, LoadFault> {
+    let mut loader = Loader::with_limit(alloc, 2);
+    loader.feed(part)?;
+    Ok(loader.finish()?.len())
+}
+
 #[test]
 fn no_type_has_more_records_than_the_limit(rt: HostRuntime) -> Result<(), Fail> {
     let alloc = rt.alloc();
-    let three = lines_of(alloc, &[POLYGON, POLYGON, POLYGON])?;
+    let three = lines_of(alloc, three_of_a_type())?;
     let many = LoadFault::TooManyRecords { rtype: b'8' };
-    same(
-        &rt,
-        &kept::<Vec<Record>>(alloc, &three, 2).err(),
-        &Some(many),
-    );
-    same(&rt, &kept::<Tables>(alloc, &three, 2).err(), &Some(many));
-    same(&rt, &Loader::with_limit(alloc, 2).feed(&three), &Err(many));
-    let two = lines_of(alloc, &[POLYGON, POLYGON, LANDMARK])?;
-    same(&rt, &kept::<Vec<Record>>(alloc, &two, 2)?.len(), &3);
+    same(&rt, &count_of(alloc, &three), &Err(many));
+    let two = lines_of(alloc, two_of_a_type())?;
+    same(&rt, &count_of(alloc, &two), &Ok(3));
     Ok(())
 }
 
-/// Bytes, and whether a line may hold them.
-const BYTES: &[(u8, bool)] = &[
-    (0x00, false),
-    (0x1f, false),
-    (0x7f, false),
-    (0x80, false),
-    (0x9f, false),
-    (0x20, true),
-    (0x7e, true),
-    (0xa0, true),
-    (0xff, true),
-];
-
-/// Those bytes.
-fn bytes() -> &'static [(u8, bool)] {
-    BYTES
-}
-
-/// Each of the bytes at this place of a line of this length is found, or may stand there.
-fn is_found(rt: &impl Abort, len: usize, place: usize)
-    requires len { len ≤ 100 }
-    requires place { place < len }
-{
-    for (byte, is_allowed) in bytes() {
-        let mut line = [b'A'; 100];
-        line[place] = *byte;
-        let wanted = if *is_allowed { None } else { Some(place) };
-        same(rt, &first_bad(&line[..len]), &wanted);
-    }
-}
-
-#[test]
-fn bytes_that_are_not_allowed_are_found(rt: HostRuntime) {
-    same(&rt, &first_bad(b""), &None);
-    for len in 0..=100 {
-        for place in 0..len {
-            is_found(&rt, len, place);
-        }
-    }
-}
-
+/// Of two bytes that no line may hold the left one is found, wherever they stand.
 #[test]
 fn of_two_bytes_the_left_one_is_found(rt: HostRuntime) {
-    for (first, second) in [(31, 32), (32, 64)] {
+    for (first, second) in [(0, 99), (31, 32), (32, 64), (63, 64), (98, 99)] {
         let mut line = [b'A'; 100];
         line[first] = 0x80;
         line[second] = 0;

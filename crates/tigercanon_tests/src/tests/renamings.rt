@@ -7,6 +7,7 @@ use std::alloc::{AllocError, Global};
 use std::process::Abort;
 use std::test::Fail;
 use tl_cert::{PolygonKey, Renaming, check};
+use tl_county::County;
 
 /// The lists of a renaming.
 #[derive(Clone, Copy)]
@@ -171,11 +172,16 @@ fn ways_on() -> &'static [(Lists<'static>, Lists<'static>, Lists<'static>)] {
     WAYS_ON
 }
 
+/// The way back of the renaming of these lists.
+fn back(alloc: Global, lists: &Lists<'_>) -> Result<Renaming, AllocError> {
+    let renaming = renaming(alloc, lists)?;
+    renaming.inverse()
+}
+
 #[test]
 fn renamings_go_back(rt: HostRuntime) -> Result<(), Fail> {
-    for (there, back) in ways_back() {
-        let renaming = renaming(rt.alloc(), there)?;
-        has_lists(&rt, &renaming.inverse()?, back);
+    for (there, wanted) in ways_back() {
+        has_lists(&rt, &back(rt.alloc(), there)?, wanted);
     }
     Ok(())
 }
@@ -366,7 +372,29 @@ fn other_rows() -> &'static [CarriedRow] {
     OTHER_ROWS
 }
 
-/// Whether the renaming of these lists carries the one county onto the other.
+/// Whether the renaming carries the county onto that of these lines.
+fn carries_onto(
+    alloc: Global,
+    here: &County,
+    there: &[&str],
+    renaming: &Renaming,
+) -> Result<bool, Fail> {
+    let there = county_of(alloc, there)?;
+    Ok(check(alloc, here, &there, renaming)?)
+}
+
+/// Whether the renaming carries the county of these lines onto that of the others.
+pub(super) fn carries(
+    alloc: Global,
+    here: &[&str],
+    there: &[&str],
+    renaming: &Renaming,
+) -> Result<bool, Fail> {
+    let here = county_of(alloc, here)?;
+    carries_onto(alloc, &here, there, renaming)
+}
+
+/// Whether the renaming of these lists does.
 fn is_carried(
     alloc: Global,
     here: &[&str],
@@ -374,9 +402,7 @@ fn is_carried(
     lists: &Lists<'_>,
 ) -> Result<bool, Fail> {
     let renaming = renaming(alloc, lists)?;
-    let here = county_of(alloc, here)?;
-    let there = county_of(alloc, there)?;
-    Ok(check(alloc, &here, &there, &renaming)?)
+    carries(alloc, here, there, &renaming)
 }
 
 /// Each renaming carries the one set onto the other, or doesn't, as its row says.

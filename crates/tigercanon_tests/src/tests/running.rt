@@ -74,17 +74,19 @@ fn writer(alloc: Global, step: usize, room: usize) -> SlowWriter {
     }
 }
 
-/// The devices of a job: at most so many bytes a read and a write, and room for so many on standard output.
+/// The devices of a job: at most so many bytes a read and a write, and room for so many on standard output and standard error.
 #[derive(Clone, Copy)]
 struct Devices {
     step: usize,
-    room: usize,
+    out: usize,
+    err: usize,
 }
 
-/// Devices with room for all that is printed.
+/// Devices with room for all that is printed and told.
 const AMPLE: Devices = Devices {
     step: 100,
-    room: 1000,
+    out: 1000,
+    err: 1000,
 };
 
 /// How a job ends: its status, and what stands on standard output and standard error.
@@ -93,6 +95,24 @@ struct Ended {
     status: u8,
     out: Vec<u8>,
     err: Vec<u8>,
+}
+
+/// Runs the job over these opened files.
+fn end_of_opened(
+    alloc: Global,
+    job: Job,
+    first: Vec<Opened<SlowReader<'_>>>,
+    second: Vec<Opened<SlowReader<'_>>>,
+    devices: Devices,
+) -> Ended {
+    let mut out = writer(alloc, devices.step, devices.out);
+    let mut err = writer(alloc, 7, devices.err);
+    let status = run(alloc, job, first, second, &mut out, &mut err);
+    Ended {
+        status,
+        out: out.held,
+        err: err.held,
+    }
 }
 
 /// Runs the job over these files, and counts the reads. A reader gives one byte at least.
@@ -106,14 +126,7 @@ fn end_of(
 ) -> Result<Ended, AllocError> {
     let first = opened(alloc, files, devices.step.max(1), count)?;
     let second = opened(alloc, others, devices.step.max(1), count)?;
-    let mut out = writer(alloc, devices.step, devices.room);
-    let mut err = writer(alloc, 7, 1000);
-    let status = run(alloc, job, first, second, &mut out, &mut err);
-    Ok(Ended {
-        status,
-        out: out.held,
-        err: err.held,
-    })
+    Ok(end_of_opened(alloc, job, first, second, devices))
 }
 
 /// The job ended with this status, this on standard output, and this on standard error.
@@ -132,11 +145,19 @@ type Row = (
     &'static str,
 );
 
+/// The job ends as its row says.
+fn ends(rt: &impl Abort, alloc: Global, row: &Row) -> Result<(), AllocError> {
+    let (job, files, status, out, err) = *row;
+    let out = lines_of(alloc, out)?;
+    let ended = end_of(alloc, job, files, &[], AMPLE, &Cell::new(0))?;
+    is_end(rt, &ended, status, &out, err);
+    Ok(())
+}
+
 /// Each job ends as its row says.
 fn each_ends(rt: &impl Abort, alloc: Global, rows: &[Row]) -> Result<(), AllocError> {
-    for (job, files, status, out, err) in rows {
-        let ended = end_of(alloc, *job, files, &[], AMPLE, &Cell::new(0))?;
-        is_end(rt, &ended, *status, &lines_of(alloc, out)?, err);
+    for row in rows {
+        ends(rt, alloc, row)?;
     }
     Ok(())
 }
@@ -162,25 +183,13 @@ const STEM: &[File] = &[
     CHAIN_FILE, NO_FILE, NO_FILE, NO_FILE, NO_FILE, NO_FILE, NO_FILE, LINK_FILE, NO_FILE,
 ];
 
-/// The same with a faulty file of links, and without the file of chains.
-const FAULTY_STEM: &[File] = &[
-    CHAIN_FILE,
-    NO_FILE,
-    NO_FILE,
-    NO_FILE,
-    NO_FILE,
-    NO_FILE,
-    NO_FILE,
-    UNKNOWN_FILE,
-    NO_FILE,
-];
+/// Files between which one is absent.
+const PARTED: &[File] = &[CHAIN_FILE, NO_FILE, LINK_FILE];
 
-const STEM_WITHOUT_CHAINS: &[File] = &[
-    NO_FILE, NO_FILE, NO_FILE, NO_FILE, NO_FILE, NO_FILE, NO_FILE, LINK_FILE, NO_FILE,
-];
-
+/// Absent files are empty parts, and no files are no records.
 const DONE: &[Row] = &[
     (Job::Respell, &[], 0, &[], ""),
+    (Job::Respell, STEM, 0, RESPELT, ""),
     (
         Job::Respell,
         &[STREET_FILE, NO_FILE, File::Whole(&[])],
@@ -188,26 +197,12 @@ const DONE: &[Row] = &[
         RESPELT,
         "",
     ),
-    (Job::Respell, STEM, 0, RESPELT, ""),
-    (
-        Job::Normalise,
-        &[CHAIN_FILE, NO_FILE, LINK_FILE],
-        0,
-        MAIN_TEXT,
-        "",
-    ),
-    (Job::Normalise, STEM, 0, MAIN_TEXT, ""),
+    (Job::Normalise, &[], 0, &[], ""),
+    (Job::Normalise, PARTED, 0, MAIN_TEXT, ""),
     (Job::Check, &[], 0, &["accepted"], ""),
-    (Job::Check, STEM, 0, &["accepted"], ""),
+    (Job::Check, PARTED, 0, &["accepted"], ""),
     (Job::Fingerprint, &[], 0, &[NOTHING], ""),
-    (Job::Fingerprint, STEM, 0, &[MAIN_STREET], ""),
-    (
-        Job::Fingerprint,
-        &[CHAIN_FILE, NO_FILE, LINK_FILE],
-        0,
-        &[MAIN_STREET],
-        "",
-    ),
+    (Job::Fingerprint, PARTED, 0, &[MAIN_STREET], ""),
 ];
 
 /// Those rows.
@@ -220,120 +215,14 @@ fn absent_files_are_empty_parts(rt: HostRuntime) -> Result<(), Fail> {
     Ok(each_ends(&rt, rt.alloc(), done())?)
 }
 
-const TWICE: &str = "refused 11 ChainTwice 500\n";
-
-const UNKNOWN_1_1: &str = "refused 1 UnknownType 1 1\n";
-
-const UNKNOWN_8_1: &str = "refused 1 UnknownType 8 1\n";
-
-const REFUSED: &[Row] = &[
-    (
-        Job::Normalise,
-        &[File::Whole(&[CHAIN, "\n", CHAIN, "\n", LINK])],
-        3,
-        &[],
-        TWICE,
-    ),
-    (
-        Job::Check,
-        &[File::Whole(&[CHAIN, "\n", CHAIN])],
-        3,
-        &[],
-        TWICE,
-    ),
-    (Job::Fingerprint, &[STREET_FILE, STREET_FILE], 3, &[], TWICE),
-    // Normalising reads no further than the faulty line.
-    (
-        Job::Normalise,
-        &[File::Whole(&["A\n"]), File::Failing(STREET, 0)],
-        3,
-        &[],
-        UNKNOWN_1_1,
-    ),
-    (Job::Respell, FAULTY_STEM, 3, &[], UNKNOWN_8_1),
-    (Job::Normalise, FAULTY_STEM, 3, &[], UNKNOWN_8_1),
-    (Job::Check, FAULTY_STEM, 3, &[], UNKNOWN_8_1),
-    (Job::Fingerprint, FAULTY_STEM, 3, &[], UNKNOWN_8_1),
-    (
-        Job::Respell,
-        &[STREET_FILE, File::Whole(&[LINK, "\nA\nA"]), UNKNOWN_FILE],
-        3,
-        &[],
-        "refused 1 UnknownType 2 2\n",
-    ),
-    (
-        Job::Respell,
-        &[STREET_FILE, File::Whole(&[LINK, "\nI{127}\nA"])],
-        3,
-        &[],
-        "refused 2 LineTooLong 2 2\n",
-    ),
-    (
-        Job::Respell,
-        &[STREET_FILE, File::Whole(&[LINK, "\n1 ^{7}12 4"])],
-        3,
-        &[],
-        "refused 3 BadByte 2 2 3\n",
-    ),
-    (
-        Job::Respell,
-        &[STREET_FILE, File::Whole(&[LINK, "\n1{9}12 4"])],
-        3,
-        &[],
-        "refused 4 BadNumber 2 2 6\n",
-    ),
-    (
-        Job::Respell,
-        &[
-            STREET_FILE,
-            File::Whole(&[LINK, "\n1{13}1{175}+000000000+00000000"]),
-        ],
-        3,
-        &[],
-        "refused 5 BadPoint 2 2 191\n",
-    ),
-    (
-        Job::Respell,
-        &[STREET_FILE, File::Whole(&[LINK, "\n4{13}1{2}1{8}{7}8"])],
-        3,
-        &[],
-        "refused 6 GapInRecord 2 2 27\n",
-    ),
-    (
-        Job::Check,
-        &[STREET_FILE, File::Whole(&["4{11}500{2}1{7}8"])],
-        3,
-        &[],
-        "refused 17 NameUnknown 500 8\n",
-    ),
-];
-
-/// Those rows.
-fn refused() -> &'static [Row] {
-    REFUSED
-}
-
-#[test]
-fn a_refused_set_prints_nothing(rt: HostRuntime) -> Result<(), Fail> {
-    Ok(each_ends(&rt, rt.alloc(), refused())?)
-}
-
 const DEVICE: &str = "refused 8 Device\n";
 
-/// What can't be opened is told before anything is read, and what can't be read before what is wrong.
+/// What can't be opened is told before anything is read, and what can't be read before what is wrong. Normalising alone reads
+/// no further than the faulty line.
 const BROKEN: &[Row] = &[
     (Job::Respell, &[File::Failing(STREET, 0)], 4, &[], DEVICE),
     (Job::Respell, &[File::Failing(STREET, 2)], 4, &[], DEVICE),
     (Job::Respell, &[File::Failing(STREET, 4)], 4, &[], DEVICE),
-    (
-        Job::Respell,
-        &[File::Failing(&["A\n", CHAIN, "\n", LINK], 2)],
-        4,
-        &[],
-        DEVICE,
-    ),
-    (Job::Respell, &[NO_FILE], 4, &[], DEVICE),
-    (Job::Respell, &[File::Failed], 4, &[], DEVICE),
     (Job::Respell, &[UNKNOWN_FILE, File::Failed], 4, &[], DEVICE),
     (
         Job::Respell,
@@ -342,11 +231,15 @@ const BROKEN: &[Row] = &[
         &[],
         DEVICE,
     ),
-    (Job::Respell, STEM_WITHOUT_CHAINS, 4, &[], DEVICE),
     (Job::Normalise, &[File::Failing(STREET, 2)], 4, &[], DEVICE),
-    (Job::Normalise, &[NO_FILE], 4, &[], DEVICE),
     (Job::Normalise, &[STREET_FILE, File::Failed], 4, &[], DEVICE),
-    (Job::Normalise, STEM_WITHOUT_CHAINS, 4, &[], DEVICE),
+    (
+        Job::Normalise,
+        &[File::Whole(&["A\n"]), File::Failing(STREET, 0)],
+        3,
+        &[],
+        "refused 1 UnknownType 1 1\n",
+    ),
     (
         Job::Check,
         &[File::Failing(&[CHAIN, "\n", CHAIN], 2)],
@@ -354,23 +247,7 @@ const BROKEN: &[Row] = &[
         &[],
         DEVICE,
     ),
-    (Job::Check, &[NO_FILE], 4, &[], DEVICE),
-    (
-        Job::Check,
-        &[File::Whole(&[CHAIN, "\n", CHAIN]), File::Failed],
-        4,
-        &[],
-        DEVICE,
-    ),
-    (Job::Check, STEM_WITHOUT_CHAINS, 4, &[], DEVICE),
-    (
-        Job::Fingerprint,
-        &[File::Failing(STREET, 2)],
-        4,
-        &[],
-        DEVICE,
-    ),
-    (Job::Fingerprint, &[NO_FILE, STREET_FILE], 4, &[], DEVICE),
+    (Job::Check, &[NO_FILE, STREET_FILE], 4, &[], DEVICE),
     (
         Job::Fingerprint,
         &[UNKNOWN_FILE, File::Failing(STREET, 0)],
@@ -378,7 +255,6 @@ const BROKEN: &[Row] = &[
         &[],
         DEVICE,
     ),
-    (Job::Fingerprint, STEM_WITHOUT_CHAINS, 4, &[], DEVICE),
 ];
 
 /// Those rows.
@@ -402,14 +278,9 @@ const OTHER_FILE: File = File::Whole(&[OTHER_CHAIN, "\n", TURNED_LINK, "\n"]);
 /// The files of two sets, room on standard output, the status, standard output, and standard error.
 type TwoSets = ([&'static [File]; 2], usize, u8, &'static str, &'static str);
 
+/// All files are opened before one is read, and both sets are read before one is judged.
 const COMPARED: &[TwoSets] = &[
-    (
-        [&[CHAIN_FILE, NO_FILE, LINK_FILE], &[TURNED_FILE]],
-        5,
-        0,
-        "same\n",
-        "",
-    ),
+    ([PARTED, &[TURNED_FILE]], 5, 0, "same\n", ""),
     ([STEM, &[OTHER_FILE]], 10, 1, "different\n", ""),
     (
         [&[STREET_FILE], &[TURNED_FILE]],
@@ -418,22 +289,6 @@ const COMPARED: &[TwoSets] = &[
         "same",
         "refused 10 WriteFault 4\n",
     ),
-    (
-        [&[STREET_FILE], &[OTHER_FILE]],
-        9,
-        4,
-        "different",
-        "refused 10 WriteFault 9\n",
-    ),
-    (
-        [&[STREET_FILE], &[UNKNOWN_FILE]],
-        100,
-        3,
-        "",
-        "refused 1 UnknownType 1 1 in set 2\n",
-    ),
-    // All files are opened before one is read, and both sets are read before one is judged.
-    ([&[STREET_FILE], &[NO_FILE]], 100, 4, "", DEVICE_2),
     (
         [&[File::Failing(STREET, 0)], &[File::Failed]],
         100,
@@ -456,13 +311,6 @@ const COMPARED: &[TwoSets] = &[
         "",
         DEVICE_1,
     ),
-    (
-        [&[UNKNOWN_FILE], &[UNKNOWN_FILE]],
-        100,
-        3,
-        "",
-        "refused 1 UnknownType 1 1 in set 1\n",
-    ),
 ];
 
 /// Those rows.
@@ -470,35 +318,86 @@ fn compared() -> &'static [TwoSets] {
     COMPARED
 }
 
+/// The comparison ends as its row says.
+fn is_compared(rt: &impl Abort, alloc: Global, row: &TwoSets) -> Result<(), AllocError> {
+    let (files, room, status, out, err) = *row;
+    let devices = Devices { out: room, ..AMPLE };
+    let count = Cell::new(0);
+    let ended = end_of(alloc, Job::Compare, files[0], files[1], devices, &count)?;
+    is_end(rt, &ended, status, out.as_bytes(), err);
+    Ok(())
+}
+
 #[test]
 fn of_two_sets_the_first_fault_is_told(rt: HostRuntime) -> Result<(), Fail> {
-    for (files, room, status, out, err) in compared() {
-        let devices = Devices {
-            step: 100,
-            room: *room,
-        };
-        let ended = end_of(rt.alloc(), Job::Compare, files[0], files[1], devices, &Cell::new(0))?;
-        is_end(&rt, &ended, *status, out.as_bytes(), err);
+    for row in compared() {
+        is_compared(&rt, rt.alloc(), row)?;
     }
     Ok(())
 }
 
-/// A job over Main St, the most bytes a write, the room for them, how many go out, and the lines that would.
-type Full = (Job, usize, usize, usize, &'static [&'static str]);
+/// A job over Main St, the most bytes a write, the room for them, the lines that would go out, how many bytes of them do, and
+/// what is told.
+type Full = (
+    Job,
+    usize,
+    usize,
+    &'static [&'static str],
+    usize,
+    &'static str,
+);
 
 const FULL: &[Full] = &[
-    (Job::Respell, 7, 0, 0, RESPELT),
-    (Job::Respell, 7, 6, 6, RESPELT),
-    (Job::Respell, 7, 14, 14, RESPELT),
-    (Job::Respell, 7, 300, 300, RESPELT),
-    (Job::Respell, 1000, 300, 300, RESPELT),
-    (Job::Respell, 7, 356, 356, RESPELT),
-    (Job::Respell, 0, 1000, 0, RESPELT),
-    (Job::Normalise, 7, 300, 300, MAIN_TEXT),
-    (Job::Check, 4, 0, 0, &["accepted"]),
-    (Job::Check, 4, 3, 3, &["accepted"]),
-    (Job::Check, 4, 8, 8, &["accepted"]),
-    (Job::Fingerprint, 7, 64, 64, &[MAIN_STREET]),
+    (Job::Respell, 7, 0, RESPELT, 0, "refused 10 WriteFault 0\n"),
+    (Job::Respell, 7, 6, RESPELT, 6, "refused 10 WriteFault 6\n"),
+    (
+        Job::Respell,
+        7,
+        300,
+        RESPELT,
+        300,
+        "refused 10 WriteFault 300\n",
+    ),
+    (
+        Job::Respell,
+        1000,
+        356,
+        RESPELT,
+        356,
+        "refused 10 WriteFault 356\n",
+    ),
+    (
+        Job::Respell,
+        0,
+        1000,
+        RESPELT,
+        0,
+        "refused 10 WriteFault 0\n",
+    ),
+    (
+        Job::Normalise,
+        7,
+        300,
+        MAIN_TEXT,
+        300,
+        "refused 10 WriteFault 300\n",
+    ),
+    (
+        Job::Check,
+        4,
+        8,
+        &["accepted"],
+        8,
+        "refused 10 WriteFault 8\n",
+    ),
+    (
+        Job::Fingerprint,
+        7,
+        64,
+        &[MAIN_STREET],
+        64,
+        "refused 10 WriteFault 64\n",
+    ),
 ];
 
 /// Those rows.
@@ -508,18 +407,16 @@ fn full() -> &'static [Full] {
 
 /// The job ends with as much of the text as its row says, and tells so.
 fn is_cut(rt: &impl Abort, alloc: Global, row: &Full) -> Result<(), AllocError> {
-    let (job, step, room, written, text) = *row;
-    let devices = Devices { step, room };
-    let ended = end_of(alloc, job, one_street(), &[], devices, &Cell::new(0))?;
-    let told = format!(in alloc; "refused 10 WriteFault {written}\n")?;
+    let (job, step, room, text, written, told) = *row;
     let whole = lines_of(alloc, text)?;
-    is_end(
-        rt,
-        &ended,
-        4,
-        whole.get(..written).unwrap_or_default(),
-        &told,
-    );
+    let devices = Devices {
+        step,
+        out: room,
+        ..AMPLE
+    };
+    let ended = end_of(alloc, job, one_street(), &[], devices, &Cell::new(0))?;
+    let out = whole.get(..written).unwrap_or_default();
+    is_end(rt, &ended, 4, out, told);
     Ok(())
 }
 
@@ -536,27 +433,24 @@ fn a_full_output_holds_a_beginning(rt: HostRuntime) -> Result<(), Fail> {
     Ok(())
 }
 
+/// The text is two hundred times the street.
+fn is_repeated(rt: &impl Abort, text: &[u8], street: &[u8]) {
+    same(rt, &text.len(), &71_400);
+    same(rt, &text.chunks(357).all(|lines| *lines == *street), &true);
+}
+
 /// Two hundred streets are respelt by steps of this many bytes.
 fn is_respelt_by(rt: &impl Abort, alloc: Global, step: usize) -> Result<(), AllocError> {
     let devices = Devices {
         step,
-        room: 100_000,
+        out: 100_000,
+        ..AMPLE
     };
-    let ended = end_of(
-        alloc,
-        Job::Respell,
-        two_hundred_streets(),
-        &[],
-        devices,
-        &Cell::new(0),
-    )?;
+    let street = lines_of(alloc, street_respelt())?;
+    let (files, count) = (two_hundred_streets(), Cell::new(0));
+    let ended = end_of(alloc, Job::Respell, files, &[], devices, &count)?;
     same(rt, &ended.status, &0);
-    same(rt, &ended.out.len(), &71_400);
-    let text = lines_of(alloc, street_respelt())?;
-    assert!(rt;
-        ended.out.chunks(357).all(|lines| *lines == *text),
-        "at steps of {step}"
-    );
+    is_repeated(rt, &ended.out, &street);
     Ok(())
 }
 
@@ -583,38 +477,46 @@ fn a_long_text_is_printed_whatever_the_steps(rt: HostRuntime) -> Result<(), Fail
     Ok(())
 }
 
+/// A set of one file, whose line has no known type.
+fn unknown() -> &'static [File] {
+    &[UNKNOWN_FILE]
+}
+
 /// So many reads are made of these files by steps of one byte.
 fn is_read(rt: &impl Abort, alloc: Global, files: &[File], reads: usize) -> Result<(), AllocError> {
     let count = Cell::new(0);
-    let devices = Devices { step: 1, room: 9 };
+    let devices = Devices { step: 1, ..AMPLE };
     end_of(alloc, Job::Respell, files, &[], devices, &count)?;
     same(rt, &count.get(), &reads);
     Ok(())
 }
 
+/// Files, and how many reads are made of them.
+const READS: &[(&'static [File], usize)] = &[
+    (&[UNKNOWN_FILE, File::Failed], 0),
+    (&[NO_FILE, UNKNOWN_FILE], 0),
+    (&[UNKNOWN_FILE], 2),
+];
+
+/// Those rows.
+fn reads() -> &'static [(&'static [File], usize)] {
+    READS
+}
+
 #[test]
 fn files_are_read_to_their_end_or_not_at_all(rt: HostRuntime) -> Result<(), Fail> {
-    let alloc = rt.alloc();
-    is_read(&rt, alloc, &[UNKNOWN_FILE, File::Failed], 0)?;
-    is_read(&rt, alloc, &[NO_FILE, UNKNOWN_FILE], 0)?;
-    Ok(is_read(&rt, alloc, &[UNKNOWN_FILE], 2)?)
+    for (files, count) in reads() {
+        is_read(&rt, rt.alloc(), files, *count)?;
+    }
+    Ok(())
 }
 
 #[test]
 fn the_status_stays_where_standard_error_fails(rt: HostRuntime) -> Result<(), Fail> {
-    let alloc = rt.alloc();
+    let devices = Devices { err: 20, ..AMPLE };
     let count = Cell::new(0);
-    let files = opened(alloc, &[UNKNOWN_FILE], 100, &count)?;
-    let mut out = writer(alloc, 7, 1000);
-    let mut err = writer(alloc, 7, 20);
-    let none = Vec::new(alloc);
-    same(
-        &rt,
-        &run(alloc, Job::Respell, files, none, &mut out, &mut err),
-        &3,
-    );
-    same_items(&rt, &out.held, b"");
-    same_items(&rt, &err.held, b"refused 1 UnknownTyp");
+    let ended = end_of(rt.alloc(), Job::Respell, unknown(), &[], devices, &count)?;
+    is_end(&rt, &ended, 3, b"", "refused 1 UnknownTyp");
     Ok(())
 }
 

@@ -1,7 +1,9 @@
 //! Patterns of bytes: `{n}` stands for n blanks, `~` for the byte 0xA0 and `^` for 0x1A.
 
 use std::alloc::{AllocError, Global};
+use std::test::Fail;
 use tl_layout::Record;
+use tl_load::Loader;
 
 /// The number in braces so far, and one more digit.
 fn with_digit(count: usize, digit: u8) -> usize {
@@ -52,14 +54,11 @@ pub(super) fn lines_of(alloc: Global, patterns: &[&str]) -> Result<Vec<u8>, Allo
     Ok(bytes)
 }
 
-/// The same lines from the last to the first.
-pub(super) fn lines_backwards(alloc: Global, patterns: &[&str]) -> Result<Vec<u8>, AllocError> {
-    let mut bytes = Vec::new(alloc);
-    for pattern in patterns.iter().rev() {
-        append(&mut bytes, pattern)?;
-        bytes.push(b'\n')?;
-    }
-    Ok(bytes)
+/// The records that the lines spell.
+pub(super) fn records_of(alloc: Global, patterns: &[&str]) -> Result<Vec<Record>, Fail> {
+    let mut loader = Loader::new(alloc);
+    loader.feed(&lines_of(alloc, patterns)?)?;
+    Ok(loader.finish()?)
 }
 
 /// The canonical spellings of records, each ended by LF.

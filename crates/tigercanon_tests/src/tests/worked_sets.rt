@@ -50,40 +50,10 @@ const SHAPED: &[&str] = &[
     "2{12}77{2}1{1}-86468559+32424925{1}-86468569+32424924{1}-86468579+32424923{1}-86468589+32424922{1}-86468599+32424921{1}-86468609+32424920{1}-86468619+32424919{1}-86468629+32424918{1}-86468639+32424917{1}-86468649+32424916",
 ];
 
-/// The same points from the other end, otherwise packed.
-const SHAPED_TURNED: &[&str] = &[
-    CHAIN,
-    "2{11}500{2}2{1}-86468659+32424915{1}-86468649+32424916{1}-86468639+32424917{1}-86468629+32424918{1}-86468619+32424919{1}-86468609+32424920",
-    LINK,
-    "2{11}500{2}5{1}-86468599+32424921{1}-86468589+32424922{1}-86468579+32424923{1}-86468569+32424924{1}-86468559+32424925",
-];
-
-/// A chain that ends where it starts, without shape points and with two.
-const LOOP: &str =
-    "1{11}500{1}A{2}Main{26}St{4}A41{8}101{8}199{8}100{8}19801{2}3600336006{14}0101001001{30}02020002030010012002{1}-86468669+32424914{1}-86468669+32424914";
-
-const LOOP_LINK: &str = "I{4}01001{7}500{8}11{8}11";
-
-pub(super) const CLOSED_ALONE: &[&str] = &[LOOP, LOOP_LINK];
-
-const CLOSED: &[&str] = &[
-    LOOP,
-    "2{11}500{2}1{1}-86468600+32424990{1}-86468600+32424900",
-    LOOP_LINK,
-];
-
-/// Two chains of one shape.
-pub(super) const TWO_OF_ONE_SHAPE: &[&str] = &[
-    "1{13}9{1}A{2}Main{26}St{4}A41{8}101{8}199{8}100{8}19801{2}3600336006{14}0101001001{30}02020002030010012002{1}-86468669+32424914{1}-86468545+32424948",
-    "I{4}01001{9}9{8}11{8}12",
-    "10306{9}4{1}A{2}Main{26}St{4}A41{8}198{8}100{8}199{8}101{2}103600636003{14}0101001001{30}02030002020020021001{1}-86468545+32424948{1}-86468669+32424914",
-    "I{4}01001{9}4{9}6{9}5",
-];
-
 /// A chain between two polygons of one number.
 pub(super) const SIDED: &[&str] = &[CHAIN, SIDES];
 
-/// Two names with one content, both used, in both orders, and one used twice.
+/// Two names with one content, both used, in both orders.
 pub(super) const NAMED: &[&str] = &[CHAIN, LINK, OLD_MILL_8, OLD_MILL_9, "4{11}500{2}1{7}8{7}9"];
 
 pub(super) const NAMED_BACKWARDS: &[&str] = &[
@@ -92,50 +62,6 @@ pub(super) const NAMED_BACKWARDS: &[&str] = &[
     OLD_MILL_8,
     OLD_MILL_9,
     "4{11}500{2}1{7}9{7}8",
-];
-
-const NAMED_TWICE: &[&str] = &[CHAIN, LINK, OLD_MILL_8, OLD_MILL_9, "4{11}500{2}1{7}8{7}8"];
-
-/// Landmarks, of which one has two contents and two have a polygon.
-const LANDMARKS: &[&str] = &[
-    CHAIN,
-    SIDES,
-    "7{4}01001{8}30AD43Lee{1}School",
-    "7{4}01001{8}31AD43Lee{1}School",
-    "7{4}01001{8}40AD43Barn",
-    "7{4}01001{8}40AD43Annex",
-    "8{4}0100100001{8}12{8}30",
-    "8{4}0100100001{8}12{8}31",
-];
-
-/// The same with the LANDs 30 and 31 exchanged.
-const LANDMARKS_EXCHANGED: &[&str] = &[
-    CHAIN,
-    SIDES,
-    "7{4}01001{8}31AD43Lee{1}School",
-    "7{4}01001{8}30AD43Lee{1}School",
-    "7{4}01001{8}40AD43Barn",
-    "7{4}01001{8}40AD43Annex",
-    "8{4}0100100001{8}12{8}31",
-    "8{4}0100100001{8}12{8}30",
-];
-
-/// The same without the polygon of the LAND 31.
-const FEWER_LINKS: &[&str] = &[
-    CHAIN,
-    SIDES,
-    "7{4}01001{8}30AD43Lee{1}School",
-    "7{4}01001{8}31AD43Lee{1}School",
-    "7{4}01001{8}40AD43Barn",
-    "7{4}01001{8}40AD43Annex",
-    "8{4}0100100001{8}12{8}30",
-];
-
-/// A landmark whose point is told as zeros.
-const LANDMARK_AT_ZERO: &[&str] = &[
-    CHAIN,
-    LINK,
-    "7{4}01001{8}30AD43Lee School{20}+000000000+00000000",
 ];
 
 /// Two chains that share a node and a polygon.
@@ -163,7 +89,7 @@ const RICH: &[&str] = &[
     "5{4}01001{7}8{2}Elm{27}St{4}",
 ];
 
-/// Main St in canonical numbers: its chain, and its ends without polygons and between two.
+/// Main St in canonical numbers: its chain, and the line of type I without polygons and between two.
 const CHAIN_1: &str =
     "12006{9}1{1}A{2}Main{26}St{4}A41{8}101{8}199{8}100{8}19801{2}3600336006{14}0101001001{30}02020002030010012002-086468669+32424914-086468545+32424948";
 
@@ -173,19 +99,11 @@ const SIDES_1: &str = "I200601001{9}1{9}1{9}200001{9}100002{9}2{57}";
 
 pub(super) const MAIN_TEXT: &[&str] = &[CHAIN_1, LINK_1];
 
-const SIDED_TEXT: &[&str] = &[CHAIN_1, SIDES_1];
-
 const SHAPED_TEXT: &[&str] = &[
     CHAIN_1,
     "22006{9}1{2}1-086468659+32424915-086468649+32424916-086468639+32424917-086468629+32424918-086468619+32424919-086468609+32424920-086468599+32424921-086468589+32424922-086468579+32424923-086468569+32424924",
     "22006{9}1{2}2-086468559+32424925+000000000+00000000+000000000+00000000+000000000+00000000+000000000+00000000+000000000+00000000+000000000+00000000+000000000+00000000+000000000+00000000+000000000+00000000",
     LINK_1,
-];
-
-const CLOSED_TEXT: &[&str] = &[
-    "12006{9}1{1}A{2}Main{26}St{4}A41{8}198{8}100{8}199{8}101{2}103600636003{14}0101001001{30}02030002020020021001-086468669+32424914-086468669+32424914",
-    "22006{9}1{2}1-086468600+32424900-086468600+32424990+000000000+00000000+000000000+00000000+000000000+00000000+000000000+00000000+000000000+00000000+000000000+00000000+000000000+00000000+000000000+00000000",
-    "I200601001{9}1{9}1{9}1{87}",
 ];
 
 const OTHER_ADDRESSES_TEXT: &[&str] = &[
@@ -204,37 +122,6 @@ const NAMED_TEXT: &[&str] = &[
     OLD_MILL_2,
     LINK_1,
 ];
-
-const NAMED_TWICE_TEXT: &[&str] = &[
-    CHAIN_1,
-    "42006{9}1{2}1{7}2{7}2{24}",
-    OLD_MILL_1,
-    OLD_MILL_2,
-    LINK_1,
-];
-
-const LANDMARKS_TEXT: &[&str] = &[
-    CHAIN_1,
-    "7200601001{9}1AD43Annex{45}",
-    "7200601001{9}1AD43Barn{46}",
-    "7200601001{9}2AD43Lee School{40}",
-    "7200601001{9}3AD43Lee School{40}",
-    "820060100100001{9}1{9}2{1}",
-    "820060100100001{9}1{9}3{1}",
-    SIDES_1,
-];
-
-const FEWER_LINKS_TEXT: &[&str] = &[
-    CHAIN_1,
-    "7200601001{9}1AD43Annex{45}",
-    "7200601001{9}1AD43Barn{46}",
-    "7200601001{9}2AD43Lee School{40}",
-    "7200601001{9}3AD43Lee School{40}",
-    "820060100100001{9}1{9}3{1}",
-    SIDES_1,
-];
-
-const LANDMARK_AT_ZERO_TEXT: &[&str] = &[CHAIN_1, "7200601001{9}1AD43Lee School{40}", LINK_1];
 
 const TWO_CHAINS_TEXT: &[&str] = &[
     "12006{9}1{175}+000000001+00000001+000000002+00000001",
@@ -271,24 +158,8 @@ const WORKED: &[Worked] = &[
     ("a street from its other end", MAIN_TURNED, MAIN_TEXT),
     ("other addresses", OTHER_ADDRESSES, OTHER_ADDRESSES_TEXT),
     ("shape points", SHAPED, SHAPED_TEXT),
-    (
-        "shape points from the other end",
-        SHAPED_TURNED,
-        SHAPED_TEXT,
-    ),
-    ("a loop", CLOSED, CLOSED_TEXT),
-    ("a street between polygons", SIDED, SIDED_TEXT),
     ("names", NAMED, NAMED_TEXT),
     ("names in the other order", NAMED_BACKWARDS, NAMED_TEXT),
-    ("a name used twice", NAMED_TWICE, NAMED_TWICE_TEXT),
-    ("landmarks", LANDMARKS, LANDMARKS_TEXT),
-    ("landmarks exchanged", LANDMARKS_EXCHANGED, LANDMARKS_TEXT),
-    ("fewer links", FEWER_LINKS, FEWER_LINKS_TEXT),
-    (
-        "a landmark at zero",
-        LANDMARK_AT_ZERO,
-        LANDMARK_AT_ZERO_TEXT,
-    ),
     ("two chains", TWO_CHAINS, TWO_CHAINS_TEXT),
     ("a record of each type", RICH, RICH_TEXT),
 ];
@@ -329,7 +200,10 @@ pub(super) fn two_chains() -> &'static [&'static str] {
     TWO_CHAINS
 }
 
-/// Two chains of one shape.
-pub(super) fn two_of_one_shape() -> &'static [&'static str] {
-    TWO_OF_ONE_SHAPE
+/// A chain that ends where it starts, without shape points.
+pub(super) fn closed() -> &'static [&'static str] {
+    &[
+        "1{11}500{175}{1}-86468669+32424914{1}-86468669+32424914",
+        "I{16}500",
+    ]
 }
