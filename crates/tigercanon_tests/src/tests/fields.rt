@@ -70,15 +70,44 @@ fn tells_ranges(rt: &impl Abort, ranges: Ranges) {
     tells(rt, &ranges.toaddl(), b"        199");
     tells(rt, &ranges.fraddr(), b"        100");
     tells(rt, &ranges.toaddr(), b"        198");
+    tells(rt, &ranges.friaddl(), b"0");
+    tells(rt, &ranges.toiaddl(), b"1");
+    tells(rt, &ranges.friaddr(), b" ");
+    tells(rt, &ranges.toiaddr(), b" ");
     tells(rt, &ranges.zipl(), b"36003");
     tells(rt, &ranges.zipr(), b"36006");
     same(rt, &ranges_again(ranges), &ranges);
 }
 
-/// The chain's name and class, and the tracts and blocks beside it.
+/// The fields of the chain's content in front of its ranges, and the codes behind them.
 fn tells_chain(rt: &impl Abort, body: &Body1) {
+    tells(rt, &body.side1(), b" ");
+    tells(rt, &body.source(), b"A");
+    tells(rt, &body.fedirp(), b"  ");
     tells(rt, &body.fename(), b"Main                          ");
+    tells(rt, &body.fetype(), b"St  ");
+    tells(rt, &body.fedirs(), b"  ");
     tells(rt, &body.cfcc(), b"A41");
+    tells(rt, &body.aianhhfpl(), b"     ");
+    tells(rt, &body.aianhhfpr(), b"     ");
+    tells(rt, &body.aihhtlil(), b" ");
+    tells(rt, &body.aihhtlir(), b" ");
+    tells(rt, &body.census1(), b" ");
+    tells(rt, &body.census2(), b" ");
+}
+
+/// The geographic entities beside the chain.
+fn tells_entities(rt: &impl Abort, body: &Body1) {
+    tells(rt, &body.statel(), b"01");
+    tells(rt, &body.stater(), b"01");
+    tells(rt, &body.countyl(), b"001");
+    tells(rt, &body.countyr(), b"001");
+    tells(rt, &body.cousubl(), b"     ");
+    tells(rt, &body.cousubr(), b"     ");
+    tells(rt, &body.submcdl(), b"     ");
+    tells(rt, &body.submcdr(), b"     ");
+    tells(rt, &body.placel(), b"     ");
+    tells(rt, &body.placer(), b"     ");
     tells(rt, &body.tractl(), b"020200");
     tells(rt, &body.tractr(), b"020300");
     tells(rt, &body.blockl(), b"1001");
@@ -214,6 +243,7 @@ fn tells_record(rt: &impl Abort, record: &Record) {
         Record::One(record) => {
             tells_ranges(rt, record.body().ranges());
             tells_chain(rt, record.body());
+            tells_entities(rt, record.body());
             same(rt, &again_of(record.body()), record.body());
         }
         Record::Two(record) => tells_points(rt, record),
