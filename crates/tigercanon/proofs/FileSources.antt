@@ -12,9 +12,10 @@ use Rattle.tigercanon.specs.Files.{AreHeld, AreSourcesOf, bytes_of}
 use Rattle.tigercanon.specs.Normalising.{TellsRead, is_of_sink}
 use Rattle.tigercanon.specs.Outcomes.{AreRefused, TellsSet}
 use Rattle.tigercanon.specs.Reading.{AreRead, AreReadUpTo, IsFaultOfRead}
-use Rattle.tigercanon.specs.Respelling.{IsFirstFault}
+use Rattle.tigercanon.specs.Respelling.{record_limit, IsFirstFault}
 use Rattle.tigercanon.proofs.FileParts.{taken_all}
-use Rattle.tigercanon.proofs.Parts.{without_empty_part}
+use Rattle.tl_load.proofs.CutParts.{empty_fault}
+use Rattle.tl_load.specs.Choice.{tiger}
 
 -- one element more
 pub map_more : {A B C : Type 0} (f : A → C) (h : B → C) (xs zs : List A) (ys : List B) (x : A) (y : B) → zs ≡ xs ++ x ∷ []
@@ -113,7 +114,7 @@ module _ {S R : Type 0} (left : S → Option (List ℕ)) (given : S → ℕ) (re
         go (inr k) = record {
           parts = h.0;
           held = k.1;
-          refused = without_empty_part h.0 fault
+          refused = (empty_fault tiger record_limit h.0 fault).0
               (subst (λ (bytes : List ℕ). IsFirstFault (h.0 ++ (bytes ++ []) ∷ []) fault) k.0 (h.3 [] []));
         }
 

@@ -3,9 +3,8 @@ use Rattle.std.proofs.Common.{◌≡◌, ℕ, suc, ◌<◌, ◌+◌, List, [], �
 use Rattle.std.proofs.Common.{subst, append-nil, append_assoc}
 use Rattle.std.proofs.Math.Seq.{drop-cons}
 use Rattle.std.proofs.lemmas.List.{take_more, take-append-drop, map-append}
-use Rattle.tl_load.proofs.LineLemmas.{lines_none}
-use Rattle.tl_load.specs.Lines.{lines}
-use Rattle.tl_load.specs.Places.{numbered_lines, lines_from_part}
+use Rattle.tl_load.proofs.CutParts.{empty_fault}
+use Rattle.tl_load.specs.Choice.{tiger}
 use Rattle.tl_load.specs.Loaded.{IsFaultHowever}
 use Rattle.tl_load.specs.declared.fault.LoadFault.{LoadFault}
 use Rattle.tigercanon.specs.Respelling.{record_limit, IsFirstFault}
@@ -26,42 +25,6 @@ pub parts_so_far : (slices : List (Bor (List ℕ))) (i : ℕ) (d : Bor (List ℕ
 parts_so_far slices i d within =
     sym (ap parts_of (take_more slices i d within) ∙ map-append (λ p. p.now) (take i slices) (get_or slices i d ∷ []))
 
--- an empty part has no lines
-lines_of_empty_part : (n : ℕ) → numbered_lines n 1 (lines []) ≡ []
-unfolding numbered_lines
-lines_of_empty_part n = ap (numbered_lines n 1) lines_none
-
--- one empty part more changes no line
-lines_with_empty_part : (n : ℕ) (parts : List (List ℕ)) → lines_from_part n (parts ++ [] ∷ []) ≡ lines_from_part n parts
-unfolding lines_from_part
-lines_with_empty_part n [] = ap (λ ls. ls ++ []) (lines_of_empty_part n)
-lines_with_empty_part n (part ∷ parts) = ap (λ ls. numbered_lines n 1 (lines part) ++ ls) (lines_with_empty_part (n + 1) parts)
-
--- and no fault
-pub without_empty_part : (parts : List (List ℕ)) (f : LoadFault) → IsFirstFault (parts ++ [] ∷ []) f → IsFirstFault parts f
-without_empty_part parts f at = record {
-  before = at.before;
-  line = at.line;
-  after = at.after;
-  records = at.records;
-  split = sym (lines_with_empty_part 1 parts) ∙ at.split;
-  well = at.well;
-  within = at.within;
-  fault_is = at.fault_is;
-}
-
-pub with_empty_part : (parts : List (List ℕ)) (f : LoadFault) → IsFirstFault parts f → IsFirstFault (parts ++ [] ∷ []) f
-with_empty_part parts f at = record {
-  before = at.before;
-  line = at.line;
-  after = at.after;
-  records = at.records;
-  split = lines_with_empty_part 1 parts ∙ at.split;
-  well = at.well;
-  within = at.within;
-  fault_is = at.fault_is;
-}
-
 -- a fault that stays however the open part and the set go on is that of the slices, of which the open part is one
 pub fault_of_all : (slices : List (Bor (List ℕ))) (i : ℕ) (d : Bor (List ℕ)) (f : LoadFault) → i < length slices
     → IsFaultHowever record_limit (parts_of (take i slices)) (get_or slices i d).now f → IsFirstFault (parts_of slices) f
@@ -73,7 +36,7 @@ fault_of_all slices i d f within however =
 
 -- the same where that part is closed: the next one and those after it go on, or nothing does
 fault_of_rest : (closed rest : List (List ℕ)) (f : LoadFault) → IsFaultHowever record_limit closed [] f → IsFirstFault (closed ++ rest) f
-fault_of_rest closed [] f however = subst (λ ps. IsFirstFault ps f) (sym (append-nil closed)) (without_empty_part closed f (however [] []))
+fault_of_rest closed [] f however = subst (λ ps. IsFirstFault ps f) (sym (append-nil closed)) ((empty_fault tiger record_limit closed f).0 (however [] []))
 fault_of_rest closed (part ∷ rest) f however = however part rest
 
 pub fault_of_closed : (slices : List (Bor (List ℕ))) (i : ℕ) (d : Bor (List ℕ)) (f : LoadFault) → i < length slices

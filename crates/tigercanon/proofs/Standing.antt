@@ -11,7 +11,7 @@ use Rattle.tl_load.specs.declared.fault.LoadFault.TheVariants as faults
 use Rattle.tl_load.proofs.Reading.{accepted_no_fault}
 use Rattle.tl_load.proofs.RecordLines.{tiger_is_sound}
 use Rattle.tigercanon.proofs.FileParts.{no_device_told}
-use Rattle.tigercanon.proofs.Parts.{with_empty_part}
+use Rattle.tl_load.proofs.CutParts.{empty_fault}
 use Rattle.tigercanon.specs.Respelling.{record_limit, IsFirstFault}
 
 module _ {K : Type 0} (holds : K → List Record → Type 0) (l : LoadedInto K) where
@@ -41,7 +41,7 @@ module _ {K : Type 0} (holds : K → List Record → Type 0) (l : LoadedInto K) 
           let none : with_line_feeds h.2.ended ≡ [] = nothing_before (with_line_feeds h.2.ended) l.unfinished h.2.lines_are.bytes_are in
           accepted_no_fault tiger tiger_is_sound record_limit (closed ++ [] ∷ []) h.0 f
           (subst (λ (last : List ℕ). SpellsWithin tiger record_limit (closed ++ last ∷ []) h.0) none h.2.accepts)
-          (with_empty_part closed f at)
+          ((empty_fault tiger record_limit closed f).1 at)
 
 -- a device's fault is counted, and no other
 pub counted_device : (f : LoadFault) (was now : ℕ) → now ≡ (if is_device_fault f then was + 1 else was) → f ≡ faults.Device

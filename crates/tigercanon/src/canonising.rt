@@ -34,7 +34,7 @@ pub(crate) fn text_and_renaming<C: Chart>(
     county: &CanonCounty<C>,
 ) -> Result<(Vec<u8>, Renaming), Fault>
     ensures text { IfOk result (λ told. told.0.items ≡ text_of (packed (⟦<CanonCounty<C> as Chart>⟧.county county.now))) }
-    ensures carries { IfOk result (λ told. Carries told.1 (C.county county.now.view.chart) (⟦<CanonCounty<C> as Chart>⟧.county county.now)) }
+    ensures carries { IfOk result (λ told. Carries told.1 (C.county county.now.chart) (⟦<CanonCounty<C> as Chart>⟧.county county.now)) }
     ensures memory { IfErr result (λ fault. fault ≡ Fault.Memory) }
 {
     let renaming = county.renaming(alloc)?;

@@ -17,6 +17,12 @@ pub(crate) const FIRST: &str = "FIRST";
 /// The argument that names the second set.
 pub(crate) const SECOND: &str = "SECOND";
 
+/// What the program is: its version, the canonical form that it gives, and the prover that it was proved with.
+const VERSION: &str = "\
+0.1.0
+canonical form: tigercanon form 1
+proved with: rattle-kit-13f logic dac8208d650f15bf";
+
 /// What stands at the end of the program's help.
 const EXAMPLES: &str = "\
 Examples:
@@ -104,7 +110,7 @@ fn program<'a>(alloc: Global) -> Result<Command<'a>, AllocError>
     let named = Command::new(alloc, "tigercanon").bin_name("tigercanon")?;
     Ok(
         named
-            .version("0.1.0")
+            .version(VERSION)
             .about(
                 "Reads TIGER/Line 2006 record files of one county, checks them, and prints them in canonical form",
             )

@@ -8,7 +8,6 @@ ghost use Rattle.tigercanon.specs.Sets.{CarriesSet, IsCanonSet};
 ghost use Rattle.tigercanon.specs.declared.comparing.CompareFault.TheVariants.{Memory};
 ghost use Rattle.tl_county.specs.Packing.{packed};
 ghost use Rattle.tl_county.specs.Renumbering.{Carries, Renumbering};
-ghost use Rattle.tl_county.specs.TheCountyOver.{the_county_over};
 ghost use Rattle.tl_layout.specs.declared.record_type.Record.{Record};
 
 use crate::fault::Fault;
@@ -63,7 +62,7 @@ impl From<AllocError> for CompareFault {
 
 /// The renaming of a canonical county onto the county that it comes from.
 fn renaming_back<C: Chart>(alloc: Global, canon: &CanonCounty<C>) -> Result<Renaming, AllocError>
-    ensures { IfOk result (λ r. Carries r (⟦<CanonCounty<C> as Chart>⟧.county canon.now) (C.county canon.now.view.chart)) }
+    ensures { IfOk result (λ r. Carries r (⟦<CanonCounty<C> as Chart>⟧.county canon.now) (C.county canon.now.chart)) }
 {
     let onto = canon.renaming(alloc)?;
     onto.inverse()
@@ -77,7 +76,7 @@ fn renaming_between<A: Chart, B: Chart>(
     b: &CanonCounty<B>,
 ) -> Result<Renaming, AllocError>
     requires { packed (⟦<CanonCounty<A> as Chart>⟧.county a.now) ≡ packed (⟦<CanonCounty<B> as Chart>⟧.county b.now) }
-    ensures { IfOk result (λ r. Carries r (A.county a.now.view.chart) (B.county b.now.view.chart)) }
+    ensures { IfOk result (λ r. Carries r (A.county a.now.chart) (B.county b.now.chart)) }
 {
     let there = a.renaming(alloc)?;
     let back = renaming_back(alloc, b)?;
@@ -91,7 +90,7 @@ fn verdict_on<A: Chart, B: Chart>(
     a: &CanonCounty<A>,
     b: &CanonCounty<B>,
 ) -> Result<Verdict, CompareFault>
-    ensures same { (r : Renumbering) → result ≡ Ok (Verdict.Same r) → Carries r (A.county a.now.view.chart) (B.county b.now.view.chart) }
+    ensures same { (r : Renumbering) → result ≡ Ok (Verdict.Same r) → Carries r (A.county a.now.chart) (B.county b.now.chart) }
     ensures different { result ≡ Ok Verdict.Different → packed (⟦<CanonCounty<A> as Chart>⟧.county a.now) ≢ packed (⟦<CanonCounty<B> as Chart>⟧.county b.now) }
     ensures memory { IfErr result (λ fault. fault ≡ CompareFault.Memory) }
 {
@@ -109,10 +108,10 @@ fn compare_linked<'a, 'b>(
     second: &'b LinkedRecords,
 ) -> Result<Verdict, CompareFault>
     ensures same { (a b : List (List ℕ)) (r : Renumbering)
-        → IsCanonSet a (the_county_over first.now.view.chart) (⟦<CanonCounty<CountyOver<'a>> as Chart>⟧.county first.now)
+        → IsCanonSet a (⟦<CountyOver<'a> as Chart>⟧.county first.now.chart) (⟦<CanonCounty<CountyOver<'a>> as Chart>⟧.county first.now)
         → IsLinkedSet b second.now → result ≡ Ok (Verdict.Same r) → CarriesSet r a b }
     ensures different { (a b : List (List ℕ))
-        → IsCanonSet a (the_county_over first.now.view.chart) (⟦<CanonCounty<CountyOver<'a>> as Chart>⟧.county first.now)
+        → IsCanonSet a (⟦<CountyOver<'a> as Chart>⟧.county first.now.chart) (⟦<CanonCounty<CountyOver<'a>> as Chart>⟧.county first.now)
         → IsLinkedSet b second.now → result ≡ Ok Verdict.Different → AreDifferent a b }
     ensures refused { (a b : List (List ℕ)) → IsAcceptable a → IsLinkedSet b second.now → IfErr result (TellsRefusalOfOne a b) }
     ensures no_device { (b : List (List ℕ)) (set : ℕ) → IsLinkedSet b second.now
@@ -120,7 +119,11 @@ fn compare_linked<'a, 'b>(
     ensures succeeds { (a b : List (List ℕ)) → IsLinkedSet b second.now → IfErr result (TellsMemoryOfAccepted a b) }
 {
     match canonise_linked(alloc, arena, second) {
-        Ok(second) => verdict_on(alloc, first, &second),
+        Ok(second) => {
+            let verdict = verdict_on(alloc, first, &second);
+            drop(second);
+            verdict
+        }
         Err(fault) => Err(CompareFault::In { set: SECOND, fault }),
     }
 }
@@ -132,10 +135,10 @@ fn compare_with<'a>(
     b: &[&[u8]],
 ) -> Result<Verdict, CompareFault>
     ensures same { (a : List (List ℕ)) (r : Renumbering)
-        → IsCanonSet a (the_county_over first.now.view.chart) (⟦<CanonCounty<CountyOver<'a>> as Chart>⟧.county first.now)
+        → IsCanonSet a (⟦<CountyOver<'a> as Chart>⟧.county first.now.chart) (⟦<CanonCounty<CountyOver<'a>> as Chart>⟧.county first.now)
         → result ≡ Ok (Verdict.Same r) → CarriesSet r a (map (λ p. p.now) b.now) }
     ensures different { (a : List (List ℕ))
-        → IsCanonSet a (the_county_over first.now.view.chart) (⟦<CanonCounty<CountyOver<'a>> as Chart>⟧.county first.now)
+        → IsCanonSet a (⟦<CountyOver<'a> as Chart>⟧.county first.now.chart) (⟦<CanonCounty<CountyOver<'a>> as Chart>⟧.county first.now)
         → result ≡ Ok Verdict.Different → AreDifferent a (map (λ p. p.now) b.now) }
     ensures refused { (a : List (List ℕ)) → IsAcceptable a → IfErr result (TellsRefusalOfOne a (map (λ p. p.now) b.now)) }
     ensures no_device { (set : ℕ) → result ≢ Err (CompareFault.In set (Fault.Load LoadFault.Device)) }
@@ -167,7 +170,11 @@ fn compare_first<'a>(
     ensures succeeds { (a : List (List ℕ)) → IsLinkedSet a first.now → IfErr result (TellsMemoryOfAccepted a (map (λ p. p.now) b.now)) }
 {
     match canonise_linked(alloc, arena, first) {
-        Ok(first) => compare_with(alloc, &first, b),
+        Ok(first) => {
+            let verdict = compare_with(alloc, &first, b);
+            drop(first);
+            verdict
+        }
         Err(fault) => Err(CompareFault::In { set: FIRST, fault }),
     }
 }

@@ -7,7 +7,7 @@ ghost use Rattle.tigercanon.specs.Normalising.{is_of_sink};
 ghost use Rattle.tigercanon.specs.Sets.{IsAcceptedSet, IsCanonSet};
 ghost use Rattle.tl_county.specs.County.{county_of};
 ghost use Rattle.tl_county.specs.Limits.{HoldsWithinLimits};
-ghost use Rattle.tl_county.specs.TheCountyOver.{the_county_over};
+ghost use Rattle.tl_county.specs.Packing.{type_after_type};
 ghost use Rattle.tl_layout.specs.Tables.{HoldsByType};
 ghost use Rattle.tl_layout.specs.declared.record_type.Record.{Record};
 ghost use Rattle.tl_number.specs.Accepted.{IsAccepted};
@@ -17,7 +17,7 @@ use crate::fault::Fault;
 use crate::loading::load;
 use bumpalo::Bump;
 use std::alloc::Global;
-use tl_county::{Chart, CountyOver, LinkedRecords, link_in_order};
+use tl_county::{Chart, CountyOver, LinkFault, LinkedRecords, link_in_order};
 use tl_layout::Tables;
 use tl_load::LoadFault;
 use tl_number::{CanonCounty, canonise_in_order};
@@ -45,20 +45,36 @@ pub(crate) fn link_parts(alloc: Global, parts: &[&[u8]]) -> Result<LinkedRecords
     link_records(alloc, tables)
 }
 
-/// The admitted county of linked records, over their tables and an arena, which outlive it, and the order of its chains by their
-/// shapes.
-fn admit_records<'a>(
+/// The county of linked records, over their tables and an arena, which outlive it.
+fn county_of_linked<'a>(
     alloc: Global,
     arena: &'a Bump,
     linked: &'a LinkedRecords,
+) -> Result<CountyOver<'a>, Fault>
+    ensures county { IfOk result (λ county. ⟦<CountyOver<'a> as Chart>⟧.county county ≡ county_of (type_after_type linked.now)) }
+    // Want of memory is told as linking's.
+    ensures memory { IfErr result (λ fault. fault ≡ Fault.Link LinkFault.Memory) }
+{
+    match linked.county(alloc, arena) {
+        Ok(county) => Ok(county),
+        Err(error) => Err(Fault::Link(LinkFault::from(error))),
+    }
+}
+
+/// The county of linked records, admitted, and the order of its chains by their shapes.
+fn admit_county<'a>(
+    alloc: Global,
+    county: CountyOver<'a>,
+    linked: &LinkedRecords,
 ) -> Result<(Admitted<CountyOver<'a>>, ShapeOrder), Fault>
+    requires { ⟦<CountyOver<'a> as Chart>⟧.county county ≡ county_of (type_after_type linked.now) }
     ensures accepted { IfOk result (λ pair. (records : List Record) →
-        AreLinkedAs linked.now records → IsAccepted records × (the_county_over pair.0 ≡ county_of records)) }
-    ensures order { IfOk result (λ pair. IsShapeOrder (the_county_over pair.0) pair.1) }
+        AreLinkedAs linked.now records → IsAccepted records × (⟦<CountyOver<'a> as Chart>⟧.county pair.0 ≡ county_of records)) }
+    ensures order { IfOk result (λ pair. IsShapeOrder (⟦<CountyOver<'a> as Chart>⟧.county pair.0) pair.1) }
     ensures of_no_sink { IfErr result (λ fault. is_of_sink fault ≡ false) }
     ensures refused { IfErr result (λ fault. (records : List Record) → AreLinkedAs linked.now records → RefusesRecords records fault) }
 {
-    Ok(admit_linked(alloc, arena, linked)?)
+    Ok(admit_linked(alloc, county, linked.polygon_without_chain())?)
 }
 
 /// Whether linked records are accepted.
@@ -67,7 +83,8 @@ fn judge_linked(alloc: Global, linked: &LinkedRecords) -> Result<(), Fault>
     ensures refused { IfErr result (λ fault. (records : List Record) → AreLinkedAs linked.now records → RefusesRecords records fault) }
 {
     let arena = Bump::new(alloc);
-    admit_records(alloc, &arena, linked)?;
+    let county = county_of_linked(alloc, &arena, linked)?;
+    admit_county(alloc, county, linked)?;
     Ok(())
 }
 
@@ -81,14 +98,15 @@ pub(crate) fn judge_tables(alloc: Global, tables: Tables) -> Result<(), Fault>
     judge_linked(alloc, &linked)
 }
 
-/// The canonical county of linked records, over their tables and an arena, which outlive it.
+/// The canonical county of linked records, over their tables and an arena, which outlive it. Who is done with it says `drop`: that
+/// is one call for the prover, which else reads the drop of each field wherever its owner ends.
 pub(crate) fn canonise_linked<'a>(
     alloc: Global,
     arena: &'a Bump,
     linked: &'a LinkedRecords,
 ) -> Result<CanonCounty<CountyOver<'a>>, Fault>
     ensures canonical { IfOk result (λ canon. (parts : List (List ℕ)) → IsLinkedSet parts linked.now
-        → IsCanonSet parts (the_county_over canon.view.chart) (⟦<CanonCounty<CountyOver<'a>> as Chart>⟧.county canon)) }
+        → IsCanonSet parts (⟦<CountyOver<'a> as Chart>⟧.county canon.chart) (⟦<CanonCounty<CountyOver<'a>> as Chart>⟧.county canon)) }
     ensures of_no_sink { IfErr result (λ fault. is_of_sink fault ≡ false) }
     ensures refused { IfErr result (λ fault. (records : List Record) → AreLinkedAs linked.now records → RefusesRecords records fault) }
     ensures set_refused { IfErr result (λ fault. (parts : List (List ℕ)) → IsLinkedSet parts linked.now → TellsRefusal parts fault) }
@@ -97,6 +115,7 @@ pub(crate) fn canonise_linked<'a>(
     ensures succeeds { IfErr result (λ fault. (parts : List (List ℕ)) (records : List Record) → IsLinkedSet parts linked.now
         → IsAcceptedSet parts records → IsWantOfMemory fault) }
 {
-    let (admitted, order) = admit_records(alloc, arena, linked)?;
+    let county = county_of_linked(alloc, arena, linked)?;
+    let (admitted, order) = admit_county(alloc, county, linked)?;
     Ok(canonise_in_order(alloc, admitted.into_chart(), &order)?)
 }

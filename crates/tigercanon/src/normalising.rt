@@ -39,7 +39,9 @@ fn text_of_linked<'a>(
         → IsAcceptedSet parts records → IfErr result IsWantOfMemory }
 {
     let county = canonise_linked(alloc, arena, linked)?;
-    text_in_memory(alloc, &county)
+    let text = text_in_memory(alloc, &county);
+    drop(county);
+    text
 }
 
 /// The canonical text of linked records, whose county is put into canonical form over an arena, and the renaming onto it.
@@ -58,7 +60,9 @@ fn text_and_renaming_of_linked<'a>(
         → IsAcceptedSet parts records → IfErr result IsWantOfMemory }
 {
     let county = canonise_linked(alloc, arena, linked)?;
-    text_and_renaming(alloc, &county)
+    let told = text_and_renaming(alloc, &county);
+    drop(county);
+    told
 }
 
 /// The canonical text of the parts: the records of their map in canonical numbers, order, packing and spelling. All sets of
@@ -154,7 +158,9 @@ fn write_linked<'a, W: Sink>(
     ensures no_device { (parts : List (List ℕ)) → IsLinkedSet parts linked.now → result ≢ Err (Fault.Load LoadFault.Device) }
 {
     let county = canonise_linked(alloc, arena, linked)?;
-    write_county(&county, out)
+    let written = write_county(&county, out);
+    drop(county);
+    written
 }
 
 /// Reads the parts from their sources, and writes their canonical text to the sink; answers how many bytes that is. No part

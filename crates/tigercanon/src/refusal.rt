@@ -80,17 +80,6 @@ fn write_column<W: fmt::Write>(
     write!(f, "{words} {part} {line} {column}")
 }
 
-/// A record type whose records stand in order, as one whose records belong to a chain.
-fn linked_type(rtype: SequencedType) -> LinkedType
-    ensures { result ≡ linked_type rtype }
-{
-    match rtype {
-        SequencedType::Two => LinkedType::Two,
-        SequencedType::Four => LinkedType::Four,
-        SequencedType::Six => LinkedType::Six,
-    }
-}
-
 /// A line with a record type and a TLID as its place.
 fn write_linked_type<W: fmt::Write>(
     words: &str,
@@ -103,16 +92,29 @@ fn write_linked_type<W: fmt::Write>(
     write!(f, "{words} {rtype} {tlid}")
 }
 
+/// A line with a record type whose records stand in order and a TLID as its place.
+fn write_sequenced_type<W: fmt::Write>(
+    words: &str,
+    rtype: SequencedType,
+    tlid: u64,
+    f: &mut fmt::Formatter<W>,
+) -> fmt::Result
+    ensures { DisplaysOnOk W.write_str_gives f.old result
+        (Some (refusal words.now (character_of (linked_type rtype) ∷ decimal tlid ∷ []))) f.new }
+{
+    write!(f, "{words} {rtype} {tlid}")
+}
+
 /// A line with a polygon as its place: the bytes of the CENID, and the POLYID.
 fn write_polygon<W: fmt::Write>(
     words: &str,
-    cenid: [u8; 5],
+    cenid: &[u8; 5],
     polyid: u64,
     f: &mut fmt::Formatter<W>,
 ) -> fmt::Result
-    ensures { DisplaysOnOk W.write_str_gives f.old result (Some (refusal words.now (encode_lower cenid ∷ decimal polyid ∷ []))) f.new }
+    ensures { DisplaysOnOk W.write_str_gives f.old result (Some (refusal words.now (encode_lower cenid.now ∷ decimal polyid ∷ []))) f.new }
 {
-    let cenid = Hexadecimal(cenid);
+    let cenid = Hexadecimal(*cenid);
     write!(f, "{words} {cenid} {polyid}")
 }
 
@@ -170,7 +172,7 @@ fn write_link_fault<W: fmt::Write>(fault: &LinkFault, f: &mut fmt::Formatter<W>)
             write_linked_type("refused 12 NoChain", *rtype, *tlid, f)
         }
         LinkFault::SequenceBroken { rtype, tlid } => {
-            write_linked_type("refused 13 SequenceBroken", linked_type(*rtype), *tlid, f)
+            write_sequenced_type("refused 13 SequenceBroken", *rtype, *tlid, f)
         }
         LinkFault::LinkMissing { tlid } => write_number("refused 14 LinkMissing", *tlid, f),
         LinkFault::LinkTwice { tlid } => write_number("refused 15 LinkTwice", *tlid, f),
@@ -179,11 +181,11 @@ fn write_link_fault<W: fmt::Write>(fault: &LinkFault, f: &mut fmt::Formatter<W>)
             write_pair("refused 17 NameUnknown", *tlid, *feat as u64, f)
         }
         LinkFault::PolygonTwice { cenid, polyid } => {
-            write_polygon("refused 18 PolygonTwice", *cenid, *polyid, f)
+            write_polygon("refused 18 PolygonTwice", cenid, *polyid, f)
         }
         LinkFault::LandUnknown { land } => write_number("refused 19 LandUnknown", *land, f),
         LinkFault::PolygonUnknown { cenid, polyid } => {
-            write_polygon("refused 20 PolygonUnknown", *cenid, *polyid, f)
+            write_polygon("refused 20 PolygonUnknown", cenid, *polyid, f)
         }
         LinkFault::Memory => write_memory(f),
     }
@@ -202,7 +204,7 @@ fn write_profile_fault<W: fmt::Write>(
             write_pair("refused 22 SameShape", *first, *second, f)
         }
         ProfileFault::PolygonWithoutChain { cenid, polyid } => {
-            write_polygon("refused 23 PolygonWithoutChain", *cenid, *polyid, f)
+            write_polygon("refused 23 PolygonWithoutChain", cenid, *polyid, f)
         }
         ProfileFault::Memory => write_memory(f),
     }

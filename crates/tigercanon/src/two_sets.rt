@@ -12,7 +12,6 @@ ghost use Rattle.tigercanon.specs.TwoSets.{IsLineDifferent, IsLineSame, LeavesCo
 ghost use Rattle.tigercanon.specs.TwoSets.{OfTwoSets, TellsOne, line_of_ending, where_ended};
 ghost use Rattle.tigercanon.specs.declared.command_line.Job.{Job};
 ghost use Rattle.tl_county.specs.Packing.{packed};
-ghost use Rattle.tl_county.specs.TheCountyOver.{the_county_over};
 ghost use Rattle.tl_layout.specs.Tables.{HoldsByType};
 ghost use Rattle.tl_load.specs.Keeping.{WasFedInto};
 
@@ -61,13 +60,17 @@ fn compare_linked<'a, 'b>(
     second: &'b LinkedRecords,
 ) -> Result<Ending, Stopped>
     ensures verdict { (a b : List (List ℕ)) →
-        IsCanonSet a (the_county_over first.now.view.chart) (⟦<CanonCounty<CountyOver<'a>> as Chart>⟧.county first.now) →
+        IsCanonSet a (⟦<CountyOver<'a> as Chart>⟧.county first.now.chart) (⟦<CanonCounty<CountyOver<'a>> as Chart>⟧.county first.now) →
         IsLinkedSet b second.now → IfOk result (λ ending. where_ended ending (AreOneMap a b) (AreDifferent a b)) }
     ensures refused { (b : List (List ℕ)) → IsLinkedSet b second.now →
         IfErr result (λ stopped. (stopped.set ≡ Some 2) × TellsRefusal b stopped.fault) }
 {
     match canonise_linked(alloc, arena, second) {
-        Ok(second) => Ok(compare_counties(first, &second)),
+        Ok(second) => {
+            let ending = compare_counties(first, &second);
+            drop(second);
+            Ok(ending)
+        }
         Err(fault) => Err(Stopped {
             fault,
             set: Some(2),
@@ -83,7 +86,7 @@ fn compare_to<'a>(
 ) -> Result<Ending, Stopped>
     requires { (parts : List (List ℕ)) × WasFedInto HoldsByType record_limit second parts [] }
     ensures verdict { (a b : List (List ℕ)) →
-        IsCanonSet a (the_county_over first.now.view.chart) (⟦<CanonCounty<CountyOver<'a>> as Chart>⟧.county first.now) →
+        IsCanonSet a (⟦<CountyOver<'a> as Chart>⟧.county first.now.chart) (⟦<CanonCounty<CountyOver<'a>> as Chart>⟧.county first.now) →
         WasFedInto HoldsByType record_limit second b [] → IfOk result (λ ending. where_ended ending (AreOneMap a b) (AreDifferent a b)) }
     ensures refused { (b : List (List ℕ)) → WasFedInto HoldsByType record_limit second b [] →
         IfErr result (λ stopped. (stopped.set ≡ Some 2) × TellsRefusal b stopped.fault) }
@@ -115,7 +118,11 @@ fn compare_first<'a>(
         ⊎ ((stopped.set ≡ Some 2) × IsAcceptable a × TellsRefusal b stopped.fault)) }
 {
     match canonise_linked(alloc, arena, first) {
-        Ok(first) => compare_to(alloc, &first, second),
+        Ok(first) => {
+            let ending = compare_to(alloc, &first, second);
+            drop(first);
+            ending
+        }
         Err(fault) => Err(Stopped {
             fault,
             set: Some(1),

@@ -1,20 +1,17 @@
-//! What only a call shows: pieces, keepers, getters, counties and renamings as values, and devices that give little and fail.
+//! What only a call shows: getters, counties and renamings as values, and devices that give little and fail.
 
-mod admission;
-mod agreement;
 mod callers;
+mod canonical;
 mod comparing;
 mod counties;
 mod devices;
 mod fields;
 mod loading;
-mod numbering;
-mod plans;
-mod reading;
+mod refusals;
 mod renamings;
 mod running;
 mod sets;
-mod shapes;
 mod sinks;
+mod usage;
 mod whole_calls;
 mod worked_sets;

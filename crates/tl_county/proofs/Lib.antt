@@ -50,3 +50,4 @@ pub mod WithoutChain
 pub mod SameRules
 pub mod LinkedTables
 pub mod BuiltTables
+pub mod KeptParts

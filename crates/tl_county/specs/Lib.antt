@@ -10,9 +10,6 @@ pub mod Entries
 pub mod LandmarkParts
 pub mod KeptCounty
 pub mod Building
-pub mod TheCounty
-pub mod TheCountyIn
-pub mod TheCountyOver
 pub mod ChartWords
 pub mod CountyProps
 pub mod PolygonKeys

@@ -110,8 +110,6 @@ impl<'a> InArena<'a> {
 }
 
 impl<'t, 'a> ChainBuilder<'t, ChainIn<'a>> for InArena<'a> {
-    ghost chain = { λ built. built };
-
     fn build_chain(
         &mut self,
         head: &'t Rec1,
@@ -134,8 +132,6 @@ impl<'t, 'a> ChainBuilder<'t, ChainIn<'a>> for InArena<'a> {
 }
 
 impl<'a> ChainBuilder<'a, ChainOver<'a>> for InArena<'a> {
-    ghost chain = { λ built. built };
-
     fn build_chain(
         &mut self,
         head: &'a Rec1,
@@ -150,8 +146,6 @@ impl<'a> ChainBuilder<'a, ChainOver<'a>> for InArena<'a> {
 }
 
 impl<'a> LandmarkBuilder<LandmarkIn<'a>> for InArena<'a> {
-    ghost landmark = { λ built. built };
-
     fn build_landmark(
         &mut self,
         records: &[Rec7],

@@ -6,14 +6,13 @@ ghost use Rattle.std.specs.List.Sorted.{IsStrictlySortedBy};
 ghost use Rattle.std.specs.Ordering.{is_gt, nat_cmp, on};
 ghost use Rattle.tl_layout.specs.ByType.{of_number};
 ghost use Rattle.tl_layout.specs.Fields.{Fields2, Fields4, Fields5, Fields6, Fields7, FieldsP};
-ghost use Rattle.tl_shape.specs.Chain.{Chain};
 ghost use Rattle.tl_layout.specs.Numbers.{IsNumber, IsNumberOrNone};
 ghost use Rattle.tl_county.specs.Building.{chain_with, chains_along, landmark_of, link_nodes, polygon_body_of};
 ghost use Rattle.tl_county.specs.County.{one_tlid, two_tlid, four_tlid, six_tlid, seven_land, eight_land, p_key, first};
-ghost use Rattle.tl_county.specs.LandmarkParts.{LandmarkParts};
 ghost use Rattle.tl_county.specs.Orders.{IsInOrder, distinct};
 ghost use Rattle.tl_county.specs.PolygonKeys.{key_cmp};
 
+use crate::keeping::{KeptChain, KeptLandmark};
 use crate::keyed::{keys_of, split_group};
 use crate::number_set::NumberSet;
 use crate::record_keys::PolygonKey;
@@ -125,10 +124,7 @@ pub(crate) fn surroundings_of(link: &RecI) -> Surroundings
 }
 
 /// What builds the chains of a county, as they are kept there. They may keep the records of types 1 and I, which live for `'t`.
-pub(crate) trait ChainBuilder<'t, C: Drop> {
-    /// The chain that was built.
-    ghost chain: { C → Chain };
-
+pub(crate) trait ChainBuilder<'t, C: KeptChain> {
     /// The chain of its records of types 1, 2, 4, 6 and I, those of types 2, 4 and 6 in the order of their RTSQs.
     fn build_chain(
         &mut self,
@@ -138,7 +134,7 @@ pub(crate) trait ChainBuilder<'t, C: Drop> {
         ranges: &[Rec6],
         link: &'t RecI,
     ) -> Result<C, AllocError>
-        ensures { IfOk result (λ built. chain built ≡ chain_with head.now link.now shape.now names.now ranges.now) };
+        ensures { IfOk result (λ built. C.chain built ≡ chain_with head.now link.now shape.now names.now ranges.now) };
 }
 
 /// Records of types 2, 4 and 6, which tell of chains what their records of types 1 and I don't.
@@ -151,7 +147,7 @@ struct Details<'r> {
 
 /// Adds the chain of its records of types 1 and I and of those of its TLID among the details, which are left with the records
 /// of greater TLIDs.
-fn push_chain<'t, 'r, C: Drop, B: ChainBuilder<'t, C>>(
+fn push_chain<'t, 'r, C: KeptChain, B: ChainBuilder<'t, C>>(
     chains: &mut Vec<C>,
     builder: &mut B,
     head: &'t Rec1,
@@ -161,7 +157,7 @@ fn push_chain<'t, 'r, C: Drop, B: ChainBuilder<'t, C>>(
     requires shapes { IsInOrder (on two_tlid nat_cmp) details.old.shapes.now }
     requires names { IsInOrder (on four_tlid nat_cmp) details.old.names.now }
     requires ranges { IsInOrder (on six_tlid nat_cmp) details.old.ranges.now }
-    ensures chains { OnOk result (map B.chain chains.new.items ≡ map B.chain chains.old.items ++ (chain_with head.now link.now
+    ensures chains { OnOk result (map C.chain chains.new.items ≡ map C.chain chains.old.items ++ (chain_with head.now link.now
         (of_number two_tlid head.now.tlid details.old.shapes.now)
         (of_number four_tlid head.now.tlid details.old.names.now)
         (of_number six_tlid head.now.tlid details.old.ranges.now) ∷ [])) }
@@ -181,7 +177,7 @@ fn push_chain<'t, 'r, C: Drop, B: ChainBuilder<'t, C>>(
 }
 
 /// The chains of records of types 1 and I, which stand side by side, each with its records of types 2, 4 and 6.
-pub(crate) fn chains_of_records<'t, C: Drop, B: ChainBuilder<'t, C>>(
+pub(crate) fn chains_of_records<'t, C: KeptChain, B: ChainBuilder<'t, C>>(
     alloc: Global,
     builder: &mut B,
     heads: &'t [Rec1],
@@ -194,7 +190,7 @@ pub(crate) fn chains_of_records<'t, C: Drop, B: ChainBuilder<'t, C>>(
     requires shapes { IsInOrder (on two_tlid nat_cmp) shapes.now }
     requires names { IsInOrder (on four_tlid nat_cmp) names.now }
     requires ranges { IsInOrder (on six_tlid nat_cmp) ranges.now }
-    ensures { IfOk result (λ chains. map B.chain chains.items ≡ chains_along shapes.now names.now ranges.now heads.now links.now) }
+    ensures { IfOk result (λ chains. map C.chain chains.items ≡ chains_along shapes.now names.now ranges.now heads.now links.now) }
 {
     let mut chains = Vec::with_capacity(alloc, heads.len())?;
     let mut details = Details {
@@ -226,17 +222,14 @@ pub(crate) fn lands_of(alloc: Global, landmarks: &[Rec7]) -> Result<Vec<u64>, Al
 }
 
 /// What builds the landmarks of a county, as they are kept there.
-pub(crate) trait LandmarkBuilder<L: Drop> {
-    /// The landmark that was built.
-    ghost landmark: { L → LandmarkParts };
-
+pub(crate) trait LandmarkBuilder<L: KeptLandmark> {
     /// The landmark of its records of types 7 and 8, in their order.
     fn build_landmark(&mut self, records: &[Rec7], links: &[Rec8]) -> Result<L, AllocError>
-        ensures { IfOk result (λ built. landmark built ≡ record { bodies = map (λ (r : Fields7). r.body) records.now; links = links.now }) };
+        ensures { IfOk result (λ built. L.landmark built ≡ record { bodies = map (λ (r : Fields7). r.body) records.now; links = links.now }) };
 }
 
 /// The landmarks of these LANDs, of records of types 7 and 8 in the order of their LANDs.
-pub(crate) fn landmarks_of<L: Drop, B: LandmarkBuilder<L>>(
+pub(crate) fn landmarks_of<L: KeptLandmark, B: LandmarkBuilder<L>>(
     alloc: Global,
     builder: &mut B,
     lands: &[u64],
@@ -246,7 +239,7 @@ pub(crate) fn landmarks_of<L: Drop, B: LandmarkBuilder<L>>(
     requires lands { IsStrictlySortedBy nat_cmp lands.now }
     requires landmarks { IsInOrder (on seven_land nat_cmp) landmarks.now }
     requires links { IsInOrder (on eight_land nat_cmp) links.now }
-    ensures { IfOk result (λ found. map B.landmark found.items ≡ map (landmark_of landmarks.now links.now) lands.now) }
+    ensures { IfOk result (λ found. map L.landmark found.items ≡ map (landmark_of landmarks.now links.now) lands.now) }
 {
     let mut found = Vec::with_capacity(alloc, lands.len())?;
     let mut landmarks = landmarks;

@@ -2,13 +2,14 @@
 
 ghost use Rattle.std.specs.Prelude.{◌≡◌};
 
+use crate::keeping::KeptChain;
 use std::marker::Model;
 use tl_layout::{Body1, BodyI, Point, Ranges, Rec1, RecI, Side};
 
 /// A chain without its TLID over its records of types 1 and I, which are lent; its points, FEATs and further address ranges
 /// are lent too, as from an arena.
 #[derive(Drop)]
-pub(crate) struct ChainOver<'a> {
+pub struct ChainOver<'a> {
     head: &'a Rec1,
     link: &'a RecI,
     points: &'a [Point],
@@ -63,67 +64,44 @@ impl<'a> ChainOver<'a> {
             ranges,
         }
     }
+}
 
-    /// The content of its record of type 1.
-    pub(crate) fn body(&self) -> &Body1
-        ensures { result.now ≡ self.now.body }
-    {
+impl<'a> KeptChain for ChainOver<'a> {
+    ghost chain = { λ c. c };
+
+    fn body(&self) -> &Body1 {
         self.head.body()
     }
 
-    /// Its points, from its start node to its end node.
-    pub(crate) fn points(&self) -> &[Point]
-        ensures { result.now ≡ self.now.points }
-    {
+    fn points(&self) -> &[Point] {
         self.points
     }
 
-    /// The FEATs of its further names.
-    pub(crate) fn feats(&self) -> &[u32]
-        ensures { result.now ≡ self.now.feats }
-    {
+    fn feats(&self) -> &[u32] {
         self.feats
     }
 
-    /// Its further address ranges.
-    pub(crate) fn ranges(&self) -> &[Ranges]
-        ensures { result.now ≡ self.now.ranges }
-    {
+    fn ranges(&self) -> &[Ranges] {
         self.ranges
     }
 
-    /// The content of its record of type I.
-    pub(crate) fn link_body(&self) -> &BodyI
-        ensures { result.now ≡ self.now.link_body }
-    {
+    fn link_body(&self) -> &BodyI {
         self.link.body()
     }
 
-    /// The node where it starts, or none.
-    pub(crate) fn start_node(&self) -> Option<u64>
-        ensures { result ≡ self.now.start_node }
-    {
+    fn start_node(&self) -> Option<u64> {
         self.link.start_node()
     }
 
-    /// The node where it ends, or none.
-    pub(crate) fn end_node(&self) -> Option<u64>
-        ensures { result ≡ self.now.end_node }
-    {
+    fn end_node(&self) -> Option<u64> {
         self.link.end_node()
     }
 
-    /// What stands on its left side.
-    pub(crate) fn left(&self) -> &Side
-        ensures { result.now ≡ self.now.left }
-    {
+    fn left(&self) -> &Side {
         self.link.left()
     }
 
-    /// What stands on its right side.
-    pub(crate) fn right(&self) -> &Side
-        ensures { result.now ≡ self.now.right }
-    {
+    fn right(&self) -> &Side {
         self.link.right()
     }
 }

@@ -2,13 +2,14 @@
 
 ghost use Rattle.std.specs.Prelude.{◌≡◌};
 
+use crate::keeping::KeptLandmark;
 use std::marker::Model;
 use tl_layout::{Body7, Rec8};
 
 /// A landmark: the contents of its records of type 7 and its records of type 8, both in order and as often as they stand
 /// in the set.
 #[derive(Debug, Drop)]
-pub(crate) struct Landmark {
+pub struct Landmark {
     bodies: Vec<Body7>,
     links: Vec<Rec8>,
 }
@@ -28,18 +29,16 @@ impl Landmark {
     {
         Landmark { bodies, links }
     }
+}
 
-    /// The contents of its records of type 7, by FILE, SOURCE, CFCC, LANAME and the point, none first.
-    pub(crate) fn bodies(&self) -> &[Body7]
-        ensures { result.now ≡ self.now.bodies }
-    {
+impl KeptLandmark for Landmark {
+    ghost landmark = { λ l. l };
+
+    fn bodies(&self) -> &[Body7] {
         self.bodies.as_slice()
     }
 
-    /// Its records of type 8, by POLYID, CENID and FILE.
-    pub(crate) fn links(&self) -> &[Rec8]
-        ensures { result.now ≡ self.now.links }
-    {
+    fn links(&self) -> &[Rec8] {
         self.links.as_slice()
     }
 }

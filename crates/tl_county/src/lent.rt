@@ -2,12 +2,13 @@
 
 ghost use Rattle.std.specs.Prelude.{◌≡◌};
 
+use crate::keeping::{KeptLandmark, KeptName};
 use std::marker::Model;
 use tl_layout::{Body5, Body7, Rec8};
 
 /// A name whose content is lent, as from an arena.
 #[derive(Debug, Drop)]
-pub(crate) struct NameIn<'a> {
+pub struct NameIn<'a> {
     body: &'a Body5,
 }
 
@@ -35,9 +36,17 @@ impl<'a> NameIn<'a> {
     }
 }
 
+impl<'a> KeptName for NameIn<'a> {
+    ghost name = { λ n. n };
+
+    fn content(&self) -> &Body5 {
+        self.body()
+    }
+}
+
 /// A landmark, as [`Landmark`](crate::landmark::Landmark) is one, whose lists are lent, as from an arena.
 #[derive(Debug, Drop)]
-pub(crate) struct LandmarkIn<'a> {
+pub struct LandmarkIn<'a> {
     bodies: &'a [Body7],
     links: &'a [Rec8],
 }
@@ -70,5 +79,17 @@ impl<'a> LandmarkIn<'a> {
         ensures { result.now ≡ self.now.links }
     {
         self.links
+    }
+}
+
+impl<'a> KeptLandmark for LandmarkIn<'a> {
+    ghost landmark = { λ l. l };
+
+    fn bodies(&self) -> &[Body7] {
+        self.bodies()
+    }
+
+    fn links(&self) -> &[Rec8] {
+        self.links()
     }
 }

@@ -5,14 +5,11 @@ mod arena;
 mod building;
 mod chain_over;
 mod chart;
-mod county;
-mod county_chart;
-mod county_in;
-mod county_in_chart;
-mod county_over;
-mod county_over_chart;
 mod fault;
 mod gathered;
+mod keeping;
+mod kept;
+mod kept_chart;
 mod key_set;
 mod keyed;
 mod landmark;
@@ -29,10 +26,8 @@ mod rules;
 mod table;
 
 pub use chart::Chart;
-pub use county::County;
-pub use county_in::CountyIn;
-pub use county_over::CountyOver;
 pub use fault::{LinkFault, LinkedType, SequencedType};
+pub use kept::{County, CountyIn, CountyOver};
 pub use key_set::KeySet;
 pub use keyed::{
     Key, Keyed, least_repeated, least_unknown, place_of, put_in_order, sort_keys, split_group,

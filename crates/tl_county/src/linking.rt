@@ -1,39 +1,37 @@
 //! Linking: records become a county, or the first rule that they break is told.
 
-ghost use Rattle.std.specs.Prelude.{◌≡◌, ◌≢◌, ◌++◌, List, All, map, flat_map, OnOk, IfOk, IfErr};
+ghost use Rattle.std.specs.Prelude.{◌≡◌, ◌≢◌, ◌++◌, List, All, map, flat_map, OnOk, IfOk, IfErr, IsPermutation};
 ghost use Rattle.std.specs.Ordering.{nat_cmp};
+ghost use Rattle.tl_layout.specs.Fields.{Fields5};
 ghost use Rattle.tl_layout.specs.Limits.{IsWithinLimit};
 ghost use Rattle.tl_layout.specs.RecordText.{FitsRecord};
 ghost use Rattle.tl_layout.specs.declared.record_type.Record.{Record};
 ghost use Rattle.tl_layout.specs.Tables.{HoldsByType};
 ghost use Rattle.tl_county.specs.Building.{county_along, landmarks_along, link_nodes};
-ghost use Rattle.tl_county.specs.County.{county_of, five_feat, i_tlid, one_tlid, p_key, side_keys};
+ghost use Rattle.tl_county.specs.County.{county_of, five_feat, i_tlid, link_key, one_tlid, p_key, side_keys};
 ghost use Rattle.tl_county.specs.Limits.{HoldsWithinLimits, IsWithinLimits, most_records};
 ghost use Rattle.tl_county.specs.LinkRules.{IsFirstBrokenRule, IsLinked};
 ghost use Rattle.tl_county.specs.Entries.{map_values};
 ghost use Rattle.tl_county.specs.Keyed.{IsLeastPassing, is_unknown};
 ghost use Rattle.tl_county.specs.OrderedTables.{typed_of, AreInOrder, ArePermuted};
-ghost use Rattle.tl_county.specs.Orders.{distinct};
+ghost use Rattle.tl_county.specs.Orders.{IsInOrder, distinct};
 ghost use Rattle.tl_county.specs.RepeatedKeys.{AreLeastRepeated};
+ghost use Rattle.tl_county.specs.SequenceKeys.{is_unnamed, sequence_cmp, uses_of};
 ghost use Rattle.tl_county.specs.Packing.{by_type, type_after_type};
-ghost use Rattle.tl_county.specs.TheCounty.{the_county};
-ghost use Rattle.tl_county.specs.TheCountyIn.{the_county_in};
 ghost use Rattle.tl_county.specs.PolygonKeys.{key_cmp};
 ghost use Rattle.tl_county.specs.declared.fault.LinkFault.TheVariants.{Memory};
 
-use crate::arena::{InArena, names_in};
 use crate::building::{
-    ChainBuilder, LandmarkBuilder, chains_of_records, landmarks_of, lands_of, name_bodies,
-    nodes_of, polygon_bodies,
+    ChainBuilder, LandmarkBuilder, chains_of_records, landmarks_of, lands_of, nodes_of,
+    polygon_bodies,
 };
-use crate::county::County;
-use crate::county_in::CountyIn;
+use crate::chart::Chart;
 use crate::fault::LinkFault;
 use crate::gathered::{Ordered, Polygons, gather_polygons, linked_polygons, order_tables};
+use crate::keeping::{KeptChain, KeptLandmark, KeptName};
+use crate::kept::{County, CountyIn, Kept};
 use crate::keyed::keys_of;
-use crate::landmark::Landmark;
-use crate::lent::{LandmarkIn, NameIn};
-use crate::owned::Owned;
+use crate::linked_records::link_in_order;
 use crate::record_keys::PolygonKey;
 use crate::rules::{
     check_chains, check_landmarks, check_links, check_names, check_sequences, unnamed_use,
@@ -41,38 +39,67 @@ use crate::rules::{
 use crate::table::Table;
 use bumpalo::Bump;
 use std::alloc::{AllocError, Global};
-use tl_layout::{Body5, BodyP, Rec5, Record, Tables};
-use tl_shape::{Chain, ChainIn};
+use tl_layout::{BodyP, Rec5, Record, Tables};
 
-/// The ten rules, over tables in order, with what that told, and their FEATs and their polygons in order.
-fn check_rules(
+/// What records refer to: the least use of a FEAT that has no record of type 5, as TLID and FEAT, and the polygons of the records
+/// of type 8, in order.
+#[derive(Drop)]
+struct References {
+    unnamed: Option<(u64, u32)>,
+    polygons: Vec<PolygonKey>,
+}
+
+/// What the records of tables in order refer to, whose FEATs are these.
+fn gather_references(
     alloc: Global,
     tables: &Tables,
-    ordered: &Ordered,
     feats: &[u32],
+) -> Result<References, AllocError>
+    requires tables { AreInOrder (typed_of tables.now) }
+    requires feats { feats.now ≡ map five_feat tables.now.type_5.items }
+    ensures unnamed { IfOk result (λ references. IsLeastPassing sequence_cmp
+        (is_unnamed (flat_map uses_of tables.now.type_4.items) (map five_feat tables.now.type_5.items)) references.unnamed) }
+    ensures in_order { IfOk result (λ references. IsInOrder key_cmp references.polygons.items) }
+    ensures polygons { IfOk result (λ references. IsPermutation (map link_key tables.now.type_8.items) references.polygons.items) }
+{
+    let unnamed = unnamed_use(alloc, &tables.type_4, feats)?;
+    let polygons = linked_polygons(alloc, &tables.type_8)?;
+    Ok(References { unnamed, polygons })
+}
+
+/// The ten rules, over tables in order, with what that told, with what they refer to, and their polygons in order.
+fn check_rules(
+    tables: &Tables,
+    ordered: &Ordered,
+    references: &References,
     polygons: &[PolygonKey],
 ) -> Result<(), LinkFault>
     requires tables { AreInOrder (typed_of tables.now) }
     requires chains { ordered.now.tlids.chains.items ≡ map one_tlid tables.now.type_1.items }
     requires links { ordered.now.tlids.links.items ≡ map i_tlid tables.now.type_i.items }
     requires repeated { AreLeastRepeated ordered.now.repeated (typed_of tables.now) }
-    requires feats { feats.now ≡ map five_feat tables.now.type_5.items }
+    requires unnamed { IsLeastPassing sequence_cmp
+        (is_unnamed (flat_map uses_of tables.now.type_4.items) (map five_feat tables.now.type_5.items)) references.now.unnamed }
+    requires linked { IsInOrder key_cmp references.now.polygons.items × IsPermutation (map link_key tables.now.type_8.items) references.now.polygons.items }
     requires polygons { polygons.now ≡ distinct key_cmp (flat_map side_keys tables.now.type_i.items ++ map p_key tables.now.type_p.items) }
     ensures linked { OnOk result ((records : List Record) → by_type records ≡ typed_of tables.now → IsLinked records) }
-    ensures broken { IfErr result (λ fault. fault ≢ Memory → (records : List Record) → by_type records ≡ typed_of tables.now → IsFirstBrokenRule records fault) }
+    ensures broken { IfErr result (λ fault. (records : List Record) → by_type records ≡ typed_of tables.now → IsFirstBrokenRule records fault) }
 {
     let tlids = &ordered.tlids;
     check_chains(tables, &tlids.chains, &tlids.links)?;
     check_sequences(&ordered.repeated)?;
     check_links(tables, &tlids.chains, &tlids.links)?;
-    let unnamed = unnamed_use(alloc, &tables.type_4, feats)?;
-    check_names(tables, unnamed)?;
-    let linked = linked_polygons(alloc, &tables.type_8)?;
-    check_landmarks(tables, ordered.repeated.type_p, &linked, polygons)
+    check_names(tables, references.unnamed)?;
+    check_landmarks(
+        tables,
+        ordered.repeated.type_p,
+        &references.polygons,
+        polygons,
+    )
 }
 
 /// The chains of tables in order, under their TLIDs.
-fn build_chains<'t, C: Drop, B: ChainBuilder<'t, C>>(
+fn build_chains<'t, C: KeptChain, B: ChainBuilder<'t, C>>(
     alloc: Global,
     builder: &mut B,
     tables: &'t Tables,
@@ -81,7 +108,7 @@ fn build_chains<'t, C: Drop, B: ChainBuilder<'t, C>>(
     requires tables { AreInOrder (typed_of tables.now) }
     requires linked { IsLinked (type_after_type (typed_of tables.now)) }
     requires tlids { tlids.items ≡ map one_tlid tables.now.type_1.items }
-    ensures { IfOk result (λ chains. map_values B.chain chains ≡ (county_along (typed_of tables.now)).chains) }
+    ensures { IfOk result (λ chains. map_values C.chain chains ≡ (county_along (typed_of tables.now)).chains) }
 {
     let chains = chains_of_records::<C, B>(
         alloc,
@@ -93,21 +120,6 @@ fn build_chains<'t, C: Drop, B: ChainBuilder<'t, C>>(
         &tables.type_6,
     )?;
     Ok(Table::new(tlids, chains))
-}
-
-/// The names of tables in order, under their FEATs.
-fn build_names(
-    alloc: Global,
-    tables: &Tables,
-    feats: Vec<u32>,
-) -> Result<Table<u32, Body5>, AllocError>
-    requires tables { AreInOrder (typed_of tables.now) }
-    requires linked { IsLinked (type_after_type (typed_of tables.now)) }
-    requires feats { feats.items ≡ map five_feat tables.now.type_5.items }
-    ensures { IfOk result (λ names. names ≡ (county_along (typed_of tables.now)).names) }
-{
-    let bodies = name_bodies(alloc, &tables.type_5)?;
-    Ok(Table::new(feats, bodies))
 }
 
 /// The polygons of tables in order, under their keys.
@@ -125,13 +137,13 @@ fn build_polygons(
 }
 
 /// The landmarks of tables in order, under their LANDs.
-fn build_landmarks<L: Drop, B: LandmarkBuilder<L>>(
+fn build_landmarks<L: KeptLandmark, B: LandmarkBuilder<L>>(
     alloc: Global,
     builder: &mut B,
     tables: &Tables,
 ) -> Result<Table<u64, L>, AllocError>
     requires tables { AreInOrder (typed_of tables.now) }
-    ensures { IfOk result (λ landmarks. map_values B.landmark landmarks ≡ landmarks_along (typed_of tables.now)) }
+    ensures { IfOk result (λ landmarks. map_values L.landmark landmarks ≡ landmarks_along (typed_of tables.now)) }
 {
     let lands = lands_of(alloc, &tables.type_7)?;
     let landmarks = landmarks_of::<L, B>(alloc, builder, &lands, &tables.type_7, &tables.type_8)?;
@@ -156,15 +168,15 @@ fn build_nodes_and_polygons(
 
 /// The chains, nodes, polygons and landmarks of a county, which are all of it but its names.
 #[derive(Drop)]
-pub(crate) struct CountyParts<C: Drop, L: Drop> {
-    pub(crate) chains: Table<u64, C>,
-    pub(crate) nodes: Vec<u64>,
-    pub(crate) polygons: Table<PolygonKey, Option<BodyP>>,
-    pub(crate) landmarks: Table<u64, L>,
+struct CountyParts<C: Drop, L: Drop> {
+    chains: Table<u64, C>,
+    nodes: Vec<u64>,
+    polygons: Table<PolygonKey, Option<BodyP>>,
+    landmarks: Table<u64, L>,
 }
 
 /// The parts of the county of linked tables in order, all but the names.
-pub(crate) fn build_parts<'t, C: Drop, L: Drop, B: ChainBuilder<'t, C> + LandmarkBuilder<L>>(
+fn build_parts<'t, C: KeptChain, L: KeptLandmark, B: ChainBuilder<'t, C> + LandmarkBuilder<L>>(
     alloc: Global,
     builder: &mut B,
     tables: &'t Tables,
@@ -175,10 +187,10 @@ pub(crate) fn build_parts<'t, C: Drop, L: Drop, B: ChainBuilder<'t, C> + Landmar
     requires linked { IsLinked (type_after_type (typed_of tables.now)) }
     requires tlids { tlids.items ≡ map one_tlid tables.now.type_1.items }
     requires polygons { polygons.items ≡ distinct key_cmp (flat_map side_keys tables.now.type_i.items ++ map p_key tables.now.type_p.items) }
-    ensures chains { IfOk result (λ parts. map_values B.chain parts.chains ≡ (county_along (typed_of tables.now)).chains) }
+    ensures chains { IfOk result (λ parts. map_values C.chain parts.chains ≡ (county_along (typed_of tables.now)).chains) }
     ensures nodes { IfOk result (λ parts. parts.nodes.items ≡ distinct nat_cmp (flat_map link_nodes tables.now.type_i.items)) }
     ensures polygons { IfOk result (λ parts. parts.polygons ≡ (county_along (typed_of tables.now)).polygons) }
-    ensures landmarks { IfOk result (λ parts. map_values B.landmark parts.landmarks ≡ landmarks_along (typed_of tables.now)) }
+    ensures landmarks { IfOk result (λ parts. map_values L.landmark parts.landmarks ≡ landmarks_along (typed_of tables.now)) }
 {
     let chains = build_chains::<C, B>(alloc, builder, tables, tlids)?;
     let (nodes, polygons) = build_nodes_and_polygons(alloc, tables, polygons)?;
@@ -191,79 +203,35 @@ pub(crate) fn build_parts<'t, C: Drop, L: Drop, B: ChainBuilder<'t, C> + Landmar
     })
 }
 
-/// The county of linked records, their tables in order.
-fn build_county(
+/// The county of linked tables in order, with these names of its records of type 5, in their order.
+pub(crate) fn build_county<
+    't,
+    C: KeptChain,
+    N: KeptName,
+    L: KeptLandmark,
+    B: ChainBuilder<'t, C> + LandmarkBuilder<L>,
+>(
     alloc: Global,
-    tables: &Tables,
+    builder: &mut B,
+    tables: &'t Tables,
     tlids: Vec<u64>,
     feats: Vec<u32>,
+    names: Vec<N>,
     polygons: Vec<PolygonKey>,
-) -> Result<County, AllocError>
+) -> Result<Kept<C, N, L>, AllocError>
     requires tables { AreInOrder (typed_of tables.now) }
     requires linked { IsLinked (type_after_type (typed_of tables.now)) }
     requires tlids { tlids.items ≡ map one_tlid tables.now.type_1.items }
     requires feats { feats.items ≡ map five_feat tables.now.type_5.items }
+    requires names { map N.name names.items ≡ map (λ (r : Fields5). r.body) tables.now.type_5.items }
     requires polygons { polygons.items ≡ distinct key_cmp (flat_map side_keys tables.now.type_i.items ++ map p_key tables.now.type_p.items) }
     requires limits { IsWithinLimits most_records (county_of (type_after_type (typed_of tables.now))) }
-    ensures { IfOk result (λ county. the_county county ≡ county_of (type_after_type (typed_of tables.now))) }
+    ensures { IfOk result (λ county. ⟦<Kept<C, N, L> as Chart>⟧.county county ≡ county_of (type_after_type (typed_of tables.now))) }
 {
-    let mut owned = Owned { alloc };
-    let parts = build_parts::<Chain, Landmark, Owned>(alloc, &mut owned, tables, tlids, polygons)?;
-    let names = build_names(alloc, tables, feats)?;
-    Ok(County {
+    let parts = build_parts::<C, L, B>(alloc, builder, tables, tlids, polygons)?;
+    Ok(Kept {
         chains: parts.chains,
-        names,
-        polygons: parts.polygons,
-        landmarks: parts.landmarks,
-        nodes: parts.nodes,
-    })
-}
-
-/// The names of tables in order, under their FEATs, their contents in an arena.
-fn build_names_in<'a>(
-    alloc: Global,
-    arena: &'a Bump,
-    tables: &Tables,
-    feats: Vec<u32>,
-) -> Result<Table<u32, NameIn<'a>>, AllocError>
-    requires tables { AreInOrder (typed_of tables.now) }
-    requires linked { IsLinked (type_after_type (typed_of tables.now)) }
-    requires feats { feats.items ≡ map five_feat tables.now.type_5.items }
-    ensures { IfOk result (λ names. names ≡ (county_along (typed_of tables.now)).names) }
-{
-    let names = names_in(alloc, arena, &tables.type_5)?;
-    Ok(Table::new(feats, names))
-}
-
-/// The county of linked records in an arena, their tables in order.
-fn build_county_in<'a>(
-    alloc: Global,
-    arena: &'a Bump,
-    tables: &Tables,
-    tlids: Vec<u64>,
-    feats: Vec<u32>,
-    polygons: Vec<PolygonKey>,
-) -> Result<CountyIn<'a>, AllocError>
-    requires tables { AreInOrder (typed_of tables.now) }
-    requires linked { IsLinked (type_after_type (typed_of tables.now)) }
-    requires tlids { tlids.items ≡ map one_tlid tables.now.type_1.items }
-    requires feats { feats.items ≡ map five_feat tables.now.type_5.items }
-    requires polygons { polygons.items ≡ distinct key_cmp (flat_map side_keys tables.now.type_i.items ++ map p_key tables.now.type_p.items) }
-    requires limits { IsWithinLimits most_records (county_of (type_after_type (typed_of tables.now))) }
-    ensures { IfOk result (λ county. the_county_in county ≡ county_of (type_after_type (typed_of tables.now))) }
-{
-    let mut builder = InArena::new(alloc, arena);
-    let parts = build_parts::<ChainIn<'a>, LandmarkIn<'a>, InArena<'a>>(
-        alloc,
-        &mut builder,
-        tables,
-        tlids,
-        polygons,
-    )?;
-    let names = build_names_in(alloc, arena, tables, feats)?;
-    Ok(CountyIn {
-        chains: parts.chains,
-        names,
+        names: Table::new(feats, names),
         polygons: parts.polygons,
         landmarks: parts.landmarks,
         nodes: parts.nodes,
@@ -295,7 +263,8 @@ pub(crate) fn settle(alloc: Global, tables: &mut Tables) -> Result<Gathered, Lin
     let ordered = order_tables(alloc, tables)?;
     let feats = keys_of::<u32, Rec5>(alloc, &tables.type_5)?;
     let polygons = gather_polygons(alloc, &tables.type_i, &tables.type_p)?;
-    check_rules(alloc, tables, &ordered, &feats, &polygons.keys)?;
+    let references = gather_references(alloc, tables, &feats)?;
+    check_rules(tables, &ordered, &references, &polygons.keys)?;
     Ok(Gathered {
         tlids: ordered.tlids.chains,
         feats,
@@ -308,19 +277,12 @@ pub(crate) fn settle(alloc: Global, tables: &mut Tables) -> Result<Gathered, Lin
 pub fn link_tables(alloc: Global, tables: Tables) -> Result<County, LinkFault>
     requires { HoldsWithinLimits tables }
     ensures linked { IfOk result (λ county. (records : List Record) →
-        HoldsByType tables records → IsLinked records × (the_county county ≡ county_of records)) }
+        HoldsByType tables records → IsLinked records × (⟦<County as Chart>⟧.county county ≡ county_of records)) }
     ensures broken { IfErr result (λ fault. fault ≢ Memory → (records : List Record) →
         HoldsByType tables records → IsFirstBrokenRule records fault) }
 {
-    let mut tables = tables;
-    let gathered = settle(alloc, &mut tables)?;
-    Ok(build_county(
-        alloc,
-        &tables,
-        gathered.tlids,
-        gathered.feats,
-        gathered.polygons.keys,
-    )?)
+    let linked = link_in_order(alloc, tables)?;
+    Ok(linked.into_county(alloc)?)
 }
 
 /// The county of tables of records in an arena, which outlives it, or the first rule that the records break. The tables' order
@@ -332,20 +294,12 @@ pub fn link_tables_in<'a>(
 ) -> Result<CountyIn<'a>, LinkFault>
     requires { HoldsWithinLimits tables }
     ensures linked { IfOk result (λ county. (records : List Record) →
-        HoldsByType tables records → IsLinked records × (the_county_in county ≡ county_of records)) }
+        HoldsByType tables records → IsLinked records × (⟦<CountyIn<'a> as Chart>⟧.county county ≡ county_of records)) }
     ensures broken { IfErr result (λ fault. fault ≢ Memory → (records : List Record) →
         HoldsByType tables records → IsFirstBrokenRule records fault) }
 {
-    let mut tables = tables;
-    let gathered = settle(alloc, &mut tables)?;
-    Ok(build_county_in(
-        alloc,
-        arena,
-        &tables,
-        gathered.tlids,
-        gathered.feats,
-        gathered.polygons.keys,
-    )?)
+    let linked = link_in_order(alloc, tables)?;
+    Ok(linked.into_county_in(alloc, arena)?)
 }
 
 /// The county of a list of records, or the first rule that the records break. The list's order has no meaning. It has
@@ -353,7 +307,7 @@ pub fn link_tables_in<'a>(
 pub fn link(alloc: Global, records: Vec<Record>) -> Result<County, LinkFault>
     requires fits { All FitsRecord records.items }
     requires few { IsWithinLimit most_records records.items }
-    ensures linked { IfOk result (λ county. IsLinked records.items × (the_county county ≡ county_of records.items)) }
+    ensures linked { IfOk result (λ county. IsLinked records.items × (⟦<County as Chart>⟧.county county ≡ county_of records.items)) }
     ensures broken { IfErr result (λ fault. fault ≢ Memory → IsFirstBrokenRule records.items fault) }
 {
     let tables = Tables::of(alloc, records)?;
@@ -369,7 +323,7 @@ pub fn link_in<'a>(
 ) -> Result<CountyIn<'a>, LinkFault>
     requires fits { All FitsRecord records.items }
     requires few { IsWithinLimit most_records records.items }
-    ensures linked { IfOk result (λ county. IsLinked records.items × (the_county_in county ≡ county_of records.items)) }
+    ensures linked { IfOk result (λ county. IsLinked records.items × (⟦<CountyIn<'a> as Chart>⟧.county county ≡ county_of records.items)) }
     ensures broken { IfErr result (λ fault. fault ≢ Memory → IsFirstBrokenRule records.items fault) }
 {
     let tables = Tables::of(alloc, records)?;

@@ -1,7 +1,5 @@
 //! The parts of an owned county: each list is a vector of its own.
 
-ghost use Rattle.std.specs.Prelude.{◌≡◌};
-
 use crate::building::{
     ChainBuilder, LandmarkBuilder, join_bodies, join_feats, join_points, join_ranges,
     surroundings_of,
@@ -18,8 +16,6 @@ pub(crate) struct Owned {
 }
 
 impl<'t> ChainBuilder<'t, Chain> for Owned {
-    ghost chain = { λ built. built };
-
     fn build_chain(
         &mut self,
         head: &'t Rec1,
@@ -41,8 +37,6 @@ impl<'t> ChainBuilder<'t, Chain> for Owned {
 }
 
 impl LandmarkBuilder<Landmark> for Owned {
-    ghost landmark = { λ built. built };
-
     fn build_landmark(&mut self, records: &[Rec7], links: &[Rec8]) -> Result<Landmark, AllocError> {
         let mut bodies = Vec::with_capacity(self.alloc, records.len())?;
         join_bodies(&mut bodies, records)?;

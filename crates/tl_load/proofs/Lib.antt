@@ -13,3 +13,4 @@ pub mod LineLaws
 pub mod TextLemmas
 pub mod RecordLines
 pub mod Lanes
+pub mod CutParts

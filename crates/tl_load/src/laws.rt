@@ -1,12 +1,13 @@
 //! Laws of the definitions, each the contract of a function that does nothing.
 
-ghost use Rattle.std.specs.Prelude.{◌≡◌, ◌↔◌, ◌⊎◌, ℕ, List, [], ◌∷◌, take, All, Ok, Err};
+ghost use Rattle.std.specs.Prelude.{◌≡◌, ◌↔◌, ◌⊎◌, ◌++◌, ℕ, List, [], ◌∷◌, take, All, Ok, Err};
 ghost use Rattle.tl_layout.specs.declared.record_type.Record.{Record};
 ghost use Rattle.tl_layout.specs.RecordText.{FitsRecord, text_of};
 ghost use Rattle.tl_layout.specs.Limits.{IsWithinLimit};
 ghost use Rattle.tl_load.specs.declared.fault.LineFault.{LineFault};
+ghost use Rattle.tl_load.specs.declared.fault.LoadFault.{LoadFault};
 ghost use Rattle.tl_load.specs.Choice.{tiger};
-ghost use Rattle.tl_load.specs.Outcome.{IsSpelled, IsFaulty, Spells, SpellsWithin};
+ghost use Rattle.tl_load.specs.Outcome.{IsSpelled, IsFaulty, Spells, SpellsWithin, FaultAt};
 ghost use Rattle.tl_load.specs.RecordLine.{HasRecord, IsFaultOfLine};
 ghost use Rattle.tl_load.specs.LineOf.{IsLineOf, IsFaultIn, judged_as};
 
@@ -47,4 +48,16 @@ pub fn spelled_records_fit()
     ensures parts { (parts : List (List ℕ)) (records : List Record) → Spells tiger parts records → All FitsRecord records }
     ensures within { (limit : ℕ) (parts : List (List ℕ)) (records : List Record)
         → SpellsWithin tiger limit parts records → IsWithinLimit limit records }
+{}
+
+/// Between lines a set may be cut into parts anywhere: what stands behind the end of a line spells as a part of its own what it
+/// spelled before. An empty part spells nothing, and at the end of a set it changes no fault.
+pub fn parts_may_be_cut_between_lines()
+    ensures cut { (before later : List (List ℕ)) (text rest : List ℕ) (records : List Record)
+        → (Spells tiger (before ++ (text ++ 10 ∷ rest) ∷ later) records
+        ↔ Spells tiger (before ++ (text ++ 10 ∷ []) ∷ rest ∷ later) records) }
+    ensures empty { (before later : List (List ℕ)) (records : List Record)
+        → (Spells tiger (before ++ [] ∷ later) records ↔ Spells tiger (before ++ later) records) }
+    ensures fault { (limit : ℕ) (parts : List (List ℕ)) (fault : LoadFault)
+        → (FaultAt tiger limit (parts ++ [] ∷ []) fault ↔ FaultAt tiger limit parts fault) }
 {}

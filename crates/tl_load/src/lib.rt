@@ -15,8 +15,8 @@ pub use bytes::first_bad;
 pub use fault::{LineFault, LoadFault};
 pub use keeper::{CanonicalText, Keeper};
 pub use laws::{
-    line_has_record, line_is_judged_as_its_record, spelled_or_one_fault, spelled_records_fit,
-    text_spells_its_records,
+    line_has_record, line_is_judged_as_its_record, parts_may_be_cut_between_lines,
+    spelled_or_one_fault, spelled_records_fit, text_spells_its_records,
 };
 pub use loader::Loader;
 pub use loader_into::{LoaderInto, MOST_BYTES, READ_BYTES};

@@ -1,6 +1,6 @@
 //! A county in an arrangement of its chains, read through the county that it comes from.
 
-ghost use Rattle.std.specs.Prelude.{◌≡◌, option_map, slice_get};
+ghost use Rattle.std.specs.Prelude.{◌≡◌, ◌<◌, Some, length, option_map, slice_get};
 ghost use Rattle.std.specs.Ordering.{nat_cmp};
 ghost use Rattle.tl_county.specs.CountyRules.{AllKeysStandIn, polygon_keys, polygons_along};
 ghost use Rattle.tl_county.specs.ChartWords.{chain_at};
@@ -15,26 +15,44 @@ ghost use Rattle.tl_number.specs.ViewProps.{AreWhole-prop, StandOnSides-prop, Te
 use crate::renumbering::new_feat;
 use crate::step::Step;
 use crate::tables::{Ends, LandmarkTables, NameTables, NodeTables, PolygonTables, Sides};
+use std::marker::PhantomData;
 use tl_county::{Chart, PolygonKey};
-use tl_layout::BodyP;
+use tl_layout::{BodyP, Rec8};
+
+/// What is known of an arranged county beyond that it is one, in terms of the county that it comes from and of itself.
+pub trait Standing {
+    ghost use Rattle.tl_county.specs.County.{County};
+
+    ghost holds: { County → County → Type 0 };
+}
+
+/// Nothing more is known.
+#[derive(Drop)]
+pub struct AnyArrangement;
+
+impl Standing for AnyArrangement {
+    ghost holds = { λ source county. Unit {0} };
+}
 
 /// A county whose chains stand in the order and in the directions of an arrangement, with all numbers that follow from
 /// it. Only the new numbers of nodes and sides are kept chain by chain: all other answers are those of the county that it comes
 /// from, turned and renumbered as they are read.
 #[derive(Drop)]
-pub struct Arranged<C: Chart> {
+pub struct Arranged<C: Chart, S: Standing = AnyArrangement> {
     pub(crate) chart: C,
     pub(crate) steps: Vec<Step>,
     pub(crate) nodes: NodeTables,
     pub(crate) polygons: PolygonTables,
     pub(crate) names: NameTables,
     pub(crate) landmarks: LandmarkTables,
+    pub(crate) standing: PhantomData<S>,
     ghost whole: { AreWhole (C.county chart) steps.items } by { AreWhole-prop (C.county chart) steps.items },
     ghost sides: { AllKeysStandIn (polygons_along (C.county chart).chains) (polygon_keys (C.county chart)) } by { StandOnSides-prop (C.county chart) },
     ghost nodes_told: { TellsNodes (C.county chart) steps.items nodes } by { TellsNodes-prop (C.county chart) steps.items nodes },
     ghost polygons_told: { TellsPolygons (C.county chart) steps.items polygons } by { TellsPolygons-prop (C.county chart) steps.items polygons },
     ghost names_told: { TellsNames (C.county chart) steps.items names } by { TellsNames-prop (C.county chart) steps.items names },
     ghost landmarks_told: { TellsLandmarks (C.county chart) steps.items landmarks } by { TellsLandmarks-prop (C.county chart) steps.items landmarks },
+    ghost stands: { ∥ S.holds (C.county chart) (stepped (C.county chart) steps.items) ∥₁ },
 }
 
 /// The old place at a new one, or none past the last one.
@@ -54,7 +72,7 @@ fn sides_there(sides: &[Sides], place: usize) -> Option<Sides>
     sides.get(place).copied()
 }
 
-impl<C: Chart> Arranged<C> {
+impl<C: Chart, S: Standing> Arranged<C, S> {
     /// The step of the chain at a place in the new order, or none past the last one.
     pub(crate) fn step_at(&self, place: usize) -> Option<Step>
         ensures { result ≡ slice_get self.now.steps.items place }
@@ -88,7 +106,7 @@ impl<C: Chart> Arranged<C> {
 
     /// The polygon at a place in the order of the new numbers, or none past the last one: its new key, and the content of its
     /// type P record, if it has one.
-    pub fn polygon_by_number(&self, place: usize) -> Option<(PolygonKey, Option<BodyP>)>
+    pub(crate) fn polygon_at_number(&self, place: usize) -> Option<(PolygonKey, Option<BodyP>)>
         ensures { result ≡ slice_get (polygons_by_number (stepped (C.county self.now.chart) self.now.steps.items)) place }
     {
         match self.polygons.numbers.key_at(place) {
@@ -99,5 +117,21 @@ impl<C: Chart> Arranged<C> {
             }
             None => None,
         }
+    }
+
+    /// The polygon of the number (POLYID) that is one above the place, which is below the count of polygons: its key, and the
+    /// content of its type P record, if it has one.
+    pub fn polygon_by_number(&self, place: usize) -> (PolygonKey, Option<BodyP>)
+        requires { place < length (stepped (C.county self.now.chart) self.now.steps.items).polygons }
+        ensures { Some result ≡ slice_get (polygons_by_number (stepped (C.county self.now.chart) self.now.steps.items)) place }
+    {
+        self.polygon_at_number(place).unwrap()
+    }
+
+    /// The links of all landmarks with their polygons (type 8 records), in order.
+    pub fn links(&self) -> &[Rec8]
+        ensures { result.now ≡ (stepped (C.county self.now.chart) self.now.steps.items).links }
+    {
+        &self.landmarks.links
     }
 }

@@ -1,6 +1,6 @@
 //! A county in an arrangement as a chart.
 
-use crate::arranged::{Arranged, old_place};
+use crate::arranged::{Arranged, Standing, old_place};
 use crate::counted::{number_at, place_of_number};
 use crate::slices::{link_at, links_of_landmark};
 use crate::step_readers::{
@@ -11,7 +11,7 @@ use tl_county::{Chart, PolygonKey, place_of};
 use tl_layout::{Body1, Body5, Body7, BodyI, BodyP, Point, Ranges, Rec8, Side};
 
 /// The county that the arrangement makes of the county behind it.
-impl<C: Chart> Chart for Arranged<C> {
+impl<C: Chart, S: Standing> Chart for Arranged<C, S> {
     ghost use Rattle.tl_number.specs.ViewFacts.{stepped};
 
     ghost county = { λ view. stepped (C.county view.chart) view.steps.items };

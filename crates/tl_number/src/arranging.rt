@@ -2,11 +2,10 @@
 
 ghost use Rattle.std.specs.Prelude.{◌≡◌, ◌<◌, ◌^◌, Err, IfOk, MatchResult, Ok, length};
 ghost use Rattle.tl_county.specs.CountyRules.{AllKeysStandIn, polygon_keys, polygons_along};
-ghost use Rattle.tl_county.specs.Renumbering.{Carries};
-ghost use Rattle.tl_county.specs.TheCountyIn.{the_county_in};
+ghost use Rattle.tl_county.specs.Renumbering.{AreSame, Carries};
 ghost use Rattle.tl_number.specs.Arrangement.{arranged, ascending, polygons_in_order, renaming_of};
 ghost use Rattle.tl_number.specs.Steps.{AreSteps, arrangement_of};
-ghost use Rattle.tl_number.specs.ViewFacts.{AreWhole, NamesEachOnce, TellsLandmarks, TellsNames, TellsNodes, TellsPolygons};
+ghost use Rattle.tl_number.specs.ViewFacts.{stepped, AreWhole, NamesEachOnce, TellsLandmarks, TellsNames, TellsNodes, TellsPolygons};
 ghost use Rattle.tl_number.specs.CanonCounties.{IsCanonCounty};
 ghost use Rattle.tl_profile.specs.Profile.{IsInProfile};
 ghost use Rattle.tl_profile.specs.ShapeOrder.{IsShapeOrder};
@@ -22,6 +21,7 @@ use crate::step::Step;
 use crate::tables::{LandmarkTables, NameTables, NodeTables, PolygonTables};
 use crate::walks::number_nodes;
 use std::alloc::{AllocError, Global};
+use std::marker::PhantomData;
 use tl_cert::Renaming;
 use tl_county::{Chart, CountyIn, PolygonKey};
 use tl_profile::{Admitted, AdmittedIn, ShapeOrder, order_by_shape};
@@ -106,7 +106,26 @@ pub fn arrange<C: Chart + Drop>(
         polygons,
         names,
         landmarks,
+        standing: PhantomData,
     })
+}
+
+/// An arranged county that is canonical and the same map as the county that it comes from, known as such.
+fn known_as_canonical<C: Chart + Drop>(view: Arranged<C>) -> CanonCounty<C>
+    requires canonical { IsCanonCounty (stepped (C.county view.chart) view.steps.items) }
+    requires same { AreSame (C.county view.chart) (stepped (C.county view.chart) view.steps.items) }
+    ensures source { result.chart ≡ view.chart }
+    ensures order { result.steps ≡ view.steps }
+{
+    Arranged {
+        chart: view.chart,
+        steps: view.steps,
+        nodes: view.nodes,
+        polygons: view.polygons,
+        names: view.names,
+        landmarks: view.landmarks,
+        standing: PhantomData,
+    }
 }
 
 /// The canonical county of a county in the profile, from the order of its chains by their shapes: it is that of the ascending
@@ -122,10 +141,11 @@ pub fn canonise_in_order<C: Chart + Drop>(
 ) -> Result<CanonCounty<C>, AllocError>
     requires profile { IsInProfile (C.county chart) }
     requires shapes { IsShapeOrder (C.county chart) order.now }
-    ensures source { IfOk result (λ canon. canon.view.chart ≡ chart) }
+    ensures source { IfOk result (λ canon. canon.chart ≡ chart) }
+    ensures source_county { IfOk result (λ canon. C.county canon.chart ≡ C.county chart) }
     ensures county { IfOk result
         (λ canon. ⟦<CanonCounty<C> as Chart>⟧.county canon ≡ arranged (C.county chart) (ascending (C.county chart))) }
-    ensures order { IfOk result (λ canon. arrangement_of (C.county chart) canon.view.steps.items ≡ ascending (C.county chart)) }
+    ensures order { IfOk result (λ canon. arrangement_of (C.county chart) canon.steps.items ≡ ascending (C.county chart)) }
     ensures carried { IfOk result
         (λ canon. Carries (renaming_of (C.county chart) (ascending (C.county chart))) (C.county chart)
         (⟦<CanonCounty<C> as Chart>⟧.county canon)) }
@@ -133,7 +153,7 @@ pub fn canonise_in_order<C: Chart + Drop>(
 {
     let steps = steps_in_order(alloc, order)?;
     let view = arrange(alloc, chart, steps)?;
-    Ok(CanonCounty { view })
+    Ok(known_as_canonical(view))
 }
 
 /// The canonical county of a county in the profile, however it is kept: it is that of the ascending arrangement, its chains
@@ -143,10 +163,10 @@ pub fn canonise_chart<C: Chart + Drop>(
     chart: C,
 ) -> Result<CanonCounty<C>, AllocError>
     requires profile { IsInProfile (C.county chart) }
-    ensures source { IfOk result (λ canon. canon.view.chart ≡ chart) }
+    ensures source { IfOk result (λ canon. canon.chart ≡ chart) }
     ensures county { IfOk result
         (λ canon. ⟦<CanonCounty<C> as Chart>⟧.county canon ≡ arranged (C.county chart) (ascending (C.county chart))) }
-    ensures order { IfOk result (λ canon. arrangement_of (C.county chart) canon.view.steps.items ≡ ascending (C.county chart)) }
+    ensures order { IfOk result (λ canon. arrangement_of (C.county chart) canon.steps.items ≡ ascending (C.county chart)) }
     ensures carried { IfOk result
         (λ canon. Carries (renaming_of (C.county chart) (ascending (C.county chart))) (C.county chart)
         (⟦<CanonCounty<C> as Chart>⟧.county canon)) }
@@ -156,8 +176,8 @@ pub fn canonise_chart<C: Chart + Drop>(
     canonise_in_order(alloc, chart, &order)
 }
 
-/// A value with another one, if there is the other.
-fn with<A: Drop, B: Drop>(first: A, second: Result<B, AllocError>) -> Result<(A, B), AllocError>
+/// A value beside another one, if there is the other; else why there is none.
+fn paired<A: Drop, B: Drop>(first: A, second: Result<B, AllocError>) -> Result<(A, B), AllocError>
     ensures { MatchResult second (λ other. result ≡ Ok (first, other)) (λ error. result ≡ Err error) }
 {
     Ok((first, second?))
@@ -180,7 +200,7 @@ pub fn canonise<C: Chart + Drop>(
 {
     let canon = canonise_chart(alloc, admitted.into_chart())?;
     let renaming = canon.renaming(alloc);
-    with(canon, renaming)
+    paired(canon, renaming)
 }
 
 /// The canonical county of an admitted county in an arena, and the renaming that carries the one onto the other.
@@ -194,11 +214,11 @@ pub fn canonise_in<'a>(
 ) -> Result<(CanonCountyIn<'a>, Renaming), AllocError>
     ensures county { IfOk result
         (λ pair. ⟦<CanonCounty<CountyIn<'a>> as Chart>⟧.county pair.0
-        ≡ arranged (the_county_in admitted.entry) (ascending (the_county_in admitted.entry))) }
+        ≡ arranged (⟦<CountyIn<'a> as Chart>⟧.county admitted.entry) (ascending (⟦<CountyIn<'a> as Chart>⟧.county admitted.entry))) }
     ensures renaming { IfOk result
-        (λ pair. pair.1 ≡ renaming_of (the_county_in admitted.entry) (ascending (the_county_in admitted.entry))) }
+        (λ pair. pair.1 ≡ renaming_of (⟦<CountyIn<'a> as Chart>⟧.county admitted.entry) (ascending (⟦<CountyIn<'a> as Chart>⟧.county admitted.entry))) }
     ensures carried { IfOk result
-        (λ pair. Carries pair.1 (the_county_in admitted.entry) (⟦<CanonCounty<CountyIn<'a>> as Chart>⟧.county pair.0)) }
+        (λ pair. Carries pair.1 (⟦<CountyIn<'a> as Chart>⟧.county admitted.entry) (⟦<CanonCounty<CountyIn<'a>> as Chart>⟧.county pair.0)) }
     ensures canonical { IfOk result (λ pair. IsCanonCounty (⟦<CanonCounty<CountyIn<'a>> as Chart>⟧.county pair.0)) }
 {
     canonise(alloc, admitted)

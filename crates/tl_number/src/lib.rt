@@ -22,9 +22,9 @@ mod table_items;
 mod tables;
 mod walks;
 
-pub use arranged::Arranged;
+pub use arranged::{AnyArrangement, Arranged, Standing};
 pub use arranging::{arrange, canonise, canonise_chart, canonise_in, canonise_in_order};
-pub use canon_county::{CanonCounty, CanonCountyIn};
+pub use canon_county::{CanonCounty, CanonCountyIn, Canonical};
 pub use laws::{
     a_packed_county_is_read_back, accepted_or_one_refusal, an_arrangement_gives_an_arranged_list,
     arranged_lists_are_the_packing_of_their_county, arranged_lists_with_one_choice_are_equal,

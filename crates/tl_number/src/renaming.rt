@@ -9,7 +9,7 @@ ghost use Rattle.tl_number.specs.Growth.{numbered};
 ghost use Rattle.tl_number.specs.Steps.{AreSteps, arrangement_of};
 ghost use Rattle.tl_number.specs.ViewFacts.{AreReadAt};
 
-use crate::arranged::{Arranged, old_place};
+use crate::arranged::{Arranged, Standing, old_place};
 use crate::numbers::Numbers;
 use crate::step::Step;
 use std::alloc::{AllocError, Global};
@@ -111,7 +111,7 @@ fn node_pairs(alloc: Global, nodes: &Numbers<u64>) -> Result<Vec<(u64, u64)>, Al
     Ok(pairs)
 }
 
-impl<C: Chart> Arranged<C> {
+impl<C: Chart, S: Standing> Arranged<C, S> {
     /// The pairs of polygons and the pairs of landmarks: each old number with its new one, in the order of the new ones.
     fn place_pairs(
         &self,
@@ -135,7 +135,7 @@ impl<C: Chart> Arranged<C> {
     /// Only that memory was lacking.
     pub fn renaming(&self, alloc: Global) -> Result<Renaming, AllocError>
         ensures value { IfOk result (λ r. r ≡ renaming_of (C.county self.now.chart) (arrangement_of (C.county self.now.chart) self.now.steps.items)) }
-        ensures carries { IfOk result (λ r. Carries r (C.county self.now.chart) (⟦<Arranged<C> as Chart>⟧.county self.now)) }
+        ensures carries { IfOk result (λ r. Carries r (C.county self.now.chart) (⟦<Arranged<C, S> as Chart>⟧.county self.now)) }
     {
         let chains = chain_pairs(alloc, &self.chart, &self.steps)?;
         let names = name_pairs(alloc, &self.names.feats)?;

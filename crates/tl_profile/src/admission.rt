@@ -1,8 +1,9 @@
 //! Admission: a county in the profile is kept as such, or the first clause that it breaks is told.
 
 ghost use Rattle.std.specs.Prelude.{◌≡◌, ◌≢◌, OnOk, IfOk, IfErr};
-ghost use Rattle.tl_county.specs.TheCounty.{the_county};
-ghost use Rattle.tl_county.specs.TheCountyIn.{the_county_in};
+ghost use Rattle.tl_county.specs.CountyRules.{is_without_chain};
+ghost use Rattle.tl_county.specs.Keyed.{IsLeastPassing};
+ghost use Rattle.tl_county.specs.PolygonKeys.{key_cmp};
 ghost use Rattle.tl_profile.specs.Profile.{IsFirstBrokenClause, IsInProfile};
 ghost use Rattle.tl_profile.specs.ShapeOrder.{IsShapeOrder};
 ghost use Rattle.tl_profile.specs.Shapes.{HasDistinctShapes};
@@ -11,10 +12,10 @@ ghost use Rattle.tl_profile.specs.declared.fault.ProfileFault.TheVariants.{Memor
 use crate::fault::ProfileFault;
 use crate::shape_order::ShapeOrder;
 use crate::shapes::{least_own_reverse, least_same_shape, ordered_shapes};
-use crate::sides::check_polygons;
+use crate::sides::{check_polygons, refuse_without_chain};
 use std::alloc::Global;
 use std::marker::Model;
-use tl_county::{Chart, County, CountyIn};
+use tl_county::{Chart, County, CountyIn, PolygonKey};
 
 /// A county in the profile, however it is kept: no chain is its own reverse, no two chains have one shape, and each polygon
 /// with a record of type P is on a side of a chain.
@@ -45,6 +46,7 @@ impl<C: Chart> Admitted<C> {
     /// The county's chart, handed back.
     pub fn into_chart(self) -> C
         ensures value { result ≡ self }
+        ensures same { C.county result ≡ C.county self }
         ensures in_profile { IsInProfile (C.county result) }
     {
         self.chart
@@ -55,7 +57,7 @@ impl Admitted<County> {
     /// The county.
     pub fn county(&self) -> &County
         ensures value { result.now ≡ self.now }
-        ensures in_profile { IsInProfile (the_county self.now) }
+        ensures in_profile { IsInProfile (⟦<County as Chart>⟧.county self.now) }
     {
         &self.chart
     }
@@ -68,7 +70,7 @@ impl<'a> Admitted<CountyIn<'a>> {
     /// The county.
     pub fn county(&self) -> &CountyIn<'a>
         ensures value { result.now ≡ self.now }
-        ensures in_profile { IsInProfile (the_county_in self.now) }
+        ensures in_profile { IsInProfile (⟦<CountyIn<'a> as Chart>⟧.county self.now) }
     {
         &self.chart
     }
@@ -76,7 +78,7 @@ impl<'a> Admitted<CountyIn<'a>> {
 
 /// The clauses of shapes: no chain is its own reverse, and no two chains have one shape. Where they hold, the order of the
 /// shapes is what was found on the way.
-pub(crate) fn check_shapes<C: Chart>(alloc: Global, chart: &C) -> Result<ShapeOrder, ProfileFault>
+fn check_shapes<C: Chart>(alloc: Global, chart: &C) -> Result<ShapeOrder, ProfileFault>
     ensures order { IfOk result (IsShapeOrder (C.county chart.now)) }
     ensures distinct { IfOk result (λ _. HasDistinctShapes (C.county chart.now)) }
     ensures broken { IfErr result (λ fault. fault ≢ Memory → IsFirstBrokenClause (C.county chart.now) fault) }
@@ -113,6 +115,30 @@ pub fn admit_with_order<C: Chart + Drop>(
     Ok((Admitted { chart }, order))
 }
 
+/// Admits a county, as [`admit_with_order`] does, of which linking has told the least polygon that has a record of type P and is
+/// on no side of a chain, if there is one: the sides aren't searched again.
+///
+/// # Errors
+///
+/// The first clause that the county breaks, at its least place, or [`ProfileFault::Memory`] where memory was lacking.
+pub fn admit_linked<C: Chart + Drop>(
+    alloc: Global,
+    chart: C,
+    without_chain: Option<PolygonKey>,
+) -> Result<(Admitted<C>, ShapeOrder), ProfileFault>
+    requires { IsLeastPassing key_cmp (is_without_chain (C.county chart)) without_chain }
+    ensures same { IfOk result (λ pair. pair.0 ≡ chart) }
+    ensures within { IfOk result (λ pair. IsInProfile (C.county pair.0)) }
+    ensures order { IfOk result (λ pair. IsShapeOrder (C.county pair.0) pair.1) }
+    ensures broken { IfErr result (λ fault. fault ≢ Memory → IsFirstBrokenClause (C.county chart) fault) }
+    // Of a county in the profile nothing but want of memory is told.
+    ensures succeeds { IsInProfile (C.county chart) → IfErr result (λ fault. fault ≡ Memory) }
+{
+    let order = check_shapes(alloc, &chart)?;
+    refuse_without_chain(without_chain)?;
+    Ok((Admitted { chart }, order))
+}
+
 /// Admits a county, however it is kept, if it is in the profile.
 ///
 /// # Errors
@@ -136,10 +162,10 @@ pub fn admit_chart<C: Chart + Drop>(alloc: Global, chart: C) -> Result<Admitted<
 /// The first clause that the county breaks, at its least place, or [`ProfileFault::Memory`] where memory was lacking.
 pub fn admit(alloc: Global, county: County) -> Result<Admitted, ProfileFault>
     ensures same { IfOk result (λ admitted. admitted ≡ county) }
-    ensures within { IfOk result (λ admitted. IsInProfile (the_county admitted)) }
-    ensures broken { IfErr result (λ fault. fault ≢ Memory → IsFirstBrokenClause (the_county county) fault) }
+    ensures within { IfOk result (λ admitted. IsInProfile (⟦<County as Chart>⟧.county admitted)) }
+    ensures broken { IfErr result (λ fault. fault ≢ Memory → IsFirstBrokenClause (⟦<County as Chart>⟧.county county) fault) }
     // Of a county in the profile nothing but want of memory is told.
-    ensures succeeds { IsInProfile (the_county county) → IfErr result (λ fault. fault ≡ Memory) }
+    ensures succeeds { IsInProfile (⟦<County as Chart>⟧.county county) → IfErr result (λ fault. fault ≡ Memory) }
 {
     admit_chart(alloc, county)
 }
@@ -151,10 +177,10 @@ pub fn admit(alloc: Global, county: County) -> Result<Admitted, ProfileFault>
 /// The first clause that the county breaks, at its least place, or [`ProfileFault::Memory`] where memory was lacking.
 pub fn admit_in<'a>(alloc: Global, county: CountyIn<'a>) -> Result<AdmittedIn<'a>, ProfileFault>
     ensures same { IfOk result (λ admitted. admitted ≡ county.entry) }
-    ensures within { IfOk result (λ admitted. IsInProfile (the_county_in admitted)) }
-    ensures broken { IfErr result (λ fault. fault ≢ Memory → IsFirstBrokenClause (the_county_in county.entry) fault) }
+    ensures within { IfOk result (λ admitted. IsInProfile (⟦<CountyIn<'a> as Chart>⟧.county admitted)) }
+    ensures broken { IfErr result (λ fault. fault ≢ Memory → IsFirstBrokenClause (⟦<CountyIn<'a> as Chart>⟧.county county.entry) fault) }
     // Of a county in the profile nothing but want of memory is told.
-    ensures succeeds { IsInProfile (the_county_in county.entry) → IfErr result (λ fault. fault ≡ Memory) }
+    ensures succeeds { IsInProfile (⟦<CountyIn<'a> as Chart>⟧.county county.entry) → IfErr result (λ fault. fault ≡ Memory) }
 {
     admit_chart(alloc, county)
 }

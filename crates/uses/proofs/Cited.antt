@@ -1,32 +1,43 @@
 -- Two sets with one canonical text, and the renaming of the one onto the other through it.
-use Rattle.std.proofs.Common.{◌≡◌, ℕ, List, [], ◌∷◌, subst, sym}
+use Rattle.std.proofs.Common.{◌≡◌, ◌∙◌, ◌⊎◌, inl, inr, ℕ, List, [], ◌∷◌, subst, sym}
 use Rattle.tl_layout.specs.declared.record_type.Record.{Record}
 use Rattle.tl_county.specs.County.{County, county_of}
 use Rattle.tl_county.specs.CountyRules.{IsCounty}
 use Rattle.tl_county.specs.Renumbering.{Renumbering, Carries}
-use Rattle.tl_county.proofs.LinkedCounty.{county-is_county}
+use Rattle.tl_county.specs.LinkRules.{IsLinked}
+use Rattle.tl_load.specs.Choice.{tiger}
+use Rattle.tl_load.specs.Outcome.{SpellsWithin, IsSpelled, IsFaulty}
+use Rattle.tigercanon.specs.Respelling.{record_limit}
 use Rattle.tigercanon.specs.Sets.{CarriesSet, IsAcceptedSet}
-use Rattle.tigercanon.proofs.Sets.{one_list}
 
-is_county : (parts : List (List ℕ)) (records : List Record) → IsAcceptedSet parts records → IsCounty (county_of records)
-is_county parts records set = county-is_county records set.accepted.linked
+-- what the laws of the libraries say of sets and of linked records
+module _ (spelled_or_one_fault : (limit : ℕ) (parts : List (List ℕ)) → IsSpelled tiger limit parts ⊎ IsFaulty tiger limit parts)
+    (well_formed : (records : List Record) → IsLinked records → IsCounty (county_of records)) where
+  one_list : (parts : List (List ℕ)) (records others : List Record) → SpellsWithin tiger record_limit parts records
+      → SpellsWithin tiger record_limit parts others → records ≡ others
+  one_list parts records others a b = go (spelled_or_one_fault record_limit parts)
+    where
+      go : IsSpelled tiger record_limit parts ⊎ IsFaulty tiger record_limit parts → records ≡ others
+      go (inl s) = s.only records a.spells ∙ sym (s.only others b.spells)
+      go (inr f) = absurd (f.none records a)
 
--- what goes from the first county to the canonical one, and from there back to the second, goes from the first to the second
-pub carried_through : (parts others : List (List ℕ)) (text other_text : List ℕ) → text ≡ other_text → (there back through : Renumbering)
-    → CarriesSet there parts (text ∷ []) → CarriesSet back others (other_text ∷ [])
-    → ((a b c : County) → IsCounty a → IsCounty b → IsCounty c → Carries there a b → Carries back c b → Carries through a c)
-    → CarriesSet through parts others
-carried_through parts others text other_text same there back through first second composed =
-    let kept : IsAcceptedSet (text ∷ []) second.other_records =
-    subst (λ t. IsAcceptedSet (t ∷ []) second.other_records) (sym same) second.other_accepted in
-    let one = one_list (text ∷ []) second.other_records first.other_records kept.spelled first.other_accepted.spelled in
-    record {
-      records = first.records;
-      other_records = second.records;
-      accepted = first.accepted;
-      other_accepted = second.accepted;
-      carries = composed (county_of first.records) (county_of first.other_records) (county_of second.records)
-          (is_county parts first.records first.accepted) (is_county (text ∷ []) first.other_records first.other_accepted)
-          (is_county others second.records second.accepted) first.carries
-          (subst (λ (records : List Record). Carries back (county_of second.records) (county_of records)) one second.carries);
-    }
+  -- what goes from the first county to the canonical one, and from there back to the second, goes from the first to the second
+  pub carried_through : (parts others : List (List ℕ)) (text other_text : List ℕ) → text ≡ other_text → (there back through : Renumbering)
+      → CarriesSet there parts (text ∷ []) → CarriesSet back others (other_text ∷ [])
+      → ((a b c : County) → IsCounty a → IsCounty b → IsCounty c → Carries there a b → Carries back c b → Carries through a c)
+      → CarriesSet through parts others
+  carried_through parts others text other_text same there back through first second composed =
+      let kept : IsAcceptedSet (text ∷ []) second.other_records =
+      subst (λ t. IsAcceptedSet (t ∷ []) second.other_records) (sym same) second.other_accepted in
+      let one = one_list (text ∷ []) second.other_records first.other_records kept.spelled first.other_accepted.spelled in
+      record {
+        records = first.records;
+        other_records = second.records;
+        accepted = first.accepted;
+        other_accepted = second.accepted;
+        carries = composed (county_of first.records) (county_of first.other_records) (county_of second.records)
+            (well_formed first.records first.accepted.accepted.linked)
+            (well_formed first.other_records first.other_accepted.accepted.linked)
+            (well_formed second.records second.accepted.accepted.linked) first.carries
+            (subst (λ (records : List Record). Carries back (county_of second.records) (county_of records)) one second.carries);
+      }

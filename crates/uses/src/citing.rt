@@ -12,6 +12,8 @@ ghost use Rattle.tl_county.specs.Renumbering.{Carries, Renumbering};
 use std::alloc::{AllocError, Global};
 use tigercanon::{Fault, normalise_with_renaming};
 use tl_cert::Renaming;
+use tl_county::linked_records_have_a_well_formed_county;
+use tl_load::spelled_or_one_fault;
 
 /// The new number of an old one, if a pair names it; of several pairs the first counts.
 fn new_number(pairs: &[(u64, u64)], old: u64) -> Option<u64>
@@ -50,6 +52,8 @@ pub fn cited_tlid(alloc: Global, file: &[u8], other: &[u8], tlid: u64) -> Result
     ensures { IfOk result (λ found. IfSome found (λ new.
         (r : Renumbering) × CarriesSet r (file.now ∷ []) (other.now ∷ []) × (value_under nat_cmp tlid r.chains ≡ Some new))) }
 {
+    spelled_or_one_fault();
+    linked_records_have_a_well_formed_county();
     let cited = normalise_with_renaming(alloc, &[file])?;
     let kept = normalise_with_renaming(alloc, &[other])?;
     if !is_same_text(&cited.0, &kept.0) {

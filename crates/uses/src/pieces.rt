@@ -8,13 +8,14 @@ ghost use Rattle.tl_load.specs.Outcome.{SpellsWithin, FaultAt};
 
 use std::alloc::Global;
 use tl_layout::{MOST_RECORDS, Record};
-use tl_load::{LoadFault, Loader};
+use tl_load::{LoadFault, Loader, parts_may_be_cut_between_lines};
 
 /// The records of one file, whose bytes come in pieces. How it was cut doesn't matter.
 pub fn load_pieces(alloc: Global, pieces: &[&[u8]]) -> Result<Vec<Record>, LoadFault>
     ensures loaded { IfOk result (λ records. SpellsWithin tiger MOST_RECORDS (concat (map (λ p. p.now) pieces.now) ∷ []) records.items) }
     ensures fault { IfErr result (λ f. IsOfLines f → FaultAt tiger MOST_RECORDS (concat (map (λ p. p.now) pieces.now) ∷ []) f) }
 {
+    parts_may_be_cut_between_lines();
     let mut loader = Loader::new(alloc);
     for piece in pieces {
         loader.feed(piece)?;

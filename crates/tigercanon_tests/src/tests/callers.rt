@@ -1,9 +1,9 @@
 //! The three callers of `uses`, on lines of a county.
 
 use super::comparing::{same, same_items};
-use super::sets::{joined, spelled};
+use super::sets::{lines_of, spelled};
 use std::alloc::Global;
-use std::test::Fail;
+use std::process::Abort;
 use tl_load::LoadFault;
 use uses::{cited_tlid, load_pieces, spell_alike};
 
@@ -12,52 +12,82 @@ const LINK: &[u8] = b"8    0100100001        12        30 ";
 
 const LINK_BY_ANOTHER_HAND: &[u8] = b"803060100100001000000001230\r\n";
 
-/// What the pieces spell.
-fn respelt(alloc: Global, pieces: &[&[u8]]) -> Result<Vec<u8>, Fail> {
-    let records = load_pieces(alloc, pieces)?;
-    Ok(spelled(alloc, &records)?)
-}
-
 #[test]
-fn a_file_may_come_in_any_pieces(rt: HostRuntime) -> Result<(), Fail> {
-    let alloc = rt.alloc();
+fn a_file_may_come_in_any_pieces(rt: HostRuntime) {
     let (front, back) = LINK.split_at(9);
-    let text = respelt(alloc, &[front, b"", back])?;
-    same_items(&rt, &text, b"820060100100001        12        30 \n");
+    let records = load_pieces(rt.alloc(), &[front, b"", back]).expect(&rt, "three pieces");
+    let text = spelled(&rt, rt.alloc(), &records);
+    same_items(
+        &rt,
+        "three pieces",
+        &text,
+        b"820060100100001        12        30 \n",
+    );
+    let refused = load_pieces(rt.alloc(), &[b"A", b"\n"]).err();
     let unknown = LoadFault::UnknownType { part: 1, line: 1 };
-    let refused = load_pieces(alloc, &[b"A", b"\n"]).err();
-    same(&rt, &refused, &Some(unknown));
-    Ok(())
+    same(&rt, "an unknown type", &refused, &Some(unknown));
 }
 
 #[test]
 fn zeros_and_ends_of_lines_make_no_difference(rt: HostRuntime) {
-    let alloc = rt.alloc();
-    for (other, wanted) in [
-        (LINK, true),
-        (LINK_BY_ANOTHER_HAND, true),
-        (b"".as_slice(), false),
+    for (row, other, wanted) in [
+        ("itself", LINK, true),
+        ("another hand", LINK_BY_ANOTHER_HAND, true),
+        ("nothing", b"".as_slice(), false),
     ] {
-        same(&rt, &spell_alike(alloc, LINK, other), &Ok(wanted));
+        same(&rt, row, &spell_alike(rt.alloc(), LINK, other), &Ok(wanted));
     }
 }
 
-/// A file of one chain: its records of types 1 and I, with no content but its two points.
-fn chain_file(alloc: Global, tlid: &str, points: &str) -> Result<Vec<u8>, Fail> {
-    Ok(joined(alloc, &["1{4}", tlid, "{175}", points, "\nI{9}", tlid])?)
+/// A chain without content but its two points, and another with another TLID that runs back between these points, or between
+/// others.
+const CHAIN: &[&str] = &[
+    "1{11}500{175}+000000001+00000001+000000002+00000001",
+    "I{16}500",
+];
+
+const BACK: &[&str] = &[
+    "1{12}77{175}+000000002+00000001+000000001+00000001",
+    "I{17}77",
+];
+
+const OTHER: &[&str] = &[
+    "1{12}77{175}+000000002+00000001+000000001+00000002",
+    "I{17}77",
+];
+
+/// Another file, a TLID of the first one, and what the other one has in its place.
+const CITED: &[(&'static [&'static str], u64, Option<u64>)] = &[
+    (BACK, 500, Some(77)),
+    (BACK, 77, None),
+    (OTHER, 500, None),
+];
+
+/// Those rows.
+fn cited() -> &'static [(&'static [&'static str], u64, Option<u64>)] {
+    CITED
+}
+
+/// The chain is cited as the row says.
+fn is_cited(rt: &impl Abort, alloc: Global, lines: &[&str], tlid: u64, wanted: Option<u64>) {
+    let file = lines_of(rt, alloc, CHAIN);
+    let other = lines_of(rt, alloc, lines);
+    let row = if wanted.is_some() {
+        "a chain that is there"
+    } else {
+        "no such chain"
+    };
+    same(
+        rt,
+        row,
+        &cited_tlid(alloc, &file, &other, tlid),
+        &Ok(wanted),
+    );
 }
 
 #[test]
-fn a_cited_chain_is_found_in_another_file(rt: HostRuntime) -> Result<(), Fail> {
-    let alloc = rt.alloc();
-    let file = chain_file(alloc, "{7}500", "+000000001+00000001+000000002+00000001")?;
-    for (points, tlid, wanted) in [
-        ("+000000002+00000001+000000001+00000001", 500, Some(77)),
-        ("+000000002+00000001+000000001+00000001", 77, None),
-        ("+000000002+00000001+000000001+00000002", 500, None),
-    ] {
-        let other = chain_file(alloc, "{8}77", points)?;
-        same(&rt, &cited_tlid(alloc, &file, &other, tlid), &Ok(wanted));
+fn a_cited_chain_is_found_in_another_file(rt: HostRuntime) {
+    for (lines, tlid, wanted) in cited() {
+        is_cited(&rt, rt.alloc(), lines, *tlid, *wanted);
     }
-    Ok(())
 }

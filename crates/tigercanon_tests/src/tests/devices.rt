@@ -1,17 +1,18 @@
 //! Readers and writers that give and take a few bytes at a time, and fail.
 
+use std::alloc::Global;
 use std::cell::Cell;
 use std::io::{self, Error, ErrorKind, Read, Write};
+use tigercanon::Opened;
 
-/// Gives its bytes at most `step` at a time, and counts its reads. The read after `reads` of them fails, and no other.
+/// Gives its bytes at most `step` at a time, and counts its reads. The read after `reads` of them is interrupted, and no other.
 #[derive(Drop)]
 pub(super) struct SlowReader<'a> {
-    pub(super) bytes: Vec<u8>,
-    pub(super) place: usize,
-    pub(super) step: usize,
-    pub(super) reads: Option<usize>,
-    pub(super) fault: ErrorKind,
-    pub(super) count: &'a Cell<usize>,
+    bytes: Vec<u8>,
+    place: usize,
+    step: usize,
+    reads: Option<usize>,
+    count: &'a Cell<usize>,
 }
 
 impl Read for SlowReader<'_> {
@@ -20,7 +21,7 @@ impl Read for SlowReader<'_> {
         match self.reads {
             Some(0) => {
                 self.reads = None;
-                return Err(Error::from(self.fault));
+                return Err(Error::from(ErrorKind::Interrupted));
             }
             Some(reads) => self.reads = Some(reads - 1),
             None => {}
@@ -33,12 +34,12 @@ impl Read for SlowReader<'_> {
     }
 }
 
-/// Takes at most `step` bytes at a time. The write after it holds `room` bytes fails, and no other.
+/// Takes at most `step` bytes at a time. The write after it holds `room` bytes is interrupted, and no other.
 #[derive(Drop)]
 pub(super) struct SlowWriter {
     pub(super) held: Vec<u8>,
-    pub(super) step: usize,
-    pub(super) room: Option<usize>,
+    step: usize,
+    room: Option<usize>,
 }
 
 impl Write for SlowWriter {
@@ -49,7 +50,7 @@ impl Write for SlowWriter {
         };
         if left == 0 && !buf.is_empty() {
             self.room = None;
-            return Err(Error::from(ErrorKind::StorageFull));
+            return Err(Error::from(ErrorKind::Interrupted));
         }
         let count = self.step.min(buf.len()).min(left);
         self.held.extend_from_slice(&buf[..count])?;
@@ -58,5 +59,30 @@ impl Write for SlowWriter {
 
     fn flush(&mut self) -> io::Result<()> {
         Ok(())
+    }
+}
+
+/// An open file of these bytes, of which a read gives at most `step`, and the read after `reads` is interrupted.
+pub(super) fn reader(
+    bytes: Vec<u8>,
+    step: usize,
+    reads: Option<usize>,
+    count: &Cell<usize>,
+) -> Opened<SlowReader<'_>> {
+    Opened::Found(SlowReader {
+        bytes,
+        place: 0,
+        step,
+        reads,
+        count,
+    })
+}
+
+/// A writer that holds nothing yet.
+pub(super) fn writer(alloc: Global, step: usize, room: usize) -> SlowWriter {
+    SlowWriter {
+        held: Vec::new(alloc),
+        step,
+        room: Some(room),
     }
 }

@@ -1,102 +1,69 @@
-//! Lines that come in pieces, and which fault is told of them.
+//! Sources that a loader reads, and how many records of a type it takes.
+
+ghost use Rattle.std.specs.Prelude.{◌<◌};
 
 use super::comparing::{same, same_items};
-use super::sets::joined;
-use super::worked_sets::{CHAIN, CHAIN_RESPELT, LINK, LINK_RESPELT};
+use super::sets::{lines_of, spelled};
+use super::worked_sets::{street, street_respelt};
 use std::alloc::Global;
 use std::process::Abort;
-use std::test::Fail;
-use tl_load::{CanonicalText, LoadFault, Loader, LoaderInto};
+use tl_load::{Counted, LoadFault, Loader, SlowSource, Source};
 
-/// Feeds a part by so many bytes at most, and ends it.
-fn feed_part(
-    rt: &impl Abort,
-    loader: &mut LoaderInto<CanonicalText>,
-    part: &[u8],
-    most: usize,
-) -> Result<(), LoadFault> {
-    assert!(rt; 0 < most);
-    for piece in part.chunks(most) {
-        assert!(rt; loader.parts() < u64::MAX);
-        loader.feed(piece)?;
-    }
-    assert!(rt; loader.parts() < u64::MAX);
-    loader.end_part()
-}
-
-/// The canonical spelling of the part, fed by so many bytes at most.
-fn load(rt: &impl Abort, alloc: Global, part: &[u8], most: usize) -> Result<Vec<u8>, LoadFault> {
-    let mut loader = LoaderInto::new(alloc);
-    feed_part(rt, &mut loader, part, most)?;
-    Ok(loader.finish()?.bytes)
-}
-
-/// The part has this spelling or this fault, however it is cut into pieces.
-fn has_answer(rt: &impl Abort, alloc: Global, part: &[u8], text: &[u8], fault: Option<LoadFault>) {
-    for most in 1..=part.len() {
-        match load(rt, alloc, part, most) {
-            Ok(found) => same_items(rt, &found, text),
-            Err(found) => same(rt, &Some(found), &fault),
-        }
-    }
-}
-
-/// The patterns of a part, those of its canonical spelling, and what it is refused for.
-type Row = (
-    &'static [&'static str],
-    &'static [&'static str],
-    Option<LoadFault>,
-);
-
-const ROWS: &[Row] = &[
-    (&[CHAIN, "\n", LINK, "\n"], STREET, None),
-    (&[CHAIN, "\r\n", LINK, "\r"], STREET, None),
-    (
-        &[LINK, "\r\r\n"],
-        &[],
-        Some(LoadFault::LineTooLong { part: 1, line: 1 }),
-    ),
-    (
-        &[LINK, "\n1{5}^12 4\nA"],
-        &[],
-        Some(LoadFault::BadByte {
-            part: 1,
-            line: 2,
-            column: 7,
-        }),
-    ),
-];
-
-/// Main St in canonical spelling.
-const STREET: &[&'static str] = &[CHAIN_RESPELT, "\n", LINK_RESPELT, "\n"];
-
-/// Those rows.
-fn rows() -> &'static [Row] {
-    ROWS
-}
-
-#[test]
-fn pieces_of_any_size_give_the_same_answer(rt: HostRuntime) -> Result<(), Fail> {
-    for (part, text, fault) in rows() {
-        let text = joined(rt.alloc(), text)?;
-        has_answer(&rt, rt.alloc(), &joined(rt.alloc(), part)?, &text, *fault);
-    }
-    Ok(())
-}
-
-/// Behind a beginning that is well so far the last byte makes the fault.
-fn is_told_at(rt: &impl Abort, alloc: Global, beginning: &[u8], last: &[u8], fault: LoadFault) {
+/// The source gives Main St.
+fn gives_the_street<S: Source>(rt: &impl Abort, alloc: Global, row: &str, source: &mut S) {
     let mut loader = Loader::new(alloc);
-    same(rt, &loader.feed(beginning), &Ok(()));
-    same(rt, &loader.feed(b"\r"), &Ok(()));
-    same(rt, &loader.feed(last), &Err(fault));
+    assert!(rt; source.failures() < u64::MAX);
+    same(rt, row, &loader.read_part(source), &Ok(()));
+    same(rt, row, &loader.parts(), &1);
+    let records = loader.finish().expect(rt, row);
+    let text = spelled(rt, alloc, &records);
+    same_items(rt, row, &text, &lines_of(rt, alloc, street_respelt()));
 }
 
 #[test]
-fn a_line_is_judged_at_its_end_or_its_230th_byte(rt: HostRuntime) {
-    let (part, line, column) = (1, 1, 191);
-    let point = LoadFault::BadPoint { part, line, column };
-    let long = LoadFault::LineTooLong { part, line };
-    is_told_at(&rt, rt.alloc(), &[b'1'; 228], b"\n", point);
-    is_told_at(&rt, rt.alloc(), &[b'1'; 228], b"A", long);
+fn sources_are_read_to_their_end(rt: HostRuntime) {
+    let set = lines_of(&rt, rt.alloc(), street());
+    let mut slow = SlowSource::new(&set, 100, None);
+    gives_the_street(&rt, rt.alloc(), "100 bytes a read", &mut slow);
+    let mut counted = Counted::new(set.as_slice());
+    gives_the_street(&rt, rt.alloc(), "a reader", &mut counted);
+}
+
+const POLYGON: &str = "8{4}0100100001{8}12{8}30";
+
+const LANDMARK: &str = "7{4}01001{8}30 D43";
+
+/// A loader that takes two records of a type answers so many records of these lines, or this fault.
+fn takes(
+    rt: &impl Abort,
+    alloc: Global,
+    row: &str,
+    lines: &[&str],
+    wanted: Result<usize, LoadFault>,
+) {
+    let mut loader = Loader::with_limit(alloc, 2);
+    let found = match loader.feed(&lines_of(rt, alloc, lines)) {
+        Ok(()) => Ok(loader.finish().expect(rt, row).len()),
+        Err(fault) => Err(fault),
+    };
+    same(rt, row, &found, &wanted);
+}
+
+#[test]
+fn no_type_has_more_records_than_the_limit(rt: HostRuntime) {
+    let many = LoadFault::TooManyRecords { rtype: b'8' };
+    takes(
+        &rt,
+        rt.alloc(),
+        "three of a type",
+        &[POLYGON, POLYGON, POLYGON],
+        Err(many),
+    );
+    takes(
+        &rt,
+        rt.alloc(),
+        "two of a type",
+        &[POLYGON, POLYGON, LANDMARK],
+        Ok(3),
+    );
 }

@@ -1,13 +1,11 @@
 //! Renamings as values: back, one after another, and whether one carries a county onto another.
 
-use super::comparing::{same_in, same_items};
+use super::comparing::{same, same_items};
 use super::counties::county_of;
 use super::worked_sets::{MAIN, MAIN_TURNED, NAMED, NAMED_BACKWARDS, SIDED};
-use std::alloc::{AllocError, Global};
+use std::alloc::Global;
 use std::process::Abort;
-use std::test::Fail;
 use tl_cert::{PolygonKey, Renaming, check};
-use tl_county::County;
 
 /// The lists of a renaming.
 #[derive(Clone, Copy)]
@@ -21,38 +19,43 @@ pub(super) struct Lists<'a> {
 }
 
 /// The renaming has these lists.
-pub(super) fn has_lists(rt: &impl Abort, renaming: &Renaming, lists: &Lists<'_>) {
-    same_items(rt, renaming.chains(), lists.chains);
-    same_items(rt, renaming.names(), lists.names);
-    same_items(rt, renaming.polygons(), lists.polygons);
-    same_items(rt, renaming.lands(), lists.lands);
-    same_items(rt, renaming.nodes(), lists.nodes);
-    same_items(rt, renaming.turned(), lists.turned);
+pub(super) fn has_lists(rt: &impl Abort, row: &str, renaming: &Renaming, lists: &Lists<'_>) {
+    same_items(rt, row, renaming.chains(), lists.chains);
+    same_items(rt, row, renaming.names(), lists.names);
+    same_items(rt, row, renaming.polygons(), lists.polygons);
+    same_items(rt, row, renaming.lands(), lists.lands);
+    same_items(rt, row, renaming.nodes(), lists.nodes);
+    same_items(rt, row, renaming.turned(), lists.turned);
 }
 
 /// Two renamings have the same pairs in the same order, and turn the same chains.
-pub(super) fn have_the_same_lists(rt: &impl Abort, a: &Renaming, b: &Renaming) {
+pub(super) fn have_the_same_lists(
+    rt: &impl Abort,
+    row: &str,
+    renaming: &Renaming,
+    other: &Renaming,
+) {
     let lists = Lists {
-        chains: b.chains(),
-        names: b.names(),
-        polygons: b.polygons(),
-        lands: b.lands(),
-        nodes: b.nodes(),
-        turned: b.turned(),
+        chains: other.chains(),
+        names: other.names(),
+        polygons: other.polygons(),
+        lands: other.lands(),
+        nodes: other.nodes(),
+        turned: other.turned(),
     };
-    has_lists(rt, a, &lists);
+    has_lists(rt, row, renaming, &lists);
 }
 
 /// The renaming of these lists.
-fn renaming(alloc: Global, lists: &Lists<'_>) -> Result<Renaming, AllocError> {
-    Ok(Renaming::new(
-        Vec::from_slice(alloc, lists.chains)?,
-        Vec::from_slice(alloc, lists.names)?,
-        Vec::from_slice(alloc, lists.polygons)?,
-        Vec::from_slice(alloc, lists.lands)?,
-        Vec::from_slice(alloc, lists.nodes)?,
-        Vec::from_slice(alloc, lists.turned)?,
-    ))
+fn renaming(rt: &impl Abort, alloc: Global, lists: &Lists<'_>) -> Renaming {
+    Renaming::new(
+        Vec::from_slice(alloc, lists.chains).expect(rt, "there is memory"),
+        Vec::from_slice(alloc, lists.names).expect(rt, "there is memory"),
+        Vec::from_slice(alloc, lists.polygons).expect(rt, "there is memory"),
+        Vec::from_slice(alloc, lists.lands).expect(rt, "there is memory"),
+        Vec::from_slice(alloc, lists.nodes).expect(rt, "there is memory"),
+        Vec::from_slice(alloc, lists.turned).expect(rt, "there is memory"),
+    )
 }
 
 /// The renaming of no numbers.
@@ -150,55 +153,61 @@ const NEXT_AND_STAY: Lists<'static> = Lists {
     turned: &[2],
 };
 
-const WAYS_BACK: &[(Lists<'static>, Lists<'static>)] = &[
-    (THERE, BACK),
-    (ODD, ODD_BACK),
-    (NOTHING, NOTHING),
+/// What a row shows, a renaming, and the way back.
+type WayBack = (&'static str, Lists<'static>, Lists<'static>);
+
+const WAYS_BACK: &[WayBack] = &[
+    ("all kinds of numbers", THERE, BACK),
+    ("pairs of one number", ODD, ODD_BACK),
+    ("no numbers", NOTHING, NOTHING),
 ];
 
-const WAYS_ON: &[(Lists<'static>, Lists<'static>, Lists<'static>)] = &[
-    (THERE, BACK, THERE_AND_BACK),
-    (ODD, NEXT, ODD_AND_NEXT),
-    (NEXT, STAY, NEXT_AND_STAY),
+/// What a row shows, a renaming, another one, and what they are one after the other.
+type WayOn = (&'static str, Lists<'static>, Lists<'static>, Lists<'static>);
+
+const WAYS_ON: &[WayOn] = &[
+    ("there and back", THERE, BACK, THERE_AND_BACK),
+    ("the first pair counts", ODD, NEXT, ODD_AND_NEXT),
+    ("turned and turned back", NEXT, STAY, NEXT_AND_STAY),
 ];
 
-/// Renamings and the ways back.
-fn ways_back() -> &'static [(Lists<'static>, Lists<'static>)] {
+/// The rows of ways back.
+fn ways_back() -> &'static [WayBack] {
     WAYS_BACK
 }
 
-/// Two renamings each, and what they are one after the other.
-fn ways_on() -> &'static [(Lists<'static>, Lists<'static>, Lists<'static>)] {
+/// The rows of ways on.
+fn ways_on() -> &'static [WayOn] {
     WAYS_ON
 }
 
-/// The way back of the renaming of these lists.
-fn back(alloc: Global, lists: &Lists<'_>) -> Result<Renaming, AllocError> {
-    let renaming = renaming(alloc, lists)?;
-    renaming.inverse()
+/// The way back of a renaming is as its row says.
+fn goes_back(rt: &impl Abort, alloc: Global, row: &WayBack) {
+    let (name, there, wanted) = row;
+    let back = renaming(rt, alloc, there).inverse().expect(rt, name);
+    has_lists(rt, name, &back, wanted);
+}
+
+/// Two renamings one after the other are as their row says.
+fn goes_on(rt: &impl Abort, alloc: Global, row: &WayOn) {
+    let (name, first, second, wanted) = row;
+    let second = renaming(rt, alloc, second);
+    let both = renaming(rt, alloc, first).then(&second).expect(rt, name);
+    has_lists(rt, name, &both, wanted);
 }
 
 #[test]
-fn renamings_go_back(rt: HostRuntime) -> Result<(), Fail> {
-    for (there, wanted) in ways_back() {
-        has_lists(&rt, &back(rt.alloc(), there)?, wanted);
+fn renamings_go_back(rt: HostRuntime) {
+    for row in ways_back() {
+        goes_back(&rt, rt.alloc(), row);
     }
-    Ok(())
-}
-
-/// One renaming and then another.
-fn both(alloc: Global, first: &Lists<'_>, second: &Lists<'_>) -> Result<Renaming, AllocError> {
-    let first = renaming(alloc, first)?;
-    let second = renaming(alloc, second)?;
-    first.then(&second)
 }
 
 #[test]
-fn renamings_go_on(rt: HostRuntime) -> Result<(), Fail> {
-    for (first, second, wanted) in ways_on() {
-        has_lists(&rt, &both(rt.alloc(), first, second)?, wanted);
+fn renamings_go_on(rt: HostRuntime) {
+    for row in ways_on() {
+        goes_on(&rt, rt.alloc(), row);
     }
-    Ok(())
 }
 
 /// From Main St to Main St from its other end.
@@ -206,6 +215,14 @@ const TURN: Lists<'static> = Lists {
     chains: &[(500, 77)],
     nodes: &[(11, 5), (12, 6)],
     turned: &[500],
+    ..NOTHING
+};
+
+/// From Main St from its other end to the canonical text.
+const ONTO_THE_TEXT: Lists<'static> = Lists {
+    chains: &[(77, 1)],
+    nodes: &[(5, 1), (6, 2)],
+    turned: &[77],
     ..NOTHING
 };
 
@@ -229,7 +246,7 @@ type CarriedRow = (
     bool,
 );
 
-const TURNED_ROWS: &[CarriedRow] = &[
+const CARRIED: &[CarriedRow] = &[
     ("the street", MAIN, MAIN_TURNED, TURN, true),
     (
         "another order",
@@ -301,9 +318,6 @@ const TURNED_ROWS: &[CarriedRow] = &[
         },
         false,
     ),
-];
-
-const OTHER_ROWS: &[CarriedRow] = &[
     ("nothing", &[], &[], NOTHING, true),
     (
         "names exchanged",
@@ -357,65 +371,46 @@ const OTHER_ROWS: &[CarriedRow] = &[
     ),
 ];
 
-/// The renaming from Main St to Main St from its other end.
+/// From Main St to Main St from its other end.
 pub(super) fn turn_of_the_street() -> Lists<'static> {
     TURN
 }
 
-/// The rows of Main St from its other end.
-fn turned_rows() -> &'static [CarriedRow] {
-    TURNED_ROWS
+/// From Main St from its other end to the canonical text.
+pub(super) fn onto_the_text() -> Lists<'static> {
+    ONTO_THE_TEXT
 }
 
-/// The other rows.
-fn other_rows() -> &'static [CarriedRow] {
-    OTHER_ROWS
-}
-
-/// Whether the renaming carries the county onto that of these lines.
-fn carries_onto(
-    alloc: Global,
-    here: &County,
-    there: &[&str],
-    renaming: &Renaming,
-) -> Result<bool, Fail> {
-    let there = county_of(alloc, there)?;
-    Ok(check(alloc, here, &there, renaming)?)
+/// The rows of renamings that carry or don't.
+fn carried() -> &'static [CarriedRow] {
+    CARRIED
 }
 
 /// Whether the renaming carries the county of these lines onto that of the others.
 pub(super) fn carries(
+    rt: &impl Abort,
     alloc: Global,
+    row: &str,
     here: &[&str],
     there: &[&str],
     renaming: &Renaming,
-) -> Result<bool, Fail> {
-    let here = county_of(alloc, here)?;
-    carries_onto(alloc, &here, there, renaming)
+) -> bool {
+    let here = county_of(rt, alloc, row, here);
+    let there = county_of(rt, alloc, row, there);
+    check(alloc, &here, &there, renaming).expect(rt, row)
 }
 
-/// Whether the renaming of these lists does.
-fn is_carried(
-    alloc: Global,
-    here: &[&str],
-    there: &[&str],
-    lists: &Lists<'_>,
-) -> Result<bool, Fail> {
-    let renaming = renaming(alloc, lists)?;
-    carries(alloc, here, there, &renaming)
-}
-
-/// Each renaming carries the one set onto the other, or doesn't, as its row says.
-fn are_carried(rt: &impl Abort, alloc: Global, rows: &[CarriedRow]) -> Result<(), Fail> {
-    for (name, here, there, lists, wanted) in rows {
-        let found = is_carried(alloc, here, there, lists)?;
-        same_in(rt, name, &found, wanted);
-    }
-    Ok(())
+/// The renaming carries the one set onto the other, or doesn't, as its row says.
+fn is_carried(rt: &impl Abort, alloc: Global, row: &CarriedRow) {
+    let (name, here, there, lists, wanted) = row;
+    let renaming = renaming(rt, alloc, lists);
+    let found = carries(rt, alloc, name, here, there, &renaming);
+    same(rt, name, &found, wanted);
 }
 
 #[test]
-fn a_renaming_carries_or_not(rt: HostRuntime) -> Result<(), Fail> {
-    are_carried(&rt, rt.alloc(), turned_rows())?;
-    are_carried(&rt, rt.alloc(), other_rows())
+fn a_renaming_carries_or_not(rt: HostRuntime) {
+    for row in carried() {
+        is_carried(&rt, rt.alloc(), row);
+    }
 }

@@ -1,7 +1,12 @@
-//! Patterns of bytes: `{n}` stands for n blanks, `~` for the byte 0xA0 and `^` for 0x1A.
+//! Patterns of lines, in which `{n}` stands for n blanks, and the lines of records.
 
-use std::alloc::{AllocError, Global};
-use std::test::Fail;
+ghost use Rattle.std.specs.Prelude.{All};
+ghost use Rattle.tl_county.specs.Limits.{most_records};
+ghost use Rattle.tl_layout.specs.Limits.{IsWithinLimit};
+ghost use Rattle.tl_layout.specs.RecordText.{FitsRecord};
+
+use std::alloc::Global;
+use std::process::Abort;
 use tl_layout::Record;
 use tl_load::Loader;
 
@@ -13,63 +18,52 @@ fn with_digit(count: usize, digit: u8) -> usize {
 }
 
 /// Appends the bytes that a pattern stands for.
-fn append(bytes: &mut Vec<u8>, pattern: &str) -> Result<(), AllocError> {
-    let mut is_counting = false;
-    let mut count = 0;
+fn append(rt: &impl Abort, bytes: &mut Vec<u8>, pattern: &str) {
+    let mut blanks = None;
     for byte in pattern.bytes() {
-        match byte {
-            b'{' => {
-                is_counting = true;
-                count = 0;
+        match (byte, blanks) {
+            (b'{', _) => blanks = Some(0),
+            (b'}', Some(count)) => {
+                let len = bytes.len().saturating_add(count);
+                bytes.resize(len, b' ').expect(rt, "there is memory");
+                blanks = None;
             }
-            b'}' => {
-                is_counting = false;
-                bytes.resize(bytes.len().saturating_add(count), b' ')?;
-            }
-            digit if is_counting => count = with_digit(count, digit),
-            b'~' => bytes.push(0xA0)?,
-            b'^' => bytes.push(0x1A)?,
-            plain => bytes.push(plain)?,
+            (digit, Some(count)) => blanks = Some(with_digit(count, digit)),
+            (byte, None) => bytes.push(byte).expect(rt, "there is memory"),
         }
     }
-    Ok(())
-}
-
-/// The bytes that the patterns stand for, one after the other.
-pub(super) fn joined(alloc: Global, patterns: &[&str]) -> Result<Vec<u8>, AllocError> {
-    let mut bytes = Vec::new(alloc);
-    for pattern in patterns {
-        append(&mut bytes, pattern)?;
-    }
-    Ok(bytes)
 }
 
 /// The lines that the patterns stand for, each ended by LF.
-pub(super) fn lines_of(alloc: Global, patterns: &[&str]) -> Result<Vec<u8>, AllocError> {
+pub(super) fn lines_of(rt: &impl Abort, alloc: Global, patterns: &[&str]) -> Vec<u8> {
     let mut bytes = Vec::new(alloc);
     for pattern in patterns {
-        append(&mut bytes, pattern)?;
-        bytes.push(b'\n')?;
+        append(rt, &mut bytes, pattern);
+        append(rt, &mut bytes, "\n");
     }
-    Ok(bytes)
+    bytes
 }
 
-/// The records that the lines spell.
-pub(super) fn records_of(alloc: Global, patterns: &[&str]) -> Result<Vec<Record>, Fail> {
+/// The records of these lines.
+pub(super) fn records_of(rt: &impl Abort, alloc: Global, row: &str, lines: &[&str]) -> Vec<Record>
+    ensures fits { All FitsRecord result.items }
+    ensures few { IsWithinLimit most_records result.items }
+{
     let mut loader = Loader::new(alloc);
-    loader.feed(&lines_of(alloc, patterns)?)?;
-    Ok(loader.finish()?)
+    loader.feed(&lines_of(rt, alloc, lines)).expect(rt, row);
+    loader.finish().expect(rt, row)
 }
 
-/// The canonical spellings of records, each ended by LF.
-pub(super) fn spelled(alloc: Global, records: &[Record]) -> Result<Vec<u8>, AllocError> {
+/// The lines of records in canonical spelling, each ended by LF.
+pub(super) fn spelled(rt: &impl Abort, alloc: Global, records: &[Record]) -> Vec<u8> {
     let mut text = Vec::new(alloc);
     for record in records {
         let mut line = [0; 228];
         let len = record.line_len();
         record.put(&mut line[..len]);
-        text.extend_from_slice(&line[..len])?;
-        text.push(b'\n')?;
+        text.extend_from_slice(&line[..len])
+            .expect(rt, "there is memory");
+        text.push(b'\n').expect(rt, "there is memory");
     }
-    Ok(text)
+    text
 }

@@ -1,11 +1,10 @@
-//! A text to sinks and writers that take a few bytes at a time, and fail.
+//! A text to sinks that take a few bytes at a time, and fail.
 
 use super::comparing::{same, same_items};
+use super::devices::writer;
 use super::sets::lines_of;
 use super::worked_sets::street_text;
-use std::io::{self, Error, ErrorKind, Write};
 use std::process::Abort;
-use std::test::Fail;
 use tl_write::{CountedOut, Sink, SlowSink, WriteFault, write_bytes};
 
 /// Writes the text to a sink with this room, which takes at most `most` bytes a write: the answer is right, and so is what is
@@ -15,22 +14,28 @@ fn writes(rt: &impl Abort, text: &[u8], room: usize, most: usize) {
     assert!(rt; room <= 400 && 0 < most);
     let mut sink = SlowSink::new(&mut place[..room], most);
     let answer = write_bytes(text, &mut sink);
-    let written = room as u64;
     let is_whole = text.len() <= room;
     let wanted = if is_whole {
         Ok(text.len() as u64)
     } else {
-        Err(WriteFault { written })
+        Err(WriteFault {
+            written: room as u64,
+        })
     };
-    same(rt, &answer, &wanted);
-    same(rt, &sink.failures(), &u64::from(!is_whole));
-    same_items(rt, sink.held(), text.get(..room).unwrap_or(text));
+    same(rt, "answer", &(room, most, answer), &(room, most, wanted));
+    same(rt, "failures", &sink.failures(), &u64::from(!is_whole));
+    same_items(
+        rt,
+        "what is held",
+        sink.held(),
+        text.get(..room).unwrap_or(text),
+    );
 }
 
 #[test]
-fn a_beginning_goes_out_before_a_failure(rt: HostRuntime) -> Result<(), Fail> {
-    let text = lines_of(rt.alloc(), street_text())?;
-    same(&rt, &text.len(), &357);
+fn a_beginning_goes_out_before_a_failure(rt: HostRuntime) {
+    let text = lines_of(&rt, rt.alloc(), street_text());
+    same(&rt, "bytes", &text.len(), &357);
     for room in 0..=357 {
         writes(&rt, &text, room, 7);
     }
@@ -38,46 +43,38 @@ fn a_beginning_goes_out_before_a_failure(rt: HostRuntime) -> Result<(), Fail> {
         writes(&rt, &text, 300, most);
         writes(&rt, &text, 400, most);
     }
-    Ok(())
 }
 
-#[test]
-fn no_bytes_need_no_room(rt: HostRuntime) {
-    let mut place = [0; 0];
-    let mut sink = SlowSink::new(&mut place, 1);
-    same(&rt, &write_bytes(b"", &mut sink), &Ok(0));
-    same(&rt, &sink.write(b""), &Ok(0));
-    same(&rt, &sink.failures(), &0);
-}
+/// How many bytes a writer takes at a time, its room, what is answered of two bytes, and how often it has failed.
+const FEW: &[(usize, usize, Result<u64, WriteFault>, u64)] = &[
+    (0, 9, Err(WriteFault { written: 0 }), 1),
+    (9, 0, Err(WriteFault { written: 0 }), 1),
+    (1, 9, Ok(2), 0),
+];
 
-/// Answers what it is told to.
-#[derive(Drop)]
-struct Told {
-    answer: Option<usize>,
-}
-
-impl Write for Told {
-    fn write(&mut self, buf: &[u8]) -> io::Result<usize> {
-        match self.answer {
-            Some(count) => Ok(count.min(buf.len())),
-            None => Err(Error::from(ErrorKind::Interrupted)),
-        }
-    }
-
-    fn flush(&mut self) -> io::Result<()> {
-        Ok(())
-    }
+/// Those rows.
+fn few() -> &'static [(usize, usize, Result<u64, WriteFault>, u64)] {
+    FEW
 }
 
 #[test]
 fn a_write_of_nothing_is_a_failure(rt: HostRuntime) {
-    let none = Err(WriteFault { written: 0 });
-    for (answer, wanted, failures) in [(Some(0), none, 1), (None, none, 1), (Some(1), Ok(2), 0)] {
-        let mut sink = CountedOut::new(Told { answer });
-        same(&rt, &write_bytes(b"ab", &mut sink), &wanted);
-        same(&rt, &sink.failures(), &failures);
+    for (step, room, wanted, failures) in few() {
+        let mut sink = CountedOut::new(writer(rt.alloc(), *step, *room));
+        let answer = write_bytes(b"ab", &mut sink);
+        same(
+            &rt,
+            "two bytes",
+            &(*step, answer, sink.failures()),
+            &(*step, *wanted, *failures),
+        );
     }
-    let mut empty = CountedOut::new(Told { answer: Some(0) });
-    same(&rt, &empty.write(b""), &Ok(0));
-    same(&rt, &empty.failures(), &0);
+}
+
+#[test]
+fn no_bytes_need_no_room(rt: HostRuntime) {
+    let mut sink = CountedOut::new(writer(rt.alloc(), 0, 0));
+    same(&rt, "no bytes", &write_bytes(b"", &mut sink), &Ok(0));
+    same(&rt, "a write", &sink.write(b""), &Ok(0));
+    same(&rt, "failures", &sink.failures(), &0);
 }

@@ -1,88 +1,34 @@
 //! The library's whole calls on sets in memory, and over sources and sinks that give and take few bytes and fail.
 
-use super::comparing::{same, same_in, same_items};
+use super::comparing::{same, same_items};
 use super::renamings::{carries, has_lists, turn_of_the_street};
 use super::sets::lines_of;
-use super::worked_sets::{closed, street, street_respelt, street_text, street_turned, worked};
-use std::alloc::{AllocError, Global};
+use super::worked_sets::{
+    Worked, closed, street, street_respelt, street_text, street_turned, worked,
+};
+use std::alloc::Global;
 use std::process::Abort;
-use std::test::Fail;
 use tigercanon::{
     CompareFault, Fault, Verdict, check, compare, fingerprint, normalise, normalise_to,
     normalise_with_renaming, respell,
 };
-use tl_cert::Renaming;
 use tl_load::{LoadFault, SlowSource, Source};
 use tl_profile::ProfileFault;
-use tl_write::{Sink, SlowSink, WriteFault};
+use tl_write::{SlowSink, WriteFault};
 
-/// What went to a sink that takes 7 bytes a write and has room for so many, of a source that gives 100 bytes a read.
-#[derive(Drop)]
-struct Went {
-    answer: Result<u64, Fault>,
-    failures: u64,
-    held: Vec<u8>,
-}
-
-/// What goes out of the set, where this read of it fails, or none does.
-fn goes_out(
-    alloc: Global,
-    set: &[u8],
-    failing: Option<u64>,
-    room: usize,
-) -> Result<Went, AllocError> {
-    let mut place = vec![in alloc; 0u8; room]?;
-    let mut sink = SlowSink::new(&mut place, 7);
-    let mut sources = [SlowSource::new(set, 100, failing)];
-    let answer = normalise_to(alloc, &mut sources, &mut sink);
-    Ok(Went {
-        answer,
-        failures: sink.failures(),
-        held: Vec::from_slice(alloc, sink.held())?,
-    })
-}
-
-/// What went out is this answer, with so many failures, and these bytes.
-fn is_what_went(rt: &impl Abort, name: &str, went: &Went, answer: Result<u64, Fault>, held: &[u8]) {
-    same_in(rt, name, &went.answer, &answer);
-    same_in(rt, name, &went.held.as_slice(), &held);
-    let failures = match answer {
-        Err(Fault::Write(_)) => 1,
-        _ => 0,
-    };
-    same_in(rt, name, &went.failures, &failures);
-}
-
-/// The set has this canonical text, in memory and at a sink.
-fn has_text(
-    rt: &impl Abort,
-    alloc: Global,
-    name: &str,
-    set: &[u8],
-    text: &[u8],
-) -> Result<(), Fail> {
-    same_in(rt, name, &normalise(alloc, &[set])?.as_slice(), &text);
-    let went = goes_out(alloc, set, None, 2000)?;
-    is_what_went(rt, name, &went, Ok(text.len() as u64), text);
-    same_in(rt, name, &check(alloc, &[set]), &Ok(()));
-    Ok(())
+/// The set is accepted, and this is its text.
+fn has_text(rt: &impl Abort, alloc: Global, row: &Worked) {
+    let set = lines_of(rt, alloc, row.1);
+    same(rt, row.0, &check(alloc, &[&set]), &Ok(()));
+    let text = normalise(alloc, &[&set]).expect(rt, row.0);
+    same_items(rt, row.0, &text, &lines_of(rt, alloc, row.2));
 }
 
 #[test]
-fn accepted_sets_have_their_texts(rt: HostRuntime) -> Result<(), Fail> {
-    for (name, lines, text) in worked() {
-        let text = lines_of(rt.alloc(), text)?;
-        has_text(&rt, rt.alloc(), name, &lines_of(rt.alloc(), lines)?, &text)?;
+fn accepted_sets_have_their_texts(rt: HostRuntime) {
+    for row in worked() {
+        has_text(&rt, rt.alloc(), row);
     }
-    Ok(())
-}
-
-#[test]
-fn parts_are_respelt(rt: HostRuntime) -> Result<(), Fail> {
-    let set = lines_of(rt.alloc(), street())?;
-    let found = respell(rt.alloc(), &[b"", &set])?;
-    same_items(&rt, &found, &lines_of(rt.alloc(), street_respelt())?);
-    Ok(())
 }
 
 /// The fingerprint of Main St, by another program.
@@ -92,145 +38,206 @@ const MAIN_STREET: [u8; 32] = [
 ];
 
 #[test]
-fn a_fingerprint_is_the_hash_of_the_text(rt: HostRuntime) -> Result<(), Fail> {
-    let set = lines_of(rt.alloc(), street_turned())?;
-    same(&rt, &fingerprint(rt.alloc(), &[&set]), &Ok(MAIN_STREET));
-    Ok(())
+fn a_street_is_respelt_and_has_a_fingerprint(rt: HostRuntime) {
+    let alloc = rt.alloc();
+    let set = lines_of(&rt, alloc, street());
+    let respelt = respell(alloc, &[b"", &set]).expect(&rt, "the street");
+    same_items(
+        &rt,
+        "respelt",
+        &respelt,
+        &lines_of(&rt, alloc, street_respelt()),
+    );
+    let set = lines_of(&rt, alloc, street_turned());
+    same(
+        &rt,
+        "its fingerprint",
+        &fingerprint(alloc, &[&set]),
+        &Ok(MAIN_STREET),
+    );
 }
 
-/// The renaming by which two sets are one map, or none where they are different maps.
-fn renaming_between(alloc: Global, a: &[u8], b: &[u8]) -> Result<Option<Renaming>, CompareFault> {
-    match compare(alloc, &[a], &[b])? {
-        Verdict::Same(renaming) => Ok(Some(renaming)),
-        Verdict::Different => Ok(None),
-    }
-}
-
-/// The same of the sets of these lines.
-fn renaming_of(alloc: Global, a: &[&str], b: &[&str]) -> Result<Option<Renaming>, Fail> {
-    let first = lines_of(alloc, a)?;
-    let second = lines_of(alloc, b)?;
-    Ok(renaming_between(alloc, &first, &second)?)
-}
-
-/// Whether two sets are one map, and whether the renaming that is told carries the one onto the other.
-fn is_one_map(alloc: Global, a: &[&str], b: &[&str]) -> Result<Option<bool>, Fail> {
-    match renaming_of(alloc, a, b)? {
-        Some(renaming) => Ok(Some(carries(alloc, a, b, &renaming)?)),
-        None => Ok(None),
-    }
-}
-
-/// The set is one map with each worked set that has its text, and with no other.
-fn is_one_map_by_its_text(
-    rt: &impl Abort,
-    alloc: Global,
-    lines: &[&str],
-    text: &[&str],
-) -> Result<(), Fail> {
-    for (name, others, other_text) in worked() {
-        let found = is_one_map(alloc, lines, others)?;
-        let wanted = if text == *other_text {
-            Some(true)
-        } else {
-            None
-        };
-        same_in(rt, name, &found, &wanted);
-    }
-    Ok(())
-}
-
-#[test]
-fn sets_are_one_map_exactly_if_they_have_one_text(rt: HostRuntime) -> Result<(), Fail> {
-    for (_, lines, text) in worked() {
-        is_one_map_by_its_text(&rt, rt.alloc(), lines, text)?;
-    }
-    Ok(())
-}
-
-#[test]
-fn a_street_is_renamed_onto_the_street_from_its_other_end(rt: HostRuntime) -> Result<(), Fail> {
-    match renaming_of(rt.alloc(), street(), street_turned())? {
-        Some(renaming) => has_lists(&rt, &renaming, &turn_of_the_street()),
-        None => assert!(rt; false, "they are one map"),
-    }
-    Ok(())
-}
-
-/// Each whole call tells the set's fault, and comparing tells the set.
+/// Each whole call tells why the set is refused, and comparing tells which set it is.
 fn is_refused(rt: &impl Abort, alloc: Global, set: &[u8], fault: Fault) {
     let told = Some(fault);
-    same(rt, &check(alloc, &[set]).err(), &told);
-    same(rt, &normalise(alloc, &[set]).err(), &told);
-    same(rt, &normalise_with_renaming(alloc, &[set]).err(), &told);
-    same(rt, &fingerprint(alloc, &[set]).err(), &told);
+    same(rt, "check", &check(alloc, &[set]).err(), &told);
+    same(rt, "normalise", &normalise(alloc, &[set]).err(), &told);
+    let renamed = normalise_with_renaming(alloc, &[set]).err();
+    same(rt, "normalise_with_renaming", &renamed, &told);
+    same(rt, "fingerprint", &fingerprint(alloc, &[set]).err(), &told);
     let in_set = CompareFault::In { set: 2, fault };
-    same(rt, &compare(alloc, &[], &[set]).err(), &Some(in_set));
+    same(
+        rt,
+        "compare",
+        &compare(alloc, &[], &[set]).err(),
+        &Some(in_set),
+    );
 }
 
 #[test]
-fn each_call_tells_what_a_set_is_refused_for(rt: HostRuntime) -> Result<(), Fail> {
-    let set = lines_of(rt.alloc(), closed())?;
+fn each_call_tells_what_a_set_is_refused_for(rt: HostRuntime) {
+    let set = lines_of(&rt, rt.alloc(), closed());
     let fault = Fault::Profile(ProfileFault::OwnReverse { tlid: 500 });
     is_refused(&rt, rt.alloc(), &set, fault);
-    Ok(())
 }
 
-/// A sink with room for a beginning of the text holds it, and tells how much it is.
-fn is_cut_off(
-    rt: &impl Abort,
-    alloc: Global,
-    set: &[u8],
-    text: &[u8],
-    room: usize,
-) -> Result<(), Fail> {
-    let written = room as u64;
-    let full = Fault::Write(WriteFault { written });
-    let went = goes_out(alloc, set, None, room)?;
-    let held = text.get(..room).unwrap_or_default();
-    is_what_went(rt, "a full sink", &went, Err(full), held);
-    Ok(())
+/// The sets are one map exactly if they have one text, and then the renaming that is told carries the one onto the other.
+fn are_compared(rt: &impl Abort, alloc: Global, row: &Worked, other: &Worked) {
+    let set = lines_of(rt, alloc, row.1);
+    let others = lines_of(rt, alloc, other.1);
+    let verdict = compare(alloc, &[&set], &[&others]).expect(rt, row.0);
+    let found = match &verdict {
+        Verdict::Same(renaming) => Some(carries(rt, alloc, row.0, row.1, other.1, renaming)),
+        Verdict::Different => None,
+    };
+    drop(verdict);
+    let wanted = if row.2 == other.2 { Some(true) } else { None };
+    same(rt, row.0, &(other.0, found), &(other.0, wanted));
+}
+
+/// The set is compared with each worked set.
+fn is_compared(rt: &impl Abort, alloc: Global, row: &Worked) {
+    for other in worked() {
+        are_compared(rt, alloc, row, other);
+    }
 }
 
 #[test]
-fn a_full_sink_holds_a_beginning(rt: HostRuntime) -> Result<(), Fail> {
-    let set = lines_of(rt.alloc(), street())?;
-    let text = lines_of(rt.alloc(), street_text())?;
-    for room in [0, 1, 229, 300, 356] {
-        is_cut_off(&rt, rt.alloc(), &set, &text, room)?;
+fn sets_are_one_map_exactly_if_they_have_one_text(rt: HostRuntime) {
+    for row in worked() {
+        is_compared(&rt, rt.alloc(), row);
     }
-    Ok(())
 }
 
 #[test]
-fn a_failing_read_is_told_and_nothing_goes_out(rt: HostRuntime) -> Result<(), Fail> {
-    let set = lines_of(rt.alloc(), street())?;
-    for failing in 1..6 {
-        let went = goes_out(rt.alloc(), &set, Some(failing), 400)?;
-        let device = Fault::Load(LoadFault::Device);
-        is_what_went(&rt, "a failing read", &went, Err(device), b"");
+fn a_street_is_renamed_onto_the_street_from_its_other_end(rt: HostRuntime) {
+    let alloc = rt.alloc();
+    let set = lines_of(&rt, alloc, street());
+    let other = lines_of(&rt, alloc, street_turned());
+    let verdict = compare(alloc, &[&set], &[&other]).expect(&rt, "both are accepted");
+    match &verdict {
+        Verdict::Same(renaming) => has_lists(&rt, "the street", renaming, &turn_of_the_street()),
+        Verdict::Different => assert!(&rt; false, "they are one map"),
     }
-    Ok(())
+    drop(verdict);
 }
 
-/// Of two sources the second isn't read where the first one fails, and nothing goes out.
-fn is_not_read(rt: &impl Abort, alloc: Global, set: &[u8]) {
+/// What a row shows, which read of Main St fails and which of a second source that has nothing, the room at the sink, what is
+/// answered, and which sources have failed.
+type Passing = (
+    &'static str,
+    [Option<u64>; 2],
+    usize,
+    Result<u64, Fault>,
+    [u64; 2],
+);
+
+const DEVICE: Result<u64, Fault> = Err(Fault::Load(LoadFault::Device));
+
+const PASSING: &[Passing] = &[
+    ("more room than needed", [None, None], 400, Ok(357), [0, 0]),
+    ("room for the text", [None, None], 357, Ok(357), [0, 0]),
+    (
+        "all but the last byte",
+        [None, None],
+        356,
+        Err(Fault::Write(WriteFault { written: 356 })),
+        [0, 0],
+    ),
+    (
+        "some writes",
+        [None, None],
+        300,
+        Err(Fault::Write(WriteFault { written: 300 })),
+        [0, 0],
+    ),
+    (
+        "a line",
+        [None, None],
+        229,
+        Err(Fault::Write(WriteFault { written: 229 })),
+        [0, 0],
+    ),
+    (
+        "one byte",
+        [None, None],
+        1,
+        Err(Fault::Write(WriteFault { written: 1 })),
+        [0, 0],
+    ),
+    (
+        "no room",
+        [None, None],
+        0,
+        Err(Fault::Write(WriteFault { written: 0 })),
+        [0, 0],
+    ),
+    ("read 1 fails", [Some(1), None], 400, DEVICE, [1, 0]),
+    ("read 2 fails", [Some(2), None], 400, DEVICE, [1, 0]),
+    ("read 3 fails", [Some(3), None], 400, DEVICE, [1, 0]),
+    ("read 4 fails", [Some(4), None], 400, DEVICE, [1, 0]),
+    (
+        "the read at the end fails",
+        [Some(5), None],
+        400,
+        DEVICE,
+        [1, 0],
+    ),
+    (
+        "the second source fails",
+        [None, Some(1)],
+        400,
+        DEVICE,
+        [0, 1],
+    ),
+    (
+        "nothing is read behind a failure",
+        [Some(2), Some(1)],
+        400,
+        DEVICE,
+        [1, 0],
+    ),
+];
+
+/// Those rows.
+fn passing() -> &'static [Passing] {
+    PASSING
+}
+
+/// Of the set, read by 100 bytes and written by 7, as much of the text goes out as the row says.
+fn passes(rt: &impl Abort, alloc: Global, row: &Passing, set: &[u8], text: &[u8]) {
+    let (name, failing, room, wanted, failures) = *row;
+    let mut place = vec![in alloc; 0u8; room].expect(rt, name);
+    let mut sink = SlowSink::new(&mut place, 7);
     let mut sources = [
-        SlowSource::new(set, 100, Some(2)),
-        SlowSource::new(set, 100, Some(1)),
+        SlowSource::new(set, 100, failing[0]),
+        SlowSource::new(b"", 100, failing[1]),
     ];
-    let mut room = [0; 400];
-    let mut sink = SlowSink::new(&mut room, 7);
-    let failed = Err(Fault::Load(LoadFault::Device));
-    same(rt, &normalise_to(alloc, &mut sources, &mut sink), &failed);
-    same(rt, &sources[0].failures(), &1);
-    same(rt, &sources[1].failures(), &0);
-    same_items(rt, sink.held(), b"");
+    let answer = normalise_to(alloc, &mut sources, &mut sink);
+    same(rt, name, &answer, &wanted);
+    same(
+        rt,
+        name,
+        &[sources[0].failures(), sources[1].failures()],
+        &failures,
+    );
+    let written = match answer {
+        Ok(written) | Err(Fault::Write(WriteFault { written })) => written,
+        Err(_) => 0,
+    };
+    same_items(
+        rt,
+        name,
+        sink.held(),
+        text.get(..written as usize).unwrap_or_default(),
+    );
 }
 
 #[test]
-fn nothing_is_read_behind_a_failure(rt: HostRuntime) -> Result<(), Fail> {
-    let set = lines_of(rt.alloc(), street())?;
-    is_not_read(&rt, rt.alloc(), &set);
-    Ok(())
+fn a_text_goes_out_as_far_as_devices_let_it(rt: HostRuntime) {
+    let set = lines_of(&rt, rt.alloc(), street());
+    let text = lines_of(&rt, rt.alloc(), street_text());
+    for row in passing() {
+        passes(&rt, rt.alloc(), row, &set, &text);
+    }
 }

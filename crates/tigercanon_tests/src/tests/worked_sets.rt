@@ -8,15 +8,15 @@ pub(super) const CHAIN: &str =
 pub(super) const LINK: &str = "I{4}01001{7}500{8}11{8}12{87}";
 
 /// Both lines in canonical spelling.
-pub(super) const CHAIN_RESPELT: &str =
+const CHAIN_RESPELT: &str =
     "12006{7}500{1}A{2}Main{26}St{4}A41{8}101{8}199{8}100{8}19801{2}3600336006{14}0101001001{30}02020002030010012002-086468669+32424914-086468545+32424948";
 
-pub(super) const LINK_RESPELT: &str = "I200601001{7}500{8}11{8}12{87}";
+const LINK_RESPELT: &str = "I200601001{7}500{8}11{8}12{87}";
 
 pub(super) const RESPELT: &[&str] = &[CHAIN_RESPELT, LINK_RESPELT];
 
 /// The line of record type I of Main St between two polygons 12.
-pub(super) const SIDES: &str = "I{4}01001{7}500{8}11{8}1200001{8}1200002{8}12";
+const SIDES: &str = "I{4}01001{7}500{8}11{8}1200001{8}1200002{8}12";
 
 /// The chain of Main St seen from its other end, with the TLID 77.
 pub(super) const TURNED: &str =

@@ -2,7 +2,6 @@ use Rattle.std.proofs.Common.{◌≡◌, ◌∙◌, ap, subst, sym}
 use Rattle.std.proofs.lemmas.Result.{err_from_is_err_and}
 use Rattle.tl_county.specs.County.{County}
 use Rattle.tl_county.specs.Packing.{packed}
-use Rattle.tl_county.specs.TheCountyOver.{the_county_over}
 use Rattle.tl_number.proofs.Ascending.{canonical_exists}
 use Rattle.tl_number.specs.Accepted.{IsCanonicalOf}
 use Rattle.tl_number.specs.Arrangement.{arranged, ascending}
@@ -18,29 +17,29 @@ returns-clause-canonical c = λ parts set.
     record {
       records = set.0;
       accepted = record { spelled = set.1; accepted = a.0 };
-      county_is = ap the_county_over (c.in_ok-canonise_in_order.ensures.source ∙ c.into_chart.ensures.value) ∙ a.1;
+      county_is = c.in_ok-canonise_in_order.ensures.source_county ∙ c.into_chart.ensures.same ∙ a.1;
       canonical = subst (λ (county : County). IsCanonicalOf set.0 (packed county))
-          (ap (λ (county : County). arranged county (ascending county)) (sym (ap the_county_over c.into_chart.ensures.value ∙ a.1))
+          (ap (λ (county : County). arranged county (ascending county)) (sym (c.into_chart.ensures.same ∙ a.1))
           ∙ sym c.in_ok-canonise_in_order.ensures.county)
           (canonical_exists set.0 a.0);
     }
 
 pub returns-in_err-admitted-clause-set_refused : goal.returns-in_err-admitted-clause-set_refused
 returns-in_err-admitted-clause-set_refused c =
-    let p = err_from_is_err_and c.from_residual.result c.from_residual.ensures.1 in
+    let p = err_from_is_err_and c.from_residual-in_err-admitted.result c.from_residual-in_err-admitted.ensures.1 in
     rw (p.1, p.2)
     (λ parts set. set_refused parts set.0 set.1 c.in_err-admitted.field-0.0 (c.in_err-admitted.ensures.refused set.0 set.2))
 
 pub returns-in_err-admitted-clause-succeeds : goal.returns-in_err-admitted-clause-succeeds
 returns-in_err-admitted-clause-succeeds c =
-    let p = err_from_is_err_and c.from_residual.result c.from_residual.ensures.1 in
+    let p = err_from_is_err_and c.from_residual-in_err-admitted.result c.from_residual-in_err-admitted.ensures.1 in
     rw (p.1, p.2)
     (λ parts records set accepted. accepted_memory_alone parts records set.0 c.in_err-admitted.field-0.0 accepted set.1
     (c.in_err-admitted.ensures.refused set.0 set.2))
 
 pub returns-in_err-admitted-clause-no_device : goal.returns-in_err-admitted-clause-no_device
 returns-in_err-admitted-clause-no_device c =
-    let p = err_from_is_err_and c.from_residual.result c.from_residual.ensures.1 in
+    let p = err_from_is_err_and c.from_residual-in_err-admitted.result c.from_residual-in_err-admitted.ensures.1 in
     rw (p.1, p.2)
     (λ parts set e. let is : c.in_err-admitted.field-0.0 ≡ Load Device = cc in
     subst (RefusesRecords set.0) is (c.in_err-admitted.ensures.refused set.0 set.2))

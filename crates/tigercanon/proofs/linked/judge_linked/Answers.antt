@@ -1,4 +1,4 @@
 use Rattle.tigercanon.proofs.linked.judge_linked.Goals as goal
 
 pub returns-clause-accepted : goal.returns-clause-accepted
-returns-clause-accepted c = λ records linked. (c.in_ok-admit_records.ensures.accepted records linked).0
+returns-clause-accepted c = λ records linked. (c.in_ok-admit_county.ensures.accepted records linked).0

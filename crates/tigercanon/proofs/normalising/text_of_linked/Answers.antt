@@ -5,19 +5,19 @@ use Rattle.tigercanon.proofs.normalising.text_of_linked.Goals as goal
 pub returns-clause-canonical : goal.returns-clause-canonical
 returns-clause-canonical c = λ parts linked.
     let set = c.in_ok-county.ensures.canonical parts linked in
-    if_ok_by c.text_in_memory.result (λ text. text_of_set _ _ _ set text.items) c.text_in_memory.ensures.text
+    if_ok_by c.text_in_memory-text.result (λ text. text_of_set _ _ _ set text.items) c.text_in_memory-text.ensures.text
 
 pub returns-clause-only : goal.returns-clause-only
 returns-clause-only c = λ parts linked.
     let set = c.in_ok-county.ensures.canonical parts linked in
-    if_ok_by c.text_in_memory.result (λ text. only_of_set _ _ _ set text.items) c.text_in_memory.ensures.text
+    if_ok_by c.text_in_memory-text.result (λ text. only_of_set _ _ _ set text.items) c.text_in_memory-text.ensures.text
 
 pub returns-clause-refused : goal.returns-clause-refused
-returns-clause-refused c = λ parts linked. memory_refuses parts c.text_in_memory.result c.text_in_memory.ensures.memory
+returns-clause-refused c = λ parts linked. memory_refuses parts c.text_in_memory-text.result c.text_in_memory-text.ensures.memory
 
 pub returns-clause-succeeds : goal.returns-clause-succeeds
 returns-clause-succeeds c = λ parts records linked accepted.
-    memory_is_wanted c.text_in_memory.result c.text_in_memory.ensures.memory
+    memory_is_wanted c.text_in_memory-text.result c.text_in_memory-text.ensures.memory
 
 pub returns-in_err-county-clause-refused : goal.returns-in_err-county-clause-refused
 returns-in_err-county-clause-refused c = λ parts linked.

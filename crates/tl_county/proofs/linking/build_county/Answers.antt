@@ -1,34 +1,57 @@
-use Rattle.std.proofs.Common.{◌≡◌, sym, ap, ◌∙◌, subst}
+use Rattle.std.proofs.Common.{◌≡◌, map, length, sym, ap, ◌∙◌, subst, nat_cmp}
+use Rattle.std.proofs.lemmas.List.{length-map}
+use Rattle.std.specs.List.Sorted.{IsStrictlySortedBy}
+use Rattle.tl_layout.specs.Fields.{Fields5}
 use Rattle.tl_county.specs.Building.{county_along}
+use Rattle.tl_county.specs.County.{five_feat}
 use Rattle.tl_county.specs.CountyRules.{IsCounty, nodes}
+use Rattle.tl_county.specs.Entries.{map_values}
 use Rattle.tl_county.specs.KeptCounty.{county_with, LinksUnderLands}
 use Rattle.tl_county.specs.Limits.{IsWithinLimits, most_records}
 use Rattle.tl_county.specs.OrderedTables.{typed_of}
-use Rattle.tl_county.proofs.BuiltTables.{as_built, built-is_county, nodes-built, links_under_lands-along}
-use Rattle.tl_county.proofs.EntryLists.{map_values-id}
+use Rattle.tl_county.proofs.BuiltTables.{as_built, built-is_county, feats-ascend, nodes-built, links_under_lands-along}
+use Rattle.tl_county.proofs.KeptParts.{names-built}
 use Rattle.tl_county.proofs.linking.build_county.Goals as goal
 
+pub new-requires-clause-ascending : goal.new-requires-clause-ascending
+new-requires-clause-ascending g c =
+    subst (IsStrictlySortedBy nat_cmp) (sym c.requires.feats)
+    (feats-ascend (typed_of c.args.tables.now) c.requires.tables c.requires.linked)
+
+pub new-requires-clause-same_length : goal.new-requires-clause-same_length
+new-requires-clause-same_length g c =
+    let fives = c.args.tables.now.type_5.items in
+    ap length c.requires.feats ∙ length-map fives five_feat ∙ sym (length-map fives (λ (r : Fields5). r.body))
+    ∙ ap length (sym c.requires.names) ∙ length-map c.args.names.items g.N.KeptName.name
+
 pub invariant_of-result : goal.invariant_of-result
-invariant_of-result c =
+invariant_of-result g c =
     let t = typed_of c.args.tables.now in
-    let chains = sym (map_values-id c.in_ok-parts.parts.chains) ∙ c.in_ok-parts.ensures.chains in
-    let landmarks = sym (map_values-id c.in_ok-parts.parts.landmarks) ∙ c.in_ok-parts.ensures.landmarks in
-    let same : county_with c.in_ok-parts.parts.chains c.in_ok-names.names c.in_ok-parts.parts.polygons c.in_ok-parts.parts.landmarks
-    ≡ county_along t =
-    λ i. county_with (chains i) (c.in_ok-names.ensures i) (c.in_ok-parts.ensures.polygons i) (landmarks i) in
+    let parts = c.in_ok-parts.parts in
+    let told = c.in_ok-parts.ensures in
+    let name = g.N.KeptName.name in
+    let names = names-built name c.new.result t (c.new.ensures.keys ∙ c.requires.feats)
+    (ap (map name) c.new.ensures.values ∙ c.requires.names) in
+    let same : county_with (map_values g.C.KeptChain.chain parts.chains) (map_values name c.new.result) parts.polygons
+    (map_values g.L.KeptLandmark.landmark parts.landmarks) ≡ county_along t =
+    λ i. county_with (told.chains i) (names i) (told.polygons i) (told.landmarks i) in
     record {
       within_limits = subst (IsWithinLimits most_records)
           (sym (same ∙ sym (as_built t c.requires.tables c.requires.linked))) c.requires.limits;
       is_county = subst IsCounty (sym same) (built-is_county t c.requires.tables c.requires.linked);
-      links_under_lands = subst LinksUnderLands (sym landmarks) (links_under_lands-along t);
-      nodes_stand = c.in_ok-parts.ensures.nodes
-          ∙ sym (nodes-built t c.requires.tables c.requires.linked) ∙ ap nodes (sym same);
+      links_under_lands = subst LinksUnderLands (sym told.landmarks) (links_under_lands-along t);
+      nodes_stand = told.nodes ∙ sym (nodes-built t c.requires.tables c.requires.linked) ∙ ap nodes (sym same);
     }
 
 pub returns : goal.returns
-returns c =
+returns g c =
     let t = typed_of c.args.tables.now in
-    let chains = sym (map_values-id c.in_ok-parts.parts.chains) ∙ c.in_ok-parts.ensures.chains in
-    let landmarks = sym (map_values-id c.in_ok-parts.parts.landmarks) ∙ c.in_ok-parts.ensures.landmarks in
-    (λ i. county_with (chains i) (c.in_ok-names.ensures i) (c.in_ok-parts.ensures.polygons i) (landmarks i))
-    ∙ sym (as_built t c.requires.tables c.requires.linked)
+    let parts = c.in_ok-parts.parts in
+    let told = c.in_ok-parts.ensures in
+    let name = g.N.KeptName.name in
+    let names = names-built name c.new.result t (c.new.ensures.keys ∙ c.requires.feats)
+    (ap (map name) c.new.ensures.values ∙ c.requires.names) in
+    let same : county_with (map_values g.C.KeptChain.chain parts.chains) (map_values name c.new.result) parts.polygons
+    (map_values g.L.KeptLandmark.landmark parts.landmarks) ≡ county_along t =
+    λ i. county_with (told.chains i) (names i) (told.polygons i) (told.landmarks i) in
+    same ∙ sym (as_built t c.requires.tables c.requires.linked)

@@ -1,14 +1,10 @@
-use Rattle.std.proofs.Common.{◌≢◌, List, Result, Ok, Err, OnOk, IfErr, MatchResult, nat_cmp, sym, subst, arith}
+use Rattle.std.proofs.Common.{List, Result, Ok, Err, OnOk, IfErr, MatchResult, sym, subst, arith}
 use Rattle.std.proofs.lemmas.Result.{err_from_is_err_and}
 use Rattle.tl_layout.specs.declared.record_type.Record.{Record}
 use Rattle.tl_county.specs.declared.fault.LinkFault.{LinkFault}
-use Rattle.tl_county.specs.declared.fault.LinkFault.TheVariants.{Memory}
-use Rattle.tl_county.specs.County.{five_feat}
 use Rattle.tl_county.specs.LinkRules.{IsFirstBrokenRule, IsLinked}
-use Rattle.tl_county.specs.Orders.{IsInOrder}
 use Rattle.tl_county.specs.RepeatedKeys.{AreLeastRepeated}
 use Rattle.tl_county.specs.RuleOrder.{RulesHold, IsFirstFrom}
-use Rattle.tl_county.proofs.InOrder.{in_order-map}
 use Rattle.tl_county.proofs.RuleOrders.{rules-join, first-after, all_hold, first_of_all}
 use Rattle.tl_county.proofs.linking.check_rules.Goals as goal
 
@@ -22,14 +18,9 @@ module _ (Of : List Record → Type 0) (before : (records : List Record) → Of 
 
   first_told : (r : Result (Unit {0}) LinkFault) → ((records : List Record) → Of records
       → MatchResult r (λ _. RulesHold records 12 15) (IsFirstFrom records 12))
-      → IfErr r (λ fault. fault ≢ Memory → (records : List Record) → Of records → IsFirstBrokenRule records fault)
+      → IfErr r (λ fault. (records : List Record) → Of records → IsFirstBrokenRule records fault)
   first_told (Ok u) h = tt
-  first_told (Err f) h = λ ne records e. first_of_all records f (first-after records (omega arith) (before records e) (h records e))
-
-pub unnamed_use-requires : goal.unnamed_use-requires
-unnamed_use-requires c =
-    subst (IsInOrder nat_cmp) (sym c.requires.feats)
-    (in_order-map nat_cmp five_feat c.args.tables.now.type_5.items c.requires.tables.type_5)
+  first_told (Err f) h = λ records e. first_of_all records f (first-after records (omega arith) (before records e) (h records e))
 
 pub returns-clause-linked : goal.returns-clause-linked
 returns-clause-linked c =
@@ -52,7 +43,7 @@ returns-clause-broken c =
 pub returns-in_err-check_sequences-clause-broken : goal.returns-in_err-check_sequences-clause-broken
 returns-in_err-check_sequences-clause-broken c =
     let p = err_from_is_err_and c.from_residual-in_err-check_sequences.result c.from_residual-in_err-check_sequences.ensures.1 in
-    rw (p.1, p.2) (λ ne records e. first_of_all records c.in_err-check_sequences.field-0.0
+    rw (p.1, p.2) (λ records e. first_of_all records c.in_err-check_sequences.field-0.0
     (first-after records (omega arith) (c.in_ok-check_chains.ensures records e)
     (c.in_err-check_sequences.ensures records
     (subst (AreLeastRepeated c.args.ordered.now.repeated) (sym e) c.requires.repeated))))
@@ -60,7 +51,7 @@ returns-in_err-check_sequences-clause-broken c =
 pub returns-in_err-check_links-clause-broken : goal.returns-in_err-check_links-clause-broken
 returns-in_err-check_links-clause-broken c =
     let p = err_from_is_err_and c.from_residual-in_err-check_links.result c.from_residual-in_err-check_links.ensures.1 in
-    rw (p.1, p.2) (λ ne records e. first_of_all records c.in_err-check_links.field-0.0
+    rw (p.1, p.2) (λ records e. first_of_all records c.in_err-check_links.field-0.0
     (first-after records (omega arith) (rules-join records (c.in_ok-check_chains.ensures records e)
     (c.in_ok-check_sequences.ensures records (subst (AreLeastRepeated c.args.ordered.now.repeated) (sym e) c.requires.repeated)))
     (c.in_err-check_links.ensures records e)))
@@ -68,7 +59,7 @@ returns-in_err-check_links-clause-broken c =
 pub returns-in_err-check_names-clause-broken : goal.returns-in_err-check_names-clause-broken
 returns-in_err-check_names-clause-broken c =
     let p = err_from_is_err_and c.from_residual-in_err-check_names.result c.from_residual-in_err-check_names.ensures.1 in
-    rw (p.1, p.2) (λ ne records e. first_of_all records c.in_err-check_names.field-0.0
+    rw (p.1, p.2) (λ records e. first_of_all records c.in_err-check_names.field-0.0
     (first-after records (omega arith) (rules-join records (c.in_ok-check_chains.ensures records e)
     (rules-join records
     (c.in_ok-check_sequences.ensures records (subst (AreLeastRepeated c.args.ordered.now.repeated) (sym e) c.requires.repeated))

@@ -28,4 +28,4 @@ returns-in_err-check_rules-clause-broken c =
     c.from_residual-in_err-check_rules.ensures.1
     (λ ne records h. also_first records (typed_of c.args.tables.now) u (held c.args.tables.now records h) c.in_ok-ordered.ensures.same
     _
-    (c.in_err-check_rules.ensures.broken ne (type_after_type u) (by_type-after u)))
+    (c.in_err-check_rules.ensures.broken (type_after_type u) (by_type-after u)))

@@ -34,4 +34,5 @@ invariant_of-result g c =
       names_told = subst (λ steps. TellsNames county steps c.in_ok-nodes.names) c.deref.ensures.value c.in_ok-nodes.ensures.names;
       landmarks_told = subst (λ steps. TellsLandmarks county steps c.in_ok-nodes.landmarks) c.deref.ensures.value
           c.in_ok-nodes.ensures.landmarks;
+      stands = ∣ tt ∣₁;
     }

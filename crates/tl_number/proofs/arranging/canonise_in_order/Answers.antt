@@ -34,8 +34,8 @@ arrange-requires-clause-sides g c =
     let profile = c.requires.profile in
     sides_in_profile county is profile
 
-pub invariant_of-result : goal.invariant_of-result
-invariant_of-result g c =
+pub known_as_canonical-requires-clause-canonical : goal.known_as_canonical-requires-clause-canonical
+known_as_canonical-requires-clause-canonical g c =
     let county = g.C.Chart.county c.args.chart in
     let is = g.met.C.Chart.is_county c.args.chart in
     let profile = c.requires.profile in
@@ -46,26 +46,40 @@ invariant_of-result g c =
     let ascends = steps_ascend county c.args.order.now c.requires.shapes c.in_ok-steps.steps.items c.in_ok-steps.ensures in
     let told : stepped (g.C.Chart.county view.chart) view.steps.items ≡ arranged county order =
     c.in_ok-view.ensures.county ∙ ap (arranged county) ascends in
-    record {
-      canonical = subst IsCanonCounty (sym told)
-          (record { in_form = is_arranged county order is arranges sides; least = ascending_least county is profile });
-      same = subst (λ source. ∥ AreSame (g.C.Chart.county source) (stepped (g.C.Chart.county view.chart) view.steps.items) ∥₁)
-          (sym c.in_ok-view.ensures.source)
-          (subst (λ new. ∥ AreSame county new ∥₁) (sym told)
-          (∣ record { by = renaming_of county order; carries = arrangement_carries county order is arranges sides } ∣₁));
-    }
+    subst IsCanonCounty (sym told) (record { in_form = is_arranged county order is arranges sides; least = ascending_least county is profile })
+
+pub known_as_canonical-requires-clause-same : goal.known_as_canonical-requires-clause-same
+known_as_canonical-requires-clause-same g c =
+    let county = g.C.Chart.county c.args.chart in
+    let is = g.met.C.Chart.is_county c.args.chart in
+    let profile = c.requires.profile in
+    let order = ascending county in
+    let arranges = ascending_arranges county is profile in
+    let sides = sides_in_profile county is profile in
+    let view = c.in_ok-view.view in
+    let ascends = steps_ascend county c.args.order.now c.requires.shapes c.in_ok-steps.steps.items c.in_ok-steps.ensures in
+    let told : stepped (g.C.Chart.county view.chart) view.steps.items ≡ arranged county order =
+    c.in_ok-view.ensures.county ∙ ap (arranged county) ascends in
+    subst (λ source. AreSame (g.C.Chart.county source) (stepped (g.C.Chart.county view.chart) view.steps.items))
+    (sym c.in_ok-view.ensures.source)
+    (subst (AreSame county) (sym told)
+    (record { by = renaming_of county order; carries = arrangement_carries county order is arranges sides }))
+
+pub returns-clause-source_county : goal.returns-clause-source_county
+returns-clause-source_county g c = ap g.C.Chart.county (c.known_as_canonical.ensures.source ∙ c.in_ok-view.ensures.source)
 
 pub returns-clause-county : goal.returns-clause-county
 returns-clause-county g c =
     let county = g.C.Chart.county c.args.chart in
     let ascends = steps_ascend county c.args.order.now c.requires.shapes c.in_ok-steps.steps.items c.in_ok-steps.ensures in
-    c.in_ok-view.ensures.county ∙ ap (arranged county) ascends
+    (λ i. stepped (g.C.Chart.county (c.known_as_canonical.ensures.source i)) (c.known_as_canonical.ensures.order i).items)
+    ∙ c.in_ok-view.ensures.county ∙ ap (arranged county) ascends
 
 pub returns-clause-order : goal.returns-clause-order
 returns-clause-order g c =
     let county = g.C.Chart.county c.args.chart in
     let ascends = steps_ascend county c.args.order.now c.requires.shapes c.in_ok-steps.steps.items c.in_ok-steps.ensures in
-    ap (λ steps. arrangement_of county steps.items) c.in_ok-view.ensures.order ∙ ascends
+    ap (λ steps. arrangement_of county steps.items) (c.known_as_canonical.ensures.order ∙ c.in_ok-view.ensures.order) ∙ ascends
 
 pub returns-clause-carried : goal.returns-clause-carried
 returns-clause-carried g c =
@@ -75,8 +89,15 @@ returns-clause-carried g c =
     let order = ascending county in
     let arranges = ascending_arranges county is profile in
     let sides = sides_in_profile county is profile in
-    let view = c.in_ok-view.view in
-    let ascends = steps_ascend county c.args.order.now c.requires.shapes c.in_ok-steps.steps.items c.in_ok-steps.ensures in
-    let told : stepped (g.C.Chart.county view.chart) view.steps.items ≡ arranged county order =
-    c.in_ok-view.ensures.county ∙ ap (arranged county) ascends in
-    subst (Carries (renaming_of county order) county) (sym told) (arrangement_carries county order is arranges sides)
+    subst (Carries (renaming_of county order) county) (sym (returns-clause-county g c)) (arrangement_carries county order is arranges sides)
+
+pub returns-clause-canonical : goal.returns-clause-canonical
+returns-clause-canonical g c =
+    let county = g.C.Chart.county c.args.chart in
+    let is = g.met.C.Chart.is_county c.args.chart in
+    let profile = c.requires.profile in
+    let order = ascending county in
+    let arranges = ascending_arranges county is profile in
+    let sides = sides_in_profile county is profile in
+    subst IsCanonCounty (sym (returns-clause-county g c))
+    (record { in_form = is_arranged county order is arranges sides; least = ascending_least county is profile })

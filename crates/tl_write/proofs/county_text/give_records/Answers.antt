@@ -7,7 +7,7 @@ use Rattle.tl_write.proofs.county_text.give_records.Goals as goal
 
 pub returns-in_err-give_types_1_to_4-clause-given : goal.returns-in_err-give_types_1_to_4-clause-given
 returns-in_err-give_types_1_to_4-clause-given g c =
-    let county = stepped (g.C.Chart.county c.args.county.now.view.chart) c.args.county.now.view.steps.items in
+    let county = stepped (g.C.Chart.county c.args.county.now.chart) c.args.county.now.steps.items in
     let p = err_from_is_err_and c.from_residual.result c.from_residual.ensures.1 in
     subst (λ rs. g.T.RecordTaker.Takes rs c.args.taker.now c.args.device.now c.from_residual.result c.give_types_1_to_4.new.taker
     c.give_types_1_to_4.new.device) (all_groups county)
@@ -17,7 +17,7 @@ returns-in_err-give_types_1_to_4-clause-given g c =
 
 pub returns-in_err-give_types_5_to_7-clause-given : goal.returns-in_err-give_types_5_to_7-clause-given
 returns-in_err-give_types_5_to_7-clause-given g c =
-    let county = stepped (g.C.Chart.county c.args.county.now.view.chart) c.args.county.now.view.steps.items in
+    let county = stepped (g.C.Chart.county c.args.county.now.chart) c.args.county.now.steps.items in
     let p = err_from_is_err_and c.from_residual-in_err-give_types_5_to_7.result c.from_residual-in_err-give_types_5_to_7.ensures.1 in
     subst (λ rs. g.T.RecordTaker.Takes rs c.args.taker.now c.args.device.now c.from_residual-in_err-give_types_5_to_7.result
     c.give_types_5_to_7.new.taker c.give_types_5_to_7.new.device) (all_groups county)
@@ -30,7 +30,7 @@ returns-in_err-give_types_5_to_7-clause-given g c =
 
 pub returns-clause-given : goal.returns-clause-given
 returns-clause-given g c =
-    let county = stepped (g.C.Chart.county c.args.county.now.view.chart) c.args.county.now.view.steps.items in
+    let county = stepped (g.C.Chart.county c.args.county.now.chart) c.args.county.now.steps.items in
     subst (λ rs. g.T.RecordTaker.Takes rs c.args.taker.now c.args.device.now c.give_types_8_to_p.result c.give_types_8_to_p.new.taker
     c.give_types_8_to_p.new.device) (all_groups county)
     (g.met.T.RecordTaker.then (types_1_to_4 county) (types_5_to_7 county ++ types_8_to_p county)

@@ -8,7 +8,7 @@ use Rattle.tl_write.proofs.county_text.give_types_8_to_p.Goals as goal
 
 pub returns-in_err-give_groups-clause-given : goal.returns-in_err-give_groups-clause-given
 returns-in_err-give_groups-clause-given g c =
-    let county = stepped (g.C.Chart.county c.args.county.now.view.chart) c.args.county.now.view.steps.items in
+    let county = stepped (g.C.Chart.county c.args.county.now.chart) c.args.county.now.steps.items in
     let p = err_from_is_err_and c.from_residual.result c.from_residual.ensures.1 in
     rw (p.1, p.2) (g.met.T.RecordTaker.stops (map Eight (grouped (type_8_together county))) ((map I (grouped (type_i_by_chain county))) ++ (map P (grouped (type_p_by_number county))))
     c.args.taker.now c.give_groups.new.taker c.args.device.now c.give_groups.new.device
@@ -16,7 +16,7 @@ returns-in_err-give_groups-clause-given g c =
 
 pub returns-in_err-give_groups-2-clause-given : goal.returns-in_err-give_groups-2-clause-given
 returns-in_err-give_groups-2-clause-given g c =
-    let county = stepped (g.C.Chart.county c.args.county.now.view.chart) c.args.county.now.view.steps.items in
+    let county = stepped (g.C.Chart.county c.args.county.now.chart) c.args.county.now.steps.items in
     let p = err_from_is_err_and c.from_residual-in_err-give_groups-2.result c.from_residual-in_err-give_groups-2.ensures.1 in
     rw (p.1, p.2) (g.met.T.RecordTaker.then (map Eight (grouped (type_8_together county))) ((map I (grouped (type_i_by_chain county))) ++ (map P (grouped (type_p_by_number county))))
     c.args.taker.now c.give_groups.new.taker c.give_groups-2.new.taker
@@ -27,7 +27,7 @@ returns-in_err-give_groups-2-clause-given g c =
 
 pub returns-clause-given : goal.returns-clause-given
 returns-clause-given g c =
-    let county = stepped (g.C.Chart.county c.args.county.now.view.chart) c.args.county.now.view.steps.items in
+    let county = stepped (g.C.Chart.county c.args.county.now.chart) c.args.county.now.steps.items in
     g.met.T.RecordTaker.then (map Eight (grouped (type_8_together county))) ((map I (grouped (type_i_by_chain county))) ++ (map P (grouped (type_p_by_number county))))
     c.args.taker.now c.give_groups.new.taker c.give_groups-3.new.taker
     c.args.device.now c.give_groups.new.device c.give_groups-3.new.device c.give_groups-3.result

@@ -16,8 +16,8 @@ returns-in_err-give_records-clause-short g c =
 
 pub returns-in_err-give_records-clause-bytes : goal.returns-in_err-give_records-clause-bytes
 returns-in_err-give_records-clause-bytes g c held h =
-    let county = stepped (g.C.Chart.county c.args.county.now.view.chart) c.args.county.now.view.steps.items in
-    let whole = c.args.county.now.view.whole in
+    let county = stepped (g.C.Chart.county c.args.county.now.chart) c.args.county.now.steps.items in
+    let whole = c.args.county.now.whole in
     let p = err_from_is_err_and c.from_residual.result c.from_residual.ensures.1 in
     let start = subst (λ b. IsGoingOut g.W.Sink.holds held [] b c.args.w.now) (sym c.new-buffer.ensures)
     (at_the_start g.W.Sink.holds held c.args.w.now h) in
@@ -26,8 +26,8 @@ returns-in_err-give_records-clause-bytes g c held h =
 
 pub returns-clause-length : goal.returns-clause-length
 returns-clause-length g c =
-    let county = stepped (g.C.Chart.county c.args.county.now.view.chart) c.args.county.now.view.steps.items in
-    let whole = c.args.county.now.view.whole in
+    let county = stepped (g.C.Chart.county c.args.county.now.chart) c.args.county.now.steps.items in
+    let whole = c.args.county.now.whole in
     let start = subst (HasCounted 0) (sym c.new-buffer.ensures) (none_counted g.W.Sink.holds) in
     let counted = subst (λ n. HasCounted n c.give_records.new.taker) (omega arith) (c.in_ok-give_records.ensures.given.counted 0 start) in
     whole_length g.W.Sink.holds (text_of (packed county)) (few_bytes county whole.is_county whole.within_limits) c.finish.result
@@ -35,7 +35,7 @@ returns-clause-length g c =
 
 pub returns-clause-short : goal.returns-clause-short
 returns-clause-short g c =
-    let county = stepped (g.C.Chart.county c.args.county.now.view.chart) c.args.county.now.view.steps.items in
+    let county = stepped (g.C.Chart.county c.args.county.now.chart) c.args.county.now.steps.items in
     let start = subst (HasCounted 0) (sym c.new-buffer.ensures) (none_counted g.W.Sink.holds) in
     let counted = subst (λ n. HasCounted n c.give_records.new.taker) (omega arith) (c.in_ok-give_records.ensures.given.counted 0 start) in
     whole_short g.W.Sink.holds (text_of (packed county)) c.finish.result
@@ -43,8 +43,8 @@ returns-clause-short g c =
 
 pub returns-clause-bytes : goal.returns-clause-bytes
 returns-clause-bytes g c held h =
-    let county = stepped (g.C.Chart.county c.args.county.now.view.chart) c.args.county.now.view.steps.items in
-    let whole = c.args.county.now.view.whole in
+    let county = stepped (g.C.Chart.county c.args.county.now.chart) c.args.county.now.steps.items in
+    let whole = c.args.county.now.whole in
     let start = subst (λ b. IsGoingOut g.W.Sink.holds held [] b c.args.w.now) (sym c.new-buffer.ensures)
     (at_the_start g.W.Sink.holds held c.args.w.now h) in
     whole_bytes g.W.Sink.holds held (text_of (packed county)) c.finish.new.w (few_bytes county whole.is_county whole.within_limits)

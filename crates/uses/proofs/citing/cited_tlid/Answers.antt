@@ -16,7 +16,7 @@ returns c =
     let onto = c.in_ok-onto.onto in
     let same : c.deref.result.now ≡ c.deref-2.result.now = c.if-not-is_same_text.ensures.0 refl in
     let set : CarriesSet onto file other =
-    carried_through file other _ _ (sym c.deref.ensures.value ∙ same ∙ c.deref-2.ensures.value) _ _ onto c.in_ok-cited.ensures.carries
+    carried_through c.spelled_or_one_fault.ensures c.linked_records_have_a_well_formed_county.ensures file other _ _ (sym c.deref.ensures.value ∙ same ∙ c.deref-2.ensures.value) _ _ onto c.in_ok-cited.ensures.carries
     c.in_ok-kept.ensures.carries c.in_ok-onto.ensures in
     if_some c.new_number.result (λ new found.
     (onto, set, ap (value_under nat_cmp c.args.tlid) (sym c.chains.ensures) ∙ sym (c.new_number.ensures) ∙ found))

@@ -1,7 +1,7 @@
-use Rattle.tigercanon.proofs.CanonicalTexts.{if_ok_by}
+use Rattle.std.proofs.lemmas.Result.{IfOk-weaker}
 use Rattle.uses.proofs.citing.through.Goals as goal
 
 pub returns : goal.returns
 returns c =
-    if_ok_by c.then-2.result (λ r on a b d is_a is_b is_d there back.
+    IfOk-weaker c.then-2.result _ _ (λ r on a b d is_a is_b is_d there back.
     on a b d is_a is_b there (c.in_ok-inverse.ensures.carries_back d b is_d is_b back)) c.then-2.ensures.carries_on

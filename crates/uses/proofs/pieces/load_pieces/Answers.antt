@@ -6,7 +6,7 @@ use Rattle.tl_load.specs.Choice.{tiger}
 use Rattle.tl_load.specs.Loaded.{IsOfLines, WasFed}
 use Rattle.tl_load.specs.Outcome.{FaultAt}
 use Rattle.tl_load.specs.declared.fault.LoadFault.{LoadFault}
-use Rattle.uses.proofs.WholeFile.{whole, whole_so_far, fault_of_whole, fault_of_closed_whole}
+use Rattle.uses.proofs.WholeFile.{whole, whole_so_far, fault_of_whole}
 use Rattle.uses.proofs.pieces.load_pieces.Goals as goal
 
 -- the exit of a `?`: what holds of the callee's error holds of the answer
@@ -32,7 +32,7 @@ returns-in_err-end_part-clause-fault c =
     exit_with _ _ (λ f. IsOfLines f → FaultAt tiger MOST_RECORDS (whole c.args.pieces.now ∷ []) f)
     c.from_residual-in_err-end_part.ensures.1
     (λ lines. subst (λ ps. FaultAt tiger MOST_RECORDS (whole ps ∷ []) c.in_err-end_part.field-0.0) all
-    (fault_of_closed_whole _ _ (c.in_err-end_part.ensures.fault _ _ _ c.loop-piece.invariant.fed lines)))
+    ((c.parts_may_be_cut_between_lines.ensures.fault _ _ _).0 (c.in_err-end_part.ensures.fault _ _ _ c.loop-piece.invariant.fed lines [] [])))
 
 pub returns-clause-loaded : goal.returns-clause-loaded
 returns-clause-loaded c =

@@ -1,28 +1,14 @@
-use Rattle.std.proofs.Common.{◌+◌, ◌∙◌, Some, option_map, slice_get, sym, ap}
-use Rattle.std.proofs.lemmas.Option.{slice_get-map}
-use Rattle.tl_county.specs.PolygonKeys.{PolygonKey}
-use Rattle.tl_number.specs.ByNumber.{under_number}
-use Rattle.tl_number.specs.Growth.{numbered}
-use Rattle.tl_number.proofs.PolygonNumbers.{key_numbered}
+use Rattle.std.proofs.Common.{◌<◌, ◌∙◌, sym, subst, nat_cmp}
+use Rattle.std.specs.Ordering.{on}
+use Rattle.tl_county.proofs.LinkedCounty.{length-in_order}
+use Rattle.tl_number.specs.ByNumber.{entry_polyid, polygons_by_number}
+use Rattle.tl_number.specs.ViewFacts.{stepped}
+use Rattle.tl_profile.proofs.Places.{stands_at, is_some_from}
 use Rattle.tl_number.proofs.arranged.Arranged.polygon_by_number.Goals as goal
 
-pub returns-in-Some : goal.returns-in-Some
-returns-in-Some g c =
-    let county = g.C.Chart.county c.args.self.now.chart in
-    let keys = c.args.self.now.polygons.numbers in
-    ap (λ body. Some ((c.in-Some.old.0, c.args.place + 1), body)) c.polygon_body_of-body.ensures
-    ∙ ap (option_map (under_number county)) (ap (option_map (λ (key : PolygonKey). (key, c.args.place + 1)))
-    (sym c.in-Some.is ∙ c.key_at.ensures)
-    ∙ sym (key_numbered keys c.args.place))
-    ∙ sym (slice_get-map (under_number county) (numbered keys) c.args.place)
-    ∙ ap (λ es. slice_get es c.args.place) c.args.self.now.polygons_told.by_number
-
-pub returns-in-None : goal.returns-in-None
-returns-in-None g c =
-    let county = g.C.Chart.county c.args.self.now.chart in
-    let keys = c.args.self.now.polygons.numbers in
-    ap (option_map (under_number county)) (ap (option_map (λ (key : PolygonKey). (key, c.args.place + 1)))
-    (sym c.in-None.is ∙ c.key_at.ensures)
-    ∙ sym (key_numbered keys c.args.place))
-    ∙ sym (slice_get-map (under_number county) (numbered keys) c.args.place)
-    ∙ ap (λ es. slice_get es c.args.place) c.args.self.now.polygons_told.by_number
+pub unwrap-requires : goal.unwrap-requires
+unwrap-requires g c =
+    let county = stepped (g.C.Chart.county c.args.self.now.chart) c.args.self.now.steps.items in
+    let there = stands_at (polygons_by_number county) c.args.place
+    (subst (λ n. c.args.place < n) (sym (length-in_order (on entry_polyid nat_cmp) county.polygons)) c.requires) in
+    is_some_from c.polygon_at_number.result there.item (c.polygon_at_number.ensures ∙ there.get)

@@ -6,5 +6,5 @@ use Rattle.tl_write.proofs.polygon_records.PolygonRecordsRecordGroups.count.Goal
 
 pub returns : goal.returns
 returns g c =
-    let county = stepped (g.C.Chart.county c.args.self.now.county.now.view.chart) c.args.self.now.county.now.view.steps.items in
+    let county = stepped (g.C.Chart.county c.args.self.now.county.now.chart) c.args.self.now.county.now.steps.items in
     c.polygon_count.ensures ∙ sym (polygons_counted (λ entry. option_to_list (packed_p entry)) county)

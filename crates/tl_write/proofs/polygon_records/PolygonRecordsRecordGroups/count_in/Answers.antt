@@ -6,14 +6,14 @@ use Rattle.tl_write.proofs.polygon_records.PolygonRecordsRecordGroups.count_in.G
 
 pub returns-in-Some : goal.returns-in-Some
 returns-in-Some g c =
-    let county = stepped (g.C.Chart.county c.args.self.now.county.now.view.chart) c.args.self.now.county.now.view.steps.items in
+    let county = stepped (g.C.Chart.county c.args.self.now.county.now.chart) c.args.self.now.county.now.steps.items in
     let entry = c.args.head in
     sym (ap length (polygon_group county c.args._group entry c.requires.head)
     ∙ ap (λ o. length (option_to_list (packed_body entry.0 o))) c.in-Some.is)
 
 pub returns-in-None : goal.returns-in-None
 returns-in-None g c =
-    let county = stepped (g.C.Chart.county c.args.self.now.county.now.view.chart) c.args.self.now.county.now.view.steps.items in
+    let county = stepped (g.C.Chart.county c.args.self.now.county.now.chart) c.args.self.now.county.now.steps.items in
     let entry = c.args.head in
     sym (ap length (polygon_group county c.args._group entry c.requires.head)
     ∙ ap (λ o. length (option_to_list (packed_body entry.0 o))) c.in-None.is)

@@ -6,5 +6,5 @@ use Rattle.tl_write.proofs.polygon_records.PolygonRecordsRecordGroups.head.Goals
 
 pub polygon_by_number-requires : goal.polygon_by_number-requires
 polygon_by_number-requires g c =
-    let county = stepped (g.C.Chart.county c.args.self.now.county.now.view.chart) c.args.self.now.county.now.view.steps.items in
+    let county = stepped (g.C.Chart.county c.args.self.now.county.now.chart) c.args.self.now.county.now.steps.items in
     subst (λ n. c.args.group < n) (polygons_counted (λ entry. option_to_list (packed_p entry)) county) c.requires

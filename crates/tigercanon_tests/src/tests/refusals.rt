@@ -1,0 +1,699 @@
+//! Growths of memory that are refused, one after another. A test asks for that by sizes of memory that nothing else asks for, and
+//! `scripts/refuse-growths` lets it be heard: then each call meets the refusal of each of its growths, first alone and then with
+//! all later ones. Elsewhere nothing is refused, and a test sees that each call answers where memory is ample.
+
+ghost use Rattle.std.specs.Prelude.{◌<◌};
+ghost use Rattle.tl_county.specs.Limits.{HoldsWithinLimits};
+
+use super::comparing::same;
+use super::counties::{county_in_of, county_of};
+use super::sets::{lines_of, records_of};
+use super::worked_sets::{Worked, street, worked};
+use bumpalo::Bump;
+use std::alloc::{AllocError, Global};
+use std::fmt::Debug;
+use std::process::Abort;
+use tigercanon::{
+    CompareFault, Fault, Verdict, check, compare, fingerprint, normalise, normalise_to,
+    normalise_with_renaming, respell,
+};
+use tl_cert::Renaming;
+use tl_county::{Chart, LinkFault, LinkedRecords, link, link_in, link_in_order};
+use tl_layout::{Point, Tables};
+use tl_load::{LoadFault, Loader, SlowSource, Source};
+use tl_number::{CanonCounty, canonise, canonise_chart, canonise_in};
+use tl_profile::{Admitted, AdmittedIn, ProfileFault, admit, admit_in};
+use tl_shape::Shape;
+use tl_write::{SlowSink, records_of as records_of_county, records_of_in, write_to};
+
+/// So much memory and n bytes asks that the n-th growth from here on is refused.
+const ALONE: usize = 70_368_744_177_664;
+
+/// So much memory and n bytes asks that the n-th growth from here on is refused with all later ones.
+const WITH_LATER_ONES: usize = 140_737_488_355_328;
+
+/// So much memory asks that a growth is refused that no call comes to.
+const NONE: usize = 70_373_039_144_959;
+
+/// So much memory asks that no more growths are refused. It is found exactly if none was.
+const NO_MORE: usize = 40_961;
+
+/// More growths than a call has.
+const MANY: usize = 1000;
+
+/// Whether memory of this size is found.
+fn is_found(alloc: Global, size: usize) -> bool {
+    Vec::<u8>::with_capacity(alloc, size).is_ok()
+}
+
+/// From here on growths are refused as is asked for.
+fn refuse(alloc: Global, asked: usize) {
+    let _ = is_found(alloc, asked);
+}
+
+/// From here on no growth is refused. Says whether one was.
+fn has_refused(alloc: Global) -> bool {
+    !is_found(alloc, NO_MORE)
+}
+
+/// A run of a call: all that it answered, as a text, or nothing where that was want of memory, and whether a growth was refused.
+#[derive(Drop)]
+struct Run {
+    answer: Option<String>,
+    refused: bool,
+}
+
+/// Whether the fault is want of memory.
+fn is_memory(fault: Fault) -> bool {
+    matches!(
+        fault,
+        Fault::Memory
+            | Fault::Load(LoadFault::Memory)
+            | Fault::Link(LinkFault::Memory)
+            | Fault::Profile(ProfileFault::Memory)
+    )
+}
+
+/// The run that came to this end.
+fn ended<T: Debug + Drop>(
+    rt: &impl Abort,
+    alloc: Global,
+    refused: bool,
+    outcome: Result<T, Fault>,
+) -> Run {
+    let answer = match &outcome {
+        Err(fault) if is_memory(*fault) => None,
+        _ => Some(format!(in alloc; "{outcome:?}").expect(rt, "there is memory")),
+    };
+    Run { answer, refused }
+}
+
+/// A worked set and its bytes.
+#[derive(Clone, Copy)]
+struct Set<'a> {
+    row: &'a Worked,
+    bytes: &'a [u8],
+}
+
+// The runs of the calls. What a call takes is made before growths are refused, and what it answers is told when none is any more.
+
+fn respelt(rt: &impl Abort, alloc: Global, set: &Set<'_>, asked: usize) -> Run {
+    refuse(alloc, asked);
+    let outcome = respell(alloc, &[set.bytes]);
+    let refused = has_refused(alloc);
+    ended(rt, alloc, refused, outcome)
+}
+
+fn normalised(rt: &impl Abort, alloc: Global, set: &Set<'_>, asked: usize) -> Run {
+    refuse(alloc, asked);
+    let outcome = normalise(alloc, &[set.bytes]);
+    let refused = has_refused(alloc);
+    ended(rt, alloc, refused, outcome)
+}
+
+fn renamed(rt: &impl Abort, alloc: Global, set: &Set<'_>, asked: usize) -> Run {
+    refuse(alloc, asked);
+    let outcome = normalise_with_renaming(alloc, &[set.bytes]);
+    let refused = has_refused(alloc);
+    ended(rt, alloc, refused, outcome)
+}
+
+fn fingerprinted(rt: &impl Abort, alloc: Global, set: &Set<'_>, asked: usize) -> Run {
+    refuse(alloc, asked);
+    let outcome = fingerprint(alloc, &[set.bytes]);
+    let refused = has_refused(alloc);
+    ended(rt, alloc, refused, outcome)
+}
+
+fn checked(rt: &impl Abort, alloc: Global, set: &Set<'_>, asked: usize) -> Run {
+    refuse(alloc, asked);
+    let outcome = check(alloc, &[set.bytes]);
+    let refused = has_refused(alloc);
+    ended(rt, alloc, refused, outcome)
+}
+
+/// Reads a set and writes its text, a hundred bytes at most at a time.
+fn normalise_slowly(alloc: Global, set: &[u8], sink: &mut SlowSink<'_>) -> Result<u64, Fault>
+    requires { sink.old.failures < u64.MAX }
+{
+    let mut sources = [SlowSource::new(set, 100, None)];
+    normalise_to(alloc, &mut sources, sink)
+}
+
+/// The answer is what is held by the sink, which holds nothing where a growth was refused.
+fn written(rt: &impl Abort, alloc: Global, set: &Set<'_>, asked: usize) -> Run {
+    let mut room = vec![in alloc; 0u8; 4000].expect(rt, "there is memory");
+    let mut sink = SlowSink::new(&mut room, 100);
+    refuse(alloc, asked);
+    let outcome = normalise_slowly(alloc, set.bytes, &mut sink);
+    let refused = has_refused(alloc);
+    let held = Vec::from_slice(alloc, sink.held()).expect(rt, "there is memory");
+    let outcome = match outcome {
+        Ok(count) => Ok((count, held)),
+        Err(fault) => {
+            same(rt, set.row.0, &held.len(), &0);
+            Err(fault)
+        }
+    };
+    ended(rt, alloc, refused, outcome)
+}
+
+/// What comparing finds, apart from want of memory.
+type Comparison = Result<Verdict, CompareFault>;
+
+/// The answer of a comparison, with want of memory as other calls tell it.
+fn told(outcome: Comparison) -> Result<Comparison, Fault> {
+    match outcome {
+        Err(CompareFault::Memory) => Err(Fault::Memory),
+        Err(CompareFault::In { fault, .. }) if is_memory(fault) => Err(fault),
+        other => Ok(other),
+    }
+}
+
+fn compared(rt: &impl Abort, alloc: Global, set: &[u8], other: &[u8], asked: usize) -> Run {
+    refuse(alloc, asked);
+    let outcome = compare(alloc, &[set], &[other]);
+    let refused = has_refused(alloc);
+    ended(rt, alloc, refused, told(outcome))
+}
+
+fn compared_with_street(rt: &impl Abort, alloc: Global, set: &Set<'_>, asked: usize) -> Run {
+    let other = lines_of(rt, alloc, street());
+    compared(rt, alloc, set.bytes, &other, asked)
+}
+
+/// After a fault a loader answers it to the reading of a source, of which nothing is read.
+fn reads_nothing(rt: &impl Abort, loader: &mut Loader, fault: LoadFault) {
+    assert!(rt; loader.parts() < 2, "one part was fed at most");
+    let mut source = SlowSource::new(b"8\n", 1, None);
+    same(rt, "read_part", &loader.read_part(&mut source), &Err(fault));
+    assert!(rt; source.failures() == 0, "no read failed");
+    let mut first = [0];
+    same(rt, "a read", &source.read(&mut first).is_ok(), &true);
+    same(rt, "its byte", &first, b"8");
+}
+
+/// After a fault a loader answers it to each call, and keeps its number of parts.
+fn stands(rt: &impl Abort, loader: &mut Loader, fault: LoadFault) {
+    let parts = loader.parts();
+    assert!(rt; parts < 2, "one part was fed at most");
+    same(rt, "feed", &loader.feed(b"8\n"), &Err(fault));
+    same(rt, "end_part", &loader.end_part(), &Err(fault));
+    reads_nothing(rt, loader, fault);
+    same(rt, "parts", &loader.parts(), &parts);
+}
+
+/// The run of a loader that came to this end before it was finished, or that is to be finished.
+fn finished(rt: &impl Abort, alloc: Global, loader: Loader, so_far: Result<(), LoadFault>) -> Run {
+    let mut loader = loader;
+    match so_far {
+        Ok(()) => {
+            let outcome = loader.finish().map_err(Fault::from);
+            let refused = has_refused(alloc);
+            ended(rt, alloc, refused, outcome)
+        }
+        Err(fault) => {
+            let refused = has_refused(alloc);
+            stands(rt, &mut loader, fault);
+            same(rt, "finish", &loader.finish().err(), &Some(fault));
+            ended::<()>(rt, alloc, refused, Err(Fault::Load(fault)))
+        }
+    }
+}
+
+/// The last line is ended by the loader's end.
+fn fed(rt: &impl Abort, alloc: Global, set: &Set<'_>, asked: usize) -> Run {
+    let piece = set.bytes.strip_suffix(b"\n").unwrap_or(set.bytes);
+    let mut loader = Loader::new(alloc);
+    refuse(alloc, asked);
+    let so_far = loader.feed(piece);
+    finished(rt, alloc, loader, so_far)
+}
+
+/// The last line is ended by the part's end.
+fn fed_as_part(rt: &impl Abort, alloc: Global, set: &Set<'_>, asked: usize) -> Run {
+    let piece = set.bytes.strip_suffix(b"\n").unwrap_or(set.bytes);
+    let mut loader = Loader::new(alloc);
+    refuse(alloc, asked);
+    let so_far = match loader.feed(piece) {
+        Ok(()) => loader.end_part(),
+        Err(fault) => Err(fault),
+    };
+    finished(rt, alloc, loader, so_far)
+}
+
+fn read(rt: &impl Abort, alloc: Global, set: &Set<'_>, asked: usize) -> Run {
+    let mut source = SlowSource::new(set.bytes, 100, None);
+    let mut loader = Loader::new(alloc);
+    refuse(alloc, asked);
+    let so_far = loader.read_part(&mut source);
+    finished(rt, alloc, loader, so_far)
+}
+
+fn linked(rt: &impl Abort, alloc: Global, set: &Set<'_>, asked: usize) -> Run {
+    let records = records_of(rt, alloc, set.row.0, set.row.1);
+    refuse(alloc, asked);
+    let outcome = link(alloc, records);
+    let refused = has_refused(alloc);
+    ended(rt, alloc, refused, outcome.map_err(Fault::from))
+}
+
+fn linked_in(rt: &impl Abort, alloc: Global, set: &Set<'_>, asked: usize) -> Run {
+    let arena = Bump::new(alloc);
+    let records = records_of(rt, alloc, set.row.0, set.row.1);
+    refuse(alloc, asked);
+    let outcome = link_in(alloc, &arena, records);
+    let refused = has_refused(alloc);
+    ended(rt, alloc, refused, outcome.map_err(Fault::from))
+}
+
+/// The records of a set in tables.
+fn tables_of(rt: &impl Abort, alloc: Global, set: &Set<'_>) -> Tables
+    ensures { HoldsWithinLimits result }
+{
+    Tables::of(alloc, records_of(rt, alloc, set.row.0, set.row.1)).expect(rt, set.row.0)
+}
+
+/// The renaming of the set's county that leaves each number as it is.
+fn standstill(rt: &impl Abort, alloc: Global, set: &Set<'_>) -> Renaming {
+    let told = normalise_with_renaming(alloc, &[set.bytes]).expect(rt, set.row.0);
+    let back = told.1.inverse().expect(rt, set.row.0);
+    told.1.then(&back).expect(rt, set.row.0)
+}
+
+/// Whether the renaming carries the one county onto the other.
+fn carries<A: Chart, B: Chart>(
+    alloc: Global,
+    one: &A,
+    other: &B,
+    renaming: &Renaming,
+) -> Result<bool, Fault> {
+    match tl_cert::check(alloc, one, other, renaming) {
+        Ok(carried) => Ok(carried),
+        Err(_) => Err(Fault::Memory),
+    }
+}
+
+/// The run that builds the county over linked records. The answer is whether it is that of the set, number by number.
+fn built_over(rt: &impl Abort, alloc: Global, set: &Set<'_>, linked: &LinkedRecords) -> Run {
+    let arena = Bump::new(alloc);
+    let outcome = linked.county(alloc, &arena);
+    let refused = has_refused(alloc);
+    let own = county_of(rt, alloc, set.row.0, set.row.1);
+    let renaming = standstill(rt, alloc, set);
+    let outcome = match outcome {
+        Ok(county) => carries(alloc, &own, &county, &renaming),
+        Err(_) => Err(Fault::Memory),
+    };
+    ended(rt, alloc, refused, outcome)
+}
+
+/// Linking, and then the county over what was linked.
+fn linked_in_order(rt: &impl Abort, alloc: Global, set: &Set<'_>, asked: usize) -> Run {
+    let tables = tables_of(rt, alloc, set);
+    refuse(alloc, asked);
+    match link_in_order(alloc, tables) {
+        Ok(linked) => {
+            let run = built_over(rt, alloc, set, &linked);
+            drop(linked);
+            run
+        }
+        Err(fault) => ended::<()>(rt, alloc, has_refused(alloc), Err(Fault::Link(fault))),
+    }
+}
+
+fn admitted(rt: &impl Abort, alloc: Global, set: &Set<'_>, asked: usize) -> Run {
+    let county = county_of(rt, alloc, set.row.0, set.row.1);
+    refuse(alloc, asked);
+    let outcome = admit(alloc, county);
+    let refused = has_refused(alloc);
+    let outcome = outcome.map(Admitted::into_chart).map_err(Fault::from);
+    ended(rt, alloc, refused, outcome)
+}
+
+fn admitted_in(rt: &impl Abort, alloc: Global, set: &Set<'_>, asked: usize) -> Run {
+    let arena = Bump::new(alloc);
+    let county = county_in_of(rt, alloc, &arena, set.row.0, set.row.1);
+    refuse(alloc, asked);
+    let outcome = admit_in(alloc, county);
+    let refused = has_refused(alloc);
+    let outcome = outcome.map(Admitted::into_chart).map_err(Fault::from);
+    ended(rt, alloc, refused, outcome)
+}
+
+/// A canonical county and the renaming onto it.
+type Canonical<C> = (CanonCounty<C>, Renaming);
+
+/// The text of a canonical county.
+fn text_of<C: Chart>(rt: &impl Abort, alloc: Global, county: &CanonCounty<C>) -> Vec<u8> {
+    let mut room = vec![in alloc; 0u8; 4000].expect(rt, "there is memory");
+    let mut sink = SlowSink::new(&mut room, 4000);
+    let _ = write_to(county, &mut sink);
+    Vec::from_slice(alloc, sink.held()).expect(rt, "there is memory")
+}
+
+/// The run that came to a canonical county, or to nothing.
+fn canonised<C: Chart + Drop>(
+    rt: &impl Abort,
+    alloc: Global,
+    refused: bool,
+    outcome: Result<Canonical<C>, AllocError>,
+) -> Run {
+    match outcome {
+        Ok((county, renaming)) => {
+            let text = text_of(rt, alloc, &county);
+            drop(county);
+            ended(rt, alloc, refused, Ok((text, renaming)))
+        }
+        Err(_) => ended::<()>(rt, alloc, refused, Err(Fault::Memory)),
+    }
+}
+
+/// The admitted county of the set.
+fn admitted_of(rt: &impl Abort, alloc: Global, set: &Set<'_>) -> Admitted {
+    admit(alloc, county_of(rt, alloc, set.row.0, set.row.1)).expect(rt, set.row.0)
+}
+
+/// The same in an arena.
+fn admitted_in_of<'a>(
+    rt: &impl Abort,
+    alloc: Global,
+    arena: &'a Bump,
+    set: &Set<'_>,
+) -> AdmittedIn<'a> {
+    let county = county_in_of(rt, alloc, arena, set.row.0, set.row.1);
+    admit_in(alloc, county).expect(rt, set.row.0)
+}
+
+fn put_into_form(rt: &impl Abort, alloc: Global, set: &Set<'_>, asked: usize) -> Run {
+    let admitted = admitted_of(rt, alloc, set);
+    refuse(alloc, asked);
+    let outcome = canonise(alloc, admitted);
+    let refused = has_refused(alloc);
+    canonised(rt, alloc, refused, outcome)
+}
+
+fn put_into_form_in(rt: &impl Abort, alloc: Global, set: &Set<'_>, asked: usize) -> Run {
+    let arena = Bump::new(alloc);
+    let admitted = admitted_in_of(rt, alloc, &arena, set);
+    refuse(alloc, asked);
+    let outcome = canonise_in(alloc, admitted);
+    let refused = has_refused(alloc);
+    canonised(rt, alloc, refused, outcome)
+}
+
+fn listed(rt: &impl Abort, alloc: Global, set: &Set<'_>, asked: usize) -> Run {
+    let admitted = admitted_of(rt, alloc, set);
+    let county = canonise_chart(alloc, admitted.into_chart()).expect(rt, set.row.0);
+    refuse(alloc, asked);
+    let outcome = records_of_county(alloc, &county);
+    let refused = has_refused(alloc);
+    drop(county);
+    ended(rt, alloc, refused, outcome.map_err(Fault::from))
+}
+
+fn listed_in(rt: &impl Abort, alloc: Global, set: &Set<'_>, asked: usize) -> Run {
+    let arena = Bump::new(alloc);
+    let admitted = admitted_in_of(rt, alloc, &arena, set);
+    let county = canonise_chart(alloc, admitted.into_chart()).expect(rt, set.row.0);
+    refuse(alloc, asked);
+    let outcome = records_of_in(alloc, &county);
+    let refused = has_refused(alloc);
+    drop(county);
+    ended(rt, alloc, refused, outcome.map_err(Fault::from))
+}
+
+/// The renaming of the set onto its text.
+fn renaming_of(rt: &impl Abort, alloc: Global, set: &Set<'_>) -> Renaming {
+    let told = normalise_with_renaming(alloc, &[set.bytes]).expect(rt, set.row.0);
+    told.1
+}
+
+fn carried(rt: &impl Abort, alloc: Global, set: &Set<'_>, asked: usize) -> Run {
+    let here = county_of(rt, alloc, set.row.0, set.row.1);
+    let there = county_of(rt, alloc, set.row.0, set.row.2);
+    let renaming = renaming_of(rt, alloc, set);
+    refuse(alloc, asked);
+    let outcome = tl_cert::check(alloc, &here, &there, &renaming);
+    let refused = has_refused(alloc);
+    drop(here);
+    drop(there);
+    ended(rt, alloc, refused, outcome.map_err(Fault::from))
+}
+
+fn turned_back(rt: &impl Abort, alloc: Global, set: &Set<'_>, asked: usize) -> Run {
+    let renaming = renaming_of(rt, alloc, set);
+    refuse(alloc, asked);
+    let outcome = renaming.inverse();
+    let refused = has_refused(alloc);
+    ended(rt, alloc, refused, outcome.map_err(Fault::from))
+}
+
+fn joined(rt: &impl Abort, alloc: Global, set: &Set<'_>, asked: usize) -> Run {
+    let renaming = renaming_of(rt, alloc, set);
+    let back = renaming.inverse().expect(rt, set.row.0);
+    refuse(alloc, asked);
+    let outcome = renaming.then(&back);
+    let refused = has_refused(alloc);
+    ended(rt, alloc, refused, outcome.map_err(Fault::from))
+}
+
+/// A shape with thirty inner points, whatever the set is.
+fn shaped(rt: &impl Abort, alloc: Global, asked: usize) -> Run {
+    let point = Point::new(-86468669, 32424914);
+    refuse(alloc, asked);
+    let outcome = Shape::new(alloc, point, &[point; 30], point);
+    let refused = has_refused(alloc);
+    ended(rt, alloc, refused, outcome.map_err(Fault::from))
+}
+
+/// A public call that takes memory, or two where one alone tells nothing.
+#[derive(Clone, Copy, Debug, PartialEq)]
+enum Call {
+    Respell,
+    Normalise,
+    NormaliseWithRenaming,
+    NormaliseTo,
+    Fingerprint,
+    Check,
+    CompareWithItself,
+    CompareWithStreet,
+    Feed,
+    EndPart,
+    ReadPart,
+    Link,
+    LinkIn,
+    LinkInOrder,
+    Admit,
+    AdmitIn,
+    Canonise,
+    CanoniseIn,
+    RecordsOf,
+    RecordsOfIn,
+    CheckRenaming,
+    Inverse,
+    Then,
+    NewShape,
+}
+
+/// The whole calls.
+const WHOLE: &[Call] = &[
+    Call::Respell,
+    Call::Normalise,
+    Call::NormaliseWithRenaming,
+    Call::NormaliseTo,
+    Call::Fingerprint,
+    Call::Check,
+    Call::CompareWithItself,
+    Call::CompareWithStreet,
+];
+
+/// The calls of the layers.
+const OF_LAYERS: &[Call] = &[
+    Call::Feed,
+    Call::EndPart,
+    Call::ReadPart,
+    Call::Link,
+    Call::LinkIn,
+    Call::LinkInOrder,
+    Call::Admit,
+    Call::AdmitIn,
+    Call::Canonise,
+    Call::CanoniseIn,
+    Call::RecordsOf,
+    Call::RecordsOfIn,
+    Call::CheckRenaming,
+    Call::Inverse,
+    Call::Then,
+    Call::NewShape,
+];
+
+/// The calls that refuse a county outside the profile.
+const REFUSING: &[Call] = &[
+    Call::Normalise,
+    Call::NormaliseWithRenaming,
+    Call::NormaliseTo,
+    Call::Fingerprint,
+    Call::Check,
+    Call::CompareWithItself,
+    Call::CompareWithStreet,
+    Call::Admit,
+    Call::AdmitIn,
+];
+
+/// Those lists.
+fn whole() -> &'static [Call] {
+    WHOLE
+}
+
+fn of_layers() -> &'static [Call] {
+    OF_LAYERS
+}
+
+fn refusing() -> &'static [Call] {
+    REFUSING
+}
+
+/// The run of a call on a set, with growths refused as is asked for.
+fn run_of(rt: &impl Abort, alloc: Global, call: Call, set: &Set<'_>, asked: usize) -> Run {
+    match call {
+        Call::Respell => respelt(rt, alloc, set, asked),
+        Call::Normalise => normalised(rt, alloc, set, asked),
+        Call::NormaliseWithRenaming => renamed(rt, alloc, set, asked),
+        Call::NormaliseTo => written(rt, alloc, set, asked),
+        Call::Fingerprint => fingerprinted(rt, alloc, set, asked),
+        Call::Check => checked(rt, alloc, set, asked),
+        Call::CompareWithItself => compared(rt, alloc, set.bytes, set.bytes, asked),
+        Call::CompareWithStreet => compared_with_street(rt, alloc, set, asked),
+        Call::Feed => fed(rt, alloc, set, asked),
+        Call::EndPart => fed_as_part(rt, alloc, set, asked),
+        Call::ReadPart => read(rt, alloc, set, asked),
+        Call::Link => linked(rt, alloc, set, asked),
+        Call::LinkIn => linked_in(rt, alloc, set, asked),
+        Call::LinkInOrder => linked_in_order(rt, alloc, set, asked),
+        Call::Admit => admitted(rt, alloc, set, asked),
+        Call::AdmitIn => admitted_in(rt, alloc, set, asked),
+        Call::Canonise => put_into_form(rt, alloc, set, asked),
+        Call::CanoniseIn => put_into_form_in(rt, alloc, set, asked),
+        Call::RecordsOf => listed(rt, alloc, set, asked),
+        Call::RecordsOfIn => listed_in(rt, alloc, set, asked),
+        Call::CheckRenaming => carried(rt, alloc, set, asked),
+        Call::Inverse => turned_back(rt, alloc, set, asked),
+        Call::Then => joined(rt, alloc, set, asked),
+        Call::NewShape => shaped(rt, alloc, asked),
+    }
+}
+
+/// The answer of a call is the one that it gives with ample memory.
+fn is_answer(rt: &impl Abort, call: Call, asked: usize, answer: &str, ample: &str) {
+    assert_eq!(rt; answer, ample, "{call:?} as {asked} asks for");
+}
+
+/// A run answers as with ample memory, or tells want of it where a growth was refused. Says whether one was.
+fn is_as_ever(
+    rt: &impl Abort,
+    alloc: Global,
+    call: Call,
+    set: &Set<'_>,
+    ample: &str,
+    asked: usize,
+) -> bool {
+    let Run { answer, refused } = run_of(rt, alloc, call, set, asked);
+    match &answer {
+        Some(answer) => is_answer(rt, call, asked, answer, ample),
+        None => assert!(rt;
+            refused,
+            "{call:?} as {asked} asks for tells want of memory"
+        ),
+    }
+    refused
+}
+
+/// Each growth of a call on a set is refused in turn, until a run meets no refusal. Answers how many were.
+fn growths(rt: &impl Abort, alloc: Global, call: Call, set: &Set<'_>, first: usize) -> usize {
+    let ample = run_of(rt, alloc, call, set, NONE)
+        .answer
+        .expect(rt, "memory is ample");
+    for growth in 1..MANY {
+        if !is_as_ever(rt, alloc, call, set, &ample, first.saturating_add(growth)) {
+            return growth - 1;
+        }
+    }
+    panic!(rt; "no run of {call:?} meets no refusal")
+}
+
+/// Each growth of a call on a set is refused, alone and then with all later ones. Answers how many there are.
+fn growths_of(rt: &impl Abort, alloc: Global, call: Call, row: &Worked) -> usize {
+    let bytes = lines_of(rt, alloc, row.1);
+    let set = Set { row, bytes: &bytes };
+    let found = growths(rt, alloc, call, &set, ALONE);
+    let again = growths(rt, alloc, call, &set, WITH_LATER_ONES);
+    same(rt, row.0, &(call, again), &(call, found));
+    found
+}
+
+/// The same on all these sets.
+fn growths_on(rt: &impl Abort, alloc: Global, call: Call, rows: &[Worked]) -> usize {
+    let mut count = 0usize;
+    for row in rows {
+        count = count.saturating_add(growths_of(rt, alloc, call, row));
+    }
+    count
+}
+
+#[test]
+fn whole_calls_tell_refused_growths(rt: HostRuntime) {
+    for call in whole() {
+        let count = growths_on(&rt, rt.alloc(), *call, worked());
+        println!(rt; "{call:?}: {count} growths refused").expect(&rt, "a line goes out");
+    }
+}
+
+#[test]
+fn calls_of_layers_tell_refused_growths(rt: HostRuntime) {
+    for call in of_layers() {
+        let count = growths_on(&rt, rt.alloc(), *call, worked());
+        println!(rt; "{call:?}: {count} growths refused").expect(&rt, "a line goes out");
+    }
+}
+
+/// A set that is refused since two of its chains have one shape.
+const ONE_SHAPE: &[Worked] = &[(
+    "two chains of one shape",
+    &[
+        "1{13}9{183}+2{7}+1{8}+3{7}+1",
+        "1{13}4{183}+3{7}+1{8}+2{7}+1",
+        "I{18}9",
+        "I{18}4",
+    ],
+    &[],
+)];
+
+/// That set alone.
+fn one_shape() -> &'static [Worked] {
+    ONE_SHAPE
+}
+
+/// The county of each set is refused, since its chains 4 and 9 have one shape.
+fn are_of_one_shape(rt: &impl Abort, alloc: Global, rows: &[Worked]) {
+    let fault = ProfileFault::SameShape {
+        first: 4,
+        second: 9,
+    };
+    for row in rows {
+        let county = county_of(rt, alloc, row.0, row.1);
+        same(rt, row.0, &admit(alloc, county).err(), &Some(fault));
+    }
+}
+
+#[test]
+fn a_refusal_stays_where_growths_are_refused(rt: HostRuntime) {
+    are_of_one_shape(&rt, rt.alloc(), one_shape());
+    for call in refusing() {
+        let count = growths_on(&rt, rt.alloc(), *call, one_shape());
+        println!(rt; "{call:?} of a refused set: {count} growths refused").expect(
+            &rt,
+            "a line goes out",
+        );
+    }
+}

@@ -1,0 +1,34 @@
+-- Entries whose values are kept in some way, and the entries that they stand for.
+use Rattle.std.proofs.Common.{◌≡◌, ℕ, zero, suc, List, [], ◌∷◌, map, refl, sym, ◌∙◌, slice_get, option_map}
+use Rattle.tl_layout.specs.Fields.{Fields5}
+use Rattle.tl_layout.specs.declared.type5.Body5.{Body5}
+use Rattle.tl_county.specs.Building.{county_along}
+use Rattle.tl_county.specs.County.{five_feat}
+use Rattle.tl_county.specs.Entries.{entry_keys, entry_values, map_values}
+use Rattle.tl_county.specs.KeptCounty.{landmark_entry}
+use Rattle.tl_county.specs.LandmarkParts.{LandmarkParts}
+use Rattle.tl_county.specs.Packing.{Typed}
+use Rattle.tl_county.proofs.BuiltTables.{lands-kept}
+use Rattle.tl_county.proofs.EntryLists.{entries-equal, keys-map_values, values-map_values}
+use Rattle.tl_county.proofs.Lists.{map-map}
+
+pub keys-kept : {K V W : Type 0} (f : V → W) (xs : List (K × V)) → entry_keys xs ≡ entry_keys (map_values f xs)
+keys-kept f xs = sym (keys-map_values f xs)
+
+pub value-at-kept : {K V W : Type 0} (f : V → W) (xs : List (K × V)) (place : ℕ)
+    → option_map f (slice_get (entry_values xs) place) ≡ slice_get (entry_values (map_values f xs)) place
+value-at-kept f [] place = refl
+value-at-kept f (x ∷ xs) zero = refl
+value-at-kept f (x ∷ xs) (suc place) = value-at-kept f xs place
+
+pub lands-kept-in : {V : Type 0} (f : V → LandmarkParts) (xs : List (ℕ × V))
+    → entry_keys xs ≡ entry_keys (map landmark_entry (map_values f xs))
+lands-kept-in f xs = keys-kept f xs ∙ lands-kept (map_values f xs)
+
+-- the names of records of type 5, under the FEATs of these records
+pub names-built : {V : Type 0} (f : V → Body5) (xs : List (ℕ × V)) (t : Typed) → entry_keys xs ≡ map five_feat t.of_type_5
+    → map f (entry_values xs) ≡ map (λ (r : Fields5). r.body) t.of_type_5 → map_values f xs ≡ (county_along t).names
+names-built f xs t keys values =
+    entries-equal (map_values f xs) (map (λ (r : Fields5). (r.feat, r.body)) t.of_type_5)
+    (keys-map_values f xs ∙ keys ∙ sym (map-map (λ e. e.0) (λ (r : Fields5). (r.feat, r.body)) t.of_type_5))
+    (values-map_values f xs ∙ values ∙ sym (map-map (λ e. e.1) (λ (r : Fields5). (r.feat, r.body)) t.of_type_5))

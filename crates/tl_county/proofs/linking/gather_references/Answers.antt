@@ -1,0 +1,10 @@
+use Rattle.std.proofs.Common.{nat_cmp, sym, subst}
+use Rattle.tl_county.specs.County.{five_feat}
+use Rattle.tl_county.specs.Orders.{IsInOrder}
+use Rattle.tl_county.proofs.InOrder.{in_order-map}
+use Rattle.tl_county.proofs.linking.gather_references.Goals as goal
+
+pub unnamed_use-requires : goal.unnamed_use-requires
+unnamed_use-requires c =
+    subst (IsInOrder nat_cmp) (sym c.requires.feats)
+    (in_order-map nat_cmp five_feat c.args.tables.now.type_5.items c.requires.tables.type_5)

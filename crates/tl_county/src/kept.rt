@@ -1,0 +1,205 @@
+//! A county: chains, names, polygons and landmarks under their numbers, in each of the ways to keep them.
+
+ghost use Rattle.std.specs.Prelude.{◌≡◌, [], option_map, unwrap_or};
+ghost use Rattle.std.specs.Option.{option_copied, option_and_then};
+ghost use Rattle.std.specs.Ordering.{nat_cmp};
+ghost use Rattle.tl_layout.specs.ByType.{of_number};
+ghost use Rattle.tl_county.specs.ChartWords.{bodies_at, chain_at, links_at};
+ghost use Rattle.tl_county.specs.County.{eight_land};
+ghost use Rattle.tl_county.specs.CountyProps.{IsCounty-prop, LinksUnderLands-prop};
+ghost use Rattle.tl_county.specs.CountyRules.{IsCounty, feats, lands, nodes as nodes_in_order, polygon_keys, tlids};
+ghost use Rattle.tl_county.specs.Entries.{map_values, value_under};
+ghost use Rattle.tl_county.specs.KeptCounty.{county_with, LinksUnderLands};
+ghost use Rattle.tl_county.specs.Limits.{IsWithinLimits, most_records};
+ghost use Rattle.tl_county.specs.LimitsProps.{IsWithinLimits-prop};
+ghost use Rattle.tl_county.specs.PolygonKeys.{key_cmp};
+
+use crate::chain_over::ChainOver;
+use crate::chart::Chart;
+use crate::keeping::{KeptChain, KeptLandmark, KeptName};
+use crate::landmark::Landmark;
+use crate::lent::{LandmarkIn, NameIn};
+use crate::record_keys::PolygonKey;
+use crate::table::Table;
+use tl_layout::{Body5, Body7, BodyP, Rec8};
+use tl_shape::{Chain, ChainIn};
+
+/// What a set of records says of one county's map, as linking makes it, whichever way its chains, names and landmarks are
+/// kept. Its getters lend what linking made and put in order, and take no memory.
+#[derive(Debug, Drop)]
+pub struct Kept<C: KeptChain, N: KeptName, L: KeptLandmark> {
+    pub(crate) chains: Table<u64, C>,
+    pub(crate) names: Table<u32, N>,
+    pub(crate) polygons: Table<PolygonKey, Option<BodyP>>,
+    pub(crate) landmarks: Table<u64, L>,
+    pub(crate) nodes: Vec<u64>,
+    ghost is_county: { IsCounty (county_with (map_values C.chain chains) (map_values N.name names) polygons (map_values L.landmark landmarks)) } by { IsCounty-prop (county_with (map_values C.chain chains) (map_values N.name names) polygons (map_values L.landmark landmarks)) },
+    ghost within_limits: { IsWithinLimits most_records (county_with (map_values C.chain chains) (map_values N.name names) polygons (map_values L.landmark landmarks)) } by { IsWithinLimits-prop most_records (county_with (map_values C.chain chains) (map_values N.name names) polygons (map_values L.landmark landmarks)) },
+    ghost links_under_lands: { LinksUnderLands (map_values L.landmark landmarks) } by { LinksUnderLands-prop (map_values L.landmark landmarks) },
+    ghost nodes_stand: { nodes.items ≡ nodes_in_order (county_with (map_values C.chain chains) (map_values N.name names) polygons (map_values L.landmark landmarks)) },
+}
+
+/// What a set of records says of one county's map, as linking makes it, with lists of its own. Its getters lend what linking
+/// made and put in order, and take no memory.
+pub type County = Kept<Chain, Body5, Landmark>;
+
+/// What a set of records says of one county's map, as [`County`] is, over an arena that outlives it. Its points, FEATs, address
+/// ranges and the contents of its names and landmarks are slices of the arena; its tables stand in ordinary memory. Its
+/// getters take no memory.
+pub type CountyIn<'a> = Kept<ChainIn<'a>, NameIn<'a>, LandmarkIn<'a>>;
+
+/// What a set of records says of one county's map, as [`County`] is, over the records themselves: the contents of chains and
+/// names are read where they stand in tables that outlive it, and only lists that were joined lie in an arena. It is read as a
+/// [`Chart`].
+pub type CountyOver<'a> = Kept<ChainOver<'a>, NameIn<'a>, LandmarkIn<'a>>;
+
+impl<C: KeptChain, N: KeptName, L: KeptLandmark> Kept<C, N, L> {
+    /// The content of a polygon's record of type P, or none where the polygon isn't there or has no such record.
+    pub fn polygon_body(&self, key: PolygonKey) -> Option<BodyP>
+        ensures { result ≡ option_and_then (λ body. body) (value_under key_cmp key (⟦<Kept<C, N, L> as Chart>⟧.county self.now).polygons) }
+    {
+        match self.polygons.get(key) {
+            Some(body) => *body,
+            None => None,
+        }
+    }
+
+    /// The TLIDs of the chains, ascending.
+    pub fn tlids(&self) -> &[u64]
+        ensures { result.now ≡ tlids (⟦<Kept<C, N, L> as Chart>⟧.county self.now) }
+    {
+        self.chains.keys()
+    }
+
+    /// The FEATs of the names, ascending.
+    pub fn feats(&self) -> &[u32]
+        ensures { result.now ≡ feats (⟦<Kept<C, N, L> as Chart>⟧.county self.now) }
+    {
+        self.names.keys()
+    }
+
+    /// The keys of the polygons, ascending by the bytes of the CENID and then by POLYID.
+    pub fn polygons(&self) -> &[PolygonKey]
+        ensures { result.now ≡ polygon_keys (⟦<Kept<C, N, L> as Chart>⟧.county self.now) }
+    {
+        self.polygons.keys()
+    }
+
+    /// The LANDs of the landmarks, ascending.
+    pub fn lands(&self) -> &[u64]
+        ensures { result.now ≡ lands (⟦<Kept<C, N, L> as Chart>⟧.county self.now) }
+    {
+        self.landmarks.keys()
+    }
+
+    /// The nodes at the ends of chains, ascending and each once.
+    pub fn nodes(&self) -> &[u64]
+        ensures { result.now ≡ nodes_in_order (⟦<Kept<C, N, L> as Chart>⟧.county self.now) }
+    {
+        self.nodes.as_slice()
+    }
+
+    /// The chain at a place, or none past the last one.
+    pub(crate) fn chain_of_place(&self, place: usize) -> Option<&C>
+        ensures { option_map C.chain (option_copied result) ≡ chain_at (⟦<Kept<C, N, L> as Chart>⟧.county self.now) place }
+    {
+        self.chains.value_at(place)
+    }
+
+    /// The contents of the landmark at a place, empty past the last one.
+    pub(crate) fn bodies_of_place(&self, place: usize) -> &[Body7]
+        ensures { result.now ≡ bodies_at (⟦<Kept<C, N, L> as Chart>⟧.county self.now) place }
+    {
+        match self.landmarks.value_at(place) {
+            Some(landmark) => landmark.bodies(),
+            None => &[],
+        }
+    }
+
+    /// The links of the landmark at a place, empty past the last one.
+    pub(crate) fn links_of_place(&self, place: usize) -> &[Rec8]
+        ensures { result.now ≡ links_at (⟦<Kept<C, N, L> as Chart>⟧.county self.now) place }
+    {
+        match self.landmarks.value_at(place) {
+            Some(landmark) => landmark.links(),
+            None => &[],
+        }
+    }
+}
+
+impl County {
+    /// The chain of a TLID, or none where no chain has it.
+    pub fn chain(&self, tlid: u64) -> Option<&Chain>
+        ensures { option_copied result ≡ value_under nat_cmp tlid (⟦<County as Chart>⟧.county self.now).chains }
+    {
+        self.chains.get(tlid)
+    }
+
+    /// The name of a FEAT, or none where no name has it.
+    pub fn name(&self, feat: u32) -> Option<&Body5>
+        ensures { option_copied result ≡ value_under nat_cmp feat (⟦<County as Chart>⟧.county self.now).names }
+    {
+        self.names.get(feat)
+    }
+
+    /// The contents of the records of type 7 of a LAND, by FILE, SOURCE, CFCC, LANAME and the point, none first; empty
+    /// where no landmark has it.
+    pub fn landmark_bodies(&self, land: u64) -> &[Body7]
+        ensures { result.now ≡ unwrap_or (value_under nat_cmp land (⟦<County as Chart>⟧.county self.now).landmarks) [] }
+    {
+        match self.landmarks.get(land) {
+            Some(landmark) => landmark.bodies(),
+            None => &[],
+        }
+    }
+
+    /// The records of type 8 of a LAND, by POLYID, CENID and FILE; empty where no landmark has it.
+    pub fn landmark_links(&self, land: u64) -> &[Rec8]
+        ensures { result.now ≡ of_number eight_land land (⟦<County as Chart>⟧.county self.now).links }
+    {
+        match self.landmarks.get(land) {
+            Some(landmark) => landmark.links(),
+            None => &[],
+        }
+    }
+}
+
+impl<'a> CountyIn<'a> {
+    /// The chain of a TLID, or none where no chain has it.
+    pub fn chain(&self, tlid: u64) -> Option<&ChainIn<'a>>
+        ensures { option_copied result ≡ value_under nat_cmp tlid (⟦<CountyIn<'a> as Chart>⟧.county self.now).chains }
+    {
+        self.chains.get(tlid)
+    }
+
+    /// The name of a FEAT, or none where no name has it.
+    pub fn name(&self, feat: u32) -> Option<&'a Body5>
+        ensures { option_copied result ≡ value_under nat_cmp feat (⟦<CountyIn<'a> as Chart>⟧.county self.now).names }
+    {
+        match self.names.get(feat) {
+            Some(name) => Some(name.body()),
+            None => None,
+        }
+    }
+
+    /// The contents of the records of type 7 of a LAND, by FILE, SOURCE, CFCC, LANAME and the point, none first; empty
+    /// where no landmark has it.
+    pub fn landmark_bodies(&self, land: u64) -> &'a [Body7]
+        ensures { result.now ≡ unwrap_or (value_under nat_cmp land (⟦<CountyIn<'a> as Chart>⟧.county self.now).landmarks) [] }
+    {
+        match self.landmarks.get(land) {
+            Some(landmark) => landmark.bodies(),
+            None => &[],
+        }
+    }
+
+    /// The records of type 8 of a LAND, by POLYID, CENID and FILE; empty where no landmark has it.
+    pub fn landmark_links(&self, land: u64) -> &'a [Rec8]
+        ensures { result.now ≡ of_number eight_land land (⟦<CountyIn<'a> as Chart>⟧.county self.now).links }
+    {
+        match self.landmarks.get(land) {
+            Some(landmark) => landmark.links(),
+            None => &[],
+        }
+    }
+}
