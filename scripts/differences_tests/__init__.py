@@ -1,0 +1,1 @@
+"""The tests of scripts/differences, which scripts/test-differences runs."""

@@ -1,0 +1,228 @@
+"""What is matched and told of small counties, which are read as they are written, without the program."""
+
+from __future__ import annotations
+
+import copy
+import unittest
+from typing import Callable, List, Tuple
+
+from differences_lib.fields import decimal, degrees, landmark_rows, rows
+from differences_lib.matching import Comparison, compare
+from differences_lib.page import page_data, shift_of
+from differences_lib.reading import NotCanonical, read_county
+from differences_lib.words import ONE_MAP, TIED, told
+
+from .county import Chain, County, Landmark, Polygon, made_county, written
+from .support import sets_of
+
+Told = Tuple[str, str, str]
+"""The label of a field that differs, and what both maps say."""
+
+
+def compared(first: County, second: County) -> Comparison:
+    return compare(read_county(written(first)), read_county(written(second)))
+
+
+def words_of(first: County, second: County) -> str:
+    """What is told in words."""
+    return "\n".join(told(compared(first, second), sets_of(written(first), written(second))))
+
+
+def chain_between(points: List[Tuple[int, int]], **values: object) -> Chain:
+    """A chain through these points, between the polygons 0 and 1."""
+    return Chain({"FENAME": "Main", "CFCC": "A41"}, points, 1, 2, 0, 1, **values)
+
+
+def two_sided(*chains: Chain) -> County:
+    """A county with these chains and two polygons."""
+    polygons = [Polygon({"FILE": "01001"}, (-86_000_000 + place, 32_000_000)) for place in range(2)]
+    return County(list(chains), [{"FENAME": "Old Rd"}, {"FENAME": "Old Rd"}], polygons, [])
+
+
+class Matching(unittest.TestCase):
+    def differing_chain(self, change: Callable[[Chain], None]) -> List[Told]:
+        """What differs in the only chain of two counties of which one has a change."""
+        first = two_sided(chain_between([(1, 1), (2, 5), (9, 9)]))
+        second = copy.deepcopy(first)
+        change(second.chains[0])
+        comparison = compared(first, second)
+        self.assertEqual(comparison.chains.counts, (0, 0, 1, 0))
+        one, other = comparison.chains.changed[0]
+        table = rows(comparison.first.chain(one), comparison.second.chain(other))
+        return [(row.name.label, row.first, row.second) for row in table if row.differs]
+
+    def test_fields(self) -> None:
+        cases = [
+            (lambda chain: chain.fields.update(FENAME="Maple"), [("FENAME", "Main", "Maple")]),
+            (lambda chain: chain.fields.update(FENAME=""), [("FENAME", "Main", "(blank)")]),
+            (lambda chain: chain.fields.update(FENAME=" Main"), [("FENAME", f'"{"Main":30}"', f'"{" Main":30}"')]),
+            (lambda chain: chain.fields.update(SOURCE="A"), [("SOURCE", "(blank)", "A")]),
+            (lambda chain: chain.link.update(SOURCE="A"), [("SOURCE of type I", "(blank)", "A")]),
+            (lambda chain: chain.names.append(0), [("further name 1", "(none)", "Old Rd")]),
+            (lambda chain: chain.ranges.append({}), [("range 1", "(none)", "there is one")]),
+            (
+                lambda chain: chain.ranges.append({"ZIPL": "36067"}),
+                [("range 1", "(none)", "there is one"), ("ZIPL of range 1", "(none)", "36067")],
+            ),
+            (lambda chain: setattr(chain, "start", None), [("start node", "there is one", "(none)")]),
+            (lambda chain: setattr(chain, "end", None), [("end node", "there is one", "(none)")]),
+            (lambda chain: setattr(chain, "left", None), [("left polygon", "at 32.000000° N, 86.000000° W", "(none)")]),
+            (
+                lambda chain: setattr(chain, "right", 0),
+                [("right polygon", "at 32.000000° N, 85.999999° W", "at 32.000000° N, 86.000000° W")],
+            ),
+        ]
+        for change, wanted in cases:
+            with self.subTest(wanted=wanted):
+                self.assertEqual(self.differing_chain(change), wanted)
+
+    def test_chains_of_one_shape(self) -> None:
+        """They are matched as a multiset, by their fields."""
+        points = [(1, 1), (2, 5), (9, 9)]
+        one, other, third = (chain_between(points) for _ in range(3))
+        other.fields["FENAME"] = "Upper Main"
+        third.fields.update(FENAME="Upper Main", CFCC="A31")
+        self.assertEqual(compared(two_sided(one, other), two_sided(other, one)).chains.counts, (0, 0, 0, 2))
+        self.assertEqual(compared(two_sided(one, other), two_sided(third, one)).chains.counts, (0, 0, 1, 1))
+        self.assertEqual(compared(two_sided(one, one), two_sided(one)).chains.counts, (1, 0, 0, 1))
+        comparison = compared(two_sided(one, other), two_sided(third, other, one))
+        self.assertEqual(comparison.chains.counts, (0, 1, 0, 2))
+        self.assertEqual(comparison.ties, [])
+
+    def test_own_reverse(self) -> None:
+        """A chain whose points are the same from both ends may be seen from either."""
+        chain = chain_between([(1, 1), (2, 5), (1, 1)])
+        chain.fields.update(FRADDL="1", TOADDR="9")
+        turned = chain_between([(1, 1), (2, 5), (1, 1)])
+        turned.fields.update(FRADDL="9", TOADDR="1")
+        turned.left, turned.right = 1, 0
+        self.assertEqual(compared(two_sided(chain), two_sided(turned)).chains.counts, (0, 0, 0, 1))
+        turned.fields["FENAME"] = "Maple"
+        comparison = compared(two_sided(chain), two_sided(turned))
+        one, other = comparison.chains.changed[0]
+        table = rows(comparison.first.chain(one), comparison.second.chain(other))
+        self.assertEqual([row.name.label for row in table if row.differs], ["FENAME"])
+
+    def test_polygons(self) -> None:
+        """A polygon that changed is told once, and not again at the chains beside it."""
+        county = made_county(4, 4, 1)
+        for change in (
+            lambda polygon: polygon.fields.update(WATER="9"),
+            lambda polygon: setattr(polygon, "point", (-86_470_001, 32_460_001)),
+            lambda polygon: setattr(polygon, "point", None),
+            lambda polygon: setattr(polygon, "has_record", False),
+        ):
+            other = copy.deepcopy(county)
+            change(other.polygons[2])
+            comparison = compared(county, other)
+            self.assertEqual(comparison.polygons.counts, (0, 0, 1, len(county.polygons) - 1))
+            self.assertTrue(comparison.chains.is_alike and comparison.landmarks.is_alike)
+
+    def test_landmarks(self) -> None:
+        county = made_county(4, 4, 1)
+        area = Landmark({"FILE": "01001", "CFCC": "D85", "LANAME": "Long Park"}, None, [0, 1, 2])
+        county.landmarks.append(area)
+        for change, labels in (
+            (lambda landmark: landmark.polygons.remove(1), ["polygon 3"]),
+            (lambda landmark: landmark.fields.update(LANAME="Short Park"), ["LANAME"]),
+            (lambda landmark: landmark.fields.update(CFCC="D84"), ["CFCC"]),
+            (lambda landmark: setattr(landmark, "point", (5, 5)), ["LALONG, LALAT"]),
+        ):
+            other = copy.deepcopy(county)
+            change(other.landmarks[-1])
+            comparison = compared(county, other)
+            self.assertEqual(comparison.landmarks.counts, (0, 0, 1, len(county.landmarks) - 1))
+            table = landmark_rows(comparison.first, comparison.second, *comparison.landmarks.changed[0])
+            self.assertEqual([row.name.label for row in table if row.differs], labels)
+
+    def test_names(self) -> None:
+        county = made_county(4, 4, 1)
+        other = copy.deepcopy(county)
+        other.names.append({"FENAME": "Unused"})
+        comparison = compared(county, other)
+        self.assertEqual(comparison.names.counts, (0, 1, 0, 2))
+        self.assertFalse(comparison.is_alike)
+        self.assertIn("  Unused, FILE (blank), a further name of no chains", words_of(county, other).splitlines())
+
+    def test_nothing(self) -> None:
+        empty = County([], [], [], [])
+        self.assertIn(ONE_MAP, words_of(empty, empty))
+        county = made_county(2, 2, 1)
+        self.assertEqual(compared(empty, county).chains.counts, (0, len(county.chains), 0, 0))
+        page_data(compared(empty, empty), sets_of(b"", b""))
+
+    def test_what_is_no_canonical_text(self) -> None:
+        good = written(made_county(2, 2, 1))
+        for text in (b"x\n", good[:-1], good + b"\n", good.replace(b"I2006", b"Z2006")):
+            with self.assertRaises(NotCanonical):
+                read_county(text)
+
+    def test_date_line(self) -> None:
+        """A map across the line of 180 degrees is drawn in one piece."""
+        west = chain_between([(-179_000_000, 51_000_000), (-179_000_001, 51_000_000)])
+        east = chain_between([(179_000_000, 51_000_000), (179_000_001, 51_000_000)])
+        county = two_sided(west, east)
+        comparison = compared(county, two_sided(west))
+        self.assertEqual(shift_of(comparison), 360_000_000)
+        data = page_data(comparison, sets_of(b"x", b"y"))
+        self.assertEqual(data["entries"][0]["line"], [-181_000_000, 51_000_000, 1, 0])
+
+
+class Coordinates(unittest.TestCase):
+    def test_degrees(self) -> None:
+        for point, words, numbers in (
+            ("-086477532+32464118", "32.464118° N, 86.477532° W", ("-86.477532", "32.464118")),
+            ("+179000001-05000020", "5.000020° S, 179.000001° E", ("179.000001", "-5.000020")),
+            ("-000000001+00000000", "0.000000° N, 0.000001° W", ("-0.000001", "0.000000")),
+            ("+999999999-99999999", "99.999999° S, 999.999999° E", ("999.999999", "-99.999999")),
+        ):
+            self.assertEqual(degrees(point), words)
+            self.assertEqual((decimal(point[:10]), decimal(point[10:])), numbers)
+
+
+class Ties(unittest.TestCase):
+    """Maps in which nothing differs but how things are tied."""
+
+    def assert_tied(self, first: County, second: County, *lines: str) -> None:
+        comparison = compared(first, second)
+        self.assertTrue(comparison.is_alike)
+        text = words_of(first, second)
+        self.assertIn(TIED, text)
+        for line in lines:
+            self.assertIn(line, text)
+
+    def test_nodes(self) -> None:
+        first = two_sided(chain_between([(1, 1), (5, 5)]), chain_between([(1, 1), (6, 6)]))
+        second = copy.deepcopy(first)
+        second.chains[1].start = 7
+        self.assert_tied(
+            first, second, "one node in the first, 2 in the second:", "start of Main (A41), 0.000001° N, 0.000001° E"
+        )
+        self.assert_tied(second, first, "one node in the second, 2 in the first:")
+
+    def test_polygons(self) -> None:
+        """Polygons without records are told apart by nothing but the sides that they lie on."""
+        first = two_sided(chain_between([(1, 1), (5, 5)]), chain_between([(1, 1), (6, 6)]))
+        first.polygons = [Polygon({}, None, False) for _ in range(3)]
+        first.chains.append(chain_between([(3, 3), (4, 4)]))
+        first.chains[2].right = 2
+        second = copy.deepcopy(first)
+        second.chains[1].right = 2
+        self.assert_tied(first, second, "one polygon in the first, 2 in the second:", "right side of Main (A41)")
+
+    def test_names(self) -> None:
+        first = two_sided(chain_between([(1, 1), (5, 5)], names=[0]), chain_between([(1, 1), (6, 6)], names=[1]))
+        second = copy.deepcopy(first)
+        second.chains[1].names = [0]
+        self.assert_tied(
+            first, second, "one feature name in the second, 2 in the first:", "further name 1 of Main (A41)"
+        )
+
+    def test_landmarks(self) -> None:
+        """Landmarks that say the same in polygons that say the same."""
+        first = two_sided(chain_between([(1, 1), (5, 5)]))
+        first.polygons = [Polygon({}, None, False) for _ in range(2)]
+        first.landmarks = [Landmark({"LANAME": "Park"}, None, [0]), Landmark({"LANAME": "Park"}, None, [0])]
+        second = copy.deepcopy(first)
+        second.landmarks[1].polygons = [1]
+        self.assert_tied(first, second)
