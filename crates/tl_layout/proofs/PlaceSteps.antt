@@ -18,6 +18,7 @@ use Rattle.tl_layout.specs.FieldLaws.{reads_on}
 use Rattle.tl_layout.specs.FieldFaults.{gap}
 use Rattle.tl_layout.specs.FieldReading.{places_reading}
 use Rattle.tl_layout.specs.declared.fault.FieldFault.{FieldFault}
+use Rattle.tl_layout.specs.declared.coordinate.TheConstants.{MOST_LONGITUDE, MOST_LATITUDE}
 
 -- the items so far in front of those that are read
 abbrev pub with_front : {A : Type 0} → List A → Result (List A) FieldFault → Result (List A) FieldFault
@@ -93,7 +94,7 @@ same_bytes (x ∷ xs) (y ∷ ys) h =
 
 -- a pair of zeros is no point
 zeros_read : (long lat : List ℕ) → long ≡ take 10 ZEROS → lat ≡ drop 10 ZEROS → (column : ℕ)
-    → pair_of column (coordinate_of 999999999 long) (coordinate_of 99999999 lat) ≡ Ok None
+    → pair_of column (coordinate_of MOST_LONGITUDE long) (coordinate_of MOST_LATITUDE lat) ≡ Ok None
 unfolding coordinate_of signed_of magnitude_of number_after point_or_none
 zeros_read long lat e f column = rw (e, f) refl
 

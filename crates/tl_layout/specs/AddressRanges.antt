@@ -16,6 +16,21 @@ pub record FitsRanges (ranges : Ranges) : Type 0 where
   pub toiaddr : IsText 1 ranges.toiaddr
   pub zip : FitsPair 5 ranges.zip
 
+-- the ranges of these fields
+abbrev pub ranges_of : (fraddl toaddl fraddr toaddr friaddl toiaddl friaddr toiaddr zipl zipr : List ℕ) → Ranges
+ranges_of fraddl toaddl fraddr toaddr friaddl toiaddl friaddr toiaddr zipl zipr =
+    record {
+      fraddl = fraddl;
+      toaddl = toaddl;
+      fraddr = fraddr;
+      toaddr = toaddr;
+      friaddl = friaddl;
+      toiaddl = toiaddl;
+      friaddr = friaddr;
+      toiaddr = toiaddr;
+      zip = record { left = zipl; right = zipr };
+    }
+
 -- the ranges that begin in this column of a line
 abbrev pub ranges_at : ℕ → List ℕ → Ranges
 ranges_at first line =

@@ -1,5 +1,5 @@
 -- What bytes a line may hold, and the bytes of a column.
-use Rattle.std.specs.Prelude.{◌≡◌, ℕ, ◌-◌, List, [], ◌∷◌, length, Bool, nat_le, nat_lt, ◌&&◌, ◌||◌, IsTrue, slice_range, All}
+use Rattle.std.specs.Prelude.{◌≡◌, ℕ, ◌-◌, List, [], ◌∷◌, length, replicate, Bool, cond, nat_le, nat_lt, ◌&&◌, ◌||◌, IsTrue, slice_range, All}
 
 -- a byte that a line may hold: printable ASCII, or the upper half of Latin-1 from its no-break space on
 abbrev pub is_allowed : ℕ → Bool
@@ -13,6 +13,14 @@ AreAllowed bytes = All (λ b. IsTrue (is_allowed b)) bytes
 pub record IsText (width : ℕ) (bytes : List ℕ) : Type 0 where
   pub len : length bytes ≡ width
   pub allowed : AreAllowed bytes
+
+-- that many blanks
+abbrev pub blanks : ℕ → List ℕ
+blanks width = replicate width 32
+
+-- the text of that many bytes, or as many blanks where it is hidden
+abbrev pub blanks_if : Bool → ℕ → List ℕ → List ℕ
+blanks_if is_hidden width text = cond is_hidden (blanks width) text
 
 -- the bytes from column first to column last of a line, both included, counted from 1 as in the column tables
 abbrev pub columns : ℕ → ℕ → List ℕ → List ℕ

@@ -1,7 +1,9 @@
--- Column tables: what the columns of a record type hold, and when a line spells a record by them.
-use Rattle.std.specs.Prelude.{◌≡◌, ℕ, ◌+◌, ◌-◌, ◌≤◌, List, [], ◌∷◌, length, Option, IfSome, Bool, ◌==◌, ◌&&◌, nat_le}
+-- Column tables: what the columns of a record type hold, when a line spells a record by them, and what becomes of a record by a
+-- turn of its chain and by a mask.
+use Rattle.std.specs.Prelude.{◌≡◌, ℕ, ◌+◌, ◌-◌, ◌≤◌, List, [], ◌∷◌, length, Option, IfSome, Bool, false, cond, ◌==◌, ◌&&◌, nat_le}
 use Rattle.std.specs.List.{AllByRecursion}
-use Rattle.tl_layout.specs.Bytes.{IsText, columns}
+use Rattle.tl_layout.specs.Bytes.{IsText, blanks, columns}
+use Rattle.tl_layout.specs.declared.mask.Mask.{Mask}
 use Rattle.tl_layout.specs.Numbers.{IsNumber, IsNumberOrNone}
 use Rattle.tl_layout.specs.Coordinates.{Coordinates, IsOnMap}
 use Rattle.tl_layout.specs.FieldMeaning.{SpellsNumber, SpellsNumberOrNone, SpellsPoint, SpellsPointOrNone, SpellsPointPlace}
@@ -37,22 +39,39 @@ ValueOf PointPlaces = List Coordinates
 ValueOf Opaque = List ℕ
 ValueOf Filler = Unit {0}
 
--- A row of a column table: the field's first and last column, what it holds, its value in a record, and the value that it
--- has when the chain is seen from its other end.
+-- what a field tells of
+pub data Subject : Type 0 where
+  -- the map
+  TheMap : Subject
+  -- where the data came from
+  Sources : Subject
+  -- nothing: its columns are reserved
+  Reserved : Subject
+
+-- A row of a column table: the field's first and last column, what it holds, its value in a record, the value that it has
+-- when the chain is seen from its other end, and what it tells of.
 pub record Row (R : Type 0) : Type 0 where
   pub first : ℕ
   pub last : ℕ
   pub kind : Kind
   pub value : R → ValueOf kind
   pub turned : R → ValueOf kind
+  pub subject : Subject
 
--- a field that a turn leaves as it is
+-- a field of the map that a turn leaves as it is
 abbrev pub row : {R : Type 0} → ℕ → ℕ → (kind : Kind) → (R → ValueOf kind) → Row R
-row first last kind value = record { first = first; last = last; kind = kind; value = value; turned = value }
+row first last kind value =
+    record { first = first; last = last; kind = kind; value = value; turned = value; subject = TheMap }
 
--- a field that a turn gives the value of its partner
+-- a field of the map that a turn gives the value of its partner
 abbrev pub row_with_partner : {R : Type 0} → ℕ → ℕ → (kind : Kind) → (R → ValueOf kind) → (R → ValueOf kind) → Row R
-row_with_partner first last kind value partner = record { first = first; last = last; kind = kind; value = value; turned = partner }
+row_with_partner first last kind value partner =
+    record { first = first; last = last; kind = kind; value = value; turned = partner; subject = TheMap }
+
+-- a text that tells of something else than the map, and that a turn leaves as it is
+abbrev pub row_of : {R : Type 0} → Subject → ℕ → ℕ → (R → List ℕ) → Row R
+row_of subject first last value =
+    record { first = first; last = last; kind = Opaque; value = value; turned = value; subject = subject }
 
 -- how many columns a row has
 abbrev pub width_of : {R : Type 0} → Row R → ℕ
@@ -103,6 +122,34 @@ FitsRows table r = AllByRecursion (λ row. FitsValue (width_of row) row.kind (ro
 -- the same value where the row has none
 abbrev pub TurnsRows : {R : Type 0} → List (Row R) → R → R → Type 0
 TurnsRows table r other = AllByRecursion (λ row. row.value other ≡ row.turned r) table
+
+-- ---- what is masked
+
+-- the field is one that the mask leaves out
+abbrev pub is_left_out : Mask → Subject → Bool
+is_left_out mask TheMap = false
+is_left_out mask Sources = mask.sources
+is_left_out mask Reserved = mask.reserved
+
+-- a text becomes blanks; what isn't text stays
+abbrev pub blank_value : ℕ → (kind : Kind) → ValueOf kind → ValueOf kind
+blank_value width Opaque text = blanks width
+blank_value width Number value = value
+blank_value width NumberOrNone value = value
+blank_value width Pair value = value
+blank_value width PairOrNone value = value
+blank_value width NumberPlaces value = value
+blank_value width PointPlaces value = value
+blank_value width Filler value = value
+
+-- what the record has in the row under the mask
+abbrev pub masked_value : {R : Type 0} → Mask → (row : Row R) → R → ValueOf row.kind
+masked_value mask row r =
+    cond (is_left_out mask row.subject) (blank_value (width_of row) row.kind (row.value r)) (row.value r)
+
+-- the other record is the record under the mask: each field that the mask leaves out is blank, and every other is as it was
+abbrev pub MasksRows : {R : Type 0} → Mask → List (Row R) → R → R → Type 0
+MasksRows mask table r other = AllByRecursion (λ row. row.value other ≡ masked_value mask row r) table
 
 -- ---- tables without gaps
 

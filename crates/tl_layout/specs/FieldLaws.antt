@@ -26,6 +26,7 @@ use Rattle.tl_layout.specs.FieldMeaning.{SpellsNumber, SpellsNumberOrNone, Spell
 use Rattle.tl_layout.specs.declared.coordinate.Coordinate.{Coordinate}
 use Rattle.tl_layout.specs.declared.coordinate.Coordinate.TheVariants.{Malformed, Blank, Value}
 use Rattle.tl_layout.specs.declared.fault.FieldFault.{FieldFault}
+use Rattle.tl_layout.specs.declared.coordinate.TheConstants.{MOST_LONGITUDE, MOST_LATITUDE}
 
 -- what was read before reading went on
 pub record Reads {A B : Type 0} (first : Result A FieldFault) (more : A → Result B FieldFault) (answer : B) : Type 0 where
@@ -120,14 +121,14 @@ both_zero (pos n) h = ap pos h
 both_zero (negsuc n) h = (cc)
 
 point_found : (long_field lat_field : List ℕ) (long lat : ℤ) (point : Option Coordinates) (b : Bool)
-    → nat_eq (unsigned_abs long + unsigned_abs lat) 0 ≡ b → IsCoordinateField 999999999 long_field long
-    → IsCoordinateField 99999999 lat_field lat → cond b None (Some (record { long = long; lat = lat })) ≡ point
+    → nat_eq (unsigned_abs long + unsigned_abs lat) 0 ≡ b → IsCoordinateField MOST_LONGITUDE long_field long
+    → IsCoordinateField MOST_LATITUDE lat_field lat → cond b None (Some (record { long = long; lat = lat })) ≡ point
     → SpellsPointOrNone long_field lat_field point
 point_found long_field lat_field long lat point true e x y h =
     let none : unsigned_abs long + unsigned_abs lat ≡ 0 = eqb-true _ 0 e in
     let P : Option Coordinates → Type 0 = SpellsPointOrNone long_field lat_field in
-    let L : ℤ → Type 0 = IsCoordinateField 999999999 long_field in
-    let M : ℤ → Type 0 = IsCoordinateField 99999999 lat_field in
+    let L : ℤ → Type 0 = IsCoordinateField MOST_LONGITUDE long_field in
+    let M : ℤ → Type 0 = IsCoordinateField MOST_LATITUDE lat_field in
     subst P h (inr (subst L (both_zero long (omega arith)) x, subst M (both_zero lat (omega arith)) y))
 point_found long_field lat_field long lat point false e x y h =
     let some : unsigned_abs long + unsigned_abs lat ≡ 0 → ⊥ = eqb-false _ 0 e in
@@ -139,7 +140,7 @@ pub ok_value : {A : Type 0} (x y : A) → ◌≡◌ {A = Result A FieldFault} (O
 ok_value x y h = (cc)
 
 pair_found : (column : ℕ) (long_field lat_field : List ℕ) (point : Option Coordinates) (long lat : Coordinate)
-    → coordinate_of 999999999 long_field ≡ long → coordinate_of 99999999 lat_field ≡ lat → pair_of column long lat ≡ Ok point
+    → coordinate_of MOST_LONGITUDE long_field ≡ long → coordinate_of MOST_LATITUDE lat_field ≡ lat → pair_of column long lat ≡ Ok point
     → SpellsPointOrNone long_field lat_field point
 unfolding point_or_none
 pair_found column long_field lat_field point Malformed lat x y h = (cc)
@@ -147,12 +148,12 @@ pair_found column long_field lat_field point Blank Malformed x y h = (cc)
 pair_found column long_field lat_field point (Value long) Malformed x y h = (cc)
 pair_found column long_field lat_field point Blank Blank x y h =
     let P : Option Coordinates → Type 0 = SpellsPointOrNone long_field lat_field in
-    subst P (ok_value None point h) (inl (blank_found 999999999 long_field x, blank_found 99999999 lat_field y))
+    subst P (ok_value None point h) (inl (blank_found MOST_LONGITUDE long_field x, blank_found MOST_LATITUDE lat_field y))
 pair_found column long_field lat_field point Blank (Value lat) x y h = (cc)
 pair_found column long_field lat_field point (Value long) Blank x y h = (cc)
 pair_found column long_field lat_field point (Value long) (Value lat) x y h =
     point_found long_field lat_field long lat point (nat_eq (unsigned_abs long + unsigned_abs lat) 0) refl
-    (coordinate_found 999999999 long_field long x) (coordinate_found 99999999 lat_field lat y) (ok_value _ point h)
+    (coordinate_found MOST_LONGITUDE long_field long x) (coordinate_found MOST_LATITUDE lat_field lat y) (ok_value _ point h)
 
 pub point_or_none_at_found : (column : ℕ) (line : List ℕ) (point : Option Coordinates) → point_or_none_at column line ≡ Ok point
     → SpellsPointOrNone (columns column (column + 9) line) (columns (column + 10) (column + 18) line) point
@@ -164,13 +165,16 @@ unfolding point_or_none
 point_only long lat h = rw (ne_eqb (unsigned_abs long + unsigned_abs lat) 0 (λ e. omega arith)) refl
 
 pair_only : (column : ℕ) (long_field lat_field : List ℕ) (point : Option Coordinates) → SpellsPointOrNone long_field lat_field point
-    → pair_of column (coordinate_of 999999999 long_field) (coordinate_of 99999999 lat_field) ≡ Ok point
+    → pair_of column (coordinate_of MOST_LONGITUDE long_field) (coordinate_of MOST_LATITUDE lat_field) ≡ Ok point
 unfolding point_or_none
-pair_only column long_field lat_field None (inl h) = rw (blank_only 999999999 long_field h.0, blank_only 99999999 lat_field h.1) refl
+pair_only column long_field lat_field None (inl h) = rw (blank_only MOST_LONGITUDE long_field h.0, blank_only MOST_LATITUDE lat_field h.1) refl
 pair_only column long_field lat_field None (inr h) =
-    rw (coordinate_only 999999999 long_field (pos 0) h.0, coordinate_only 99999999 lat_field (pos 0) h.1) refl
+    rw (coordinate_only MOST_LONGITUDE long_field (pos 0) h.0, coordinate_only MOST_LATITUDE lat_field (pos 0) h.1) refl
 pair_only column long_field lat_field (Some point) h =
-    rw (coordinate_only 999999999 long_field point.long h.long_spelled, coordinate_only 99999999 lat_field point.lat h.lat_spelled)
+    rw (
+      coordinate_only MOST_LONGITUDE long_field point.long h.long_spelled,
+      coordinate_only MOST_LATITUDE lat_field point.lat h.lat_spelled,
+    )
     (ap Ok (point_only point.long point.lat h.somewhere))
 
 pub point_or_none_at_only : (column : ℕ) (line : List ℕ) (point : Option Coordinates)
@@ -202,9 +206,9 @@ point_at_only column line point h = reads_on _ _ (Some point) _ (point_or_none_a
 pub point_on_map : (long lat : List ℕ) (point : Coordinates) → SpellsPoint long lat point → IsOnMap point
 point_on_map long lat point h =
     record {
-      long = coordinate_within 999999999 long point.long h.long_spelled;
+      long = coordinate_within MOST_LONGITUDE long point.long h.long_spelled;
       lat =
-          coordinate_within 99999999 lat point.lat h.lat_spelled;
+          coordinate_within MOST_LATITUDE lat point.lat h.lat_spelled;
       somewhere = h.somewhere;
     }
 
@@ -212,11 +216,11 @@ point_on_map long lat point h =
 pub point_again : (point : Coordinates) (long lat : List ℕ) → long ≡ coordinate_text 9 point.long → lat ≡ coordinate_text 8 point.lat
     → IsOnMap point → SpellsPoint long lat point
 point_again point long lat e e' h =
-    let P : List ℕ → Type 0 = λ f. IsCoordinateField 999999999 f point.long in
-    let Q : List ℕ → Type 0 = λ f. IsCoordinateField 99999999 f point.lat in
+    let P : List ℕ → Type 0 = λ f. IsCoordinateField MOST_LONGITUDE f point.long in
+    let Q : List ℕ → Type 0 = λ f. IsCoordinateField MOST_LATITUDE f point.lat in
     record {
-      long_spelled = subst P (sym e) (coordinate_text_spells 9 999999999 point.long (lit< tt) (lit< tt) h.long);
-      lat_spelled = subst Q (sym e') (coordinate_text_spells 8 99999999 point.lat (lit< tt) (lit< tt) h.lat);
+      long_spelled = subst P (sym e) (coordinate_text_spells 9 MOST_LONGITUDE point.long (lit< tt) (lit< tt) h.long);
+      lat_spelled = subst Q (sym e') (coordinate_text_spells 8 MOST_LATITUDE point.lat (lit< tt) (lit< tt) h.lat);
       somewhere = h.somewhere;
     }
 

@@ -9,6 +9,7 @@ use Rattle.tl_layout.specs.declared.coordinate.Coordinate.{Coordinate}
 use Rattle.tl_layout.specs.declared.coordinate.Coordinate.TheVariants.{Malformed, Blank, Value}
 use Rattle.tl_layout.specs.declared.fault.FieldFault.{FieldFault}
 use Rattle.tl_layout.specs.FieldFaults.{bad_number, bad_point, gap}
+use Rattle.tl_layout.specs.declared.coordinate.TheConstants.{MOST_LONGITUDE, MOST_LATITUDE}
 
 -- reading goes on behind what was read, and stops at the first fault
 unfoldable pub and_then : {A B : Type 0} → Result A FieldFault → (A → Result B FieldFault) → Result B FieldFault
@@ -57,8 +58,8 @@ pair_of column (Value long) (Value lat) = Ok (point_or_none long lat)
 -- what the pair that begins at this column is read as, where there may be none
 unfoldable pub point_or_none_at : ℕ → List ℕ → Result (Option Coordinates) FieldFault
 point_or_none_at column line =
-    pair_of column (coordinate_of 999999999 (columns column (column + 9) line))
-    (coordinate_of 99999999 (columns (column + 10) (column + 18) line))
+    pair_of column (coordinate_of MOST_LONGITUDE (columns column (column + 9) line))
+    (coordinate_of MOST_LATITUDE (columns (column + 10) (column + 18) line))
 
 abbrev pub demanded_point : ℕ → Option Coordinates → Result Coordinates FieldFault
 demanded_point column None = Err (bad_point column)

@@ -18,6 +18,7 @@ use Rattle.tl_layout.specs.FieldMeaning.{SpellsPointPlace, SpellsNumberPlace, Sp
 use Rattle.tl_layout.specs.FieldLaws.{reads, reads_on, ok_value, point_again, number_or_none_again}
 use Rattle.tl_layout.specs.FieldFaults.{gap}
 use Rattle.tl_layout.specs.declared.fault.FieldFault.{FieldFault}
+use Rattle.tl_layout.specs.declared.coordinate.TheConstants.{MOST_LONGITUDE, MOST_LATITUDE}
 
 -- what places that were read hold: nothing, if an unused one stood before them
 abbrev Found : {A : Type 0} → (ℕ → Option A → Type 0) → ℕ → Bool → ℕ → ℕ → List A → Type 0
@@ -202,11 +203,11 @@ point_place_again before None after g =
     let long = coordinate_text 9 (pos 0) in
     let lat = coordinate_text 8 (pos 0) in
     let long_is = two_parts before long lat after (coordinate_text_is_text 9 (pos 0)).len (coordinate_text_is_text 8 (pos 0)).len in
-    let P : List ℕ → Type 0 = λ f. IsCoordinateField 999999999 f (pos 0) in
-    let Q : List ℕ → Type 0 = λ f. IsCoordinateField 99999999 f (pos 0) in
+    let P : List ℕ → Type 0 = λ f. IsCoordinateField MOST_LONGITUDE f (pos 0) in
+    let Q : List ℕ → Type 0 = λ f. IsCoordinateField MOST_LATITUDE f (pos 0) in
     inr (
-      subst P (sym long_is.0) (coordinate_text_spells 9 999999999 (pos 0) (lit< tt) (lit< tt) (lit≤ tt)),
-      subst Q (sym long_is.1) (coordinate_text_spells 8 99999999 (pos 0) (lit< tt) (lit< tt) (lit≤ tt)),
+      subst P (sym long_is.0) (coordinate_text_spells 9 MOST_LONGITUDE (pos 0) (lit< tt) (lit< tt) (lit≤ tt)),
+      subst Q (sym long_is.1) (coordinate_text_spells 8 MOST_LATITUDE (pos 0) (lit< tt) (lit< tt) (lit≤ tt)),
     )
 point_place_again before (Some point) after g =
     let parts = two_parts before (coordinate_text 9 point.long) (coordinate_text 8 point.lat) after

@@ -1,9 +1,10 @@
 -- The column tables of the nine record types of TIGER/Line 2006, a row a field, as the technical documentation has them.
 -- Columns 1 to 5, the record type and the version, are alike in all and left out of the tables; a longitude and
 -- the latitude behind it are one row. Where a turn of the chain exchanges a field with another one, the other's value follows.
+-- Fields that tell of sources, and those that are reserved, say so: a mask can leave them out.
 use Rattle.std.specs.Prelude.{ℕ, List, [], ◌∷◌}
 use Rattle.tl_layout.specs.ColumnTable.{Number, NumberOrNone, Pair, PairOrNone, NumberPlaces, PointPlaces, Opaque, Filler, Row}
-use Rattle.tl_layout.specs.ColumnTable.{row, row_with_partner}
+use Rattle.tl_layout.specs.ColumnTable.{Sources, Reserved, row, row_with_partner, row_of}
 use Rattle.tl_layout.specs.Fields.{Fields1, Fields2, Fields4, Fields5, Fields6, Fields7, Fields8, FieldsI, FieldsP}
 
 -- Record type 1, 228 bytes: a chain with its two end points.
@@ -17,7 +18,7 @@ abbrev pub table_1 : List (Row Fields1)
 table_1 =
     row 6 15 Number (λ r. r.tlid)
     ∷ row 16 16 Opaque (λ r. r.body.side1)
-    ∷ row 17 17 Opaque (λ r. r.body.source)
+    ∷ row_of Sources 17 17 (λ r. r.body.source)
     ∷ row 18 19 Opaque (λ r. r.body.name.fedirp)
     ∷ row 20 49 Opaque (λ r. r.body.name.fename)
     ∷ row 50 53 Opaque (λ r. r.body.name.fetype)
@@ -37,8 +38,8 @@ table_1 =
     ∷ row_with_partner 122 126 Opaque (λ r. r.body.native_areas.aianhhfp.right) (λ r. r.body.native_areas.aianhhfp.left)
     ∷ row_with_partner 127 127 Opaque (λ r. r.body.native_areas.aihhtli.left) (λ r. r.body.native_areas.aihhtli.right)
     ∷ row_with_partner 128 128 Opaque (λ r. r.body.native_areas.aihhtli.right) (λ r. r.body.native_areas.aihhtli.left)
-    ∷ row 129 129 Opaque (λ r. r.body.census1)
-    ∷ row 130 130 Opaque (λ r. r.body.census2)
+    ∷ row_of Reserved 129 129 (λ r. r.body.census1)
+    ∷ row_of Reserved 130 130 (λ r. r.body.census2)
     ∷ row_with_partner 131 132 Opaque (λ r. r.body.entities.state.left) (λ r. r.body.entities.state.right)
     ∷ row_with_partner 133 134 Opaque (λ r. r.body.entities.state.right) (λ r. r.body.entities.state.left)
     ∷ row_with_partner 135 137 Opaque (λ r. r.body.entities.county.left) (λ r. r.body.entities.county.right)
@@ -136,7 +137,7 @@ abbrev pub table_7 : List (Row Fields7)
 table_7 =
     row 6 10 Opaque (λ r. r.body.file)
     ∷ row 11 20 Number (λ r. r.land)
-    ∷ row 21 21 Opaque (λ r. r.body.source)
+    ∷ row_of Sources 21 21 (λ r. r.body.source)
     ∷ row 22 24 Opaque (λ r. r.body.cfcc)
     ∷ row 25 54 Opaque (λ r. r.body.laname)
     ∷ row 55 73 PairOrNone (λ r. r.body.point)
@@ -176,11 +177,11 @@ table_i =
     ∷ row_with_partner 46 55 NumberOrNone (λ r. r.left.polyid) (λ r. r.right.polyid)
     ∷ row_with_partner 56 60 Opaque (λ r. r.right.cenid) (λ r. r.left.cenid)
     ∷ row_with_partner 61 70 NumberOrNone (λ r. r.right.polyid) (λ r. r.left.polyid)
-    ∷ row 71 80 Opaque (λ r. r.body.source)
+    ∷ row_of Sources 71 80 (λ r. r.body.source)
     ∷ row 81 97 Opaque (λ r. r.body.ftseg)
-    ∷ row 98 107 Opaque (λ r. r.body.rs_i1)
-    ∷ row 108 117 Opaque (λ r. r.body.rs_i2)
-    ∷ row 118 127 Opaque (λ r. r.body.rs_i3)
+    ∷ row_of Reserved 98 107 (λ r. r.body.rs_i1)
+    ∷ row_of Reserved 108 117 (λ r. r.body.rs_i2)
+    ∷ row_of Reserved 118 127 (λ r. r.body.rs_i3)
     ∷ []
 
 -- Record type P, 45 bytes: a polygon's inner point.

@@ -1,6 +1,7 @@
 -- Record type 1, 228 bytes: a chain with its two end points.
 use Rattle.std.specs.Prelude.{ℕ, List, Result, Ok}
 use Rattle.tl_layout.specs.Fields.{Fields1}
+use Rattle.tl_layout.specs.AddressRanges.{ranges_of}
 use Rattle.tl_layout.specs.ColumnTable.{SpellsRows, FitsRows}
 use Rattle.tl_layout.specs.RecordTables.{rtype_1, table_1}
 use Rattle.tl_layout.specs.FieldReading.{◌>>=◌, number_at, point_at}
@@ -30,17 +31,7 @@ make_1 tlid side1 source fedirp fename fetype fedirs cfcc
         source = source;
         name = record { fedirp = fedirp; fename = fename; fetype = fetype; fedirs = fedirs };
         cfcc = cfcc;
-        ranges = record {
-          fraddl = fraddl;
-          toaddl = toaddl;
-          fraddr = fraddr;
-          toaddr = toaddr;
-          friaddl = friaddl;
-          toiaddl = toiaddl;
-          friaddr = friaddr;
-          toiaddr = toiaddr;
-          zip = record { left = zipl; right = zipr };
-        };
+        ranges = ranges_of fraddl toaddl fraddr toaddr friaddl toiaddl friaddr toiaddr zipl zipr;
         native_areas = record {
           aianhhfp = record { left = aianhhfpl; right = aianhhfpr };
           aihhtli = record { left = aihhtlil; right = aihhtlir };

@@ -1,41 +1,10 @@
--- Record type 1: the laws of its column table.
-use Rattle.std.proofs.Common.{◌≡◌, ℕ, List, Ok, Err, refl, ◌↔◌}
-use Rattle.tl_layout.specs.Bytes.{IsLine}
+-- Record type 1: it is read in three steps, and fits where its groups of columns do.
+use Rattle.std.proofs.Common.{◌≡◌, ℕ, List, refl}
 use Rattle.tl_layout.specs.Numbers.{IsNumber}
 use Rattle.tl_layout.specs.Coordinates.{IsOnMap}
 use Rattle.tl_layout.specs.Fields.{Fields1}
-use Rattle.tl_layout.specs.FieldFaults.{IsLeftmostFault}
-use Rattle.tl_layout.specs.RecordTables.{rtype_1, len_1, table_1}
-use Rattle.tl_layout.specs.TableLaws.{IsTable, table_spelling_is_line, table_reads_spelling, table_reads_spelled, table_spelled_is_read}
-use Rattle.tl_layout.specs.TableFaultLaws.{leftmost_found, leftmost_only}
-use Rattle.tl_layout.specs.Type1.{FitsType1, SpellsType1, make_1, type_1_reading, type_1_short_reading, type_1_spelling}
+use Rattle.tl_layout.specs.Type1.{FitsType1, type_1_reading, type_1_short_reading}
 use Rattle.tl_layout.specs.Type1Groups.{FitsBody1, body_1_at, entities_at}
-use Rattle.tl_layout.specs.declared.fault.FieldFault.{FieldFault}
-
-is_table : IsTable rtype_1 len_1 table_1 make_1
-is_table = record { allowed = refl; laid_out = refl; gives = λ values. refl; remade = λ r. refl }
-
-pub type_1_spelling_is_line : (r : Fields1) → FitsType1 r → IsLine rtype_1 len_1 (type_1_spelling r)
-unfolding FitsType1 type_1_spelling
-type_1_spelling_is_line r f = table_spelling_is_line rtype_1 len_1 table_1 make_1 is_table r f
-
-pub type_1_reads_spelling : (r : Fields1) → FitsType1 r → type_1_reading (type_1_spelling r) ≡ Ok r
-unfolding FitsType1 type_1_reading type_1_spelling
-type_1_reads_spelling r f = table_reads_spelling rtype_1 len_1 table_1 make_1 is_table r f
-
-pub type_1_reads_spelled : (line : List ℕ) (r : Fields1) → IsLine rtype_1 len_1 line → type_1_reading line ≡ Ok r
-    → FitsType1 r × SpellsType1 line r
-unfolding FitsType1 SpellsType1 type_1_reading
-type_1_reads_spelled line r l h = table_reads_spelled rtype_1 len_1 table_1 make_1 is_table line r l h
-
-pub type_1_spelled_is_read : (line : List ℕ) (r : Fields1) → IsLine rtype_1 len_1 line → SpellsType1 line r → type_1_reading line ≡ Ok r
-unfolding SpellsType1 type_1_reading
-type_1_spelled_is_read line r l s = table_spelled_is_read rtype_1 len_1 table_1 make_1 is_table line r l s
-
-pub type_1_leftmost : (line : List ℕ) (fault : FieldFault) → IsLine rtype_1 len_1 line
-    → type_1_reading line ≡ Err fault ↔ IsLeftmostFault table_1 line fault
-unfolding type_1_reading
-type_1_leftmost line fault l = (leftmost_found table_1 make_1 line fault, leftmost_only table_1 make_1 line fault)
 
 pub type_1_reading_is_short : (line : List ℕ) → type_1_reading line ≡ type_1_short_reading line
 unfolding type_1_reading type_1_short_reading body_1_at entities_at

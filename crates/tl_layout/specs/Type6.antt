@@ -1,6 +1,7 @@
 -- Record type 6, 76 bytes: further address ranges and ZIP codes of a chain.
 use Rattle.std.specs.Prelude.{ℕ, List, Result}
 use Rattle.tl_layout.specs.Fields.{Fields6}
+use Rattle.tl_layout.specs.AddressRanges.{ranges_of}
 use Rattle.tl_layout.specs.ColumnTable.{SpellsRows, FitsRows}
 use Rattle.tl_layout.specs.RecordTables.{rtype_6, table_6}
 use Rattle.tl_layout.specs.TableReading.{Makes, rows_reading}
@@ -21,17 +22,7 @@ make_6 tlid rtsq fraddl toaddl fraddr toaddr friaddl toiaddl friaddr toiaddr zip
     record {
       tlid = tlid;
       rtsq = rtsq;
-      ranges = record {
-        fraddl = fraddl;
-        toaddl = toaddl;
-        fraddr = fraddr;
-        toaddr = toaddr;
-        friaddl = friaddl;
-        toiaddl = toiaddl;
-        friaddr = friaddr;
-        toiaddr = toiaddr;
-        zip = record { left = zipl; right = zipr };
-      };
+      ranges = ranges_of fraddl toaddl fraddr toaddr friaddl toiaddl friaddr toiaddr zipl zipr;
     }
 
 -- what a line is read as: its fields from the left, up to the first fault

@@ -19,6 +19,7 @@ use Rattle.tl_layout.specs.TableReading.{reading_on}
 use Rattle.tl_layout.specs.declared.coordinate.Coordinate.{Coordinate}
 use Rattle.tl_layout.specs.declared.coordinate.Coordinate.TheVariants.{Malformed, Blank, Value}
 use Rattle.tl_layout.specs.declared.fault.FieldFault.{FieldFault}
+use Rattle.tl_layout.specs.declared.coordinate.TheConstants.{MOST_LONGITUDE, MOST_LATITUDE}
 
 -- ---- what is read
 
@@ -163,8 +164,8 @@ pub err_value : {A : Type 0} (x y : FieldFault) → ◌≡◌ {A = Result A Fiel
 err_value x y h = (cc)
 
 pair_told : (line : List ℕ) (first : ℕ) (fault : FieldFault) (long lat : Coordinate)
-    → coordinate_of 999999999 (columns first (first + 9) line) ≡ long
-    → coordinate_of 99999999 (columns (first + 10) (first + 18) line) ≡ lat → pair_of first long lat ≡ Err fault
+    → coordinate_of MOST_LONGITUDE (columns first (first + 9) line) ≡ long
+    → coordinate_of MOST_LATITUDE (columns (first + 10) (first + 18) line) ≡ lat → pair_of first long lat ≡ Err fault
     → IsToldOfPair line first fault
 pair_told line first fault Malformed lat x y h =
     subst (IsToldOfPair line first) (err_value _ fault h) (long_told line first (malformed_found _ _ x))
@@ -186,7 +187,7 @@ point_or_none_told line first fault h = pair_told line first fault _ _ refl refl
 
 -- a pair that spells a point or none has no malformed half
 halves_well_formed : (long lat : List ℕ) (point : Option Coordinates) → SpellsPointOrNone long lat point
-    → (¬ IsMalformed 999999999 long) × (¬ IsMalformed 99999999 lat)
+    → (¬ IsMalformed MOST_LONGITUDE long) × (¬ IsMalformed MOST_LATITUDE lat)
 halves_well_formed long lat None (inl h) = ((λ m. m.not_blank h.0), (λ m. m.not_blank h.1))
 halves_well_formed long lat None (inr h) = ((λ m. m.no_value (pos 0) h.0), (λ m. m.no_value (pos 0) h.1))
 halves_well_formed long lat (Some point) h = ((λ m. m.no_value point.long h.long_spelled), (λ m. m.no_value point.lat h.lat_spelled))

@@ -4,10 +4,17 @@ ghost use Rattle.std.specs.Prelude.{◌≡◌, ◌≤◌, ◌<◌, ◌-◌, ◌�
 ghost use Rattle.tl_layout.specs.CoordinateReading.{plus_of, minus_of, magnitude_of, signed_of, coordinate_of};
 ghost use Rattle.tl_layout.specs.declared.coordinate.Coordinate.TheVariants.{Value};
 ghost use Rattle.tl_layout.specs.FieldTexts.{sign_of, coordinate_text, digits_text};
+ghost use Rattle.tl_layout.specs.declared.coordinate.TheConstants.{MOST_LONGITUDE, MOST_LATITUDE};
 
 use crate::digits::{put_behind, put_eight_digits};
 use crate::number::{digits, eight_digits, nine_digits, trim_start};
 use std::simd::prelude::*;
+
+/// The greatest magnitude of a longitude, in millionths of a degree: nine digits.
+pub(crate) const MOST_LONGITUDE: u32 = 999_999_999;
+
+/// The greatest magnitude of a latitude, in millionths of a degree: eight digits.
+pub(crate) const MOST_LATITUDE: u32 = 99_999_999;
 
 /// What a coordinate's field holds.
 #[derive(Clone, Copy, Debug, PartialEq, Eq)]
@@ -49,7 +56,7 @@ fn magnitude(text: &[u8], limit: u32) -> Option<u32>
 
 /// The coordinate of this magnitude, with a plus.
 fn plus(magnitude: Option<u32>) -> Coordinate
-    requires { IfSome magnitude (λ magnitude. magnitude ≤ 999999999) }
+    requires { IfSome magnitude (λ magnitude. magnitude ≤ MOST_LONGITUDE) }
     ensures { result ≡ plus_of magnitude }
 {
     match magnitude {
@@ -60,7 +67,7 @@ fn plus(magnitude: Option<u32>) -> Coordinate
 
 /// The coordinate of this magnitude, with a minus.
 fn minus(magnitude: Option<u32>) -> Coordinate
-    requires { IfSome magnitude (λ magnitude. magnitude ≤ 999999999) }
+    requires { IfSome magnitude (λ magnitude. magnitude ≤ MOST_LONGITUDE) }
     ensures { result ≡ minus_of magnitude }
 {
     match magnitude {
@@ -73,7 +80,7 @@ fn minus(magnitude: Option<u32>) -> Coordinate
 #[tactic(auto, unfolding(crate::specs::CoordinateReading::coordinate_of, crate::specs::CoordinateReading::signed_of))]
 fn read_coordinate(field: &[u8], limit: u32) -> Coordinate
     requires len { length field.now ≤ 19 }
-    requires within { limit ≤ 999999999 }
+    requires within { limit ≤ MOST_LONGITUDE }
     ensures { result ≡ coordinate_of limit field.now }
 {
     match trim_start(field) {
@@ -103,7 +110,7 @@ fn signed(sign: u8, magnitude: u64) -> Option<i32>
 #[inline(always)]
 fn usual_longitude(field: &[u8]) -> Option<i32>
     requires { length field.now ≡ 10 }
-    ensures { IfSome result (λ value. coordinate_of 999999999 field.now ≡ Value value) }
+    ensures { IfSome result (λ value. coordinate_of MOST_LONGITUDE field.now ≡ Value value) }
 {
     signed(
         field[0],
@@ -115,7 +122,7 @@ fn usual_longitude(field: &[u8]) -> Option<i32>
 #[inline(always)]
 fn usual_latitude(field: &[u8]) -> Option<i32>
     requires { length field.now ≡ 9 }
-    ensures { IfSome result (λ value. coordinate_of 99999999 field.now ≡ Value value) }
+    ensures { IfSome result (λ value. coordinate_of MOST_LATITUDE field.now ≡ Value value) }
 {
     signed(field[0], eight_digits(u8x8::from_slice(&field[1..]))?)
 }
@@ -124,11 +131,11 @@ fn usual_latitude(field: &[u8]) -> Option<i32>
 #[inline(always)]
 pub fn read_longitude(field: &[u8]) -> Coordinate
     requires { length field.now ≡ 10 }
-    ensures { result ≡ coordinate_of 999999999 field.now }
+    ensures { result ≡ coordinate_of MOST_LONGITUDE field.now }
 {
     match usual_longitude(field) {
         Some(value) => Coordinate::Value(value),
-        None => read_coordinate(field, 999_999_999),
+        None => read_coordinate(field, MOST_LONGITUDE),
     }
 }
 
@@ -136,11 +143,11 @@ pub fn read_longitude(field: &[u8]) -> Coordinate
 #[inline(always)]
 pub fn read_latitude(field: &[u8]) -> Coordinate
     requires { length field.now ≡ 9 }
-    ensures { result ≡ coordinate_of 99999999 field.now }
+    ensures { result ≡ coordinate_of MOST_LATITUDE field.now }
 {
     match usual_latitude(field) {
         Some(value) => Coordinate::Value(value),
-        None => read_coordinate(field, 99_999_999),
+        None => read_coordinate(field, MOST_LATITUDE),
     }
 }
 

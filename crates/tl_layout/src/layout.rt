@@ -37,13 +37,21 @@ pub trait Layout: Sized {
     /// The canonical spelling of the record.
     ghost spelling: { Self → List ℕ };
 
+    /// What a full line is read as, by the column table of its type. [`Layout::take`] says what that means.
+    fn read(line: &[u8]) -> Result<Self, FieldFault>
+        requires { IsLine RTYPE LEN line.now }
+        ensures exact { result ≡ reading line.now };
+
     /// Reads a line whose bytes are allowed and `LEN` in number, the record type first.
     fn take(line: &[u8]) -> Result<Self, FieldFault>
         requires { IsLine RTYPE LEN line.now }
         ensures found { IfOk result (λ r. Fits r × Spells line.now r) }
         ensures only { (r : Self) → Spells line.now r → result ≡ Ok r }
         ensures leftmost { (fault : FieldFault) → (result ≡ Err fault ↔ IsFault line.now fault) }
-        ensures exact { result ≡ reading line.now };
+        ensures exact { result ≡ reading line.now }
+    {
+        Self::read(line)
+    }
 
     /// Writes the canonical spelling.
     fn put(&self, out: &mut [u8])

@@ -1,12 +1,19 @@
 //! The record layouts of TIGER/Line 2006: each record type as a value, read from a line and written canonically.
+//!
+//! Where to start: [`Layout::take`] of a record's type, as `Rec1::take(line)`, reads a full line, and [`Layout::put`] writes
+//! one. A [`Record`] is of any type, and [`Tables`] hold records by their types. A record is made of its numbers and its
+//! content, as `Rec5::new(feat, body)`; a content such as [`Body1`] is a literal of [`Text`]s under their names, and `new`
+//! takes the same as arrays in a row. Files are read by the crate `tl_load`.
 #![tactic(auto)]
 
+mod blank;
 mod coordinate;
 mod digits;
 mod fault;
 mod field;
 mod laws;
 mod layout;
+mod mask;
 mod name;
 mod number;
 mod pair;
@@ -30,9 +37,13 @@ mod type_i;
 mod type_p;
 mod writing;
 
+pub use blank::Blank;
 pub use fault::{DeviceFault, FieldFault, FieldKind};
-pub use laws::a_turn_exchanges_partners;
+pub use laws::{
+    a_mask_blanks_its_fields, a_turn_exchanges_partners, blanking_and_turning_change_places,
+};
 pub use layout::{LONGEST_LINE, Layout};
+pub use mask::Mask;
 pub use name::FeatureName;
 pub use pair::LeftRight;
 pub use point::Point;

@@ -65,12 +65,21 @@ impl FeatureName {
     pub(crate) fn put(&self, out: &mut [u8], first: usize)
         requires from_one { 1 ≤ first }
         requires within { (first + 37 ≤ length out.old) × (first + 37 ≤ LONGEST_LINE) }
-        ensures written { take (first + 37) out.new ≡ joined (take (first - 1) out.old) (name_texts self.now) }
-        ensures fits { FitsName self.now }
+        ensures { take (first + 37) out.new ≡ joined (take (first - 1) out.old) (name_texts self.now) }
     {
         write_text(out, first, first + 1, &self.fedirp);
         write_text(out, first + 2, first + 31, &self.fename);
         write_text(out, first + 32, first + 35, &self.fetype);
         write_text(out, first + 36, first + 37, &self.fedirs);
+    }
+
+    /// Does nothing: that each field fits its columns is so by its type.
+    pub(crate) fn show_fit(&self)
+        ensures { FitsName self.now }
+    {
+        self.fedirp.show_fit();
+        self.fename.show_fit();
+        self.fetype.show_fit();
+        self.fedirs.show_fit();
     }
 }

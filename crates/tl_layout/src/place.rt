@@ -161,6 +161,15 @@ fn item_at<T: Copy>(items: &[T], place: usize) -> Option<T>
     items.get(place).copied()
 }
 
+/// Does nothing: that each of the points is on the map is so by its type.
+pub(crate) fn show_points_fit(points: &[Point])
+    ensures { AllByRecursion IsOnMap points.now }
+{
+    for point in points {
+        point.show_fit();
+    }
+}
+
 /// Writes a place for a point, a pair of zeros where it is unused.
 fn write_point_place(out: &mut [u8], column: usize, place: &Option<Point>)
     requires from_one { 1 ≤ column }

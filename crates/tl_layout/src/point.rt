@@ -1,6 +1,6 @@
 //! Points of the map.
 
-ghost use Rattle.std.specs.Prelude.{◌≡◌};
+ghost use Rattle.std.specs.Prelude.{◌≡◌, IfSome};
 ghost use Rattle.tl_layout.specs.Coordinates.{Coordinates, IsOnMap};
 
 use std::marker::Model;
@@ -46,6 +46,22 @@ impl Point {
         ensures on_map { IsOnMap self.now }
     {
         self.lat
+    }
+
+    /// Does nothing: that the point is on the map is so by its type.
+    pub(crate) fn show_fit(&self)
+        ensures { IsOnMap self.now }
+    {
+        let _ = &self.lat;
+    }
+}
+
+/// Does nothing: that a point is on the map, where there is one, is so by its type.
+pub(crate) fn show_point_fits(point: &Option<Point>)
+    ensures { IfSome point.now IsOnMap }
+{
+    if let Some(point) = point {
+        point.show_fit();
     }
 }
 

@@ -189,8 +189,7 @@ impl Ranges {
     pub(crate) fn put(&self, out: &mut [u8], first: usize)
         requires from_one { 1 ≤ first }
         requires within { (first + 57 ≤ length out.old) × (first + 57 ≤ LONGEST_LINE) }
-        ensures written { take (first + 57) out.new ≡ joined (take (first - 1) out.old) (ranges_texts self.now) }
-        ensures fits { FitsRanges self.now }
+        ensures { take (first + 57) out.new ≡ joined (take (first - 1) out.old) (ranges_texts self.now) }
     {
         write_text(out, first, first + 10, &self.fraddl);
         write_text(out, first + 11, first + 21, &self.toaddl);
@@ -201,5 +200,20 @@ impl Ranges {
         write_text(out, first + 46, first + 46, &self.friaddr);
         write_text(out, first + 47, first + 47, &self.toiaddr);
         self.zip.put(out, first + 48);
+    }
+
+    /// Does nothing: that each field fits its columns is so by its type.
+    pub(crate) fn show_fit(&self)
+        ensures { FitsRanges self.now }
+    {
+        self.fraddl.show_fit();
+        self.toaddl.show_fit();
+        self.fraddr.show_fit();
+        self.toaddr.show_fit();
+        self.friaddl.show_fit();
+        self.toiaddl.show_fit();
+        self.friaddr.show_fit();
+        self.toiaddr.show_fit();
+        self.zip.show_fit();
     }
 }

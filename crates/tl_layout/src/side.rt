@@ -66,4 +66,12 @@ impl Side {
     {
         self.polyid
     }
+
+    /// Does nothing: that both fields fit their columns is so by their types.
+    pub(crate) fn show_fit(&self)
+        ensures cenid { IsText 5 self.now.cenid }
+        ensures polyid { IsNumberOrNone 10 self.now.polyid }
+    {
+        self.cenid.show_fit();
+    }
 }

@@ -1,6 +1,7 @@
 //! The records of a set by their types.
 
-ghost use Rattle.std.specs.Prelude.{◌≡◌, [], IfOk, OnOk, OnErr};
+ghost use Rattle.std.specs.Prelude.{◌≡◌, [], All, IfOk, OnOk, OnErr};
+ghost use Rattle.tl_layout.specs.RecordText.{FitsRecord};
 ghost use Rattle.tl_layout.specs.Tables.{HoldsByType, AddsRecord, AreSameTables};
 
 use crate::record_type::Record;
@@ -59,10 +60,13 @@ impl Tables {
 
     /// The records of a list by their types.
     pub fn of(alloc: Global, records: Vec<Record>) -> Result<Tables, AllocError>
-        ensures { IfOk result (λ tables. HoldsByType tables records.items) }
+        ensures held { IfOk result (λ tables. HoldsByType tables records.items) }
+        // What a record holds fits by the types of its fields.
+        ensures fits { OnOk result (All FitsRecord records.items) }
     {
         let mut tables = Tables::new(alloc);
         for record in records {
+            record.show_fit();
             tables.add(record)?;
         }
         Ok(tables)

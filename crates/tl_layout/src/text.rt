@@ -1,7 +1,7 @@
 //! Opaque fields: text of a fixed width, of bytes that a line may hold.
 
 ghost use Rattle.std.specs.Prelude.{◌≡◌, ℕ, length, List};
-ghost use Rattle.tl_layout.specs.Bytes.{IsText, AreAllowed};
+ghost use Rattle.tl_layout.specs.Bytes.{IsText, AreAllowed, blanks_if};
 
 use std::marker::Model;
 
@@ -54,5 +54,22 @@ impl<const N: usize> Text<N> {
         ensures text { IsText N self.now }
     {
         &self.bytes
+    }
+
+    /// Puts a blank in the place of each byte, if the field is hidden.
+    #[tactic(auto, using(crate::specs::ByteLaws::blanks_are_text))]
+    pub(crate) fn blank_if(&mut self, is_hidden: bool)
+        ensures { self.new ≡ blanks_if is_hidden N self.old }
+    {
+        if is_hidden {
+            self.bytes.fill(b' ');
+        }
+    }
+
+    /// Does nothing: that the field has its width and bytes that a line may hold is so by its type.
+    pub(crate) fn show_fit(&self)
+        ensures { IsText N self.now }
+    {
+        let _ = &self.bytes;
     }
 }

@@ -77,63 +77,26 @@ pub struct Rec1 {
     end: Point,
 }
 
-impl GeographicEntities {
-    /// The geographic entities of these fields, each of bytes that a line may hold.
-    fn new(
-        statel: [u8; 2],
-        stater: [u8; 2],
-        countyl: [u8; 3],
-        countyr: [u8; 3],
-        cousubl: [u8; 5],
-        cousubr: [u8; 5],
-        submcdl: [u8; 5],
-        submcdr: [u8; 5],
-        placel: [u8; 5],
-        placer: [u8; 5],
-        tractl: [u8; 6],
-        tractr: [u8; 6],
-        blockl: [u8; 4],
-        blockr: [u8; 4],
-    ) -> GeographicEntities
-        requires statel { AreAllowed statel }
-        requires stater { AreAllowed stater }
-        requires countyl { AreAllowed countyl }
-        requires countyr { AreAllowed countyr }
-        requires cousubl { AreAllowed cousubl }
-        requires cousubr { AreAllowed cousubr }
-        requires submcdl { AreAllowed submcdl }
-        requires submcdr { AreAllowed submcdr }
-        requires placel { AreAllowed placel }
-        requires placer { AreAllowed placer }
-        requires tractl { AreAllowed tractl }
-        requires tractr { AreAllowed tractr }
-        requires blockl { AreAllowed blockl }
-        requires blockr { AreAllowed blockr }
-        ensures { result
-            ≡ record {
-              state = record { left = statel; right = stater };
-              county = record { left = countyl; right = countyr };
-              cousub = record { left = cousubl; right = cousubr };
-              submcd = record { left = submcdl; right = submcdr };
-              place = record { left = placel; right = placer };
-              tract = record { left = tractl; right = tractr };
-              block = record { left = blockl; right = blockr };
-            } }
-    {
-        GeographicEntities {
-            state: LeftRight::new(statel, stater),
-            county: LeftRight::new(countyl, countyr),
-            cousub: LeftRight::new(cousubl, cousubr),
-            submcd: LeftRight::new(submcdl, submcdr),
-            place: LeftRight::new(placel, placer),
-            tract: LeftRight::new(tractl, tractr),
-            block: LeftRight::new(blockl, blockr),
-        }
-    }
-}
-
 impl Body1 {
     /// The content of these fields, each of bytes that a line may hold, with the address ranges and ZIP codes.
+    ///
+    /// Of so many arguments in a row two are soon exchanged. The fields are public, and a literal names them:
+    ///
+    /// ```
+    /// Body1 {
+    ///     side1: Text::new(*b" "),
+    ///     source: Text::new(*b"A"),
+    ///     name: FeatureName { fedirp, fename, fetype, fedirs },
+    ///     cfcc: Text::new(*b"A41"),
+    ///     ranges,
+    ///     native_areas: NativeAreas { aianhhfp, aihhtli },
+    ///     census1: Text::new(*b" "),
+    ///     census2: Text::new(*b" "),
+    ///     entities: GeographicEntities { state, county, cousub, submcd, place, tract, block },
+    /// }
+    /// ```
+    ///
+    /// where `state` is `LeftRight { left: Text::new(*b"06"), right: Text::new(*b"06") }`, and the others likewise.
     pub fn new(
         side1: [u8; 1],
         source: [u8; 1],
@@ -215,24 +178,27 @@ impl Body1 {
               };
             } }
     {
-        let native_areas = NativeAreas {
-            aianhhfp: LeftRight::new(aianhhfpl, aianhhfpr),
-            aihhtli: LeftRight::new(aihhtlil, aihhtlir),
-        };
-        let entities = GeographicEntities::new(
-            statel, stater, countyl, countyr, cousubl, cousubr, submcdl, submcdr, placel, placer,
-            tractl, tractr, blockl, blockr,
-        );
         Body1 {
             side1: Text::new(side1),
             source: Text::new(source),
             name: FeatureName::new(fedirp, fename, fetype, fedirs),
             cfcc: Text::new(cfcc),
             ranges,
-            native_areas,
+            native_areas: NativeAreas {
+                aianhhfp: LeftRight::new(aianhhfpl, aianhhfpr),
+                aihhtli: LeftRight::new(aihhtlil, aihhtlir),
+            },
             census1: Text::new(census1),
             census2: Text::new(census2),
-            entities,
+            entities: GeographicEntities {
+                state: LeftRight::new(statel, stater),
+                county: LeftRight::new(countyl, countyr),
+                cousub: LeftRight::new(cousubl, cousubr),
+                submcd: LeftRight::new(submcdl, submcdr),
+                place: LeftRight::new(placel, placer),
+                tract: LeftRight::new(tractl, tractr),
+                block: LeftRight::new(blockl, blockr),
+            },
         }
     }
 
@@ -495,8 +461,7 @@ impl GeographicEntities {
     /// Writes the geographic entities into columns 131 to 190.
     fn put(&self, out: &mut [u8])
         requires { 190 ≤ length out.old }
-        ensures written { take 190 out.new ≡ joined (take 130 out.old) (entities_texts self.now) }
-        ensures fits { FitsEntities self.now }
+        ensures { take 190 out.new ≡ joined (take 130 out.old) (entities_texts self.now) }
     {
         self.state.put(out, 131);
         self.county.put(out, 135);
@@ -505,6 +470,19 @@ impl GeographicEntities {
         self.place.put(out, 161);
         self.tract.put(out, 171);
         self.block.put(out, 183);
+    }
+
+    /// Does nothing: that each field fits its columns is so by its type.
+    fn show_fit(&self)
+        ensures { FitsEntities self.now }
+    {
+        self.state.show_fit();
+        self.county.show_fit();
+        self.cousub.show_fit();
+        self.submcd.show_fit();
+        self.place.show_fit();
+        self.tract.show_fit();
+        self.block.show_fit();
     }
 }
 
@@ -535,8 +513,7 @@ impl Body1 {
     /// Writes the content into columns 16 to 190.
     fn put(&self, out: &mut [u8])
         requires { 190 ≤ length out.old }
-        ensures written { take 190 out.new ≡ joined (take 15 out.old) (body_1_texts self.now) }
-        ensures fits { FitsBody1 self.now }
+        ensures { take 190 out.new ≡ joined (take 15 out.old) (body_1_texts self.now) }
     {
         write_text(out, 16, 16, &self.side1);
         write_text(out, 17, 17, &self.source);
@@ -549,10 +526,26 @@ impl Body1 {
         write_text(out, 130, 130, &self.census2);
         self.entities.put(out);
     }
+
+    /// Does nothing: that each field fits its columns is so by its type.
+    fn show_fit(&self)
+        ensures { FitsBody1 self.now }
+    {
+        self.side1.show_fit();
+        self.source.show_fit();
+        self.name.show_fit();
+        self.cfcc.show_fit();
+        self.ranges.show_fit();
+        self.native_areas.aianhhfp.show_fit();
+        self.native_areas.aihhtli.show_fit();
+        self.census1.show_fit();
+        self.census2.show_fit();
+        self.entities.show_fit();
+    }
 }
 
 impl Rec1 {
-    ghost use Rattle.tl_layout.specs.Type1.{type_1_short_reading};
+    ghost use Rattle.tl_layout.specs.Type1.{FitsType1, type_1_short_reading};
 
     /// The record of these fields. The TLID is from 1 to 9,999,999,999.
     pub fn new(tlid: u64, body: Body1, start: Point, end: Point) -> Rec1
@@ -596,9 +589,19 @@ impl Rec1 {
         self.end
     }
 
-    /// What a full line is read as.
+    /// Does nothing: that each field fits its columns is so by its type.
+    pub(crate) fn show_fit(&self)
+        ensures { FitsType1 self.now }
+    {
+        let _ = &self.tlid;
+        self.body.show_fit();
+        self.start.show_fit();
+        self.end.show_fit();
+    }
+
+    /// What a full line is read as, group by group.
     #[tactic(auto, unfolding(crate::specs::Type1::type_1_short_reading, crate::specs::FieldReading::and_then))]
-    fn read(line: &[u8]) -> Result<Rec1, FieldFault>
+    fn read_groups(line: &[u8]) -> Result<Rec1, FieldFault>
         requires { IsText len_1 line.now }
         ensures { result ≡ type_1_short_reading line.now }
     {
@@ -615,7 +618,7 @@ impl Layout for Rec1 {
     ghost use Rattle.tl_layout.specs.FieldFaults.{IsLeftmostFault};
     ghost use Rattle.tl_layout.specs.RecordTables.{rtype_1, table_1};
     ghost use Rattle.tl_layout.specs.Type1.{FitsType1, SpellsType1, type_1_reading, type_1_spelling};
-    ghost use Rattle.tl_layout.specs.Type1Laws.{type_1_spelling_is_line, type_1_reads_spelling, type_1_reads_spelled, type_1_spelled_is_read, type_1_leftmost};
+    ghost use Rattle.tl_layout.specs.TypeLaws.{type_1_laws};
 
     const LEN: usize = 228;
 
@@ -635,13 +638,13 @@ impl Layout for Rec1 {
 
     ghost spelling = { type_1_spelling };
 
-    #[tactic(auto, using(crate::specs::Type1Laws::type_1_reads_spelled, crate::specs::Type1Laws::type_1_reading_is_short))]
-    fn take(line: &[u8]) -> Result<Rec1, FieldFault> {
-        Rec1::read(line)
+    fn read(line: &[u8]) -> Result<Rec1, FieldFault> {
+        Rec1::read_groups(line)
     }
 
     #[tactic(auto, unfolding(crate::specs::Type1::type_1_spelling))]
     fn put(&self, out: &mut [u8]) {
+        self.show_fit();
         write_head(out, b'1');
         write_number(out, 6, 15, self.tlid);
         self.body.put(out);
@@ -651,13 +654,13 @@ impl Layout for Rec1 {
 
     ghost bounded = { (lit≤ tt, lit≤ tt) };
 
-    ghost spelling_is_line = { type_1_spelling_is_line };
+    ghost spelling_is_line = { type_1_laws.spelling_is_line };
 
-    ghost reads_spelling = { type_1_reads_spelling };
+    ghost reads_spelling = { type_1_laws.reads_spelling };
 
-    ghost reads_spelled = { type_1_reads_spelled };
+    ghost reads_spelled = { type_1_laws.reads_spelled };
 
-    ghost spelled_is_read = { type_1_spelled_is_read };
+    ghost spelled_is_read = { type_1_laws.spelled_is_read };
 
-    ghost tells_leftmost = { type_1_leftmost };
+    ghost tells_leftmost = { type_1_laws.tells_leftmost };
 }

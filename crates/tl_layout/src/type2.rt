@@ -14,7 +14,7 @@ ghost use Rattle.tl_layout.specs.FieldTexts.{places_text};
 use crate::fault::FieldFault;
 use crate::field::read_number;
 use crate::layout::Layout;
-use crate::place::{read_places, write_points};
+use crate::place::{read_places, show_points_fit, write_points};
 use crate::point::Point;
 use crate::writing::{write_head, write_number};
 use arrayvec::ArrayVec;
@@ -40,7 +40,7 @@ impl Model for Rec2 {
 }
 
 impl Rec2 {
-    ghost use Rattle.tl_layout.specs.Type2.{type_2_reading};
+    ghost use Rattle.tl_layout.specs.Type2.{FitsType2, type_2_reading};
 
     /// The record of these fields.
     pub fn new(tlid: u64, rtsq: u16, points: ArrayVec<Point, 10>) -> Rec2
@@ -75,16 +75,11 @@ impl Rec2 {
         self.points.as_slice()
     }
 
-    /// What a full line is read as.
-    #[tactic(auto, unfolding(crate::specs::Type2::type_2_reading, crate::specs::FieldReading::and_then))]
-    fn read(line: &[u8]) -> Result<Rec2, FieldFault>
-        requires { IsText len_2 line.now }
-        ensures { result ≡ type_2_reading line.now }
+    /// Does nothing: that each field fits its columns is so by its type.
+    pub(crate) fn show_fit(&self)
+        ensures { FitsType2 self.now }
     {
-        let tlid = read_number(line, 6, 15)?;
-        let rtsq = read_number(line, 16, 18)?;
-        let points = read_places(line)?;
-        Ok(Rec2::new(tlid, rtsq as u16, points))
+        show_points_fit(self.points.as_slice());
     }
 }
 
@@ -94,7 +89,7 @@ impl Layout for Rec2 {
     ghost use Rattle.tl_layout.specs.FieldFaults.{IsLeftmostFault};
     ghost use Rattle.tl_layout.specs.RecordTables.{rtype_2, table_2};
     ghost use Rattle.tl_layout.specs.Type2.{FitsType2, SpellsType2, type_2_reading, type_2_spelling};
-    ghost use Rattle.tl_layout.specs.Type2Laws.{type_2_spelling_is_line, type_2_reads_spelling, type_2_reads_spelled, type_2_spelled_is_read, type_2_leftmost};
+    ghost use Rattle.tl_layout.specs.TypeLaws.{type_2_laws};
 
     const LEN: usize = 208;
 
@@ -114,9 +109,12 @@ impl Layout for Rec2 {
 
     ghost spelling = { type_2_spelling };
 
-    #[tactic(auto, using(crate::specs::Type2Laws::type_2_reads_spelled))]
-    fn take(line: &[u8]) -> Result<Rec2, FieldFault> {
-        Rec2::read(line)
+    #[tactic(auto, unfolding(crate::specs::Type2::type_2_reading, crate::specs::FieldReading::and_then))]
+    fn read(line: &[u8]) -> Result<Rec2, FieldFault> {
+        let tlid = read_number(line, 6, 15)?;
+        let rtsq = read_number(line, 16, 18)?;
+        let points = read_places(line)?;
+        Ok(Rec2::new(tlid, rtsq as u16, points))
     }
 
     #[tactic(auto, unfolding(crate::specs::Type2::type_2_spelling))]
@@ -129,13 +127,13 @@ impl Layout for Rec2 {
 
     ghost bounded = { (lit≤ tt, lit≤ tt) };
 
-    ghost spelling_is_line = { type_2_spelling_is_line };
+    ghost spelling_is_line = { type_2_laws.spelling_is_line };
 
-    ghost reads_spelling = { type_2_reads_spelling };
+    ghost reads_spelling = { type_2_laws.reads_spelling };
 
-    ghost reads_spelled = { type_2_reads_spelled };
+    ghost reads_spelled = { type_2_laws.reads_spelled };
 
-    ghost spelled_is_read = { type_2_spelled_is_read };
+    ghost spelled_is_read = { type_2_laws.spelled_is_read };
 
-    ghost tells_leftmost = { type_2_leftmost };
+    ghost tells_leftmost = { type_2_laws.tells_leftmost };
 }

@@ -37,7 +37,7 @@ impl Model for Rec4 {
 }
 
 impl Rec4 {
-    ghost use Rattle.tl_layout.specs.Type4.{type_4_reading};
+    ghost use Rattle.tl_layout.specs.Type4.{FitsType4, type_4_reading};
 
     /// The record of these fields.
     pub fn new(tlid: u64, rtsq: u16, feats: ArrayVec<u32, 5>) -> Rec4
@@ -74,16 +74,11 @@ impl Rec4 {
         self.feats.as_slice()
     }
 
-    /// What a full line is read as.
-    #[tactic(auto, unfolding(crate::specs::Type4::type_4_reading, crate::specs::FieldReading::and_then))]
-    fn read(line: &[u8]) -> Result<Rec4, FieldFault>
-        requires { IsText len_4 line.now }
-        ensures { result ≡ type_4_reading line.now }
+    /// Does nothing: that each field fits its columns is so by its type.
+    pub(crate) fn show_fit(&self)
+        ensures { FitsType4 self.now }
     {
-        let tlid = read_number(line, 6, 15)?;
-        let rtsq = read_number(line, 16, 18)?;
-        let feats = read_places(line)?;
-        Ok(Rec4::new(tlid, rtsq as u16, feats))
+        let _ = self.feats.as_slice();
     }
 }
 
@@ -93,7 +88,7 @@ impl Layout for Rec4 {
     ghost use Rattle.tl_layout.specs.FieldFaults.{IsLeftmostFault};
     ghost use Rattle.tl_layout.specs.RecordTables.{rtype_4, table_4};
     ghost use Rattle.tl_layout.specs.Type4.{FitsType4, SpellsType4, type_4_reading, type_4_spelling};
-    ghost use Rattle.tl_layout.specs.Type4Laws.{type_4_spelling_is_line, type_4_reads_spelling, type_4_reads_spelled, type_4_spelled_is_read, type_4_leftmost};
+    ghost use Rattle.tl_layout.specs.TypeLaws.{type_4_laws};
 
     const LEN: usize = 58;
 
@@ -113,13 +108,17 @@ impl Layout for Rec4 {
 
     ghost spelling = { type_4_spelling };
 
-    #[tactic(auto, using(crate::specs::Type4Laws::type_4_reads_spelled))]
-    fn take(line: &[u8]) -> Result<Rec4, FieldFault> {
-        Rec4::read(line)
+    #[tactic(auto, unfolding(crate::specs::Type4::type_4_reading, crate::specs::FieldReading::and_then))]
+    fn read(line: &[u8]) -> Result<Rec4, FieldFault> {
+        let tlid = read_number(line, 6, 15)?;
+        let rtsq = read_number(line, 16, 18)?;
+        let feats = read_places(line)?;
+        Ok(Rec4::new(tlid, rtsq as u16, feats))
     }
 
     #[tactic(auto, unfolding(crate::specs::Type4::type_4_spelling))]
     fn put(&self, out: &mut [u8]) {
+        self.show_fit();
         write_head(out, b'4');
         write_number(out, 6, 15, self.tlid);
         write_number(out, 16, 18, u64::from(self.rtsq));
@@ -128,13 +127,13 @@ impl Layout for Rec4 {
 
     ghost bounded = { (lit≤ tt, lit≤ tt) };
 
-    ghost spelling_is_line = { type_4_spelling_is_line };
+    ghost spelling_is_line = { type_4_laws.spelling_is_line };
 
-    ghost reads_spelling = { type_4_reads_spelling };
+    ghost reads_spelling = { type_4_laws.reads_spelling };
 
-    ghost reads_spelled = { type_4_reads_spelled };
+    ghost reads_spelled = { type_4_laws.reads_spelled };
 
-    ghost spelled_is_read = { type_4_spelled_is_read };
+    ghost spelled_is_read = { type_4_laws.spelled_is_read };
 
-    ghost tells_leftmost = { type_4_leftmost };
+    ghost tells_leftmost = { type_4_laws.tells_leftmost };
 }

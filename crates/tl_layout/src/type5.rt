@@ -110,7 +110,7 @@ impl Model for Rec5 {
 }
 
 impl Rec5 {
-    ghost use Rattle.tl_layout.specs.Type5.{type_5_reading};
+    ghost use Rattle.tl_layout.specs.Type5.{FitsType5, type_5_reading};
 
     /// The record of these fields.
     pub fn new(feat: u32, body: Body5) -> Rec5
@@ -135,18 +135,13 @@ impl Rec5 {
         &self.body
     }
 
-    /// What a full line is read as.
-    #[tactic(auto, unfolding(crate::specs::Type5::type_5_reading, crate::specs::FieldReading::and_then))]
-    fn read(line: &[u8]) -> Result<Rec5, FieldFault>
-        requires { IsText len_5 line.now }
-        ensures { result ≡ type_5_reading line.now }
+    /// Does nothing: that each field fits its columns is so by its type.
+    pub(crate) fn show_fit(&self)
+        ensures { FitsType5 self.now }
     {
-        let feat = read_number(line, 11, 18)?;
-        let body = Body5 {
-            file: text_at(line, 6, 10),
-            name: FeatureName::at(line, 19),
-        };
-        Ok(Rec5::new(feat as u32, body))
+        let body = &self.body;
+        body.file.show_fit();
+        body.name.show_fit();
     }
 }
 
@@ -156,7 +151,7 @@ impl Layout for Rec5 {
     ghost use Rattle.tl_layout.specs.FieldFaults.{IsLeftmostFault};
     ghost use Rattle.tl_layout.specs.RecordTables.{rtype_5, table_5};
     ghost use Rattle.tl_layout.specs.Type5.{FitsType5, SpellsType5, type_5_reading, type_5_spelling};
-    ghost use Rattle.tl_layout.specs.Type5Laws.{type_5_spelling_is_line, type_5_reads_spelling, type_5_reads_spelled, type_5_spelled_is_read, type_5_leftmost};
+    ghost use Rattle.tl_layout.specs.TypeLaws.{type_5_laws};
 
     const LEN: usize = 56;
 
@@ -176,14 +171,20 @@ impl Layout for Rec5 {
 
     ghost spelling = { type_5_spelling };
 
-    #[tactic(auto, using(crate::specs::Type5Laws::type_5_reads_spelled))]
-    fn take(line: &[u8]) -> Result<Rec5, FieldFault> {
-        Rec5::read(line)
+    #[tactic(auto, unfolding(crate::specs::Type5::type_5_reading, crate::specs::FieldReading::and_then))]
+    fn read(line: &[u8]) -> Result<Rec5, FieldFault> {
+        let feat = read_number(line, 11, 18)?;
+        let body = Body5 {
+            file: text_at(line, 6, 10),
+            name: FeatureName::at(line, 19),
+        };
+        Ok(Rec5::new(feat as u32, body))
     }
 
     #[tactic(auto, unfolding(crate::specs::Type5::type_5_spelling))]
     fn put(&self, out: &mut [u8]) {
         let body = &self.body;
+        self.show_fit();
         write_head(out, b'5');
         write_text(out, 6, 10, &body.file);
         write_number(out, 11, 18, u64::from(self.feat));
@@ -192,13 +193,13 @@ impl Layout for Rec5 {
 
     ghost bounded = { (lit≤ tt, lit≤ tt) };
 
-    ghost spelling_is_line = { type_5_spelling_is_line };
+    ghost spelling_is_line = { type_5_laws.spelling_is_line };
 
-    ghost reads_spelling = { type_5_reads_spelling };
+    ghost reads_spelling = { type_5_laws.reads_spelling };
 
-    ghost reads_spelled = { type_5_reads_spelled };
+    ghost reads_spelled = { type_5_laws.reads_spelled };
 
-    ghost spelled_is_read = { type_5_spelled_is_read };
+    ghost spelled_is_read = { type_5_laws.spelled_is_read };
 
-    ghost tells_leftmost = { type_5_leftmost };
+    ghost tells_leftmost = { type_5_laws.tells_leftmost };
 }

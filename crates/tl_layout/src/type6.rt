@@ -34,7 +34,7 @@ impl Model for Rec6 {
 }
 
 impl Rec6 {
-    ghost use Rattle.tl_layout.specs.Type6.{type_6_reading};
+    ghost use Rattle.tl_layout.specs.Type6.{FitsType6, type_6_reading};
 
     /// The record of these fields.
     pub fn new(tlid: u64, rtsq: u16, ranges: Ranges) -> Rec6
@@ -68,15 +68,11 @@ impl Rec6 {
         &self.ranges
     }
 
-    /// What a full line is read as.
-    #[tactic(auto, unfolding(crate::specs::Type6::type_6_reading, crate::specs::FieldReading::and_then))]
-    fn read(line: &[u8]) -> Result<Rec6, FieldFault>
-        requires { IsText len_6 line.now }
-        ensures { result ≡ type_6_reading line.now }
+    /// Does nothing: that each field fits its columns is so by its type.
+    pub(crate) fn show_fit(&self)
+        ensures { FitsType6 self.now }
     {
-        let tlid = read_number(line, 6, 15)?;
-        let rtsq = read_number(line, 16, 18)?;
-        Ok(Rec6::new(tlid, rtsq as u16, Ranges::at(line, 19)))
+        self.ranges.show_fit();
     }
 }
 
@@ -86,7 +82,7 @@ impl Layout for Rec6 {
     ghost use Rattle.tl_layout.specs.FieldFaults.{IsLeftmostFault};
     ghost use Rattle.tl_layout.specs.RecordTables.{rtype_6, table_6};
     ghost use Rattle.tl_layout.specs.Type6.{FitsType6, SpellsType6, type_6_reading, type_6_spelling};
-    ghost use Rattle.tl_layout.specs.Type6Laws.{type_6_spelling_is_line, type_6_reads_spelling, type_6_reads_spelled, type_6_spelled_is_read, type_6_leftmost};
+    ghost use Rattle.tl_layout.specs.TypeLaws.{type_6_laws};
 
     const LEN: usize = 76;
 
@@ -106,13 +102,16 @@ impl Layout for Rec6 {
 
     ghost spelling = { type_6_spelling };
 
-    #[tactic(auto, using(crate::specs::Type6Laws::type_6_reads_spelled))]
-    fn take(line: &[u8]) -> Result<Rec6, FieldFault> {
-        Rec6::read(line)
+    #[tactic(auto, unfolding(crate::specs::Type6::type_6_reading, crate::specs::FieldReading::and_then))]
+    fn read(line: &[u8]) -> Result<Rec6, FieldFault> {
+        let tlid = read_number(line, 6, 15)?;
+        let rtsq = read_number(line, 16, 18)?;
+        Ok(Rec6::new(tlid, rtsq as u16, Ranges::at(line, 19)))
     }
 
     #[tactic(auto, unfolding(crate::specs::Type6::type_6_spelling))]
     fn put(&self, out: &mut [u8]) {
+        self.show_fit();
         write_head(out, b'6');
         write_number(out, 6, 15, self.tlid);
         write_number(out, 16, 18, u64::from(self.rtsq));
@@ -121,13 +120,13 @@ impl Layout for Rec6 {
 
     ghost bounded = { (lit≤ tt, lit≤ tt) };
 
-    ghost spelling_is_line = { type_6_spelling_is_line };
+    ghost spelling_is_line = { type_6_laws.spelling_is_line };
 
-    ghost reads_spelling = { type_6_reads_spelling };
+    ghost reads_spelling = { type_6_laws.reads_spelling };
 
-    ghost reads_spelled = { type_6_reads_spelled };
+    ghost reads_spelled = { type_6_laws.reads_spelled };
 
-    ghost spelled_is_read = { type_6_spelled_is_read };
+    ghost spelled_is_read = { type_6_laws.spelled_is_read };
 
-    ghost tells_leftmost = { type_6_leftmost };
+    ghost tells_leftmost = { type_6_laws.tells_leftmost };
 }

@@ -8,7 +8,7 @@ ghost use Rattle.tl_layout.specs.Numbers.{IsNumber};
 use crate::fault::FieldFault;
 use crate::field::{read_number, read_point_or_none, text_at};
 use crate::layout::Layout;
-use crate::point::Point;
+use crate::point::{Point, show_point_fits};
 use crate::text::Text;
 use crate::writing::{write_blanks, write_head, write_number, write_point_or_blanks, write_text};
 use std::marker::Model;
@@ -114,7 +114,7 @@ impl Model for Rec7 {
 }
 
 impl Rec7 {
-    ghost use Rattle.tl_layout.specs.Type7.{type_7_reading};
+    ghost use Rattle.tl_layout.specs.Type7.{FitsType7, type_7_reading};
 
     /// The record of these fields.
     pub fn new(land: u64, body: Body7) -> Rec7
@@ -139,22 +139,16 @@ impl Rec7 {
         &self.body
     }
 
-    /// What a full line is read as.
-    #[tactic(auto, unfolding(crate::specs::Type7::type_7_reading, crate::specs::FieldReading::and_then))]
-    fn read(line: &[u8]) -> Result<Rec7, FieldFault>
-        requires { IsText len_7 line.now }
-        ensures { result ≡ type_7_reading line.now }
+    /// Does nothing: that each field fits its columns is so by its type.
+    pub(crate) fn show_fit(&self)
+        ensures { FitsType7 self.now }
     {
-        let land = read_number(line, 11, 20)?;
-        let point = read_point_or_none(line, 55)?;
-        let body = Body7 {
-            file: text_at(line, 6, 10),
-            source: text_at(line, 21, 21),
-            cfcc: text_at(line, 22, 24),
-            laname: text_at(line, 25, 54),
-            point,
-        };
-        Ok(Rec7::new(land, body))
+        let body = &self.body;
+        body.file.show_fit();
+        body.source.show_fit();
+        body.cfcc.show_fit();
+        body.laname.show_fit();
+        show_point_fits(&body.point);
     }
 }
 
@@ -164,7 +158,7 @@ impl Layout for Rec7 {
     ghost use Rattle.tl_layout.specs.FieldFaults.{IsLeftmostFault};
     ghost use Rattle.tl_layout.specs.RecordTables.{rtype_7, table_7};
     ghost use Rattle.tl_layout.specs.Type7.{FitsType7, SpellsType7, type_7_reading, type_7_spelling};
-    ghost use Rattle.tl_layout.specs.Type7Laws.{type_7_spelling_is_line, type_7_reads_spelling, type_7_reads_spelled, type_7_spelled_is_read, type_7_leftmost};
+    ghost use Rattle.tl_layout.specs.TypeLaws.{type_7_laws};
 
     const LEN: usize = 74;
 
@@ -184,14 +178,24 @@ impl Layout for Rec7 {
 
     ghost spelling = { type_7_spelling };
 
-    #[tactic(auto, using(crate::specs::Type7Laws::type_7_reads_spelled))]
-    fn take(line: &[u8]) -> Result<Rec7, FieldFault> {
-        Rec7::read(line)
+    #[tactic(auto, unfolding(crate::specs::Type7::type_7_reading, crate::specs::FieldReading::and_then))]
+    fn read(line: &[u8]) -> Result<Rec7, FieldFault> {
+        let land = read_number(line, 11, 20)?;
+        let point = read_point_or_none(line, 55)?;
+        let body = Body7 {
+            file: text_at(line, 6, 10),
+            source: text_at(line, 21, 21),
+            cfcc: text_at(line, 22, 24),
+            laname: text_at(line, 25, 54),
+            point,
+        };
+        Ok(Rec7::new(land, body))
     }
 
     #[tactic(auto, unfolding(crate::specs::Type7::type_7_spelling))]
     fn put(&self, out: &mut [u8]) {
         let body = &self.body;
+        self.show_fit();
         write_head(out, b'7');
         write_text(out, 6, 10, &body.file);
         write_number(out, 11, 20, self.land);
@@ -204,13 +208,13 @@ impl Layout for Rec7 {
 
     ghost bounded = { (lit≤ tt, lit≤ tt) };
 
-    ghost spelling_is_line = { type_7_spelling_is_line };
+    ghost spelling_is_line = { type_7_laws.spelling_is_line };
 
-    ghost reads_spelling = { type_7_reads_spelling };
+    ghost reads_spelling = { type_7_laws.reads_spelling };
 
-    ghost reads_spelled = { type_7_reads_spelled };
+    ghost reads_spelled = { type_7_laws.reads_spelled };
 
-    ghost spelled_is_read = { type_7_spelled_is_read };
+    ghost spelled_is_read = { type_7_laws.spelled_is_read };
 
-    ghost tells_leftmost = { type_7_leftmost };
+    ghost tells_leftmost = { type_7_laws.tells_leftmost };
 }

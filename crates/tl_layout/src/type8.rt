@@ -35,7 +35,7 @@ impl Model for Rec8 {
 }
 
 impl Rec8 {
-    ghost use Rattle.tl_layout.specs.Type8.{type_8_reading};
+    ghost use Rattle.tl_layout.specs.Type8.{FitsType8, type_8_reading};
 
     /// The record of these fields.
     pub fn new(file: [u8; 5], cenid: [u8; 5], polyid: u64, land: u64) -> Rec8
@@ -85,20 +85,12 @@ impl Rec8 {
         self.land
     }
 
-    /// What a full line is read as.
-    #[tactic(auto, unfolding(crate::specs::Type8::type_8_reading, crate::specs::FieldReading::and_then))]
-    fn read(line: &[u8]) -> Result<Rec8, FieldFault>
-        requires { IsText len_8 line.now }
-        ensures { result ≡ type_8_reading line.now }
+    /// Does nothing: that each field fits its columns is so by its type.
+    pub(crate) fn show_fit(&self)
+        ensures { FitsType8 self.now }
     {
-        let polyid = read_number(line, 16, 25)?;
-        let land = read_number(line, 26, 35)?;
-        Ok(Rec8 {
-            file: text_at(line, 6, 10),
-            cenid: text_at(line, 11, 15),
-            polyid,
-            land,
-        })
+        self.file.show_fit();
+        self.cenid.show_fit();
     }
 }
 
@@ -108,7 +100,7 @@ impl Layout for Rec8 {
     ghost use Rattle.tl_layout.specs.FieldFaults.{IsLeftmostFault};
     ghost use Rattle.tl_layout.specs.RecordTables.{rtype_8, table_8};
     ghost use Rattle.tl_layout.specs.Type8.{FitsType8, SpellsType8, type_8_reading, type_8_spelling};
-    ghost use Rattle.tl_layout.specs.Type8Laws.{type_8_spelling_is_line, type_8_reads_spelling, type_8_reads_spelled, type_8_spelled_is_read, type_8_leftmost};
+    ghost use Rattle.tl_layout.specs.TypeLaws.{type_8_laws};
 
     const LEN: usize = 36;
 
@@ -128,13 +120,21 @@ impl Layout for Rec8 {
 
     ghost spelling = { type_8_spelling };
 
-    #[tactic(auto, using(crate::specs::Type8Laws::type_8_reads_spelled))]
-    fn take(line: &[u8]) -> Result<Rec8, FieldFault> {
-        Rec8::read(line)
+    #[tactic(auto, unfolding(crate::specs::Type8::type_8_reading, crate::specs::FieldReading::and_then))]
+    fn read(line: &[u8]) -> Result<Rec8, FieldFault> {
+        let polyid = read_number(line, 16, 25)?;
+        let land = read_number(line, 26, 35)?;
+        Ok(Rec8 {
+            file: text_at(line, 6, 10),
+            cenid: text_at(line, 11, 15),
+            polyid,
+            land,
+        })
     }
 
     #[tactic(auto, unfolding(crate::specs::Type8::type_8_spelling))]
     fn put(&self, out: &mut [u8]) {
+        self.show_fit();
         write_head(out, b'8');
         write_text(out, 6, 10, &self.file);
         write_text(out, 11, 15, &self.cenid);
@@ -145,13 +145,13 @@ impl Layout for Rec8 {
 
     ghost bounded = { (lit≤ tt, lit≤ tt) };
 
-    ghost spelling_is_line = { type_8_spelling_is_line };
+    ghost spelling_is_line = { type_8_laws.spelling_is_line };
 
-    ghost reads_spelling = { type_8_reads_spelling };
+    ghost reads_spelling = { type_8_laws.reads_spelling };
 
-    ghost reads_spelled = { type_8_reads_spelled };
+    ghost reads_spelled = { type_8_laws.reads_spelled };
 
-    ghost spelled_is_read = { type_8_spelled_is_read };
+    ghost spelled_is_read = { type_8_laws.spelled_is_read };
 
-    ghost tells_leftmost = { type_8_leftmost };
+    ghost tells_leftmost = { type_8_laws.tells_leftmost };
 }

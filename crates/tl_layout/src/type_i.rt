@@ -5,7 +5,7 @@ ghost use Rattle.tl_layout.specs.RecordTables.{len_i};
 ghost use Rattle.tl_layout.specs.Bytes.{IsLine};
 ghost use Rattle.tl_layout.specs.Numbers.{IsNumber, IsNumberOrNone};
 ghost use Rattle.tl_layout.specs.Bytes.{AreAllowed, IsText};
-ghost use Rattle.tl_layout.specs.TypeI.{body_i_at, type_i_reading};
+ghost use Rattle.tl_layout.specs.TypeI.{FitsTypeI, body_i_at, type_i_reading};
 
 use crate::fault::FieldFault;
 use crate::field::{read_number, read_number_or_none, text_at};
@@ -225,20 +225,19 @@ impl RecI {
         &self.right
     }
 
-    /// What a full line is read as.
-    #[tactic(auto, unfolding(crate::specs::TypeI::type_i_reading, crate::specs::FieldReading::and_then))]
-    fn read(line: &[u8]) -> Result<RecI, FieldFault>
-        requires { IsText len_i line.now }
-        ensures { result ≡ type_i_reading line.now }
+    /// Does nothing: that each field fits its columns is so by its type.
+    pub(crate) fn show_fit(&self)
+        ensures { FitsTypeI self.now }
     {
-        let tlid = read_number(line, 11, 20)?;
-        let start_node = read_number_or_none(line, 21, 30)?;
-        let end_node = read_number_or_none(line, 31, 40)?;
-        let left_polyid = read_number_or_none(line, 46, 55)?;
-        let right_polyid = read_number_or_none(line, 61, 70)?;
-        let left = Side::of(text_at(line, 41, 45), left_polyid);
-        let right = Side::of(text_at(line, 56, 60), right_polyid);
-        Ok(RecI::new(tlid, BodyI::at(line), start_node, end_node, left, right))
+        let body = &self.body;
+        body.file.show_fit();
+        body.source.show_fit();
+        body.ftseg.show_fit();
+        body.rs_i1.show_fit();
+        body.rs_i2.show_fit();
+        body.rs_i3.show_fit();
+        self.left.show_fit();
+        self.right.show_fit();
     }
 }
 
@@ -247,7 +246,7 @@ impl Layout for RecI {
     ghost use Rattle.tl_layout.specs.FieldFaults.{IsLeftmostFault};
     ghost use Rattle.tl_layout.specs.RecordTables.{rtype_i, table_i};
     ghost use Rattle.tl_layout.specs.TypeI.{FitsTypeI, SpellsTypeI, type_i_reading, type_i_spelling};
-    ghost use Rattle.tl_layout.specs.TypeILaws.{type_i_spelling_is_line, type_i_reads_spelling, type_i_reads_spelled, type_i_spelled_is_read, type_i_leftmost};
+    ghost use Rattle.tl_layout.specs.TypeLaws.{type_i_laws};
     ghost use Rattle.std.proofs.Common.{lit≤};
 
     const LEN: usize = 127;
@@ -268,14 +267,22 @@ impl Layout for RecI {
 
     ghost spelling = { type_i_spelling };
 
-    #[tactic(auto, using(crate::specs::TypeILaws::type_i_reads_spelled, crate::specs::TypeILaws::type_i_spelled_is_read))]
-    fn take(line: &[u8]) -> Result<RecI, FieldFault> {
-        RecI::read(line)
+    #[tactic(auto, unfolding(crate::specs::TypeI::type_i_reading, crate::specs::FieldReading::and_then))]
+    fn read(line: &[u8]) -> Result<RecI, FieldFault> {
+        let tlid = read_number(line, 11, 20)?;
+        let start_node = read_number_or_none(line, 21, 30)?;
+        let end_node = read_number_or_none(line, 31, 40)?;
+        let left_polyid = read_number_or_none(line, 46, 55)?;
+        let right_polyid = read_number_or_none(line, 61, 70)?;
+        let left = Side::of(text_at(line, 41, 45), left_polyid);
+        let right = Side::of(text_at(line, 56, 60), right_polyid);
+        Ok(RecI::new(tlid, BodyI::at(line), start_node, end_node, left, right))
     }
 
     #[tactic(auto, unfolding(crate::specs::TypeI::type_i_spelling))]
     fn put(&self, out: &mut [u8]) {
         let body = &self.body;
+        self.show_fit();
         write_head(out, b'I');
         write_text(out, 6, 10, &body.file);
         write_number(out, 11, 20, self.tlid);
@@ -294,13 +301,13 @@ impl Layout for RecI {
 
     ghost bounded = { (lit≤ tt, lit≤ tt) };
 
-    ghost spelling_is_line = { type_i_spelling_is_line };
+    ghost spelling_is_line = { type_i_laws.spelling_is_line };
 
-    ghost reads_spelling = { type_i_reads_spelling };
+    ghost reads_spelling = { type_i_laws.reads_spelling };
 
-    ghost reads_spelled = { type_i_reads_spelled };
+    ghost reads_spelled = { type_i_laws.reads_spelled };
 
-    ghost spelled_is_read = { type_i_spelled_is_read };
+    ghost spelled_is_read = { type_i_laws.spelled_is_read };
 
-    ghost tells_leftmost = { type_i_leftmost };
+    ghost tells_leftmost = { type_i_laws.tells_leftmost };
 }

@@ -8,7 +8,7 @@ ghost use Rattle.tl_layout.specs.Numbers.{IsNumber};
 use crate::fault::FieldFault;
 use crate::field::{read_number, read_point_or_none, text_at};
 use crate::layout::Layout;
-use crate::point::Point;
+use crate::point::{Point, show_point_fits};
 use crate::text::Text;
 use crate::writing::{write_head, write_number, write_point_or_blanks, write_text};
 use std::marker::Model;
@@ -84,7 +84,7 @@ impl Model for RecP {
 }
 
 impl RecP {
-    ghost use Rattle.tl_layout.specs.TypeP.{type_p_reading};
+    ghost use Rattle.tl_layout.specs.TypeP.{FitsTypeP, type_p_reading};
 
     /// The record of these fields.
     pub fn new(cenid: [u8; 5], polyid: u64, body: BodyP) -> RecP
@@ -122,24 +122,15 @@ impl RecP {
         &self.body
     }
 
-    /// What a full line is read as.
-    #[tactic(auto, unfolding(crate::specs::TypeP::type_p_reading, crate::specs::FieldReading::and_then))]
-    fn read(line: &[u8]) -> Result<RecP, FieldFault>
-        requires { IsText len_p line.now }
-        ensures { result ≡ type_p_reading line.now }
+    /// Does nothing: that each field fits its columns is so by its type.
+    pub(crate) fn show_fit(&self)
+        ensures { FitsTypeP self.now }
     {
-        let polyid = read_number(line, 16, 25)?;
-        let point = read_point_or_none(line, 26)?;
-        let body = BodyP {
-            file: text_at(line, 6, 10),
-            point,
-            water: text_at(line, 45, 45),
-        };
-        Ok(RecP {
-            cenid: text_at(line, 11, 15),
-            polyid,
-            body,
-        })
+        let body = &self.body;
+        self.cenid.show_fit();
+        body.file.show_fit();
+        show_point_fits(&body.point);
+        body.water.show_fit();
     }
 }
 
@@ -149,7 +140,7 @@ impl Layout for RecP {
     ghost use Rattle.tl_layout.specs.FieldFaults.{IsLeftmostFault};
     ghost use Rattle.tl_layout.specs.RecordTables.{rtype_p, table_p};
     ghost use Rattle.tl_layout.specs.TypeP.{FitsTypeP, SpellsTypeP, type_p_reading, type_p_spelling};
-    ghost use Rattle.tl_layout.specs.TypePLaws.{type_p_spelling_is_line, type_p_reads_spelling, type_p_reads_spelled, type_p_spelled_is_read, type_p_leftmost};
+    ghost use Rattle.tl_layout.specs.TypeLaws.{type_p_laws};
 
     const LEN: usize = 45;
 
@@ -169,14 +160,26 @@ impl Layout for RecP {
 
     ghost spelling = { type_p_spelling };
 
-    #[tactic(auto, using(crate::specs::TypePLaws::type_p_reads_spelled))]
-    fn take(line: &[u8]) -> Result<RecP, FieldFault> {
-        RecP::read(line)
+    #[tactic(auto, unfolding(crate::specs::TypeP::type_p_reading, crate::specs::FieldReading::and_then))]
+    fn read(line: &[u8]) -> Result<RecP, FieldFault> {
+        let polyid = read_number(line, 16, 25)?;
+        let point = read_point_or_none(line, 26)?;
+        let body = BodyP {
+            file: text_at(line, 6, 10),
+            point,
+            water: text_at(line, 45, 45),
+        };
+        Ok(RecP {
+            cenid: text_at(line, 11, 15),
+            polyid,
+            body,
+        })
     }
 
     #[tactic(auto, unfolding(crate::specs::TypeP::type_p_spelling))]
     fn put(&self, out: &mut [u8]) {
         let body = &self.body;
+        self.show_fit();
         write_head(out, b'P');
         write_text(out, 6, 10, &body.file);
         write_text(out, 11, 15, &self.cenid);
@@ -187,13 +190,13 @@ impl Layout for RecP {
 
     ghost bounded = { (lit≤ tt, lit≤ tt) };
 
-    ghost spelling_is_line = { type_p_spelling_is_line };
+    ghost spelling_is_line = { type_p_laws.spelling_is_line };
 
-    ghost reads_spelling = { type_p_reads_spelling };
+    ghost reads_spelling = { type_p_laws.reads_spelling };
 
-    ghost reads_spelled = { type_p_reads_spelled };
+    ghost reads_spelled = { type_p_laws.reads_spelled };
 
-    ghost spelled_is_read = { type_p_spelled_is_read };
+    ghost spelled_is_read = { type_p_laws.spelled_is_read };
 
-    ghost tells_leftmost = { type_p_leftmost };
+    ghost tells_leftmost = { type_p_laws.tells_leftmost };
 }

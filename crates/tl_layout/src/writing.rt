@@ -1,7 +1,6 @@
 //! Writing fields into the columns of a line, counted from 1 as in the column tables, from left to right.
 
-ghost use Rattle.std.specs.Prelude.{◌≡◌, ◌+◌, ◌-◌, ◌≤◌, ◌<◌, [], ◌∷◌, ◌++◌, length, take, replicate, codes, IfSome, pos};
-ghost use Rattle.tl_layout.specs.Bytes.{IsText};
+ghost use Rattle.std.specs.Prelude.{◌≡◌, ◌+◌, ◌-◌, ◌≤◌, ◌<◌, [], ◌∷◌, ◌++◌, length, take, replicate, codes, pos};
 ghost use Rattle.tl_layout.specs.FieldTexts.{number_text};
 ghost use Rattle.tl_layout.specs.FieldTexts.{coordinate_text};
 ghost use Rattle.tl_layout.specs.Coordinates.{IsOnMap};
@@ -29,8 +28,7 @@ pub fn write_text<const N: usize>(out: &mut [u8], first: usize, last: usize, tex
     requires from_one { 1 ≤ first }
     requires within { last ≤ length out.old }
     requires width { last + 1 ≡ first + N }
-    ensures written { take last out.new ≡ take (first - 1) out.old ++ text.now }
-    ensures text { IsText N text.now }
+    ensures { take last out.new ≡ take (first - 1) out.old ++ text.now }
 {
     out[first - 1..last].copy_from_slice(text.as_bytes());
 }
@@ -97,9 +95,8 @@ pub fn write_zeros(out: &mut [u8], column: usize)
 pub fn write_point_or_blanks(out: &mut [u8], column: usize, point: &Option<Point>)
     requires from_one { 1 ≤ column }
     requires within { column + 18 ≤ length out.old }
-    ensures written { take (column + 18) out.new
+    ensures { take (column + 18) out.new
         ≡ joined (take (column - 1) out.old) (long_text point.now ∷ lat_text point.now ∷ []) }
-    ensures on_map { IfSome point.now IsOnMap }
 {
     match point {
         Some(point) => write_point(out, column, point),

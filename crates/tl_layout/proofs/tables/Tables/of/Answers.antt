@@ -1,5 +1,10 @@
+use Rattle.std.proofs.lemmas.List.Elements.{All-push}
+use Rattle.tl_layout.specs.RecordText.{FitsRecord}
 use Rattle.tl_layout.proofs.TableSteps.{holds_with}
 use Rattle.tl_layout.proofs.tables.Tables.of.Goals as goal
 
 pub loop-record-preserved : goal.loop-record-preserved
-loop-record-preserved c = holds_with _ _ _ _ c.loop-record.invariant c.in_ok-add.ensures.ok
+loop-record-preserved c = record {
+  held = holds_with _ _ _ _ c.loop-record.invariant.held c.in_ok-add.ensures.ok;
+  fits = All-push FitsRecord _ _ c.loop-record.invariant.fits c.show_fit.ensures;
+}

@@ -1,6 +1,11 @@
+use Rattle.std.proofs.Common.{All}
+use Rattle.tl_layout.specs.RecordText.{FitsRecord}
 use Rattle.tl_layout.specs.Tables.{HoldsByType}
 use Rattle.tl_layout.proofs.tables.Tables.of.Given as goal
 
--- the tables hold the records so far
+-- the tables hold the records so far, each of which fits
 abbrev pub invariant-loop-record : goal.invariant-loop-record
-invariant-loop-record l = HoldsByType l.tables l.yielded
+invariant-loop-record l = record {
+  held : HoldsByType l.tables l.yielded;
+  fits : All FitsRecord l.yielded;
+}

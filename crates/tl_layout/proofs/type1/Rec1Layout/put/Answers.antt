@@ -1,9 +1,8 @@
 -- One column after another was written behind the record type and the version.
-use Rattle.std.proofs.Common.{arith, refl, ap, subst, ◌∙◌}
+use Rattle.std.proofs.Common.{arith, refl, ap, ◌∙◌}
 use Rattle.tl_layout.proofs.Writes.{behind, group_behind, whole}
-use Rattle.tl_layout.specs.Type1.{FitsType1, type_1_spelling}
+use Rattle.tl_layout.specs.Type1.{type_1_spelling}
 use Rattle.tl_layout.specs.Type1Groups.{body_1_texts, point_texts}
-use Rattle.tl_layout.specs.Type1Laws.{type_1_fits}
 use Rattle.tl_layout.proofs.type1.Rec1Layout.put.Goals as goal
 
 pub returns-clause-spelling : goal.returns-clause-spelling
@@ -11,12 +10,7 @@ unfolding type_1_spelling
 returns-clause-spelling c =
     let r = c.self.inside in
     let tlid = behind c.write_number.ensures c.write_head.ensures refl in
-    let body = group_behind (body_1_texts r.body) c.put.ensures.written tlid in
+    let body = group_behind (body_1_texts r.body) c.put.ensures tlid in
     let start = group_behind (point_texts r.start) c.write_point.ensures.written body in
     let end = group_behind (point_texts r.end) c.write_point-2.ensures.written start in
     whole 228 c.write_point-2.new.out _ (omega arith) end ∙ ap type_1_spelling c.self.view_is
-
-pub returns-clause-fits : goal.returns-clause-fits
-returns-clause-fits c =
-    subst FitsType1 c.self.view_is
-    (type_1_fits _ c.self.invariant c.put.ensures.fits c.write_point.ensures.on_map c.write_point-2.ensures.on_map)

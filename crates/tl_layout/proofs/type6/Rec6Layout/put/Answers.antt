@@ -1,9 +1,9 @@
 -- One column after another was written behind the record type and the version.
-use Rattle.std.proofs.Common.{arith, refl, ap, ◌∙◌, subst}
+use Rattle.std.proofs.Common.{arith, refl, ap, ◌∙◌}
 use Rattle.tl_layout.proofs.Writes.{behind, group_behind, whole}
 use Rattle.tl_layout.specs.FieldTexts.{number_text}
 use Rattle.tl_layout.specs.AddressRanges.{ranges_texts}
-use Rattle.tl_layout.specs.Type6.{FitsType6, type_6_spelling}
+use Rattle.tl_layout.specs.Type6.{type_6_spelling}
 use Rattle.tl_layout.proofs.type6.Rec6Layout.put.Goals as goal
 
 pub returns-clause-spelling : goal.returns-clause-spelling
@@ -12,16 +12,5 @@ returns-clause-spelling c =
     let r = c.self.inside in
     let tlid = behind c.write_number.ensures c.write_head.ensures refl in
     let rtsq = behind c.write_number-2.ensures tlid (ap (number_text 3) c.from.ensures) in
-    let ranges = group_behind (ranges_texts r.ranges) c.put.ensures.written rtsq in
+    let ranges = group_behind (ranges_texts r.ranges) c.put.ensures rtsq in
     whole 76 c.put.new.out _ (omega arith) ranges ∙ ap type_6_spelling c.self.view_is
-
-pub returns-clause-fits : goal.returns-clause-fits
-unfolding FitsType6
-returns-clause-fits c = let f = c.put.ensures.fits in
-    subst FitsType6 c.self.view_is (
-      c.self.invariant.0,
-      (
-        c.self.invariant.1,
-        (f.fraddl, (f.toaddl, (f.fraddr, (f.toaddr, (f.friaddl, (f.toiaddl, (f.friaddr, (f.toiaddr, (f.zip.left, (f.zip.right, tt)))))))))),
-      ),
-    )

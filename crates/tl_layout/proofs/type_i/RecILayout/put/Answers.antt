@@ -1,67 +1,26 @@
 -- One column after another was written behind the record type and the version.
-use Rattle.std.proofs.Common.{arith, refl, ap, ◌∙◌, unwrap_or, subst}
-use Rattle.tl_layout.specs.Bytes.{IsText}
-use Rattle.tl_layout.specs.Numbers.{IsNumberOrNone}
+use Rattle.std.proofs.Common.{arith, refl, ap, ◌∙◌, unwrap_or}
 use Rattle.tl_layout.proofs.Writes.{behind, whole}
 use Rattle.tl_layout.specs.FieldTexts.{number_text}
-use Rattle.tl_layout.specs.TypeI.{FitsTypeI, type_i_spelling}
+use Rattle.tl_layout.specs.TypeI.{type_i_spelling}
 use Rattle.tl_layout.proofs.type_i.RecILayout.put.Goals as goal
 
 pub returns-clause-spelling : goal.returns-clause-spelling
 unfolding type_i_spelling
 returns-clause-spelling c =
-    let file = behind c.write_text.ensures.written c.write_head.ensures refl in
+    let file = behind c.write_text.ensures c.write_head.ensures refl in
     let tlid = behind c.write_number.ensures file refl in
     let start_node = behind c.write_number-2.ensures tlid (ap (number_text 10) c.unwrap_or.ensures) in
     let end_node = behind c.write_number-3.ensures start_node (ap (number_text 10) c.unwrap_or-2.ensures) in
-    let left_cenid = behind c.write_text-2.ensures.written end_node c.cenid_text.ensures in
+    let left_cenid = behind c.write_text-2.ensures end_node c.cenid_text.ensures in
     let left_polyid = behind c.write_number-4.ensures left_cenid
     (ap (number_text 10) (c.unwrap_or-3.ensures ∙ ap (λ n. unwrap_or n 0) c.polyid.ensures.value)) in
-    let right_cenid = behind c.write_text-3.ensures.written left_polyid c.cenid_text-2.ensures in
+    let right_cenid = behind c.write_text-3.ensures left_polyid c.cenid_text-2.ensures in
     let right_polyid = behind c.write_number-5.ensures right_cenid
     (ap (number_text 10) (c.unwrap_or-4.ensures ∙ ap (λ n. unwrap_or n 0) c.polyid-2.ensures.value)) in
-    let source = behind c.write_text-4.ensures.written right_polyid refl in
-    let ftseg = behind c.write_text-5.ensures.written source refl in
-    let rs_i1 = behind c.write_text-6.ensures.written ftseg refl in
-    let rs_i2 = behind c.write_text-7.ensures.written rs_i1 refl in
-    let rs_i3 = behind c.write_text-8.ensures.written rs_i2 refl in
+    let source = behind c.write_text-4.ensures right_polyid refl in
+    let ftseg = behind c.write_text-5.ensures source refl in
+    let rs_i1 = behind c.write_text-6.ensures ftseg refl in
+    let rs_i2 = behind c.write_text-7.ensures rs_i1 refl in
+    let rs_i3 = behind c.write_text-8.ensures rs_i2 refl in
     whole 127 c.write_text-8.new.out _ (omega arith) rs_i3 ∙ ap type_i_spelling c.self.view_is
-
-pub returns-clause-fits : goal.returns-clause-fits
-unfolding FitsTypeI
-returns-clause-fits c =
-    let left_cenid = subst (IsText 5) c.cenid_text.ensures c.write_text-2.ensures.text in
-    let left_polyid = subst (IsNumberOrNone 10) c.polyid.ensures.value c.polyid.ensures.in_range in
-    let right_cenid = subst (IsText 5) c.cenid_text-2.ensures c.write_text-3.ensures.text in
-    let right_polyid = subst (IsNumberOrNone 10) c.polyid-2.ensures.value c.polyid-2.ensures.in_range in
-    subst FitsTypeI c.self.view_is (
-      c.write_text.ensures.text,
-      (
-        c.self.invariant.0,
-        (
-          c.self.invariant.1,
-          (
-            c.self.invariant.2,
-            (
-              left_cenid,
-              (
-                left_polyid,
-                (
-                  right_cenid,
-                  (
-                    right_polyid,
-                    (
-                      c.write_text-4.ensures.text,
-                      (
-                        c.write_text-5.ensures.text,
-                        (c.write_text-6.ensures.text, (c.write_text-7.ensures.text, (c.write_text-8.ensures.text, tt))),
-                      ),
-                    ),
-                  ),
-                ),
-              ),
-            ),
-          ),
-        ),
-      ),
-    )

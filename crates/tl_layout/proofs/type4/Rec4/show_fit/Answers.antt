@@ -1,0 +1,14 @@
+use Rattle.std.proofs.Common.{ℕ, List, length, subst, ◌≤◌}
+use Rattle.tl_layout.specs.Type4.{FitsType4}
+use Rattle.tl_layout.proofs.type4.Rec4.show_fit.Goals as goal
+
+pub returns : goal.returns
+unfolding FitsType4
+returns c =
+    subst FitsType4 c.self.view_is (
+      c.self.invariant.0,
+      (
+        c.self.invariant.1,
+        ((subst (λ (feats : List ℕ). length feats ≤ 5) c.as_slice.ensures.value c.as_slice.ensures.fits, c.self.invariant.2), tt),
+      ),
+    )

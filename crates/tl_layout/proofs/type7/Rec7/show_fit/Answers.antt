@@ -1,0 +1,14 @@
+use Rattle.std.proofs.Common.{subst}
+use Rattle.tl_layout.specs.Type7.{FitsType7}
+use Rattle.tl_layout.proofs.type7.Rec7.show_fit.Goals as goal
+
+pub returns : goal.returns
+unfolding FitsType7
+returns c =
+    subst FitsType7 c.self.view_is (
+      c.show_fit.ensures,
+      (
+        c.self.invariant,
+        (c.show_fit-2.ensures, (c.show_fit-3.ensures, (c.show_fit-4.ensures, (c.show_point_fits.ensures, (tt, tt))))),
+      ),
+    )

@@ -1,0 +1,71 @@
+//! Blanking: what the contents of records are under a mask.
+
+ghost use Rattle.std.specs.Prelude.{◌≡◌, refl};
+ghost use Rattle.tl_layout.specs.declared.mask.Mask.{Mask};
+ghost use Rattle.tl_layout.specs.Masked.{no_mask, masked_body_1, masked_body_7, masked_body_i};
+ghost use Rattle.tl_layout.specs.MaskLaws.{masked_twice_1, masked_twice_7, masked_twice_i};
+
+use crate::mask::Mask;
+use crate::type_i::BodyI;
+use crate::type1::Body1;
+use crate::type7::Body7;
+
+/// What has fields that a mask may leave out.
+pub trait Blank {
+    /// The value under the mask.
+    ghost masked: { Mask → Self → Self };
+
+    /// Puts blanks in the place of each field that the mask leaves out. Every other field stays.
+    fn blank(&mut self, mask: Mask)
+        ensures { self.new ≡ masked mask self.old };
+
+    /// Blanking twice under one mask is blanking once.
+    ghost blanks_once: { (mask : Mask) (x : Self) → masked mask (masked mask x) ≡ masked mask x };
+
+    /// A mask that leaves nothing out changes nothing.
+    ghost keeps_all: { (x : Self) → masked no_mask x ≡ x };
+}
+
+/// SOURCE, and the reserved CENSUS1 and CENSUS2.
+impl Blank for Body1 {
+    ghost masked = { masked_body_1 };
+
+    fn blank(&mut self, mask: Mask) {
+        self.source.blank_if(mask.sources);
+        self.census1.blank_if(mask.reserved);
+        self.census2.blank_if(mask.reserved);
+    }
+
+    ghost blanks_once = { masked_twice_1 };
+
+    ghost keeps_all = { λ _. refl };
+}
+
+/// SOURCE. No field of a landmark is reserved.
+impl Blank for Body7 {
+    ghost masked = { masked_body_7 };
+
+    fn blank(&mut self, mask: Mask) {
+        self.source.blank_if(mask.sources);
+    }
+
+    ghost blanks_once = { masked_twice_7 };
+
+    ghost keeps_all = { λ _. refl };
+}
+
+/// SOURCE, and the reserved RS_I1, RS_I2 and RS_I3.
+impl Blank for BodyI {
+    ghost masked = { masked_body_i };
+
+    fn blank(&mut self, mask: Mask) {
+        self.source.blank_if(mask.sources);
+        self.rs_i1.blank_if(mask.reserved);
+        self.rs_i2.blank_if(mask.reserved);
+        self.rs_i3.blank_if(mask.reserved);
+    }
+
+    ghost blanks_once = { masked_twice_i };
+
+    ghost keeps_all = { λ _. refl };
+}
