@@ -1,10 +1,14 @@
 -- What a source gives, and how it is counted.
-use Rattle.std.proofs.Common.{ℕ, ◌+◌, ◌%◌, ◌^◌, List, [], ◌++◌, length, Option, Some, None, refl, sym, ap}
+use Rattle.std.proofs.Common.{ℕ, ◌+◌, ◌%◌, ◌^◌, ◌≤◌, Ok, List, [], ◌++◌, length, Option, Some, None, refl, sym, ap}
 use Rattle.std.proofs.Common.{subst, ◌∙◌, append_assoc, append-nil, add_assoc, arith}
 use Rattle.std.specs.Io.KnownBytes.{Consumes, Keeps}
 use Rattle.std.proofs.Math.Nat.{mod-add-mod}
 use Rattle.std.proofs.lemmas.List.{length-append}
-use Rattle.tl_load.specs.Sources.{RoseBy, Gave}
+use Rattle.tl_layout.specs.declared.record_type.Record.{Record}
+use Rattle.tl_load.specs.Keeping.{LoadedInto, Lifts}
+use Rattle.tl_load.specs.Sources.{RoseBy, Gave, StopsThere}
+use Rattle.tl_load.specs.Steps.{Takes, TakesWell}
+use Rattle.tl_load.specs.declared.loader_into.TheConstants.{LINE_BYTES}
 
 consumes_nil : (a : Option (List ℕ)) → Consumes a a []
 consumes_nil None = tt
@@ -50,3 +54,16 @@ module _ {R : Type 0} (remaining : R → Option (List ℕ)) (given : R → ℕ) 
     counted = subst (λ (k : ℕ). RoseBy k (given a) (given c)) (omega arith)
         (rose_then (given a) (given b) (given c) (length taken) 0 p.counted r);
   }
+
+-- what a loader took without a fault is what was given before the last read
+pub stopped : {R K : Type 0} (remaining : R → Option (List ℕ)) (given reads : R → ℕ) (holds : K → List Record → Type 0)
+    (start now : LoadedInto K) (before last after : R) (taken : List ℕ) → Gave remaining given before last taken
+    → Lifts {T = Unit {0}} holds (Takes taken) start (Ok tt) now → length now.unfinished ≤ LINE_BYTES → RoseBy 1 (reads last) (reads after)
+    → StopsThere remaining given reads before after (TakesWell holds start)
+stopped remaining given reads holds start now before last after taken gave takes short one_read = record {
+  last = last;
+  taken = taken;
+  gave = gave;
+  one_read = one_read;
+  should = record { after = now; takes = takes; short = short };
+}

@@ -19,15 +19,7 @@ use Rattle.tl_layout.specs.Type7.{type_7_reading, SpellsType7}
 use Rattle.tl_layout.specs.Type8.{type_8_reading, SpellsType8}
 use Rattle.tl_layout.specs.TypeI.{type_i_reading, SpellsTypeI}
 use Rattle.tl_layout.specs.TypeP.{type_p_reading, SpellsTypeP}
-use Rattle.tl_layout.specs.Type1Laws.{type_1_reads_spelled, type_1_spelled_is_read, type_1_leftmost}
-use Rattle.tl_layout.specs.Type2Laws.{type_2_reads_spelled, type_2_spelled_is_read, type_2_leftmost}
-use Rattle.tl_layout.specs.Type4Laws.{type_4_reads_spelled, type_4_spelled_is_read, type_4_leftmost}
-use Rattle.tl_layout.specs.Type5Laws.{type_5_reads_spelled, type_5_spelled_is_read, type_5_leftmost}
-use Rattle.tl_layout.specs.Type6Laws.{type_6_reads_spelled, type_6_spelled_is_read, type_6_leftmost}
-use Rattle.tl_layout.specs.Type7Laws.{type_7_reads_spelled, type_7_spelled_is_read, type_7_leftmost}
-use Rattle.tl_layout.specs.Type8Laws.{type_8_reads_spelled, type_8_spelled_is_read, type_8_leftmost}
-use Rattle.tl_layout.specs.TypeILaws.{type_i_reads_spelled, type_i_spelled_is_read, type_i_leftmost}
-use Rattle.tl_layout.specs.TypePLaws.{type_p_reads_spelled, type_p_spelled_is_read, type_p_leftmost}
+use Rattle.tl_layout.specs.TypeLaws.{type_1_laws, type_2_laws, type_4_laws, type_5_laws, type_6_laws, type_7_laws, type_8_laws, type_i_laws, type_p_laws}
 use Rattle.tl_load.specs.declared.fault.LineFault.{LineFault}
 use Rattle.tl_load.specs.declared.fault.LineFault.TheVariants as line_faults
 use Rattle.tl_load.specs.LineOf.{judged_as}
@@ -42,31 +34,31 @@ use Rattle.tl_load.proofs.LineLaws.{Reading, judged_is_line, line_is_judged, lin
 -- ---- the layouts
 
 reading_1 : Reading rtype_1 len_1 type_1_reading SpellsType1
-reading_1 = record { found = λ l r is e. (type_1_reads_spelled l r is e).1; only = λ l r is h. type_1_spelled_is_read l r is h }
+reading_1 = record { found = λ l r is e. (type_1_laws.reads_spelled l r is e).1; only = λ l r is h. type_1_laws.spelled_is_read l r is h }
 
 reading_2 : Reading rtype_2 len_2 type_2_reading SpellsType2
-reading_2 = record { found = λ l r is e. (type_2_reads_spelled l r is e).1; only = λ l r is h. type_2_spelled_is_read l r is h }
+reading_2 = record { found = λ l r is e. (type_2_laws.reads_spelled l r is e).1; only = λ l r is h. type_2_laws.spelled_is_read l r is h }
 
 reading_4 : Reading rtype_4 len_4 type_4_reading SpellsType4
-reading_4 = record { found = λ l r is e. (type_4_reads_spelled l r is e).1; only = λ l r is h. type_4_spelled_is_read l r is h }
+reading_4 = record { found = λ l r is e. (type_4_laws.reads_spelled l r is e).1; only = λ l r is h. type_4_laws.spelled_is_read l r is h }
 
 reading_5 : Reading rtype_5 len_5 type_5_reading SpellsType5
-reading_5 = record { found = λ l r is e. (type_5_reads_spelled l r is e).1; only = λ l r is h. type_5_spelled_is_read l r is h }
+reading_5 = record { found = λ l r is e. (type_5_laws.reads_spelled l r is e).1; only = λ l r is h. type_5_laws.spelled_is_read l r is h }
 
 reading_6 : Reading rtype_6 len_6 type_6_reading SpellsType6
-reading_6 = record { found = λ l r is e. (type_6_reads_spelled l r is e).1; only = λ l r is h. type_6_spelled_is_read l r is h }
+reading_6 = record { found = λ l r is e. (type_6_laws.reads_spelled l r is e).1; only = λ l r is h. type_6_laws.spelled_is_read l r is h }
 
 reading_7 : Reading rtype_7 len_7 type_7_reading SpellsType7
-reading_7 = record { found = λ l r is e. (type_7_reads_spelled l r is e).1; only = λ l r is h. type_7_spelled_is_read l r is h }
+reading_7 = record { found = λ l r is e. (type_7_laws.reads_spelled l r is e).1; only = λ l r is h. type_7_laws.spelled_is_read l r is h }
 
 reading_8 : Reading rtype_8 len_8 type_8_reading SpellsType8
-reading_8 = record { found = λ l r is e. (type_8_reads_spelled l r is e).1; only = λ l r is h. type_8_spelled_is_read l r is h }
+reading_8 = record { found = λ l r is e. (type_8_laws.reads_spelled l r is e).1; only = λ l r is h. type_8_laws.spelled_is_read l r is h }
 
 reading_i : Reading rtype_i len_i type_i_reading SpellsTypeI
-reading_i = record { found = λ l r is e. (type_i_reads_spelled l r is e).1; only = λ l r is h. type_i_spelled_is_read l r is h }
+reading_i = record { found = λ l r is e. (type_i_laws.reads_spelled l r is e).1; only = λ l r is h. type_i_laws.spelled_is_read l r is h }
 
 reading_p : Reading rtype_p len_p type_p_reading SpellsTypeP
-reading_p = record { found = λ l r is e. (type_p_reads_spelled l r is e).1; only = λ l r is h. type_p_spelled_is_read l r is h }
+reading_p = record { found = λ l r is e. (type_p_laws.reads_spelled l r is e).1; only = λ l r is h. type_p_laws.spelled_is_read l r is h }
 
 pub by_first : (rtype : ℕ) (line : List ℕ) → take 1 line ≡ rtype ∷ [] → judged line ≡ judged_by rtype line
 unfolding judged
@@ -200,31 +192,31 @@ unfolding judged_by
 fault_by_first b line fault e =
     fails_by b rtype_1 line One (judged_as len_1 type_1_reading (b ∷ line)) _ fault e
     (λ begins failed. of_type_1 begins
-    (judged_fault_found rtype_1 len_1 type_1_reading _ type_1_leftmost (b ∷ line) fault begins failed)) (λ n0 e0.
+    (judged_fault_found rtype_1 len_1 type_1_reading _ type_1_laws.tells_leftmost (b ∷ line) fault begins failed)) (λ n0 e0.
     fails_by b rtype_2 line Two (judged_as len_2 type_2_reading (b ∷ line)) _ fault e0
     (λ begins failed. of_type_2 begins
-    (judged_fault_found rtype_2 len_2 type_2_reading _ type_2_leftmost (b ∷ line) fault begins failed)) (λ n1 e1.
+    (judged_fault_found rtype_2 len_2 type_2_reading _ type_2_laws.tells_leftmost (b ∷ line) fault begins failed)) (λ n1 e1.
     fails_by b rtype_4 line Four (judged_as len_4 type_4_reading (b ∷ line)) _ fault e1
     (λ begins failed. of_type_4 begins
-    (judged_fault_found rtype_4 len_4 type_4_reading _ type_4_leftmost (b ∷ line) fault begins failed)) (λ n2 e2.
+    (judged_fault_found rtype_4 len_4 type_4_reading _ type_4_laws.tells_leftmost (b ∷ line) fault begins failed)) (λ n2 e2.
     fails_by b rtype_5 line Five (judged_as len_5 type_5_reading (b ∷ line)) _ fault e2
     (λ begins failed. of_type_5 begins
-    (judged_fault_found rtype_5 len_5 type_5_reading _ type_5_leftmost (b ∷ line) fault begins failed)) (λ n3 e3.
+    (judged_fault_found rtype_5 len_5 type_5_reading _ type_5_laws.tells_leftmost (b ∷ line) fault begins failed)) (λ n3 e3.
     fails_by b rtype_6 line Six (judged_as len_6 type_6_reading (b ∷ line)) _ fault e3
     (λ begins failed. of_type_6 begins
-    (judged_fault_found rtype_6 len_6 type_6_reading _ type_6_leftmost (b ∷ line) fault begins failed)) (λ n4 e4.
+    (judged_fault_found rtype_6 len_6 type_6_reading _ type_6_laws.tells_leftmost (b ∷ line) fault begins failed)) (λ n4 e4.
     fails_by b rtype_7 line Seven (judged_as len_7 type_7_reading (b ∷ line)) _ fault e4
     (λ begins failed. of_type_7 begins
-    (judged_fault_found rtype_7 len_7 type_7_reading _ type_7_leftmost (b ∷ line) fault begins failed)) (λ n5 e5.
+    (judged_fault_found rtype_7 len_7 type_7_reading _ type_7_laws.tells_leftmost (b ∷ line) fault begins failed)) (λ n5 e5.
     fails_by b rtype_8 line Eight (judged_as len_8 type_8_reading (b ∷ line)) _ fault e5
     (λ begins failed. of_type_8 begins
-    (judged_fault_found rtype_8 len_8 type_8_reading _ type_8_leftmost (b ∷ line) fault begins failed)) (λ n6 e6.
+    (judged_fault_found rtype_8 len_8 type_8_reading _ type_8_laws.tells_leftmost (b ∷ line) fault begins failed)) (λ n6 e6.
     fails_by b rtype_i line I (judged_as len_i type_i_reading (b ∷ line)) _ fault e6
     (λ begins failed. of_type_i begins
-    (judged_fault_found rtype_i len_i type_i_reading _ type_i_leftmost (b ∷ line) fault begins failed)) (λ n7 e7.
+    (judged_fault_found rtype_i len_i type_i_reading _ type_i_laws.tells_leftmost (b ∷ line) fault begins failed)) (λ n7 e7.
     fails_by b rtype_p line P (judged_as len_p type_p_reading (b ∷ line)) _ fault e7
     (λ begins failed. of_type_p begins
-    (judged_fault_found rtype_p len_p type_p_reading _ type_p_leftmost (b ∷ line) fault begins failed)) (λ n8 e8.
+    (judged_fault_found rtype_p len_p type_p_reading _ type_p_laws.tells_leftmost (b ∷ line) fault begins failed)) (λ n8 e8.
     of_no_type (n0, (n1, (n2, (n3, (n4, (n5, (n6, (n7, (n8, tt))))))))) (no_type_told fault e8))))))))))
 
 empty_has_no_type : AllByRecursion (λ (rtype : ℕ). ¬ BeginsWith rtype []) record_types
@@ -258,23 +250,23 @@ pub judged_of_fault : (line : List ℕ) (fault : LineFault) → IsFaultOfLine li
 unfolding judged_by
 judged_of_fault line fault (of_no_type h e) = unknown_judged line h ∙ ap (λ (z : LineFault). Err z) (sym e)
 judged_of_fault line fault (of_type_1 begins h) = by_first rtype_1 line begins
-    ∙ wrapped_err One _ fault (judged_fault_only rtype_1 len_1 type_1_reading _ type_1_leftmost line fault begins h)
+    ∙ wrapped_err One _ fault (judged_fault_only rtype_1 len_1 type_1_reading _ type_1_laws.tells_leftmost line fault begins h)
 judged_of_fault line fault (of_type_2 begins h) = by_first rtype_2 line begins
-    ∙ wrapped_err Two _ fault (judged_fault_only rtype_2 len_2 type_2_reading _ type_2_leftmost line fault begins h)
+    ∙ wrapped_err Two _ fault (judged_fault_only rtype_2 len_2 type_2_reading _ type_2_laws.tells_leftmost line fault begins h)
 judged_of_fault line fault (of_type_4 begins h) = by_first rtype_4 line begins
-    ∙ wrapped_err Four _ fault (judged_fault_only rtype_4 len_4 type_4_reading _ type_4_leftmost line fault begins h)
+    ∙ wrapped_err Four _ fault (judged_fault_only rtype_4 len_4 type_4_reading _ type_4_laws.tells_leftmost line fault begins h)
 judged_of_fault line fault (of_type_5 begins h) = by_first rtype_5 line begins
-    ∙ wrapped_err Five _ fault (judged_fault_only rtype_5 len_5 type_5_reading _ type_5_leftmost line fault begins h)
+    ∙ wrapped_err Five _ fault (judged_fault_only rtype_5 len_5 type_5_reading _ type_5_laws.tells_leftmost line fault begins h)
 judged_of_fault line fault (of_type_6 begins h) = by_first rtype_6 line begins
-    ∙ wrapped_err Six _ fault (judged_fault_only rtype_6 len_6 type_6_reading _ type_6_leftmost line fault begins h)
+    ∙ wrapped_err Six _ fault (judged_fault_only rtype_6 len_6 type_6_reading _ type_6_laws.tells_leftmost line fault begins h)
 judged_of_fault line fault (of_type_7 begins h) = by_first rtype_7 line begins
-    ∙ wrapped_err Seven _ fault (judged_fault_only rtype_7 len_7 type_7_reading _ type_7_leftmost line fault begins h)
+    ∙ wrapped_err Seven _ fault (judged_fault_only rtype_7 len_7 type_7_reading _ type_7_laws.tells_leftmost line fault begins h)
 judged_of_fault line fault (of_type_8 begins h) = by_first rtype_8 line begins
-    ∙ wrapped_err Eight _ fault (judged_fault_only rtype_8 len_8 type_8_reading _ type_8_leftmost line fault begins h)
+    ∙ wrapped_err Eight _ fault (judged_fault_only rtype_8 len_8 type_8_reading _ type_8_laws.tells_leftmost line fault begins h)
 judged_of_fault line fault (of_type_i begins h) = by_first rtype_i line begins
-    ∙ wrapped_err I _ fault (judged_fault_only rtype_i len_i type_i_reading _ type_i_leftmost line fault begins h)
+    ∙ wrapped_err I _ fault (judged_fault_only rtype_i len_i type_i_reading _ type_i_laws.tells_leftmost line fault begins h)
 judged_of_fault line fault (of_type_p begins h) = by_first rtype_p line begins
-    ∙ wrapped_err P _ fault (judged_fault_only rtype_p len_p type_p_reading _ type_p_leftmost line fault begins h)
+    ∙ wrapped_err P _ fault (judged_fault_only rtype_p len_p type_p_reading _ type_p_laws.tells_leftmost line fault begins h)
 
 -- the judge of TIGER/Line 2006 finds just the records that lines have, and just what is told of faulty ones
 pub tiger_is_sound : IsSound tiger
@@ -293,23 +285,23 @@ tiger_is_sound = record {
 pub record_fits : (line : List ℕ) (r : Record) → HasRecord line r → FitsRecord r
 unfolding HasRecord FitsRecord
 record_fits line (One r) h =
-    line_fits rtype_1 len_1 SpellsType1 _ (λ l x is s. (type_1_reads_spelled l x is (type_1_spelled_is_read l x is s)).0) line r h
+    line_fits rtype_1 len_1 SpellsType1 _ (λ l x is s. (type_1_laws.reads_spelled l x is (type_1_laws.spelled_is_read l x is s)).0) line r h
 record_fits line (Two r) h =
-    line_fits rtype_2 len_2 SpellsType2 _ (λ l x is s. (type_2_reads_spelled l x is (type_2_spelled_is_read l x is s)).0) line r h
+    line_fits rtype_2 len_2 SpellsType2 _ (λ l x is s. (type_2_laws.reads_spelled l x is (type_2_laws.spelled_is_read l x is s)).0) line r h
 record_fits line (Four r) h =
-    line_fits rtype_4 len_4 SpellsType4 _ (λ l x is s. (type_4_reads_spelled l x is (type_4_spelled_is_read l x is s)).0) line r h
+    line_fits rtype_4 len_4 SpellsType4 _ (λ l x is s. (type_4_laws.reads_spelled l x is (type_4_laws.spelled_is_read l x is s)).0) line r h
 record_fits line (Five r) h =
-    line_fits rtype_5 len_5 SpellsType5 _ (λ l x is s. (type_5_reads_spelled l x is (type_5_spelled_is_read l x is s)).0) line r h
+    line_fits rtype_5 len_5 SpellsType5 _ (λ l x is s. (type_5_laws.reads_spelled l x is (type_5_laws.spelled_is_read l x is s)).0) line r h
 record_fits line (Six r) h =
-    line_fits rtype_6 len_6 SpellsType6 _ (λ l x is s. (type_6_reads_spelled l x is (type_6_spelled_is_read l x is s)).0) line r h
+    line_fits rtype_6 len_6 SpellsType6 _ (λ l x is s. (type_6_laws.reads_spelled l x is (type_6_laws.spelled_is_read l x is s)).0) line r h
 record_fits line (Seven r) h =
-    line_fits rtype_7 len_7 SpellsType7 _ (λ l x is s. (type_7_reads_spelled l x is (type_7_spelled_is_read l x is s)).0) line r h
+    line_fits rtype_7 len_7 SpellsType7 _ (λ l x is s. (type_7_laws.reads_spelled l x is (type_7_laws.spelled_is_read l x is s)).0) line r h
 record_fits line (Eight r) h =
-    line_fits rtype_8 len_8 SpellsType8 _ (λ l x is s. (type_8_reads_spelled l x is (type_8_spelled_is_read l x is s)).0) line r h
+    line_fits rtype_8 len_8 SpellsType8 _ (λ l x is s. (type_8_laws.reads_spelled l x is (type_8_laws.spelled_is_read l x is s)).0) line r h
 record_fits line (I r) h =
-    line_fits rtype_i len_i SpellsTypeI _ (λ l x is s. (type_i_reads_spelled l x is (type_i_spelled_is_read l x is s)).0) line r h
+    line_fits rtype_i len_i SpellsTypeI _ (λ l x is s. (type_i_laws.reads_spelled l x is (type_i_laws.spelled_is_read l x is s)).0) line r h
 record_fits line (P r) h =
-    line_fits rtype_p len_p SpellsTypeP _ (λ l x is s. (type_p_reads_spelled l x is (type_p_spelled_is_read l x is s)).0) line r h
+    line_fits rtype_p len_p SpellsTypeP _ (λ l x is s. (type_p_laws.reads_spelled l x is (type_p_laws.spelled_is_read l x is s)).0) line r h
 
 -- lines that have records have records that fit
 lines_fit : (lines : List PlacedLine) (records : List Record) → AreLinesSpelled tiger lines records → All FitsRecord records

@@ -29,17 +29,17 @@ too_long len reading wrap line low long =
     ap (λ (b : Bool). as_record wrap (cond b (Err line_faults.LineTooLong) (judged_full reading (filled len line))))
     (lt-ltb len (length line) (omega arith))
 
--- what a line of more than 228 bytes is refused as, by its first byte
+-- what a line of more than 228 bytes is refused as, by its first byte and these types
+abbrev long_among : List ℕ → ℕ → Result Record LineFault
+long_among [] rtype = Err line_faults.UnknownType
+long_among (t ∷ types) rtype = cond (eqb rtype t) (Err line_faults.LineTooLong) (long_among types rtype)
+
+-- the nine types, by their first bytes
+abbrev types : List ℕ
+types = 49 ∷ 50 ∷ 52 ∷ 53 ∷ 54 ∷ 55 ∷ 56 ∷ 73 ∷ 80 ∷ []
+
 long_fault : ℕ → Result Record LineFault
-long_fault rtype = cond (eqb rtype 49) (Err line_faults.LineTooLong)
-    (cond (eqb rtype 50) (Err line_faults.LineTooLong)
-    (cond (eqb rtype 52) (Err line_faults.LineTooLong)
-    (cond (eqb rtype 53) (Err line_faults.LineTooLong)
-    (cond (eqb rtype 54) (Err line_faults.LineTooLong)
-    (cond (eqb rtype 55) (Err line_faults.LineTooLong)
-    (cond (eqb rtype 56) (Err line_faults.LineTooLong)
-    (cond (eqb rtype 73) (Err line_faults.LineTooLong)
-    (cond (eqb rtype 80) (Err line_faults.LineTooLong) (Err line_faults.UnknownType)))))))))
+long_fault rtype = long_among types rtype
 
 long_by : (rtype : ℕ) (line : List ℕ) → LONGEST_LINE < length line → judged_by rtype line ≡ long_fault rtype
 unfolding judged_by long_fault
@@ -59,53 +59,13 @@ err_cond : (b : Bool) (x y : Result Record LineFault) → IsErr x → IsErr y �
 err_cond true x y p q = p
 err_cond false x y p q = q
 
+err_among : (types : List ℕ) (rtype : ℕ) → IsErr (long_among types rtype)
+err_among [] rtype = refl
+err_among (t ∷ types) rtype = err_cond (eqb rtype t) _ _ refl (err_among types rtype)
+
 err_long : (rtype : ℕ) → IsErr (long_fault rtype)
 unfolding long_fault
-err_long rtype = err_cond (eqb rtype 49) (Err line_faults.LineTooLong)
-    (cond (eqb rtype 50) (Err line_faults.LineTooLong)
-    (cond (eqb rtype 52) (Err line_faults.LineTooLong)
-    (cond (eqb rtype 53) (Err line_faults.LineTooLong)
-    (cond (eqb rtype 54) (Err line_faults.LineTooLong)
-    (cond (eqb rtype 55) (Err line_faults.LineTooLong)
-    (cond (eqb rtype 56) (Err line_faults.LineTooLong)
-    (cond (eqb rtype 73) (Err line_faults.LineTooLong)
-    (cond (eqb rtype 80) (Err line_faults.LineTooLong) (Err line_faults.UnknownType))))))))) refl
-    (err_cond (eqb rtype 50) (Err line_faults.LineTooLong)
-    (cond (eqb rtype 52) (Err line_faults.LineTooLong)
-    (cond (eqb rtype 53) (Err line_faults.LineTooLong)
-    (cond (eqb rtype 54) (Err line_faults.LineTooLong)
-    (cond (eqb rtype 55) (Err line_faults.LineTooLong)
-    (cond (eqb rtype 56) (Err line_faults.LineTooLong)
-    (cond (eqb rtype 73) (Err line_faults.LineTooLong)
-    (cond (eqb rtype 80) (Err line_faults.LineTooLong) (Err line_faults.UnknownType)))))))) refl
-    (err_cond (eqb rtype 52) (Err line_faults.LineTooLong)
-    (cond (eqb rtype 53) (Err line_faults.LineTooLong)
-    (cond (eqb rtype 54) (Err line_faults.LineTooLong)
-    (cond (eqb rtype 55) (Err line_faults.LineTooLong)
-    (cond (eqb rtype 56) (Err line_faults.LineTooLong)
-    (cond (eqb rtype 73) (Err line_faults.LineTooLong)
-    (cond (eqb rtype 80) (Err line_faults.LineTooLong) (Err line_faults.UnknownType))))))) refl
-    (err_cond (eqb rtype 53) (Err line_faults.LineTooLong)
-    (cond (eqb rtype 54) (Err line_faults.LineTooLong)
-    (cond (eqb rtype 55) (Err line_faults.LineTooLong)
-    (cond (eqb rtype 56) (Err line_faults.LineTooLong)
-    (cond (eqb rtype 73) (Err line_faults.LineTooLong)
-    (cond (eqb rtype 80) (Err line_faults.LineTooLong) (Err line_faults.UnknownType)))))) refl
-    (err_cond (eqb rtype 54) (Err line_faults.LineTooLong)
-    (cond (eqb rtype 55) (Err line_faults.LineTooLong)
-    (cond (eqb rtype 56) (Err line_faults.LineTooLong)
-    (cond (eqb rtype 73) (Err line_faults.LineTooLong)
-    (cond (eqb rtype 80) (Err line_faults.LineTooLong) (Err line_faults.UnknownType))))) refl
-    (err_cond (eqb rtype 55) (Err line_faults.LineTooLong)
-    (cond (eqb rtype 56) (Err line_faults.LineTooLong)
-    (cond (eqb rtype 73) (Err line_faults.LineTooLong)
-    (cond (eqb rtype 80) (Err line_faults.LineTooLong) (Err line_faults.UnknownType)))) refl
-    (err_cond (eqb rtype 56) (Err line_faults.LineTooLong)
-    (cond (eqb rtype 73) (Err line_faults.LineTooLong)
-    (cond (eqb rtype 80) (Err line_faults.LineTooLong) (Err line_faults.UnknownType))) refl
-    (err_cond (eqb rtype 73) (Err line_faults.LineTooLong)
-    (cond (eqb rtype 80) (Err line_faults.LineTooLong) (Err line_faults.UnknownType)) refl
-    (err_cond (eqb rtype 80) (Err line_faults.LineTooLong) (Err line_faults.UnknownType) refl refl))))))))
+err_long rtype = err_among types rtype
 
 is_err_along : (x y : Result Record LineFault) → x ≡ y → IsErr y → IsErr x
 is_err_along x y e h = rw e h

@@ -19,15 +19,7 @@ use Rattle.tl_layout.specs.Type7.{type_7_reading}
 use Rattle.tl_layout.specs.Type8.{type_8_reading}
 use Rattle.tl_layout.specs.TypeI.{type_i_reading}
 use Rattle.tl_layout.specs.TypeP.{type_p_reading}
-use Rattle.tl_layout.specs.Type1Laws.{type_1_reads_spelling}
-use Rattle.tl_layout.specs.Type2Laws.{type_2_reads_spelling}
-use Rattle.tl_layout.specs.Type4Laws.{type_4_reads_spelling}
-use Rattle.tl_layout.specs.Type5Laws.{type_5_reads_spelling}
-use Rattle.tl_layout.specs.Type6Laws.{type_6_reads_spelling}
-use Rattle.tl_layout.specs.Type7Laws.{type_7_reads_spelling}
-use Rattle.tl_layout.specs.Type8Laws.{type_8_reads_spelling}
-use Rattle.tl_layout.specs.TypeILaws.{type_i_reads_spelling}
-use Rattle.tl_layout.specs.TypePLaws.{type_p_reads_spelling}
+use Rattle.tl_layout.specs.TypeLaws.{type_1_laws, type_2_laws, type_4_laws, type_5_laws, type_6_laws, type_7_laws, type_8_laws, type_i_laws, type_p_laws}
 use Rattle.tl_load.specs.declared.fault.LineFault.{LineFault}
 use Rattle.tl_load.specs.declared.fault.LineFault.TheVariants as line_faults
 use Rattle.tl_load.specs.Lines.{IsWithoutLineFeed, without_return, lines}
@@ -57,23 +49,23 @@ judged_full_line rtype len reading line r is e =
 judged_spelling : (r : Record) → FitsRecord r → judged (spelling_of r) ≡ Ok r
 unfolding judged_by type_of len_of spelling_of FitsRecord
 judged_spelling (One r) f = let is = spelling_is_line (One r) f in by_first 49 _ is.begins
-    ∙ ap (as_record One) (judged_full_line 49 228 type_1_reading _ r is (type_1_reads_spelling r f))
+    ∙ ap (as_record One) (judged_full_line 49 228 type_1_reading _ r is (type_1_laws.reads_spelling r f))
 judged_spelling (Two r) f = let is = spelling_is_line (Two r) f in by_first 50 _ is.begins
-    ∙ ap (as_record Two) (judged_full_line 50 208 type_2_reading _ r is (type_2_reads_spelling r f))
+    ∙ ap (as_record Two) (judged_full_line 50 208 type_2_reading _ r is (type_2_laws.reads_spelling r f))
 judged_spelling (Four r) f = let is = spelling_is_line (Four r) f in by_first 52 _ is.begins
-    ∙ ap (as_record Four) (judged_full_line 52 58 type_4_reading _ r is (type_4_reads_spelling r f))
+    ∙ ap (as_record Four) (judged_full_line 52 58 type_4_reading _ r is (type_4_laws.reads_spelling r f))
 judged_spelling (Five r) f = let is = spelling_is_line (Five r) f in by_first 53 _ is.begins
-    ∙ ap (as_record Five) (judged_full_line 53 56 type_5_reading _ r is (type_5_reads_spelling r f))
+    ∙ ap (as_record Five) (judged_full_line 53 56 type_5_reading _ r is (type_5_laws.reads_spelling r f))
 judged_spelling (Six r) f = let is = spelling_is_line (Six r) f in by_first 54 _ is.begins
-    ∙ ap (as_record Six) (judged_full_line 54 76 type_6_reading _ r is (type_6_reads_spelling r f))
+    ∙ ap (as_record Six) (judged_full_line 54 76 type_6_reading _ r is (type_6_laws.reads_spelling r f))
 judged_spelling (Seven r) f = let is = spelling_is_line (Seven r) f in by_first 55 _ is.begins
-    ∙ ap (as_record Seven) (judged_full_line 55 74 type_7_reading _ r is (type_7_reads_spelling r f))
+    ∙ ap (as_record Seven) (judged_full_line 55 74 type_7_reading _ r is (type_7_laws.reads_spelling r f))
 judged_spelling (Eight r) f = let is = spelling_is_line (Eight r) f in by_first 56 _ is.begins
-    ∙ ap (as_record Eight) (judged_full_line 56 36 type_8_reading _ r is (type_8_reads_spelling r f))
+    ∙ ap (as_record Eight) (judged_full_line 56 36 type_8_reading _ r is (type_8_laws.reads_spelling r f))
 judged_spelling (I r) f = let is = spelling_is_line (I r) f in by_first 73 _ is.begins
-    ∙ ap (as_record I) (judged_full_line 73 127 type_i_reading _ r is (type_i_reads_spelling r f))
+    ∙ ap (as_record I) (judged_full_line 73 127 type_i_reading _ r is (type_i_laws.reads_spelling r f))
 judged_spelling (P r) f = let is = spelling_is_line (P r) f in by_first 80 _ is.begins
-    ∙ ap (as_record P) (judged_full_line 80 45 type_p_reading _ r is (type_p_reads_spelling r f))
+    ∙ ap (as_record P) (judged_full_line 80 45 type_p_reading _ r is (type_p_laws.reads_spelling r f))
 
 -- ---- its bytes
 

@@ -5,7 +5,10 @@ use Rattle.std.specs.Prelude.{OnOk, IsOk}
 use Rattle.std.proofs.lemmas.Bool.{eqb-true, false_from_ne_true}
 use Rattle.std.proofs.lemmas.List.{take-append-drop, length-take, get_or-take, get_or_default, drop_more, take_all, take_rest}
 use Rattle.memchr.specs.Find.{Nowhere, Passes, is_byte}
+use Rattle.tl_layout.specs.declared.record_type.Record.{Record}
 use Rattle.tl_load.specs.Lines.{is_line_feed, IsWithoutLineFeed}
+use Rattle.tl_load.specs.Loaded.{Loaded}
+use Rattle.tl_load.specs.declared.loader_into.LoaderInto.TheInside.{Inside}
 
 pub empty_is : (l : List ℕ) → eqb (length l) 0 ≡ true → l ≡ []
 empty_is [] h = refl
@@ -22,6 +25,11 @@ on_ok_by (Err e) p = tt
 pub on_ok_of : {T E P : Type 0} (r : Result T E) → IsOk r → OnOk r P → P
 on_ok_of (Ok x) h p = p
 on_ok_of (Err e) h p = absurd cc
+
+-- the loader that has these fields, if these records were kept
+abbrev pub opened : {K : Type 0} → Inside K → List Record → Loaded
+opened l records =
+    record { records = records; parts = l.parts; judged = l.judged; unfinished = l.line.items; limit = l.limit; fault = l.fault }
 
 -- where no place has an LF, no byte is one
 pub no_feed_below : (bytes : List ℕ) (n : ℕ) → n ≤ length bytes → Nowhere (Passes (is_byte 10) bytes) 0 n → IsWithoutLineFeed (take n bytes)

@@ -3,20 +3,24 @@
 ghost use Rattle.std.specs.Prelude.{◌≡◌};
 ghost use Rattle.tl_load.specs.Verdicts.{fault_at};
 
-use std::fmt;
+use std::fmt::{self, Formatter, Write};
 use thiserror::Error;
 use tl_layout::{FieldFault, FieldKind};
 
 /// The fault of one line, wherever it stands.
-#[derive(Clone, Copy, Debug, PartialEq, Eq)]
+#[derive(Clone, Copy, Debug, PartialEq, Eq, Error)]
 pub enum LineFault {
     /// The line has no first byte, or one that is no record type.
+    #[error("the first byte is no known record type")]
     UnknownType,
     /// The line is longer than the layout of its record type.
+    #[error("the line is longer than its record type allows")]
     LineTooLong,
     /// The byte at this column, counted from 1, isn't allowed.
+    #[error("column {0}: this byte is not allowed")]
     BadByte(u16),
     /// A field is malformed.
+    #[error(transparent)]
     Field(FieldFault),
 }
 
@@ -39,7 +43,7 @@ pub enum LoadFault {
     #[error(fmt = tell_bad_point)]
     BadPoint { part: u64, line: u64, column: u16 },
     /// A used place stands after an unused one.
-    #[error(fmt = tell_gap_in_record)]
+    #[error(fmt = tell_gap)]
     GapInRecord { part: u64, line: u64, column: u16 },
     /// There are more records of this type, the byte in column 1, than a set may have.
     #[error(fmt = tell_too_many_records)]
@@ -52,89 +56,87 @@ pub enum LoadFault {
     Memory,
 }
 
-/// Tells that a line is of no record type.
-fn tell_unknown_type<W: fmt::Write>(
-    part: &u64,
-    line: &u64,
-    f: &mut fmt::Formatter<W>,
+/// Tells the fault of a whole line behind its place.
+fn tell_of_line<W: Write>(
+    part: u64,
+    line: u64,
+    fault: LineFault,
+    f: &mut Formatter<W>,
 ) -> fmt::Result {
-    write!(
-        f,
-        "part {part}, line {line}: the first byte is no known record type"
-    )
+    write!(f, "part {part}, line {line}: {fault}")
+}
+
+/// Tells a fault that stands at a column behind its part and line.
+fn tell_at_column<W: Write>(
+    part: u64,
+    line: u64,
+    fault: LineFault,
+    f: &mut Formatter<W>,
+) -> fmt::Result {
+    write!(f, "part {part}, line {line}, {fault}")
+}
+
+/// Tells that a line is of no record type.
+fn tell_unknown_type<W: Write>(part: &u64, line: &u64, f: &mut Formatter<W>) -> fmt::Result {
+    tell_of_line(*part, *line, LineFault::UnknownType, f)
 }
 
 /// Tells that a line is longer than its layout.
-fn tell_line_too_long<W: fmt::Write>(
-    part: &u64,
-    line: &u64,
-    f: &mut fmt::Formatter<W>,
-) -> fmt::Result {
-    write!(
-        f,
-        "part {part}, line {line}: the line is longer than its record type allows"
-    )
+fn tell_line_too_long<W: Write>(part: &u64, line: &u64, f: &mut Formatter<W>) -> fmt::Result {
+    tell_of_line(*part, *line, LineFault::LineTooLong, f)
 }
 
 /// Tells that a byte isn't allowed.
-fn tell_bad_byte<W: fmt::Write>(
+fn tell_bad_byte<W: Write>(
     part: &u64,
     line: &u64,
     column: &u16,
-    f: &mut fmt::Formatter<W>,
+    f: &mut Formatter<W>,
 ) -> fmt::Result {
-    write!(
-        f,
-        "part {part}, line {line}, column {column}: this byte is not allowed"
-    )
+    tell_at_column(*part, *line, LineFault::BadByte(*column), f)
 }
 
 /// Tells that a number field is malformed.
-fn tell_bad_number<W: fmt::Write>(
+fn tell_bad_number<W: Write>(
     part: &u64,
     line: &u64,
     column: &u16,
-    f: &mut fmt::Formatter<W>,
+    f: &mut Formatter<W>,
 ) -> fmt::Result {
-    write!(
-        f,
-        "part {part}, line {line}, column {column}: this is not a number of the field"
-    )
+    tell_at_column(*part, *line, field_fault(FieldKind::BadNumber, *column), f)
 }
 
 /// Tells that a pair of coordinates is no point.
-fn tell_bad_point<W: fmt::Write>(
+fn tell_bad_point<W: Write>(
     part: &u64,
     line: &u64,
     column: &u16,
-    f: &mut fmt::Formatter<W>,
+    f: &mut Formatter<W>,
 ) -> fmt::Result {
-    write!(
-        f,
-        "part {part}, line {line}, column {column}: this is not a point"
-    )
+    tell_at_column(*part, *line, field_fault(FieldKind::BadPoint, *column), f)
 }
 
 /// Tells that a used place stands after an unused one.
-fn tell_gap_in_record<W: fmt::Write>(
-    part: &u64,
-    line: &u64,
-    column: &u16,
-    f: &mut fmt::Formatter<W>,
-) -> fmt::Result {
-    write!(
+fn tell_gap<W: Write>(part: &u64, line: &u64, column: &u16, f: &mut Formatter<W>) -> fmt::Result {
+    tell_at_column(
+        *part,
+        *line,
+        field_fault(FieldKind::GapInRecord, *column),
         f,
-        "part {part}, line {line}, column {column}: a used place follows an unused one"
     )
 }
 
 /// Tells that there are too many records of a type.
-fn tell_too_many_records<W: fmt::Write>(rtype: &u8, f: &mut fmt::Formatter<W>) -> fmt::Result {
-    write!(
-        f,
-        "there are too many records of type {}",
-        char::from(*rtype)
-    )
+fn tell_too_many_records<W: Write>(rtype: &u8, f: &mut Formatter<W>) -> fmt::Result {
+    let rtype = char::from(*rtype);
+    write!(f, "there are too many records of type {rtype}")
+}
+
+/// The fault of the field at this column.
+fn field_fault(kind: FieldKind, column: u16) -> LineFault
+    ensures { result ≡ LineFault.Field (record { kind = kind; column = column }) }
+{
+    LineFault::Field(FieldFault { kind, column })
 }
 
 impl LineFault {

@@ -1,4 +1,9 @@
 //! Loads TIGER/Line 2006 records: lines out of pieces of bytes, each judged by its layout, and the first fault.
+//!
+//! Where to start: [`Loader::new`]; for each part [`Loader::feed`], with its bytes in any pieces, and [`Loader::end_part`], or
+//! [`Loader::read_part`] with a [`Source`], as [`Counted`] makes one of a reader; and [`Loader::finish`], which answers the
+//! records or the first [`LoadFault`]. A [`LoaderInto`] takes the same calls and gives each record to a [`Keeper`]: tables by
+//! type, or [`CanonicalText`]. The crate `uses` has a proved caller, in `pieces.rt`.
 #![tactic(auto)]
 
 mod bytes;

@@ -1,4 +1,6 @@
 //! Where bytes come from.
+//!
+//! A source counts its failures, so that a device is told exactly where one failed, and a read that failed isn't tried again.
 
 ghost use Rattle.std.specs.Prelude.{◌≡◌, ◌≤◌, ◌<◌, ◌+◌, ℕ, List, Option, Some, length, IfOk, MatchResult, is_ok, IsTrue, ◌↔◌, if◌then◌else◌, min};
 ghost use Rattle.std.specs.Result.{IsErr};

@@ -3,6 +3,7 @@ use Rattle.tl_load.specs.Lines.{IsWithoutLineFeed, without_return}
 use Rattle.tl_load.specs.Loaded.{Loaded}
 use Rattle.tl_load.specs.Keeping.{seen}
 use Rattle.tl_load.proofs.Steps.{ends_line}
+use Rattle.tl_load.proofs.Views.{opened}
 use Rattle.tl_load.proofs.loader_into.LoaderInto.end_held_line.Goals as goal
 
 pub returns-clause-takes : goal.returns-clause-takes
@@ -13,16 +14,7 @@ returns-clause-takes g c =
     ∙ whole) in
     let no_feed = subst IsWithoutLineFeed whole c.self.invariant.no_feed in
     rw (← c.self.view_is) (λ records kept.
-    let before : Loaded =
-    record {
-      records = records;
-      parts = c.self.inside.parts;
-      judged = c.self.inside.judged;
-      unfinished =
-          c.self.inside.line.items;
-      limit = c.self.inside.limit;
-      fault = c.self.inside.fault;
-    } in
+    let before = opened c.self.inside records in
     let mid : Loaded = record before { unfinished = c.take-line.new.self.items } in
     let j = c.judge_next.ensures.judges records (record { held = kept.held; counted = kept.counted }) in (
       j.0,

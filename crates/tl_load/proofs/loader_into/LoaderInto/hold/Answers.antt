@@ -1,21 +1,13 @@
 use Rattle.std.proofs.Common.{refl}
 use Rattle.tl_load.specs.Loaded.{Loaded}
 use Rattle.tl_load.proofs.Steps.{holds_more}
+use Rattle.tl_load.proofs.Views.{opened}
 use Rattle.tl_load.proofs.loader_into.LoaderInto.hold.Goals as goal
 
 pub returns-in-Ok-clause-takes : goal.returns-in-Ok-clause-takes
 returns-in-Ok-clause-takes g c =
     rw (← c.self.view_is) (λ records kept.
-    let before : Loaded =
-    record {
-      records = records;
-      parts = c.self.inside.parts;
-      judged = c.self.inside.judged;
-      unfinished =
-          c.self.inside.line.items;
-      limit = c.self.inside.limit;
-      fault = c.self.inside.fault;
-    } in
+    let before = opened c.self.inside records in
     let after : Loaded = record before { unfinished = c.try_extend_from_slice.new.self.items } in (
       records,
       record { held = kept.held; counted = kept.counted },

@@ -6,7 +6,7 @@ use Rattle.tl_load.specs.Sources.{RoseBy}
 use Rattle.tl_load.specs.Lines.{IsWithoutLineFeed}
 use Rattle.tl_load.specs.Keeping.{seen, bytes_used}
 use Rattle.tl_load.proofs.Counts.{most_records}
-use Rattle.tl_load.proofs.ReadSteps.{gave_none, gave_more, gave_same, gave_kept}
+use Rattle.tl_load.proofs.ReadSteps.{gave_none, gave_more, gave_same, gave_kept, stopped}
 use Rattle.tl_load.proofs.Steps.{takes_none, takes_both, reads_closed, reads_fault}
 use Rattle.tl_load.proofs.loader_into.LoaderInto.read_to_end.Goals as goal
 use Rattle.tl_load.specs.declared.loader_into.TheConstants.{LINE_BYTES, MOST_BYTES}
@@ -38,15 +38,8 @@ returns-in-Err-clause-reads g c =
 
 pub returns-in-Err-clause-stops : goal.returns-in-Err-clause-stops
 returns-in-Err-clause-stops g c =
-    let r = c.loop-count.invariant.reads in
-    record {
-      last = c.loop-count.source;
-      taken = r.0;
-      gave = r.1;
-      one_read = c.in-Err.ensures.reads;
-      should =
-          record { after = c.loop-count.self; takes = r.3; short = c.loop-count.invariant.short };
-    }
+    let i = c.loop-count.invariant in
+    stopped g.R.Source.remaining g.R.Source.given g.R.Source.reads g.K.Keeper.holds _ _ _ _ _ _ i.reads.1 i.reads.3 i.short c.in-Err.ensures.reads
 
 pub returns-then-count-eq0-clause-reads : goal.returns-then-count-eq0-clause-reads
 returns-then-count-eq0-clause-reads g c =
@@ -74,15 +67,8 @@ returns-then-count-eq0-clause-reads g c =
 
 pub returns-then-count-eq0-clause-stops : goal.returns-then-count-eq0-clause-stops
 returns-then-count-eq0-clause-stops g c =
-    let r = c.loop-count.invariant.reads in
-    record {
-      last = c.loop-count.source;
-      taken = r.0;
-      gave = r.1;
-      one_read = c.in-Ok.ensures.reads;
-      should =
-          record { after = c.loop-count.self; takes = r.3; short = c.loop-count.invariant.short };
-    }
+    let i = c.loop-count.invariant in
+    stopped g.R.Source.remaining g.R.Source.given g.R.Source.reads g.K.Keeper.holds _ _ _ _ _ _ i.reads.1 i.reads.3 i.short c.in-Ok.ensures.reads
 
 pub loop-count-preserved : goal.loop-count-preserved
 loop-count-preserved g c =
@@ -138,12 +124,5 @@ returns-in_err-take_piece-clause-reads g c =
 
 pub returns-in_err-take_piece-clause-stops : goal.returns-in_err-take_piece-clause-stops
 returns-in_err-take_piece-clause-stops g c =
-    let r = c.loop-count.invariant.reads in
-    record {
-      last = c.loop-count.source;
-      taken = r.0;
-      gave = r.1;
-      one_read = c.in-Ok.ensures.reads;
-      should =
-          record { after = c.loop-count.self; takes = r.3; short = c.loop-count.invariant.short };
-    }
+    let i = c.loop-count.invariant in
+    stopped g.R.Source.remaining g.R.Source.given g.R.Source.reads g.K.Keeper.holds _ _ _ _ _ _ i.reads.1 i.reads.3 i.short c.in-Ok.ensures.reads

@@ -6,7 +6,7 @@ use Rattle.tl_load.specs.Lines.{is_line_feed}
 use Rattle.tl_load.specs.Loaded.{Loaded}
 use Rattle.tl_load.specs.Keeping.{seen}
 use Rattle.tl_load.proofs.Steps.{refuses}
-use Rattle.tl_load.proofs.Views.{on_ok_of}
+use Rattle.tl_load.proofs.Views.{opened, on_ok_of}
 use Rattle.tl_load.proofs.loader_into.LoaderInto.refuse_long.Goals as goal
 use Rattle.tl_load.specs.declared.loader_into.TheConstants.{LINE_BYTES}
 use Rattle.tl_layout.specs.declared.layout.TheConstants.{LONGEST_LINE}
@@ -32,16 +32,7 @@ returns-clause-takes g c =
     rw line (omega (arith, len, same, short, too_long, length-take n bytes, length-append c.take-line.result.items (take n bytes))) in
     let none = All-append (λ b. is_line_feed b ≡ false) c.self.inside.line.items bytes c.self.invariant.no_feed c.requires.no_feed in
     rw (← c.self.view_is) (λ records kept.
-    let before : Loaded =
-    record {
-      records = records;
-      parts = c.self.inside.parts;
-      judged = c.self.inside.judged;
-      unfinished =
-          c.self.inside.line.items;
-      limit = c.self.inside.limit;
-      fault = c.self.inside.fault;
-    } in
+    let before = opened c.self.inside records in
     let mid : Loaded = record before { unfinished = c.take-line.new.self.items } in
     let j = c.judge_next.ensures.judges records (record { held = kept.held; counted = kept.counted }) in (
       j.0,
