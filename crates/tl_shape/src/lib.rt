@@ -1,4 +1,8 @@
 //! Point lists, their order, and chains with their turn.
+//!
+//! A caller makes a `Shape` of two points or more by `Shape::new`, and a `Chain` of all that the records of one TLID say by
+//! `Chain::new`, or a `ChainIn` of lists that are lent. Shapes compare by `cmp`, `is_own_reverse` and `needs_turn`; a chain is turned in
+//! place by `turn`. What a turned chain is, is a relation of two chains, `IsTurned`, and each chain has exactly one.
 #![tactic(auto)]
 
 mod chain;
