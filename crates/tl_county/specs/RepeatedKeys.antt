@@ -1,6 +1,6 @@
 -- The keys that two records of a type have.
 use Rattle.std.specs.Prelude.{map}
-use Rattle.tl_county.specs.declared.gathered.Repeated.{Repeated}
+use Rattle.tl_county.specs.declared.linking.table_order.Repeated.{Repeated}
 use Rattle.tl_county.specs.County.{p_key}
 use Rattle.tl_county.specs.Keyed.{IsLeastPassing, is_repeated}
 use Rattle.tl_county.specs.Packing.{Typed}

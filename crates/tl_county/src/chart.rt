@@ -11,12 +11,12 @@ ghost use Rattle.tl_county.specs.Limits.{IsWithinLimits, most_records};
 ghost use Rattle.tl_county.specs.Orders.{stands_in};
 ghost use Rattle.tl_county.specs.PolygonKeys.{key_cmp};
 
-use crate::record_keys::PolygonKey;
+use crate::keys::record_keys::PolygonKey;
 use tl_layout::{Body1, Body5, Body7, BodyI, BodyP, Point, Ranges, Rec8, Side};
 
 /// A county, however it is kept. Places count from 0 along the ascending lists of TLIDs, FEATs, polygons, LANDs and nodes;
-/// a place or a number that isn't there is answered by `None`. Calls that answer no `Option` for what is at a place ask that it
-/// is there. No call takes memory.
+/// a place or a number that isn't there is answered by `None`, and how much stands there by 0. Calls whose names end in `_there`
+/// ask for a place that is there, and answer without an `Option`. No call takes memory.
 pub trait Chart {
     /// The county.
     ghost county: { Self → County };
@@ -165,7 +165,7 @@ pub trait Chart {
     ghost within_limits: { (chart : Self) → IsWithinLimits most_records (county chart) };
 
     /// The TLID of the chain at a place, which is below the count of chains.
-    final fn tlid(&self, place: usize) -> u64
+    final fn tlid_there(&self, place: usize) -> u64
         requires { place < length (county self.now).chains }
         ensures { Some result ≡ slice_get (tlids (county self.now)) place }
     {
@@ -173,7 +173,7 @@ pub trait Chart {
     }
 
     /// The FEAT of the name at a place, which is below the count of names.
-    final fn feat(&self, place: usize) -> u32
+    final fn feat_there(&self, place: usize) -> u32
         requires { place < length (county self.now).names }
         ensures { Some result ≡ slice_get (feats (county self.now)) place }
     {
@@ -181,7 +181,7 @@ pub trait Chart {
     }
 
     /// The key of the polygon at a place, which is below the count of polygons.
-    final fn polygon_key(&self, place: usize) -> PolygonKey
+    final fn polygon_key_there(&self, place: usize) -> PolygonKey
         requires { place < length (county self.now).polygons }
         ensures { Some result ≡ slice_get (polygon_keys (county self.now)) place }
     {
@@ -189,7 +189,7 @@ pub trait Chart {
     }
 
     /// The LAND of the landmark at a place, which is below the count of landmarks.
-    final fn land(&self, place: usize) -> u64
+    final fn land_there(&self, place: usize) -> u64
         requires { place < length (county self.now).landmarks }
         ensures { Some result ≡ slice_get (lands (county self.now)) place }
     {
@@ -197,7 +197,7 @@ pub trait Chart {
     }
 
     /// The number of the node at a place, which is below the count of nodes.
-    final fn node(&self, place: usize) -> u64
+    final fn node_there(&self, place: usize) -> u64
         requires { place < length (nodes (county self.now)) }
         ensures { Some result ≡ slice_get (nodes (county self.now)) place }
     {
@@ -205,7 +205,7 @@ pub trait Chart {
     }
 
     /// The content of the type 1 record of the chain at a place, which is below the count of chains.
-    final fn chain_body(&self, place: usize) -> Body1
+    final fn chain_body_there(&self, place: usize) -> Body1
         requires { place < length (county self.now).chains }
         ensures { Some result ≡ option_map (λ c. c.body) (chain_at (county self.now) place) }
     {
@@ -213,7 +213,7 @@ pub trait Chart {
     }
 
     /// The content of the type I record of the chain at a place, which is below the count of chains.
-    final fn link_body(&self, place: usize) -> BodyI
+    final fn link_body_there(&self, place: usize) -> BodyI
         requires { place < length (county self.now).chains }
         ensures { Some result ≡ option_map (λ c. c.link_body) (chain_at (county self.now) place) }
     {
@@ -221,7 +221,7 @@ pub trait Chart {
     }
 
     /// The node where the chain at a place starts, or none; the place is below the count of chains.
-    final fn start_node(&self, place: usize) -> Option<u64>
+    final fn start_node_there(&self, place: usize) -> Option<u64>
         requires { place < length (county self.now).chains }
         ensures { Some result ≡ option_map (λ c. c.start_node) (chain_at (county self.now) place) }
     {
@@ -229,7 +229,7 @@ pub trait Chart {
     }
 
     /// The node where the chain at a place ends, or none; the place is below the count of chains.
-    final fn end_node(&self, place: usize) -> Option<u64>
+    final fn end_node_there(&self, place: usize) -> Option<u64>
         requires { place < length (county self.now).chains }
         ensures { Some result ≡ option_map (λ c. c.end_node) (chain_at (county self.now) place) }
     {
@@ -237,7 +237,7 @@ pub trait Chart {
     }
 
     /// The left side of the chain at a place, which is below the count of chains.
-    final fn left(&self, place: usize) -> Side
+    final fn left_there(&self, place: usize) -> Side
         requires { place < length (county self.now).chains }
         ensures { Some result ≡ option_map (λ c. c.left) (chain_at (county self.now) place) }
     {
@@ -245,7 +245,7 @@ pub trait Chart {
     }
 
     /// The right side of the chain at a place, which is below the count of chains.
-    final fn right(&self, place: usize) -> Side
+    final fn right_there(&self, place: usize) -> Side
         requires { place < length (county self.now).chains }
         ensures { Some result ≡ option_map (λ c. c.right) (chain_at (county self.now) place) }
     {
@@ -253,7 +253,7 @@ pub trait Chart {
     }
 
     /// A point of the chain at a place, from its start node on; the point is below the count of its points.
-    final fn point(&self, place: usize, point: usize) -> Point
+    final fn point_there(&self, place: usize, point: usize) -> Point
         requires { point < length (points_of (chain_at (county self.now) place)) }
         ensures { Some result ≡ slice_get (points_of (chain_at (county self.now) place)) point }
     {
@@ -261,7 +261,7 @@ pub trait Chart {
     }
 
     /// The FEAT of a further name of the chain at a place; the name is below the count of its names.
-    final fn chain_feat(&self, place: usize, name: usize) -> u32
+    final fn chain_feat_there(&self, place: usize, name: usize) -> u32
         requires { name < length (feats_of (chain_at (county self.now) place)) }
         ensures { Some result ≡ slice_get (feats_of (chain_at (county self.now) place)) name }
     {
@@ -269,7 +269,7 @@ pub trait Chart {
     }
 
     /// A further address range of the chain at a place; the range is below the count of its ranges.
-    final fn range(&self, place: usize, range: usize) -> Ranges
+    final fn range_there(&self, place: usize, range: usize) -> Ranges
         requires { range < length (ranges_of (chain_at (county self.now) place)) }
         ensures { Some result ≡ slice_get (ranges_of (chain_at (county self.now) place)) range }
     {
@@ -277,7 +277,7 @@ pub trait Chart {
     }
 
     /// The name at a place, which is below the count of names.
-    final fn name_body(&self, place: usize) -> Body5
+    final fn name_body_there(&self, place: usize) -> Body5
         requires { place < length (county self.now).names }
         ensures { Some result ≡ name_at (county self.now) place }
     {
@@ -286,7 +286,7 @@ pub trait Chart {
 
     /// The content of the type P record of the polygon at a place, or none where it has no such record; the place is below the
     /// count of polygons.
-    final fn polygon_body(&self, place: usize) -> Option<BodyP>
+    final fn polygon_body_there(&self, place: usize) -> Option<BodyP>
         requires { place < length (county self.now).polygons }
         ensures { Some result ≡ polygon_at (county self.now) place }
     {
@@ -294,7 +294,7 @@ pub trait Chart {
     }
 
     /// The content of a type 7 record of the landmark at a place; the body is below the count of its bodies.
-    final fn landmark_body(&self, place: usize, body: usize) -> Body7
+    final fn landmark_body_there(&self, place: usize, body: usize) -> Body7
         requires { body < length (bodies_at (county self.now) place) }
         ensures { Some result ≡ slice_get (bodies_at (county self.now) place) body }
     {
@@ -302,7 +302,7 @@ pub trait Chart {
     }
 
     /// A type 8 record of the landmark at a place; the link is below the count of its links.
-    final fn landmark_link(&self, place: usize, link: usize) -> Rec8
+    final fn landmark_link_there(&self, place: usize, link: usize) -> Rec8
         requires { link < length (links_at (county self.now) place) }
         ensures { Some result ≡ slice_get (links_at (county self.now) place) link }
     {

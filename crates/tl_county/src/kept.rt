@@ -14,13 +14,20 @@ ghost use Rattle.tl_county.specs.Limits.{IsWithinLimits, most_records};
 ghost use Rattle.tl_county.specs.LimitsProps.{IsWithinLimits-prop};
 ghost use Rattle.tl_county.specs.PolygonKeys.{key_cmp};
 
-use crate::chain_over::ChainOver;
+pub(crate) mod chain_over;
+pub(crate) mod keeping;
+mod kept_chart;
+pub(crate) mod landmark;
+pub(crate) mod lent;
+pub(crate) mod table;
+
 use crate::chart::Chart;
-use crate::keeping::{KeptChain, KeptLandmark, KeptName};
-use crate::landmark::Landmark;
-use crate::lent::{LandmarkIn, NameIn};
-use crate::record_keys::PolygonKey;
-use crate::table::Table;
+use crate::kept::chain_over::ChainOver;
+use crate::kept::keeping::{KeptChain, KeptLandmark, KeptName};
+use crate::kept::landmark::Landmark;
+use crate::kept::lent::{LandmarkIn, NameIn};
+use crate::kept::table::Table;
+use crate::keys::record_keys::PolygonKey;
 use tl_layout::{Body5, Body7, BodyP, Rec8};
 use tl_shape::{Chain, ChainIn};
 

@@ -1,10 +1,13 @@
 //! Linking: records become a county, or the first rule that they break is told.
+//!
+//! Each table is put in order once; then tables in order are walked side by side, for the rules and for the county alike. Only names
+//! are looked up, once for each use by a chain, and uses are put in order only where some FEAT has no record of type 5. A county is built
+//! the same way whichever way it is kept: a builder makes its chains and landmarks.
 
-ghost use Rattle.std.specs.Prelude.{◌≡◌, ◌≢◌, ◌++◌, List, All, map, flat_map, OnOk, IfOk, IfErr, IsPermutation};
+ghost use Rattle.std.specs.Prelude.{◌≡◌, ◌≢◌, ◌++◌, List, map, flat_map, OnOk, IfOk, IfErr, IsPermutation};
 ghost use Rattle.std.specs.Ordering.{nat_cmp};
 ghost use Rattle.tl_layout.specs.Fields.{Fields5};
 ghost use Rattle.tl_layout.specs.Limits.{IsWithinLimit};
-ghost use Rattle.tl_layout.specs.RecordText.{FitsRecord};
 ghost use Rattle.tl_layout.specs.declared.record_type.Record.{Record};
 ghost use Rattle.tl_layout.specs.Tables.{HoldsByType};
 ghost use Rattle.tl_county.specs.Building.{county_along, landmarks_along, link_nodes};
@@ -21,22 +24,31 @@ ghost use Rattle.tl_county.specs.Packing.{by_type, type_after_type};
 ghost use Rattle.tl_county.specs.PolygonKeys.{key_cmp};
 ghost use Rattle.tl_county.specs.declared.fault.LinkFault.TheVariants.{Memory};
 
-use crate::building::{
+mod arena;
+mod building;
+mod gathering;
+pub(crate) mod linked_records;
+mod owned;
+mod rules;
+mod table_order;
+
+use crate::chart::Chart;
+use crate::fault::LinkFault;
+use crate::kept::keeping::{KeptChain, KeptLandmark, KeptName};
+use crate::kept::table::Table;
+use crate::kept::{County, CountyIn, Kept};
+use crate::keys::keyed::keys_of;
+use crate::keys::record_keys::PolygonKey;
+use crate::linking::building::{
     ChainBuilder, LandmarkBuilder, chains_of_records, landmarks_of, lands_of, nodes_of,
     polygon_bodies,
 };
-use crate::chart::Chart;
-use crate::fault::LinkFault;
-use crate::gathered::{Ordered, Polygons, gather_polygons, linked_polygons, order_tables};
-use crate::keeping::{KeptChain, KeptLandmark, KeptName};
-use crate::kept::{County, CountyIn, Kept};
-use crate::keyed::keys_of;
-use crate::linked_records::link_in_order;
-use crate::record_keys::PolygonKey;
-use crate::rules::{
+use crate::linking::gathering::{Polygons, gather_polygons, linked_polygons};
+use crate::linking::linked_records::link_in_order;
+use crate::linking::rules::{
     check_chains, check_landmarks, check_links, check_names, check_sequences, unnamed_use,
 };
-use crate::table::Table;
+use crate::linking::table_order::{Ordered, order_tables};
 use bumpalo::Bump;
 use std::alloc::{AllocError, Global};
 use tl_layout::{BodyP, Rec5, Record, Tables};
@@ -305,7 +317,6 @@ pub fn link_tables_in<'a>(
 /// The county of a list of records, or the first rule that the records break. The list's order has no meaning. It has
 /// 10,000,000 records of a type at most.
 pub fn link(alloc: Global, records: Vec<Record>) -> Result<County, LinkFault>
-    requires fits { All FitsRecord records.items }
     requires few { IsWithinLimit most_records records.items }
     ensures linked { IfOk result (λ county. IsLinked records.items × (⟦<County as Chart>⟧.county county ≡ county_of records.items)) }
     ensures broken { IfErr result (λ fault. fault ≢ Memory → IsFirstBrokenRule records.items fault) }
@@ -321,7 +332,6 @@ pub fn link_in<'a>(
     arena: &'a Bump,
     records: Vec<Record>,
 ) -> Result<CountyIn<'a>, LinkFault>
-    requires fits { All FitsRecord records.items }
     requires few { IsWithinLimit most_records records.items }
     ensures linked { IfOk result (λ county. IsLinked records.items × (⟦<CountyIn<'a> as Chart>⟧.county county ≡ county_of records.items)) }
     ensures broken { IfErr result (λ fault. fault ≢ Memory → IsFirstBrokenRule records.items fault) }

@@ -1,4 +1,4 @@
-use Rattle.tl_county.proofs.Sameness.{same-reflexive, same-symmetric, same-transitive}
+use Rattle.tl_county.proofs.Sameness.Equivalence.{same-reflexive, same-symmetric, same-transitive}
 use Rattle.tl_county.proofs.laws.sameness_is_an_equivalence.Goals as goal
 
 pub returns-clause-reflexive : goal.returns-clause-reflexive

@@ -7,8 +7,8 @@ use Rattle.tl_county.specs.Building.{chains_along}
 use Rattle.tl_county.specs.County.{one_tlid, two_tlid, four_tlid, six_tlid}
 use Rattle.tl_county.specs.OrderedTables.{typed_of}
 use Rattle.tl_county.specs.Orders.{IsInOrder}
-use Rattle.tl_county.proofs.BuiltTables.{twos-in_order, fours-in_order, sixes-in_order, tlids-ascend, beside, length-chains_along}
-use Rattle.tl_county.proofs.EntryLists.{entries-equal, keys-zip, values-zip, keys-map_values, values-map_values}
+use Rattle.tl_county.proofs.Rules.BuiltTables.{twos-in_order, fours-in_order, sixes-in_order, tlids-ascend, beside, length-chains_along}
+use Rattle.tl_county.proofs.Lists.EntryLists.{entries-equal, keys-zip, values-zip, keys-map_values, values-map_values}
 use Rattle.tl_county.proofs.linking.build_chains.Goals as goal
 
 pub chains_of_records-requires : goal.chains_of_records-requires

@@ -9,8 +9,8 @@ use Rattle.tl_county.specs.Entries.{map_values}
 use Rattle.tl_county.specs.KeptCounty.{county_with, LinksUnderLands}
 use Rattle.tl_county.specs.Limits.{IsWithinLimits, most_records}
 use Rattle.tl_county.specs.OrderedTables.{typed_of}
-use Rattle.tl_county.proofs.BuiltTables.{as_built, built-is_county, feats-ascend, nodes-built, links_under_lands-along}
-use Rattle.tl_county.proofs.KeptParts.{names-built}
+use Rattle.tl_county.proofs.Rules.BuiltTables.{as_built, built-is_county, feats-ascend, nodes-built, links_under_lands-along}
+use Rattle.tl_county.proofs.Rules.KeptParts.{names-built}
 use Rattle.tl_county.proofs.linking.build_county.Goals as goal
 
 pub new-requires-clause-ascending : goal.new-requires-clause-ascending
@@ -46,12 +46,8 @@ invariant_of-result g c =
 pub returns : goal.returns
 returns g c =
     let t = typed_of c.args.tables.now in
-    let parts = c.in_ok-parts.parts in
     let told = c.in_ok-parts.ensures in
-    let name = g.N.KeptName.name in
-    let names = names-built name c.new.result t (c.new.ensures.keys ∙ c.requires.feats)
-    (ap (map name) c.new.ensures.values ∙ c.requires.names) in
-    let same : county_with (map_values g.C.KeptChain.chain parts.chains) (map_values name c.new.result) parts.polygons
-    (map_values g.L.KeptLandmark.landmark parts.landmarks) ≡ county_along t =
-    λ i. county_with (told.chains i) (names i) (told.polygons i) (told.landmarks i) in
-    same ∙ sym (as_built t c.requires.tables c.requires.linked)
+    let names = names-built g.N.KeptName.name c.new.result t (c.new.ensures.keys ∙ c.requires.feats)
+    (ap (map g.N.KeptName.name) c.new.ensures.values ∙ c.requires.names) in
+    (λ i. county_with (told.chains i) (names i) (told.polygons i) (told.landmarks i))
+    ∙ sym (as_built t c.requires.tables c.requires.linked)

@@ -6,11 +6,11 @@ use Rattle.tl_county.specs.County.{seven_land, eight_land}
 use Rattle.tl_county.specs.Entries.{map_values}
 use Rattle.tl_county.specs.OrderedTables.{typed_of}
 use Rattle.tl_county.specs.Orders.{IsInOrder, distinct}
-use Rattle.tl_county.proofs.BuiltTables.{sevens-in_order, eights-in_order}
-use Rattle.tl_county.proofs.EntryLists.{entries-equal, keys-map_values, values-map_values}
-use Rattle.tl_county.proofs.Keys.{nat_keys}
-use Rattle.tl_county.proofs.Lists.{map-map}
-use Rattle.tl_county.proofs.Numbers.{distinct-strict}
+use Rattle.tl_county.proofs.Rules.BuiltTables.{sevens-in_order, eights-in_order}
+use Rattle.tl_county.proofs.Lists.EntryLists.{entries-equal, keys-map_values, values-map_values}
+use Rattle.tl_county.proofs.ByKey.Keys.{nat_keys}
+use Rattle.tl_county.proofs.Lists.Elements.{map-map}
+use Rattle.tl_county.proofs.ByKey.Numbers.{distinct-strict}
 use Rattle.tl_county.proofs.linking.build_landmarks.Goals as goal
 
 pub lands_of-requires : goal.lands_of-requires

@@ -4,10 +4,10 @@ use Rattle.tl_county.specs.Building.{polygon_body_of}
 use Rattle.tl_county.specs.County.{p_key, side_keys}
 use Rattle.tl_county.specs.Orders.{distinct}
 use Rattle.tl_county.specs.PolygonKeys.{PolygonKey, key_cmp}
-use Rattle.tl_county.proofs.EntryLists.{entries-equal}
-use Rattle.tl_county.proofs.KeyOrders.{key_keys}
-use Rattle.tl_county.proofs.Lists.{map-map}
-use Rattle.tl_county.proofs.Numbers.{distinct-strict}
+use Rattle.tl_county.proofs.Lists.EntryLists.{entries-equal}
+use Rattle.tl_county.proofs.ByKey.KeyOrders.{key_keys}
+use Rattle.tl_county.proofs.Lists.Elements.{map-map}
+use Rattle.tl_county.proofs.ByKey.Numbers.{distinct-strict}
 use Rattle.tl_county.proofs.linking.build_polygons.Goals as goal
 
 pub polygon_bodies-requires-clause-polygons : goal.polygon_bodies-requires-clause-polygons

@@ -5,7 +5,7 @@ use Rattle.tl_county.specs.declared.fault.LinkFault.{LinkFault}
 use Rattle.tl_county.specs.LinkRules.{IsFirstBrokenRule, IsLinked}
 use Rattle.tl_county.specs.RepeatedKeys.{AreLeastRepeated}
 use Rattle.tl_county.specs.RuleOrder.{RulesHold, IsFirstFrom}
-use Rattle.tl_county.proofs.RuleOrders.{rules-join, first-after, all_hold, first_of_all}
+use Rattle.tl_county.proofs.Rules.RuleOrders.{rules-join, first-after, all_hold, first_of_all}
 use Rattle.tl_county.proofs.linking.check_rules.Goals as goal
 
 module _ (Of : List Record → Type 0) (before : (records : List Record) → Of records → RulesHold records 0 12) where

@@ -7,8 +7,8 @@ use Rattle.tl_county.specs.OrderedTables.{typed_of}
 use Rattle.tl_county.specs.Packing.{type_after_type}
 use Rattle.tl_county.specs.declared.fault.LinkFault.{LinkFault}
 use Rattle.tl_county.specs.declared.fault.LinkFault.TheVariants.{Memory}
-use Rattle.tl_county.proofs.BuiltTables.{also_first, held}
-use Rattle.tl_county.proofs.TypedRecords.{by_type-after}
+use Rattle.tl_county.proofs.Rules.BuiltTables.{also_first, held}
+use Rattle.tl_county.proofs.Rules.TypedRecords.{by_type-after}
 use Rattle.tl_county.proofs.linking.settle.Goals as goal
 
 -- the exit of a `?`: what holds of the callee's fault holds of the answer

@@ -1,7 +1,7 @@
 use Rattle.std.proofs.Common.{ap, ◌∙◌, slice_get, unwrap_or}
 use Rattle.tl_county.specs.Entries.{entry_values}
-use Rattle.tl_county.proofs.KeyOrders.{key_keys}
-use Rattle.tl_county.proofs.Places.{value-at_or_end}
+use Rattle.tl_county.proofs.ByKey.KeyOrders.{key_keys}
+use Rattle.tl_county.proofs.Lists.Places.{value-at_or_end}
 use Rattle.tl_county.proofs.chart.Chart.polygon_place_or_end.Goals as goal
 
 pub returns : goal.returns

@@ -1,8 +1,8 @@
 use Rattle.std.proofs.Common.{[], ap, ◌∙◌, unwrap_or, option_map}
 use Rattle.tl_county.specs.Entries.{map_values}
 use Rattle.tl_county.specs.LandmarkParts.{LandmarkParts}
-use Rattle.tl_county.proofs.BuiltTables.{bodies-at}
-use Rattle.tl_county.proofs.KeptParts.{value-at-kept}
+use Rattle.tl_county.proofs.Rules.BuiltTables.{bodies-at}
+use Rattle.tl_county.proofs.Rules.KeptParts.{value-at-kept}
 use Rattle.tl_county.proofs.kept.Kept.bodies_of_place.Goals as goal
 
 pub returns-in-Some : goal.returns-in-Some

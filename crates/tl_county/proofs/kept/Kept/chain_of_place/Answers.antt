@@ -1,5 +1,5 @@
 use Rattle.std.proofs.Common.{ap, ◌∙◌, option_map}
-use Rattle.tl_county.proofs.KeptParts.{value-at-kept}
+use Rattle.tl_county.proofs.Rules.KeptParts.{value-at-kept}
 use Rattle.tl_county.proofs.kept.Kept.chain_of_place.Goals as goal
 
 pub returns : goal.returns

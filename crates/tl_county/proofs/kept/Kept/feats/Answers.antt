@@ -1,5 +1,5 @@
 use Rattle.std.proofs.Common.{◌∙◌}
-use Rattle.tl_county.proofs.KeptParts.{keys-kept}
+use Rattle.tl_county.proofs.Rules.KeptParts.{keys-kept}
 use Rattle.tl_county.proofs.kept.Kept.feats.Goals as goal
 
 pub returns : goal.returns

@@ -1,5 +1,5 @@
 use Rattle.std.proofs.Common.{◌∙◌}
-use Rattle.tl_county.proofs.KeptParts.{lands-kept-in}
+use Rattle.tl_county.proofs.Rules.KeptParts.{lands-kept-in}
 use Rattle.tl_county.proofs.kept.Kept.lands.Goals as goal
 
 pub returns : goal.returns

@@ -3,8 +3,8 @@ use Rattle.std.specs.List.Sorted.{IsStrictlySortedBy}
 use Rattle.tl_county.specs.ChartWords.{links_with}
 use Rattle.tl_county.specs.Entries.{map_values}
 use Rattle.tl_county.specs.LandmarkParts.{LandmarkParts}
-use Rattle.tl_county.proofs.BuiltTables.{links-at, lands-kept}
-use Rattle.tl_county.proofs.KeptParts.{value-at-kept}
+use Rattle.tl_county.proofs.Rules.BuiltTables.{links-at, lands-kept}
+use Rattle.tl_county.proofs.Rules.KeptParts.{value-at-kept}
 use Rattle.tl_county.proofs.kept.Kept.links_of_place.Goals as goal
 
 pub returns-in-Some : goal.returns-in-Some

@@ -1,0 +1,300 @@
+-- What a renaming that carries keeps of a county's limits: its contents fit, its lists have room, and it takes as many
+-- records of each type.
+use Rattle.std.proofs.Common.{◌≡◌, ◌+◌, ◌-◌, ◌≤◌, ℕ, zero, suc, List, [], ◌∷◌, map, flat_map, filter_map}
+use Rattle.std.proofs.Common.{length, reverse, drop, sum_by, Bool, true, false, Option, Some, None, IfSome, sym, refl, ap, ap₂}
+use Rattle.std.proofs.Common.{◌∙◌, subst, arith, nat_cmp, IsPermutation, length-drop}
+use Rattle.std.proofs.lemmas.List.{length-map, length-reverse}
+use Rattle.std.proofs.lemmas.List.Concat.{length-flat_map}
+use Rattle.std.proofs.lemmas.List.Sums.{sum_by-cons}
+use Rattle.std.proofs.lemmas.List.Sorted.{IsPermutation-sym, IsPermutation-reverse, length_permutation, sum_by-IsPermutation}
+use Rattle.std.specs.List.{AllByRecursion, cons_option}
+use Rattle.std.specs.Ordering.{on}
+use Rattle.tl_layout.specs.AddressRanges.{FitsRanges}
+use Rattle.tl_layout.specs.Bytes.{IsText}
+use Rattle.tl_layout.specs.Coordinates.{Coordinates, IsOnMap}
+use Rattle.tl_layout.specs.Turned.{turned_ranges, turned_body}
+use Rattle.tl_layout.specs.Type1Groups.{FitsBody1}
+use Rattle.tl_layout.specs.declared.ranges.Ranges.{Ranges}
+use Rattle.tl_layout.specs.declared.type1.Body1.{Body1}
+use Rattle.tl_layout.specs.declared.type5.Body5.{Body5}
+use Rattle.tl_layout.specs.declared.type7.Body7.{Body7}
+use Rattle.tl_layout.specs.declared.type_p.BodyP.{BodyP}
+use Rattle.tl_shape.specs.Chain.{Chain}
+use Rattle.tl_shape.specs.Turned.{turned_if}
+use Rattle.tl_county.specs.County.{County, link_key}
+use Rattle.tl_county.specs.Limits.{FitsNameBody, FitsLandmark, FitsPolygon, FitsLinkContent, FitsChain, FitsLink, HasRoom, ContentsFit}
+use Rattle.tl_county.specs.Packing.{pieces, in_pieces, numbered_from, without_last, inner_points, packed_one, packed_twos}
+use Rattle.tl_county.specs.Packing.{packed_fours, packed_five, packed_sixes, packed_sevens, packed_i, packed_body, packed_p}
+use Rattle.tl_county.specs.Packing.{p_polyid, packed_by_type}
+use Rattle.tl_county.specs.PolygonKeys.{PolygonKey}
+use Rattle.tl_county.specs.Renumbering.{Renumbering, image, turns, renumbered_polygon, renumbered, carried_chain, carried_name}
+use Rattle.tl_county.specs.Renumbering.{carried_polygon, carried_landmark, carried_link, Carries}
+use Rattle.tl_county.proofs.Lists.Counted.{length-numbered_from}
+use Rattle.tl_county.proofs.Limits.FieldsFit.{link_content_turned}
+use Rattle.tl_county.proofs.Rules.FirstFault.{Among, all_among}
+use Rattle.tl_county.proofs.Rules.LinkedCounty.{each_from, length-in_order}
+use Rattle.tl_county.proofs.Lists.Elements.{all_weaker, all_map}
+use Rattle.tl_county.proofs.Lists.Members.{among-permutation, among-unmap}
+use Rattle.tl_county.proofs.Sameness.Equivalence.{image-keeps}
+use Rattle.tl_county.proofs.Packing.TypeCounts.{HasWithin}
+
+-- a turn exchanges fields of one width
+ranges_turned_fit : (ranges : Ranges) → FitsRanges ranges → FitsRanges (turned_ranges ranges)
+ranges_turned_fit ranges f = record {
+  fraddl = f.toaddr;
+  toaddl = f.fraddr;
+  fraddr = f.toaddl;
+  toaddr = f.fraddl;
+  friaddl = f.toiaddr;
+  toiaddl = f.friaddr;
+  friaddr = f.toiaddl;
+  toiaddr = f.friaddl;
+  zip = record { left = f.zip.right; right = f.zip.left };
+}
+
+body_turned_fits : (body : Body1) → FitsBody1 body → FitsBody1 (turned_body body)
+body_turned_fits body f = record {
+  side1 = f.side1;
+  source = f.source;
+  name = f.name;
+  cfcc = f.cfcc;
+  ranges = ranges_turned_fit body.ranges f.ranges;
+  native_areas = record {
+    aianhhfp = record { left = f.native_areas.aianhhfp.right; right = f.native_areas.aianhhfp.left };
+    aihhtli = record { left = f.native_areas.aihhtli.right; right = f.native_areas.aihhtli.left };
+  };
+  census1 = f.census1;
+  census2 = f.census2;
+  entities = record {
+    state = record { left = f.entities.state.right; right = f.entities.state.left };
+    county = record { left = f.entities.county.right; right = f.entities.county.left };
+    cousub = record { left = f.entities.cousub.right; right = f.entities.cousub.left };
+    submcd = record { left = f.entities.submcd.right; right = f.entities.submcd.left };
+    place = record { left = f.entities.place.right; right = f.entities.place.left };
+    tract = record { left = f.entities.tract.right; right = f.entities.tract.left };
+    block = record { left = f.entities.block.right; right = f.entities.block.left };
+  };
+}
+
+all_reversed : {X : Type 0} (Q : X → Type 0) (xs : List X) → AllByRecursion Q xs → AllByRecursion Q (reverse xs)
+all_reversed Q xs a =
+    each_from Q (reverse xs)
+    (λ x m. all_among Q x xs a (among-permutation x (reverse xs) xs (IsPermutation-sym xs (reverse xs) (IsPermutation-reverse xs)) m))
+
+chain_turned_fits : (b : Bool) (c : Chain) → FitsChain c → FitsChain (turned_if b c)
+chain_turned_fits false c f = f
+chain_turned_fits true c f = record {
+  body = body_turned_fits c.body f.body;
+  points = all_reversed IsOnMap c.points f.points;
+  ranges = all_map FitsRanges turned_ranges c.ranges
+      (all_weaker FitsRanges (λ entry. FitsRanges (turned_ranges entry)) ranges_turned_fit c.ranges f.ranges);
+  link = link_content_turned c.link_body c.left.cenid c.right.cenid f.link;
+}
+
+-- how many points stand between a chain's ends
+length-without_last : (points : List Coordinates) → length (without_last points) ≡ length points - 1
+length-without_last [] = refl
+length-without_last (p ∷ []) = refl
+length-without_last (p ∷ q ∷ points) = let rest : length (without_last (q ∷ points)) ≡ suc (length points) - 1 =
+    length-without_last (q ∷ points) in omega arith
+
+pub length-inner : (points : List Coordinates) → length (inner_points points) ≡ length points - 2
+length-inner [] = refl
+length-inner (p ∷ points) = let rest : length (without_last points) ≡ length points - 1 = length-without_last points in omega arith
+
+inner_turned : (b : Bool) (c : Chain) → length (inner_points (turned_if b c).points) ≡ length (inner_points c.points)
+inner_turned false c = refl
+inner_turned true c = length-inner (reverse c.points) ∙ ap (λ n. n - 2) (length-reverse c.points) ∙ sym (length-inner c.points)
+
+feats_turned : (b : Bool) (c : Chain) → length (turned_if b c).feats ≡ length c.feats
+feats_turned false c = refl
+feats_turned true c = refl
+
+ranges_turned : (b : Bool) (c : Chain) → length (turned_if b c).ranges ≡ length c.ranges
+ranges_turned false c = refl
+ranges_turned true c = length-map c.ranges turned_ranges
+
+-- how many pieces there are is told by the length alone
+pieces_by_length : {X Y : Type 0} (n room : ℕ) (xs : List X) (ys : List Y) → length xs ≡ length ys
+    → length (pieces n room xs) ≡ length (pieces n room ys)
+pieces_by_length n zero xs ys e = refl
+pieces_by_length n (suc room) [] [] e = refl
+pieces_by_length n (suc room) [] (y ∷ ys) e = absurd (omega (arith, e))
+pieces_by_length n (suc room) (x ∷ xs) [] e = absurd (omega (arith, e))
+pieces_by_length n (suc room) (x ∷ xs) (y ∷ ys) e =
+    ap suc (pieces_by_length n room (drop n (x ∷ xs)) (drop n (y ∷ ys)) (length-drop n (x ∷ xs) ∙ ap (λ m. m - n) e
+    ∙ sym (length-drop n (y ∷ ys))))
+
+in_pieces_by_length : {X Y : Type 0} (n : ℕ) (xs : List X) (ys : List Y) → length xs ≡ length ys
+    → length (in_pieces n xs) ≡ length (in_pieces n ys)
+in_pieces_by_length n xs ys e = ap (λ room. length (pieces n room xs)) e ∙ pieces_by_length n (length ys) xs ys e
+
+-- joined lists of equal lengths, under a permutation
+same_count : {X Y : Type 0} (pack : X → List Y) (carried : X → X) (xs ys : List X) → ((x : X) → length (pack (carried x)) ≡ length (pack x))
+    → IsPermutation (map carried xs) ys → length (flat_map pack ys) ≡ length (flat_map pack xs)
+same_count pack carried xs ys e p =
+    length-flat_map pack ys ∙ sum_by-IsPermutation (λ x. length (pack x)) (map carried xs) ys p ∙ carried_sum xs
+    ∙ sym (length-flat_map pack xs)
+  where
+    carried_sum : (zs : List _) → sum_by (λ x. length (pack x)) (map carried zs) ≡ sum_by (λ x. length (pack x)) zs
+    carried_sum [] = refl
+    carried_sum (z ∷ zs) = sum_by-cons (λ x. length (pack x)) (carried z) (map carried zs) ∙ ap₂ (λ m n. m + n) (e z) (carried_sum zs)
+        ∙ sym (sum_by-cons (λ x. length (pack x)) z zs)
+
+same_length : {X : Type 0} (carried : X → X) (xs ys : List X) → IsPermutation (map carried xs) ys → length ys ≡ length xs
+same_length carried xs ys p = length_permutation (map carried xs) ys p ∙ length-map xs carried
+
+-- polygons with content
+abbrev weight : Option BodyP → ℕ
+weight None = 0
+weight (Some body) = 1
+
+length-packed_p : (es : List (PolygonKey × Option BodyP)) → length (filter_map packed_p es) ≡ sum_by (λ e. weight e.1) es
+length-packed_p [] = refl
+length-packed_p (e ∷ es) = go e.1 (length-packed_p es) ∙ sym (sum_by-cons (λ (d : PolygonKey × Option BodyP). weight d.1) e es)
+  where
+    go : (o : Option BodyP) → length (filter_map packed_p es) ≡ sum_by (λ d. weight d.1) es
+        → length (cons_option (packed_body e.0 o) (filter_map packed_p es)) ≡ weight o + sum_by (λ d. weight d.1) es
+    go None ih = ih ∙ (let t : sum_by (λ (d : PolygonKey × Option BodyP). weight d.1) es ≡ 0 + sum_by
+        (λ (d : PolygonKey × Option BodyP). weight d.1) es = omega arith in t)
+    go (Some body) ih = ap suc ih ∙ (let t : suc (sum_by (λ (d : PolygonKey × Option BodyP). weight d.1) es) ≡ 1 + sum_by
+        (λ (d : PolygonKey × Option BodyP). weight d.1) es = omega arith in t)
+
+module _ (r : Renumbering) (a b : County) (h : Carries r a b) where
+  old_chain : (e : ℕ × Chain) → Among e b.chains → (d : ℕ × Chain) × Among d a.chains × (e ≡ carried_chain r d)
+  old_chain e m = among-unmap (carried_chain r) e a.chains
+      (among-permutation e b.chains (map (carried_chain r) a.chains)
+      (IsPermutation-sym (map (carried_chain r) a.chains) b.chains h.chains) m)
+
+  side_cenid : (cenid : List ℕ) (polyid : Option ℕ) → (renumbered_polygon r cenid polyid).cenid ≡ cenid
+  side_cenid cenid None = refl
+  side_cenid cenid (Some polyid) = image-keeps r.polygons h.numbers.cenids (cenid, polyid)
+
+  chain_renumbered_fits : (c : Chain) → FitsChain c → FitsChain (renumbered r c)
+  chain_renumbered_fits c f = record {
+    body = f.body;
+    points = f.points;
+    ranges = f.ranges;
+    link = subst (λ left. FitsLinkContent c.link_body left (renumbered r c).right.cenid) (sym (side_cenid c.left.cenid c.left.polyid))
+        (subst (FitsLinkContent c.link_body c.left.cenid) (sym (side_cenid c.right.cenid c.right.polyid)) f.link);
+  }
+
+  pub carried_contents : ContentsFit a → ContentsFit b
+  carried_contents fits = record {
+    chains = each_from (λ e. FitsChain e.1) b.chains (λ e m. let o = old_chain e m in
+        subst (λ (c : ℕ × Chain). FitsChain c.1) (sym o.2)
+        (chain_renumbered_fits (turned_if (turns r o.0.0) o.0.1)
+        (chain_turned_fits (turns r o.0.0) o.0.1 (all_among (λ d. FitsChain d.1) o.0 a.chains fits.chains o.1))));
+    names = each_from (λ e. FitsNameBody e.1) b.names (λ e m. let o =
+        among-unmap (carried_name r) e a.names
+        (among-permutation e b.names (map (carried_name r) a.names) (IsPermutation-sym (map (carried_name r) a.names) b.names h.names) m) in
+        subst (λ (c : ℕ × Body5). FitsNameBody c.1) (sym o.2) (all_among (λ d. FitsNameBody d.1) o.0 a.names fits.names o.1));
+    cenids = each_from (λ e. IsText 5 e.0.0) b.polygons (λ e m. let o = old_polygon e m in
+        subst (λ (c : PolygonKey × Option BodyP). IsText 5 c.0.0) (sym o.2)
+        (subst (IsText 5) (sym (image-keeps r.polygons h.numbers.cenids o.0.0))
+        (all_among (λ d. IsText 5 d.0.0) o.0 a.polygons fits.cenids o.1)));
+    polygons = each_from (λ e. IfSome e.1 (FitsPolygon e.0.0)) b.polygons (λ e m. let o = old_polygon e m in
+        subst (λ (c : PolygonKey × Option BodyP). IfSome c.1 (FitsPolygon c.0.0)) (sym o.2)
+        (subst (λ cenid. IfSome o.0.1 (FitsPolygon cenid)) (sym (image-keeps r.polygons h.numbers.cenids o.0.0))
+        (all_among (λ d. IfSome d.1 (FitsPolygon d.0.0)) o.0 a.polygons fits.polygons o.1)));
+    landmarks = each_from (λ e. AllByRecursion FitsLandmark e.1) b.landmarks (λ e m. let o =
+        among-unmap (carried_landmark r) e a.landmarks
+        (among-permutation e b.landmarks (map (carried_landmark r) a.landmarks)
+        (IsPermutation-sym (map (carried_landmark r) a.landmarks) b.landmarks h.landmarks) m) in
+        subst (λ (c : ℕ × List Body7). AllByRecursion FitsLandmark c.1) (sym o.2)
+        (all_among (λ d. AllByRecursion FitsLandmark d.1) o.0 a.landmarks fits.landmarks o.1));
+    links = each_from FitsLink b.links (λ l m. let o =
+        among-unmap (carried_link r) l a.links
+        (among-permutation l b.links (map (carried_link r) a.links) (IsPermutation-sym (map (carried_link r) a.links) b.links h.links) m) in
+        let f : FitsLink o.0 = all_among FitsLink o.0 a.links fits.links o.1 in
+        subst FitsLink (sym o.2) (record {
+          file = f.file;
+          cenid =
+              subst (IsText 5) (sym (image-keeps r.polygons h.numbers.cenids (link_key o.0))) f.cenid;
+        }));
+  }
+    where
+      old_polygon : (e : PolygonKey × Option BodyP) → Among e b.polygons
+          → (d : PolygonKey × Option BodyP) × Among d a.polygons × (e ≡ carried_polygon r d)
+      old_polygon e m = among-unmap (carried_polygon r) e a.polygons
+          (among-permutation e b.polygons (map (carried_polygon r) a.polygons)
+          (IsPermutation-sym (map (carried_polygon r) a.polygons) b.polygons h.polygons) m)
+
+  -- the lengths of a carried chain's lists
+  inner_carried : (e : ℕ × Chain) → length (inner_points (carried_chain r e).1.points) ≡ length (inner_points e.1.points)
+  inner_carried e = inner_turned (turns r e.0) e.1
+
+  feats_carried : (e : ℕ × Chain) → length (carried_chain r e).1.feats ≡ length e.1.feats
+  feats_carried e = length-map (turned_if (turns r e.0) e.1).feats (image nat_cmp r.names) ∙ feats_turned (turns r e.0) e.1
+
+  ranges_carried : (e : ℕ × Chain) → length (carried_chain r e).1.ranges ≡ length e.1.ranges
+  ranges_carried e = ranges_turned (turns r e.0) e.1
+
+  pub carried_room : AllByRecursion (λ e. HasRoom e.1) a.chains → AllByRecursion (λ e. HasRoom e.1) b.chains
+  carried_room room = each_from (λ e. HasRoom e.1) b.chains (λ e m. let o = old_chain e m in
+      let f : HasRoom o.0.1 = all_among (λ d. HasRoom d.1) o.0 a.chains room o.1 in
+      subst (λ (c : ℕ × Chain). HasRoom c.1) (sym o.2) (record {
+        points = subst (λ n. n ≤ 9990) (sym (inner_carried o.0)) f.points;
+        feats = subst (λ n. n ≤ 4995) (sym (feats_carried o.0)) f.feats;
+        ranges = subst (λ n. n ≤ 999) (sym (ranges_carried o.0)) f.ranges;
+      }))
+
+  twos_carried : (e : ℕ × Chain) → length (packed_twos (carried_chain r e)) ≡ length (packed_twos e)
+  twos_carried e =
+      let count : (d : ℕ × Chain) → length (packed_twos d) ≡ length (in_pieces 10 (inner_points d.1.points)) =
+      λ d. length-map (numbered_from 1 (in_pieces 10 (inner_points d.1.points)))
+      (λ piece. record { tlid = d.0; rtsq = piece.0; points = piece.1 })
+      ∙ length-numbered_from 1 (in_pieces 10 (inner_points d.1.points)) in
+      count (carried_chain r e) ∙ in_pieces_by_length 10 (inner_points (carried_chain r e).1.points) (inner_points e.1.points)
+      (inner_carried e) ∙ sym (count e)
+
+  fours_carried : (e : ℕ × Chain) → length (packed_fours (carried_chain r e)) ≡ length (packed_fours e)
+  fours_carried e =
+      let count : (d : ℕ × Chain) → length (packed_fours d) ≡ length (in_pieces 5 d.1.feats) =
+      λ d. length-map (numbered_from 1 (in_pieces 5 d.1.feats)) (λ piece. record { tlid = d.0; rtsq = piece.0; feats = piece.1 })
+      ∙ length-numbered_from 1 (in_pieces 5 d.1.feats) in
+      count (carried_chain r e) ∙ in_pieces_by_length 5 (carried_chain r e).1.feats e.1.feats (feats_carried e) ∙ sym (count e)
+
+  sixes_carried : (e : ℕ × Chain) → length (packed_sixes (carried_chain r e)) ≡ length (packed_sixes e)
+  sixes_carried e =
+      let count : (d : ℕ × Chain) → length (packed_sixes d) ≡ length d.1.ranges =
+      λ d. length-map (numbered_from 1 d.1.ranges) (λ piece. record { tlid = d.0; rtsq = piece.0; ranges = piece.1 })
+      ∙ length-numbered_from 1 d.1.ranges in
+      count (carried_chain r e) ∙ ranges_carried e ∙ sym (count e)
+
+  sevens_carried : (e : ℕ × List Body7) → length (packed_sevens (carried_landmark r e)) ≡ length (packed_sevens e)
+  sevens_carried e = length-map e.1 (λ body. record { land = (carried_landmark r e).0; body = body })
+      ∙ sym (length-map e.1 (λ body. record { land = e.0; body = body }))
+
+  polygons_carried : length (filter_map packed_p b.polygons) ≡ length (filter_map packed_p a.polygons)
+  polygons_carried = length-packed_p b.polygons ∙ sum_by-IsPermutation (λ (e : PolygonKey × Option BodyP). weight e.1)
+      (map (carried_polygon r) a.polygons) b.polygons h.polygons ∙ carried_sum a.polygons ∙ sym (length-packed_p a.polygons)
+    where
+      carried_sum : (es : List (PolygonKey × Option BodyP))
+          → sum_by (λ (e : PolygonKey × Option BodyP). weight e.1) (map (carried_polygon r) es) ≡ sum_by
+          (λ (e : PolygonKey × Option BodyP). weight e.1) es
+      carried_sum [] = refl
+      carried_sum (e ∷ es) = sum_by-cons (λ (d : PolygonKey × Option BodyP). weight d.1) (carried_polygon r e) (map (carried_polygon r) es)
+          ∙ ap (λ n. weight e.1 + n) (carried_sum es) ∙ sym (sum_by-cons (λ (d : PolygonKey × Option BodyP). weight d.1) e es)
+
+  pub carried_counts : (limits : ℕ → ℕ) → HasWithin limits (packed_by_type a) → HasWithin limits (packed_by_type b)
+  carried_counts limits few =
+      let chains : length b.chains ≡ length a.chains = same_length (carried_chain r) a.chains b.chains h.chains in
+      record {
+        of_type_1 = subst (λ n. n ≤ limits 49) (sym (length-map b.chains packed_one ∙ chains
+            ∙ sym (length-map a.chains packed_one))) few.of_type_1;
+        of_type_2 = subst (λ n. n ≤ limits 50) (sym (same_count packed_twos
+            (carried_chain r) a.chains b.chains twos_carried h.chains)) few.of_type_2;
+        of_type_4 = subst (λ n. n ≤ limits 52) (sym (same_count packed_fours
+            (carried_chain r) a.chains b.chains fours_carried h.chains)) few.of_type_4;
+        of_type_5 = subst (λ n. n ≤ limits 53) (sym (length-map b.names packed_five ∙ same_length (carried_name r) a.names b.names h.names
+            ∙ sym (length-map a.names packed_five))) few.of_type_5;
+        of_type_6 = subst (λ n. n ≤ limits 54) (sym (same_count packed_sixes
+            (carried_chain r) a.chains b.chains sixes_carried h.chains)) few.of_type_6;
+        of_type_7 = subst (λ n. n ≤ limits 55) (sym (same_count packed_sevens
+            (carried_landmark r) a.landmarks b.landmarks sevens_carried h.landmarks)) few.of_type_7;
+        of_type_8 = subst (λ n. n ≤ limits 56) (sym (same_length (carried_link r) a.links b.links h.links)) few.of_type_8;
+        of_type_i = subst (λ n. n ≤ limits 73) (sym (length-map b.chains packed_i ∙ chains ∙ sym (length-map a.chains packed_i))) few.of_type_i;
+        of_type_p = subst (λ n. n ≤ limits 80) (sym (length-in_order (on p_polyid nat_cmp) (filter_map packed_p b.polygons) ∙ polygons_carried
+            ∙ sym (length-in_order (on p_polyid nat_cmp) (filter_map packed_p a.polygons)))) few.of_type_p;
+      }

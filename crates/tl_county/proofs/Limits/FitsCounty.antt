@@ -1,0 +1,528 @@
+-- Linked records that fit, and of no type too many, have a county within its limits.
+use Rattle.std.proofs.Common.{◌≡◌, ◌⊎◌, ◌+◌, ◌*◌, ◌-◌, ◌<◌, ◌≤◌, ◌==◌, ℕ, List, [], ◌∷◌, ◌++◌, map, flat_map, filter}
+use Rattle.std.proofs.Common.{filter_map, length, length-append, Bool, true, false, cond, Option, Some, None, IfSome, is_eq}
+use Rattle.std.proofs.Common.{Ordering, sym, refl, ap, ◌∙◌, subst, inl, inr, arith, nat_cmp}
+use Rattle.std.proofs.lemmas.List.{length-map}
+use Rattle.std.specs.List.{AllByRecursion, cons_option}
+use Rattle.std.specs.Ordering.{on}
+use Rattle.tl_layout.specs.AddressRanges.{FitsRanges}
+use Rattle.tl_layout.specs.Bytes.{IsText}
+use Rattle.tl_layout.specs.ByType.{as_type_1, as_type_2, as_type_4, as_type_5, as_type_6, as_type_7, as_type_8, as_type_i}
+use Rattle.tl_layout.specs.ByType.{as_type_p, of_type_1, of_type_2, of_type_4, of_type_5, of_type_6, of_type_7, of_type_8}
+use Rattle.tl_layout.specs.ByType.{of_type_i, of_type_p, of_number}
+use Rattle.tl_layout.specs.Coordinates.{Coordinates, IsOnMap}
+use Rattle.tl_layout.specs.Fields.{Fields1, Fields2, Fields4, Fields5, Fields6, Fields7, Fields8, FieldsI, FieldsP}
+use Rattle.tl_layout.specs.Limits.{IsWithinLimit}
+use Rattle.tl_layout.specs.Numbers.{IsNumber, IsNumberOrNone}
+use Rattle.tl_layout.specs.RecordText.{FitsRecord}
+use Rattle.tl_layout.specs.declared.ranges.Ranges.{Ranges}
+use Rattle.tl_layout.specs.declared.record_type.Record.{Record}
+use Rattle.tl_layout.specs.declared.record_type.Record.TheVariants.{One, Two, Four, Five, Six, Seven, Eight, I, P}
+use Rattle.tl_layout.specs.declared.type5.Body5.{Body5}
+use Rattle.tl_layout.specs.declared.type7.Body7.{Body7}
+use Rattle.tl_layout.specs.declared.type_p.BodyP.{BodyP}
+use Rattle.tl_shape.specs.Chain.{Chain}
+use Rattle.tl_county.specs.BodyOrder.{landmark_body_cmp, link_cmp}
+use Rattle.tl_county.specs.County.{i_tlid, one_tlid, two_tlid, two_rtsq, four_tlid, four_rtsq, five_feat, six_tlid, six_rtsq, seven_land}
+use Rattle.tl_county.specs.County.{p_key, first, side_keys, shape_points, further_names, further_ranges, chain_of, chains_of}
+use Rattle.tl_county.specs.County.{polygon_body, county_of}
+use Rattle.tl_county.specs.CountyRules.{tlids}
+use Rattle.tl_county.specs.Limits.{FitsNameBody, FitsLandmark, FitsPolygon, FitsChain, FitsLink, FitsNumbers, HasRoom, ContentsFit}
+use Rattle.tl_county.specs.Limits.{NumbersFit, IsWithinLimits, greatest_rtsq}
+use Rattle.tl_county.specs.LinkRules.{IsLinked, chain_tlids}
+use Rattle.tl_county.specs.Orders.{in_order, distinct, has_repeat}
+use Rattle.tl_county.specs.Packing.{in_pieces, numbered_from, without_last, inner_points, packed_one, packed_twos, packed_fours}
+use Rattle.tl_county.specs.Packing.{packed_five, packed_sixes, packed_sevens, packed_i, packed_body, packed_p, p_polyid, by_type}
+use Rattle.tl_county.specs.Packing.{packed_by_type}
+use Rattle.tl_county.specs.PolygonKeys.{PolygonKey, key_cmp, key_under}
+use Rattle.tl_county.specs.declared.fault.LinkFault.TheVariants.{SequenceBroken}
+use Rattle.tl_county.specs.declared.fault.SequencedType.TheVariants as sequenced
+use Rattle.tl_county.proofs.Lists.Counted.{few_in_groups, hits_once, filter-agree, shorter_pieces, few_numbers, few_pieces}
+use Rattle.tl_county.proofs.Lists.Counted.{all_selected, length-numbered_from}
+use Rattle.tl_county.proofs.Packing.TypeCounts.{HasWithin, by_type_within, packed_within}
+use Rattle.tl_county.proofs.Lists.Distinct.{apart-distinct, apart_from_no_repeat, known_from_distinct}
+use Rattle.tl_county.proofs.Limits.FieldsFit.{Fit1, Fit2, Fit4, Fit5, Fit6, Fit7, Fit8, FitI, FitP, named_1, named_2, named_4, named_5}
+use Rattle.tl_county.proofs.Limits.FieldsFit.{named_6, named_7, named_8, named_i, named_p, left_cenid_fits, right_cenid_fits}
+use Rattle.tl_county.proofs.Limits.FieldsFit.{polygon_cenid_fits}
+use Rattle.tl_county.proofs.Rules.FirstFault.{all_among}
+use Rattle.tl_county.proofs.ByKey.KeyOrders.{key_keys}
+use Rattle.tl_county.proofs.ByKey.Keys.{IsApart, nat_keys, apart_from_sorted, all_known, known_all, Known, same_or_not, same-true}
+use Rattle.tl_county.proofs.ByKey.Keys.{differ, differ_apart}
+use Rattle.tl_county.proofs.Rules.LinkedCounty.{chains_all, length-in_order, the_link, tlids-county, county-is_county}
+use Rattle.tl_county.proofs.Lists.Elements.{all_weaker, all_map, all_append, all_joined, all_filter, all_everywhere}
+use Rattle.tl_county.proofs.Lists.Members.{among-map, among_known}
+use Rattle.tl_county.proofs.ByKey.Numbers.{all-in_order, count-map}
+
+flat_map-one : {X Y : Type 0} (f : X → Y) (xs : List X) → flat_map (λ x. f x ∷ []) xs ≡ map f xs
+flat_map-one f [] = refl
+flat_map-one f (x ∷ xs) = ap (λ ys. f x ∷ ys) (flat_map-one f xs)
+
+-- the records of one type fit
+fits_1 : (x : Record) (y : Fields1) → as_type_1 x ≡ Some y → FitsRecord x → Fit1 y
+unfolding FitsRecord
+fits_1 (One r) y e h = subst Fit1 (let same : r ≡ y = cc in same) (named_1 r h)
+fits_1 _ y e h = cc
+
+fits_2 : (x : Record) (y : Fields2) → as_type_2 x ≡ Some y → FitsRecord x → Fit2 y
+unfolding FitsRecord
+fits_2 (Two r) y e h = subst Fit2 (let same : r ≡ y = cc in same) (named_2 r h)
+fits_2 _ y e h = cc
+
+fits_4 : (x : Record) (y : Fields4) → as_type_4 x ≡ Some y → FitsRecord x → Fit4 y
+unfolding FitsRecord
+fits_4 (Four r) y e h = subst Fit4 (let same : r ≡ y = cc in same) (named_4 r h)
+fits_4 _ y e h = cc
+
+fits_5 : (x : Record) (y : Fields5) → as_type_5 x ≡ Some y → FitsRecord x → Fit5 y
+unfolding FitsRecord
+fits_5 (Five r) y e h = subst Fit5 (let same : r ≡ y = cc in same) (named_5 r h)
+fits_5 _ y e h = cc
+
+fits_6 : (x : Record) (y : Fields6) → as_type_6 x ≡ Some y → FitsRecord x → Fit6 y
+unfolding FitsRecord
+fits_6 (Six r) y e h = subst Fit6 (let same : r ≡ y = cc in same) (named_6 r h)
+fits_6 _ y e h = cc
+
+fits_7 : (x : Record) (y : Fields7) → as_type_7 x ≡ Some y → FitsRecord x → Fit7 y
+unfolding FitsRecord
+fits_7 (Seven r) y e h = subst Fit7 (let same : r ≡ y = cc in same) (named_7 r h)
+fits_7 _ y e h = cc
+
+fits_8 : (x : Record) (y : Fields8) → as_type_8 x ≡ Some y → FitsRecord x → Fit8 y
+unfolding FitsRecord
+fits_8 (Eight r) y e h = subst Fit8 (let same : r ≡ y = cc in same) (named_8 r h)
+fits_8 _ y e h = cc
+
+fits_i : (x : Record) (y : FieldsI) → as_type_i x ≡ Some y → FitsRecord x → FitI y
+unfolding FitsRecord
+fits_i (I r) y e h = subst FitI (let same : r ≡ y = cc in same) (named_i r h)
+fits_i _ y e h = cc
+
+fits_p : (x : Record) (y : FieldsP) → as_type_p x ≡ Some y → FitsRecord x → FitP y
+unfolding FitsRecord
+fits_p (P r) y e h = subst FitP (let same : r ≡ y = cc in same) (named_p r h)
+fits_p _ y e h = cc
+
+-- what holds of each content holds of those that are joined in the order of their RTSQs
+all_joined_in_order : {X Y : Type 0} (Q : Y → Type 0) (content : X → List Y) (by : X → X → Ordering) (test : X → Bool) (xs : List X)
+    → AllByRecursion (λ x. AllByRecursion Q (content x)) xs → AllByRecursion Q (flat_map content (in_order by (filter test xs)))
+all_joined_in_order Q content by test xs a =
+    all_joined Q content (in_order by (filter test xs))
+    (all-in_order (λ x. AllByRecursion Q (content x)) by (filter test xs) (all_filter (λ x. AllByRecursion Q (content x)) test xs a))
+
+-- contents of at most width elements are together no more than width a content
+length-joined : {X Y : Type 0} (width : ℕ) (content : X → List Y) (xs : List X) → AllByRecursion (λ x. length (content x) ≤ width) xs
+    → length (flat_map content xs) ≤ width * length xs
+length-joined width content [] a = omega arith
+length-joined width content (x ∷ xs) a =
+    omega (arith, length-append (content x) (flat_map content xs), a.0, length-joined width content xs a.1)
+
+inner_back : (points : List Coordinates) (e : Coordinates) → without_last (points ++ (e ∷ [])) ≡ points
+inner_back [] e = refl
+inner_back (p ∷ []) e = refl
+inner_back (p ∷ q ∷ points) e = ap (λ rest. p ∷ rest) (inner_back (q ∷ points) e)
+
+-- the polygon on a side that fits
+key_fits : (cenid : List ℕ) (polyid : Option ℕ) → IsText 5 cenid → IsNumberOrNone 10 polyid
+    → AllByRecursion (λ (key : PolygonKey). IsText 5 key.0 × IsNumber 10 key.1) (key_under cenid polyid)
+key_fits cenid None t n = tt
+key_fits cenid (Some polyid) t n = ((t, n), tt)
+
+first_of : {X : Type 0} (Q : X → Type 0) (xs : List X) → AllByRecursion Q xs → IfSome (first xs) Q
+first_of Q [] a = tt
+first_of Q (x ∷ xs) a = a.0
+
+pub flat_map-map : {X Y Z : Type 0} (f : Y → List Z) (g : X → Y) (xs : List X) → flat_map f (map g xs) ≡ flat_map (λ x. f (g x)) xs
+flat_map-map f g [] = refl
+flat_map-map f g (x ∷ xs) = ap (λ zs. f (g x) ++ zs) (flat_map-map f g xs)
+
+-- of keys that are apart, one at most is that of a record
+once : (found : List PolygonKey) → IsApart key_cmp found → (r : FieldsP) → length (filter (λ key. is_eq (key_cmp key (p_key r))) found) ≤ 1
+once found apart r = subst (λ ls. length ls ≤ 1) (filter-agree (λ key. is_eq (key_cmp (p_key r) key)) (λ key. is_eq (key_cmp key (p_key r)))
+    (λ key. either_way (p_key r) key) found) (apart (p_key r))
+  where
+    either_way : (k j : PolygonKey) → is_eq (key_cmp k j) ≡ is_eq (key_cmp j k)
+    either_way k j = go (same_or_not key_keys k j)
+      where
+        go : (k ≡ j) ⊎ (is_eq (key_cmp k j) ≡ false) → is_eq (key_cmp k j) ≡ is_eq (key_cmp j k)
+        go (inl e) = λ i. is_eq (key_cmp (e i) (sym e i))
+        go (inr ne) = ne ∙ sym (differ key_keys j k (λ e. differ_apart key_keys k j ne (sym e)))
+
+-- a polygon has content where it has a record
+few_packed : (key : PolygonKey) (bodies : List BodyP) (rest : List FieldsP) (n : ℕ) → length rest ≤ n
+    → length (cons_option (packed_body key (first bodies)) rest) ≤ length bodies + n
+few_packed key [] rest n h = omega arith
+few_packed key (body ∷ bodies) rest n h = omega arith
+
+-- the contents of a polygon's records fit beside its CENID
+bodies_of_key : (key : PolygonKey) (rs : List FieldsP) → AllByRecursion FitP rs
+    → AllByRecursion (λ r. FitsPolygon key.0 r.body) (filter (λ r. is_eq (key_cmp key (p_key r))) rs)
+bodies_of_key key [] a = tt
+bodies_of_key key (r ∷ rs) a = go (is_eq (key_cmp key (p_key r))) refl (bodies_of_key key rs a.1)
+  where
+    go : (b : Bool) → is_eq (key_cmp key (p_key r)) ≡ b
+        → AllByRecursion (λ q. FitsPolygon key.0 q.body) (filter (λ q. is_eq (key_cmp key (p_key q))) rs)
+        → AllByRecursion (λ q. FitsPolygon key.0 q.body)
+        (cond b (r ∷ filter (λ q. is_eq (key_cmp key (p_key q))) rs) (filter (λ q. is_eq (key_cmp key (p_key q))) rs))
+    go true e ih = (subst (λ (k : PolygonKey). FitsPolygon k.0 r.body) (sym (same-true key_keys key (p_key r) e)) a.0.body, ih)
+    go false e ih = ih
+
+module _ (records : List Record) (linked : IsLinked records) (fits : AllByRecursion FitsRecord records) where
+  fit_1 : AllByRecursion Fit1 (of_type_1 records)
+  fit_1 = all_selected FitsRecord Fit1 as_type_1 fits_1 records fits
+
+  fit_2 : AllByRecursion Fit2 (of_type_2 records)
+  fit_2 = all_selected FitsRecord Fit2 as_type_2 fits_2 records fits
+
+  fit_4 : AllByRecursion Fit4 (of_type_4 records)
+  fit_4 = all_selected FitsRecord Fit4 as_type_4 fits_4 records fits
+
+  fit_5 : AllByRecursion Fit5 (of_type_5 records)
+  fit_5 = all_selected FitsRecord Fit5 as_type_5 fits_5 records fits
+
+  fit_6 : AllByRecursion Fit6 (of_type_6 records)
+  fit_6 = all_selected FitsRecord Fit6 as_type_6 fits_6 records fits
+
+  fit_7 : AllByRecursion Fit7 (of_type_7 records)
+  fit_7 = all_selected FitsRecord Fit7 as_type_7 fits_7 records fits
+
+  fit_8 : AllByRecursion Fit8 (of_type_8 records)
+  fit_8 = all_selected FitsRecord Fit8 as_type_8 fits_8 records fits
+
+  fit_i : AllByRecursion FitI (of_type_i records)
+  fit_i = all_selected FitsRecord FitI as_type_i fits_i records fits
+
+  fit_p : AllByRecursion FitP (of_type_p records)
+  fit_p = all_selected FitsRecord FitP as_type_p fits_p records fits
+
+  shape_points_fit : (tlid : ℕ) → AllByRecursion IsOnMap (shape_points records tlid)
+  shape_points_fit tlid =
+      all_joined_in_order IsOnMap (λ (r : Fields2). r.points) (on two_rtsq nat_cmp) (λ r. two_tlid r == tlid) (of_type_2 records)
+      (all_weaker Fit2 (λ r. AllByRecursion IsOnMap r.points) (λ r f. f.points) (of_type_2 records) fit_2)
+
+  names_fit : (tlid : ℕ) → AllByRecursion (IsNumber 8) (further_names records tlid)
+  names_fit tlid = all_joined_in_order (IsNumber 8) (λ (r : Fields4). r.feats) (on four_rtsq nat_cmp) (λ r. four_tlid r == tlid)
+      (of_type_4 records) (all_weaker Fit4 (λ r. AllByRecursion (IsNumber 8) r.feats) (λ r f. f.feats) (of_type_4 records) fit_4)
+
+  ranges_fit : (tlid : ℕ) → AllByRecursion FitsRanges (further_ranges records tlid)
+  ranges_fit tlid = all_map FitsRanges (λ (r : Fields6). r.ranges)
+      (in_order (on six_rtsq nat_cmp) (of_number six_tlid tlid (of_type_6 records)))
+      (all-in_order (λ r. FitsRanges r.ranges) (on six_rtsq nat_cmp) (of_number six_tlid tlid (of_type_6 records))
+      (all_filter (λ r. FitsRanges r.ranges) (λ r. six_tlid r == tlid) (of_type_6 records)
+      (all_weaker Fit6 (λ r. FitsRanges r.ranges) (λ r f. f.ranges) (of_type_6 records) fit_6)))
+
+  chain_fits : (r : Fields1) (link : FieldsI) → Fit1 r → FitI link → FitsChain (chain_of records r link)
+  chain_fits r link f l = record {
+    body = f.body;
+    points = (f.start, all_append IsOnMap (shape_points records r.tlid) (r.end ∷ []) (shape_points_fit r.tlid) (f.end, tt));
+    ranges = ranges_fit r.tlid;
+    link = l.content;
+  }
+
+  numbers_fit : (r : Fields1) (link : FieldsI) → FitI link → FitsNumbers (chain_of records r link)
+  numbers_fit r link l = record {
+    feats = names_fit r.tlid;
+    start_node = l.start_node;
+    end_node = l.end_node;
+    left = l.left_polyid;
+    right = l.right_polyid;
+  }
+
+  -- each polygon's key fits
+  keys_fit : (key : PolygonKey) → Known key_cmp (flat_map side_keys (of_type_i records) ++ map p_key (of_type_p records)) key
+      → IsText 5 key.0 × IsNumber 10 key.1
+  keys_fit = known_all key_keys (λ (key : PolygonKey). IsText 5 key.0 × IsNumber 10 key.1)
+      (flat_map side_keys (of_type_i records) ++ map p_key (of_type_p records))
+      (all_append (λ (key : PolygonKey). IsText 5 key.0 × IsNumber 10 key.1) (flat_map side_keys (of_type_i records))
+      (map p_key (of_type_p records))
+      (all_joined (λ (key : PolygonKey). IsText 5 key.0 × IsNumber 10 key.1) side_keys (of_type_i records)
+      (all_weaker FitI (λ link. AllByRecursion (λ (key : PolygonKey). IsText 5 key.0 × IsNumber 10 key.1) (side_keys link))
+      (λ link f. all_append (λ (key : PolygonKey). IsText 5 key.0 × IsNumber 10 key.1) (key_under link.left.cenid link.left.polyid)
+      (key_under link.right.cenid link.right.polyid)
+      (key_fits link.left.cenid link.left.polyid (left_cenid_fits link.body link.left.cenid link.right.cenid f.content) f.left_polyid)
+      (key_fits link.right.cenid link.right.polyid
+      (right_cenid_fits link.body link.left.cenid link.right.cenid f.content) f.right_polyid))
+      (of_type_i records) fit_i))
+      (all_map (λ (key : PolygonKey). IsText 5 key.0 × IsNumber 10 key.1) p_key (of_type_p records)
+      (all_weaker FitP (λ r. IsText 5 r.cenid × IsNumber 10 r.polyid) (λ r f. (polygon_cenid_fits r.cenid r.body f.body, f.polyid))
+      (of_type_p records) fit_p)))
+
+  abbrev keys : List PolygonKey
+  keys = flat_map side_keys (of_type_i records) ++ map p_key (of_type_p records)
+
+  all_keys_fit : AllByRecursion (λ key. IsText 5 key.0 × IsNumber 10 key.1) (distinct key_cmp keys)
+  all_keys_fit = all_known key_keys (λ key. IsText 5 key.0 × IsNumber 10 key.1) (distinct key_cmp keys)
+      (λ key k. keys_fit key (known_from_distinct key_keys keys key k))
+
+  polygon_body_fits : (key : PolygonKey) → IfSome (polygon_body records key) (FitsPolygon key.0)
+  polygon_body_fits key =
+      first_of (FitsPolygon key.0) (map (λ (r : FieldsP). r.body) (filter (λ r. is_eq (key_cmp key (p_key r))) (of_type_p records)))
+      (all_map (FitsPolygon key.0) (λ (r : FieldsP). r.body) (filter (λ r. is_eq (key_cmp key (p_key r))) (of_type_p records))
+      (bodies_of_key key (of_type_p records) fit_p))
+
+  bodies_fit : (land : ℕ) → AllByRecursion FitsLandmark (in_order landmark_body_cmp
+      (map (λ (r : Fields7). r.body) (of_number seven_land land (of_type_7 records))))
+  bodies_fit land = all-in_order FitsLandmark landmark_body_cmp
+      (map (λ (r : Fields7). r.body) (of_number seven_land land (of_type_7 records)))
+      (all_map FitsLandmark (λ (r : Fields7). r.body) (of_number seven_land land (of_type_7 records))
+      (all_filter (λ r. FitsLandmark r.body) (λ r. seven_land r == land) (of_type_7 records)
+      (all_weaker Fit7 (λ r. FitsLandmark r.body) (λ r f. f.body) (of_type_7 records) fit_7)))
+
+  land_fits : (land : ℕ) → Known nat_cmp (distinct nat_cmp (map seven_land (of_type_7 records))) land → IsNumber 10 land
+  land_fits land k = known_all nat_keys (IsNumber 10) (map seven_land (of_type_7 records))
+      (all_map (IsNumber 10) seven_land (of_type_7 records)
+      (all_weaker Fit7 (λ r. IsNumber 10 r.land) (λ r f. f.land) (of_type_7 records) fit_7)) land
+      (known_from_distinct nat_keys (map seven_land (of_type_7 records)) land k)
+
+  abbrev landmark_at : ℕ → ℕ × List Body7
+  landmark_at land = (land, in_order landmark_body_cmp (map (λ (r : Fields7). r.body) (of_number seven_land land (of_type_7 records))))
+
+  -- what is known of a type 1 record and the type I record of its chain
+  all_chains : (Q : ℕ × Chain → Type 0) → ((r : Fields1) (link : FieldsI) → Fit1 r → FitI link → Q (r.tlid, chain_of records r link))
+      → AllByRecursion Q (chains_of records)
+  all_chains Q h = chains_all records linked Q (λ r link m n. h r link (all_among Fit1 r (of_type_1 records) fit_1 m)
+      (all_among FitI link (of_type_i records) fit_i n))
+
+  contents : ContentsFit (county_of records)
+  contents = record {
+    chains = all_chains (λ entry. FitsChain entry.1) chain_fits;
+    names = all_map (λ (entry : ℕ × Body5). FitsNameBody entry.1) (λ (r : Fields5). (r.feat, r.body))
+        (in_order (on five_feat nat_cmp) (of_type_5 records))
+        (all-in_order (λ r. FitsNameBody r.body) (on five_feat nat_cmp) (of_type_5 records)
+        (all_weaker Fit5 (λ r. FitsNameBody r.body) (λ r f. f.body) (of_type_5 records) fit_5));
+    cenids = all_map (λ (entry : PolygonKey × Option BodyP). IsText 5 entry.0.0) (λ key. (key, polygon_body records key))
+        (distinct key_cmp keys)
+        (all_weaker (λ key. IsText 5 key.0 × IsNumber 10 key.1) (λ key. IsText 5 key.0) (λ key f. f.0)
+        (distinct key_cmp keys) all_keys_fit);
+    polygons = all_map (λ (entry : PolygonKey × Option BodyP). IfSome entry.1 (FitsPolygon entry.0.0))
+        (λ key. (key, polygon_body records key)) (distinct key_cmp keys)
+        (all_everywhere (λ key. IfSome (polygon_body records key) (FitsPolygon key.0)) polygon_body_fits (distinct key_cmp keys));
+    landmarks = all_map (λ (entry : ℕ × List Body7). AllByRecursion FitsLandmark entry.1) landmark_at
+        (distinct nat_cmp (map seven_land (of_type_7 records)))
+        (all_everywhere (λ land. AllByRecursion FitsLandmark (landmark_at land).1) bodies_fit
+        (distinct nat_cmp (map seven_land (of_type_7 records))));
+    links = all-in_order FitsLink link_cmp (of_type_8 records)
+        (all_weaker Fit8 FitsLink (λ link f. record { file = f.file; cenid = f.cenid }) (of_type_8 records) fit_8);
+  }
+
+  numbers : NumbersFit (county_of records)
+  numbers = record {
+    chains = all_chains (λ entry. IsNumber 10 entry.0) (λ r link f l. f.tlid);
+    named = all_chains (λ entry. FitsNumbers entry.1) (λ r link f l. numbers_fit r link l);
+    names = all_map (λ (entry : ℕ × Body5). IsNumber 8 entry.0) (λ (r : Fields5). (r.feat, r.body))
+        (in_order (on five_feat nat_cmp) (of_type_5 records))
+        (all-in_order (λ r. IsNumber 8 r.feat) (on five_feat nat_cmp) (of_type_5 records)
+        (all_weaker Fit5 (λ r. IsNumber 8 r.feat) (λ r f. f.feat) (of_type_5 records) fit_5));
+    polygons = all_map (λ (entry : PolygonKey × Option BodyP). IsNumber 10 entry.0.1) (λ key. (key, polygon_body records key))
+        (distinct key_cmp keys)
+        (all_weaker (λ key. IsText 5 key.0 × IsNumber 10 key.1) (λ key. IsNumber 10 key.1) (λ key f. f.1)
+        (distinct key_cmp keys) all_keys_fit);
+    landmarks = all_map (λ (entry : ℕ × List Body7). IsNumber 10 entry.0) landmark_at
+        (distinct nat_cmp (map seven_land (of_type_7 records)))
+        (all_known nat_keys (IsNumber 10) (distinct nat_cmp (map seven_land (of_type_7 records))) land_fits);
+    link_polygons = all-in_order (λ link. IsNumber 10 link.polyid) link_cmp (of_type_8 records)
+        (all_weaker Fit8 (λ link. IsNumber 10 link.polyid) (λ link f. f.polyid) (of_type_8 records) fit_8);
+    link_lands = all-in_order (λ link. IsNumber 10 link.land) link_cmp (of_type_8 records)
+        (all_weaker Fit8 (λ link. IsNumber 10 link.land) (λ link f. f.land) (of_type_8 records) fit_8);
+  }
+
+  -- a chain has no more records of a type than there are RTSQs
+  few_records : {X : Type 0} (tlid rtsq : X → ℕ) (n : ℕ) (xs : List X) → AllByRecursion (λ x. IsNumber 3 (rtsq x)) xs
+      → has_repeat nat_cmp (map rtsq (of_number tlid n xs)) ≡ false → length (of_number tlid n xs) ≤ greatest_rtsq
+  few_records {X} tlid rtsq n xs a e =
+      let bounds : AllByRecursion (λ k. (1 ≤ k) × (k < 1000)) (map rtsq (of_number tlid n xs)) =
+      all_map (λ k. (1 ≤ k) × (k < 1000)) rtsq (of_number tlid n xs)
+      (all_filter (λ x. (1 ≤ rtsq x) × (rtsq x < 1000)) (λ x. tlid x == n) xs
+      (all_weaker (λ x. IsNumber 3 (rtsq x)) (λ x. (1 ≤ rtsq x) × (rtsq x < 1000))
+      (λ x h. ((let low : 0 < rtsq x = h.0 in omega arith), h.1)) xs a)) in
+      let few : length (map rtsq (of_number tlid n xs)) ≤ 1000 - 1 =
+      few_numbers 1 1000 (map rtsq (of_number tlid n xs)) (apart_from_no_repeat nat_keys (map rtsq (of_number tlid n xs)) e) bounds in
+      let mapped : length (map rtsq (of_number tlid n xs)) ≡ length (of_number tlid n xs) = length-map (of_number tlid n xs) rtsq in
+      omega arith
+
+  few_twos : (n : ℕ) → length (of_number two_tlid n (of_type_2 records)) ≤ greatest_rtsq
+  few_twos n = few_records two_tlid two_rtsq n (of_type_2 records)
+      (all_weaker Fit2 (λ r. IsNumber 3 r.rtsq) (λ r f. f.rtsq) (of_type_2 records) fit_2) (linked (SequenceBroken sequenced.Two n))
+
+  few_fours : (n : ℕ) → length (of_number four_tlid n (of_type_4 records)) ≤ greatest_rtsq
+  few_fours n = few_records four_tlid four_rtsq n (of_type_4 records)
+      (all_weaker Fit4 (λ r. IsNumber 3 r.rtsq) (λ r f. f.rtsq) (of_type_4 records) fit_4) (linked (SequenceBroken sequenced.Four n))
+
+  few_sixes : (n : ℕ) → length (of_number six_tlid n (of_type_6 records)) ≤ greatest_rtsq
+  few_sixes n = few_records six_tlid six_rtsq n (of_type_6 records)
+      (all_weaker Fit6 (λ r. IsNumber 3 r.rtsq) (λ r f. f.rtsq) (of_type_6 records) fit_6) (linked (SequenceBroken sequenced.Six n))
+
+  -- the records of a chain hold its lists
+  held : {X Y : Type 0} (width : ℕ) (tlid rtsq : X → ℕ) (content : X → List Y) (n : ℕ) (xs : List X)
+      → AllByRecursion (λ x. length (content x) ≤ width) xs
+      → length (flat_map content (in_order (on rtsq nat_cmp) (of_number tlid n xs))) ≤ width * length (of_number tlid n xs)
+  held width tlid rtsq content n xs a =
+      subst (λ k. length (flat_map content (in_order (on rtsq nat_cmp) (of_number tlid n xs))) ≤ width * k)
+      (length-in_order (on rtsq nat_cmp) (of_number tlid n xs))
+      (length-joined width content (in_order (on rtsq nat_cmp) (of_number tlid n xs))
+      (all-in_order (λ x. length (content x) ≤ width) (on rtsq nat_cmp) (of_number tlid n xs)
+      (all_filter (λ x. length (content x) ≤ width) (λ x. tlid x == n) xs a)))
+
+  points_held : (n : ℕ) → length (shape_points records n) ≤ 10 * length (of_number two_tlid n (of_type_2 records))
+  points_held n = held 10 two_tlid two_rtsq (λ (r : Fields2). r.points) n (of_type_2 records)
+      (all_weaker Fit2 (λ r. length r.points ≤ 10) (λ r f. f.len) (of_type_2 records) fit_2)
+
+  feats_held : (n : ℕ) → length (further_names records n) ≤ 5 * length (of_number four_tlid n (of_type_4 records))
+  feats_held n = held 5 four_tlid four_rtsq (λ (r : Fields4). r.feats) n (of_type_4 records)
+      (all_weaker Fit4 (λ r. length r.feats ≤ 5) (λ r f. f.len) (of_type_4 records) fit_4)
+
+  ranges_held : (n : ℕ) → length (further_ranges records n) ≡ length (of_number six_tlid n (of_type_6 records))
+  ranges_held n = length-map (in_order (on six_rtsq nat_cmp) (of_number six_tlid n (of_type_6 records))) (λ (r : Fields6). r.ranges)
+      ∙ length-in_order (on six_rtsq nat_cmp) (of_number six_tlid n (of_type_6 records))
+
+  inner_held : (r : Fields1) → length (inner_points (r.start ∷ (shape_points records r.tlid ++ (r.end ∷ [])))) ≤ 10 * length
+      (of_number two_tlid r.tlid (of_type_2 records))
+  inner_held r = subst (λ points. length points ≤ 10 * length (of_number two_tlid r.tlid (of_type_2 records)))
+      (sym (inner_back (shape_points records r.tlid) r.end)) (points_held r.tlid)
+
+  room : AllByRecursion (λ entry. HasRoom entry.1) (chains_of records)
+  room = all_chains (λ entry. HasRoom entry.1) (λ r link f l. record {
+    points = (let held : length (inner_points (r.start ∷ (shape_points records r.tlid ++ (r.end ∷ [])))) ≤ 10 * length
+        (of_number two_tlid r.tlid (of_type_2 records)) = inner_held r in
+        let few : length (of_number two_tlid r.tlid (of_type_2 records)) ≤ 999 = few_twos r.tlid in omega arith);
+    feats = (let held : length (further_names records r.tlid) ≤ 5 * length (of_number four_tlid r.tlid (of_type_4 records)) =
+        feats_held r.tlid in let few : length (of_number four_tlid r.tlid (of_type_4 records)) ≤ 999 = few_fours r.tlid in omega arith);
+    ranges = subst (λ n. n ≤ greatest_rtsq) (sym (ranges_held r.tlid)) (few_sixes r.tlid);
+  })
+
+  -- no chain needs more records of a type than it has, so all together need no more
+  few_of_chains : {X Y : Type 0} (tlid : X → ℕ) (pack : ℕ × Chain → List Y) (xs : List X)
+      → AllByRecursion (λ entry. length (pack entry) ≤ length (of_number tlid entry.0 xs)) (chains_of records)
+      → length (flat_map pack (chains_of records)) ≤ length xs
+  few_of_chains {X} tlid pack xs a =
+      let groups : length (flat_map (λ (entry : ℕ × Chain). of_number tlid entry.0 xs) (chains_of records)) ≤ length xs =
+      few_in_groups (λ (entry : ℕ × Chain) x. tlid x == entry.0) (chains_of records)
+      (λ x. subst (λ n. n ≤ 1) (count-map (λ k. tlid x == k) (λ (entry : ℕ × Chain). entry.0) (chains_of records))
+      (hits_once tlid (tlids (county_of records))
+      (apart_from_sorted nat_keys (tlids (county_of records)) (county-is_county records linked).ascending.chains) x)) xs in
+      let one_by_one : length (flat_map pack (chains_of records)) ≤ length
+      (flat_map (λ (entry : ℕ × Chain). of_number tlid entry.0 xs) (chains_of records)) =
+      shorter_pieces pack (λ (entry : ℕ × Chain). of_number tlid entry.0 xs) (chains_of records) a in
+      omega arith
+
+  -- lists in pieces with RTSQs are no more than the records that hold them
+  few_in_pieces : {X Y : Type 0} (width count : ℕ) (make : ℕ × List X → Y) (xs : List X) → length xs ≤ width * count
+      → length (map make (numbered_from 1 (in_pieces width xs))) ≤ count
+  few_in_pieces width count make xs h =
+      let few : length (in_pieces width xs) ≤ count = few_pieces width count (length xs) xs h in
+      let same : length (map make (numbered_from 1 (in_pieces width xs))) ≡ length (in_pieces width xs) =
+      length-map (numbered_from 1 (in_pieces width xs)) make ∙ length-numbered_from 1 (in_pieces width xs) in
+      omega arith
+
+  chain_count : length (chains_of records) ≡ length (of_type_1 records)
+  chain_count = sym (length-map (chains_of records) (λ (entry : ℕ × Chain). entry.0)) ∙ ap length (tlids-county records linked)
+      ∙ length-map (in_order (on one_tlid nat_cmp) (of_type_1 records)) one_tlid ∙ length-in_order (on one_tlid nat_cmp) (of_type_1 records)
+
+  few_sevens : length (flat_map packed_sevens (county_of records).landmarks) ≤ length (of_type_7 records)
+  few_sevens =
+      let lands : List ℕ = distinct nat_cmp (map seven_land (of_type_7 records)) in
+      let groups : length (flat_map (λ land. of_number seven_land land (of_type_7 records)) lands) ≤ length (of_type_7 records) =
+      few_in_groups (λ land r. seven_land r == land) lands
+      (hits_once seven_land lands (apart-distinct nat_keys (map seven_land (of_type_7 records)))) (of_type_7 records) in
+      let packs : flat_map packed_sevens (map landmark_at lands) ≡ flat_map (λ land. packed_sevens (landmark_at land)) lands =
+      flat_map-map packed_sevens landmark_at lands in
+      let one_by_one : length (flat_map (λ land. packed_sevens (landmark_at land)) lands) ≤ length
+      (flat_map (λ land. of_number seven_land land (of_type_7 records)) lands) =
+      shorter_pieces (λ land. packed_sevens (landmark_at land)) (λ land. of_number seven_land land (of_type_7 records)) lands
+      (all_everywhere (λ land. length (packed_sevens (landmark_at land)) ≤ length (of_number seven_land land (of_type_7 records)))
+      (λ land. let same : length (packed_sevens (landmark_at land)) ≡ length (of_number seven_land land (of_type_7 records)) =
+      length-map (landmark_at land).1 (λ body. record { land = land; body = body })
+      ∙ length-in_order landmark_body_cmp (map (λ (r : Fields7). r.body) (of_number seven_land land (of_type_7 records)))
+      ∙ length-map (of_number seven_land land (of_type_7 records)) (λ (r : Fields7). r.body) in omega arith) lands) in
+      omega (arith, groups, one_by_one, ap length packs)
+
+  few_bodies : (found : List PolygonKey) → length (filter_map packed_p (map (λ key. (key, polygon_body records key)) found)) ≤ length
+      (flat_map (λ key. filter (λ r. is_eq (key_cmp key (p_key r))) (of_type_p records)) found)
+  few_bodies [] = omega arith
+  few_bodies (key ∷ found) =
+      let own : List FieldsP = filter (λ r. is_eq (key_cmp key (p_key r))) (of_type_p records) in
+      let others : List FieldsP = flat_map (λ key. filter (λ r. is_eq (key_cmp key (p_key r))) (of_type_p records)) found in
+      let few : length (cons_option (packed_body key (first (map (λ (r : FieldsP). r.body) own)))
+      (filter_map packed_p (map (λ key. (key, polygon_body records key)) found))) ≤ length
+      (map (λ (r : FieldsP). r.body) own) + length others =
+      few_packed key (map (λ (r : FieldsP). r.body) own) (filter_map packed_p (map (λ key. (key, polygon_body records key)) found))
+      (length others) (few_bodies found) in
+      omega (arith, few, length-map own (λ (r : FieldsP). r.body), length-append own others)
+
+  few_ps : length (filter_map packed_p (county_of records).polygons) ≤ length (of_type_p records)
+  few_ps =
+      let found : List PolygonKey = distinct key_cmp keys in
+      let groups : length (flat_map (λ key. filter (λ r. is_eq (key_cmp key (p_key r))) (of_type_p records)) found) ≤ length
+      (of_type_p records) =
+      few_in_groups (λ key r. is_eq (key_cmp key (p_key r))) found (once found (apart-distinct key_keys keys)) (of_type_p records) in
+      let packs : length (filter_map packed_p (map (λ key. (key, polygon_body records key)) found)) ≤ length
+      (flat_map (λ key. filter (λ r. is_eq (key_cmp key (p_key r))) (of_type_p records)) found) = few_bodies found in
+      omega arith
+
+  -- each chain has a record of type I
+  linked_once : AllByRecursion (λ entry. 1 ≤ length (of_number i_tlid entry.0 (of_type_i records))) (chains_of records)
+  linked_once = chains_all records linked (λ entry. 1 ≤ length (of_number i_tlid entry.0 (of_type_i records)))
+      (λ r link m n. let own = the_link records linked r.tlid
+      (among_known nat_keys r.tlid (chain_tlids records) (among-map one_tlid r (of_type_1 records) m)) in
+      subst (λ (links : List FieldsI). 1 ≤ length links) (sym own.1) (omega arith))
+
+  pub county_counts : (limits : ℕ → ℕ) → HasWithin limits (by_type records) → HasWithin limits (packed_by_type (county_of records))
+  county_counts limits h = record {
+    of_type_1 = (let same : length (map packed_one (chains_of records)) ≡ length (of_type_1 records) =
+        length-map (chains_of records) packed_one ∙ chain_count in let few : length (of_type_1 records) ≤ limits 49 = h.of_type_1 in
+        omega arith);
+    of_type_2 = (let few : length (of_type_2 records) ≤ limits 50 = h.of_type_2 in
+        let own : length (flat_map packed_twos (chains_of records)) ≤ length (of_type_2 records) =
+        few_of_chains two_tlid packed_twos (of_type_2 records)
+        (all_chains (λ entry. length (packed_twos entry) ≤ length (of_number two_tlid entry.0 (of_type_2 records)))
+        (λ r link f l. few_in_pieces 10 (length (of_number two_tlid r.tlid (of_type_2 records)))
+        (λ piece. record { tlid = r.tlid; rtsq = piece.0; points = piece.1 })
+        (inner_points (r.start ∷ (shape_points records r.tlid ++ (r.end ∷ [])))) (inner_held r))) in omega arith);
+    of_type_4 = (let few : length (of_type_4 records) ≤ limits 52 = h.of_type_4 in
+        let own : length (flat_map packed_fours (chains_of records)) ≤ length (of_type_4 records) =
+        few_of_chains four_tlid packed_fours (of_type_4 records)
+        (all_chains (λ entry. length (packed_fours entry) ≤ length (of_number four_tlid entry.0 (of_type_4 records)))
+        (λ r link f l. few_in_pieces 5 (length (of_number four_tlid r.tlid (of_type_4 records)))
+        (λ piece. record { tlid = r.tlid; rtsq = piece.0; feats = piece.1 }) (further_names records r.tlid) (feats_held r.tlid))) in
+        omega arith);
+    of_type_5 = (let few : length (of_type_5 records) ≤ limits 53 = h.of_type_5 in
+        let same : length (map packed_five (county_of records).names) ≡ length (of_type_5 records) =
+        length-map (county_of records).names packed_five
+        ∙ length-map (in_order (on five_feat nat_cmp) (of_type_5 records)) (λ (r : Fields5). (r.feat, r.body))
+        ∙ length-in_order (on five_feat nat_cmp) (of_type_5 records) in omega arith);
+    of_type_6 = (let few : length (of_type_6 records) ≤ limits 54 = h.of_type_6 in
+        let own : length (flat_map packed_sixes (chains_of records)) ≤ length (of_type_6 records) =
+        few_of_chains six_tlid packed_sixes (of_type_6 records)
+        (all_chains (λ entry. length (packed_sixes entry) ≤ length (of_number six_tlid entry.0 (of_type_6 records)))
+        (λ r link f l. let same : length (packed_sixes (r.tlid, chain_of records r link)) ≡ length
+        (of_number six_tlid r.tlid (of_type_6 records)) =
+        length-map (numbered_from 1 (further_ranges records r.tlid))
+        (λ (piece : ℕ × Ranges). record { tlid = r.tlid; rtsq = piece.0; ranges = piece.1 })
+        ∙ length-numbered_from 1 (further_ranges records r.tlid) ∙ ranges_held r.tlid in omega arith)) in omega arith);
+    of_type_7 = (let few : length (of_type_7 records) ≤ limits 55 = h.of_type_7 in
+        let own : length (flat_map packed_sevens (county_of records).landmarks) ≤ length (of_type_7 records) = few_sevens in omega arith);
+    of_type_8 = (let few : length (of_type_8 records) ≤ limits 56 = h.of_type_8 in
+        let same : length (in_order link_cmp (of_type_8 records)) ≡ length (of_type_8 records) =
+        length-in_order link_cmp (of_type_8 records) in omega arith);
+    of_type_i = (let few : length (of_type_i records) ≤ limits 73 = h.of_type_i in
+        let own : length (flat_map (λ entry. packed_i entry ∷ []) (chains_of records)) ≤ length (of_type_i records) =
+        few_of_chains i_tlid (λ entry. packed_i entry ∷ []) (of_type_i records)
+        linked_once in
+        let same : length (flat_map (λ entry. packed_i entry ∷ []) (chains_of records)) ≡ length (map packed_i (chains_of records)) =
+        ap length (flat_map-one packed_i (chains_of records)) in omega arith);
+    of_type_p = (let few : length (of_type_p records) ≤ limits 80 = h.of_type_p in
+        let own : length (filter_map packed_p (county_of records).polygons) ≤ length (of_type_p records) = few_ps in
+        let same : length (in_order (on p_polyid nat_cmp) (filter_map packed_p (county_of records).polygons)) ≡ length
+        (filter_map packed_p (county_of records).polygons) =
+        length-in_order (on p_polyid nat_cmp) (filter_map packed_p (county_of records).polygons) in omega arith);
+  }
+
+  pub county-within_limits : (limit : ℕ) → IsWithinLimit limit records → IsWithinLimits limit (county_of records)
+  county-within_limits limit h =
+      record {
+        contents = contents;
+        numbers = numbers;
+        room = room;
+        counts =
+            packed_within limit (county_of records) (county_counts (λ _. limit) (by_type_within limit records h));
+      }

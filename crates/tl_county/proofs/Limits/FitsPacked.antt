@@ -1,0 +1,207 @@
+-- A whole county whose contents and numbers fit, and whose chains have room, is packed into records that fit.
+use Rattle.std.proofs.Common.{◌≡◌, ◌+◌, ◌*◌, ◌<◌, ◌≤◌, ℕ, List, [], ◌∷◌, map, flat_map, filter_map, length, Option, Some}
+use Rattle.std.proofs.Common.{None, IfSome, arith, nat_cmp, subst}
+use Rattle.std.specs.List.{AllByRecursion}
+use Rattle.std.specs.Ordering.{on}
+use Rattle.tl_layout.specs.AddressRanges.{FitsRanges}
+use Rattle.tl_layout.specs.Coordinates.{Coordinates, IsOnMap}
+use Rattle.tl_layout.specs.Fields.{Fields8, FieldsP}
+use Rattle.tl_layout.specs.Numbers.{IsNumber}
+use Rattle.tl_layout.specs.RecordText.{FitsRecord}
+use Rattle.tl_layout.specs.declared.ranges.Ranges.{Ranges}
+use Rattle.tl_layout.specs.declared.record_type.Record.{Record}
+use Rattle.tl_layout.specs.declared.record_type.Record.TheVariants.{One, Two, Four, Five, Six, Seven, Eight, I, P}
+use Rattle.tl_layout.specs.declared.type5.Body5.{Body5}
+use Rattle.tl_layout.specs.declared.type7.Body7.{Body7}
+use Rattle.tl_layout.specs.declared.type_p.BodyP.{BodyP}
+use Rattle.tl_shape.specs.Chain.{Chain}
+use Rattle.tl_county.specs.County.{County}
+use Rattle.tl_county.specs.CountyRules.{IsWhole}
+use Rattle.tl_county.specs.Limits.{FitsNameBody, FitsLandmark, FitsPolygon, FitsChain, FitsLink, FitsNumbers, HasRoom, ContentsFit}
+use Rattle.tl_county.specs.Limits.{NumbersFit, greatest_rtsq}
+use Rattle.tl_county.specs.Orders.{in_order}
+use Rattle.tl_county.specs.Packing.{in_pieces, numbered_from, first_point, last_point, without_last, inner_points, packed_one}
+use Rattle.tl_county.specs.Packing.{packed_twos, packed_fours, packed_five, packed_sixes, packed_sevens, packed_i, packed_body}
+use Rattle.tl_county.specs.Packing.{packed_p, p_polyid, packed}
+use Rattle.tl_county.specs.PolygonKeys.{PolygonKey}
+use Rattle.tl_county.proofs.Lists.Counted.{few_pieces, short_pieces, all_in_pieces, all_numbered_from, all_selected}
+use Rattle.tl_county.proofs.Limits.FieldsFit.{Fit1, Fit2, Fit4, Fit5, Fit6, Fit7, Fit8, FitI, FitP, columns_1, columns_2, columns_4}
+use Rattle.tl_county.proofs.Limits.FieldsFit.{columns_5, columns_6, columns_7, columns_8, columns_i, columns_p}
+use Rattle.tl_county.proofs.Lists.Elements.{all_weaker, all_both, all_map, all_append, all_joined}
+use Rattle.tl_county.proofs.ByKey.Numbers.{all-in_order}
+
+first_holds : (Q : Coordinates → Type 0) (points : List Coordinates) → 1 ≤ length points → AllByRecursion Q points → Q (first_point points)
+first_holds Q [] h a = absurd (omega (arith, h))
+first_holds Q (p ∷ points) h a = a.0
+
+last_holds : (Q : Coordinates → Type 0) (points : List Coordinates) → 1 ≤ length points → AllByRecursion Q points → Q (last_point points)
+last_holds Q [] h a = absurd (omega (arith, h))
+last_holds Q (p ∷ []) h a = a.0
+last_holds Q (p ∷ q ∷ points) h a = last_holds Q (q ∷ points) (omega arith) a.1
+
+all_but_last : (Q : Coordinates → Type 0) (points : List Coordinates) → AllByRecursion Q points → AllByRecursion Q (without_last points)
+all_but_last Q [] a = tt
+all_but_last Q (p ∷ []) a = tt
+all_but_last Q (p ∷ q ∷ points) a = (a.0, all_but_last Q (q ∷ points) a.1)
+
+all_inner : (Q : Coordinates → Type 0) (points : List Coordinates) → AllByRecursion Q points → AllByRecursion Q (inner_points points)
+all_inner Q [] a = tt
+all_inner Q (p ∷ points) a = all_but_last Q points a.1
+
+one_fits : (entry : ℕ × Chain) → IsNumber 10 entry.0 → 2 ≤ length entry.1.points → FitsChain entry.1 → Fit1 (packed_one entry)
+one_fits entry n two f = record {
+  tlid = n;
+  body = f.body;
+  start = first_holds IsOnMap entry.1.points (omega arith) f.points;
+  end = last_holds IsOnMap entry.1.points (omega arith) f.points;
+}
+
+-- lists in pieces of a width, of which there are at most 999, as records with RTSQs
+module _ {X Y : Type 0} (width : ℕ) (P : X → Type 0) (make : ℕ × List X → Y) (Fits : Y → Type 0)
+    (each : (rtsq : ℕ) (piece : List X) → IsNumber 3 rtsq → length piece ≤ width → AllByRecursion P piece → Fits (make (rtsq, piece))) where
+  pieces_fit : (xs : List X) → length xs ≤ width * greatest_rtsq → AllByRecursion P xs
+      → AllByRecursion Fits (map make (numbered_from 1 (in_pieces width xs)))
+  pieces_fit xs few a =
+      let count : length (in_pieces width xs) ≤ greatest_rtsq = few_pieces width greatest_rtsq (length xs) xs few in
+      all_map Fits make (numbered_from 1 (in_pieces width xs))
+      (all_weaker (λ (entry : ℕ × List X). (1 ≤ entry.0)
+      × ((entry.0 < 1 + length (in_pieces width xs)) × ((length entry.1 ≤ width) × AllByRecursion P entry.1)))
+      (λ entry. Fits (make entry))
+      (λ entry h. each entry.0 entry.1 (
+        (let low : 1 ≤ entry.0 = h.0 in omega arith),
+        (let high : entry.0 < 1 + length (in_pieces width xs) = h.1.0 in omega arith),
+      ) h.1.1.0 h.1.1.1)
+      (numbered_from 1 (in_pieces width xs))
+      (all_numbered_from (λ piece. (length piece ≤ width) × AllByRecursion P piece) 1 (in_pieces width xs)
+      (all_both (λ piece. length piece ≤ width) (AllByRecursion P) (in_pieces width xs) (short_pieces width (length xs) xs)
+      (all_in_pieces P width (length xs) xs a))))
+
+twos_fit : (entry : ℕ × Chain) → IsNumber 10 entry.0 → FitsChain entry.1 → HasRoom entry.1 → AllByRecursion Fit2 (packed_twos entry)
+twos_fit entry n f room =
+    pieces_fit 10 IsOnMap (λ piece. record { tlid = entry.0; rtsq = piece.0; points = piece.1 }) Fit2
+    (λ rtsq piece r few a. record { tlid = n; rtsq = r; len = few; points = a }) (inner_points entry.1.points) room.points
+    (all_inner IsOnMap entry.1.points f.points)
+
+fours_fit : (entry : ℕ × Chain) → IsNumber 10 entry.0 → FitsNumbers entry.1 → HasRoom entry.1 → AllByRecursion Fit4 (packed_fours entry)
+fours_fit entry n f room =
+    pieces_fit 5 (IsNumber 8) (λ piece. record { tlid = entry.0; rtsq = piece.0; feats = piece.1 }) Fit4
+    (λ rtsq piece r few a. record { tlid = n; rtsq = r; len = few; feats = a }) entry.1.feats room.feats f.feats
+
+sixes_fit : (entry : ℕ × Chain) → IsNumber 10 entry.0 → FitsChain entry.1 → HasRoom entry.1 → AllByRecursion Fit6 (packed_sixes entry)
+sixes_fit entry n f room =
+    all_map Fit6 (λ (piece : ℕ × Ranges). record { tlid = entry.0; rtsq = piece.0; ranges = piece.1 }) (numbered_from 1 entry.1.ranges)
+    (all_weaker (λ (piece : ℕ × Ranges). (1 ≤ piece.0) × ((piece.0 < 1 + length entry.1.ranges) × FitsRanges piece.1))
+    (λ piece. Fit6 (record { tlid = entry.0; rtsq = piece.0; ranges = piece.1 }))
+    (λ piece h. record {
+      tlid = n;
+      rtsq = (
+        (let low : 1 ≤ piece.0 = h.0 in omega arith),
+        (let high : piece.0 < 1 + length entry.1.ranges = h.1.0 in let few : length entry.1.ranges ≤ 999 = room.ranges in omega arith),
+      );
+      ranges = h.1.1;
+    })
+    (numbered_from 1 entry.1.ranges) (all_numbered_from FitsRanges 1 entry.1.ranges f.ranges))
+
+i_fits : (entry : ℕ × Chain) → IsNumber 10 entry.0 → FitsChain entry.1 → FitsNumbers entry.1 → FitI (packed_i entry)
+i_fits entry n f m = record {
+  tlid = n;
+  start_node = m.start_node;
+  end_node = m.end_node;
+  left_polyid = m.left;
+  right_polyid = m.right;
+  content = f.link;
+}
+
+abbrev FitsEntry : PolygonKey × Option BodyP → Type 0
+FitsEntry entry = IfSome entry.1 (FitsPolygon entry.0.0) × IsNumber 10 entry.0.1
+
+p_fits : (key : PolygonKey) (body : Option BodyP) (r : FieldsP) → packed_body key body ≡ Some r → FitsEntry (key, body) → FitP r
+p_fits key None r e f = cc
+p_fits key (Some body) r e f =
+    let same : record { cenid = key.0; polyid = key.1; body = body } ≡ r =
+    some_same (record { cenid = key.0; polyid = key.1; body = body }) r e in
+    subst FitP same (record { polyid = f.1; body = f.0 })
+  where
+    some_same : (x y : FieldsP) → Some x ≡ Some y → x ≡ y
+    some_same x y e = cc
+
+-- what is known of each chain of such a county
+abbrev IsFitEntry : ℕ × Chain → Type 0
+IsFitEntry entry = (2 ≤ length entry.1.points) × (IsNumber 10 entry.0 × (FitsChain entry.1 × (FitsNumbers entry.1 × HasRoom entry.1)))
+
+module _ (county : County) (whole : IsWhole county) (contents : ContentsFit county) (numbers : NumbersFit county)
+    (room : AllByRecursion (λ entry. HasRoom entry.1) county.chains) where
+  fit_entries : AllByRecursion IsFitEntry county.chains
+  fit_entries = all_both (λ entry. 2 ≤ length entry.1.points)
+      (λ entry. IsNumber 10 entry.0 × (FitsChain entry.1 × (FitsNumbers entry.1 × HasRoom entry.1))) county.chains whole.points
+      (all_both (λ entry. IsNumber 10 entry.0) (λ entry. FitsChain entry.1
+      × (FitsNumbers entry.1 × HasRoom entry.1)) county.chains numbers.chains
+      (all_both (λ entry. FitsChain entry.1) (λ entry. FitsNumbers entry.1 × HasRoom entry.1) county.chains contents.chains
+      (all_both (λ entry. FitsNumbers entry.1) (λ entry. HasRoom entry.1) county.chains numbers.named room)))
+
+  -- records of chains fit if they do chain by chain
+  each_chain : {Y : Type 0} (Fits : Y → Type 0) (pack : ℕ × Chain → List Y)
+      → ((entry : ℕ × Chain) → IsFitEntry entry → AllByRecursion Fits (pack entry)) → AllByRecursion Fits (flat_map pack county.chains)
+  each_chain Fits pack h =
+      all_joined Fits pack county.chains (all_weaker IsFitEntry (λ entry. AllByRecursion Fits (pack entry)) h county.chains fit_entries)
+
+  sevens_fit : AllByRecursion Fit7 (flat_map packed_sevens county.landmarks)
+  sevens_fit = all_joined Fit7 packed_sevens county.landmarks
+      (all_weaker (λ (entry : ℕ × List Body7). IsNumber 10 entry.0 × AllByRecursion FitsLandmark entry.1)
+      (λ entry. AllByRecursion Fit7 (packed_sevens entry))
+      (λ entry h. all_map Fit7 (λ body. record { land = entry.0; body = body }) entry.1
+      (all_weaker FitsLandmark (λ body. Fit7 (record { land = entry.0; body = body }))
+      (λ body f. record { land = h.0; body = f }) entry.1 h.1))
+      county.landmarks (all_both (λ (entry : ℕ × List Body7). IsNumber 10 entry.0)
+      (λ entry. AllByRecursion FitsLandmark entry.1) county.landmarks numbers.landmarks contents.landmarks))
+
+  eights_fit : AllByRecursion Fit8 county.links
+  eights_fit = all_weaker (λ (link : Fields8). FitsLink link × (IsNumber 10 link.polyid × IsNumber 10 link.land)) Fit8
+      (λ link h. record { file = h.0.file; cenid = h.0.cenid; polyid = h.1.0; land = h.1.1 }) county.links
+      (all_both FitsLink (λ link. IsNumber 10 link.polyid × IsNumber 10 link.land) county.links contents.links
+      (all_both (λ link. IsNumber 10 link.polyid)
+      (λ link. IsNumber 10 link.land) county.links numbers.link_polygons numbers.link_lands))
+
+  ps_fit : AllByRecursion FitP (in_order (on p_polyid nat_cmp) (filter_map packed_p county.polygons))
+  ps_fit = all-in_order FitP (on p_polyid nat_cmp) (filter_map packed_p county.polygons)
+      (all_selected FitsEntry FitP packed_p (λ entry r e f. p_fits entry.0 entry.1 r e f) county.polygons
+      (all_both (λ entry. IfSome entry.1 (FitsPolygon entry.0.0))
+      (λ entry. IsNumber 10 entry.0.1) county.polygons contents.polygons numbers.polygons))
+
+  -- records of one type, as records of any
+  wrapped : {X : Type 0} (Fit : X → Type 0) (wrap : X → Record) → ((x : X) → Fit x → FitsRecord (wrap x)) → (xs : List X)
+      → AllByRecursion Fit xs → AllByRecursion FitsRecord (map wrap xs)
+  wrapped Fit wrap w xs a = all_map FitsRecord wrap xs (all_weaker Fit (λ x. FitsRecord (wrap x)) w xs a)
+
+  pub packed-fits : AllByRecursion FitsRecord (packed county)
+  unfolding FitsRecord
+  packed-fits =
+      all_append FitsRecord (map One (map packed_one county.chains)) _
+      (wrapped Fit1 One columns_1 (map packed_one county.chains)
+      (all_map Fit1 packed_one county.chains
+      (all_weaker IsFitEntry (λ entry. Fit1 (packed_one entry))
+      (λ entry h. one_fits entry h.1.0 h.0 h.1.1.0) county.chains fit_entries)))
+      (all_append FitsRecord (map Two (flat_map packed_twos county.chains)) _
+      (wrapped Fit2 Two columns_2 (flat_map packed_twos county.chains)
+      (each_chain Fit2 packed_twos (λ entry h. twos_fit entry h.1.0 h.1.1.0 h.1.1.1.1)))
+      (all_append FitsRecord (map Four (flat_map packed_fours county.chains)) _
+      (wrapped Fit4 Four columns_4 (flat_map packed_fours county.chains)
+      (each_chain Fit4 packed_fours (λ entry h. fours_fit entry h.1.0 h.1.1.1.0 h.1.1.1.1)))
+      (all_append FitsRecord (map Five (map packed_five county.names)) _
+      (wrapped Fit5 Five columns_5 (map packed_five county.names)
+      (all_map Fit5 packed_five county.names
+      (all_weaker (λ (entry : ℕ × Body5). IsNumber 8 entry.0 × FitsNameBody entry.1) (λ entry. Fit5 (packed_five entry))
+      (λ entry h. record { feat = h.0; body = h.1 }) county.names
+      (all_both (λ (entry : ℕ × Body5). IsNumber 8 entry.0) (λ entry. FitsNameBody entry.1) county.names numbers.names contents.names))))
+      (all_append FitsRecord (map Six (flat_map packed_sixes county.chains)) _
+      (wrapped Fit6 Six columns_6 (flat_map packed_sixes county.chains)
+      (each_chain Fit6 packed_sixes (λ entry h. sixes_fit entry h.1.0 h.1.1.0 h.1.1.1.1)))
+      (all_append FitsRecord (map Seven (flat_map packed_sevens county.landmarks)) _
+      (wrapped Fit7 Seven columns_7 (flat_map packed_sevens county.landmarks) sevens_fit)
+      (all_append FitsRecord (map Eight county.links) _ (wrapped Fit8 Eight columns_8 county.links eights_fit)
+      (all_append FitsRecord (map I (map packed_i county.chains)) _
+      (wrapped FitI I columns_i (map packed_i county.chains)
+      (all_map FitI packed_i county.chains
+      (all_weaker IsFitEntry (λ entry. FitI (packed_i entry))
+      (λ entry h. i_fits entry h.1.0 h.1.1.0 h.1.1.1.0) county.chains fit_entries)))
+      (wrapped FitP P columns_p (in_order (on p_polyid nat_cmp) (filter_map packed_p county.polygons)) ps_fit))))))))

@@ -1,0 +1,187 @@
+-- Groups of records of one number, taken one after the other from records in the order of their numbers.
+use Rattle.std.proofs.Common.{◌≡◌, ◌⊎◌, ◌==◌, ℕ, List, [], ◌∷◌, ◌++◌, map, filter, Bool, true, false, cond, Ordering, Less, Equal}
+use Rattle.std.proofs.Common.{Greater, is_eq, is_gt, sym, refl, ap, ◌∙◌, subst, inl, inr, nat_cmp, append_assoc, Option}
+use Rattle.std.proofs.lemmas.Bool.{false≢true}
+use Rattle.std.specs.List.{AllByRecursion}
+use Rattle.std.specs.List.Sorted.{IsStrictlySortedBy}
+use Rattle.std.specs.Ordering.{ordering_reverse}
+use Rattle.tl_layout.specs.ByType.{of_number}
+use Rattle.tl_layout.specs.Fields.{Fields1, Fields2, Fields4, Fields6, Fields7, Fields8, FieldsI, FieldsP}
+use Rattle.tl_layout.specs.declared.type7.Body7.{Body7}
+use Rattle.tl_layout.specs.declared.type_p.BodyP.{BodyP}
+use Rattle.tl_shape.specs.Chain.{Chain}
+use Rattle.tl_county.specs.LandmarkParts.{LandmarkParts}
+use Rattle.tl_county.specs.Building.{chain_with, chains_along, landmark_of, polygon_body_of}
+use Rattle.tl_county.specs.County.{one_tlid, two_tlid, four_tlid, six_tlid, seven_land, eight_land, p_key, first}
+use Rattle.tl_county.specs.PolygonKeys.{PolygonKey, key_cmp}
+use Rattle.tl_county.proofs.Lists.Counted.{filter-agree, eq_test}
+use Rattle.tl_county.proofs.ByKey.KeyOrders.{key_keys}
+use Rattle.tl_county.proofs.ByKey.Keys.{IsKeyOrder, nat_keys, same_or_not}
+
+eq_reversed : (a b : Ordering) → a ≡ ordering_reverse b → is_eq a ≡ is_eq b
+eq_reversed a Less e = ap is_eq e
+eq_reversed a Equal e = ap is_eq e
+eq_reversed a Greater e = ap is_eq e
+
+module _ {X K : Type 0} {cmp : K → K → Ordering} (o : IsKeyOrder cmp) (key : X → K) where
+  -- the items of a key, whichever way it is compared
+  pub group-flipped : (k : K) (xs : List X) → filter (λ x. is_eq (cmp (key x) k)) xs ≡ filter (λ x. is_eq (cmp k (key x))) xs
+  group-flipped k xs = filter-agree (λ x. is_eq (cmp (key x) k)) (λ x. is_eq (cmp k (key x)))
+      (λ x. eq_reversed (cmp (key x) k) (cmp k (key x)) (o.total.antisymm (key x) k)) xs
+
+  -- later groups stand among the later items
+  pub group-later : (k j : K) → cmp k j ≡ Less → (xs : List X)
+      → filter (λ x. is_eq (cmp (key x) j)) (filter (λ x. is_gt (cmp (key x) k)) xs) ≡ filter (λ x. is_eq (cmp (key x) j)) xs
+  group-later k j less [] = refl
+  group-later k j less (x ∷ xs) = go (is_gt (cmp (key x) k)) refl (group-later k j less xs)
+    where
+      above : key x ≡ j → is_gt (cmp (key x) k) ≡ true
+      above e = subst (λ i. is_gt (cmp i k) ≡ true) (sym e) (at (cmp j k) (cmp k j) (o.total.antisymm j k) less)
+        where
+          at : (a b : Ordering) → a ≡ ordering_reverse b → b ≡ Less → is_gt a ≡ true
+          at a b f g = ap is_gt (f ∙ ap ordering_reverse g)
+
+      apart : is_gt (cmp (key x) k) ≡ false → is_eq (cmp (key x) j) ≡ false
+      apart f = at (same_or_not o (key x) j)
+        where
+          at : (key x ≡ j) ⊎ (is_eq (cmp (key x) j) ≡ false) → is_eq (cmp (key x) j) ≡ false
+          at (inl e) = absurd (false≢true (sym f ∙ above e))
+          at (inr n) = n
+
+      go : (b : Bool) → is_gt (cmp (key x) k) ≡ b → filter (λ y. is_eq (cmp (key y) j)) (filter (λ y. is_gt (cmp (key y) k)) xs) ≡ filter
+          (λ y. is_eq (cmp (key y) j)) xs
+          → filter (λ y. is_eq (cmp (key y) j))
+          (cond b (x ∷ filter (λ y. is_gt (cmp (key y) k)) xs) (filter (λ y. is_gt (cmp (key y) k)) xs)) ≡ filter
+          (λ y. is_eq (cmp (key y) j)) (x ∷ xs)
+      go true e ih = ap (λ l. cond (is_eq (cmp (key x) j)) (x ∷ l) l) ih
+      go false e ih = ih ∙ ap (λ b. cond b (x ∷ filter (λ y. is_eq (cmp (key y) j)) xs) (filter (λ y. is_eq (cmp (key y) j)) xs))
+          (sym (apart e))
+
+-- by numbers
+module _ {X : Type 0} (number : X → ℕ) where
+  pub group-of_number : (n : ℕ) (xs : List X) → filter (λ x. is_eq (nat_cmp (number x) n)) xs ≡ of_number number n xs
+  group-of_number n xs = sym (filter-agree (λ x. number x == n) (λ x. is_eq (nat_cmp (number x) n)) (λ x. eq_test (number x) n) xs)
+
+  pub number-later : (k j : ℕ) → nat_cmp k j ≡ Less → (xs : List X)
+      → of_number number j (filter (λ x. is_gt (nat_cmp (number x) k)) xs) ≡ of_number number j xs
+  number-later k j less xs = sym (group-of_number j (filter (λ x. is_gt (nat_cmp (number x) k)) xs))
+      ∙ group-later nat_keys number k j less xs ∙ group-of_number j xs
+
+-- what comes later of records of a number
+abbrev pub later_than : {X : Type 0} → (X → ℕ) → ℕ → List X → List X
+later_than number n xs = filter (λ x. is_gt (nat_cmp (number x) n)) xs
+
+-- the chains of later TLIDs don't need the records of earlier ones
+pub chains_along-later : (n : ℕ) (twos : List Fields2) (fours : List Fields4) (sixes : List Fields6) (rs : List Fields1)
+    (links : List FieldsI) → AllByRecursion (λ m. nat_cmp n m ≡ Less) (map one_tlid rs)
+    → chains_along (later_than two_tlid n twos) (later_than four_tlid n fours)
+    (later_than six_tlid n sixes) rs links ≡ chains_along twos fours sixes rs links
+chains_along-later n twos fours sixes [] links h = refl
+chains_along-later n twos fours sixes (r ∷ rs) [] h = refl
+chains_along-later n twos fours sixes (r ∷ rs) (link ∷ links) h =
+    λ i. chain_with r link (number-later two_tlid n r.tlid h.0 twos i) (number-later four_tlid n r.tlid h.0 fours i)
+    (number-later six_tlid n r.tlid h.0 sixes i) ∷ chains_along-later n twos fours sixes rs links h.1 i
+
+pub landmarks-later : (n : ℕ) (sevens : List Fields7) (eights : List Fields8) (lands : List ℕ)
+    → AllByRecursion (λ m. nat_cmp n m ≡ Less) lands
+    → map (landmark_of (later_than seven_land n sevens) (later_than eight_land n eights)) lands ≡ map (landmark_of sevens eights) lands
+landmarks-later n sevens eights [] h = refl
+landmarks-later n sevens eights (land ∷ lands) h =
+    λ i. record {
+      bodies = map (λ (r : Fields7). r.body) (number-later seven_land n land h.0 sevens i);
+      links =
+          number-later eight_land n land h.0 eights i;
+    } ∷ landmarks-later n sevens eights lands h.1 i
+
+pub polygons-later : (key : PolygonKey) (points : List FieldsP) (keys : List PolygonKey) → AllByRecursion (λ j. key_cmp key j ≡ Less) keys
+    → map (polygon_body_of (filter (λ r. is_gt (key_cmp (p_key r) key)) points)) keys ≡ map (polygon_body_of points) keys
+polygons-later key points [] h = refl
+polygons-later key points (j ∷ keys) h =
+    let same = sym (group-flipped key_keys p_key j (filter (λ r. is_gt (key_cmp (p_key r) key)) points))
+    ∙ group-later key_keys p_key key j h.0 points ∙ group-flipped key_keys p_key j points in
+    λ i. first (map (λ (r : FieldsP). r.body) (same i)) ∷ polygons-later key points keys h.1 i
+
+-- a walk has one element more behind it
+pub one_done : {X : Type 0} (done : List X) (x y : X) (ahead others whole : List X) → done ++ (x ∷ ahead) ≡ whole → y ≡ x → others ≡ ahead
+    → (done ++ (y ∷ [])) ++ others ≡ whole
+one_done done x y ahead others whole e f g = append_assoc done (y ∷ []) others ∙ (λ i. done ++ (f i ∷ g i)) ∙ e
+
+pub strict_head : {K : Type 0} (cmp : K → K → Ordering) (k : K) (ks : List K) → IsStrictlySortedBy cmp (k ∷ ks)
+    → AllByRecursion (λ j. cmp k j ≡ Less) ks
+unfolding IsStrictlySortedBy
+strict_head cmp k ks h = h.0
+
+pub strict_tail : {K : Type 0} (cmp : K → K → Ordering) (k : K) (ks : List K) → IsStrictlySortedBy cmp (k ∷ ks) → IsStrictlySortedBy cmp ks
+unfolding IsStrictlySortedBy
+strict_tail cmp k ks h = h.1
+
+-- the chain of the groups of its TLID
+pub chain-of_groups : (head : Fields1) (link : FieldsI) (twos shape : List Fields2) (fours named : List Fields4)
+    (sixes ranged : List Fields6) (tlid : ℕ) → tlid ≡ head.tlid
+    → shape ≡ filter (λ x. is_eq (nat_cmp (two_tlid x) tlid)) twos → named ≡ filter (λ x. is_eq (nat_cmp (four_tlid x) tlid)) fours
+    → ranged ≡ filter (λ x. is_eq (nat_cmp (six_tlid x) tlid)) sixes
+    → chain_with head link shape named ranged
+    ≡ chain_with head link (of_number two_tlid head.tlid twos) (of_number four_tlid head.tlid fours) (of_number six_tlid head.tlid sixes)
+chain-of_groups head link twos shape fours named sixes ranged tlid e shape_is named_is ranged_is =
+    λ i. chain_with head link
+    ((shape_is ∙ group-of_number two_tlid tlid twos ∙ ap (λ n. of_number two_tlid n twos) e) i)
+    ((named_is ∙ group-of_number four_tlid tlid fours ∙ ap (λ n. of_number four_tlid n fours) e) i)
+    ((ranged_is ∙ group-of_number six_tlid tlid sixes ∙ ap (λ n. of_number six_tlid n sixes) e) i)
+
+-- a step of the walk along the chains
+module _ (done whole : List Chain) (head : Fields1) (later heads : List Fields1) (link : FieldsI) (others links : List FieldsI)
+    (twos : List Fields2) (fours : List Fields4) (sixes : List Fields6) where
+  abbrev chain_of_head : Chain
+  chain_of_head = chain_with head link (of_number two_tlid head.tlid twos) (of_number four_tlid head.tlid fours)
+      (of_number six_tlid head.tlid sixes)
+
+  pub chains-step : heads ≡ head ∷ later → links ≡ link ∷ others
+      → IsStrictlySortedBy nat_cmp (map one_tlid heads)
+      → done ++ chains_along twos fours sixes heads links ≡ whole
+      → (done ++ (chain_of_head ∷ [])) ++ chains_along (later_than two_tlid head.tlid twos) (later_than four_tlid head.tlid fours)
+      (later_than six_tlid head.tlid sixes) later others ≡ whole
+  chains-step heads_are links_are ascending before =
+      one_done done chain_of_head chain_of_head
+      (chains_along twos fours sixes later others)
+      (chains_along (later_than two_tlid head.tlid twos) (later_than four_tlid head.tlid fours)
+      (later_than six_tlid head.tlid sixes) later others) whole
+      ((λ i. done ++ chains_along twos fours sixes (sym heads_are i) (sym links_are i)) ∙ before)
+      refl
+      (chains_along-later head.tlid twos fours sixes later others
+      (strict_head nat_cmp head.tlid (map one_tlid later)
+      (subst (λ l. IsStrictlySortedBy nat_cmp (map one_tlid l)) heads_are ascending)))
+
+-- a step of the walk along the landmarks
+pub landmarks-step : (done whole : List LandmarkParts) (land : ℕ) (later lands : List ℕ) (sevens group : List Fields7)
+    (eights linked : List Fields8) (bodies : List Body7) (landmark : LandmarkParts)
+    → group ≡ filter (λ x. is_eq (nat_cmp (seven_land x) land)) sevens → linked ≡ filter (λ x. is_eq (nat_cmp (eight_land x) land)) eights
+    → bodies ≡ map (λ (r : Fields7). r.body) group → landmark ≡ record { bodies = bodies; links = linked }
+    → lands ≡ land ∷ later → IsStrictlySortedBy nat_cmp lands
+    → done ++ map (landmark_of sevens eights) lands ≡ whole
+    → (done ++ (landmark ∷ [])) ++ map (landmark_of (later_than seven_land land sevens) (later_than eight_land land eights)) later ≡ whole
+landmarks-step done whole land later lands sevens group eights linked bodies landmark group_is linked_is bodies_are landmark_is lands_are
+    ascending before =
+    one_done done (landmark_of sevens eights land) landmark (map (landmark_of sevens eights) later)
+    (map (landmark_of (later_than seven_land land sevens) (later_than eight_land land eights)) later) whole
+    (ap (λ l. done ++ map (landmark_of sevens eights) l) (sym lands_are) ∙ before)
+    (landmark_is ∙ (λ i. record {
+      bodies =
+          (bodies_are ∙ ap (map (λ (r : Fields7). r.body)) (group_is ∙ group-of_number seven_land land sevens)) i;
+      links =
+          (linked_is ∙ group-of_number eight_land land eights) i;
+    }))
+    (landmarks-later land sevens eights later (strict_head nat_cmp land later (subst (IsStrictlySortedBy nat_cmp) lands_are ascending)))
+
+-- a step of the walk along the polygons
+pub polygons-step : (done whole : List (Option BodyP)) (key : PolygonKey) (later keys : List PolygonKey) (points group : List FieldsP)
+    (body : Option BodyP)
+    → group ≡ filter (λ r. is_eq (key_cmp (p_key r) key)) points → body ≡ first (map (λ (r : FieldsP). r.body) group)
+    → keys ≡ key ∷ later → IsStrictlySortedBy key_cmp keys
+    → done ++ map (polygon_body_of points) keys ≡ whole
+    → (done ++ (body ∷ [])) ++ map (polygon_body_of (filter (λ r. is_gt (key_cmp (p_key r) key)) points)) later ≡ whole
+polygons-step done whole key later keys points group body group_is body_is keys_are ascending before =
+    one_done done (polygon_body_of points key) body (map (polygon_body_of points) later)
+    (map (polygon_body_of (filter (λ r. is_gt (key_cmp (p_key r) key)) points)) later) whole
+    (ap (λ l. done ++ map (polygon_body_of points) l) (sym keys_are) ∙ before)
+    (body_is ∙ ap (λ l. first (map (λ (r : FieldsP). r.body) l)) (group_is ∙ group-flipped key_keys p_key key points))
+    (polygons-later key points later (strict_head key_cmp key later (subst (IsStrictlySortedBy key_cmp) keys_are ascending)))

@@ -1,0 +1,73 @@
+-- The records of a chain in a packed county: each is of a chain that is there, and no RTSQ stands twice.
+use Rattle.std.proofs.Common.{◌≡◌, ℕ, List, map, flat_map}
+use Rattle.std.proofs.Common.{false}
+use Rattle.std.proofs.Common.{sym, refl, ap, ◌∙◌, subst, nat_cmp}
+use Rattle.std.specs.List.{AllByRecursion}
+use Rattle.tl_layout.specs.ByType.{of_number}
+use Rattle.tl_layout.specs.declared.ranges.Ranges.{Ranges}
+use Rattle.tl_shape.specs.Chain.{Chain}
+use Rattle.tl_county.specs.County.{County, two_tlid, two_rtsq, four_tlid, four_rtsq, six_tlid, six_rtsq}
+use Rattle.tl_county.specs.CountyRules.{IsCounty, tlids}
+use Rattle.tl_county.specs.LinkRules.{linked_tlids, rtsqs}
+use Rattle.tl_county.specs.Orders.{has_repeat}
+use Rattle.tl_county.specs.Packing.{in_pieces, numbered_from, inner_points, packed_twos, packed_fours, packed_sixes}
+use Rattle.tl_county.specs.Packing.{packed}
+use Rattle.tl_county.specs.declared.fault.LinkedType.{LinkedType}
+use Rattle.tl_county.specs.declared.fault.LinkedType.TheVariants.{Two, Four, Six, I}
+use Rattle.tl_county.specs.declared.fault.SequencedType.{SequencedType}
+use Rattle.tl_county.specs.declared.fault.SequencedType.TheVariants as sequenced
+use Rattle.tl_county.proofs.Lists.Distinct.{has_repeat-apart}
+use Rattle.tl_county.proofs.Packing.PackedGroups.{group_holds}
+use Rattle.tl_county.proofs.ByKey.Keys.{Known, nat_keys}
+use Rattle.tl_county.proofs.ByKey.Keys.{apart_from_sorted}
+use Rattle.tl_county.proofs.Rules.LinkedCounty.{each_from}
+use Rattle.tl_county.proofs.Lists.Elements.{map-map, map_agree_everywhere, all_weaker, all_map, all_joined, all_everywhere}
+use Rattle.tl_county.proofs.Lists.Members.{among_known}
+use Rattle.tl_county.proofs.Sameness.Equivalence.{keys_known}
+use Rattle.tl_county.proofs.Packing.PackedNumbers.{four_own, six_own, two_own, numbered_strict, fours, link_numbers, sixes, tlids_apart, twos}
+
+module _ (c : County) (is : IsCounty c) where
+  linked_known : {X : Type 0} (tlid : X → ℕ) (pack : ℕ × Chain → List X) → ((e : ℕ × Chain) → AllByRecursion (λ x. tlid x ≡ e.0) (pack e))
+      → AllByRecursion (Known nat_cmp (tlids c)) (map tlid (flat_map pack c.chains))
+  linked_known tlid pack own = all_map (Known nat_cmp (tlids c)) tlid (flat_map pack c.chains)
+      (all_joined (λ x. Known nat_cmp (tlids c) (tlid x)) pack c.chains
+      (all_weaker (λ e. Known nat_cmp (tlids c) e.0) (λ e. AllByRecursion (λ x. Known nat_cmp (tlids c) (tlid x)) (pack e))
+      (λ e k. all_weaker (λ x. tlid x ≡ e.0) (λ x. Known nat_cmp (tlids c) (tlid x)) (λ x f. subst (Known nat_cmp (tlids c)) (sym f) k)
+      (pack e) (own e)) c.chains (keys_known nat_keys c.chains)))
+
+  pub all_linked : (t : LinkedType) → AllByRecursion (Known nat_cmp (tlids c)) (linked_tlids t (packed c))
+  all_linked Two = subst (λ xs. AllByRecursion (Known nat_cmp (tlids c)) (map two_tlid xs)) (sym (twos c is))
+      (linked_known two_tlid packed_twos two_own)
+  all_linked Four = subst (λ xs. AllByRecursion (Known nat_cmp (tlids c)) (map four_tlid xs)) (sym (fours c is))
+      (linked_known four_tlid packed_fours four_own)
+  all_linked Six = subst (λ xs. AllByRecursion (Known nat_cmp (tlids c)) (map six_tlid xs)) (sym (sixes c is))
+      (linked_known six_tlid packed_sixes six_own)
+  all_linked I = subst (AllByRecursion (Known nat_cmp (tlids c))) (sym (link_numbers c is))
+      (each_from (Known nat_cmp (tlids c)) (tlids c) (λ n m. among_known nat_keys n (tlids c) m))
+
+  -- records with the RTSQs 1, 2, 3, .. repeat none
+  no_repeat : {X Y : Type 0} (rtsq : X → ℕ) (make : ℕ × Y → X) → ((piece : ℕ × Y) → rtsq (make piece) ≡ piece.0) → (ys : List Y)
+      → has_repeat nat_cmp (map rtsq (map make (numbered_from 1 ys))) ≡ false
+  no_repeat {X} {Y} rtsq make told ys =
+      let numbers : map rtsq (map make (numbered_from 1 ys)) ≡ map (λ (piece : ℕ × Y). piece.0) (numbered_from 1 ys) =
+      map-map rtsq make (numbered_from 1 ys)
+      ∙ map_agree_everywhere (λ piece. rtsq (make piece)) (λ (piece : ℕ × Y). piece.0) told (numbered_from 1 ys) in
+      ap (has_repeat nat_cmp) numbers ∙ has_repeat-apart nat_keys (map (λ (piece : ℕ × Y). piece.0) (numbered_from 1 ys))
+      (apart_from_sorted nat_keys (map (λ (piece : ℕ × Y). piece.0) (numbered_from 1 ys)) (numbered_strict 1 ys))
+
+  pub sequence : (t : SequencedType) (tlid : ℕ) → has_repeat nat_cmp (rtsqs t tlid (packed c)) ≡ false
+  sequence sequenced.Two tlid = ap (λ xs. has_repeat nat_cmp (map two_rtsq (of_number two_tlid tlid xs))) (twos c is)
+      ∙ group_holds two_tlid packed_twos two_own (λ xs. has_repeat nat_cmp (map two_rtsq xs) ≡ false) refl c.chains (tlids_apart c is)
+      (all_everywhere (λ e. has_repeat nat_cmp (map two_rtsq (packed_twos e)) ≡ false)
+      (λ e. no_repeat two_rtsq (λ (piece : ℕ × List _). record { tlid = e.0; rtsq = piece.0; points = piece.1 }) (λ piece. refl)
+      (in_pieces 10 (inner_points e.1.points))) c.chains) tlid
+  sequence sequenced.Four tlid = ap (λ xs. has_repeat nat_cmp (map four_rtsq (of_number four_tlid tlid xs))) (fours c is)
+      ∙ group_holds four_tlid packed_fours four_own (λ xs. has_repeat nat_cmp (map four_rtsq xs) ≡ false) refl c.chains (tlids_apart c is)
+      (all_everywhere (λ e. has_repeat nat_cmp (map four_rtsq (packed_fours e)) ≡ false)
+      (λ e. no_repeat four_rtsq (λ (piece : ℕ × List ℕ). record { tlid = e.0; rtsq = piece.0; feats = piece.1 }) (λ piece. refl)
+      (in_pieces 5 e.1.feats)) c.chains) tlid
+  sequence sequenced.Six tlid = ap (λ xs. has_repeat nat_cmp (map six_rtsq (of_number six_tlid tlid xs))) (sixes c is)
+      ∙ group_holds six_tlid packed_sixes six_own (λ xs. has_repeat nat_cmp (map six_rtsq xs) ≡ false) refl c.chains (tlids_apart c is)
+      (all_everywhere (λ e. has_repeat nat_cmp (map six_rtsq (packed_sixes e)) ≡ false)
+      (λ e. no_repeat six_rtsq (λ (piece : ℕ × Ranges). record { tlid = e.0; rtsq = piece.0; ranges = piece.1 })
+      (λ piece. refl) e.1.ranges) c.chains) tlid

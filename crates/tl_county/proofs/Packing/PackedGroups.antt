@@ -1,0 +1,139 @@
+-- Records that are made entry by entry: those of one number are those of one entry, and they stand in order.
+use Rattle.std.proofs.Common.{◌≡◌, ◌⊎◌, ◌<◌, ◌≤◌, ◌==◌, ℕ, List, [], ◌∷◌, ◌++◌, map, flat_map, filter_map}
+use Rattle.std.proofs.Common.{true, false, cond, Option, Some, None, Ordering, Less, is_eq, is_gt, sym, refl}
+use Rattle.std.proofs.Common.{ap, ap₂, ◌∙◌, subst, inl, inr, arith, nat_cmp, append-nil}
+use Rattle.std.proofs.lemmas.Bool.{eq-eqb, ne_eqb}
+use Rattle.std.proofs.lemmas.Cmp.{tied_itself, nat_cmp_total}
+use Rattle.std.proofs.lemmas.List.Elements.{filter-append}
+use Rattle.std.specs.List.{AllByRecursion, cons_option}
+use Rattle.std.specs.List.Sorted.{IsStrictlySortedBy}
+use Rattle.std.specs.Ordering.{ordering_then}
+use Rattle.tl_layout.specs.ByType.{of_number}
+use Rattle.tl_county.specs.Orders.{times, IsInOrder}
+use Rattle.tl_county.proofs.Rules.FirstFault.{Among}
+use Rattle.tl_county.proofs.ByKey.Keys.{IsApart, nat_keys, same_or_not, times-yes, times-no, apart_tail, differ_apart, filter_all}
+use Rattle.tl_county.proofs.Lists.Elements.{all_weaker, all_append}
+use Rattle.tl_county.proofs.Lists.Members.{among_known, among-map}
+
+-- the selection of what was wrapped
+pub selected_own : {X Y : Type 0} (h : X → Option Y) (wrap : Y → X) → ((y : Y) → h (wrap y) ≡ Some y) → (ys : List Y)
+    → filter_map h (map wrap ys) ≡ ys
+selected_own h wrap e [] = refl
+selected_own h wrap e (y ∷ ys) = λ i. cons_option (e y i) (selected_own h wrap e ys i)
+
+pub selected_none : {X Y Z : Type 0} (h : X → Option Y) (wrap : Z → X) → ((z : Z) → h (wrap z) ≡ None) → (zs : List Z)
+    → filter_map h (map wrap zs) ≡ []
+selected_none h wrap e [] = refl
+selected_none h wrap e (z ∷ zs) = λ i. cons_option (e z i) (selected_none h wrap e zs i)
+
+-- two lists in order, of which nothing of the first is greater than anything of the second
+pub in_order-append : {X : Type 0} (by : X → X → Ordering) (xs ys : List X) → IsInOrder by xs → IsInOrder by ys
+    → AllByRecursion (λ x. AllByRecursion (λ y. is_gt (by x y) ≡ false) ys) xs → IsInOrder by (xs ++ ys)
+in_order-append by [] ys g h a = h
+in_order-append by (x ∷ xs) ys g h a = (all_append (λ y. is_gt (by x y) ≡ false) xs ys g.0 a.0, in_order-append by xs ys g.1 h a.1)
+
+module _ {V X : Type 0} (key : X → ℕ) (pack : ℕ × V → List X) (own : (e : ℕ × V) → AllByRecursion (λ x. key x ≡ e.0) (pack e)) where
+  own_group : (n : ℕ) (e : ℕ × V) → n ≡ e.0 → of_number key n (pack e) ≡ pack e
+  own_group n e same = filter_all (λ x. key x == n) (pack e)
+      (all_weaker (λ x. key x ≡ e.0) (λ x. (key x == n) ≡ true) (λ x f. eq-eqb (key x) n (f ∙ sym same)) (pack e) (own e))
+
+  none_of : (n : ℕ) (xs : List X) → AllByRecursion (λ x. key x ≡ n → ⊥) xs → of_number key n xs ≡ []
+  none_of n [] a = refl
+  none_of n (x ∷ xs) a = ap (λ b. cond b (x ∷ of_number key n xs) (of_number key n xs)) (ne_eqb (key x) n a.0) ∙ none_of n xs a.1
+
+  other_group : (n : ℕ) (e : ℕ × V) → is_eq (nat_cmp n e.0) ≡ false → of_number key n (pack e) ≡ []
+  other_group n e ne = none_of n (pack e) (all_weaker (λ x. key x ≡ e.0) (λ x. key x ≡ n → ⊥)
+      (λ x f g. differ_apart nat_keys n e.0 ne (sym g ∙ f)) (pack e) (own e))
+
+  -- no entry of this number, none of its records
+  pub no_group : (n : ℕ) (es : List (ℕ × V)) → times nat_cmp n (map (λ (e : ℕ × V). e.0) es) ≡ 0 → of_number key n (flat_map pack es) ≡ []
+  no_group n [] h = refl
+  no_group n (e ∷ es) h = go (same_or_not nat_keys n e.0) (no_group n es)
+    where
+      go : (n ≡ e.0) ⊎ (is_eq (nat_cmp n e.0) ≡ false)
+          → (times nat_cmp n (map (λ (d : ℕ × V). d.0) es) ≡ 0 → of_number key n (flat_map pack es) ≡ [])
+          → of_number key n (pack e ++ flat_map pack es) ≡ []
+      go (inl same) ih = absurd (omega (arith, h, times-yes nat_keys n e.0 (map (λ (d : ℕ × V). d.0) es) same))
+      go (inr ne) ih = filter-append (λ x. key x == n) (pack e) (flat_map pack es)
+          ∙ ap₂ (λ xs ys. xs ++ ys) (other_group n e ne) (ih (sym (times-no nat_keys n e.0 (map (λ (d : ℕ × V). d.0) es) ne) ∙ h))
+
+  first_group : (n : ℕ) (e : ℕ × V) (es : List (ℕ × V)) → n ≡ e.0 → IsApart nat_cmp (map (λ (d : ℕ × V). d.0) (e ∷ es))
+      → of_number key n (pack e ++ flat_map pack es) ≡ pack e
+  first_group n e es same apart =
+      let few : times nat_cmp n (e.0 ∷ map (λ (d : ℕ × V). d.0) es) ≤ 1 = apart n in
+      let none : times nat_cmp n (map (λ (d : ℕ × V). d.0) es) ≡ 0 =
+      omega (arith, few, times-yes nat_keys n e.0 (map (λ (d : ℕ × V). d.0) es) same) in
+      filter-append (λ x. key x == n) (pack e) (flat_map pack es) ∙ ap₂ (λ xs ys. xs ++ ys) (own_group n e same) (no_group n es none)
+      ∙ append-nil (pack e)
+
+  later_group : (n : ℕ) (e : ℕ × V) (es : List (ℕ × V)) → is_eq (nat_cmp n e.0) ≡ false
+      → of_number key n (pack e ++ flat_map pack es) ≡ of_number key n (flat_map pack es)
+  later_group n e es ne = filter-append (λ x. key x == n) (pack e) (flat_map pack es)
+      ∙ ap (λ xs. xs ++ of_number key n (flat_map pack es)) (other_group n e ne)
+
+  -- the records of an entry's number are its records
+  pub group_of : (es : List (ℕ × V)) → IsApart nat_cmp (map (λ (e : ℕ × V). e.0) es) → (e : ℕ × V) → Among e es
+      → of_number key e.0 (flat_map pack es) ≡ pack e
+  group_of [] apart e m = absurd m
+  group_of (d ∷ es) apart e m =
+      go m (same_or_not nat_keys e.0 d.0) (group_of es (apart_tail nat_keys d.0 (map (λ (f : ℕ × V). f.0) es) apart) e)
+    where
+      go : (e ≡ d) ⊎ Among e es → (e.0 ≡ d.0) ⊎ (is_eq (nat_cmp e.0 d.0) ≡ false)
+          → (Among e es → of_number key e.0 (flat_map pack es) ≡ pack e) → of_number key e.0 (pack d ++ flat_map pack es) ≡ pack e
+      go (inl same) f ih = first_group e.0 d es (ap (λ (x : ℕ × V). x.0) same) apart ∙ ap pack (sym same)
+      go (inr l) (inl same) ih = absurd (
+          let there : 0 < times nat_cmp e.0 (map (λ (f : ℕ × V). f.0) es) = among_number e es l in
+          let few : times nat_cmp e.0 (d.0 ∷ map (λ (f : ℕ × V). f.0) es) ≤ 1 = apart e.0 in
+          omega (arith, there, few, times-yes nat_keys e.0 d.0 (map (λ (f : ℕ × V). f.0) es) same))
+        where
+          among_number : (f : ℕ × V) (fs : List (ℕ × V)) → Among f fs → 0 < times nat_cmp f.0 (map (λ (x : ℕ × V). x.0) fs)
+          among_number f fs k = among_known nat_keys f.0 (map (λ (x : ℕ × V). x.0) fs) (among-map (λ (x : ℕ × V). x.0) f fs k)
+      go (inr l) (inr ne) ih = later_group e.0 d es ne ∙ ih l
+
+  -- what holds of no records and of each entry's records holds of the records of any number
+  pub group_holds : (Q : List X → Type 0) → Q [] → (es : List (ℕ × V)) → IsApart nat_cmp (map (λ (e : ℕ × V). e.0) es)
+      → AllByRecursion (λ e. Q (pack e)) es → (n : ℕ) → Q (of_number key n (flat_map pack es))
+  group_holds Q none [] apart a n = none
+  group_holds Q none (e ∷ es) apart a n =
+      go (same_or_not nat_keys n e.0) (group_holds Q none es (apart_tail nat_keys e.0 (map (λ (d : ℕ × V). d.0) es) apart) a.1 n)
+    where
+      go : (n ≡ e.0) ⊎ (is_eq (nat_cmp n e.0) ≡ false) → Q (of_number key n (flat_map pack es))
+          → Q (of_number key n (pack e ++ flat_map pack es))
+      go (inl same) ih = subst Q (sym (first_group n e es same apart)) a.0
+      go (inr ne) ih = subst Q (sym (later_group n e es ne)) ih
+
+  -- entries that ascend, each with records in an order of their own: all together are in order by number and then so
+  module _ (sub : X → X → Ordering) where
+    abbrev pub by_number : X → X → Ordering
+    by_number x y = ordering_then (nat_cmp (key x) (key y)) (sub x y)
+
+    within : (e : ℕ × V) (xs : List X) → AllByRecursion (λ x. key x ≡ e.0) xs → IsInOrder sub xs → IsInOrder by_number xs
+    within e [] a h = tt
+    within e (x ∷ xs) a h = (each xs a.1 h.0, within e xs a.1 h.1)
+      where
+        each : (ys : List X) → AllByRecursion (λ y. key y ≡ e.0) ys → AllByRecursion (λ y. is_gt (sub x y) ≡ false) ys
+            → AllByRecursion (λ y. is_gt (by_number x y) ≡ false) ys
+        each [] b g = tt
+        each (y ∷ ys) b g = (
+          ap (λ o. is_gt (ordering_then o (sub x y))) (ap₂ nat_cmp a.0 b.0 ∙ tied_itself nat_cmp_total e.0)
+              ∙ g.0,
+          each ys b.1 g.1,
+        )
+
+    above : (e : ℕ × V) (es : List (ℕ × V)) → AllByRecursion (λ n. nat_cmp e.0 n ≡ Less) (map (λ (d : ℕ × V). d.0) es)
+        → AllByRecursion (λ y. nat_cmp e.0 (key y) ≡ Less) (flat_map pack es)
+    above e [] a = tt
+    above e (d ∷ es) a = all_append (λ y. nat_cmp e.0 (key y) ≡ Less) (pack d) (flat_map pack es)
+        (all_weaker (λ y. key y ≡ d.0) (λ y. nat_cmp e.0 (key y) ≡ Less) (λ y f. ap (nat_cmp e.0) f ∙ a.0) (pack d) (own d))
+        (above e es a.1)
+
+    pub groups_in_order : (es : List (ℕ × V)) → IsStrictlySortedBy nat_cmp (map (λ (e : ℕ × V). e.0) es)
+        → AllByRecursion (λ e. IsInOrder sub (pack e)) es → IsInOrder by_number (flat_map pack es)
+    unfolding IsStrictlySortedBy
+    groups_in_order [] s a = tt
+    groups_in_order (e ∷ es) s a =
+        in_order-append by_number (pack e) (flat_map pack es) (within e (pack e) (own e) a.0) (groups_in_order es s.1 a.1)
+        (all_weaker (λ x. key x ≡ e.0) (λ x. AllByRecursion (λ y. is_gt (by_number x y) ≡ false) (flat_map pack es))
+        (λ x f. all_weaker (λ y. nat_cmp e.0 (key y) ≡ Less) (λ y. is_gt (by_number x y) ≡ false)
+        (λ y l. ap (λ o. is_gt (ordering_then o (sub x y))) (ap (λ n. nat_cmp n (key y)) f ∙ l)) (flat_map pack es) (above e es s.0))
+        (pack e) (own e))

@@ -1,0 +1,82 @@
+-- The packing of a county is linked.
+use Rattle.std.proofs.Common.{◌≡◌, ◌&&◌, ℕ, nat_lt, List, ◌++◌, map, flat_map}
+use Rattle.std.proofs.Common.{Bool, true, false, not, IsTrue}
+use Rattle.std.proofs.Common.{sym, refl, ap, ◌∙◌, subst, nat_cmp}
+use Rattle.std.proofs.lemmas.Bool.{false≢true, ltb-true, lt-ltb, le-ltb}
+use Rattle.tl_layout.specs.ByType.{of_type_5, of_type_7, of_type_8, of_type_i}
+use Rattle.tl_layout.specs.ByType.{of_type_p}
+use Rattle.tl_county.specs.County.{County, five_feat}
+use Rattle.tl_county.specs.County.{seven_land, eight_land, link_key, i_tlid, p_key, side_keys}
+use Rattle.tl_county.specs.CountyRules.{IsCounty, tlids, feats, polygon_keys, lands}
+use Rattle.tl_county.specs.LinkRules.{IsLinked, chain_tlids, linked_tlids, named_feats}
+use Rattle.tl_county.specs.Orders.{times, stands_in}
+use Rattle.tl_county.specs.Packing.{packed}
+use Rattle.tl_county.specs.PolygonKeys.{key_cmp}
+use Rattle.tl_county.specs.declared.fault.LinkFault.TheVariants.{ChainTwice, NoChain, SequenceBroken, LinkMissing, LinkTwice}
+use Rattle.tl_county.specs.declared.fault.LinkFault.TheVariants.{NameTwice, NameUnknown, PolygonTwice, LandUnknown}
+use Rattle.tl_county.specs.declared.fault.LinkFault.TheVariants.{PolygonUnknown, Memory}
+use Rattle.tl_county.proofs.ByKey.KeyOrders.{key_keys}
+use Rattle.tl_county.proofs.ByKey.Keys.{IsApart, Known, nat_keys, known_all}
+use Rattle.tl_county.proofs.ByKey.Keys.{apart_from_sorted}
+use Rattle.tl_county.proofs.Lists.Elements.{all_map}
+use Rattle.tl_county.proofs.Packing.PackedNumbers.{chain_numbers, eights, link_numbers, name_numbers, tlids_apart}
+use Rattle.tl_county.proofs.Packing.PackedChains.{all_linked, sequence}
+use Rattle.tl_county.proofs.Packing.PackedNamed.{few_polygons, key_stands, land_stands, named}
+
+-- of two tests the second holds where the first does, so the first never holds alone
+implied : (a b : Bool) → (a ≡ true → b ≡ true) → (a && not b) ≡ false
+implied true true h = refl
+implied true false h = absurd (false≢true (h refl))
+implied false true h = refl
+implied false false h = refl
+
+module _ (c : County) (is : IsCounty c) where
+  -- where numbers are apart no rule on numbers that stand twice is broken
+  once : (numbers known : List ℕ) → numbers ≡ known → IsApart nat_cmp known → (n : ℕ) → nat_lt 1 (times nat_cmp n numbers) ≡ false
+  once numbers known e apart n = ap (λ ks. nat_lt 1 (times nat_cmp n ks)) e ∙ le-ltb 1 (times nat_cmp n known) (apart n)
+
+  pub packed_linked : IsLinked (packed c)
+  packed_linked (ChainTwice tlid) = once (chain_tlids (packed c)) (tlids c) (chain_numbers c is) (tlids_apart c is) tlid
+  packed_linked (NoChain rtype tlid) =
+      implied (stands_in nat_cmp tlid (linked_tlids rtype (packed c))) (stands_in nat_cmp tlid (chain_tlids (packed c)))
+      (λ t. let known : Known nat_cmp (tlids c) tlid =
+      known_all nat_keys (Known nat_cmp (tlids c)) (linked_tlids rtype (packed c)) ((all_linked c is) rtype) tlid
+      (ltb-true 0 (times nat_cmp tlid (linked_tlids rtype (packed c))) t) in
+      ap (stands_in nat_cmp tlid) (chain_numbers c is) ∙ lt-ltb 0 (times nat_cmp tlid (tlids c)) known)
+  packed_linked (SequenceBroken rtype tlid) = (sequence c is) rtype tlid
+  packed_linked (LinkMissing tlid) =
+      implied (stands_in nat_cmp tlid (chain_tlids (packed c))) (stands_in nat_cmp tlid (map i_tlid (of_type_i (packed c))))
+      (λ t. ap (stands_in nat_cmp tlid) ((link_numbers c is) ∙ sym (chain_numbers c is)) ∙ t)
+  packed_linked (LinkTwice tlid) = once (map i_tlid (of_type_i (packed c))) (tlids c) (link_numbers c is) (tlids_apart c is) tlid
+  packed_linked (NameTwice feat) =
+      once (map five_feat (of_type_5 (packed c))) (feats c) (name_numbers c is) (apart_from_sorted nat_keys (feats c) is.ascending.names) feat
+  packed_linked (NameUnknown tlid feat) =
+      implied (stands_in nat_cmp feat (named_feats tlid (packed c))) (stands_in nat_cmp feat (map five_feat (of_type_5 (packed c))))
+      (λ t. ap (stands_in nat_cmp feat) (name_numbers c is)
+      ∙ known_all nat_keys (λ n. IsTrue (stands_in nat_cmp n (feats c))) (named_feats tlid (packed c)) ((named c is) tlid) feat
+      (ltb-true 0 (times nat_cmp feat (named_feats tlid (packed c))) t))
+  packed_linked (PolygonTwice cenid polyid) =
+      le-ltb 1 (times key_cmp (cenid, polyid) (map p_key (of_type_p (packed c)))) ((few_polygons c is) (cenid, polyid))
+  packed_linked (LandUnknown land) =
+      implied (stands_in nat_cmp land (map eight_land (of_type_8 (packed c))))
+      (stands_in nat_cmp land (map seven_land (of_type_7 (packed c))))
+      (λ t. let known : Known nat_cmp (map eight_land c.links) land =
+      subst (λ xs. Known nat_cmp (map eight_land xs) land) (eights c is)
+      (ltb-true 0 (times nat_cmp land (map eight_land (of_type_8 (packed c)))) t) in
+      let listed : IsTrue (stands_in nat_cmp land (lands c)) =
+      known_all nat_keys (λ n. IsTrue (stands_in nat_cmp n (lands c))) (map eight_land c.links)
+      (all_map (λ n. IsTrue (stands_in nat_cmp n (lands c))) eight_land c.links is.closed.link_lands) land known in
+      lt-ltb 0 (times nat_cmp land (map seven_land (of_type_7 (packed c))))
+      ((land_stands c is) land (ltb-true 0 (times nat_cmp land (lands c)) listed)))
+  packed_linked (PolygonUnknown cenid polyid) =
+      implied (stands_in key_cmp (cenid, polyid) (map link_key (of_type_8 (packed c))))
+      (stands_in key_cmp (cenid, polyid) (flat_map side_keys (of_type_i (packed c)) ++ map p_key (of_type_p (packed c))))
+      (λ t. let known : Known key_cmp (map link_key c.links) (cenid, polyid) =
+      subst (λ xs. Known key_cmp (map link_key xs) (cenid, polyid)) (eights c is)
+      (ltb-true 0 (times key_cmp (cenid, polyid) (map link_key (of_type_8 (packed c)))) t) in
+      let listed : IsTrue (stands_in key_cmp (cenid, polyid) (polygon_keys c)) =
+      known_all key_keys (λ k. IsTrue (stands_in key_cmp k (polygon_keys c))) (map link_key c.links)
+      (all_map (λ k. IsTrue (stands_in key_cmp k (polygon_keys c))) link_key c.links is.closed.link_polygons) (cenid, polyid) known in
+      lt-ltb 0 (times key_cmp (cenid, polyid) (flat_map side_keys (of_type_i (packed c)) ++ map p_key (of_type_p (packed c))))
+      ((key_stands c is) (cenid, polyid) (ltb-true 0 (times key_cmp (cenid, polyid) (polygon_keys c)) listed)))
+  packed_linked Memory = refl

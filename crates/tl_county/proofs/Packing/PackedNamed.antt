@@ -1,0 +1,151 @@
+-- What the records of a packed county name stands in it: FEATs, LANDs and polygons.
+use Rattle.std.proofs.Common.{◌≡◌, ◌⊎◌, ◌<◌, ◌≤◌, ◌+◌, ◌||◌, ℕ, List, [], ◌∷◌, ◌++◌, map, flat_map}
+use Rattle.std.proofs.Common.{filter_map, length, true, false, Option, Some, None, IsTrue, is_some}
+use Rattle.std.proofs.Common.{is_eq, sym, refl, ap, ◌∙◌, subst, inl, inr, arith, nat_cmp}
+use Rattle.std.proofs.lemmas.Bool.{false≢true, ltb-true, or_cases}
+use Rattle.std.specs.List.{AllByRecursion, cons_option}
+use Rattle.std.specs.Ordering.{on}
+use Rattle.tl_layout.specs.Fields.{Fields4, Fields7, FieldsP}
+use Rattle.tl_layout.specs.ByType.{of_type_7, of_type_i}
+use Rattle.tl_layout.specs.ByType.{of_type_p, of_number}
+use Rattle.tl_layout.specs.declared.type7.Body7.{Body7}
+use Rattle.tl_layout.specs.declared.type_p.BodyP.{BodyP}
+use Rattle.tl_shape.specs.Chain.{Chain}
+use Rattle.tl_county.specs.County.{County, four_tlid}
+use Rattle.tl_county.specs.County.{seven_land, p_key, side_keys}
+use Rattle.tl_county.specs.CountyRules.{IsCounty, feats, polygon_keys, lands, polygons_along, AllStandIn}
+use Rattle.tl_county.specs.LinkRules.{named_feats}
+use Rattle.tl_county.specs.Orders.{times, stands_in, in_order}
+use Rattle.tl_county.specs.Packing.{in_pieces, numbered_from, packed_fours}
+use Rattle.tl_county.specs.Packing.{packed_sevens, packed_i, packed_body, packed_p, p_polyid, packed}
+use Rattle.tl_county.specs.PolygonKeys.{PolygonKey, key_cmp}
+use Rattle.tl_county.proofs.Lists.Counted.{all_in_pieces, all_numbered_from}
+use Rattle.tl_county.proofs.Rules.FirstFault.{Among, all_among}
+use Rattle.tl_county.proofs.Packing.PackedGroups.{group_holds}
+use Rattle.tl_county.proofs.ByKey.KeyOrders.{key_keys}
+use Rattle.tl_county.proofs.ByKey.Keys.{IsApart, Known, nat_keys, known-left, known-right, times-yes, times-no}
+use Rattle.tl_county.proofs.ByKey.Keys.{times-cons, same_or_not, apart_from_sorted}
+use Rattle.tl_county.proofs.Lists.Elements.{all_weaker, all_map, all_joined}
+use Rattle.tl_county.proofs.Lists.Members.{among_known, known_is_among, among-map, among-unmap, among-pieces, to_filter_map}
+use Rattle.tl_county.proofs.ByKey.Numbers.{times-in_order, to_in_order}
+use Rattle.tl_county.proofs.Packing.PackedNumbers.{four_own, fours, links_of_chains, polygons_packed, sevens, tlids_apart}
+
+-- the keys of polygons with content
+key_packed : (key : PolygonKey) (o : Option BodyP) (r : FieldsP) → packed_body key o ≡ Some r → p_key r ≡ key
+key_packed key None r e = cc
+key_packed key (Some body) r e = let same : record { cenid = key.0; polyid = key.1; body = body } ≡ r =
+    some_same (record { cenid = key.0; polyid = key.1; body = body }) r e in ap p_key (sym same)
+  where
+    some_same : (x y : FieldsP) → Some x ≡ Some y → x ≡ y
+    some_same x y e = cc
+
+few_packed_keys : (k : PolygonKey) (es : List (PolygonKey × Option BodyP))
+    → times key_cmp k (map p_key (filter_map packed_p es)) ≤ times key_cmp k (map (λ (e : PolygonKey × Option BodyP). e.0) es)
+few_packed_keys k [] = omega arith
+few_packed_keys k (e ∷ es) = go e.1 (few_packed_keys k es) (same_or_not key_keys k e.0)
+  where
+    go : (o : Option BodyP) → times key_cmp k (map p_key (filter_map packed_p es)) ≤ times key_cmp k
+        (map (λ (d : PolygonKey × Option BodyP). d.0) es) → (k ≡ e.0) ⊎ (is_eq (key_cmp k e.0) ≡ false)
+        → times key_cmp k (map p_key (cons_option (packed_body e.0 o) (filter_map packed_p es))) ≤ times key_cmp k
+        (e.0 ∷ map (λ (d : PolygonKey × Option BodyP). d.0) es)
+    go None ih same = omega (arith, ih, times-cons key_keys k e.0 (map (λ (d : PolygonKey × Option BodyP). d.0) es))
+    go (Some body) ih (inl same) =
+        omega (
+          arith,
+          ih,
+          times-yes key_keys k e.0 (map p_key (filter_map packed_p es)) same,
+          times-yes key_keys k e.0 (map (λ (d : PolygonKey × Option BodyP). d.0) es) same,
+        )
+    go (Some body) ih (inr ne) =
+        omega (
+          arith,
+          ih,
+          times-no key_keys k e.0 (map p_key (filter_map packed_p es)) ne,
+          times-no key_keys k e.0 (map (λ (d : PolygonKey × Option BodyP). d.0) es) ne,
+        )
+
+module _ (c : County) (is : IsCounty c) where
+  -- a test of names, of polygons and of landmarks
+  pub named : (tlid : ℕ) → AllByRecursion (λ n. IsTrue (stands_in nat_cmp n (feats c))) (named_feats tlid (packed c))
+  named tlid = subst (λ xs. AllByRecursion (λ n. IsTrue (stands_in nat_cmp n (feats c)))
+      (flat_map (λ (r : Fields4). r.feats) (of_number four_tlid tlid xs))) (sym (fours c is))
+      (group_holds four_tlid packed_fours four_own
+      (λ xs. AllByRecursion (λ n. IsTrue (stands_in nat_cmp n (feats c)))
+      (flat_map (λ (r : Fields4). r.feats) xs)) tt c.chains (tlids_apart c is)
+      (all_weaker (λ e. AllStandIn (feats c) e.1.feats)
+      (λ e. AllByRecursion (λ n. IsTrue (stands_in nat_cmp n (feats c))) (flat_map (λ (r : Fields4). r.feats) (packed_fours e)))
+      (λ e a. all_joined (λ n. IsTrue (stands_in nat_cmp n (feats c))) (λ (r : Fields4). r.feats) (packed_fours e)
+      (all_map (λ (r : Fields4). AllByRecursion (λ n. IsTrue (stands_in nat_cmp n (feats c))) r.feats)
+      (λ (piece : ℕ × List ℕ). record { tlid = e.0; rtsq = piece.0; feats = piece.1 }) (numbered_from 1 (in_pieces 5 e.1.feats))
+      (all_weaker (λ (piece : ℕ × List ℕ). (1 ≤ piece.0)
+      × ((piece.0 < 1 + length (in_pieces 5 e.1.feats)) × AllByRecursion (λ n. IsTrue (stands_in nat_cmp n (feats c))) piece.1))
+      (λ piece. AllByRecursion (λ n. IsTrue (stands_in nat_cmp n (feats c))) piece.1) (λ piece h. h.1.1)
+      (numbered_from 1 (in_pieces 5 e.1.feats))
+      (all_numbered_from (AllByRecursion (λ n. IsTrue (stands_in nat_cmp n (feats c)))) 1 (in_pieces 5 e.1.feats)
+      (all_in_pieces (λ n. IsTrue (stands_in nat_cmp n (feats c))) 5 (length e.1.feats) e.1.feats a)))))
+      c.chains is.closed.names) tlid)
+
+  landmark_stands : (e : ℕ × List Body7) → Among e c.landmarks → Known nat_cmp (map seven_land (of_type_7 (packed c))) e.0
+  landmark_stands e m =
+      let some : 1 ≤ length e.1 = all_among (λ d. 1 ≤ length d.1) e c.landmarks is.whole.bodies m in
+      subst (λ xs. Known nat_cmp (map seven_land xs) e.0) (sym (sevens c is)) (at e.1 refl some)
+    where
+      at : (bodies : List Body7) → e.1 ≡ bodies → 1 ≤ length e.1 → Known nat_cmp (map seven_land (flat_map packed_sevens c.landmarks)) e.0
+      at [] same some = absurd (let t : length e.1 ≡ 0 = ap length same in omega (arith, t, some))
+      at (body ∷ bodies) same some =
+          let r : Fields7 = record { land = e.0; body = body } in
+          let there : Among r (packed_sevens e) =
+          subst (λ (bs : List Body7). Among r (map (λ b. record { land = e.0; body = b }) bs)) (sym same) (inl refl) in
+          among_known nat_keys e.0 (map seven_land (flat_map packed_sevens c.landmarks))
+          (among-map seven_land r (flat_map packed_sevens c.landmarks) (among-pieces packed_sevens e r c.landmarks m there))
+
+  pub land_stands : (land : ℕ) → Known nat_cmp (lands c) land → Known nat_cmp (map seven_land (of_type_7 (packed c))) land
+  land_stands land k =
+      let e = among-unmap (λ (d : ℕ × List Body7). d.0) land c.landmarks (known_is_among nat_keys land (lands c) k) in
+      subst (Known nat_cmp (map seven_land (of_type_7 (packed c)))) (sym e.2) (landmark_stands e.0 e.1)
+
+  pub sides_along : flat_map side_keys (of_type_i (packed c)) ≡ polygons_along c.chains
+  sides_along = ap (flat_map side_keys) (links_of_chains c is) ∙ joined c.chains
+    where
+      joined : (es : List (ℕ × Chain)) → flat_map side_keys (map packed_i es) ≡ polygons_along es
+      joined [] = refl
+      joined (e ∷ es) = ap (λ ks. side_keys (packed_i e) ++ ks) (joined es)
+
+  -- a polygon of the county stands on a side or has a record
+  pub key_stands : (key : PolygonKey) → Known key_cmp (polygon_keys c) key
+      → Known key_cmp (flat_map side_keys (of_type_i (packed c)) ++ map p_key (of_type_p (packed c))) key
+  key_stands key k =
+      let e = among-unmap (λ (d : PolygonKey × Option BodyP). d.0) key c.polygons (known_is_among key_keys key (polygon_keys c) k) in
+      let whole : (is_some e.0.1 || stands_in key_cmp e.0.0 (polygons_along c.chains)) ≡ true =
+      all_among (λ d. IsTrue (is_some d.1 || stands_in key_cmp d.0 (polygons_along c.chains))) e.0 c.polygons is.whole.polygons e.1 in
+      subst (Known key_cmp (flat_map side_keys (of_type_i (packed c)) ++ map p_key (of_type_p (packed c)))) (sym e.2)
+      (go e.0 e.1 (or_cases (is_some e.0.1) (stands_in key_cmp e.0.0 (polygons_along c.chains)) whole))
+    where
+      with_body : (d : PolygonKey × Option BodyP) → Among d c.polygons → (o : Option BodyP) → d.1 ≡ o → is_some o ≡ true
+          → Known key_cmp (map p_key (of_type_p (packed c))) d.0
+      with_body d m None same some = absurd (false≢true some)
+      with_body d m (Some body) same some =
+          let r : FieldsP = record { cenid = d.0.0; polyid = d.0.1; body = body } in
+          let listed : Among r (filter_map packed_p c.polygons) = to_filter_map packed_p d r c.polygons m (ap (packed_body d.0) same) in
+          let ordered : Among r (of_type_p (packed c)) =
+          subst (Among r) (sym (polygons_packed c is)) (to_in_order (on p_polyid nat_cmp) (filter_map packed_p c.polygons) r listed) in
+          among_known key_keys d.0 (map p_key (of_type_p (packed c))) (among-map p_key r (of_type_p (packed c)) ordered)
+
+      go : (d : PolygonKey × Option BodyP) → Among d c.polygons
+          → (is_some d.1 ≡ true) ⊎ (stands_in key_cmp d.0 (polygons_along c.chains) ≡ true)
+          → Known key_cmp (flat_map side_keys (of_type_i (packed c)) ++ map p_key (of_type_p (packed c))) d.0
+      go d m (inl some) = known-right key_keys d.0 (flat_map side_keys (of_type_i (packed c))) (map p_key (of_type_p (packed c)))
+          (with_body d m d.1 refl some)
+      go d m (inr side) = known-left key_keys d.0 (flat_map side_keys (of_type_i (packed c))) (map p_key (of_type_p (packed c)))
+          (subst (λ ks. Known key_cmp ks d.0) (sym sides_along) (ltb-true 0 (times key_cmp d.0 (polygons_along c.chains)) side))
+
+  pub few_polygons : IsApart key_cmp (map p_key (of_type_p (packed c)))
+  few_polygons k =
+      let ordered : times key_cmp k (map p_key (in_order (on p_polyid nat_cmp) (filter_map packed_p c.polygons))) ≡ times key_cmp k
+      (map p_key (filter_map packed_p c.polygons)) =
+      times-in_order key_cmp p_key (on p_polyid nat_cmp) (filter_map packed_p c.polygons) k in
+      let few : times key_cmp k (map p_key (filter_map packed_p c.polygons)) ≤ times key_cmp k (polygon_keys c) =
+      few_packed_keys k c.polygons in
+      let one : times key_cmp k (polygon_keys c) ≤ 1 = apart_from_sorted key_keys (polygon_keys c) is.ascending.polygons k in
+      subst (λ xs. times key_cmp k (map p_key xs) ≤ 1) (sym (polygons_packed c is))
+      (let t : times key_cmp k (map p_key (in_order (on p_polyid nat_cmp) (filter_map packed_p c.polygons))) ≤ 1 = omega arith in t)

@@ -1,0 +1,98 @@
+-- The records of each type of a packed county, and their numbers.
+use Rattle.std.proofs.Common.{◌≡◌, ◌<◌, ◌==◌, ℕ, suc, List, [], ◌∷◌, map, flat_map}
+use Rattle.std.proofs.Common.{filter_map, cond}
+use Rattle.std.proofs.Common.{Less, Equal, Greater, refl, ap, ◌∙◌, arith, nat_cmp}
+use Rattle.std.proofs.lemmas.Bool.{lt-ltb}
+use Rattle.std.specs.List.{AllByRecursion}
+use Rattle.std.specs.List.Sorted.{IsStrictlySortedBy}
+use Rattle.std.specs.Ordering.{on}
+use Rattle.tl_layout.specs.ByType.{of_type_1, of_type_2, of_type_4, of_type_5, of_type_6, of_type_7, of_type_8, of_type_i}
+use Rattle.tl_layout.specs.ByType.{of_type_p}
+use Rattle.tl_layout.specs.declared.ranges.Ranges.{Ranges}
+use Rattle.tl_layout.specs.declared.type7.Body7.{Body7}
+use Rattle.tl_shape.specs.Chain.{Chain}
+use Rattle.tl_county.specs.County.{County, one_tlid, two_tlid, four_tlid, five_feat, six_tlid}
+use Rattle.tl_county.specs.County.{seven_land, i_tlid}
+use Rattle.tl_county.specs.CountyRules.{IsCounty, tlids, feats}
+use Rattle.tl_county.specs.LinkRules.{chain_tlids}
+use Rattle.tl_county.specs.Orders.{in_order}
+use Rattle.tl_county.specs.Packing.{in_pieces, numbered_from, inner_points, packed_one, packed_twos, packed_fours, packed_sixes}
+use Rattle.tl_county.specs.Packing.{packed_five, packed_sevens, packed_i, packed_p, p_polyid, packed_by_type, packed}
+use Rattle.tl_county.proofs.ByKey.Keys.{IsApart, nat_keys}
+use Rattle.tl_county.proofs.ByKey.Keys.{apart_from_sorted}
+use Rattle.tl_county.proofs.Lists.Elements.{map-map, all_map, all_everywhere}
+use Rattle.tl_county.proofs.Packing.PackedTypes.{type_1, type_2, type_4, type_5, type_6, type_7, type_8, type_i, type_p}
+
+-- each record of an entry bears its number
+pub two_own : (e : ℕ × Chain) → AllByRecursion (λ x. two_tlid x ≡ e.0) (packed_twos e)
+two_own e = all_map (λ x. two_tlid x ≡ e.0) (λ (piece : ℕ × List _). record { tlid = e.0; rtsq = piece.0; points = piece.1 })
+    (numbered_from 1 (in_pieces 10 (inner_points e.1.points)))
+    (all_everywhere (λ piece. e.0 ≡ e.0) (λ piece. refl) (numbered_from 1 (in_pieces 10 (inner_points e.1.points))))
+
+pub four_own : (e : ℕ × Chain) → AllByRecursion (λ x. four_tlid x ≡ e.0) (packed_fours e)
+four_own e = all_map (λ x. four_tlid x ≡ e.0) (λ (piece : ℕ × List ℕ). record { tlid = e.0; rtsq = piece.0; feats = piece.1 })
+    (numbered_from 1 (in_pieces 5 e.1.feats))
+    (all_everywhere (λ piece. e.0 ≡ e.0) (λ piece. refl) (numbered_from 1 (in_pieces 5 e.1.feats)))
+
+pub six_own : (e : ℕ × Chain) → AllByRecursion (λ x. six_tlid x ≡ e.0) (packed_sixes e)
+six_own e = all_map (λ x. six_tlid x ≡ e.0) (λ (piece : ℕ × Ranges). record { tlid = e.0; rtsq = piece.0; ranges = piece.1 })
+    (numbered_from 1 e.1.ranges) (all_everywhere (λ piece. e.0 ≡ e.0) (λ piece. refl) (numbered_from 1 e.1.ranges))
+
+pub seven_own : (e : ℕ × List Body7) → AllByRecursion (λ x. seven_land x ≡ e.0) (packed_sevens e)
+seven_own e = all_map (λ x. seven_land x ≡ e.0) (λ body. record { land = e.0; body = body }) e.1
+    (all_everywhere (λ body. e.0 ≡ e.0) (λ body. refl) e.1)
+
+less : (m n : ℕ) → m < n → nat_cmp m n ≡ Less
+less m n h = ap (λ b. cond b Less (cond (m == n) Equal Greater)) (lt-ltb m n h)
+
+-- numbers that count up ascend
+pub numbered_strict : {X : Type 0} (i : ℕ) (xs : List X) → IsStrictlySortedBy nat_cmp (map (λ (e : ℕ × X). e.0) (numbered_from i xs))
+unfolding IsStrictlySortedBy
+numbered_strict i [] = tt
+numbered_strict {X} i (x ∷ xs) = (above i (suc i) xs (omega arith), numbered_strict (suc i) xs)
+  where
+    above : (m j : ℕ) (ys : List X) → m < j → AllByRecursion (λ n. nat_cmp m n ≡ Less) (map (λ (e : ℕ × X). e.0) (numbered_from j ys))
+    above m j [] h = tt
+    above m j (y ∷ ys) h = (less m j h, above m (suc j) ys (omega arith))
+
+module _ (c : County) (is : IsCounty c) where
+  pub tlids_apart : IsApart nat_cmp (tlids c)
+  tlids_apart = apart_from_sorted nat_keys (tlids c) is.ascending.chains
+
+  -- the records of each type
+  pub ones : of_type_1 (packed c) ≡ map packed_one c.chains
+  ones = type_1 (packed_by_type c)
+
+  pub twos : of_type_2 (packed c) ≡ flat_map packed_twos c.chains
+  twos = type_2 (packed_by_type c)
+
+  pub fours : of_type_4 (packed c) ≡ flat_map packed_fours c.chains
+  fours = type_4 (packed_by_type c)
+
+  pub fives : of_type_5 (packed c) ≡ map packed_five c.names
+  fives = type_5 (packed_by_type c)
+
+  pub sixes : of_type_6 (packed c) ≡ flat_map packed_sixes c.chains
+  sixes = type_6 (packed_by_type c)
+
+  pub sevens : of_type_7 (packed c) ≡ flat_map packed_sevens c.landmarks
+  sevens = type_7 (packed_by_type c)
+
+  pub eights : of_type_8 (packed c) ≡ c.links
+  eights = type_8 (packed_by_type c)
+
+  pub links_of_chains : of_type_i (packed c) ≡ map packed_i c.chains
+  links_of_chains = type_i (packed_by_type c)
+
+  pub polygons_packed : of_type_p (packed c) ≡ in_order (on p_polyid nat_cmp) (filter_map packed_p c.polygons)
+  polygons_packed = type_p (packed_by_type c)
+
+  -- their numbers
+  pub chain_numbers : chain_tlids (packed c) ≡ tlids c
+  chain_numbers = ap (map one_tlid) ones ∙ map-map one_tlid packed_one c.chains
+
+  pub link_numbers : map i_tlid (of_type_i (packed c)) ≡ tlids c
+  link_numbers = ap (map i_tlid) links_of_chains ∙ map-map i_tlid packed_i c.chains
+
+  pub name_numbers : map five_feat (of_type_5 (packed c)) ≡ feats c
+  name_numbers = ap (map five_feat) fives ∙ map-map five_feat packed_five c.names

@@ -1,0 +1,358 @@
+-- The county depends on the packing of types 2 and 4 and on RTSQs only by what stands in order.
+use Rattle.std.proofs.Common.{◌≡◌, ◌⊎◌, ◌<◌, ℕ, ◌==◌, List, [], ◌∷◌, ◌++◌, map, flat_map, filter, filter_map, Bool, true, false}
+use Rattle.std.proofs.Common.{cond, Option, Some, None, option_map, Ordering, Less, Equal, Greater, is_eq, is_gt, sym, refl, ap}
+use Rattle.std.proofs.Common.{ap₂, ◌∙◌, inl, inr, nat_cmp, IsTrue, suc, nat_lt, not, ◌&&◌, ◌||◌, length}
+use Rattle.std.proofs.lemmas.Bool.{lt-ltb, cases_order}
+use Rattle.std.proofs.lemmas.Cmp.{tied_itself, nat_cmp_total}
+use Rattle.std.specs.List.{AllByRecursion, cons_option}
+use Rattle.std.specs.Ordering.{on, ordering_reverse}
+use Rattle.tl_layout.specs.Fields.{Fields1, Fields2, Fields4, Fields5, Fields6, Fields7, FieldsI, FieldsP}
+use Rattle.tl_layout.specs.declared.record_type.Record.{Record}
+use Rattle.tl_layout.specs.declared.record_type.Record.TheVariants.{One, Two, Four, Five, Six, Seven, Eight, I, P}
+use Rattle.tl_county.specs.declared.fault.LinkFault.{LinkFault}
+use Rattle.tl_county.specs.declared.fault.LinkFault.TheVariants.{ChainTwice, NoChain, SequenceBroken, LinkMissing, LinkTwice}
+use Rattle.tl_county.specs.declared.fault.LinkFault.TheVariants.{NameTwice, NameUnknown, PolygonTwice, LandUnknown}
+use Rattle.tl_county.specs.declared.fault.LinkFault.TheVariants.{PolygonUnknown, Memory}
+use Rattle.tl_county.specs.declared.fault.LinkedType.{LinkedType}
+use Rattle.tl_county.specs.declared.fault.LinkedType.TheVariants.{Two as Type2, Four as Type4, Six as Type6, I as TypeI}
+use Rattle.tl_county.specs.declared.fault.SequencedType.{SequencedType}
+use Rattle.tl_county.specs.declared.fault.SequencedType.TheVariants as sequenced
+use Rattle.tl_county.specs.BodyOrder.{landmark_body_cmp, link_cmp}
+use Rattle.tl_layout.specs.ByType.{as_type_1, as_type_2, as_type_4, as_type_5, as_type_6, as_type_7, as_type_8, as_type_i}
+use Rattle.tl_layout.specs.ByType.{as_type_p, of_type_1, of_type_2, of_type_4, of_type_5, of_type_6, of_type_7, of_type_8}
+use Rattle.tl_layout.specs.ByType.{of_type_i, of_type_p, of_number}
+use Rattle.tl_county.specs.County.{one_tlid, two_tlid, two_rtsq, four_tlid, four_rtsq, five_feat, six_tlid, six_rtsq, seven_land}
+use Rattle.tl_county.specs.County.{eight_land, link_key}
+use Rattle.tl_county.specs.County.{i_tlid, p_key, shape_points, further_names, further_ranges, chain_of, chains_of, side_keys, first}
+use Rattle.tl_county.specs.County.{polygons_of, county_of}
+use Rattle.tl_county.specs.LinkRules.{linked_tlids, rtsqs, named_feats, is_rule_broken, IsLinked}
+use Rattle.tl_county.specs.Orders.{times, stands_in, has_repeat, put_in_order, in_order, distinct}
+use Rattle.tl_county.specs.PolygonKeys.{key_cmp}
+use Rattle.tl_county.specs.Repacked.{Sequence, resequenced, KeepsSequence}
+use Rattle.tl_county.proofs.ByKey.Keys.{nat_keys, all_known}
+use Rattle.tl_county.proofs.Lists.Elements.{map-map, flat_map_agree, map_agree_all, map_agree_everywhere, all_both, all_map, all_unmap}
+use Rattle.tl_county.proofs.ByKey.Numbers.{all-in_order, of_number-all}
+
+-- Each chain has the same shape points, names and ranges, joined in the order of its RTSQs, and the other records are the same.
+pub record AreRepacked (xs ys : List Record) : Type 0 where
+  pub points : (tlid : ℕ) → shape_points xs tlid ≡ shape_points ys tlid
+  pub names : (tlid : ℕ) → further_names xs tlid ≡ further_names ys tlid
+  pub ranges : (tlid : ℕ) → further_ranges xs tlid ≡ further_ranges ys tlid
+  pub of_type_1 : of_type_1 xs ≡ of_type_1 ys
+  pub of_type_5 : of_type_5 xs ≡ of_type_5 ys
+  pub of_type_7 : of_type_7 xs ≡ of_type_7 ys
+  pub of_type_8 : of_type_8 xs ≡ of_type_8 ys
+  pub of_type_i : of_type_i xs ≡ of_type_i ys
+  pub of_type_p : of_type_p xs ≡ of_type_p ys
+
+module _ (xs ys : List Record) (s : AreRepacked xs ys) where
+  chain_same : (r : Fields1) (link : FieldsI) → chain_of xs r link ≡ chain_of ys r link
+  chain_same r link = λ i. record (chain_of xs r link) {
+    points = r.start ∷ (s.points r.tlid i ++ (r.end ∷ []));
+    feats = s.names r.tlid i;
+    ranges = s.ranges r.tlid i;
+  }
+
+  chains_same : chains_of xs ≡ chains_of ys
+  chains_same =
+      flat_map_agree (λ r. map (λ link. (r.tlid, chain_of xs r link)) (of_number i_tlid r.tlid (of_type_i xs)))
+      (λ r. map (λ link. (r.tlid, chain_of ys r link)) (of_number i_tlid r.tlid (of_type_i ys)))
+      (λ r. map_agree_everywhere (λ link. (r.tlid, chain_of xs r link)) (λ link. (r.tlid, chain_of ys r link))
+      (λ link i. (r.tlid, chain_same r link i)) (of_number i_tlid r.tlid (of_type_i xs))
+      ∙ ap (λ ls. map (λ link. (r.tlid, chain_of ys r link)) (of_number i_tlid r.tlid ls)) s.of_type_i)
+      (in_order (on one_tlid nat_cmp) (of_type_1 xs))
+      ∙ ap (λ rs. flat_map (λ r. map (λ link. (r.tlid, chain_of ys r link)) (of_number i_tlid r.tlid (of_type_i ys)))
+      (in_order (on one_tlid nat_cmp) rs)) s.of_type_1
+
+  polygons_same : polygons_of xs ≡ polygons_of ys
+  polygons_same = ap₂ (λ ls qs. map (λ k. (k, first (map (λ (q : FieldsP). q.body) (filter (λ q. is_eq (key_cmp k (p_key q))) qs))))
+      (distinct key_cmp (flat_map side_keys ls ++ map p_key qs))) s.of_type_i s.of_type_p
+
+  pub repacked-county : county_of xs ≡ county_of ys
+  repacked-county = λ i. record {
+    chains = chains_same i;
+    names = map (λ (r : Fields5). (r.feat, r.body)) (in_order (on five_feat nat_cmp) (s.of_type_5 i));
+    polygons = polygons_same i;
+    landmarks = map (λ land. (land, in_order landmark_body_cmp (map (λ (r : Fields7). r.body) (of_number seven_land land (s.of_type_7 i)))))
+        (distinct nat_cmp (map seven_land (s.of_type_7 i)));
+    links = in_order link_cmp (s.of_type_8 i);
+  }
+
+-- lists changed element by element
+select-kept : {X Y : Type 0} (h : X → Option Y) (g : X → X) → ((x : X) → h (g x) ≡ h x) → (xs : List X)
+    → filter_map h (map g xs) ≡ filter_map h xs
+select-kept h g k [] = refl
+select-kept h g k (x ∷ xs) = ap₂ cons_option (k x) (select-kept h g k xs)
+
+select-changed : {X Y : Type 0} (h : X → Option Y) (g : X → X) (f : Y → Y) → ((x : X) → h (g x) ≡ option_map f (h x)) → (xs : List X)
+    → filter_map h (map g xs) ≡ map f (filter_map h xs)
+select-changed h g f k [] = refl
+select-changed {X} {Y} h g f k (x ∷ xs) = ap₂ cons_option (k x) (select-changed h g f k xs) ∙ go (h x)
+  where
+    go : (o : Option Y) → cons_option (option_map f o) (map f (filter_map h xs)) ≡ map f (cons_option o (filter_map h xs))
+    go None = refl
+    go (Some y) = refl
+
+number-kept : {X : Type 0} (number : X → ℕ) (f : X → X) → ((x : X) → number (f x) ≡ number x) → (n : ℕ) (xs : List X)
+    → of_number number n (map f xs) ≡ map f (of_number number n xs)
+number-kept number f k n [] = refl
+number-kept number f k n (x ∷ xs) = ap₂ (λ b ys. cond b (f x ∷ ys) ys) (ap (λ m. m == n) (k x)) (number-kept number f k n xs)
+    ∙ go (number x == n)
+  where
+    go : (b : Bool) → cond b (f x ∷ map f (of_number number n xs)) (map f (of_number number n xs)) ≡ map f
+        (cond b (x ∷ of_number number n xs) (of_number number n xs))
+    go true = refl
+    go false = refl
+
+put-changed : {X : Type 0} (by : X → X → Ordering) (f : X → X) (Q : X → Type 0)
+    → ((x y : X) → Q x → Q y → is_gt (by (f x) (f y)) ≡ is_gt (by x y)) → (x : X) → Q x → (ys : List X) → AllByRecursion Q ys
+    → put_in_order by (f x) (map f ys) ≡ map f (put_in_order by x ys)
+put-changed by f Q k x p [] a = refl
+put-changed by f Q k x p (y ∷ ys) a = ap₂ (λ b zs. cond b (f y ∷ zs) (f x ∷ f y ∷ map f ys)) (k x y p a.0) (put-changed by f Q k x p ys a.1)
+    ∙ go (is_gt (by x y))
+  where
+    go : (b : Bool) → cond b (f y ∷ map f (put_in_order by x ys)) (f x ∷ f y ∷ map f ys) ≡ map f
+        (cond b (y ∷ put_in_order by x ys) (x ∷ y ∷ ys))
+    go true = refl
+    go false = refl
+
+order-changed : {X : Type 0} (by : X → X → Ordering) (f : X → X) (Q : X → Type 0)
+    → ((x y : X) → Q x → Q y → is_gt (by (f x) (f y)) ≡ is_gt (by x y)) → (xs : List X) → AllByRecursion Q xs
+    → in_order by (map f xs) ≡ map f (in_order by xs)
+order-changed by f Q k [] a = refl
+order-changed by f Q k (x ∷ xs) a = ap (put_in_order by (f x)) (order-changed by f Q k xs a.1)
+    ∙ put-changed by f Q k x a.0 (in_order by xs) (all-in_order Q by xs a.1)
+
+pub less : (m n : ℕ) → m < n → nat_cmp m n ≡ Less
+less m n h = ap (λ b. cond b Less (cond (m == n) Equal Greater)) (lt-ltb m n h)
+
+pub greater : (m n : ℕ) → n < m → nat_cmp m n ≡ Greater
+greater m n h = nat_cmp_total.antisymm m n ∙ ap ordering_reverse (less n m h)
+
+-- two numbers that rise with others are in their order
+rising : (f : ℕ → ℕ) (i j : ℕ) → (i < j → f i < f j) → (j < i → f j < f i) → is_gt (nat_cmp (f i) (f j)) ≡ is_gt (nat_cmp i j)
+rising f i j up down = go (cases_order i j)
+  where
+    go : (i ≡ j) ⊎ ((i < j) ⊎ (j < i)) → is_gt (nat_cmp (f i) (f j)) ≡ is_gt (nat_cmp i j)
+    go (inl e) = ap is_gt (ap (nat_cmp (f i)) (ap f (sym e)) ∙ tied_itself nat_cmp_total (f i)
+        ∙ sym (ap (nat_cmp i) (sym e) ∙ tied_itself nat_cmp_total i))
+    go (inr (inl lt)) = ap is_gt (less (f i) (f j) (up lt) ∙ sym (less i j lt))
+    go (inr (inr gt)) = ap is_gt (greater (f i) (f j) (down gt) ∙ sym (greater i j gt))
+
+-- the number stands among those of the list
+abbrev Stands : {X : Type 0} → (X → ℕ) → List X → ℕ → Type 0
+Stands number xs n = IsTrue (stands_in nat_cmp n (map number xs))
+
+all_standing : {X : Type 0} (number : X → ℕ) (xs : List X) → AllByRecursion (λ x. Stands number xs (number x)) xs
+all_standing number xs = all_unmap (Stands number xs) number xs
+    (all_known nat_keys (Stands number xs) (map number xs) (λ n known. lt-ltb 0 (times nat_cmp n (map number xs)) known))
+
+-- one type of records in order, under new RTSQs
+sequence_kept : {X : Type 0} (tlid rtsq : X → ℕ) (f : X → X) (new : ℕ → ℕ → ℕ) → ((x : X) → tlid (f x) ≡ tlid x)
+    → ((x : X) → rtsq (f x) ≡ new (tlid x) (rtsq x)) → (n : ℕ) (xs : List X)
+    → ((i j : ℕ) → Stands rtsq (of_number tlid n xs) i → Stands rtsq (of_number tlid n xs) j → i < j → new n i < new n j)
+    → in_order (on rtsq nat_cmp) (of_number tlid n (map f xs)) ≡ map f (in_order (on rtsq nat_cmp) (of_number tlid n xs))
+sequence_kept {X} tlid rtsq f new kt kr n xs up =
+    ap (in_order (on rtsq nat_cmp)) (number-kept tlid f kt n xs)
+    ∙ order-changed (on rtsq nat_cmp) f (λ x. (tlid x ≡ n) × Stands rtsq (of_number tlid n xs) (rtsq x))
+    (λ x y p q. ap is_gt (ap₂ nat_cmp (kr x ∙ ap (λ m. new m (rtsq x)) p.0) (kr y ∙ ap (λ m. new m (rtsq y)) q.0))
+    ∙ rising (new n) (rtsq x) (rtsq y) (up (rtsq x) (rtsq y) p.1 q.1) (up (rtsq y) (rtsq x) q.1 p.1))
+    (of_number tlid n xs)
+    (all_both (λ x. tlid x ≡ n) (λ x. Stands rtsq (of_number tlid n xs) (rtsq x)) (of_number tlid n xs)
+    (of_number-all tlid n xs) (all_standing rtsq (of_number tlid n xs)))
+
+flat_map-kept : {X Y : Type 0} (c : X → List Y) (f : X → X) → ((x : X) → c (f x) ≡ c x) → (xs : List X)
+    → flat_map c (map f xs) ≡ flat_map c xs
+flat_map-kept c f k [] = refl
+flat_map-kept c f k (x ∷ xs) = λ i. k x i ++ flat_map-kept c f k xs i
+
+-- numbers that rise with others are equal where those are
+even : (f : ℕ → ℕ) (i j : ℕ) → (i < j → f i < f j) → (j < i → f j < f i) → is_eq (nat_cmp (f i) (f j)) ≡ is_eq (nat_cmp i j)
+even f i j up down = go (cases_order i j)
+  where
+    go : (i ≡ j) ⊎ ((i < j) ⊎ (j < i)) → is_eq (nat_cmp (f i) (f j)) ≡ is_eq (nat_cmp i j)
+    go (inl e) = ap is_eq (ap (nat_cmp (f i)) (ap f (sym e)) ∙ tied_itself nat_cmp_total (f i)
+        ∙ sym (ap (nat_cmp i) (sym e) ∙ tied_itself nat_cmp_total i))
+    go (inr (inl lt)) = ap is_eq (less (f i) (f j) (up lt) ∙ sym (less i j lt))
+    go (inr (inr gt)) = ap is_eq (greater (f i) (f j) (down gt) ∙ sym (greater i j gt))
+
+module _ (f : ℕ → ℕ) (P : ℕ → Type 0) (up : (i j : ℕ) → P i → P j → i < j → f i < f j) where
+  times-rising : (k : ℕ) → P k → (ks : List ℕ) → AllByRecursion P ks → times nat_cmp (f k) (map f ks) ≡ times nat_cmp k ks
+  times-rising k p [] a = refl
+  times-rising k p (j ∷ js) a =
+      ap (λ b. length (cond b (f j ∷ filter (λ other. is_eq (nat_cmp (f k) other)) (map f js))
+      (filter (λ other. is_eq (nat_cmp (f k) other)) (map f js))))
+      (even f k j (up k j p a.0) (up j k a.0 p))
+      ∙ go (is_eq (nat_cmp k j)) (times-rising k p js a.1)
+    where
+      go : (b : Bool) → times nat_cmp (f k) (map f js) ≡ times nat_cmp k js
+          → length (cond b (f j ∷ filter (λ other. is_eq (nat_cmp (f k) other)) (map f js))
+          (filter (λ other. is_eq (nat_cmp (f k) other)) (map f js))) ≡ length
+          (cond b (j ∷ filter (λ other. is_eq (nat_cmp k other)) js) (filter (λ other. is_eq (nat_cmp k other)) js))
+      go true ih = ap suc ih
+      go false ih = ih
+
+  repeat-rising : (ks : List ℕ) → AllByRecursion P ks → has_repeat nat_cmp (map f ks) ≡ has_repeat nat_cmp ks
+  repeat-rising [] a = refl
+  repeat-rising (k ∷ ks) a = ap₂ (λ n b. nat_lt 0 n || b) (times-rising k a.0 ks a.1) (repeat-rising ks a.1)
+
+-- one type of records under new RTSQs: the RTSQs of a chain
+rtsqs_kept : {X : Type 0} (tlid rtsq : X → ℕ) (f : X → X) (new : ℕ → ℕ → ℕ) → ((x : X) → tlid (f x) ≡ tlid x)
+    → ((x : X) → rtsq (f x) ≡ new (tlid x) (rtsq x)) → (n : ℕ) (xs : List X)
+    → ((i j : ℕ) → Stands rtsq (of_number tlid n xs) i → Stands rtsq (of_number tlid n xs) j → i < j → new n i < new n j)
+    → has_repeat nat_cmp (map rtsq (of_number tlid n (map f xs))) ≡ has_repeat nat_cmp (map rtsq (of_number tlid n xs))
+rtsqs_kept {X} tlid rtsq f new kt kr n xs up =
+    ap (λ ys. has_repeat nat_cmp (map rtsq ys)) (number-kept tlid f kt n xs)
+    ∙ ap (has_repeat nat_cmp) (map-map rtsq f (of_number tlid n xs)
+    ∙ map_agree_all (λ x. rtsq (f x)) (λ x. new n (rtsq x)) (λ x. tlid x ≡ n) (λ x e. kr x ∙ ap (λ m. new m (rtsq x)) e)
+    (of_number tlid n xs) (of_number-all tlid n xs) ∙ sym (map-map (new n) rtsq (of_number tlid n xs)))
+    ∙ repeat-rising (new n) (Stands rtsq (of_number tlid n xs)) up (map rtsq (of_number tlid n xs))
+    (all_map (Stands rtsq (of_number tlid n xs)) rtsq (of_number tlid n xs) (all_standing rtsq (of_number tlid n xs)))
+
+module _ (q : Sequence) (xs : List Record) (up : KeepsSequence q xs) where
+  new_two : Fields2 → Fields2
+  new_two r = record r { rtsq = q sequenced.Two r.tlid r.rtsq }
+
+  new_four : Fields4 → Fields4
+  new_four r = record r { rtsq = q sequenced.Four r.tlid r.rtsq }
+
+  new_six : Fields6 → Fields6
+  new_six r = record r { rtsq = q sequenced.Six r.tlid r.rtsq }
+
+  keeps_one : (r : Record) → as_type_1 (resequenced q r) ≡ as_type_1 r
+  keeps_one (One r) = refl
+  keeps_one _ = refl
+
+  keeps_five : (r : Record) → as_type_5 (resequenced q r) ≡ as_type_5 r
+  keeps_five (Five r) = refl
+  keeps_five _ = refl
+
+  keeps_seven : (r : Record) → as_type_7 (resequenced q r) ≡ as_type_7 r
+  keeps_seven (Seven r) = refl
+  keeps_seven _ = refl
+
+  keeps_eight : (r : Record) → as_type_8 (resequenced q r) ≡ as_type_8 r
+  keeps_eight (Eight r) = refl
+  keeps_eight _ = refl
+
+  keeps_i : (r : Record) → as_type_i (resequenced q r) ≡ as_type_i r
+  keeps_i (I r) = refl
+  keeps_i _ = refl
+
+  keeps_p : (r : Record) → as_type_p (resequenced q r) ≡ as_type_p r
+  keeps_p (P r) = refl
+  keeps_p _ = refl
+
+  news_two : (r : Record) → as_type_2 (resequenced q r) ≡ option_map new_two (as_type_2 r)
+  unfolding new_two
+  news_two (Two r) = refl
+  news_two _ = refl
+
+  news_four : (r : Record) → as_type_4 (resequenced q r) ≡ option_map new_four (as_type_4 r)
+  unfolding new_four
+  news_four (Four r) = refl
+  news_four _ = refl
+
+  news_six : (r : Record) → as_type_6 (resequenced q r) ≡ option_map new_six (as_type_6 r)
+  unfolding new_six
+  news_six (Six r) = refl
+  news_six _ = refl
+
+  pub resequenced-repacked : AreRepacked (map (resequenced q) xs) xs
+  unfolding new_two new_four new_six
+  resequenced-repacked = record {
+    points = λ n. ap (λ rs. flat_map (λ (r : Fields2). r.points) (in_order (on two_rtsq nat_cmp) (of_number two_tlid n rs)))
+        (select-changed as_type_2 (resequenced q) new_two news_two xs)
+        ∙ ap (flat_map (λ (r : Fields2). r.points))
+        (sequence_kept two_tlid two_rtsq new_two (q sequenced.Two) (λ r. refl) (λ r. refl) n (of_type_2 xs) (up sequenced.Two n))
+        ∙ flat_map-kept (λ (r : Fields2). r.points) new_two (λ r. refl)
+        (in_order (on two_rtsq nat_cmp) (of_number two_tlid n (of_type_2 xs)));
+    names = λ n. ap (λ rs. flat_map (λ (r : Fields4). r.feats) (in_order (on four_rtsq nat_cmp) (of_number four_tlid n rs)))
+        (select-changed as_type_4 (resequenced q) new_four news_four xs)
+        ∙ ap (flat_map (λ (r : Fields4). r.feats))
+        (sequence_kept four_tlid four_rtsq new_four (q sequenced.Four) (λ r. refl) (λ r. refl) n (of_type_4 xs) (up sequenced.Four n))
+        ∙ flat_map-kept (λ (r : Fields4). r.feats) new_four (λ r. refl)
+        (in_order (on four_rtsq nat_cmp) (of_number four_tlid n (of_type_4 xs)));
+    ranges = λ n. ap (λ rs. map (λ (r : Fields6). r.ranges) (in_order (on six_rtsq nat_cmp) (of_number six_tlid n rs)))
+        (select-changed as_type_6 (resequenced q) new_six news_six xs)
+        ∙ ap (map (λ (r : Fields6). r.ranges)) (sequence_kept six_tlid six_rtsq new_six (q sequenced.Six) (λ r. refl) (λ r. refl) n
+        (of_type_6 xs) (up sequenced.Six n))
+        ∙ map-map (λ (r : Fields6). r.ranges) new_six (in_order (on six_rtsq nat_cmp) (of_number six_tlid n (of_type_6 xs)));
+    of_type_1 = select-kept as_type_1 (resequenced q) keeps_one xs;
+    of_type_5 = select-kept as_type_5 (resequenced q) keeps_five xs;
+    of_type_7 = select-kept as_type_7 (resequenced q) keeps_seven xs;
+    of_type_8 = select-kept as_type_8 (resequenced q) keeps_eight xs;
+    of_type_i = select-kept as_type_i (resequenced q) keeps_i xs;
+    of_type_p = select-kept as_type_p (resequenced q) keeps_p xs;
+  }
+
+  pub resequenced-county : county_of (map (resequenced q) xs) ≡ county_of xs
+  resequenced-county = repacked-county (map (resequenced q) xs) xs resequenced-repacked
+
+  -- the numbers that the rules look at
+  new_tlids : {X : Type 0} (tlid : X → ℕ) (new : X → X) → ((x : X) → tlid (new x) ≡ tlid x) → (rs : List X)
+      → map tlid (map new rs) ≡ map tlid rs
+  new_tlids tlid new k rs = map-map tlid new rs ∙ map_agree_everywhere (λ x. tlid (new x)) tlid k rs
+
+  ys : List Record
+  ys = map (resequenced q) xs
+
+  two_is : of_type_2 ys ≡ map new_two (of_type_2 xs)
+  unfolding ys
+  two_is = select-changed as_type_2 (resequenced q) new_two news_two xs
+
+  four_is : of_type_4 ys ≡ map new_four (of_type_4 xs)
+  unfolding ys
+  four_is = select-changed as_type_4 (resequenced q) new_four news_four xs
+
+  six_is : of_type_6 ys ≡ map new_six (of_type_6 xs)
+  unfolding ys
+  six_is = select-changed as_type_6 (resequenced q) new_six news_six xs
+
+  linked_same : (t : LinkedType) → linked_tlids t ys ≡ linked_tlids t xs
+  unfolding new_two new_four new_six ys
+  linked_same Type2 = ap (map two_tlid) two_is ∙ new_tlids two_tlid new_two (λ r. refl) (of_type_2 xs)
+  linked_same Type4 = ap (map four_tlid) four_is ∙ new_tlids four_tlid new_four (λ r. refl) (of_type_4 xs)
+  linked_same Type6 = ap (map six_tlid) six_is ∙ new_tlids six_tlid new_six (λ r. refl) (of_type_6 xs)
+  linked_same TypeI = ap (map i_tlid) (resequenced-repacked.of_type_i)
+
+  named_same : (n : ℕ) → named_feats n ys ≡ named_feats n xs
+  unfolding new_four
+  named_same n = ap (λ rs. flat_map (λ (r : Fields4). r.feats) (of_number four_tlid n rs)) four_is
+      ∙ ap (flat_map (λ (r : Fields4). r.feats)) (number-kept four_tlid new_four (λ r. refl) n (of_type_4 xs))
+      ∙ flat_map-kept (λ (r : Fields4). r.feats) new_four (λ r. refl) (of_number four_tlid n (of_type_4 xs))
+
+  sequence_same : (t : SequencedType) (n : ℕ) → has_repeat nat_cmp (rtsqs t n ys) ≡ has_repeat nat_cmp (rtsqs t n xs)
+  unfolding new_two new_four new_six
+  sequence_same sequenced.Two n = ap (λ rs. has_repeat nat_cmp (map two_rtsq (of_number two_tlid n rs))) two_is
+      ∙ rtsqs_kept two_tlid two_rtsq new_two (q sequenced.Two) (λ r. refl) (λ r. refl) n (of_type_2 xs) (up sequenced.Two n)
+  sequence_same sequenced.Four n = ap (λ rs. has_repeat nat_cmp (map four_rtsq (of_number four_tlid n rs))) four_is
+      ∙ rtsqs_kept four_tlid four_rtsq new_four (q sequenced.Four) (λ r. refl) (λ r. refl) n (of_type_4 xs) (up sequenced.Four n)
+  sequence_same sequenced.Six n = ap (λ rs. has_repeat nat_cmp (map six_rtsq (of_number six_tlid n rs))) six_is
+      ∙ rtsqs_kept six_tlid six_rtsq new_six (q sequenced.Six) (λ r. refl) (λ r. refl) n (of_type_6 xs) (up sequenced.Six n)
+
+  same_broken : (f : LinkFault) → is_rule_broken ys f ≡ is_rule_broken xs f
+  unfolding ys
+  same_broken (ChainTwice n) = ap (λ rs. nat_lt 1 (times nat_cmp n (map one_tlid rs))) resequenced-repacked.of_type_1
+  same_broken (NoChain t n) = ap₂ (λ ks rs. stands_in nat_cmp n ks && not (stands_in nat_cmp n (map one_tlid rs))) (linked_same t)
+      resequenced-repacked.of_type_1
+  same_broken (SequenceBroken t n) = sequence_same t n
+  same_broken (LinkMissing n) =
+      ap₂ (λ rs ls. stands_in nat_cmp n (map one_tlid rs) && not (stands_in nat_cmp n (map i_tlid ls))) resequenced-repacked.of_type_1
+      resequenced-repacked.of_type_i
+  same_broken (LinkTwice n) = ap (λ ls. nat_lt 1 (times nat_cmp n (map i_tlid ls))) resequenced-repacked.of_type_i
+  same_broken (NameTwice n) = ap (λ rs. nat_lt 1 (times nat_cmp n (map five_feat rs))) resequenced-repacked.of_type_5
+  same_broken (NameUnknown n y) = ap₂ (λ ks rs. stands_in nat_cmp y ks && not (stands_in nat_cmp y (map five_feat rs))) (named_same n)
+      resequenced-repacked.of_type_5
+  same_broken (PolygonTwice c k) = ap (λ rs. nat_lt 1 (times key_cmp (c, k) (map p_key rs))) resequenced-repacked.of_type_p
+  same_broken (LandUnknown n) =
+      ap₂ (λ es ss. stands_in nat_cmp n (map eight_land es) && not (stands_in nat_cmp n (map seven_land ss)))
+      resequenced-repacked.of_type_8 resequenced-repacked.of_type_7
+  same_broken (PolygonUnknown c k) = λ i.
+      stands_in key_cmp (c, k) (map link_key (resequenced-repacked.of_type_8 i)) && not
+      (stands_in key_cmp (c, k) (flat_map side_keys (resequenced-repacked.of_type_i i) ++ map p_key (resequenced-repacked.of_type_p i)))
+  same_broken Memory = refl
+
+  pub resequenced-linked : IsLinked xs → IsLinked (map (resequenced q) xs)
+  unfolding ys
+  resequenced-linked linked f = same_broken f ∙ linked f

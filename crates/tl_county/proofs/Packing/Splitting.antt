@@ -1,0 +1,364 @@
+-- A record of types 2 and 4 cut into two, and an empty one left out, change neither what is linked nor the county.
+use Rattle.std.proofs.Common.{◌≡◌, ◌⊎◌, ◌<◌, ℕ, suc, nat_lt, ◌==◌, List, [], ◌∷◌, ◌++◌, map, flat_map, Bool, true, false, cond, not}
+use Rattle.std.proofs.Common.{◌&&◌, ◌||◌, Ordering, is_eq, is_gt, sym, refl, ap, ap₂, ◌∙◌, subst, inl, inr, arith, nat_cmp, length}
+use Rattle.std.proofs.Common.{IsPermutation, append_assoc, filter}
+use Rattle.std.proofs.lemmas.Bool.{eqb-true, lt-ltb, false≢true}
+use Rattle.std.proofs.lemmas.List.Sorted.{IsPermutation-sym}
+use Rattle.std.specs.List.{AllByRecursion}
+use Rattle.std.specs.Ordering.{on}
+use Rattle.tl_layout.specs.ByType.{of_type_2, of_type_4, of_type_5, of_number}
+use Rattle.tl_layout.specs.Fields.{Fields2, Fields4}
+use Rattle.tl_layout.specs.declared.record_type.Record.{Record}
+use Rattle.tl_layout.specs.declared.record_type.Record.TheVariants.{Two, Four}
+use Rattle.tl_county.specs.County.{two_tlid, two_rtsq, four_tlid, four_rtsq, county_of}
+use Rattle.tl_county.specs.LinkRules.{chain_tlids, is_rule_broken, IsLinked}
+use Rattle.tl_county.specs.Orders.{stands_in, has_repeat, put_in_order, in_order}
+use Rattle.tl_county.specs.Repacked.{IsCut, AreCut, IsSplit, IsEmpty, LeavesEmptyOut}
+use Rattle.tl_county.specs.declared.fault.LinkFault.{LinkFault}
+use Rattle.tl_county.specs.declared.fault.LinkFault.TheVariants.{NoChain, SequenceBroken}
+use Rattle.tl_county.specs.declared.fault.LinkFault.TheVariants.{NameUnknown}
+use Rattle.tl_county.specs.declared.fault.LinkedType.TheVariants.{Two as Type2, Four as Type4}
+use Rattle.tl_county.specs.declared.fault.SequencedType.TheVariants as sequenced_types
+use Rattle.tl_county.proofs.ByKey.Keys.{nat_keys, times-no}
+use Rattle.tl_county.proofs.ByKey.Numbers.{all-in_order}
+use Rattle.tl_county.proofs.Packing.Repacking.{AreRepacked, less, greater, repacked-county}
+use Rattle.tl_county.proofs.Sameness.SameCounty.{reordered-linked, reordered-county}
+
+module _ {X : Type 0} (by : X → X → Ordering) (x y : X) (ys : List X) where
+  put-after : is_gt (by x y) ≡ true → put_in_order by x (y ∷ ys) ≡ y ∷ put_in_order by x ys
+  put-after e = ap (λ b. cond b (y ∷ put_in_order by x ys) (x ∷ y ∷ ys)) e
+
+  put-before : is_gt (by x y) ≡ false → put_in_order by x (y ∷ ys) ≡ x ∷ y ∷ ys
+  put-before e = ap (λ b. cond b (y ∷ put_in_order by x ys) (x ∷ y ∷ ys)) e
+
+rises : (m n : ℕ) → m < n → is_gt (nat_cmp m n) ≡ false
+rises m n h = ap is_gt (less m n h)
+
+falls : (m n : ℕ) → n < m → is_gt (nat_cmp m n) ≡ true
+falls m n h = ap is_gt (greater m n h)
+
+-- a key that stands there twice stands there
+stands-twice : (n k : ℕ) (ks : List ℕ) → stands_in nat_cmp n (k ∷ ks) ≡ stands_in nat_cmp n (k ∷ k ∷ ks)
+stands-twice n k ks = go (is_eq (nat_cmp n k))
+  where
+    F : List ℕ
+    F = filter (λ other. is_eq (nat_cmp n other)) ks
+
+    go : (b : Bool) → nat_lt 0 (length (cond b (k ∷ F) F)) ≡ nat_lt 0 (length (cond b (k ∷ cond b (k ∷ F) F) (cond b (k ∷ F) F)))
+    go true = lt-ltb 0 (suc (length F)) (omega arith) ∙ sym (lt-ltb 0 (suc (suc (length F))) (omega arith))
+    go false = refl
+
+module _ {X Y : Type 0} (tlid rtsq : X → ℕ) (held : X → List Y) where
+  abbrev pub by_rtsq : X → X → Ordering
+  by_rtsq = on rtsq nat_cmp
+
+  -- what is held, in the order of the RTSQs
+  abbrev pub sequenced : List X → List Y
+  sequenced xs = flat_map held (in_order by_rtsq xs)
+
+  module _ (others : List X) (whole first second : X) (cut : IsCut tlid rtsq held others whole first second) where
+    abbrev pub IsFree : X → Type 0
+    IsFree other = (rtsq other < rtsq first) ⊎ (rtsq second < rtsq other)
+
+    joined_with : (ys : List Y) → held whole ++ ys ≡ held first ++ (held second ++ ys)
+    joined_with ys = ap (λ h. h ++ ys) cut.joined ∙ append_assoc (held first) (held second) ys
+
+    put-cut : (xs : List X) → AllByRecursion IsFree xs
+        → flat_map held (put_in_order by_rtsq whole xs) ≡ flat_map held (put_in_order by_rtsq first (put_in_order by_rtsq second xs))
+    put-cut [] free = joined_with [] ∙ ap (flat_map held) (sym (put-before by_rtsq first second [] (rises (rtsq first)
+        (rtsq second) cut.later)))
+    put-cut (x ∷ xs) free = go free.0 (put-cut xs free.1)
+      where
+        go : IsFree x
+            → flat_map held (put_in_order by_rtsq whole xs) ≡ flat_map held (put_in_order by_rtsq first (put_in_order by_rtsq second xs))
+            → flat_map held (put_in_order by_rtsq whole (x ∷ xs)) ≡ flat_map held
+            (put_in_order by_rtsq first (put_in_order by_rtsq second (x ∷ xs)))
+        go (inl below) ih =
+            ap (flat_map held) (put-after by_rtsq whole x xs (falls (rtsq whole) (rtsq x) (subst (λ r. rtsq x < r) cut.kept below)))
+            ∙ ap (λ ys. held x ++ ys) ih
+            ∙ sym (ap (λ ys. flat_map held (put_in_order by_rtsq first ys))
+            (put-after by_rtsq second x xs (falls (rtsq second) (rtsq x) (let l = cut.later in omega (arith, below, l))))
+            ∙ ap (flat_map held) (put-after by_rtsq first x (put_in_order by_rtsq second xs) (falls (rtsq first) (rtsq x) below)))
+        go (inr above) ih =
+            ap (flat_map held) (put-before by_rtsq whole x xs (rises (rtsq whole) (rtsq x)
+            (subst (λ r. r < rtsq x) cut.kept (let l = cut.later in omega (arith, above, l)))))
+            ∙ joined_with (flat_map held (x ∷ xs))
+            ∙ sym (ap (λ ys. flat_map held (put_in_order by_rtsq first ys))
+            (put-before by_rtsq second x xs (rises (rtsq second) (rtsq x) above))
+            ∙ ap (flat_map held) (put-before by_rtsq first second (x ∷ xs) (rises (rtsq first) (rtsq second) cut.later)))
+
+    -- the records of a chain, by whether the one that is cut is among them
+    of_chain : (n : ℕ) → (C : List X → List X → Type 0)
+        → ((tlid whole ≡ n) → C (whole ∷ of_number tlid n others) (first ∷ second ∷ of_number tlid n others))
+        → C (of_number tlid n others) (of_number tlid n others)
+        → C (of_number tlid n (whole ∷ others)) (of_number tlid n (first ∷ second ∷ others))
+    of_chain n C here away =
+        subst (λ b. C (of_number tlid n (whole ∷ others)) (cond b (first ∷ rest) rest)) (sym (ap (λ m. m == n) cut.first_chain))
+        (subst (λ b. C (of_number tlid n (whole ∷ others)) (cond (tlid whole == n) (first ∷ cond b (second ∷ S) S) (cond b (second ∷ S) S)))
+        (sym (ap (λ m. m == n) cut.second_chain)) (go (tlid whole == n) refl))
+      where
+        S : List X
+        S = of_number tlid n others
+
+        rest : List X
+        rest = cond (tlid second == n) (second ∷ S) S
+
+        go : (b : Bool) → (tlid whole == n) ≡ b → C (cond b (whole ∷ S) S) (cond b (first ∷ cond b (second ∷ S) S) (cond b (second ∷ S) S))
+        go true e = here (eqb-true (tlid whole) n e)
+        go false e = away
+
+    free_of : (n : ℕ) → tlid whole ≡ n → AllByRecursion IsFree (of_number tlid n others)
+    free_of n e = subst (λ m. AllByRecursion IsFree (of_number tlid m others)) e cut.free
+
+    pub sequenced-cut : (n : ℕ) → sequenced (of_number tlid n (whole ∷ others)) ≡ sequenced (of_number tlid n (first ∷ second ∷ others))
+    sequenced-cut n = of_chain n (λ xs ys. sequenced xs ≡ sequenced ys)
+        (λ e. put-cut (in_order by_rtsq (of_number tlid n others))
+        (all-in_order IsFree by_rtsq (of_number tlid n others) (free_of n e))) refl
+
+    pub held-cut : (n : ℕ) → flat_map held (of_number tlid n (whole ∷ others)) ≡ flat_map held (of_number tlid n (first ∷ second ∷ others))
+    held-cut n = of_chain n (λ xs ys. flat_map held xs ≡ flat_map held ys) (λ e. joined_with (flat_map held (of_number tlid n others))) refl
+
+    pub known-cut : (n : ℕ) → stands_in nat_cmp n (map tlid (whole ∷ others)) ≡ stands_in nat_cmp n (map tlid (first ∷ second ∷ others))
+    known-cut n = stands-twice n (tlid whole) (map tlid others)
+        ∙ ap₂ (λ a b. stands_in nat_cmp n (a ∷ b ∷ map tlid others)) (sym cut.first_chain) (sym cut.second_chain)
+
+    differs : (m n : ℕ) → (m < n) ⊎ (n < m) → is_eq (nat_cmp m n) ≡ false
+    differs m n (inl h) = ap is_eq (less m n h)
+    differs m n (inr h) = ap is_eq (greater m n h)
+
+    absent : (xs : List X) → AllByRecursion IsFree xs → stands_in nat_cmp (rtsq second) (map rtsq xs) ≡ false
+    absent [] free = refl
+    absent (x ∷ xs) free = ap (nat_lt 0) (times-no nat_keys (rtsq second) (rtsq x) (map rtsq xs) (differs (rtsq second) (rtsq x)
+        (apart free.0)))
+        ∙ absent xs free.1
+      where
+        apart : IsFree x → (rtsq second < rtsq x) ⊎ (rtsq x < rtsq second)
+        apart (inl below) = inr (let l = cut.later in omega (arith, below, l))
+        apart (inr above) = inl above
+
+    pub repeat-cut : (n : ℕ) → has_repeat nat_cmp (map rtsq (of_number tlid n (whole ∷ others))) ≡ has_repeat nat_cmp
+        (map rtsq (of_number tlid n (first ∷ second ∷ others)))
+    repeat-cut n = of_chain n (λ xs ys. has_repeat nat_cmp (map rtsq xs) ≡ has_repeat nat_cmp (map rtsq ys))
+        (λ e. here (of_number tlid n others) (free_of n e)) refl
+      where
+        here : (xs : List X) → AllByRecursion IsFree xs
+            → has_repeat nat_cmp (map rtsq (whole ∷ xs)) ≡ has_repeat nat_cmp (map rtsq (first ∷ second ∷ xs))
+        here xs free =
+            ap (λ r. stands_in nat_cmp r (map rtsq xs) || has_repeat nat_cmp (map rtsq xs)) (sym cut.kept)
+            ∙ ap₂ (λ a b. a || (b || has_repeat nat_cmp (map rtsq xs)))
+            (sym (ap (nat_lt 0) (times-no nat_keys (rtsq first) (rtsq second) (map rtsq xs)
+            (differs (rtsq first) (rtsq second) (inl cut.later))))) (sym (absent xs free))
+
+  -- one that holds nothing
+  module _ (empty : X) (is_empty : held empty ≡ []) where
+    put-empty : (xs : List X) → flat_map held (put_in_order by_rtsq empty xs) ≡ flat_map held xs
+    put-empty [] = ap (λ h. h ++ []) is_empty
+    put-empty (x ∷ xs) = go (is_gt (by_rtsq empty x)) (put-empty xs)
+      where
+        go : (b : Bool) → flat_map held (put_in_order by_rtsq empty xs) ≡ flat_map held xs
+            → flat_map held (cond b (x ∷ put_in_order by_rtsq empty xs) (empty ∷ x ∷ xs)) ≡ flat_map held (x ∷ xs)
+        go true ih = ap (λ ys. held x ++ ys) ih
+        go false ih = ap (λ h. h ++ flat_map held (x ∷ xs)) is_empty
+
+    pub sequenced-empty : (n : ℕ) (others : List X) → sequenced (of_number tlid n (empty ∷ others)) ≡ sequenced (of_number tlid n others)
+    sequenced-empty n others = go (tlid empty == n)
+      where
+        go : (b : Bool) → sequenced (cond b (empty ∷ of_number tlid n others) (of_number tlid n others))
+            ≡ sequenced (of_number tlid n others)
+        go true = put-empty (in_order by_rtsq (of_number tlid n others))
+        go false = refl
+
+    pub held-empty : (n : ℕ) (others : List X) → flat_map held (of_number tlid n (empty ∷ others)) ≡ flat_map held (of_number tlid n others)
+    held-empty n others = go (tlid empty == n)
+      where
+        go : (b : Bool) → flat_map held (cond b (empty ∷ of_number tlid n others) (of_number tlid n others))
+            ≡ flat_map held (of_number tlid n others)
+        go true = ap (λ h. h ++ flat_map held (of_number tlid n others)) is_empty
+        go false = refl
+
+  -- one that is left out: fewer numbers, so fewer that are unknown or stand twice
+  module _ (empty : X) where
+    pub unknown-empty : (n : ℕ) (others : List X) (known : Bool)
+        → (stands_in nat_cmp n (map tlid (empty ∷ others)) && not known) ≡ false
+        → (stands_in nat_cmp n (map tlid others) && not known) ≡ false
+    unknown-empty n others known = go (is_eq (nat_cmp n (tlid empty)))
+      where
+        F : List ℕ
+        F = filter (λ other. is_eq (nat_cmp n other)) (map tlid others)
+
+        go : (b : Bool) → (nat_lt 0 (length (cond b (tlid empty ∷ F) F)) && not known) ≡ false → (nat_lt 0 (length F) && not known) ≡ false
+        go false h = h
+        go true h = fewer (nat_lt 0 (length F)) (ap (λ b. b && not known) (sym (lt-ltb 0 (suc (length F)) (omega arith))) ∙ h)
+          where
+            fewer : (b : Bool) → not known ≡ false → (b && not known) ≡ false
+            fewer true h = h
+            fewer false h = refl
+
+    pub repeat-empty : (n : ℕ) (others : List X) → has_repeat nat_cmp (map rtsq (of_number tlid n (empty ∷ others))) ≡ false
+        → has_repeat nat_cmp (map rtsq (of_number tlid n others)) ≡ false
+    repeat-empty n others = go (tlid empty == n)
+      where
+        later : (a b : Bool) → (a || b) ≡ false → b ≡ false
+        later true b h = absurd (false≢true (sym h))
+        later false b h = h
+
+        go : (b : Bool) → has_repeat nat_cmp (map rtsq (cond b (empty ∷ of_number tlid n others) (of_number tlid n others))) ≡ false
+            → has_repeat nat_cmp (map rtsq (of_number tlid n others)) ≡ false
+        go false h = h
+        go true h = later (stands_in nat_cmp (rtsq empty) (map rtsq (of_number tlid n others)))
+            (has_repeat nat_cmp (map rtsq (of_number tlid n others))) h
+
+-- a record of type 2 cut into two, at the head of a list
+module _ (others : List Record) (whole first second : Fields2)
+    (cut : IsCut two_tlid two_rtsq (λ (r : Fields2). r.points) (of_type_2 others) whole first second) where
+  two-broken : (f : LinkFault) → is_rule_broken (Two whole ∷ others) f ≡ is_rule_broken (Two first ∷ Two second ∷ others) f
+  two-broken (NoChain Type2 n) = ap (λ b. b && not (stands_in nat_cmp n (chain_tlids others)))
+      (known-cut two_tlid two_rtsq (λ (r : Fields2). r.points) (of_type_2 others) whole first second cut n)
+  two-broken (SequenceBroken sequenced_types.Two n) = repeat-cut two_tlid two_rtsq (λ (r : Fields2). r.points) (of_type_2 others) whole
+      first second cut n
+  two-broken fault = refl
+
+  two-repacked : AreRepacked (Two whole ∷ others) (Two first ∷ Two second ∷ others)
+  two-repacked = record {
+    points = sequenced-cut two_tlid two_rtsq (λ (r : Fields2). r.points) (of_type_2 others) whole first second cut;
+    names = λ n. refl;
+    ranges = λ n. refl;
+    of_type_1 = refl;
+    of_type_5 = refl;
+    of_type_7 = refl;
+    of_type_8 = refl;
+    of_type_i = refl;
+    of_type_p = refl;
+  }
+
+-- a record of type 4 cut into two, at the head of a list
+module _ (others : List Record) (whole first second : Fields4)
+    (cut : IsCut four_tlid four_rtsq (λ (r : Fields4). r.feats) (of_type_4 others) whole first second) where
+  four-broken : (f : LinkFault) → is_rule_broken (Four whole ∷ others) f ≡ is_rule_broken (Four first ∷ Four second ∷ others) f
+  four-broken (NoChain Type4 n) = ap (λ b. b && not (stands_in nat_cmp n (chain_tlids others)))
+      (known-cut four_tlid four_rtsq (λ (r : Fields4). r.feats) (of_type_4 others) whole first second cut n)
+  four-broken (SequenceBroken sequenced_types.Four n) = repeat-cut four_tlid four_rtsq (λ (r : Fields4). r.feats)
+      (of_type_4 others) whole first second cut n
+  four-broken (NameUnknown n y) = ap (λ feats. stands_in nat_cmp y feats && not (stands_in nat_cmp y (map (λ r. r.feat)
+      (of_type_5 others))))
+      (held-cut four_tlid four_rtsq (λ (r : Fields4). r.feats) (of_type_4 others) whole first second cut n)
+  four-broken fault = refl
+
+  four-repacked : AreRepacked (Four whole ∷ others) (Four first ∷ Four second ∷ others)
+  four-repacked = record {
+    points = λ n. refl;
+    names = sequenced-cut four_tlid four_rtsq (λ (r : Fields4). r.feats) (of_type_4 others) whole first second cut;
+    ranges = λ n. refl;
+    of_type_1 = refl;
+    of_type_5 = refl;
+    of_type_7 = refl;
+    of_type_8 = refl;
+    of_type_i = refl;
+    of_type_p = refl;
+  }
+
+-- the head of a list cut into two
+record IsAlike (xs ys : List Record) : Type 0 where
+  broken : (f : LinkFault) → is_rule_broken xs f ≡ is_rule_broken ys f
+  county : county_of xs ≡ county_of ys
+
+alike : (others : List Record) (whole first second : Record) → AreCut others whole first second
+    → IsAlike (whole ∷ others) (first ∷ second ∷ others)
+alike others (Two whole) first second h =
+    subst (λ r. IsAlike (Two whole ∷ others) (r ∷ second ∷ others)) (sym h.2)
+    (subst (λ r. IsAlike (Two whole ∷ others) (Two h.0 ∷ r ∷ others)) (sym h.3) (record {
+      broken = two-broken others whole h.0 h.1 h.4;
+      county = repacked-county (Two whole ∷ others) (Two h.0 ∷ Two h.1 ∷ others) (two-repacked others whole h.0 h.1 h.4);
+    }))
+alike others (Four whole) first second h =
+    subst (λ r. IsAlike (Four whole ∷ others) (r ∷ second ∷ others)) (sym h.2)
+    (subst (λ r. IsAlike (Four whole ∷ others) (Four h.0 ∷ r ∷ others)) (sym h.3) (record {
+      broken = four-broken others whole h.0 h.1 h.4;
+      county = repacked-county (Four whole ∷ others) (Four h.0 ∷ Four h.1 ∷ others) (four-repacked others whole h.0 h.1 h.4);
+    }))
+alike others _ first second h = absurd h
+
+-- from any order of the one list to any order of the other
+in_any_order : (records others xs ys : List Record) → IsPermutation xs records → IsPermutation ys others
+    → (IsLinked xs → IsLinked ys) → county_of xs ≡ county_of ys → IsLinked records
+    → IsLinked others × (county_of others ≡ county_of records)
+in_any_order records others xs ys p q linked same h =
+    let from : IsPermutation records xs = IsPermutation-sym xs records p in
+    let there : IsLinked ys = linked (reordered-linked records xs from h) in
+    (reordered-linked ys others q there, reordered-county ys others q there ∙ sym same ∙ reordered-county records xs from h)
+
+pub split-county : (records split : List Record) → IsSplit records split → IsLinked records
+    → IsLinked split × (county_of split ≡ county_of records)
+split-county records split s =
+    let a : IsAlike (s.whole ∷ s.others) (s.first ∷ s.second ∷ s.others) = alike s.others s.whole s.first s.second s.cut in
+    in_any_order records split (s.whole ∷ s.others) (s.first ∷ s.second ∷ s.others) s.before s.after
+    (λ linked f. sym (a.broken f) ∙ linked f) a.county
+
+pub joined-county : (records split : List Record) → IsSplit records split → IsLinked split
+    → IsLinked records × (county_of records ≡ county_of split)
+joined-county records split s =
+    let a : IsAlike (s.whole ∷ s.others) (s.first ∷ s.second ∷ s.others) = alike s.others s.whole s.first s.second s.cut in
+    in_any_order split records (s.first ∷ s.second ∷ s.others) (s.whole ∷ s.others) s.after s.before
+    (λ linked f. a.broken f ∙ linked f) (sym a.county)
+
+-- the head of a list left out
+two-left_out : (others : List Record) (empty : Fields2) → IsLinked (Two empty ∷ others) → IsLinked others
+two-left_out others empty linked (NoChain Type2 n) =
+    unknown-empty two_tlid two_rtsq (λ (r : Fields2). r.points) empty n (of_type_2 others) (stands_in nat_cmp n (chain_tlids others))
+    (linked (NoChain Type2 n))
+two-left_out others empty linked (SequenceBroken sequenced_types.Two n) =
+    repeat-empty two_tlid two_rtsq (λ (r : Fields2). r.points) empty n (of_type_2 others) (linked (SequenceBroken sequenced_types.Two n))
+two-left_out others empty linked fault = linked fault
+
+four-left_out : (others : List Record) (empty : Fields4) → empty.feats ≡ [] → IsLinked (Four empty ∷ others) → IsLinked others
+four-left_out others empty none linked (NoChain Type4 n) =
+    unknown-empty four_tlid four_rtsq (λ (r : Fields4). r.feats) empty n (of_type_4 others) (stands_in nat_cmp n (chain_tlids others))
+    (linked (NoChain Type4 n))
+four-left_out others empty none linked (SequenceBroken sequenced_types.Four n) =
+    repeat-empty four_tlid four_rtsq (λ (r : Fields4). r.feats) empty n (of_type_4 others) (linked (SequenceBroken sequenced_types.Four n))
+four-left_out others empty none linked (NameUnknown n y) =
+    ap (λ feats. stands_in nat_cmp y feats && not (stands_in nat_cmp y (map (λ r. r.feat) (of_type_5 others))))
+    (sym (held-empty four_tlid four_rtsq (λ (r : Fields4). r.feats) empty none n (of_type_4 others)))
+    ∙ linked (NameUnknown n y)
+four-left_out others empty none linked fault = linked fault
+
+left_out : (others : List Record) (empty : Record) → IsEmpty empty
+    → (IsLinked (empty ∷ others) → IsLinked others) × (county_of (empty ∷ others) ≡ county_of others)
+left_out others (Two empty) none = (
+  two-left_out others empty,
+  repacked-county (Two empty ∷ others) others (record {
+    points = λ n. sequenced-empty two_tlid two_rtsq (λ (r : Fields2). r.points) empty none n (of_type_2 others);
+    names = λ n. refl;
+    ranges = λ n. refl;
+    of_type_1 = refl;
+    of_type_5 = refl;
+    of_type_7 = refl;
+    of_type_8 = refl;
+    of_type_i = refl;
+    of_type_p = refl;
+  }),
+)
+left_out others (Four empty) none = (
+  four-left_out others empty none,
+  repacked-county (Four empty ∷ others) others (record {
+    points = λ n. refl;
+    names = λ n. sequenced-empty four_tlid four_rtsq (λ (r : Fields4). r.feats) empty none n (of_type_4 others);
+    ranges = λ n. refl;
+    of_type_1 = refl;
+    of_type_5 = refl;
+    of_type_7 = refl;
+    of_type_8 = refl;
+    of_type_i = refl;
+    of_type_p = refl;
+  }),
+)
+left_out others _ none = absurd none
+
+pub left_out-county : (records others : List Record) → LeavesEmptyOut records others → IsLinked records
+    → IsLinked others × (county_of others ≡ county_of records)
+left_out-county records others s linked =
+    let from : IsPermutation records (s.empty ∷ others) = IsPermutation-sym (s.empty ∷ others) records s.before in
+    let out = left_out others s.empty s.is_empty in (
+      out.0 (reordered-linked records (s.empty ∷ others) from linked),
+      sym out.1 ∙ reordered-county records (s.empty ∷ others) from linked,
+    )

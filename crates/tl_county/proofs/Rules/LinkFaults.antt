@@ -1,0 +1,291 @@
+-- A list of records is linked, or some rule is broken first and no other is.
+use Rattle.std.proofs.Common.{◌≡◌, ◌⊎◌, ◌<◌, ℕ, zero, suc, nat_lt, ◌==◌, List, [], ◌∷◌, ◌++◌, map, flat_map, Bool, true, false}
+use Rattle.std.proofs.Common.{cond, not, ◌&&◌, is_eq, sym, refl, ap, ◌∙◌, subst, inl, inr, nat_cmp, arith}
+use Rattle.std.proofs.lemmas.Bool.{false≢true, ltb-true, and_parts, ne_eqb, eqb-true}
+use Rattle.tl_layout.specs.Fields.{Fields4}
+use Rattle.tl_layout.specs.declared.record_type.Record.{Record}
+use Rattle.tl_county.specs.declared.fault.LinkFault.{LinkFault}
+use Rattle.tl_county.specs.declared.fault.LinkFault.TheVariants.{ChainTwice, NoChain, SequenceBroken, LinkMissing, LinkTwice}
+use Rattle.tl_county.specs.declared.fault.LinkFault.TheVariants.{NameTwice, NameUnknown, PolygonTwice, LandUnknown}
+use Rattle.tl_county.specs.declared.fault.LinkFault.TheVariants.{PolygonUnknown, Memory}
+use Rattle.tl_county.specs.declared.fault.LinkedType.{LinkedType}
+use Rattle.tl_county.specs.declared.fault.LinkedType.TheVariants.{Two, Four, Six, I}
+use Rattle.tl_county.specs.declared.fault.SequencedType.{SequencedType}
+use Rattle.tl_county.specs.declared.fault.SequencedType.TheVariants as sequenced
+use Rattle.tl_county.specs.LinkedTypes.{linked_type}
+use Rattle.tl_layout.specs.ByType.{of_type_2, of_type_4, of_type_5, of_type_6, of_type_8, of_type_i, of_type_p, of_number}
+use Rattle.tl_county.specs.County.{two_tlid, two_rtsq, four_tlid, four_rtsq, five_feat, six_tlid, six_rtsq, eight_land, link_key}
+use Rattle.tl_county.specs.County.{i_tlid, p_key}
+use Rattle.tl_county.specs.LinkRules.{
+  chain_tlids,
+  linked_tlids,
+  rtsqs,
+  named_feats,
+  is_rule_broken,
+  link_fault_place,
+  IsLinked,
+  IsFirstBrokenRule,
+}
+use Rattle.tl_county.specs.Orders.{times, stands_in, has_repeat}
+use Rattle.tl_county.specs.PolygonKeys.{key_cmp}
+use Rattle.tl_county.proofs.Rules.FirstFault.{Among, among_left, among_right, known_among, first_or_none, not_first, one_first}
+use Rattle.tl_county.proofs.Rules.FirstFault.{none_there, least_there, none_computed, first_computed}
+use Rattle.tl_county.proofs.ByKey.Keys.{Known, nat_keys, times-yes, times-no, same_or_not, differ_apart, known-append}
+use Rattle.tl_county.proofs.ByKey.KeyOrders.{key_keys}
+
+-- the fault at a place
+abbrev pub part : List (List ℕ) → ℕ → List ℕ
+part [] i = []
+part (p ∷ ps) zero = p
+part (p ∷ ps) (suc i) = part ps i
+
+abbrev pub head_of : List ℕ → ℕ
+head_of [] = 0
+head_of (n ∷ ns) = n
+
+abbrev pub number : List (List ℕ) → ℕ → ℕ
+number place i = head_of (part place i)
+
+abbrev type_at : ℕ → LinkedType
+type_at n = cond (n == 2) Two (cond (n == 4) Four (cond (n == 6) Six I))
+
+abbrev sequenced_at : ℕ → SequencedType
+sequenced_at n = cond (n == 2) sequenced.Two (cond (n == 4) sequenced.Four sequenced.Six)
+
+abbrev fault_at : List (List ℕ) → LinkFault
+fault_at p =
+    cond (number p 0 == 11) (ChainTwice (number p 1))
+    (cond (number p 0 == 12) (NoChain (type_at (number p 1)) (number p 2))
+    (cond (number p 0 == 13) (SequenceBroken (sequenced_at (number p 1)) (number p 2))
+    (cond (number p 0 == 14) (LinkMissing (number p 1))
+    (cond (number p 0 == 15) (LinkTwice (number p 1))
+    (cond (number p 0 == 16) (NameTwice (number p 1))
+    (cond (number p 0 == 17) (NameUnknown (number p 1) (number p 2))
+    (cond (number p 0 == 18) (PolygonTwice (part p 1) (number p 2))
+    (cond (number p 0 == 19) (LandUnknown (number p 1))
+    (cond (number p 0 == 20) (PolygonUnknown (part p 1) (number p 2)) Memory)))))))))
+
+fault_at-place : (f : LinkFault) → fault_at (link_fault_place f) ≡ f
+fault_at-place (NoChain Two tlid) = refl
+fault_at-place (SequenceBroken sequenced.Two tlid) = refl
+fault_at-place fault = refl
+
+-- Among these each broken rule stands with its place.
+abbrev pub name_faults : List Fields4 → List LinkFault
+name_faults = flat_map (λ r. map (NameUnknown r.tlid) r.feats)
+
+abbrev pub type_faults : SequencedType → List Record → List LinkFault
+type_faults t records =
+    map (NoChain (linked_type t)) (linked_tlids (linked_type t) records) ++ map (SequenceBroken t) (linked_tlids (linked_type t) records)
+
+abbrev pub faults_11_to_15 : List Record → List LinkFault
+faults_11_to_15 records =
+    map ChainTwice (chain_tlids records)
+    ++ (type_faults sequenced.Two records
+    ++ (type_faults sequenced.Four records
+    ++ (type_faults sequenced.Six records
+    ++ (map (NoChain I) (linked_tlids I records)
+    ++ (map LinkMissing (chain_tlids records)
+    ++ map LinkTwice (map i_tlid (of_type_i records)))))))
+
+abbrev pub faults_16_to_20 : List Record → List LinkFault
+faults_16_to_20 records =
+    map NameTwice (map five_feat (of_type_5 records))
+    ++ (name_faults (of_type_4 records)
+    ++ (map (λ k. PolygonTwice k.0 k.1) (map p_key (of_type_p records))
+    ++ (map LandUnknown (map eight_land (of_type_8 records))
+    ++ map (λ k. PolygonUnknown k.0 k.1) (map link_key (of_type_8 records)))))
+
+-- a chain without records of a type has no RTSQ there
+none_of_number : {X : Type 0} (f : X → ℕ) (n : ℕ) (xs : List X) → times nat_cmp n (map f xs) ≡ 0 → of_number f n xs ≡ []
+none_of_number f n [] e = refl
+none_of_number f n (x ∷ xs) e = go (same_or_not nat_keys n (f x)) (none_of_number f n xs)
+  where
+    go : (n ≡ f x) ⊎ (is_eq (nat_cmp n (f x)) ≡ false) → (times nat_cmp n (map f xs) ≡ 0 → of_number f n xs ≡ [])
+        → of_number f n (x ∷ xs) ≡ []
+    go (inl h) ih = absurd (omega (arith, times-yes nat_keys n (f x) (map f xs) h, e))
+    go (inr ne) ih = ap (λ b. cond b (x ∷ of_number f n xs) (of_number f n xs))
+        (ne_eqb (f x) n (λ h. differ_apart nat_keys n (f x) ne (sym h))) ∙ ih (sym (times-no nat_keys n (f x) (map f xs) ne) ∙ e)
+
+repeat_known : {X : Type 0} (f g : X → ℕ) (n : ℕ) (xs : List X) → has_repeat nat_cmp (map g (of_number f n xs)) ≡ true
+    → Known nat_cmp (map f xs) n
+repeat_known f g n xs h = go (times nat_cmp n (map f xs)) refl
+  where
+    go : (m : ℕ) → times nat_cmp n (map f xs) ≡ m → Known nat_cmp (map f xs) n
+    go zero e = absurd (false≢true (sym (ap (λ ys. has_repeat nat_cmp (map g ys)) (none_of_number f n xs e)) ∙ h))
+    go (suc m) e = omega (arith, e)
+
+name_among : (x y : ℕ) (rs : List Fields4) → Known nat_cmp (flat_map (λ r. r.feats) (of_number four_tlid x rs)) y
+    → Among (NameUnknown x y) (name_faults rs)
+name_among x y [] h = absurd (omega (arith, h))
+name_among x y (r ∷ rs) h = go (r.tlid == x) refl h (name_among x y rs)
+  where
+    here : r.tlid ≡ x → Known nat_cmp r.feats y → Among (NameUnknown x y) (map (NameUnknown r.tlid) r.feats)
+    here e k = subst (λ t. Among (NameUnknown t y) (map (NameUnknown r.tlid) r.feats)) e
+        (known_among nat_keys (NameUnknown r.tlid) y r.feats k)
+
+    split : r.tlid ≡ x → Known nat_cmp r.feats y ⊎ Known nat_cmp (flat_map (λ q. q.feats) (of_number four_tlid x rs)) y
+        → (Known nat_cmp (flat_map (λ q. q.feats) (of_number four_tlid x rs)) y → Among (NameUnknown x y) (name_faults rs))
+        → Among (NameUnknown x y) (name_faults (r ∷ rs))
+    split e (inl k) ih = among_left (NameUnknown x y) (map (NameUnknown r.tlid) r.feats) (name_faults rs) (here e k)
+    split e (inr k) ih = among_right (NameUnknown x y) (map (NameUnknown r.tlid) r.feats) (name_faults rs) (ih k)
+
+    go : (b : Bool) → (r.tlid == x) ≡ b → Known nat_cmp (flat_map (λ q. q.feats)
+        (cond b (r ∷ of_number four_tlid x rs) (of_number four_tlid x rs))) y
+        → (Known nat_cmp (flat_map (λ q. q.feats) (of_number four_tlid x rs)) y → Among (NameUnknown x y) (name_faults rs))
+        → Among (NameUnknown x y) (name_faults (r ∷ rs))
+    go true e k ih = split (eqb-true r.tlid x e) (known-append nat_keys y r.feats (flat_map (λ q. q.feats) (of_number four_tlid x rs)) k) ih
+    go false e k ih = among_right (NameUnknown x y) (map (NameUnknown r.tlid) r.feats) (name_faults rs) (ih k)
+
+type_among_no_chain : (t : SequencedType) (tlid : ℕ) (records : List Record) → Known nat_cmp (linked_tlids (linked_type t) records) tlid
+    → Among (NoChain (linked_type t) tlid) (type_faults t records)
+type_among_no_chain t tlid records h =
+    among_left (NoChain (linked_type t) tlid) (map (NoChain (linked_type t)) (linked_tlids (linked_type t) records))
+    (map (SequenceBroken t) (linked_tlids (linked_type t) records))
+    (known_among nat_keys (NoChain (linked_type t)) tlid (linked_tlids (linked_type t) records) h)
+
+type_among_sequence : (t : SequencedType) (tlid : ℕ) (records : List Record) → Known nat_cmp (linked_tlids (linked_type t) records) tlid
+    → Among (SequenceBroken t tlid) (type_faults t records)
+type_among_sequence t tlid records h =
+    among_right (SequenceBroken t tlid) (map (NoChain (linked_type t)) (linked_tlids (linked_type t) records))
+    (map (SequenceBroken t) (linked_tlids (linked_type t) records))
+    (known_among nat_keys (SequenceBroken t) tlid (linked_tlids (linked_type t) records) h)
+
+among_types : (t : SequencedType) (f : LinkFault) (records : List Record) → Among f (type_faults t records) → Among f
+    (faults_11_to_15 records)
+among_types sequenced.Two f records h =
+    among_right f (map ChainTwice (chain_tlids records)) _ (among_left f (type_faults sequenced.Two records) _ h)
+among_types sequenced.Four f records h =
+    among_right f (map ChainTwice (chain_tlids records)) _
+    (among_right f (type_faults sequenced.Two records) _ (among_left f (type_faults sequenced.Four records) _ h))
+among_types sequenced.Six f records h =
+    among_right f (map ChainTwice (chain_tlids records)) _
+    (among_right f (type_faults sequenced.Two records) _
+    (among_right f (type_faults sequenced.Four records) _ (among_left f (type_faults sequenced.Six records) _ h)))
+
+-- the faults of the three types left aside
+after_types : (f : LinkFault) (records : List Record)
+    → Among f (map (NoChain I) (linked_tlids I records)
+    ++ (map LinkMissing (chain_tlids records) ++ map LinkTwice (map i_tlid (of_type_i records)))) → Among f (faults_11_to_15 records)
+after_types f records h =
+    among_right f (map ChainTwice (chain_tlids records)) _
+    (among_right f (type_faults sequenced.Two records) _
+    (among_right f (type_faults sequenced.Four records) _ (among_right f (type_faults sequenced.Six records) _ h)))
+
+no_chain_among : (t : LinkedType) (tlid : ℕ) (records : List Record) → Known nat_cmp (linked_tlids t records) tlid
+    → Among (NoChain t tlid) (faults_11_to_15 records)
+no_chain_among Two tlid records h =
+    among_types sequenced.Two (NoChain Two tlid) records (type_among_no_chain sequenced.Two tlid records h)
+no_chain_among Four tlid records h =
+    among_types sequenced.Four (NoChain Four tlid) records (type_among_no_chain sequenced.Four tlid records h)
+no_chain_among Six tlid records h =
+    among_types sequenced.Six (NoChain Six tlid) records (type_among_no_chain sequenced.Six tlid records h)
+no_chain_among I tlid records h =
+    after_types (NoChain I tlid) records
+    (among_left (NoChain I tlid) (map (NoChain I) (linked_tlids I records)) _
+    (known_among nat_keys (NoChain I) tlid (linked_tlids I records) h))
+
+some_above : (n : ℕ) → nat_lt 1 n ≡ true → 0 < n
+some_above n e = omega (arith, ltb-true 1 n e)
+
+some : (n : ℕ) (b : Bool) → (nat_lt 0 n && b) ≡ true → 0 < n
+some n b e = ltb-true 0 n (and_parts (nat_lt 0 n) b e).0
+
+-- the faults among which each broken rule stands
+abbrev pub all_faults : List Record → List LinkFault
+all_faults records = faults_11_to_15 records ++ faults_16_to_20 records
+
+first_half : (records : List Record) (f : LinkFault) → Among f (faults_11_to_15 records) → Among f (all_faults records)
+first_half records f h = among_left f (faults_11_to_15 records) (faults_16_to_20 records) h
+
+second_half : (records : List Record) (f : LinkFault) → Among f (faults_16_to_20 records) → Among f (all_faults records)
+second_half records f h = among_right f (faults_11_to_15 records) (faults_16_to_20 records) h
+
+sequence_among : (t : SequencedType) (tlid : ℕ) (records : List Record) → has_repeat nat_cmp (rtsqs t tlid records) ≡ true
+    → Known nat_cmp (linked_tlids (linked_type t) records) tlid
+sequence_among sequenced.Two tlid records e = repeat_known two_tlid two_rtsq tlid (of_type_2 records) e
+sequence_among sequenced.Four tlid records e = repeat_known four_tlid four_rtsq tlid (of_type_4 records) e
+sequence_among sequenced.Six tlid records e = repeat_known six_tlid six_rtsq tlid (of_type_6 records) e
+
+skip_types : (records : List Record) (f : LinkFault)
+    → Among f (map LinkMissing (chain_tlids records) ++ map LinkTwice (map i_tlid (of_type_i records))) → Among f (faults_11_to_15 records)
+skip_types records f h = after_types f records (among_right f (map (NoChain I) (linked_tlids I records)) _ h)
+
+pub broken_among : (records : List Record) (f : LinkFault) → is_rule_broken records f ≡ true → Among f (all_faults records)
+broken_among records (ChainTwice tlid) e =
+    first_half records (ChainTwice tlid)
+    (among_left (ChainTwice tlid) (map ChainTwice (chain_tlids records)) _
+    (known_among nat_keys ChainTwice tlid (chain_tlids records) (some_above (times nat_cmp tlid (chain_tlids records)) e)))
+broken_among records (NoChain t tlid) e =
+    first_half records (NoChain t tlid)
+    (no_chain_among t tlid records
+    (some (times nat_cmp tlid (linked_tlids t records)) (not (stands_in nat_cmp tlid (chain_tlids records))) e))
+broken_among records (SequenceBroken t tlid) e =
+    first_half records (SequenceBroken t tlid)
+    (among_types t (SequenceBroken t tlid) records (type_among_sequence t tlid records (sequence_among t tlid records e)))
+broken_among records (LinkMissing tlid) e =
+    first_half records (LinkMissing tlid)
+    (skip_types records (LinkMissing tlid)
+    (among_left (LinkMissing tlid) (map LinkMissing (chain_tlids records)) _
+    (known_among nat_keys LinkMissing tlid (chain_tlids records)
+    (some (times nat_cmp tlid (chain_tlids records)) (not (stands_in nat_cmp tlid (map i_tlid (of_type_i records)))) e))))
+broken_among records (LinkTwice tlid) e =
+    first_half records (LinkTwice tlid)
+    (skip_types records (LinkTwice tlid)
+    (among_right (LinkTwice tlid) (map LinkMissing (chain_tlids records)) _
+    (known_among nat_keys LinkTwice tlid (map i_tlid (of_type_i records))
+    (some_above (times nat_cmp tlid (map i_tlid (of_type_i records))) e))))
+broken_among records (NameTwice feat) e =
+    second_half records (NameTwice feat)
+    (among_left (NameTwice feat) (map NameTwice (map five_feat (of_type_5 records))) _
+    (known_among nat_keys NameTwice feat (map five_feat (of_type_5 records))
+    (some_above (times nat_cmp feat (map five_feat (of_type_5 records))) e)))
+broken_among records (NameUnknown tlid feat) e =
+    second_half records (NameUnknown tlid feat)
+    (among_right (NameUnknown tlid feat) (map NameTwice (map five_feat (of_type_5 records))) _
+    (among_left (NameUnknown tlid feat) (name_faults (of_type_4 records)) _
+    (name_among tlid feat (of_type_4 records)
+    (some (times nat_cmp feat (named_feats tlid records)) (not (stands_in nat_cmp feat (map five_feat (of_type_5 records)))) e))))
+broken_among records (PolygonTwice cenid polyid) e =
+    second_half records (PolygonTwice cenid polyid)
+    (among_right (PolygonTwice cenid polyid) (map NameTwice (map five_feat (of_type_5 records))) _
+    (among_right (PolygonTwice cenid polyid) (name_faults (of_type_4 records)) _
+    (among_left (PolygonTwice cenid polyid) (map (λ k. PolygonTwice k.0 k.1) (map p_key (of_type_p records))) _
+    (known_among key_keys (λ k. PolygonTwice k.0 k.1) (cenid, polyid) (map p_key (of_type_p records))
+    (some_above (times key_cmp (cenid, polyid) (map p_key (of_type_p records))) e)))))
+broken_among records (LandUnknown land) e =
+    second_half records (LandUnknown land)
+    (among_right (LandUnknown land) (map NameTwice (map five_feat (of_type_5 records))) _
+    (among_right (LandUnknown land) (name_faults (of_type_4 records)) _
+    (among_right (LandUnknown land) (map (λ k. PolygonTwice k.0 k.1) (map p_key (of_type_p records))) _
+    (among_left (LandUnknown land) (map LandUnknown (map eight_land (of_type_8 records))) _
+    (known_among nat_keys LandUnknown land (map eight_land (of_type_8 records))
+    (some (times nat_cmp land (map eight_land (of_type_8 records))) _ e))))))
+broken_among records (PolygonUnknown cenid polyid) e =
+    second_half records (PolygonUnknown cenid polyid)
+    (among_right (PolygonUnknown cenid polyid) (map NameTwice (map five_feat (of_type_5 records))) _
+    (among_right (PolygonUnknown cenid polyid) (name_faults (of_type_4 records)) _
+    (among_right (PolygonUnknown cenid polyid) (map (λ k. PolygonTwice k.0 k.1) (map p_key (of_type_p records))) _
+    (among_right (PolygonUnknown cenid polyid) (map LandUnknown (map eight_land (of_type_8 records))) _
+    (known_among key_keys (λ k. PolygonUnknown k.0 k.1) (cenid, polyid) (map link_key (of_type_8 records))
+    (some (times key_cmp (cenid, polyid) (map link_key (of_type_8 records))) _ e))))))
+broken_among records Memory e = absurd (false≢true e)
+
+pub linked_or_first : (records : List Record) → IsLinked records ⊎ ((fault : LinkFault) × IsFirstBrokenRule records fault)
+linked_or_first records = first_or_none (is_rule_broken records) link_fault_place (all_faults records) (broken_among records)
+
+pub linked_has_none : (records : List Record) (fault : LinkFault) → IsLinked records → IsFirstBrokenRule records fault → ⊥
+linked_has_none records fault linked h = not_first (is_rule_broken records) link_fault_place fault linked h
+
+pub one_first_rule : (records : List Record) (f g : LinkFault) → IsFirstBrokenRule records f → IsFirstBrokenRule records g → f ≡ g
+one_first_rule records = one_first (is_rule_broken records) link_fault_place fault_at fault_at-place
+
+-- by computing, for given records
+pub linked_computed : (records : List Record) → none_there (is_rule_broken records) link_fault_place (all_faults records) ≡ true → IsLinked
+    records
+linked_computed records e = none_computed (is_rule_broken records) link_fault_place (all_faults records) (broken_among records) e
+
+pub first_rule_computed : (records : List Record) (fault : LinkFault)
+    → least_there (is_rule_broken records) link_fault_place fault (all_faults records) ≡ true → IsFirstBrokenRule records fault
+first_rule_computed records fault e = first_computed (is_rule_broken records) link_fault_place (all_faults records) (broken_among records)
+    fault e

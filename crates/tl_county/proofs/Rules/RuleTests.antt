@@ -1,0 +1,387 @@
+-- The rules by which records fit together, each as its search sees it.
+use Rattle.std.proofs.Common.{◌≡◌, ◌⊎◌, ◌<◌, ◌≤◌, ◌+◌, ◌==◌, ◌&&◌, not, ℕ, suc, nat_lt, List, [], ◌∷◌, ◌++◌, map, flat_map}
+use Rattle.std.proofs.Common.{Bool, true, false, cond, Ordering, Less, Equal, Greater, is_eq, is_gt, sym, refl}
+use Rattle.std.proofs.Common.{ap, ◌∙◌, subst, inl, inr, arith, nat_cmp, Some, None, zero-add, IsPermutation}
+use Rattle.std.proofs.lemmas.Bool.{false≢true, lt-ltb, ltb-true, or_cases, eq-eqb, ne_eqb}
+use Rattle.std.proofs.lemmas.Bool.{and_parts}
+use Rattle.std.proofs.lemmas.Cmp.{nat_cmp_total, tied_itself}
+use Rattle.std.specs.Ordering.{ordering_then}
+use Rattle.tl_layout.specs.ByType.{of_number}
+use Rattle.tl_layout.specs.Fields.{Fields4}
+use Rattle.tl_layout.specs.declared.record_type.Record.{Record}
+use Rattle.tl_county.specs.declared.fault.LinkFault.TheVariants.{ChainTwice, NoChain, SequenceBroken, LinkMissing, LinkTwice}
+use Rattle.tl_county.specs.declared.fault.LinkFault.TheVariants.{NameTwice, NameUnknown, PolygonTwice, LandUnknown}
+use Rattle.tl_county.specs.declared.fault.LinkFault.TheVariants.{PolygonUnknown}
+use Rattle.tl_county.specs.declared.fault.LinkedType.TheVariants.{Two, Four, Six, I}
+use Rattle.tl_county.specs.declared.fault.SequencedType.TheVariants as sequenced
+use Rattle.tl_county.specs.BodyOrder.{bytes_cmp}
+use Rattle.tl_county.specs.County.{one_tlid, two_tlid, two_rtsq, four_tlid, four_rtsq, five_feat, six_tlid, six_rtsq, seven_land}
+use Rattle.tl_county.specs.County.{eight_land, link_key, i_tlid, p_key, side_keys}
+use Rattle.tl_county.specs.Keyed.{IsLeastPassing, is_repeated, is_unknown}
+use Rattle.tl_county.specs.Orders.{times, stands_in, has_repeat, IsInOrder, distinct}
+use Rattle.tl_county.specs.Packing.{Typed, by_type}
+use Rattle.tl_county.specs.PolygonKeys.{PolygonKey, key_cmp}
+use Rattle.tl_county.specs.SequenceKeys.{uses_of, is_unnamed, sequence_cmp}
+use Rattle.tl_county.proofs.Lists.Distinct.{apart_from_no_repeat, times-distinct, bit}
+use Rattle.tl_county.proofs.ByKey.KeyOrders.{key_keys, pair_keys}
+use Rattle.tl_county.proofs.ByKey.Keys.{IsKeyOrder, nat_keys, times-yes, times-no, same_or_not, times-permutation, times-append}
+use Rattle.tl_county.proofs.ByKey.Keys.{times-cons, same-itself, known-here}
+use Rattle.tl_county.proofs.ByKey.KeyedLists.{first_least}
+use Rattle.tl_county.proofs.Rules.LinkFaults.{part, number}
+use Rattle.tl_county.proofs.Lists.Elements.{all_weaker}
+use Rattle.tl_county.proofs.Rules.RuleOrders.{IsRule}
+
+-- orders of lists of one or two numbers
+single : (a : Ordering) → is_gt a ≡ false → is_gt (ordering_then (ordering_then a Equal) Equal) ≡ false
+single Less e = refl
+single Equal e = refl
+single Greater e = e
+
+keyed : (a b : Ordering) → is_gt (ordering_then a b) ≡ false → is_gt (ordering_then a (ordering_then (ordering_then b Equal) Equal)) ≡ false
+keyed Less b e = refl
+keyed Equal b e = single b e
+keyed Greater b e = e
+
+paired : (a b : Ordering) → is_gt (ordering_then a b) ≡ false
+    → is_gt (ordering_then (ordering_then a Equal) (ordering_then (ordering_then b Equal) Equal)) ≡ false
+paired Less b e = refl
+paired Equal b e = single b e
+paired Greater b e = e
+
+-- order by two things is order by the first of them
+first_order : (a b : Ordering) → is_gt (ordering_then a b) ≡ false → is_gt a ≡ false
+first_order Less b e = refl
+first_order Equal b e = refl
+first_order Greater b e = e
+
+pub in_order-first : {X : Type 0} (first next : X → X → Ordering) (xs : List X) → IsInOrder (λ x y. ordering_then (first x y) (next x y)) xs
+    → IsInOrder first xs
+in_order-first first next [] h = tt
+in_order-first first next (x ∷ xs) h = (
+  all_weaker (λ y. is_gt (ordering_then (first x y) (next x y)) ≡ false) (λ y. is_gt (first x y) ≡ false)
+      (λ y e. first_order (first x y) (next x y) e) xs h.0,
+  in_order-first first next xs h.1,
+)
+
+pub sequence_keys : IsKeyOrder sequence_cmp
+sequence_keys = pair_keys nat_keys nat_keys
+
+-- a number stands in a chain's records as often as the pair of both in all
+module _ {X : Type 0} (f g : X → ℕ) where
+  pub times-pair : (n m : ℕ) (xs : List X) → times sequence_cmp (n, m) (map (λ x. (f x, g x)) xs) ≡ times nat_cmp m
+      (map g (of_number f n xs))
+  times-pair n m [] = refl
+  times-pair n m (x ∷ xs) = go (same_or_not nat_keys n (f x)) (times-pair n m xs)
+    where
+      other : is_eq (nat_cmp n (f x)) ≡ false → is_eq (sequence_cmp (n, m) (f x, g x)) ≡ false
+      other ne = at (nat_cmp n (f x)) ne
+        where
+          at : (a : Ordering) → is_eq a ≡ false → is_eq (ordering_then a (nat_cmp m (g x))) ≡ false
+          at Less e = refl
+          at Equal e = absurd (false≢true (sym e))
+          at Greater e = refl
+
+      go : (n ≡ f x) ⊎ (is_eq (nat_cmp n (f x)) ≡ false)
+          → times sequence_cmp (n, m) (map (λ y. (f y, g y)) xs) ≡ times nat_cmp m (map g (of_number f n xs))
+          → times sequence_cmp (n, m) (map (λ y. (f y, g y)) (x ∷ xs)) ≡ times nat_cmp m (map g (of_number f n (x ∷ xs)))
+      go (inr ne) ih =
+          times-no sequence_keys (n, m) (f x, g x) (map (λ y. (f y, g y)) xs) (other ne) ∙ ih
+          ∙ ap (λ b. times nat_cmp m (map g (cond b (x ∷ of_number f n xs) (of_number f n xs))))
+          (sym (ne_eqb (f x) n (λ e. false≢true (sym ne ∙ subst (λ k. is_eq (nat_cmp n k) ≡ true) (sym e) (same-itself nat_keys n)))))
+      go (inl e) ih = here (same_or_not nat_keys m (g x))
+          ∙ ap (λ b. times nat_cmp m (map g (cond b (x ∷ of_number f n xs) (of_number f n xs)))) (sym (eq-eqb (f x) n (sym e)))
+        where
+          here : (m ≡ g x) ⊎ (is_eq (nat_cmp m (g x)) ≡ false)
+              → times sequence_cmp (n, m) (map (λ y. (f y, g y)) (x ∷ xs)) ≡ times nat_cmp m (g x ∷ map g (of_number f n xs))
+          here (inl h) = times-yes sequence_keys (n, m) (f x, g x) (map (λ y. (f y, g y)) xs) (λ i. (e i, h i)) ∙ ap suc ih
+              ∙ sym (times-yes nat_keys m (g x) (map g (of_number f n xs)) h)
+          here (inr ne) = times-no sequence_keys (n, m) (f x, g x) (map (λ y. (f y, g y)) xs)
+              (subst (λ k. is_eq (ordering_then (nat_cmp n k) (nat_cmp m (g x))) ≡ false) e
+              (ap (λ a. is_eq (ordering_then a (nat_cmp m (g x)))) (tied_itself nat_cmp_total n) ∙ ne)) ∙ ih
+              ∙ sym (times-no nat_keys m (g x) (map g (of_number f n xs)) ne)
+
+  repeat_from : (m : ℕ) (ks : List ℕ) → 1 < times nat_cmp m ks → has_repeat nat_cmp ks ≡ true
+  repeat_from m ks h = go (has_repeat nat_cmp ks) refl
+    where
+      go : (b : Bool) → has_repeat nat_cmp ks ≡ b → b ≡ true
+      go true e = refl
+      go false e = absurd (let few : times nat_cmp m ks ≤ 1 = apart_from_no_repeat nat_keys ks e m in omega arith)
+
+  repeated_in : (ks : List ℕ) → has_repeat nat_cmp ks ≡ true → (m : ℕ) × (1 < times nat_cmp m ks)
+  repeated_in [] e = absurd (false≢true e)
+  repeated_in (k ∷ ks) e = go (or_cases (stands_in nat_cmp k ks) (has_repeat nat_cmp ks) e) (repeated_in ks)
+    where
+      go : (stands_in nat_cmp k ks ≡ true) ⊎ (has_repeat nat_cmp ks ≡ true)
+          → (has_repeat nat_cmp ks ≡ true → (m : ℕ) × (1 < times nat_cmp m ks)) → (m : ℕ) × (1 < times nat_cmp m (k ∷ ks))
+      go (inl s) ih = (
+        k,
+        (let some : 0 < times nat_cmp k ks = ltb-true 0 (times nat_cmp k ks) s in
+            omega (arith, times-yes nat_keys k k ks refl)),
+      )
+      go (inr r) ih = let found : (m : ℕ) × (1 < times nat_cmp m ks) = ih r in
+          (found.0, omega (arith, times-cons nat_keys found.0 k ks, found.1))
+
+  -- the least pair that stands twice has the least number under which something stands twice
+  pub least-repeat : (n m : ℕ) (xs : List X) → IsLeastPassing sequence_cmp (is_repeated sequence_cmp (map (λ x. (f x, g x)) xs))
+      (Some (n, m)) → IsLeastPassing nat_cmp (λ k. has_repeat nat_cmp (map g (of_number f k xs))) (Some n)
+  least-repeat n m xs h = (
+    repeat_from m (map g (of_number f n xs)) (let t : 1 < times sequence_cmp (n, m) (map (λ x. (f x, g x)) xs) =
+        ltb-true 1 (times sequence_cmp (n, m) (map (λ x. (f x, g x)) xs)) h.0 in omega (arith, times-pair n m xs)),
+    least,
+  )
+    where
+      least : (k : ℕ) → has_repeat nat_cmp (map g (of_number f k xs)) ≡ true → is_gt (nat_cmp n k) ≡ false
+      least k e =
+          let found : (j : ℕ) × (1 < times nat_cmp j (map g (of_number f k xs))) = repeated_in (map g (of_number f k xs)) e in
+          first_order (nat_cmp n k) (nat_cmp m found.0)
+          (h.1 (k, found.0)
+          (lt-ltb 1 (times sequence_cmp (k, found.0) (map (λ x. (f x, g x)) xs)) (omega (arith, found.1, times-pair k found.0 xs))))
+
+  pub no_repeat : (xs : List X) → IsLeastPassing sequence_cmp (is_repeated sequence_cmp (map (λ x. (f x, g x)) xs)) None
+      → IsLeastPassing nat_cmp (λ k. has_repeat nat_cmp (map g (of_number f k xs))) None
+  no_repeat xs h k = go (has_repeat nat_cmp (map g (of_number f k xs))) refl
+    where
+      go : (b : Bool) → has_repeat nat_cmp (map g (of_number f k xs)) ≡ b → b ≡ false
+      go false e = refl
+      go true e =
+          let found : (j : ℕ) × (1 < times nat_cmp j (map g (of_number f k xs))) = repeated_in (map g (of_number f k xs)) e in
+          absurd (false≢true (sym (h (k, found.0))
+          ∙ lt-ltb 1 (times sequence_cmp (k, found.0) (map (λ x. (f x, g x)) xs)) (omega (arith, found.1, times-pair k found.0 xs))))
+
+-- a use stands in all as often as its FEAT among those of its chain
+pub times-uses : (n y : ℕ) (rs : List Fields4) → times sequence_cmp (n, y) (flat_map uses_of rs) ≡ times nat_cmp y
+    (flat_map (λ r. r.feats) (of_number four_tlid n rs))
+times-uses n y [] = refl
+times-uses n y (r ∷ rs) =
+    times-append sequence_keys (n, y) (uses_of r) (flat_map uses_of rs) ∙ go (same_or_not nat_keys n r.tlid) (times-uses n y rs)
+  where
+    own : (tlid : ℕ) → n ≡ tlid → (feats : List ℕ) → times sequence_cmp (n, y) (map (λ feat. (tlid, feat)) feats) ≡ times nat_cmp y feats
+    own tlid e [] = refl
+    own tlid e (feat ∷ feats) = at (same_or_not nat_keys y feat) (own tlid e feats)
+      where
+        at : (y ≡ feat) ⊎ (is_eq (nat_cmp y feat) ≡ false) → times sequence_cmp (n, y) (map (λ w. (tlid, w)) feats) ≡ times nat_cmp y feats
+            → times sequence_cmp (n, y) ((tlid, feat) ∷ map (λ w. (tlid, w)) feats) ≡ times nat_cmp y (feat ∷ feats)
+        at (inl h) ih = times-yes sequence_keys (n, y) (tlid, feat) (map (λ w. (tlid, w)) feats) (λ i. (e i, h i)) ∙ ap suc ih
+            ∙ sym (times-yes nat_keys y feat feats h)
+        at (inr ne) ih = times-no sequence_keys (n, y) (tlid, feat) (map (λ w. (tlid, w)) feats)
+            (subst (λ k. is_eq (ordering_then (nat_cmp n k) (nat_cmp y feat)) ≡ false) e
+            (ap (λ a. is_eq (ordering_then a (nat_cmp y feat))) (tied_itself nat_cmp_total n) ∙ ne)) ∙ ih
+            ∙ sym (times-no nat_keys y feat feats ne)
+
+    none : (tlid : ℕ) → is_eq (nat_cmp n tlid) ≡ false → (feats : List ℕ) → times sequence_cmp (n, y) (map (λ feat. (tlid, feat)) feats) ≡ 0
+    none tlid ne [] = refl
+    none tlid ne (feat ∷ feats) = times-no sequence_keys (n, y) (tlid, feat) (map (λ w. (tlid, w)) feats) (at (nat_cmp n tlid) ne)
+        ∙ none tlid ne feats
+      where
+        at : (a : Ordering) → is_eq a ≡ false → is_eq (ordering_then a (nat_cmp y feat)) ≡ false
+        at Less e = refl
+        at Equal e = absurd (false≢true (sym e))
+        at Greater e = refl
+
+    go : (n ≡ r.tlid) ⊎ (is_eq (nat_cmp n r.tlid) ≡ false)
+        → times sequence_cmp (n, y) (flat_map uses_of rs) ≡ times nat_cmp y (flat_map (λ q. q.feats) (of_number four_tlid n rs))
+        → times sequence_cmp (n, y) (uses_of r) + times sequence_cmp (n, y) (flat_map uses_of rs) ≡ times nat_cmp y
+        (flat_map (λ q. q.feats) (cond (r.tlid == n) (r ∷ of_number four_tlid n rs) (of_number four_tlid n rs)))
+    go (inl e) ih =
+        (λ i. own r.tlid e r.feats i + ih i)
+        ∙ sym (times-append nat_keys y r.feats (flat_map (λ (q : Fields4). q.feats) (of_number four_tlid n rs)))
+        ∙ ap (λ b. times nat_cmp y (flat_map (λ (q : Fields4). q.feats) (cond b (r ∷ of_number four_tlid n rs) (of_number four_tlid n rs))))
+        (sym (eq-eqb r.tlid n (sym e)))
+    go (inr ne) ih =
+        (λ i. none r.tlid ne r.feats i + ih i)
+        ∙ zero-add (times nat_cmp y (flat_map (λ (q : Fields4). q.feats) (of_number four_tlid n rs)))
+        ∙ ap (λ b. times nat_cmp y (flat_map (λ (q : Fields4). q.feats) (cond b (r ∷ of_number four_tlid n rs) (of_number four_tlid n rs))))
+        (sym (ne_eqb r.tlid n (λ e. false≢true (sym ne ∙ subst (λ k. is_eq (nat_cmp n k) ≡ true) (sym e) (same-itself nat_keys n)))))
+
+-- the first use is of a FEAT that no name has
+pub unnamed-first : (first : ℕ × ℕ) (later : List (ℕ × ℕ)) (feats : List ℕ) → IsInOrder sequence_cmp (first ∷ later)
+    → stands_in nat_cmp first.1 feats ≡ false → IsLeastPassing sequence_cmp (is_unnamed (first ∷ later) feats) (Some first)
+unnamed-first first later feats h none = (
+  (λ i. lt-ltb 0 (times sequence_cmp first (first ∷ later)) (known-here sequence_keys first later) i && not (none i)),
+  λ other t. first_least sequence_keys first later h other
+      (ltb-true 0 (times sequence_cmp other (first ∷ later))
+      (and_parts (stands_in sequence_cmp other (first ∷ later)) (not (stands_in nat_cmp other.1 feats)) t).0),
+)
+
+-- the uses and the names may stand in another order
+pub unnamed-reordered : (uses others : List (ℕ × ℕ)) (feats : List ℕ) → IsPermutation uses others → (pair : ℕ × ℕ)
+    → is_unnamed others feats pair ≡ is_unnamed uses feats pair
+unnamed-reordered uses others feats p pair =
+    ap (λ n. nat_lt 0 n && not (stands_in nat_cmp pair.1 feats)) (times-permutation sequence_keys pair uses others p)
+
+-- keys in another order, and known keys once each
+pub unknown-distinct : (keys others known : List PolygonKey) → IsPermutation keys others → (key : PolygonKey)
+    → is_unknown key_cmp others (distinct key_cmp known) key ≡ is_unknown key_cmp keys known key
+unknown-distinct keys others known p key = (λ i. nat_lt 0 (times-permutation key_keys key keys others p i) && not (once i))
+  where
+    flag : (b : Bool) → nat_lt 0 (bit b) ≡ b
+    flag true = refl
+    flag false = refl
+
+    once : stands_in key_cmp key (distinct key_cmp known) ≡ stands_in key_cmp key known
+    once = ap (nat_lt 0) (times-distinct key_keys key known) ∙ flag (stands_in key_cmp key known)
+
+module _ (records : List Record) (t : Typed) (e : by_type records ≡ t) where
+  pub rule_11 : IsRule nat_cmp (is_repeated nat_cmp (map one_tlid t.of_type_1)) records 0 ChainTwice
+  rule_11 = record {
+    broken = λ k. ap (λ (u : Typed). nat_lt 1 (times nat_cmp k (map one_tlid u.of_type_1))) e;
+    place = λ k. refl;
+    key =
+        λ p. number p 0;
+    only = λ p. refl;
+    order = λ k j h. single (nat_cmp k j) h;
+  }
+
+  pub rule_12_two : IsRule nat_cmp (is_unknown nat_cmp (map two_tlid t.of_type_2) (map one_tlid t.of_type_1)) records 1 (NoChain Two)
+  rule_12_two = record {
+    broken =
+        λ k. ap (λ (u : Typed). is_unknown nat_cmp (map two_tlid u.of_type_2) (map one_tlid u.of_type_1) k) e;
+    place = λ k. refl;
+    key =
+        λ p. number p 0;
+    only = λ p. refl;
+    order = λ k j h. single (nat_cmp k j) h;
+  }
+
+  pub rule_12_four : IsRule nat_cmp (is_unknown nat_cmp (map four_tlid t.of_type_4) (map one_tlid t.of_type_1)) records 2 (NoChain Four)
+  rule_12_four = record {
+    broken =
+        λ k. ap (λ (u : Typed). is_unknown nat_cmp (map four_tlid u.of_type_4) (map one_tlid u.of_type_1) k) e;
+    place = λ k. refl;
+    key =
+        λ p. number p 0;
+    only = λ p. refl;
+    order = λ k j h. single (nat_cmp k j) h;
+  }
+
+  pub rule_12_six : IsRule nat_cmp (is_unknown nat_cmp (map six_tlid t.of_type_6) (map one_tlid t.of_type_1)) records 3 (NoChain Six)
+  rule_12_six = record {
+    broken =
+        λ k. ap (λ (u : Typed). is_unknown nat_cmp (map six_tlid u.of_type_6) (map one_tlid u.of_type_1) k) e;
+    place = λ k. refl;
+    key =
+        λ p. number p 0;
+    only = λ p. refl;
+    order = λ k j h. single (nat_cmp k j) h;
+  }
+
+  pub rule_12_i : IsRule nat_cmp (is_unknown nat_cmp (map i_tlid t.of_type_i) (map one_tlid t.of_type_1)) records 4 (NoChain I)
+  rule_12_i = record {
+    broken = λ k. ap (λ (u : Typed). is_unknown nat_cmp (map i_tlid u.of_type_i) (map one_tlid u.of_type_1) k) e;
+    place =
+        λ k. refl;
+    key = λ p. number p 0;
+    only = λ p. refl;
+    order = λ k j h. single (nat_cmp k j) h;
+  }
+
+  pub rule_13_two : IsRule nat_cmp (λ k. has_repeat nat_cmp (map two_rtsq (of_number two_tlid k t.of_type_2))) records 5
+      (SequenceBroken sequenced.Two)
+  rule_13_two = record {
+    broken = λ k. ap (λ (u : Typed). has_repeat nat_cmp (map two_rtsq (of_number two_tlid k u.of_type_2))) e;
+    place =
+        λ k. refl;
+    key = λ p. number p 0;
+    only = λ p. refl;
+    order = λ k j h. single (nat_cmp k j) h;
+  }
+
+  pub rule_13_four : IsRule nat_cmp (λ k. has_repeat nat_cmp (map four_rtsq (of_number four_tlid k t.of_type_4))) records 6
+      (SequenceBroken sequenced.Four)
+  rule_13_four = record {
+    broken =
+        λ k. ap (λ (u : Typed). has_repeat nat_cmp (map four_rtsq (of_number four_tlid k u.of_type_4))) e;
+    place = λ k. refl;
+    key =
+        λ p. number p 0;
+    only = λ p. refl;
+    order = λ k j h. single (nat_cmp k j) h;
+  }
+
+  pub rule_13_six : IsRule nat_cmp (λ k. has_repeat nat_cmp (map six_rtsq (of_number six_tlid k t.of_type_6))) records 7
+      (SequenceBroken sequenced.Six)
+  rule_13_six = record {
+    broken = λ k. ap (λ (u : Typed). has_repeat nat_cmp (map six_rtsq (of_number six_tlid k u.of_type_6))) e;
+    place =
+        λ k. refl;
+    key = λ p. number p 0;
+    only = λ p. refl;
+    order = λ k j h. single (nat_cmp k j) h;
+  }
+
+  pub rule_14 : IsRule nat_cmp (is_unknown nat_cmp (map one_tlid t.of_type_1) (map i_tlid t.of_type_i)) records 8 LinkMissing
+  rule_14 = record {
+    broken = λ k. ap (λ (u : Typed). is_unknown nat_cmp (map one_tlid u.of_type_1) (map i_tlid u.of_type_i) k) e;
+    place =
+        λ k. refl;
+    key = λ p. number p 0;
+    only = λ p. refl;
+    order = λ k j h. single (nat_cmp k j) h;
+  }
+
+  pub rule_15 : IsRule nat_cmp (is_repeated nat_cmp (map i_tlid t.of_type_i)) records 9 LinkTwice
+  rule_15 = record {
+    broken = λ k. ap (λ (u : Typed). is_repeated nat_cmp (map i_tlid u.of_type_i) k) e;
+    place = λ k. refl;
+    key =
+        λ p. number p 0;
+    only = λ p. refl;
+    order = λ k j h. single (nat_cmp k j) h;
+  }
+
+  pub rule_16 : IsRule nat_cmp (is_repeated nat_cmp (map five_feat t.of_type_5)) records 10 NameTwice
+  rule_16 = record {
+    broken = λ k. ap (λ (u : Typed). is_repeated nat_cmp (map five_feat u.of_type_5) k) e;
+    place = λ k. refl;
+    key =
+        λ p. number p 0;
+    only = λ p. refl;
+    order = λ k j h. single (nat_cmp k j) h;
+  }
+
+  pub rule_17 : IsRule sequence_cmp (is_unnamed (flat_map uses_of t.of_type_4) (map five_feat t.of_type_5)) records 11
+      (λ pair. NameUnknown pair.0 pair.1)
+  rule_17 = record {
+    broken = λ k. ap (λ (u : Typed). stands_in nat_cmp k.1
+        (flat_map (λ (r : Fields4). r.feats) (of_number four_tlid k.0 u.of_type_4)) && not
+        (stands_in nat_cmp k.1 (map five_feat u.of_type_5))) e
+        ∙ ap (λ n. nat_lt 0 n && not (stands_in nat_cmp k.1 (map five_feat t.of_type_5))) (sym (times-uses k.0 k.1 t.of_type_4));
+    place = λ k. refl;
+    key = λ p. (number p 0, number p 1);
+    only = λ p. refl;
+    order = λ k j h. paired (nat_cmp k.0 j.0) (nat_cmp k.1 j.1) h;
+  }
+
+  pub rule_18 : IsRule key_cmp (is_repeated key_cmp (map p_key t.of_type_p)) records 12 (λ key. PolygonTwice key.0 key.1)
+  rule_18 = record {
+    broken = λ k. ap (λ (u : Typed). is_repeated key_cmp (map p_key u.of_type_p) k) e;
+    place = λ k. refl;
+    key =
+        λ p. (part p 0, number p 1);
+    only = λ p. refl;
+    order = λ k j h. keyed (bytes_cmp k.0 j.0) (nat_cmp k.1 j.1) h;
+  }
+
+  pub rule_19 : IsRule nat_cmp (is_unknown nat_cmp (map eight_land t.of_type_8) (map seven_land t.of_type_7)) records 13 LandUnknown
+  rule_19 = record {
+    broken =
+        λ k. ap (λ (u : Typed). is_unknown nat_cmp (map eight_land u.of_type_8) (map seven_land u.of_type_7) k) e;
+    place = λ k. refl;
+    key =
+        λ p. number p 0;
+    only = λ p. refl;
+    order = λ k j h. single (nat_cmp k j) h;
+  }
+
+  pub rule_20 : IsRule key_cmp (is_unknown key_cmp (map link_key t.of_type_8)
+      (flat_map side_keys t.of_type_i ++ map p_key t.of_type_p)) records 14 (λ key. PolygonUnknown key.0 key.1)
+  rule_20 = record {
+    broken =
+        λ k. ap (λ (u : Typed). is_unknown key_cmp (map link_key u.of_type_8) (flat_map side_keys u.of_type_i ++ map p_key u.of_type_p) k)
+        e;
+    place = λ k. refl;
+    key = λ p. (part p 0, number p 1);
+    only = λ p. refl;
+    order =
+        λ k j h. keyed (bytes_cmp k.0 j.0) (nat_cmp k.1 j.1) h;
+  }

@@ -1,0 +1,15 @@
+-- The TLIDs of tables in order are in order.
+use Rattle.std.proofs.Common.{◌≡◌, ℕ, List, map, sym, subst, nat_cmp}
+use Rattle.tl_county.specs.County.{one_tlid, i_tlid}
+use Rattle.tl_county.specs.OrderedTables.{AreInOrder}
+use Rattle.tl_county.specs.Orders.{IsInOrder}
+use Rattle.tl_county.specs.Packing.{Typed}
+use Rattle.tl_county.proofs.Lists.InOrder.{in_order-map}
+
+-- those of the records of type 1
+pub tlids_in_order : {tlids : List ℕ} (t : Typed) → AreInOrder t → tlids ≡ map one_tlid t.of_type_1 → IsInOrder nat_cmp tlids
+tlids_in_order t ordered told = subst (IsInOrder nat_cmp) (sym told) (in_order-map nat_cmp one_tlid t.of_type_1 ordered.type_1)
+
+-- those of the records of type I
+pub linked_in_order : {linked : List ℕ} (t : Typed) → AreInOrder t → linked ≡ map i_tlid t.of_type_i → IsInOrder nat_cmp linked
+linked_in_order t ordered told = subst (IsInOrder nat_cmp) (sym told) (in_order-map nat_cmp i_tlid t.of_type_i ordered.type_i)

@@ -1,0 +1,148 @@
+-- Polygons with a type P record that are on no side: in the tables of linked records, and in their county.
+use Rattle.std.proofs.Common.{◌≡◌, ◌⊎◌, ℕ, suc, nat_lt, List, [], ◌∷◌, ◌++◌, length, filter, map, flat_map, Bool, true, false}
+use Rattle.std.proofs.Common.{cond, not, ◌&&◌, ◌||◌, Option, is_eq, is_some, refl, sym, ap, ap₂, ◌∙◌, arith, Ordering}
+use Rattle.std.proofs.Common.{None, Some, inl, inr, map-id}
+use Rattle.std.proofs.lemmas.Bool.{false≢true, lt-ltb, ltb-true}
+use Rattle.std.specs.List.{AllByRecursion, list_any}
+use Rattle.tl_layout.specs.ByType.{of_type_1, of_type_i, of_type_p}
+use Rattle.tl_layout.specs.Fields.{Fields1, FieldsI, FieldsP}
+use Rattle.tl_layout.specs.declared.record_type.Record.{Record}
+use Rattle.tl_shape.specs.Chain.{Chain}
+use Rattle.tl_county.specs.County.{chain_of, chains_of, county_of, first, p_key, polygon_body, side_keys}
+use Rattle.tl_county.specs.CountyRules.{chain_polygons, has_body, is_without_chain, polygons_along}
+use Rattle.tl_county.specs.Keyed.{IsLeastPassing, is_unknown}
+use Rattle.tl_county.specs.LinkRules.{IsLinked}
+use Rattle.tl_county.specs.Orders.{distinct, stands_in, times}
+use Rattle.tl_county.specs.PolygonKeys.{PolygonKey, key_cmp}
+use Rattle.tl_county.proofs.Sameness.Carried.{among-unpieces}
+use Rattle.tl_county.proofs.Rules.FirstFault.{Among, all_among}
+use Rattle.tl_county.proofs.ByKey.KeyOrders.{key_keys}
+use Rattle.tl_county.proofs.ByKey.KeySets.{stands_in-distinct}
+use Rattle.tl_county.proofs.ByKey.Keys.{IsKeyOrder, Known, known-append, known-left, known-right, same-true}
+use Rattle.tl_county.proofs.Rules.LinkedCounty.{chains_all, each_from, linked_chain, needed}
+use Rattle.tl_county.proofs.Lists.Members.{among-pieces, among_known, known_is_among}
+use Rattle.tl_county.proofs.ByKey.Numbers.{count-map}
+use Rattle.tl_county.proofs.Lists.Reordered.{distinct_same, stands_alike}
+
+-- there is a first element exactly if there is one
+first_there : {X Y : Type 0} (f : X → Y) (xs : List X) → is_some (first (map f xs)) ≡ nat_lt 0 (length xs)
+first_there f [] = refl
+first_there f (x ∷ xs) = sym (lt-ltb 0 (suc (length xs)) (omega arith))
+
+-- of keys with what belongs to each, one has content exactly if it stands there and has content
+content_under : {K V : Type 0} {cmp : K → K → Ordering} (o : IsKeyOrder cmp) (content : K → Option V) (key : K) (keys : List K)
+    → list_any (λ (entry : K × Option V). is_eq (cmp key entry.0) && is_some entry.1) (map (λ k. (k, content k)) keys)
+    ≡ (stands_in cmp key keys && is_some (content key))
+content_under o content key [] = refl
+content_under {K} {V} {cmp} o content key (k ∷ keys) = go (is_eq (cmp key k)) refl (content_under o content key keys)
+  where
+    rest : Bool
+    rest = list_any (λ (entry : K × Option V). is_eq (cmp key entry.0) && is_some entry.1) (map (λ j. (j, content j)) keys)
+
+    others : List K
+    others = filter (λ j. is_eq (cmp key j)) keys
+
+    either : (b c : Bool) → (b || (c && b)) ≡ b
+    either true c = refl
+    either false true = refl
+    either false false = refl
+
+    go : (b : Bool) → is_eq (cmp key k) ≡ b → rest ≡ (stands_in cmp key keys && is_some (content key))
+        → ((b && is_some (content k)) || rest) ≡ (nat_lt 0 (length (cond b (k ∷ others) others)) && is_some (content key))
+    go true e ih =
+        let same : key ≡ k = same-true o key k e in
+        ap (λ c. is_some (content c) || rest) (sym same)
+        ∙ ap (λ r. is_some (content key) || r) ih
+        ∙ either (is_some (content key)) (stands_in cmp key keys)
+        ∙ ap (λ b. b && is_some (content key)) (sym (lt-ltb 0 (suc (length others)) (omega arith)))
+    go false e ih = ih
+
+-- where no key passes, none does
+pub none_passes : {K : Type 0} (cmp : K → K → Ordering) (test : K → Bool) (found : Option K) → is_some found ≡ false
+    → IsLeastPassing cmp test found → (k : K) → test k ≡ false
+none_passes cmp test None e h = h
+none_passes cmp test (Some k) e h = absurd (false≢true (sym e))
+
+module _ {K : Type 0} {cmp : K → K → Ordering} (o : IsKeyOrder cmp) where
+  -- keys that all stand among others add nothing to them
+  pub distinct-all_known : (known more : List K) → ((k : K) → is_unknown cmp more known k ≡ false)
+      → distinct cmp known ≡ distinct cmp (known ++ more)
+  distinct-all_known known more h = distinct_same o known (known ++ more)
+      (λ k. stands_alike o known (known ++ more) k (known-left o k known more) (back k))
+    where
+      back : (k : K) → Known cmp (known ++ more) k → Known cmp known k
+      back k l = go (known-append o k known more l)
+        where
+          go : Known cmp known k ⊎ Known cmp more k → Known cmp known k
+          go (inl m) = m
+          go (inr m) = ltb-true 0 (times cmp k known)
+              (needed (stands_in cmp k more) (stands_in cmp k known) (h k) (lt-ltb 0 (times cmp k more) m))
+
+  -- what is unknown among keys in order is unknown among the keys
+  pub unknown-distinct : (asked known ordered : List K) → ordered ≡ distinct cmp known → (k : K)
+      → is_unknown cmp asked (map (λ j. j) ordered) k ≡ is_unknown cmp asked known k
+  unknown-distinct asked known ordered e k = ap (λ b. stands_in cmp k asked && not b)
+      (ap (stands_in cmp k) (map-id ordered ∙ e) ∙ stands_in-distinct o k known)
+
+module _ (records : List Record) (linked : IsLinked records) where
+  abbrev on_sides : List PolygonKey
+  on_sides = flat_map side_keys (of_type_i records)
+
+  abbrev along : List PolygonKey
+  along = polygons_along (chains_of records)
+
+  side_along : (key : PolygonKey) → Known key_cmp on_sides key → Known key_cmp along key
+  side_along key known =
+      let link = among-unpieces side_keys key (of_type_i records) (known_is_among key_keys key on_sides known) in
+      let chain = linked_chain records linked link.0 link.1 in
+      among_known key_keys key along
+      (among-pieces (λ (entry : ℕ × Chain). chain_polygons entry.1) (chain.0.tlid, chain_of records chain.0 link.0) key
+      (chains_of records) chain.1 link.2)
+
+  along_side : (key : PolygonKey) → Known key_cmp along key → Known key_cmp on_sides key
+  along_side key known =
+      let entry = among-unpieces (λ (entry : ℕ × Chain). chain_polygons entry.1) key (chains_of records)
+      (known_is_among key_keys key along known) in
+      all_among (Known key_cmp on_sides) key (chain_polygons entry.0.1)
+      (all_among (λ (e : ℕ × Chain). AllByRecursion (Known key_cmp on_sides) (chain_polygons e.1)) entry.0 (chains_of records)
+      (chains_all records linked (λ (e : ℕ × Chain). AllByRecursion (Known key_cmp on_sides) (chain_polygons e.1)) each) entry.1) entry.2
+    where
+      each : (r : Fields1) (link : FieldsI) → Among r (of_type_1 records) → Among link (of_type_i records)
+          → AllByRecursion (Known key_cmp on_sides) (side_keys link)
+      each r link n m = each_from (Known key_cmp on_sides) (side_keys link)
+          (λ k l. among_known key_keys k on_sides (among-pieces side_keys link k (of_type_i records) m l))
+
+  -- a polygon is on a side of a record of type I exactly if it is on a side of a chain
+  same_sides : (key : PolygonKey) → stands_in key_cmp key on_sides ≡ stands_in key_cmp key along
+  same_sides key = stands_alike key_keys on_sides along key (side_along key) (along_side key)
+
+  -- it has a record of type P exactly if the county has content for it
+  same_body : (key : PolygonKey) → stands_in key_cmp key (map p_key (of_type_p records)) ≡ has_body (county_of records) key
+  same_body key =
+      let there : stands_in key_cmp key (map p_key (of_type_p records)) ≡ is_some (polygon_body records key) =
+      ap (nat_lt 0) (count-map (λ k. is_eq (key_cmp key k)) p_key (of_type_p records))
+      ∙ sym (first_there (λ (r : FieldsP). r.body) (filter (λ r. is_eq (key_cmp key (p_key r))) (of_type_p records))) in
+      sym
+      (content_under key_keys (polygon_body records) key (distinct key_cmp (on_sides ++ map p_key (of_type_p records)))
+      ∙ ap (λ b. b && is_some (polygon_body records key))
+      (stands_in-distinct key_keys key (on_sides ++ map p_key (of_type_p records)))
+      ∙ within (stands_in key_cmp key (map p_key (of_type_p records))) refl (is_some (polygon_body records key)) there
+      ∙ sym there)
+    where
+      within : (b : Bool) → stands_in key_cmp key (map p_key (of_type_p records)) ≡ b → (c : Bool) → b ≡ c
+          → (stands_in key_cmp key (on_sides ++ map p_key (of_type_p records)) && c) ≡ c
+      within true e true d =
+          ap (λ a. a && true) (lt-ltb 0 (times key_cmp key (on_sides ++ map p_key (of_type_p records)))
+          (known-right key_keys key on_sides (map p_key (of_type_p records))
+          (ltb-true 0 (times key_cmp key (map p_key (of_type_p records))) e)))
+      within b e false d = never (stands_in key_cmp key (on_sides ++ map p_key (of_type_p records)))
+        where
+          never : (a : Bool) → (a && false) ≡ false
+          never true = refl
+          never false = refl
+      within false e true d = absurd (cc)
+
+  -- so the two searches look for the same polygons
+  pub same_without_chain : (key : PolygonKey) → is_unknown key_cmp (map p_key (of_type_p records)) on_sides key
+      ≡ is_without_chain (county_of records) key
+  same_without_chain key = ap₂ (λ a b. a && not b) (same_body key) (same_sides key)

@@ -1,0 +1,57 @@
+-- The numbers of a carried chain are the images of its numbers.
+use Rattle.std.proofs.Common.{◌≡◌, ◌⊎◌, ℕ, List, [], ◌∷◌, ◌++◌, map, flat_map, Bool, true, false, Option, Some, None, option_map}
+use Rattle.std.proofs.Common.{option_to_list, sym, refl, ap₂, ◌∙◌, inl, inr, nat_cmp}
+use Rattle.std.proofs.lemmas.List.{map-append}
+use Rattle.tl_shape.specs.Chain.{Chain}
+use Rattle.tl_county.specs.CountyRules.{chain_nodes, chain_polygons}
+use Rattle.tl_county.specs.PolygonKeys.{PolygonKey, key_cmp, key_on, key_under}
+use Rattle.tl_county.specs.Renumbering.{Renumbering, image, renumbered_polygon, renumbered}
+use Rattle.tl_shape.specs.Turned.{turned_if}
+use Rattle.tl_county.proofs.Rules.FirstFault.{Among, among_left, among_right}
+
+pub key_on-renumbered : (r : Renumbering) (cenid : List ℕ) (polyid : Option ℕ)
+    → key_on (renumbered_polygon r cenid polyid) ≡ map (image key_cmp r.polygons) (key_under cenid polyid)
+key_on-renumbered r cenid None = refl
+key_on-renumbered r cenid (Some polyid) = refl
+
+pub chain_polygons-renumbered : (r : Renumbering) (c : Chain)
+    → chain_polygons (renumbered r c) ≡ map (image key_cmp r.polygons) (chain_polygons c)
+chain_polygons-renumbered r c =
+    ap₂ (λ xs ys. xs ++ ys) (key_on-renumbered r c.left.cenid c.left.polyid) (key_on-renumbered r c.right.cenid c.right.polyid)
+    ∙ sym (map-append (image key_cmp r.polygons) (key_on c.left) (key_on c.right))
+
+node-renumbered : (f : ℕ → ℕ) (o : Option ℕ) → option_to_list (option_map f o) ≡ map f (option_to_list o)
+node-renumbered f None = refl
+node-renumbered f (Some n) = refl
+
+pub chain_nodes-renumbered : (r : Renumbering) (c : Chain) → chain_nodes (renumbered r c) ≡ map (image nat_cmp r.nodes) (chain_nodes c)
+chain_nodes-renumbered r c =
+    ap₂ (λ xs ys. xs ++ ys) (node-renumbered (image nat_cmp r.nodes) c.start_node) (node-renumbered (image nat_cmp r.nodes) c.end_node)
+    ∙ sym (map-append (image nat_cmp r.nodes) (option_to_list c.start_node) (option_to_list c.end_node))
+
+pub among-unappend : {X : Type 0} (x : X) (ys zs : List X) → Among x (ys ++ zs) → Among x ys ⊎ Among x zs
+among-unappend x [] zs h = inr h
+among-unappend x (y ∷ ys) zs (inl e) = inl (inl e)
+among-unappend x (y ∷ ys) zs (inr h) = go (among-unappend x ys zs h)
+  where
+    go : Among x ys ⊎ Among x zs → Among x (y ∷ ys) ⊎ Among x zs
+    go (inl k) = inl (inr k)
+    go (inr k) = inr k
+
+pub among-unpieces : {X Y : Type 0} (f : X → List Y) (y : Y) (xs : List X) → Among y (flat_map f xs) → (x : X) × Among x xs × Among y (f x)
+among-unpieces f y [] h = absurd h
+among-unpieces {X} f y (x ∷ xs) h = go (among-unappend y (f x) (flat_map f xs) h) (among-unpieces f y xs)
+  where
+    go : Among y (f x) ⊎ Among y (flat_map f xs) → (Among y (flat_map f xs) → (z : X) × Among z xs × Among y (f z))
+        → (z : X) × Among z (x ∷ xs) × Among y (f z)
+    go (inl k) ih = (x, inl refl, k)
+    go (inr k) ih = let r : (z : X) × Among z xs × Among y (f z) = ih k in (r.0, inr r.1, r.2)
+
+-- a turn keeps the polygons on the sides
+pub among-turned : (k : PolygonKey) (b : Bool) (c : Chain) → Among k (chain_polygons c) → Among k (chain_polygons (turned_if b c))
+among-turned k false c h = h
+among-turned k true c h = go (among-unappend k (key_on c.left) (key_on c.right) h)
+  where
+    go : Among k (key_on c.left) ⊎ Among k (key_on c.right) → Among k (key_on c.right ++ key_on c.left)
+    go (inl h) = among_right k (key_on c.right) (key_on c.left) h
+    go (inr h) = among_left k (key_on c.right) (key_on c.left) h

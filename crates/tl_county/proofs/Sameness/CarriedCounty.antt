@@ -1,0 +1,176 @@
+-- What a renaming that carries keeps: a closed county is carried onto a closed one, a whole one onto a whole one.
+use Rattle.std.proofs.Common.{◌≡◌, ◌⊎◌, ◌≤◌, ◌||◌, ℕ, List, ◌++◌, map, length, Bool, true, false}
+use Rattle.std.proofs.Common.{Option, IsTrue, is_some, option_to_list, Ordering, sym, refl, subst, inl, inr, arith}
+use Rattle.std.proofs.Common.{nat_cmp}
+use Rattle.std.proofs.lemmas.Bool.{ltb-true, lt-ltb, or_left, or_right, or_cases}
+use Rattle.std.proofs.lemmas.List.{length-reverse}
+use Rattle.std.proofs.lemmas.List.Sorted.{IsPermutation-sym}
+use Rattle.tl_layout.specs.Fields.{Fields8}
+use Rattle.tl_layout.specs.declared.type7.Body7.{Body7}
+use Rattle.tl_layout.specs.declared.type_p.BodyP.{BodyP}
+use Rattle.tl_shape.specs.Chain.{Chain}
+use Rattle.tl_shape.specs.Turned.{turned_if}
+use Rattle.tl_county.specs.County.{County, link_key}
+use Rattle.tl_county.specs.CountyRules.{IsClosed, IsWhole, feats, polygon_keys, lands, polygons_along}
+use Rattle.tl_county.specs.CountyRules.{chain_polygons, chain_nodes, AllStandIn, AllKeysStandIn}
+use Rattle.tl_county.specs.Orders.{times, stands_in}
+use Rattle.tl_county.specs.PolygonKeys.{PolygonKey, key_cmp, key_on}
+use Rattle.tl_county.specs.Renumbering.{Renumbering, image, turns, carried_chain, carried_polygon, carried_landmark}
+use Rattle.tl_county.specs.Renumbering.{carried_link, ArePaired, Carries}
+use Rattle.tl_county.proofs.Sameness.Carried.{among-turned, among-unappend, among-unpieces, chain_polygons-renumbered}
+use Rattle.tl_county.proofs.Rules.FirstFault.{Among, all_among, among_left, among_right}
+use Rattle.tl_county.proofs.ByKey.KeyOrders.{key_keys}
+use Rattle.tl_county.proofs.ByKey.Keys.{IsKeyOrder, Known, nat_keys, lefts, rights, known-permutation, known-permutation_to, image-known}
+use Rattle.tl_county.proofs.Rules.LinkedCounty.{each_from}
+use Rattle.tl_county.proofs.Lists.Members.{among-permutation, among-map, among-unmap, among-pieces, among_known, known_is_among}
+
+-- a turn keeps the members of what is told of both ends and sides, in both directions
+pub nodes-turned : (n : ℕ) (b : Bool) (c : Chain) → Among n (chain_nodes c) → Among n (chain_nodes (turned_if b c))
+nodes-turned n false c h = h
+nodes-turned n true c h = go (among-unappend n (option_to_list c.start_node) (option_to_list c.end_node) h)
+  where
+    go : Among n (option_to_list c.start_node) ⊎ Among n (option_to_list c.end_node)
+        → Among n (option_to_list c.end_node ++ option_to_list c.start_node)
+    go (inl h) = among_right n (option_to_list c.end_node) (option_to_list c.start_node) h
+    go (inr h) = among_left n (option_to_list c.end_node) (option_to_list c.start_node) h
+
+pub nodes-unturned : (n : ℕ) (b : Bool) (c : Chain) → Among n (chain_nodes (turned_if b c)) → Among n (chain_nodes c)
+nodes-unturned n false c h = h
+nodes-unturned n true c h = go (among-unappend n (option_to_list c.end_node) (option_to_list c.start_node) h)
+  where
+    go : Among n (option_to_list c.end_node) ⊎ Among n (option_to_list c.start_node)
+        → Among n (option_to_list c.start_node ++ option_to_list c.end_node)
+    go (inl h) = among_right n (option_to_list c.start_node) (option_to_list c.end_node) h
+    go (inr h) = among_left n (option_to_list c.start_node) (option_to_list c.end_node) h
+
+pub polygons-unturned : (k : PolygonKey) (b : Bool) (c : Chain) → Among k (chain_polygons (turned_if b c)) → Among k (chain_polygons c)
+polygons-unturned k false c h = h
+polygons-unturned k true c h = go (among-unappend k (key_on c.right) (key_on c.left) h)
+  where
+    go : Among k (key_on c.right) ⊎ Among k (key_on c.left) → Among k (key_on c.left ++ key_on c.right)
+    go (inl h) = among_right k (key_on c.left) (key_on c.right) h
+    go (inr h) = among_left k (key_on c.left) (key_on c.right) h
+
+pub feats-turned : (b : Bool) (c : Chain) → (turned_if b c).feats ≡ c.feats
+feats-turned false c = refl
+feats-turned true c = refl
+
+points-turned : (b : Bool) (c : Chain) → length (turned_if b c).points ≡ length c.points
+points-turned false c = refl
+points-turned true c = length-reverse c.points
+
+-- the image of a known number is known on the other side
+pub paired_known : {K : Type 0} {cmp : K → K → Ordering} (o : IsKeyOrder cmp) (pairs : List (K × K)) (olds news : List K)
+    → ArePaired pairs olds news → (k : K) → Known cmp olds k → Known cmp news (image cmp pairs k)
+paired_known {K} {cmp} o pairs olds news h k l =
+    known-permutation_to o (image cmp pairs k) (rights pairs) news h.right
+    (image-known o pairs k (known-permutation o k (lefts pairs) olds h.left l))
+
+module _ (r : Renumbering) (a b : County) (h : Carries r a b) where
+  -- each part of the county onto which it carries is the image of one
+  old_chain : (e : ℕ × Chain) → Among e b.chains → (d : ℕ × Chain) × Among d a.chains × (e ≡ carried_chain r d)
+  old_chain e m = among-unmap (carried_chain r) e a.chains
+      (among-permutation e b.chains (map (carried_chain r) a.chains)
+      (IsPermutation-sym (map (carried_chain r) a.chains) b.chains h.chains) m)
+
+  new_chain : (d : ℕ × Chain) → Among d a.chains → Among (carried_chain r d) b.chains
+  new_chain d m = among-permutation (carried_chain r d) (map (carried_chain r) a.chains) b.chains h.chains
+      (among-map (carried_chain r) d a.chains m)
+
+  old_link : (l : Fields8) → Among l b.links → (d : Fields8) × Among d a.links × (l ≡ carried_link r d)
+  old_link l m = among-unmap (carried_link r) l a.links
+      (among-permutation l b.links (map (carried_link r) a.links) (IsPermutation-sym (map (carried_link r) a.links) b.links h.links) m)
+
+  new_name : (n : ℕ) → IsTrue (stands_in nat_cmp n (feats a)) → IsTrue (stands_in nat_cmp (image nat_cmp r.names n) (feats b))
+  new_name n t = lt-ltb 0 (times nat_cmp (image nat_cmp r.names n) (feats b))
+      (paired_known nat_keys r.names (feats a) (feats b) h.numbers.names n (ltb-true 0 (times nat_cmp n (feats a)) t))
+
+  new_key : (k : PolygonKey) → IsTrue (stands_in key_cmp k (polygon_keys a))
+      → IsTrue (stands_in key_cmp (image key_cmp r.polygons k) (polygon_keys b))
+  new_key k t = lt-ltb 0 (times key_cmp (image key_cmp r.polygons k) (polygon_keys b))
+      (paired_known key_keys r.polygons (polygon_keys a) (polygon_keys b) h.numbers.polygons k
+      (ltb-true 0 (times key_cmp k (polygon_keys a)) t))
+
+  names_stand : IsClosed a → (d : ℕ × Chain) → Among d a.chains → AllStandIn (feats b) (carried_chain r d).1.feats
+  names_stand closed d m = each_from (λ n. IsTrue (stands_in nat_cmp n (feats b))) (carried_chain r d).1.feats
+      (λ n k. let o = among-unmap (image nat_cmp r.names) n (turned_if (turns r d.0) d.1).feats k in
+      let old : Among o.0 d.1.feats = subst (Among o.0) (feats-turned (turns r d.0) d.1) o.1 in
+      let stands : AllStandIn (feats a) d.1.feats = all_among (λ e. AllStandIn (feats a) e.1.feats) d a.chains closed.names m in
+      subst (λ i. IsTrue (stands_in nat_cmp i (feats b))) (sym o.2)
+      (new_name o.0 (all_among (λ i. IsTrue (stands_in nat_cmp i (feats a))) o.0 d.1.feats stands old)))
+
+  sides_stand : IsClosed a → (d : ℕ × Chain) → Among d a.chains → AllKeysStandIn (polygon_keys b) (chain_polygons (carried_chain r d).1)
+  sides_stand closed d m = each_from (λ k. IsTrue (stands_in key_cmp k (polygon_keys b))) (chain_polygons (carried_chain r d).1)
+      (λ k l. let o = among-unmap (image key_cmp r.polygons) k (chain_polygons (turned_if (turns r d.0) d.1))
+      (subst (Among k) (chain_polygons-renumbered r (turned_if (turns r d.0) d.1)) l) in
+      let old : Among o.0 (chain_polygons d.1) = polygons-unturned o.0 (turns r d.0) d.1 o.1 in
+      let stands : AllKeysStandIn (polygon_keys a) (chain_polygons d.1) =
+      all_among (λ e. AllKeysStandIn (polygon_keys a) (chain_polygons e.1)) d a.chains closed.sides m in
+      subst (λ j. IsTrue (stands_in key_cmp j (polygon_keys b))) (sym o.2)
+      (new_key o.0 (all_among (λ j. IsTrue (stands_in key_cmp j (polygon_keys a))) o.0 (chain_polygons d.1) stands old)))
+
+  pub carried_closed : IsClosed a → IsClosed b
+  carried_closed closed = record {
+    names = each_from (λ e. AllStandIn (feats b) e.1.feats) b.chains (λ e m. let o = old_chain e m in
+        subst (λ (c : ℕ × Chain). AllStandIn (feats b) c.1.feats) (sym o.2) (names_stand closed o.0 o.1));
+    sides = each_from (λ e. AllKeysStandIn (polygon_keys b) (chain_polygons e.1)) b.chains (λ e m. let o = old_chain e m in
+        subst (λ (c : ℕ × Chain). AllKeysStandIn (polygon_keys b) (chain_polygons c.1)) (sym o.2) (sides_stand closed o.0 o.1));
+    link_lands = each_from (λ l. IsTrue (stands_in nat_cmp l.land (lands b))) b.links
+        (λ l m. let o = old_link l m in
+        subst (λ (k : Fields8). IsTrue (stands_in nat_cmp k.land (lands b))) (sym o.2)
+        (lt-ltb 0 (times nat_cmp (image nat_cmp r.lands o.0.land) (lands b))
+        (paired_known nat_keys r.lands (lands a) (lands b) h.numbers.lands o.0.land
+        (ltb-true 0 (times nat_cmp o.0.land (lands a))
+        (all_among (λ k. IsTrue (stands_in nat_cmp k.land (lands a))) o.0 a.links closed.link_lands o.1)))));
+    link_polygons = each_from (λ l. IsTrue (stands_in key_cmp (link_key l) (polygon_keys b))) b.links
+        (λ l m. let o = old_link l m in
+        subst (λ (k : Fields8). IsTrue (stands_in key_cmp (link_key k) (polygon_keys b))) (sym o.2)
+        (new_key (link_key o.0) (all_among (λ k. IsTrue (stands_in key_cmp (link_key k)
+        (polygon_keys a))) o.0 a.links closed.link_polygons o.1)));
+  }
+
+  -- a polygon on a side stands on one under its new number
+  pub carried_side : (k : PolygonKey) → Known key_cmp (polygons_along a.chains) k
+      → Known key_cmp (polygons_along b.chains) (image key_cmp r.polygons k)
+  carried_side k l =
+      let d = among-unpieces (λ (e : ℕ × Chain). chain_polygons e.1) k a.chains (known_is_among key_keys k (polygons_along a.chains) l) in
+      let turned : Among k (chain_polygons (turned_if (turns r d.0.0) d.0.1)) = among-turned k (turns r d.0.0) d.0.1 d.2 in
+      let new : Among (image key_cmp r.polygons k) (chain_polygons (carried_chain r d.0).1) =
+      subst (Among (image key_cmp r.polygons k)) (sym (chain_polygons-renumbered r (turned_if (turns r d.0.0) d.0.1)))
+      (among-map (image key_cmp r.polygons) k (chain_polygons (turned_if (turns r d.0.0) d.0.1)) turned) in
+      among_known key_keys (image key_cmp r.polygons k) (polygons_along b.chains)
+      (among-pieces (λ (e : ℕ × Chain). chain_polygons e.1) (carried_chain r d.0) (image key_cmp r.polygons k) b.chains
+      (new_chain d.0 d.1) new)
+
+  polygon_whole : (k : PolygonKey) (body : Option BodyP) → IsTrue (is_some body || stands_in key_cmp k (polygons_along a.chains))
+      → IsTrue (is_some body || stands_in key_cmp (image key_cmp r.polygons k) (polygons_along b.chains))
+  polygon_whole k body t = go (or_cases (is_some body) (stands_in key_cmp k (polygons_along a.chains)) t)
+    where
+      go : (is_some body ≡ true) ⊎ (stands_in key_cmp k (polygons_along a.chains) ≡ true)
+          → IsTrue (is_some body || stands_in key_cmp (image key_cmp r.polygons k) (polygons_along b.chains))
+      go (inl e) = or_left (is_some body) (stands_in key_cmp (image key_cmp r.polygons k) (polygons_along b.chains)) e
+      go (inr e) = or_right (is_some body) (stands_in key_cmp (image key_cmp r.polygons k) (polygons_along b.chains))
+          (lt-ltb 0 (times key_cmp (image key_cmp r.polygons k) (polygons_along b.chains))
+          (carried_side k (ltb-true 0 (times key_cmp k (polygons_along a.chains)) e)))
+
+  pub carried_whole : IsWhole a → IsWhole b
+  carried_whole whole = record {
+    points = each_from (λ e. 2 ≤ length e.1.points) b.chains
+        (λ e m. let o = old_chain e m in
+        let two : 2 ≤ length o.0.1.points = all_among (λ d. 2 ≤ length d.1.points) o.0 a.chains whole.points o.1 in
+        let same : length (turned_if (turns r o.0.0) o.0.1).points ≡ length o.0.1.points = points-turned (turns r o.0.0) o.0.1 in
+        subst (λ (c : ℕ × Chain). 2 ≤ length c.1.points) (sym o.2) (let t : 2 ≤ length (turned_if (turns r o.0.0) o.0.1).points =
+        omega arith in t));
+    bodies = each_from (λ e. 1 ≤ length e.1) b.landmarks
+        (λ e m. let o = among-unmap (carried_landmark r) e a.landmarks
+        (among-permutation e b.landmarks (map (carried_landmark r) a.landmarks)
+        (IsPermutation-sym (map (carried_landmark r) a.landmarks) b.landmarks h.landmarks) m) in
+        subst (λ (c : ℕ × List Body7). 1 ≤ length c.1) (sym o.2) (all_among (λ d. 1 ≤ length d.1) o.0 a.landmarks whole.bodies o.1));
+    polygons = each_from (λ e. IsTrue (is_some e.1 || stands_in key_cmp e.0 (polygons_along b.chains))) b.polygons
+        (λ e m. let o = among-unmap (carried_polygon r) e a.polygons
+        (among-permutation e b.polygons (map (carried_polygon r) a.polygons)
+        (IsPermutation-sym (map (carried_polygon r) a.polygons) b.polygons h.polygons) m) in
+        subst (λ (c : PolygonKey × Option BodyP). IsTrue (is_some c.1 || stands_in key_cmp c.0 (polygons_along b.chains))) (sym o.2)
+        (polygon_whole o.0.0 o.0.1
+        (all_among (λ d. IsTrue (is_some d.1 || stands_in key_cmp d.0 (polygons_along a.chains))) o.0 a.polygons whole.polygons o.1)));
+  }

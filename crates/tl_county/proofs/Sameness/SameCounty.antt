@@ -1,0 +1,148 @@
+-- The county doesn't depend on the order of the records, on the packing of types 2 and 4, nor on the choice of RTSQs.
+use Rattle.std.proofs.Common.{◌≡◌, ◌≤◌, ℕ, nat_lt, ◌==◌, List, [], ◌∷◌, ◌++◌, map, flat_map, filter, length, false}
+use Rattle.std.proofs.Common.{is_eq, sym, ap, ◌∙◌, arith, nat_cmp, IsPermutation}
+use Rattle.std.proofs.lemmas.Bool.{ltb-false}
+use Rattle.std.specs.Ordering.{on}
+use Rattle.tl_layout.specs.Fields.{Fields1, Fields2, Fields4, Fields5, Fields6, Fields7, FieldsI, FieldsP}
+use Rattle.tl_layout.specs.declared.record_type.Record.{Record}
+use Rattle.tl_county.specs.declared.fault.LinkFault.TheVariants.{ChainTwice, SequenceBroken, LinkTwice}
+use Rattle.tl_county.specs.declared.fault.LinkFault.TheVariants.{NameTwice, PolygonTwice}
+use Rattle.tl_county.specs.declared.fault.SequencedType.TheVariants as sequenced
+use Rattle.tl_county.specs.BodyOrder.{landmark_body_cmp}
+use Rattle.tl_layout.specs.ByType.{as_type_1, as_type_2, as_type_4, as_type_5, as_type_6, as_type_7, as_type_8, as_type_i}
+use Rattle.tl_layout.specs.ByType.{as_type_p, of_type_1, of_type_2, of_type_4, of_type_5, of_type_6, of_type_7, of_type_8}
+use Rattle.tl_layout.specs.ByType.{of_type_i, of_type_p, of_number}
+use Rattle.tl_county.specs.County.{one_tlid, two_tlid, two_rtsq, four_tlid, four_rtsq, five_feat, six_tlid, six_rtsq, seven_land}
+use Rattle.tl_county.specs.County.{i_tlid, p_key, chain_of, chains_of, side_keys, first, polygon_body}
+use Rattle.tl_county.specs.County.{polygons_of, landmarks_of, county_of}
+use Rattle.tl_county.specs.LinkRules.{chain_tlids, IsLinked}
+use Rattle.tl_county.specs.Orders.{times, has_repeat, in_order, distinct}
+use Rattle.tl_county.specs.PolygonKeys.{PolygonKey, key_cmp}
+use Rattle.tl_county.proofs.Sameness.SameRules.{keys_alike, s_lands, same-linked}
+use Rattle.tl_county.proofs.Lists.Distinct.{apart_from_no_repeat}
+use Rattle.tl_county.proofs.ByKey.KeyOrders.{key_keys, landmark_body_keys, link_keys}
+use Rattle.tl_county.proofs.ByKey.Keys.{nat_keys}
+use Rattle.tl_county.proofs.Lists.Elements.{flat_map_agree, map_agree_everywhere}
+use Rattle.tl_county.proofs.ByKey.Numbers.{times-of_number, count-map}
+use Rattle.tl_county.proofs.Lists.Reordered.{SameElements, from_permutation, same-filter_map, same-filter, same-map, times-same}
+use Rattle.tl_county.proofs.Lists.Reordered.{few_same, numbered_same, ordered_same, distinct_same}
+
+module _ (xs ys : List Record) (p : IsPermutation xs ys) (linked : IsLinked xs) where
+  s_all : SameElements xs ys
+  s_all = from_permutation xs ys p
+
+  s_ones : SameElements (of_type_1 xs) (of_type_1 ys)
+  s_ones = same-filter_map as_type_1 xs ys s_all
+
+  s_twos : SameElements (of_type_2 xs) (of_type_2 ys)
+  s_twos = same-filter_map as_type_2 xs ys s_all
+
+  s_fours : SameElements (of_type_4 xs) (of_type_4 ys)
+  s_fours = same-filter_map as_type_4 xs ys s_all
+
+  s_fives : SameElements (of_type_5 xs) (of_type_5 ys)
+  s_fives = same-filter_map as_type_5 xs ys s_all
+
+  s_sixes : SameElements (of_type_6 xs) (of_type_6 ys)
+  s_sixes = same-filter_map as_type_6 xs ys s_all
+
+  s_sevens : SameElements (of_type_7 xs) (of_type_7 ys)
+  s_sevens = same-filter_map as_type_7 xs ys s_all
+
+  s_eights : SameElements (of_type_8 xs) (of_type_8 ys)
+  s_eights = same-filter_map as_type_8 xs ys s_all
+
+  s_is : SameElements (of_type_i xs) (of_type_i ys)
+  s_is = same-filter_map as_type_i xs ys s_all
+
+  s_ps : SameElements (of_type_p xs) (of_type_p ys)
+  s_ps = same-filter_map as_type_p xs ys s_all
+
+  pub reordered-linked : IsLinked ys
+  reordered-linked = same-linked xs ys s_all linked
+
+  -- the parts of the county
+  in_sequence : {X : Type 0} (f g : X → ℕ) (n : ℕ) (us vs : List X) → SameElements us vs
+      → has_repeat nat_cmp (map g (of_number f n us)) ≡ false
+      → in_order (on g nat_cmp) (of_number f n us) ≡ in_order (on g nat_cmp) (of_number f n vs)
+  in_sequence f g n us vs s e =
+      numbered_same g (of_number f n us) (of_number f n vs) (same-filter (λ x. f x == n) us vs s)
+      (apart_from_no_repeat nat_keys (map g (of_number f n us)) e)
+
+  chain_same : (r : Fields1) (link : FieldsI) → chain_of xs r link ≡ chain_of ys r link
+  chain_same r link = λ i. record (chain_of xs r link) {
+    points = r.start ∷ (flat_map (λ (q : Fields2). q.points)
+        (in_sequence two_tlid two_rtsq r.tlid (of_type_2 xs) (of_type_2 ys) s_twos (linked (SequenceBroken sequenced.Two r.tlid)) i) ++
+        (r.end ∷ []));
+    feats = flat_map (λ (q : Fields4). q.feats) (in_sequence four_tlid four_rtsq r.tlid (of_type_4 xs) (of_type_4 ys) s_fours
+        (linked (SequenceBroken sequenced.Four r.tlid)) i);
+    ranges = map (λ (q : Fields6). q.ranges) (in_sequence six_tlid six_rtsq r.tlid (of_type_6 xs) (of_type_6 ys) s_sixes
+        (linked (SequenceBroken sequenced.Six r.tlid)) i);
+  }
+
+  links_same : (n : ℕ) → of_number i_tlid n (of_type_i xs) ≡ of_number i_tlid n (of_type_i ys)
+  links_same n = few_same (of_number i_tlid n (of_type_i xs)) (of_number i_tlid n (of_type_i ys))
+      (let t : times nat_cmp n (map i_tlid (of_type_i xs)) ≡ length (of_number i_tlid n (of_type_i xs)) =
+      times-of_number i_tlid n (of_type_i xs) in
+      let u : times nat_cmp n (map i_tlid (of_type_i xs)) ≤ 1 =
+      ltb-false 1 (times nat_cmp n (map i_tlid (of_type_i xs))) (linked (LinkTwice n)) in omega arith)
+      (same-filter (λ l. l.tlid == n) (of_type_i xs) (of_type_i ys) s_is)
+
+  chains_same : chains_of xs ≡ chains_of ys
+  chains_same =
+      flat_map_agree (λ r. map (λ link. (r.tlid, chain_of xs r link)) (of_number i_tlid r.tlid (of_type_i xs)))
+      (λ r. map (λ link. (r.tlid, chain_of ys r link)) (of_number i_tlid r.tlid (of_type_i ys)))
+      (λ r. map_agree_everywhere (λ link. (r.tlid, chain_of xs r link)) (λ link. (r.tlid, chain_of ys r link))
+      (λ link i. (r.tlid, chain_same r link i)) (of_number i_tlid r.tlid (of_type_i xs))
+      ∙ ap (map (λ link. (r.tlid, chain_of ys r link))) (links_same r.tlid))
+      (in_order (on one_tlid nat_cmp) (of_type_1 xs))
+      ∙ ap (flat_map (λ r. map (λ link. (r.tlid, chain_of ys r link)) (of_number i_tlid r.tlid (of_type_i ys))))
+      (numbered_same one_tlid (of_type_1 xs) (of_type_1 ys) s_ones
+      (λ n. ltb-false 1 (times nat_cmp n (chain_tlids xs)) (linked (ChainTwice n))))
+
+  body_same : (k : PolygonKey) → polygon_body xs k ≡ polygon_body ys k
+  body_same k = ap (λ qs. first (map (λ (q : FieldsP). q.body) qs))
+      (few_same (filter (λ q. is_eq (key_cmp k (p_key q))) (of_type_p xs)) (filter (λ q. is_eq (key_cmp k (p_key q))) (of_type_p ys))
+      (let t : times key_cmp k (map p_key (of_type_p xs)) ≡ length (filter (λ q. is_eq (key_cmp k (p_key q))) (of_type_p xs)) =
+      count-map (λ j. is_eq (key_cmp k j)) p_key (of_type_p xs) in
+      let u : times key_cmp k (map p_key (of_type_p xs)) ≤ 1 =
+      ltb-false 1 (times key_cmp k (map p_key (of_type_p xs))) (linked (PolygonTwice k.0 k.1)) in omega arith)
+      (same-filter (λ q. is_eq (key_cmp k (p_key q))) (of_type_p xs) (of_type_p ys) s_ps))
+
+  polygons_same : polygons_of xs ≡ polygons_of ys
+  polygons_same =
+      map_agree_everywhere (λ k. (k, polygon_body xs k)) (λ k. (k, polygon_body ys k)) (λ k i. (k, body_same k i))
+      (distinct key_cmp (flat_map side_keys (of_type_i xs) ++ map p_key (of_type_p xs)))
+      ∙ ap (map (λ k. (k, polygon_body ys k))) (distinct_same key_keys (flat_map side_keys (of_type_i xs) ++ map p_key (of_type_p xs))
+      (flat_map side_keys (of_type_i ys) ++ map p_key (of_type_p ys)) (keys_alike xs ys s_all))
+
+  landmarks_same : landmarks_of xs ≡ landmarks_of ys
+  landmarks_same =
+      map_agree_everywhere (λ land. (
+        land,
+        in_order landmark_body_cmp
+            (map (λ (q : Fields7). q.body) (of_number seven_land land (of_type_7 xs))),
+      ))
+      (λ land. (land, in_order landmark_body_cmp (map (λ (q : Fields7). q.body) (of_number seven_land land (of_type_7 ys)))))
+      (λ land i. (
+        land,
+        ordered_same landmark_body_keys (map (λ (q : Fields7). q.body) (of_number seven_land land (of_type_7 xs)))
+            (map (λ (q : Fields7). q.body) (of_number seven_land land (of_type_7 ys)))
+            (same-map (λ (q : Fields7). q.body) (of_number seven_land land (of_type_7 xs)) (of_number seven_land land (of_type_7 ys))
+            (same-filter (λ q. q.land == land) (of_type_7 xs) (of_type_7 ys) s_sevens)) i,
+      ))
+      (distinct nat_cmp (map seven_land (of_type_7 xs)))
+      ∙ ap (map (λ land. (land, in_order landmark_body_cmp (map (λ (q : Fields7). q.body) (of_number seven_land land (of_type_7 ys))))))
+      (distinct_same nat_keys (map seven_land (of_type_7 xs)) (map seven_land (of_type_7 ys)) (λ n. ap (nat_lt 0) (times-same nat_cmp (map seven_land (of_type_7 xs)) (map seven_land (of_type_7 ys))
+      (s_lands xs ys s_all) n)))
+
+  pub reordered-county : county_of ys ≡ county_of xs
+  reordered-county = λ i. record {
+    chains = sym chains_same i;
+    names = map (λ (r : Fields5). (r.feat, r.body))
+        (sym (numbered_same five_feat (of_type_5 xs) (of_type_5 ys) s_fives
+        (λ n. ltb-false 1 (times nat_cmp n (map five_feat (of_type_5 xs))) (linked (NameTwice n)))) i);
+    polygons = sym polygons_same i;
+    landmarks = sym landmarks_same i;
+    links = sym (ordered_same link_keys (of_type_8 xs) (of_type_8 ys) s_eights) i;
+  }

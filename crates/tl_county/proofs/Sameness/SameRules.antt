@@ -1,0 +1,152 @@
+-- Lists with the same records break the same rules at the same places.
+use Rattle.std.proofs.Common.{◌≡◌, ◌⊎◌, ℕ, nat_lt, ◌==◌, List, ◌++◌, map, flat_map, Bool, true, false, not, ◌&&◌}
+use Rattle.std.proofs.Common.{sym, refl, ap, ap₂, ◌∙◌, subst, inl, inr, nat_cmp}
+use Rattle.std.proofs.lemmas.Bool.{false≢true}
+use Rattle.tl_layout.specs.ByType.{as_type_1, as_type_2, as_type_4, as_type_5, as_type_6, as_type_7, as_type_8, as_type_i}
+use Rattle.tl_layout.specs.ByType.{as_type_p, of_type_1, of_type_2, of_type_4, of_type_5, of_type_6, of_type_7, of_type_8}
+use Rattle.tl_layout.specs.ByType.{of_type_i, of_type_p, of_number}
+use Rattle.tl_layout.specs.Fields.{Fields4, FieldsI, FieldsP}
+use Rattle.tl_layout.specs.declared.record_type.Record.{Record}
+use Rattle.tl_county.specs.declared.fault.LinkFault.{LinkFault}
+use Rattle.tl_county.specs.declared.fault.LinkFault.TheVariants.{ChainTwice, NoChain, SequenceBroken, LinkMissing, LinkTwice}
+use Rattle.tl_county.specs.declared.fault.LinkFault.TheVariants.{NameTwice, NameUnknown, PolygonTwice, LandUnknown}
+use Rattle.tl_county.specs.declared.fault.LinkFault.TheVariants.{PolygonUnknown, Memory}
+use Rattle.tl_county.specs.declared.fault.LinkedType.{LinkedType}
+use Rattle.tl_county.specs.declared.fault.LinkedType.TheVariants.{Two, Four, Six, I}
+use Rattle.tl_county.specs.declared.fault.SequencedType.TheVariants as sequenced
+use Rattle.tl_county.specs.County.{one_tlid, two_tlid, two_rtsq, four_tlid, four_rtsq, five_feat, six_tlid, six_rtsq, seven_land}
+use Rattle.tl_county.specs.County.{eight_land, link_key, i_tlid, p_key, side_keys}
+use Rattle.tl_county.specs.LinkRules.{chain_tlids, linked_tlids, rtsqs, named_feats, is_rule_broken, IsLinked, IsFirstBrokenRule}
+use Rattle.tl_county.specs.Orders.{stands_in, has_repeat}
+use Rattle.tl_county.specs.PolygonKeys.{PolygonKey, key_cmp}
+use Rattle.tl_county.proofs.Sameness.Carried.{among-unpieces}
+use Rattle.tl_county.proofs.Lists.Distinct.{has_repeat-apart, apart_from_no_repeat}
+use Rattle.tl_county.proofs.Rules.FirstFault.{Among}
+use Rattle.tl_county.proofs.ByKey.KeyOrders.{key_keys}
+use Rattle.tl_county.proofs.ByKey.Keys.{Known, nat_keys, known-left, known-right, known-append}
+use Rattle.tl_county.proofs.Lists.Members.{among-pieces, among_known, known_is_among, among-map, among-unmap}
+use Rattle.tl_county.proofs.Lists.Reordered.{SameElements, same-filter_map, same-filter, same-map, times-same}
+use Rattle.tl_county.proofs.Lists.Reordered.{apart-same, stands_alike}
+
+-- the same, seen from the other list
+pub same-sym : {X : Type 0} (xs ys : List X) → SameElements xs ys → SameElements ys xs
+same-sym xs ys s = record { counts = λ p. sym (s.counts p); there = s.back; back = s.there }
+
+repeat_kept : (us vs : List ℕ) → SameElements us vs → has_repeat nat_cmp us ≡ false → has_repeat nat_cmp vs ≡ false
+repeat_kept us vs s e = has_repeat-apart nat_keys vs (apart-same nat_cmp us vs s (apart_from_no_repeat nat_keys us e))
+
+repeat_same : (us vs : List ℕ) → SameElements us vs → has_repeat nat_cmp us ≡ has_repeat nat_cmp vs
+repeat_same us vs s = go (has_repeat nat_cmp us) (has_repeat nat_cmp vs) refl refl
+  where
+    go : (a b : Bool) → has_repeat nat_cmp us ≡ a → has_repeat nat_cmp vs ≡ b → a ≡ b
+    go true true e f = refl
+    go false false e f = refl
+    go true false e f = absurd (false≢true (sym (repeat_kept vs us (same-sym us vs s) f) ∙ e))
+    go false true e f = absurd (false≢true (sym (repeat_kept us vs s e) ∙ f))
+
+sequence_of : {X : Type 0} (number rtsq : X → ℕ) (n : ℕ) (us vs : List X) → SameElements us vs
+    → SameElements (map rtsq (of_number number n us)) (map rtsq (of_number number n vs))
+sequence_of number rtsq n us vs s = same-map rtsq (of_number number n us) (of_number number n vs) (same-filter (λ x. number x == n) us vs s)
+
+module _ (xs ys : List Record) (s : SameElements xs ys) where
+  s_ones : SameElements (chain_tlids xs) (chain_tlids ys)
+  s_ones = same-map one_tlid (of_type_1 xs) (of_type_1 ys) (same-filter_map as_type_1 xs ys s)
+
+  s_linked : (t : LinkedType) → SameElements (linked_tlids t xs) (linked_tlids t ys)
+  s_linked Two = same-map two_tlid (of_type_2 xs) (of_type_2 ys) (same-filter_map as_type_2 xs ys s)
+  s_linked Four = same-map four_tlid (of_type_4 xs) (of_type_4 ys) (same-filter_map as_type_4 xs ys s)
+  s_linked Six = same-map six_tlid (of_type_6 xs) (of_type_6 ys) (same-filter_map as_type_6 xs ys s)
+  s_linked I = same-map i_tlid (of_type_i xs) (of_type_i ys) (same-filter_map as_type_i xs ys s)
+
+  s_feats : SameElements (map five_feat (of_type_5 xs)) (map five_feat (of_type_5 ys))
+  s_feats = same-map five_feat (of_type_5 xs) (of_type_5 ys) (same-filter_map as_type_5 xs ys s)
+
+  s_eights : {Y : Type 0} (f : _ → Y) → SameElements (map f (of_type_8 xs)) (map f (of_type_8 ys))
+  s_eights f = same-map f (of_type_8 xs) (of_type_8 ys) (same-filter_map as_type_8 xs ys s)
+
+  pub s_lands : SameElements (map seven_land (of_type_7 xs)) (map seven_land (of_type_7 ys))
+  s_lands = same-map seven_land (of_type_7 xs) (of_type_7 ys) (same-filter_map as_type_7 xs ys s)
+
+  s_fours_of : (n : ℕ) → SameElements (of_number four_tlid n (of_type_4 xs)) (of_number four_tlid n (of_type_4 ys))
+  s_fours_of n = same-filter (λ r. r.tlid == n) (of_type_4 xs) (of_type_4 ys) (same-filter_map as_type_4 xs ys s)
+
+  s_is : SameElements (of_type_i xs) (of_type_i ys)
+  s_is = same-filter_map as_type_i xs ys s
+
+  s_ps : SameElements (of_type_p xs) (of_type_p ys)
+  s_ps = same-filter_map as_type_p xs ys s
+
+  -- the FEATs that a chain names
+  named_alike : (n y : ℕ) → stands_in nat_cmp y (named_feats n xs) ≡ stands_in nat_cmp y (named_feats n ys)
+  named_alike n y = stands_alike nat_keys (named_feats n xs) (named_feats n ys) y
+      (λ k. let r = among-unpieces (λ (q : Fields4). q.feats) y (of_number four_tlid n (of_type_4 xs))
+      (known_is_among nat_keys y (named_feats n xs) k) in
+      among_known nat_keys y (named_feats n ys)
+      (among-pieces (λ (q : Fields4). q.feats) r.0 y (of_number four_tlid n (of_type_4 ys)) ((s_fours_of n).there r.0 r.1) r.2))
+      (λ k. let r = among-unpieces (λ (q : Fields4). q.feats) y (of_number four_tlid n (of_type_4 ys))
+      (known_is_among nat_keys y (named_feats n ys) k) in
+      among_known nat_keys y (named_feats n xs)
+      (among-pieces (λ (q : Fields4). q.feats) r.0 y (of_number four_tlid n (of_type_4 xs)) ((s_fours_of n).back r.0 r.1) r.2))
+
+  -- the polygons on sides and of type P
+  one_way : (zs ws : List Record) → ((l : FieldsI) → Among l (of_type_i zs) → Among l (of_type_i ws))
+      → ((q : FieldsP) → Among q (of_type_p zs) → Among q (of_type_p ws)) → (k : PolygonKey)
+      → Known key_cmp (flat_map side_keys (of_type_i zs) ++ map p_key (of_type_p zs)) k
+      → Known key_cmp (flat_map side_keys (of_type_i ws) ++ map p_key (of_type_p ws)) k
+  one_way zs ws sides polygons k h = go (known-append key_keys k (flat_map side_keys (of_type_i zs)) (map p_key (of_type_p zs)) h)
+    where
+      go : Known key_cmp (flat_map side_keys (of_type_i zs)) k ⊎ Known key_cmp (map p_key (of_type_p zs)) k
+          → Known key_cmp (flat_map side_keys (of_type_i ws) ++ map p_key (of_type_p ws)) k
+      go (inl l) = let r = among-unpieces side_keys k (of_type_i zs) (known_is_among key_keys k (flat_map side_keys (of_type_i zs)) l) in
+          known-left key_keys k (flat_map side_keys (of_type_i ws)) (map p_key (of_type_p ws))
+          (among_known key_keys k (flat_map side_keys (of_type_i ws)) (among-pieces side_keys r.0 k (of_type_i ws) (sides r.0 r.1) r.2))
+      go (inr l) = let r = among-unmap p_key k (of_type_p zs) (known_is_among key_keys k (map p_key (of_type_p zs)) l) in
+          known-right key_keys k (flat_map side_keys (of_type_i ws)) (map p_key (of_type_p ws))
+          (subst (Known key_cmp (map p_key (of_type_p ws))) (sym r.2)
+          (among_known key_keys (p_key r.0) (map p_key (of_type_p ws)) (among-map p_key r.0 (of_type_p ws) (polygons r.0 r.1))))
+
+  pub keys_alike : (k : PolygonKey) → stands_in key_cmp k (flat_map side_keys (of_type_i xs) ++ map p_key (of_type_p xs)) ≡ stands_in key_cmp k
+      (flat_map side_keys (of_type_i ys) ++ map p_key (of_type_p ys))
+  keys_alike k = stands_alike key_keys (flat_map side_keys (of_type_i xs) ++ map p_key (of_type_p xs))
+      (flat_map side_keys (of_type_i ys) ++ map p_key (of_type_p ys)) k
+      (one_way xs ys s_is.there s_ps.there k) (one_way ys xs s_is.back s_ps.back k)
+
+  pub same-broken : (f : LinkFault) → is_rule_broken xs f ≡ is_rule_broken ys f
+  same-broken (ChainTwice n) = ap (nat_lt 1) (times-same nat_cmp (chain_tlids xs) (chain_tlids ys) s_ones n)
+  same-broken (NoChain t n) =
+      ap₂ (λ a b. nat_lt 0 a && not (nat_lt 0 b)) (times-same nat_cmp (linked_tlids t xs) (linked_tlids t ys) (s_linked t) n)
+      (times-same nat_cmp (chain_tlids xs) (chain_tlids ys) s_ones n)
+  same-broken (SequenceBroken sequenced.Two n) =
+      repeat_same (rtsqs sequenced.Two n xs) (rtsqs sequenced.Two n ys)
+      (sequence_of two_tlid two_rtsq n (of_type_2 xs) (of_type_2 ys) (same-filter_map as_type_2 xs ys s))
+  same-broken (SequenceBroken sequenced.Four n) =
+      repeat_same (rtsqs sequenced.Four n xs) (rtsqs sequenced.Four n ys)
+      (sequence_of four_tlid four_rtsq n (of_type_4 xs) (of_type_4 ys) (same-filter_map as_type_4 xs ys s))
+  same-broken (SequenceBroken sequenced.Six n) =
+      repeat_same (rtsqs sequenced.Six n xs) (rtsqs sequenced.Six n ys)
+      (sequence_of six_tlid six_rtsq n (of_type_6 xs) (of_type_6 ys) (same-filter_map as_type_6 xs ys s))
+  same-broken (LinkMissing n) =
+      ap₂ (λ a b. nat_lt 0 a && not (nat_lt 0 b)) (times-same nat_cmp (chain_tlids xs) (chain_tlids ys) s_ones n)
+      (times-same nat_cmp (linked_tlids I xs) (linked_tlids I ys) (s_linked I) n)
+  same-broken (LinkTwice n) = ap (nat_lt 1) (times-same nat_cmp (linked_tlids I xs) (linked_tlids I ys) (s_linked I) n)
+  same-broken (NameTwice n) = ap (nat_lt 1) (times-same nat_cmp (map five_feat (of_type_5 xs)) (map five_feat (of_type_5 ys)) s_feats n)
+  same-broken (NameUnknown n y) =
+      ap₂ (λ a b. a && not (nat_lt 0 b)) (named_alike n y)
+      (times-same nat_cmp (map five_feat (of_type_5 xs)) (map five_feat (of_type_5 ys)) s_feats y)
+  same-broken (PolygonTwice c k) =
+      ap (nat_lt 1)
+      (times-same key_cmp (map p_key (of_type_p xs)) (map p_key (of_type_p ys)) (same-map p_key (of_type_p xs) (of_type_p ys) s_ps) (c, k))
+  same-broken (LandUnknown n) =
+      ap₂ (λ a b. nat_lt 0 a && not (nat_lt 0 b))
+      (times-same nat_cmp (map eight_land (of_type_8 xs)) (map eight_land (of_type_8 ys)) (s_eights eight_land) n)
+      (times-same nat_cmp (map seven_land (of_type_7 xs)) (map seven_land (of_type_7 ys)) s_lands n)
+  same-broken (PolygonUnknown c k) =
+      ap₂ (λ a b. nat_lt 0 a && not b)
+      (times-same key_cmp (map link_key (of_type_8 xs)) (map link_key (of_type_8 ys)) (s_eights link_key) (c, k)) (keys_alike (c, k))
+  same-broken Memory = refl
+
+  pub same-linked : IsLinked xs → IsLinked ys
+  same-linked linked f = sym (same-broken f) ∙ linked f
+
+  pub same-first : (f : LinkFault) → IsFirstBrokenRule xs f → IsFirstBrokenRule ys f
+  same-first f h = record { there = sym (same-broken f) ∙ h.there; least = λ g t. h.least g (same-broken g ∙ t) }

@@ -1,6 +1,0 @@
-use Rattle.std.proofs.Common.{◌≡◌, ◌++◌, flat_map, take}
-use Rattle.tl_layout.specs.Fields.{Fields2}
-use Rattle.tl_county.proofs.building.join_points.Given as goal
-
-abbrev pub invariant-loop-shape : goal.invariant-loop-shape
-invariant-loop-shape l = l.points.items ≡ l.initial.points.items ++ flat_map (λ (r : Fields2). r.points) (take l.shape-index l.records)

@@ -1,7 +1,0 @@
-use Rattle.std.proofs.Common.{◌≡◌, flat_map, take, nat_cmp}
-use Rattle.tl_county.specs.Building.{link_nodes}
-use Rattle.tl_county.specs.Orders.{distinct}
-use Rattle.tl_county.proofs.building.nodes_of.Given as goal
-
-abbrev pub invariant-loop-link : goal.invariant-loop-link
-invariant-loop-link l = distinct nat_cmp l.nodes ≡ distinct nat_cmp (flat_map link_nodes (take l.link-index l.links))

@@ -1,6 +1,0 @@
-use Rattle.std.proofs.Common.{◌≡◌, flat_map, take}
-use Rattle.tl_county.specs.SequenceKeys.{uses_of}
-use Rattle.tl_county.proofs.gathered.uses_in_order.Given as goal
-
-abbrev pub invariant-loop-record4 : goal.invariant-loop-record4
-invariant-loop-record4 l = l.uses.items ≡ flat_map uses_of (take l.record4-index l.names)

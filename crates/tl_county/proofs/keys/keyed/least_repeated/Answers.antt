@@ -1,0 +1,44 @@
+use Rattle.std.proofs.Common.{◌≡◌, [], ◌∷◌, map, true, false, is_eq, ap, ◌∙◌, subst}
+use Rattle.tl_county.specs.Keyed.{is_repeated}
+use Rattle.std.specs.Ordering.{on}
+use Rattle.tl_county.specs.Orders.{IsInOrder}
+use Rattle.tl_county.proofs.ByKey.Keys.{IsKeyOrder}
+use Rattle.tl_county.proofs.ByKey.KeyedLists.{decided-twice, left-once, left-one, empty_list}
+use Rattle.tl_county.proofs.keys.keyed.least_repeated.Goals as goal
+
+pub returns-then-is_eq : goal.returns-then-is_eq
+returns-then-is_eq g c =
+    let o : IsKeyOrder g.K.Ord.cmp = record { total = g.met.K.Ord.total; exact = g.met.K.Key.exact } in
+    let first : c.loop-first.rest.now ≡ c.in-Some.first.now ∷ c.in-Some.later.now = c.in-Some.ensures.cases.0 in
+    let second = c.in-Some-split_first.ensures.cases.0 in
+    let equal : is_eq (g.K.Ord.cmp (g.T.Keyed.key_of c.in-Some-split_first.second.now) (g.T.Keyed.key_of c.in-Some.first.now)) ≡ true =
+    cc in
+    decided-twice o g.T.Keyed.key_of _ c.loop-first.rest.now c.loop-first.invariant.same c.loop-first.invariant.in_order
+    c.in-Some.first.now c.in-Some-split_first.second.now _ (first
+    ∙ ap (λ l. c.in-Some.first.now ∷ l) second) equal c.key-then-is_eq.result c.key-then-is_eq.ensures
+
+pub loop-first-preserved-else-is_eq : goal.loop-first-preserved-else-is_eq
+loop-first-preserved-else-is_eq g c =
+    let o : IsKeyOrder g.K.Ord.cmp = record { total = g.met.K.Ord.total; exact = g.met.K.Key.exact } in
+    let first : c.loop-first.rest.now ≡ c.in-Some.first.now ∷ c.in-Some.later.now = c.in-Some.ensures.cases.0 in
+    let second = c.in-Some-split_first.ensures.cases.0 in
+    let apart : is_eq (g.K.Ord.cmp (g.T.Keyed.key_of c.in-Some-split_first.second.now) (g.T.Keyed.key_of c.in-Some.first.now)) ≡ false =
+    cc in
+    record {
+      in_order = (subst (IsInOrder (on g.T.Keyed.key_of g.K.Ord.cmp)) first c.loop-first.invariant.in_order).1;
+      same = λ k. ap (λ l. is_repeated g.K.Ord.cmp (map g.T.Keyed.key_of l) k) second
+          ∙ left-once o g.T.Keyed.key_of _ c.loop-first.rest.now c.loop-first.invariant.same c.loop-first.invariant.in_order
+          c.in-Some.first.now c.in-Some-split_first.second.now _ (first ∙ ap (λ l. c.in-Some.first.now ∷ l) second) apart k;
+    }
+
+pub loop-first-preserved : goal.loop-first-preserved
+loop-first-preserved g c =
+    let o : IsKeyOrder g.K.Ord.cmp = record { total = g.met.K.Ord.total; exact = g.met.K.Key.exact } in
+    let first : c.loop-first.rest.now ≡ c.in-Some.first.now ∷ c.in-Some.later.now = c.in-Some.ensures.cases.0 in
+    let none : c.in-Some.later.now ≡ [] = empty_list c.in-Some.later.now (c.in_default-split_first.ensures).cases in
+    record {
+      in_order = (subst (IsInOrder (on g.T.Keyed.key_of g.K.Ord.cmp)) first c.loop-first.invariant.in_order).1;
+      same = λ k. ap (λ l. is_repeated g.K.Ord.cmp (map g.T.Keyed.key_of l) k) none
+          ∙ left-one o g.T.Keyed.key_of _ c.loop-first.rest.now c.loop-first.invariant.same c.loop-first.invariant.in_order
+          c.in-Some.first.now (first ∙ ap (λ l. c.in-Some.first.now ∷ l) none) k;
+    }

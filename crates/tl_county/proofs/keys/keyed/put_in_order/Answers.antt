@@ -1,0 +1,13 @@
+use Rattle.std.proofs.Common.{rules}
+use Rattle.std.proofs.lemmas.Cmp.{on_total}
+use Rattle.std.proofs.lemmas.Fn.{always_returns_same}
+use Rattle.std.proofs.lemmas.Result.{on_ok_weaker}
+use Rattle.tl_county.proofs.ByKey.KeyedLists.{in_order-from_sorted}
+use Rattle.tl_county.proofs.keys.keyed.put_in_order.Goals as goal
+
+pub returns-clause-in_order : goal.returns-clause-in_order
+returns-clause-in_order g c =
+    on_ok_weaker c.sort_by_cached_key.result
+    (λ sorted. in_order-from_sorted (on_total g.T.Keyed.key_of g.met.K.Ord.total) c.sort_by_cached_key.new.self.items
+    (sorted g.T.Keyed.key_of (always_returns_same _ _ _ (λ a r f' k. search rules))))
+    c.sort_by_cached_key.ensures.sorted

@@ -1,0 +1,20 @@
+use Rattle.std.proofs.Common.{◌≡◌, ◌++◌, map, length, nat_cmp}
+use Rattle.std.specs.List.Sorted.{IsStrictlySortedBy}
+use Rattle.std.specs.Ordering.{on}
+use Rattle.tl_county.specs.Building.{chains_along}
+use Rattle.tl_county.specs.County.{one_tlid, two_tlid, four_tlid, six_tlid}
+use Rattle.tl_county.specs.Orders.{IsInOrder}
+use Rattle.tl_county.proofs.linking.building.chains_of_records.Given as goal
+
+abbrev pub invariant-loop-head : goal.invariant-loop-head
+invariant-loop-head g l = record {
+  heads : IsStrictlySortedBy nat_cmp (map one_tlid l.heads);
+  shapes : IsInOrder (on two_tlid nat_cmp) l.details.shapes.now;
+  names : IsInOrder (on four_tlid nat_cmp) l.details.names.now;
+  ranges : IsInOrder (on six_tlid nat_cmp) l.details.ranges.now;
+  done : map g.C.KeptChain.chain l.chains.items ++ chains_along l.details.shapes.now l.details.names.now l.details.ranges.now l.heads l.links
+      ≡ chains_along l.fn.shapes l.fn.names l.fn.ranges l.fn.heads l.fn.links;
+}
+
+abbrev pub decreases-loop-head : goal.decreases-loop-head
+decreases-loop-head g l = length l.heads

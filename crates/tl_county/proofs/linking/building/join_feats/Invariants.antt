@@ -1,0 +1,11 @@
+use Rattle.std.proofs.Common.{◌≡◌, ◌++◌, flat_map, take}
+use Rattle.std.specs.List.{AllByRecursion}
+use Rattle.tl_layout.specs.Fields.{Fields4}
+use Rattle.tl_layout.specs.Numbers.{IsNumber}
+use Rattle.tl_county.proofs.linking.building.join_feats.Given as goal
+
+abbrev pub invariant-loop-names : goal.invariant-loop-names
+invariant-loop-names l = record {
+  value : l.feats.items ≡ l.initial.feats.items ++ flat_map (λ (r : Fields4). r.feats) (take l.names-index l.records);
+  in_range : AllByRecursion (IsNumber 8) l.feats.items;
+}

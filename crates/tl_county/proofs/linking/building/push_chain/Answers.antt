@@ -1,0 +1,28 @@
+use Rattle.std.proofs.Common.{[], ◌∷◌, ◌++◌, map, ap, ◌∙◌}
+use Rattle.std.proofs.lemmas.List.{map-append}
+use Rattle.tl_county.specs.County.{two_tlid, four_tlid, six_tlid}
+use Rattle.tl_county.proofs.Lists.Groups.{chain-of_groups, later_than}
+use Rattle.tl_county.proofs.linking.building.push_chain.Goals as goal
+
+pub returns-clause-chains : goal.returns-clause-chains
+returns-clause-chains g c =
+    let f = g.C.KeptChain.chain in
+    let before = c.args.chains.now.items in
+    ap (map f) c.in_ok-push.ensures.items ∙ map-append f before (c.in_ok-build_chain.field-0 ∷ [])
+    ∙ ap (λ chain. map f before ++ (chain ∷ []))
+    (c.in_ok-build_chain.ensures
+    ∙ chain-of_groups c.args.head.now c.args.link.now c.args.details.now.shapes.now c.split_group.result.0.now
+    c.args.details.now.names.now c.split_group-2.result.0.now c.args.details.now.ranges.now c.split_group-3.result.0.now
+    c.tlid-tlid.result c.tlid-tlid.ensures.value c.split_group.ensures.group c.split_group-2.ensures.group c.split_group-3.ensures.group)
+
+pub returns-clause-shapes : goal.returns-clause-shapes
+returns-clause-shapes g c =
+    c.split_group.ensures.later ∙ ap (λ n. later_than two_tlid n c.args.details.now.shapes.now) c.tlid-tlid.ensures.value
+
+pub returns-clause-names : goal.returns-clause-names
+returns-clause-names g c =
+    c.split_group-2.ensures.later ∙ ap (λ n. later_than four_tlid n c.args.details.now.names.now) c.tlid-tlid.ensures.value
+
+pub returns-clause-ranges : goal.returns-clause-ranges
+returns-clause-ranges g c =
+    c.split_group-3.ensures.later ∙ ap (λ n. later_than six_tlid n c.args.details.now.ranges.now) c.tlid-tlid.ensures.value

@@ -1,0 +1,22 @@
+use Rattle.std.proofs.Common.{map, flat_map, sym, ap, ◌∙◌, subst}
+use Rattle.tl_county.specs.County.{county_of, p_key, side_keys}
+use Rattle.tl_county.specs.CountyRules.{is_without_chain}
+use Rattle.tl_county.specs.Keyed.{IsLeastPassing, is_unknown}
+use Rattle.tl_county.specs.OrderedTables.{typed_of}
+use Rattle.tl_county.specs.Packing.{Typed, type_after_type}
+use Rattle.tl_county.specs.PolygonKeys.{key_cmp}
+use Rattle.tl_county.proofs.ByKey.KeyedLists.{least-same}
+use Rattle.tl_county.proofs.Rules.TypedRecords.{by_type-after}
+use Rattle.tl_county.proofs.Rules.WithoutChain.{same_without_chain}
+use Rattle.tl_county.proofs.linking.linked_records.LinkedRecords.polygon_without_chain.Goals as goal
+
+pub returns : goal.returns
+returns c =
+    let t : Typed = typed_of c.self.inside.tables in
+    subst (λ (u : Typed). IsLeastPassing key_cmp (is_without_chain (county_of (type_after_type u))) c.self.inside.polygons.without_side)
+    (c.self.view_is)
+    (least-same key_cmp (is_unknown key_cmp (map p_key t.of_type_p) (flat_map side_keys t.of_type_i))
+    (is_without_chain (county_of (type_after_type t)))
+    (λ key. ap (λ (u : Typed). is_unknown key_cmp (map p_key u.of_type_p) (flat_map side_keys u.of_type_i) key) (sym (by_type-after t))
+    ∙ same_without_chain (type_after_type t) c.self.invariant.1 key)
+    c.self.inside.polygons.without_side c.self.invariant.6)

@@ -1,0 +1,94 @@
+use Rattle.std.proofs.Common.{◌≡◌, ℕ, List, ◌++◌, map, flat_map, sym, ◌∙◌, subst, nat_cmp, Option, Some, None, arith, map-id}
+use Rattle.std.proofs.Common.{IsPermutation}
+use Rattle.std.specs.Ordering.{on}
+use Rattle.tl_layout.specs.Fields.{FieldsP}
+use Rattle.tl_layout.specs.declared.record_type.Record.{Record}
+use Rattle.tl_county.specs.BodyOrder.{landmark_body_cmp, link_part, link_part_cmp}
+use Rattle.tl_county.specs.County.{seven_land, eight_land, link_key, p_key, side_keys}
+use Rattle.tl_county.specs.Packing.{Typed, by_type}
+use Rattle.tl_county.specs.Keyed.{IsLeastPassing, is_repeated, is_unknown}
+use Rattle.tl_county.specs.OrderedTables.{typed_of}
+use Rattle.tl_county.specs.Orders.{IsInOrder, distinct}
+use Rattle.tl_county.specs.PolygonKeys.{PolygonKey, key_cmp}
+use Rattle.tl_county.specs.RuleOrder.{RulesHold}
+use Rattle.tl_county.proofs.ByKey.KeyOrders.{key_keys}
+use Rattle.tl_county.proofs.ByKey.KeyedLists.{at_lists, least-same}
+use Rattle.tl_county.proofs.ByKey.Numbers.{distinct-in_order}
+use Rattle.tl_county.proofs.Rules.RuleOrders.{rule-holds, rule-broken, rules-join, first-after}
+use Rattle.tl_county.proofs.Rules.RuleTests.{in_order-first, unknown-distinct, rule_18, rule_19, rule_20}
+use Rattle.tl_county.proofs.linking.rules.check_landmarks.Goals as goal
+
+-- the least polygon of the records of type P that stands twice, the least LAND that the other table lacks, or that there is none
+abbrev Twice : List FieldsP → Option PolygonKey → Type 0
+Twice points found = IsLeastPassing key_cmp (is_repeated key_cmp (map p_key points)) found
+
+abbrev Unknown : {X Y : Type 0} → (X → ℕ) → (Y → ℕ) → Option ℕ → List X → List Y → Type 0
+Unknown number other found xs ys = IsLeastPassing nat_cmp (is_unknown nat_cmp (map number xs) (map other ys)) found
+
+pub least_unknown-requires-clause-items : goal.least_unknown-requires-clause-items
+least_unknown-requires-clause-items c =
+    subst (IsInOrder (on eight_land nat_cmp)) (sym c.deref.ensures.value)
+    (in_order-first (on eight_land nat_cmp) (on link_part link_part_cmp) c.args.tables.now.type_8.items c.requires.tables.type_8)
+
+pub least_unknown-requires-clause-known : goal.least_unknown-requires-clause-known
+least_unknown-requires-clause-known c =
+    subst (IsInOrder (on seven_land nat_cmp)) (sym c.deref-2.ensures.value)
+    (in_order-first (on seven_land nat_cmp)
+    (λ a b. landmark_body_cmp a.body b.body) c.args.tables.now.type_7.items c.requires.tables.type_7)
+
+pub least_unknown-requires-2-clause-known : goal.least_unknown-requires-2-clause-known
+least_unknown-requires-2-clause-known c =
+    subst (IsInOrder key_cmp) (sym c.requires.polygons)
+    (distinct-in_order key_keys (flat_map side_keys c.args.tables.now.type_i.items ++ map p_key c.args.tables.now.type_p.items))
+
+pub returns-in-Some : goal.returns-in-Some
+returns-in-Some c records e =
+    rule-broken (rule_18 records (typed_of c.args.tables.now) e) c.in-Some.key
+    (subst (Twice c.args.tables.now.type_p.items) c.in-Some.is c.requires.repeated)
+
+-- where no polygon stands twice, and where no LAND is unknown, the rule holds
+points : (records : List Record) (t : Typed) → by_type records ≡ t → Twice t.of_type_p None → RulesHold records 12 13
+points records t e none = rule-holds (rule_18 records t e) none
+
+lands : (records : List Record) (t : Typed) → by_type records ≡ t → Unknown eight_land seven_land None t.of_type_8 t.of_type_7
+    → RulesHold records 13 14
+lands records t e none = rule-holds (rule_19 records t e) none
+
+pub returns-in-Some-least_unknown : goal.returns-in-Some-least_unknown
+returns-in-Some-least_unknown c records e =
+    first-after records (omega arith)
+    (points records (typed_of c.args.tables.now) e (subst (Twice c.args.tables.now.type_p.items) c.in_default.is c.requires.repeated))
+    (rule-broken (rule_19 records (typed_of c.args.tables.now) e) c.in-Some-least_unknown.land
+    (at_lists (Unknown eight_land seven_land
+    (Some c.in-Some-least_unknown.land)) c.deref.ensures.value c.deref-2.ensures.value c.in-Some-least_unknown.ensures))
+
+-- the polygons asked for and known, as the lists that they were gathered from have them
+alike : (linked polygons keys known : List PolygonKey) → IsPermutation keys linked → polygons ≡ distinct key_cmp known
+    → (found : Option PolygonKey)
+    → IsLeastPassing key_cmp (is_unknown key_cmp (map (λ k. k) linked) (map (λ k. k) polygons)) found
+    → IsLeastPassing key_cmp (is_unknown key_cmp keys known) found
+alike linked polygons keys known p e =
+    least-same key_cmp (is_unknown key_cmp (map (λ k. k) linked) (map (λ k. k) polygons)) (is_unknown key_cmp keys known)
+    (λ key. (λ i. is_unknown key_cmp (map-id linked i) ((map-id polygons ∙ e) i) key) ∙ unknown-distinct keys linked known p key)
+
+pub returns-in-Some-least_unknown-2 : goal.returns-in-Some-least_unknown-2
+returns-in-Some-least_unknown-2 c records e =
+    let t = typed_of c.args.tables.now in
+    first-after records (omega arith) (points records t e (subst (Twice c.args.tables.now.type_p.items) c.in_default.is c.requires.repeated))
+    (first-after records (omega arith)
+    (lands records t e (at_lists (Unknown eight_land seven_land None) c.deref.ensures.value c.deref-2.ensures.value
+    c.in_default-least_unknown.ensures))
+    (rule-broken (rule_20 records t e) c.in-Some-least_unknown-2.key
+    (alike c.args.linked.now c.args.polygons.now (map link_key t.of_type_8) (flat_map side_keys t.of_type_i ++ map p_key t.of_type_p)
+    c.requires.linked.1 c.requires.polygons (Some c.in-Some-least_unknown-2.key) c.in-Some-least_unknown-2.ensures)))
+
+pub returns : goal.returns
+returns c records e =
+    let t = typed_of c.args.tables.now in
+    rules-join records (points records t e (subst (Twice c.args.tables.now.type_p.items) c.in_default.is c.requires.repeated))
+    (rules-join records
+    (lands records t e (at_lists (Unknown eight_land seven_land None) c.deref.ensures.value c.deref-2.ensures.value
+    c.in_default-least_unknown.ensures))
+    (rule-holds (rule_20 records t e)
+    (alike c.args.linked.now c.args.polygons.now (map link_key t.of_type_8) (flat_map side_keys t.of_type_i ++ map p_key t.of_type_p)
+    c.requires.linked.1 c.requires.polygons None c.in_default-least_unknown-2.ensures)))

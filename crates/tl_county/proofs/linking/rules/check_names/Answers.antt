@@ -1,0 +1,37 @@
+use Rattle.std.proofs.Common.{ℕ, List, map, flat_map, subst, nat_cmp, Option, Some, None, arith}
+use Rattle.tl_county.specs.County.{five_feat}
+use Rattle.tl_county.specs.Keyed.{IsLeastPassing, is_repeated}
+use Rattle.tl_county.specs.OrderedTables.{typed_of}
+use Rattle.tl_county.specs.RuleOrder.{RulesHold}
+use Rattle.tl_county.specs.SequenceKeys.{is_unnamed, sequence_cmp, uses_of}
+use Rattle.tl_layout.specs.Fields.{Fields4, Fields5}
+use Rattle.tl_county.proofs.Rules.RuleOrders.{rule-holds, rule-broken, rules-join, first-after}
+use Rattle.tl_county.proofs.Rules.RuleTests.{rule_16, rule_17}
+use Rattle.tl_county.proofs.linking.rules.check_names.Goals as goal
+
+-- the least FEAT of a table that stands twice, or that there is none
+abbrev Twice : {X : Type 0} → (X → ℕ) → Option ℕ → List X → Type 0
+Twice number found xs = IsLeastPassing nat_cmp (is_repeated nat_cmp (map number xs)) found
+
+-- the least use of a FEAT that has no name, or that there is none
+abbrev Unnamed : List Fields4 → List Fields5 → Option (ℕ × ℕ) → Type 0
+Unnamed fours fives found = IsLeastPassing sequence_cmp (is_unnamed (flat_map uses_of fours) (map five_feat fives)) found
+
+pub returns-in-Some-unnamed : goal.returns-in-Some-unnamed
+returns-in-Some-unnamed c records e =
+    let t = c.args.tables.now in
+    let use_of : ℕ × ℕ = (c.in-Some-unnamed.tlid, c.in-Some-unnamed.feat) in
+    let fives : RulesHold records 10 11 =
+    rule-holds (rule_16 records (typed_of t) e) (subst (Twice five_feat None) c.deref.ensures.value c.in_default.ensures) in
+    let found : Unnamed t.type_4.items t.type_5.items (Some use_of) =
+    subst (Unnamed t.type_4.items t.type_5.items) c.in-Some-unnamed.is c.requires.unnamed in
+    first-after records (omega arith) fives (rule-broken (rule_17 records (typed_of t) e) use_of found)
+
+pub returns : goal.returns
+returns c records e =
+    let t = c.args.tables.now in
+    let fives : RulesHold records 10 11 =
+    rule-holds (rule_16 records (typed_of t) e) (subst (Twice five_feat None) c.deref.ensures.value c.in_default.ensures) in
+    let none : Unnamed t.type_4.items t.type_5.items None =
+    subst (Unnamed t.type_4.items t.type_5.items) c.in_default-unnamed.is c.requires.unnamed in
+    rules-join records fives (rule-holds (rule_17 records (typed_of t) e) none)

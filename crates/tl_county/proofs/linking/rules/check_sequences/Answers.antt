@@ -1,0 +1,56 @@
+use Rattle.std.proofs.Common.{ℕ, List, map, refl, subst, Option, None, arith}
+use Rattle.tl_layout.specs.declared.record_type.Record.{Record}
+use Rattle.tl_county.specs.County.{two_tlid, two_rtsq, four_tlid, four_rtsq, six_tlid, six_rtsq}
+use Rattle.tl_county.specs.Keyed.{IsLeastPassing, is_repeated}
+use Rattle.tl_county.specs.Packing.{Typed, by_type}
+use Rattle.tl_county.specs.RuleOrder.{RulesHold}
+use Rattle.tl_county.specs.SequenceKeys.{sequence_cmp, two_sequence, four_sequence, six_sequence}
+use Rattle.tl_county.proofs.Rules.RuleOrders.{rule-holds, rule-broken, rules-join, first-after}
+use Rattle.tl_county.proofs.Rules.RuleTests.{least-repeat, no_repeat, rule_13_two, rule_13_four, rule_13_six}
+use Rattle.tl_county.proofs.linking.rules.check_sequences.Goals as goal
+
+-- the least pair of a table that stands twice, or that there is none
+abbrev Twice : {X : Type 0} → (X → ℕ × ℕ) → List X → Option (ℕ × ℕ) → Type 0
+Twice sequence xs found = IsLeastPassing sequence_cmp (is_repeated sequence_cmp (map sequence xs)) found
+
+-- where no pair stands twice the rule holds
+twos : (records : List Record) → Twice two_sequence (by_type records).of_type_2 None → RulesHold records 5 6
+twos records none = rule-holds (rule_13_two records (by_type records) refl) (no_repeat two_tlid two_rtsq (by_type records).of_type_2 none)
+
+fours : (records : List Record) → Twice four_sequence (by_type records).of_type_4 None → RulesHold records 6 7
+fours records none =
+    rule-holds (rule_13_four records (by_type records) refl) (no_repeat four_tlid four_rtsq (by_type records).of_type_4 none)
+
+sixes : (records : List Record) → Twice six_sequence (by_type records).of_type_6 None → RulesHold records 7 8
+sixes records none = rule-holds (rule_13_six records (by_type records) refl) (no_repeat six_tlid six_rtsq (by_type records).of_type_6 none)
+
+pub returns-in-Some : goal.returns-in-Some
+returns-in-Some c records told =
+    let t : Typed = by_type records in
+    rule-broken (rule_13_two records t refl) c.in-Some.tlid
+    (least-repeat two_tlid two_rtsq c.in-Some.tlid c.in-Some.field-0-1 t.of_type_2
+    (subst (Twice two_sequence t.of_type_2) c.in-Some.is told.type_2))
+
+pub returns-in-Some-type_4 : goal.returns-in-Some-type_4
+returns-in-Some-type_4 c records told =
+    let t : Typed = by_type records in
+    first-after records (omega arith) (twos records (subst (Twice two_sequence t.of_type_2) c.in_default.is told.type_2))
+    (rule-broken (rule_13_four records t refl) c.in-Some-type_4.tlid
+    (least-repeat four_tlid four_rtsq c.in-Some-type_4.tlid c.in-Some-type_4.field-0-1 t.of_type_4
+    (subst (Twice four_sequence t.of_type_4) c.in-Some-type_4.is told.type_4)))
+
+pub returns-in-Some-type_6 : goal.returns-in-Some-type_6
+returns-in-Some-type_6 c records told =
+    let t : Typed = by_type records in
+    first-after records (omega arith) (twos records (subst (Twice two_sequence t.of_type_2) c.in_default.is told.type_2))
+    (first-after records (omega arith) (fours records (subst (Twice four_sequence t.of_type_4) c.in_default-type_4.is told.type_4))
+    (rule-broken (rule_13_six records t refl) c.in-Some-type_6.tlid
+    (least-repeat six_tlid six_rtsq c.in-Some-type_6.tlid c.in-Some-type_6.field-0-1 t.of_type_6
+    (subst (Twice six_sequence t.of_type_6) c.in-Some-type_6.is told.type_6))))
+
+pub returns : goal.returns
+returns c records told =
+    let t : Typed = by_type records in
+    rules-join records (twos records (subst (Twice two_sequence t.of_type_2) c.in_default.is told.type_2))
+    (rules-join records (fours records (subst (Twice four_sequence t.of_type_4) c.in_default-type_4.is told.type_4))
+    (sixes records (subst (Twice six_sequence t.of_type_6) c.in_default-type_6.is told.type_6)))

@@ -1,0 +1,13 @@
+use Rattle.std.proofs.Common.{refl}
+use Rattle.std.proofs.lemmas.Result.{on_ok_weaker}
+use Rattle.std.specs.Option.{option_cmp}
+use Rattle.tl_shape.specs.PointOrder.{point_cmp}
+use Rattle.tl_county.proofs.Rules.GatheredLists.{landmarks-in_order}
+use Rattle.tl_county.proofs.linking.table_order.order_named.Goals as goal
+
+pub returns-clause-landmarks : goal.returns-clause-landmarks
+returns-clause-landmarks c = on_ok_weaker c.put_in_order-3.result (λ _. record {
+  same = c.put_in_order-2.ensures.permutation;
+  in_order = landmarks-in_order (option_cmp point_cmp) refl (λ p. refl) (λ p. refl)
+      (λ p q. refl) c.put_in_order-2.new.items.items c.in_ok-put_in_order-2.ensures.in_order;
+}) c.put_in_order-3.ensures.in_order

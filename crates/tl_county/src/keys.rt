@@ -1,0 +1,8 @@
+//! Keys of records, in order, and sets of them.
+
+pub(crate) mod key_set;
+pub(crate) mod keyed;
+pub(crate) mod marks;
+pub(crate) mod number_set;
+pub(crate) mod polygon_set;
+pub(crate) mod record_keys;

@@ -1,0 +1,49 @@
+//! Marks by number. Where a number has a mark, one reading tells that it stands in a list.
+
+ghost use Rattle.std.specs.Prelude.{◌≡◌, ◌≤◌, ◌*◌, length, IfOk};
+ghost use Rattle.std.specs.Ordering.{nat_cmp};
+ghost use Rattle.tl_county.specs.Marks.{AreMarksOf};
+ghost use Rattle.tl_county.specs.Orders.{IsInOrder, stands_in};
+
+use crate::keys::keyed::place_of;
+use std::alloc::{AllocError, Global};
+
+/// How many places for marks there are at most for each number of a list.
+const PLACES_EACH: usize = 8;
+
+/// How many places for marks a list in order gets: one for each number up to its greatest, unless these are too many.
+fn places_for(numbers: &[u32]) -> usize
+    ensures { result ≤ 8 * length numbers.now }
+{
+    let most = numbers.len().saturating_mul(PLACES_EACH);
+    match numbers.last() {
+        Some(greatest) => most.min(*greatest as usize + 1),
+        None => 0,
+    }
+}
+
+/// Marks for the numbers of a list in order, each at the place of its number. Numbers above all places have none.
+pub(crate) fn marks_of(alloc: Global, numbers: &[u32]) -> Result<Vec<bool>, AllocError>
+    ensures { IfOk result (λ marks. AreMarksOf numbers.now marks.items) }
+{
+    let mut marks = vec![in alloc; false; places_for(numbers)]?;
+    for number in numbers {
+        let place = *number as usize;
+        if place < marks.len() {
+            marks[place] = true;
+        }
+    }
+    Ok(marks)
+}
+
+/// Whether a number stands in a list in order, as the list's marks tell. It's looked for only where it has no place for one.
+pub(crate) fn is_marked(marks: &[bool], numbers: &[u32], number: u32) -> bool
+    requires marks { AreMarksOf numbers.now marks.now }
+    requires numbers { IsInOrder nat_cmp numbers.now }
+    ensures { result ≡ stands_in nat_cmp number numbers.now }
+{
+    match marks.get(number as usize) {
+        Some(mark) => *mark,
+        None => place_of::<u32>(numbers, number).is_some(),
+    }
+}

@@ -1,0 +1,224 @@
+//! The keys that order records, and the records' keys.
+
+use crate::keys::keyed::{Key, Keyed};
+use tl_layout::{Point, Rec1, Rec2, Rec4, Rec5, Rec6, Rec7, Rec8, RecI, RecP};
+
+/// The key of a polygon: its CENID, and its POLYID under that CENID.
+pub type PolygonKey = ([u8; 5], u64);
+
+impl Key for u64 {
+    ghost use Rattle.std.proofs.lemmas.Map.Lookups.{exact_unsigned};
+
+    ghost exact = { exact_unsigned };
+}
+
+impl Key for u32 {
+    ghost use Rattle.std.proofs.lemmas.Map.Lookups.{exact_unsigned};
+
+    ghost exact = { exact_unsigned };
+}
+
+impl Key for u16 {
+    ghost use Rattle.std.proofs.lemmas.Map.Lookups.{exact_unsigned};
+
+    ghost exact = { exact_unsigned };
+}
+
+impl<const N: usize> Key for [u8; N] {
+    ghost use Rattle.std.proofs.lemmas.Map.Lookups.{exact_bytes};
+
+    ghost exact = { exact_bytes };
+}
+
+impl<A: Key, B: Key> Key for (A, B) {
+    ghost use Rattle.std.proofs.lemmas.Map.Lookups.{exact_pairs};
+
+    ghost exact = { exact_pairs A.Ord.cmp B.Ord.cmp A.exact B.exact };
+}
+
+/// By TLID.
+impl Keyed<u64> for Rec1 {
+    ghost use Rattle.tl_county.specs.County.{one_tlid};
+
+    ghost key_of = { one_tlid };
+
+    fn key(&self) -> u64 {
+        self.tlid()
+    }
+}
+
+/// By TLID.
+impl Keyed<u64> for Rec2 {
+    ghost use Rattle.tl_county.specs.County.{two_tlid};
+
+    ghost key_of = { two_tlid };
+
+    fn key(&self) -> u64 {
+        self.tlid()
+    }
+}
+
+/// By TLID, then RTSQ.
+impl Keyed<(u64, u16)> for Rec2 {
+    ghost use Rattle.tl_county.specs.SequenceKeys.{two_sequence};
+
+    ghost key_of = { two_sequence };
+
+    fn key(&self) -> (u64, u16) {
+        (self.tlid(), self.rtsq())
+    }
+}
+
+/// By TLID.
+impl Keyed<u64> for Rec4 {
+    ghost use Rattle.tl_county.specs.County.{four_tlid};
+
+    ghost key_of = { four_tlid };
+
+    fn key(&self) -> u64 {
+        self.tlid()
+    }
+}
+
+/// By TLID, then RTSQ.
+impl Keyed<(u64, u16)> for Rec4 {
+    ghost use Rattle.tl_county.specs.SequenceKeys.{four_sequence};
+
+    ghost key_of = { four_sequence };
+
+    fn key(&self) -> (u64, u16) {
+        (self.tlid(), self.rtsq())
+    }
+}
+
+/// By FEAT.
+impl Keyed<u32> for Rec5 {
+    ghost use Rattle.tl_county.specs.County.{five_feat};
+
+    ghost key_of = { five_feat };
+
+    fn key(&self) -> u32 {
+        self.feat()
+    }
+}
+
+/// By TLID.
+impl Keyed<u64> for Rec6 {
+    ghost use Rattle.tl_county.specs.County.{six_tlid};
+
+    ghost key_of = { six_tlid };
+
+    fn key(&self) -> u64 {
+        self.tlid()
+    }
+}
+
+/// By TLID, then RTSQ.
+impl Keyed<(u64, u16)> for Rec6 {
+    ghost use Rattle.tl_county.specs.SequenceKeys.{six_sequence};
+
+    ghost key_of = { six_sequence };
+
+    fn key(&self) -> (u64, u16) {
+        (self.tlid(), self.rtsq())
+    }
+}
+
+/// By LAND.
+impl Keyed<u64> for Rec7 {
+    ghost use Rattle.tl_county.specs.County.{seven_land};
+
+    ghost key_of = { seven_land };
+
+    fn key(&self) -> u64 {
+        self.land()
+    }
+}
+
+/// By LAND.
+impl Keyed<u64> for Rec8 {
+    ghost use Rattle.tl_county.specs.County.{eight_land};
+
+    ghost key_of = { eight_land };
+
+    fn key(&self) -> u64 {
+        self.land()
+    }
+}
+
+/// By TLID.
+impl Keyed<u64> for RecI {
+    ghost use Rattle.tl_county.specs.County.{i_tlid};
+
+    ghost key_of = { i_tlid };
+
+    fn key(&self) -> u64 {
+        self.tlid()
+    }
+}
+
+/// By the polygon's key.
+impl Keyed<PolygonKey> for Rec8 {
+    ghost use Rattle.tl_county.specs.County.{link_key};
+
+    ghost key_of = { link_key };
+
+    fn key(&self) -> PolygonKey {
+        (self.cenid(), self.polyid())
+    }
+}
+
+/// By the polygon's key.
+impl Keyed<PolygonKey> for RecP {
+    ghost use Rattle.tl_county.specs.County.{p_key};
+
+    ghost key_of = { p_key };
+
+    fn key(&self) -> PolygonKey {
+        (self.cenid(), self.polyid())
+    }
+}
+
+/// A key that stands for itself.
+impl<K: Key> Keyed<K> for K {
+    ghost key_of = { λ key. key };
+
+    fn key(&self) -> K {
+        *self
+    }
+}
+
+/// The fields of a link in their order: LAND, POLYID, CENID, FILE.
+pub(crate) type LinkKey = (u64, (u64, ([u8; 5], [u8; 5])));
+
+/// By LAND, POLYID, CENID, FILE.
+impl Keyed<LinkKey> for Rec8 {
+    ghost use Rattle.tl_county.specs.SequenceKeys.{link_sequence};
+
+    ghost key_of = { link_sequence };
+
+    fn key(&self) -> LinkKey {
+        let ids = (self.cenid(), self.file());
+        (self.land(), (self.polyid(), ids))
+    }
+}
+
+/// The fields of a landmark in their order: LAND, FILE, SOURCE, CFCC, LANAME, the point.
+pub(crate) type LandmarkKey = (
+    u64,
+    ([u8; 5], ([u8; 1], ([u8; 3], ([u8; 30], Option<Point>)))),
+);
+
+/// By LAND, FILE, SOURCE, CFCC, LANAME, the point, none first.
+impl Keyed<LandmarkKey> for Rec7 {
+    ghost use Rattle.tl_county.specs.SequenceKeys.{landmark_sequence};
+
+    ghost key_of = { landmark_sequence };
+
+    fn key(&self) -> LandmarkKey {
+        let body = self.body();
+        let name = (*body.laname.as_bytes(), body.point);
+        let codes = (*body.source.as_bytes(), (*body.cfcc.as_bytes(), name));
+        (self.land(), (*body.file.as_bytes(), codes))
+    }
+}

@@ -1,0 +1,190 @@
+//! The parts of a county in an arena: each list is a final slice of it. What grows stands in ordinary memory.
+
+ghost use Rattle.std.specs.Prelude.{◌≡◌, ◌∷◌, [], ◌++◌, IfOk, flat_map, map};
+ghost use Rattle.std.specs.List.{AllByRecursion};
+ghost use Rattle.tl_layout.specs.Fields.{Fields2, Fields4, Fields5, Fields6};
+ghost use Rattle.tl_layout.specs.Numbers.{IsNumber};
+
+use crate::kept::chain_over::ChainOver;
+use crate::kept::lent::{LandmarkIn, NameIn};
+use crate::linking::building::{
+    ChainBuilder, LandmarkBuilder, join_bodies, join_feats, join_points, join_ranges, name_bodies,
+    surroundings_of,
+};
+use bumpalo::Bump;
+use std::alloc::{AllocError, Global};
+use tl_layout::{Body5, Body7, Point, Ranges, Rec1, Rec2, Rec4, Rec5, Rec6, Rec7, Rec8, RecI};
+use tl_shape::ChainIn;
+
+/// Copies a list into the arena.
+fn keep<'a, T: Copy>(arena: &'a Bump, items: &[T]) -> Result<&'a [T], AllocError>
+    ensures { IfOk result (λ kept. kept.now ≡ items.now) }
+{
+    let kept = arena.try_alloc_slice_copy(items)?;
+    Ok(kept)
+}
+
+/// The points, the FEATs and the further address ranges of a chain, in the arena.
+#[derive(Drop)]
+struct ChainLists<'a> {
+    points: &'a [Point],
+    feats: &'a [u32],
+    ranges: &'a [Ranges],
+}
+
+/// Builds chains and landmarks whose lists lie in an arena. A list is gathered in a vector, which serves again and again, and
+/// copied when it is whole.
+#[derive(Drop)]
+pub(crate) struct InArena<'a> {
+    arena: &'a Bump,
+    points: Vec<Point>,
+    feats: Vec<u32>,
+    ranges: Vec<Ranges>,
+    bodies: Vec<Body7>,
+}
+
+impl<'a> InArena<'a> {
+    /// What builds in this arena. It takes no memory.
+    pub(crate) fn new(alloc: Global, arena: &'a Bump) -> InArena<'a> {
+        InArena {
+            arena,
+            points: Vec::new(alloc),
+            feats: Vec::new(alloc),
+            ranges: Vec::new(alloc),
+            bodies: Vec::new(alloc),
+        }
+    }
+
+    /// The points of a chain, of its records of types 1 and 2.
+    fn keep_points(&mut self, head: &Rec1, shape: &[Rec2]) -> Result<&'a [Point], AllocError>
+        ensures { IfOk result (λ points. points.now ≡ head.now.start ∷ (flat_map (λ (r : Fields2). r.points) shape.now ++ (head.now.end ∷ []))) }
+    {
+        self.points.clear();
+        self.points.push(head.start())?;
+        join_points(&mut self.points, shape)?;
+        self.points.push(head.end())?;
+        keep(self.arena, &self.points)
+    }
+
+    /// The FEATs of a chain, of its records of type 4.
+    fn keep_feats(&mut self, names: &[Rec4]) -> Result<&'a [u32], AllocError>
+        ensures value { IfOk result (λ feats. feats.now ≡ flat_map (λ (r : Fields4). r.feats) names.now) }
+        ensures in_range { IfOk result (λ feats. AllByRecursion (IsNumber 8) feats.now) }
+    {
+        self.feats.clear();
+        join_feats(&mut self.feats, names)?;
+        keep(self.arena, &self.feats)
+    }
+
+    /// The further address ranges of a chain, of its records of type 6.
+    fn keep_ranges(&mut self, ranges: &[Rec6]) -> Result<&'a [Ranges], AllocError>
+        ensures { IfOk result (λ kept. kept.now ≡ map (λ (r : Fields6). r.ranges) ranges.now) }
+    {
+        self.ranges.clear();
+        join_ranges(&mut self.ranges, ranges)?;
+        keep(self.arena, &self.ranges)
+    }
+
+    /// The lists of the chain of its records of types 1, 2, 4 and 6.
+    fn join_lists(
+        &mut self,
+        head: &Rec1,
+        shape: &[Rec2],
+        names: &[Rec4],
+        ranges: &[Rec6],
+    ) -> Result<ChainLists<'a>, AllocError>
+        ensures points { IfOk result (λ lists. lists.points.now ≡ head.now.start ∷ (flat_map (λ (r : Fields2). r.points) shape.now ++ (head.now.end ∷ []))) }
+        ensures feats { IfOk result (λ lists. lists.feats.now ≡ flat_map (λ (r : Fields4). r.feats) names.now) }
+        ensures numbers { IfOk result (λ lists. AllByRecursion (IsNumber 8) lists.feats.now) }
+        ensures ranges { IfOk result (λ lists. lists.ranges.now ≡ map (λ (r : Fields6). r.ranges) ranges.now) }
+    {
+        let points = self.keep_points(head, shape)?;
+        let feats = self.keep_feats(names)?;
+        let ranges = self.keep_ranges(ranges)?;
+        Ok(ChainLists {
+            points,
+            feats,
+            ranges,
+        })
+    }
+}
+
+impl<'t, 'a> ChainBuilder<'t, ChainIn<'a>> for InArena<'a> {
+    fn build_chain(
+        &mut self,
+        head: &'t Rec1,
+        shape: &[Rec2],
+        names: &[Rec4],
+        ranges: &[Rec6],
+        link: &'t RecI,
+    ) -> Result<ChainIn<'a>, AllocError> {
+        let lists = self.join_lists(head, shape, names, ranges)?;
+        let around = surroundings_of(link);
+        Ok(ChainIn::new(
+            *head.body(),
+            lists.points,
+            lists.feats,
+            lists.ranges,
+            *link.body(),
+            around,
+        ))
+    }
+}
+
+impl<'a> ChainBuilder<'a, ChainOver<'a>> for InArena<'a> {
+    fn build_chain(
+        &mut self,
+        head: &'a Rec1,
+        shape: &[Rec2],
+        names: &[Rec4],
+        ranges: &[Rec6],
+        link: &'a RecI,
+    ) -> Result<ChainOver<'a>, AllocError> {
+        let lists = self.join_lists(head, shape, names, ranges)?;
+        Ok(ChainOver::new(head, link, lists.points, lists.feats, lists.ranges))
+    }
+}
+
+impl<'a> LandmarkBuilder<LandmarkIn<'a>> for InArena<'a> {
+    fn build_landmark(
+        &mut self,
+        records: &[Rec7],
+        links: &[Rec8],
+    ) -> Result<LandmarkIn<'a>, AllocError> {
+        self.bodies.clear();
+        join_bodies(&mut self.bodies, records)?;
+        let bodies = keep(self.arena, &self.bodies)?;
+        let links = keep(self.arena, links)?;
+        Ok(LandmarkIn::new(bodies, links))
+    }
+}
+
+/// The names of records of type 5, their contents in the arena.
+pub(crate) fn names_in<'a>(
+    alloc: Global,
+    arena: &'a Bump,
+    records: &[Rec5],
+) -> Result<Vec<NameIn<'a>>, AllocError>
+    ensures { IfOk result (λ names. names.items ≡ map (λ (r : Fields5). r.body) records.now) }
+{
+    let bodies: &'a [Body5] = keep(arena, &name_bodies(alloc, records)?)?;
+    let mut names = Vec::with_capacity(alloc, bodies.len())?;
+    for body in bodies {
+        names.push(NameIn::new(body))?;
+    }
+    Ok(names)
+}
+
+/// The names of records of type 5, whose contents stay where they are.
+pub(crate) fn names_over<'a>(
+    alloc: Global,
+    records: &'a [Rec5],
+) -> Result<Vec<NameIn<'a>>, AllocError>
+    ensures { IfOk result (λ names. names.items ≡ map (λ (r : Fields5). r.body) records.now) }
+{
+    let mut names = Vec::with_capacity(alloc, records.len())?;
+    for name in records {
+        names.push(NameIn::new(name.body()))?;
+    }
+    Ok(names)
+}

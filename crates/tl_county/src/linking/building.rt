@@ -1,0 +1,279 @@
+//! The parts of a county, built by walking tables in order side by side.
+
+ghost use Rattle.std.specs.Prelude.{◌≡◌, ◌∷◌, [], ◌++◌, List, map, filter, flat_map, option_to_list, OnOk, IfOk};
+ghost use Rattle.std.specs.List.{AllByRecursion};
+ghost use Rattle.std.specs.List.Sorted.{IsStrictlySortedBy};
+ghost use Rattle.std.specs.Ordering.{is_gt, nat_cmp, on};
+ghost use Rattle.tl_layout.specs.ByType.{of_number};
+ghost use Rattle.tl_layout.specs.Fields.{Fields2, Fields4, Fields5, Fields6, Fields7, FieldsP};
+ghost use Rattle.tl_layout.specs.Numbers.{IsNumber, IsNumberOrNone};
+ghost use Rattle.tl_county.specs.Building.{chain_with, chains_along, landmark_of, link_nodes, polygon_body_of};
+ghost use Rattle.tl_county.specs.County.{one_tlid, two_tlid, four_tlid, six_tlid, seven_land, eight_land, p_key, first};
+ghost use Rattle.tl_county.specs.Orders.{IsInOrder, distinct};
+ghost use Rattle.tl_county.specs.PolygonKeys.{key_cmp};
+
+use crate::kept::keeping::{KeptChain, KeptLandmark};
+use crate::keys::keyed::{keys_of, split_group};
+use crate::keys::number_set::NumberSet;
+use crate::keys::record_keys::PolygonKey;
+use std::alloc::{AllocError, Global};
+use tl_layout::{
+    Body5, Body7, BodyP, Point, Ranges, Rec1, Rec2, Rec4, Rec5, Rec6, Rec7, Rec8, RecI, RecP,
+};
+use tl_shape::Surroundings;
+
+/// The contents of the records of type 5, one after the other.
+pub(crate) fn name_bodies(alloc: Global, names: &[Rec5]) -> Result<Vec<Body5>, AllocError>
+    ensures { IfOk result (λ bodies. bodies.items ≡ map (λ (r : Fields5). r.body) names.now) }
+{
+    let mut bodies = Vec::with_capacity(alloc, names.len())?;
+    for name in names {
+        bodies.push(*name.body())?;
+    }
+    Ok(bodies)
+}
+
+/// The content of the first of these records, if there is one.
+fn first_body(points: &[RecP]) -> Option<BodyP>
+    ensures { result ≡ first (map (λ (r : FieldsP). r.body) points.now) }
+{
+    match points.split_first() {
+        Some((point, _)) => Some(*point.body()),
+        None => None,
+    }
+}
+
+/// The contents of the polygons' records of type P, each where there is one; polygons and records in order.
+pub(crate) fn polygon_bodies(
+    alloc: Global,
+    polygons: &[PolygonKey],
+    points: &[RecP],
+) -> Result<Vec<Option<BodyP>>, AllocError>
+    requires polygons { IsStrictlySortedBy key_cmp polygons.now }
+    requires points { IsInOrder (on p_key key_cmp) points.now }
+    ensures { IfOk result (λ bodies. bodies.items ≡ map (polygon_body_of points.now) polygons.now) }
+{
+    let mut bodies = Vec::with_capacity(alloc, polygons.len())?;
+    let mut rest = points;
+    let mut keys = polygons;
+    while let Some((key, later)) = keys.split_first() {
+        let (group, others) = split_group::<PolygonKey, RecP>(rest, *key);
+        bodies.push(first_body(group))?;
+        rest = others;
+        keys = later;
+    }
+    Ok(bodies)
+}
+
+/// Adds the shape points of records of type 2.
+pub(crate) fn join_points(points: &mut Vec<Point>, records: &[Rec2]) -> Result<(), AllocError>
+    ensures { OnOk result (points.new.items ≡ points.old.items ++ flat_map (λ (r : Fields2). r.points) records.now) }
+{
+    for shape in records {
+        points.extend_from_slice(shape.points())?;
+    }
+    Ok(())
+}
+
+/// Adds the FEATs of records of type 4.
+pub(crate) fn join_feats(feats: &mut Vec<u32>, records: &[Rec4]) -> Result<(), AllocError>
+    requires { AllByRecursion (IsNumber 8) feats.old.items }
+    ensures value { OnOk result (feats.new.items ≡ feats.old.items ++ flat_map (λ (r : Fields4). r.feats) records.now) }
+    ensures in_range { OnOk result (AllByRecursion (IsNumber 8) feats.new.items) }
+{
+    for names in records {
+        feats.extend_from_slice(names.feats())?;
+    }
+    Ok(())
+}
+
+/// Adds the address ranges of records of type 6.
+pub(crate) fn join_ranges(ranges: &mut Vec<Ranges>, records: &[Rec6]) -> Result<(), AllocError>
+    ensures { OnOk result (ranges.new.items ≡ ranges.old.items ++ map (λ (r : Fields6). r.ranges) records.now) }
+{
+    for entry in records {
+        ranges.push(*entry.ranges())?;
+    }
+    Ok(())
+}
+
+/// Adds the contents of records of type 7.
+pub(crate) fn join_bodies(bodies: &mut Vec<Body7>, records: &[Rec7]) -> Result<(), AllocError>
+    ensures { OnOk result (bodies.new.items ≡ bodies.old.items ++ map (λ (r : Fields7). r.body) records.now) }
+{
+    for landmark in records {
+        bodies.push(*landmark.body())?;
+    }
+    Ok(())
+}
+
+/// The nodes and the sides of a record of type I.
+pub(crate) fn surroundings_of(link: &RecI) -> Surroundings
+    ensures start_node { result.start_node ≡ link.now.start_node }
+    ensures end_node { result.end_node ≡ link.now.end_node }
+    ensures left { result.left ≡ link.now.left }
+    ensures right { result.right ≡ link.now.right }
+    ensures in_range { IsNumberOrNone 10 result.start_node × IsNumberOrNone 10 result.end_node }
+{
+    Surroundings {
+        start_node: link.start_node(),
+        end_node: link.end_node(),
+        left: *link.left(),
+        right: *link.right(),
+    }
+}
+
+/// What builds the chains of a county, as they are kept there. They may keep the records of types 1 and I, which live for `'t`.
+pub(crate) trait ChainBuilder<'t, C: KeptChain> {
+    /// The chain of its records of types 1, 2, 4, 6 and I, those of types 2, 4 and 6 in the order of their RTSQs.
+    fn build_chain(
+        &mut self,
+        head: &'t Rec1,
+        shape: &[Rec2],
+        names: &[Rec4],
+        ranges: &[Rec6],
+        link: &'t RecI,
+    ) -> Result<C, AllocError>
+        ensures { IfOk result (λ built. C.chain built ≡ chain_with head.now link.now shape.now names.now ranges.now) };
+}
+
+/// Records of types 2, 4 and 6, which tell of chains what their records of types 1 and I don't.
+#[derive(Drop)]
+struct Details<'r> {
+    shapes: &'r [Rec2],
+    names: &'r [Rec4],
+    ranges: &'r [Rec6],
+}
+
+/// Adds the chain of its records of types 1 and I and of those of its TLID among the details, which are left with the records
+/// of greater TLIDs.
+fn push_chain<'t, 'r, C: KeptChain, B: ChainBuilder<'t, C>>(
+    chains: &mut Vec<C>,
+    builder: &mut B,
+    head: &'t Rec1,
+    link: &'t RecI,
+    details: &mut Details<'r>,
+) -> Result<(), AllocError>
+    requires shapes { IsInOrder (on two_tlid nat_cmp) details.old.shapes.now }
+    requires names { IsInOrder (on four_tlid nat_cmp) details.old.names.now }
+    requires ranges { IsInOrder (on six_tlid nat_cmp) details.old.ranges.now }
+    ensures chains { OnOk result (map C.chain chains.new.items ≡ map C.chain chains.old.items ++ (chain_with head.now link.now
+        (of_number two_tlid head.now.tlid details.old.shapes.now)
+        (of_number four_tlid head.now.tlid details.old.names.now)
+        (of_number six_tlid head.now.tlid details.old.ranges.now) ∷ [])) }
+    ensures shapes { OnOk result (details.new.shapes.now ≡ filter (λ r. is_gt (nat_cmp (two_tlid r) head.now.tlid)) details.old.shapes.now) }
+    ensures names { OnOk result (details.new.names.now ≡ filter (λ r. is_gt (nat_cmp (four_tlid r) head.now.tlid)) details.old.names.now) }
+    ensures ranges { OnOk result (details.new.ranges.now ≡ filter (λ r. is_gt (nat_cmp (six_tlid r) head.now.tlid)) details.old.ranges.now) }
+{
+    let tlid = head.tlid();
+    let (shape, shapes) = split_group::<u64, Rec2>(details.shapes, tlid);
+    let (named, names) = split_group::<u64, Rec4>(details.names, tlid);
+    let (ranged, ranges) = split_group::<u64, Rec6>(details.ranges, tlid);
+    details.shapes = shapes;
+    details.names = names;
+    details.ranges = ranges;
+    chains.push(builder.build_chain(head, shape, named, ranged, link)?)?;
+    Ok(())
+}
+
+/// The chains of records of types 1 and I, which stand side by side, each with its records of types 2, 4 and 6.
+pub(crate) fn chains_of_records<'t, C: KeptChain, B: ChainBuilder<'t, C>>(
+    alloc: Global,
+    builder: &mut B,
+    heads: &'t [Rec1],
+    links: &'t [RecI],
+    shapes: &[Rec2],
+    names: &[Rec4],
+    ranges: &[Rec6],
+) -> Result<Vec<C>, AllocError>
+    requires heads { IsStrictlySortedBy nat_cmp (map one_tlid heads.now) }
+    requires shapes { IsInOrder (on two_tlid nat_cmp) shapes.now }
+    requires names { IsInOrder (on four_tlid nat_cmp) names.now }
+    requires ranges { IsInOrder (on six_tlid nat_cmp) ranges.now }
+    ensures { IfOk result (λ chains. map C.chain chains.items ≡ chains_along shapes.now names.now ranges.now heads.now links.now) }
+{
+    let mut chains = Vec::with_capacity(alloc, heads.len())?;
+    let mut details = Details {
+        shapes,
+        names,
+        ranges,
+    };
+    let mut links = links;
+    let mut heads = heads;
+    while let Some((head, later)) = heads.split_first() {
+        let Some((link, others)) = links.split_first() else {
+            break;
+        };
+        push_chain::<C, B>(&mut chains, builder, head, link, &mut details)?;
+        links = others;
+        heads = later;
+    }
+    Ok(chains)
+}
+
+/// The LANDs of records of type 7 in order, each once.
+pub(crate) fn lands_of(alloc: Global, landmarks: &[Rec7]) -> Result<Vec<u64>, AllocError>
+    requires { IsInOrder (on seven_land nat_cmp) landmarks.now }
+    ensures { IfOk result (λ lands. lands.items ≡ distinct nat_cmp (map seven_land landmarks.now)) }
+{
+    let mut lands = keys_of::<u64, Rec7>(alloc, landmarks)?;
+    lands.dedup_by(|later, kept| later.cmp(&kept).is_eq());
+    Ok(lands)
+}
+
+/// What builds the landmarks of a county, as they are kept there.
+pub(crate) trait LandmarkBuilder<L: KeptLandmark> {
+    /// The landmark of its records of types 7 and 8, in their order.
+    fn build_landmark(&mut self, records: &[Rec7], links: &[Rec8]) -> Result<L, AllocError>
+        ensures { IfOk result (λ built. L.landmark built ≡ record { bodies = map (λ (r : Fields7). r.body) records.now; links = links.now }) };
+}
+
+/// The landmarks of these LANDs, of records of types 7 and 8 in the order of their LANDs.
+pub(crate) fn landmarks_of<L: KeptLandmark, B: LandmarkBuilder<L>>(
+    alloc: Global,
+    builder: &mut B,
+    lands: &[u64],
+    landmarks: &[Rec7],
+    links: &[Rec8],
+) -> Result<Vec<L>, AllocError>
+    requires lands { IsStrictlySortedBy nat_cmp lands.now }
+    requires landmarks { IsInOrder (on seven_land nat_cmp) landmarks.now }
+    requires links { IsInOrder (on eight_land nat_cmp) links.now }
+    ensures { IfOk result (λ found. map L.landmark found.items ≡ map (landmark_of landmarks.now links.now) lands.now) }
+{
+    let mut found = Vec::with_capacity(alloc, lands.len())?;
+    let mut landmarks = landmarks;
+    let mut links = links;
+    let mut lands = lands;
+    while let Some((land, later)) = lands.split_first() {
+        let (group, more_landmarks) = split_group::<u64, Rec7>(landmarks, *land);
+        let (linked, more_links) = split_group::<u64, Rec8>(links, *land);
+        found.push(builder.build_landmark(group, linked)?)?;
+        landmarks = more_landmarks;
+        links = more_links;
+        lands = later;
+    }
+    Ok(found)
+}
+
+/// Puts a node into the set, if there is one.
+fn insert_node(nodes: &mut NumberSet, node: Option<u64>) -> Result<(), AllocError>
+    ensures { OnOk result (distinct nat_cmp nodes.new ≡ distinct nat_cmp (nodes.old ++ option_to_list node)) }
+{
+    if let Some(number) = node {
+        nodes.insert(number)?;
+    }
+    Ok(())
+}
+
+/// The nodes of records of type I in order, each once. Nodes that are numbered from 1 on without gaps have a mark each.
+pub(crate) fn nodes_of(alloc: Global, links: &[RecI]) -> Result<Vec<u64>, AllocError>
+    ensures { IfOk result (λ nodes. nodes.items ≡ distinct nat_cmp (flat_map link_nodes links.now)) }
+{
+    let mut nodes = NumberSet::new(alloc, 2 * links.len())?;
+    for link in links {
+        insert_node(&mut nodes, link.start_node())?;
+        insert_node(&mut nodes, link.end_node())?;
+    }
+    nodes.in_order(alloc)
+}

@@ -1,0 +1,103 @@
+//! What linking gathers from tables in order: uses of names, linked polygons, and all polygons with their places on sides.
+
+ghost use Rattle.std.specs.Prelude.{◌≡◌, ◌++◌, map, flat_map, OnOk, IfOk, IsPermutation};
+ghost use Rattle.std.specs.List.Sorted.{IsStrictlySortedBy};
+ghost use Rattle.std.specs.Ordering.{on};
+ghost use Rattle.tl_county.specs.BodyOrder.{bytes_cmp};
+ghost use Rattle.tl_county.specs.County.{link_key, p_key, side_keys};
+ghost use Rattle.tl_county.specs.Keyed.{IsLeastPassing, is_unknown};
+ghost use Rattle.tl_county.specs.Orders.{IsInOrder, distinct};
+ghost use Rattle.tl_county.specs.PolygonKeys.{key_cmp};
+ghost use Rattle.tl_county.specs.SequenceKeys.{sequence_cmp, uses_of};
+
+use crate::keys::keyed::{Keyed, keys_of, least_unknown, sort_keys};
+use crate::keys::polygon_set::{cenids_of, distinct_polygons};
+use crate::keys::record_keys::PolygonKey;
+use std::alloc::{AllocError, Global};
+use tl_layout::{Rec4, Rec8, RecI, RecP};
+
+/// Adds the FEATs that a record of type 4 names, each with its TLID.
+fn push_uses(uses: &mut Vec<(u64, u32)>, names: &Rec4) -> Result<(), AllocError>
+    ensures { OnOk result (uses.new.items ≡ uses.old.items ++ uses_of names.now) }
+{
+    let tlid = names.tlid();
+    for feat in names.feats() {
+        uses.push((tlid, *feat))?;
+    }
+    Ok(())
+}
+
+/// Each FEAT that a record of type 4 names with its TLID, in order.
+pub(crate) fn uses_in_order(alloc: Global, names: &[Rec4]) -> Result<Vec<(u64, u32)>, AllocError>
+    ensures in_order { IfOk result (λ uses. IsInOrder sequence_cmp uses.items) }
+    ensures same { IfOk result (λ uses. IsPermutation (flat_map uses_of names.now) uses.items) }
+{
+    let mut uses = Vec::new(alloc);
+    for record4 in names {
+        push_uses(&mut uses, record4)?;
+    }
+    sort_keys::<(u64, u32)>(&mut uses);
+    Ok(uses)
+}
+
+/// The polygons of the records of type 8, in order.
+pub(crate) fn linked_polygons(alloc: Global, links: &[Rec8]) -> Result<Vec<PolygonKey>, AllocError>
+    ensures in_order { IfOk result (λ keys. IsInOrder key_cmp keys.items) }
+    ensures same { IfOk result (λ keys. IsPermutation (map link_key links.now) keys.items) }
+{
+    let mut keys = keys_of::<PolygonKey, Rec8>(alloc, links)?;
+    sort_keys::<PolygonKey>(&mut keys);
+    Ok(keys)
+}
+
+/// Adds the polygons of type P.
+fn push_points(polygons: &mut Vec<PolygonKey>, points: &[RecP]) -> Result<(), AllocError>
+    ensures { OnOk result (polygons.new.items ≡ polygons.old.items ++ map p_key points.now) }
+{
+    for point in points {
+        polygons.push(point.key())?;
+    }
+    Ok(())
+}
+
+/// The CENIDs of most polygons on sides, in order: those of type P, as mostly each polygon has a record of type P.
+fn likely_cenids(alloc: Global, sides: &[RecI], points: &[RecP]) -> Result<Vec<[u8; 5]>, AllocError>
+    ensures { IfOk result (λ cenids. IsStrictlySortedBy bytes_cmp cenids.items) }
+{
+    if points.is_empty() {
+        return cenids_of::<RecI>(alloc, sides);
+    }
+    cenids_of::<RecP>(alloc, points)
+}
+
+/// The polygons on sides and of type P.
+#[derive(Drop)]
+pub(crate) struct Polygons {
+    /// The polygons in order, each once.
+    pub(crate) keys: Vec<PolygonKey>,
+    /// The least polygon of type P that is on no side.
+    pub(crate) without_side: Option<PolygonKey>,
+}
+
+/// The polygons on sides and of type P, those of type P in order. Mostly each of type P is on a side: then those on sides
+/// are all.
+pub(crate) fn gather_polygons(
+    alloc: Global,
+    sides: &[RecI],
+    points: &[RecP],
+) -> Result<Polygons, AllocError>
+    requires { IsInOrder (on p_key key_cmp) points.now }
+    ensures keys { IfOk result (λ polygons. polygons.keys.items ≡ distinct key_cmp (flat_map side_keys sides.now ++ map p_key points.now)) }
+    ensures without_side { IfOk result (λ polygons.
+        IsLeastPassing key_cmp (is_unknown key_cmp (map p_key points.now) (flat_map side_keys sides.now)) polygons.without_side) }
+{
+    let cenids = likely_cenids(alloc, sides, points)?;
+    let mut keys = distinct_polygons::<RecI>(alloc, cenids, sides)?;
+    let without_side = least_unknown::<PolygonKey, RecP, PolygonKey>(points, &keys);
+    if without_side.is_some() {
+        push_points(&mut keys, points)?;
+        let cenids = cenids_of::<PolygonKey>(alloc, &keys)?;
+        keys = distinct_polygons::<PolygonKey>(alloc, cenids, &keys)?;
+    }
+    Ok(Polygons { keys, without_side })
+}

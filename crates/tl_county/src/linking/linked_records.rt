@@ -1,0 +1,158 @@
+//! Records that fit together, in order, and the counties that are built of them.
+
+ghost use Rattle.std.specs.Prelude.{◌≡◌, ◌≢◌, List, IfOk, IfErr};
+ghost use Rattle.tl_layout.specs.Tables.{HoldsByType};
+ghost use Rattle.tl_layout.specs.declared.record_type.Record.{Record};
+ghost use Rattle.tl_county.specs.County.{county_of};
+ghost use Rattle.tl_county.specs.CountyRules.{is_without_chain};
+ghost use Rattle.tl_county.specs.Keyed.{IsLeastPassing};
+ghost use Rattle.tl_county.specs.Limits.{HoldsWithinLimits};
+ghost use Rattle.tl_county.specs.LinkRules.{IsFirstBrokenRule, IsLinked};
+ghost use Rattle.tl_county.specs.Packing.{type_after_type};
+ghost use Rattle.tl_county.specs.PolygonKeys.{key_cmp};
+ghost use Rattle.tl_county.specs.declared.fault.LinkFault.TheVariants.{Memory};
+
+use crate::chart::Chart;
+use crate::fault::LinkFault;
+use crate::kept::{County, CountyIn, CountyOver};
+use crate::keys::record_keys::PolygonKey;
+use crate::linking::arena::{InArena, names_in, names_over};
+use crate::linking::building::name_bodies;
+use crate::linking::gathering::Polygons;
+use crate::linking::owned::Owned;
+use crate::linking::{build_county, settle};
+use bumpalo::Bump;
+use std::alloc::{AllocError, Global};
+use std::marker::Model;
+use tl_layout::Tables;
+
+/// Records that fit together, in tables by type, each in the order of its records' numbers.
+#[derive(Drop)]
+pub struct LinkedRecords {
+    tables: Tables,
+    tlids: Vec<u64>,
+    feats: Vec<u32>,
+    polygons: Polygons,
+}
+
+impl Model for LinkedRecords {
+    ghost use Rattle.std.specs.Prelude.{◌≡◌, ◌++◌, map, flat_map};
+    ghost use Rattle.tl_county.specs.County.{county_of, five_feat, one_tlid, p_key, side_keys};
+    ghost use Rattle.tl_county.specs.Keyed.{IsLeastPassing, is_unknown};
+    ghost use Rattle.tl_county.specs.Limits.{IsWithinLimits, most_records};
+    ghost use Rattle.tl_county.specs.LinkRules.{IsLinked};
+    ghost use Rattle.tl_county.specs.OrderedTables.{typed_of, AreInOrder};
+    ghost use Rattle.tl_county.specs.Orders.{distinct};
+    ghost use Rattle.tl_county.specs.Packing.{Typed, type_after_type};
+    ghost use Rattle.tl_county.specs.PolygonKeys.{key_cmp};
+
+    ghost Value = { Typed };
+
+    ghost view = { λ l. typed_of l.tables };
+
+    ghost invariant = { λ l. AreInOrder (typed_of l.tables)
+        × IsLinked (type_after_type (typed_of l.tables))
+        × IsWithinLimits most_records (county_of (type_after_type (typed_of l.tables)))
+        × (l.tlids.items ≡ map one_tlid l.tables.type_1.items)
+        × (l.feats.items ≡ map five_feat l.tables.type_5.items)
+        × (l.polygons.keys.items ≡ distinct key_cmp (flat_map side_keys l.tables.type_i.items ++ map p_key l.tables.type_p.items))
+        × IsLeastPassing key_cmp (is_unknown key_cmp (map p_key l.tables.type_p.items) (flat_map side_keys l.tables.type_i.items))
+        l.polygons.without_side };
+}
+
+impl LinkedRecords {
+    /// The county of the records, over these tables and an arena, which outlive it.
+    ///
+    /// # Errors
+    ///
+    /// Only that memory was lacking.
+    pub fn county<'a>(
+        &'a self,
+        alloc: Global,
+        arena: &'a Bump,
+    ) -> Result<CountyOver<'a>, AllocError>
+        ensures { IfOk result (λ county. ⟦<CountyOver<'a> as Chart>⟧.county county ≡ county_of (type_after_type self.now)) }
+    {
+        let tlids = Vec::from_slice(alloc, &self.tlids)?;
+        let feats = Vec::from_slice(alloc, &self.feats)?;
+        let polygons = Vec::from_slice(alloc, &self.polygons.keys)?;
+        let names = names_over(alloc, &self.tables.type_5)?;
+        let mut builder = InArena::new(alloc, arena);
+        build_county(
+            alloc,
+            &mut builder,
+            &self.tables,
+            tlids,
+            feats,
+            names,
+            polygons,
+        )
+    }
+
+    /// The county of the records, with lists of its own.
+    ///
+    /// # Errors
+    ///
+    /// Only that memory was lacking.
+    pub(crate) fn into_county(self, alloc: Global) -> Result<County, AllocError>
+        ensures { IfOk result (λ county. ⟦<County as Chart>⟧.county county ≡ county_of (type_after_type self)) }
+    {
+        let tables = self.tables;
+        let tlids = self.tlids;
+        let feats = self.feats;
+        let polygons = self.polygons.keys;
+        let names = name_bodies(alloc, &tables.type_5)?;
+        let mut builder = Owned { alloc };
+        build_county(alloc, &mut builder, &tables, tlids, feats, names, polygons)
+    }
+
+    /// The county of the records in an arena, which outlives it.
+    ///
+    /// # Errors
+    ///
+    /// Only that memory was lacking.
+    pub(crate) fn into_county_in<'a>(
+        self,
+        alloc: Global,
+        arena: &'a Bump,
+    ) -> Result<CountyIn<'a>, AllocError>
+        ensures { IfOk result (λ county. ⟦<CountyIn<'a> as Chart>⟧.county county ≡ county_of (type_after_type self)) }
+    {
+        let tables = self.tables;
+        let tlids = self.tlids;
+        let feats = self.feats;
+        let polygons = self.polygons.keys;
+        let names = names_in(alloc, arena, &tables.type_5)?;
+        let mut builder = InArena::new(alloc, arena);
+        build_county(alloc, &mut builder, &tables, tlids, feats, names, polygons)
+    }
+
+    /// The least polygon with a record of type P that is on no side of a chain, by the bytes of the CENID and then by POLYID.
+    pub fn polygon_without_chain(&self) -> Option<PolygonKey>
+        ensures { IsLeastPassing key_cmp (is_without_chain (county_of (type_after_type self.now))) result }
+    {
+        self.polygons.without_side
+    }
+}
+
+/// Tables of records that fit together, put in order, or the first rule that the records break. The tables' order has no
+/// meaning. They hold 10,000,000 records of a type at most.
+pub fn link_in_order(alloc: Global, tables: Tables) -> Result<LinkedRecords, LinkFault>
+    requires { HoldsWithinLimits tables }
+    ensures linked { IfOk result (λ linked. (records : List Record) →
+        HoldsByType tables records → IsLinked records × (county_of (type_after_type linked) ≡ county_of records)) }
+    ensures broken { IfErr result (λ fault. fault ≢ Memory → (records : List Record) →
+        HoldsByType tables records → IsFirstBrokenRule records fault) }
+{
+    let mut tables = tables;
+    let gathered = settle(alloc, &mut tables)?;
+    let tlids = gathered.tlids;
+    let feats = gathered.feats;
+    let polygons = gathered.polygons;
+    Ok(LinkedRecords {
+        tables,
+        tlids,
+        feats,
+        polygons,
+    })
+}

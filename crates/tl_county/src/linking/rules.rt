@@ -1,0 +1,203 @@
+//! The rules by which records fit together, over tables in order.
+
+ghost use Rattle.std.specs.Prelude.{◌≡◌, false, true, List, map, flat_map, ◌++◌, MatchResult, IfOk, OnOk, IsPermutation};
+ghost use Rattle.std.specs.Ordering.{nat_cmp};
+ghost use Rattle.tl_county.specs.County.{link_key, five_feat, i_tlid, one_tlid, p_key, side_keys};
+ghost use Rattle.tl_county.specs.Keyed.{IsLeastPassing, is_repeated};
+ghost use Rattle.tl_county.specs.Marks.{AllNamed, AreMarksOf, AreNamed};
+ghost use Rattle.tl_county.specs.PolygonKeys.{key_cmp};
+ghost use Rattle.tl_county.specs.SequenceKeys.{is_unnamed, sequence_cmp, uses_of};
+ghost use Rattle.tl_layout.specs.declared.record_type.Record.{Record};
+ghost use Rattle.tl_county.specs.OrderedTables.{typed_of, AreInOrder};
+ghost use Rattle.tl_county.specs.Orders.{IsInOrder, distinct};
+ghost use Rattle.tl_county.specs.Packing.{by_type};
+ghost use Rattle.tl_county.specs.RepeatedKeys.{AreLeastRepeated};
+ghost use Rattle.tl_county.specs.RuleOrder.{RulesHold, IsFirstFrom};
+
+use crate::fault::{LinkFault, LinkedType, SequencedType};
+use crate::keys::keyed::{least_repeated, least_unknown, place_of};
+use crate::keys::marks::{is_marked, marks_of};
+use crate::keys::record_keys::PolygonKey;
+use crate::linking::gathering::uses_in_order;
+use crate::linking::table_order::Repeated;
+use std::alloc::{AllocError, Global};
+use tl_layout::{Rec2, Rec4, Rec5, Rec6, Rec7, Rec8, Tables};
+
+/// Rules 11 and 12: no TLID has two records of type 1, and each record of types 2, 4, 6 and I has its chain. The TLIDs are
+/// those of the records of type 1, and the linked ones those of type I, which are searched in place of the records.
+pub(crate) fn check_chains(tables: &Tables, tlids: &[u64], linked: &[u64]) -> Result<(), LinkFault>
+    requires tables { AreInOrder (typed_of tables.now) }
+    requires tlids { tlids.now ≡ map one_tlid tables.now.type_1.items }
+    requires linked { linked.now ≡ map i_tlid tables.now.type_i.items }
+    ensures { (records : List Record) → by_type records ≡ typed_of tables.now → MatchResult result (λ _. RulesHold records 0 5) (IsFirstFrom records 0) }
+{
+    if let Some(tlid) = least_repeated::<u64, u64>(tlids) {
+        return Err(LinkFault::ChainTwice { tlid });
+    }
+    if let Some(tlid) = least_unknown::<u64, Rec2, u64>(&tables.type_2, tlids) {
+        let rtype = LinkedType::Two;
+        return Err(LinkFault::NoChain { rtype, tlid });
+    }
+    if let Some(tlid) = least_unknown::<u64, Rec4, u64>(&tables.type_4, tlids) {
+        let rtype = LinkedType::Four;
+        return Err(LinkFault::NoChain { rtype, tlid });
+    }
+    if let Some(tlid) = least_unknown::<u64, Rec6, u64>(&tables.type_6, tlids) {
+        let rtype = LinkedType::Six;
+        return Err(LinkFault::NoChain { rtype, tlid });
+    }
+    if let Some(tlid) = least_unknown::<u64, u64, u64>(linked, tlids) {
+        let rtype = LinkedType::I;
+        return Err(LinkFault::NoChain { rtype, tlid });
+    }
+    Ok(())
+}
+
+/// Rule 13: no RTSQ stands twice for a chain in a record type. The least that do are given.
+pub(crate) fn check_sequences(repeated: &Repeated) -> Result<(), LinkFault>
+    ensures { (records : List Record) → AreLeastRepeated repeated.now (by_type records) →
+        MatchResult result (λ _. RulesHold records 5 8) (IsFirstFrom records 5) }
+{
+    if let Some((tlid, _)) = repeated.type_2 {
+        let rtype = SequencedType::Two;
+        return Err(LinkFault::SequenceBroken { rtype, tlid });
+    }
+    if let Some((tlid, _)) = repeated.type_4 {
+        let rtype = SequencedType::Four;
+        return Err(LinkFault::SequenceBroken { rtype, tlid });
+    }
+    if let Some((tlid, _)) = repeated.type_6 {
+        let rtype = SequencedType::Six;
+        return Err(LinkFault::SequenceBroken { rtype, tlid });
+    }
+    Ok(())
+}
+
+/// Rules 14 and 15: each record of type 1 has its record of type I, and no TLID has two. The TLIDs are those of the records
+/// of type 1, and the linked ones those of type I.
+pub(crate) fn check_links(tables: &Tables, tlids: &[u64], linked: &[u64]) -> Result<(), LinkFault>
+    requires tables { AreInOrder (typed_of tables.now) }
+    requires tlids { tlids.now ≡ map one_tlid tables.now.type_1.items }
+    requires linked { linked.now ≡ map i_tlid tables.now.type_i.items }
+    ensures { (records : List Record) → by_type records ≡ typed_of tables.now → MatchResult result (λ _. RulesHold records 8 10) (IsFirstFrom records 8) }
+{
+    if let Some(tlid) = least_unknown::<u64, u64, u64>(tlids, linked) {
+        return Err(LinkFault::LinkMissing { tlid });
+    }
+    if let Some(tlid) = least_repeated::<u64, u64>(linked) {
+        return Err(LinkFault::LinkTwice { tlid });
+    }
+    Ok(())
+}
+
+/// The least use of a FEAT that isn't among `feats`, as TLID and FEAT; uses and FEATs in order.
+fn least_unnamed(uses: &[(u64, u32)], feats: &[u32]) -> Option<(u64, u32)>
+    requires uses { IsInOrder sequence_cmp uses.now }
+    requires feats { IsInOrder nat_cmp feats.now }
+    ensures { IsLeastPassing sequence_cmp (is_unnamed uses.now feats.now) result }
+{
+    let mut rest = uses;
+    while let Some((first, later)) = rest.split_first() {
+        if !place_of(feats, first.1).is_some() {
+            return Some(*first);
+        }
+        rest = later;
+    }
+    None
+}
+
+/// Whether each FEAT that a record of type 4 names is among `feats`, which are in order.
+fn are_named(names: &Rec4, feats: &[u32], marks: &[bool]) -> bool
+    requires feats { IsInOrder nat_cmp feats.now }
+    requires marks { AreMarksOf feats.now marks.now }
+    ensures named { result ≡ true → AreNamed feats.now names.now.feats }
+    ensures unnamed { result ≡ false → AreNamed feats.now names.now.feats → ⊥ }
+{
+    for feat in names.feats() {
+        if !is_marked(marks, feats, *feat) {
+            return false;
+        }
+    }
+    true
+}
+
+/// Whether each FEAT that records of type 4 name is among `feats`, which are in order. The records are read once, as they
+/// stand.
+fn all_named(alloc: Global, names: &[Rec4], feats: &[u32]) -> Result<bool, AllocError>
+    requires { IsInOrder nat_cmp feats.now }
+    ensures named { IfOk result (λ all. all ≡ true → AllNamed feats.now names.now) }
+    ensures unnamed { IfOk result (λ all. all ≡ false → AllNamed feats.now names.now → ⊥) }
+{
+    let marks = marks_of(alloc, feats)?;
+    for record in names {
+        if !are_named(record, feats, &marks) {
+            return Ok(false);
+        }
+    }
+    Ok(true)
+}
+
+/// The least use, as TLID and FEAT, of a FEAT that isn't among `feats`, which are in order. Mostly there is none: then no use
+/// is drawn out.
+pub(crate) fn unnamed_use(
+    alloc: Global,
+    names: &[Rec4],
+    feats: &[u32],
+) -> Result<Option<(u64, u32)>, AllocError>
+    requires { IsInOrder nat_cmp feats.now }
+    ensures { IfOk result (λ found. IsLeastPassing sequence_cmp (is_unnamed (flat_map uses_of names.now) feats.now) found) }
+{
+    if all_named(alloc, names, feats)? {
+        return Ok(None);
+    }
+    let uses = uses_in_order(alloc, names)?;
+    Ok(least_unnamed(&uses, feats))
+}
+
+/// Rules 16 and 17: no FEAT has two records of type 5, and each FEAT that a record of type 4 names has one. The unnamed use
+/// is the least one of a FEAT that has none.
+pub(crate) fn check_names(tables: &Tables, unnamed: Option<(u64, u32)>) -> Result<(), LinkFault>
+    requires tables { AreInOrder (typed_of tables.now) }
+    requires unnamed { IsLeastPassing sequence_cmp
+        (is_unnamed (flat_map uses_of tables.now.type_4.items) (map five_feat tables.now.type_5.items)) unnamed }
+    ensures { (records : List Record) → by_type records ≡ typed_of tables.now → MatchResult result (λ _. RulesHold records 10 12) (IsFirstFrom records 10) }
+{
+    if let Some(feat) = least_repeated::<u32, Rec5>(&tables.type_5) {
+        return Err(LinkFault::NameTwice { feat });
+    }
+    if let Some((tlid, feat)) = unnamed {
+        return Err(LinkFault::NameUnknown { tlid, feat });
+    }
+    Ok(())
+}
+
+/// Rules 18 to 20: no polygon has two records of type P, each landmark of a record of type 8 has a record of type 7, and
+/// each polygon of one stands on a side or has a record of type P. The linked polygons are those of the records of type 8,
+/// and the polygons are the keys on sides and of type P, both in order. The least polygon that has two records is given.
+pub(crate) fn check_landmarks(
+    tables: &Tables,
+    repeated: Option<PolygonKey>,
+    linked: &[PolygonKey],
+    polygons: &[PolygonKey],
+) -> Result<(), LinkFault>
+    requires tables { AreInOrder (typed_of tables.now) }
+    requires repeated { IsLeastPassing key_cmp (is_repeated key_cmp (map p_key tables.now.type_p.items)) repeated }
+    requires linked { IsInOrder key_cmp linked.now × IsPermutation (map link_key tables.now.type_8.items) linked.now }
+    requires polygons { polygons.now ≡ distinct key_cmp (flat_map side_keys tables.now.type_i.items ++ map p_key tables.now.type_p.items) }
+    ensures { (records : List Record) → by_type records ≡ typed_of tables.now → MatchResult result (λ _. RulesHold records 12 15) (IsFirstFrom records 12) }
+{
+    if let Some(key) = repeated {
+        let cenid = key.0;
+        let polyid = key.1;
+        return Err(LinkFault::PolygonTwice { cenid, polyid });
+    }
+    if let Some(land) = least_unknown::<u64, Rec8, Rec7>(&tables.type_8, &tables.type_7) {
+        return Err(LinkFault::LandUnknown { land });
+    }
+    if let Some(key) = least_unknown::<PolygonKey, PolygonKey, PolygonKey>(linked, polygons) {
+        let cenid = key.0;
+        let polyid = key.1;
+        return Err(LinkFault::PolygonUnknown { cenid, polyid });
+    }
+    Ok(())
+}

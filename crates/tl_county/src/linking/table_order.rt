@@ -1,0 +1,130 @@
+//! Tables put in the order of their records' numbers, and what that tells.
+//!
+//! Each table is put in order once, by std's stable sort; a table that is in order already is read once. The walk that finds it in
+//! order also tells its keys, or the least key that stands twice.
+
+ghost use Rattle.std.specs.Prelude.{◌≡◌, map, OnOk, IfOk};
+ghost use Rattle.std.specs.Ordering.{nat_cmp, on};
+ghost use Rattle.tl_county.specs.BodyOrder.{link_cmp};
+ghost use Rattle.tl_county.specs.County.{five_feat, i_tlid, one_tlid, p_key};
+ghost use Rattle.tl_county.specs.Keyed.{IsLeastPassing, is_repeated};
+ghost use Rattle.tl_county.specs.OrderedTables.{landmark_cmp, typed_of, AreInOrder, ArePermuted};
+ghost use Rattle.tl_county.specs.PolygonKeys.{key_cmp};
+ghost use Rattle.tl_county.specs.PutInOrder.{IsPutInOrder};
+ghost use Rattle.tl_county.specs.RepeatedKeys.{AreLeastRepeated};
+ghost use Rattle.tl_county.specs.SequenceKeys.{sequence_cmp, two_sequence, four_sequence, six_sequence};
+
+use crate::keys::keyed::{put_in_order, put_in_order_with_keys, put_in_order_with_repeated};
+use crate::keys::record_keys::{LandmarkKey, LinkKey, PolygonKey};
+use std::alloc::{AllocError, Global};
+use tl_layout::{Rec1, Rec2, Rec4, Rec5, Rec6, Rec7, Rec8, RecI, RecP, Tables};
+
+/// The TLIDs of the records of types 1 and I.
+#[derive(Drop)]
+pub(crate) struct Tlids {
+    /// Those of the records of type 1.
+    pub(crate) chains: Vec<u64>,
+    /// Those of the records of type I.
+    pub(crate) links: Vec<u64>,
+}
+
+/// The least keys that two records of a type have, where two have one.
+#[derive(Drop)]
+pub(crate) struct Repeated {
+    /// TLID and RTSQ of records of type 2.
+    pub(crate) type_2: Option<(u64, u16)>,
+    /// TLID and RTSQ of records of type 4.
+    pub(crate) type_4: Option<(u64, u16)>,
+    /// TLID and RTSQ of records of type 6.
+    pub(crate) type_6: Option<(u64, u16)>,
+    /// The polygon of records of type P.
+    pub(crate) type_p: Option<PolygonKey>,
+}
+
+/// What is told of records by putting them in order.
+#[derive(Drop)]
+pub(crate) struct Ordered {
+    /// The TLIDs in order.
+    pub(crate) tlids: Tlids,
+    /// The keys that stand twice.
+    pub(crate) repeated: Repeated,
+}
+
+/// Puts the records of types 2, 4, 6 and P in the order of their keys, and answers the least key of each type that stands twice.
+fn order_repeated(
+    shapes: &mut Vec<Rec2>,
+    names: &mut Vec<Rec4>,
+    ranges: &mut Vec<Rec6>,
+    points: &mut Vec<RecP>,
+) -> Result<Repeated, AllocError>
+    ensures shapes { OnOk result (IsPutInOrder (on two_sequence sequence_cmp) shapes.old.items shapes.new.items) }
+    ensures names { OnOk result (IsPutInOrder (on four_sequence sequence_cmp) names.old.items names.new.items) }
+    ensures ranges { OnOk result (IsPutInOrder (on six_sequence sequence_cmp) ranges.old.items ranges.new.items) }
+    ensures points { OnOk result (IsPutInOrder (on p_key key_cmp) points.old.items points.new.items) }
+    ensures type_2 { IfOk result (λ repeated. IsLeastPassing sequence_cmp (is_repeated sequence_cmp (map two_sequence shapes.new.items)) repeated.type_2) }
+    ensures type_4 { IfOk result (λ repeated. IsLeastPassing sequence_cmp (is_repeated sequence_cmp (map four_sequence names.new.items)) repeated.type_4) }
+    ensures type_6 { IfOk result (λ repeated. IsLeastPassing sequence_cmp (is_repeated sequence_cmp (map six_sequence ranges.new.items)) repeated.type_6) }
+    ensures type_p { IfOk result (λ repeated. IsLeastPassing key_cmp (is_repeated key_cmp (map p_key points.new.items)) repeated.type_p) }
+{
+    let type_2 = put_in_order_with_repeated::<(u64, u16), Rec2>(shapes)?;
+    let type_4 = put_in_order_with_repeated::<(u64, u16), Rec4>(names)?;
+    let type_6 = put_in_order_with_repeated::<(u64, u16), Rec6>(ranges)?;
+    let type_p = put_in_order_with_repeated::<PolygonKey, RecP>(points)?;
+    Ok(Repeated {
+        type_2,
+        type_4,
+        type_6,
+        type_p,
+    })
+}
+
+/// Puts the records of types 5, 7 and 8 in the order of their numbers.
+fn order_named(
+    names: &mut Vec<Rec5>,
+    landmarks: &mut Vec<Rec7>,
+    links: &mut Vec<Rec8>,
+) -> Result<(), AllocError>
+    ensures names { OnOk result (IsPutInOrder (on five_feat nat_cmp) names.old.items names.new.items) }
+    ensures landmarks { OnOk result (IsPutInOrder landmark_cmp landmarks.old.items landmarks.new.items) }
+    ensures links { OnOk result (IsPutInOrder link_cmp links.old.items links.new.items) }
+{
+    put_in_order::<u32, Rec5>(names)?;
+    put_in_order::<LandmarkKey, Rec7>(landmarks)?;
+    put_in_order::<LinkKey, Rec8>(links)
+}
+
+/// Puts the records of types 1 and I in the order of their TLIDs, and answers these.
+fn order_chains(
+    alloc: Global,
+    heads: &mut Vec<Rec1>,
+    links: &mut Vec<RecI>,
+) -> Result<Tlids, AllocError>
+    ensures heads { OnOk result (IsPutInOrder (on one_tlid nat_cmp) heads.old.items heads.new.items) }
+    ensures links { OnOk result (IsPutInOrder (on i_tlid nat_cmp) links.old.items links.new.items) }
+    ensures tlids_of_heads { IfOk result (λ tlids. tlids.chains.items ≡ map one_tlid heads.new.items) }
+    ensures tlids_of_links { IfOk result (λ tlids. tlids.links.items ≡ map i_tlid links.new.items) }
+{
+    let chains = put_in_order_with_keys::<u64, Rec1>(alloc, heads)?;
+    let links = put_in_order_with_keys::<u64, RecI>(alloc, links)?;
+    Ok(Tlids { chains, links })
+}
+
+/// Puts each table in the order of its records' numbers. It answers the TLIDs of the records of types 1 and I in that order, and
+/// the keys of types 2, 4, 6 and P that stand twice.
+pub(crate) fn order_tables(alloc: Global, tables: &mut Tables) -> Result<Ordered, AllocError>
+    ensures in_order { OnOk result (AreInOrder (typed_of tables.new)) }
+    ensures same { OnOk result (ArePermuted (typed_of tables.old) (typed_of tables.new)) }
+    ensures chains { IfOk result (λ ordered. ordered.tlids.chains.items ≡ map one_tlid tables.new.type_1.items) }
+    ensures links { IfOk result (λ ordered. ordered.tlids.links.items ≡ map i_tlid tables.new.type_i.items) }
+    ensures repeated { IfOk result (λ ordered. AreLeastRepeated ordered.repeated (typed_of tables.new)) }
+{
+    let repeated = order_repeated(
+        &mut tables.type_2,
+        &mut tables.type_4,
+        &mut tables.type_6,
+        &mut tables.type_p,
+    )?;
+    order_named(&mut tables.type_5, &mut tables.type_7, &mut tables.type_8)?;
+    let tlids = order_chains(alloc, &mut tables.type_1, &mut tables.type_i)?;
+    Ok(Ordered { tlids, repeated })
+}
