@@ -17,12 +17,12 @@ use Rattle.tl_county.specs.ChartWords.{chain_at, points_of}
 use Rattle.tl_county.specs.County.{County}
 use Rattle.tl_county.specs.CountyRules.{IsCounty, tlids}
 use Rattle.tl_county.specs.Orders.{IsInOrder, times}
-use Rattle.tl_county.proofs.FirstFault.{Among, all_among}
-use Rattle.tl_county.proofs.Keys.{IsApart, nat_keys, apart_from_sorted, apart-permutation, times-yes, times-no, times-cons, same_or_not}
-use Rattle.tl_county.proofs.Lists.{all_weaker, map-map}
-use Rattle.tl_county.proofs.Members.{among-permutation}
-use Rattle.tl_county.proofs.Repacking.{less}
-use Rattle.tl_county.proofs.Numbers.{all_themselves, strict_from_order}
+use Rattle.tl_county.proofs.Rules.FirstFault.{Among, all_among}
+use Rattle.tl_county.proofs.ByKey.Keys.{IsApart, nat_keys, apart_from_sorted, apart-permutation, times-yes, times-no, times-cons, same_or_not}
+use Rattle.tl_county.proofs.Lists.Elements.{all_weaker, map-map}
+use Rattle.tl_county.proofs.Lists.Members.{among-permutation}
+use Rattle.tl_county.proofs.Packing.Repacking.{less}
+use Rattle.tl_county.proofs.ByKey.Numbers.{all_themselves, strict_from_order}
 use Rattle.tl_profile.specs.Shapes.{ShapeKey, shape_keys, shape_key_cmp, least_points, points_from}
 use Rattle.tl_profile.specs.ShapeOrder.{IsShapeOrder, key_of_walk, least_walk, least_walks, points_along, walk_cmp}
 use Rattle.tl_profile.specs.PlacedShapes.{HasHead, placed_walk}

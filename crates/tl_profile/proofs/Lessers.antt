@@ -3,7 +3,7 @@ use Rattle.std.proofs.Common.{◌≡◌, Bool, true, false, cond, Option, Some, 
 use Rattle.std.proofs.lemmas.Bool.{false≢true}
 use Rattle.std.proofs.lemmas.Cmp.{upto}
 use Rattle.std.specs.Cmp.{IsTotalOrder}
-use Rattle.tl_county.proofs.InOrder.{not_greater}
+use Rattle.tl_county.proofs.Lists.InOrder.{not_greater}
 use Rattle.tl_profile.specs.Shapes.{lesser}
 
 module _ {K : Type 0} {cmp : K → K → Ordering} (o : IsTotalOrder cmp) where

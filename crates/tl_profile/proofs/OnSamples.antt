@@ -1,7 +1,7 @@
 -- What the profile says of the samples.
 use Rattle.std.proofs.Common.{◌∷◌, refl}
 use Rattle.tl_county.specs.County.{county_of}
-use Rattle.tl_county.proofs.Samples.{cenid_1, there, loop, bare_loop, doubled, meeting, landmark, in_polygon, polygon}
+use Rattle.tl_county.proofs.Samples.Counties.{cenid_1, there, loop, bare_loop, doubled, meeting, landmark, in_polygon, polygon}
 use Rattle.std.proofs.Common.{codes}
 use Rattle.tl_profile.specs.Profile.{IsInProfile, IsFirstBrokenClause}
 use Rattle.tl_profile.specs.declared.fault.ProfileFault.TheVariants.{OwnReverse, SameShape, PolygonWithoutChain}

@@ -14,9 +14,9 @@ use Rattle.tl_shape.specs.PointOrder.{points_cmp}
 use Rattle.tl_county.specs.County.{County}
 use Rattle.tl_county.specs.CountyRules.{IsCounty, tlids}
 use Rattle.tl_county.specs.Keyed.{IsLeastPassing}
-use Rattle.tl_county.proofs.FirstFault.{Among, all_among}
-use Rattle.tl_county.proofs.KeyOrders.{points_keys}
-use Rattle.tl_county.proofs.Members.{among_any}
+use Rattle.tl_county.proofs.Rules.FirstFault.{Among, all_among}
+use Rattle.tl_county.proofs.ByKey.KeyOrders.{points_keys}
+use Rattle.tl_county.proofs.Lists.Members.{among_any}
 use Rattle.tl_profile.specs.Profile.{same_points, is_own_reverse}
 use Rattle.tl_profile.specs.Shapes.{points_at}
 use Rattle.tl_profile.proofs.Places.{chain_stands, all_next, among_parts, above_behind}

@@ -9,11 +9,11 @@ use Rattle.std.proofs.lemmas.Cmp.{tied_itself, upto, nat_cmp_total, ranked}
 use Rattle.tl_shape.specs.PointOrder.{points_cmp}
 use Rattle.tl_layout.specs.Coordinates.{Coordinates}
 use Rattle.tl_county.specs.Keyed.{IsLeastPassing}
-use Rattle.tl_county.proofs.FirstFault.{Among, all_among}
-use Rattle.tl_county.proofs.KeyOrders.{points_keys}
-use Rattle.tl_county.proofs.Keys.{same-true, same-itself, order_antisymm}
-use Rattle.tl_county.proofs.InOrder.{not_greater}
-use Rattle.tl_county.proofs.Members.{among_any, any_among}
+use Rattle.tl_county.proofs.Rules.FirstFault.{Among, all_among}
+use Rattle.tl_county.proofs.ByKey.KeyOrders.{points_keys}
+use Rattle.tl_county.proofs.ByKey.Keys.{same-true, same-itself, order_antisymm}
+use Rattle.tl_county.proofs.Lists.InOrder.{not_greater}
+use Rattle.tl_county.proofs.Lists.Members.{among_any, any_among}
 use Rattle.tl_profile.specs.Profile.{same_points}
 use Rattle.tl_profile.specs.Shapes.{ShapeKey, TlidPair, is_one_shape, lesser, next_pair, pair_cmp, shape_key_cmp}
 use Rattle.tl_profile.proofs.PlacedOrder.{pair_cmp_keys}

@@ -9,8 +9,8 @@ use Rattle.std.proofs.lemmas.List.Sorted.{IsPermutation-map}
 use Rattle.tl_shape.specs.PointOrder.{point_cmp, points_cmp}
 use Rattle.tl_county.specs.County.{County}
 use Rattle.tl_county.specs.Orders.{IsInOrder}
-use Rattle.tl_county.proofs.KeyOrders.{point_keys, points_keys, pair_keys}
-use Rattle.tl_county.proofs.Keys.{IsKeyOrder, nat_keys}
+use Rattle.tl_county.proofs.ByKey.KeyOrders.{point_keys, points_keys, pair_keys}
+use Rattle.tl_county.proofs.ByKey.Keys.{IsKeyOrder, nat_keys}
 use Rattle.tl_profile.specs.Shapes.{shape_key_cmp, pair_cmp}
 use Rattle.tl_profile.specs.ShapeOrder.{IsShapeOrder, least_walks, walk_cmp}
 use Rattle.tl_profile.specs.PlacedShapes.{HasHead, placed_cmp, placed_key_cmp, placed_walk, whole_shape}

@@ -13,7 +13,7 @@ use Rattle.tl_shape.specs.PointOrder.{points_cmp}
 use Rattle.tl_county.specs.ChartWords.{chain_at, points_of}
 use Rattle.tl_county.specs.County.{County}
 use Rattle.tl_county.specs.CountyRules.{IsCounty, tlids}
-use Rattle.tl_county.proofs.FirstFault.{Among, all_among}
+use Rattle.tl_county.proofs.Rules.FirstFault.{Among, all_among}
 use Rattle.tl_profile.specs.Shapes.{least_points, points_at, points_from}
 
 -- an item, and the list before and behind it
@@ -34,13 +34,6 @@ stands_at (x ∷ xs) (suc place) h =
       upto = ap (λ l. x ∷ l) s.upto;
       whole = ap (λ l. x ∷ l) s.whole;
     }
-
--- the items up to one that was read
-pub take_next : {X : Type 0} (xs : List X) (place : ℕ) (x : X) → slice_get xs place ≡ Some x
-    → take (suc place) xs ≡ take place xs ++ (x ∷ [])
-take_next [] place x e = cc
-take_next (y ∷ ys) zero x e = let same : y ≡ x = cc in ap (λ z. z ∷ []) same
-take_next (y ∷ ys) (suc place) x e = ap (λ l. y ∷ l) (take_next ys place x e)
 
 pub all_next : {X : Type 0} (P : X → Type 0) (xs : List X) (x : X) → AllByRecursion P xs → P x → AllByRecursion P (xs ++ (x ∷ []))
 all_next P [] x a p = (p, tt)

@@ -10,11 +10,11 @@ use Rattle.tl_county.specs.County.{County}
 use Rattle.tl_county.specs.CountyRules.{polygons_along}
 use Rattle.tl_county.specs.Orders.{stands_in}
 use Rattle.tl_county.specs.PolygonKeys.{PolygonKey, key_cmp}
-use Rattle.tl_county.proofs.FirstFault.{Among, among_left, among_right, first_or_none, not_first, one_first, none_there}
-use Rattle.tl_county.proofs.FirstFault.{least_there, none_computed, first_computed}
-use Rattle.tl_county.proofs.KeyOrders.{key_keys}
-use Rattle.tl_county.proofs.Keys.{same-true}
-use Rattle.tl_county.proofs.Members.{any_among, among-map, among-pieces}
+use Rattle.tl_county.proofs.Rules.FirstFault.{Among, among_left, among_right, first_or_none, not_first, one_first, none_there}
+use Rattle.tl_county.proofs.Rules.FirstFault.{least_there, none_computed, first_computed}
+use Rattle.tl_county.proofs.ByKey.KeyOrders.{key_keys}
+use Rattle.tl_county.proofs.ByKey.Keys.{same-true}
+use Rattle.tl_county.proofs.Lists.Members.{any_among, among-map, among-pieces}
 use Rattle.tl_profile.specs.declared.fault.ProfileFault.{ProfileFault}
 use Rattle.tl_profile.specs.declared.fault.ProfileFault.TheVariants.{OwnReverse, SameShape, PolygonWithoutChain, Memory}
 use Rattle.tl_profile.specs.Profile.{

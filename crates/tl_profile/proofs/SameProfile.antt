@@ -16,12 +16,12 @@ use Rattle.tl_county.specs.Orders.{stands_in, times}
 use Rattle.tl_county.specs.PolygonKeys.{PolygonKey, key_cmp}
 use Rattle.tl_county.specs.Renumbering.{Renumbering, Carries, AreSame, image, turns, carried_chain, carried_polygon, renumbered}
 use Rattle.tl_shape.specs.Turned.{turned_if}
-use Rattle.tl_county.proofs.Carried.{chain_polygons-renumbered, among-unpieces, among-turned}
-use Rattle.tl_county.proofs.FirstFault.{Among}
-use Rattle.tl_county.proofs.KeyOrders.{key_keys, points_keys}
-use Rattle.tl_county.proofs.Keys.{Known, same-true, same-itself}
-use Rattle.tl_county.proofs.Sameness.{same-symmetric}
-use Rattle.tl_county.proofs.Members.{among-permutation, among-map, among-unmap, among-pieces, among_any, among_known, known_is_among}
+use Rattle.tl_county.proofs.Sameness.Carried.{chain_polygons-renumbered, among-unpieces, among-turned}
+use Rattle.tl_county.proofs.Rules.FirstFault.{Among}
+use Rattle.tl_county.proofs.ByKey.KeyOrders.{key_keys, points_keys}
+use Rattle.tl_county.proofs.ByKey.Keys.{Known, same-true, same-itself}
+use Rattle.tl_county.proofs.Sameness.Equivalence.{same-symmetric}
+use Rattle.tl_county.proofs.Lists.Members.{among-permutation, among-map, among-unmap, among-pieces, among_any, among_known, known_is_among}
 use Rattle.tl_profile.specs.declared.fault.ProfileFault.TheVariants.{OwnReverse, SameShape, PolygonWithoutChain, Memory}
 use Rattle.tl_profile.specs.Profile.{same_points, same_shape, is_own_reverse, are_one_shape, IsInProfile}
 use Rattle.tl_profile.proofs.ProfileFaults.{own_reverse_entry, AreOneShape, one_shape_entries, body_entry}

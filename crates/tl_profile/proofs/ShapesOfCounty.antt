@@ -10,8 +10,8 @@ use Rattle.tl_layout.specs.Coordinates.{Coordinates}
 use Rattle.tl_shape.specs.Chain.{Chain}
 use Rattle.tl_shape.specs.PointOrder.{points_cmp}
 use Rattle.tl_county.specs.County.{County}
-use Rattle.tl_county.proofs.KeyOrders.{points_keys}
-use Rattle.tl_county.proofs.Members.{among-permutation, among-map, among-unmap, among_any}
+use Rattle.tl_county.proofs.ByKey.KeyOrders.{points_keys}
+use Rattle.tl_county.proofs.Lists.Members.{among-permutation, among-map, among-unmap, among_any}
 use Rattle.tl_profile.specs.Profile.{are_one_shape, same_shape}
 use Rattle.tl_profile.specs.Shapes.{ShapeKey, TlidPair, is_one_shape, least_points, points_from, shape_keys}
 use Rattle.tl_profile.proofs.Pairs.{HasOneShape, one_shape_parts, one_shape_from}

@@ -19,7 +19,7 @@ pub struct ChainWalk {
 }
 
 /// The point that a walk comes to at an index, from 0, or none past its last.
-pub(crate) fn point_along<C: Chart>(chart: &C, walk: ChainWalk, index: usize) -> Option<Point>
+pub fn point_along<C: Chart>(chart: &C, walk: ChainWalk, index: usize) -> Option<Point>
     ensures { result ≡ slice_get (points_along (C.county chart.now) walk) index }
 {
     let place = walk.place as usize;

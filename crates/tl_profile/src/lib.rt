@@ -1,4 +1,8 @@
 //! The profile: the counties whose chains can be told apart by their points alone.
+//!
+//! A caller starts with `admit`, or with `admit_in` for a county in an arena; `admit_chart` takes a county that is kept otherwise. A
+//! whole call goes by `admit_linked`, which is told by linking which polygon is on no side, and takes the order of the chains by their
+//! shapes along as a `ShapeOrder`. Whoever holds an `Admitted` need not ask again. `point_along` reads a chain along a `ChainWalk`.
 #![tactic(auto)]
 
 mod admission;
@@ -12,7 +16,7 @@ mod sides;
 pub use admission::{
     Admitted, AdmittedIn, admit, admit_chart, admit_in, admit_linked, admit_with_order,
 };
-pub use chain_walk::ChainWalk;
+pub use chain_walk::{ChainWalk, point_along};
 pub use fault::ProfileFault;
 pub use laws::{in_profile_or_one_first_broken_clause, same_counties_agree_on_the_profile};
 pub use shape_order::{ShapeOrder, order_by_shape};

@@ -1,4 +1,7 @@
 //! The shapes of chains, put in order, and which of them are the same.
+//!
+//! Most shapes differ in their first two points, so these stand beside a chain's place and direction while chains are put in order, and
+//! the county is asked only where both are equal. After that chains of one shape are neighbours.
 
 ghost use Rattle.std.specs.Prelude.{◌≡◌, ◌<◌, length, map, slice_index, IfOk, IsPermutation};
 ghost use Rattle.std.specs.List.{AllByRecursion};

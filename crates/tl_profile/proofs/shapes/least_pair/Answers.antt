@@ -2,7 +2,7 @@ use Rattle.std.proofs.Common.{◌≡◌, ◌∷◌, [], map, sym, ap, ◌∙◌,
 use Rattle.std.specs.List.{AllByRecursion}
 use Rattle.std.specs.List.Sorted.{IsStrictlySortedBy}
 use Rattle.tl_county.specs.Keyed.{IsLeastPassing}
-use Rattle.tl_county.proofs.KeyedLists.{empty_list}
+use Rattle.tl_county.proofs.ByKey.KeyedLists.{empty_list}
 use Rattle.tl_profile.specs.PlacedShapes.{HasHead, key_of_shape}
 use Rattle.tl_profile.specs.Shapes.{is_one_shape, lesser, next_pair, pair_cmp, shape_key_cmp}
 use Rattle.tl_profile.proofs.Lessers.{lesser-nested, lesser-none}

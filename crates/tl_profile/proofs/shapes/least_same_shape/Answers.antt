@@ -1,8 +1,8 @@
 use Rattle.std.proofs.Common.{◌≡◌, map, sym, subst}
 use Rattle.std.specs.List.Sorted.{IsStrictlySortedBy}
 use Rattle.tl_county.specs.Keyed.{IsLeastPassing}
-use Rattle.tl_county.proofs.KeyedLists.{least-same}
-use Rattle.tl_county.proofs.Lists.{map-map}
+use Rattle.tl_county.proofs.ByKey.KeyedLists.{least-same}
+use Rattle.tl_county.proofs.Lists.Elements.{map-map}
 use Rattle.tl_profile.specs.PlacedShapes.{key_of_shape, placed_walk}
 use Rattle.tl_profile.specs.ShapeOrder.{key_of_walk}
 use Rattle.tl_profile.specs.Shapes.{is_one_shape, pair_cmp, pair_refused, shape_key_cmp}
