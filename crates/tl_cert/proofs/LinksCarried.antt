@@ -10,9 +10,9 @@ use Rattle.tl_county.specs.ChartWords.{links_with}
 use Rattle.tl_county.specs.County.{County, eight_land}
 use Rattle.tl_county.specs.CountyRules.{IsCounty, lands}
 use Rattle.tl_county.specs.Orders.{times, stands_in}
-use Rattle.tl_county.proofs.Keys.{Known, nat_keys, apart_from_sorted}
-use Rattle.tl_county.proofs.Lists.{all_weaker, map-map, map_itself}
-use Rattle.tl_county.proofs.Permutations.{groups-permutation}
+use Rattle.tl_county.proofs.ByKey.Keys.{Known, nat_keys, apart_from_sorted}
+use Rattle.tl_county.proofs.Lists.Elements.{all_weaker, map-map, map_itself}
+use Rattle.tl_county.proofs.Lists.Permutations.{groups-permutation}
 use Rattle.tl_cert.specs.LinkFields.{LinkFields, link_fields}
 use Rattle.tl_cert.proofs.Places.{decides_same}
 

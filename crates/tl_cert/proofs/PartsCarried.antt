@@ -16,13 +16,13 @@ use Rattle.tl_county.specs.Entries.{entry_keys, value_under}
 use Rattle.tl_county.specs.PolygonKeys.{PolygonKey, key_cmp}
 use Rattle.tl_county.specs.Renumbering.{Renumbering, image, turns, renumbered, renumbered_polygon, side_of, carried_chain, carried_name}
 use Rattle.tl_county.specs.Renumbering.{carried_polygon, carried_landmark, carried_link, ArePaired, NumbersArePaired}
-use Rattle.tl_county.proofs.Keys.{IsKeyOrder, IsApart, Known, nat_keys, lefts, same_or_not, same-itself, times-yes, apart_tail}
-use Rattle.tl_county.proofs.Keys.{apart-permutation, images-lefts, apart_from_sorted}
-use Rattle.tl_county.proofs.KeyOrders.{key_keys}
-use Rattle.tl_county.proofs.Lists.{all_weaker, all_both, all_map, all_unmap, map-map}
-use Rattle.tl_county.proofs.FirstFault.{Among, all_among}
-use Rattle.tl_county.proofs.Members.{among-permutation}
-use Rattle.tl_county.proofs.Sameness.{keys_known}
+use Rattle.tl_county.proofs.ByKey.Keys.{IsKeyOrder, IsApart, Known, nat_keys, lefts, same_or_not, same-itself, times-yes, apart_tail}
+use Rattle.tl_county.proofs.ByKey.Keys.{apart-permutation, images-lefts, apart_from_sorted}
+use Rattle.tl_county.proofs.ByKey.KeyOrders.{key_keys}
+use Rattle.tl_county.proofs.Lists.Elements.{all_weaker, all_both, all_map, all_unmap, map-map}
+use Rattle.tl_county.proofs.Rules.FirstFault.{Among, all_among}
+use Rattle.tl_county.proofs.Lists.Members.{among-permutation}
+use Rattle.tl_county.proofs.Sameness.Equivalence.{keys_known}
 use Rattle.tl_cert.specs.PartsThere.{IsChainThere, IsNameThere, IsPolygonThere, IsLandmarkThere}
 use Rattle.tl_cert.specs.RenamingTables.{RenumbersAs}
 use Rattle.tl_cert.proofs.Tables.{image-alike}

@@ -1,5 +1,5 @@
 -- Lists that are gone through place by place, and tests that decide.
-use Rattle.std.proofs.Common.{◌≡◌, ◌<◌, ◌≤◌, ◌+◌, ℕ, zero, suc, List, [], ◌∷◌, ◌++◌, length, take, get_or, Bool, true, false, Ordering}
+use Rattle.std.proofs.Common.{◌≡◌, ◌<◌, ◌≤◌, ◌+◌, ℕ, zero, suc, List, [], ◌∷◌, length, take, get_or, Bool, true, false, Ordering}
 use Rattle.std.proofs.Common.{is_eq, Option, Some, IfSome, slice_get, refl, sym, ap, ◌∙◌, subst, add-one, arith}
 use Rattle.std.proofs.Common.{IsPermutation, nat_cmp, is_gt, ◌||◌}
 use Rattle.std.proofs.lemmas.Bool.{false≢true, le-ltb}
@@ -8,12 +8,13 @@ use Rattle.std.proofs.lemmas.List.Sorted.{IsPermutation-sym, IsPermutation-trans
 use Rattle.std.specs.Bool.{Decides}
 use Rattle.std.specs.Cmp.Lexicographic.{slice_cmp}
 use Rattle.std.specs.List.{AllByRecursion}
-use Rattle.tl_county.specs.Orders.{IsInOrder, times, has_repeat}
+use Rattle.tl_county.specs.Orders.{IsInOrder, in_order, times, has_repeat}
 use Rattle.tl_county.specs.Entries.{entry_keys, entry_values}
 use Rattle.tl_county.specs.Renumbering.{ArePaired}
-use Rattle.tl_county.proofs.InOrder.{in_order-permutation}
-use Rattle.tl_county.proofs.KeyOrders.{lists_keys}
-use Rattle.tl_county.proofs.Keys.{
+use Rattle.tl_county.proofs.Lists.InOrder.{in_order-in_order, in_order-permutation}
+use Rattle.tl_county.proofs.Lists.Permutations.{in_order-is_permutation}
+use Rattle.tl_county.proofs.ByKey.KeyOrders.{lists_keys}
+use Rattle.tl_county.proofs.ByKey.Keys.{
   IsKeyOrder,
   Known,
   nat_keys,
@@ -26,8 +27,8 @@ use Rattle.tl_county.proofs.Keys.{
   order_antisymm,
   apart-permutation,
 }
-use Rattle.tl_county.proofs.Distinct.{has_repeat-apart, apart_from_no_repeat}
-use Rattle.tl_county.proofs.Lists.{all_append}
+use Rattle.tl_county.proofs.Lists.Distinct.{has_repeat-apart, apart_from_no_repeat}
+use Rattle.tl_county.proofs.Lists.Elements.{all_append}
 
 -- a test whose fact would follow from another's
 pub decides_no : {P Q : Type 0} (b : Bool) → b ≡ false → Decides b P → (Q → P) → Decides false Q
@@ -40,15 +41,7 @@ decides_same b d f g = (λ e. f (d.0 e), λ q. d.1 (g q))
 pub decides_over : {X : Type 0} (b : Bool) (x x' y y' : X) → x ≡ x' → y ≡ y' → Decides b (x ≡ y) → Decides b (x' ≡ y')
 decides_over b x x' y y' p q d = (λ t. sym p ∙ d.0 t ∙ q, λ e. d.1 (p ∙ e ∙ sym q))
 
--- one more element
-take_next : {X : Type 0} (xs : List X) (i : ℕ) (x : X) → slice_get xs i ≡ Some x → take (suc i) xs ≡ take i xs ++ (x ∷ [])
-take_next [] i x e = cc
-take_next (y ∷ ys) zero x e = let same : y ≡ x = cc in ap (λ z. z ∷ []) same
-take_next (y ∷ ys) (suc i) x e = ap (λ zs. y ∷ zs) (take_next ys i x e)
-
-pub taken_next : {X : Type 0} (xs : List X) (i : ℕ) (x : X) → Some x ≡ slice_get xs i → take i xs ++ (x ∷ []) ≡ take (i + 1) xs
-taken_next xs i x e = rw add-one (sym (take_next xs i x (sym e)))
-
+-- all elements, or as many as a place leaves before it
 pub taken_all : {X : Type 0} (xs ys : List X) (i n : ℕ) → ys ≡ take i xs → length xs ≡ n → n ≤ i → ys ≡ xs
 taken_all xs ys i n e l h = e ∙ take_all i xs (omega (arith, l, h))
 
@@ -121,6 +114,15 @@ module _ {K : Type 0} {cmp : K → K → Ordering} (o : IsKeyOrder cmp) where
         (in_order-permutation o sorted known g h (IsPermutation-trans sorted numbers known (IsPermutation-sym numbers sorted p) q))
         (same-itself (lists_keys o) sorted),
   )
+
+-- a permutation that is in order is the list put in order
+pub sorted_in_order : {K : Type 0} {cmp : K → K → Ordering} → IsKeyOrder cmp → (before after : List K) → IsPermutation before after
+    → IsInOrder cmp after → after ≡ in_order cmp before
+sorted_in_order {cmp = cmp} o before after p h =
+    let same : IsPermutation after (in_order cmp before) =
+    IsPermutation-trans after before (in_order cmp before) (IsPermutation-sym before after p)
+    (IsPermutation-sym (in_order cmp before) before (in_order-is_permutation cmp before)) in
+    in_order-permutation o after (in_order cmp before) h (in_order-in_order o.total before) same
 
 pub decides_paired : {K : Type 0} (pairs : List (K × K)) (olds news : List K) → IsPermutation (lefts pairs) olds → (b : Bool)
     → Decides b (IsPermutation (rights pairs) news) → Decides b (ArePaired pairs olds news)

@@ -11,7 +11,7 @@ use Rattle.std.specs.Ordering.{ordering_reverse}
 use Rattle.tl_county.specs.Entries.{value_under}
 use Rattle.tl_county.specs.Orders.{stands_in}
 use Rattle.tl_county.specs.Renumbering.{image, is_named, composed, exactly_one}
-use Rattle.tl_county.proofs.Keys.{IsKeyOrder, lefts}
+use Rattle.tl_county.proofs.ByKey.Keys.{IsKeyOrder, lefts}
 use Rattle.tl_cert.specs.Images.{AnswersAs, named_images, pair_on, is_turned_once}
 
 is_eq-reverse : (a : Ordering) → is_eq (ordering_reverse a) ≡ is_eq a

@@ -370,7 +370,7 @@ fn is_chain_there<A: Chart, B: Chart>(a: &A, b: &B, tables: &RenamingTables, pla
     requires { place < length (A.county a.now).chains }
     ensures { Decides result (IfSome (slice_get (A.county a.now).chains place) (IsChainThere tables.now (B.county b.now))) }
 {
-    let tlid = a.tlid(place);
+    let tlid = a.tlid_there(place);
     let other = b.chain_place_or_end(tables.tlid(tlid));
     is_same_chain(a, place, tables.is_turned(tlid), b, other, tables)
 }

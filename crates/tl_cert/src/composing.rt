@@ -6,7 +6,7 @@ ghost use Rattle.tl_county.specs.CountyRules.{IsCounty};
 ghost use Rattle.tl_county.specs.Renumbering.{Carries, inverse, then};
 
 use crate::pairs::{join_pairs, swap_pairs};
-use crate::renaming::{Renaming, RenamingParts};
+use crate::renaming::Renaming;
 use crate::turning::{turned_back, turned_once};
 use std::alloc::AllocError;
 
@@ -25,14 +25,7 @@ impl Renaming {
         let lands = swap_pairs(alloc, self.lands())?;
         let nodes = swap_pairs(alloc, self.nodes())?;
         let turned = turned_back(alloc, self.chains(), self.turned())?;
-        Ok(Renaming::of_parts(RenamingParts {
-            chains,
-            names,
-            polygons,
-            lands,
-            nodes,
-            turned,
-        }))
+        Ok(Renaming::new(chains, names, polygons, lands, nodes, turned))
     }
 
     /// This renaming and then the next one. A number whose new number `next` doesn't name is left out; a chain is
@@ -49,13 +42,6 @@ impl Renaming {
         let lands = join_pairs(alloc, self.lands(), next.lands())?;
         let nodes = join_pairs(alloc, self.nodes(), next.nodes())?;
         let turned = turned_once(alloc, &chains, self.chains(), self.turned(), next.turned())?;
-        Ok(Renaming::of_parts(RenamingParts {
-            chains,
-            names,
-            polygons,
-            lands,
-            nodes,
-            turned,
-        }))
+        Ok(Renaming::new(chains, names, polygons, lands, nodes, turned))
     }
 }

@@ -21,7 +21,7 @@ fn push_links<C: Chart>(links: &mut Vec<Rec8>, chart: &C, place: usize) -> Resul
 {
     let count = chart.link_count_at(place);
     for link in 0..count {
-        links.push(chart.landmark_link(place, link))?;
+        links.push(chart.landmark_link_there(place, link))?;
     }
     Ok(())
 }

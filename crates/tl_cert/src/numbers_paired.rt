@@ -8,85 +8,39 @@ ghost use Rattle.tl_county.specs.CountyRules.{feats, lands, nodes, polygon_keys,
 ghost use Rattle.tl_county.specs.Orders.{IsInOrder, has_repeat, stands_in};
 ghost use Rattle.tl_county.specs.Renumbering.{ArePaired, NumbersArePaired};
 
-use crate::numbers::{feats_of, lands_of, nodes_of, polygon_keys_of, tlids_of};
+use crate::county_numbers::{Feats, Lands, Nodes, NumberKind, PolygonKeys, Tlids, numbers_of};
 use crate::pairing::are_paired;
 use crate::renaming::Renaming;
 use crate::turning::sorted;
 use std::alloc::{AllocError, Global};
-use tl_county::{Chart, PolygonKey};
+use tl_county::{Chart, Key, PolygonKey};
 
-/// Whether the pairs are of the TLIDs of the two counties.
-fn tlids_are_paired<A: Chart, B: Chart>(
+/// Whether the pairs are of the numbers of one kind of two counties: the old ones are these, which are in order.
+fn are_paired_with<K: Key, N: NumberKind<K>, B: Chart>(
     alloc: Global,
-    a: &A,
     b: &B,
-    pairs: &[(u64, u64)],
+    pairs: &[(K, K)],
+    olds: &[K],
 ) -> Result<bool, AllocError>
-    ensures { IfOk result (λ yes. Decides yes (ArePaired pairs.now (tlids (A.county a.now)) (tlids (B.county b.now)))) }
+    requires { IsInOrder K.cmp olds.now }
+    ensures { IfOk result (λ yes. Decides yes (ArePaired pairs.now olds.now (N.numbers (B.county b.now)))) }
 {
-    let olds = tlids_of(alloc, a)?;
-    let news = tlids_of(alloc, b)?;
-    let paired = are_paired(alloc, pairs, &olds, &news)?;
+    let news = numbers_of::<K, N, B>(alloc, b)?;
+    let paired = are_paired(alloc, pairs, olds, &news)?;
     Ok(paired)
 }
 
-/// Whether the pairs are of the FEATs of the two counties.
-fn feats_are_paired<A: Chart, B: Chart>(
+/// Whether the pairs are of the numbers of one kind of two counties.
+fn is_kind_paired<K: Key, N: NumberKind<K>, A: Chart, B: Chart>(
     alloc: Global,
     a: &A,
     b: &B,
-    pairs: &[(u32, u32)],
+    pairs: &[(K, K)],
 ) -> Result<bool, AllocError>
-    ensures { IfOk result (λ yes. Decides yes (ArePaired pairs.now (feats (A.county a.now)) (feats (B.county b.now)))) }
+    ensures { IfOk result (λ yes. Decides yes (ArePaired pairs.now (N.numbers (A.county a.now)) (N.numbers (B.county b.now)))) }
 {
-    let olds = feats_of(alloc, a)?;
-    let news = feats_of(alloc, b)?;
-    let paired = are_paired(alloc, pairs, &olds, &news)?;
-    Ok(paired)
-}
-
-/// Whether the pairs are of the polygons of the two counties.
-fn polygon_keys_are_paired<A: Chart, B: Chart>(
-    alloc: Global,
-    a: &A,
-    b: &B,
-    pairs: &[(PolygonKey, PolygonKey)],
-) -> Result<bool, AllocError>
-    ensures { IfOk result (λ yes. Decides yes (ArePaired pairs.now (polygon_keys (A.county a.now)) (polygon_keys (B.county b.now)))) }
-{
-    let olds = polygon_keys_of(alloc, a)?;
-    let news = polygon_keys_of(alloc, b)?;
-    let paired = are_paired(alloc, pairs, &olds, &news)?;
-    Ok(paired)
-}
-
-/// Whether the pairs are of the LANDs of the two counties.
-fn lands_are_paired<A: Chart, B: Chart>(
-    alloc: Global,
-    a: &A,
-    b: &B,
-    pairs: &[(u64, u64)],
-) -> Result<bool, AllocError>
-    ensures { IfOk result (λ yes. Decides yes (ArePaired pairs.now (lands (A.county a.now)) (lands (B.county b.now)))) }
-{
-    let olds = lands_of(alloc, a)?;
-    let news = lands_of(alloc, b)?;
-    let paired = are_paired(alloc, pairs, &olds, &news)?;
-    Ok(paired)
-}
-
-/// Whether the pairs are of the nodes of the two counties.
-fn nodes_are_paired<A: Chart, B: Chart>(
-    alloc: Global,
-    a: &A,
-    b: &B,
-    pairs: &[(u64, u64)],
-) -> Result<bool, AllocError>
-    ensures { IfOk result (λ yes. Decides yes (ArePaired pairs.now (nodes (A.county a.now)) (nodes (B.county b.now)))) }
-{
-    let olds = nodes_of(alloc, a)?;
-    let news = nodes_of(alloc, b)?;
-    let paired = are_paired(alloc, pairs, &olds, &news)?;
+    let olds = numbers_of::<K, N, A>(alloc, a)?;
+    let paired = are_paired_with::<K, N, B>(alloc, b, pairs, &olds)?;
     Ok(paired)
 }
 
@@ -120,7 +74,7 @@ fn polygons_are_paired<A: Chart, B: Chart>(
     ensures { IfOk result (λ yes. Decides yes (ArePaired pairs.now (polygon_keys (A.county a.now)) (polygon_keys (B.county b.now))
         × AllByRecursion (λ pair. pair.0.0 ≡ pair.1.0) pairs.now)) }
 {
-    let paired = polygon_keys_are_paired(alloc, a, b, pairs)?;
+    let paired = is_kind_paired::<PolygonKey, PolygonKeys, A, B>(alloc, a, b, pairs)?;
     Ok(paired && keep_cenids(pairs))
 }
 
@@ -181,15 +135,15 @@ fn lines_are_paired<A: Chart, B: Chart>(
         × ArePaired renaming.now.names (feats (A.county a.now)) (feats (B.county b.now))
         × ArePaired renaming.now.nodes (nodes (A.county a.now)) (nodes (B.county b.now)))) }
 {
-    let chains = tlids_are_paired(alloc, a, b, renaming.chains())?;
+    let chains = is_kind_paired::<u64, Tlids, A, B>(alloc, a, b, renaming.chains())?;
     if !chains {
         return Ok(false);
     }
-    let names = feats_are_paired(alloc, a, b, renaming.names())?;
+    let names = is_kind_paired::<u32, Feats, A, B>(alloc, a, b, renaming.names())?;
     if !names {
         return Ok(false);
     }
-    let nodes = nodes_are_paired(alloc, a, b, renaming.nodes())?;
+    let nodes = is_kind_paired::<u64, Nodes, A, B>(alloc, a, b, renaming.nodes())?;
     Ok(nodes)
 }
 
@@ -211,7 +165,7 @@ pub(crate) fn numbers_are_paired<A: Chart, B: Chart>(
     if !polygons {
         return Ok(false);
     }
-    let lands = lands_are_paired(alloc, a, b, renaming.lands())?;
+    let lands = is_kind_paired::<u64, Lands, A, B>(alloc, a, b, renaming.lands())?;
     if !lands {
         return Ok(false);
     }

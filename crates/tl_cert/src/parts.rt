@@ -49,7 +49,7 @@ fn is_name_there<A: Chart, B: Chart>(a: &A, b: &B, tables: &RenamingTables, plac
     requires { place < length (A.county a.now).names }
     ensures { Decides result (IfSome (slice_get (A.county a.now).names place) (IsNameThere tables.now (B.county b.now))) }
 {
-    let other = b.name_place_or_end(tables.feat(a.feat(place)));
+    let other = b.name_place_or_end(tables.feat(a.feat_there(place)));
     is_same_name(b.name_body_at(other), a.name_body_at(place))
 }
 
@@ -71,7 +71,7 @@ fn is_polygon_there<A: Chart, B: Chart>(a: &A, b: &B, tables: &RenamingTables, p
     requires { place < length (A.county a.now).polygons }
     ensures { Decides result (IfSome (slice_get (A.county a.now).polygons place) (IsPolygonThere tables.now (B.county b.now))) }
 {
-    let other = b.polygon_place_or_end(tables.polygon(a.polygon_key(place)));
+    let other = b.polygon_place_or_end(tables.polygon(a.polygon_key_there(place)));
     is_same_polygon(b.polygon_body_at(other), a.polygon_body_at(place))
 }
 
@@ -118,7 +118,7 @@ fn is_landmark_there<A: Chart, B: Chart>(
     requires { place < length (A.county a.now).landmarks }
     ensures { Decides result (IfSome (slice_get (A.county a.now).landmarks place) (IsLandmarkThere tables.now (B.county b.now))) }
 {
-    let other = b.landmark_place_or_end(tables.land(a.land(place)));
+    let other = b.landmark_place_or_end(tables.land(a.land_there(place)));
     have_same_bodies(a, place, b, other)
 }
 

@@ -65,6 +65,23 @@ fn turned_by_one(
     Ok(turned)
 }
 
+/// The same, where only `firsts` are in order.
+fn turned_from_order(
+    alloc: Global,
+    images: &Images<u64>,
+    pairs: &[(u64, u64)],
+    firsts: &[u64],
+    nexts: &[u64],
+) -> Result<Vec<u64>, AllocError>
+    requires { IsInOrder nat_cmp firsts.now }
+    ensures { IfOk result (λ turned.
+        turned.items ≡ filter (is_turned_once images.now firsts.now nexts.now) (map (λ pair. pair.0) pairs.now)) }
+{
+    let nexts = sorted(alloc, nexts)?;
+    let turned = turned_by_one(alloc, pairs, images, firsts, &nexts)?;
+    Ok(turned)
+}
+
 /// The old numbers of those pairs whose chains exactly one of two renamings turns: the first has these chains and turns
 /// those of `firsts`, the next one turns those of `nexts`.
 pub(crate) fn turned_once(
@@ -79,8 +96,7 @@ pub(crate) fn turned_once(
 {
     let images = Images::new(alloc, chains)?;
     let firsts = sorted(alloc, firsts)?;
-    let nexts = sorted(alloc, nexts)?;
-    let turned = turned_by_one(alloc, pairs, &images, &firsts, &nexts)?;
+    let turned = turned_from_order(alloc, &images, pairs, &firsts, nexts)?;
     Ok(turned)
 }
 

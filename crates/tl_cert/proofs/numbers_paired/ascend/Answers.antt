@@ -1,6 +1,6 @@
 use Rattle.std.proofs.Common.{◌≡◌, ◌∷◌, [], ap, sym, subst, ◌∙◌, nat_cmp}
 use Rattle.tl_county.specs.Orders.{IsInOrder, has_repeat}
-use Rattle.tl_county.proofs.KeyedLists.{empty_list}
+use Rattle.tl_county.proofs.ByKey.KeyedLists.{empty_list}
 use Rattle.tl_cert.proofs.Places.{repeat_later}
 use Rattle.tl_cert.proofs.numbers_paired.ascend.Goals as goal
 

@@ -9,10 +9,10 @@ pub returns : goal.returns
 returns g c =
     let a = g.A.Chart.county c.args.a.now in
     let b = g.B.Chart.county c.args.b.now in
-    decides_entry a.names c.args.place c.feat.result c.feat.ensures
+    decides_entry a.names c.args.place c.feat_there.result c.feat_there.ensures
     (λ number value. name_under b (image nat_cmp c.args.tables.now.names number) ≡ value) c.is_same_name.result
-    (decides_over c.is_same_name.result c.name_body_at.result (name_under b (image nat_cmp c.args.tables.now.names c.feat.result))
+    (decides_over c.is_same_name.result c.name_body_at.result (name_under b (image nat_cmp c.args.tables.now.names c.feat_there.result))
     c.name_body_at-2.result
     (slice_get (entry_values a.names) c.args.place)
-    (c.name_body_at.ensures ∙ c.name_place_or_end-other.ensures ∙ ap (name_under b) c.feat-2.ensures) c.name_body_at-2.ensures
+    (c.name_body_at.ensures ∙ c.name_place_or_end-other.ensures ∙ ap (name_under b) c.feat.ensures) c.name_body_at-2.ensures
     c.is_same_name.ensures)

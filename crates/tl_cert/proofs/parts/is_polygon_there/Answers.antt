@@ -10,10 +10,10 @@ pub returns : goal.returns
 returns g c =
     let a = g.A.Chart.county c.args.a.now in
     let b = g.B.Chart.county c.args.b.now in
-    decides_entry a.polygons c.args.place c.polygon_key.result c.polygon_key.ensures
+    decides_entry a.polygons c.args.place c.polygon_key_there.result c.polygon_key_there.ensures
     (λ number value. polygon_under b (image key_cmp c.args.tables.now.polygons number) ≡ value) c.is_same_polygon.result
     (decides_over c.is_same_polygon.result c.polygon_body_at.result
-    (polygon_under b (image key_cmp c.args.tables.now.polygons c.polygon_key.result)) c.polygon_body_at-2.result
+    (polygon_under b (image key_cmp c.args.tables.now.polygons c.polygon_key_there.result)) c.polygon_body_at-2.result
     (slice_get (entry_values a.polygons) c.args.place)
     (c.polygon_body_at.ensures ∙ c.polygon_place_or_end-other.ensures ∙ ap (polygon_under b) c.polygon.ensures) c.polygon_body_at-2.ensures
     c.is_same_polygon.ensures)

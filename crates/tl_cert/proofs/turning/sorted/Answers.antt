@@ -1,7 +1,7 @@
 use Rattle.std.proofs.Common.{ap, subst, nat_lt, IsPermutation}
 use Rattle.std.proofs.lemmas.Cmp.{nat_cmp_total}
-use Rattle.tl_county.proofs.KeyedLists.{in_order-from_sorted}
-use Rattle.tl_county.proofs.Keys.{nat_keys, times-permutation}
+use Rattle.tl_county.proofs.ByKey.KeyedLists.{in_order-from_sorted}
+use Rattle.tl_county.proofs.ByKey.Keys.{nat_keys, times-permutation}
 use Rattle.tl_cert.proofs.turning.sorted.Goals as goal
 
 pub returns-clause-in_order : goal.returns-clause-in_order

@@ -1,10 +1,10 @@
 use Rattle.std.proofs.Common.{◌∙◌, ap, ap₂, sym, subst, map, filter, nat_cmp}
 use Rattle.tl_county.specs.Renumbering.{Carries, image, is_named, swapped}
-use Rattle.tl_county.proofs.Sameness.{inverse_carries}
+use Rattle.tl_county.proofs.Sameness.Equivalence.{inverse_carries}
 use Rattle.tl_cert.proofs.renaming.Renaming.inverse.Goals as goal
 
 pub returns-clause-value : goal.returns-clause-value
-returns-clause-value c = c.of_parts.ensures ∙ (λ i. record {
+returns-clause-value c = c.new.ensures ∙ (λ i. record {
   chains = (c.in_ok-chains.ensures ∙ ap swapped c.chains.ensures) i;
   names = (c.in_ok-names.ensures ∙ ap swapped c.names.ensures) i;
   polygons = (c.in_ok-polygons.ensures ∙ ap swapped c.polygons.ensures) i;

@@ -1,7 +1,7 @@
 use Rattle.std.proofs.Common.{◌≡◌, ◌∙◌, ap₂, sym, subst, map, filter, nat_cmp}
 use Rattle.tl_county.specs.PolygonKeys.{key_cmp}
 use Rattle.tl_county.specs.Renumbering.{Carries, composed}
-use Rattle.tl_county.proofs.Sameness.{then_carries}
+use Rattle.tl_county.proofs.Sameness.Equivalence.{then_carries}
 use Rattle.tl_cert.specs.Images.{is_turned_once}
 use Rattle.tl_cert.proofs.renaming.Renaming.then.Goals as goal
 
@@ -9,7 +9,7 @@ pub returns-clause-value : goal.returns-clause-value
 returns-clause-value c =
     let chains_are : c.in_ok-chains.chains.items ≡ composed nat_cmp c.args.self.now.chains c.args.next.now.chains =
     c.in_ok-chains.ensures ∙ ap₂ (composed nat_cmp) c.chains.ensures c.chains-2.ensures in
-    c.of_parts.ensures ∙ (λ i. record {
+    c.new.ensures ∙ (λ i. record {
       chains = chains_are i;
       names = (c.in_ok-names.ensures ∙ ap₂ (composed nat_cmp) c.names.ensures c.names-2.ensures) i;
       polygons = (c.in_ok-polygons.ensures ∙ ap₂ (composed key_cmp) c.polygons.ensures c.polygons-2.ensures) i;

@@ -1,6 +1,0 @@
-use Rattle.std.proofs.Common.{◌≡◌, take}
-use Rattle.tl_county.specs.CountyRules.{feats}
-use Rattle.tl_cert.proofs.numbers.feats_of.Given as goal
-
-abbrev pub invariant-loop-place : goal.invariant-loop-place
-invariant-loop-place g l = l.numbers.items ≡ take l.place (feats (g.C.Chart.county l.chart))

@@ -1,0 +1,10 @@
+-- The fact of a county under a mask has at most one proof.
+use Rattle.std.specs.Prelude.{List}
+use Rattle.std.proofs.Props.{props}
+use Rattle.tl_layout.specs.declared.mask.Mask.{Mask}
+use Rattle.tl_layout.specs.declared.type7.Body7.{Body7}
+use Rattle.tl_county.specs.County.{County}
+use Rattle.tl_cert.specs.MaskedTables.{TellsBodies}
+
+pub TellsBodies-prop : (mask : Mask) (county : County) (bodies : List (List Body7)) → IsProp (TellsBodies mask county bodies)
+TellsBodies-prop mask county bodies = hlevel props

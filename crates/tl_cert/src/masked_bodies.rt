@@ -1,0 +1,100 @@
+//! The contents of landmarks under a mask, in order again.
+
+ghost use Rattle.std.specs.Prelude.{◌≡◌, ◌++◌, IfOk, OnOk, map, true};
+ghost use Rattle.tl_layout.specs.Masked.{masked_body_7};
+ghost use Rattle.tl_county.specs.BodyOrder.{landmark_body_cmp};
+ghost use Rattle.tl_county.specs.ChartWords.{bodies_at};
+ghost use Rattle.tl_county.specs.Entries.{entry_values};
+ghost use Rattle.tl_county.specs.Orders.{in_order};
+ghost use Rattle.tl_cert.specs.MaskedCounty.{masked, masked_bodies};
+
+use crate::joined_lists::JoinedLists;
+use std::alloc::{AllocError, Global};
+use std::cmp::Ordering;
+use tl_county::Chart;
+use tl_layout::{Blank, Body7, Mask, Point};
+
+/// The fields of a landmark's content in their order: FILE, SOURCE, CFCC, LANAME, the point.
+type LandmarkFields = ([u8; 5], ([u8; 1], ([u8; 3], ([u8; 30], Option<Point>))));
+
+/// The fields of a landmark's content in their order.
+fn fields_of(body: &Body7) -> LandmarkFields
+    ensures { result ≡ (body.now.file, (body.now.source, (body.now.cfcc, (body.now.laname, body.now.point)))) }
+{
+    let file = body.file();
+    let source = body.source();
+    let cfcc = body.cfcc();
+    let laname = body.laname();
+    (file, (source, (cfcc, (laname, body.point()))))
+}
+
+/// How one content stands to another.
+fn cmp_bodies(a: &Body7, b: &Body7) -> Ordering
+    ensures { result ≡ landmark_body_cmp a.now b.now }
+{
+    fields_of(a).cmp(&fields_of(b))
+}
+
+/// Puts contents in order. It takes no memory.
+fn sort_bodies(bodies: &mut [Body7])
+    ensures { bodies.new ≡ in_order landmark_body_cmp bodies.old }
+{
+    bodies.sort_unstable_by(|a, b| cmp_bodies(a, b));
+}
+
+/// Puts each content under a mask.
+fn blank_bodies(bodies: &mut [Body7], mask: Mask)
+    ensures { bodies.new ≡ map (masked_body_7 mask) bodies.old }
+{
+    for body in bodies.iter_mut() {
+        body.blank(mask);
+    }
+}
+
+/// Adds the contents of the landmark at a place.
+fn push_bodies<C: Chart>(bodies: &mut Vec<Body7>, chart: &C, place: usize) -> Result<(), AllocError>
+    ensures { OnOk result (bodies.new.items ≡ bodies.old.items ++ bodies_at (C.county chart.now) place) }
+{
+    let count = chart.body_count_at(place);
+    for body in 0..count {
+        bodies.push(chart.landmark_body_there(place, body))?;
+    }
+    Ok(())
+}
+
+/// Fills the list with the contents of the landmark at a place under a mask that leaves out SOURCE. They are put in order after they
+/// are blanked, since SOURCE is one of the fields that order them.
+fn fill_masked<C: Chart>(
+    list: &mut Vec<Body7>,
+    chart: &C,
+    place: usize,
+    mask: Mask,
+) -> Result<(), AllocError>
+    requires { mask.sources ≡ true }
+    ensures { OnOk result (list.new.items ≡ masked_bodies mask (bodies_at (C.county chart.now) place)) }
+{
+    list.clear();
+    push_bodies(list, chart, place)?;
+    blank_bodies(list, mask);
+    sort_bodies(list);
+    Ok(())
+}
+
+/// The contents of each landmark of a county under a mask that leaves out SOURCE.
+pub(crate) fn masked_lists<C: Chart>(
+    alloc: Global,
+    chart: &C,
+    mask: Mask,
+) -> Result<JoinedLists<Body7>, AllocError>
+    requires { mask.sources ≡ true }
+    ensures { IfOk result (λ lists. lists ≡ entry_values (masked mask (C.county chart.now)).landmarks) }
+{
+    let mut lists = JoinedLists::new(alloc);
+    let mut list = Vec::new(alloc);
+    let count = chart.landmark_count();
+    for place in 0..count {
+        fill_masked(&mut list, chart, place, mask)?;
+        lists.push(&list)?;
+    }
+    Ok(lists)
+}
