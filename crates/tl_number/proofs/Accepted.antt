@@ -1,19 +1,21 @@
--- Each list of records is accepted or has one refusal; two accepted lists have one canonical list exactly if their counties
--- are the same.
-use Rattle.std.proofs.Common.{◌≡◌, ◌⊎◌, List, ap, subst, inl, inr}
+-- Each list of records is accepted or has one refusal; through each sight two accepted lists have one canonical list exactly if
+-- what is seen of their counties is the same.
+use Rattle.std.proofs.Common.{◌≡◌, ◌⊎◌, List, refl, sym, ap, subst, inl, inr}
 use Rattle.tl_layout.specs.declared.record_type.Record.{Record}
-use Rattle.tl_county.specs.County.{county_of}
+use Rattle.tl_county.specs.County.{County, county_of}
+use Rattle.tl_county.specs.CountyRules.{IsCounty}
 use Rattle.tl_county.specs.LinkRules.{IsLinked, IsFirstBrokenRule}
 use Rattle.tl_county.specs.Renumbering.{AreSame}
 use Rattle.tl_county.specs.declared.fault.LinkFault.{LinkFault}
-use Rattle.tl_county.proofs.LinkedCounty.{county-is_county}
-use Rattle.tl_county.proofs.LinkFaults.{linked_or_first, linked_has_none, one_first_rule}
-use Rattle.tl_county.proofs.Sameness.{same-reflexive, same-symmetric, same-transitive}
+use Rattle.tl_county.proofs.Rules.LinkedCounty.{county-is_county}
+use Rattle.tl_county.proofs.Rules.LinkFaults.{linked_or_first, linked_has_none, one_first_rule}
+use Rattle.tl_county.proofs.Sameness.Equivalence.{same-reflexive, same-symmetric, same-transitive}
 use Rattle.tl_profile.specs.Profile.{IsInProfile, IsFirstBrokenClause}
 use Rattle.tl_profile.specs.declared.fault.ProfileFault.{ProfileFault}
 use Rattle.tl_profile.proofs.ProfileFaults.{profile_or_first, profile_has_none, one_first_clause}
 use Rattle.tl_profile.proofs.SameProfile.{same_in_profile}
-use Rattle.tl_number.specs.Accepted.{IsAccepted, RecordsRefusal, Unlinked, OutOfProfile, IsRefusal, IsCanonicalOf}
+use Rattle.tl_number.specs.Accepted.{IsAccepted, RecordsRefusal, Unlinked, OutOfProfile, IsRefusal, IsCanonicalOf, IsCanonicalThrough}
+use Rattle.tl_number.specs.Sights.{IsSight, plain}
 use Rattle.tl_number.proofs.Uniqueness.{unique}
 
 pub accepted_or_refused : (records : List Record) → IsAccepted records ⊎ ((refusal : RecordsRefusal) × IsRefusal records refusal)
@@ -39,34 +41,63 @@ one_refusal records (Unlinked f) (OutOfProfile g) h k = absurd (linked_has_none 
 one_refusal records (OutOfProfile f) (Unlinked g) h k = absurd (linked_has_none records g h.0 k)
 one_refusal records (OutOfProfile f) (OutOfProfile g) h k = ap OutOfProfile (one_first_clause (county_of records) f g h.1 k.1)
 
-module _ (xs ys c d : List Record) (h : IsCanonicalOf xs c) (k : IsCanonicalOf ys d) where
-  pub same_one_canonical : AreSame (county_of xs) (county_of ys) → c ≡ d
-  same_one_canonical s =
-      let back : AreSame (county_of c) (county_of xs) =
-      same-symmetric (county_of xs) (county_of c) (county-is_county xs h.accepted.linked)
-      (county-is_county c h.canonical.in_form.linked) h.same in
-      let there : AreSame (county_of c) (county_of ys) =
-      same-transitive (county_of c) (county_of xs) (county_of ys) (county-is_county c h.canonical.in_form.linked)
-      (county-is_county xs h.accepted.linked) back s in
-      unique c d h.canonical k.canonical (same-transitive (county_of c) (county_of ys) (county_of d)
-      (county-is_county c h.canonical.in_form.linked) (county-is_county ys k.accepted.linked) there k.same)
-
-  pub one_canonical_same : c ≡ d → AreSame (county_of xs) (county_of ys)
-  one_canonical_same e =
-      let back : AreSame (county_of d) (county_of ys) =
-      same-symmetric (county_of ys) (county_of d) (county-is_county ys k.accepted.linked)
-      (county-is_county d k.canonical.in_form.linked) k.same in
-      let there : AreSame (county_of xs) (county_of d) = subst (λ l. AreSame (county_of xs) (county_of l)) e h.same in
-      same-transitive (county_of xs) (county_of d) (county_of ys) (county-is_county xs h.accepted.linked)
-      (county-is_county d k.canonical.in_form.linked) there back
-
--- a canonical list of an accepted one is its own canonical list
-pub canonical_of_itself : (xs c : List Record) → IsCanonicalOf xs c → IsCanonicalOf c c
-canonical_of_itself xs c h = record {
-  accepted = record {
-    linked = h.canonical.in_form.linked;
-    profile = same_in_profile (county_of xs) (county_of c) h.same h.accepted.profile;
-  };
-  canonical = h.canonical;
-  same = same-reflexive (county_of c);
+-- the county as it is
+pub plain_sight : IsSight plain
+plain_sight = record {
+  is_county = λ county h. h;
+  profile = λ county h. h;
+  limits = λ limit county h. h;
+  once = λ county. refl;
+  carried = λ r old new carries own. refl;
 }
+
+-- canonical lists through a sight
+module _ (seen : County → County) (sight : IsSight seen) where
+  seen_county : (records : List Record) → IsAccepted records → IsCounty (seen (county_of records))
+  seen_county records accepted = sight.is_county (county_of records) (county-is_county records accepted.linked)
+
+  module _ (xs ys c d : List Record) (h : IsCanonicalThrough seen xs c) (k : IsCanonicalThrough seen ys d) where
+    pub same_one_canonical : AreSame (seen (county_of xs)) (seen (county_of ys)) → c ≡ d
+    same_one_canonical s =
+        let old : County = seen (county_of xs) in
+        let other : County = seen (county_of ys) in
+        let back : AreSame (county_of c) old =
+        same-symmetric old (county_of c) (seen_county xs h.accepted) (county-is_county c h.canonical.in_form.linked) h.same in
+        let there : AreSame (county_of c) other =
+        same-transitive (county_of c) old other (county-is_county c h.canonical.in_form.linked) (seen_county xs h.accepted) back s in
+        unique c d h.canonical k.canonical (same-transitive (county_of c) other (county_of d)
+        (county-is_county c h.canonical.in_form.linked) (seen_county ys k.accepted) there k.same)
+
+    pub one_canonical_same : c ≡ d → AreSame (seen (county_of xs)) (seen (county_of ys))
+    one_canonical_same e =
+        let old : County = seen (county_of xs) in
+        let other : County = seen (county_of ys) in
+        let back : AreSame (county_of d) other =
+        same-symmetric other (county_of d) (seen_county ys k.accepted) (county-is_county d k.canonical.in_form.linked) k.same in
+        let there : AreSame old (county_of d) = subst (λ l. AreSame old (county_of l)) e h.same in
+        same-transitive old (county_of d) other (seen_county xs h.accepted) (county-is_county d k.canonical.in_form.linked) there back
+
+  -- a canonical list of an accepted one is accepted
+  pub canonical_accepted : (xs c : List Record) → IsCanonicalThrough seen xs c → IsAccepted c
+  canonical_accepted xs c h = record {
+    linked = h.canonical.in_form.linked;
+    profile = same_in_profile (seen (county_of xs)) (county_of c) h.same (sight.profile (county_of xs) h.accepted.profile);
+  }
+
+  -- it is its own canonical list through the sight
+  pub canonical_of_itself : (xs c : List Record) → IsCanonicalThrough seen xs c → IsCanonicalThrough seen c c
+  canonical_of_itself xs c h = record {
+    accepted = canonical_accepted xs c h;
+    canonical = h.canonical;
+    own = h.own;
+    same = subst (λ old. AreSame old (county_of c)) (sym h.own) (same-reflexive (county_of c));
+  }
+
+  -- and as it is
+  pub canonical_as_it_is : (xs c : List Record) → IsCanonicalThrough seen xs c → IsCanonicalOf c c
+  canonical_as_it_is xs c h = record {
+    accepted = canonical_accepted xs c h;
+    canonical = h.canonical;
+    own = refl;
+    same = same-reflexive (county_of c);
+  }

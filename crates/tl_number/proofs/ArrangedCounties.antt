@@ -22,19 +22,19 @@ use Rattle.tl_county.specs.Orders.{times, stands_in, IsInOrder, in_order}
 use Rattle.tl_county.specs.PolygonKeys.{PolygonKey, key_cmp}
 use Rattle.tl_county.specs.Renumbering.{image, carried_name, carried_polygon, carried_landmark}
 use Rattle.tl_county.specs.Renumbering.{carried_link, Carries}
-use Rattle.tl_county.proofs.CarriedCounty.{carried_closed, carried_whole, feats-turned}
-use Rattle.tl_county.proofs.FirstFault.{Among, all_among}
-use Rattle.tl_county.proofs.InOrder.{in_order-in_order, in_order-map, in_order-equal}
-use Rattle.tl_county.proofs.KeyOrders.{key_keys, link_part_keys, link_keys}
-use Rattle.tl_county.proofs.Keys.{IsKeyOrder, IsApart, Known, nat_keys, lefts, rights, times-yes, times-no, same_or_not}
-use Rattle.tl_county.proofs.Keys.{known_cases, known_all, map_agree, apart_from_sorted, apart-permutation}
-use Rattle.tl_county.proofs.Keys.{times-permutation, known-permutation, image-injective}
-use Rattle.tl_county.proofs.LinkedCounty.{each_from}
-use Rattle.tl_county.proofs.Lists.{map-map, all_weaker, all_map}
-use Rattle.tl_county.proofs.Members.{among-permutation, among-map, among-unmap, among_known, known_is_among}
-use Rattle.tl_county.proofs.Numbers.{all-in_order, strict_from_order}
-use Rattle.tl_county.proofs.Permutations.{in_order-is_permutation}
-use Rattle.tl_county.proofs.Sameness.{keys_known}
+use Rattle.tl_county.proofs.Sameness.CarriedCounty.{carried_closed, carried_whole, feats-turned}
+use Rattle.tl_county.proofs.Rules.FirstFault.{Among, all_among}
+use Rattle.tl_county.proofs.Lists.InOrder.{in_order-in_order, in_order-map, in_order-equal}
+use Rattle.tl_county.proofs.ByKey.KeyOrders.{key_keys, link_part_keys, link_keys}
+use Rattle.tl_county.proofs.ByKey.Keys.{IsKeyOrder, IsApart, Known, nat_keys, lefts, rights, times-yes, times-no, same_or_not}
+use Rattle.tl_county.proofs.ByKey.Keys.{known_cases, known_all, map_agree, apart_from_sorted, apart-permutation}
+use Rattle.tl_county.proofs.ByKey.Keys.{times-permutation, known-permutation, image-injective}
+use Rattle.tl_county.proofs.Rules.LinkedCounty.{each_from}
+use Rattle.tl_county.proofs.Lists.Elements.{map-map, all_weaker, all_map}
+use Rattle.tl_county.proofs.Lists.Members.{among-permutation, among-map, among-unmap, among_known, known_is_among}
+use Rattle.tl_county.proofs.ByKey.Numbers.{all-in_order, strict_from_order}
+use Rattle.tl_county.proofs.Lists.Permutations.{in_order-is_permutation}
+use Rattle.tl_county.proofs.Sameness.Equivalence.{keys_known}
 use Rattle.tl_number.specs.Arrangement.{Arrangement, Arranges, arranged_tlids, placed, nodes_in_order}
 use Rattle.tl_number.specs.Arrangement.{polygons_in_order, under_cenid, new_keys, names_in_order, relinked, links_relinked}
 use Rattle.tl_number.specs.Arrangement.{landmarks_in_order, renaming_of, arranged}

@@ -1,12 +1,11 @@
--- The numbers of an arranged county fit their fields, and canonical lists keep the limits of the lists that they are of.
-use Rattle.std.proofs.Common.{◌≡◌, ◌+◌, ◌*◌, ◌^◌, ◌<◌, ◌≤◌, ℕ, zero, suc, max, List, [], ◌∷◌, map, flat_map, length}
+-- The numbers of an arranged county are small, and canonical lists keep the limits of the lists that they are of.
+use Rattle.std.proofs.Common.{◌≡◌, ◌+◌, ◌*◌, ◌<◌, ◌≤◌, ℕ, zero, suc, max, List, [], ◌∷◌, map, flat_map, length}
 use Rattle.std.proofs.Common.{length-append, Option, Some, None, option_to_list, IsTrue, sym, subst, arith}
 use Rattle.std.proofs.Common.{nat_cmp}
 use Rattle.std.proofs.lemmas.Bool.{ltb-true, lt-ltb}
 use Rattle.std.proofs.lemmas.List.{length-map}
 use Rattle.std.specs.List.{AllByRecursion, range_with_len}
-use Rattle.tl_layout.specs.Limits.{IsWithinLimit}
-use Rattle.tl_layout.specs.Numbers.{IsNumber, IsNumberOrNone}
+use Rattle.tl_layout.specs.Limits.{IsWithinLimit, count_of_type}
 use Rattle.tl_layout.specs.RecordText.{FitsRecord}
 use Rattle.tl_layout.specs.declared.record_type.Record.{Record}
 use Rattle.tl_layout.specs.declared.type5.Body5.{Body5}
@@ -16,28 +15,33 @@ use Rattle.tl_shape.specs.Chain.{Chain}
 use Rattle.tl_county.specs.County.{County, county_of, link_key}
 use Rattle.tl_county.specs.CountyRules.{IsCounty, tlids, feats, polygon_keys, lands, nodes_along, polygons_along, chain_nodes}
 use Rattle.tl_county.specs.CountyRules.{chain_polygons, AllStandIn, AllKeysStandIn}
-use Rattle.tl_county.specs.Limits.{most_records, FitsNumbers, NumbersFit, IsWithinLimits}
+use Rattle.tl_county.specs.Limits.{most_records, IsWithinLimits}
 use Rattle.tl_county.specs.Orders.{times, stands_in}
 use Rattle.tl_county.specs.Packing.{packed_one, packed_five, packed_sevens, packed_by_type, packed}
 use Rattle.tl_county.specs.PolygonKeys.{PolygonKey, key_cmp, key_on, key_under}
 use Rattle.tl_county.specs.Renumbering.{Carries}
-use Rattle.tl_county.proofs.CarriedLimits.{carried_contents, carried_room, carried_counts}
-use Rattle.tl_county.proofs.FitsCounty.{county-within_limits}
-use Rattle.tl_county.proofs.FitsPacked.{packed-fits}
-use Rattle.tl_county.proofs.KeyOrders.{key_keys}
-use Rattle.tl_county.proofs.Keys.{nat_keys, known_all, all_known}
-use Rattle.tl_county.proofs.LinkedCounty.{county-is_county}
-use Rattle.tl_county.proofs.Lists.{all_weaker, all_both, all_unmap, all_pieces, all_left, all_right}
-use Rattle.tl_county.proofs.PackedTypes.{by_type_of}
-use Rattle.tl_county.proofs.Sameness.{same-reflexive}
-use Rattle.tl_county.proofs.TypeCounts.{HasAtMost, by_type_within, packed_within}
-use Rattle.tl_number.specs.Accepted.{IsAccepted, IsCanonicalOf}
+use Rattle.tl_county.proofs.Limits.CarriedLimits.{carried_contents, carried_room, carried_counts}
+use Rattle.tl_county.proofs.Limits.FitsCounty.{county_counts, county-within_limits}
+use Rattle.tl_county.proofs.Limits.FitsPacked.{packed-fits}
+use Rattle.tl_county.proofs.ByKey.KeyOrders.{key_keys}
+use Rattle.tl_county.proofs.ByKey.Keys.{nat_keys, known_all, all_known}
+use Rattle.tl_county.proofs.Rules.LinkedCounty.{county-is_county}
+use Rattle.tl_county.proofs.Lists.Elements.{all_weaker, all_both, all_unmap, all_pieces}
+use Rattle.tl_county.proofs.Packing.PackedTypes.{by_type_of}
+use Rattle.tl_county.proofs.Sameness.Equivalence.{same-reflexive}
+use Rattle.tl_county.proofs.Packing.TypeCounts.{HasAtMost, HasWithin, KeepsLimits, by_type_keeps, by_type_within, packed_keeps}
+use Rattle.tl_county.proofs.Packing.TypeCounts.{packed_within}
+use Rattle.tl_number.specs.Accepted.{IsAccepted, IsCanonicalOf, IsCanonicalThrough}
 use Rattle.tl_number.specs.Arrangement.{Arrangement, Arranges, ascending, renaming_of, arranged}
 use Rattle.tl_number.specs.Growth.{GrowsFrom, up_to}
 use Rattle.tl_number.specs.ArrangedCounty.{IsArranged}
-use Rattle.tl_number.proofs.Accepted.{same_one_canonical}
+use Rattle.tl_number.specs.Sights.{IsSight, plain}
+use Rattle.tl_profile.specs.Profile.{IsInProfile}
+use Rattle.tl_number.proofs.Accepted.{plain_sight, same_one_canonical}
 use Rattle.tl_number.proofs.Ascending.{ascending_arranges, sides_in_profile, canonical_list, canonical_exists}
 use Rattle.tl_number.proofs.Carrying.{arrangement_carries}
+use Rattle.tl_number.specs.RecordNumbers.{numbers_of, greatest_number}
+use Rattle.tl_number.proofs.SmallNumbers.{IsSmall, IsSmallKey, NamesSmall, NumbersSmall, small_numbers_fit, packed_low}
 use Rattle.tl_number.proofs.ArrangedCounties.{is_arranged, arranged_county}
 
 -- numbers that count up are within their bounds
@@ -94,105 +98,80 @@ few_polygons e = omega (
   few_under e.1.right.cenid e.1.right.polyid,
 )
 
-node_fits : (o : Option ℕ) → AllByRecursion (IsNumber 10) (option_to_list o) → IsNumberOrNone 10 o
-node_fits None a = tt
-node_fits (Some n) a = a.0
-
-polyid_fits : (cenid : List ℕ) (polyid : Option ℕ) → AllByRecursion (λ (k : PolygonKey). IsNumber 10 k.1) (key_under cenid polyid)
-    → IsNumberOrNone 10 polyid
-polyid_fits cenid None a = tt
-polyid_fits cenid (Some polyid) a = a.0
-
 module _ (county : County) (is : IsCounty county) (in_form : IsArranged county)
     (chains : length county.chains ≤ most_records) (names : length county.names ≤ most_records)
     (landmarks : length county.landmarks ≤ most_records) where
-  counted_fit : (width n : ℕ) (ks : List ℕ) → ks ≡ up_to n → 1 + n ≤ 10 ^ width → AllByRecursion (IsNumber width) ks
-  counted_fit width n ks e few =
-      subst (AllByRecursion (IsNumber width)) (sym e)
-      (all_weaker (λ k. (1 ≤ k) × (k < 1 + n)) (IsNumber width)
-      (λ k h. (let low : 1 ≤ k = h.0 in omega arith, let high : k < 1 + n = h.1 in omega (arith, high, few))) (up_to n)
-      (counted_bounds 1 n))
+  counted_small : (n : ℕ) (ks : List ℕ) → ks ≡ up_to n → n ≤ most_records → AllByRecursion IsSmall ks
+  counted_small n ks e few =
+      subst (AllByRecursion IsSmall) (sym e)
+      (all_weaker (λ k. (1 ≤ k) × (k < 1 + n)) IsSmall
+      (λ k h. (h.0, let high : k < 1 + n = h.1 in omega (arith, high, few))) (up_to n) (counted_bounds 1 n))
 
-  tlids_fit : AllByRecursion (IsNumber 10) (tlids county)
-  tlids_fit = counted_fit 10 (length county.chains) (tlids county) in_form.tlids (omega arith)
+  tlids_small : AllByRecursion IsSmall (tlids county)
+  tlids_small = counted_small (length county.chains) (tlids county) in_form.tlids chains
 
-  feats_fit : AllByRecursion (IsNumber 8) (feats county)
-  feats_fit = counted_fit 8 (length county.names) (feats county) in_form.feats (omega arith)
+  feats_small : AllByRecursion IsSmall (feats county)
+  feats_small = counted_small (length county.names) (feats county) in_form.feats names
 
-  lands_fit : AllByRecursion (IsNumber 10) (lands county)
-  lands_fit = counted_fit 10 (length county.landmarks) (lands county) in_form.lands (omega arith)
+  lands_small : AllByRecursion IsSmall (lands county)
+  lands_small = counted_small (length county.landmarks) (lands county) in_form.lands landmarks
 
-  nodes_fit : AllByRecursion (IsNumber 10) (nodes_along county.chains)
-  nodes_fit =
-      let few : length (nodes_along county.chains) ≤ 2 * length county.chains =
-      short_joined (λ (e : ℕ × Chain). chain_nodes e.1) few_nodes county.chains in
-      all_weaker (λ k. (1 ≤ k) × (k ≤ 0 + length (nodes_along county.chains))) (IsNumber 10)
-      (λ k h. (
-        let low : 1 ≤ k = h.0 in omega arith,
-        let high : k ≤ 0 + length (nodes_along county.chains) = h.1 in
-            omega (arith, high, few, chains),
-      )) (nodes_along county.chains) (grown_bounds 0 (nodes_along county.chains) in_form.nodes)
+  -- numbers that grow along the chains, of which each has at most two
+  grown_small : (ks : List ℕ) → length ks ≤ 2 * length county.chains → GrowsFrom 0 ks → AllByRecursion IsSmall ks
+  grown_small ks few g = all_weaker (λ k. (1 ≤ k) × (k ≤ 0 + length ks)) IsSmall
+      (λ k h. (h.0, let high : k ≤ 0 + length ks = h.1 in omega (arith, high, few, chains))) ks (grown_bounds 0 ks g)
 
-  polygons_fit : AllByRecursion (λ (k : PolygonKey). IsNumber 10 k.1) (polygons_along county.chains)
-  polygons_fit =
-      let numbers : List ℕ = map (λ (k : PolygonKey). k.1) (polygons_along county.chains) in
+  nodes_small : AllByRecursion IsSmall (nodes_along county.chains)
+  nodes_small = grown_small (nodes_along county.chains)
+      (short_joined (λ (e : ℕ × Chain). chain_nodes e.1) few_nodes county.chains) in_form.nodes
+
+  polygons_small : AllByRecursion IsSmallKey (polygons_along county.chains)
+  polygons_small =
       let few : length (polygons_along county.chains) ≤ 2 * length county.chains =
       short_joined (λ (e : ℕ × Chain). chain_polygons e.1) few_polygons county.chains in
-      let count : length numbers ≡ length (polygons_along county.chains) =
-      length-map (polygons_along county.chains) (λ (k : PolygonKey). k.1) in
-      all_unmap (IsNumber 10) (λ (k : PolygonKey). k.1) (polygons_along county.chains)
-      (all_weaker (λ k. (1 ≤ k) × (k ≤ 0 + length numbers)) (IsNumber 10)
-      (λ k h. (
-        let low : 1 ≤ k = h.0 in omega arith,
-        let high : k ≤ 0 + length numbers = h.1 in
-            omega (arith, high, few, count, chains),
-      )) numbers (grown_bounds 0 numbers in_form.polygons))
+      all_unmap IsSmall (λ (k : PolygonKey). k.1) (polygons_along county.chains)
+      (grown_small (map (λ (k : PolygonKey). k.1) (polygons_along county.chains))
+      (omega (arith, few, length-map (polygons_along county.chains) (λ (k : PolygonKey). k.1))) in_form.polygons)
 
-  key_fits : (k : PolygonKey) → IsTrue (stands_in key_cmp k (polygon_keys county)) → IsNumber 10 k.1
-  key_fits k t =
+  key_small : (k : PolygonKey) → IsTrue (stands_in key_cmp k (polygon_keys county)) → IsSmallKey k
+  key_small k t =
       let side : IsTrue (stands_in key_cmp k (polygons_along county.chains)) =
       known_all key_keys (λ j. IsTrue (stands_in key_cmp j (polygons_along county.chains))) (polygon_keys county) in_form.on_sides k
       (ltb-true 0 (times key_cmp k (polygon_keys county)) t) in
-      known_all key_keys (λ (j : PolygonKey). IsNumber 10 j.1) (polygons_along county.chains) polygons_fit k
+      known_all key_keys IsSmallKey (polygons_along county.chains) polygons_small k
       (ltb-true 0 (times key_cmp k (polygons_along county.chains)) side)
 
-  named_fit : AllByRecursion (λ (e : ℕ × Chain). FitsNumbers e.1) county.chains
-  named_fit = all_weaker (λ (e : ℕ × Chain). AllStandIn (feats county) e.1.feats
-      × (AllByRecursion (IsNumber 10) (chain_nodes e.1) × AllByRecursion (λ (k : PolygonKey). IsNumber 10 k.1) (chain_polygons e.1)))
-      (λ e. FitsNumbers e.1)
-      (λ e h. record {
-        feats = all_weaker (λ n. IsTrue (stands_in nat_cmp n (feats county))) (IsNumber 8)
-            (λ n t. known_all nat_keys (IsNumber 8) (feats county) feats_fit n
-            (ltb-true 0 (times nat_cmp n (feats county)) t)) e.1.feats h.0;
-        start_node = node_fits e.1.start_node (all_left (IsNumber 10) (option_to_list e.1.start_node) (option_to_list e.1.end_node) h.1.0);
-        end_node = node_fits e.1.end_node (all_right (IsNumber 10) (option_to_list e.1.start_node) (option_to_list e.1.end_node) h.1.0);
-        left = polyid_fits e.1.left.cenid e.1.left.polyid
-            (all_left (λ (k : PolygonKey). IsNumber 10 k.1) (key_on e.1.left) (key_on e.1.right) h.1.1);
-        right = polyid_fits e.1.right.cenid e.1.right.polyid
-            (all_right (λ (k : PolygonKey). IsNumber 10 k.1) (key_on e.1.left) (key_on e.1.right) h.1.1);
-      })
+  named_small : AllByRecursion (λ (e : ℕ × Chain). NamesSmall e.1) county.chains
+  named_small = all_weaker (λ (e : ℕ × Chain). AllStandIn (feats county) e.1.feats
+      × (AllByRecursion IsSmall (chain_nodes e.1) × AllByRecursion IsSmallKey (chain_polygons e.1)))
+      (λ e. NamesSmall e.1)
+      (λ e h. (
+        all_weaker (λ n. IsTrue (stands_in nat_cmp n (feats county))) IsSmall
+            (λ n t. known_all nat_keys IsSmall (feats county) feats_small n
+            (ltb-true 0 (times nat_cmp n (feats county)) t)) e.1.feats h.0,
+        h.1,
+      ))
       county.chains
       (all_both (λ (e : ℕ × Chain). AllStandIn (feats county) e.1.feats)
-      (λ e. AllByRecursion (IsNumber 10) (chain_nodes e.1)
-      × AllByRecursion (λ (k : PolygonKey). IsNumber 10 k.1) (chain_polygons e.1)) county.chains is.closed.names
-      (all_both (λ (e : ℕ × Chain). AllByRecursion (IsNumber 10) (chain_nodes e.1))
-      (λ e. AllByRecursion (λ (k : PolygonKey). IsNumber 10 k.1) (chain_polygons e.1)) county.chains
-      (all_pieces (IsNumber 10) (λ (e : ℕ × Chain). chain_nodes e.1) county.chains nodes_fit)
-      (all_pieces (λ (k : PolygonKey). IsNumber 10 k.1) (λ (e : ℕ × Chain). chain_polygons e.1) county.chains polygons_fit)))
+      (λ e. AllByRecursion IsSmall (chain_nodes e.1) × AllByRecursion IsSmallKey (chain_polygons e.1)) county.chains is.closed.names
+      (all_both (λ (e : ℕ × Chain). AllByRecursion IsSmall (chain_nodes e.1))
+      (λ e. AllByRecursion IsSmallKey (chain_polygons e.1)) county.chains
+      (all_pieces IsSmall (λ (e : ℕ × Chain). chain_nodes e.1) county.chains nodes_small)
+      (all_pieces IsSmallKey (λ (e : ℕ × Chain). chain_polygons e.1) county.chains polygons_small)))
 
-  pub arranged_numbers_fit : NumbersFit county
-  arranged_numbers_fit = record {
-    chains = all_unmap (IsNumber 10) (λ (e : ℕ × Chain). e.0) county.chains tlids_fit;
-    named = named_fit;
-    names = all_unmap (IsNumber 8) (λ (e : ℕ × Body5). e.0) county.names feats_fit;
-    polygons = all_unmap (λ (k : PolygonKey). IsNumber 10 k.1) (λ (e : PolygonKey × Option BodyP). e.0) county.polygons
-        (all_known key_keys (λ (k : PolygonKey). IsNumber 10 k.1) (polygon_keys county)
-        (λ k l. key_fits k (lt-ltb 0 (times key_cmp k (polygon_keys county)) l)));
-    landmarks = all_unmap (IsNumber 10) (λ (e : ℕ × List Body7). e.0) county.landmarks lands_fit;
-    link_polygons = all_weaker (λ l. IsTrue (stands_in key_cmp (link_key l) (polygon_keys county))) (λ l. IsNumber 10 l.polyid)
-        (λ l t. key_fits (link_key l) t) county.links is.closed.link_polygons;
-    link_lands = all_weaker (λ l. IsTrue (stands_in nat_cmp l.land (lands county))) (λ l. IsNumber 10 l.land)
-        (λ l t. known_all nat_keys (IsNumber 10) (lands county) lands_fit l.land
+  pub arranged_numbers_small : NumbersSmall county
+  arranged_numbers_small = record {
+    chains = all_unmap IsSmall (λ (e : ℕ × Chain). e.0) county.chains tlids_small;
+    named = named_small;
+    names = all_unmap IsSmall (λ (e : ℕ × Body5). e.0) county.names feats_small;
+    polygons = all_unmap IsSmallKey (λ (e : PolygonKey × Option BodyP). e.0) county.polygons
+        (all_known key_keys IsSmallKey (polygon_keys county)
+        (λ k l. key_small k (lt-ltb 0 (times key_cmp k (polygon_keys county)) l)));
+    landmarks = all_unmap IsSmall (λ (e : ℕ × List Body7). e.0) county.landmarks lands_small;
+    link_polygons = all_weaker (λ l. IsTrue (stands_in key_cmp (link_key l) (polygon_keys county))) (λ l. IsSmall l.polyid)
+        (λ l t. key_small (link_key l) t) county.links is.closed.link_polygons;
+    link_lands = all_weaker (λ l. IsTrue (stands_in nat_cmp l.land (lands county))) (λ l. IsSmall l.land)
+        (λ l t. known_all nat_keys IsSmall (lands county) lands_small l.land
         (ltb-true 0 (times nat_cmp l.land (lands county)) t)) county.links is.closed.link_lands;
   }
 
@@ -200,13 +179,18 @@ module _ (county : County) (is : IsCounty county) (in_form : IsArranged county)
 module _ (limit : ℕ) (low : limit ≤ most_records) (county : County) (is : IsCounty county) (steps : Arrangement)
     (arranges : Arranges steps county) (sides : AllKeysStandIn (polygons_along county.chains) (polygon_keys county))
     (within : IsWithinLimits limit county) where
-  pub arrangement_within : IsWithinLimits limit (arranged county steps)
-  arrangement_within =
-      let new : IsCounty (arranged county steps) = arranged_county county steps is arranges sides in
-      let h : Carries (renaming_of county steps) county (arranged county steps) = arrangement_carries county steps is arranges sides in
-      let counts : HasAtMost limit (packed_by_type (arranged county steps)) =
-      carried_counts (renaming_of county steps) county (arranged county steps) h limit
-      (subst (HasAtMost limit) (by_type_of (packed_by_type county)) (by_type_within limit (packed county) within.counts)) in
+  new_is_county : IsCounty (arranged county steps)
+  new_is_county = arranged_county county steps is arranges sides
+
+  carries : Carries (renaming_of county steps) county (arranged county steps)
+  carries = arrangement_carries county steps is arranges sides
+
+  counts : HasAtMost limit (packed_by_type (arranged county steps))
+  counts = carried_counts (renaming_of county steps) county (arranged county steps) carries (λ _. limit)
+      (subst (HasAtMost limit) (by_type_of (packed_by_type county)) (by_type_within limit (packed county) within.counts))
+
+  pub arrangement_small : NumbersSmall (arranged county steps)
+  arrangement_small =
       let ones : length (map packed_one (arranged county steps).chains) ≤ limit = counts.of_type_1 in
       let fives : length (map packed_five (arranged county steps).names) ≤ limit = counts.of_type_5 in
       let sevens : length (flat_map packed_sevens (arranged county steps).landmarks) ≤ limit = counts.of_type_7 in
@@ -214,39 +198,80 @@ module _ (limit : ℕ) (low : limit ≤ most_records) (county : County) (is : Is
       long_joined packed_sevens (arranged county steps).landmarks
       (all_weaker (λ (e : ℕ × List Body7). 1 ≤ length e.1) (λ e. 1 ≤ length (packed_sevens e))
       (λ e one. subst (λ n. 1 ≤ n) (sym (length-map e.1 (λ body. record { land = e.0; body = body }))) one)
-      (arranged county steps).landmarks new.whole.bodies) in
-      record {
-        contents = carried_contents (renaming_of county steps) county (arranged county steps) h within.contents;
-        numbers = arranged_numbers_fit (arranged county steps) new (is_arranged county steps is arranges sides)
-            (omega (arith, ones, length-map (arranged county steps).chains packed_one, low))
-            (omega (arith, fives, length-map (arranged county steps).names packed_five, low)) (omega (arith, sevens, some, low));
-        room = carried_room (renaming_of county steps) county (arranged county steps) h within.room;
-        counts = packed_within limit (arranged county steps) counts;
-      }
+      (arranged county steps).landmarks new_is_county.whole.bodies) in
+      arranged_numbers_small (arranged county steps) new_is_county (is_arranged county steps is arranges sides)
+      (omega (arith, ones, length-map (arranged county steps).chains packed_one, low))
+      (omega (arith, fives, length-map (arranged county steps).names packed_five, low)) (omega (arith, sevens, some, low))
 
-module _ (limit : ℕ) (low : limit ≤ most_records) (records : List Record) (accepted : IsAccepted records)
-    (fits : AllByRecursion FitsRecord records) (few : IsWithinLimit limit records) where
-  -- the arranged county is within the limits of the records that it comes of
-  pub arranged_within : IsWithinLimits limit (arranged (county_of records) (ascending (county_of records)))
-  arranged_within =
-      let county : County = county_of records in
-      let is : IsCounty county = county-is_county records accepted.linked in
-      arrangement_within limit low county is (ascending county) (ascending_arranges county is accepted.profile)
-      (sides_in_profile county is accepted.profile) (county-within_limits records accepted.linked fits limit few)
+  pub arrangement_within : IsWithinLimits limit (arranged county steps)
+  arrangement_within = record {
+    contents = carried_contents (renaming_of county steps) county (arranged county steps) carries within.contents;
+    numbers = small_numbers_fit (arranged county steps) arrangement_small;
+    room = carried_room (renaming_of county steps) county (arranged county steps) carries within.room;
+    counts = packed_within limit (arranged county steps) counts;
+  }
 
-  -- the canonical list keeps the limits
-  pub canonical_within : (canonical : List Record) → IsCanonicalOf records canonical
-      → AllByRecursion FitsRecord canonical × IsWithinLimit limit canonical
-  canonical_within canonical h =
-      let county : County = county_of records in
-      let is : IsCounty county = county-is_county records accepted.linked in
-      let new : IsCounty (arranged county (ascending county)) =
-      arranged_county county (ascending county) is (ascending_arranges county is accepted.profile)
-      (sides_in_profile county is accepted.profile) in
-      let same : canonical_list records ≡ canonical =
-      same_one_canonical records records (canonical_list records) canonical (canonical_exists records accepted) h
-      (same-reflexive county) in
-      subst (λ (l : List Record). AllByRecursion FitsRecord l × IsWithinLimit limit l) same (
-        packed-fits (arranged county (ascending county)) new.whole arranged_within.contents arranged_within.numbers arranged_within.room,
-        arranged_within.counts,
-      )
+-- the canonical list of what is seen of an accepted list
+module _ (seen : County → County) (sight : IsSight seen) (records : List Record) (accepted : IsAccepted records) where
+  abbrev old : County
+  old = seen (county_of records)
+
+  abbrev new : County
+  new = arranged old (ascending old)
+
+  old_is_county : IsCounty old
+  old_is_county = sight.is_county (county_of records) (county-is_county records accepted.linked)
+
+  old_in_profile : IsInProfile old
+  old_in_profile = sight.profile (county_of records) accepted.profile
+
+  old_arranges : Arranges (ascending old) old
+  old_arranges = ascending_arranges old old_is_county old_in_profile
+
+  old_sides : AllKeysStandIn (polygons_along old.chains) (polygon_keys old)
+  old_sides = sides_in_profile old old_is_county old_in_profile
+
+  module _ (canonical : List Record) (h : IsCanonicalThrough seen records canonical) where
+    is_the_list : packed new ≡ canonical
+    is_the_list = same_one_canonical seen sight records records (canonical_list old) canonical
+        (canonical_exists seen sight records accepted) h (same-reflexive old)
+
+    -- it has no more records of any type than the packing of what is seen
+    counts_kept : (limits : ℕ → ℕ) → HasWithin limits (packed_by_type old) → KeepsLimits limits canonical
+    counts_kept limits few =
+        subst (KeepsLimits limits) is_the_list
+        (packed_keeps limits new
+        (carried_counts (renaming_of old (ascending old)) old new
+        (arrangement_carries old (ascending old) old_is_county old_arranges old_sides) limits few))
+
+    module _ (fits : AllByRecursion FitsRecord records) (limit : ℕ) (low : limit ≤ most_records) (few : IsWithinLimit limit records) where
+      within_limits : IsWithinLimits limit old
+      within_limits = sight.limits limit (county_of records) (county-within_limits records accepted.linked fits limit few)
+
+      -- the arranged county is within the limits of the records that it comes of
+      arranged_within : IsWithinLimits limit new
+      arranged_within = arrangement_within limit low old old_is_county (ascending old) old_arranges old_sides within_limits
+
+      -- the canonical list keeps the limits
+      pub canonical_within : AllByRecursion FitsRecord canonical × IsWithinLimit limit canonical
+      canonical_within =
+          let whole : IsCounty new = arranged_county old (ascending old) old_is_county old_arranges old_sides in
+          subst (λ (l : List Record). AllByRecursion FitsRecord l × IsWithinLimit limit l) is_the_list (
+            packed-fits new whole.whole arranged_within.contents arranged_within.numbers arranged_within.room,
+            arranged_within.counts,
+          )
+
+      -- its numbers are no greater than need be
+      pub canonical_low : AllByRecursion (λ r. AllByRecursion (λ n. n ≤ greatest_number) (numbers_of r)) canonical
+      canonical_low =
+          subst (λ (l : List Record). AllByRecursion (λ r. AllByRecursion (λ n. n ≤ greatest_number) (numbers_of r)) l) is_the_list
+          (packed_low new (arrangement_small limit low old old_is_county (ascending old) old_arranges old_sides within_limits))
+
+-- the canonical list of an accepted one has no more records of any type
+pub canonical_counts : (records : List Record) → IsAccepted records → AllByRecursion FitsRecord records
+    → (canonical : List Record) → IsCanonicalOf records canonical → (rtype : ℕ)
+    → count_of_type rtype canonical ≤ count_of_type rtype records
+canonical_counts records accepted fits canonical h =
+    let limits : ℕ → ℕ = λ n. count_of_type n records in
+    counts_kept plain plain_sight records accepted canonical h limits
+    (county_counts records accepted.linked fits limits (by_type_keeps limits records (λ n. omega arith)))

@@ -3,12 +3,12 @@ use Rattle.std.proofs.Common.{◌<◌, ◌^◌, length, arith, nat_cmp}
 use Rattle.tl_county.specs.County.{County}
 use Rattle.tl_county.specs.CountyRules.{IsCounty, AllKeysStandIn, polygons_along, polygon_keys, tlids}
 use Rattle.tl_county.specs.Limits.{IsWithinLimits, most_records}
-use Rattle.tl_county.proofs.Keys.{IsApart, nat_keys, apart_from_sorted}
-use Rattle.tl_county.proofs.Permutations.{apart-permutation_of}
+use Rattle.tl_county.proofs.ByKey.Keys.{IsApart, nat_keys, apart_from_sorted}
+use Rattle.tl_county.proofs.Lists.Permutations.{apart-permutation_of}
 use Rattle.tl_number.specs.Arrangement.{Arrangement, Arranges, arranged_tlids}
 use Rattle.tl_number.specs.Steps.{AreSteps, arrangement_of}
 use Rattle.tl_number.specs.ViewFacts.{AreWhole, NamesEachOnce}
-use Rattle.tl_number.specs.declared.step.Step.{Step}
+use Rattle.tl_profile.specs.declared.chain_walk.ChainWalk.{ChainWalk}
 use Rattle.tl_number.proofs.ArrangedCounties.{arranged_county}
 use Rattle.tl_number.proofs.ArrangedNumbers.{arrangement_within}
 use Rattle.std.proofs.Common.{List}
@@ -20,7 +20,7 @@ arranges_once county order is once =
     (λ k. let same = once k in let few = apart k in omega (arith, same, few)) apart
     (λ k h. let same = once k in omega (arith, same, h)) (λ k h. let same = once k in omega (arith, same, h))
 
-pub whole_steps : (county : County) (steps : List Step) → IsCounty county → IsWithinLimits most_records county → AreSteps county steps
+pub whole_steps : (county : County) (steps : List ChainWalk) → IsCounty county → IsWithinLimits most_records county → AreSteps county steps
     → NamesEachOnce county (arrangement_of county steps) → AllKeysStandIn (polygons_along county.chains) (polygon_keys county)
     → length county.chains < 2 ^ 32 → AreWhole county steps
 whole_steps county steps is within there once sides few = record {

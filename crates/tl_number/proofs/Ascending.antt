@@ -20,25 +20,28 @@ use Rattle.tl_county.specs.Orders.{times, stands_in, in_order}
 use Rattle.tl_county.specs.Packing.{packed}
 use Rattle.tl_county.specs.PolygonKeys.{PolygonKey, key_cmp}
 use Rattle.tl_county.specs.Renumbering.{Carries}
-use Rattle.tl_county.proofs.Counted.{rights-numbered_from}
-use Rattle.tl_county.proofs.FirstFault.{Among, all_among}
-use Rattle.tl_county.proofs.InOrder.{in_order-in_order, in_order-map, strict-map}
-use Rattle.tl_county.proofs.KeyOrders.{points_keys}
-use Rattle.tl_county.proofs.Keys.{IsKeyOrder, IsApart, Known, nat_keys, times-yes, times-no, same_or_not, apart_tail}
-use Rattle.tl_county.proofs.Keys.{apart_from_sorted}
-use Rattle.tl_county.proofs.LinkedCounty.{county-is_county, each_from}
-use Rattle.tl_county.proofs.Lists.{map-map, all_map, all_unmap}
-use Rattle.tl_county.proofs.Members.{among_known, known_is_among, among-map, among-unmap}
-use Rattle.tl_county.proofs.Numbers.{strict_from_order, times-in_order, from_in_order}
-use Rattle.tl_county.proofs.PackedCounty.{packed_county}
-use Rattle.tl_county.proofs.Permutations.{in_order-is_permutation}
-use Rattle.tl_county.proofs.Reordered.{to_filter}
+use Rattle.tl_county.proofs.Lists.Counted.{rights-numbered_from}
+use Rattle.tl_county.proofs.Rules.FirstFault.{Among, all_among}
+use Rattle.tl_county.proofs.Lists.InOrder.{in_order-in_order, in_order-map, strict-map}
+use Rattle.tl_county.proofs.ByKey.KeyOrders.{points_keys}
+use Rattle.tl_county.proofs.ByKey.Keys.{IsKeyOrder, IsApart, Known, nat_keys, times-yes, times-no, same_or_not, apart_tail}
+use Rattle.tl_county.proofs.ByKey.Keys.{apart_from_sorted}
+use Rattle.tl_county.proofs.Rules.LinkedCounty.{county-is_county, each_from}
+use Rattle.tl_county.proofs.Lists.Elements.{map-map, map_agree_everywhere, all_map, all_unmap}
+use Rattle.tl_county.proofs.Lists.Members.{among_known, known_is_among, among-map, among-unmap}
+use Rattle.tl_county.proofs.ByKey.Numbers.{strict_from_order, times-in_order, from_in_order}
+use Rattle.tl_county.proofs.Packing.PackedCounty.{packed_county}
+use Rattle.tl_county.proofs.Lists.Permutations.{in_order-is_permutation}
+use Rattle.tl_county.proofs.Lists.Reordered.{to_filter}
 use Rattle.tl_profile.specs.Profile.{IsInProfile}
-use Rattle.tl_profile.proofs.SameProfile.{OneShape, not_own_reverse, one_shape_one_tlid, body_on_side}
-use Rattle.tl_number.specs.Accepted.{IsAccepted, IsCanonicalOf}
+use Rattle.tl_profile.proofs.SameProfile.{not_own_reverse, one_shape_one_tlid, body_on_side}
+use Rattle.tl_profile.proofs.ShapesOfCounty.{one_shape_of_least}
+use Rattle.tl_number.proofs.AscendingSteps.{shape_turned}
+use Rattle.tl_number.specs.Accepted.{IsAccepted, IsCanonicalThrough}
 use Rattle.tl_number.specs.Arrangement.{Arrangement, Arranges, entries_of, placed, comes_turned, entry_shape}
 use Rattle.tl_number.specs.Arrangement.{ascending, renaming_of, arranged}
 use Rattle.tl_number.specs.ArrangedCounty.{IsLeast, entry_points}
+use Rattle.tl_number.specs.Sights.{IsSight}
 use Rattle.tl_number.proofs.Carrying.{arrangement_carries, chains_arranged}
 use Rattle.tl_number.proofs.Placed.{one_chain}
 use Rattle.tl_number.proofs.SameNumbers.{kept_entry}
@@ -89,21 +92,6 @@ least_first c ne true e =
     (points_keys.total.antisymm c.points (reverse c.points)) e)
 least_first c ne false e =
     not_equal (points_cmp c.points (reverse c.points)) e (λ same. ne (points_keys.exact c.points (reverse c.points) same))
-
--- equal least points are of one shape
-turned_points : (c : Chain) (b : Bool) → ((turned_if b c).points ≡ c.points) ⊎ ((turned_if b c).points ≡ reverse c.points)
-turned_points c true = inr refl
-turned_points c false = inl refl
-
-least_one_shape : (e d : ℕ × Chain) → entry_shape e ≡ entry_shape d → OneShape e.1.points d.1.points
-least_one_shape e d same = go (turned_points e.1 (comes_turned e.1)) (turned_points d.1 (comes_turned d.1))
-  where
-    go : (entry_shape e ≡ e.1.points) ⊎ (entry_shape e ≡ reverse e.1.points)
-        → (entry_shape d ≡ d.1.points) ⊎ (entry_shape d ≡ reverse d.1.points) → OneShape e.1.points d.1.points
-    go (inl f) (inl g) = inl (sym f ∙ same ∙ g)
-    go (inl f) (inr g) = inr (sym f ∙ same ∙ g)
-    go (inr f) (inl g) = inr (sym (reverse-reverse e.1.points) ∙ ap reverse (sym f ∙ same ∙ g))
-    go (inr f) (inr g) = inl (sym (reverse-reverse e.1.points) ∙ ap reverse (sym f ∙ same ∙ g) ∙ reverse-reverse d.1.points)
 
 module _ (county : County) (is : IsCounty county) (profile : IsInProfile county) where
   -- each polygon stands on a side
@@ -168,11 +156,12 @@ module _ (county : County) (is : IsCounty county) (profile : IsInProfile county)
       ∙ sym (map-map (λ (c : Chain). c.points) (λ (e : ℕ × Chain). e.1) (placed county (ascending county)))
       ∙ ap (map (λ (c : Chain). c.points)) placed_chains
       ∙ map-map (λ (c : Chain). c.points) (λ (e : ℕ × Chain). turned_if (comes_turned e.1) e.1) ordered
+      ∙ map_agree_everywhere (λ e. (turned_if (comes_turned e.1) e.1).points) entry_shape shape_turned ordered
 
   least_apart : IsApart points_cmp (map entry_shape county.chains)
   least_apart = apart_values points_keys (λ (e : ℕ × Chain). e.0) entry_shape county.chains
       (apart_from_sorted nat_keys (tlids county) is.ascending.chains)
-      (λ e d m n same. one_shape_one_tlid county profile e d m n (least_one_shape e d same))
+      (λ e d m n same. one_shape_one_tlid county profile e d m n (one_shape_of_least e.1.points d.1.points same))
 
   -- The ascending arrangement has the least directions and ascends.
   pub ascending_least : IsLeast (arranged county (ascending county))
@@ -185,8 +174,9 @@ module _ (county : County) (is : IsCounty county) (profile : IsInProfile county)
       let directions : AllByRecursion (λ ps. points_cmp ps (reverse ps) ≡ Less) (map entry_shape ordered) =
       all_map (λ ps. points_cmp ps (reverse ps) ≡ Less) entry_shape ordered
       (each_from (λ e. points_cmp (entry_shape e) (reverse (entry_shape e)) ≡ Less) ordered
-      (λ e m. least_first e.1 (not_own_reverse county profile e (from_in_order (on entry_shape points_cmp) county.chains e m))
-      (comes_turned e.1) refl)) in
+      (λ e m. subst (λ ps. points_cmp ps (reverse ps) ≡ Less) (shape_turned e)
+      (least_first e.1 (not_own_reverse county profile e (from_in_order (on entry_shape points_cmp) county.chains e m))
+      (comes_turned e.1) refl))) in
       record {
         directions = all_unmap (λ ps. points_cmp ps (reverse ps) ≡ Less) entry_points (arranged county (ascending county)).chains
             (subst (AllByRecursion (λ ps. points_cmp ps (reverse ps) ≡ Less)) (sym points_arranged) directions);
@@ -194,28 +184,51 @@ module _ (county : County) (is : IsCounty county) (profile : IsInProfile county)
             (subst (IsStrictlySortedBy points_cmp) (sym points_arranged) strict);
       }
 
--- the canonical list of an accepted one
-abbrev pub canonical_list : List Record → List Record
-canonical_list records = packed (arranged (county_of records) (ascending (county_of records)))
+-- the canonical list of a county in the profile
+abbrev pub canonical_list : County → List Record
+canonical_list county = packed (arranged county (ascending county))
 
-pub canonical_exists : (records : List Record) → IsAccepted records → IsCanonicalOf records (canonical_list records)
-canonical_exists records accepted =
-    let county : County = county_of records in
-    let is : IsCounty county = county-is_county records accepted.linked in
-    let steps : Arrangement = ascending county in
-    let arranges : Arranges steps county = ascending_arranges county is accepted.profile in
-    let sides : AllKeysStandIn (polygons_along county.chains) (polygon_keys county) = sides_in_profile county is accepted.profile in
-    let new : IsCounty (arranged county steps) = arranged_county county steps is arranges sides in
-    let back : county_of (packed (arranged county steps)) ≡ arranged county steps = packed_county (arranged county steps) new in
-    record {
+-- what is seen of an accepted list
+module _ (seen : County → County) (sight : IsSight seen) (records : List Record) (accepted : IsAccepted records) where
+  abbrev shown : County
+  shown = seen (county_of records)
+
+  seen_is_county : IsCounty shown
+  seen_is_county = sight.is_county (county_of records) (county-is_county records accepted.linked)
+
+  seen_in_profile : IsInProfile shown
+  seen_in_profile = sight.profile (county_of records) accepted.profile
+
+  -- each arrangement of it that is the least one gives a canonical list
+  module _ (steps : Arrangement) (arranges : Arranges steps shown) (least : IsLeast (arranged shown steps)) where
+    seen_sides : AllKeysStandIn (polygons_along shown.chains) (polygon_keys shown)
+    seen_sides = sides_in_profile shown seen_is_county seen_in_profile
+
+    new_is_county : IsCounty (arranged shown steps)
+    new_is_county = arranged_county shown steps seen_is_county arranges seen_sides
+
+    back : county_of (packed (arranged shown steps)) ≡ arranged shown steps
+    back = packed_county (arranged shown steps) new_is_county
+
+    carries : Carries (renaming_of shown steps) shown (arranged shown steps)
+    carries = arrangement_carries shown steps seen_is_county arranges seen_sides
+
+    least_is_canonical : IsCanonicalThrough seen records (packed (arranged shown steps))
+    least_is_canonical = record {
       accepted = accepted;
       canonical = record {
-        in_form = packed_arranged (arranged county steps) new (is_arranged county steps is arranges sides);
-        least = subst IsLeast (sym back) (ascending_least county is accepted.profile);
+        in_form = packed_arranged (arranged shown steps) new_is_county (is_arranged shown steps seen_is_county arranges seen_sides);
+        least = subst IsLeast (sym back) least;
       };
+      own = subst (λ county. seen county ≡ county) (sym back)
+          (sight.carried (renaming_of shown steps) shown (arranged shown steps) carries (sight.once (county_of records)));
       same = record {
-        by = renaming_of county steps;
-        carries =
-            subst (Carries (renaming_of county steps) county) (sym back) (arrangement_carries county steps is arranges sides);
+        by = renaming_of shown steps;
+        carries = subst (Carries (renaming_of shown steps) shown) (sym back) carries;
       };
     }
+
+  pub canonical_exists : IsCanonicalThrough seen records (canonical_list shown)
+  canonical_exists =
+      least_is_canonical (ascending shown) (ascending_arranges shown seen_is_county seen_in_profile)
+      (ascending_least shown seen_is_county seen_in_profile)

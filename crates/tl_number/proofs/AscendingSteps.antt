@@ -17,16 +17,14 @@ use Rattle.tl_county.specs.ChartWords.{chain_at, points_of}
 use Rattle.tl_county.specs.County.{County}
 use Rattle.tl_county.specs.CountyRules.{tlids}
 use Rattle.tl_county.specs.Orders.{in_order}
-use Rattle.tl_county.proofs.KeyOrders.{points_keys}
-use Rattle.tl_county.proofs.KeyedLists.{lt_reversed}
-use Rattle.tl_county.proofs.Lists.{all_map, all_unmap}
+use Rattle.tl_county.proofs.ByKey.KeyOrders.{points_keys}
+use Rattle.tl_county.proofs.ByKey.KeyedLists.{lt_reversed}
+use Rattle.tl_county.proofs.Lists.Elements.{all_unmap}
 use Rattle.tl_profile.specs.ShapeOrder.{IsShapeOrder, least_walk, points_along, walk_cmp}
 use Rattle.tl_profile.specs.Shapes.{least_points, points_from}
-use Rattle.tl_profile.specs.declared.chain_walk.ChainWalk.{ChainWalk}
 use Rattle.tl_number.specs.Arrangement.{ascending, entry_shape, comes_turned}
-use Rattle.tl_number.specs.AscendingSteps.{walk_step}
 use Rattle.tl_number.specs.Steps.{arrangement_of, AreSteps, tlid_at}
-use Rattle.tl_number.specs.declared.step.Step.{Step}
+use Rattle.tl_profile.specs.declared.chain_walk.ChainWalk.{ChainWalk}
 use Rattle.tl_number.proofs.SortedPlaces.{sorted_items, each_item, item_places, places_below}
 
 -- an order of options, none first
@@ -58,19 +56,20 @@ options_total {X} {R} o = record { antisymm = antisymm; trans = trans; congr = c
 turned_same : (ps : List Coordinates) → is_lt (points_cmp (reverse ps) ps) ≡ is_gt (points_cmp ps (reverse ps))
 turned_same ps = lt_reversed (points_cmp (reverse ps) ps) (points_cmp ps (reverse ps)) (points_keys.total.antisymm (reverse ps) ps)
 
-from_turned : (b : Bool) (c : Chain) → points_from b c.points ≡ (turned_if b c).points
-from_turned true c = refl
-from_turned false c = refl
+-- an entry's shape is that of its chain in the direction in which it comes
+pub shape_turned : (entry : ℕ × Chain) → (turned_if (comes_turned entry.1) entry.1).points ≡ entry_shape entry
+shape_turned entry = sym (from_turned (comes_turned entry.1) entry.1) ∙ ap (λ b. points_from b entry.1.points) (sym (turned_same entry.1.points))
+  where
+    from_turned : (b : Bool) (c : Chain) → points_from b c.points ≡ (turned_if b c).points
+    from_turned true c = refl
+    from_turned false c = refl
 
 module _ (county : County) where
   chain_read : (i : ℕ) (x : ℕ × Chain) → slice_get county.chains i ≡ Some x → chain_at county i ≡ Some x.1
   chain_read i x e = slice_get-map (λ (d : ℕ × Chain). d.1) county.chains i ∙ ap (option_map (λ (d : ℕ × Chain). d.1)) e
 
   along_read : (i : ℕ) (x : ℕ × Chain) → slice_get county.chains i ≡ Some x → points_along county (least_walk county i) ≡ entry_shape x
-  along_read i x e =
-      ap (λ o. least_points (points_of o)) (chain_read i x e)
-      ∙ ap (λ b. points_from b x.1.points) (turned_same x.1.points)
-      ∙ from_turned (comes_turned x.1) x.1
+  along_read i x e = ap (λ o. least_points (points_of o)) (chain_read i x e)
 
   turned_read : (i : ℕ) (x : ℕ × Chain) → slice_get county.chains i ≡ Some x → (least_walk county i).turned ≡ comes_turned x.1
   turned_read i x e =
@@ -87,7 +86,7 @@ module _ (county : County) where
   -- walks that read the chains in order, each in its lesser direction
   steps_told : (walks : List ChainWalk) (ordered : List (ℕ × Chain)) → AllByRecursion (λ w. w ≡ least_walk county (place_of w)) walks
       → map (slice_get county.chains) (map place_of walks) ≡ map Some ordered
-      → arrangement_of county (map walk_step walks) ≡ map (λ e. (e.0, comes_turned e.1)) ordered
+      → arrangement_of county walks ≡ map (λ e. (e.0, comes_turned e.1)) ordered
   steps_told [] [] a e = refl
   steps_told [] (x ∷ xs) a e = cc
   steps_told (w ∷ ws) [] a e = cc
@@ -109,17 +108,14 @@ module _ (county : County) where
     each_walk = each_item (least_walk county) place_of (λ i. refl) (walk_cmp county) (on_total entry_shape points_keys.total) county.chains
         agrees walks order.all order.in_order
 
-    abbrev along : List Step
-    along = map walk_step walks
-
     -- The steps along the shapes in their order are the ascending arrangement.
-    pub steps_ascend : (steps : List Step) → steps ≡ along → arrangement_of county steps ≡ ascending county
+    pub steps_ascend : (steps : List ChainWalk) → steps ≡ walks → arrangement_of county steps ≡ ascending county
     steps_ascend steps e =
         ap (arrangement_of county) e ∙ steps_told walks (in_order (on entry_shape points_cmp) county.chains) each_walk read
 
-    pub steps_there : (steps : List Step) → steps ≡ along → AreSteps county steps
+    pub steps_there : (steps : List ChainWalk) → steps ≡ walks → AreSteps county steps
     steps_there steps e =
-        subst (AreSteps county) (sym e) (all_map (λ (s : Step). s.place < length county.chains) walk_step walks
+        subst (AreSteps county) (sym e)
         (all_unmap (λ n. n < length county.chains) place_of walks (places_below (length county.chains) (map place_of walks)
         (item_places (least_walk county) place_of (λ i. refl) (walk_cmp county) (on_total entry_shape points_keys.total) county.chains
-        agrees walks order.all order.in_order))))
+        agrees walks order.all order.in_order)))

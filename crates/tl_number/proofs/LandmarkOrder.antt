@@ -22,20 +22,20 @@ use Rattle.tl_county.specs.Entries.{entry_keys}
 use Rattle.tl_county.specs.Orders.{IsInOrder, in_order, times, stands_in, has_repeat}
 use Rattle.tl_county.specs.PolygonKeys.{PolygonKey, key_cmp}
 use Rattle.tl_county.specs.Renumbering.{image}
-use Rattle.tl_county.proofs.Distinct.{has_repeat-apart}
-use Rattle.tl_county.proofs.InOrder.{in_order-in_order, in_order-equal}
-use Rattle.tl_county.proofs.KeyOrders.{landmark_body_keys, link_part_keys, link_keys}
-use Rattle.tl_county.proofs.Keys.{IsApart, Known, nat_keys, apart_from_sorted, apart-permutation, image-injective}
-use Rattle.tl_county.proofs.Lists.{map-map, all_weaker, all_map}
-use Rattle.tl_county.proofs.Members.{among_known}
-use Rattle.tl_county.proofs.Permutations.{in_order-is_permutation}
+use Rattle.tl_county.proofs.Lists.Distinct.{has_repeat-apart}
+use Rattle.tl_county.proofs.Lists.InOrder.{in_order-in_order, in_order-equal}
+use Rattle.tl_county.proofs.ByKey.KeyOrders.{landmark_body_keys, link_part_keys, link_keys}
+use Rattle.tl_county.proofs.ByKey.Keys.{IsApart, Known, nat_keys, apart_from_sorted, apart-permutation, image-injective}
+use Rattle.tl_county.proofs.Lists.Elements.{map-map, all_weaker, all_map}
+use Rattle.tl_county.proofs.Lists.Members.{among_known}
+use Rattle.tl_county.proofs.Lists.Permutations.{in_order-is_permutation}
 use Rattle.tl_number.specs.Arrangement.{Arrangement, landmarks_in_order, links_relinked, relinked, new_keys, polygons_in_order}
 use Rattle.tl_number.specs.Growth.{numbered, up_to}
 use Rattle.tl_number.specs.LandmarkItems.{link_under, lands_at, numbered_links, own_links, landmark_place_cmp}
 use Rattle.tl_number.specs.Steps.{arrangement_of}
 use Rattle.tl_number.specs.Uses.{links_of, landmark_key, landmark_key_cmp}
 use Rattle.tl_number.specs.ViewFacts.{AreWhole, AreReadAt, stepped}
-use Rattle.tl_number.specs.declared.step.Step.{Step}
+use Rattle.tl_profile.specs.declared.chain_walk.ChainWalk.{ChainWalk}
 use Rattle.tl_number.proofs.Carrying.{landmarks_permutation, links_arranged, lands_renamed, images-numbered}
 use Rattle.tl_number.proofs.Counting.{up_to-strict}
 use Rattle.tl_number.proofs.NameOrder.{filter_map_all, then_assoc}
@@ -96,7 +96,7 @@ pub numbered_by_land : (county : County) (polygons : List PolygonKey) (numbers :
 numbered_by_land county polygons numbers =
     by_land (numbered_links county polygons numbers) (in_order-in_order link_keys.total (map (link_under polygons numbers) county.links))
 
-module _ (county : County) (steps : List Step) (is : IsCounty county) (whole : AreWhole county steps) (polygons : List PolygonKey)
+module _ (county : County) (steps : List ChainWalk) (is : IsCounty county) (whole : AreWhole county steps) (polygons : List PolygonKey)
     (told : polygons ≡ polygons_in_order county (arrangement_of county steps)) where
   abbrev order : Arrangement
   order = arrangement_of county steps

@@ -17,12 +17,13 @@ pub mod Carrying
 pub mod ArrangedCounties
 pub mod ArrangedPacking
 pub mod Ascending
+pub mod SmallNumbers
 pub mod ArrangedNumbers
 pub mod SeenKeys
 pub mod SeenPlaces
 pub mod StepChains
 pub mod SortedPlaces
-pub mod StepPoints
+pub mod ItemByItem
 pub mod AscendingSteps
 pub mod ViewNumbers
 pub mod ViewChains
@@ -40,3 +41,5 @@ pub mod PlacesFit
 pub mod RenamingPairs
 pub mod StepPairs
 pub mod StepTables
+pub mod MaskedProfile
+pub mod MaskedSights

@@ -23,17 +23,17 @@ use Rattle.tl_county.specs.County.{County}
 use Rattle.tl_county.specs.CountyRules.{IsCounty, feats}
 use Rattle.tl_county.specs.Entries.{entry_keys}
 use Rattle.tl_county.specs.Orders.{IsInOrder, has_repeat, stands_in}
-use Rattle.tl_county.proofs.Distinct.{has_repeat-apart}
-use Rattle.tl_county.proofs.KeyOrders.{name_body_keys}
-use Rattle.tl_county.proofs.Keys.{IsKeyOrder, IsApart, nat_keys, times-append, times-yes, apart-permutation, apart_from_sorted}
+use Rattle.tl_county.proofs.Lists.Distinct.{has_repeat-apart}
+use Rattle.tl_county.proofs.ByKey.KeyOrders.{name_body_keys}
+use Rattle.tl_county.proofs.ByKey.Keys.{IsKeyOrder, IsApart, nat_keys, times-append, times-yes, apart-permutation, apart_from_sorted}
 use Rattle.tl_number.specs.Arrangement.{Arrangement, arranged_tlids, placed, names_in_order}
 use Rattle.tl_number.specs.Growth.{first_seen_after, first_seen}
 use Rattle.tl_number.specs.NameItems.{feats_along_steps, from_one, rank_of, ranked_at, ranked_cmp, ranked_place}
 use Rattle.tl_number.specs.Steps.{arrangement_of}
 use Rattle.tl_number.specs.Uses.{Use, use_cmp, all_uses, uses_from, uses_of_name, name_key, name_key_cmp}
 use Rattle.tl_number.specs.ViewFacts.{AreWhole, AreReadAt}
-use Rattle.tl_number.specs.declared.step.Step.{Step}
-use Rattle.tl_number.specs.declared.table_items.RankedName.{RankedName}
+use Rattle.tl_profile.specs.declared.chain_walk.ChainWalk.{ChainWalk}
+use Rattle.tl_number.specs.declared.name_order.RankedName.{RankedName}
 use Rattle.tl_number.proofs.AscendingSteps.{options_total}
 use Rattle.tl_number.proofs.Carrying.{names_permutation}
 use Rattle.tl_number.proofs.Counting.{up_to-strict}
@@ -126,7 +126,7 @@ ranked_total county =
     then_total (on_total (λ (n : RankedName). name_at county n.place) (options_total name_body_keys.total))
     (then_total (on_total (λ (n : RankedName). n.rank) nat_cmp_total) (on_total (λ (n : RankedName). n.place) nat_cmp_total))
 
-module _ (county : County) (steps : List Step) (is : IsCounty county) (whole : AreWhole county steps) (seen : List ℕ)
+module _ (county : County) (steps : List ChainWalk) (is : IsCounty county) (whole : AreWhole county steps) (seen : List ℕ)
     (uses : seen ≡ first_seen nat_cmp (feats_along_steps county steps)) (items : List RankedName)
     (p : IsPermutation (map (ranked_at county seen) (range_with_len 0 (length county.names))) items)
     (ordered : IsInOrder (ranked_cmp county) items) where
@@ -173,7 +173,7 @@ module _ (county : County) (steps : List Step) (is : IsCounty county) (whole : A
       (on_total (name_key used) name_key_keys.total) county.names agrees items p ordered
 
 -- what the names at these places tell, if they are those in their new order
-module _ (county : County) (steps : List Step) (is : IsCounty county) (whole : AreWhole county steps) (places : List ℕ)
+module _ (county : County) (steps : List ChainWalk) (is : IsCounty county) (whole : AreWhole county steps) (places : List ℕ)
     (told : AreReadAt county.names places (names_in_order county (arrangement_of county steps))) where
   abbrev reordered : List (ℕ × Body5)
   reordered = names_in_order county (arrangement_of county steps)

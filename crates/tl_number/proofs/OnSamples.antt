@@ -7,9 +7,9 @@ use Rattle.tl_layout.specs.Fields.{Fields2}
 use Rattle.tl_number.specs.Growth.{up_to}
 use Rattle.tl_county.specs.County.{county_of}
 use Rattle.tl_county.specs.Renumbering.{Renumbering, AreSame}
-use Rattle.tl_county.proofs.LinkFaults.{linked_computed}
-use Rattle.tl_county.proofs.Samples.{there, canonical_there, canonical_shaped, canonical_polygons, canonical_named}
-use Rattle.tl_county.proofs.Samples.{canonical_schools, canonical_meeting, points_up}
+use Rattle.tl_county.proofs.Rules.LinkFaults.{linked_computed}
+use Rattle.tl_county.proofs.Samples.Counties.{there, canonical_there, canonical_shaped, canonical_polygons, canonical_named}
+use Rattle.tl_county.proofs.Samples.Counties.{canonical_schools, canonical_meeting, points_up}
 use Rattle.tl_number.specs.Canonical.{IsCanonical, AreFull}
 use Rattle.tl_county.specs.Packing.{packed}
 use Rattle.tl_number.specs.ArrangedCounty.{IsArranged}

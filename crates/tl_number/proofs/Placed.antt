@@ -13,20 +13,20 @@ use Rattle.tl_county.specs.Orders.{times, stands_in}
 use Rattle.tl_county.specs.Packing.{numbered_from}
 use Rattle.tl_county.specs.PolygonKeys.{PolygonKey, key_cmp}
 use Rattle.tl_county.specs.Renumbering.{Renumbering, image, turns, renumbered, carried_chain}
-use Rattle.tl_county.proofs.KeyOrders.{key_keys}
-use Rattle.tl_county.proofs.Keys.{IsApart, Known, nat_keys, times-yes, times-no}
-use Rattle.tl_county.proofs.Keys.{apart_tail, apart_from_sorted, apart-permutation, known-permutation, known-permutation_to}
-use Rattle.tl_county.proofs.Keys.{known_cases, known-here, known-later, image-yes, image-no, images-lefts}
-use Rattle.tl_county.proofs.Keys.{same_or_not, differ}
-use Rattle.tl_county.proofs.Lists.{map-map, map_agree_all, all_weaker}
-use Rattle.tl_county.proofs.Numbers.{times-of_number, only_one, of_number-all}
-use Rattle.tl_county.proofs.Permutations.{groups-permutation}
-use Rattle.tl_county.proofs.Sameness.{keys_known}
+use Rattle.tl_county.proofs.ByKey.KeyOrders.{key_keys}
+use Rattle.tl_county.proofs.ByKey.Keys.{IsApart, Known, nat_keys, times-yes, times-no}
+use Rattle.tl_county.proofs.ByKey.Keys.{apart_tail, apart_from_sorted, apart-permutation, known-permutation, known-permutation_to}
+use Rattle.tl_county.proofs.ByKey.Keys.{known_cases, known-here, known-later, image-yes, image-no, images-lefts}
+use Rattle.tl_county.proofs.ByKey.Keys.{same_or_not, differ}
+use Rattle.tl_county.proofs.Lists.Elements.{map-map, map_agree_all, all_weaker}
+use Rattle.tl_county.proofs.ByKey.Numbers.{times-of_number, only_one, of_number-all}
+use Rattle.tl_county.proofs.Lists.Permutations.{groups-permutation}
+use Rattle.tl_county.proofs.Sameness.Equivalence.{keys_known}
 use Rattle.tl_number.specs.Arrangement.{Arrangement, Arranges, arranged_tlids, entries_of, chains_in_order, placed, under_cenid}
 use Rattle.tl_number.specs.Arrangement.{turned_tlids}
 use Rattle.tl_number.specs.Growth.{numbered, up_to}
 use Rattle.tl_number.proofs.Counting.{entries_equal}
-use Rattle.tl_county.proofs.Counted.{lefts-numbered_from, rights-numbered_from}
+use Rattle.tl_county.proofs.Lists.Counted.{lefts-numbered_from, rights-numbered_from}
 use Rattle.tl_number.proofs.FirstSeen.{place_from, place-here, place-later}
 use Rattle.tl_number.proofs.SameNumbers.{kept_entry}
 

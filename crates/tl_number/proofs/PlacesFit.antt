@@ -14,15 +14,15 @@ use Rattle.tl_county.specs.Limits.{IsWithinLimits, most_records}
 use Rattle.tl_county.specs.Orders.{times, stands_in}
 use Rattle.tl_county.specs.Packing.{packed, packed_by_type, packed_five, packed_one, packed_sevens}
 use Rattle.tl_county.specs.PolygonKeys.{PolygonKey}
-use Rattle.tl_county.proofs.Counted.{few_in_groups}
-use Rattle.tl_county.proofs.FirstFault.{Among}
-use Rattle.tl_county.proofs.KeyOrders.{key_keys}
-use Rattle.tl_county.proofs.Keys.{IsApart, IsKeyOrder, apart_from_sorted, same-itself}
-use Rattle.tl_county.proofs.Lists.{all_weaker}
-use Rattle.tl_county.proofs.Members.{known_is_among}
-use Rattle.tl_county.proofs.PackedTypes.{by_type_of}
-use Rattle.tl_county.proofs.Reordered.{to_filter}
-use Rattle.tl_county.proofs.TypeCounts.{HasAtMost, by_type_within}
+use Rattle.tl_county.proofs.Lists.Counted.{few_in_groups}
+use Rattle.tl_county.proofs.Rules.FirstFault.{Among}
+use Rattle.tl_county.proofs.ByKey.KeyOrders.{key_keys}
+use Rattle.tl_county.proofs.ByKey.Keys.{IsApart, IsKeyOrder, apart_from_sorted, same-itself}
+use Rattle.tl_county.proofs.Lists.Elements.{all_weaker}
+use Rattle.tl_county.proofs.Lists.Members.{known_is_among}
+use Rattle.tl_county.proofs.Packing.PackedTypes.{by_type_of}
+use Rattle.tl_county.proofs.Lists.Reordered.{to_filter}
+use Rattle.tl_county.proofs.Packing.TypeCounts.{HasAtMost, by_type_within}
 use Rattle.tl_number.proofs.ArrangedNumbers.{few_polygons, long_joined, short_joined}
 
 -- places of chains, names, polygons and landmarks fit 32 bits

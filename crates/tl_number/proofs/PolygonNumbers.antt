@@ -17,12 +17,12 @@ use Rattle.tl_county.specs.Entries.{entry_keys, value_under}
 use Rattle.tl_county.specs.Orders.{in_order}
 use Rattle.tl_county.specs.PolygonKeys.{PolygonKey, key_cmp}
 use Rattle.tl_county.specs.Renumbering.{image, carried_polygon}
-use Rattle.tl_county.proofs.InOrder.{in_order-permutation, in_order-in_order, in_order-map, strict-map, strict-permutation}
-use Rattle.tl_county.proofs.KeyOrders.{key_keys}
-use Rattle.tl_county.proofs.Keys.{nat_keys, images-lefts, IsApart, rights, lefts}
-use Rattle.tl_county.proofs.Lists.{map-map}
-use Rattle.tl_county.proofs.EntryLists.{in_order-strict, value-at_place}
-use Rattle.tl_county.proofs.Permutations.{in_order-is_permutation}
+use Rattle.tl_county.proofs.Lists.InOrder.{in_order-permutation, in_order-in_order, in_order-map, strict-map, strict-permutation}
+use Rattle.tl_county.proofs.ByKey.KeyOrders.{key_keys}
+use Rattle.tl_county.proofs.ByKey.Keys.{nat_keys, images-lefts, IsApart, rights, lefts}
+use Rattle.tl_county.proofs.Lists.Elements.{map-map}
+use Rattle.tl_county.proofs.Lists.EntryLists.{in_order-strict, value-at_place}
+use Rattle.tl_county.proofs.Lists.Permutations.{in_order-is_permutation}
 use Rattle.tl_number.specs.Arrangement.{Arrangement, Arranges, polygons_in_order, placed, renaming_of, arranged, under_cenid}
 use Rattle.tl_number.specs.ByNumber.{entry_polyid, polygons_by_number, under_number}
 use Rattle.tl_number.specs.Growth.{numbered, up_to}

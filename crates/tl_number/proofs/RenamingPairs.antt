@@ -12,23 +12,13 @@ use Rattle.tl_county.specs.PolygonKeys.{PolygonKey}
 use Rattle.tl_number.specs.Arrangement.{arranged_tlids, turned_tlids, under_cenid}
 use Rattle.tl_number.specs.Growth.{numbered}
 use Rattle.tl_number.specs.Steps.{arrangement_of, tlid_at}
+use Rattle.tl_county.proofs.Lists.Places.{one_more_taken}
 use Rattle.tl_number.specs.ViewFacts.{AreReadAt}
-use Rattle.tl_number.specs.declared.step.Step.{Step}
+use Rattle.tl_profile.specs.declared.chain_walk.ChainWalk.{ChainWalk}
 use Rattle.tl_number.proofs.PolygonNumbers.{key_numbered}
 use Rattle.tl_number.proofs.StepChains.{at_place}
 use Rattle.tl_number.proofs.ViewChains.{read_length}
 use Rattle.tl_number.proofs.ViewTables.{read_at}
-
--- the elements up to a place, and with the one that stands there
-pub next_taken : {X : Type 0} (xs : List X) (place : ℕ) (x : X) → Some x ≡ slice_get xs place → take (suc place) xs ≡ take place xs ++
-    (x ∷ [])
-next_taken [] place x e = cc
-next_taken (y ∷ ys) zero x e = let same : y ≡ x = cc in ap (λ z. z ∷ []) same
-next_taken (y ∷ ys) (suc place) x e = ap (λ l. y ∷ l) (next_taken ys place x e)
-
-pub one_more_taken : {X : Type 0} (xs : List X) (place : ℕ) (x : X) → Some x ≡ slice_get xs place → take (place + 1) xs ≡ take place xs ++
-    (x ∷ [])
-one_more_taken xs place x e = ap (λ n. take n xs) (let next : place + 1 ≡ suc place = omega arith in next) ∙ next_taken xs place x e
 
 length-numbered_from : {K : Type 0} (i : ℕ) (keys : List K) → length (numbered_from i keys) ≡ length keys
 length-numbered_from i [] = refl
@@ -68,27 +58,27 @@ module _ (county : County) where
   tlid_there place tlid e = get_or_from_slice_get (tlids county) place tlid 0 (sym e)
 
   -- the TLID of a step
-  pub step_tlid : (steps : List Step) (place : ℕ) (step : Step) (tlid : ℕ) → Some step ≡ slice_get steps place
+  pub step_tlid : (steps : List ChainWalk) (place : ℕ) (step : ChainWalk) (tlid : ℕ) → Some step ≡ slice_get steps place
       → Some tlid ≡ slice_get (tlids county) step.place → Some tlid ≡ slice_get (arranged_tlids (arrangement_of county steps)) place
   step_tlid steps place step tlid e f =
       ap Some (sym (tlid_there step.place tlid f))
-      ∙ ap (option_map (λ (s : Step). tlid_at county s.place)) e
+      ∙ ap (option_map (λ (s : ChainWalk). tlid_at county s.place)) e
       ∙ sym (slice_get-map (λ (s : ℕ × Bool). s.0) (arrangement_of county steps) place
-      ∙ ap (option_map (λ (s : ℕ × Bool). s.0)) (slice_get-map (λ (s : Step). (tlid_at county s.place, s.turned)) steps place)
+      ∙ ap (option_map (λ (s : ℕ × Bool). s.0)) (slice_get-map (λ (s : ChainWalk). (tlid_at county s.place, s.turned)) steps place)
       ∙ both (slice_get steps place))
     where
-      both : (o : Option Step) → option_map (λ (s : ℕ × Bool). s.0)
-          (option_map {U = ℕ × Bool} (λ (s : Step). (tlid_at county s.place, s.turned)) o)
-          ≡ option_map {U = ℕ} (λ (s : Step). tlid_at county s.place) o
+      both : (o : Option ChainWalk) → option_map (λ (s : ℕ × Bool). s.0)
+          (option_map {U = ℕ × Bool} (λ (s : ChainWalk). (tlid_at county s.place, s.turned)) o)
+          ≡ option_map {U = ℕ} (λ (s : ChainWalk). tlid_at county s.place) o
       both None = refl
       both (Some s) = refl
 
-  pub length-arranged : (steps : List Step) → length (arranged_tlids (arrangement_of county steps)) ≡ length steps
+  pub length-arranged : (steps : List ChainWalk) → length (arranged_tlids (arrangement_of county steps)) ≡ length steps
   length-arranged steps = length-map (arrangement_of county steps) (λ (s : ℕ × Bool). s.0)
-      ∙ length-map steps (λ (s : Step). (tlid_at county s.place, s.turned))
+      ∙ length-map steps (λ (s : ChainWalk). (tlid_at county s.place, s.turned))
 
   -- the turned TLIDs of steps, and of one step more
-  pub turned_next : (steps : List Step) (place : ℕ) (step : Step) → Some step ≡ slice_get steps place
+  pub turned_next : (steps : List ChainWalk) (place : ℕ) (step : ChainWalk) → Some step ≡ slice_get steps place
       → turned_tlids (arrangement_of county (take (suc place) steps))
       ≡ turned_tlids (arrangement_of county (take place steps)) ++ turned_tlids (arrangement_of county (step ∷ []))
   turned_next [] place step e = cc
@@ -103,25 +93,25 @@ module _ (county : County) where
       go true e = ap (λ l. tlid_at county s.place ∷ l) e
       go false e = e
 
-  alone_turned : (step : Step) → step.turned ≡ true → turned_tlids (arrangement_of county (step ∷ [])) ≡ tlid_at county step.place ∷ []
+  alone_turned : (step : ChainWalk) → step.turned ≡ true → turned_tlids (arrangement_of county (step ∷ [])) ≡ tlid_at county step.place ∷ []
   alone_turned step e = go step.turned e
     where
       go : (turned : Bool) → turned ≡ true → turned_tlids ((tlid_at county step.place, turned) ∷ []) ≡ tlid_at county step.place ∷ []
       go true e = refl
       go false e = cc
 
-  alone_unturned : (step : Step) → step.turned ≡ false → turned_tlids (arrangement_of county (step ∷ [])) ≡ []
+  alone_unturned : (step : ChainWalk) → step.turned ≡ false → turned_tlids (arrangement_of county (step ∷ [])) ≡ []
   alone_unturned step e = go step.turned e
     where
       go : (turned : Bool) → turned ≡ false → turned_tlids ((tlid_at county step.place, turned) ∷ []) ≡ []
       go true e = cc
       go false e = refl
 
-  one_more : (steps : List Step) (place : ℕ) → take (place + 1) steps ≡ take (suc place) steps
+  one_more : (steps : List ChainWalk) (place : ℕ) → take (place + 1) steps ≡ take (suc place) steps
   one_more steps place = ap (λ n. take n steps) (let next : place + 1 ≡ suc place = omega arith in next)
 
   -- a turned chain's TLID is one more
-  pub turned_more : (steps : List Step) (place : ℕ) (step : Step) (tlid : ℕ) → slice_get steps place ≡ Some step → step.turned ≡ true
+  pub turned_more : (steps : List ChainWalk) (place : ℕ) (step : ChainWalk) (tlid : ℕ) → slice_get steps place ≡ Some step → step.turned ≡ true
       → Some tlid ≡ slice_get (tlids county) step.place
       → turned_tlids (arrangement_of county (take (place + 1) steps)) ≡ turned_tlids (arrangement_of county (take place steps)) ++
       (tlid ∷ [])
@@ -131,7 +121,7 @@ module _ (county : County) where
       (alone_turned step turned ∙ ap (λ n. n ∷ []) (tlid_there step.place tlid there))
 
   -- and that of another isn't
-  pub unturned_more : (steps : List Step) (place : ℕ) (step : Step) → slice_get steps place ≡ Some step → step.turned ≡ false
+  pub unturned_more : (steps : List ChainWalk) (place : ℕ) (step : ChainWalk) → slice_get steps place ≡ Some step → step.turned ≡ false
       → turned_tlids (arrangement_of county (take (place + 1) steps)) ≡ turned_tlids (arrangement_of county (take place steps))
   unturned_more steps place step e unturned =
       ap (λ l. turned_tlids (arrangement_of county l)) (one_more steps place) ∙ turned_next steps place step (sym e)

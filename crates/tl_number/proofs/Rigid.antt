@@ -18,13 +18,13 @@ use Rattle.tl_shape.specs.PointOrder.{points_cmp}
 use Rattle.tl_county.specs.PolygonKeys.{PolygonKey, key_cmp, key_on, key_under}
 use Rattle.tl_county.specs.Renumbering.{Renumbering, Carries, image, turns, renumbered, renumbered_polygon, carried_chain, carried_polygon}
 use Rattle.tl_shape.specs.Turned.{turned_if}
-use Rattle.tl_county.proofs.FirstFault.{Among, all_among}
-use Rattle.tl_county.proofs.InOrder.{strict-permutation, strict-map, strict-unmap}
-use Rattle.tl_county.proofs.KeyOrders.{key_keys, points_keys}
-use Rattle.tl_county.proofs.Keys.{Known, nat_keys, known_all}
-use Rattle.tl_county.proofs.Lists.{map-map, map_agree_all, all_weaker, all_both, all_pieces, all_left, all_right}
-use Rattle.tl_county.proofs.Members.{among-permutation, among-map}
-use Rattle.tl_county.proofs.Sameness.{keys_known}
+use Rattle.tl_county.proofs.Rules.FirstFault.{Among, all_among}
+use Rattle.tl_county.proofs.Lists.InOrder.{strict-permutation, strict-map, strict-unmap}
+use Rattle.tl_county.proofs.ByKey.KeyOrders.{key_keys, points_keys}
+use Rattle.tl_county.proofs.ByKey.Keys.{Known, nat_keys, known_all}
+use Rattle.tl_county.proofs.Lists.Elements.{map-map, map_agree_all, all_weaker, all_both, all_pieces, all_left, all_right}
+use Rattle.tl_county.proofs.Lists.Members.{among-permutation, among-map}
+use Rattle.tl_county.proofs.Sameness.Equivalence.{keys_known}
 use Rattle.tl_number.specs.Growth.{up_to}
 use Rattle.tl_number.specs.ArrangedCounty.{IsArranged, IsLeast, entry_points}
 use Rattle.tl_number.proofs.Counting.{map-equal_all}

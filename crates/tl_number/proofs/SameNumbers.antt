@@ -11,15 +11,15 @@ use Rattle.tl_county.specs.CountyRules.{chain_polygons}
 use Rattle.tl_county.specs.Orders.{stands_in, times}
 use Rattle.tl_county.specs.PolygonKeys.{PolygonKey, key_cmp}
 use Rattle.tl_county.specs.Renumbering.{Renumbering, Carries, image, renumbered}
-use Rattle.tl_county.proofs.Carried.{chain_nodes-renumbered, chain_polygons-renumbered}
-use Rattle.tl_county.proofs.Distinct.{apart-distinct, known-distinct}
-use Rattle.tl_county.proofs.FirstFault.{Among, all_among}
-use Rattle.tl_county.proofs.KeyOrders.{key_keys}
-use Rattle.tl_county.proofs.Keys.{Known, nat_keys, lefts, rights, apart-permutation, known-permutation, image-injective}
-use Rattle.tl_county.proofs.Keys.{apart_from_sorted, all_known}
-use Rattle.tl_county.proofs.Lists.{map-map, all_weaker, all_joined}
-use Rattle.tl_county.proofs.Members.{among-map}
-use Rattle.tl_county.proofs.Sameness.{image-keeps}
+use Rattle.tl_county.proofs.Sameness.Carried.{chain_nodes-renumbered, chain_polygons-renumbered}
+use Rattle.tl_county.proofs.Lists.Distinct.{apart-distinct, known-distinct}
+use Rattle.tl_county.proofs.Rules.FirstFault.{Among, all_among}
+use Rattle.tl_county.proofs.ByKey.KeyOrders.{key_keys}
+use Rattle.tl_county.proofs.ByKey.Keys.{Known, nat_keys, lefts, rights, apart-permutation, known-permutation, image-injective}
+use Rattle.tl_county.proofs.ByKey.Keys.{apart_from_sorted, all_known}
+use Rattle.tl_county.proofs.Lists.Elements.{map-map, all_weaker, all_joined}
+use Rattle.tl_county.proofs.Lists.Members.{among-map}
+use Rattle.tl_county.proofs.Sameness.Equivalence.{image-keeps}
 use Rattle.tl_number.specs.Growth.{Grows}
 use Rattle.tl_number.specs.ArrangedCounty.{IsArranged}
 use Rattle.tl_number.proofs.Growth.{grown}

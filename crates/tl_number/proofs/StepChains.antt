@@ -1,23 +1,35 @@
 -- The chains of an arrangement that is told by steps are those at the steps' places.
-use Rattle.std.proofs.Common.{◌≡◌, ◌⊎◌, ◌<◌, ◌≤◌, ◌==◌, ℕ, zero, suc, List, [], ◌∷◌, ◌++◌, map, flat_map, length, Option, Some, None}
+use Rattle.std.proofs.Common.{◌≡◌, ◌⊎◌, ◌<◌, ◌≤◌, ◌==◌, ℕ, zero, suc, List, [], ◌∷◌, ◌++◌, map, flat_map, length, Bool, true, false, Option, Some, None}
 use Rattle.std.proofs.Common.{option_map, slice_get, sym, refl, ap, ap₂, ◌∙◌, inl, inr, arith, append-nil, append_assoc}
 use Rattle.std.proofs.lemmas.Bool.{eq-eqb}
 use Rattle.std.proofs.lemmas.Option.{slice_get-map, get_or_from_slice_get}
 use Rattle.tl_shape.specs.Chain.{Chain}
 use Rattle.tl_shape.specs.Turned.{turned_if}
-use Rattle.tl_county.specs.ChartWords.{chain_at, feats_of}
+use Rattle.tl_county.specs.ChartWords.{chain_at, feats_of, points_of}
 use Rattle.tl_county.specs.County.{County}
 use Rattle.tl_county.specs.CountyRules.{IsCounty, tlids}
 use Rattle.tl_county.specs.Packing.{numbered_from}
-use Rattle.tl_county.proofs.Counted.{rights-numbered_from}
-use Rattle.tl_county.proofs.FirstFault.{Among}
-use Rattle.tl_county.proofs.Keys.{nat_keys, apart_from_sorted}
-use Rattle.tl_county.proofs.Lists.{flat_map_agree}
-use Rattle.tl_county.proofs.Numbers.{times-of_number}
-use Rattle.tl_county.proofs.Reordered.{to_filter}
+use Rattle.tl_county.proofs.Lists.Counted.{rights-numbered_from}
+use Rattle.tl_county.proofs.Rules.FirstFault.{Among}
+use Rattle.tl_county.proofs.ByKey.Keys.{nat_keys, apart_from_sorted}
+use Rattle.tl_county.proofs.Lists.Elements.{flat_map_agree}
+use Rattle.tl_county.proofs.ByKey.Numbers.{times-of_number}
+use Rattle.tl_county.proofs.Lists.Reordered.{to_filter}
+use Rattle.tl_profile.specs.ShapeOrder.{points_along}
+use Rattle.tl_profile.specs.Shapes.{points_from}
 use Rattle.tl_number.specs.Arrangement.{Arrangement, entries_of, chains_in_order, placed}
 use Rattle.tl_number.specs.Steps.{arrangement_of, AreSteps, tlid_at, step_chain}
-use Rattle.tl_number.specs.declared.step.Step.{Step}
+use Rattle.tl_profile.specs.declared.chain_walk.ChainWalk.{ChainWalk}
+
+-- the points along a walk are those of its chain in its direction
+pub points_stepped : (county : County) (step : ChainWalk) → points_along county step ≡ points_of (step_chain county step)
+points_stepped county step = go step.turned (chain_at county step.place)
+  where
+    go : (turned : Bool) (o : Option Chain) → points_from turned (points_of o) ≡ points_of (option_map (turned_if turned) o)
+    go true (Some chain) = refl
+    go false (Some chain) = refl
+    go true None = refl
+    go false None = refl
 
 -- what stands at a place is among the elements
 pub among-get : {X : Type 0} (xs : List X) (i : ℕ) (x : X) → slice_get xs i ≡ Some x → Among x xs
@@ -73,7 +85,7 @@ module _ (county : County) (is : IsCounty county) where
   abbrev bodies : Arrangement → List Chain
   bodies ss = flat_map (λ s. map (λ (entry : ℕ × Chain). turned_if s.1 entry.1) (entries_of county.chains s.0)) ss
 
-  along_bodies : {X : Type 0} (f : Chain → List X) (steps : List Step) → AreSteps county steps
+  along_bodies : {X : Type 0} (f : Chain → List X) (steps : List ChainWalk) → AreSteps county steps
       → flat_map f (bodies (arrangement_of county steps)) ≡ flat_map (λ step. of_chain f (step_chain county step)) steps
   along_bodies f [] h = refl
   along_bodies f (s ∷ ss) h =
@@ -88,7 +100,7 @@ module _ (county : County) (is : IsCounty county) where
       ∙ ap (λ o. of_chain f (option_map (turned_if s.turned) o)) (sym chain))
       (along_bodies f ss h.1)
 
-  along_placed : {X : Type 0} (f : Chain → List X) (steps : List Step) → AreSteps county steps
+  along_placed : {X : Type 0} (f : Chain → List X) (steps : List ChainWalk) → AreSteps county steps
       → flat_map (λ (entry : ℕ × Chain). f entry.1) (placed county (arrangement_of county steps)) ≡ flat_map
       (λ step. of_chain f (step_chain county step)) steps
   along_placed f steps h =
@@ -100,15 +112,15 @@ module _ (county : County) (is : IsCounty county) where
   same_feats None = refl
   same_feats (Some c) = refl
 
-  pub feats_placed : (steps : List Step) → AreSteps county steps
+  pub feats_placed : (steps : List ChainWalk) → AreSteps county steps
       → flat_map (λ (entry : ℕ × Chain). entry.1.feats) (placed county (arrangement_of county steps)) ≡ flat_map
       (λ step. feats_of (step_chain county step)) steps
   feats_placed steps h = along_placed (λ c. c.feats) steps h
-      ∙ flat_map_agree (λ (step : Step). of_chain (λ c. c.feats) (step_chain county step)) (λ step. feats_of (step_chain county step))
+      ∙ flat_map_agree (λ (step : ChainWalk). of_chain (λ c. c.feats) (step_chain county step)) (λ step. feats_of (step_chain county step))
       (λ step. same_feats (step_chain county step)) steps
 
   -- the chains in their new order, read at the steps' places
-  pub chains_read : (steps : List Step) → AreSteps county steps
+  pub chains_read : (steps : List ChainWalk) → AreSteps county steps
       → map Some (chains_in_order county (arrangement_of county steps)) ≡ map (λ step. slice_get county.chains step.place) steps
   chains_read [] h = refl
   chains_read (s ∷ ss) h =

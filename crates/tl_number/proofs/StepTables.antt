@@ -10,14 +10,14 @@ use Rattle.tl_county.specs.Entries.{entry_values}
 use Rattle.tl_county.specs.Packing.{numbered_from}
 use Rattle.tl_county.specs.PolygonKeys.{key_cmp}
 use Rattle.tl_county.specs.Renumbering.{image, side_of, renumbered, renumbered_polygon}
-use Rattle.tl_county.proofs.Counted.{rights-numbered_from}
-use Rattle.tl_county.proofs.Lists.{map-map}
+use Rattle.tl_county.proofs.Lists.Counted.{rights-numbered_from}
+use Rattle.tl_county.proofs.Lists.Elements.{map-map}
 use Rattle.tl_number.specs.Arrangement.{Arrangement, nodes_in_order, placed, polygons_in_order, renaming_of}
 use Rattle.tl_number.specs.ByStep.{ends_among, ends_of, nodes_at, polygon_among, polygons_at, sides_among, sides_of}
 use Rattle.tl_number.specs.Growth.{first_seen}
 use Rattle.tl_number.specs.Steps.{arrangement_of, step_chain}
 use Rattle.tl_number.specs.ViewFacts.{AreWhole, stepped}
-use Rattle.tl_number.specs.declared.step.Step.{Step}
+use Rattle.tl_profile.specs.declared.chain_walk.ChainWalk.{ChainWalk}
 use Rattle.tl_number.proofs.PolygonOrder.{few_polygons}
 use Rattle.tl_number.proofs.StepChains.{flat_map-map}
 use Rattle.tl_number.proofs.ViewChains.{bodies_read, chains, values}
@@ -37,7 +37,7 @@ pub both_ok : {T E : Type 0} (r : Result T E) (P Q R : T → Type 0) → ((x : T
 both_ok (Ok x) P Q R f p q = f x p q
 both_ok (Err y) P Q R f p q = tt
 
-module _ (county : County) (steps : List Step) (is : IsCounty county) (whole : AreWhole county steps) where
+module _ (county : County) (steps : List ChainWalk) (is : IsCounty county) (whole : AreWhole county steps) where
   abbrev order : Arrangement
   order = arrangement_of county steps
 

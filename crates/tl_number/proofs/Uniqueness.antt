@@ -5,8 +5,8 @@ use Rattle.tl_county.specs.County.{county_of}
 use Rattle.tl_county.specs.CountyRules.{tlids}
 use Rattle.tl_county.specs.Orders.{stands_in}
 use Rattle.tl_county.specs.Renumbering.{Renumbering, Carries, AreSame, image}
-use Rattle.tl_county.proofs.Keys.{nat_keys, known_all}
-use Rattle.tl_county.proofs.LinkedCounty.{county-is_county}
+use Rattle.tl_county.proofs.ByKey.Keys.{nat_keys, known_all}
+use Rattle.tl_county.proofs.Rules.LinkedCounty.{county-is_county}
 use Rattle.tl_number.specs.Canonical.{IsArrangedList, IsCanonical, KeepsChainNumbers}
 use Rattle.tl_county.specs.Packing.{packed}
 use Rattle.tl_number.proofs.RepackedPolygons.{arranged_list_is_packed}

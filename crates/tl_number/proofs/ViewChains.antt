@@ -10,15 +10,15 @@ use Rattle.tl_county.specs.County.{County}
 use Rattle.tl_county.specs.CountyRules.{IsCounty, tlids}
 use Rattle.tl_county.specs.Entries.{entry_values}
 use Rattle.tl_county.specs.Renumbering.{renumbered}
-use Rattle.tl_county.proofs.Counted.{rights-numbered_from}
-use Rattle.tl_county.proofs.Keys.{IsApart, nat_keys, apart_from_sorted}
-use Rattle.tl_county.proofs.Lists.{map-map}
-use Rattle.tl_county.proofs.Permutations.{apart-permutation_of}
+use Rattle.tl_county.proofs.Lists.Counted.{rights-numbered_from}
+use Rattle.tl_county.proofs.ByKey.Keys.{IsApart, nat_keys, apart_from_sorted}
+use Rattle.tl_county.proofs.Lists.Elements.{map-map}
+use Rattle.tl_county.proofs.Lists.Permutations.{apart-permutation_of}
 use Rattle.tl_number.specs.Arrangement.{Arrangement, Arranges, arranged_tlids, entries_of, placed, renaming_of}
 use Rattle.tl_number.specs.Growth.{up_to}
 use Rattle.tl_number.specs.Steps.{AreSteps, arrangement_of, step_chain, tlid_at}
 use Rattle.tl_number.specs.ViewFacts.{AreWhole, stepped}
-use Rattle.tl_number.specs.declared.step.Step.{Step}
+use Rattle.tl_profile.specs.declared.chain_walk.ChainWalk.{ChainWalk}
 use Rattle.tl_number.proofs.Carrying.{chains_arranged, tlids_arranged}
 use Rattle.tl_number.proofs.SameNumbers.{kept_entry}
 use Rattle.tl_number.proofs.StepChains.{one_here}
@@ -49,7 +49,7 @@ read_nowhere f (z ∷ zs) (y ∷ ys) e (suc i) h =
 pub read_length : {X Y : Type 0} (f : X → Option Y) (xs : List X) (ys : List Y) → map f xs ≡ map Some ys → length ys ≡ length xs
 read_length f xs ys e = sym (length-map ys Some) ∙ ap length (sym e) ∙ length-map xs f
 
-module _ (county : County) (steps : List Step) (is : IsCounty county) (whole : AreWhole county steps) where
+module _ (county : County) (steps : List ChainWalk) (is : IsCounty county) (whole : AreWhole county steps) where
   abbrev order : Arrangement
   order = arrangement_of county steps
 
@@ -60,7 +60,7 @@ module _ (county : County) (steps : List Step) (is : IsCounty county) (whole : A
       (λ k. let once = whole.once k in let few = apart k in omega (arith, once, few)) apart
       (λ k h. let once = whole.once k in omega (arith, once, h)) (λ k h. let once = whole.once k in omega (arith, once, h))
 
-  pub bodies_read : (ss : List Step) → AreSteps county ss
+  pub bodies_read : (ss : List ChainWalk) → AreSteps county ss
       → map (step_chain county) ss ≡ map Some (flat_map (λ s. map (λ (entry : ℕ × Chain). turned_if s.1 entry.1)
       (entries_of county.chains s.0)) (arrangement_of county ss))
   bodies_read [] h = refl
@@ -84,7 +84,7 @@ module _ (county : County) (steps : List Step) (is : IsCounty county) (whole : A
       ∙ ap (map (renumbered (renaming_of county order))) (rights-numbered_from 1 chains)
 
   -- the chain at a place is the step's, under the new numbers
-  pub chain_there : (i : ℕ) (s : Step) → slice_get steps i ≡ Some s
+  pub chain_there : (i : ℕ) (s : ChainWalk) → slice_get steps i ≡ Some s
       → (c : Chain) × (step_chain county s ≡ Some c) × (chain_at (stepped county steps) i ≡ Some (renumbered (renaming_of county order) c))
   chain_there i s h =
       let c = read_there (step_chain county) steps chains (bodies_read steps whole.there) i s h in (
@@ -113,7 +113,7 @@ module _ (county : County) (steps : List Step) (is : IsCounty county) (whole : A
   -- what is read of a step's chain, where the new numbers are put in, is what is read of the chain at the place
   pub told : {Y : Type 0} (F G : Option Chain → Y)
       → ((c : Chain) → G (Some c) ≡ F (Some (renumbered (renaming_of county order) c)))
-      → (i : ℕ) (s : Step) → Some s ≡ slice_get steps i → G (step_chain county s) ≡ F (chain_at (stepped county steps) i)
+      → (i : ℕ) (s : ChainWalk) → Some s ≡ slice_get steps i → G (step_chain county s) ≡ F (chain_at (stepped county steps) i)
   told F G h i s e = let t = chain_there i s (sym e) in ap G t.1 ∙ h t.0 ∙ sym (ap F t.2)
 
   pub untold : {Y : Type 0} (F : Option Chain → Y) (i : ℕ) → None ≡ slice_get steps i → F None ≡ F (chain_at (stepped county steps) i)

@@ -9,11 +9,11 @@ use Rattle.tl_county.specs.Orders.{times, stands_in}
 use Rattle.tl_county.specs.Packing.{numbered_from}
 use Rattle.tl_county.specs.PolygonKeys.{PolygonKey, key_cmp}
 use Rattle.tl_county.specs.Renumbering.{image}
-use Rattle.tl_county.proofs.FirstFault.{all_among}
-use Rattle.tl_county.proofs.KeyOrders.{key_keys}
-use Rattle.tl_county.proofs.Keys.{IsKeyOrder, nat_keys, same-true}
-use Rattle.tl_county.proofs.Lists.{map-map, all_weaker}
-use Rattle.tl_county.proofs.Members.{among_known, known_is_among}
+use Rattle.tl_county.proofs.Rules.FirstFault.{all_among}
+use Rattle.tl_county.proofs.ByKey.KeyOrders.{key_keys}
+use Rattle.tl_county.proofs.ByKey.Keys.{IsKeyOrder, nat_keys, same-true}
+use Rattle.tl_county.proofs.Lists.Elements.{map-map, all_weaker}
+use Rattle.tl_county.proofs.Lists.Members.{among_known, known_is_among}
 use Rattle.tl_number.specs.Arrangement.{under_cenid}
 use Rattle.tl_number.specs.Growth.{numbered, up_to}
 use Rattle.tl_number.proofs.StepChains.{among-get}

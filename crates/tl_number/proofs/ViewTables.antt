@@ -18,18 +18,18 @@ use Rattle.tl_county.specs.Entries.{entry_values}
 use Rattle.tl_county.specs.Orders.{IsInOrder}
 use Rattle.tl_county.specs.PolygonKeys.{PolygonKey}
 use Rattle.tl_county.specs.Renumbering.{carried_name, carried_landmark}
-use Rattle.tl_county.proofs.InOrder.{in_order-permutation}
-use Rattle.tl_county.proofs.Keys.{nat_keys}
-use Rattle.tl_county.proofs.Lists.{map-map, all_weaker}
-use Rattle.tl_county.proofs.Numbers.{distinct-in_order}
+use Rattle.tl_county.proofs.Lists.InOrder.{in_order-permutation}
+use Rattle.tl_county.proofs.ByKey.Keys.{nat_keys}
+use Rattle.tl_county.proofs.Lists.Elements.{map-map, all_weaker}
+use Rattle.tl_county.proofs.ByKey.Numbers.{distinct-in_order}
 use Rattle.tl_number.specs.Arrangement.{Arrangement, nodes_in_order, polygons_in_order, names_in_order, landmarks_in_order}
 use Rattle.tl_number.specs.Arrangement.{renaming_of, under_cenid}
 use Rattle.tl_number.specs.Growth.{numbered, up_to}
 use Rattle.tl_number.specs.Steps.{arrangement_of}
 use Rattle.tl_number.specs.ViewFacts.{AreWhole, AreReadAt, TellsNames, TellsLandmarks, stepped, links_up_to, link_bounds}
-use Rattle.tl_number.specs.declared.step.Step.{Step}
-use Rattle.tl_number.specs.declared.tables.LandmarkTables.{LandmarkTables}
-use Rattle.tl_number.specs.declared.tables.NameTables.{NameTables}
+use Rattle.tl_profile.specs.declared.chain_walk.ChainWalk.{ChainWalk}
+use Rattle.tl_number.specs.declared.arranged_tables.LandmarkTables.{LandmarkTables}
+use Rattle.tl_number.specs.declared.arranged_tables.NameTables.{NameTables}
 use Rattle.tl_number.proofs.Carrying.{names_arranged, landmarks_arranged, feats_arranged, lands_arranged, paired_nodes, node_rights}
 use Rattle.tl_number.proofs.Carrying.{nodes_renamed, names_renamed, polygons_renamed}
 use Rattle.tl_number.proofs.Counting.{up_to-strict}
@@ -77,7 +77,7 @@ pub value_past : {V : Type 0} (xs ys : List (ℕ × V)) (places : List ℕ) → 
 value_past {V} xs ys places e i h =
     ap (option_map (λ (d : ℕ × V). d.1)) (read_past xs ys places e i h) ∙ sym (slice_get-map (λ (d : ℕ × V). d.1) ys i)
 
-module _ (county : County) (steps : List Step) (is : IsCounty county) (whole : AreWhole county steps) where
+module _ (county : County) (steps : List ChainWalk) (is : IsCounty county) (whole : AreWhole county steps) where
   abbrev order : Arrangement
   order = arrangement_of county steps
 

@@ -1,13 +1,14 @@
 -- Lists of records as a whole: which are accepted, why another is refused, and what the canonical list of one is.
-use Rattle.std.specs.Prelude.{List}
+use Rattle.std.specs.Prelude.{◌≡◌, List}
 use Rattle.tl_layout.specs.declared.record_type.Record.{Record}
-use Rattle.tl_county.specs.County.{county_of}
+use Rattle.tl_county.specs.County.{County, county_of}
 use Rattle.tl_county.specs.LinkRules.{IsLinked, IsFirstBrokenRule}
 use Rattle.tl_county.specs.Renumbering.{AreSame}
 use Rattle.tl_county.specs.declared.fault.LinkFault.{LinkFault}
 use Rattle.tl_profile.specs.Profile.{IsInProfile, IsFirstBrokenClause}
 use Rattle.tl_profile.specs.declared.fault.ProfileFault.{ProfileFault}
 use Rattle.tl_number.specs.Canonical.{IsCanonical}
+use Rattle.tl_number.specs.Sights.{plain}
 
 -- the records fit together, and their county is in the profile
 pub record IsAccepted (records : List Record) : Type 0 where
@@ -24,8 +25,13 @@ abbrev pub IsRefusal : List Record → RecordsRefusal → Type 0
 IsRefusal records (Unlinked fault) = IsFirstBrokenRule records fault
 IsRefusal records (OutOfProfile fault) = IsLinked records × IsFirstBrokenClause (county_of records) fault
 
--- an accepted list, and a canonical list whose county is the same
-pub record IsCanonicalOf (records answer : List Record) : Type 0 where
+-- an accepted list, and a canonical list of which all is seen and whose county is the same as what is seen of the other's
+pub record IsCanonicalThrough (seen : County → County) (records answer : List Record) : Type 0 where
   pub accepted : IsAccepted records
   pub canonical : IsCanonical answer
-  pub same : AreSame (county_of records) (county_of answer)
+  pub own : seen (county_of answer) ≡ county_of answer
+  pub same : AreSame (seen (county_of records)) (county_of answer)
+
+-- an accepted list, and a canonical list whose county is the same
+abbrev pub IsCanonicalOf : List Record → List Record → Type 0
+IsCanonicalOf = IsCanonicalThrough plain

@@ -17,6 +17,7 @@ use Rattle.tl_county.specs.Packing.{numbered_from}
 use Rattle.tl_county.specs.PolygonKeys.{PolygonKey, key_cmp}
 use Rattle.tl_county.specs.Renumbering.{Renumbering, image, carried_chain, carried_name, carried_polygon, carried_landmark, carried_link}
 use Rattle.std.specs.Ordering.{nat_cmp}
+use Rattle.tl_profile.specs.Shapes.{least_points}
 use Rattle.tl_number.specs.Growth.{first_seen, numbered}
 use Rattle.tl_number.specs.Uses.{all_uses, name_key, name_key_cmp, landmark_key, landmark_key_cmp}
 
@@ -112,7 +113,7 @@ comes_turned chain = is_gt (points_cmp chain.points (reverse chain.points))
 
 -- a chain's points or their reverse, whichever comes first
 abbrev pub entry_shape : ℕ × Chain → List Coordinates
-entry_shape entry = (turned_if (comes_turned entry.1) entry.1).points
+entry_shape entry = least_points entry.1.points
 
 -- the arrangement in which each chain has its least points and the chains ascend by them
 abbrev pub ascending : County → Arrangement

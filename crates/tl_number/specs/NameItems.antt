@@ -9,11 +9,11 @@ use Rattle.tl_county.specs.ChartWords.{feats_of, name_at}
 use Rattle.tl_county.specs.County.{County}
 use Rattle.tl_county.specs.CountyRules.{feats}
 use Rattle.tl_number.specs.Steps.{step_chain}
-use Rattle.tl_number.specs.declared.step.Step.{Step}
-use Rattle.tl_number.specs.declared.table_items.RankedName.{RankedName}
+use Rattle.tl_profile.specs.declared.chain_walk.ChainWalk.{ChainWalk}
+use Rattle.tl_number.specs.declared.name_order.RankedName.{RankedName}
 
 -- the FEATs that chains name, along steps
-abbrev pub feats_along_steps : County → List Step → List ℕ
+abbrev pub feats_along_steps : County → List ChainWalk → List ℕ
 feats_along_steps county steps = flat_map (λ step. feats_of (step_chain county step)) steps
 
 -- a place counted from 1, and 0 for none

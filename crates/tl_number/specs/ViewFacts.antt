@@ -14,11 +14,11 @@ use Rattle.tl_number.specs.ByStep.{ends_of, sides_of}
 use Rattle.tl_number.specs.ByNumber.{polygons_by_number, under_number}
 use Rattle.tl_number.specs.Growth.{numbered}
 use Rattle.tl_number.specs.Steps.{AreSteps, arrangement_of}
-use Rattle.tl_number.specs.declared.step.Step.{Step}
-use Rattle.tl_number.specs.declared.tables.LandmarkTables.{LandmarkTables}
-use Rattle.tl_number.specs.declared.tables.NameTables.{NameTables}
-use Rattle.tl_number.specs.declared.tables.NodeTables.{NodeTables}
-use Rattle.tl_number.specs.declared.tables.PolygonTables.{PolygonTables}
+use Rattle.tl_profile.specs.declared.chain_walk.ChainWalk.{ChainWalk}
+use Rattle.tl_number.specs.declared.arranged_tables.LandmarkTables.{LandmarkTables}
+use Rattle.tl_number.specs.declared.arranged_tables.NameTables.{NameTables}
+use Rattle.tl_number.specs.declared.arranged_tables.NodeTables.{NodeTables}
+use Rattle.tl_number.specs.declared.arranged_tables.PolygonTables.{PolygonTables}
 
 -- these elements stand in the list at these places
 abbrev pub AreReadAt : {X : Type 0} → List X → List ℕ → List X → Type 0
@@ -37,11 +37,11 @@ abbrev pub link_bounds : List Fields8 → ℕ → List ℕ
 link_bounds links count = map (links_up_to links) (range_with_len 0 (count + 1))
 
 -- the county under the arrangement of these steps
-abbrev pub stepped : County → List Step → County
+abbrev pub stepped : County → List ChainWalk → County
 stepped county steps = arranged county (arrangement_of county steps)
 
 -- the steps are those of an arrangement, each chain once, and what they make is a county within its limits
-pub record AreWhole (county : County) (steps : List Step) : Type 0 where
+pub record AreWhole (county : County) (steps : List ChainWalk) : Type 0 where
   pub there : AreSteps county steps
   pub once : NamesEachOnce county (arrangement_of county steps)
   pub few : length county.chains < 2 ^ 32
@@ -49,12 +49,12 @@ pub record AreWhole (county : County) (steps : List Step) : Type 0 where
   pub within_limits : IsWithinLimits most_records (stepped county steps)
 
 -- nodes by first appearance, and the ends of each chain
-pub record TellsNodes (county : County) (steps : List Step) (tables : NodeTables) : Type 0 where
+pub record TellsNodes (county : County) (steps : List ChainWalk) (tables : NodeTables) : Type 0 where
   pub numbers : tables.numbers ≡ nodes_in_order county (arrangement_of county steps)
   pub ends : tables.ends.items ≡ map ends_of (entry_values (stepped county steps).chains)
 
 -- polygons by first appearance, the sides of each chain, the new keys in order, and where the contents stand
-pub record TellsPolygons (county : County) (steps : List Step) (tables : PolygonTables) : Type 0 where
+pub record TellsPolygons (county : County) (steps : List ChainWalk) (tables : PolygonTables) : Type 0 where
   pub numbers : tables.numbers ≡ polygons_in_order county (arrangement_of county steps)
   pub few : length tables.numbers < 10 ^ 10
   pub sides : tables.sides.items ≡ map sides_of (entry_values (stepped county steps).chains)
@@ -63,13 +63,13 @@ pub record TellsPolygons (county : County) (steps : List Step) (tables : Polygon
   pub by_number : map (under_number county) (numbered tables.numbers) ≡ polygons_by_number (stepped county steps)
 
 -- names in their new order
-pub record TellsNames (county : County) (steps : List Step) (tables : NameTables) : Type 0 where
+pub record TellsNames (county : County) (steps : List ChainWalk) (tables : NameTables) : Type 0 where
   pub feats : tables.feats ≡ entry_keys (names_in_order county (arrangement_of county steps))
   pub names : AreReadAt county.names tables.places.items (names_in_order county (arrangement_of county steps))
   pub few : length tables.feats < 2 ^ 32
 
 -- landmarks in their new order, their links, and between which bounds each one's links lie
-pub record TellsLandmarks (county : County) (steps : List Step) (tables : LandmarkTables) : Type 0 where
+pub record TellsLandmarks (county : County) (steps : List ChainWalk) (tables : LandmarkTables) : Type 0 where
   pub landmarks : AreReadAt county.landmarks tables.places.items (landmarks_in_order county (arrangement_of county steps))
   pub links : tables.links.items ≡ (stepped county steps).links
   pub bounds : tables.bounds.items ≡ link_bounds (stepped county steps).links (length tables.places.items)

@@ -12,12 +12,12 @@ ghost use Rattle.tl_number.specs.ByNumber.{polygons_by_number};
 ghost use Rattle.tl_number.specs.ViewFacts.{AreWhole, stepped, TellsNodes, TellsPolygons, TellsNames, TellsLandmarks};
 ghost use Rattle.tl_number.specs.ViewProps.{AreWhole-prop, StandOnSides-prop, TellsNodes-prop, TellsPolygons-prop, TellsNames-prop, TellsLandmarks-prop};
 
+use crate::arranged_tables::{Ends, LandmarkTables, NameTables, NodeTables, PolygonTables, Sides};
 use crate::renumbering::new_feat;
-use crate::step::Step;
-use crate::tables::{Ends, LandmarkTables, NameTables, NodeTables, PolygonTables, Sides};
 use std::marker::PhantomData;
 use tl_county::{Chart, PolygonKey};
 use tl_layout::{BodyP, Rec8};
+use tl_profile::ChainWalk;
 
 /// What is known of an arranged county beyond that it is one, in terms of the county that it comes from and of itself.
 pub trait Standing {
@@ -40,7 +40,7 @@ impl Standing for AnyArrangement {
 #[derive(Drop)]
 pub struct Arranged<C: Chart, S: Standing = AnyArrangement> {
     pub(crate) chart: C,
-    pub(crate) steps: Vec<Step>,
+    pub(crate) steps: Vec<ChainWalk>,
     pub(crate) nodes: NodeTables,
     pub(crate) polygons: PolygonTables,
     pub(crate) names: NameTables,
@@ -74,7 +74,7 @@ fn sides_there(sides: &[Sides], place: usize) -> Option<Sides>
 
 impl<C: Chart, S: Standing> Arranged<C, S> {
     /// The step of the chain at a place in the new order, or none past the last one.
-    pub(crate) fn step_at(&self, place: usize) -> Option<Step>
+    pub(crate) fn step_at(&self, place: usize) -> Option<ChainWalk>
         ensures { result ≡ slice_get self.now.steps.items place }
     {
         self.steps.as_slice().get(place).copied()
@@ -118,19 +118,23 @@ impl<C: Chart, S: Standing> Arranged<C, S> {
             None => None,
         }
     }
+}
+
+impl<C: Chart, S: Standing> Arranged<C, S> {
+    ghost use Rattle.tl_number.specs.Views.{arranged_county};
 
     /// The polygon of the number (POLYID) that is one above the place, which is below the count of polygons: its key, and the
     /// content of its type P record, if it has one.
     pub fn polygon_by_number(&self, place: usize) -> (PolygonKey, Option<BodyP>)
-        requires { place < length (stepped (C.county self.now.chart) self.now.steps.items).polygons }
-        ensures { Some result ≡ slice_get (polygons_by_number (stepped (C.county self.now.chart) self.now.steps.items)) place }
+        requires { place < length (arranged_county self.now).polygons }
+        ensures { Some result ≡ slice_get (polygons_by_number (arranged_county self.now)) place }
     {
         self.polygon_at_number(place).unwrap()
     }
 
     /// The links of all landmarks with their polygons (type 8 records), in order.
     pub fn links(&self) -> &[Rec8]
-        ensures { result.now ≡ (stepped (C.county self.now.chart) self.now.steps.items).links }
+        ensures { result.now ≡ (arranged_county self.now).links }
     {
         &self.landmarks.links
     }

@@ -5,26 +5,26 @@ ghost use Rattle.tl_county.specs.CountyRules.{AllKeysStandIn, polygon_keys, poly
 ghost use Rattle.tl_county.specs.Renumbering.{AreSame, Carries};
 ghost use Rattle.tl_number.specs.Arrangement.{arranged, ascending, polygons_in_order, renaming_of};
 ghost use Rattle.tl_number.specs.Steps.{AreSteps, arrangement_of};
+ghost use Rattle.tl_number.specs.Views.{arranged_county, arrangement_in, source_of, steps_of};
 ghost use Rattle.tl_number.specs.ViewFacts.{stepped, AreWhole, NamesEachOnce, TellsLandmarks, TellsNames, TellsNodes, TellsPolygons};
 ghost use Rattle.tl_number.specs.CanonCounties.{IsCanonCounty};
 ghost use Rattle.tl_profile.specs.Profile.{IsInProfile};
 ghost use Rattle.tl_profile.specs.ShapeOrder.{IsShapeOrder};
 
 use crate::arranged::Arranged;
+use crate::arranged_tables::{LandmarkTables, NameTables, NodeTables, PolygonTables};
+use crate::ascending_order::steps_in_order;
 use crate::canon_county::{CanonCounty, CanonCountyIn};
+use crate::first_appearance::number_nodes;
 use crate::landmark_order::arrange_landmarks;
 use crate::name_order::arrange_names;
 use crate::numbers::Numbers;
-use crate::order::steps_in_order;
 use crate::polygon_order::arrange_polygons;
-use crate::step::Step;
-use crate::tables::{LandmarkTables, NameTables, NodeTables, PolygonTables};
-use crate::walks::number_nodes;
 use std::alloc::{AllocError, Global};
 use std::marker::PhantomData;
 use tl_cert::Renaming;
 use tl_county::{Chart, CountyIn, PolygonKey};
-use tl_profile::{Admitted, AdmittedIn, ShapeOrder, order_by_shape};
+use tl_profile::{Admitted, AdmittedIn, ChainWalk, ShapeOrder, order_by_shape};
 
 /// The tables of a county in an arrangement: of its nodes, its polygons, its names and its landmarks.
 type Tables = (NodeTables, PolygonTables, NameTables, LandmarkTables);
@@ -33,7 +33,7 @@ type Tables = (NodeTables, PolygonTables, NameTables, LandmarkTables);
 fn arrange_nodes_and_polygons<C: Chart>(
     alloc: Global,
     chart: &C,
-    steps: &[Step],
+    steps: &[ChainWalk],
 ) -> Result<(NodeTables, PolygonTables), AllocError>
     requires whole { AreWhole (C.county chart.now) steps.now }
     requires few { length (C.county chart.now).polygons < 2 ^ 32 }
@@ -50,7 +50,7 @@ fn arrange_nodes_and_polygons<C: Chart>(
 fn arrange_names_and_landmarks<C: Chart>(
     alloc: Global,
     chart: &C,
-    steps: &[Step],
+    steps: &[ChainWalk],
     polygons: &Numbers<PolygonKey>,
 ) -> Result<(NameTables, LandmarkTables), AllocError>
     requires whole { AreWhole (C.county chart.now) steps.now }
@@ -67,7 +67,11 @@ fn arrange_names_and_landmarks<C: Chart>(
 }
 
 /// All that a county in the arrangement of these steps keeps.
-fn arrange_tables<C: Chart>(alloc: Global, chart: &C, steps: &[Step]) -> Result<Tables, AllocError>
+fn arrange_tables<C: Chart>(
+    alloc: Global,
+    chart: &C,
+    steps: &[ChainWalk],
+) -> Result<Tables, AllocError>
     requires whole { AreWhole (C.county chart.now) steps.now }
     requires sides { AllKeysStandIn (polygons_along (C.county chart.now).chains) (polygon_keys (C.county chart.now)) }
     requires few_polygons { length (C.county chart.now).polygons < 2 ^ 32 }
@@ -88,15 +92,15 @@ fn arrange_tables<C: Chart>(alloc: Global, chart: &C, steps: &[Step]) -> Result<
 pub fn arrange<C: Chart + Drop>(
     alloc: Global,
     chart: C,
-    steps: Vec<Step>,
+    steps: Vec<ChainWalk>,
 ) -> Result<Arranged<C>, AllocError>
     requires there { AreSteps (C.county chart) steps.items }
     requires once { NamesEachOnce (C.county chart) (arrangement_of (C.county chart) steps.items) }
     requires sides { AllKeysStandIn (polygons_along (C.county chart).chains) (polygon_keys (C.county chart)) }
-    ensures source { IfOk result (λ view. view.chart ≡ chart) }
-    ensures order { IfOk result (λ view. view.steps ≡ steps) }
+    ensures source { IfOk result (λ view. source_of view ≡ chart) }
+    ensures order { IfOk result (λ view. steps_of view ≡ steps) }
     ensures county { IfOk result
-        (λ view. ⟦<Arranged<C> as Chart>⟧.county view ≡ arranged (C.county chart) (arrangement_of (C.county chart) steps.items)) }
+        (λ view. arranged_county view ≡ arranged (C.county chart) (arrangement_of (C.county chart) steps.items)) }
 {
     let (nodes, polygons, names, landmarks) = arrange_tables(alloc, &chart, &steps)?;
     Ok(Arranged {
@@ -141,15 +145,15 @@ pub fn canonise_in_order<C: Chart + Drop>(
 ) -> Result<CanonCounty<C>, AllocError>
     requires profile { IsInProfile (C.county chart) }
     requires shapes { IsShapeOrder (C.county chart) order.now }
-    ensures source { IfOk result (λ canon. canon.chart ≡ chart) }
-    ensures source_county { IfOk result (λ canon. C.county canon.chart ≡ C.county chart) }
+    ensures source { IfOk result (λ canon. source_of canon ≡ chart) }
+    ensures source_county { IfOk result (λ canon. C.county (source_of canon) ≡ C.county chart) }
     ensures county { IfOk result
-        (λ canon. ⟦<CanonCounty<C> as Chart>⟧.county canon ≡ arranged (C.county chart) (ascending (C.county chart))) }
-    ensures order { IfOk result (λ canon. arrangement_of (C.county chart) canon.steps.items ≡ ascending (C.county chart)) }
+        (λ canon. arranged_county canon ≡ arranged (C.county chart) (ascending (C.county chart))) }
+    ensures order { IfOk result (λ canon. arrangement_in canon ≡ ascending (C.county chart)) }
     ensures carried { IfOk result
         (λ canon. Carries (renaming_of (C.county chart) (ascending (C.county chart))) (C.county chart)
-        (⟦<CanonCounty<C> as Chart>⟧.county canon)) }
-    ensures canonical { IfOk result (λ canon. IsCanonCounty (⟦<CanonCounty<C> as Chart>⟧.county canon)) }
+        (arranged_county canon)) }
+    ensures canonical { IfOk result (λ canon. IsCanonCounty (arranged_county canon)) }
 {
     let steps = steps_in_order(alloc, order)?;
     let view = arrange(alloc, chart, steps)?;
@@ -163,21 +167,24 @@ pub fn canonise_chart<C: Chart + Drop>(
     chart: C,
 ) -> Result<CanonCounty<C>, AllocError>
     requires profile { IsInProfile (C.county chart) }
-    ensures source { IfOk result (λ canon. canon.chart ≡ chart) }
+    ensures source { IfOk result (λ canon. source_of canon ≡ chart) }
     ensures county { IfOk result
-        (λ canon. ⟦<CanonCounty<C> as Chart>⟧.county canon ≡ arranged (C.county chart) (ascending (C.county chart))) }
-    ensures order { IfOk result (λ canon. arrangement_of (C.county chart) canon.steps.items ≡ ascending (C.county chart)) }
+        (λ canon. arranged_county canon ≡ arranged (C.county chart) (ascending (C.county chart))) }
+    ensures order { IfOk result (λ canon. arrangement_in canon ≡ ascending (C.county chart)) }
     ensures carried { IfOk result
         (λ canon. Carries (renaming_of (C.county chart) (ascending (C.county chart))) (C.county chart)
-        (⟦<CanonCounty<C> as Chart>⟧.county canon)) }
-    ensures canonical { IfOk result (λ canon. IsCanonCounty (⟦<CanonCounty<C> as Chart>⟧.county canon)) }
+        (arranged_county canon)) }
+    ensures canonical { IfOk result (λ canon. IsCanonCounty (arranged_county canon)) }
 {
     let order = order_by_shape(alloc, &chart)?;
     canonise_in_order(alloc, chart, &order)
 }
 
 /// A value beside another one, if there is the other; else why there is none.
-fn paired<A: Drop, B: Drop>(first: A, second: Result<B, AllocError>) -> Result<(A, B), AllocError>
+pub(crate) fn paired<A: Drop, B: Drop>(
+    first: A,
+    second: Result<B, AllocError>,
+) -> Result<(A, B), AllocError>
     ensures { MatchResult second (λ other. result ≡ Ok (first, other)) (λ error. result ≡ Err error) }
 {
     Ok((first, second?))
@@ -193,10 +200,10 @@ pub fn canonise<C: Chart + Drop>(
     admitted: Admitted<C>,
 ) -> Result<(CanonCounty<C>, Renaming), AllocError>
     ensures county { IfOk result
-        (λ pair. ⟦<CanonCounty<C> as Chart>⟧.county pair.0 ≡ arranged (C.county admitted) (ascending (C.county admitted))) }
+        (λ pair. arranged_county pair.0 ≡ arranged (C.county admitted) (ascending (C.county admitted))) }
     ensures renaming { IfOk result (λ pair. pair.1 ≡ renaming_of (C.county admitted) (ascending (C.county admitted))) }
-    ensures carried { IfOk result (λ pair. Carries pair.1 (C.county admitted) (⟦<CanonCounty<C> as Chart>⟧.county pair.0)) }
-    ensures canonical { IfOk result (λ pair. IsCanonCounty (⟦<CanonCounty<C> as Chart>⟧.county pair.0)) }
+    ensures carried { IfOk result (λ pair. Carries pair.1 (C.county admitted) (arranged_county pair.0)) }
+    ensures canonical { IfOk result (λ pair. IsCanonCounty (arranged_county pair.0)) }
 {
     let canon = canonise_chart(alloc, admitted.into_chart())?;
     let renaming = canon.renaming(alloc);
@@ -213,13 +220,13 @@ pub fn canonise_in<'a>(
     admitted: AdmittedIn<'a>,
 ) -> Result<(CanonCountyIn<'a>, Renaming), AllocError>
     ensures county { IfOk result
-        (λ pair. ⟦<CanonCounty<CountyIn<'a>> as Chart>⟧.county pair.0
+        (λ pair. arranged_county pair.0
         ≡ arranged (⟦<CountyIn<'a> as Chart>⟧.county admitted.entry) (ascending (⟦<CountyIn<'a> as Chart>⟧.county admitted.entry))) }
     ensures renaming { IfOk result
         (λ pair. pair.1 ≡ renaming_of (⟦<CountyIn<'a> as Chart>⟧.county admitted.entry) (ascending (⟦<CountyIn<'a> as Chart>⟧.county admitted.entry))) }
     ensures carried { IfOk result
-        (λ pair. Carries pair.1 (⟦<CountyIn<'a> as Chart>⟧.county admitted.entry) (⟦<CanonCounty<CountyIn<'a>> as Chart>⟧.county pair.0)) }
-    ensures canonical { IfOk result (λ pair. IsCanonCounty (⟦<CanonCounty<CountyIn<'a>> as Chart>⟧.county pair.0)) }
+        (λ pair. Carries pair.1 (⟦<CountyIn<'a> as Chart>⟧.county admitted.entry) (arranged_county pair.0)) }
+    ensures canonical { IfOk result (λ pair. IsCanonCounty (arranged_county pair.0)) }
 {
     canonise(alloc, admitted)
 }

@@ -17,15 +17,14 @@ ghost use Rattle.tl_number.specs.Steps.{arrangement_of};
 ghost use Rattle.tl_number.specs.Arrangement.{polygons_in_order};
 ghost use Rattle.tl_number.specs.ViewFacts.{AreWhole, TellsLandmarks, link_bounds};
 
-use crate::landmark_links::{bounds_of, links_under};
+use crate::arranged_tables::LandmarkTables;
+use crate::landmark_links::{bounds_of, link_at, links_of_landmark, links_under};
 use crate::numbers::Numbers;
-use crate::slices::{link_at, links_of_landmark};
-use crate::step::Step;
-use crate::tables::LandmarkTables;
 use std::alloc::{AllocError, Global};
 use std::cmp::Ordering;
 use tl_county::{Chart, PolygonKey};
 use tl_layout::{Body7, Point, Rec8};
+use tl_profile::ChainWalk;
 
 /// The fields of a landmark's body in their order: FILE, SOURCE, CFCC, LANAME, the point.
 type LandmarkBytes = ([u8; 5], ([u8; 1], ([u8; 3], ([u8; 30], Option<Point>))));
@@ -261,7 +260,7 @@ fn places_in_order<C: Chart>(
 pub(crate) fn arrange_landmarks<C: Chart>(
     alloc: Global,
     chart: &C,
-    steps: &[Step],
+    steps: &[ChainWalk],
     polygons: &Numbers<PolygonKey>,
 ) -> Result<LandmarkTables, AllocError>
     requires whole { AreWhole (C.county chart.now) steps.now }

@@ -6,14 +6,19 @@ ghost use Rattle.tl_county.specs.County.{County, county_of};
 ghost use Rattle.tl_county.specs.CountyRules.{AllKeysStandIn, IsCounty, polygon_keys, polygons_along};
 ghost use Rattle.tl_county.specs.Renumbering.{AreSame, Carries, Renumbering};
 ghost use Rattle.tl_county.specs.Limits.{most_records};
-ghost use Rattle.tl_layout.specs.Limits.{IsWithinLimit};
+ghost use Rattle.tl_cert.specs.MaskedCounty.{masked};
+ghost use Rattle.tl_layout.specs.Masked.{no_mask};
+ghost use Rattle.tl_layout.specs.declared.mask.Mask.{Mask};
+ghost use Rattle.tl_layout.specs.Limits.{IsWithinLimit, count_of_type};
 ghost use Rattle.tl_layout.specs.RecordText.{FitsRecord};
 ghost use Rattle.tl_layout.specs.declared.record_type.Record.{Record};
-ghost use Rattle.tl_number.specs.Accepted.{IsAccepted, IsCanonicalOf, IsRefusal, RecordsRefusal};
+ghost use Rattle.tl_number.specs.Accepted.{IsAccepted, IsCanonicalOf, IsCanonicalThrough, IsRefusal, RecordsRefusal};
 ghost use Rattle.tl_number.specs.Arrangement.{Arrangement, Arranges, arranged, ascending, renaming_of};
 ghost use Rattle.tl_number.specs.Canonical.{IsCanonical, IsArrangedList, KeepsChainNumbers};
 ghost use Rattle.tl_county.specs.Packing.{packed};
 ghost use Rattle.tl_number.specs.ArrangedCounty.{IsArranged};
+ghost use Rattle.tl_number.specs.Sights.{IsSight, plain};
+ghost use Rattle.tl_number.specs.RecordNumbers.{greatest_number, numbers_of};
 
 /// A list in the canonical order, packing and numbering is the packing of its county, whatever the choice of TLIDs and
 /// directions.
@@ -60,12 +65,18 @@ pub fn each_accepted_list_has_one_canonical_list()
     ensures only { (records c d : List Record) → IsCanonicalOf records c → IsCanonicalOf records d → c ≡ d }
 {}
 
-/// The canonical list of records that fit, of which there are at most limit of each type, is made of records that fit, at
-/// most limit of each type.
+/// A canonical list has no more records of any type than the list of records that fit, of which it is one. If there are at
+/// most limit of each type there, all records of the canonical list fit too, and no number in them is above 20,000,000.
 pub fn canonical_lists_keep_the_limits()
-    ensures { (limit : ℕ) (records canonical : List Record) →
+    ensures counts { (records canonical : List Record) →
+        AllByRecursion FitsRecord records → IsCanonicalOf records canonical →
+        (rtype : ℕ) → count_of_type rtype canonical ≤ count_of_type rtype records }
+    ensures limits { (limit : ℕ) (records canonical : List Record) →
         limit ≤ most_records → AllByRecursion FitsRecord records → IsWithinLimit limit records →
         IsCanonicalOf records canonical → AllByRecursion FitsRecord canonical × IsWithinLimit limit canonical }
+    ensures numbers { (records canonical : List Record) →
+        AllByRecursion FitsRecord records → IsWithinLimit most_records records →
+        IsCanonicalOf records canonical → AllByRecursion (λ r. AllByRecursion (λ n. n ≤ greatest_number) (numbers_of r)) canonical }
 {}
 
 /// A list of records is accepted or has a refusal, never both, and never two.
@@ -84,4 +95,42 @@ pub fn one_canonical_list_exactly_for_one_map()
     ensures equal { (xs ys c d : List Record) →
         IsCanonicalOf xs c → IsCanonicalOf ys d → c ≡ d → AreSame (county_of xs) (county_of ys) }
     ensures itself { (xs c : List Record) → IsCanonicalOf xs c → IsCanonicalOf c c }
+{}
+
+/// Through each sight, which shows all of a county or less, an accepted list has exactly one canonical list. Those of two accepted
+/// lists are equal exactly if what is seen of their counties is the same. And a canonical list is its own through the sight, and
+/// as it is.
+pub fn one_canonical_list_through_each_sight()
+    ensures exists { (seen : County → County) (records : List Record) →
+        IsSight seen → IsAccepted records → (answer : List Record) × IsCanonicalThrough seen records answer }
+    ensures only { (seen : County → County) (records c d : List Record) →
+        IsSight seen → IsCanonicalThrough seen records c → IsCanonicalThrough seen records d → c ≡ d }
+    ensures same { (seen : County → County) (xs ys c d : List Record) →
+        IsSight seen → IsCanonicalThrough seen xs c → IsCanonicalThrough seen ys d →
+        AreSame (seen (county_of xs)) (seen (county_of ys)) → c ≡ d }
+    ensures equal { (seen : County → County) (xs ys c d : List Record) →
+        IsSight seen → IsCanonicalThrough seen xs c → IsCanonicalThrough seen ys d →
+        c ≡ d → AreSame (seen (county_of xs)) (seen (county_of ys)) }
+    ensures itself { (seen : County → County) (xs c : List Record) →
+        IsSight seen → IsCanonicalThrough seen xs c → IsCanonicalThrough seen c c × IsCanonicalOf c c }
+{}
+
+/// To see counties under a mask is a sight, and under the mask that leaves nothing out it is the county as it is. So under each mask
+/// an accepted list has exactly one canonical list. Those of two accepted lists are equal exactly if their counties are the same
+/// under the mask. And a canonical list is its own under the mask, and as it is.
+pub fn one_canonical_list_under_each_mask()
+    ensures sight { (mask : Mask) → IsSight (masked mask) }
+    ensures no_mask { masked no_mask ≡ plain }
+    ensures exists { (mask : Mask) (records : List Record) →
+        IsAccepted records → (answer : List Record) × IsCanonicalThrough (masked mask) records answer }
+    ensures only { (mask : Mask) (records c d : List Record) →
+        IsCanonicalThrough (masked mask) records c → IsCanonicalThrough (masked mask) records d → c ≡ d }
+    ensures same { (mask : Mask) (xs ys c d : List Record) →
+        IsCanonicalThrough (masked mask) xs c → IsCanonicalThrough (masked mask) ys d →
+        AreSame (masked mask (county_of xs)) (masked mask (county_of ys)) → c ≡ d }
+    ensures equal { (mask : Mask) (xs ys c d : List Record) →
+        IsCanonicalThrough (masked mask) xs c → IsCanonicalThrough (masked mask) ys d →
+        c ≡ d → AreSame (masked mask (county_of xs)) (masked mask (county_of ys)) }
+    ensures itself { (mask : Mask) (xs c : List Record) →
+        IsCanonicalThrough (masked mask) xs c → IsCanonicalThrough (masked mask) c c × IsCanonicalOf c c }
 {}

@@ -1,36 +1,39 @@
 //! The canonical form of a county: one numbering, one order and one packing for all counties that are the same map.
+//!
+//! A caller starts with `canonise` for an admitted county and its renaming, or with `canonise_masked` where fields that a mask leaves
+//! out don't count; whoever needs no renaming, or has the order of the chains by their shapes from admission, calls `canonise_chart`
+//! or `canonise_in_order`. What they answer is a `CanonCounty`, which is a `Chart`, and tells `polygon_by_number`, `links` and
+//! `renaming` beside. `arrange` makes a county in an arrangement of one's own, and `Numbers` are numbers by first appearance.
 #![tactic(auto)]
 
 mod arranged;
 mod arranged_chart;
+mod arranged_tables;
 mod arranging;
+mod ascending_order;
 mod canon_county;
-mod counted;
+mod first_appearance;
 mod landmark_links;
 mod landmark_order;
 mod laws;
+mod masking;
 mod name_order;
+mod number_pairs;
 mod numbers;
-mod order;
 mod polygon_order;
-mod renaming;
 mod renumbering;
-mod slices;
-mod step;
 mod step_readers;
-mod table_items;
-mod tables;
-mod walks;
 
 pub use arranged::{AnyArrangement, Arranged, Standing};
 pub use arranging::{arrange, canonise, canonise_chart, canonise_in, canonise_in_order};
+pub use ascending_order::ascending_steps;
 pub use canon_county::{CanonCounty, CanonCountyIn, Canonical};
 pub use laws::{
     a_packed_county_is_read_back, accepted_or_one_refusal, an_arrangement_gives_an_arranged_list,
     arranged_lists_are_the_packing_of_their_county, arranged_lists_with_one_choice_are_equal,
     canonical_lists_keep_the_limits, canonical_lists_of_one_county_are_equal,
     each_accepted_list_has_one_canonical_list, one_canonical_list_exactly_for_one_map,
+    one_canonical_list_through_each_sight, one_canonical_list_under_each_mask,
 };
+pub use masking::{canonise_in_masked, canonise_masked};
 pub use numbers::Numbers;
-pub use order::ascending_steps;
-pub use step::Step;

@@ -1,4 +1,7 @@
 //! The names of a county in their new order: by their 43 bytes, and then by where chains first use them.
+//!
+//! A use belongs to one name, so of two names with one content the one that is met first along the chains comes first, and one that is
+//! never met comes before both: a name has a rank, and no list of uses is made.
 
 ghost use Rattle.std.specs.Prelude.{◌≡◌, ◌<◌, ◌^◌, IfOk, OnOk, false, filter_map, length, map, option_to_list, slice_get};
 ghost use Rattle.std.specs.List.{range_with_len};
@@ -14,15 +17,23 @@ ghost use Rattle.tl_number.specs.NameItems.{feats_along_steps, rank_of, ranked_a
 ghost use Rattle.tl_number.specs.Steps.{arrangement_of, step_chain};
 ghost use Rattle.tl_number.specs.ViewFacts.{AreReadAt, AreWhole, TellsNames};
 
+use crate::arranged_tables::NameTables;
 use crate::numbers::Numbers;
-use crate::step::Step;
 use crate::step_readers::{feat_count_of_step, feat_of_step};
-use crate::table_items::RankedName;
-use crate::tables::NameTables;
 use std::alloc::{AllocError, Global};
 use std::cmp::Ordering;
 use tl_county::Chart;
 use tl_layout::Body5;
+use tl_profile::ChainWalk;
+
+/// A name by its place, with the rank of its first use.
+#[derive(Clone, Copy, Debug, PartialEq, Eq)]
+pub(crate) struct RankedName {
+    /// The number of the name by its first use along the chains, from 1, or 0 if no chain uses it.
+    pub(crate) rank: usize,
+    /// Its place in the ascending list of FEATs, from 0.
+    pub(crate) place: u32,
+}
 
 /// The 43 bytes of a name, field by field: FILE, FEDIRP, FENAME, FETYPE, FEDIRS.
 type NameBytes = ([u8; 5], ([u8; 2], ([u8; 30], ([u8; 4], [u8; 2]))));
@@ -66,7 +77,11 @@ fn see_feat(feats: &mut Numbers<u32>, feat: Option<u32>) -> Result<(), AllocErro
 }
 
 /// Sees the further names of the chain of a step, one after the other.
-fn see_feats<C: Chart>(feats: &mut Numbers<u32>, chart: &C, step: Step) -> Result<(), AllocError>
+fn see_feats<C: Chart>(
+    feats: &mut Numbers<u32>,
+    chart: &C,
+    step: ChainWalk,
+) -> Result<(), AllocError>
     ensures { OnOk result (feats.new ≡ first_seen_after nat_cmp feats.old (feats_of (step_chain (C.county chart.now) step))) }
 {
     for name in 0..feat_count_of_step(chart, step) {
@@ -79,7 +94,7 @@ fn see_feats<C: Chart>(feats: &mut Numbers<u32>, chart: &C, step: Step) -> Resul
 fn number_uses<C: Chart>(
     alloc: Global,
     chart: &C,
-    steps: &[Step],
+    steps: &[ChainWalk],
 ) -> Result<Numbers<u32>, AllocError>
     ensures { IfOk result (λ feats. feats ≡ first_seen nat_cmp (feats_along_steps (C.county chart.now) steps.now)) }
 {
@@ -173,7 +188,7 @@ fn feats_at<C: Chart>(alloc: Global, chart: &C, places: &[u32]) -> Result<Number
 fn places_in_order<C: Chart>(
     alloc: Global,
     chart: &C,
-    steps: &[Step],
+    steps: &[ChainWalk],
 ) -> Result<Vec<u32>, AllocError>
     requires whole { AreWhole (C.county chart.now) steps.now }
     requires few { length (C.county chart.now).names < 2 ^ 32 }
@@ -190,7 +205,7 @@ fn places_in_order<C: Chart>(
 pub(crate) fn arrange_names<C: Chart>(
     alloc: Global,
     chart: &C,
-    steps: &[Step],
+    steps: &[ChainWalk],
 ) -> Result<NameTables, AllocError>
     requires whole { AreWhole (C.county chart.now) steps.now }
     requires few { length (C.county chart.now).names < 2 ^ 32 }

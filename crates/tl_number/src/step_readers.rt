@@ -1,17 +1,17 @@
 //! The chain of a step, read through a county's chart in the direction of the step.
 
 ghost use Rattle.std.specs.Prelude.{◌≡◌, ◌<◌, Some, length, option_map, slice_get};
-ghost use Rattle.tl_county.specs.ChartWords.{feats_of, ranges_of};
+ghost use Rattle.tl_county.specs.ChartWords.{feats_of, points_of, ranges_of};
 ghost use Rattle.tl_number.specs.ByStep.{ends_of, sides_of};
-ghost use Rattle.tl_number.specs.Steps.{step_chain, step_points};
+ghost use Rattle.tl_number.specs.Steps.{step_chain};
 
-use crate::step::Step;
-use crate::tables::{Ends, Sides};
+use crate::arranged_tables::{Ends, Sides};
 use tl_county::Chart;
-use tl_layout::{Body1, BodyI, Point, Ranges, Turn};
+use tl_layout::{Body1, BodyI, Ranges, Turn};
+use tl_profile::ChainWalk;
 
 /// The content of the type 1 record of the chain of a step.
-pub(crate) fn body_of_step<C: Chart>(chart: &C, step: Step) -> Option<Body1>
+pub(crate) fn body_of_step<C: Chart>(chart: &C, step: ChainWalk) -> Option<Body1>
     ensures { result ≡ option_map (λ chain. chain.body) (step_chain (C.county chart.now) step) }
 {
     match chart.chain_body_at(step.place as usize) {
@@ -27,51 +27,35 @@ pub(crate) fn body_of_step<C: Chart>(chart: &C, step: Step) -> Option<Body1>
 }
 
 /// How many points the chain of a step has.
-pub(crate) fn point_count_of_step<C: Chart>(chart: &C, step: Step) -> usize
-    ensures { result ≡ length (step_points (C.county chart.now) step) }
+pub(crate) fn point_count_of_step<C: Chart>(chart: &C, step: ChainWalk) -> usize
+    ensures { result ≡ length (points_of (step_chain (C.county chart.now) step)) }
 {
     chart.point_count_at(step.place as usize)
 }
 
-/// A point of the chain of a step, from 0 at the start of its direction.
-pub(crate) fn point_of_step<C: Chart>(chart: &C, step: Step, point: usize) -> Option<Point>
-    ensures { result ≡ slice_get (step_points (C.county chart.now) step) point }
-{
-    let place = step.place as usize;
-    if !step.turned {
-        return chart.point_at(place, point);
-    }
-    let count = chart.point_count_at(place);
-    if point < count {
-        chart.point_at(place, count - 1 - point)
-    } else {
-        None
-    }
-}
-
 /// How many further names the chain of a step has.
-pub(crate) fn feat_count_of_step<C: Chart>(chart: &C, step: Step) -> usize
+pub(crate) fn feat_count_of_step<C: Chart>(chart: &C, step: ChainWalk) -> usize
     ensures { result ≡ length (feats_of (step_chain (C.county chart.now) step)) }
 {
     chart.feat_count_at(step.place as usize)
 }
 
 /// The FEAT of a further name of the chain of a step.
-pub(crate) fn feat_of_step<C: Chart>(chart: &C, step: Step, name: usize) -> Option<u32>
+pub(crate) fn feat_of_step<C: Chart>(chart: &C, step: ChainWalk, name: usize) -> Option<u32>
     ensures { result ≡ slice_get (feats_of (step_chain (C.county chart.now) step)) name }
 {
     chart.chain_feat_at(step.place as usize, name)
 }
 
 /// How many further address ranges the chain of a step has.
-pub(crate) fn range_count_of_step<C: Chart>(chart: &C, step: Step) -> usize
+pub(crate) fn range_count_of_step<C: Chart>(chart: &C, step: ChainWalk) -> usize
     ensures { result ≡ length (ranges_of (step_chain (C.county chart.now) step)) }
 {
     chart.range_count_at(step.place as usize)
 }
 
 /// A further address range of the chain of a step.
-pub(crate) fn range_of_step<C: Chart>(chart: &C, step: Step, range: usize) -> Option<Ranges>
+pub(crate) fn range_of_step<C: Chart>(chart: &C, step: ChainWalk, range: usize) -> Option<Ranges>
     ensures { result ≡ slice_get (ranges_of (step_chain (C.county chart.now) step)) range }
 {
     match chart.range_at(step.place as usize, range) {
@@ -87,20 +71,20 @@ pub(crate) fn range_of_step<C: Chart>(chart: &C, step: Step, range: usize) -> Op
 }
 
 /// The content of the type I record of the chain of a step.
-pub(crate) fn link_body_of_step<C: Chart>(chart: &C, step: Step) -> Option<BodyI>
+pub(crate) fn link_body_of_step<C: Chart>(chart: &C, step: ChainWalk) -> Option<BodyI>
     ensures { result ≡ option_map (λ chain. chain.link_body) (step_chain (C.county chart.now) step) }
 {
     chart.link_body_at(step.place as usize)
 }
 
 /// The nodes where the chain of a step starts and ends.
-pub(crate) fn ends_of_step<C: Chart>(chart: &C, step: Step) -> Ends
+pub(crate) fn ends_of_step<C: Chart>(chart: &C, step: ChainWalk) -> Ends
     requires { step.place < length (C.county chart.now).chains }
     ensures { Some result ≡ option_map ends_of (step_chain (C.county chart.now) step) }
 {
     let place = step.place as usize;
-    let start = chart.start_node(place);
-    let end = chart.end_node(place);
+    let start = chart.start_node_there(place);
+    let end = chart.end_node_there(place);
     if step.turned {
         (end, start)
     } else {
@@ -109,13 +93,13 @@ pub(crate) fn ends_of_step<C: Chart>(chart: &C, step: Step) -> Ends
 }
 
 /// What stands on the left and on the right side of the chain of a step.
-pub(crate) fn sides_of_step<C: Chart>(chart: &C, step: Step) -> Sides
+pub(crate) fn sides_of_step<C: Chart>(chart: &C, step: ChainWalk) -> Sides
     requires { step.place < length (C.county chart.now).chains }
     ensures { Some result ≡ option_map sides_of (step_chain (C.county chart.now) step) }
 {
     let place = step.place as usize;
-    let left = chart.left(place);
-    let right = chart.right(place);
+    let left = chart.left_there(place);
+    let right = chart.right_there(place);
     if step.turned {
         (right, left)
     } else {

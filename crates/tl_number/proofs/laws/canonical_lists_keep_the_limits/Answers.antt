@@ -1,5 +1,17 @@
-use Rattle.tl_number.proofs.ArrangedNumbers.{canonical_within}
+use Rattle.std.proofs.Common.{arith}
+use Rattle.tl_county.specs.Limits.{most_records}
+use Rattle.tl_number.specs.Sights.{plain}
+use Rattle.tl_number.proofs.Accepted.{plain_sight}
+use Rattle.tl_number.proofs.ArrangedNumbers.{canonical_counts, canonical_within, canonical_low}
 use Rattle.tl_number.proofs.laws.canonical_lists_keep_the_limits.Goals as goal
 
-pub returns : goal.returns
-returns c = λ limit records canonical low fits few h. canonical_within limit low records h.accepted fits few canonical h
+pub returns-clause-counts : goal.returns-clause-counts
+returns-clause-counts c = λ records canonical fits h. canonical_counts records h.accepted fits canonical h
+
+pub returns-clause-limits : goal.returns-clause-limits
+returns-clause-limits c = λ limit records canonical low fits few h.
+    canonical_within plain plain_sight records h.accepted canonical h fits limit low few
+
+pub returns-clause-numbers : goal.returns-clause-numbers
+returns-clause-numbers c = λ records canonical fits few h.
+    canonical_low plain plain_sight records h.accepted canonical h fits most_records (omega arith) few

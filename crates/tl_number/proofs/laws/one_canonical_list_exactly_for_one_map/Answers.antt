@@ -1,11 +1,12 @@
-use Rattle.tl_number.proofs.Accepted.{same_one_canonical, one_canonical_same, canonical_of_itself}
+use Rattle.tl_number.specs.Sights.{plain}
+use Rattle.tl_number.proofs.Accepted.{plain_sight, same_one_canonical, one_canonical_same, canonical_of_itself}
 use Rattle.tl_number.proofs.laws.one_canonical_list_exactly_for_one_map.Goals as goal
 
 pub returns-clause-same : goal.returns-clause-same
-returns-clause-same c = same_one_canonical
+returns-clause-same c = same_one_canonical plain plain_sight
 
 pub returns-clause-equal : goal.returns-clause-equal
-returns-clause-equal c = one_canonical_same
+returns-clause-equal c = one_canonical_same plain plain_sight
 
 pub returns-clause-itself : goal.returns-clause-itself
-returns-clause-itself c = canonical_of_itself
+returns-clause-itself c = canonical_of_itself plain plain_sight

@@ -5,12 +5,12 @@ use Rattle.std.proofs.lemmas.List.Sorted.{ranks_by}
 use Rattle.std.proofs.lemmas.Result.{IfOk-weaker}
 use Rattle.std.specs.List.{range_with_len}
 use Rattle.tl_county.specs.Orders.{IsInOrder}
-use Rattle.tl_county.proofs.KeyedLists.{in_order-from_sorted}
+use Rattle.tl_county.proofs.ByKey.KeyedLists.{in_order-from_sorted}
 use Rattle.tl_number.specs.Arrangement.{names_in_order}
 use Rattle.tl_number.specs.NameItems.{ranked_at, ranked_cmp, ranked_place}
 use Rattle.tl_number.specs.Steps.{arrangement_of}
 use Rattle.tl_number.specs.ViewFacts.{AreReadAt}
-use Rattle.tl_number.specs.declared.table_items.RankedName.{RankedName}
+use Rattle.tl_number.specs.declared.name_order.RankedName.{RankedName}
 use Rattle.tl_number.proofs.NameOrder.{names_told, ranked_total}
 use Rattle.tl_number.proofs.name_order.places_in_order.Goals as goal
 

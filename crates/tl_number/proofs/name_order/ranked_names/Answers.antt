@@ -1,7 +1,7 @@
 use Rattle.std.proofs.Common.{◌∷◌, [], ◌++◌, sym, ap, ap₂, ◌∙◌, arith, ℕ}
 use Rattle.std.proofs.lemmas.List.FromFn.{map-range_with_len_more}
 use Rattle.tl_number.specs.NameItems.{rank_of, ranked_at}
-use Rattle.tl_number.specs.declared.table_items.RankedName.{RankedName}
+use Rattle.tl_number.specs.declared.name_order.RankedName.{RankedName}
 use Rattle.tl_number.proofs.name_order.ranked_names.Goals as goal
 
 abbrev ranked : ℕ → ℕ → RankedName

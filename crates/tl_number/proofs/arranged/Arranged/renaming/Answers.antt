@@ -14,7 +14,7 @@ returns-clause-value g c =
     let view = c.args.self.now in
     let county = g.C.Chart.county view.chart in
     let order = arrangement_of county view.steps.items in
-    c.of_parts.ensures ∙ (λ i. record {
+    c.new.ensures ∙ (λ i. record {
       chains = (c.in_ok-chains.ensures ∙ ap (λ steps. numbered (arranged_tlids (arrangement_of county steps))) c.deref.ensures.value) i;
       names = (c.in_ok-names.ensures ∙ ap numbered view.names_told.feats) i;
       polygons = c.in_ok-polygons.ensures.polygons i;

@@ -1,8 +1,8 @@
 use Rattle.std.proofs.Common.{◌≡◌, Some, IfSome, is_eq, ap, sym, subst, ◌∙◌, slice_get}
 use Rattle.std.specs.List.{position}
 use Rattle.tl_county.specs.Orders.{stands_in}
-use Rattle.tl_county.proofs.Keys.{IsKeyOrder}
-use Rattle.tl_county.proofs.KeySets.{any-stands_in}
+use Rattle.tl_county.proofs.ByKey.Keys.{IsKeyOrder}
+use Rattle.tl_county.proofs.ByKey.KeySets.{any-stands_in}
 use Rattle.tl_number.proofs.SeenKeys.{place_found}
 use Rattle.tl_number.proofs.numbers.Numbers.place.Goals as goal
 

@@ -1,6 +1,6 @@
 use Rattle.std.proofs.Common.{◌∷◌, [], Some, is_eq, ap, sym, ◌∙◌}
 use Rattle.std.specs.List.{position}
-use Rattle.tl_county.proofs.Keys.{IsKeyOrder}
+use Rattle.tl_county.proofs.ByKey.Keys.{IsKeyOrder}
 use Rattle.tl_number.specs.Growth.{first_seen_after}
 use Rattle.tl_number.proofs.SeenKeys.{inserted-seen}
 use Rattle.tl_number.proofs.SeenPlaces.{inserted_at}

@@ -1,0 +1,11 @@
+-- What was seen so far, and then the rest, is what all sides give; and what is numbered has its last numbers.
+use Rattle.std.proofs.Common.{◌≡◌, drop, flat_map, map, take}
+use Rattle.tl_county.specs.PolygonKeys.{key_cmp}
+use Rattle.tl_number.specs.ByStep.{polygons_at, sides_among}
+use Rattle.tl_number.specs.Growth.{first_seen, first_seen_after}
+use Rattle.tl_number.proofs.first_appearance.see_sides.Given as goal
+
+abbrev pub invariant-loop-pair : goal.invariant-loop-pair
+invariant-loop-pair l =
+    (first_seen_after key_cmp l.numbers (flat_map polygons_at (drop l.pair-index l.met)) ≡ first_seen key_cmp (flat_map polygons_at l.met))
+    × (l.sides.items ≡ map (sides_among (first_seen key_cmp (flat_map polygons_at l.met))) (take l.pair-index l.met))

@@ -1,0 +1,23 @@
+-- The numbers by which records name things.
+use Rattle.std.specs.Prelude.{ℕ, List, [], ◌∷◌, ◌++◌, option_to_list}
+use Rattle.tl_layout.specs.declared.record_type.Record.{Record}
+use Rattle.tl_layout.specs.declared.record_type.Record.TheVariants.{One, Two, Four, Five, Six, Seven, Eight, I, P}
+
+-- the TLIDs, FEATs, LANDs, POLYIDs and nodes of a record; an RTSQ names nothing
+abbrev pub numbers_of : Record → List ℕ
+numbers_of (One r) = r.tlid ∷ []
+numbers_of (Two r) = r.tlid ∷ []
+numbers_of (Four r) = r.tlid ∷ r.feats
+numbers_of (Five r) = r.feat ∷ []
+numbers_of (Six r) = r.tlid ∷ []
+numbers_of (Seven r) = r.land ∷ []
+numbers_of (Eight r) = r.polyid ∷ r.land ∷ []
+numbers_of (I r) =
+    r.tlid ∷ ((option_to_list r.start_node ++ option_to_list r.end_node)
+    ++ (option_to_list r.left.polyid ++ option_to_list r.right.polyid))
+numbers_of (P r) = r.polyid ∷ []
+
+-- The greatest number of a canonical list. A chain has two ends and two sides, so there are at most twice as many nodes, and
+-- polygons, as there are chains.
+abbrev pub greatest_number : ℕ
+greatest_number = 20000000

@@ -1,0 +1,180 @@
+//! Nodes and polygons in the order in which they are first met along an arrangement, and the chains under these numbers.
+//!
+//! The ends and the sides of all chains are copied along the arrangement first and numbered from there, so that reading one chain need
+//! not wait until another's number is found. They are kept under their new numbers, and no number is looked up again.
+
+ghost use Rattle.std.specs.Prelude.{◌≡◌, [], ◌<◌, ◌^◌, ℕ, List, Some, IfOk, OnOk, flat_map, length, map, option_map, option_to_list};
+ghost use Rattle.std.specs.Ordering.{nat_cmp};
+ghost use Rattle.tl_county.specs.Entries.{entry_values};
+ghost use Rattle.tl_county.specs.PolygonKeys.{PolygonKey, key_cmp, key_on};
+ghost use Rattle.tl_number.specs.Arrangement.{polygons_in_order};
+ghost use Rattle.tl_number.specs.ByStep.{ends_among, ends_of, node_among, nodes_at, polygons_at, side_among, sides_among, sides_of};
+ghost use Rattle.tl_number.specs.Growth.{first_seen, first_seen_after};
+ghost use Rattle.tl_number.specs.Steps.{AreSteps, arrangement_of, step_chain};
+ghost use Rattle.tl_number.specs.ViewFacts.{AreWhole, TellsNodes, stepped};
+
+use crate::arranged_tables::{Ends, NodeTables, Sides};
+use crate::numbers::Numbers;
+use crate::step_readers::{ends_of_step, sides_of_step};
+use std::alloc::{AllocError, Global};
+use tl_county::{Chart, PolygonKey};
+use tl_layout::Side;
+use tl_profile::ChainWalk;
+
+/// The ends of the chains of these steps. They are read before any node is numbered, so that reading one chain need not wait
+/// for another.
+fn ends_along<C: Chart>(
+    alloc: Global,
+    chart: &C,
+    steps: &[ChainWalk],
+) -> Result<Vec<Ends>, AllocError>
+    requires { AreSteps (C.county chart.now) steps.now }
+    ensures { IfOk result (λ met. map Some met.items ≡ map (λ step. option_map ends_of (step_chain (C.county chart.now) step)) steps.now) }
+{
+    let mut met = Vec::with_capacity(alloc, steps.len())?;
+    for step in steps {
+        met.push(ends_of_step(chart, *step))?;
+    }
+    Ok(met)
+}
+
+/// The sides of the chains of these steps, read before any polygon is numbered.
+fn sides_along<C: Chart>(
+    alloc: Global,
+    chart: &C,
+    steps: &[ChainWalk],
+) -> Result<Vec<Sides>, AllocError>
+    requires { AreSteps (C.county chart.now) steps.now }
+    ensures { IfOk result (λ met. map Some met.items ≡ map (λ step. option_map sides_of (step_chain (C.county chart.now) step)) steps.now) }
+{
+    let mut met = Vec::with_capacity(alloc, steps.len())?;
+    for step in steps {
+        met.push(sides_of_step(chart, *step))?;
+    }
+    Ok(met)
+}
+
+/// Sees a node, if there is one, and answers its number, which stays whatever is seen later.
+fn number_node(nodes: &mut Numbers<u64>, node: Option<u64>) -> Result<Option<u64>, AllocError>
+    ensures seen { OnOk result (nodes.new ≡ first_seen_after nat_cmp nodes.old (option_to_list node)) }
+    ensures number { IfOk result (λ number. (later : List ℕ) → number ≡ node_among (first_seen_after nat_cmp nodes.new later) node) }
+{
+    match node {
+        Some(number) => {
+            let place = nodes.see_place(number)?;
+            Ok(Some(place as u64 + 1))
+        }
+        None => Ok(None),
+    }
+}
+
+/// Sees the polygon on a side, if there is one, and answers the side with its number, which stays whatever is seen later.
+fn number_side(polygons: &mut Numbers<PolygonKey>, side: Side) -> Result<Side, AllocError>
+    requires few { length (first_seen_after key_cmp polygons.old (key_on side)) < 10 ^ 10 }
+    ensures seen { OnOk result (polygons.new ≡ first_seen_after key_cmp polygons.old (key_on side)) }
+    ensures number { IfOk result (λ new. (later : List PolygonKey) → new ≡ side_among (first_seen_after key_cmp polygons.new later) side) }
+{
+    match side.polyid() {
+        Some(polyid) => {
+            let cenid = side.cenid();
+            let place = polygons.see_place((cenid, polyid))?;
+            Ok(Side::new(cenid, Some(place as u64 + 1)))
+        }
+        None => Ok(side),
+    }
+}
+
+/// Sees the nodes of these ends, and keeps the ends under their numbers.
+fn see_ends(
+    numbers: &mut Numbers<u64>,
+    ends: &mut Vec<Ends>,
+    met: &[Ends],
+) -> Result<(), AllocError>
+    requires first { numbers.old ≡ [] }
+    requires none { ends.old.items ≡ [] }
+    ensures numbers { OnOk result (numbers.new ≡ first_seen nat_cmp (flat_map nodes_at met.now)) }
+    ensures ends { OnOk result (ends.new.items ≡ map (ends_among (first_seen nat_cmp (flat_map nodes_at met.now))) met.now) }
+{
+    for pair in met {
+        let (start, end) = *pair;
+        let new_start = number_node(numbers, start)?;
+        let new_end = number_node(numbers, end)?;
+        ends.push((new_start, new_end))?;
+    }
+    Ok(())
+}
+
+/// The nodes of these ends in the order in which they are first met, and the ends under these numbers.
+fn number_ends(alloc: Global, met: &[Ends]) -> Result<NodeTables, AllocError>
+    ensures numbers { IfOk result (λ tables. tables.numbers ≡ first_seen nat_cmp (flat_map nodes_at met.now)) }
+    ensures ends { IfOk result (λ tables. tables.ends.items ≡ map (ends_among (first_seen nat_cmp (flat_map nodes_at met.now))) met.now) }
+{
+    let mut ends = Vec::with_capacity(alloc, met.len())?;
+    let mut numbers = Numbers::new(alloc);
+    see_ends(&mut numbers, &mut ends, met)?;
+    Ok(NodeTables { numbers, ends })
+}
+
+/// Sees the polygons on these sides, and keeps the sides under their numbers.
+fn see_sides(
+    numbers: &mut Numbers<PolygonKey>,
+    sides: &mut Vec<Sides>,
+    met: &[Sides],
+) -> Result<(), AllocError>
+    requires first { numbers.old ≡ [] }
+    requires none { sides.old.items ≡ [] }
+    requires few { length (first_seen key_cmp (flat_map polygons_at met.now)) < 10 ^ 10 }
+    ensures numbers { OnOk result (numbers.new ≡ first_seen key_cmp (flat_map polygons_at met.now)) }
+    ensures sides { OnOk result (sides.new.items ≡ map (sides_among (first_seen key_cmp (flat_map polygons_at met.now))) met.now) }
+{
+    for pair in met {
+        let (left, right) = *pair;
+        let new_left = number_side(numbers, left)?;
+        let new_right = number_side(numbers, right)?;
+        sides.push((new_left, new_right))?;
+    }
+    Ok(())
+}
+
+/// The polygons on these sides in the order in which they are first met, and the sides under these numbers.
+fn number_sides(
+    alloc: Global,
+    met: &[Sides],
+) -> Result<(Numbers<PolygonKey>, Vec<Sides>), AllocError>
+    requires few { length (first_seen key_cmp (flat_map polygons_at met.now)) < 10 ^ 10 }
+    ensures numbers { IfOk result (λ tables. tables.0 ≡ first_seen key_cmp (flat_map polygons_at met.now)) }
+    ensures sides { IfOk result (λ tables. tables.1.items ≡ map (sides_among (first_seen key_cmp (flat_map polygons_at met.now))) met.now) }
+{
+    let mut sides = Vec::with_capacity(alloc, met.len())?;
+    let mut numbers = Numbers::new(alloc);
+    see_sides(&mut numbers, &mut sides, met)?;
+    Ok((numbers, sides))
+}
+
+/// The nodes of a county in the order in which the chains of these steps first meet them, start before end.
+pub(crate) fn number_nodes<C: Chart>(
+    alloc: Global,
+    chart: &C,
+    steps: &[ChainWalk],
+) -> Result<NodeTables, AllocError>
+    requires { AreWhole (C.county chart.now) steps.now }
+    ensures { IfOk result (TellsNodes (C.county chart.now) steps.now) }
+{
+    let met = ends_along(alloc, chart, steps)?;
+    number_ends(alloc, &met)
+}
+
+/// The polygons of a county in the order in which the chains of these steps first meet them, left before right, and the
+/// sides of these chains under the new keys.
+pub(crate) fn number_polygons<C: Chart>(
+    alloc: Global,
+    chart: &C,
+    steps: &[ChainWalk],
+) -> Result<(Numbers<PolygonKey>, Vec<Sides>), AllocError>
+    requires { AreWhole (C.county chart.now) steps.now }
+    ensures numbers { IfOk result (λ tables. tables.0 ≡ polygons_in_order (C.county chart.now) (arrangement_of (C.county chart.now) steps.now)) }
+    ensures sides { IfOk result (λ tables. tables.1.items ≡ map sides_of (entry_values (stepped (C.county chart.now) steps.now).chains)) }
+{
+    let met = sides_along(alloc, chart, steps)?;
+    number_sides(alloc, &met)
+}
