@@ -40,13 +40,7 @@ pub map-append : {X Y : Type 0} (f : X → Y) (xs ys : List X) → map f (xs ++ 
 map-append f [] ys = refl
 map-append f (x ∷ xs) ys = ap (λ zs. f x ∷ zs) (map-append f xs ys)
 
--- a list up to a place, and up to the next one
-pub next_taken : {X : Type 0} (xs : List X) (place : ℕ) (x : X) → Some x ≡ slice_get xs place → take (suc place) xs ≡ take place xs ++
-    (x ∷ [])
-next_taken [] place x e = cc
-next_taken (y ∷ ys) zero x e = let same : y ≡ x = cc in ap (λ z. z ∷ []) same
-next_taken (y ∷ ys) (suc place) x e = ap (λ l. y ∷ l) (next_taken ys place x e)
-
+-- groups up to a place, and up to the next one
 pub next_grouped : {X : Type 0} (xs : List (List X)) (place : ℕ) → place < length xs
     → grouped (take (suc place) xs) ≡ grouped (take place xs) ++ group_at xs place
 next_grouped [] place h = absurd (omega (arith, h))
@@ -62,13 +56,6 @@ get_dropped {X} (suc n) [] k = sym (nothing (suc n + k))
     nothing : (j : ℕ) → slice_get {X = X} [] j ≡ None
     nothing j = refl
 get_dropped (suc n) (x ∷ xs) k = get_dropped n xs k ∙ ap (slice_get (x ∷ xs)) (let e : suc (n + k) ≡ suc n + k = omega arith in e)
-
--- as many as are left, where no more are asked for
-pub taken_all : {X : Type 0} (n : ℕ) (xs : List X) → length xs ≤ n → take n xs ≡ xs
-taken_all zero [] h = refl
-taken_all zero (x ∷ xs) h = absurd (omega (arith, h))
-taken_all (suc n) [] h = refl
-taken_all (suc n) (x ∷ xs) h = ap (λ l. x ∷ l) (taken_all n xs (omega (arith, h)))
 
 -- a list around one of its elements
 pub parted : {X : Type 0} (xs : List X) (place : ℕ) (x : X) → Some x ≡ slice_get xs place → xs ≡ take place xs ++ (x ∷ drop (suc place) xs)

@@ -9,3 +9,6 @@ pub mod Finished
 pub mod SameGroups
 pub mod RecordFields
 pub mod ReadHeads
+pub mod RecordPlaces
+pub mod OneAfterAnother
+pub mod GivenGroups

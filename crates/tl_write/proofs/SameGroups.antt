@@ -1,4 +1,5 @@
 -- Lists that are compared place by place, and tests that decide whether they are the same.
+use Rattle.std.proofs.lemmas.List.{take_all}
 use Rattle.std.proofs.Common.{◌≡◌, ◌<◌, ◌≤◌, ◌+◌, ℕ, zero, suc, List, [], ◌∷◌, length, take, Bool, true, false, Some}
 use Rattle.std.proofs.Common.{slice_get, map, ◌++◌, refl, sym, ap, ◌∙◌, add-one, arith}
 use Rattle.std.proofs.lemmas.Bool.{false≢true}
@@ -6,13 +7,12 @@ use Rattle.std.specs.Bool.{Decides}
 use Rattle.tl_county.specs.County.{County, county_of}
 use Rattle.tl_county.specs.CountyRules.{IsCounty}
 use Rattle.tl_county.specs.Packing.{packed}
-use Rattle.tl_county.proofs.PackedCounty.{packed_county}
+use Rattle.tl_county.proofs.Packing.PackedCounty.{packed_county}
 use Rattle.tl_layout.specs.declared.record_type.Record.TheVariants.{One, Two, Four, Five, Six, Seven, Eight, I, P}
 use Rattle.tl_write.specs.CountyGroups.{type_1_by_chain, type_2_by_chain, type_4_by_chain, type_5_by_name, type_6_by_chain}
 use Rattle.tl_write.specs.CountyGroups.{HaveSameCounts, HaveSameChains, HaveSameEntries}
 use Rattle.tl_write.specs.CountyGroups.{type_7_by_landmark, type_8_together, type_i_by_chain, type_p_by_number}
 use Rattle.tl_write.specs.Groups.{group_at, grouped}
-use Rattle.tl_write.proofs.Grouped.{taken_all}
 use Rattle.tl_write.proofs.PackedGroups.{all_groups}
 
 -- a fact without which another fails
@@ -48,7 +48,7 @@ module _ {X : Type 0} where
 
   -- lists that are the same up to the end of both
   pub same_whole : (xs ys : List X) (place : ℕ) → take place xs ≡ take place ys → length xs ≤ place → length ys ≤ place → xs ≡ ys
-  same_whole xs ys place e h k = sym (taken_all place xs h) ∙ e ∙ taken_all place ys k
+  same_whole xs ys place e h k = sym (take_all place xs h) ∙ e ∙ take_all place ys k
 
 -- groups at a place that both have
 pub same_group : {X : Type 0} (xs ys : List (List X)) (place : ℕ) → place < length xs → place < length ys

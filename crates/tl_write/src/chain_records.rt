@@ -1,6 +1,6 @@
 //! The records of a county's chains.
 
-ghost use Rattle.std.specs.Prelude.{◌≡◌, ◌<◌, length, take, drop};
+ghost use Rattle.std.specs.Prelude.{◌≡◌, ◌<◌, ◌+◌, length, take, drop};
 ghost use Rattle.tl_county.specs.ChartWords.{chain_at, feats_of, points_of};
 ghost use Rattle.tl_county.specs.Packing.{inner_points};
 
@@ -14,6 +14,14 @@ const POINTS_A_RECORD: usize = 10;
 
 /// How many further names a record of type 4 has room for.
 const NAMES_A_RECORD: usize = 5;
+
+/// The number of a record among those of one type of its chain (RTSQ), which are numbered from 1.
+fn sequence_number(place: usize) -> u16
+    requires { place < 999 }
+    ensures { result ≡ place + 1 }
+{
+    place as u16 + 1
+}
 
 /// How many shape points the chain at a place has between its ends.
 fn shape_point_count<C: Chart>(chart: &C, place: usize) -> usize
@@ -32,7 +40,7 @@ fn shape_points_from<C: Chart>(chart: &C, place: usize, first: usize) -> ArrayVe
     let end = shape_point_count(chart, place).min(first + POINTS_A_RECORD);
     let mut points = ArrayVec::new();
     for shape_point in first..end {
-        points.push(chart.point(place, shape_point + 1));
+        points.push(chart.point_there(place, shape_point + 1));
     }
     points
 }
@@ -46,7 +54,7 @@ fn names_from<C: Chart>(chart: &C, place: usize, first: usize) -> ArrayVec<u32, 
     let end = chart.feat_count_at(place).min(first + NAMES_A_RECORD);
     let mut names = ArrayVec::new();
     for name in first..end {
-        names.push(chart.chain_feat(place, name));
+        names.push(chart.chain_feat_there(place, name));
     }
     names
 }
@@ -74,7 +82,10 @@ impl<C: Chart> RecordGroups for ChainRecords<'_, C> {
 
     fn head(&self, group: usize) -> (Point, Point) {
         let last = self.chart.point_count_at(group) - 1;
-        (self.chart.point(group, 0), self.chart.point(group, last))
+        (
+            self.chart.point_there(group, 0),
+            self.chart.point_there(group, last),
+        )
     }
 
     fn count_in(&self, _group: usize, _head: (Point, Point)) -> usize {
@@ -84,8 +95,8 @@ impl<C: Chart> RecordGroups for ChainRecords<'_, C> {
     fn record(&self, group: usize, head: (Point, Point), _place: usize) -> Rec1 {
         let (start, end) = head;
         Rec1::new(
-            self.chart.tlid(group),
-            self.chart.chain_body(group),
+            self.chart.tlid_there(group),
+            self.chart.chain_body_there(group),
             start,
             end,
         )
@@ -124,7 +135,7 @@ impl<C: Chart> RecordGroups for ShapePointRecords<'_, C> {
 
     fn record(&self, group: usize, _head: usize, place: usize) -> Rec2 {
         let points = shape_points_from(self.chart, group, place * POINTS_A_RECORD);
-        Rec2::new(self.chart.tlid(group), place as u16 + 1, points)
+        Rec2::new(self.chart.tlid_there(group), sequence_number(place), points)
     }
 }
 
@@ -160,7 +171,7 @@ impl<C: Chart> RecordGroups for FurtherNameRecords<'_, C> {
 
     fn record(&self, group: usize, _head: usize, place: usize) -> Rec4 {
         let names = names_from(self.chart, group, place * NAMES_A_RECORD);
-        Rec4::new(self.chart.tlid(group), place as u16 + 1, names)
+        Rec4::new(self.chart.tlid_there(group), sequence_number(place), names)
     }
 }
 
@@ -195,8 +206,8 @@ impl<C: Chart> RecordGroups for RangeRecords<'_, C> {
     }
 
     fn record(&self, group: usize, _head: usize, place: usize) -> Rec6 {
-        let ranges = self.chart.range(group, place);
-        Rec6::new(self.chart.tlid(group), place as u16 + 1, ranges)
+        let ranges = self.chart.range_there(group, place);
+        Rec6::new(self.chart.tlid_there(group), sequence_number(place), ranges)
     }
 }
 
@@ -231,12 +242,12 @@ impl<C: Chart> RecordGroups for LinkRecords<'_, C> {
 
     fn record(&self, group: usize, head: Option<BodyI>, _place: usize) -> RecI {
         RecI::new(
-            self.chart.tlid(group),
+            self.chart.tlid_there(group),
             head.unwrap(),
-            self.chart.start_node(group),
-            self.chart.end_node(group),
-            self.chart.left(group),
-            self.chart.right(group),
+            self.chart.start_node_there(group),
+            self.chart.end_node_there(group),
+            self.chart.left_there(group),
+            self.chart.right_there(group),
         )
     }
 }

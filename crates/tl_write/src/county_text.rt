@@ -4,6 +4,7 @@ ghost use Rattle.std.specs.Prelude.{◌≡◌, ◌<◌, ◌+◌, ◌++◌, ℕ, 
 ghost use Rattle.tl_county.specs.Packing.{packed};
 ghost use Rattle.tl_layout.specs.RecordText.{text_of};
 ghost use Rattle.tl_number.specs.Canonical.{IsCanonical};
+ghost use Rattle.tl_number.specs.Views.{arranged_county};
 ghost use Rattle.tl_write.specs.CountyGroups.{types_1_to_4, types_5_to_7, types_8_to_p};
 
 use crate::chain_records::{
@@ -18,9 +19,9 @@ use crate::sink::Sink;
 use crate::taker::RecordTaker;
 use crate::text_buffer::TextBuffer;
 use std::alloc::{AllocError, Global};
-use tl_county::{Chart, CountyIn};
+use tl_county::Chart;
 use tl_layout::Record;
-use tl_number::{CanonCounty, CanonCountyIn};
+use tl_number::CanonCounty;
 
 /// Hands on the records of types 1, 2 and 4 of a county, type after type. The heads are read into the room.
 fn give_types_1_to_4<D, C: Chart, T: RecordTaker<D>>(
@@ -68,7 +69,7 @@ fn give_types_8_to_p<D, C: Chart, T: RecordTaker<D>>(
     device: &mut D,
 ) -> Result<(), T::Fault>
     requires { T.IsReady taker.old device.old }
-    ensures given { T.Takes (types_8_to_p (⟦<CanonCounty<C> as Chart>⟧.county county.now)) taker.old device.old result taker.new device.new }
+    ensures given { T.Takes (types_8_to_p (arranged_county county.now)) taker.old device.old result taker.new device.new }
     ensures ready { OnOk result (T.IsReady taker.new device.new) }
 {
     let landmark_links = LandmarkLinkRecords { county };
@@ -86,7 +87,7 @@ fn give_records<D, C: Chart, T: RecordTaker<D>>(
     device: &mut D,
 ) -> Result<(), T::Fault>
     requires { T.IsReady taker.old device.old }
-    ensures given { T.Takes (packed (⟦<CanonCounty<C> as Chart>⟧.county county.now)) taker.old device.old result taker.new device.new }
+    ensures given { T.Takes (packed (arranged_county county.now)) taker.old device.old result taker.new device.new }
     ensures ready { OnOk result (T.IsReady taker.new device.new) }
 {
     let mut room = HeadRoom::new();
@@ -104,7 +105,7 @@ pub fn records_of<C: Chart>(
     alloc: Global,
     county: &CanonCounty<C>,
 ) -> Result<Vec<Record>, AllocError>
-    ensures packed { IfOk result (λ records. records.items ≡ packed (⟦<CanonCounty<C> as Chart>⟧.county county.now)) }
+    ensures packed { IfOk result (λ records. records.items ≡ packed (arranged_county county.now)) }
     ensures canonical { IfOk result (λ records. IsCanonical records.items) }
 {
     let mut records = Vec::new(alloc);
@@ -120,47 +121,47 @@ pub fn records_of<C: Chart>(
 /// The sink failed: exactly the first `written` bytes of the text went out before.
 pub fn write_to<C: Chart, W: Sink>(county: &CanonCounty<C>, w: &mut W) -> Result<u64, WriteFault>
     requires { W.failed w.old < u64.MAX }
-    ensures length { IfOk result (λ n. n ≡ length (text_of (packed (⟦<CanonCounty<C> as Chart>⟧.county county.now)))) }
-    ensures short { IfErr result (λ f. f.written < length (text_of (packed (⟦<CanonCounty<C> as Chart>⟧.county county.now)))) }
+    ensures length { IfOk result (λ n. n ≡ length (text_of (packed (arranged_county county.now)))) }
+    ensures short { IfErr result (λ f. f.written < length (text_of (packed (arranged_county county.now)))) }
     ensures failures { W.failed w.new ≡ (if is_ok result then W.failed w.old else W.failed w.old + 1) }
     ensures bytes { (held : List ℕ) → W.holds w.old held
-        → MatchResult result (λ _. W.holds w.new (held ++ text_of (packed (⟦<CanonCounty<C> as Chart>⟧.county county.now))))
-        (λ f. W.holds w.new (held ++ take f.written (text_of (packed (⟦<CanonCounty<C> as Chart>⟧.county county.now))))) }
+        → MatchResult result (λ _. W.holds w.new (held ++ text_of (packed (arranged_county county.now))))
+        (λ f. W.holds w.new (held ++ take f.written (text_of (packed (arranged_county county.now))))) }
 {
     let mut buffer = TextBuffer::new();
     give_records(county, &mut buffer, w)?;
     buffer.finish(w)
 }
 
-/// The records of a canonical county that is read through a county in an arena.
+/// The records of a canonical county that is read through a county in an arena, as it is or under a mask.
 ///
 /// # Errors
 ///
 /// Only that memory was lacking.
-pub fn records_of_in<'a>(
+pub fn records_of_in<C: Chart>(
     alloc: Global,
-    county: &CanonCountyIn<'a>,
+    county: &CanonCounty<C>,
 ) -> Result<Vec<Record>, AllocError>
-    ensures packed { IfOk result (λ records. records.items ≡ packed (⟦<CanonCounty<CountyIn<'a>> as Chart>⟧.county county.now)) }
+    ensures packed { IfOk result (λ records. records.items ≡ packed (arranged_county county.now)) }
     ensures canonical { IfOk result (λ records. IsCanonical records.items) }
 {
     records_of(alloc, county)
 }
 
-/// Writes the text of a canonical county that is read through a county in an arena, and answers how many bytes it has. Nothing
-/// is tried again, and no memory is taken.
+/// Writes the text of a canonical county that is read through a county in an arena, as it is or under a mask, and answers how many
+/// bytes it has. Nothing is tried again, and no memory is taken.
 ///
 /// # Errors
 ///
 /// The sink failed: exactly the first `written` bytes of the text went out before.
-pub fn write_in<'a, W: Sink>(county: &CanonCountyIn<'a>, w: &mut W) -> Result<u64, WriteFault>
+pub fn write_in<C: Chart, W: Sink>(county: &CanonCounty<C>, w: &mut W) -> Result<u64, WriteFault>
     requires { W.failed w.old < u64.MAX }
-    ensures length { IfOk result (λ n. n ≡ length (text_of (packed (⟦<CanonCounty<CountyIn<'a>> as Chart>⟧.county county.now)))) }
-    ensures short { IfErr result (λ f. f.written < length (text_of (packed (⟦<CanonCounty<CountyIn<'a>> as Chart>⟧.county county.now)))) }
+    ensures length { IfOk result (λ n. n ≡ length (text_of (packed (arranged_county county.now)))) }
+    ensures short { IfErr result (λ f. f.written < length (text_of (packed (arranged_county county.now)))) }
     ensures failures { W.failed w.new ≡ (if is_ok result then W.failed w.old else W.failed w.old + 1) }
     ensures bytes { (held : List ℕ) → W.holds w.old held
-        → MatchResult result (λ _. W.holds w.new (held ++ text_of (packed (⟦<CanonCounty<CountyIn<'a>> as Chart>⟧.county county.now))))
-        (λ f. W.holds w.new (held ++ take f.written (text_of (packed (⟦<CanonCounty<CountyIn<'a>> as Chart>⟧.county county.now))))) }
+        → MatchResult result (λ _. W.holds w.new (held ++ text_of (packed (arranged_county county.now))))
+        (λ f. W.holds w.new (held ++ take f.written (text_of (packed (arranged_county county.now))))) }
 {
     write_to(county, w)
 }

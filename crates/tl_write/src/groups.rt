@@ -1,4 +1,8 @@
 //! Records in groups, and how they are handed on.
+//!
+//! The records of a type stand in groups: those of each chain, each landmark, each polygon. A group is read by place, and nothing is
+//! made but the record that is handed on, so that one loop walks all nine types. What a type reads ahead of a group's records is the
+//! group's head. Heads are read one after the other before any of their records, since each may have to wait for memory.
 
 ghost use Rattle.std.specs.Prelude.{◌≡◌, ◌<◌, ◌≤◌, ◌+◌, ◌-◌, ℕ, List, Some, length, drop, map, min, take, flat_map, slice_get, OnOk};
 ghost use Rattle.tl_write.specs.Groups.{AreHeads, group_at, grouped};

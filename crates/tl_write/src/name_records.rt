@@ -36,7 +36,10 @@ impl<C: Chart> RecordGroups for NameRecords<'_, C> {
     }
 
     fn record(&self, group: usize, _head: usize, _place: usize) -> Rec5 {
-        Rec5::new(self.chart.feat(group), self.chart.name_body(group))
+        Rec5::new(
+            self.chart.feat_there(group),
+            self.chart.name_body_there(group),
+        )
     }
 }
 
@@ -72,8 +75,8 @@ impl<C: Chart> RecordGroups for LandmarkRecords<'_, C> {
 
     fn record(&self, group: usize, _head: usize, place: usize) -> Rec7 {
         Rec7::new(
-            self.chart.land(group),
-            self.chart.landmark_body(group, place),
+            self.chart.land_there(group),
+            self.chart.landmark_body_there(group, place),
         )
     }
 }
@@ -85,6 +88,7 @@ pub(crate) struct LandmarkLinkRecords<'a, C: Chart> {
 }
 
 impl<C: Chart> RecordGroups for LandmarkLinkRecords<'_, C> {
+    ghost use Rattle.tl_number.specs.Views.{arranged_county};
     ghost use Rattle.tl_write.specs.CountyGroups.{type_8_together};
     ghost use Rattle.tl_write.specs.Groups.{HasRecords};
 
@@ -92,9 +96,9 @@ impl<C: Chart> RecordGroups for LandmarkLinkRecords<'_, C> {
 
     type Head = usize;
 
-    ghost groups = { λ g. type_8_together (⟦<CanonCounty<C> as Chart>⟧.county g.county.now) };
+    ghost groups = { λ g. type_8_together (arranged_county g.county.now) };
 
-    ghost IsHead = { λ g. HasRecords (type_8_together (⟦<CanonCounty<C> as Chart>⟧.county g.county.now)) };
+    ghost IsHead = { λ g. HasRecords (type_8_together (arranged_county g.county.now)) };
 
     fn count(&self) -> usize {
         1

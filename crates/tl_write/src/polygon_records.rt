@@ -12,15 +12,16 @@ pub(crate) struct PolygonRecords<'a, C: Chart> {
 }
 
 impl<C: Chart> RecordGroups for PolygonRecords<'_, C> {
+    ghost use Rattle.tl_number.specs.Views.{arranged_county};
     ghost use Rattle.tl_write.specs.CountyGroups.{IsPolygonAt, type_p_by_number};
 
     type Item = RecP;
 
     type Head = (PolygonKey, Option<BodyP>);
 
-    ghost groups = { λ g. type_p_by_number (⟦<CanonCounty<C> as Chart>⟧.county g.county.now) };
+    ghost groups = { λ g. type_p_by_number (arranged_county g.county.now) };
 
-    ghost IsHead = { λ g. IsPolygonAt (⟦<CanonCounty<C> as Chart>⟧.county g.county.now) };
+    ghost IsHead = { λ g. IsPolygonAt (arranged_county g.county.now) };
 
     fn count(&self) -> usize {
         self.county.polygon_count()

@@ -3,9 +3,9 @@
 ghost use Rattle.std.specs.Prelude.{◌≡◌, ◌<◌, ◌≤◌, ◌+◌, ◌++◌, ◌∷◌, ℕ, List, [], length, MatchResult, OnOk, is_ok, if◌then◌else◌};
 ghost use Rattle.tl_write.specs.GoingOut.{HasCounted, HoldsBeginning, IsGoingOut, up_to_most};
 
+use crate::bytes_out::write_bytes;
 use crate::fault::WriteFault;
 use crate::sink::Sink;
-use crate::writing::write_bytes;
 use std::marker::Model;
 use tl_layout::Layout;
 

@@ -3,7 +3,8 @@ use Rattle.std.proofs.Common.{suc}
 use Rattle.std.specs.List.{push}
 use Rattle.tl_county.specs.ChartWords.{chain_at, feats_of}
 use Rattle.tl_write.proofs.ChainPlaces.{chain_there}
-use Rattle.tl_write.proofs.Grouped.{get_dropped, next_taken, taken_enough}
+use Rattle.tl_county.proofs.Lists.Places.{next_taken}
+use Rattle.tl_write.proofs.Grouped.{get_dropped, taken_enough}
 use Rattle.tl_write.proofs.chain_records.names_from.Goals as goal
 
 pub overflow_add-first : goal.overflow_add-first
@@ -19,14 +20,14 @@ loop-name-preserved g c =
     let first = c.args.first in
     let i = c.loop-name.name in
     let from = c.loop-name.invariant.from in
-    let read : slice_get (drop first feats) (i - first) ≡ Some c.chain_feat.result =
+    let read : slice_get (drop first feats) (i - first) ≡ Some c.chain_feat_there.result =
     get_dropped first feats (i - first)
-    ∙ ap (slice_get feats) (let e : first + (i - first) ≡ i = omega (arith, from) in e) ∙ sym c.chain_feat.ensures in
+    ∙ ap (slice_get feats) (let e : first + (i - first) ≡ i = omega (arith, from) in e) ∙ sym c.chain_feat_there.ensures in
     record {
       from = omega (arith, from);
-      names = c.push.ensures.items ∙ ap (λ xs. push xs c.chain_feat.result) c.loop-name.invariant.names
+      names = c.push.ensures.items ∙ ap (λ xs. push xs c.chain_feat_there.result) c.loop-name.invariant.names
           ∙ sym (ap (λ n. take n (drop first feats)) (let e : i + 1 - first ≡ suc (i - first) = omega (arith, from) in e)
-          ∙ next_taken (drop first feats) (i - first) c.chain_feat.result (sym read));
+          ∙ next_taken (drop first feats) (i - first) c.chain_feat_there.result (sym read));
     }
 
 pub returns : goal.returns

@@ -1,6 +1,6 @@
 use Rattle.std.proofs.Common.{◌-◌, ◌∙◌, length, sym, ap, arith}
 use Rattle.tl_county.specs.ChartWords.{chain_at, points_of}
-use Rattle.tl_county.proofs.CarriedLimits.{length-inner}
+use Rattle.tl_county.proofs.Limits.CarriedLimits.{length-inner}
 use Rattle.tl_write.proofs.ChainPlaces.{chain_there}
 use Rattle.tl_write.proofs.chain_records.shape_point_count.Goals as goal
 

@@ -3,9 +3,10 @@ use Rattle.std.proofs.Common.{suc}
 use Rattle.std.specs.List.{push}
 use Rattle.tl_county.specs.ChartWords.{chain_at, points_of}
 use Rattle.tl_county.specs.Packing.{inner_points}
-use Rattle.tl_county.proofs.CarriedLimits.{length-inner}
+use Rattle.tl_county.proofs.Limits.CarriedLimits.{length-inner}
 use Rattle.tl_write.proofs.ChainPlaces.{chain_there, inner_at}
-use Rattle.tl_write.proofs.Grouped.{get_dropped, next_taken, taken_enough}
+use Rattle.tl_county.proofs.Lists.Places.{next_taken}
+use Rattle.tl_write.proofs.Grouped.{get_dropped, taken_enough}
 use Rattle.tl_write.proofs.chain_records.shape_points_from.Goals as goal
 
 pub overflow_add-first : goal.overflow_add-first
@@ -15,8 +16,8 @@ overflow_add-first g c =
     c.requires.place in
     omega (arith, c.requires.first, ap (λ o. length (inner_points (points_of o))) there.chain, there.room.points)
 
-pub point-requires : goal.point-requires
-point-requires g c =
+pub point_there-requires : goal.point_there-requires
+point_there-requires g c =
     let points = points_of (chain_at (g.C.Chart.county c.args.chart.now) c.args.place) in
     omega (arith, c.shape_point_count.ensures, c.min-end.ensures, c.loop-shape_point-test.true, length-inner points)
 
@@ -32,15 +33,15 @@ loop-shape_point-preserved g c =
       c.min-end.ensures,
       c.loop-shape_point-test.true,
     ) in
-    let read : slice_get (drop first (inner_points points)) (i - first) ≡ Some c.point.result =
+    let read : slice_get (drop first (inner_points points)) (i - first) ≡ Some c.point_there.result =
     get_dropped first (inner_points points) (i - first)
     ∙ ap (slice_get (inner_points points)) (let e : first + (i - first) ≡ i = omega (arith, from) in e)
-    ∙ inner_at points i inner ∙ sym c.point.ensures in
+    ∙ inner_at points i inner ∙ sym c.point_there.ensures in
     record {
       from = omega (arith, from);
-      points = c.push.ensures.items ∙ ap (λ xs. push xs c.point.result) c.loop-shape_point.invariant.points
+      points = c.push.ensures.items ∙ ap (λ xs. push xs c.point_there.result) c.loop-shape_point.invariant.points
           ∙ sym (ap (λ n. take n (drop first (inner_points points))) (let e : i + 1 - first ≡ suc (i - first) = omega (arith, from) in e)
-          ∙ next_taken (drop first (inner_points points)) (i - first) c.point.result (sym read));
+          ∙ next_taken (drop first (inner_points points)) (i - first) c.point_there.result (sym read));
     }
 
 pub returns : goal.returns

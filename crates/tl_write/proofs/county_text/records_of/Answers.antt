@@ -1,7 +1,7 @@
 use Rattle.std.proofs.Common.{◌++◌, ◌∙◌, List, sym, ap, subst}
 use Rattle.tl_layout.specs.declared.record_type.Record.{Record}
 use Rattle.tl_county.specs.Packing.{packed}
-use Rattle.tl_county.proofs.PackedCounty.{packed_county}
+use Rattle.tl_county.proofs.Packing.PackedCounty.{packed_county}
 use Rattle.std.proofs.Math.Logic.{∥∥₁_elim}
 use Rattle.tl_number.specs.Canonical.{IsCanonical}
 use Rattle.tl_number.specs.CanonCounties.{IsCanonCounty, IsCanonCounty-prop}

@@ -1,7 +1,9 @@
 use Rattle.std.proofs.Common.{◌≡◌, ◌+◌, ◌++◌, ◌∷◌, ◌∙◌, [], Ok, Err, map, take, drop, suc, subst, sym, ap, arith, add-one}
+use Rattle.std.proofs.lemmas.List.{take_all}
 use Rattle.std.proofs.lemmas.Result.{err_from_is_err_and}
 use Rattle.tl_write.specs.Groups.{group_at}
-use Rattle.tl_write.proofs.Grouped.{map-append, next_taken, parted, taken_all}
+use Rattle.tl_county.proofs.Lists.Places.{next_taken}
+use Rattle.tl_write.proofs.Grouped.{map-append, parted}
 use Rattle.tl_write.proofs.groups.give_group.Goals as goal
 
 pub loop-place-init : goal.loop-place-init
@@ -50,7 +52,7 @@ returns-clause-given g c =
     let f = g.G.Item.Tabled.as_record in
     let xs = group_at (g.G.RecordGroups.groups c.args.groups.now) c.args.group in
     subst (λ ys. g.T.RecordTaker.Takes (map f ys) c.args.taker.now c.args.device.now (Ok tt) c.loop-place.taker c.loop-place.device)
-    (taken_all c.loop-place.place xs (omega (arith, c.count_in-place-end.ensures, c.loop-place-test.false))) c.loop-place.invariant.taken
+    (take_all c.loop-place.place xs (omega (arith, c.count_in-place-end.ensures, c.loop-place-test.false))) c.loop-place.invariant.taken
 
 pub returns-clause-ready : goal.returns-clause-ready
 returns-clause-ready g c = c.loop-place.invariant.ready

@@ -1,84 +1,65 @@
-use Rattle.std.proofs.Common.{◌≡◌, ◌+◌, ◌<◌, ◌∙◌, Some, length, slice_get, sym, ap, subst, arith}
+use Rattle.std.proofs.Common.{◌≡◌, ◌+◌, ◌*◌, ◌<◌, ◌∙◌, Some, take, drop, length, slice_get, sym, ap, subst, arith}
 use Rattle.tl_layout.specs.Numbers.{IsNumber}
+use Rattle.tl_layout.specs.Fields.{Fields6}
+use Rattle.tl_layout.specs.declared.ranges.Ranges.{Ranges}
+use Rattle.tl_shape.specs.Chain.{Chain}
+use Rattle.std.proofs.Common.{ℕ, List}
 use Rattle.tl_county.specs.ChartWords.{ranges_of}
-use Rattle.tl_county.specs.CountyRules.{tlids}
+use Rattle.tl_county.specs.County.{County}
+use Rattle.tl_county.specs.CountyRules.{IsCounty}
+use Rattle.tl_county.specs.Limits.{IsWithinLimits, most_records}
 use Rattle.tl_county.specs.Packing.{packed_sixes}
-use Rattle.tl_write.proofs.ChainPlaces.{chain_of_group}
-use Rattle.tl_write.proofs.Grouped.{group_of, some-same}
-use Rattle.tl_write.proofs.Pieces.{numbered_list_at, numbered_list_length}
+use Rattle.tl_write.specs.CountyGroups.{type_6_by_chain}
+use Rattle.tl_write.specs.Groups.{group_at}
+use Rattle.tl_write.proofs.RecordPlaces.{ItemThere, item_there, tlid_of}
 use Rattle.tl_write.proofs.chain_records.RangeRecordsRecordGroups.record.Goals as goal
 
-pub range-ranges-requires : goal.range-ranges-requires
-range-ranges-requires g c =
-    let chart = c.args.self.now.chart.now in
-    let county = g.C.Chart.county chart in
-    let there = chain_of_group packed_sixes county (g.met.C.Chart.is_county chart) (g.met.C.Chart.within_limits chart) c.args.group
-    c.requires.group in
-    let ranges = there.entry.1.ranges in
-    let count : c.args.place < length ranges =
-    subst (λ n. c.args.place < n) (ap length (group_of packed_sixes county.chains c.args.group there.entry there.get)
-    ∙ numbered_list_length _ ranges) c.requires.place in
-    subst (λ o. c.args.place < length (ranges_of o)) (sym there.chain) count
+make : ℕ → ℕ × Ranges → Fields6
+make tlid numbered = record { tlid = tlid; rtsq = numbered.0; ranges = numbered.1 }
 
-pub overflow_cast-place : goal.overflow_cast-place
-overflow_cast-place g c =
-    let chart = c.args.self.now.chart.now in
-    let county = g.C.Chart.county chart in
-    let there = chain_of_group packed_sixes county (g.met.C.Chart.is_county chart) (g.met.C.Chart.within_limits chart) c.args.group
-    c.requires.group in
-    let ranges = there.entry.1.ranges in
-    let count : c.args.place < length ranges =
-    subst (λ n. c.args.place < n) (ap length (group_of packed_sixes county.chains c.args.group there.entry there.get)
-    ∙ numbered_list_length _ ranges) c.requires.place in
-    omega (arith, count, there.room.ranges)
+-- one entry of ranges a record
+piece : (county : County) → IsCounty county → IsWithinLimits most_records county → (group place : ℕ)
+    → group < length (type_6_by_chain county) → place < length (group_at (type_6_by_chain county) group)
+    → ItemThere (λ chain. chain.ranges) make county group place
+unfolding make
+piece = item_there (λ chain. chain.ranges) make
 
-pub overflow_add-place : goal.overflow_add-place
-overflow_add-place g c =
+pub range_there-ranges-requires : goal.range_there-ranges-requires
+range_there-ranges-requires g c =
     let chart = c.args.self.now.chart.now in
-    let county = g.C.Chart.county chart in
-    let there = chain_of_group packed_sixes county (g.met.C.Chart.is_county chart) (g.met.C.Chart.within_limits chart) c.args.group
-    c.requires.group in
-    let ranges = there.entry.1.ranges in
-    let count : c.args.place < length ranges =
-    subst (λ n. c.args.place < n) (ap length (group_of packed_sixes county.chains c.args.group there.entry there.get)
-    ∙ numbered_list_length _ ranges) c.requires.place in
-    omega (arith, count, there.room.ranges)
+    let here = piece (g.C.Chart.county chart) (g.met.C.Chart.is_county chart) (g.met.C.Chart.within_limits chart) c.args.group c.args.place
+    c.requires.group c.requires.place in
+    subst (λ o. c.args.place < length (ranges_of o)) (sym here.there.chain) here.count
+
+pub sequence_number-requires : goal.sequence_number-requires
+sequence_number-requires g c =
+    let chart = c.args.self.now.chart.now in
+    let here = piece (g.C.Chart.county chart) (g.met.C.Chart.is_county chart) (g.met.C.Chart.within_limits chart) c.args.group c.args.place
+    c.requires.group c.requires.place in
+    omega (arith, here.count, here.there.room.ranges)
 
 pub new-requires-clause-tlid : goal.new-requires-clause-tlid
 new-requires-clause-tlid g c =
     let chart = c.args.self.now.chart.now in
-    let county = g.C.Chart.county chart in
-    let there = chain_of_group packed_sixes county (g.met.C.Chart.is_county chart) (g.met.C.Chart.within_limits chart) c.args.group
-    c.requires.group in
-    let tlid_is : c.tlid.result ≡ there.entry.0 = some-same (slice_get (tlids county) c.args.group) c.tlid.result there.entry.0
-    c.tlid.ensures there.tlid in
-    subst (IsNumber 10) (sym tlid_is) there.is_number
+    let here = piece (g.C.Chart.county chart) (g.met.C.Chart.is_county chart) (g.met.C.Chart.within_limits chart) c.args.group c.args.place
+    c.requires.group c.requires.place in
+    subst (IsNumber 10) (sym (tlid_of here.there c.tlid_there.result c.tlid_there.ensures)) here.there.is_number
 
 pub new-requires-clause-rtsq : goal.new-requires-clause-rtsq
 new-requires-clause-rtsq g c =
     let chart = c.args.self.now.chart.now in
-    let county = g.C.Chart.county chart in
-    let there = chain_of_group packed_sixes county (g.met.C.Chart.is_county chart) (g.met.C.Chart.within_limits chart) c.args.group
-    c.requires.group in
-    let ranges = there.entry.1.ranges in
-    let count : c.args.place < length ranges =
-    subst (λ n. c.args.place < n) (ap length (group_of packed_sixes county.chains c.args.group there.entry there.get)
-    ∙ numbered_list_length _ ranges) c.requires.place in
-    (omega arith, omega (arith, count, there.room.ranges))
+    let here = piece (g.C.Chart.county chart) (g.met.C.Chart.is_county chart) (g.met.C.Chart.within_limits chart) c.args.group c.args.place
+    c.requires.group c.requires.place in
+    (omega (arith, c.sequence_number.ensures), omega (arith, c.sequence_number.ensures, here.count, here.there.room.ranges))
 
 pub returns : goal.returns
+unfolding make
 returns g c =
     let chart = c.args.self.now.chart.now in
-    let county = g.C.Chart.county chart in
-    let there = chain_of_group packed_sixes county (g.met.C.Chart.is_county chart) (g.met.C.Chart.within_limits chart) c.args.group
-    c.requires.group in
-    let tlid_is : c.tlid.result ≡ there.entry.0 = some-same (slice_get (tlids county) c.args.group) c.tlid.result there.entry.0
-    c.tlid.ensures there.tlid in
-    let ranges = there.entry.1.ranges in
-    let read : slice_get ranges c.args.place ≡ Some c.range-ranges.result =
-    sym (c.range-ranges.ensures ∙ ap (λ o. slice_get (ranges_of o) c.args.place) there.chain) in
-    ap Some (c.new.ensures ∙ (λ i. record { tlid = tlid_is i; rtsq = c.args.place + 1; ranges = c.range-ranges.result }))
-    ∙ sym (ap (λ rs. slice_get rs c.args.place) (group_of packed_sixes county.chains c.args.group there.entry there.get)
-    ∙ numbered_list_at (λ piece. record { tlid = there.entry.0; rtsq = piece.0; ranges = piece.1 }) ranges c.args.place
-    c.range-ranges.result
-    read)
+    let here = piece (g.C.Chart.county chart) (g.met.C.Chart.is_county chart) (g.met.C.Chart.within_limits chart) c.args.group c.args.place
+    c.requires.group c.requires.place in
+    let tlid_is = tlid_of here.there c.tlid_there.result c.tlid_there.ensures in
+    let read : slice_get here.there.entry.1.ranges c.args.place ≡ Some c.range_there-ranges.result =
+    sym (c.range_there-ranges.ensures ∙ ap (λ o. slice_get (ranges_of o) c.args.place) here.there.chain) in
+    ap Some (c.new.ensures ∙ (λ i. record { tlid = tlid_is i; rtsq = c.sequence_number.ensures i; ranges = c.range_there-ranges.result }))
+    ∙ sym (here.get c.range_there-ranges.result read)

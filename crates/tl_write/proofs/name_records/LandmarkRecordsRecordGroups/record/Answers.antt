@@ -10,8 +10,8 @@ use Rattle.tl_write.proofs.EntryPlaces.{landmark_of_group}
 use Rattle.tl_write.proofs.Grouped.{group_of, some-same}
 use Rattle.tl_write.proofs.name_records.LandmarkRecordsRecordGroups.record.Goals as goal
 
-pub landmark_body-requires : goal.landmark_body-requires
-landmark_body-requires g c =
+pub landmark_body_there-requires : goal.landmark_body_there-requires
+landmark_body_there-requires g c =
     let chart = c.args.self.now.chart.now in
     let county = g.C.Chart.county chart in
     let there = landmark_of_group county (g.met.C.Chart.within_limits chart) c.args.group packed_sevens c.requires.group in
@@ -23,8 +23,8 @@ new-requires g c =
     let chart = c.args.self.now.chart.now in
     let county = g.C.Chart.county chart in
     let there = landmark_of_group county (g.met.C.Chart.within_limits chart) c.args.group packed_sevens c.requires.group in
-    let land_is : c.land.result ≡ there.entry.0 = some-same (slice_get (lands county) c.args.group) c.land.result there.entry.0
-    c.land.ensures there.land in
+    let land_is : c.land_there.result ≡ there.entry.0 = some-same (slice_get (lands county) c.args.group) c.land_there.result there.entry.0
+    c.land_there.ensures there.land in
     subst (IsNumber 10) (sym land_is) there.is_number
 
 pub returns : goal.returns
@@ -32,11 +32,11 @@ returns g c =
     let chart = c.args.self.now.chart.now in
     let county = g.C.Chart.county chart in
     let there = landmark_of_group county (g.met.C.Chart.within_limits chart) c.args.group packed_sevens c.requires.group in
-    let land_is : c.land.result ≡ there.entry.0 = some-same (slice_get (lands county) c.args.group) c.land.result there.entry.0
-    c.land.ensures there.land in
+    let land_is : c.land_there.result ≡ there.entry.0 = some-same (slice_get (lands county) c.args.group) c.land_there.result there.entry.0
+    c.land_there.ensures there.land in
     let make : Body7 → Fields7 = λ body. record { land = there.entry.0; body = body } in
-    let read : slice_get there.entry.1 c.args.place ≡ Some c.landmark_body.result =
-    sym (c.landmark_body.ensures ∙ ap (λ bodies. slice_get bodies c.args.place) there.bodies) in
-    ap Some (c.new.ensures ∙ (λ i. record { land = land_is i; body = c.landmark_body.result }))
+    let read : slice_get there.entry.1 c.args.place ≡ Some c.landmark_body_there.result =
+    sym (c.landmark_body_there.ensures ∙ ap (λ bodies. slice_get bodies c.args.place) there.bodies) in
+    ap Some (c.new.ensures ∙ (λ i. record { land = land_is i; body = c.landmark_body_there.result }))
     ∙ sym (ap (λ rs. slice_get rs c.args.place) (group_of packed_sevens county.landmarks c.args.group there.entry there.get)
     ∙ slice_get-map make there.entry.1 c.args.place ∙ ap (option_map make) read)

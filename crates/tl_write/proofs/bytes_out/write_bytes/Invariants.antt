@@ -1,5 +1,5 @@
 use Rattle.std.proofs.Common.{ℕ, List, ◌≡◌, ◌≤◌, ◌++◌, ◌-◌, length, take}
-use Rattle.tl_write.proofs.writing.write_bytes.Given as goal
+use Rattle.tl_write.proofs.bytes_out.write_bytes.Given as goal
 
 -- what went out so far is the beginning of the text, and nothing has failed
 abbrev pub invariant-loop-written : goal.invariant-loop-written

@@ -2,7 +2,7 @@ use Rattle.std.proofs.Common.{◌≡◌, ◌∙◌, ◌++◌, true, false, rules
 use Rattle.std.proofs.Math.Seq.{take-add}
 use Rattle.std.proofs.lemmas.List.{length-take}
 use Rattle.tl_write.proofs.SameGroups.{decides_no, same_whole}
-use Rattle.tl_write.proofs.comparing.are_same_groups.Goals as goal
+use Rattle.tl_write.proofs.sameness.are_same_groups.Goals as goal
 
 pub loop-first-init : goal.loop-first-init
 loop-first-init g c = record { room = refl; other = refl; within = omega arith; same = refl }

@@ -3,6 +3,7 @@
 ghost use Rattle.std.specs.Bool.{Decides};
 ghost use Rattle.std.specs.Prelude.{◌≡◌, ◌<◌, ◌≤◌, ◌+◌, length, drop, take};
 ghost use Rattle.tl_county.specs.Packing.{packed};
+ghost use Rattle.tl_number.specs.Views.{arranged_county};
 ghost use Rattle.tl_write.specs.CountyGroups.{HaveSameChains, HaveSameCounts, HaveSameEntries, HaveSameHeads, HaveSameLandmarks, HaveSameLists};
 ghost use Rattle.tl_write.specs.Groups.{AreHeads, group_at};
 
@@ -159,16 +160,18 @@ fn have_same_lists<A: Chart, B: Chart>(
     )
 }
 
-/// Whether two counties have the same records of each chain. The heads are read into rooms that are lent.
+/// Whether two counties have as many of each, and the same records of each chain. The heads are read into rooms that are lent.
 fn have_same_chains<A: Chart, B: Chart>(
     a: &A,
     b: &B,
     room: &mut HeadRoom,
     other: &mut HeadRoom,
 ) -> bool
-    ensures { Decides result (HaveSameChains (A.county a.now) (B.county b.now)) }
+    ensures { Decides result (HaveSameCounts (A.county a.now) (B.county b.now) × HaveSameChains (A.county a.now) (B.county b.now)) }
 {
-    have_same_heads(a, b, room, other) && have_same_lists(a, b, room, other)
+    have_same_counts(a, b)
+        && have_same_heads(a, b, room, other)
+        && have_same_lists(a, b, room, other)
 }
 
 /// Whether two counties have the same records of types 7 and 8.
@@ -178,7 +181,7 @@ fn have_same_landmarks<A: Chart, B: Chart>(
     room: &mut HeadRoom,
     other: &mut HeadRoom,
 ) -> bool
-    ensures { Decides result (HaveSameLandmarks (⟦<CanonCounty<A> as Chart>⟧.county a.now) (⟦<CanonCounty<B> as Chart>⟧.county b.now)) }
+    ensures { Decides result (HaveSameLandmarks (arranged_county a.now) (arranged_county b.now)) }
 {
     are_same_groups(
         &LandmarkRecords { chart: a },
@@ -201,7 +204,7 @@ fn have_same_entries<A: Chart, B: Chart>(
     room: &mut HeadRoom,
     other: &mut HeadRoom,
 ) -> bool
-    ensures { Decides result (HaveSameEntries (⟦<CanonCounty<A> as Chart>⟧.county a.now) (⟦<CanonCounty<B> as Chart>⟧.county b.now)) }
+    ensures { Decides result (HaveSameEntries (arranged_county a.now) (arranged_county b.now)) }
 {
     are_same_groups(
         &NameRecords { chart: a },
@@ -220,11 +223,9 @@ fn have_same_entries<A: Chart, B: Chart>(
 /// Whether two canonical counties have the same records, and so are one map. It stops at the first record that differs, makes
 /// no text, and takes no memory.
 pub fn same_records<A: Chart, B: Chart>(a: &CanonCounty<A>, b: &CanonCounty<B>) -> bool
-    ensures { Decides result (packed (⟦<CanonCounty<A> as Chart>⟧.county a.now) ≡ packed (⟦<CanonCounty<B> as Chart>⟧.county b.now)) }
+    ensures { Decides result (packed (arranged_county a.now) ≡ packed (arranged_county b.now)) }
 {
     let mut room = HeadRoom::new();
     let mut other = HeadRoom::new();
-    have_same_counts(a, b)
-        && have_same_chains(a, b, &mut room, &mut other)
-        && have_same_entries(a, b, &mut room, &mut other)
+    have_same_chains(a, b, &mut room, &mut other) && have_same_entries(a, b, &mut room, &mut other)
 }

@@ -1,7 +1,7 @@
 use Rattle.std.proofs.Common.{◌≡◌, ◌+◌, ◌-◌, ◌++◌, ◌∙◌, ℕ, List, arith, subst, sym, ap, take, drop, length, length-drop, append_assoc}
 use Rattle.std.proofs.Math.Seq.{take-add}
 use Rattle.std.proofs.lemmas.List.{take_rest}
-use Rattle.tl_write.proofs.writing.write_bytes.Goals as goal
+use Rattle.tl_write.proofs.bytes_out.write_bytes.Goals as goal
 
 -- the first n bytes of what is left follow the first i
 next_taken : (bytes : List ℕ) (i n : ℕ) → take i bytes ++ take n (take (length bytes - i) (drop i bytes)) ≡ take (i + n) bytes
