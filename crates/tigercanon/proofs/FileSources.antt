@@ -1,19 +1,21 @@
 -- What was read of sources over files, the files hold.
-use Rattle.std.proofs.Common.{◌≡◌, ◌⊎◌, ℕ, List, [], ◌∷◌, ◌++◌, map, Option, Some, None, inl, inr, refl, sym, ap, ◌∙◌, arith, subst}
+use Rattle.std.proofs.Common.{◌≡◌, ◌<◌, ◌⊎◌, ℕ, List, [], ◌∷◌, ◌++◌, map, Option, Some, None, inl, inr, refl, sym, ap, ◌∙◌, arith, subst}
 use Rattle.std.proofs.lemmas.List.{map-append}
 use Rattle.std.proofs.lemmas.List.Elements.{All-push}
-use Rattle.std.specs.Prelude.{All, false, IfSome}
+use Rattle.std.specs.Prelude.{All, IfSome, slice_index_or}
+use Rattle.std.below.core.specs.declared.int.u64.TheConstants.{MAX}
 use Rattle.std.specs.Io.KnownBytes.{Consumes}
 use Rattle.tl_load.specs.declared.fault.LoadFault.{LoadFault}
 use Rattle.tigercanon.specs.declared.fault.Fault.{Fault}
-use Rattle.tigercanon.specs.declared.fault.Fault.TheVariants.{Load, Link, Profile, Write, Memory}
+use Rattle.tigercanon.specs.declared.fault.Fault.TheVariants.{Load}
 use Rattle.tigercanon.specs.declared.files.Opened.{Opened}
 use Rattle.tigercanon.specs.Files.{AreHeld, AreSourcesOf, bytes_of}
-use Rattle.tigercanon.specs.Normalising.{TellsRead, is_of_sink}
-use Rattle.tigercanon.specs.Outcomes.{AreRefused, TellsSet}
+use Rattle.tigercanon.specs.Devices.{IsRefusalOfRead, set_of_sources}
 use Rattle.tigercanon.specs.Reading.{AreRead, AreReadUpTo, IsFaultOfRead}
 use Rattle.tigercanon.specs.Respelling.{record_limit, IsFirstFault}
+use Rattle.tigercanon.specs.Running.{AreRefused, set_of_files}
 use Rattle.tigercanon.proofs.FileParts.{taken_all}
+use Rattle.tigercanon.proofs.GivenSets.{IsKnownOf}
 use Rattle.tl_load.proofs.CutParts.{empty_fault}
 use Rattle.tl_load.specs.Choice.{tiger}
 
@@ -28,6 +30,11 @@ all_more P xs zs x e all one = subst (All P) (sym e) (All-push P xs x all one)
 
 pub all_none : {X : Type 0} (P : X → Type 0) (xs : List X) → xs ≡ [] → All P xs
 all_none P xs e = subst (All P) (sym e) (λ k d l. absurd (omega (arith, l)))
+
+-- sources that have not failed may be read
+pub below_most : {S : Type 0} (failed : S → ℕ) (xs ys : List S) → ys ≡ xs → All (λ s. failed s ≡ 0) xs → All (λ s. failed s < MAX) ys
+below_most failed xs ys e all =
+    subst (All (λ s. failed s < MAX)) (sym e) (λ k d l. let z : failed (slice_index_or xs k d) ≡ 0 = all k d l in omega arith)
 
 first_same : (n m : Option (List ℕ)) (ns ms : List (Option (List ℕ))) → n ∷ ns ≡ m ∷ ms → n ≡ m
 first_same n m ns ms e = cc
@@ -118,11 +125,19 @@ module _ {S R : Type 0} (left : S → Option (List ℕ)) (given : S → ℕ) (re
               (subst (λ (bytes : List ℕ). IsFirstFault (h.0 ++ (bytes ++ []) ∷ []) fault) k.0 (h.3 [] []));
         }
 
-    pub tells_files : (fault : Fault) → is_of_sink fault ≡ false → TellsRead left given before after fault → TellsSet remaining files fault
-    tells_files (Load fault) e t = λ lines. read_refused fault (t lines)
-    tells_files (Link fault) e t = λ ne.
-        let r = t ne in record { parts = r.parts; held = read_held files before after r.parts sources r.read; refused = r.refused }
-    tells_files (Profile fault) e t = λ ne.
-        let r = t ne in record { parts = r.parts; held = read_held files before after r.parts sources r.read; refused = r.refused }
-    tells_files (Write fault) e t = absurd cc
-    tells_files Memory e t = tt
+    refused_files : (fault : Fault) → IsRefusalOfRead left given before after fault → AreRefused remaining files fault
+    refused_files fault (inl r) = record {
+      parts = r.parts;
+      held = read_held files before after r.parts sources r.read;
+      refused = r.refused;
+    }
+    refused_files fault (inr h) = subst (AreRefused remaining files) (sym h.1) (read_refused h.0 h.2)
+
+    -- what is known of the sources is known of the files
+    pub known_of_files : (failed reads : S → ℕ)
+        → IsKnownOf (set_of_sources left given failed reads before after) (set_of_files remaining files)
+    known_of_files failed reads = record {
+      holds = λ parts r. read_held files before after parts sources r;
+      refused = refused_files;
+      unread = λ _. tt;
+    }

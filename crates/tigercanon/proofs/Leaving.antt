@@ -1,43 +1,20 @@
--- What a job leaves where it told a fault, and what a lent writer holds in the end.
-use Rattle.std.proofs.Common.{◌≡◌, ℕ, List, ◌∷◌, ◌++◌, Option, Some, None, Result, Ok, Err, length, take, append-nil, refl, sym, subst}
+-- What a lent writer holds in the end.
+use Rattle.std.proofs.Common.{◌≡◌, ◌⊎◌, ◌+◌, ◌∙◌, inl, inr, ℕ, List, ◌∷◌, ◌++◌, Option, Some, None, Result, Ok, Err, length, take}
+use Rattle.std.proofs.Common.{refl, sym, ap, subst}
 use Rattle.std.proofs.Math.Seq.{take-length}
-use Rattle.std.specs.Prelude.{false, IfErr, OnOk}
+use Rattle.std.specs.Prelude.{IfErr, OnOk}
 use Rattle.std.specs.Io.KnownBytes.{Appends, Keeps}
-use Rattle.tigercanon.specs.declared.command_line.Job.{Job}
-use Rattle.tigercanon.specs.declared.fault.Fault.{Fault}
-use Rattle.tigercanon.specs.declared.fault.Fault.TheVariants.{Load, Link, Profile, Write, Memory}
-use Rattle.tigercanon.specs.declared.files.Opened.{Opened}
+use Rattle.tigercanon.specs.Devices.{to_sink}
 use Rattle.tigercanon.specs.Lending.{HoldsUnderName}
-use Rattle.tigercanon.specs.Normalising.{is_of_sink}
-use Rattle.tigercanon.specs.Outcomes.{Leaves, Tells, TellsLine, TellsLines, TellsSet}
+use Rattle.tigercanon.specs.Normalising.{StopsShort, Took}
+use Rattle.tigercanon.specs.Outcomes.{TellsLine, TellsLineTo}
+use Rattle.tigercanon.specs.Running.{to_writer}
+use Rattle.tigercanon.proofs.GivenSets.{IsPrintedTo}
 use Rattle.tl_write.specs.declared.fault.WriteFault.{WriteFault}
 
 pub kept : (known : Option (List ℕ)) → Keeps known known
 kept None = tt
 kept (Some bytes) = refl
-
-module _ {R : Type 0} (remaining : R → Option (List ℕ)) (files : List (Opened R)) where
-  pub leaves : (job : Job) (old new : Option (List ℕ)) (fault : Fault) → is_of_sink fault ≡ false → Keeps old new
-      → Tells job remaining files fault → Leaves job remaining files old new fault
-  leaves job old new (Load f) e k t = (k, t)
-  leaves job old new (Link f) e k t = (k, t)
-  leaves job old new (Profile f) e k t = (k, t)
-  leaves job old new (Write f) e k t = absurd cc
-  leaves job old new Memory e k t = (k, t)
-
-  pub lines_not_of_sink : (fault : Fault) → TellsLines remaining files fault → is_of_sink fault ≡ false
-  lines_not_of_sink (Load f) t = refl
-  lines_not_of_sink (Link f) t = refl
-  lines_not_of_sink (Profile f) t = refl
-  lines_not_of_sink (Write f) t = absurd t
-  lines_not_of_sink Memory t = refl
-
-  pub set_not_of_sink : (fault : Fault) → TellsSet remaining files fault → is_of_sink fault ≡ false
-  set_not_of_sink (Load f) t = refl
-  set_not_of_sink (Link f) t = refl
-  set_not_of_sink (Profile f) t = refl
-  set_not_of_sink (Write f) t = absurd t
-  set_not_of_sink Memory t = refl
 
 -- a writer that was lent to a sink got what the sink took
 module _ (name later : ℕ) (old new : Option (List ℕ)) (bytes : List ℕ)
@@ -76,13 +53,38 @@ lent_out contents start first last final name later bytes is took ends =
         (ends (lent_same name later (contents first) (contents last) bytes took xs e))
         (lent_appends name later (contents first) (contents last) bytes took)
 
--- a writer that was given a line has it, or a beginning of it
-pub line_told : (old new : Option (List ℕ)) (line : List ℕ) (outcome : Result (Unit {0}) WriteFault) → OnOk outcome (Appends old new line)
-    → IfErr outcome (λ fault. Appends old new (take fault.written line)) → TellsLine line old new
-line_told old new line (Ok done) whole stopped = (length line, subst (Appends old new) (sym (take-length line)) whole)
-line_told old new line (Err fault) whole stopped = (fault.written, stopped)
+-- what is known of the sink is known of the writer that was lent to it
+module _ {W X : Type 0} (contents : W → Option (List ℕ)) (failed name : X → ℕ) (writer : X → W) (start final : W) (first last : X)
+    (lent : writer first ≡ start) (ends : name last ≡ name first → writer last ≡ final) where
+  pub printed_to_writer : IsPrintedTo (to_sink failed (λ s. HoldsUnderName (name s) (contents (writer s))) first last)
+      (to_writer (contents start) (contents final))
+  printed_to_writer = record {
+    got = λ bytes took. lent_out contents start (writer first) (writer last) final (name first) (name last) bytes lent took ends;
+    kept = λ same. subst (λ w. Keeps (contents start) (contents w)) (sym lent ∙ sym (ap writer same) ∙ ends (ap name same))
+        (kept (contents start));
+    failed = λ rose. tt;
+  }
 
--- and it has none of it where it is as it was
-pub none_told : (known : Option (List ℕ)) (line : List ℕ) → TellsLine line known known
-none_told None line = (0, tt)
-none_told (Some bytes) line = (0, sym (append-nil bytes))
+-- a sink that was given a line has it, or it failed and has a beginning of it
+pub line_told : {E : Type 0} (failed : E → ℕ) (holds : E → List ℕ → Type 0) (old new : E) (line : List ℕ)
+    (outcome : Result (Unit {0}) WriteFault)
+    → OnOk outcome (Took holds old new line) → OnOk outcome (failed new ≡ failed old)
+    → IfErr outcome (λ f. StopsShort holds old new line f.written) → IfErr outcome (λ f. failed new ≡ failed old + 1)
+    → TellsLineTo failed holds old new line
+line_told failed holds old new line (Ok done) whole none stopped rose = inl (none, whole)
+line_told failed holds old new line (Err f) whole none stopped rose = inr (rose, f.written, stopped.1)
+
+-- and so has the writer that was lent to the sink
+pub line_by : {W : Type 0} (contents : W → Option (List ℕ)) (start first last final : W) (name later : ℕ) → first ≡ start
+    → (later ≡ name → last ≡ final) → (was count : ℕ) (line : List ℕ)
+    → ((count ≡ was) × ((held : List ℕ) → HoldsUnderName name (contents first) held → HoldsUnderName later (contents last) (held ++ line)))
+    ⊎ ((count ≡ was + 1) × (written : ℕ)
+    × ((held : List ℕ) → HoldsUnderName name (contents first) held → HoldsUnderName later (contents last) (held ++ take written line)))
+    → TellsLine (contents start) (contents final) line
+line_by contents start first last final name later is ends was count line (inl h) = (
+  length line,
+  subst (Appends (contents start) (contents final)) (sym (take-length line))
+      (lent_out contents start first last final name later line is h.1 ends),
+)
+line_by contents start first last final name later is ends was count line (inr h) =
+    (h.1, lent_out contents start first last final name later (take h.1 line) is h.2 ends)

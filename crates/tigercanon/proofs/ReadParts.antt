@@ -5,7 +5,7 @@ use Rattle.std.proofs.Math.ListN.{set}
 use Rattle.std.proofs.Math.Seq.{map-set_same}
 use Rattle.std.specs.Io.KnownBytes.{Consumes, IsAtEnd}
 use Rattle.tl_load.specs.Sources.{Gave}
-use Rattle.tigercanon.specs.Reading.{AreRead, AreReadUpTo, NoneFailed, OneFailed}
+use Rattle.tigercanon.specs.Reading.{AreRead, AreReadUpTo, IsUnread, NoneFailed, OneFailed, SomeUnread}
 
 module _ {R : Type 0} (remaining : R → Option (List ℕ)) (given : R → ℕ) where
   -- the first sources were read to their ends and gave these parts, and the others are as they were
@@ -119,3 +119,12 @@ module _ {R : Type 0} (failed : R → ℕ) where
       (rose ∙ ap (λ (k : ℕ). k + 1) (head_of _ _ _ _ none), tail_of _ _ _ _ none)
   one_failed (b ∷ bs) (n ∷ ns) (suc i) d x none l rose = inr
       (head_of _ _ _ _ none, one_failed bs ns i d x (tail_of _ _ _ _ none) (omega arith) rose)
+
+  -- a source that couldn't be read
+  pub unread_at : (reads : R → ℕ) (bs ns : List R) (i : ℕ) (d x : R) → NoneFailed failed bs ns → i < length bs
+      → IsUnread failed reads (get_or bs i d) x → SomeUnread failed reads bs (set ns i x)
+  unread_at reads [] ns i d x none l unread = absurd (omega arith)
+  unread_at reads (b ∷ bs) [] i d x none l unread = absurd cc
+  unread_at reads (b ∷ bs) (n ∷ ns) zero d x none l unread = inl unread
+  unread_at reads (b ∷ bs) (n ∷ ns) (suc i) d x none l unread =
+      inr (unread_at reads bs ns i d x (tail_of _ _ _ _ none) (omega arith) unread)

@@ -5,6 +5,7 @@ use Rattle.tl_load.specs.Choice.{tiger}
 use Rattle.tl_layout.specs.Tables.{HoldsByType}
 use Rattle.tl_layout.specs.declared.tables.Tables.{Tables}
 use Rattle.tl_load.specs.Outcome.{SpellsWithin}
+use Rattle.tl_load.specs.declared.fault.LoadFault.TheVariants.{Device}
 use Rattle.tl_load.proofs.RecordLines.{spelled_fit, accepted_within}
 use Rattle.tl_county.specs.County.{county_of}
 use Rattle.tl_county.specs.Limits.{HoldsWithinLimits}
@@ -13,7 +14,7 @@ use Rattle.tl_county.specs.declared.fault.LinkFault.{LinkFault}
 use Rattle.tl_county.specs.declared.fault.LinkFault.TheVariants.{ChainTwice, NoChain, SequenceBroken, LinkMissing, LinkTwice}
 use Rattle.tl_county.specs.declared.fault.LinkFault.TheVariants.{NameTwice, NameUnknown, PolygonTwice, LandUnknown, PolygonUnknown}
 use Rattle.tl_county.specs.declared.fault.LinkFault.TheVariants.{Memory as LinkMemory}
-use Rattle.tl_county.proofs.LinkFaults.{linked_has_none}
+use Rattle.tl_county.proofs.Rules.LinkFaults.{linked_has_none}
 use Rattle.tl_profile.specs.Profile.{IsFirstBrokenClause}
 use Rattle.tl_profile.specs.declared.fault.ProfileFault.{ProfileFault}
 use Rattle.tl_profile.specs.declared.fault.ProfileFault.TheVariants.{OwnReverse, SameShape, PolygonWithoutChain}
@@ -21,14 +22,12 @@ use Rattle.tl_profile.specs.declared.fault.ProfileFault.TheVariants.{Memory as P
 use Rattle.tl_profile.proofs.ProfileFaults.{profile_has_none}
 use Rattle.tigercanon.specs.declared.fault.Fault.{Fault}
 use Rattle.tigercanon.specs.declared.fault.Fault.TheVariants.{Load, Link, Profile, Write, Memory}
-use Rattle.tigercanon.specs.declared.files.Opened.{Opened}
 use Rattle.tigercanon.specs.Faults.{IsWantOfMemory, RefusesRecords, TellsRefusal}
-use Rattle.tigercanon.specs.Files.{AreHeld}
 use Rattle.tigercanon.specs.Normalising.{TellsRead}
-use Rattle.tigercanon.specs.Outcomes.{TellsSet}
+use Rattle.tigercanon.specs.Outcomes.{GivenSet, TellsSet}
 use Rattle.tigercanon.specs.Reading.{AreRead}
 use Rattle.tigercanon.specs.Respelling.{record_limit}
-use Rattle.tigercanon.specs.Sets.{IsAcceptedSet}
+use Rattle.tigercanon.specs.Sets.{IsAcceptedSet, IsSetRefusal}
 use Rattle.tigercanon.proofs.Sets.{one_list}
 
 -- a fault of linking, or of admission, is want of memory or not
@@ -81,16 +80,19 @@ set_refused parts records spelled (Profile f) h = λ ne. (records, spelled, (h n
 set_refused parts records spelled (Write f) h = absurd h
 set_refused parts records spelled Memory h = tt
 
--- what the records of files are refused for, the files are refused for
-module _ {R : Type 0} (remaining : R → Option (List ℕ)) (files : List (Opened R)) (parts : List (List ℕ))
-    (held : AreHeld remaining files parts)
+-- and no device is at fault
+pub no_device_refused : (records : List Record) (f : Fault) → RefusesRecords records f → f ≢ Load Device
+no_device_refused records f h e = subst (RefusesRecords records) e h
+
+-- what the records that a set holds are refused for may be told of it
+module _ (set : GivenSet) (parts : List (List ℕ)) (refuse : (fault : Fault) → IsSetRefusal parts fault → set.refused fault)
     (records : List Record) (spelled : SpellsWithin tiger record_limit parts records) where
-  pub files_refused : (f : Fault) → RefusesRecords records f → TellsSet remaining files f
-  files_refused (Load f) h = absurd h
-  files_refused (Link f) h = λ ne. record { parts = parts; held = held; refused = (records, spelled, h ne) }
-  files_refused (Profile f) h = λ ne. record { parts = parts; held = held; refused = (records, spelled, (h ne).0, (h ne).1) }
-  files_refused (Write f) h = absurd h
-  files_refused Memory h = tt
+  pub given_refused : (f : Fault) → RefusesRecords records f → TellsSet set f
+  given_refused (Load f) h = absurd h
+  given_refused (Link f) h = λ ne. refuse (Link f) (records, spelled, h ne)
+  given_refused (Profile f) h = λ ne. refuse (Profile f) (records, spelled, (h ne).0, (h ne).1)
+  given_refused (Write f) h = absurd h
+  given_refused Memory h = tt
 
 -- what the records of parts that were read are refused for, is told of what was read
 module _ {R : Type 0} (remaining : R → Option (List ℕ)) (given : R → ℕ) (before after : List R) (parts : List (List ℕ))

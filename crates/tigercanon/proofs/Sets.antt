@@ -12,23 +12,24 @@ use Rattle.tl_load.specs.declared.fault.LoadFault.{LoadFault}
 use Rattle.tl_load.proofs.RecordLines.{tiger_is_sound, spelled_fit, accepted_within}
 use Rattle.tl_load.proofs.Reading.{one_verdict}
 use Rattle.tl_load.proofs.TextLemmas.{text_spells, text_spells_only}
-use Rattle.tl_county.specs.County.{county_of}
+use Rattle.tl_county.specs.County.{County, county_of}
 use Rattle.tl_county.specs.Renumbering.{AreSame}
 use Rattle.tl_number.specs.Accepted.{IsAccepted, RecordsRefusal, Unlinked, OutOfProfile, IsRefusal}
-use Rattle.tigercanon.specs.Normalising.{IsOnlyText}
+use Rattle.tl_number.specs.Sights.{IsSight, plain}
+use Rattle.tigercanon.specs.Normalising.{IsOnlyText, IsOnlyTextThrough}
 use Rattle.tigercanon.specs.Respelling.{record_limit}
-use Rattle.tigercanon.specs.Sets.{IsAcceptedSet, IsSetRefusal, IsCanonicalText}
+use Rattle.tigercanon.specs.Sets.{IsAcceptedSet, IsSetRefusal, IsCanonicalText, IsCanonicalTextThrough}
 use Rattle.tigercanon.specs.declared.fault.Fault.{Fault}
 use Rattle.tigercanon.specs.declared.fault.Fault.TheVariants.{Load, Link, Profile, Write, Memory}
 use Rattle.tl_county.specs.LinkRules.{IsLinked, IsFirstBrokenRule}
-use Rattle.tl_county.proofs.LinkFaults.{linked_has_none, one_first_rule}
+use Rattle.tl_county.proofs.Rules.LinkFaults.{linked_has_none, one_first_rule}
 use Rattle.tl_profile.specs.Profile.{IsFirstBrokenClause}
 use Rattle.tl_profile.proofs.ProfileFaults.{profile_has_none, one_first_clause}
-use Rattle.tl_number.proofs.Accepted.{accepted_or_refused, same_one_canonical}
-use Rattle.tl_number.proofs.Accepted.{one_canonical_same, canonical_of_itself}
+use Rattle.tl_number.proofs.Accepted.{accepted_or_refused, same_one_canonical, one_canonical_same}
+use Rattle.tl_number.proofs.Accepted.{canonical_accepted, canonical_as_it_is, canonical_of_itself}
 use Rattle.tl_number.proofs.Ascending.{canonical_list, canonical_exists}
 use Rattle.tl_number.proofs.ArrangedNumbers.{canonical_within}
-use Rattle.tl_county.proofs.Sameness.{same-reflexive}
+use Rattle.tl_county.proofs.Sameness.Equivalence.{same-reflexive}
 
 pub set_accepted_or_refused : (parts : List (List ℕ))
     → ((records : List Record) × IsAcceptedSet parts records) ⊎ ((refusal : Fault) × IsSetRefusal parts refusal)
@@ -105,77 +106,98 @@ one_set_refusal parts (Load f) Memory h k = absurd k
 one_set_refusal parts (Link f) Memory h k = absurd k
 one_set_refusal parts (Profile f) Memory h k = absurd k
 
--- what is printed of a canonical list fits, and keeps the limit
-fitting : (parts : List (List ℕ)) (text : List ℕ) (h : IsCanonicalText parts text)
-    → All FitsRecord h.canonical × IsWithinLimit record_limit h.canonical
-fitting parts text h =
-    let read : AllByRecursion FitsRecord h.records =
-    recursion_from_All FitsRecord h.records (spelled_fit parts h.records h.spelled.spells) in
-    let kept = canonical_within record_limit (lit≤ tt) h.records h.canonical_of.accepted read
-    (accepted_within record_limit parts h.records h.spelled) h.canonical h.canonical_of in
-    (All-from_recursion FitsRecord h.canonical kept.0, kept.1)
+-- canonical texts through a sight
+module _ (seen : County → County) (sight : IsSight seen) where
+  -- what is printed of a canonical list fits, and keeps the limit
+  fitting : (parts : List (List ℕ)) (text : List ℕ) (h : IsCanonicalTextThrough seen parts text)
+      → All FitsRecord h.canonical × IsWithinLimit record_limit h.canonical
+  fitting parts text h =
+      let read : AllByRecursion FitsRecord h.records =
+      recursion_from_All FitsRecord h.records (spelled_fit parts h.records h.spelled.spells) in
+      let kept = canonical_within seen sight h.records h.canonical_of.accepted h.canonical h.canonical_of read record_limit (lit≤ tt)
+      (accepted_within record_limit parts h.records h.spelled) in
+      (All-from_recursion FitsRecord h.canonical kept.0, kept.1)
 
-module _ (p q : List (List ℕ)) (t u : List ℕ) (h : IsCanonicalText p t) (k : IsCanonicalText q u) where
-  pub same_one_text : AreSame (county_of h.records) (county_of k.records) → t ≡ u
-  same_one_text s = sym h.text_is
-      ∙ ap text_of (same_one_canonical h.records k.records h.canonical k.canonical h.canonical_of k.canonical_of s) ∙ k.text_is
+  module _ (p q : List (List ℕ)) (t u : List ℕ) (h : IsCanonicalTextThrough seen p t) (k : IsCanonicalTextThrough seen q u) where
+    pub same_one_text : AreSame (seen (county_of h.records)) (seen (county_of k.records)) → t ≡ u
+    same_one_text s = sym h.text_is
+        ∙ ap text_of (same_one_canonical seen sight h.records k.records h.canonical k.canonical h.canonical_of k.canonical_of s)
+        ∙ k.text_is
 
-  pub one_text_same : t ≡ u → AreSame (county_of h.records) (county_of k.records)
-  one_text_same e =
-      let texts : text_of k.canonical ≡ text_of h.canonical = k.text_is ∙ sym e ∙ sym h.text_is in
-      let spelled : Spells tiger (text_of h.canonical ∷ []) k.canonical =
-      subst (λ bytes. Spells tiger (bytes ∷ []) k.canonical) texts (text_spells k.canonical (fitting q u k).0) in
-      let lists : k.canonical ≡ h.canonical = text_spells_only h.canonical k.canonical (fitting p t h).0 spelled in
-      one_canonical_same h.records k.records h.canonical k.canonical h.canonical_of k.canonical_of (sym lists)
+    pub one_text_same : t ≡ u → AreSame (seen (county_of h.records)) (seen (county_of k.records))
+    one_text_same e =
+        let texts : text_of k.canonical ≡ text_of h.canonical = k.text_is ∙ sym e ∙ sym h.text_is in
+        let spelled : Spells tiger (text_of h.canonical ∷ []) k.canonical =
+        subst (λ bytes. Spells tiger (bytes ∷ []) k.canonical) texts (text_spells k.canonical (fitting q u k).0) in
+        let lists : k.canonical ≡ h.canonical = text_spells_only h.canonical k.canonical (fitting p t h).0 spelled in
+        one_canonical_same seen sight h.records k.records h.canonical k.canonical h.canonical_of k.canonical_of (sym lists)
 
--- an accepted set has one canonical text
-pub canonical_text : (parts : List (List ℕ)) (records : List Record) → IsAcceptedSet parts records
-    → (text : List ℕ) × IsCanonicalText parts text
-canonical_text parts records a = (
-  text_of (canonical_list records),
-  record {
-    records = records;
-    canonical = canonical_list records;
-    spelled = a.spelled;
-    canonical_of = canonical_exists records a.accepted;
-    text_is = refl;
-  },
-)
-
-pub one_text : (parts : List (List ℕ)) (t u : List ℕ) → IsCanonicalText parts t → IsCanonicalText parts u → t ≡ u
-one_text parts t u h k =
-    same_one_text parts parts t u h k
-    (subst (λ (rs : List Record). AreSame (county_of h.records) (county_of rs)) (one_list parts h.records k.records h.spelled k.spelled)
-    (same-reflexive (county_of h.records)))
-
--- as one part it is accepted, of the same map, and its own canonical text
-module _ (parts : List (List ℕ)) (text : List ℕ) (h : IsCanonicalText parts text) where
-  pub text_accepted : IsAcceptedSet (text ∷ []) h.canonical
-  unfolding tiger
-  text_accepted = record {
-    spelled = record {
-      spells = subst (λ bytes. Spells tiger (bytes ∷ []) h.canonical) h.text_is (text_spells h.canonical (fitting parts text h).0);
-      within = (fitting parts text h).1;
-    };
-    accepted = (canonical_of_itself h.records h.canonical h.canonical_of).accepted;
-  }
-
-  pub text_itself : IsCanonicalText (text ∷ []) text
-  text_itself = record {
-    records = h.canonical;
-    canonical = h.canonical;
-    spelled = text_accepted.spelled;
-    canonical_of = canonical_of_itself h.records h.canonical h.canonical_of;
-    text_is = h.text_is;
-  }
-
--- no canonical list of the same map has another text
-pub only_text : (parts : List (List ℕ)) (text : List ℕ) → IsCanonicalText parts text → IsOnlyText parts text
-only_text parts text h records canonical accepted is same = one_text parts (text_of canonical) text
-    (record {
+  -- an accepted set has one canonical text
+  pub canonical_text : (parts : List (List ℕ)) (records : List Record) → IsAcceptedSet parts records
+      → (text : List ℕ) × IsCanonicalTextThrough seen parts text
+  canonical_text parts records a = (
+    text_of (canonical_list (seen (county_of records))),
+    record {
       records = records;
-      canonical = canonical;
-      spelled = accepted.spelled;
-      canonical_of = record { accepted = accepted.accepted; canonical = is; same = same };
+      canonical = canonical_list (seen (county_of records));
+      spelled = a.spelled;
+      canonical_of = canonical_exists seen sight records a.accepted;
       text_is = refl;
-    }) h
+    },
+  )
+
+  pub one_text : (parts : List (List ℕ)) (t u : List ℕ) → IsCanonicalTextThrough seen parts t → IsCanonicalTextThrough seen parts u
+      → t ≡ u
+  one_text parts t u h k =
+      same_one_text parts parts t u h k
+      (subst (λ (rs : List Record). AreSame (seen (county_of h.records)) (seen (county_of rs)))
+      (one_list parts h.records k.records h.spelled k.spelled) (same-reflexive (seen (county_of h.records))))
+
+  -- as one part it is accepted, of the same map, and its own canonical text, through the sight and as it is
+  module _ (parts : List (List ℕ)) (text : List ℕ) (h : IsCanonicalTextThrough seen parts text) where
+    pub text_accepted : IsAcceptedSet (text ∷ []) h.canonical
+    unfolding tiger
+    text_accepted = record {
+      spelled = record {
+        spells = subst (λ bytes. Spells tiger (bytes ∷ []) h.canonical) h.text_is (text_spells h.canonical (fitting parts text h).0);
+        within = (fitting parts text h).1;
+      };
+      accepted = canonical_accepted seen sight h.records h.canonical h.canonical_of;
+    }
+
+    pub text_itself : IsCanonicalTextThrough seen (text ∷ []) text
+    text_itself = record {
+      records = h.canonical;
+      canonical = h.canonical;
+      spelled = text_accepted.spelled;
+      canonical_of = canonical_of_itself seen sight h.records h.canonical h.canonical_of;
+      text_is = h.text_is;
+    }
+
+    pub text_as_it_is : IsCanonicalText (text ∷ []) text
+    text_as_it_is = record {
+      records = h.canonical;
+      canonical = h.canonical;
+      spelled = text_accepted.spelled;
+      canonical_of = canonical_as_it_is seen sight h.records h.canonical h.canonical_of;
+      text_is = h.text_is;
+    }
+
+  -- no canonical list of the same map has another text
+  pub only_text : (parts : List (List ℕ)) (text : List ℕ) → IsCanonicalTextThrough seen parts text → IsOnlyTextThrough seen parts text
+  only_text parts text h records canonical accepted is own same = one_text parts (text_of canonical) text
+      (record {
+        records = records;
+        canonical = canonical;
+        spelled = accepted.spelled;
+        canonical_of = record { accepted = accepted.accepted; canonical = is; own = own; same = same };
+        text_is = refl;
+      }) h
+
+-- of a county as it is all is seen
+module _ (parts : List (List ℕ)) (text : List ℕ) where
+  pub only_as_it_is : IsOnlyTextThrough plain parts text → IsOnlyText parts text
+  only_as_it_is only = λ records canonical accepted is same. only records canonical accepted is refl same
+
+  pub only_through_plain : IsOnlyText parts text → IsOnlyTextThrough plain parts text
+  only_through_plain only = λ records canonical accepted is own same. only records canonical accepted is same

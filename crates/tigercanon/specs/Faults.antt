@@ -30,6 +30,10 @@ TellsRefusal parts (Profile fault) = fault ≢ ProfileMemory → IsSetRefusal pa
 TellsRefusal parts (Write _) = ⊥
 TellsRefusal parts Memory = Unit {0}
 
+-- the same of parts that have been read: a device has no fault any more
+abbrev pub TellsRefusalOfRead : List (List ℕ) → Fault → Type 0
+TellsRefusalOfRead parts fault = TellsRefusal parts fault × (fault ≢ Load Device)
+
 -- but for want of memory, it is what these records are refused for; of lines nothing is told
 abbrev pub RefusesRecords : List Record → Fault → Type 0
 RefusesRecords records (Load _) = ⊥

@@ -2,18 +2,29 @@
 use Rattle.std.specs.Prelude.{ℕ, ◌≡◌, ◌++◌, ◌∷◌, [], List}
 use Rattle.hex.specs.Hex.{encode_lower}
 use Rattle.sha2.specs.Sha256.{sha256}
-use Rattle.tigercanon.specs.Normalising.{IsOnlyText}
-use Rattle.tigercanon.specs.Sets.{IsCanonicalText}
+use Rattle.tl_county.specs.County.{County}
+use Rattle.tl_number.specs.Sights.{plain}
+use Rattle.tigercanon.specs.Normalising.{IsOnlyTextThrough}
+use Rattle.tigercanon.specs.Sets.{IsCanonicalTextThrough}
 
--- these bytes are the hash of the canonical text of the parts, and no other text is canonical for their map
-pub record IsFingerprint (parts : List (List ℕ)) (bytes : List ℕ) : Type 0 where
+-- these bytes are the hash of the canonical text of the parts through this sight, and no other text is canonical for what is seen
+-- of their map
+pub record IsFingerprintThrough (seen : County → County) (parts : List (List ℕ)) (bytes : List ℕ) : Type 0 where
   pub text : List ℕ
-  pub canonical : IsCanonicalText parts text
-  pub only : IsOnlyText parts text
+  pub canonical : IsCanonicalTextThrough seen parts text
+  pub only : IsOnlyTextThrough seen parts text
   pub bytes_are : bytes ≡ sha256 text
 
--- the text is the line that has the fingerprint of the parts, in lower-case hexadecimal digits
-pub record SaysFingerprint (parts : List (List ℕ)) (text : List ℕ) : Type 0 where
+-- these bytes are the hash of the canonical text of the parts, and no other text is canonical for their map
+abbrev pub IsFingerprint : List (List ℕ) → List ℕ → Type 0
+IsFingerprint = IsFingerprintThrough plain
+
+-- the text is the line that has the fingerprint of the parts through this sight, in lower-case hexadecimal digits
+pub record SaysFingerprintThrough (seen : County → County) (parts : List (List ℕ)) (text : List ℕ) : Type 0 where
   pub bytes : List ℕ
-  pub fingerprint : IsFingerprint parts bytes
+  pub fingerprint : IsFingerprintThrough seen parts bytes
   pub text_is : text ≡ encode_lower bytes ++ 10 ∷ []
+
+-- the text is the line that has the fingerprint of the parts, in lower-case hexadecimal digits
+abbrev pub SaysFingerprint : List (List ℕ) → List ℕ → Type 0
+SaysFingerprint = SaysFingerprintThrough plain

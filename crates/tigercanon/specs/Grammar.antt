@@ -18,6 +18,16 @@ over_one_set name = with_rule (with_rule (new_app name) stem_flag) (set_argument
 abbrev pub over_two_sets : Text → App
 over_two_sets name = with_rule (over_one_set name) (set_argument (codes "SECOND"))
 
+-- the flags by which fields are left out, for the subcommands that tell or compare maps
+abbrev pub sources_flag : Rule
+sources_flag = record (new_rule (codes "no-sources")) { long = Some (codes "no-sources"); action = Some SetTrue }
+
+abbrev pub reserved_flag : Rule
+reserved_flag = record (new_rule (codes "no-reserved")) { long = Some (codes "no-reserved"); action = Some SetTrue }
+
+abbrev pub with_mask : App → App
+with_mask app = with_rule (with_rule app sources_flag) reserved_flag
+
 -- the program: its words begin with a subcommand, which has to be there
 abbrev pub program_alone : App
 program_alone = record {
@@ -28,5 +38,5 @@ program_alone = record {
 abbrev pub understood : App
 understood =
     with_subcommand (with_subcommand (with_subcommand (with_subcommand (with_subcommand program_alone
-    (over_one_set (codes "respell")).top) (over_one_set (codes "normalise")).top) (over_one_set (codes "check")).top)
-    (over_one_set (codes "fingerprint")).top) (over_two_sets (codes "compare")).top
+    (over_one_set (codes "respell")).top) (with_mask (over_one_set (codes "normalise"))).top) (over_one_set (codes "check")).top)
+    (with_mask (over_one_set (codes "fingerprint"))).top) (with_mask (over_two_sets (codes "compare"))).top

@@ -2,6 +2,7 @@ pub mod Files
 pub mod Respelling
 pub mod Sets
 pub mod Faults
+pub mod LentParts
 pub mod Linked
 pub mod Statuses
 pub mod Refusals
@@ -14,4 +15,7 @@ pub mod Comparing
 pub mod Fingerprints
 pub mod Grammar
 pub mod Names
+pub mod Stopping
 pub mod TwoSets
+pub mod Devices
+pub mod Running

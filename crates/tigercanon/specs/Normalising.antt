@@ -3,13 +3,14 @@ use Rattle.std.specs.Prelude.{◌≡◌, ◌≢◌, ℕ, ◌<◌, Bool, true, fa
 use Rattle.tl_layout.specs.RecordText.{text_of}
 use Rattle.tl_layout.specs.declared.record_type.Record.{Record}
 use Rattle.tl_load.specs.Loaded.{IsOfLines}
-use Rattle.tl_county.specs.County.{county_of}
+use Rattle.tl_county.specs.County.{County, county_of}
 use Rattle.tl_county.specs.Renumbering.{AreSame}
 use Rattle.tl_county.specs.declared.fault.LinkFault.TheVariants.{Memory as LinkMemory}
 use Rattle.tl_number.specs.Canonical.{IsCanonical}
+use Rattle.tl_number.specs.Sights.{plain}
 use Rattle.tl_profile.specs.declared.fault.ProfileFault.TheVariants.{Memory as ProfileMemory}
 use Rattle.tigercanon.specs.Reading.{AreRead, IsFaultOfRead}
-use Rattle.tigercanon.specs.Sets.{IsAcceptedSet, IsCanonicalText, IsSetRefusal}
+use Rattle.tigercanon.specs.Sets.{IsAcceptedSet, IsCanonicalTextThrough, IsSetRefusal}
 use Rattle.tigercanon.specs.declared.fault.Fault.{Fault}
 use Rattle.tigercanon.specs.declared.fault.Fault.TheVariants.{Load, Link, Profile, Write, Memory}
 
@@ -18,13 +19,24 @@ abbrev pub IsOnlyText : List (List ℕ) → List ℕ → Type 0
 IsOnlyText parts text = (records canonical : List Record) → IsAcceptedSet parts records → IsCanonical canonical
     → AreSame (county_of records) (county_of canonical) → text_of canonical ≡ text
 
--- the sources were read to their ends, and this is the canonical text of the parts that they gave, and no other is
-pub record AreNormalised {R : Type 0} (remaining : R → Option (List ℕ)) (given : R → ℕ) (before after : List R) (text : List ℕ)
-    : Type 0 where
+-- each canonical list of which all is seen, and whose county is the same as what is seen of that of the accepted parts, has this text
+abbrev pub IsOnlyTextThrough : (County → County) → List (List ℕ) → List ℕ → Type 0
+IsOnlyTextThrough seen parts text = (records canonical : List Record) → IsAcceptedSet parts records → IsCanonical canonical
+    → seen (county_of canonical) ≡ county_of canonical → AreSame (seen (county_of records)) (county_of canonical)
+    → text_of canonical ≡ text
+
+-- the sources were read to their ends, and this is the canonical text, through this sight, of the parts that they gave, and no
+-- other is
+pub record AreNormalisedThrough {R : Type 0} (seen : County → County) (remaining : R → Option (List ℕ)) (given : R → ℕ)
+    (before after : List R) (text : List ℕ) : Type 0 where
   pub parts : List (List ℕ)
   pub read : AreRead remaining given before after parts
-  pub canonical : IsCanonicalText parts text
-  pub only : IsOnlyText parts text
+  pub canonical : IsCanonicalTextThrough seen parts text
+  pub only : IsOnlyTextThrough seen parts text
+
+-- the sources were read to their ends, and this is the canonical text of the parts that they gave, and no other is
+abbrev pub AreNormalised : {R : Type 0} → (R → Option (List ℕ)) → (R → ℕ) → List R → List R → List ℕ → Type 0
+AreNormalised remaining = AreNormalisedThrough plain remaining
 
 -- the sources were read to their ends, and the parts that they gave are refused for this
 pub record AreRefusedParts {R : Type 0} (remaining : R → Option (List ℕ)) (given : R → ℕ) (before after : List R) (fault : Fault)
@@ -55,13 +67,17 @@ GoesOut holds before after text count = (count ≡ length text) × Took holds be
 abbrev pub StopsShort : {W : Type 0} → (W → List ℕ → Type 0) → W → W → List ℕ → ℕ → Type 0
 StopsShort holds before after text written = (written < length text) × Took holds before after (take written text)
 
--- the sink failed, and took the first bytes of the canonical text, as many as are told, and not all of them
-pub record IsCutOff {R W : Type 0} (remaining : R → Option (List ℕ)) (given : R → ℕ) (before after : List R)
-    (holds : W → List ℕ → Type 0) (old new : W) (written : ℕ) : Type 0 where
+-- the sink failed, and took the first bytes of the canonical text through this sight, as many as are told, and not all of them
+pub record IsCutOffThrough {R W : Type 0} (seen : County → County) (remaining : R → Option (List ℕ)) (given : R → ℕ)
+    (before after : List R) (holds : W → List ℕ → Type 0) (old new : W) (written : ℕ) : Type 0 where
   pub text : List ℕ
-  pub normalised : AreNormalised remaining given before after text
+  pub normalised : AreNormalisedThrough seen remaining given before after text
   pub short : written < length text
   pub took : Took holds old new (take written text)
+
+-- the sink failed, and took the first bytes of the canonical text, as many as are told, and not all of them
+abbrev pub IsCutOff : {R W : Type 0} → (R → Option (List ℕ)) → (R → ℕ) → List R → List R → (W → List ℕ → Type 0) → W → W → ℕ → Type 0
+IsCutOff remaining given before after holds = IsCutOffThrough plain remaining given before after holds
 
 -- the fault is a failure of the sink
 abbrev pub is_of_sink : Fault → Bool

@@ -1,103 +1,120 @@
--- What a job over files printed, or why it printed nothing.
-use Rattle.std.specs.Prelude.{ℕ, ◌<◌, ◌≢◌, List, length, take, Option, ◌⊎◌}
-use Rattle.std.specs.Io.KnownBytes.{Appends, Keeps}
+-- What a job over a set did: what it printed, or why it printed nothing. It is said of any set, and of anything that a job prints
+-- to, by what is known of them.
+use Rattle.std.specs.Prelude.{ℕ, ◌≡◌, ◌<◌, ◌+◌, ◌≢◌, List, length, take, Option, ◌⊎◌}
+use Rattle.std.specs.Io.KnownBytes.{Appends}
 use Rattle.tl_layout.specs.declared.record_type.Record.{Record}
 use Rattle.tl_load.specs.Loaded.{IsOfLines}
+use Rattle.tl_load.specs.declared.fault.LoadFault.{LoadFault}
+use Rattle.tl_load.specs.declared.fault.LoadFault.TheVariants.{Device}
 use Rattle.tl_county.specs.declared.fault.LinkFault.TheVariants.{Memory as LinkMemory}
 use Rattle.tl_profile.specs.declared.fault.ProfileFault.TheVariants.{Memory as ProfileMemory}
+use Rattle.tl_cert.specs.MaskedCounty.{masked}
+use Rattle.tl_layout.specs.declared.mask.Mask.{Mask}
 use Rattle.tigercanon.specs.declared.command_line.Job.{Job}
 use Rattle.tigercanon.specs.declared.command_line.Job.TheVariants.{Respell, Normalise, Check, Fingerprint, Compare}
-use Rattle.tigercanon.specs.declared.files.Opened.{Opened}
 use Rattle.tigercanon.specs.declared.fault.Fault.{Fault}
 use Rattle.tigercanon.specs.declared.fault.Fault.TheVariants.{Load, Link, Profile, Write, Memory}
-use Rattle.tigercanon.specs.Files.{AreHeld}
-use Rattle.tigercanon.specs.Fingerprints.{SaysFingerprint}
+use Rattle.tigercanon.specs.Fingerprints.{SaysFingerprintThrough}
+use Rattle.tigercanon.specs.Normalising.{Took}
 use Rattle.tigercanon.specs.Respelling.{IsRespelt}
-use Rattle.tigercanon.specs.Sets.{IsAcceptedSet, IsCanonicalText, IsSetRefusal, SaysAccepted}
+use Rattle.tigercanon.specs.Sets.{IsAcceptedSet, IsCanonicalTextThrough, SaysAccepted}
+
+-- what is known of a set that a job was given: what it means that these are its parts, that it is refused for this, and that it
+-- couldn't be read
+pub record GivenSet : Type 1 where
+  pub holds : List (List ℕ) → Type 0
+  pub refused : Fault → Type 0
+  pub unread : Type 0
+
+-- what is known of what a job prints to: what it means that it got these bytes, that it got none, and that it failed
+pub record GivenOutput : Type 1 where
+  pub got : List ℕ → Type 0
+  pub kept : Type 0
+  pub failed : Type 0
 
 -- the text that a job prints of parts
 abbrev pub Answer : Type 1
 Answer = List (List ℕ) → List ℕ → Type 0
 
-abbrev pub IsAnswer : Job → Answer
-IsAnswer Respell = IsRespelt
-IsAnswer Normalise = IsCanonicalText
-IsAnswer Check = SaysAccepted
-IsAnswer Fingerprint = SaysFingerprint
+-- under a mask, which only jobs look at that tell or compare maps
+abbrev pub IsAnswer : Mask → Job → Answer
+IsAnswer mask Respell = IsRespelt
+IsAnswer mask Normalise = IsCanonicalTextThrough (masked mask)
+IsAnswer mask Check = SaysAccepted
+IsAnswer mask Fingerprint = SaysFingerprintThrough (masked mask)
 -- a comparison answers two sets, and no one set
-IsAnswer Compare = λ parts text. ⊥
+IsAnswer mask Compare = λ parts text. ⊥
 
--- this text is the answer to what the files hold
-pub record AreAnswered {R : Type 0} (answer : Answer) (remaining : R → Option (List ℕ)) (files : List (Opened R))
-    (text : List ℕ) : Type 0 where
+-- this text is the answer to what the set holds
+pub record IsAnswered (answer : Answer) (set : GivenSet) (text : List ℕ) : Type 0 where
   pub parts : List (List ℕ)
-  pub held : AreHeld remaining files parts
+  pub held : set.holds parts
   pub answered : answer parts text
 
--- the writer got a text of which this holds
-pub record Prints (IsText : List ℕ → Type 0) (old new : Option (List ℕ)) : Type 0 where
+-- a text of which this holds was printed
+pub record Prints (IsText : List ℕ → Type 0) (out : GivenOutput) : Type 0 where
   pub text : List ℕ
   pub answered : IsText text
-  pub printed : Appends old new text
+  pub printed : out.got text
 
--- the writer got the first so many bytes of such a text, and not all of them
-pub record PrintsFront (IsText : List ℕ → Type 0) (written : ℕ) (old new : Option (List ℕ)) : Type 0 where
+-- the first so many bytes of such a text were printed, and not all of them
+pub record PrintsFront (IsText : List ℕ → Type 0) (written : ℕ) (out : GivenOutput) : Type 0 where
   pub text : List ℕ
   pub answered : IsText text
-  pub printed : Appends old new (take written text)
+  pub printed : out.got (take written text)
   pub short : written < length text
 
--- the writer got the answer to what the files hold, or a beginning of it
-abbrev pub PrintsWhole : {R : Type 0} → Answer → (R → Option (List ℕ)) → List (Opened R) → Option (List ℕ) → Option (List ℕ) → Type 0
-PrintsWhole answer remaining files = Prints (AreAnswered answer remaining files)
+-- the answer to what the set holds was printed, or a beginning of it
+abbrev pub PrintsWhole : Answer → GivenSet → GivenOutput → Type 0
+PrintsWhole answer set = Prints (IsAnswered answer set)
 
-abbrev pub PrintsBeginning : {R : Type 0} → Answer → (R → Option (List ℕ)) → List (Opened R) → ℕ → Option (List ℕ) → Option (List ℕ)
-    → Type 0
-PrintsBeginning answer remaining files = PrintsFront (AreAnswered answer remaining files)
+abbrev pub PrintsBeginning : Answer → GivenSet → ℕ → GivenOutput → Type 0
+PrintsBeginning answer set = PrintsFront (IsAnswered answer set)
 
--- what the files hold is accepted
-pub record AreAccepted {R : Type 0} (remaining : R → Option (List ℕ)) (files : List (Opened R)) : Type 0 where
+-- what the set holds is accepted
+pub record HoldsAccepted (set : GivenSet) : Type 0 where
   pub parts : List (List ℕ)
-  pub held : AreHeld remaining files parts
+  pub held : set.holds parts
   pub records : List Record
   pub accepted : IsAcceptedSet parts records
 
--- what the files hold is refused for this
-pub record AreRefused {R : Type 0} (remaining : R → Option (List ℕ)) (files : List (Opened R)) (fault : Fault) : Type 0 where
-  pub parts : List (List ℕ)
-  pub held : AreHeld remaining files parts
-  pub refused : IsSetRefusal parts fault
+-- a fault of the set's lines is what it is refused for, and that of a device is told of a set that couldn't be read
+abbrev pub TellsLoad : GivenSet → LoadFault → Type 0
+TellsLoad set fault = (IsOfLines fault → set.refused (Load fault)) × (fault ≡ Device → set.unread)
 
--- where the fault is of the set's lines, it is what the files are refused for; nothing else is told but want of memory and a device
-abbrev pub TellsLines : {R : Type 0} → (R → Option (List ℕ)) → List (Opened R) → Fault → Type 0
-TellsLines remaining files (Load fault) = IsOfLines fault → AreRefused remaining files (Load fault)
-TellsLines remaining files (Link _) = ⊥
-TellsLines remaining files (Profile _) = ⊥
-TellsLines remaining files (Write _) = ⊥
-TellsLines remaining files Memory = Unit {0}
+-- of a set whose lines alone are judged nothing else is told but want of memory
+abbrev pub TellsLines : GivenSet → Fault → Type 0
+TellsLines set (Load fault) = TellsLoad set fault
+TellsLines set (Link _) = ⊥
+TellsLines set (Profile _) = ⊥
+TellsLines set (Write _) = ⊥
+TellsLines set Memory = Unit {0}
 
--- but for want of memory and the fault of a device, it is what the files are refused for
-abbrev pub TellsSet : {R : Type 0} → (R → Option (List ℕ)) → List (Opened R) → Fault → Type 0
-TellsSet remaining files (Load fault) = IsOfLines fault → AreRefused remaining files (Load fault)
-TellsSet remaining files (Link fault) = fault ≢ LinkMemory → AreRefused remaining files (Link fault)
-TellsSet remaining files (Profile fault) = fault ≢ ProfileMemory → AreRefused remaining files (Profile fault)
-TellsSet remaining files (Write _) = ⊥
-TellsSet remaining files Memory = Unit {0}
+-- but for want of memory, the set is refused for what is told, or it couldn't be read
+abbrev pub TellsSet : GivenSet → Fault → Type 0
+TellsSet set (Load fault) = TellsLoad set fault
+TellsSet set (Link fault) = fault ≢ LinkMemory → set.refused (Link fault)
+TellsSet set (Profile fault) = fault ≢ ProfileMemory → set.refused (Profile fault)
+TellsSet set (Write _) = ⊥
+TellsSet set Memory = Unit {0}
 
--- what a job tells of files that it refuses
-abbrev pub Tells : {R : Type 0} → Job → (R → Option (List ℕ)) → List (Opened R) → Fault → Type 0
+-- what a job tells of a set that it doesn't answer
+abbrev pub Tells : Job → GivenSet → Fault → Type 0
 Tells Respell = TellsLines
 Tells Normalise = TellsSet
 Tells Check = TellsSet
 Tells Fingerprint = TellsSet
-Tells Compare = λ remaining files fault. ⊥
+Tells Compare = λ set fault. ⊥
 
--- what a job that didn't end well leaves: a refused set nothing, a failing writer the beginning of the answer
-abbrev pub Leaves : {R : Type 0} → Job → (R → Option (List ℕ)) → List (Opened R) → Option (List ℕ) → Option (List ℕ) → Fault → Type 0
-Leaves job remaining files old new (Write fault) = PrintsBeginning (IsAnswer job) remaining files fault.written old new
-Leaves job remaining files old new fault = Keeps old new × Tells job remaining files fault
+-- what a job that didn't end well leaves: of a set that isn't answered nothing, and where the output failed the beginning of the answer
+abbrev pub LeavesOf : Answer → (GivenSet → Fault → Type 0) → GivenSet → GivenOutput → Fault → Type 0
+LeavesOf answer tells set out (Write fault) = out.failed × PrintsBeginning answer set fault.written out
+LeavesOf answer tells set out fault = out.kept × tells set fault
 
--- whether a job can refuse files for this: to respell them asks for lines alone
+abbrev pub Leaves : Mask → Job → GivenSet → GivenOutput → Fault → Type 0
+Leaves mask job = LeavesOf (IsAnswer mask job) (Tells job)
+
+-- whether a job can refuse a set for this: to respell it asks for lines alone
 abbrev pub IsToldBy : Job → Fault → Type 0
 IsToldBy Respell (Load _) = Unit {0}
 IsToldBy Respell _ = ⊥
@@ -106,14 +123,19 @@ IsToldBy Check _ = Unit {0}
 IsToldBy Fingerprint _ = Unit {0}
 IsToldBy Compare _ = ⊥
 
--- the files are refused for something that the job asks for
-abbrev pub AreRefusedBy : {R : Type 0} → Job → (R → Option (List ℕ)) → List (Opened R) → Type 0
-AreRefusedBy job remaining files = (fault : Fault) × IsToldBy job fault × AreRefused remaining files fault
+-- the set is refused for something that the job asks for
+abbrev pub Refuses : Job → GivenSet → Type 0
+Refuses job set = (fault : Fault) × IsToldBy job fault × set.refused fault
 
 -- nothing was printed, or a beginning of the answer that isn't all of it
-abbrev pub PrintsPart : {R : Type 0} → Answer → (R → Option (List ℕ)) → List (Opened R) → Option (List ℕ) → Option (List ℕ) → Type 0
-PrintsPart answer remaining files old new = Keeps old new ⊎ ((written : ℕ) × PrintsBeginning answer remaining files written old new)
+abbrev pub PrintsPart : Answer → GivenSet → GivenOutput → Type 0
+PrintsPart answer set out = out.kept ⊎ ((written : ℕ) × PrintsBeginning answer set written out)
 
 -- the writer got the line, or a beginning of it
-abbrev pub TellsLine : List ℕ → Option (List ℕ) → Option (List ℕ) → Type 0
-TellsLine line old new = (written : ℕ) × Appends old new (take written line)
+abbrev pub TellsLine : Option (List ℕ) → Option (List ℕ) → List ℕ → Type 0
+TellsLine old new line = (written : ℕ) × Appends old new (take written line)
+
+-- a sink took the whole line, or it failed, once, and took a beginning of it
+abbrev pub TellsLineTo : {E : Type 0} → (E → ℕ) → (E → List ℕ → Type 0) → E → E → List ℕ → Type 0
+TellsLineTo failed holds old new line = ((failed new ≡ failed old) × Took holds old new line)
+    ⊎ ((failed new ≡ failed old + 1) × (written : ℕ) × Took holds old new (take written line))

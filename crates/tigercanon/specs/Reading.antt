@@ -1,8 +1,10 @@
 -- What was read of the sources that give the parts of a set.
-use Rattle.std.specs.Prelude.{◌≡◌, ℕ, ◌+◌, List, [], ◌∷◌, map, Option, ◌⊎◌}
+use Rattle.std.specs.Prelude.{◌≡◌, ℕ, ◌+◌, ◌-◌, ◌^◌, List, [], ◌∷◌, ◌++◌, map, Option, ◌⊎◌}
 use Rattle.std.specs.Io.KnownBytes.{IsAtEnd}
+use Rattle.tl_layout.specs.declared.record_type.Record.{Record}
+use Rattle.tl_load.specs.Keeping.{LoadedInto, WasFedInto}
 use Rattle.tl_load.specs.Loaded.{IsFaultHowever}
-use Rattle.tl_load.specs.Sources.{Gave}
+use Rattle.tl_load.specs.Sources.{Gave, RoseBy}
 use Rattle.tl_load.specs.declared.fault.LoadFault.{LoadFault}
 use Rattle.tigercanon.specs.Respelling.{record_limit}
 
@@ -35,3 +37,17 @@ abbrev pub OneFailed : {R : Type 0} → (R → ℕ) → List R → List R → Ty
 OneFailed failed (b ∷ bs) (n ∷ ns) = ((failed n ≡ failed b + 1) × NoneFailed failed bs ns) ⊎
     ((failed n ≡ failed b) × OneFailed failed bs ns)
 OneFailed failed _ _ = ⊥
+
+-- the source failed, once, or it has no end: none came of 2 ^ 64 - 1 reads
+abbrev pub IsUnread : {R : Type 0} → (R → ℕ) → (R → ℕ) → R → R → Type 0
+IsUnread failed reads before after = (failed after ≡ failed before + 1) ⊎ RoseBy (2 ^ 64 - 1) (reads before) (reads after)
+
+-- one of the sources couldn't be read
+abbrev pub SomeUnread : {R : Type 0} → (R → ℕ) → (R → ℕ) → List R → List R → Type 0
+SomeUnread failed reads (b ∷ bs) (n ∷ ns) = IsUnread failed reads b n ⊎ SomeUnread failed reads bs ns
+SomeUnread failed reads _ _ = ⊥
+
+-- a loader that was fed closed parts was fed this one too
+abbrev pub TakesPart : {K : Type 0} → (K → List Record → Type 0) → LoadedInto K → LoadedInto K → List ℕ → Type 0
+TakesPart holds before after part = (closed : List (List ℕ)) → WasFedInto holds record_limit before closed []
+    → WasFedInto holds record_limit after (closed ++ part ∷ []) []

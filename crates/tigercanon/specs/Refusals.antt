@@ -1,5 +1,5 @@
 -- The lines by which the program tells faults.
-use Rattle.std.specs.Prelude.{ℕ, List, [], ◌∷◌, ◌++◌, Option, Some, None, codes, encode_utf8, flat_map, string_bytes}
+use Rattle.std.specs.Prelude.{ℕ, ◌≡◌, List, [], ◌∷◌, ◌++◌, Option, Some, None, codes, encode_utf8, flat_map, string_bytes}
 use Rattle.std.specs.Fmt.{decimal}
 use Rattle.hex.specs.Hex.{encode_lower}
 use Rattle.tl_county.specs.LinkedTypes.{character_of, linked_type}
@@ -84,3 +84,12 @@ fault_line fault set = told_of fault set ++ 10 ∷ []
 abbrev pub plan_text_of : PlanFault → List ℕ
 plan_text_of (Usage text) = string_bytes text
 plan_text_of PlanMemory = fault_line Memory None
+
+-- what is told of words that aren't UTF-8
+abbrev pub not_utf8 : List ℕ
+not_utf8 = codes "error: invalid UTF-8 was detected in one or more arguments\n"
+
+-- the usage that is told is this text, or memory was lacking for it
+abbrev pub IsUsage : PlanFault → List ℕ → Type 0
+IsUsage (Usage text) told = string_bytes text ≡ told
+IsUsage PlanMemory told = Unit {0}

@@ -9,7 +9,8 @@ use Rattle.tl_county.specs.Packing.{packed}
 use Rattle.tl_county.specs.Renumbering.{Renumbering, Carries}
 use Rattle.tl_county.specs.LinkRules.{IsLinked, IsFirstBrokenRule}
 use Rattle.tl_profile.specs.Profile.{IsFirstBrokenClause}
-use Rattle.tl_number.specs.Accepted.{IsAccepted, IsCanonicalOf}
+use Rattle.tl_number.specs.Accepted.{IsAccepted, IsCanonicalThrough}
+use Rattle.tl_number.specs.Sights.{plain}
 use Rattle.tigercanon.specs.Respelling.{record_limit, IsFirstFault}
 use Rattle.tigercanon.specs.declared.fault.Fault.{Fault}
 use Rattle.tigercanon.specs.declared.fault.Fault.TheVariants.{Load, Link, Profile, Write, Memory}
@@ -36,31 +37,53 @@ pub record SaysAccepted (parts : List (List ℕ)) (text : List ℕ) : Type 0 whe
   pub accepted : IsAcceptedSet parts records
   pub text_is : text ≡ codes "accepted" ++ 10 ∷ []
 
--- the text of a canonical list of the accepted records that the parts spell
-pub record IsCanonicalText (parts : List (List ℕ)) (text : List ℕ) : Type 0 where
+-- the text of a canonical list, through this sight, of the accepted records that the parts spell
+pub record IsCanonicalTextThrough (seen : County → County) (parts : List (List ℕ)) (text : List ℕ) : Type 0 where
   pub records : List Record
   pub canonical : List Record
   pub spelled : SpellsWithin tiger record_limit parts records
-  pub canonical_of : IsCanonicalOf records canonical
+  pub canonical_of : IsCanonicalThrough seen records canonical
   pub text_is : text_of canonical ≡ text
 
--- both sets are accepted, and the renaming carries the county of the one onto that of the other
-pub record CarriesSet (renaming : Renumbering) (parts others : List (List ℕ)) : Type 0 where
+-- the text of a canonical list of the accepted records that the parts spell
+abbrev pub IsCanonicalText : List (List ℕ) → List ℕ → Type 0
+IsCanonicalText = IsCanonicalTextThrough plain
+
+-- both sets are accepted, and the renaming carries what is seen of the county of the one onto what is seen of that of the other
+pub record CarriesSetThrough (seen : County → County) (renaming : Renumbering) (parts others : List (List ℕ)) : Type 0 where
   pub records : List Record
   pub other_records : List Record
   pub accepted : IsAcceptedSet parts records
   pub other_accepted : IsAcceptedSet others other_records
-  pub carries : Carries renaming (county_of records) (county_of other_records)
+  pub carries : Carries renaming (seen (county_of records)) (seen (county_of other_records))
 
--- the one part is a canonical text
-pub record IsOneCanonicalText (parts : List (List ℕ)) (text : List ℕ) : Type 0 where
+-- both sets are accepted, and the renaming carries the county of the one onto that of the other
+abbrev pub CarriesSet : Renumbering → List (List ℕ) → List (List ℕ) → Type 0
+CarriesSet = CarriesSetThrough plain
+
+-- the one part is a canonical text through this sight
+pub record IsOneCanonicalTextThrough (seen : County → County) (parts : List (List ℕ)) (text : List ℕ) : Type 0 where
   pub whole : List (List ℕ)
-  pub canonical : IsCanonicalText whole text
+  pub canonical : IsCanonicalTextThrough seen whole text
   pub parts_are : parts ≡ text ∷ []
 
--- the set is accepted, the one county is that of its records, and the other one has their canonical records
-pub record IsCanonSet (parts : List (List ℕ)) (county canon : County) : Type 0 where
+-- the one part is a canonical text
+abbrev pub IsOneCanonicalText : List (List ℕ) → List ℕ → Type 0
+IsOneCanonicalText = IsOneCanonicalTextThrough plain
+
+-- the set is accepted, and the county is what is seen of that of its records
+pub record IsSeenSet (seen : County → County) (parts : List (List ℕ)) (county : County) : Type 0 where
   pub records : List Record
   pub accepted : IsAcceptedSet parts records
-  pub county_is : county ≡ county_of records
-  pub canonical : IsCanonicalOf records (packed canon)
+  pub county_is : county ≡ seen (county_of records)
+
+-- the set is accepted, the one county is what is seen of that of its records, and the other one has their canonical records
+pub record IsCanonSetThrough (seen : County → County) (parts : List (List ℕ)) (county canon : County) : Type 0 where
+  pub records : List Record
+  pub accepted : IsAcceptedSet parts records
+  pub county_is : county ≡ seen (county_of records)
+  pub canonical : IsCanonicalThrough seen records (packed canon)
+
+-- the set is accepted, the one county is that of its records, and the other one has their canonical records
+abbrev pub IsCanonSet : List (List ℕ) → County → County → Type 0
+IsCanonSet = IsCanonSetThrough plain

@@ -1,23 +1,69 @@
-//! The text of a canonical county in memory, and the renaming onto it.
+//! A county put into canonical form, its text in memory, and the renaming onto it.
 
-ghost use Rattle.std.specs.Prelude.{◌≡◌, IfOk, IfErr};
+ghost use Rattle.tl_number.specs.Views.{arranged_county, source_of};
+ghost use Rattle.std.specs.Prelude.{◌≡◌, ℕ, List, IfOk, IfErr};
+ghost use Rattle.tigercanon.specs.Sets.{IsCanonSetThrough, IsSeenSet};
+ghost use Rattle.tl_county.specs.County.{County};
 ghost use Rattle.tl_county.specs.Packing.{packed};
 ghost use Rattle.tl_county.specs.Renumbering.{Carries};
+ghost use Rattle.tl_cert.specs.MaskedCounty.{masked};
 ghost use Rattle.tl_layout.specs.RecordText.{text_of};
+ghost use Rattle.tl_number.specs.Sights.{IsSight, plain};
+ghost use Rattle.tl_profile.specs.Profile.{IsInProfile};
+ghost use Rattle.tl_profile.specs.ShapeOrder.{IsShapeOrder};
+ghost use Rattle.tl_profile.specs.declared.chain_walk.ChainWalk.{ChainWalk};
 
 use crate::fault::Fault;
 use std::alloc::Global;
-use tl_cert::Renaming;
+use tl_cert::{Masked, Renaming};
 use tl_county::Chart;
-use tl_number::CanonCounty;
+use tl_layout::Mask;
+use tl_number::{CanonCounty, canonise_in_order};
+use tl_profile::ShapeOrder;
 use tl_write::{CountedOut, write_to};
+
+/// An admitted county under a mask. It is in the profile too, and its chains stay in their order by their shapes.
+pub(crate) fn under_mask<C: Chart + Drop>(
+    alloc: Global,
+    chart: C,
+    mask: Mask,
+) -> Result<Masked<C>, Fault>
+    requires { IsInProfile (C.county chart) }
+    ensures seen { IfOk result (λ m. (parts : List (List ℕ)) → IsSeenSet plain parts (C.county chart)
+        → IsSeenSet (masked mask) parts (⟦<Masked<C> as Chart>⟧.county m)) }
+    ensures profile { IfOk result (λ m. IsInProfile (⟦<Masked<C> as Chart>⟧.county m)) }
+    ensures order { IfOk result (λ m. (order : List ChainWalk) → IsShapeOrder (C.county chart) order
+        → IsShapeOrder (⟦<Masked<C> as Chart>⟧.county m) order) }
+    ensures memory { IfErr result (λ fault. fault ≡ Fault.Memory) }
+{
+    let shown = Masked::new(alloc, chart, mask)?;
+    Ok(shown)
+}
+
+/// The canonical county of an admitted county, from the order of its chains by their shapes. Who is done with it says `drop`: that
+/// is one call for the prover, which else reads the drop of each field wherever its owner ends.
+pub(crate) fn canonise_admitted<C: Chart + Drop>(
+    alloc: Global,
+    chart: C,
+    order: &ShapeOrder,
+) -> Result<CanonCounty<C>, Fault>
+    requires profile { IsInProfile (C.county chart) }
+    requires shapes { IsShapeOrder (C.county chart) order.now }
+    ensures canonical { IfOk result (λ canon. (seen : County → County) (parts : List (List ℕ)) → IsSight seen
+        → IsSeenSet seen parts (C.county chart)
+        → IsCanonSetThrough seen parts (C.county (source_of canon)) (arranged_county canon)) }
+    ensures memory { IfErr result (λ fault. fault ≡ Fault.Memory) }
+{
+    let canon = canonise_in_order(alloc, chart, order)?;
+    Ok(canon)
+}
 
 /// The text of a canonical county, in memory.
 pub(crate) fn text_in_memory<C: Chart>(
     alloc: Global,
     county: &CanonCounty<C>,
 ) -> Result<Vec<u8>, Fault>
-    ensures text { IfOk result (λ text. text.items ≡ text_of (packed (⟦<CanonCounty<C> as Chart>⟧.county county.now))) }
+    ensures text { IfOk result (λ text. text.items ≡ text_of (packed (arranged_county county.now))) }
     ensures memory { IfErr result (λ fault. fault ≡ Fault.Memory) }
 {
     let mut sink = CountedOut::new(Vec::new(alloc));
@@ -33,8 +79,8 @@ pub(crate) fn text_and_renaming<C: Chart>(
     alloc: Global,
     county: &CanonCounty<C>,
 ) -> Result<(Vec<u8>, Renaming), Fault>
-    ensures text { IfOk result (λ told. told.0.items ≡ text_of (packed (⟦<CanonCounty<C> as Chart>⟧.county county.now))) }
-    ensures carries { IfOk result (λ told. Carries told.1 (C.county county.now.chart) (⟦<CanonCounty<C> as Chart>⟧.county county.now)) }
+    ensures text { IfOk result (λ told. told.0.items ≡ text_of (packed (arranged_county county.now))) }
+    ensures carries { IfOk result (λ told. Carries told.1 (C.county (source_of county.now)) (arranged_county county.now)) }
     ensures memory { IfErr result (λ fault. fault ≡ Fault.Memory) }
 {
     let renaming = county.renaming(alloc)?;

@@ -3,13 +3,20 @@
 ghost use Rattle.clap.specs.Words.{app_of, rule_of, with_subcommand};
 ghost use Rattle.clap.specs.declared.builder.command.Command.TheViews.{out-Command};
 ghost use Rattle.std.specs.Prelude.{◌≡◌, IfOk, codes, false};
-ghost use Rattle.tigercanon.specs.Grammar.{over_one_set, over_two_sets, program_alone, set_argument, stem_flag, understood};
+ghost use Rattle.tigercanon.specs.Grammar.{over_one_set, over_two_sets, program_alone, reserved_flag, set_argument, sources_flag};
+ghost use Rattle.tigercanon.specs.Grammar.{stem_flag, understood, with_mask};
 
 use clap::{Arg, ArgAction, Command};
 use std::alloc::{AllocError, Global};
 
 /// The flag by which sets are named by their stems.
 pub(crate) const STEM: &str = "stem";
+
+/// The flag by which the fields are left out that say where data came from.
+pub(crate) const NO_SOURCES: &str = "no-sources";
+
+/// The flag by which reserved fields are left out.
+pub(crate) const NO_RESERVED: &str = "no-reserved";
 
 /// The argument that names the first set, or the only one.
 pub(crate) const FIRST: &str = "FIRST";
@@ -52,6 +59,41 @@ fn stem<'a>(alloc: Global) -> Arg<'a>
         )
 }
 
+/// The flag by which the fields are left out that say where data came from.
+fn no_sources<'a>(alloc: Global) -> Arg<'a>
+    ensures rule { rule_of result ≡ sources_flag }
+    ensures local { result.global ≡ false }
+{
+    Arg::new(alloc, NO_SOURCES)
+        .long("no-sources")
+        .action(ArgAction::SetTrue)
+        .help(
+            "Leave out the fields that say where data came from: SOURCE of record types 1, 7 and I",
+        )
+}
+
+/// The flag by which reserved fields are left out.
+fn no_reserved<'a>(alloc: Global) -> Arg<'a>
+    ensures rule { rule_of result ≡ reserved_flag }
+    ensures local { result.global ≡ false }
+{
+    Arg::new(alloc, NO_RESERVED)
+        .long("no-reserved")
+        .action(ArgAction::SetTrue)
+        .help(
+            "Leave out reserved fields: CENSUS1 and CENSUS2 of record type 1, RS_I1, RS_I2 and RS_I3 of type I",
+        )
+}
+
+/// A subcommand that may leave fields out.
+fn masked<'a>(alloc: Global, command: Command<'a>) -> Result<Command<'a>, AllocError>
+    requires { (out-Command command).has_globals ≡ false }
+    ensures app { IfOk result (λ c. app_of c ≡ with_mask (app_of command.entry)) }
+    ensures local { IfOk result (λ c. (out-Command c).has_globals ≡ false) }
+{
+    command.arg(no_sources(alloc))?.arg(no_reserved(alloc))
+}
+
 /// The name of a set.
 fn set<'a>(alloc: Global, id: &'a str, shown: &'a str, help: &'a str) -> Arg<'a>
     ensures rule { rule_of result ≡ set_argument id.entry.now }
@@ -81,8 +123,16 @@ fn over_one_set<'a>(alloc: Global, name: &'a str, about: &'a str) -> Result<Comm
         .arg(only)
 }
 
-/// The subcommand that reads two sets.
-fn compare<'a>(alloc: Global) -> Result<Command<'a>, AllocError>
+/// A subcommand that reads one set, and may leave fields out.
+fn over_one_map<'a>(alloc: Global, name: &'a str, about: &'a str) -> Result<Command<'a>, AllocError>
+    ensures app { IfOk result (λ c. app_of c ≡ with_mask (over_one_set name.entry.now)) }
+    ensures local { IfOk result (λ c. (out-Command c).has_globals ≡ false) }
+{
+    masked(alloc, over_one_set(alloc, name, about)?)
+}
+
+/// The subcommand that reads two sets, without the flags by which fields are left out.
+fn of_two_sets<'a>(alloc: Global) -> Result<Command<'a>, AllocError>
     ensures app { IfOk result (λ c. app_of c ≡ over_two_sets (codes "compare")) }
     ensures local { IfOk result (λ c. (out-Command c).has_globals ≡ false) }
 {
@@ -101,6 +151,14 @@ fn compare<'a>(alloc: Global) -> Result<Command<'a>, AllocError>
         SECOND,
         "Another county, named in the same way",
     ))
+}
+
+/// The subcommand that compares two sets.
+fn compare<'a>(alloc: Global) -> Result<Command<'a>, AllocError>
+    ensures app { IfOk result (λ c. app_of c ≡ with_mask (over_two_sets (codes "compare"))) }
+    ensures local { IfOk result (λ c. (out-Command c).has_globals ≡ false) }
+{
+    masked(alloc, of_two_sets(alloc)?)
 }
 
 /// The program without its subcommands.
@@ -132,10 +190,23 @@ fn with_job<'a>(
     program.subcommand(over_one_set(alloc, name, about)?)
 }
 
+/// The program with one more subcommand, which reads one set and may leave fields out.
+fn with_map_job<'a>(
+    alloc: Global,
+    program: Command<'a>,
+    name: &'a str,
+    about: &'a str,
+) -> Result<Command<'a>, AllocError>
+    ensures { IfOk result (λ c. app_of c ≡ with_subcommand (app_of program.entry) (with_mask (over_one_set name.entry.now)).top) }
+{
+    program.subcommand(over_one_map(alloc, name, about)?)
+}
+
 /// The program with the two subcommands that print a set's records.
 fn with_texts<'a>(alloc: Global, program: Command<'a>) -> Result<Command<'a>, AllocError>
     ensures { IfOk result (λ c. app_of c ≡
-        with_subcommand (with_subcommand (app_of program.entry) (over_one_set (codes "respell")).top) (over_one_set (codes "normalise")).top) }
+        with_subcommand (with_subcommand (app_of program.entry) (over_one_set (codes "respell")).top)
+        (with_mask (over_one_set (codes "normalise"))).top) }
 {
     let program = with_job(
         alloc,
@@ -143,7 +214,7 @@ fn with_texts<'a>(alloc: Global, program: Command<'a>) -> Result<Command<'a>, Al
         "respell",
         "Print the records in canonical spelling, in their order and with their numbers",
     )?;
-    with_job(
+    with_map_job(
         alloc,
         program,
         "normalise",
@@ -163,7 +234,7 @@ pub(crate) fn command<'a>(alloc: Global) -> Result<Command<'a>, AllocError>
         "check",
         "Say whether the records fit together to a county that has a canonical text",
     )?;
-    let program = with_job(
+    let program = with_map_job(
         alloc,
         program,
         "fingerprint",

@@ -5,6 +5,7 @@ ghost use Rattle.tigercanon.specs.declared.command_line.PlanFault.TheVariants.{M
 
 use std::alloc::{AllocError, AllocFailed};
 use thiserror::Error;
+use tl_layout::Mask;
 
 /// What the program is asked to do.
 #[derive(Clone, Copy, Debug, PartialEq, Eq)]
@@ -21,11 +22,13 @@ pub enum Job {
     Compare,
 }
 
-/// A job and the names of the files that it reads.
+/// A job, the names of the files that it reads, and the fields that it leaves out.
 #[derive(Debug, Drop)]
 pub struct Plan {
     /// What is to be done.
     pub job: Job,
+    /// The fields that are left out where a map is told or compared. Respelling and checking leave out none.
+    pub mask: Mask,
     /// The files of the set, in order, or of the first of two.
     pub first: Vec<String>,
     /// The files of a second set, for a job that has two.

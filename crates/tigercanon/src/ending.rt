@@ -1,19 +1,16 @@
-//! How jobs end.
+//! How jobs end, and how that is told.
 
-ghost use Rattle.std.specs.Prelude.{◌≡◌, ◌++◌, ◌∷◌, [], Ok, Err, IfOk, MatchResult, None, Some};
-ghost use Rattle.tigercanon.specs.Outcomes.{TellsLine};
-ghost use Rattle.tigercanon.specs.Refusals.{fault_line, told_of};
+ghost use Rattle.std.specs.Prelude.{◌≡◌, ◌<◌, Ok, Err, MatchResult, None};
+ghost use Rattle.tigercanon.specs.Outcomes.{TellsLineTo};
+ghost use Rattle.tigercanon.specs.Refusals.{fault_line};
 ghost use Rattle.tigercanon.specs.Statuses.{status_of};
+ghost use Rattle.tigercanon.specs.Stopping.{stopped_by};
 
+use crate::comparing::CompareFault;
 use crate::fault::Fault;
-use crate::refusal::Refusal;
+use crate::refusal::{Line, Refusal, push, push_digits};
 use crate::writing::write_text;
-use arrayvec::ArrayString;
-use std::fmt::{self, Write as _};
-use std::io::Write;
-
-/// Room for a line that tells why a job stopped: none has as many bytes as this.
-const LINE_ROOM: usize = 128;
+use tl_write::Sink;
 
 /// How a job ended that was done.
 #[derive(Clone, Copy, Debug, PartialEq, Eq)]
@@ -31,6 +28,23 @@ pub(crate) struct Stopped {
     pub(crate) set: Option<u8>,
 }
 
+impl From<CompareFault> for Stopped {
+    ghost from_gives = { λ told made. made ≡ stopped_by told };
+
+    fn from(told: CompareFault) -> Stopped {
+        match told {
+            CompareFault::In { set, fault } => Stopped {
+                fault,
+                set: Some(set),
+            },
+            CompareFault::Memory => Stopped {
+                fault: Fault::Memory,
+                set: None,
+            },
+        }
+    }
+}
+
 /// The ending of a job over one set.
 pub(crate) fn ending_of(outcome: Result<(), Fault>) -> Result<Ending, Stopped>
     ensures { MatchResult outcome (λ _. result ≡ Ok Ending.Done) (λ fault. result ≡ Err (record { fault = fault; set = None })) }
@@ -41,42 +55,37 @@ pub(crate) fn ending_of(outcome: Result<(), Fault>) -> Result<Ending, Stopped>
     }
 }
 
-/// The refusal, and which of two sets it is of.
-impl fmt::Display for Stopped {
-    ghost output = { λ stopped. Some (told_of stopped.fault stopped.set) };
-
-    fn fmt<W: fmt::Write>(&self, f: &mut fmt::Formatter<W>) -> fmt::Result {
-        let refusal = Refusal(self.fault);
-        match self.set {
-            Some(set) => write!(f, "{refusal} in set {set}"),
-            None => write!(f, "{refusal}"),
+/// The line that tells why a job stopped: the refusal, and which of two sets it is of.
+fn line_of(stopped: Stopped) -> Line
+    ensures { result.items ≡ fault_line stopped.fault stopped.set }
+{
+    let mut line = Refusal(stopped.fault).line();
+    match stopped.set {
+        Some(set) => {
+            push(&mut line, b" in set ");
+            push_digits(&mut line, set as u64);
+            push(&mut line, b"\n");
         }
+        None => push(&mut line, b"\n"),
     }
+    line
 }
 
-/// The line that tells why a job stopped.
-fn line_of(stopped: Stopped) -> Result<ArrayString<LINE_ROOM>, fmt::Error>
-    ensures { IfOk result (λ line. line.bytes ≡ fault_line stopped.fault stopped.set) }
+/// Writes a line to a sink, or a beginning of it where the sink fails.
+pub(crate) fn tell_line<E: Sink>(line: &[u8], err: &mut E)
+    requires { E.failed err.old < u64.MAX }
+    ensures { TellsLineTo E.failed E.holds err.old err.new line.now }
 {
-    let mut line = ArrayString::<LINE_ROOM>::new();
-    writeln!(line, "{stopped}")?;
-    Ok(line)
+    let _ = write_text(line, err);
 }
 
-/// Writes a line to `err`, or a beginning of it where `err` fails.
-pub(crate) fn tell_line<E: Write>(line: &[u8], err: &mut E)
-    ensures { TellsLine line.now (E.contents err.old) (E.contents err.new) }
-{
-    let _ = write_text(err, line);
-}
-
-/// Tells on `err` why a job stopped, in one line, and answers the exit status.
-pub(crate) fn tell_stopped<E: Write>(stopped: Stopped, err: &mut E) -> u8
+/// Tells on a sink why a job stopped, in one line, and answers the exit status.
+pub(crate) fn tell_stopped<E: Sink>(stopped: Stopped, err: &mut E) -> u8
+    requires { E.failed err.old < u64.MAX }
     ensures status { result ≡ status_of stopped.fault }
-    ensures told { TellsLine (fault_line stopped.fault stopped.set) (E.contents err.old) (E.contents err.new) }
+    ensures told { TellsLineTo E.failed E.holds err.old err.new (fault_line stopped.fault stopped.set) }
 {
-    if let Ok(line) = line_of(stopped) {
-        tell_line(line.as_str().as_bytes(), err);
-    }
+    let line = line_of(stopped);
+    tell_line(line.as_slice(), err);
     Refusal(stopped.fault).status()
 }

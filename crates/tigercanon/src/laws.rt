@@ -1,12 +1,18 @@
 //! Laws of what a set is, and of what words are a command line. The functions do nothing; their contracts are the laws.
 
-ghost use Rattle.std.specs.Prelude.{◌≡◌, ◌⊎◌, [], ◌∷◌, ℕ, List};
-ghost use Rattle.tl_county.specs.County.{county_of};
+ghost use Rattle.std.specs.Prelude.{◌≡◌, ◌⊎◌, ◌↔◌, [], ◌∷◌, ℕ, List};
+ghost use Rattle.tl_cert.specs.MaskedCounty.{masked};
+ghost use Rattle.tl_county.specs.County.{County, county_of};
 ghost use Rattle.tl_county.specs.Renumbering.{AreSame};
+ghost use Rattle.tl_layout.specs.Masked.{no_mask};
+ghost use Rattle.tl_layout.specs.declared.mask.Mask.{Mask};
 ghost use Rattle.tl_layout.specs.declared.record_type.Record.{Record};
 ghost use Rattle.tigercanon.specs.declared.fault.Fault.{Fault};
-ghost use Rattle.tigercanon.specs.Names.{AreUsualWordsPlanned};
-ghost use Rattle.tigercanon.specs.Sets.{IsAcceptedSet, IsCanonicalText, IsSetRefusal};
+ghost use Rattle.tigercanon.specs.Names.{AreUsualWordsPlanned, TakesNoMask};
+ghost use Rattle.tigercanon.specs.Normalising.{IsOnlyTextThrough};
+ghost use Rattle.tigercanon.specs.Sets.{IsAcceptedSet, IsCanonicalText, IsCanonicalTextThrough, IsSetRefusal};
+ghost use Rattle.tigercanon.specs.declared.command_line.Job.{Job};
+ghost use Rattle.tl_number.specs.Sights.{IsSight};
 
 /// A set of parts is accepted or has a refusal, never both, and never two.
 pub fn accepted_set_or_one_refusal()
@@ -45,8 +51,58 @@ pub fn a_canonical_text_is_its_own()
         IsCanonicalText parts text → IsCanonicalText (text ∷ []) text }
 {}
 
+/// Through each sight, which shows all of a county or less, an accepted set has exactly one canonical text, and no canonical list
+/// of what is seen of its map has another. Those of two sets are equal exactly if what is seen of their counties is the same. And a
+/// canonical text, as one part, is an accepted set, and its own canonical text through the sight, and as it is.
+pub fn one_canonical_text_through_each_sight()
+    ensures exists { (seen : County → County) (parts : List (List ℕ)) (records : List Record) →
+        IsSight seen → IsAcceptedSet parts records → (text : List ℕ) × IsCanonicalTextThrough seen parts text }
+    ensures only { (seen : County → County) (parts : List (List ℕ)) (text : List ℕ) →
+        IsSight seen → IsCanonicalTextThrough seen parts text → IsOnlyTextThrough seen parts text }
+    ensures same { (seen : County → County) (p q : List (List ℕ)) (t u : List ℕ) → IsSight seen →
+        (h : IsCanonicalTextThrough seen p t) (k : IsCanonicalTextThrough seen q u) →
+        AreSame (seen (county_of h.records)) (seen (county_of k.records)) → t ≡ u }
+    ensures equal { (seen : County → County) (p q : List (List ℕ)) (t u : List ℕ) → IsSight seen →
+        (h : IsCanonicalTextThrough seen p t) (k : IsCanonicalTextThrough seen q u) →
+        t ≡ u → AreSame (seen (county_of h.records)) (seen (county_of k.records)) }
+    ensures accepted { (seen : County → County) (parts : List (List ℕ)) (text : List ℕ) → IsSight seen →
+        (h : IsCanonicalTextThrough seen parts text) → IsAcceptedSet (text ∷ []) h.canonical }
+    ensures itself { (seen : County → County) (parts : List (List ℕ)) (text : List ℕ) →
+        IsSight seen → IsCanonicalTextThrough seen parts text →
+        IsCanonicalTextThrough seen (text ∷ []) text × IsCanonicalText (text ∷ []) text }
+{}
+
+/// Under each mask an accepted set has exactly one canonical text. Those of two sets are equal exactly if their counties are the same
+/// under the mask. And a text that is canonical under the mask is, as one part, its own canonical text under the mask, and under
+/// none. A mask that leaves nothing out makes no difference.
+pub fn one_canonical_text_under_each_mask()
+    ensures exists { (mask : Mask) (parts : List (List ℕ)) (records : List Record) →
+        IsAcceptedSet parts records → (text : List ℕ) × IsCanonicalTextThrough (masked mask) parts text }
+    ensures only { (mask : Mask) (parts : List (List ℕ)) (text other : List ℕ) →
+        IsCanonicalTextThrough (masked mask) parts text → IsCanonicalTextThrough (masked mask) parts other → text ≡ other }
+    ensures same { (mask : Mask) (p q : List (List ℕ)) (t u : List ℕ)
+        (h : IsCanonicalTextThrough (masked mask) p t) (k : IsCanonicalTextThrough (masked mask) q u) →
+        AreSame (masked mask (county_of h.records)) (masked mask (county_of k.records)) → t ≡ u }
+    ensures equal { (mask : Mask) (p q : List (List ℕ)) (t u : List ℕ)
+        (h : IsCanonicalTextThrough (masked mask) p t) (k : IsCanonicalTextThrough (masked mask) q u) →
+        t ≡ u → AreSame (masked mask (county_of h.records)) (masked mask (county_of k.records)) }
+    ensures itself { (mask : Mask) (parts : List (List ℕ)) (text : List ℕ) →
+        IsCanonicalTextThrough (masked mask) parts text → IsCanonicalTextThrough (masked mask) (text ∷ []) text }
+    ensures plain { (mask : Mask) (parts : List (List ℕ)) (text : List ℕ) →
+        IsCanonicalTextThrough (masked mask) parts text → IsCanonicalText (text ∷ []) text }
+    ensures no_mask { (parts : List (List ℕ)) (text : List ℕ) →
+        IsCanonicalTextThrough (masked no_mask) parts text ↔ IsCanonicalText parts text }
+{}
+
 /// The usual command lines, as the help has them, are understood, and a plan with the files of the sets that they name is theirs:
-/// the word of a job, `--stem` where sets are named by their stems, and a name for each set that doesn't begin with a hyphen.
+/// the word of a job, `--stem` where sets are named by their stems, a flag for the fields that are left out, where the job tells or
+/// compares maps, and a name for each set that doesn't begin with a hyphen.
 pub fn usual_words_are_planned()
     ensures { AreUsualWordsPlanned }
+{}
+
+/// Respelling and checking take no flag that leaves fields out: words with one aren't understood.
+pub fn masks_are_for_jobs_that_tell_maps()
+    ensures respell { TakesNoMask Job.Respell }
+    ensures check { TakesNoMask Job.Check }
 {}

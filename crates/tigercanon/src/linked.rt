@@ -1,26 +1,28 @@
 //! A set's records, linked, judged and put into canonical form where they stand.
 
-ghost use Rattle.std.specs.Prelude.{◌≡◌, ◌≢◌, ℕ, Err, List, map, false, OnOk, IfOk, IfErr};
+ghost use Rattle.tigercanon.specs.LentParts.{bytes_of_parts};
+ghost use Rattle.std.specs.Prelude.{◌≡◌, ◌≢◌, ℕ, Err, List, false, OnOk, IfOk, IfErr};
 ghost use Rattle.tigercanon.specs.Faults.{IsWantOfMemory, RefusesRecords, TellsRefusal};
 ghost use Rattle.tigercanon.specs.Linked.{AreLinkedAs, IsLinkedSet};
 ghost use Rattle.tigercanon.specs.Normalising.{is_of_sink};
-ghost use Rattle.tigercanon.specs.Sets.{IsAcceptedSet, IsCanonSet};
+ghost use Rattle.tigercanon.specs.Sets.{IsAcceptedSet, IsSeenSet};
 ghost use Rattle.tl_county.specs.County.{county_of};
 ghost use Rattle.tl_county.specs.Limits.{HoldsWithinLimits};
 ghost use Rattle.tl_county.specs.Packing.{type_after_type};
 ghost use Rattle.tl_layout.specs.Tables.{HoldsByType};
 ghost use Rattle.tl_layout.specs.declared.record_type.Record.{Record};
 ghost use Rattle.tl_number.specs.Accepted.{IsAccepted};
+ghost use Rattle.tl_number.specs.Sights.{plain};
+ghost use Rattle.tl_profile.specs.Profile.{IsInProfile};
 ghost use Rattle.tl_profile.specs.ShapeOrder.{IsShapeOrder};
 
 use crate::fault::Fault;
-use crate::loading::load;
+use crate::reading::load;
 use bumpalo::Bump;
 use std::alloc::Global;
 use tl_county::{Chart, CountyOver, LinkFault, LinkedRecords, link_in_order};
 use tl_layout::Tables;
 use tl_load::LoadFault;
-use tl_number::{CanonCounty, canonise_in_order};
 use tl_profile::{Admitted, ShapeOrder, admit_linked};
 
 /// Tables of records within their limits, linked. The tables' order has no meaning.
@@ -35,11 +37,11 @@ pub(crate) fn link_records(alloc: Global, tables: Tables) -> Result<LinkedRecord
 
 /// The records of the parts, linked.
 pub(crate) fn link_parts(alloc: Global, parts: &[&[u8]]) -> Result<LinkedRecords, Fault>
-    ensures linked { IfOk result (IsLinkedSet (map (λ p. p.now) parts.now)) }
-    ensures refused { IfErr result (TellsRefusal (map (λ p. p.now) parts.now)) }
+    ensures linked { IfOk result (IsLinkedSet (bytes_of_parts parts.now)) }
+    ensures refused { IfErr result (TellsRefusal (bytes_of_parts parts.now)) }
     ensures no_device { result ≢ Err (Fault.Load LoadFault.Device) }
     // Of accepted parts nothing but want of memory is told.
-    ensures succeeds { (records : List Record) → IsAcceptedSet (map (λ p. p.now) parts.now) records → IfErr result IsWantOfMemory }
+    ensures succeeds { (records : List Record) → IsAcceptedSet (bytes_of_parts parts.now) records → IfErr result IsWantOfMemory }
 {
     let tables: Tables = load(alloc, parts)?;
     link_records(alloc, tables)
@@ -98,15 +100,17 @@ pub(crate) fn judge_tables(alloc: Global, tables: Tables) -> Result<(), Fault>
     judge_linked(alloc, &linked)
 }
 
-/// The canonical county of linked records, over their tables and an arena, which outlive it. Who is done with it says `drop`: that
-/// is one call for the prover, which else reads the drop of each field wherever its owner ends.
-pub(crate) fn canonise_linked<'a>(
+/// The county of linked records, over their tables and an arena, which outlive it, and the order of its chains by their shapes. It is
+/// admitted.
+pub(crate) fn admitted_county<'a>(
     alloc: Global,
     arena: &'a Bump,
     linked: &'a LinkedRecords,
-) -> Result<CanonCounty<CountyOver<'a>>, Fault>
-    ensures canonical { IfOk result (λ canon. (parts : List (List ℕ)) → IsLinkedSet parts linked.now
-        → IsCanonSet parts (⟦<CountyOver<'a> as Chart>⟧.county canon.chart) (⟦<CanonCounty<CountyOver<'a>> as Chart>⟧.county canon)) }
+) -> Result<(CountyOver<'a>, ShapeOrder), Fault>
+    ensures seen { IfOk result (λ pair. (parts : List (List ℕ)) → IsLinkedSet parts linked.now
+        → IsSeenSet plain parts (⟦<CountyOver<'a> as Chart>⟧.county pair.0)) }
+    ensures profile { IfOk result (λ pair. IsInProfile (⟦<CountyOver<'a> as Chart>⟧.county pair.0)) }
+    ensures order { IfOk result (λ pair. IsShapeOrder (⟦<CountyOver<'a> as Chart>⟧.county pair.0) pair.1) }
     ensures of_no_sink { IfErr result (λ fault. is_of_sink fault ≡ false) }
     ensures refused { IfErr result (λ fault. (records : List Record) → AreLinkedAs linked.now records → RefusesRecords records fault) }
     ensures set_refused { IfErr result (λ fault. (parts : List (List ℕ)) → IsLinkedSet parts linked.now → TellsRefusal parts fault) }
@@ -117,5 +121,5 @@ pub(crate) fn canonise_linked<'a>(
 {
     let county = county_of_linked(alloc, arena, linked)?;
     let (admitted, order) = admit_county(alloc, county, linked)?;
-    Ok(canonise_in_order(alloc, admitted.into_chart(), &order)?)
+    Ok((admitted.into_chart(), order))
 }

@@ -3,17 +3,18 @@
 ghost use Rattle.clap.specs.Words.{Text, first_of, found_of, kind_of, rows_of};
 ghost use Rattle.clap.specs.declared.error.kind.ErrorKind.TheVariants.{OutOfMemory};
 ghost use Rattle.std.specs.Prelude.{◌≡◌, Bool, List, Some, IfErr, IfOk, IfSome, OnOk, map, string_bytes};
-ghost use Rattle.tigercanon.specs.Names.{AreFilesOf, AreSecondOf, AreUnderstood, IsPlanned, NamesItsSets};
+ghost use Rattle.tigercanon.specs.Names.{AreFilesOf, AreSecondOf, AreUnderstood, IsMaskGiven, IsPlanned, NamesItsSets};
 ghost use Rattle.tigercanon.specs.declared.command_line.Plan.{Plan};
 ghost use Rattle.tigercanon.specs.Words.{word_of};
 ghost use Rattle.tigercanon.specs.declared.command_line.Job.{Job};
 
-use crate::command::{FIRST, SECOND, STEM, command};
+use crate::command::{FIRST, NO_RESERVED, NO_SOURCES, SECOND, STEM, command};
 use crate::command_line::{Job, Plan, PlanFault};
 use crate::names::files_of;
 use clap::ArgMatches;
 use clap::error::ErrorKind;
 use std::alloc::Global;
+use tl_layout::Mask;
 
 /// The job that a word names.
 fn job_named(name: &str) -> Option<Job>
@@ -88,6 +89,16 @@ fn second_files_given(
     }
 }
 
+/// The fields that the words leave out.
+fn mask_given(given: &ArgMatches<'_>) -> Mask
+    ensures { IsMaskGiven (rows_of (found_of given.now)) result }
+{
+    Mask {
+        sources: given.get_flag(NO_SOURCES),
+        reserved: given.get_flag(NO_RESERVED),
+    }
+}
+
 /// The plan to do a job over the sets that the words name.
 fn plan_of(alloc: Global, job: Job, given: &ArgMatches<'_>) -> Result<Plan, PlanFault>
     ensures job { IfOk result (λ p. p.job ≡ job) }
@@ -98,6 +109,7 @@ fn plan_of(alloc: Global, job: Job, given: &ArgMatches<'_>) -> Result<Plan, Plan
     let is_stem = given.get_flag(STEM);
     Ok(Plan {
         job,
+        mask: mask_given(given),
         first: files_given(alloc, given, FIRST, is_stem)?,
         second: second_files_given(alloc, job, given, is_stem)?,
     })

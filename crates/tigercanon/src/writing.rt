@@ -1,7 +1,7 @@
-//! Writing to a writer that is lent, as to a sink.
+//! Writing a text to a sink, and to a writer that is lent as to a sink.
 
-ghost use Rattle.std.specs.Prelude.{◌≡◌, ◌<◌, length, take, OnOk, IfErr};
-ghost use Rattle.std.specs.Io.KnownBytes.{Appends};
+ghost use Rattle.std.specs.Prelude.{◌≡◌, ◌<◌, ◌+◌, OnOk, IfErr};
+ghost use Rattle.tigercanon.specs.Normalising.{StopsShort, Took};
 
 use std::io::Write;
 use tl_layout::DeviceFault;
@@ -59,17 +59,14 @@ impl<W: Write> Sink for LentOut<'_, W> {
     }
 }
 
-/// Writes the text, by as many calls of `write` as the writer needs. No failing call is tried again.
-pub(crate) fn write_text<W: Write>(out: &mut W, text: &[u8]) -> Result<(), WriteFault>
-    ensures whole { OnOk result (Appends (W.contents out.old) (W.contents out.new) text.now) }
-    ensures stopped { IfErr result (λ e. Appends (W.contents out.old) (W.contents out.new) (take e.written text.now)) }
-    ensures short { IfErr result (λ e. e.written < length text.now) }
+/// Writes the text to a sink, or a beginning of it where the sink fails. No write that failed is tried again.
+pub(crate) fn write_text<W: Sink>(text: &[u8], out: &mut W) -> Result<(), WriteFault>
+    requires { W.failed out.old < u64.MAX }
+    ensures whole { OnOk result (Took W.holds out.old out.new text.now) }
+    ensures none_failed { OnOk result (W.failed out.new ≡ W.failed out.old) }
+    ensures stopped { IfErr result (λ e. StopsShort W.holds out.old out.new text.now e.written) }
+    ensures failed { IfErr result (λ _. W.failed out.new ≡ W.failed out.old + 1) }
 {
-    let mut sink = LentOut::new(out);
-    let outcome = write_bytes(text, &mut sink);
-    sink.give_back();
-    match outcome {
-        Ok(_) => Ok(()),
-        Err(fault) => Err(fault),
-    }
+    write_bytes(text, out)?;
+    Ok(())
 }

@@ -2,21 +2,16 @@
 #![tactic(auto)]
 
 use std::alloc::AllocError;
-use std::fs::File;
-use std::io::ErrorKind;
+use std::env;
+use std::fs::{self, File};
 use std::process::ExitCode;
-use std::{env, fs};
-use tigercanon::{Opened, Plan, PlanFault, plan, run, tell};
+use tigercanon::{Opened, Plan, PlanFault, exit_status, plan, run, words_fault};
 
 /// The words of the command line, without the program's own name.
 fn words(rt: &HostRuntime) -> Result<Vec<String>, PlanFault> {
     match env::args(rt) {
         Ok(args) => Ok(args.skip(1).collect(rt.alloc())?),
-        Err(error) if error.kind() == ErrorKind::OutOfMemory => Err(PlanFault::Memory),
-        Err(_) => {
-            let text = "error: invalid UTF-8 was detected in one or more arguments\n";
-            Err(PlanFault::Usage(String::from_str(rt.alloc(), text)?))
-        }
+        Err(error) => Err(words_fault(rt.alloc(), &error)),
     }
 }
 
@@ -24,12 +19,7 @@ fn words(rt: &HostRuntime) -> Result<Vec<String>, PlanFault> {
 fn open_all(rt: &HostRuntime, names: &[String]) -> Result<Vec<Opened<File>>, AllocError> {
     let mut files = Vec::with_capacity(rt.alloc(), names.len())?;
     for name in names {
-        let file = match fs::open(rt, name.as_str()) {
-            Ok(file) => Opened::Found(file),
-            Err(error) if error.kind() == ErrorKind::NotFound => Opened::Absent,
-            Err(_) => Opened::Failed,
-        };
-        files.push(file)?;
+        files.push(Opened::of(fs::open(rt, name.as_str())))?;
     }
     Ok(files)
 }
@@ -37,7 +27,12 @@ fn open_all(rt: &HostRuntime, names: &[String]) -> Result<Vec<Opened<File>>, All
 /// Does what the words ask for, and answers the exit status.
 fn status(rt: &HostRuntime) -> Result<u8, PlanFault> {
     let words = words(rt)?;
-    let Plan { job, first, second } = plan(rt.alloc(), &words)?;
+    let Plan {
+        job,
+        mask,
+        first,
+        second,
+    } = plan(rt.alloc(), &words)?;
     let first = open_all(rt, &first)?;
     let second = open_all(rt, &second)?;
     Ok(run(
@@ -47,12 +42,10 @@ fn status(rt: &HostRuntime) -> Result<u8, PlanFault> {
         second,
         &mut rt.stdout(),
         &mut rt.stderr(),
+        mask,
     ))
 }
 
 fn main(rt: HostRuntime) -> ExitCode {
-    match status(&rt) {
-        Ok(status) => ExitCode::from(status),
-        Err(fault) => ExitCode::from(tell(&fault, &mut rt.stderr())),
-    }
+    ExitCode::from(exit_status(status(&rt), &mut rt.stderr()))
 }

@@ -3,8 +3,10 @@
 
 mod alike;
 mod citing;
+mod layers;
 mod pieces;
 
 pub use alike::spell_alike;
 pub use citing::cited_tlid;
+pub use layers::canonical_text;
 pub use pieces::load_pieces;

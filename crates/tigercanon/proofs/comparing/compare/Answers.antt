@@ -1,16 +1,17 @@
+use Rattle.tigercanon.specs.Comparing.{AreDifferentThrough}
+use Rattle.tigercanon.specs.LentParts.{bytes_of_parts}
+use Rattle.tigercanon.specs.Sets.{CarriesSetThrough}
+use Rattle.tigercanon.proofs.Masking.{as_it_is}
 use Rattle.tigercanon.proofs.comparing.compare.Goals as goal
 
-pub returns-in-Ok-clause-same : goal.returns-in-Ok-clause-same
-returns-in-Ok-clause-same c = λ r told. c.compare_first.ensures.same _ r c.in-Ok.ensures.linked told
+pub returns-clause-same : goal.returns-clause-same
+returns-clause-same c = λ r told.
+    let first = bytes_of_parts c.args.a.now in
+    let second = bytes_of_parts c.args.b.now in
+    as_it_is (λ seen. CarriesSetThrough seen r first second) (c.compare_masked.ensures.same r told)
 
-pub returns-in-Ok-clause-different : goal.returns-in-Ok-clause-different
-returns-in-Ok-clause-different c = λ told. c.compare_first.ensures.different _ c.in-Ok.ensures.linked told
-
-pub returns-in-Ok-clause-refused : goal.returns-in-Ok-clause-refused
-returns-in-Ok-clause-refused c = c.compare_first.ensures.refused _ c.in-Ok.ensures.linked
-
-pub returns-in-Ok-clause-no_device : goal.returns-in-Ok-clause-no_device
-returns-in-Ok-clause-no_device c = λ set. c.compare_first.ensures.no_device _ set c.in-Ok.ensures.linked
-
-pub returns-in-Ok-clause-succeeds : goal.returns-in-Ok-clause-succeeds
-returns-in-Ok-clause-succeeds c = c.compare_first.ensures.succeeds _ c.in-Ok.ensures.linked
+pub returns-clause-different : goal.returns-clause-different
+returns-clause-different c = λ told.
+    let first = bytes_of_parts c.args.a.now in
+    let second = bytes_of_parts c.args.b.now in
+    as_it_is (λ seen. AreDifferentThrough seen first second) (c.compare_masked.ensures.different told)

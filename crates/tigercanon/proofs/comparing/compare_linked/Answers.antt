@@ -1,26 +1,39 @@
-use Rattle.std.proofs.Common.{inr, refl, subst, sym}
-use Rattle.tigercanon.specs.Comparing.{TellsMemoryOfAccepted, TellsRefusalOfOne}
-use Rattle.tigercanon.proofs.CanonicalTexts.{if_err_by}
-use Rattle.tigercanon.proofs.Verdicts.{acceptable, sets_carried, sets_different}
+use Rattle.std.proofs.Common.{arith, inr, refl}
+use Rattle.std.proofs.lemmas.Result.{err_from_is_err_and}
+use Rattle.tigercanon.proofs.CanonicalTexts.{err_holds, if_err_by, ok_holds}
+use Rattle.tigercanon.proofs.Masking.{lacking_is_wanted, lacking_no_device, lacking_refuses, seen_acceptable}
 use Rattle.tigercanon.proofs.comparing.compare_linked.Goals as goal
 
-pub returns-in-Ok-clause-same : goal.returns-in-Ok-clause-same
-returns-in-Ok-clause-same c = λ a b r set linked told.
-    sets_carried a b _ _ _ _ set (c.in-Ok.ensures.canonical b linked) r (c.verdict_on-verdict.ensures.same r told)
+pub returns-clause-same : goal.returns-clause-same
+returns-clause-same g c = λ a b r set linked told.
+    c.verdict_under.ensures.same a b r set (ok_holds _ _ _ c.in_ok-second.ensures.ok c.admitted_county.ensures.seen b linked) told
 
-pub returns-in-Ok-clause-different : goal.returns-in-Ok-clause-different
-returns-in-Ok-clause-different c = λ a b set linked told.
-    sets_different a b _ _ _ _ set (c.in-Ok.ensures.canonical b linked) (c.verdict_on-verdict.ensures.different told)
+pub returns-clause-different : goal.returns-clause-different
+returns-clause-different g c = λ a b set linked told.
+    c.verdict_under.ensures.different a b set (ok_holds _ _ _ c.in_ok-second.ensures.ok c.admitted_county.ensures.seen b linked) told
 
-pub returns-in-Err-clause-refused : goal.returns-in-Err-clause-refused
-returns-in-Err-clause-refused c = λ a b accepted linked. inr (refl, accepted, c.in-Err.ensures.set_refused b linked)
+pub returns-clause-refused : goal.returns-clause-refused
+returns-clause-refused g c = λ a b accepted linked.
+    let second = seen_acceptable b _ (ok_holds _ _ _ c.in_ok-second.ensures.ok c.admitted_county.ensures.seen b linked) in
+    if_err_by c.verdict_under.result (lacking_refuses a b accepted second) c.verdict_under.ensures.memory
 
-pub returns-in-Ok-clause-refused : goal.returns-in-Ok-clause-refused
-returns-in-Ok-clause-refused c = λ a b accepted linked.
-    if_err_by c.verdict_on-verdict.result
-    (λ told memory. subst (TellsRefusalOfOne a b) (sym memory) (accepted, acceptable b _ _ (c.in-Ok.ensures.canonical b linked)))
-    c.verdict_on-verdict.ensures.memory
+pub returns-clause-no_device : goal.returns-clause-no_device
+returns-clause-no_device g c = λ b set linked. lacking_no_device c.verdict_under.result set c.verdict_under.ensures.memory
 
-pub returns-in-Ok-clause-succeeds : goal.returns-in-Ok-clause-succeeds
-returns-in-Ok-clause-succeeds c = λ a b linked.
-    if_err_by c.verdict_on-verdict.result (λ told memory. subst (TellsMemoryOfAccepted a b) (sym memory) tt) c.verdict_on-verdict.ensures.memory
+pub returns-clause-succeeds : goal.returns-clause-succeeds
+returns-clause-succeeds g c = λ a b linked. if_err_by c.verdict_under.result (lacking_is_wanted a b) c.verdict_under.ensures.memory
+
+pub returns-in_err-second-clause-refused : goal.returns-in_err-second-clause-refused
+returns-in_err-second-clause-refused g c = λ a b accepted linked.
+    let p = err_from_is_err_and c.from_residual.result c.from_residual.ensures.1 in
+    let e = c.in_err-second.ensures.err in
+    rw (p.1, p.2, e.2) (inr (refl, accepted, err_holds _ _ e.0 e.1 c.admitted_county.ensures.set_refused b linked))
+
+pub returns-in_err-second-clause-succeeds : goal.returns-in_err-second-clause-succeeds
+returns-in_err-second-clause-succeeds g c = λ a b linked.
+    let p = err_from_is_err_and c.from_residual.result c.from_residual.ensures.1 in
+    let e = c.in_err-second.ensures.err in
+    rw (p.1, p.2, e.2) (
+      (λ is accepted. absurd (omega (arith, is))),
+      (λ is accepted. err_holds _ _ e.0 e.1 c.admitted_county.ensures.succeeds b accepted.0 linked accepted.1),
+    )

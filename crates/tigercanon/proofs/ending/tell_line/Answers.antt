@@ -3,5 +3,6 @@ use Rattle.tigercanon.proofs.ending.tell_line.Goals as goal
 
 pub returns : goal.returns
 returns g c =
-    line_told (g.E.Write.contents c.args.err.now) (g.E.Write.contents c.write_text.new.out) c.args.line.now c.write_text.result
-    c.write_text.ensures.whole c.write_text.ensures.stopped
+    let w = c.write_text.ensures in
+    line_told g.E.Sink.failed g.E.Sink.holds c.args.err.now c.write_text.new.out c.args.line.now c.write_text.result w.whole w.none_failed
+    w.stopped w.failed

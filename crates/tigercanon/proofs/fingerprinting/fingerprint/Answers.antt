@@ -1,14 +1,11 @@
+use Rattle.tigercanon.specs.Fingerprints.{IsFingerprintThrough}
+use Rattle.tigercanon.specs.LentParts.{bytes_of_parts}
+use Rattle.tigercanon.proofs.CanonicalTexts.{if_ok_by}
+use Rattle.tigercanon.proofs.Masking.{as_it_is}
 use Rattle.tigercanon.proofs.fingerprinting.fingerprint.Goals as goal
 
 pub returns-clause-fingerprint : goal.returns-clause-fingerprint
-returns-clause-fingerprint c = c.fingerprint_linked.ensures.fingerprint _ c.in_ok-linked.ensures.linked
-
-pub returns-clause-refused : goal.returns-clause-refused
-returns-clause-refused c = c.fingerprint_linked.ensures.set_refused _ c.in_ok-linked.ensures.linked
-
-pub returns-clause-no_device : goal.returns-clause-no_device
-returns-clause-no_device c = c.fingerprint_linked.ensures.no_device _ c.in_ok-linked.ensures.linked
-
-pub returns-clause-succeeds : goal.returns-clause-succeeds
-returns-clause-succeeds c = λ records accepted.
-    c.fingerprint_linked.ensures.succeeds _ records c.in_ok-linked.ensures.linked accepted
+returns-clause-fingerprint c =
+    let parts = bytes_of_parts c.args.parts.now in
+    if_ok_by c.fingerprint_masked.result (λ bytes. as_it_is (λ seen. IsFingerprintThrough seen parts bytes))
+    c.fingerprint_masked.ensures.fingerprint

@@ -1,8 +1,10 @@
+use Rattle.tl_number.specs.Sights.{plain}
+use Rattle.tl_number.proofs.Accepted.{plain_sight}
 use Rattle.tigercanon.proofs.Sets.{canonical_text, one_text}
 use Rattle.tigercanon.proofs.laws.an_accepted_set_has_one_canonical_text.Goals as goal
 
 pub returns-clause-exists : goal.returns-clause-exists
-returns-clause-exists c = canonical_text
+returns-clause-exists c = canonical_text plain plain_sight
 
 pub returns-clause-only : goal.returns-clause-only
-returns-clause-only c = one_text
+returns-clause-only c = one_text plain plain_sight

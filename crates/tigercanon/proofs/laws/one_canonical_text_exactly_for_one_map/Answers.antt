@@ -1,8 +1,10 @@
+use Rattle.tl_number.specs.Sights.{plain}
+use Rattle.tl_number.proofs.Accepted.{plain_sight}
 use Rattle.tigercanon.proofs.Sets.{same_one_text, one_text_same}
 use Rattle.tigercanon.proofs.laws.one_canonical_text_exactly_for_one_map.Goals as goal
 
 pub returns-clause-same : goal.returns-clause-same
-returns-clause-same c = same_one_text
+returns-clause-same c = same_one_text plain plain_sight
 
 pub returns-clause-equal : goal.returns-clause-equal
-returns-clause-equal c = one_text_same
+returns-clause-equal c = one_text_same plain plain_sight

@@ -1,32 +1,30 @@
-use Rattle.std.proofs.lemmas.Result.{err_from_is_err_and}
-use Rattle.tigercanon.proofs.CanonicalTexts.{again, if_ok_by, one_text_accepted}
+use Rattle.tigercanon.specs.LentParts.{bytes_of_parts}
+use Rattle.tigercanon.specs.Normalising.{IsOnlyTextThrough}
+use Rattle.tigercanon.specs.Sets.{IsCanonicalTextThrough, IsOneCanonicalTextThrough}
+use Rattle.tigercanon.proofs.CanonicalTexts.{if_ok_by}
+use Rattle.tigercanon.proofs.Masking.{as_it_is, under_none}
+use Rattle.tigercanon.proofs.Sets.{only_as_it_is}
 use Rattle.tigercanon.proofs.normalising.normalise.Goals as goal
 
 pub returns-clause-canonical : goal.returns-clause-canonical
-returns-clause-canonical c = c.text_of_linked.ensures.canonical _ c.in_ok-linked.ensures.linked
+returns-clause-canonical c =
+    let parts = bytes_of_parts c.args.parts.now in
+    if_ok_by c.normalise_masked.result (λ text. as_it_is (λ seen. IsCanonicalTextThrough seen parts text.items))
+    c.normalise_masked.ensures.canonical
 
 pub returns-clause-only : goal.returns-clause-only
-returns-clause-only c = c.text_of_linked.ensures.only _ c.in_ok-linked.ensures.linked
+returns-clause-only c =
+    let parts = bytes_of_parts c.args.parts.now in
+    if_ok_by c.normalise_masked.result
+    (λ text only. only_as_it_is parts text.items (as_it_is (λ seen. IsOnlyTextThrough seen parts text.items) only))
+    c.normalise_masked.ensures.only
 
 pub returns-clause-again : goal.returns-clause-again
 returns-clause-again c = λ text one.
-    if_ok_by c.text_of_linked.result (λ answer canonical. again _ answer.items canonical text one) (returns-clause-canonical c)
+    let parts = bytes_of_parts c.args.parts.now in
+    c.normalise_masked.ensures.again text (under_none (λ seen. IsOneCanonicalTextThrough seen parts text) one)
 
 pub returns-clause-again_succeeds : goal.returns-clause-again_succeeds
 returns-clause-again_succeeds c = λ text one.
-    let set = one_text_accepted _ text one in
-    c.text_of_linked.ensures.succeeds _ set.0 c.in_ok-linked.ensures.linked set.1
-
-pub returns-clause-refused : goal.returns-clause-refused
-returns-clause-refused c = c.text_of_linked.ensures.refused _ c.in_ok-linked.ensures.linked
-
-pub returns-clause-no_device : goal.returns-clause-no_device
-returns-clause-no_device c = c.text_of_linked.ensures.no_device _ c.in_ok-linked.ensures.linked
-
-pub returns-clause-succeeds : goal.returns-clause-succeeds
-returns-clause-succeeds c = λ records accepted. c.text_of_linked.ensures.succeeds _ records c.in_ok-linked.ensures.linked accepted
-
-pub returns-in_err-linked-clause-again_succeeds : goal.returns-in_err-linked-clause-again_succeeds
-returns-in_err-linked-clause-again_succeeds c = λ text one.
-    let p = err_from_is_err_and c.from_residual.result c.from_residual.ensures.1 in
-    let set = one_text_accepted _ text one in rw (p.1, p.2) (c.in_err-linked.ensures.succeeds set.0 set.1)
+    let parts = bytes_of_parts c.args.parts.now in
+    c.normalise_masked.ensures.again_succeeds text (under_none (λ seen. IsOneCanonicalTextThrough seen parts text) one)

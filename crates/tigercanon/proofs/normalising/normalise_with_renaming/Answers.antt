@@ -1,20 +1,28 @@
+use Rattle.std.proofs.Common.{[], ◌∷◌}
+use Rattle.tigercanon.specs.LentParts.{bytes_of_parts}
+use Rattle.tigercanon.specs.Normalising.{IsOnlyTextThrough}
+use Rattle.tigercanon.specs.Sets.{CarriesSetThrough, IsCanonicalTextThrough}
+use Rattle.tigercanon.proofs.CanonicalTexts.{if_ok_by}
+use Rattle.tigercanon.proofs.Masking.{as_it_is}
+use Rattle.tigercanon.proofs.Sets.{only_as_it_is}
 use Rattle.tigercanon.proofs.normalising.normalise_with_renaming.Goals as goal
 
 pub returns-clause-canonical : goal.returns-clause-canonical
-returns-clause-canonical c = c.text_and_renaming_of_linked.ensures.canonical _ c.in_ok-linked.ensures.linked
+returns-clause-canonical c =
+    let parts = bytes_of_parts c.args.parts.now in
+    if_ok_by c.normalise_with_renaming_masked.result (λ answer. as_it_is (λ seen. IsCanonicalTextThrough seen parts answer.0.items))
+    c.normalise_with_renaming_masked.ensures.canonical
 
 pub returns-clause-only : goal.returns-clause-only
-returns-clause-only c = c.text_and_renaming_of_linked.ensures.only _ c.in_ok-linked.ensures.linked
+returns-clause-only c =
+    let parts = bytes_of_parts c.args.parts.now in
+    if_ok_by c.normalise_with_renaming_masked.result
+    (λ answer only. only_as_it_is parts answer.0.items (as_it_is (λ seen. IsOnlyTextThrough seen parts answer.0.items) only))
+    c.normalise_with_renaming_masked.ensures.only
 
 pub returns-clause-carries : goal.returns-clause-carries
-returns-clause-carries c = c.text_and_renaming_of_linked.ensures.carries _ c.in_ok-linked.ensures.linked
-
-pub returns-clause-refused : goal.returns-clause-refused
-returns-clause-refused c = c.text_and_renaming_of_linked.ensures.refused _ c.in_ok-linked.ensures.linked
-
-pub returns-clause-no_device : goal.returns-clause-no_device
-returns-clause-no_device c = c.text_and_renaming_of_linked.ensures.no_device _ c.in_ok-linked.ensures.linked
-
-pub returns-clause-succeeds : goal.returns-clause-succeeds
-returns-clause-succeeds c = λ records accepted.
-    c.text_and_renaming_of_linked.ensures.succeeds _ records c.in_ok-linked.ensures.linked accepted
+returns-clause-carries c =
+    let parts = bytes_of_parts c.args.parts.now in
+    if_ok_by c.normalise_with_renaming_masked.result
+    (λ answer. as_it_is (λ seen. CarriesSetThrough seen answer.1 parts (answer.0.items ∷ [])))
+    c.normalise_with_renaming_masked.ensures.carries

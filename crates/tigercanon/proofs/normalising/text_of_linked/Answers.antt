@@ -1,23 +1,15 @@
 use Rattle.std.proofs.lemmas.Result.{err_from_is_err_and}
-use Rattle.tigercanon.proofs.CanonicalTexts.{if_ok_by, memory_is_wanted, memory_refuses, only_of_set, text_of_set}
+use Rattle.tigercanon.proofs.CanonicalTexts.{memory_is_wanted, memory_refuses}
 use Rattle.tigercanon.proofs.normalising.text_of_linked.Goals as goal
 
 pub returns-clause-canonical : goal.returns-clause-canonical
-returns-clause-canonical c = λ parts linked.
-    let set = c.in_ok-county.ensures.canonical parts linked in
-    if_ok_by c.text_in_memory-text.result (λ text. text_of_set _ _ _ set text.items) c.text_in_memory-text.ensures.text
-
-pub returns-clause-only : goal.returns-clause-only
-returns-clause-only c = λ parts linked.
-    let set = c.in_ok-county.ensures.canonical parts linked in
-    if_ok_by c.text_in_memory-text.result (λ text. only_of_set _ _ _ set text.items) c.text_in_memory-text.ensures.text
+returns-clause-canonical c = λ parts linked. c.text_under.ensures.canonical parts (c.in_ok-county.ensures.seen parts linked)
 
 pub returns-clause-refused : goal.returns-clause-refused
-returns-clause-refused c = λ parts linked. memory_refuses parts c.text_in_memory-text.result c.text_in_memory-text.ensures.memory
+returns-clause-refused c = λ parts linked. memory_refuses parts c.text_under.result c.text_under.ensures.memory
 
 pub returns-clause-succeeds : goal.returns-clause-succeeds
-returns-clause-succeeds c = λ parts records linked accepted.
-    memory_is_wanted c.text_in_memory-text.result c.text_in_memory-text.ensures.memory
+returns-clause-succeeds c = λ parts records linked accepted. memory_is_wanted c.text_under.result c.text_under.ensures.memory
 
 pub returns-in_err-county-clause-refused : goal.returns-in_err-county-clause-refused
 returns-in_err-county-clause-refused c = λ parts linked.

@@ -1,22 +1,23 @@
-use Rattle.std.proofs.Common.{refl, sym, ◌∙◌}
-use Rattle.std.proofs.lemmas.Result.{IfOk-weaker}
-use Rattle.std.proofs.lemmas.Bool.{false≢true}
-use Rattle.tigercanon.proofs.CanonicalTexts.{if_err_by, only_of_set, text_of_set}
+use Rattle.std.proofs.Common.{◌≡◌, refl, sym, subst}
+use Rattle.tl_load.specs.declared.fault.LoadFault.TheVariants.{Device}
+use Rattle.tigercanon.specs.Faults.{RefusesRecords}
+use Rattle.tigercanon.specs.declared.fault.Fault.TheVariants.{Load, Memory}
+use Rattle.tigercanon.proofs.CanonicalTexts.{err_holds, if_err_by}
 use Rattle.tigercanon.proofs.normalising.write_linked.Goals as goal
 
 pub returns-clause-written : goal.returns-clause-written
-returns-clause-written g c = λ parts linked.
-    let set = c.in_ok-county.ensures.canonical parts linked in
-    IfOk-weaker c.write_county-written.result _ _
-    (λ n out. (_, text_of_set _ _ _ set _ refl, only_of_set _ _ _ set _ refl, out))
-    c.write_county-written.ensures.written
+returns-clause-written g c = λ parts linked. c.write_under.ensures.written parts (c.in_ok-county.ensures.seen parts linked)
 
 pub returns-clause-stopped : goal.returns-clause-stopped
 returns-clause-stopped g c = λ parts fault linked told.
-    let set = c.in_ok-county.ensures.canonical parts linked in
-    let out = c.write_county-written.ensures.stopped fault told in
-    (_, text_of_set _ _ _ set _ refl, only_of_set _ _ _ set _ refl, out)
+    c.write_under.ensures.stopped parts fault (c.in_ok-county.ensures.seen parts linked) told
 
 pub returns-clause-refused : goal.returns-clause-refused
 returns-clause-refused g c = λ records linked.
-    if_err_by c.write_county-written.result (λ fault sink other. absurd (false≢true (sym other ∙ sink))) c.write_county-written.ensures.of_sink
+    if_err_by c.write_under.result (λ fault memory other. subst (RefusesRecords records) (sym (memory other)) tt)
+    c.write_under.ensures.memory
+
+pub returns-clause-no_device : goal.returns-clause-no_device
+returns-clause-no_device g c = λ parts linked e.
+    let memory : Load Device ≡ Memory = err_holds _ c.write_under.result (Load Device) e c.write_under.ensures.memory refl in
+    absurd (cc)

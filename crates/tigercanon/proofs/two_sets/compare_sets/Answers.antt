@@ -1,22 +1,37 @@
-use Rattle.std.proofs.Common.{inr, refl, ⊎_elim}
-use Rattle.tigercanon.proofs.TwoSets.{is_missing, not_missing}
+use Rattle.std.proofs.Common.{List, ℕ, refl, subst}
+use Rattle.std.proofs.lemmas.Result.{err_from_is_err_and}
+use Rattle.tigercanon.specs.Devices.{set_of_sources, to_sink}
+use Rattle.tigercanon.specs.Normalising.{StopsShort}
+use Rattle.tigercanon.specs.TwoSets.{line_of_ending}
+use Rattle.tigercanon.proofs.TwoSets.{leaves_untouched, said}
 use Rattle.tigercanon.proofs.two_sets.compare_sets.Goals as goal
 
-pub returns-then-is_missing_a_file-2-clause-lacking : goal.returns-then-is_missing_a_file-2-clause-lacking
-returns-then-is_missing_a_file-2-clause-lacking g c = λ lacking.
-    inr (
-      refl,
-      not_missing c.args.first.items c.deref.result.now c.is_missing_a_file.result c.deref.ensures.value c.is_missing_a_file.ensures
-          c.if-is_missing_a_file.false,
-      is_missing c.args.second.items c.deref-2.result.now c.is_missing_a_file-2.result c.deref-2.ensures.value
-          c.is_missing_a_file-2.ensures c.if-is_missing_a_file-2.true,
-    )
+pub returns-in_err-ending-clause-stopped : goal.returns-in_err-ending-clause-stopped
+returns-in_err-ending-clause-stopped g c =
+    let p = err_from_is_err_and c.from_residual.result c.from_residual.ensures.1 in
+    rw (p.1, p.2) (leaves_untouched c.args.mask
+    (set_of_sources g.R.Source.remaining g.R.Source.given g.R.Source.failed g.R.Source.reads c.args.first.now c.compare_sources.new.first)
+    (set_of_sources g.R.Source.remaining g.R.Source.given g.R.Source.failed g.R.Source.reads c.args.second.now c.compare_sources.new.second)
+    (to_sink g.W.Sink.failed g.W.Sink.holds c.args.out.now c.args.out.now) c.in_err-ending.field-0.0.fault c.in_err-ending.field-0.0.set
+    refl c.in_err-ending.ensures.refused)
 
-pub returns-clause-lacking : goal.returns-clause-lacking
-returns-clause-lacking g c = λ lacking.
-    absurd
-    (⊎_elim
-    (not_missing c.args.first.items c.deref.result.now c.is_missing_a_file.result c.deref.ensures.value c.is_missing_a_file.ensures
-    c.if-is_missing_a_file.false)
-    (not_missing c.args.second.items c.deref-2.result.now c.is_missing_a_file-2.result c.deref-2.ensures.value
-    c.is_missing_a_file-2.ensures c.if-is_missing_a_file-2.false) lacking)
+pub returns-in-Err-clause-stopped : goal.returns-in-Err-clause-stopped
+returns-in-Err-clause-stopped g c =
+    let ending = c.in_ok-ending.ending in
+    let written = c.in-Err.fault.written in
+    let short = subst (λ (line : List ℕ). StopsShort g.W.Sink.holds c.args.out.now c.write_text.new.out line written) c.line_of.ensures
+    c.in-Err.ensures.stopped in (
+      refl,
+      c.in-Err.ensures.failed,
+      record {
+        text = line_of_ending ending;
+        answered = said c.args.mask
+            (set_of_sources g.R.Source.remaining g.R.Source.given g.R.Source.failed g.R.Source.reads c.args.first.now
+            c.compare_sources.new.first)
+            (set_of_sources g.R.Source.remaining g.R.Source.given g.R.Source.failed g.R.Source.reads c.args.second.now
+            c.compare_sources.new.second)
+            ending c.in_ok-ending.ensures.verdict;
+        printed = short.1;
+        short = short.0;
+      },
+    )

@@ -1,0 +1,41 @@
+-- What the program's jobs do with sources and with a sink, which count their failures.
+use Rattle.std.specs.Prelude.{ℕ, ◌≡◌, ◌≢◌, ◌+◌, List, Option, Result, IfErr, ◌⊎◌}
+use Rattle.tigercanon.specs.declared.ending.Ending.{Ending}
+use Rattle.tigercanon.specs.declared.ending.Stopped.{Stopped}
+use Rattle.tl_load.specs.declared.fault.LoadFault.{LoadFault}
+use Rattle.tl_load.specs.declared.fault.LoadFault.TheVariants.{Device}
+use Rattle.tigercanon.specs.declared.fault.Fault.{Fault}
+use Rattle.tigercanon.specs.declared.fault.Fault.TheVariants.{Load, Memory}
+use Rattle.tigercanon.specs.Normalising.{AreRefusedParts, Took}
+use Rattle.tigercanon.specs.Outcomes.{GivenOutput, GivenSet}
+use Rattle.tigercanon.specs.Reading.{AreRead, IsFaultOfRead, SomeUnread}
+
+-- the sources were read to their ends, and the parts that they gave are refused for this; or it is the fault of the lines of every
+-- set that goes on from what was read
+abbrev pub IsRefusalOfRead : {R : Type 0} → (R → Option (List ℕ)) → (R → ℕ) → List R → List R → Fault → Type 0
+IsRefusalOfRead remaining given before after fault = AreRefusedParts remaining given before after fault
+    ⊎ ((of_lines : LoadFault) × (fault ≡ Load of_lines) × IsFaultOfRead remaining given before after of_lines)
+
+-- a set of parts that sources give, as reading it left them: it can't be read only where one of them failed, or has no end
+abbrev pub set_of_sources : {R : Type 0} → (R → Option (List ℕ)) → (R → ℕ) → (R → ℕ) → (R → ℕ) → List R → List R → GivenSet
+set_of_sources remaining given failed reads before after = record {
+  holds = AreRead remaining given before after;
+  refused = IsRefusalOfRead remaining given before after;
+  unread = SomeUnread failed reads before after;
+}
+
+-- a sink, as printing left it
+abbrev pub to_sink : {W : Type 0} → (W → ℕ) → (W → List ℕ → Type 0) → W → W → GivenOutput
+to_sink failed holds old new = record {
+  got = λ bytes. Took holds old new bytes;
+  kept = new ≡ old;
+  failed = failed new ≡ failed old + 1;
+}
+
+-- what stops a set from being read: that of a device, where this means that it couldn't be, or want of memory
+abbrev pub StopsReading : Type 0 → Fault → Type 0
+StopsReading unread fault = ((fault ≡ Load Device) × unread) ⊎ (fault ≡ Memory)
+
+-- a job that stopped told something else than a device
+abbrev pub TellsNoDevice : Result Ending Stopped → Type 0
+TellsNoDevice result = IfErr result (λ stopped. stopped.fault ≢ Load Device)

@@ -1,0 +1,7 @@
+-- Parts of a set that are lent as slices.
+use Rattle.std.specs.Borrow.{Bor}
+use Rattle.std.specs.Prelude.{ℕ, List, map}
+
+-- the bytes of each part
+abbrev pub bytes_of_parts : List (Bor (List ℕ)) → List (List ℕ)
+bytes_of_parts parts = map (λ part. part.now) parts

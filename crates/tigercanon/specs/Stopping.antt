@@ -1,0 +1,18 @@
+-- Why a job stopped, and the set that is named.
+use Rattle.std.specs.Prelude.{ℕ, Option, Some, None}
+use Rattle.tigercanon.specs.declared.command_line.Job.{Job}
+use Rattle.tigercanon.specs.declared.command_line.Job.TheVariants.{Compare}
+use Rattle.tigercanon.specs.declared.comparing.CompareFault.{CompareFault}
+use Rattle.tigercanon.specs.declared.comparing.CompareFault.TheVariants.{In, Memory}
+use Rattle.tigercanon.specs.declared.ending.Stopped.{Stopped}
+use Rattle.tigercanon.specs.declared.fault.Fault.TheVariants.{Memory as NoMemory}
+
+-- the fault of the set that is told with it; want of memory that is no set's is told without one
+abbrev pub stopped_by : CompareFault → Stopped
+stopped_by (In set fault) = record { fault = fault; set = Some set }
+stopped_by Memory = record { fault = NoMemory; set = None }
+
+-- the set that is named where this one of a job's sets is at fault; one that reads one set names none
+abbrev pub set_of_job : Job → ℕ → Option ℕ
+set_of_job Compare set = Some set
+set_of_job job set = None
