@@ -1,17 +1,26 @@
 //! What only a call shows: getters, counties and renamings as values, and devices that give little and fail.
 
+mod arenas;
 mod callers;
 mod canonical;
 mod comparing;
 mod counties;
 mod devices;
 mod fields;
+mod hoard;
 mod loading;
+mod made;
+mod many;
+mod masked;
+mod masked_counties;
+mod masked_runs;
+mod masks;
 mod refusals;
 mod renamings;
 mod running;
 mod sets;
 mod sinks;
+mod texts;
 mod usage;
 mod whole_calls;
 mod worked_sets;

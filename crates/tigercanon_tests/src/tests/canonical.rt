@@ -1,118 +1,102 @@
-//! The canonical counties of sets and the renamings onto them, of counties in memory of their own and in an arena.
+//! The canonical counties of sets and the renamings onto them.
 
 use super::comparing::{same, same_items};
-use super::counties::{county_in_of, county_of};
+use super::counties::county_of;
 use super::renamings::{carries, has_lists, have_the_same_lists, onto_the_text};
 use super::sets::{lines_of, spelled};
 use super::worked_sets::{Worked, street_turned, two_chains, worked};
-use bumpalo::Bump;
 use std::alloc::Global;
 use std::process::Abort;
 use tigercanon::normalise_with_renaming;
 use tl_cert::Renaming;
 use tl_county::{Chart, County};
-use tl_number::{CanonCounty, CanonCountyIn, canonise, canonise_in};
-use tl_profile::{admit, admit_in, order_by_shape};
-use tl_write::{CountedOut, records_of, records_of_in, write_in, write_to};
+use tl_number::{CanonCounty, ascending_steps, canonise};
+use tl_profile::{Admitted, admit, order_by_shape};
+use tl_write::{CountedOut, records_of, write_to};
 
-/// The canonical county of a worked set, and the renaming onto it.
-fn canonical(rt: &impl Abort, alloc: Global, row: &Worked) -> (CanonCounty<County>, Renaming) {
-    let county = county_of(rt, alloc, row.0, row.1);
-    let admitted = admit(alloc, county).expect(rt, row.0);
-    canonise(alloc, admitted).expect(rt, row.0)
-}
-
-/// The same in an arena.
-fn canonical_in<'a>(
+/// The canonical county of a set, and the renaming onto it.
+fn canonical(
     rt: &impl Abort,
     alloc: Global,
-    arena: &'a Bump,
-    row: &Worked,
-) -> (CanonCountyIn<'a>, Renaming) {
-    let county = county_in_of(rt, alloc, arena, row.0, row.1);
-    let admitted = admit_in(alloc, county).expect(rt, row.0);
-    canonise_in(alloc, admitted).expect(rt, row.0)
+    row: &str,
+    set: &[u8],
+) -> (CanonCounty<County>, Renaming) {
+    let county = county_of(rt, alloc, row, set);
+    let admitted = admit(alloc, county).expect(rt, row);
+    canonise(alloc, admitted).expect(rt, row)
 }
 
-/// What is written and what is listed of the county is the text of the worked set.
-fn has_text(rt: &impl Abort, alloc: Global, row: &Worked, county: &CanonCounty<County>) {
-    let text = lines_of(rt, alloc, row.2);
+/// What is written and what is listed of the county is this text.
+fn has_text(rt: &impl Abort, alloc: Global, row: &str, county: &CanonCounty<County>, text: &[u8]) {
     let mut out = CountedOut::new(Vec::new(alloc));
+    same(rt, row, &write_to(county, &mut out), &Ok(text.len() as u64));
+    same_items(rt, row, &out.into_inner(), text);
+    let records = records_of(alloc, county).expect(rt, row);
+    same_items(rt, row, &spelled(rt, alloc, &records), text);
+}
+
+/// The renaming carries the set onto its text, and is the one that is told beside the text.
+fn is_onto_the_text(
+    rt: &impl Abort,
+    alloc: Global,
+    row: &str,
+    set: &[u8],
+    text: &[u8],
+    renaming: &Renaming,
+) {
     same(
         rt,
-        row.0,
-        &write_to(county, &mut out),
-        &Ok(text.len() as u64),
+        row,
+        &carries(rt, alloc, row, set, text, renaming),
+        &true,
     );
-    same_items(rt, row.0, &out.into_inner(), &text);
-    let records = records_of(alloc, county).expect(rt, row.0);
-    same_items(rt, row.0, &spelled(rt, alloc, &records), &text);
+    let told = normalise_with_renaming(alloc, &[set]).expect(rt, row);
+    same_items(rt, row, &told.0, text);
+    have_the_same_lists(rt, row, renaming, &told.1);
 }
 
-/// The same in an arena.
-fn has_text_in(rt: &impl Abort, alloc: Global, row: &Worked, county: &CanonCountyIn<'_>) {
-    let text = lines_of(rt, alloc, row.2);
-    let mut out = CountedOut::new(Vec::new(alloc));
-    same(
-        rt,
-        row.0,
-        &write_in(county, &mut out),
-        &Ok(text.len() as u64),
-    );
-    same_items(rt, row.0, &out.into_inner(), &text);
-    let records = records_of_in(alloc, county).expect(rt, row.0);
-    same_items(rt, row.0, &spelled(rt, alloc, &records), &text);
-}
-
-/// The renaming carries the worked set onto its text, and is the one that is told beside the text.
-fn is_onto_the_text(rt: &impl Abort, alloc: Global, row: &Worked, renaming: &Renaming) {
-    let carried = carries(rt, alloc, row.0, row.1, row.2, renaming);
-    same(rt, row.0, &carried, &true);
-    let set = lines_of(rt, alloc, row.1);
-    let told = normalise_with_renaming(alloc, &[&set]).expect(rt, row.0);
-    same_items(rt, row.0, &told.0, &lines_of(rt, alloc, row.2));
-    have_the_same_lists(rt, row.0, renaming, &told.1);
-}
-
-/// The worked set becomes what its text says.
-fn becomes(rt: &impl Abort, alloc: Global, row: &Worked) {
-    let found = canonical(rt, alloc, row);
-    has_text(rt, alloc, row, &found.0);
-    is_onto_the_text(rt, alloc, row, &found.1);
+/// The set becomes what its text says.
+fn becomes(rt: &impl Abort, alloc: Global, row: &str, set: &[u8], text: &[u8]) {
+    let found = canonical(rt, alloc, row, set);
+    has_text(rt, alloc, row, &found.0, text);
+    is_onto_the_text(rt, alloc, row, set, text, &found.1);
     // One call for the prover, where the end of the block would be a step for each field.
     drop(found);
 }
 
-/// The same in an arena.
-fn becomes_in(rt: &impl Abort, alloc: Global, row: &Worked) {
-    let arena = Bump::new(alloc);
-    let found = canonical_in(rt, alloc, &arena, row);
-    has_text_in(rt, alloc, row, &found.0);
-    is_onto_the_text(rt, alloc, row, &found.1);
-    // As above.
-    drop(found);
+/// The worked set becomes what its text says.
+fn worked_becomes(rt: &impl Abort, alloc: Global, row: &Worked) {
+    let set = lines_of(rt, alloc, row.1);
+    let text = lines_of(rt, alloc, row.2);
+    becomes(rt, alloc, row.0, &set, &text);
 }
 
-/// How many chains an admitted county has, by its chart, by its list of TLIDs and by its order of shapes.
-#[test]
-fn an_admitted_county_has_its_chains(rt: HostRuntime) {
-    let county = county_of(&rt, rt.alloc(), "two chains", two_chains());
-    let admitted = admit(rt.alloc(), county).expect(&rt, "two chains");
-    let shapes = order_by_shape(rt.alloc(), admitted.county()).expect(&rt, "two chains");
+/// How many chains an admitted county has, by its chart, by its list of TLIDs, by its order of shapes and by its arrangement.
+fn has_chains(rt: &impl Abort, alloc: Global, row: &str, admitted: &Admitted, chains: usize) {
+    let shapes = order_by_shape(alloc, admitted.county()).expect(rt, row);
+    let steps = ascending_steps(alloc, admitted.county()).expect(rt, row);
     let counts = [
         admitted.chart().chain_count(),
         admitted.county().tlids().len(),
         shapes.walks().len(),
+        steps.len(),
     ];
-    same(&rt, "two chains", &counts, &[2; 3]);
+    same(rt, row, &counts, &[chains; 4]);
+}
+
+#[test]
+fn an_admitted_county_has_its_chains(rt: HostRuntime) {
+    let set = lines_of(&rt, rt.alloc(), two_chains());
+    let county = county_of(&rt, rt.alloc(), "two chains", &set);
+    let admitted = admit(rt.alloc(), county).expect(&rt, "two chains");
+    has_chains(&rt, rt.alloc(), "two chains", &admitted, 2);
     drop(admitted);
 }
 
 #[test]
 fn sets_become_their_canonical_counties(rt: HostRuntime) {
     for row in worked() {
-        becomes(&rt, rt.alloc(), row);
-        becomes_in(&rt, rt.alloc(), row);
+        worked_becomes(&rt, rt.alloc(), row);
     }
 }
 

@@ -1,7 +1,7 @@
 //! Counties in memory of their own and in an arena, and what their getters answer.
 
 use super::comparing::{same, same_items};
-use super::sets::records_of;
+use super::sets::{lines_of, records_of};
 use super::worked_sets::record_of_each_type;
 use bumpalo::Bump;
 use std::alloc::Global;
@@ -9,9 +9,9 @@ use std::process::Abort;
 use tl_county::{County, CountyIn, KeySet, PolygonKey, link, link_in};
 use tl_layout::Point;
 
-/// The county of these lines.
-pub(super) fn county_of(rt: &impl Abort, alloc: Global, row: &str, lines: &[&str]) -> County {
-    link(alloc, records_of(rt, alloc, row, lines)).expect(rt, row)
+/// The county of this set.
+pub(super) fn county_of(rt: &impl Abort, alloc: Global, row: &str, set: &[u8]) -> County {
+    link(alloc, records_of(rt, alloc, row, set)).expect(rt, row)
 }
 
 /// The same in an arena.
@@ -20,9 +20,9 @@ pub(super) fn county_in_of<'a>(
     alloc: Global,
     arena: &'a Bump,
     row: &str,
-    lines: &[&str],
+    set: &[u8],
 ) -> CountyIn<'a> {
-    link_in(alloc, arena, records_of(rt, alloc, row, lines)).expect(rt, row)
+    link_in(alloc, arena, records_of(rt, alloc, row, set)).expect(rt, row)
 }
 
 /// The numbers of the county are those of its lines.
@@ -100,16 +100,13 @@ fn has_the_landmarks(rt: &impl Abort, county: &County) {
 
 #[test]
 fn getters_tell_what_the_lines_say(rt: HostRuntime) {
-    let county = county_of(
-        &rt,
-        rt.alloc(),
-        "a record of each type",
-        record_of_each_type(),
-    );
+    let set = lines_of(&rt, rt.alloc(), record_of_each_type());
+    let county = county_of(&rt, rt.alloc(), "a record of each type", &set);
     has_the_numbers(&rt, &county);
     has_the_names_and_polygons(&rt, &county);
     has_the_chain(&rt, &county);
     has_the_landmarks(&rt, &county);
+    drop(county);
 }
 
 const B9: PolygonKey = (*b"B4701", 9);

@@ -1,17 +1,27 @@
-//! Readers and writers that give and take a few bytes at a time, and fail.
+//! Readers and writers that give and take a few bytes at a time, and fail once.
 
 use std::alloc::Global;
 use std::cell::Cell;
 use std::io::{self, Error, ErrorKind, Read, Write};
 use tigercanon::Opened;
 
-/// Gives its bytes at most `step` at a time, and counts its reads. The read after `reads` of them is interrupted, and no other.
+/// The kinds of failures that devices fail with.
+pub(super) const KINDS: [ErrorKind; 5] = [
+    ErrorKind::Interrupted,
+    ErrorKind::WouldBlock,
+    ErrorKind::TimedOut,
+    ErrorKind::StorageFull,
+    ErrorKind::Other,
+];
+
+/// Gives its bytes at most `step` at a time, and counts its reads. The read after `reads` of them fails, and no other.
 #[derive(Drop)]
 pub(super) struct SlowReader<'a> {
     bytes: Vec<u8>,
     place: usize,
     step: usize,
     reads: Option<usize>,
+    kind: ErrorKind,
     count: &'a Cell<usize>,
 }
 
@@ -21,7 +31,7 @@ impl Read for SlowReader<'_> {
         match self.reads {
             Some(0) => {
                 self.reads = None;
-                return Err(Error::from(ErrorKind::Interrupted));
+                return Err(Error::from(self.kind));
             }
             Some(reads) => self.reads = Some(reads - 1),
             None => {}
@@ -34,23 +44,26 @@ impl Read for SlowReader<'_> {
     }
 }
 
-/// Takes at most `step` bytes at a time. The write after it holds `room` bytes is interrupted, and no other.
+/// Takes at most `step` bytes at a time, and counts its writes. The write after it holds `room` bytes fails, and no other.
 #[derive(Drop)]
 pub(super) struct SlowWriter {
     pub(super) held: Vec<u8>,
+    pub(super) writes: usize,
     step: usize,
     room: Option<usize>,
+    kind: ErrorKind,
 }
 
 impl Write for SlowWriter {
     fn write(&mut self, buf: &[u8]) -> io::Result<usize> {
+        self.writes = self.writes.saturating_add(1);
         let left = match self.room {
             Some(room) => room.saturating_sub(self.held.len()),
             None => buf.len(),
         };
         if left == 0 && !buf.is_empty() {
             self.room = None;
-            return Err(Error::from(ErrorKind::Interrupted));
+            return Err(Error::from(self.kind));
         }
         let count = self.step.min(buf.len()).min(left);
         self.held.extend_from_slice(&buf[..count])?;
@@ -62,11 +75,12 @@ impl Write for SlowWriter {
     }
 }
 
-/// An open file of these bytes, of which a read gives at most `step`, and the read after `reads` is interrupted.
+/// An open file of these bytes, of which a read gives at most `step`, and the read after `reads` fails.
 pub(super) fn reader(
     bytes: Vec<u8>,
     step: usize,
     reads: Option<usize>,
+    kind: ErrorKind,
     count: &Cell<usize>,
 ) -> Opened<SlowReader<'_>> {
     Opened::Found(SlowReader {
@@ -74,15 +88,28 @@ pub(super) fn reader(
         place: 0,
         step,
         reads,
+        kind,
         count,
     })
 }
 
-/// A writer that holds nothing yet.
-pub(super) fn writer(alloc: Global, step: usize, room: usize) -> SlowWriter {
+/// A writer that holds nothing yet, and fails in this way.
+pub(super) fn failing_writer(
+    alloc: Global,
+    step: usize,
+    room: usize,
+    kind: ErrorKind,
+) -> SlowWriter {
     SlowWriter {
         held: Vec::new(alloc),
+        writes: 0,
         step,
         room: Some(room),
+        kind,
     }
+}
+
+/// A writer that holds nothing yet, and is interrupted.
+pub(super) fn writer(alloc: Global, step: usize, room: usize) -> SlowWriter {
+    failing_writer(alloc, step, room, ErrorKind::Interrupted)
 }

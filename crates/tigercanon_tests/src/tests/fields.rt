@@ -1,7 +1,7 @@
 //! What the fields of a loaded record are, each by its name.
 
 use super::comparing::{same, same_items};
-use super::sets::records_of;
+use super::sets::{lines_of, records_of};
 use std::process::Abort;
 use tl_layout::{
     Body1, Body5, Body7, Point, Ranges, Rec1, Rec2, Rec4, Rec6, Rec8, RecI, RecP, Record,
@@ -9,64 +9,61 @@ use tl_layout::{
 
 /// Tells what a chain is and the name of its feature.
 fn tells_feature(rt: &impl Abort, body: &Body1) {
-    same_items(rt, "SIDE1", &body.side1(), b"1");
-    same_items(rt, "SOURCE", &body.source(), b"A");
-    same_items(rt, "FEDIRP", &body.fedirp(), b"N ");
-    same_items(
-        rt,
-        "FENAME",
-        &body.fename(),
-        b"Main                          ",
-    );
-    same_items(rt, "FETYPE", &body.fetype(), b"St  ");
-    same_items(rt, "FEDIRS", &body.fedirs(), b"SW");
-    same_items(rt, "CFCC", &body.cfcc(), b"A41");
+    let found = (body.side1(), body.source(), body.cfcc());
+    same(rt, "SIDE1, SOURCE, CFCC", &found, &(*b"1", *b"A", *b"A41"));
+    let found = (body.fedirp(), body.fetype(), body.fedirs());
+    let wanted = (*b"N ", *b"St  ", *b"SW");
+    same(rt, "FEDIRP, FETYPE, FEDIRS", &found, &wanted);
+    let wanted = b"Main                          ";
+    same_items(rt, "FENAME", &body.fename(), wanted);
 }
 
 /// Tells the native areas beside a chain, and what is reserved.
 fn tells_native_areas(rt: &impl Abort, body: &Body1) {
-    same_items(rt, "AIANHHFPL", &body.aianhhfpl(), b"70001");
-    same_items(rt, "AIANHHFPR", &body.aianhhfpr(), b"70002");
-    same_items(rt, "AIHHTLIL", &body.aihhtlil(), b"L");
-    same_items(rt, "AIHHTLIR", &body.aihhtlir(), b"R");
-    same_items(rt, "CENSUS1", &body.census1(), b"4");
-    same_items(rt, "CENSUS2", &body.census2(), b"5");
+    let found = (body.aianhhfpl(), body.aianhhfpr());
+    same(rt, "AIANHHFPL, AIANHHFPR", &found, &(*b"70001", *b"70002"));
+    let found = (body.aihhtlil(), body.aihhtlir());
+    same(rt, "AIHHTLIL, AIHHTLIR", &found, &(*b"L", *b"R"));
+    let found = (body.census1(), body.census2());
+    same(rt, "CENSUS1, CENSUS2", &found, &(*b"4", *b"5"));
 }
 
 /// Tells the states and counties beside a chain, and their parts.
 fn tells_entities(rt: &impl Abort, body: &Body1) {
-    same_items(rt, "STATEL", &body.statel(), b"01");
-    same_items(rt, "STATER", &body.stater(), b"28");
-    same_items(rt, "COUNTYL", &body.countyl(), b"001");
-    same_items(rt, "COUNTYR", &body.countyr(), b"051");
-    same_items(rt, "COUSUBL", &body.cousubl(), b"90001");
-    same_items(rt, "COUSUBR", &body.cousubr(), b"90002");
-    same_items(rt, "SUBMCDL", &body.submcdl(), b"80001");
-    same_items(rt, "SUBMCDR", &body.submcdr(), b"80002");
+    let found = (body.statel(), body.stater());
+    same(rt, "STATEL, STATER", &found, &(*b"01", *b"28"));
+    let found = (body.countyl(), body.countyr());
+    same(rt, "COUNTYL, COUNTYR", &found, &(*b"001", *b"051"));
+    let found = (body.cousubl(), body.cousubr());
+    same(rt, "COUSUBL, COUSUBR", &found, &(*b"90001", *b"90002"));
+    let found = (body.submcdl(), body.submcdr());
+    same(rt, "SUBMCDL, SUBMCDR", &found, &(*b"80001", *b"80002"));
 }
 
 /// Tells the places, census tracts and census blocks beside a chain.
 fn tells_blocks(rt: &impl Abort, body: &Body1) {
-    same_items(rt, "PLACEL", &body.placel(), b"60001");
-    same_items(rt, "PLACER", &body.placer(), b"60002");
-    same_items(rt, "TRACTL", &body.tractl(), b"020200");
-    same_items(rt, "TRACTR", &body.tractr(), b"020300");
-    same_items(rt, "BLOCKL", &body.blockl(), b"1001");
-    same_items(rt, "BLOCKR", &body.blockr(), b"2002");
+    let found = (body.placel(), body.placer());
+    same(rt, "PLACEL, PLACER", &found, &(*b"60001", *b"60002"));
+    let found = (body.tractl(), body.tractr());
+    same(rt, "TRACTL, TRACTR", &found, &(*b"020200", *b"020300"));
+    let found = (body.blockl(), body.blockr());
+    same(rt, "BLOCKL, BLOCKR", &found, &(*b"1001", *b"2002"));
 }
 
 /// Tells address ranges and ZIP codes.
 fn tells_ranges(rt: &impl Abort, ranges: &Ranges) {
-    same_items(rt, "FRADDL", &ranges.fraddl(), b"        101");
-    same_items(rt, "TOADDL", &ranges.toaddl(), b"        199");
-    same_items(rt, "FRADDR", &ranges.fraddr(), b"        100");
-    same_items(rt, "TOADDR", &ranges.toaddr(), b"        198");
-    same_items(rt, "FRIADDL", &ranges.friaddl(), b"6");
-    same_items(rt, "TOIADDL", &ranges.toiaddl(), b"7");
-    same_items(rt, "FRIADDR", &ranges.friaddr(), b"8");
-    same_items(rt, "TOIADDR", &ranges.toiaddr(), b"9");
-    same_items(rt, "ZIPL", &ranges.zipl(), b"36003");
-    same_items(rt, "ZIPR", &ranges.zipr(), b"36006");
+    let found = (ranges.fraddl(), ranges.toaddl());
+    let wanted = (*b"        101", *b"        199");
+    same(rt, "FRADDL, TOADDL", &found, &wanted);
+    let found = (ranges.fraddr(), ranges.toaddr());
+    let wanted = (*b"        100", *b"        198");
+    same(rt, "FRADDR, TOADDR", &found, &wanted);
+    let found = (ranges.friaddl(), ranges.toiaddl());
+    same(rt, "FRIADDL, TOIADDL", &found, &(*b"6", *b"7"));
+    let found = (ranges.friaddr(), ranges.toiaddr());
+    same(rt, "FRIADDR, TOIADDR", &found, &(*b"8", *b"9"));
+    let found = (ranges.zipl(), ranges.zipr());
+    same(rt, "ZIPL, ZIPR", &found, &(*b"36003", *b"36006"));
 }
 
 /// Tells the number, the ends and the content of a chain.
@@ -212,7 +209,8 @@ fn lines() -> &'static [&'static str] {
 
 #[test]
 fn fields_are_told_by_their_names(rt: HostRuntime) {
-    let records = records_of(&rt, rt.alloc(), "a record of each type", lines());
+    let set = lines_of(&rt, rt.alloc(), lines());
+    let records = records_of(&rt, rt.alloc(), "a record of each type", &set);
     same(&rt, "records", &records.len(), &9);
     for record in &records {
         tells_record(&rt, record);

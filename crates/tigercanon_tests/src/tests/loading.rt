@@ -3,9 +3,12 @@
 ghost use Rattle.std.specs.Prelude.{◌<◌};
 
 use super::comparing::{same, same_items};
+use super::devices::{KINDS, reader};
 use super::sets::{lines_of, spelled};
 use super::worked_sets::{street, street_respelt};
 use std::alloc::Global;
+use std::cell::Cell;
+use std::io::ErrorKind;
 use std::process::Abort;
 use tl_load::{Counted, LoadFault, Loader, SlowSource, Source};
 
@@ -27,6 +30,25 @@ fn sources_are_read_to_their_end(rt: HostRuntime) {
     gives_the_street(&rt, rt.alloc(), "100 bytes a read", &mut slow);
     let mut counted = Counted::new(set.as_slice());
     gives_the_street(&rt, rt.alloc(), "a reader", &mut counted);
+}
+
+/// A reader that fails at its third read was asked three times, and then no more.
+fn fails_once(rt: &impl Abort, alloc: Global, kind: ErrorKind) {
+    let count = Cell::new(0);
+    let set = lines_of(rt, alloc, street());
+    let mut source = Counted::new(reader(set, 100, Some(2), kind, &count));
+    let mut loader = Loader::new(alloc);
+    let wanted = Err(LoadFault::Device);
+    same(rt, "answer", &loader.read_part(&mut source), &wanted);
+    same(rt, "failures", &source.failures(), &1);
+    same(rt, "reads", &count.get(), &3);
+}
+
+#[test]
+fn no_read_is_tried_again(rt: HostRuntime) {
+    for kind in KINDS {
+        fails_once(&rt, rt.alloc(), kind);
+    }
 }
 
 const POLYGON: &str = "8{4}0100100001{8}12{8}30";

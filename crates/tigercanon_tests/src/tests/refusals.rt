@@ -2,11 +2,14 @@
 //! `scripts/refuse-growths` lets it be heard: then each call meets the refusal of each of its growths, first alone and then with
 //! all later ones. Elsewhere nothing is refused, and a test sees that each call answers where memory is ample.
 
+mod layers;
+
 ghost use Rattle.std.specs.Prelude.{◌<◌};
 ghost use Rattle.tl_county.specs.Limits.{HoldsWithinLimits};
 
-use super::comparing::same;
+use super::comparing::{same, same_items};
 use super::counties::{county_in_of, county_of};
+use super::masked_runs;
 use super::sets::{lines_of, records_of};
 use super::worked_sets::{Worked, street, worked};
 use bumpalo::Bump;
@@ -21,10 +24,10 @@ use tl_cert::Renaming;
 use tl_county::{Chart, LinkFault, LinkedRecords, link, link_in, link_in_order};
 use tl_layout::{Point, Tables};
 use tl_load::{LoadFault, Loader, SlowSource, Source};
-use tl_number::{CanonCounty, canonise, canonise_chart, canonise_in};
-use tl_profile::{Admitted, AdmittedIn, ProfileFault, admit, admit_in};
+use tl_number::{CanonCounty, CanonCountyIn, canonise, canonise_chart, canonise_in};
+use tl_profile::{Admitted, AdmittedIn, ProfileFault, admit, admit_in, order_by_shape};
 use tl_shape::Shape;
-use tl_write::{SlowSink, records_of as records_of_county, records_of_in, write_to};
+use tl_write::{SlowSink, records_of as records_of_county, records_of_in, write_in, write_to};
 
 /// So much memory and n bytes asks that the n-th growth from here on is refused.
 const ALONE: usize = 70_368_744_177_664;
@@ -47,24 +50,24 @@ fn is_found(alloc: Global, size: usize) -> bool {
 }
 
 /// From here on growths are refused as is asked for.
-fn refuse(alloc: Global, asked: usize) {
+pub(super) fn refuse(alloc: Global, asked: usize) {
     let _ = is_found(alloc, asked);
 }
 
 /// From here on no growth is refused. Says whether one was.
-fn has_refused(alloc: Global) -> bool {
+pub(super) fn has_refused(alloc: Global) -> bool {
     !is_found(alloc, NO_MORE)
 }
 
 /// A run of a call: all that it answered, as a text, or nothing where that was want of memory, and whether a growth was refused.
 #[derive(Drop)]
-struct Run {
+pub(super) struct Run {
     answer: Option<String>,
     refused: bool,
 }
 
 /// Whether the fault is want of memory.
-fn is_memory(fault: Fault) -> bool {
+pub(super) fn is_memory(fault: Fault) -> bool {
     matches!(
         fault,
         Fault::Memory
@@ -75,7 +78,7 @@ fn is_memory(fault: Fault) -> bool {
 }
 
 /// The run that came to this end.
-fn ended<T: Debug + Drop>(
+pub(super) fn ended<T: Debug + Drop>(
     rt: &impl Abort,
     alloc: Global,
     refused: bool,
@@ -88,11 +91,12 @@ fn ended<T: Debug + Drop>(
     Run { answer, refused }
 }
 
-/// A worked set and its bytes.
+/// A set, and its canonical text where it is accepted.
 #[derive(Clone, Copy)]
-struct Set<'a> {
-    row: &'a Worked,
-    bytes: &'a [u8],
+pub(super) struct Set<'a> {
+    pub(super) row: &'a str,
+    pub(super) bytes: &'a [u8],
+    pub(super) text: &'a [u8],
 }
 
 // The runs of the calls. What a call takes is made before growths are refused, and what it answers is told when none is any more.
@@ -100,69 +104,78 @@ struct Set<'a> {
 fn respelt(rt: &impl Abort, alloc: Global, set: &Set<'_>, asked: usize) -> Run {
     refuse(alloc, asked);
     let outcome = respell(alloc, &[set.bytes]);
-    let refused = has_refused(alloc);
-    ended(rt, alloc, refused, outcome)
+    ended(rt, alloc, has_refused(alloc), outcome)
 }
 
 fn normalised(rt: &impl Abort, alloc: Global, set: &Set<'_>, asked: usize) -> Run {
     refuse(alloc, asked);
     let outcome = normalise(alloc, &[set.bytes]);
-    let refused = has_refused(alloc);
-    ended(rt, alloc, refused, outcome)
+    ended(rt, alloc, has_refused(alloc), outcome)
 }
 
 fn renamed(rt: &impl Abort, alloc: Global, set: &Set<'_>, asked: usize) -> Run {
     refuse(alloc, asked);
     let outcome = normalise_with_renaming(alloc, &[set.bytes]);
-    let refused = has_refused(alloc);
-    ended(rt, alloc, refused, outcome)
+    ended(rt, alloc, has_refused(alloc), outcome)
 }
 
 fn fingerprinted(rt: &impl Abort, alloc: Global, set: &Set<'_>, asked: usize) -> Run {
     refuse(alloc, asked);
     let outcome = fingerprint(alloc, &[set.bytes]);
-    let refused = has_refused(alloc);
-    ended(rt, alloc, refused, outcome)
+    ended(rt, alloc, has_refused(alloc), outcome)
 }
 
 fn checked(rt: &impl Abort, alloc: Global, set: &Set<'_>, asked: usize) -> Run {
     refuse(alloc, asked);
     let outcome = check(alloc, &[set.bytes]);
-    let refused = has_refused(alloc);
-    ended(rt, alloc, refused, outcome)
+    ended(rt, alloc, has_refused(alloc), outcome)
 }
 
 /// Reads a set and writes its text, a hundred bytes at most at a time.
-fn normalise_slowly(alloc: Global, set: &[u8], sink: &mut SlowSink<'_>) -> Result<u64, Fault>
+pub(super) fn normalise_slowly(
+    alloc: Global,
+    set: &[u8],
+    sink: &mut SlowSink<'_>,
+) -> Result<u64, Fault>
     requires { sink.old.failures < u64.MAX }
 {
     let mut sources = [SlowSource::new(set, 100, None)];
     normalise_to(alloc, &mut sources, sink)
 }
 
-/// The answer is what is held by the sink, which holds nothing where a growth was refused.
-fn written(rt: &impl Abort, alloc: Global, set: &Set<'_>, asked: usize) -> Run {
-    let mut room = vec![in alloc; 0u8; 4000].expect(rt, "there is memory");
-    let mut sink = SlowSink::new(&mut room, 100);
-    refuse(alloc, asked);
-    let outcome = normalise_slowly(alloc, set.bytes, &mut sink);
+/// The run that came to this end at a sink. The answer is what the sink holds, which is nothing where a growth was refused.
+pub(super) fn written_by(
+    rt: &impl Abort,
+    alloc: Global,
+    set: &Set<'_>,
+    sink: &SlowSink<'_>,
+    outcome: Result<u64, Fault>,
+) -> Run {
     let refused = has_refused(alloc);
     let held = Vec::from_slice(alloc, sink.held()).expect(rt, "there is memory");
     let outcome = match outcome {
         Ok(count) => Ok((count, held)),
         Err(fault) => {
-            same(rt, set.row.0, &held.len(), &0);
+            same(rt, set.row, &held.len(), &0);
             Err(fault)
         }
     };
     ended(rt, alloc, refused, outcome)
 }
 
+fn written(rt: &impl Abort, alloc: Global, set: &Set<'_>, asked: usize) -> Run {
+    let mut room = vec![in alloc; 0u8; set.text.len()].expect(rt, "there is memory");
+    let mut sink = SlowSink::new(&mut room, 100);
+    refuse(alloc, asked);
+    let outcome = normalise_slowly(alloc, set.bytes, &mut sink);
+    written_by(rt, alloc, set, &sink, outcome)
+}
+
 /// What comparing finds, apart from want of memory.
-type Comparison = Result<Verdict, CompareFault>;
+pub(super) type Comparison = Result<Verdict, CompareFault>;
 
 /// The answer of a comparison, with want of memory as other calls tell it.
-fn told(outcome: Comparison) -> Result<Comparison, Fault> {
+pub(super) fn told(outcome: Comparison) -> Result<Comparison, Fault> {
     match outcome {
         Err(CompareFault::Memory) => Err(Fault::Memory),
         Err(CompareFault::In { fault, .. }) if is_memory(fault) => Err(fault),
@@ -173,8 +186,7 @@ fn told(outcome: Comparison) -> Result<Comparison, Fault> {
 fn compared(rt: &impl Abort, alloc: Global, set: &[u8], other: &[u8], asked: usize) -> Run {
     refuse(alloc, asked);
     let outcome = compare(alloc, &[set], &[other]);
-    let refused = has_refused(alloc);
-    ended(rt, alloc, refused, told(outcome))
+    ended(rt, alloc, has_refused(alloc), told(outcome))
 }
 
 fn compared_with_street(rt: &impl Abort, alloc: Global, set: &Set<'_>, asked: usize) -> Run {
@@ -251,34 +263,32 @@ fn read(rt: &impl Abort, alloc: Global, set: &Set<'_>, asked: usize) -> Run {
 }
 
 fn linked(rt: &impl Abort, alloc: Global, set: &Set<'_>, asked: usize) -> Run {
-    let records = records_of(rt, alloc, set.row.0, set.row.1);
+    let records = records_of(rt, alloc, set.row, set.bytes);
     refuse(alloc, asked);
     let outcome = link(alloc, records);
-    let refused = has_refused(alloc);
-    ended(rt, alloc, refused, outcome.map_err(Fault::from))
+    ended(rt, alloc, has_refused(alloc), outcome.map_err(Fault::from))
 }
 
 fn linked_in(rt: &impl Abort, alloc: Global, set: &Set<'_>, asked: usize) -> Run {
     let arena = Bump::new(alloc);
-    let records = records_of(rt, alloc, set.row.0, set.row.1);
+    let records = records_of(rt, alloc, set.row, set.bytes);
     refuse(alloc, asked);
     let outcome = link_in(alloc, &arena, records);
-    let refused = has_refused(alloc);
-    ended(rt, alloc, refused, outcome.map_err(Fault::from))
+    ended(rt, alloc, has_refused(alloc), outcome.map_err(Fault::from))
 }
 
 /// The records of a set in tables.
 fn tables_of(rt: &impl Abort, alloc: Global, set: &Set<'_>) -> Tables
     ensures { HoldsWithinLimits result }
 {
-    Tables::of(alloc, records_of(rt, alloc, set.row.0, set.row.1)).expect(rt, set.row.0)
+    Tables::of(alloc, records_of(rt, alloc, set.row, set.bytes)).expect(rt, set.row)
 }
 
 /// The renaming of the set's county that leaves each number as it is.
 fn standstill(rt: &impl Abort, alloc: Global, set: &Set<'_>) -> Renaming {
-    let told = normalise_with_renaming(alloc, &[set.bytes]).expect(rt, set.row.0);
-    let back = told.1.inverse().expect(rt, set.row.0);
-    told.1.then(&back).expect(rt, set.row.0)
+    let told = normalise_with_renaming(alloc, &[set.bytes]).expect(rt, set.row);
+    let back = told.1.inverse().expect(rt, set.row);
+    told.1.then(&back).expect(rt, set.row)
 }
 
 /// Whether the renaming carries the one county onto the other.
@@ -294,15 +304,27 @@ fn carries<A: Chart, B: Chart>(
     }
 }
 
-/// The run that builds the county over linked records. The answer is whether it is that of the set, number by number.
+/// Whether the county is that of the set, number by number.
+fn is_of_set<C: Chart>(
+    rt: &impl Abort,
+    alloc: Global,
+    set: &Set<'_>,
+    county: &C,
+) -> Result<bool, Fault> {
+    let own = county_of(rt, alloc, set.row, set.bytes);
+    let renaming = standstill(rt, alloc, set);
+    let carried = carries(alloc, &own, county, &renaming);
+    drop(own);
+    carried
+}
+
+/// The run that builds the county over linked records. The answer is whether it is that of the set.
 fn built_over(rt: &impl Abort, alloc: Global, set: &Set<'_>, linked: &LinkedRecords) -> Run {
     let arena = Bump::new(alloc);
     let outcome = linked.county(alloc, &arena);
     let refused = has_refused(alloc);
-    let own = county_of(rt, alloc, set.row.0, set.row.1);
-    let renaming = standstill(rt, alloc, set);
-    let outcome = match outcome {
-        Ok(county) => carries(alloc, &own, &county, &renaming),
+    let outcome = match &outcome {
+        Ok(county) => is_of_set(rt, alloc, set, county),
         Err(_) => Err(Fault::Memory),
     };
     ended(rt, alloc, refused, outcome)
@@ -323,7 +345,7 @@ fn linked_in_order(rt: &impl Abort, alloc: Global, set: &Set<'_>, asked: usize) 
 }
 
 fn admitted(rt: &impl Abort, alloc: Global, set: &Set<'_>, asked: usize) -> Run {
-    let county = county_of(rt, alloc, set.row.0, set.row.1);
+    let county = county_of(rt, alloc, set.row, set.bytes);
     refuse(alloc, asked);
     let outcome = admit(alloc, county);
     let refused = has_refused(alloc);
@@ -333,7 +355,7 @@ fn admitted(rt: &impl Abort, alloc: Global, set: &Set<'_>, asked: usize) -> Run 
 
 fn admitted_in(rt: &impl Abort, alloc: Global, set: &Set<'_>, asked: usize) -> Run {
     let arena = Bump::new(alloc);
-    let county = county_in_of(rt, alloc, &arena, set.row.0, set.row.1);
+    let county = county_in_of(rt, alloc, &arena, set.row, set.bytes);
     refuse(alloc, asked);
     let outcome = admit_in(alloc, county);
     let refused = has_refused(alloc);
@@ -342,47 +364,49 @@ fn admitted_in(rt: &impl Abort, alloc: Global, set: &Set<'_>, asked: usize) -> R
 }
 
 /// A canonical county and the renaming onto it.
-type Canonical<C> = (CanonCounty<C>, Renaming);
+pub(super) type Canonical<C> = (CanonCounty<C>, Renaming);
 
-/// The text of a canonical county.
-fn text_of<C: Chart>(rt: &impl Abort, alloc: Global, county: &CanonCounty<C>) -> Vec<u8> {
-    let mut room = vec![in alloc; 0u8; 4000].expect(rt, "there is memory");
+/// The canonical county has the set's text.
+fn has_text<C: Chart>(rt: &impl Abort, alloc: Global, set: &Set<'_>, county: &CanonCounty<C>) {
+    let mut room = vec![in alloc; 0u8; set.text.len()].expect(rt, "there is memory");
     let mut sink = SlowSink::new(&mut room, 4000);
-    let _ = write_to(county, &mut sink);
-    Vec::from_slice(alloc, sink.held()).expect(rt, "there is memory")
+    let len = set.text.len() as u64;
+    same(rt, set.row, &write_to(county, &mut sink), &Ok(len));
+    same_items(rt, set.row, sink.held(), set.text);
 }
 
-/// The run that came to a canonical county, or to nothing.
-fn canonised<C: Chart + Drop>(
+/// The run that came to a canonical county, or to nothing. The answer is the renaming.
+pub(super) fn canonised<C: Chart + Drop>(
     rt: &impl Abort,
     alloc: Global,
+    set: &Set<'_>,
     refused: bool,
     outcome: Result<Canonical<C>, AllocError>,
 ) -> Run {
     match outcome {
         Ok((county, renaming)) => {
-            let text = text_of(rt, alloc, &county);
+            has_text(rt, alloc, set, &county);
             drop(county);
-            ended(rt, alloc, refused, Ok((text, renaming)))
+            ended(rt, alloc, refused, Ok(renaming))
         }
         Err(_) => ended::<()>(rt, alloc, refused, Err(Fault::Memory)),
     }
 }
 
 /// The admitted county of the set.
-fn admitted_of(rt: &impl Abort, alloc: Global, set: &Set<'_>) -> Admitted {
-    admit(alloc, county_of(rt, alloc, set.row.0, set.row.1)).expect(rt, set.row.0)
+pub(super) fn admitted_of(rt: &impl Abort, alloc: Global, set: &Set<'_>) -> Admitted {
+    admit(alloc, county_of(rt, alloc, set.row, set.bytes)).expect(rt, set.row)
 }
 
 /// The same in an arena.
-fn admitted_in_of<'a>(
+pub(super) fn admitted_in_of<'a>(
     rt: &impl Abort,
     alloc: Global,
     arena: &'a Bump,
     set: &Set<'_>,
 ) -> AdmittedIn<'a> {
-    let county = county_in_of(rt, alloc, arena, set.row.0, set.row.1);
-    admit_in(alloc, county).expect(rt, set.row.0)
+    let county = county_in_of(rt, alloc, arena, set.row, set.bytes);
+    admit_in(alloc, county).expect(rt, set.row)
 }
 
 fn put_into_form(rt: &impl Abort, alloc: Global, set: &Set<'_>, asked: usize) -> Run {
@@ -390,7 +414,7 @@ fn put_into_form(rt: &impl Abort, alloc: Global, set: &Set<'_>, asked: usize) ->
     refuse(alloc, asked);
     let outcome = canonise(alloc, admitted);
     let refused = has_refused(alloc);
-    canonised(rt, alloc, refused, outcome)
+    canonised(rt, alloc, set, refused, outcome)
 }
 
 fn put_into_form_in(rt: &impl Abort, alloc: Global, set: &Set<'_>, asked: usize) -> Run {
@@ -399,12 +423,12 @@ fn put_into_form_in(rt: &impl Abort, alloc: Global, set: &Set<'_>, asked: usize)
     refuse(alloc, asked);
     let outcome = canonise_in(alloc, admitted);
     let refused = has_refused(alloc);
-    canonised(rt, alloc, refused, outcome)
+    canonised(rt, alloc, set, refused, outcome)
 }
 
 fn listed(rt: &impl Abort, alloc: Global, set: &Set<'_>, asked: usize) -> Run {
     let admitted = admitted_of(rt, alloc, set);
-    let county = canonise_chart(alloc, admitted.into_chart()).expect(rt, set.row.0);
+    let county = canonise_chart(alloc, admitted.into_chart()).expect(rt, set.row);
     refuse(alloc, asked);
     let outcome = records_of_county(alloc, &county);
     let refused = has_refused(alloc);
@@ -412,10 +436,20 @@ fn listed(rt: &impl Abort, alloc: Global, set: &Set<'_>, asked: usize) -> Run {
     ended(rt, alloc, refused, outcome.map_err(Fault::from))
 }
 
+/// What is written of a county in an arena is the set's text.
+fn is_written_in(rt: &impl Abort, alloc: Global, set: &Set<'_>, county: &CanonCountyIn<'_>) {
+    let mut room = vec![in alloc; 0u8; set.text.len()].expect(rt, "there is memory");
+    let mut sink = SlowSink::new(&mut room, 4000);
+    let len = set.text.len() as u64;
+    same(rt, set.row, &write_in(county, &mut sink), &Ok(len));
+    same_items(rt, set.row, sink.held(), set.text);
+}
+
 fn listed_in(rt: &impl Abort, alloc: Global, set: &Set<'_>, asked: usize) -> Run {
     let arena = Bump::new(alloc);
     let admitted = admitted_in_of(rt, alloc, &arena, set);
-    let county = canonise_chart(alloc, admitted.into_chart()).expect(rt, set.row.0);
+    let county = canonise_chart(alloc, admitted.into_chart()).expect(rt, set.row);
+    is_written_in(rt, alloc, set, &county);
     refuse(alloc, asked);
     let outcome = records_of_in(alloc, &county);
     let refused = has_refused(alloc);
@@ -424,14 +458,14 @@ fn listed_in(rt: &impl Abort, alloc: Global, set: &Set<'_>, asked: usize) -> Run
 }
 
 /// The renaming of the set onto its text.
-fn renaming_of(rt: &impl Abort, alloc: Global, set: &Set<'_>) -> Renaming {
-    let told = normalise_with_renaming(alloc, &[set.bytes]).expect(rt, set.row.0);
+pub(super) fn renaming_of(rt: &impl Abort, alloc: Global, set: &Set<'_>) -> Renaming {
+    let told = normalise_with_renaming(alloc, &[set.bytes]).expect(rt, set.row);
     told.1
 }
 
 fn carried(rt: &impl Abort, alloc: Global, set: &Set<'_>, asked: usize) -> Run {
-    let here = county_of(rt, alloc, set.row.0, set.row.1);
-    let there = county_of(rt, alloc, set.row.0, set.row.2);
+    let here = county_of(rt, alloc, set.row, set.bytes);
+    let there = county_of(rt, alloc, set.row, set.text);
     let renaming = renaming_of(rt, alloc, set);
     refuse(alloc, asked);
     let outcome = tl_cert::check(alloc, &here, &there, &renaming);
@@ -445,17 +479,15 @@ fn turned_back(rt: &impl Abort, alloc: Global, set: &Set<'_>, asked: usize) -> R
     let renaming = renaming_of(rt, alloc, set);
     refuse(alloc, asked);
     let outcome = renaming.inverse();
-    let refused = has_refused(alloc);
-    ended(rt, alloc, refused, outcome.map_err(Fault::from))
+    ended(rt, alloc, has_refused(alloc), outcome.map_err(Fault::from))
 }
 
 fn joined(rt: &impl Abort, alloc: Global, set: &Set<'_>, asked: usize) -> Run {
     let renaming = renaming_of(rt, alloc, set);
-    let back = renaming.inverse().expect(rt, set.row.0);
+    let back = renaming.inverse().expect(rt, set.row);
     refuse(alloc, asked);
     let outcome = renaming.then(&back);
-    let refused = has_refused(alloc);
-    ended(rt, alloc, refused, outcome.map_err(Fault::from))
+    ended(rt, alloc, has_refused(alloc), outcome.map_err(Fault::from))
 }
 
 /// A shape with thirty inner points, whatever the set is.
@@ -463,13 +495,32 @@ fn shaped(rt: &impl Abort, alloc: Global, asked: usize) -> Run {
     let point = Point::new(-86468669, 32424914);
     refuse(alloc, asked);
     let outcome = Shape::new(alloc, point, &[point; 30], point);
+    ended(rt, alloc, has_refused(alloc), outcome.map_err(Fault::from))
+}
+
+fn tabled(rt: &impl Abort, alloc: Global, set: &Set<'_>, asked: usize) -> Run {
+    let records = records_of(rt, alloc, set.row, set.bytes);
+    refuse(alloc, asked);
+    let outcome = Tables::of(alloc, records);
+    ended(rt, alloc, has_refused(alloc), outcome.map_err(Fault::from))
+}
+
+fn ordered(rt: &impl Abort, alloc: Global, set: &Set<'_>, asked: usize) -> Run {
+    let county = county_of(rt, alloc, set.row, set.bytes);
+    refuse(alloc, asked);
+    let outcome = order_by_shape(alloc, &county);
     let refused = has_refused(alloc);
-    ended(rt, alloc, refused, outcome.map_err(Fault::from))
+    drop(county);
+    let outcome = match outcome {
+        Ok(order) => Ok(order.walks().len()),
+        Err(_) => Err(Fault::Memory),
+    };
+    ended(rt, alloc, refused, outcome)
 }
 
 /// A public call that takes memory, or two where one alone tells nothing.
 #[derive(Clone, Copy, Debug, PartialEq)]
-enum Call {
+pub(super) enum Call {
     Respell,
     Normalise,
     NormaliseWithRenaming,
@@ -478,6 +529,11 @@ enum Call {
     Check,
     CompareWithItself,
     CompareWithStreet,
+    NormaliseMasked,
+    NormaliseWithRenamingMasked,
+    NormaliseToMasked,
+    FingerprintMasked,
+    CompareMasked,
     Feed,
     EndPart,
     ReadPart,
@@ -488,12 +544,17 @@ enum Call {
     AdmitIn,
     Canonise,
     CanoniseIn,
+    CanoniseMasked,
+    CanoniseInMasked,
     RecordsOf,
     RecordsOfIn,
     CheckRenaming,
+    CheckMasked,
     Inverse,
     Then,
     NewShape,
+    TablesOf,
+    OrderByShape,
 }
 
 /// The whole calls.
@@ -506,6 +567,11 @@ const WHOLE: &[Call] = &[
     Call::Check,
     Call::CompareWithItself,
     Call::CompareWithStreet,
+    Call::NormaliseMasked,
+    Call::NormaliseWithRenamingMasked,
+    Call::NormaliseToMasked,
+    Call::FingerprintMasked,
+    Call::CompareMasked,
 ];
 
 /// The calls of the layers.
@@ -520,12 +586,17 @@ const OF_LAYERS: &[Call] = &[
     Call::AdmitIn,
     Call::Canonise,
     Call::CanoniseIn,
+    Call::CanoniseMasked,
+    Call::CanoniseInMasked,
     Call::RecordsOf,
     Call::RecordsOfIn,
     Call::CheckRenaming,
+    Call::CheckMasked,
     Call::Inverse,
     Call::Then,
     Call::NewShape,
+    Call::TablesOf,
+    Call::OrderByShape,
 ];
 
 /// The calls that refuse a county outside the profile.
@@ -537,16 +608,21 @@ const REFUSING: &[Call] = &[
     Call::Check,
     Call::CompareWithItself,
     Call::CompareWithStreet,
+    Call::NormaliseMasked,
+    Call::NormaliseWithRenamingMasked,
+    Call::NormaliseToMasked,
+    Call::FingerprintMasked,
+    Call::CompareMasked,
     Call::Admit,
     Call::AdmitIn,
 ];
 
 /// Those lists.
-fn whole() -> &'static [Call] {
+pub(super) fn whole() -> &'static [Call] {
     WHOLE
 }
 
-fn of_layers() -> &'static [Call] {
+pub(super) fn of_layers() -> &'static [Call] {
     OF_LAYERS
 }
 
@@ -565,6 +641,11 @@ fn run_of(rt: &impl Abort, alloc: Global, call: Call, set: &Set<'_>, asked: usiz
         Call::Check => checked(rt, alloc, set, asked),
         Call::CompareWithItself => compared(rt, alloc, set.bytes, set.bytes, asked),
         Call::CompareWithStreet => compared_with_street(rt, alloc, set, asked),
+        Call::NormaliseMasked => masked_runs::normalised(rt, alloc, set, asked),
+        Call::NormaliseWithRenamingMasked => masked_runs::renamed(rt, alloc, set, asked),
+        Call::NormaliseToMasked => masked_runs::written(rt, alloc, set, asked),
+        Call::FingerprintMasked => masked_runs::fingerprinted(rt, alloc, set, asked),
+        Call::CompareMasked => masked_runs::compared(rt, alloc, set, asked),
         Call::Feed => fed(rt, alloc, set, asked),
         Call::EndPart => fed_as_part(rt, alloc, set, asked),
         Call::ReadPart => read(rt, alloc, set, asked),
@@ -575,12 +656,17 @@ fn run_of(rt: &impl Abort, alloc: Global, call: Call, set: &Set<'_>, asked: usiz
         Call::AdmitIn => admitted_in(rt, alloc, set, asked),
         Call::Canonise => put_into_form(rt, alloc, set, asked),
         Call::CanoniseIn => put_into_form_in(rt, alloc, set, asked),
+        Call::CanoniseMasked => masked_runs::put_into_form(rt, alloc, set, asked),
+        Call::CanoniseInMasked => masked_runs::put_into_form_in(rt, alloc, set, asked),
         Call::RecordsOf => listed(rt, alloc, set, asked),
         Call::RecordsOfIn => listed_in(rt, alloc, set, asked),
         Call::CheckRenaming => carried(rt, alloc, set, asked),
+        Call::CheckMasked => masked_runs::carried(rt, alloc, set, asked),
         Call::Inverse => turned_back(rt, alloc, set, asked),
         Call::Then => joined(rt, alloc, set, asked),
         Call::NewShape => shaped(rt, alloc, asked),
+        Call::TablesOf => tabled(rt, alloc, set, asked),
+        Call::OrderByShape => ordered(rt, alloc, set, asked),
     }
 }
 
@@ -609,11 +695,16 @@ fn is_as_ever(
     refused
 }
 
+/// What a call answers on a set where memory is ample.
+pub(super) fn ample_answer(rt: &impl Abort, alloc: Global, call: Call, set: &Set<'_>) -> String {
+    run_of(rt, alloc, call, set, NONE)
+        .answer
+        .expect(rt, "memory is ample")
+}
+
 /// Each growth of a call on a set is refused in turn, until a run meets no refusal. Answers how many were.
 fn growths(rt: &impl Abort, alloc: Global, call: Call, set: &Set<'_>, first: usize) -> usize {
-    let ample = run_of(rt, alloc, call, set, NONE)
-        .answer
-        .expect(rt, "memory is ample");
+    let ample = ample_answer(rt, alloc, call, set);
     for growth in 1..MANY {
         if !is_as_ever(rt, alloc, call, set, &ample, first.saturating_add(growth)) {
             return growth - 1;
@@ -625,14 +716,19 @@ fn growths(rt: &impl Abort, alloc: Global, call: Call, set: &Set<'_>, first: usi
 /// Each growth of a call on a set is refused, alone and then with all later ones. Answers how many there are.
 fn growths_of(rt: &impl Abort, alloc: Global, call: Call, row: &Worked) -> usize {
     let bytes = lines_of(rt, alloc, row.1);
-    let set = Set { row, bytes: &bytes };
+    let text = lines_of(rt, alloc, row.2);
+    let set = Set {
+        row: row.0,
+        bytes: &bytes,
+        text: &text,
+    };
     let found = growths(rt, alloc, call, &set, ALONE);
     let again = growths(rt, alloc, call, &set, WITH_LATER_ONES);
     same(rt, row.0, &(call, again), &(call, found));
     found
 }
 
-/// The same on all these sets.
+/// The growths of a call on all these sets.
 fn growths_on(rt: &impl Abort, alloc: Global, call: Call, rows: &[Worked]) -> usize {
     let mut count = 0usize;
     for row in rows {
@@ -681,7 +777,7 @@ fn are_of_one_shape(rt: &impl Abort, alloc: Global, rows: &[Worked]) {
         second: 9,
     };
     for row in rows {
-        let county = county_of(rt, alloc, row.0, row.1);
+        let county = county_of(rt, alloc, row.0, &lines_of(rt, alloc, row.1));
         same(rt, row.0, &admit(alloc, county).err(), &Some(fault));
     }
 }

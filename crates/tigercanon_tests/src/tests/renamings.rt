@@ -2,6 +2,7 @@
 
 use super::comparing::{same, same_items};
 use super::counties::county_of;
+use super::sets::lines_of;
 use super::worked_sets::{MAIN, MAIN_TURNED, NAMED, NAMED_BACKWARDS, SIDED};
 use std::alloc::Global;
 use std::process::Abort;
@@ -386,25 +387,30 @@ fn carried() -> &'static [CarriedRow] {
     CARRIED
 }
 
-/// Whether the renaming carries the county of these lines onto that of the others.
+/// Whether the renaming carries the county of one set onto that of another.
 pub(super) fn carries(
     rt: &impl Abort,
     alloc: Global,
     row: &str,
-    here: &[&str],
-    there: &[&str],
+    here: &[u8],
+    there: &[u8],
     renaming: &Renaming,
 ) -> bool {
     let here = county_of(rt, alloc, row, here);
     let there = county_of(rt, alloc, row, there);
-    check(alloc, &here, &there, renaming).expect(rt, row)
+    let carried = check(alloc, &here, &there, renaming).expect(rt, row);
+    drop(here);
+    drop(there);
+    carried
 }
 
 /// The renaming carries the one set onto the other, or doesn't, as its row says.
 fn is_carried(rt: &impl Abort, alloc: Global, row: &CarriedRow) {
     let (name, here, there, lists, wanted) = row;
     let renaming = renaming(rt, alloc, lists);
-    let found = carries(rt, alloc, name, here, there, &renaming);
+    let here = lines_of(rt, alloc, here);
+    let there = lines_of(rt, alloc, there);
+    let found = carries(rt, alloc, name, &here, &there, &renaming);
     same(rt, name, &found, wanted);
 }
 

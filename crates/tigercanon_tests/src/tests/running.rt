@@ -1,14 +1,16 @@
 //! Jobs over files that are missing or fail, and over devices that take little.
 
 use super::comparing::{same, same_items};
-use super::devices::{SlowReader, reader, writer};
+use super::devices::{KINDS, SlowReader, failing_writer, reader};
 use super::sets::lines_of;
 use super::worked_sets::{CHAIN, LINK, MAIN_TEXT, OTHER_CHAIN, RESPELT, TURNED, TURNED_LINK};
 use std::alloc::Global;
 use std::cell::Cell;
+use std::io::ErrorKind;
 use std::process::Abort;
 use tigercanon::{Fault, Job, Opened, Refusal, run};
 use tl_county::LinkFault;
+use tl_layout::Mask;
 use tl_load::LoadFault;
 use tl_profile::ProfileFault;
 
@@ -438,14 +440,15 @@ fn opened<'a>(
     alloc: Global,
     files: &[File],
     step: usize,
+    kind: ErrorKind,
     count: &'a Cell<usize>,
 ) -> Vec<Opened<SlowReader<'a>>> {
     let mut all = Vec::new(alloc);
     for file in files {
         let one = match file {
-            File::Whole(lines) => reader(lines_of(rt, alloc, lines), step, None, count),
+            File::Whole(lines) => reader(lines_of(rt, alloc, lines), step, None, kind, count),
             File::Failing(lines, reads) => {
-                reader(lines_of(rt, alloc, lines), step, Some(*reads), count)
+                reader(lines_of(rt, alloc, lines), step, Some(*reads), kind, count)
             }
             File::Absent => Opened::Absent,
             File::Failed => Opened::Failed,
@@ -455,14 +458,22 @@ fn opened<'a>(
     all
 }
 
-/// The job ends as its row says. A reader gives one byte at least.
-fn ends(rt: &impl Abort, alloc: Global, row: &Row) {
+/// The job ends as its row says, whatever the kind of a failure is. A reader gives one byte at least.
+fn ends(rt: &impl Abort, alloc: Global, row: &Row, kind: ErrorKind) {
     let count = Cell::new(0);
-    let first = opened(rt, alloc, row.files[0], row.step.max(1), &count);
-    let second = opened(rt, alloc, row.files[1], row.step.max(1), &count);
-    let mut out = writer(alloc, row.step, row.room[0]);
-    let mut err = writer(alloc, 7, row.room[1]);
-    let status = run(alloc, row.job, first, second, &mut out, &mut err);
+    let first = opened(rt, alloc, row.files[0], row.step.max(1), kind, &count);
+    let second = opened(rt, alloc, row.files[1], row.step.max(1), kind, &count);
+    let mut out = failing_writer(alloc, row.step, row.room[0], kind);
+    let mut err = failing_writer(alloc, 7, row.room[1], kind);
+    let status = run(
+        alloc,
+        row.job,
+        first,
+        second,
+        &mut out,
+        &mut err,
+        Mask::NONE,
+    );
     same_items(rt, row.name, &err.held, row.told.as_bytes());
     same(rt, row.name, &status, &row.status);
     let lines = lines_of(rt, alloc, row.lines);
@@ -481,16 +492,23 @@ fn ends(rt: &impl Abort, alloc: Global, row: &Row) {
 }
 
 /// Each job ends as its row says.
-fn each_ends(rt: &impl Abort, alloc: Global, rows: &[Row]) {
+fn each_ends(rt: &impl Abort, alloc: Global, rows: &[Row], kind: ErrorKind) {
     for row in rows {
-        ends(rt, alloc, row);
+        ends(rt, alloc, row, kind);
+    }
+}
+
+/// Each job of each table ends as its row says.
+fn all_end(rt: &impl Abort, alloc: Global, kind: ErrorKind) {
+    for rows in tables() {
+        each_ends(rt, alloc, rows, kind);
     }
 }
 
 #[test]
 fn jobs_end_as_their_files_and_devices_let_them(rt: HostRuntime) {
-    for rows in tables() {
-        each_ends(&rt, rt.alloc(), rows);
+    for kind in KINDS {
+        all_end(&rt, rt.alloc(), kind);
     }
 }
 

@@ -44,13 +44,13 @@ pub(super) fn lines_of(rt: &impl Abort, alloc: Global, patterns: &[&str]) -> Vec
     bytes
 }
 
-/// The records of these lines.
-pub(super) fn records_of(rt: &impl Abort, alloc: Global, row: &str, lines: &[&str]) -> Vec<Record>
+/// The records of this set.
+pub(super) fn records_of(rt: &impl Abort, alloc: Global, row: &str, set: &[u8]) -> Vec<Record>
     ensures fits { All FitsRecord result.items }
     ensures few { IsWithinLimit most_records result.items }
 {
     let mut loader = Loader::new(alloc);
-    loader.feed(&lines_of(rt, alloc, lines)).expect(rt, row);
+    loader.feed(set).expect(rt, row);
     loader.finish().expect(rt, row)
 }
 

@@ -1,9 +1,11 @@
 //! A text to sinks that take a few bytes at a time, and fail.
 
 use super::comparing::{same, same_items};
-use super::devices::writer;
+use super::devices::{KINDS, failing_writer, writer};
 use super::sets::lines_of;
 use super::worked_sets::street_text;
+use std::alloc::Global;
+use std::io::ErrorKind;
 use std::process::Abort;
 use tl_write::{CountedOut, Sink, SlowSink, WriteFault, write_bytes};
 
@@ -77,4 +79,23 @@ fn no_bytes_need_no_room(rt: HostRuntime) {
     same(&rt, "no bytes", &write_bytes(b"", &mut sink), &Ok(0));
     same(&rt, "a write", &sink.write(b""), &Ok(0));
     same(&rt, "failures", &sink.failures(), &0);
+}
+
+/// A writer that takes 7 bytes at a time and fails once it holds 300 was asked 44 times, and then no more.
+fn fails_once(rt: &impl Abort, alloc: Global, text: &[u8], kind: ErrorKind) {
+    let mut sink = CountedOut::new(failing_writer(alloc, 7, 300, kind));
+    let wanted = Err(WriteFault { written: 300 });
+    same(rt, "answer", &write_bytes(text, &mut sink), &wanted);
+    same(rt, "failures", &sink.failures(), &1);
+    let writer = sink.into_inner();
+    same(rt, "writes", &writer.writes, &44);
+    same(rt, "what is held", &writer.held.len(), &300);
+}
+
+#[test]
+fn no_write_is_tried_again(rt: HostRuntime) {
+    let text = lines_of(&rt, rt.alloc(), street_text());
+    for kind in KINDS {
+        fails_once(&rt, rt.alloc(), &text, kind);
+    }
 }

@@ -87,7 +87,7 @@ fn are_compared(rt: &impl Abort, alloc: Global, row: &Worked, other: &Worked) {
     let others = lines_of(rt, alloc, other.1);
     let verdict = compare(alloc, &[&set], &[&others]).expect(rt, row.0);
     let found = match &verdict {
-        Verdict::Same(renaming) => Some(carries(rt, alloc, row.0, row.1, other.1, renaming)),
+        Verdict::Same(renaming) => Some(carries(rt, alloc, row.0, &set, &others, renaming)),
         Verdict::Different => None,
     };
     drop(verdict);

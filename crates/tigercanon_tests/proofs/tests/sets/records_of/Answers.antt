@@ -9,7 +9,7 @@ use Rattle.tigercanon_tests.proofs.tests.sets.records_of.Goals as goal
 
 pub returns-clause-few : goal.returns-clause-few
 returns-clause-few g c =
-    let text = c.deref.result.now in
+    let text = c.args.set.now in
     accepted_within most_records (all_parts [] text) c.expect-2.result.items
     (IfOk-at_ok (λ records. SpellsWithin tiger most_records (all_parts [] text) records.items) c.expect-2.ensures
     (c.finish.ensures.loaded most_records [] text (c.feed.ensures.fed most_records [] [] c.new-loader.ensures.fed)))

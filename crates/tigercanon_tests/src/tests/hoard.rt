@@ -1,0 +1,297 @@
+//! What is done where no memory is left. A test takes all that there is first, so that every growth is refused; what a call works
+//! on is made before, and what it answered is compared behind it. The stack can't grow either then: a call that needs much of it
+//! is made once before, with ample memory, and has to answer there too.
+
+ghost use Rattle.std.specs.Prelude.{◌≡◌};
+
+use super::comparing::same;
+use super::counties::{county_in_of, county_of};
+use super::masks::{is_masked, plain, without_either};
+use super::refusals::{is_memory, normalise_slowly};
+use super::sets::{lines_of, records_of};
+use super::worked_sets::{record_of_each_type, street, street_text};
+use bumpalo::Bump;
+use std::alloc::Global;
+use std::cmp::Ordering;
+use std::process::Abort;
+use tigercanon::{
+    CompareFault, Fault, Verdict, check, compare, fingerprint, normalise, normalise_with_renaming,
+    respell,
+};
+use tl_county::Chart;
+use tl_layout::{Layout, Mask, Point, Record, Turn};
+use tl_load::{LoadFault, Loader, first_bad};
+use tl_number::{CanonCounty, CanonCountyIn, canonise_chart};
+use tl_profile::{admit, admit_in};
+use tl_shape::Shape;
+use tl_write::{SlowSink, write_in, write_to};
+
+/// The largest piece that is asked for: half of what a process can address.
+const LARGEST: usize = 70_368_744_177_664;
+
+/// The largest of the small pieces. Below it they are asked for in all sizes.
+const SMALL: usize = 2048;
+
+/// More pieces than are found.
+const MANY: usize = 100_000;
+
+/// Takes pieces of this size until none is left.
+fn take_all(alloc: Global, pieces: &mut Vec<Vec<u8>>, size: usize) {
+    for _ in pieces.len()..MANY {
+        match Vec::with_capacity(alloc, size) {
+            Ok(piece) => {
+                if pieces.push(piece).is_err() {
+                    return;
+                }
+            }
+            Err(_) => return,
+        }
+    }
+}
+
+/// All memory that is left, in pieces of which nothing is used.
+fn all_memory(rt: &impl Abort, alloc: Global) -> Vec<Vec<u8>> {
+    let mut pieces = Vec::with_capacity(alloc, MANY).expect(rt, "there is memory");
+    for halved in 0..36u32 {
+        take_all(alloc, &mut pieces, LARGEST >> halved);
+    }
+    for less in 0..128 {
+        take_all(alloc, &mut pieces, SMALL - 16 * less);
+    }
+    pieces
+}
+
+/// Whether a single byte is refused.
+fn is_all_taken(alloc: Global) -> bool {
+    Vec::<u8>::with_capacity(alloc, 1).is_err()
+}
+
+/// Whether what is read from the line that a record is put into has that line too.
+fn is_read_again<L: Layout + Drop>(record: &L) -> bool {
+    let mut line = [0; 228];
+    let mut again = [0; 228];
+    record.put(&mut line[..L::LEN]);
+    match L::take(&line[..L::LEN]) {
+        Ok(other) => {
+            other.put(&mut again[..L::LEN]);
+            again == line
+        }
+        Err(_) => false,
+    }
+}
+
+/// Whether a record of any type is.
+fn is_record_read_again(record: &Record) -> bool {
+    match record {
+        Record::One(record) => is_read_again(record),
+        Record::Two(record) => is_read_again(record),
+        Record::Four(record) => is_read_again(record),
+        Record::Five(record) => is_read_again(record),
+        Record::Six(record) => is_read_again(record),
+        Record::Seven(record) => is_read_again(record),
+        Record::Eight(record) => is_read_again(record),
+        Record::I(record) => is_read_again(record),
+        Record::P(record) => is_read_again(record),
+    }
+}
+
+/// Whether a second turn, and no single one, gives the value back.
+fn is_turned_back<T: Turn + PartialEq + Copy>(value: &T) -> bool {
+    let mut other = *value;
+    other.turn();
+    let is_turned = other != *value;
+    other.turn();
+    is_turned && other == *value
+}
+
+/// Whether what the record has of a turn is turned back.
+fn is_record_turned_back(record: &Record) -> bool {
+    match record {
+        Record::One(record) => is_turned_back(record.body()),
+        Record::Six(record) => is_turned_back(record.ranges()),
+        _ => true,
+    }
+}
+
+/// Whether these records have under a mask of both kinds the contents of the others.
+fn are_masked(records: &[Record], others: &[Record]) -> bool {
+    let mask = Mask {
+        sources: true,
+        reserved: true,
+    };
+    records
+        .iter()
+        .zip(others.iter())
+        .all(|(record, other)| is_masked(record, mask, other))
+}
+
+/// Records of each type are read, written and turned.
+#[test]
+fn records_are_read_and_written(rt: HostRuntime) {
+    let set = lines_of(&rt, rt.alloc(), record_of_each_type());
+    let records = records_of(&rt, rt.alloc(), "a record of each type", &set);
+    let pieces = all_memory(&rt, rt.alloc());
+    let is_taken = is_all_taken(rt.alloc());
+    let are_read = records.iter().all(is_record_read_again);
+    let are_turned = records.iter().all(is_record_turned_back);
+    let bad = first_bad(b"I200601001\x7f");
+    drop(pieces);
+    let found = (records.len(), is_taken, are_read, are_turned, bad);
+    same(&rt, "records", &found, &(13, true, true, true, Some(10)));
+}
+
+/// Contents are blanked.
+#[test]
+fn contents_are_blanked(rt: HostRuntime) {
+    let set = lines_of(&rt, rt.alloc(), plain());
+    let records = records_of(&rt, rt.alloc(), "plain", &set);
+    let set = lines_of(&rt, rt.alloc(), without_either());
+    let others = records_of(&rt, rt.alloc(), "without either", &set);
+    let pieces = all_memory(&rt, rt.alloc());
+    let found = (is_all_taken(rt.alloc()), are_masked(&records, &others));
+    drop(pieces);
+    same(&rt, "contents", &found, &(true, true));
+}
+
+/// What the calls of a shape answer of this one, beside another.
+fn shapes_answer(shape: &mut Shape, other: &Shape) -> (Ordering, bool, bool, usize, Ordering) {
+    let order = shape.cmp(other);
+    let is_own_reverse = shape.is_own_reverse();
+    let needs_turn = shape.needs_turn();
+    shape.reverse();
+    let len = shape.points().len();
+    (order, is_own_reverse, needs_turn, len, shape.cmp(other))
+}
+
+/// Shapes are compared and reversed, and no new one is made.
+#[test]
+fn shapes_are_compared_and_reversed(rt: HostRuntime) {
+    let first = Point::new(1, 1);
+    let second = Point::new(1, 2);
+    let third = Point::new(2, 1);
+    let mut shape = Shape::new(rt.alloc(), third, &[second], first).expect(&rt, "a shape");
+    let other = Shape::new(rt.alloc(), first, &[second], third).expect(&rt, "its reverse");
+    let pieces = all_memory(&rt, rt.alloc());
+    let is_refused = Shape::new(rt.alloc(), first, &[second; 30], third).is_err();
+    let found = shapes_answer(&mut shape, &other);
+    drop(pieces);
+    same(&rt, "a new shape", &is_refused, &true);
+    let wanted = (Ordering::Greater, false, true, 3, Ordering::Equal);
+    same(&rt, "shapes", &found, &wanted);
+}
+
+/// What a loader answers to a line that is a record, and to one behind it.
+fn loader_answers(mut loader: Loader) -> (u64, Result<(), LoadFault>, Result<(), LoadFault>, u64)
+    requires { loader.parts ≡ 0 }
+{
+    let before = loader.parts();
+    let first = loader.feed(b"8    0100100001        12        30\n");
+    let second = loader.feed(b"x\n");
+    (before, first, second, loader.parts())
+}
+
+/// A loader is made, and tells want of memory of the first record and ever after.
+#[test]
+fn loaders_are_made(rt: HostRuntime) {
+    let pieces = all_memory(&rt, rt.alloc());
+    let found = loader_answers(Loader::new(rt.alloc()));
+    let limited = loader_answers(Loader::with_limit(rt.alloc(), 2));
+    drop(pieces);
+    let memory = Err(LoadFault::Memory);
+    same(&rt, "a loader", &found, &(0, memory, memory, 0));
+    same(&rt, "one with a limit", &limited, &(0, memory, memory, 0));
+}
+
+/// Whether a canonical county is written as this text.
+fn is_written(county: &CanonCounty, text: &[u8]) -> bool {
+    let mut room = [0; 400];
+    let mut sink = SlowSink::new(&mut room, 100);
+    let answer = write_to(county, &mut sink);
+    answer == Ok(text.len() as u64) && sink.held() == text
+}
+
+/// Whether one in an arena is.
+fn is_written_in(county: &CanonCountyIn<'_>, text: &[u8]) -> bool {
+    let mut room = [0; 400];
+    let mut sink = SlowSink::new(&mut room, 100);
+    let answer = write_in(county, &mut sink);
+    answer == Ok(text.len() as u64) && sink.held() == text
+}
+
+/// A canonical county is written.
+#[test]
+fn counties_are_written(rt: HostRuntime) {
+    let set = lines_of(&rt, rt.alloc(), street());
+    let text = lines_of(&rt, rt.alloc(), street_text());
+    let admitted = admit(rt.alloc(), county_of(&rt, rt.alloc(), "the street", &set));
+    let chart = admitted.expect(&rt, "the street").into_chart();
+    let county = canonise_chart(rt.alloc(), chart).expect(&rt, "the street");
+    let before = is_written(&county, &text);
+    let pieces = all_memory(&rt, rt.alloc());
+    let found = (is_all_taken(rt.alloc()), is_written(&county, &text));
+    drop(pieces);
+    drop(county);
+    same(&rt, "the street", &(before, found), &(true, (true, true)));
+}
+
+/// One in an arena is written too.
+#[test]
+fn counties_in_an_arena_are_written(rt: HostRuntime) {
+    let arena = Bump::new(rt.alloc());
+    let set = lines_of(&rt, rt.alloc(), street());
+    let text = lines_of(&rt, rt.alloc(), street_text());
+    let county = county_in_of(&rt, rt.alloc(), &arena, "the street", &set);
+    let admitted = admit_in(rt.alloc(), county).expect(&rt, "the street");
+    let county = canonise_chart(rt.alloc(), admitted.into_chart()).expect(&rt, "the street");
+    let before = is_written_in(&county, &text);
+    let pieces = all_memory(&rt, rt.alloc());
+    let found = (is_all_taken(rt.alloc()), is_written_in(&county, &text));
+    drop(pieces);
+    drop(county);
+    same(&rt, "the street", &(before, found), &(true, (true, true)));
+}
+
+/// Whether a whole call told want of memory.
+fn tells<T: Drop>(outcome: Result<T, Fault>) -> bool {
+    match outcome {
+        Ok(_) => false,
+        Err(fault) => is_memory(fault),
+    }
+}
+
+/// Whether a comparison did.
+fn comparison_tells(outcome: Result<Verdict, CompareFault>) -> bool {
+    match outcome {
+        Ok(_) => false,
+        Err(CompareFault::In { fault, .. }) => is_memory(fault),
+        Err(CompareFault::Memory) => true,
+    }
+}
+
+/// Which of the whole calls tell want of memory.
+fn whole_calls_tell(alloc: Global, set: &[u8]) -> [bool; 7] {
+    let mut room = [0; 400];
+    let mut sink = SlowSink::new(&mut room, 100);
+    let is_told = tells(normalise_slowly(alloc, set, &mut sink));
+    [
+        is_told && sink.held().is_empty(),
+        tells(respell(alloc, &[set])),
+        tells(normalise(alloc, &[set])),
+        tells(normalise_with_renaming(alloc, &[set])),
+        tells(fingerprint(alloc, &[set])),
+        tells(check(alloc, &[set])),
+        comparison_tells(compare(alloc, &[set], &[set])),
+    ]
+}
+
+/// The whole calls tell want of memory, and write nothing. Where memory is ample none tells it.
+#[test]
+fn whole_calls_tell_want_of_memory(rt: HostRuntime) {
+    let set = lines_of(&rt, rt.alloc(), street());
+    let before = whole_calls_tell(rt.alloc(), &set);
+    let pieces = all_memory(&rt, rt.alloc());
+    let found = whole_calls_tell(rt.alloc(), &set);
+    drop(pieces);
+    same(&rt, "ample memory", &before, &[false; 7]);
+    same(&rt, "no memory", &found, &[true; 7]);
+}

@@ -1,0 +1,351 @@
+//! A made map of 2,000 chains in the spellings of two hands, which number it, order its records and turn its chains each in a way
+//! of its own. It has chains of many points and of many names, names that no chain bears, landmarks with several contents and
+//! links, hundreds of CENIDs, and numbers of ten digits.
+
+ghost use Rattle.std.specs.Prelude.{◌<◌};
+
+use super::sets::lines_of;
+use std::alloc::Global;
+use std::process::Abort;
+
+/// How many chains there are.
+const CHAINS: u64 = 2000;
+
+/// How many names there are, of which chains bear the first 450.
+const NAMES: u64 = 500;
+
+/// How many landmarks there are.
+const LANDMARKS: u64 = 60;
+
+/// A number below the bound that looks like chance, and is the same each time.
+fn chance(of: u64, bound: u64) -> u64
+    requires { 0 < bound }
+    ensures { result < bound }
+{
+    let mixed = of
+        .wrapping_mul(6_364_136_223_846_793_005)
+        .wrapping_add(1_442_695_040_888_963_407);
+    (mixed >> 33) % bound
+}
+
+/// The number that one hand or the other gives to what is the n-th of its kind.
+fn number(other: bool, n: u64, most: u64) -> u64 {
+    if other { most.saturating_sub(n) } else { n }
+}
+
+/// The TLID of a chain.
+fn tlid(other: bool, chain: u64) -> u64
+    requires { chain < 5000 }
+{
+    number(other, 9_000_000_000 + chain, 18_999_999_998)
+}
+
+/// Whether the hand has the chain turned.
+fn is_turned(other: bool, chain: u64) -> bool {
+    (chance(chain, 3) == 0) != other
+}
+
+/// How many points a chain has between its ends.
+fn inner(chain: u64) -> u64
+    requires { chain < 5000 }
+    ensures { result < 25 }
+{
+    chance(7 * chain + 1, if chain % 8 == 0 { 25 } else { 3 })
+}
+
+/// How many names a chain bears beside its own.
+fn names(chain: u64) -> u64
+    requires { chain < 5000 }
+{
+    chance(11 * chain + 3, if chain % 8 == 1 { 13 } else { 2 })
+}
+
+/// A point of a chain, from 0 for its start, as longitude and latitude.
+fn point(chain: u64, place: u64) -> (u64, u64)
+    requires chain { chain < 5000 }
+    requires place { place < 100 }
+{
+    (
+        1000 * chain + 10 * place + 1,
+        1 + chance(100 * chain + place, 1000),
+    )
+}
+
+/// The n-th polygon as CENID and POLYID.
+fn polygon(other: bool, n: u64) -> (u64, u64)
+    requires { n < 10_000 }
+{
+    (n % 400, number(other, n + 1, 5_000_000_000))
+}
+
+/// The polygon on the left of a chain. Every fourth chain is the only one beside it.
+fn left(chain: u64) -> u64
+    requires { chain < 5000 }
+    ensures { result < 10_000 }
+{
+    if chain % 4 == 0 {
+        3000 + chain
+    } else {
+        chance(5 * chain + 2, 3000)
+    }
+}
+
+/// The polygon on the right of a chain.
+fn right(chain: u64) -> u64
+    requires { chain < 5000 }
+    ensures { result < 10_000 }
+{
+    chance(5 * chain + 4, 3000)
+}
+
+/// Puts a number into the columns of a line that end with this one.
+fn put(line: &mut [u8], last: usize, number: u64) {
+    let mut rest = number;
+    for place in (0..last).rev() {
+        if rest == 0 {
+            return;
+        }
+        if let Some(byte) = line.get_mut(place) {
+            *byte = b'0' + (rest % 10) as u8;
+        }
+        rest /= 10;
+    }
+}
+
+/// Adds the line of this pattern, with numbers in the columns that end with these.
+fn add(rt: &impl Abort, alloc: Global, text: &mut Vec<u8>, pattern: &str, fields: &[(usize, u64)]) {
+    let mut line = lines_of(rt, alloc, &[pattern]);
+    for (last, number) in fields {
+        put(&mut line, *last, *number);
+    }
+    text.extend_from_slice(&line).expect(rt, "there is memory");
+}
+
+/// A chain between two states, and the same from its other end.
+const CHAIN: &str = "12006{125}0102{56}+000000000+00000000+000000000+00000000";
+
+const TURNED: &str = "12006{125}0201{56}+000000000+00000000+000000000+00000000";
+
+/// Adds the ends of a chain.
+fn add_ends(rt: &impl Abort, alloc: Global, text: &mut Vec<u8>, other: bool, chain: u64)
+    requires { chain < 5000 }
+{
+    let start = point(chain, 0);
+    let end = point(chain, inner(chain) + 1);
+    let (start, end, line) = if is_turned(other, chain) {
+        (end, start, TURNED)
+    } else {
+        (start, end, CHAIN)
+    };
+    let fields = [
+        (15, tlid(other, chain)),
+        (49, chain),
+        (200, start.0),
+        (209, start.1),
+        (219, end.0),
+        (228, end.1),
+    ];
+    add(rt, alloc, text, line, &fields);
+}
+
+/// Ten places for points, none of which is used.
+const SHAPE: &str =
+    "22006{13}+000000000+00000000+000000000+00000000+000000000+00000000+000000000+00000000+000000000+00000000+000000000+00000000+000000000+00000000+000000000+00000000+000000000+00000000+000000000+00000000";
+
+/// Adds the points of a chain behind the first so many, ten at most, as the hand sees them.
+fn add_points(
+    rt: &impl Abort,
+    alloc: Global,
+    text: &mut Vec<u8>,
+    other: bool,
+    chain: u64,
+    first: u64,
+)
+    requires chain { chain < 5000 }
+    requires first { first < 30 }
+{
+    let mut line = lines_of(rt, alloc, &[SHAPE]);
+    put(&mut line, 15, tlid(other, chain));
+    put(&mut line, 18, first + 3);
+    let inner = inner(chain);
+    for place in 0..10u64 {
+        let seen = first + place + 1;
+        if seen <= inner {
+            let point = point(
+                chain,
+                if is_turned(other, chain) {
+                    inner + 1 - seen
+                } else {
+                    seen
+                },
+            );
+            put(&mut line, 28 + 19 * place as usize, point.0);
+            put(&mut line, 37 + 19 * place as usize, point.1);
+        }
+    }
+    text.extend_from_slice(&line).expect(rt, "there is memory");
+}
+
+/// Adds the names of a chain behind the first so many, five at most.
+fn add_names(
+    rt: &impl Abort,
+    alloc: Global,
+    text: &mut Vec<u8>,
+    other: bool,
+    chain: u64,
+    first: u64,
+)
+    requires chain { chain < 5000 }
+    requires first { first < 30 }
+{
+    let mut line = lines_of(rt, alloc, &["42006{53}"]);
+    put(&mut line, 15, tlid(other, chain));
+    put(&mut line, 18, first + 1);
+    for place in 0..5u64 {
+        if first + place < names(chain) {
+            let name = 1 + chance(13 * chain + first + place, 450);
+            put(
+                &mut line,
+                26 + 8 * place as usize,
+                number(other, name, 99_999_999),
+            );
+        }
+    }
+    text.extend_from_slice(&line).expect(rt, "there is memory");
+}
+
+/// A line of record type I.
+const LINK: &str = "I200601001{30}00000{10}00000{67}";
+
+/// Adds the nodes of a chain and what is beside it.
+fn add_link(rt: &impl Abort, alloc: Global, text: &mut Vec<u8>, other: bool, chain: u64)
+    requires { chain < 5000 }
+{
+    let mut nodes = [
+        number(other, chain, 1_000_000),
+        number(other, chain + 1, 1_000_000),
+    ];
+    let mut sides = [polygon(other, left(chain)), polygon(other, right(chain))];
+    if is_turned(other, chain) {
+        nodes.swap(0, 1);
+        sides.swap(0, 1);
+    }
+    let fields = [
+        (20, tlid(other, chain)),
+        (30, nodes[0]),
+        (40, nodes[1]),
+        (45, sides[0].0),
+        (55, sides[0].1),
+        (60, sides[1].0),
+        (70, sides[1].1),
+    ];
+    add(rt, alloc, text, LINK, &fields);
+}
+
+/// Adds further addresses of a chain.
+fn add_addresses(rt: &impl Abort, alloc: Global, text: &mut Vec<u8>, other: bool, chain: u64)
+    requires { chain < 5000 }
+{
+    let (from, to) = if is_turned(other, chain) {
+        (62, 29)
+    } else {
+        (29, 62)
+    };
+    let fields = [
+        (15, tlid(other, chain)),
+        (18, 7),
+        (from, 10 * chain),
+        (to, 10 * chain + 9),
+    ];
+    add(rt, alloc, text, "62006{71}", &fields);
+}
+
+/// Adds the inside of the polygon that is on the left of a chain.
+fn add_polygon(rt: &impl Abort, alloc: Global, text: &mut Vec<u8>, other: bool, chain: u64)
+    requires { chain < 5000 }
+{
+    let (cenid, polyid) = polygon(other, left(chain));
+    add(
+        rt,
+        alloc,
+        text,
+        "P20060100100000{29}1",
+        &[(15, cenid), (25, polyid)],
+    );
+}
+
+/// Adds all records of a chain.
+fn add_chain(rt: &impl Abort, alloc: Global, text: &mut Vec<u8>, other: bool, chain: u64)
+    requires { chain < 5000 }
+{
+    add_link(rt, alloc, text, other, chain);
+    for first in [10, 0, 20] {
+        if first <= inner(chain) {
+            add_points(rt, alloc, text, other, chain, first);
+        }
+        if first / 2 <= names(chain) {
+            add_names(rt, alloc, text, other, chain, first / 2);
+        }
+    }
+    add_ends(rt, alloc, text, other, chain);
+    if chain % 5 == 0 {
+        add_addresses(rt, alloc, text, other, chain);
+    }
+    if chain % 4 == 0 {
+        add_polygon(rt, alloc, text, other, chain);
+    }
+}
+
+/// Adds a landmark: up to three contents, and up to six polygons, which are beside chains.
+fn add_landmark(rt: &impl Abort, alloc: Global, text: &mut Vec<u8>, other: bool, landmark: u64)
+    requires { landmark < 100 }
+{
+    let land = number(other, landmark, 3_000_000_000);
+    for content in 0..1 + landmark % 3 {
+        add(
+            rt,
+            alloc,
+            text,
+            "7200601001{64}",
+            &[(20, land), (54, 10 * landmark + content)],
+        );
+    }
+    for link in 0..landmark % 7 {
+        let (cenid, polyid) = polygon(other, left(17 * landmark + link));
+        add(
+            rt,
+            alloc,
+            text,
+            "820060100100000{21}",
+            &[(15, cenid), (25, polyid), (35, land)],
+        );
+    }
+}
+
+/// The map as one hand or the other spells it.
+pub(super) fn made(rt: &impl Abort, alloc: Global, other: bool) -> Vec<u8> {
+    let mut text = Vec::new(alloc);
+    for n in 0..CHAINS {
+        add_chain(
+            rt,
+            alloc,
+            &mut text,
+            other,
+            if other { CHAINS - n } else { n + 1 },
+        );
+    }
+    for name in 1..NAMES + 1 {
+        let feat = number(other, name, 99_999_999);
+        add(
+            rt,
+            alloc,
+            &mut text,
+            "5200601001{46}",
+            &[(18, feat), (50, name)],
+        );
+    }
+    for landmark in 1..LANDMARKS + 1 {
+        add_landmark(rt, alloc, &mut text, other, landmark);
+    }
+    text
+}

@@ -1,0 +1,67 @@
+//! A made map of many chains through each call.
+
+use super::arenas::arenas_make_no_difference;
+use super::comparing::{same, same_items};
+use super::made::made;
+use super::refusals::{Set, ample_answer, of_layers, whole};
+use std::alloc::Global;
+use std::process::Abort;
+use tigercanon::{Verdict, compare, normalise};
+use tl_load::{Counted, Loader};
+use tl_write::{CountedOut, write_bytes};
+
+/// Both hands' spellings are one map, and have one text, which is its own and longer than the buffer of a writer.
+fn has_one_text(rt: &impl Abort, alloc: Global, set: &[u8], other: &[u8]) -> Vec<u8> {
+    let text = normalise(alloc, &[set]).expect(rt, "one hand");
+    assert!(rt; text.len() > 1_000_000, "the text is long");
+    let of_other = normalise(alloc, &[other]).expect(rt, "the other hand");
+    same_items(rt, "the other hand", &of_other, &text);
+    let of_text = normalise(alloc, &[&text]).expect(rt, "the text");
+    same_items(rt, "the text", &of_text, &text);
+    text
+}
+
+/// The sets are one map.
+fn are_same(rt: &impl Abort, alloc: Global, set: &[u8], other: &[u8]) {
+    let verdict = compare(alloc, &[set], &[other]).expect(rt, "both are accepted");
+    let is_same = matches!(&verdict, Verdict::Same(_));
+    drop(verdict);
+    same(rt, "one map", &is_same, &true);
+}
+
+/// Each call answers where memory is ample, and an arena makes no difference.
+fn goes_through_each_call(rt: &impl Abort, alloc: Global, set: &Set<'_>) {
+    for call in whole() {
+        let _ = ample_answer(rt, alloc, *call, set);
+    }
+    for call in of_layers() {
+        let _ = ample_answer(rt, alloc, *call, set);
+    }
+    arenas_make_no_difference(rt, alloc, set);
+}
+
+/// More than a million bytes are read from a reader and written to a writer, without a failure.
+fn goes_through_devices(rt: &impl Abort, alloc: Global, set: &[u8]) {
+    let mut source = Counted::new(set);
+    let mut loader = Loader::new(alloc);
+    same(rt, "reading", &loader.read_part(&mut source), &Ok(()));
+    let mut sink = CountedOut::new(Vec::new(alloc));
+    let wanted = Ok(set.len() as u64);
+    same(rt, "writing", &write_bytes(set, &mut sink), &wanted);
+    same_items(rt, "what is held", &sink.into_inner(), set);
+}
+
+#[test]
+fn a_map_of_many_chains_goes_through_each_call(rt: HostRuntime) {
+    let set = made(&rt, rt.alloc(), false);
+    let other = made(&rt, rt.alloc(), true);
+    let text = has_one_text(&rt, rt.alloc(), &set, &other);
+    are_same(&rt, rt.alloc(), &set, &other);
+    let set = Set {
+        row: "many chains",
+        bytes: &set,
+        text: &text,
+    };
+    goes_through_each_call(&rt, rt.alloc(), &set);
+    goes_through_devices(&rt, rt.alloc(), &text);
+}

@@ -1,0 +1,87 @@
+//! What the contents of records are under masks.
+
+use super::comparing::same;
+use super::sets::{lines_of, records_of};
+use std::alloc::Global;
+use std::process::Abort;
+use tl_layout::{Blank, Mask, Record};
+
+/// Records of the types with fields that masks leave out: first as they are, and then without these fields.
+const PLAIN: &[&str] = &[
+    "12006{7}5001AN Main{26}St{2}SWA41{8}101{8}199{8}100{8}198678936003360067000170002LR45012800105190001900028000180002600016000202020002030010012002-086468669+32424914-086468545+32424948",
+    "7200601001{8}40AD43Barn{26}-086468669+32424914",
+    "I200601001{7}500{8}11{8}1200001{8}1300002{8}14Bureau{20}9{9}6{9}7{9}8",
+];
+
+const NO_SOURCES: &[&str] = &[
+    "12006{7}5001{1}N Main{26}St{2}SWA41{8}101{8}199{8}100{8}198678936003360067000170002LR45012800105190001900028000180002600016000202020002030010012002-086468669+32424914-086468545+32424948",
+    "7200601001{8}40{1}D43Barn{26}-086468669+32424914",
+    "I200601001{7}500{8}11{8}1200001{8}1300002{8}14{26}9{9}6{9}7{9}8",
+];
+
+const NO_RESERVED: &[&str] = &[
+    "12006{7}5001AN Main{26}St{2}SWA41{8}101{8}199{8}100{8}198678936003360067000170002LR{2}012800105190001900028000180002600016000202020002030010012002-086468669+32424914-086468545+32424948",
+    "7200601001{8}40AD43Barn{26}-086468669+32424914",
+    "I200601001{7}500{8}11{8}1200001{8}1300002{8}14Bureau{20}9",
+];
+
+const NEITHER: &[&str] = &[
+    "12006{7}5001{1}N Main{26}St{2}SWA41{8}101{8}199{8}100{8}198678936003360067000170002LR{2}012800105190001900028000180002600016000202020002030010012002-086468669+32424914-086468545+32424948",
+    "7200601001{8}40{1}D43Barn{26}-086468669+32424914",
+    "I200601001{7}500{8}11{8}1200001{8}1300002{8}14{26}9",
+];
+
+fn mask(sources: bool, reserved: bool) -> Mask {
+    Mask { sources, reserved }
+}
+
+/// The plain records, and these without the fields of either kind.
+pub(super) fn plain() -> &'static [&'static str] {
+    PLAIN
+}
+
+pub(super) fn without_either() -> &'static [&'static str] {
+    NEITHER
+}
+
+/// Whether the content of the one record is under the mask that of the other.
+pub(super) fn is_masked(record: &Record, mask: Mask, other: &Record) -> bool {
+    match (record, other) {
+        (Record::One(record), Record::One(other)) => {
+            let mut body = *record.body();
+            body.blank(mask);
+            body == *other.body()
+        }
+        (Record::Seven(record), Record::Seven(other)) => {
+            let mut body = *record.body();
+            body.blank(mask);
+            body == *other.body()
+        }
+        (Record::I(record), Record::I(other)) => {
+            let mut body = *record.body();
+            body.blank(mask);
+            body == *other.body()
+        }
+        _ => false,
+    }
+}
+
+/// Under this mask the plain records have the contents of these.
+fn become_these(rt: &impl Abort, alloc: Global, row: &str, mask: Mask, wanted: &[&str]) {
+    let plain = records_of(rt, alloc, row, &lines_of(rt, alloc, PLAIN));
+    let masked = records_of(rt, alloc, row, &lines_of(rt, alloc, wanted));
+    same(rt, row, &masked.len(), &3);
+    for (record, other) in plain.iter().zip(masked.iter()) {
+        same(rt, row, &is_masked(record, mask, other), &true);
+    }
+    let is_none = mask.is_none();
+    same(rt, row, &is_none, &(!mask.sources && !mask.reserved));
+}
+
+#[test]
+fn a_mask_leaves_out_its_fields(rt: HostRuntime) {
+    become_these(&rt, rt.alloc(), "none", Mask::NONE, PLAIN);
+    become_these(&rt, rt.alloc(), "sources", mask(true, false), NO_SOURCES);
+    become_these(&rt, rt.alloc(), "reserved", mask(false, true), NO_RESERVED);
+    become_these(&rt, rt.alloc(), "both", mask(true, true), NEITHER);
+}

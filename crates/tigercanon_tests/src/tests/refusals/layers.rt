@@ -1,0 +1,106 @@
+//! Which layer tells want of memory within a whole call: the one that was refused.
+
+use super::super::comparing::same;
+use super::super::sets::lines_of;
+use super::super::worked_sets::{Worked, worked};
+use super::{ALONE, Call, MANY, Run, Set, has_refused, refuse, run_of};
+use std::alloc::Global;
+use std::process::Abort;
+use tigercanon::{Fault, normalise};
+use tl_county::LinkFault;
+use tl_load::LoadFault;
+use tl_profile::ProfileFault;
+
+/// The layer that tells want of memory: loading, linking, the profile, or what comes behind them.
+fn layer_of(fault: Fault) -> Option<usize> {
+    match fault {
+        Fault::Load(LoadFault::Memory) => Some(0),
+        Fault::Link(LinkFault::Memory) => Some(1),
+        Fault::Profile(ProfileFault::Memory) => Some(2),
+        Fault::Memory => Some(3),
+        _ => None,
+    }
+}
+
+/// The layer that tells the refusal of this growth of a whole call, and whether there was one.
+fn layer_at(alloc: Global, set: &Set<'_>, growth: usize) -> (Option<usize>, bool) {
+    refuse(alloc, ALONE.saturating_add(growth));
+    let outcome = normalise(alloc, &[set.bytes]);
+    let refused = has_refused(alloc);
+    (outcome.err().and_then(layer_of), refused)
+}
+
+/// Counts what a layer told. No layer tells want of memory behind a later one.
+fn count_layer(rt: &impl Abort, row: &str, counts: &mut [usize; 4], layer: usize) {
+    let behind: usize = counts
+        .iter()
+        .skip(layer.saturating_add(1))
+        .copied()
+        .max()
+        .unwrap_or(0);
+    same(rt, row, &behind, &0);
+    if let Some(count) = counts.get_mut(layer) {
+        *count = count.saturating_add(1);
+    }
+}
+
+/// How often each layer tells want of memory, while each growth of a whole call is refused in turn. A growth that the call meets
+/// amply all the same isn't told.
+fn tellings_by_layer(rt: &impl Abort, alloc: Global, set: &Set<'_>) -> [usize; 4] {
+    let mut counts = [0usize; 4];
+    for growth in 1..MANY {
+        let (layer, refused) = layer_at(alloc, set, growth);
+        if !refused {
+            break;
+        }
+        if let Some(layer) = layer {
+            count_layer(rt, set.row, &mut counts, layer);
+        }
+    }
+    counts
+}
+
+/// How often a call tells want of memory, while each of its growths is refused in turn.
+fn tellings(rt: &impl Abort, alloc: Global, call: Call, set: &Set<'_>) -> usize {
+    let mut count = 0usize;
+    for growth in 1..MANY {
+        let Run { answer, refused } = run_of(rt, alloc, call, set, ALONE.saturating_add(growth));
+        if !refused {
+            break;
+        }
+        count = count.saturating_add(usize::from(answer.is_none()));
+    }
+    count
+}
+
+/// Each layer tells as many refusals within a whole call as it tells by itself. Answers how many linking tells.
+fn layers_tell_their_refusals(rt: &impl Abort, alloc: Global, row: &Worked) -> usize {
+    let bytes = lines_of(rt, alloc, row.1);
+    let text = lines_of(rt, alloc, row.2);
+    let set = Set {
+        row: row.0,
+        bytes: &bytes,
+        text: &text,
+    };
+    let told = tellings_by_layer(rt, alloc, &set);
+    let wanted = [
+        tellings(rt, alloc, Call::TablesOf, &set),
+        tellings(rt, alloc, Call::LinkInOrder, &set),
+        tellings(rt, alloc, Call::OrderByShape, &set),
+        told[3],
+    ];
+    same(rt, row.0, &told, &wanted);
+    told[1]
+}
+
+#[test]
+fn want_of_memory_is_told_by_the_layer_that_was_refused(rt: HostRuntime) {
+    let mut count = 0usize;
+    for row in worked() {
+        count = count.saturating_add(layers_tell_their_refusals(&rt, rt.alloc(), row));
+    }
+    println!(rt; "Linking within Normalise: {count} growths refused").expect(
+        &rt,
+        "a line goes out",
+    );
+}
