@@ -26,7 +26,8 @@ _tigercanon() {
     COMPREPLY=()
     case "$command" in
         "") flags="--help --version" ;;
-        normalise | fingerprint | compare | respell | check) flags="--stem --help" ;;
+        normalise | fingerprint | compare) flags="--stem --no-sources --no-reserved --help" ;;
+        respell | check) flags="--stem --help" ;;
         help) ;;
         *) return ;;
     esac

@@ -2,6 +2,7 @@
 
 set -l commands normalise fingerprint compare respell check help
 set -l sets normalise fingerprint compare respell check
+set -l maps normalise fingerprint compare
 
 # What the names of a county's files begin with.
 function __tigercanon_stems
@@ -21,6 +22,8 @@ complete -c tigercanon -n "not __fish_seen_subcommand_from $commands" -a help -d
 complete -c tigercanon -n "not __fish_seen_subcommand_from $commands" -s V -l version -d 'Print the version'
 complete -c tigercanon -s h -l help -d 'Print the help'
 complete -c tigercanon -n "__fish_seen_subcommand_from $sets" -l stem -d 'The name is what the names of the files begin with'
+complete -c tigercanon -n "__fish_seen_subcommand_from $maps" -l no-sources -d 'Leave out the fields that say where data came from'
+complete -c tigercanon -n "__fish_seen_subcommand_from $maps" -l no-reserved -d 'Leave out the reserved fields'
 complete -c tigercanon -n "__fish_seen_subcommand_from $sets; and __fish_contains_opt stem" -k -a '(__tigercanon_stems)'
 complete -c tigercanon -n "__fish_seen_subcommand_from $sets; and not __fish_contains_opt stem" -F
 complete -c tigercanon -n "__fish_seen_subcommand_from help" -a "$commands"
