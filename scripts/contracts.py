@@ -293,7 +293,8 @@ class Sources:
         crate, *parts = module.split(".")
         if parts[:2] == ["specs", "declared"]:
             if crate in self.crates:
-                cited.types.add((crate, parts[2], parts[-2] if parts[-1] == "TheVariants" else name))
+                file = "/".join(part for part in parts[2:] if part[0].islower())
+                cited.types.add((crate, file, parts[-2] if parts[-1] == "TheVariants" else name))
         elif parts[:1] == ["specs"]:
             key = (crate, ".".join(parts[1:]), name)
             if key in self.words:
