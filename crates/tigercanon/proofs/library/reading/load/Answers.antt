@@ -1,15 +1,11 @@
 use Rattle.std.proofs.Common.{◌≡◌, ◌+◌, ◌∙◌, ap, Result, IfErr, IsErrAnd, [], subst}
-use Rattle.std.proofs.lemmas.Result.{err_from_is_err_and}
+use Rattle.tl_layout.proofs.Exits.{exit_with}
 use Rattle.tl_load.specs.Loaded.{IsOfLines}
 use Rattle.tl_load.specs.Keeping.{WasFedInto}
 use Rattle.tl_load.specs.declared.fault.LoadFault.{LoadFault}
 use Rattle.tigercanon.specs.Respelling.{record_limit, IsFirstFault}
 use Rattle.tigercanon.proofs.Parts.{parts_of, parts_so_far, fault_of_all, fault_of_closed}
 use Rattle.tigercanon.proofs.library.reading.load.Goals as goal
-
--- the exit of a `?`: what holds of the callee's error holds of the answer
-exit_with : {T : Type 0} (r : Result T LoadFault) (f : LoadFault) (P : LoadFault → Type 0) → IsErrAnd r (λ e. e ≡ f) → P f → IfErr r P
-exit_with r f P is holds = let p = err_from_is_err_and r is in rw (p.1, p.2) holds
 
 pub returns-in_err-feed-clause-faulty : goal.returns-in_err-feed-clause-faulty
 returns-in_err-feed-clause-faulty g c =
