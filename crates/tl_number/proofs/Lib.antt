@@ -43,3 +43,14 @@ pub mod StepPairs
 pub mod StepTables
 pub mod MaskedProfile
 pub mod MaskedSights
+pub mod Pieces
+pub mod Grouped
+pub mod ChainPlaces
+pub mod Selected
+pub mod PackedGroups
+pub mod EntryPlaces
+pub mod RecordFields
+pub mod ReadHeads
+pub mod RecordPlaces
+pub mod OneAfterAnother
+pub mod GivenGroups
