@@ -12,3 +12,5 @@ pub mod SideKeys
 pub mod KeysInOrder
 pub mod FirstClauses
 pub mod FewChains
+pub mod Factorials
+pub mod CountedChoices
