@@ -1,8 +1,8 @@
 -- What a pass over keys in order, from the last to the first, knows of their running product and of the places with a choice.
-use Rattle.std.proofs.Common.{◌≡◌, ◌⊎◌, ◌<◌, ◌≤◌, ◌*◌, ◌+◌, ℕ, zero, suc, List, [], ◌∷◌, ◌++◌, length, drop, Bool, true, false, cond}
-use Rattle.std.proofs.Common.{Ordering, is_eq, is_gt, sym, refl, ap, ◌∙◌, subst, inl, inr, arith}
+use Rattle.std.proofs.Common.{◌≡◌, ◌≤◌, ◌*◌, ℕ, zero, suc, List, [], ◌∷◌, drop, Bool, true, false, cond}
+use Rattle.std.proofs.Common.{Ordering, is_eq, refl, ap, ◌∙◌, arith}
 use Rattle.tl_county.specs.Orders.{times, IsInOrder}
-use Rattle.tl_county.proofs.ByKey.Keys.{IsKeyOrder, same_or_not, same-true, times-yes, times-no}
+use Rattle.tl_county.proofs.ByKey.Keys.{IsKeyOrder, same-true, times-yes}
 use Rattle.tl_county.proofs.ByKey.KeyedLists.{before_all, less_from}
 use Rattle.tl_profile.specs.Choices.{running}
 

@@ -1,11 +1,11 @@
 -- The running product of keys is the product of the factorials of how often each of them stands there, and of twos. So it is the same in
 -- whatever order the keys stand.
 use Rattle.std.proofs.Common.{◌≡◌, ◌⊎◌, ◌<◌, ◌≤◌, ◌*◌, ◌^◌, ℕ, suc, nat_lt, List, [], ◌∷◌, map, filter, length, Bool, true, false, cond}
-use Rattle.std.proofs.Common.{Ordering, is_eq, is_gt, sym, refl, ap, ap₂, ◌∙◌, subst, inl, inr, arith}
+use Rattle.std.proofs.Common.{Ordering, is_eq, is_gt, sym, refl, ap, ◌∙◌, subst, inl, inr, arith}
 use Rattle.std.proofs.lemmas.Bool.{ltb-true, ltb-false}
 use Rattle.std.proofs.Math.Nat.{pow-succ'}
 use Rattle.tl_county.specs.Orders.{times, stands_in, put_in_order, distinct}
-use Rattle.tl_county.proofs.ByKey.Keys.{IsKeyOrder, IsApart, Known, times-yes, times-no, apart_tail, known-later, known_cases, map_agree, differ}
+use Rattle.tl_county.proofs.ByKey.Keys.{IsKeyOrder, IsApart, Known, times-yes, times-no, apart_tail, known_cases, map_agree, differ}
 use Rattle.tl_county.proofs.Lists.Distinct.{apart-distinct, known-distinct, known_from_distinct}
 use Rattle.tl_county.proofs.Lists.Reordered.{SameElements, times-same, distinct_same}
 use Rattle.tl_profile.specs.Choices.{factorial, product, running}

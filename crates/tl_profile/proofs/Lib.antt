@@ -14,3 +14,5 @@ pub mod FirstClauses
 pub mod FewChains
 pub mod Factorials
 pub mod CountedChoices
+pub mod ShapePoints
+pub mod SameChoices
