@@ -16,3 +16,4 @@ pub mod Factorials
 pub mod CountedChoices
 pub mod ShapePoints
 pub mod SameChoices
+pub mod FoundChoices

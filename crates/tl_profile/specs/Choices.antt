@@ -1,6 +1,7 @@
 -- The choices that the shapes of a county leave open: which of several chains of one shape stands first, and in which direction a chain
 -- stands that is the same from both ends.
-use Rattle.std.specs.Prelude.{ℕ, zero, suc, ◌*◌, ◌^◌, ◌==◌, List, [], ◌∷◌, map, filter, length, reverse, Bool, cond, not, ◌&&◌}
+use Rattle.std.specs.Prelude.{ℕ, zero, suc, ◌*◌, ◌^◌, ◌==◌, List, [], ◌∷◌, map, filter, length, reverse, Bool, false, cond, min, not}
+use Rattle.std.specs.Prelude.{◌&&◌}
 use Rattle.std.specs.declared.cmp.Ordering.{Ordering}
 use Rattle.std.specs.Ordering.{is_eq}
 use Rattle.tl_layout.specs.Coordinates.{Coordinates}
@@ -41,17 +42,42 @@ choices county = product (map (orders_of county) (distinct points_cmp (shapes co
 abbrev pub most_choices : ℕ
 most_choices = 5040
 
+-- how many choices there are, or one more than the most where there are more than that
+abbrev pub counted_choices : County → ℕ
+counted_choices county = min (choices county) (suc most_choices)
+
 -- The same of keys in a list, one after another. At each key there is a choice between it and those behind it that are the same, and
 -- between two directions where it can stand either way. The keys may be in any order.
 abbrev pub running : {K : Type 0} → (K → K → Ordering) → (K → Bool) → List K → ℕ
 running cmp either [] = 1
 running cmp either (key ∷ keys) = suc (times cmp key keys) * (cond (either key) 2 1 * running cmp either keys)
 
--- The places, from a given one on, at which there is more than one choice: each with how many keys from there on are the same as the key
--- that stands there, itself counted, and whether it can stand either way.
+-- how many keys of a list are the same as the first, that one counted; of no keys, none
+abbrev pub alike_first : {K : Type 0} → (K → K → Ordering) → List K → ℕ
+alike_first cmp [] = 0
+alike_first cmp (key ∷ keys) = suc (times cmp key keys)
+
+-- whether the key is the same as the first of the keys
+abbrev pub is_first : {K : Type 0} → (K → K → Ordering) → K → List K → Bool
+is_first cmp key [] = false
+is_first cmp key (other ∷ keys) = is_eq (cmp key other)
+
+-- what there is at a place with this key, and with those keys behind it
+abbrev pub place_of : {K : Type 0} → (K → K → Ordering) → (K → Bool) → ℕ → K → List K → OpenPlace
+place_of cmp either place key keys = record { place = place; alike = suc (times cmp key keys); either_way = either key }
+
+-- in how many directions a chain can stand at a place
+abbrev pub ways_at : OpenPlace → ℕ
+ways_at at = cond at.either_way 2 1
+
+-- whether there is no choice at a place
+abbrev pub is_settled : OpenPlace → Bool
+is_settled at = (at.alike == 1) && not at.either_way
+
+-- the places, from a given one on, at which there is a choice
 abbrev pub open_places : {K : Type 0} → (K → K → Ordering) → (K → Bool) → ℕ → List K → List OpenPlace
 open_places cmp either place [] = []
 open_places cmp either place (key ∷ keys) =
-    cond ((suc (times cmp key keys) == 1) && not (either key))
+    cond (is_settled (place_of cmp either place key keys))
     (open_places cmp either (suc place) keys)
-    (record { place = place; alike = suc (times cmp key keys); either_way = either key } ∷ open_places cmp either (suc place) keys)
+    (place_of cmp either place key keys ∷ open_places cmp either (suc place) keys)

@@ -93,7 +93,11 @@ fn placed_shapes<C: Chart>(alloc: Global, chart: &C) -> Result<Vec<PlacedShape>,
 }
 
 /// How one chain's shape stands to another's.
-fn compare_shapes<C: Chart>(chart: &C, shape: &PlacedShape, other: &PlacedShape) -> Ordering
+pub(crate) fn compare_shapes<C: Chart>(
+    chart: &C,
+    shape: &PlacedShape,
+    other: &PlacedShape,
+) -> Ordering
     ensures { result ≡ placed_cmp (C.county chart.now) shape.now other.now }
 {
     match shape.first.cmp(&other.first) {
