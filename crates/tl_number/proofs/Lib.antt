@@ -43,3 +43,4 @@ pub mod StepPairs
 pub mod StepTables
 pub mod MaskedProfile
 pub mod MaskedSights
+pub mod Choosing
