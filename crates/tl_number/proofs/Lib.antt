@@ -44,3 +44,4 @@ pub mod StepTables
 pub mod MaskedProfile
 pub mod MaskedSights
 pub mod Choosing
+pub mod EachTidy
