@@ -45,3 +45,4 @@ pub mod MaskedProfile
 pub mod MaskedSights
 pub mod Choosing
 pub mod EachTidy
+pub mod TidyChoices
