@@ -46,3 +46,5 @@ pub mod MaskedSights
 pub mod Choosing
 pub mod EachTidy
 pub mod TidyChoices
+pub mod TidyLists
+pub mod OneChoice
