@@ -11,6 +11,7 @@ use Rattle.tl_county.specs.Orders.{times}
 use Rattle.tl_county.specs.Renumbering.{AreSame}
 use Rattle.tl_county.proofs.ByKey.KeyOrders.{points_keys}
 use Rattle.tl_county.proofs.ByKey.Keys.{IsKeyOrder, IsApart, times-yes, apart_tail, apart_from_sorted}
+use Rattle.tl_county.proofs.Lists.Distinct.{apart_from_no_repeat, has_repeat-apart}
 use Rattle.tl_county.proofs.Lists.Elements.{map_agree_all, all_weaker, all_map}
 use Rattle.tl_county.proofs.Lists.EntryLists.{in_order-strict}
 use Rattle.tl_county.proofs.Lists.InOrder.{strict-unmap}
@@ -22,16 +23,11 @@ use Rattle.tl_profile.proofs.SameChoices.{choices_of_shapes}
 use Rattle.tl_number.specs.Arrangement.{Arrangement, entry_shape, ascending}
 use Rattle.tl_number.specs.ArrangedCounty.{IsLeast, entry_points}
 use Rattle.tl_number.specs.Canonical.{IsArrangedList}
-use Rattle.tl_number.specs.Tidy.{IsTidy, IsTidyList, IsNotAfter, IsLeastTidyList, IsChoice, arranged_list, numbered_choice}
+use Rattle.tl_number.specs.Tidy.{HasShapesApart, IsTidy, IsTidyList, IsNotAfter, IsLeastTidyList, IsChoice, arranged_list, numbered_choice}
 use Rattle.tl_number.proofs.AscendingSteps.{turned_same}
 use Rattle.tl_number.proofs.SortedPlaces.{in_order-unmap}
 use Rattle.tl_number.proofs.TidyChoices.{choice_number, first_choice}
 use Rattle.tl_number.proofs.TidyLists.{tidy_is_choice, not_after_itself}
-
--- no shape stands twice, and none is the same from both ends
-pub record HasShapesApart (county : County) : Type 0 where
-  pub apart : IsApart points_cmp (shapes county)
-  pub one_way : AllByRecursion (λ points. is_either_way points ≡ false) (shapes county)
 
 running_one : {K : Type 0} {cmp : K → K → Ordering} (o : IsKeyOrder cmp) (either : K → Bool) (ks : List K) → IsApart cmp ks
     → AllByRecursion (λ k. either k ≡ false) ks → running cmp either ks ≡ 1
@@ -42,7 +38,8 @@ running_one {K} {cmp} o either (k ∷ ks) a h =
     λ i. suc (none i) * (cond (h.0 i) 2 1 * rest i)
 
 pub one_choice : (county : County) → HasShapesApart county → choices county ≡ 1
-one_choice county h = sym (choices_of_shapes county) ∙ running_one points_keys is_either_way (shapes county) h.apart h.one_way
+one_choice county h = sym (choices_of_shapes county) ∙ running_one points_keys is_either_way (shapes county)
+    (apart_from_no_repeat points_keys (shapes county) h.apart) h.one_way
 
 pub only_choice : (county : County) → IsCounty county → HasShapesApart county → (steps : Arrangement) → IsChoice county steps
     → steps ≡ ascending county
@@ -69,8 +66,8 @@ module _ (county : County) (h : IsLeast county) where
 
   pub least_apart_shapes : HasShapesApart county
   least_apart_shapes = record {
-    apart = apart_from_sorted points_keys (shapes county)
-        (subst (IsStrictlySortedBy points_cmp) each_shape (strict-unmap points_cmp entry_points county.chains h.ascending));
+    apart = has_repeat-apart points_keys (shapes county) (apart_from_sorted points_keys (shapes county)
+        (subst (IsStrictlySortedBy points_cmp) each_shape (strict-unmap points_cmp entry_points county.chains h.ascending)));
     one_way = subst (AllByRecursion (λ points. is_eq (points_cmp points (reverse points)) ≡ false)) each_shape
         (all_map (λ points. is_eq (points_cmp points (reverse points)) ≡ false) entry_points county.chains
         (all_weaker (λ e. points_cmp (entry_points e) (reverse (entry_points e)) ≡ Less)

@@ -8,10 +8,10 @@ use Rattle.tl_layout.specs.RecordText.{text_of}
 use Rattle.tl_layout.specs.declared.record_type.Record.{Record}
 use Rattle.tl_shape.specs.PointOrder.{points_cmp}
 use Rattle.tl_county.specs.County.{County, county_of}
-use Rattle.tl_county.specs.Orders.{IsInOrder}
+use Rattle.tl_county.specs.Orders.{IsInOrder, has_repeat}
 use Rattle.tl_county.specs.Packing.{packed}
 use Rattle.tl_county.specs.Renumbering.{AreSame}
-use Rattle.tl_profile.specs.Choices.{is_either_way}
+use Rattle.tl_profile.specs.Choices.{is_either_way, shapes}
 use Rattle.tl_number.specs.ArrangedCounty.{entry_points}
 use Rattle.tl_number.specs.Arrangement.{Arrangement, Arranges, entries_of, entry_shape, arranged, ascending}
 use Rattle.tl_number.specs.Canonical.{IsArrangedList}
@@ -50,6 +50,11 @@ arranged_list county steps = packed (arranged county steps)
 pub record IsLeastChoice (county : County) (steps : Arrangement) : Type 0 where
   pub choice : IsChoice county steps
   pub least : (other : Arrangement) → IsChoice county other → IsNotAfter (arranged_list county steps) (arranged_list county other)
+
+-- no two chains have one shape, and no shape is the same from both ends
+pub record HasShapesApart (county : County) : Type 0 where
+  pub apart : has_repeat points_cmp (shapes county) ≡ false
+  pub one_way : AllByRecursion (λ points. is_either_way points ≡ false) (shapes county)
 
 -- the shape of the chain of a step
 abbrev pub step_shape : County → ℕ × Bool → List Coordinates
