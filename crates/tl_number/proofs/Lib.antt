@@ -43,3 +43,10 @@ pub mod StepPairs
 pub mod StepTables
 pub mod MaskedProfile
 pub mod MaskedSights
+pub mod Choosing
+pub mod EachTidy
+pub mod TidyChoices
+pub mod TidyLists
+pub mod OneChoice
+pub mod LeastCounties
+pub mod MovedChoice
