@@ -19,6 +19,7 @@ mod laws;
 mod masking;
 mod name_order;
 mod number_pairs;
+mod numbered_steps;
 mod numbers;
 mod polygon_order;
 mod renumbering;
