@@ -61,3 +61,4 @@ pub mod TidyLists
 pub mod OneChoice
 pub mod LeastCounties
 pub mod MovedChoice
+pub mod MovedSteps

@@ -27,6 +27,7 @@ mod masking;
 mod name_order;
 mod name_records;
 mod number_pairs;
+mod numbered_steps;
 mod numbers;
 mod polygon_order;
 mod polygon_records;
