@@ -54,3 +54,7 @@ pub mod ReadHeads
 pub mod RecordPlaces
 pub mod OneAfterAnother
 pub mod GivenGroups
+pub mod RecordTexts
+pub mod GroupRests
+pub mod TypeOrders
+pub mod GroupOrders
