@@ -62,3 +62,7 @@ pub mod OneChoice
 pub mod LeastCounties
 pub mod MovedChoice
 pub mod MovedSteps
+pub mod RecordTexts
+pub mod GroupRests
+pub mod TypeOrders
+pub mod GroupOrders
