@@ -20,7 +20,7 @@ use Rattle.tl_county.specs.Orders.{in_order}
 use Rattle.tl_county.proofs.ByKey.KeyOrders.{points_keys}
 use Rattle.tl_county.proofs.ByKey.KeyedLists.{lt_reversed}
 use Rattle.tl_county.proofs.Lists.Elements.{all_unmap}
-use Rattle.tl_profile.specs.ShapeOrder.{IsShapeOrder, least_walk, points_along, walk_cmp}
+use Rattle.tl_profile.specs.ShapeOrder.{AreWalksInOrder, least_walk, points_along, walk_cmp}
 use Rattle.tl_profile.specs.Shapes.{least_points, points_from}
 use Rattle.tl_number.specs.Arrangement.{ascending, entry_shape, comes_turned}
 use Rattle.tl_number.specs.Steps.{arrangement_of, AreSteps, tlid_at}
@@ -99,7 +99,7 @@ module _ (county : County) where
       let turned : w.turned ≡ comes_turned x.1 = ap (λ (v : ChainWalk). v.turned) a.0 ∙ turned_read w.place x here in
       λ i. (tlid i, turned i) ∷ steps_told ws xs a.1 rest i
 
-  module _ (walks : List ChainWalk) (order : IsShapeOrder county walks) where
+  module _ (walks : List ChainWalk) (order : AreWalksInOrder county walks) where
     read : map (slice_get county.chains) (map place_of walks) ≡ map Some (in_order (on entry_shape points_cmp) county.chains)
     read = sorted_items (least_walk county) place_of (λ i. refl) (walk_cmp county) (on_total entry_shape points_keys.total) county.chains
         agrees walks order.all order.in_order

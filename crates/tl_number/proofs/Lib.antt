@@ -61,3 +61,8 @@ pub mod TidyLists
 pub mod OneChoice
 pub mod LeastCounties
 pub mod MovedChoice
+pub mod MovedSteps
+pub mod RecordTexts
+pub mod GroupRests
+pub mod TypeOrders
+pub mod GroupOrders

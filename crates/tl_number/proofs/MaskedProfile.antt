@@ -1,6 +1,6 @@
 -- A mask leaves out nothing that the profile and the order of chains by their shapes look at.
 use Rattle.std.proofs.Common.{◌≡◌, ◌==◌, ◌&&◌, ℕ, List, [], ◌∷◌, map, reverse, Bool, not, refl, sym, ap, ◌∙◌, subst}
-use Rattle.std.proofs.Common.{nat_cmp, length, IsPermutation}
+use Rattle.std.proofs.Common.{nat_cmp, length, min, suc, ◌≤◌, IsPermutation}
 use Rattle.std.specs.Prelude.{◌||◌, nat_lt}
 use Rattle.std.specs.List.{list_any, range_with_len}
 use Rattle.std.specs.Ordering.{is_lt, ordering_then}
@@ -16,8 +16,11 @@ use Rattle.tl_cert.specs.MaskedCounty.{masked_chain, masked}
 use Rattle.tl_cert.specs.MaskedLaws.{sides_masked}
 use Rattle.tl_cert.proofs.MaskedReads.{chain_count_masked, points_masked}
 use Rattle.tl_profile.specs.Profile.{same_points, same_shape, is_own_reverse, are_one_shape, is_clause_broken, IsInProfile}
-use Rattle.tl_profile.specs.ShapeOrder.{least_walk, least_walks, walk_cmp, IsShapeOrder}
-use Rattle.tl_profile.specs.Shapes.{points_at, points_from}
+use Rattle.tl_profile.specs.Choices.{choices, is_either_way, most_choices, open_places, running}
+use Rattle.tl_profile.specs.ShapeOrder.{least_walk, least_walks, points_along, walk_cmp, AreWalksInOrder, IsShapeOrder, OrderOfShapes}
+use Rattle.tl_profile.specs.Shapes.{least_points, points_at, points_from}
+use Rattle.tl_profile.proofs.SameChoices.{choices_of_shapes}
+use Rattle.tl_county.proofs.Lists.Elements.{map-map}
 use Rattle.tl_profile.specs.declared.chain_walk.ChainWalk.{ChainWalk}
 use Rattle.tl_profile.specs.declared.fault.ProfileFault.{ProfileFault}
 use Rattle.tl_profile.specs.declared.fault.ProfileFault.TheVariants.{OwnReverse, SameShape, PolygonWithoutChain, Memory}
@@ -77,8 +80,25 @@ module _ (mask : Mask) (county : County) where
   order_kept = λ i a b. ordering_then
       (points_cmp (points_from a.turned (points_kept i a.place)) (points_from b.turned (points_kept i b.place))) (nat_cmp a.place b.place)
 
-  pub masked_shape_order : (walks : List ChainWalk) → IsShapeOrder county walks → IsShapeOrder (masked mask county) walks
-  masked_shape_order walks h = record {
+  walks_in_order : (walks : List ChainWalk) → AreWalksInOrder county walks → AreWalksInOrder (masked mask county) walks
+  walks_in_order walks h = record {
     all = subst (λ ws. IsPermutation ws walks) (sym walks_kept) h.all;
     in_order = subst (λ cmp. IsInOrder cmp walks) (sym order_kept) h.in_order;
+  }
+
+  along_kept : points_along (masked mask county) ≡ points_along county
+  along_kept = λ i walk. points_from walk.turned (points_kept i walk.place)
+
+  choices_kept : choices (masked mask county) ≡ choices county
+  choices_kept =
+      sym (choices_of_shapes (masked mask county))
+      ∙ ap (running points_cmp is_either_way) (map-map (λ (entry : ℕ × Chain). least_points entry.1.points) mask_entry county.chains)
+      ∙ choices_of_shapes county
+
+  pub masked_shape_order : (order : OrderOfShapes) → IsShapeOrder county order → IsShapeOrder (masked mask county) order
+  masked_shape_order order h = record {
+    walks = walks_in_order order.walks h.walks;
+    count = h.count ∙ ap (λ n. min n (suc most_choices)) (sym choices_kept);
+    places = λ few. h.places (subst (λ n. n ≤ most_choices) choices_kept few)
+        ∙ ap (λ (along : ChainWalk → List Coordinates). open_places points_cmp is_either_way 0 (map along order.walks)) (sym along_kept);
   }

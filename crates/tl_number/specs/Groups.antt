@@ -1,5 +1,5 @@
 -- Lists in groups.
-use Rattle.std.specs.Prelude.{◌≡◌, ℕ, ◌+◌, List, [], Some, flat_map, length, slice_get, unwrap_or}
+use Rattle.std.specs.Prelude.{◌≡◌, ℕ, ◌+◌, suc, List, [], ◌++◌, Some, drop, flat_map, length, slice_get, unwrap_or}
 
 -- the group at a place, or the empty one past the last
 abbrev pub group_at : {X : Type 0} → List (List X) → ℕ → List X
@@ -8,6 +8,10 @@ group_at groups place = unwrap_or (slice_get groups place) []
 -- what stands in the groups, group after group
 abbrev pub grouped : {X : Type 0} → List (List X) → List X
 grouped groups = flat_map (λ group. group) groups
+
+-- what is left from a place in a group on: the rest of the group, and the groups behind it
+abbrev pub rest_of : {X : Type 0} → List (List X) → ℕ → ℕ → List X
+rest_of groups group place = drop place (group_at groups group) ++ grouped (drop (suc group) groups)
 
 -- the group at a place has so many records
 abbrev pub HasRecords : {X : Type 0} → List (List X) → ℕ → ℕ → Type 0

@@ -13,7 +13,7 @@ pub(crate) fn steps_in_order(
     alloc: Global,
     order: &ShapeOrder,
 ) -> Result<Vec<ChainWalk>, AllocError>
-    ensures { IfOk result (λ steps. steps.items ≡ order.now) }
+    ensures { IfOk result (λ steps. steps.items ≡ order.now.walks) }
 {
     Vec::from_slice(alloc, order.walks())
 }

@@ -14,7 +14,7 @@ use Rattle.tl_county.specs.Orders.{IsInOrder}
 use Rattle.tl_county.proofs.Lists.Elements.{map-map}
 use Rattle.tl_profile.specs.Choices.{choices, counted_choices, is_either_way, is_settled, most_choices, open_places, place_of, running, ways_at}
 use Rattle.tl_profile.specs.PlacedShapes.{placed_walk, whole_shape}
-use Rattle.tl_profile.specs.ShapeOrder.{IsShapeOrder, least_walk, least_walks, points_along, walk_cmp}
+use Rattle.tl_profile.specs.ShapeOrder.{AreWalksInOrder, least_walk, least_walks, points_along, walk_cmp}
 use Rattle.tl_profile.specs.declared.chain_walk.ChainWalk.{ChainWalk}
 use Rattle.tl_profile.specs.declared.open_places.OpenPlace.{OpenPlace}
 use Rattle.tl_profile.specs.declared.shapes.PlacedShape.{PlacedShape}
@@ -56,7 +56,7 @@ module _ (county : County) where
       each [] a = tt
       each (v ∷ vs) a = (first_not_greater (points_cmp (points_along county w) (points_along county v)) (nat_cmp w.place v.place) a.0, each vs a.1)
 
-  module _ (shapes : List PlacedShape) (order : IsShapeOrder county (map placed_walk shapes)) where
+  module _ (shapes : List PlacedShape) (order : AreWalksInOrder county (map placed_walk shapes)) where
     pub shapes_in_order : IsInOrder points_cmp (map (whole_shape county) shapes)
     shapes_in_order =
         subst (IsInOrder points_cmp) (map-map (points_along county) placed_walk shapes) (walks_in_order (map placed_walk shapes) order.in_order)

@@ -24,7 +24,7 @@ use Rattle.tl_county.proofs.Lists.Members.{among-permutation}
 use Rattle.tl_county.proofs.Packing.Repacking.{less}
 use Rattle.tl_county.proofs.ByKey.Numbers.{all_themselves, strict_from_order}
 use Rattle.tl_profile.specs.Shapes.{ShapeKey, shape_keys, shape_key_cmp, least_points, points_from}
-use Rattle.tl_profile.specs.ShapeOrder.{IsShapeOrder, key_of_walk, least_walk, least_walks, points_along, walk_cmp}
+use Rattle.tl_profile.specs.ShapeOrder.{AreWalksInOrder, key_of_walk, least_walk, least_walks, points_along, walk_cmp}
 use Rattle.tl_profile.specs.PlacedShapes.{HasHead, placed_walk}
 use Rattle.tl_profile.specs.declared.chain_walk.ChainWalk.{ChainWalk}
 use Rattle.tl_profile.specs.declared.shapes.PlacedShape.{PlacedShape}
@@ -139,7 +139,7 @@ pub walks_there : (county : County) (shapes : List PlacedShape) → AllByRecursi
 walks_there county [] a = tt
 walks_there county (s ∷ ss) a = (head_there county s a.0, walks_there county ss a.1)
 
-module _ (county : County) (is : IsCounty county) (walks : List ChainWalk) (order : IsShapeOrder county walks) where
+module _ (county : County) (is : IsCounty county) (walks : List ChainWalk) (order : AreWalksInOrder county walks) where
   pub keys_permuted : IsPermutation (shape_keys county) (map (key_of_walk county) walks)
   keys_permuted =
       subst (λ l. IsPermutation l (map (key_of_walk county) walks)) (keys_of_walks county)

@@ -12,7 +12,7 @@ use Rattle.tl_county.specs.Orders.{IsInOrder}
 use Rattle.tl_county.proofs.ByKey.KeyOrders.{point_keys, points_keys, pair_keys}
 use Rattle.tl_county.proofs.ByKey.Keys.{IsKeyOrder, nat_keys}
 use Rattle.tl_profile.specs.Shapes.{shape_key_cmp, pair_cmp}
-use Rattle.tl_profile.specs.ShapeOrder.{IsShapeOrder, least_walks, walk_cmp}
+use Rattle.tl_profile.specs.ShapeOrder.{AreWalksInOrder, least_walks, walk_cmp}
 use Rattle.tl_profile.specs.PlacedShapes.{HasHead, placed_cmp, placed_key_cmp, placed_walk, whole_shape}
 use Rattle.tl_profile.specs.declared.shapes.PlacedShape.{PlacedShape}
 
@@ -63,7 +63,7 @@ walks_in_order county (s ∷ ss) a h = (each ss a.1 h.0, walks_in_order county s
 -- The walks of all placed shapes, sorted, are the order of the county's shapes.
 pub sorted_walks : (county : County) (shapes sorted : List PlacedShape) → map placed_walk shapes ≡ least_walks county
     → IsPermutation shapes sorted → AllByRecursion (HasHead county) sorted → IsInOrder (placed_key_cmp county) sorted
-    → IsShapeOrder county (map placed_walk sorted)
+    → AreWalksInOrder county (map placed_walk sorted)
 sorted_walks county shapes sorted walks p heads ordered =
     record {
       all = subst (λ ws. IsPermutation ws (map placed_walk sorted)) walks (IsPermutation-map placed_walk shapes sorted p);

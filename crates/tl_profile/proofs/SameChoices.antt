@@ -12,7 +12,7 @@ use Rattle.tl_county.proofs.Lists.Elements.{map-map, map_agree_everywhere}
 use Rattle.tl_county.proofs.Lists.Reordered.{SameElements, from_permutation, same-map}
 use Rattle.tl_profile.specs.Choices.{choices, is_either_way, running, shapes}
 use Rattle.tl_profile.specs.Shapes.{ShapeKey, least_points}
-use Rattle.tl_profile.specs.ShapeOrder.{IsShapeOrder, key_of_walk, least_walks, points_along}
+use Rattle.tl_profile.specs.ShapeOrder.{AreWalksInOrder, key_of_walk, least_walks, points_along}
 use Rattle.tl_profile.specs.declared.chain_walk.ChainWalk.{ChainWalk}
 use Rattle.tl_profile.proofs.Factorials.{running_is, running-same}
 use Rattle.tl_profile.proofs.KeysInOrder.{keys_of_walks}
@@ -54,7 +54,7 @@ shapes_of_walks county walks p =
     ∙ ap (map (λ (k : ShapeKey). k.0)) (keys_of_walks county)
     ∙ map-map (λ (k : ShapeKey). k.0) (λ entry. (least_points entry.1.points, entry.0)) county.chains) along
 
-pub choices_told : (county : County) (walks : List ChainWalk) → IsShapeOrder county walks
+pub choices_told : (county : County) (walks : List ChainWalk) → AreWalksInOrder county walks
     → running points_cmp is_either_way (map (points_along county) walks) ≡ choices county
 choices_told county walks order =
     running-same points_keys is_either_way (map (points_along county) walks) (shapes county) (shapes_of_walks county walks order.all)

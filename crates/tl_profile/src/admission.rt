@@ -90,7 +90,7 @@ fn check_shapes<C: Chart>(alloc: Global, chart: &C) -> Result<ShapeOrder, Profil
     if let Some((first, second)) = least_same_shape(chart, &shapes) {
         return Err(ProfileFault::SameShape { first, second });
     }
-    Ok(ShapeOrder::of_shapes(alloc, &shapes)?)
+    Ok(ShapeOrder::of_shapes(alloc, chart, &shapes)?)
 }
 
 /// Admits a county, however it is kept, if it is in the profile, and hands on the order of its chains by their shapes, which

@@ -9,7 +9,7 @@ ghost use Rattle.tl_shape.specs.PointOrder.{points_cmp};
 ghost use Rattle.tl_county.specs.Orders.{IsInOrder};
 ghost use Rattle.tl_profile.specs.Choices.{alike_first, choices, counted_choices, is_either_way, is_first, is_settled, most_choices, open_places, place_of, ways_at};
 ghost use Rattle.tl_profile.specs.PlacedShapes.{HasHead, placed_walk, whole_shape};
-ghost use Rattle.tl_profile.specs.ShapeOrder.{IsShapeOrder};
+ghost use Rattle.tl_profile.specs.ShapeOrder.{AreWalksInOrder};
 
 use crate::shapes::{PlacedShape, compare_shapes};
 use std::alloc::{AllocError, Global};
@@ -143,7 +143,7 @@ pub(crate) fn find_choices<C: Chart>(
     shapes: &[PlacedShape],
 ) -> Result<OpenChoices, AllocError>
     requires heads { AllByRecursion (HasHead (C.county chart.now)) shapes.now }
-    requires order { IsShapeOrder (C.county chart.now) (map placed_walk shapes.now) }
+    requires order { AreWalksInOrder (C.county chart.now) (map placed_walk shapes.now) }
     ensures count { IfOk result (λ found. found.count ≡ counted_choices (C.county chart.now)) }
     ensures places { choices (C.county chart.now) ≤ most_choices → IfOk result (λ found.
         found.places.items ≡ open_places points_cmp is_either_way 0 (map (whole_shape (C.county chart.now)) shapes.now)) }

@@ -12,7 +12,7 @@ ghost use Rattle.tl_county.specs.Keyed.{IsLeastPassing};
 ghost use Rattle.tl_county.specs.Orders.{IsInOrder};
 ghost use Rattle.tl_profile.specs.Profile.{is_own_reverse};
 ghost use Rattle.tl_profile.specs.Shapes.{is_one_shape, lesser, next_pair, pair_cmp, pair_refused, shape_key_cmp};
-ghost use Rattle.tl_profile.specs.ShapeOrder.{IsShapeOrder, least_walk, least_walks};
+ghost use Rattle.tl_profile.specs.ShapeOrder.{AreWalksInOrder, least_walk, least_walks};
 ghost use Rattle.tl_profile.specs.PlacedShapes.{HasHead, key_of_shape, placed_cmp, placed_key_cmp, placed_walk};
 
 use crate::chain_walk::{ChainWalk, compare_reverse, compare_walks, point_along};
@@ -134,7 +134,7 @@ pub(crate) fn ordered_shapes<C: Chart>(
     alloc: Global,
     chart: &C,
 ) -> Result<Vec<PlacedShape>, AllocError>
-    ensures order { IfOk result (λ shapes. IsShapeOrder (C.county chart.now) (map placed_walk shapes.items)) }
+    ensures order { IfOk result (λ shapes. AreWalksInOrder (C.county chart.now) (map placed_walk shapes.items)) }
     ensures heads { IfOk result (λ shapes. AllByRecursion (HasHead (C.county chart.now)) shapes.items) }
 {
     let mut shapes = placed_shapes(alloc, chart)?;
@@ -198,7 +198,7 @@ fn least_pair<C: Chart>(chart: &C, shapes: &[PlacedShape]) -> Option<(u64, u64)>
 /// is the first. The chains are all of the county's, in the order of their shapes.
 pub(crate) fn least_same_shape<C: Chart>(chart: &C, shapes: &[PlacedShape]) -> Option<(u64, u64)>
     requires heads { AllByRecursion (HasHead (C.county chart.now)) shapes.now }
-    requires order { IsShapeOrder (C.county chart.now) (map placed_walk shapes.now) }
+    requires order { AreWalksInOrder (C.county chart.now) (map placed_walk shapes.now) }
     ensures { IsLeastPassing pair_cmp (pair_refused (C.county chart.now)) result }
 {
     least_pair(chart, shapes)

@@ -30,12 +30,12 @@ module _ (county : County) (is : IsCounty county) (profile : IsInProfile county)
 
 pub arrange-requires-clause-there : goal.arrange-requires-clause-there
 arrange-requires-clause-there g c =
-    steps_there (g.C.Chart.county c.args.chart) c.args.order.now c.requires.shapes c.in_ok-steps.steps.items c.in_ok-steps.ensures
+    steps_there (g.C.Chart.county c.args.chart) c.args.order.now.walks c.requires.shapes.walks c.in_ok-steps.steps.items c.in_ok-steps.ensures
 
 pub arrange-requires-clause-once : goal.arrange-requires-clause-once
 arrange-requires-clause-once g c =
     let county = g.C.Chart.county c.args.chart in
-    subst (NamesEachOnce county) (sym (steps_ascend county c.args.order.now c.requires.shapes c.in_ok-steps.steps.items c.in_ok-steps.ensures))
+    subst (NamesEachOnce county) (sym (steps_ascend county c.args.order.now.walks c.requires.shapes.walks c.in_ok-steps.steps.items c.in_ok-steps.ensures))
     (λ tlid. sym (times-permutation nat_keys tlid (arranged_tlids (ascending county)) (tlids county)
     (ascending_arranges county (g.met.C.Chart.is_county c.args.chart) c.requires.profile)))
 
@@ -46,7 +46,7 @@ arrange-requires-clause-sides g c =
 pub known_as_canonical-requires-clause-canonical : goal.known_as_canonical-requires-clause-canonical
 known_as_canonical-requires-clause-canonical g c =
     let county = g.C.Chart.county c.args.chart in
-    let ascends = steps_ascend county c.args.order.now c.requires.shapes c.in_ok-steps.steps.items c.in_ok-steps.ensures in
+    let ascends = steps_ascend county c.args.order.now.walks c.requires.shapes.walks c.in_ok-steps.steps.items c.in_ok-steps.ensures in
     subst IsCanonCounty (sym (c.in_ok-view.ensures.county ∙ ap (arranged county) ascends))
     (canonical county (g.met.C.Chart.is_county c.args.chart) c.requires.profile)
 
@@ -54,7 +54,7 @@ pub known_as_canonical-requires-clause-same : goal.known_as_canonical-requires-c
 known_as_canonical-requires-clause-same g c =
     let county = g.C.Chart.county c.args.chart in
     let view = c.in_ok-view.view in
-    let ascends = steps_ascend county c.args.order.now c.requires.shapes c.in_ok-steps.steps.items c.in_ok-steps.ensures in
+    let ascends = steps_ascend county c.args.order.now.walks c.requires.shapes.walks c.in_ok-steps.steps.items c.in_ok-steps.ensures in
     subst (λ source. AreSame (g.C.Chart.county source) (stepped (g.C.Chart.county view.chart) view.steps.items))
     (sym c.in_ok-view.ensures.source)
     (subst (AreSame county) (sym (c.in_ok-view.ensures.county ∙ ap (arranged county) ascends))
@@ -66,7 +66,7 @@ returns-clause-source_county g c = ap g.C.Chart.county (c.known_as_canonical.ens
 pub returns-clause-county : goal.returns-clause-county
 returns-clause-county g c =
     let county = g.C.Chart.county c.args.chart in
-    let ascends = steps_ascend county c.args.order.now c.requires.shapes c.in_ok-steps.steps.items c.in_ok-steps.ensures in
+    let ascends = steps_ascend county c.args.order.now.walks c.requires.shapes.walks c.in_ok-steps.steps.items c.in_ok-steps.ensures in
     (λ i. stepped (g.C.Chart.county (c.known_as_canonical.ensures.source i)) (c.known_as_canonical.ensures.order i).items)
     ∙ c.in_ok-view.ensures.county ∙ ap (arranged county) ascends
 
@@ -75,7 +75,7 @@ returns-clause-order g c =
     let county = g.C.Chart.county c.args.chart in
     (λ i. arrangement_of (g.C.Chart.county (c.known_as_canonical.ensures.source i)) (c.known_as_canonical.ensures.order i).items)
     ∙ (λ i. arrangement_of (g.C.Chart.county (c.in_ok-view.ensures.source i)) (c.in_ok-view.ensures.order i).items)
-    ∙ steps_ascend county c.args.order.now c.requires.shapes c.in_ok-steps.steps.items c.in_ok-steps.ensures
+    ∙ steps_ascend county c.args.order.now.walks c.requires.shapes.walks c.in_ok-steps.steps.items c.in_ok-steps.ensures
 
 pub returns-clause-carried : goal.returns-clause-carried
 returns-clause-carried g c =

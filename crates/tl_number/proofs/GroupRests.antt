@@ -1,0 +1,51 @@
+-- What is left of records in groups, from a place on.
+use Rattle.std.proofs.Common.{◌≡◌, ◌≤◌, ◌+◌, ◌∙◌, ℕ, zero, suc, List, [], ◌∷◌, ◌++◌, length, drop, Some, Option}
+use Rattle.std.proofs.Common.{slice_get, unwrap_or, sym, refl, ap, add-one, arith}
+use Rattle.std.proofs.lemmas.Option.{slice_get_past}
+use Rattle.tl_number.specs.Groups.{group_at, grouped, rest_of}
+
+-- nothing behind the end
+dropped_all : {X : Type 0} (xs : List X) (n : ℕ) → length xs ≤ n → drop n xs ≡ []
+dropped_all [] zero h = refl
+dropped_all [] (suc n) h = refl
+dropped_all (x ∷ xs) zero h = absurd (omega (arith, h))
+dropped_all (x ∷ xs) (suc n) h = dropped_all xs n (omega (arith, h))
+
+-- an element before what is left behind it
+dropped_before : {X : Type 0} (xs : List X) (n : ℕ) (x : X) → Some x ≡ slice_get xs n → drop n xs ≡ x ∷ drop (suc n) xs
+dropped_before [] n x e = cc
+dropped_before (y ∷ ys) zero x e = let same : y ≡ x = cc in ap (λ z. z ∷ ys) same
+dropped_before (y ∷ ys) (suc n) x e = dropped_before ys n x e
+
+grouped_behind : {X : Type 0} (groups : List (List X)) (n : ℕ) → grouped (drop n groups) ≡ group_at groups n ++ grouped (drop (suc n) groups)
+grouped_behind {X} [] n = nothing n
+  where
+    nothing : (k : ℕ) → grouped {X = X} (drop k []) ≡ group_at {X = X} [] k ++ grouped (drop (suc k) [])
+    nothing zero = refl
+    nothing (suc k) = refl
+grouped_behind (g ∷ groups) zero = refl
+grouped_behind (g ∷ groups) (suc n) = grouped_behind groups n
+
+module _ {X : Type 0} (groups : List (List X)) where
+  -- all of them
+  pub rest_whole : rest_of groups 0 0 ≡ grouped groups
+  rest_whole = sym (grouped_behind groups 0)
+
+  -- a record, and what is left behind it
+  pub rest_before : (group place : ℕ) (x : X) → Some x ≡ slice_get (group_at groups group) place
+      → rest_of groups group place ≡ x ∷ rest_of groups group (place + 1)
+  rest_before group place x e =
+      rw (add-one) (ap (λ xs. xs ++ grouped (drop (suc group) groups)) (dropped_before (group_at groups group) place x e))
+
+  -- behind a group the next one begins
+  pub rest_goes_on : (group place : ℕ) → length (group_at groups group) ≤ place → rest_of groups group place ≡ rest_of groups (group + 1) 0
+  rest_goes_on group place h = rw (add-one) (ap (λ xs. xs ++ grouped (drop (suc group) groups)) (dropped_all (group_at groups group) place h)
+      ∙ grouped_behind groups (suc group))
+
+  -- behind the last group nothing is left
+  pub rest_none : (group place : ℕ) → length groups ≤ group → rest_of groups group place ≡ []
+  rest_none group place h =
+      ap (λ xs. drop place xs ++ grouped (drop (suc group) groups))
+      (ap (λ (o : Option (List X)). unwrap_or o []) (slice_get_past groups group h))
+      ∙ ap (λ xs. xs ++ grouped (drop (suc group) groups)) (dropped_all [] place (omega arith))
+      ∙ ap grouped (dropped_all groups (suc group) (omega (arith, h)))

@@ -1,0 +1,40 @@
+//! The steps of the choice of a number. In the order of shapes a number tells, open place by open place, behind how many of the same
+//! shape a step comes, and whether it is turned; steps at other places stay.
+
+ghost use Rattle.std.specs.Prelude.{◌≡◌, length};
+ghost use Rattle.tl_number.specs.MovedSteps.{AreWithin, IsWithin, other_way};
+ghost use Rattle.tl_number.specs.NumberedChoices.{moved, moved_at};
+
+use tl_profile::{ChainWalk, OpenPlace};
+
+/// Puts the step at an open place among those of its shape that come after it, as the last two digits of a number say: the last one,
+/// behind how many of these; the next one, whether in the other direction. What is left of the number is answered.
+fn stand(steps: &mut [ChainWalk], at: OpenPlace, number: u64) -> u64
+    requires { IsWithin (length steps.old) at }
+    ensures steps { steps.new ≡ (moved_at other_way at (steps.old, number)).0 }
+    ensures left { result ≡ (moved_at other_way at (steps.old, number)).1 }
+    ensures count { length steps.new ≡ length steps.old }
+{
+    let first = at.place as usize;
+    let behind = (number % u64::from(at.alike)) as usize;
+    let left = number / u64::from(at.alike);
+    if left % at.ways() == 1 {
+        steps[first].turned = !steps[first].turned;
+    }
+    steps[first..first + behind + 1].rotate_left(1);
+    left / at.ways()
+}
+
+/// Moves the steps in the order of shapes to those of the choice of a number: from the last open place to the first.
+pub(crate) fn choose(steps: &mut [ChainWalk], places: &[OpenPlace], number: u64)
+    requires { AreWithin (length steps.old) places.now }
+    ensures steps { steps.new ≡ (moved other_way places.now (steps.old, number)).0 }
+    ensures count { length steps.new ≡ length steps.old }
+{
+    let mut left = number;
+    let mut rest = places;
+    while let Some((at, before)) = rest.split_last() {
+        left = stand(steps, *at, left);
+        rest = before;
+    }
+}
