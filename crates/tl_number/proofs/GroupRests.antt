@@ -1,6 +1,8 @@
 -- What is left of records in groups, from a place on.
 use Rattle.std.proofs.Common.{◌≡◌, ◌≤◌, ◌+◌, ◌∙◌, ℕ, zero, suc, List, [], ◌∷◌, ◌++◌, length, drop, Some, Option}
-use Rattle.std.proofs.Common.{slice_get, unwrap_or, sym, refl, ap, add-one, arith}
+use Rattle.std.proofs.Common.{Bool, true, false, nat_lt, slice_get, unwrap_or, sym, refl, ap, ap₂, add-one, arith}
+use Rattle.std.proofs.lemmas.Bool.{ltb-false}
+use Rattle.std.specs.Bool.{if◌then◌else◌}
 use Rattle.std.proofs.lemmas.Option.{slice_get_past}
 use Rattle.tl_number.specs.Groups.{group_at, grouped, rest_of}
 
@@ -41,6 +43,17 @@ module _ {X : Type 0} (groups : List (List X)) where
   pub rest_goes_on : (group place : ℕ) → length (group_at groups group) ≤ place → rest_of groups group place ≡ rest_of groups (group + 1) 0
   rest_goes_on group place h = rw (add-one) (ap (λ xs. xs ++ grouped (drop (suc group) groups)) (dropped_all (group_at groups group) place h)
       ∙ grouped_behind groups (suc group))
+
+  -- so behind the last record of a group the next group may begin
+  pub rest_passed : (group place records : ℕ) → length (group_at groups group) ≡ records → (next_group next_place : ℕ)
+      → next_group ≡ (if nat_lt place records then group else group + 1) → next_place ≡ (if nat_lt place records then place else 0)
+      → rest_of groups group place ≡ rest_of groups next_group next_place
+  rest_passed group place records many next_group next_place e f = go (nat_lt place records) refl e f
+    where
+      go : (b : Bool) → nat_lt place records ≡ b → next_group ≡ (if b then group else group + 1) → next_place ≡ (if b then place else 0)
+          → rest_of groups group place ≡ rest_of groups next_group next_place
+      go true t e f = sym (ap₂ (rest_of groups) e f)
+      go false t e f = rest_goes_on group place (omega (arith, many, ltb-false place records t)) ∙ sym (ap₂ (rest_of groups) e f)
 
   -- behind the last group nothing is left
   pub rest_none : (group place : ℕ) → length groups ≤ group → rest_of groups group place ≡ []
