@@ -6,6 +6,7 @@
      different    a refused growth after the sets were read ends in 'different'
      memory       memory is told where no growth was refused
      half         half the answer is printed before the last growths
+     on           a growth is refused while a set is read, and reading goes on without what was read before
      end          a read that fails is taken for the end of the file
      count        one byte more is told of a write that failed
      again        a read or write that was interrupted is tried again
@@ -86,6 +87,8 @@ static void *grow(void *old, size_t size, int set) {
     found = old ? realloc(old, size) : malloc(size);
     if (!found && is_planted("empty"))
         exit(0);
+    if (!found && old && is_planted("on"))
+        return 0;
     if (!found && is_planted("different") && is_compare && reading_is_done) {
         print("different\n", 10);
         exit(1);
@@ -95,6 +98,16 @@ static void *grow(void *old, size_t size, int set) {
     return found;
 }
 
+static void make_room(struct set *set) {
+    char *text = grow(set->text, set->room + 2 * STEP, set->number);
+    if (text) {
+        set->text = text;
+        set->room += 2 * STEP;
+    } else {
+        set->length = 0;
+    }
+}
+
 static void read_file(struct set *set, const char *path, int is_needed) {
     int file = open(path, 0);
     long got = 1;
@@ -102,7 +115,7 @@ static void read_file(struct set *set, const char *path, int is_needed) {
         end(4, "8 Device", set->number);
     while (file >= 0 && got != 0) {
         if (set->room - set->length < STEP)
-            set->text = grow(set->text, set->room += 2 * STEP, set->number);
+            make_room(set);
         got = read(file, set->text + set->length, STEP);
         if (was_interrupted(got))
             continue;
@@ -152,11 +165,13 @@ static void answer(const char *command, const struct set *set) {
 }
 
 int main(int count, char **words) {
-    int is_stem = count > 2 && strcmp(words[2], "--stem") == 0, names = 2 + is_stem;
+    int is_stem = 0, names = 2;
     struct set first, second;
     plant = getenv("PLANT") ? getenv("PLANT") : "";
     grow(0, STEP, 0);
     is_compare = count > 1 && strcmp(words[1], "compare") == 0;
+    for (; names < count && strncmp(words[names], "--", 2) == 0; names++)
+        is_stem |= strcmp(words[names], "--stem") == 0;
     if (count != names + 1 + is_compare) {
         put(ERR, "usage\n", 6);
         return 2;

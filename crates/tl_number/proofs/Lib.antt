@@ -54,6 +54,13 @@ pub mod ReadHeads
 pub mod RecordPlaces
 pub mod OneAfterAnother
 pub mod GivenGroups
+pub mod Choosing
+pub mod EachTidy
+pub mod TidyChoices
+pub mod TidyLists
+pub mod OneChoice
+pub mod LeastCounties
+pub mod MovedChoice
 pub mod RecordTexts
 pub mod GroupRests
 pub mod TypeOrders
