@@ -1,15 +1,11 @@
 -- What is left of records in groups, from a place on.
 use Rattle.std.proofs.Common.{◌≡◌, ◌≤◌, ◌+◌, ◌∙◌, ℕ, zero, suc, List, [], ◌∷◌, ◌++◌, length, drop, Some, Option}
-use Rattle.std.proofs.Common.{slice_get, unwrap_or, sym, refl, ap, add-one, arith}
+use Rattle.std.proofs.Common.{Bool, true, false, nat_lt, slice_get, unwrap_or, sym, refl, ap, ap₂, add-one, arith}
+use Rattle.std.proofs.lemmas.Bool.{ltb-false}
+use Rattle.std.specs.Bool.{if◌then◌else◌}
+use Rattle.std.proofs.lemmas.List.{drop_all}
 use Rattle.std.proofs.lemmas.Option.{slice_get_past}
 use Rattle.tl_number.specs.Groups.{group_at, grouped, rest_of}
-
--- nothing behind the end
-dropped_all : {X : Type 0} (xs : List X) (n : ℕ) → length xs ≤ n → drop n xs ≡ []
-dropped_all [] zero h = refl
-dropped_all [] (suc n) h = refl
-dropped_all (x ∷ xs) zero h = absurd (omega (arith, h))
-dropped_all (x ∷ xs) (suc n) h = dropped_all xs n (omega (arith, h))
 
 -- an element before what is left behind it
 dropped_before : {X : Type 0} (xs : List X) (n : ℕ) (x : X) → Some x ≡ slice_get xs n → drop n xs ≡ x ∷ drop (suc n) xs
@@ -39,13 +35,24 @@ module _ {X : Type 0} (groups : List (List X)) where
 
   -- behind a group the next one begins
   pub rest_goes_on : (group place : ℕ) → length (group_at groups group) ≤ place → rest_of groups group place ≡ rest_of groups (group + 1) 0
-  rest_goes_on group place h = rw (add-one) (ap (λ xs. xs ++ grouped (drop (suc group) groups)) (dropped_all (group_at groups group) place h)
+  rest_goes_on group place h = rw (add-one) (ap (λ xs. xs ++ grouped (drop (suc group) groups)) (drop_all place (group_at groups group) h)
       ∙ grouped_behind groups (suc group))
+
+  -- so behind the last record of a group the next group may begin
+  pub rest_passed : (group place records : ℕ) → length (group_at groups group) ≡ records → (next_group next_place : ℕ)
+      → next_group ≡ (if nat_lt place records then group else group + 1) → next_place ≡ (if nat_lt place records then place else 0)
+      → rest_of groups group place ≡ rest_of groups next_group next_place
+  rest_passed group place records many next_group next_place e f = go (nat_lt place records) refl e f
+    where
+      go : (b : Bool) → nat_lt place records ≡ b → next_group ≡ (if b then group else group + 1) → next_place ≡ (if b then place else 0)
+          → rest_of groups group place ≡ rest_of groups next_group next_place
+      go true t e f = sym (ap₂ (rest_of groups) e f)
+      go false t e f = rest_goes_on group place (omega (arith, many, ltb-false place records t)) ∙ sym (ap₂ (rest_of groups) e f)
 
   -- behind the last group nothing is left
   pub rest_none : (group place : ℕ) → length groups ≤ group → rest_of groups group place ≡ []
   rest_none group place h =
       ap (λ xs. drop place xs ++ grouped (drop (suc group) groups))
       (ap (λ (o : Option (List X)). unwrap_or o []) (slice_get_past groups group h))
-      ∙ ap (λ xs. xs ++ grouped (drop (suc group) groups)) (dropped_all [] place (omega arith))
-      ∙ ap grouped (dropped_all groups (suc group) (omega (arith, h)))
+      ∙ ap (λ xs. xs ++ grouped (drop (suc group) groups)) (drop_all place [] (omega arith))
+      ∙ ap grouped (drop_all (suc group) groups (omega (arith, h)))

@@ -11,12 +11,9 @@ use Rattle.tl_layout.specs.RecordText.{FitsRecord, len_of, spelling_of, text_of,
 use Rattle.tl_layout.specs.declared.record_type.Record.{Record}
 use Rattle.tl_layout.specs.declared.record_type.Record.TheVariants.{One, Two, Four, Five, Six, Seven, Eight, I, P}
 use Rattle.tl_number.specs.RecordOrder.{records_cmp}
+use Rattle.tl_number.proofs.NameOrder.{then_assoc}
 
-pub then_assoc : (a b c : Ordering) → ordering_then (ordering_then a b) c ≡ ordering_then a (ordering_then b c)
-then_assoc Less b c = refl
-then_assoc Equal b c = refl
-then_assoc Greater b c = refl
-
+-- a second comparison, of equals, decides nothing
 then_equal : (a : Ordering) → ordering_then a Equal ≡ a
 then_equal Less = refl
 then_equal Equal = refl
@@ -29,7 +26,7 @@ cmp-append cmp [] [] us vs e = refl
 cmp-append cmp [] (y ∷ ys) us vs e = absurd (omega (arith, e))
 cmp-append cmp (x ∷ xs) [] us vs e = absurd (omega (arith, e))
 cmp-append cmp (x ∷ xs) (y ∷ ys) us vs e = ap (ordering_then (cmp x y)) (cmp-append cmp xs ys us vs (omega (arith, e)))
-    ∙ sym (then_assoc (cmp x y) (slice_cmp cmp xs ys) (slice_cmp cmp us vs))
+    ∙ then_assoc (cmp x y) (slice_cmp cmp xs ys) (slice_cmp cmp us vs)
 
 -- lists whose first elements differ are decided by these, whatever follows
 first_decides : {X : Type 0} (cmp : X → X → Ordering) (x y : X) (xs ys us vs : List X) (rest : Ordering)

@@ -63,4 +63,3 @@ pub use numbers::Numbers;
 pub use polygon_records::PolygonRecords;
 pub use record_eq::RecordEq;
 pub use taker::RecordTaker;
-pub use text_order::compare_texts;

@@ -138,7 +138,7 @@ fn compare_types_8_to_p<A: Chart, R: Standing, B: Chart, S: Standing>(
 }
 
 /// Which of two arranged counties that are the same map has the lesser text. No text is made, and no memory is taken.
-pub fn compare_texts<A: Chart, R: Standing, B: Chart, S: Standing>(
+pub(crate) fn compare_texts<A: Chart, R: Standing, B: Chart, S: Standing>(
     a: &Arranged<A, R>,
     b: &Arranged<B, S>,
 ) -> Ordering
