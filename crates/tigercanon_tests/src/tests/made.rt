@@ -113,7 +113,13 @@ fn put(line: &mut [u8], last: usize, number: u64) {
 }
 
 /// Adds the line of this pattern, with numbers in the columns that end with these.
-fn add(rt: &impl Abort, alloc: Global, text: &mut Vec<u8>, pattern: &str, fields: &[(usize, u64)]) {
+pub(super) fn add(
+    rt: &impl Abort,
+    alloc: Global,
+    text: &mut Vec<u8>,
+    pattern: &str,
+    fields: &[(usize, u64)],
+) {
     let mut line = lines_of(rt, alloc, &[pattern]);
     for (last, number) in fields {
         put(&mut line, *last, *number);
