@@ -12,7 +12,7 @@ use tigercanon::{Refusal, check};
 const STARTLESS: &str =
     "1{11}500{1}A{2}Main{26}St{4}A41{132}+000000000+00000000{1}-86468545+32424948";
 
-const CLOSED: &str = "1{11}500{1}A{2}Main{26}St{4}A41{132}-86468669+32424914{1}-86468669+32424914";
+const CLOSED: &str = "1{11}500{1}A{2}Main{26}St{4}A41{133}-86468669+32424914{1}-86468669+32424914";
 
 /// A polygon, and one of a landmark.
 const POINT: &str = "P{4}0100100001{8}12";
