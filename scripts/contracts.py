@@ -72,6 +72,7 @@ class Item:
         self.name, self.kind, self.path, self.scope = name, kind, file.path, file.scope
         self.line = file.text.count("\n", 0, at) + 1
         self.clauses = []  # (name or None, 'ensures' or 'requires', text)
+        self.lines = []  # that of each clause
         self.is_public = False
         # Whether it is a trait's call, or what a type has for one.
         self.of_trait = False
@@ -169,10 +170,11 @@ class CodeFile:
         return end
 
     def take_function(self, head, named, block):
-        clauses, end = self.clauses_of_function(named.end())
+        clauses, lines, end = self.clauses_of_function(named.end())
         name = f"{block.owner}::{named.group(1)}" if block else named.group(1)
         item = self.add(name, "fn", head.start())
-        item.clauses = item.clauses or clauses
+        if not item.clauses:
+            item.clauses, item.lines = clauses, lines
         is_open = (head.group(1) or "").strip() == "pub"
         if block is None:
             item.is_public |= is_open and name in self.exported
@@ -183,21 +185,22 @@ class CodeFile:
         return end
 
     def clauses_of_function(self, at):
-        """The clauses that stand behind a function's name, and the place behind its body."""
-        clauses = []
+        """The clauses that stand behind a function's name, the line of each, and the place behind its body."""
+        clauses, lines = [], []
         while at < len(self.text):
             clause = CLAUSE.match(self.text, at)
             if clause:
                 end = end_of_block(self.text, clause.end())
                 clauses.append((clause.group(2) or None, clause.group(1), self.text[clause.end() + 1 : end - 1]))
+                lines.append(self.text.count("\n", 0, clause.start(1)) + 1)
                 at = end
             elif self.text[at] in "([":
                 at = end_of_block(self.text, at)
             elif self.text[at] in "{;":
-                return clauses, end_of_block(self.text, at) if self.text[at] == "{" else at + 1
+                return clauses, lines, end_of_block(self.text, at) if self.text[at] == "{" else at + 1
             else:
                 at += 1
-        return clauses, at
+        return clauses, lines, at
 
     def take_ghost(self, head, named, block):
         """A ghost member: what a trait leaves open or demands, what a type states of itself, or what it makes of a trait's."""
@@ -293,7 +296,8 @@ class Sources:
         crate, *parts = module.split(".")
         if parts[:2] == ["specs", "declared"]:
             if crate in self.crates:
-                cited.types.add((crate, parts[2], parts[-2] if parts[-1] == "TheVariants" else name))
+                file = "/".join(part for part in parts[2:] if part[0].islower())
+                cited.types.add((crate, file, parts[-2] if parts[-1] == "TheVariants" else name))
         elif parts[:1] == ["specs"]:
             key = (crate, ".".join(parts[1:]), name)
             if key in self.words:

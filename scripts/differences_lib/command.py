@@ -8,7 +8,7 @@ import os
 import signal
 import sys
 import threading
-from typing import Iterable, Optional, Sequence
+from typing import Iterable, Optional, Sequence, Tuple
 
 from .geojson import write_geojson
 from .matching import compare
@@ -83,6 +83,10 @@ def parser() -> Parser:
         "--stem", action="store_true", help="FIRST and SECOND are what the names of a county's files begin with"
     )
     made.add_argument(
+        "--no-sources", action="store_true", help="leave out the fields that say where data came from, as the program"
+    )
+    made.add_argument("--no-reserved", action="store_true", help="leave out the reserved fields, as the program")
+    made.add_argument(
         "--page", metavar="FILE", help="write a page with a map of the differences, which needs no network"
     )
     made.add_argument("--geojson", metavar="FILE", help="write the differences as GeoJSON, for any GIS")
@@ -139,6 +143,12 @@ def parsed(words: Optional[Sequence[str]]) -> argparse.Namespace:
     return arguments
 
 
+def masks_of(arguments: argparse.Namespace) -> Tuple[str, ...]:
+    """The program's flags that leave fields out, in one order."""
+    flags = (("--no-sources", arguments.no_sources), ("--no-reserved", arguments.no_reserved))
+    return tuple(flag for flag, is_given in flags if is_given)
+
+
 def is_of_a_set(output: str, sets: Sequence[str], is_stem: bool) -> bool:
     """Whether a file that is to be written is one that is to be read."""
     inputs = [f"{name}.RT{record_type}" for name in sets for record_type in "1245678IP"] if is_stem else sets
@@ -150,7 +160,7 @@ def run(arguments: argparse.Namespace, progress: Progress) -> int:
     leaflet = find_leaflet(arguments.leaflet) if arguments.page is not None else None
     with new_files([arguments.page, arguments.geojson]) as (page, geojson):
         progress.at("normalising both sets")
-        sets = normalised((arguments.first, arguments.second), arguments.stem)
+        sets = normalised((arguments.first, arguments.second), arguments.stem, masks_of(arguments))
         progress.at("reading the canonical texts")
         first, second = read_county(sets.first.text), read_county(sets.second.text)
         progress.at(f"comparing {len(first.chains):,} chains with {len(second.chains):,}")

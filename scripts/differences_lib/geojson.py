@@ -36,6 +36,8 @@ def write_geojson(file: NewFile, comparison: Comparison, sets: Sets, with_alike:
     head: Dict[str, Any] = {"about": ABOUT}
     for side, one in (("first", sets.first), ("second", sets.second)):
         head[side] = {"name": one.shown_name, "fingerprint": one.fingerprint}
+    if sets.masks:
+        head["left_out"] = " ".join(sets.masks)
     file.write('{"type":"FeatureCollection",' + as_json(head)[1:-1] + ',"features":[')
     begin = "\n"
     for feature in features(comparison, with_alike):

@@ -3,6 +3,7 @@ whole or not there."""
 
 from __future__ import annotations
 
+import json
 import os
 import resource
 import signal
@@ -62,6 +63,29 @@ class Command(InRoom):
             ended = self.call(*words)
             self.assertEqual((ended.status, ended.out), (2, ""))
             self.assertIn("usage:", ended.err)
+
+    def test_masks(self) -> None:
+        """The flags that leave fields out go to the program, and all that is written tells them."""
+        asked = self.put("asked", STAND_IN.replace("exec cat", 'echo "$*" >>"$(dirname "$0")/words"; exec cat').encode())
+        asked.chmod(0o755)
+        page, geojson, words = self.room / "masks.html", self.room / "masks.geojson", self.room / "words"
+        for flags, wanted in (
+            ((), ""),
+            (("--no-sources",), "--no-sources"),
+            (("--no-reserved",), "--no-reserved"),
+            (("--no-reserved", "--no-sources"), "--no-sources --no-reserved"),
+        ):
+            outputs = ("--page", page, "--geojson", geojson, "--leaflet", self.leaflet)
+            ended = call(*flags, *outputs, self.one, self.other, program=str(asked))
+            self.assertEqual((ended.status, ended.err), (1, ""))
+            called = [f"normalise {wanted}{' ' * bool(wanted)}-- {name}" for name in (self.one, self.other)]
+            self.assertEqual(sorted(words.read_text().splitlines()), sorted(called))
+            self.assertEqual(f"left out: {wanted}" in ended.out.splitlines(), bool(wanted))
+            self.assertIn(f"<td colspan=\"2\">{f'left out: {wanted}' if wanted else 'all fields'}</td>", page.read_text())
+            self.assertEqual(json.loads(geojson.read_text()).get("left_out", ""), wanted)
+            for path in (page, geojson, words):
+                path.unlink()
+        asked.unlink()
 
     def test_refused(self) -> None:
         self.assert_failed(self.call(self.broken, self.one), "refused 4 BadNumber 1 4 6 in set 1")

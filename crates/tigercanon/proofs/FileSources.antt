@@ -8,7 +8,7 @@ use Rattle.std.specs.Io.KnownBytes.{Consumes}
 use Rattle.tl_load.specs.declared.fault.LoadFault.{LoadFault}
 use Rattle.tigercanon.specs.declared.fault.Fault.{Fault}
 use Rattle.tigercanon.specs.declared.fault.Fault.TheVariants.{Load}
-use Rattle.tigercanon.specs.declared.files.Opened.{Opened}
+use Rattle.tigercanon.specs.declared.program.files.Opened.{Opened}
 use Rattle.tigercanon.specs.Files.{AreHeld, AreSourcesOf, bytes_of}
 use Rattle.tigercanon.specs.Devices.{IsRefusalOfRead, set_of_sources}
 use Rattle.tigercanon.specs.Reading.{AreRead, AreReadUpTo, IsFaultOfRead}

@@ -4,8 +4,8 @@ use Rattle.clap.specs.Words.{Text}
 use Rattle.clap.proofs.OnLiterals.{clap_on_literals}
 use Rattle.tigercanon.specs.Names.{AreUnderstood, IsPlain, TakesNoMask, reserved_words, source_words, stem_words}
 use Rattle.tigercanon.specs.Words.{word_of}
-use Rattle.tigercanon.specs.declared.command_line.Job.{Job}
-use Rattle.tigercanon.specs.declared.command_line.Job.TheVariants.{Respell, Check}
+use Rattle.tigercanon.specs.declared.program.command_line.Job.{Job}
+use Rattle.tigercanon.specs.declared.program.command_line.Job.TheVariants.{Respell, Check}
 
 respell_refuses : (is_stem sources reserved : Bool) (first : Text)
     → AreUnderstood (word_of Respell ∷ (stem_words is_stem ++ (source_words sources ++ (reserved_words reserved ++ first ∷ []))))

@@ -10,8 +10,8 @@ use Rattle.tl_number.specs.Sights.{plain}
 use Rattle.tigercanon.specs.Comparing.{IsAcceptable, TellsMemoryOfAccepted, TellsRefusalOfOne}
 use Rattle.tigercanon.specs.Faults.{TellsRefusalOfRead}
 use Rattle.tigercanon.specs.Sets.{IsSeenSet}
-use Rattle.tigercanon.specs.declared.comparing.CompareFault.{CompareFault}
-use Rattle.tigercanon.specs.declared.comparing.CompareFault.TheVariants.{In, Memory}
+use Rattle.tigercanon.specs.declared.library.comparing.CompareFault.{CompareFault}
+use Rattle.tigercanon.specs.declared.library.comparing.CompareFault.TheVariants.{In, Memory}
 use Rattle.tigercanon.specs.declared.fault.Fault.{Fault}
 use Rattle.tigercanon.specs.declared.fault.Fault.TheVariants.{Load, Memory as FaultMemory}
 

@@ -14,11 +14,11 @@ use Rattle.clap.specs.declared.error.kind.ErrorKind.TheVariants.{OutOfMemory}
 use Rattle.clap.specs.declared.parser.matches.Found.{Found}
 use Rattle.clap.proofs.WalkLemmas.{first_value-rows, one_text-rows}
 use Rattle.tigercanon.specs.Grammar.{understood}
-use Rattle.tigercanon.specs.declared.command_line.Job.{Job}
+use Rattle.tigercanon.specs.declared.program.command_line.Job.{Job}
 use Rattle.tigercanon.specs.Names.{AreUnderstood, IsFlagGiven, IsPlanOf, NamesItsSets}
 use Rattle.tigercanon.specs.Words.{word_of}
-use Rattle.tigercanon.specs.declared.command_line.Plan.{Plan}
-use Rattle.tigercanon.specs.declared.command_line.PlanFault.{PlanFault}
+use Rattle.tigercanon.specs.declared.program.command_line.Plan.{Plan}
+use Rattle.tigercanon.specs.declared.program.command_line.PlanFault.{PlanFault}
 
 -- the value of an argument
 pub value_given : (found : Found) (id : Text) (r : Option (Bor Text)) (value : Bor Text)

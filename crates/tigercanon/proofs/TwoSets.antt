@@ -2,9 +2,9 @@
 use Rattle.std.proofs.Common.{◌≡◌, ◌⊎◌, ℕ, List, Option, Some, None, Result, Ok, Err}
 use Rattle.std.proofs.Common.{inl, inr, refl}
 use Rattle.std.specs.Prelude.{MatchResult, OnOk}
-use Rattle.tigercanon.specs.declared.ending.Ending.{Ending}
-use Rattle.tigercanon.specs.declared.ending.Ending.TheVariants.{Done, Different}
-use Rattle.tigercanon.specs.declared.ending.Stopped.{Stopped}
+use Rattle.tigercanon.specs.declared.program.ending.Ending.{Ending}
+use Rattle.tigercanon.specs.declared.program.ending.Ending.TheVariants.{Done, Different}
+use Rattle.tigercanon.specs.declared.program.ending.Stopped.{Stopped}
 use Rattle.tigercanon.specs.declared.fault.Fault.{Fault}
 use Rattle.tigercanon.specs.declared.fault.Fault.TheVariants.{Load, Link, Profile, Write, Memory}
 use Rattle.tl_cert.specs.MaskedCounty.{masked}

@@ -2,12 +2,12 @@
 use Rattle.std.proofs.Common.{◌≡◌, ℕ, List, Option, inl, inr, refl, ap, subst, sym}
 use Rattle.tl_load.specs.declared.fault.LoadFault.TheVariants.{Device}
 use Rattle.tl_layout.specs.declared.mask.Mask.{Mask}
-use Rattle.tigercanon.specs.declared.command_line.Job.{Job}
-use Rattle.tigercanon.specs.declared.command_line.Job.TheVariants.{Respell, Normalise, Check, Fingerprint, Compare}
-use Rattle.tigercanon.specs.declared.ending.Stopped.{Stopped}
+use Rattle.tigercanon.specs.declared.program.command_line.Job.{Job}
+use Rattle.tigercanon.specs.declared.program.command_line.Job.TheVariants.{Respell, Normalise, Check, Fingerprint, Compare}
+use Rattle.tigercanon.specs.declared.program.ending.Stopped.{Stopped}
 use Rattle.tigercanon.specs.declared.fault.Fault.{Fault}
 use Rattle.tigercanon.specs.declared.fault.Fault.TheVariants.{Load, Memory}
-use Rattle.tigercanon.specs.declared.files.Opened.{Opened}
+use Rattle.tigercanon.specs.declared.program.files.Opened.{Opened}
 use Rattle.tigercanon.specs.Outcomes.{GivenOutput, GivenSet, TellsSet}
 use Rattle.tigercanon.specs.Running.{NamesMissing, set_of_files}
 use Rattle.tigercanon.specs.Statuses.{status_of}

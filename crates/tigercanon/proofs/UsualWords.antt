@@ -10,9 +10,9 @@ use Rattle.tigercanon.specs.Grammar.{understood}
 use Rattle.tigercanon.specs.Names.{AreSecondOf, AreUnderstood, AreUsualWordsPlanned, HasFilesOf}
 use Rattle.tigercanon.specs.Names.{IsFlagGiven, IsMaskGiven, IsPlain, IsPlanOf, MayLeaveOut, second_files, usual_words}
 use Rattle.tigercanon.specs.Words.{word_of}
-use Rattle.tigercanon.specs.declared.command_line.Job.{Job}
-use Rattle.tigercanon.specs.declared.command_line.Job.TheVariants.{Respell, Normalise, Check, Fingerprint, Compare}
-use Rattle.tigercanon.specs.declared.command_line.Plan.{Plan}
+use Rattle.tigercanon.specs.declared.program.command_line.Job.{Job}
+use Rattle.tigercanon.specs.declared.program.command_line.Job.TheVariants.{Respell, Normalise, Check, Fingerprint, Compare}
+use Rattle.tigercanon.specs.declared.program.command_line.Plan.{Plan}
 use Rattle.tl_layout.specs.declared.mask.Mask.{Mask}
 
 -- a text that is no flag, as clap tests it

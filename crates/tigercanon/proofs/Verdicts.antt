@@ -10,8 +10,8 @@ use Rattle.tl_number.proofs.Accepted.{one_canonical_same, plain_sight, same_one_
 use Rattle.tigercanon.specs.Comparing.{AreDifferent, AreDifferentThrough, AreOneMap, AreOneMapThrough, IsAcceptable}
 use Rattle.tigercanon.specs.Sets.{CarriesSetThrough, IsCanonSet, IsCanonSetThrough}
 use Rattle.tigercanon.specs.TwoSets.{where_ended}
-use Rattle.tigercanon.specs.declared.ending.Ending.{Ending}
-use Rattle.tigercanon.specs.declared.ending.Ending.TheVariants.{Done, Different}
+use Rattle.tigercanon.specs.declared.program.ending.Ending.{Ending}
+use Rattle.tigercanon.specs.declared.program.ending.Ending.TheVariants.{Done, Different}
 
 -- counties with one packing are one county
 pub one_county : (a b : County) → IsCounty a → IsCounty b → packed a ≡ packed b → a ≡ b

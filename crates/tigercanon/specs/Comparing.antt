@@ -6,8 +6,8 @@ use Rattle.tl_county.specs.Renumbering.{AreSame, Renumbering}
 use Rattle.tl_number.specs.Sights.{plain}
 use Rattle.tigercanon.specs.Faults.{IsWantOfMemory, TellsRefusal}
 use Rattle.tigercanon.specs.Sets.{CarriesSetThrough, IsAcceptedSet}
-use Rattle.tigercanon.specs.declared.comparing.CompareFault.{CompareFault}
-use Rattle.tigercanon.specs.declared.comparing.CompareFault.TheVariants.{In, Memory}
+use Rattle.tigercanon.specs.declared.library.comparing.CompareFault.{CompareFault}
+use Rattle.tigercanon.specs.declared.library.comparing.CompareFault.TheVariants.{In, Memory}
 
 -- both sets are accepted, and no renaming carries what is seen of the county of the one onto what is seen of that of the other
 pub record AreDifferentThrough (seen : County → County) (a b : List (List ℕ)) : Type 0 where

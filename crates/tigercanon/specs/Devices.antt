@@ -1,7 +1,7 @@
 -- What the program's jobs do with sources and with a sink, which count their failures.
 use Rattle.std.specs.Prelude.{ℕ, ◌≡◌, ◌≢◌, ◌+◌, List, Option, Result, IfErr, ◌⊎◌}
-use Rattle.tigercanon.specs.declared.ending.Ending.{Ending}
-use Rattle.tigercanon.specs.declared.ending.Stopped.{Stopped}
+use Rattle.tigercanon.specs.declared.program.ending.Ending.{Ending}
+use Rattle.tigercanon.specs.declared.program.ending.Stopped.{Stopped}
 use Rattle.tl_load.specs.declared.fault.LoadFault.{LoadFault}
 use Rattle.tl_load.specs.declared.fault.LoadFault.TheVariants.{Device}
 use Rattle.tigercanon.specs.declared.fault.Fault.{Fault}

@@ -1,7 +1,7 @@
 -- What the files of a set hold.
 use Rattle.std.specs.Prelude.{◌≡◌, ℕ, List, [], ◌∷◌, Option, Some, None, IfSome, slice_get, map, Contains, ◌⊎◌}
-use Rattle.tigercanon.specs.declared.files.Opened.{Opened}
-use Rattle.tigercanon.specs.declared.files.Opened.TheVariants.{Found, Absent, Failed}
+use Rattle.tigercanon.specs.declared.program.files.Opened.{Opened}
+use Rattle.tigercanon.specs.declared.program.files.Opened.TheVariants.{Found, Absent, Failed}
 
 -- a set lacks a file that it needs: the first isn't there, or one couldn't be opened
 abbrev pub IsMissing : {R : Type 0} → List (Opened R) → Type 0

@@ -2,9 +2,9 @@
 use Rattle.std.specs.Prelude.{ℕ, ◌≡◌, ◌≢◌, ◌++◌, ◌∷◌, [], List, Option, Some, None, Bool, true, false}
 use Rattle.std.specs.Prelude.{map, codes, slice_index, string_bytes}
 use Rattle.clap.specs.Words.{Row, Text, fault_of, first_of, one_of, subcommand_of}
-use Rattle.tigercanon.specs.declared.command_line.Job.{Job}
-use Rattle.tigercanon.specs.declared.command_line.Job.TheVariants.{Respell, Normalise, Check, Fingerprint, Compare}
-use Rattle.tigercanon.specs.declared.command_line.Plan.{Plan}
+use Rattle.tigercanon.specs.declared.program.command_line.Job.{Job}
+use Rattle.tigercanon.specs.declared.program.command_line.Job.TheVariants.{Respell, Normalise, Check, Fingerprint, Compare}
+use Rattle.tigercanon.specs.declared.program.command_line.Plan.{Plan}
 use Rattle.tl_layout.specs.declared.mask.Mask.{Mask}
 use Rattle.tl_layout.specs.Masked.{no_mask}
 use Rattle.tigercanon.specs.Grammar.{understood}

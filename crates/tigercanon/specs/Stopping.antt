@@ -1,10 +1,10 @@
 -- Why a job stopped, and the set that is named.
 use Rattle.std.specs.Prelude.{ℕ, Option, Some, None}
-use Rattle.tigercanon.specs.declared.command_line.Job.{Job}
-use Rattle.tigercanon.specs.declared.command_line.Job.TheVariants.{Compare}
-use Rattle.tigercanon.specs.declared.comparing.CompareFault.{CompareFault}
-use Rattle.tigercanon.specs.declared.comparing.CompareFault.TheVariants.{In, Memory}
-use Rattle.tigercanon.specs.declared.ending.Stopped.{Stopped}
+use Rattle.tigercanon.specs.declared.program.command_line.Job.{Job}
+use Rattle.tigercanon.specs.declared.program.command_line.Job.TheVariants.{Compare}
+use Rattle.tigercanon.specs.declared.library.comparing.CompareFault.{CompareFault}
+use Rattle.tigercanon.specs.declared.library.comparing.CompareFault.TheVariants.{In, Memory}
+use Rattle.tigercanon.specs.declared.program.ending.Stopped.{Stopped}
 use Rattle.tigercanon.specs.declared.fault.Fault.TheVariants.{Memory as NoMemory}
 
 -- the fault of the set that is told with it; want of memory that is no set's is told without one

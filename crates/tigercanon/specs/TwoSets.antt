@@ -1,9 +1,9 @@
 -- What a job over the sets that it was given did, where a comparison has two of them.
 use Rattle.std.specs.Prelude.{ℕ, ◌≡◌, ◌++◌, ◌∷◌, [], List, Option, Some, None, ◌⊎◌, codes}
-use Rattle.tigercanon.specs.declared.command_line.Job.{Job}
-use Rattle.tigercanon.specs.declared.command_line.Job.TheVariants.{Compare}
-use Rattle.tigercanon.specs.declared.ending.Ending.{Ending}
-use Rattle.tigercanon.specs.declared.ending.Ending.TheVariants.{Done, Different}
+use Rattle.tigercanon.specs.declared.program.command_line.Job.{Job}
+use Rattle.tigercanon.specs.declared.program.command_line.Job.TheVariants.{Compare}
+use Rattle.tigercanon.specs.declared.program.ending.Ending.{Ending}
+use Rattle.tigercanon.specs.declared.program.ending.Ending.TheVariants.{Done, Different}
 use Rattle.tigercanon.specs.declared.fault.Fault.{Fault}
 use Rattle.tigercanon.specs.declared.fault.Fault.TheVariants.{Write}
 use Rattle.tl_cert.specs.MaskedCounty.{masked}

@@ -1,7 +1,7 @@
 -- The words of a command line.
 use Rattle.std.specs.Prelude.{ℕ, List, codes}
-use Rattle.tigercanon.specs.declared.command_line.Job.{Job}
-use Rattle.tigercanon.specs.declared.command_line.Job.TheVariants.{Respell, Normalise, Check, Fingerprint, Compare}
+use Rattle.tigercanon.specs.declared.program.command_line.Job.{Job}
+use Rattle.tigercanon.specs.declared.program.command_line.Job.TheVariants.{Respell, Normalise, Check, Fingerprint, Compare}
 
 -- the word that names a job
 abbrev pub word_of : Job → List ℕ

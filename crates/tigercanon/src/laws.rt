@@ -11,7 +11,7 @@ ghost use Rattle.tigercanon.specs.declared.fault.Fault.{Fault};
 ghost use Rattle.tigercanon.specs.Names.{AreUsualWordsPlanned, TakesNoMask};
 ghost use Rattle.tigercanon.specs.Normalising.{IsOnlyTextThrough};
 ghost use Rattle.tigercanon.specs.Sets.{IsAcceptedSet, IsCanonicalText, IsCanonicalTextThrough, IsSetRefusal};
-ghost use Rattle.tigercanon.specs.declared.command_line.Job.{Job};
+ghost use Rattle.tigercanon.specs.declared.program.command_line.Job.{Job};
 ghost use Rattle.tl_number.specs.Sights.{IsSight};
 
 /// A set of parts is accepted or has a refusal, never both, and never two.

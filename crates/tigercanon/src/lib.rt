@@ -8,48 +8,29 @@
 //! `tigercanon_main` is the program around the two.
 #![tactic(auto)]
 
-mod canonising;
-mod checking;
-mod command;
-mod command_line;
-mod comparing;
-mod ending;
 mod fault;
-mod files;
-mod fingerprinting;
-mod hashing;
-mod jobs;
 mod laws;
-mod linked;
-mod names;
-mod normalising;
-mod planning;
-mod reading;
-mod refusal;
-mod respelling;
-mod running;
-mod telling;
-mod two_sets;
-mod writing;
+mod library;
+mod program;
 
-pub use checking::check;
-pub use command_line::{Job, Plan, PlanFault};
-pub use comparing::{CompareFault, Verdict, compare, compare_masked};
 pub use fault::Fault;
-pub use files::Opened;
-pub use fingerprinting::{fingerprint, fingerprint_masked};
 pub use laws::{
     a_canonical_text_is_its_own, accepted_set_or_one_refusal,
     an_accepted_set_has_one_canonical_text, masks_are_for_jobs_that_tell_maps,
     one_canonical_text_exactly_for_one_map, one_canonical_text_through_each_sight,
     one_canonical_text_under_each_mask, usual_words_are_planned,
 };
-pub use normalising::{
+pub use library::checking::check;
+pub use library::comparing::{CompareFault, Verdict, compare, compare_masked};
+pub use library::fingerprinting::{fingerprint, fingerprint_masked};
+pub use library::normalising::{
     normalise, normalise_masked, normalise_to, normalise_to_masked, normalise_with_renaming,
     normalise_with_renaming_masked,
 };
-pub use planning::plan;
-pub use refusal::Refusal;
-pub use respelling::respell;
-pub use running::run;
-pub use telling::{exit_status, tell, words_fault};
+pub use library::respelling::respell;
+pub use program::command_line::{Job, Plan, PlanFault};
+pub use program::files::Opened;
+pub use program::planning::plan;
+pub use program::refusal::Refusal;
+pub use program::running::run;
+pub use program::telling::{exit_status, tell, words_fault};

@@ -10,36 +10,14 @@ ghost use Rattle.tl_cert.specs.MaskedCounty.{masked, masked_bodies};
 
 use crate::joined_lists::JoinedLists;
 use std::alloc::{AllocError, Global};
-use std::cmp::Ordering;
-use tl_county::Chart;
-use tl_layout::{Blank, Body7, Mask, Point};
-
-/// The fields of a landmark's content in their order: FILE, SOURCE, CFCC, LANAME, the point.
-type LandmarkFields = ([u8; 5], ([u8; 1], ([u8; 3], ([u8; 30], Option<Point>))));
-
-/// The fields of a landmark's content in their order.
-fn fields_of(body: &Body7) -> LandmarkFields
-    ensures { result ≡ (body.now.file, (body.now.source, (body.now.cfcc, (body.now.laname, body.now.point)))) }
-{
-    let file = body.file();
-    let source = body.source();
-    let cfcc = body.cfcc();
-    let laname = body.laname();
-    (file, (source, (cfcc, (laname, body.point()))))
-}
-
-/// How one content stands to another.
-fn cmp_bodies(a: &Body7, b: &Body7) -> Ordering
-    ensures { result ≡ landmark_body_cmp a.now b.now }
-{
-    fields_of(a).cmp(&fields_of(b))
-}
+use tl_county::{Chart, cmp_landmark_bodies};
+use tl_layout::{Blank, Body7, Mask};
 
 /// Puts contents in order. It takes no memory.
 fn sort_bodies(bodies: &mut [Body7])
     ensures { bodies.new ≡ in_order landmark_body_cmp bodies.old }
 {
-    bodies.sort_unstable_by(|a, b| cmp_bodies(a, b));
+    bodies.sort_unstable_by(|a, b| cmp_landmark_bodies(a, b));
 }
 
 /// Puts each content under a mask.

@@ -6,6 +6,7 @@
 //! and at a place that is known to be there (`tlid_there`). Another way to keep a county is another `impl Chart`.
 #![tactic(auto)]
 
+mod body_order;
 mod chart;
 mod fault;
 mod kept;
@@ -13,6 +14,7 @@ mod keys;
 mod laws;
 mod linking;
 
+pub use body_order::cmp_landmark_bodies;
 pub use chart::Chart;
 pub use fault::{LinkFault, LinkedType, SequencedType};
 pub use kept::{County, CountyIn, CountyOver};

@@ -1,3 +1,4 @@
+pub mod Exits
 pub mod NumberLemmas
 pub mod Words
 pub mod Columns

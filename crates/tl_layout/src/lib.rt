@@ -63,3 +63,4 @@ pub use type5::{Body5, Rec5};
 pub use type6::Rec6;
 pub use type7::{Body7, Rec7};
 pub use type8::Rec8;
+pub use writing::put_line;

@@ -8,6 +8,7 @@ ghost use Rattle.tl_layout.specs.FieldTexts.{long_text, lat_text};
 ghost use Rattle.tl_layout.specs.Columns.{joined};
 
 use crate::coordinate::put_coordinate;
+use crate::layout::Layout;
 use crate::number::put_number;
 use crate::point::Point;
 use crate::text::Text;
@@ -105,4 +106,14 @@ pub fn write_point_or_blanks(out: &mut [u8], column: usize, point: &Option<Point
             write_blanks(out, column + 10, column + 18);
         }
     }
+}
+
+/// Writes the line of a record, its canonical spelling and LF, into room of its length.
+pub fn put_line<L: Layout>(found: &L, room: &mut [u8])
+    requires { length room.old ≡ L.LEN + 1 }
+    ensures { room.new ≡ L.spelling found.now ++ 10 ∷ [] }
+{
+    let len = L::LEN;
+    found.put(&mut room[..len]);
+    room[len] = b'\n';
 }

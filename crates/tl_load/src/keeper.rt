@@ -6,7 +6,7 @@ ghost use Rattle.tl_layout.specs.Tables.{HoldsByType};
 ghost use Rattle.tl_layout.specs.declared.record_type.Record.{Record};
 
 use std::alloc::{AllocError, Global};
-use tl_layout::{LONGEST_LINE, Layout, Record, Tabled, Tables};
+use tl_layout::{LONGEST_LINE, Layout, Record, Tabled, Tables, put_line};
 
 /// Where a loader puts its records.
 pub trait Keeper: Drop + Sized {
@@ -59,11 +59,10 @@ pub struct CanonicalText {
 fn append_line<L: Layout>(text: &mut Vec<u8>, found: &L) -> Result<(), AllocError>
     ensures { OnOk result (text.new.items ≡ text.old.items ++ (L.spelling found.now ++ 10 ∷ [])) }
 {
-    let mut line = [0; LONGEST_LINE];
-    let len = L::LEN;
-    found.put(&mut line[..len]);
-    text.extend_from_slice(&line[..len])?;
-    Ok(text.push(b'\n')?)
+    let mut room = [0; LONGEST_LINE + 1];
+    let line = &mut room[..L::LEN + 1];
+    put_line(found, line);
+    Ok(text.extend_from_slice(line)?)
 }
 
 impl Keeper for CanonicalText {

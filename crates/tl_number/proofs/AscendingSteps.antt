@@ -53,7 +53,7 @@ options_total {X} {R} o = record { antisymm = antisymm; trans = trans; congr = c
     congr (Some x) (Some y) (Some z) e = o.congr x y z e
 
 -- the reverse comes before the points exactly if the points come after it
-turned_same : (ps : List Coordinates) → is_lt (points_cmp (reverse ps) ps) ≡ is_gt (points_cmp ps (reverse ps))
+pub turned_same : (ps : List Coordinates) → is_lt (points_cmp (reverse ps) ps) ≡ is_gt (points_cmp ps (reverse ps))
 turned_same ps = lt_reversed (points_cmp (reverse ps) ps) (points_cmp ps (reverse ps)) (points_keys.total.antisymm (reverse ps) ps)
 
 -- an entry's shape is that of its chain in the direction in which it comes

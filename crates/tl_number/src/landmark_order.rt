@@ -22,26 +22,12 @@ use crate::landmark_links::{bounds_of, link_at, links_of_landmark, links_under};
 use crate::numbers::Numbers;
 use std::alloc::{AllocError, Global};
 use std::cmp::Ordering;
-use tl_county::{Chart, PolygonKey};
-use tl_layout::{Body7, Point, Rec8};
+use tl_county::{Chart, PolygonKey, cmp_landmark_bodies};
+use tl_layout::{Body7, Rec8};
 use tl_profile::ChainWalk;
-
-/// The fields of a landmark's body in their order: FILE, SOURCE, CFCC, LANAME, the point.
-type LandmarkBytes = ([u8; 5], ([u8; 1], ([u8; 3], ([u8; 30], Option<Point>))));
 
 /// The fields of a link without its LAND in their order: POLYID, CENID, FILE.
 type LinkBytes = (u64, ([u8; 5], [u8; 5]));
-
-/// The fields of a landmark's body in their order.
-fn bytes_of_body(body: &Body7) -> LandmarkBytes
-    ensures { result ≡ (body.now.file, (body.now.source, (body.now.cfcc, (body.now.laname, body.now.point)))) }
-{
-    let file = body.file();
-    let source = body.source();
-    let cfcc = body.cfcc();
-    let laname = body.laname();
-    (file, (source, (cfcc, (laname, body.point()))))
-}
 
 /// The fields of a link in their order.
 fn bytes_of_link(link: &Rec8) -> LinkBytes
@@ -50,13 +36,6 @@ fn bytes_of_link(link: &Rec8) -> LinkBytes
     let cenid = link.cenid();
     let file = link.file();
     (link.polyid(), (cenid, file))
-}
-
-/// How one body stands to another.
-fn cmp_body(a: &Body7, b: &Body7) -> Ordering
-    ensures { result ≡ landmark_body_cmp a.now b.now }
-{
-    bytes_of_body(a).cmp(&bytes_of_body(b))
 }
 
 /// How one link without its LAND stands to another.
@@ -72,7 +51,7 @@ fn cmp_optional_body(a: Option<Body7>, b: Option<Body7>) -> Ordering
 {
     match a {
         Some(a) => match b {
-            Some(b) => cmp_body(&a, &b),
+            Some(b) => cmp_landmark_bodies(&a, &b),
             None => Ordering::Greater,
         },
         None => match b {

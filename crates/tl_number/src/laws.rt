@@ -1,7 +1,7 @@
 //! Laws of the definitions in `specs/`. The functions do nothing; their contracts are the laws.
 
 ghost use Rattle.std.specs.List.{AllByRecursion};
-ghost use Rattle.std.specs.Prelude.{◌≡◌, ◌≤◌, ◌⊎◌, List, ℕ};
+ghost use Rattle.std.specs.Prelude.{◌<◌, ◌≡◌, ◌≤◌, ◌⊎◌, List, ℕ};
 ghost use Rattle.tl_county.specs.County.{County, county_of};
 ghost use Rattle.tl_county.specs.CountyRules.{AllKeysStandIn, IsCounty, polygon_keys, polygons_along};
 ghost use Rattle.tl_county.specs.Renumbering.{AreSame, Carries, Renumbering};
@@ -10,7 +10,7 @@ ghost use Rattle.tl_cert.specs.MaskedCounty.{masked};
 ghost use Rattle.tl_layout.specs.Masked.{no_mask};
 ghost use Rattle.tl_layout.specs.declared.mask.Mask.{Mask};
 ghost use Rattle.tl_layout.specs.Limits.{IsWithinLimit, count_of_type};
-ghost use Rattle.tl_layout.specs.RecordText.{FitsRecord};
+ghost use Rattle.tl_layout.specs.RecordText.{FitsRecord, text_of};
 ghost use Rattle.tl_layout.specs.declared.record_type.Record.{Record};
 ghost use Rattle.tl_number.specs.Accepted.{IsAccepted, IsCanonicalOf, IsCanonicalThrough, IsRefusal, RecordsRefusal};
 ghost use Rattle.tl_number.specs.Arrangement.{Arrangement, Arranges, arranged, ascending, renaming_of};
@@ -18,6 +18,9 @@ ghost use Rattle.tl_number.specs.Canonical.{IsCanonical, IsArrangedList, KeepsCh
 ghost use Rattle.tl_county.specs.Packing.{packed};
 ghost use Rattle.tl_number.specs.ArrangedCounty.{IsArranged};
 ghost use Rattle.tl_number.specs.Sights.{IsSight, plain};
+ghost use Rattle.tl_number.specs.Tidy.{HasShapesApart, IsChoice, IsLeastChoice, IsLeastTidyList, IsTidyList};
+ghost use Rattle.tl_number.specs.Tidy.{arranged_list, numbered_choice};
+ghost use Rattle.tl_profile.specs.Choices.{choices};
 ghost use Rattle.tl_number.specs.RecordNumbers.{greatest_number, numbers_of};
 
 /// A list in the canonical order, packing and numbering is the packing of its county, whatever the choice of TLIDs and
@@ -133,4 +136,50 @@ pub fn one_canonical_list_under_each_mask()
         c ≡ d → AreSame (masked mask (county_of xs)) (masked mask (county_of ys)) }
     ensures itself { (mask : Mask) (xs c : List Record) →
         IsCanonicalThrough (masked mask) xs c → IsCanonicalThrough (masked mask) c c × IsCanonicalOf c c }
+{}
+
+/// Each number tells a choice of a county: an arrangement under which no chain's points come after their reverse, and none after those
+/// of a later chain. Each choice has a number below the count of choices, and number 0 is the ascending arrangement.
+pub fn choices_are_numbered()
+    ensures told { (county : County) (number : ℕ) → IsCounty county → IsChoice county (numbered_choice county number) }
+    ensures each { (county : County) (steps : Arrangement) →
+        IsCounty county → IsChoice county steps →
+        (number : ℕ) × (number < choices county) × (numbered_choice county number ≡ steps) }
+    ensures first { (county : County) → IsCounty county → numbered_choice county 0 ≡ ascending county }
+{}
+
+/// A county in which no two chains have one shape, and none is its own reverse, leaves one choice: the ascending arrangement.
+pub fn one_choice_where_shapes_are_apart()
+    ensures count { (county : County) → HasShapesApart county → choices county ≡ 1 }
+    ensures only { (county : County) (steps : Arrangement) →
+        IsCounty county → HasShapesApart county → IsChoice county steps → steps ≡ ascending county }
+{}
+
+/// Of a county whose polygons stand on sides, each choice gives a tidy list of the same map, and each tidy list of the same map is that of
+/// a choice.
+pub fn tidy_lists_are_those_of_choices()
+    ensures list { (county : County) (steps : Arrangement) →
+        IsCounty county → AllKeysStandIn (polygons_along county.chains) (polygon_keys county) → IsChoice county steps →
+        IsTidyList (arranged_list county steps) × AreSame county (county_of (arranged_list county steps)) }
+    ensures choice { (county : County) (records : List Record) →
+        IsCounty county → AllKeysStandIn (polygons_along county.chains) (polygon_keys county) →
+        IsTidyList records → AreSame county (county_of records) →
+        (steps : Arrangement) × IsChoice county steps × (records ≡ arranged_list county steps) }
+{}
+
+/// Of a county whose polygons stand on sides, some choice has the least text. Its list is of least text among the tidy lists of the map,
+/// and each such list is that of a choice of least text. Lists of least text have one text if their maps are the same.
+pub fn one_least_text_for_each_map()
+    ensures exists { (county : County) →
+        IsCounty county → AllKeysStandIn (polygons_along county.chains) (polygon_keys county) →
+        (number : ℕ) × (number < choices county) × IsLeastChoice county (numbered_choice county number) }
+    ensures list { (county : County) (steps : Arrangement) →
+        IsCounty county → AllKeysStandIn (polygons_along county.chains) (polygon_keys county) → IsLeastChoice county steps →
+        IsLeastTidyList (arranged_list county steps) × AreSame county (county_of (arranged_list county steps)) }
+    ensures choice { (county : County) (records : List Record) →
+        IsCounty county → AllKeysStandIn (polygons_along county.chains) (polygon_keys county) →
+        IsLeastTidyList records → AreSame county (county_of records) →
+        (steps : Arrangement) × IsLeastChoice county steps × (records ≡ arranged_list county steps) }
+    ensures one_text { (xs ys : List Record) →
+        IsLeastTidyList xs → IsLeastTidyList ys → AreSame (county_of xs) (county_of ys) → text_of xs ≡ text_of ys }
 {}

@@ -115,22 +115,22 @@ as_places xs h i j p q = go (nat_lt i j) (nat_lt j i) refl refl
         ∙ tied_itself nat_cmp_total (get_or xs i 0) ∙ sym (tied_itself nat_cmp_total i) ∙ ap (nat_cmp i) (sym same)
 
 -- a chain with the first points of its shape is there
-pub head_there : (county : County) (shape : PlacedShape) → HasHead county shape → shape.walk.place < length county.chains
-head_there county shape head = go (nat_lt shape.walk.place (length county.chains)) refl
+pub head_there : (county : County) (shape : PlacedShape) → HasHead county shape → shape.place < length county.chains
+head_there county shape head = go (nat_lt shape.place (length county.chains)) refl
   where
     no_points : (b : Bool) → points_from b [] ≡ []
     no_points true = refl
     no_points false = refl
 
-    go : (b : Bool) → nat_lt shape.walk.place (length county.chains) ≡ b → shape.walk.place < length county.chains
-    go true e = ltb-true shape.walk.place (length county.chains) e
+    go : (b : Bool) → nat_lt shape.place (length county.chains) ≡ b → shape.place < length county.chains
+    go true e = ltb-true shape.place (length county.chains) e
     go false e =
-        let past : slice_get county.chains shape.walk.place ≡ None =
-        slice_get_past county.chains shape.walk.place (ltb-false shape.walk.place (length county.chains) e) in
-        let none : chain_at county shape.walk.place ≡ None =
-        slice_get-map (λ (d : ℕ × Chain). d.1) county.chains shape.walk.place ∙ ap (option_map (λ (d : ℕ × Chain). d.1)) past in
-        let empty : points_along county shape.walk ≡ [] =
-        ap (λ o. points_from shape.walk.turned (points_of o)) none ∙ no_points shape.walk.turned in
+        let past : slice_get county.chains shape.place ≡ None =
+        slice_get_past county.chains shape.place (ltb-false shape.place (length county.chains) e) in
+        let none : chain_at county shape.place ≡ None =
+        slice_get-map (λ (d : ℕ × Chain). d.1) county.chains shape.place ∙ ap (option_map (λ (d : ℕ × Chain). d.1)) past in
+        let empty : points_along county (placed_walk shape) ≡ [] =
+        ap (λ o. points_from shape.turned (points_of o)) none ∙ no_points shape.turned in
         let some = head.is in
         cc
 

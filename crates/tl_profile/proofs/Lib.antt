@@ -12,3 +12,8 @@ pub mod SideKeys
 pub mod KeysInOrder
 pub mod FirstClauses
 pub mod FewChains
+pub mod Factorials
+pub mod CountedChoices
+pub mod ShapePoints
+pub mod SameChoices
+pub mod FoundChoices

@@ -26,7 +26,7 @@ pub placed_key_total : (county : County) → IsTotalOrder (placed_key_cmp county
 placed_key_total county =
     then_total (then_total (on_total (λ (s : PlacedShape). s.first) point_keys.total)
     (then_total (on_total (λ (s : PlacedShape). s.second) point_keys.total) (on_total (whole_shape county) points_keys.total)))
-    (on_total (λ (s : PlacedShape). s.walk.place) nat_cmp_total)
+    (on_total (λ (s : PlacedShape). s.place) nat_cmp_total)
 
 -- what decided once decides again
 again : (a b c : Ordering) → ordering_then a (ordering_then b (ordering_then a (ordering_then b c))) ≡ ordering_then a (ordering_then b c)
@@ -56,7 +56,7 @@ walks_in_order county (s ∷ ss) a h = (each ss a.1 h.0, walks_in_order county s
         → AllByRecursion (λ w. is_gt (walk_cmp county (placed_walk s) w) ≡ false) (map placed_walk ts)
     each [] b g = tt
     each (t ∷ ts) b g = (
-      subst (λ o. is_gt (ordering_then o (nat_cmp s.walk.place t.walk.place)) ≡ false) (placed-whole county s t a.0 b.0) g.0,
+      subst (λ o. is_gt (ordering_then o (nat_cmp s.place t.place)) ≡ false) (placed-whole county s t a.0 b.0) g.0,
       each ts b.1 g.1,
     )
 

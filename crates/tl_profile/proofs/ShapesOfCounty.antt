@@ -1,8 +1,7 @@
 -- Pairs of one shape among a county's shapes are the pairs of its chains that the profile refuses.
-use Rattle.std.proofs.Common.{◌≡◌, ◌⊎◌, ◌==◌, ◌&&◌, ℕ, nat_lt, List, Bool, true, false, Ordering, Less, Equal, Greater}
+use Rattle.std.proofs.Common.{◌≡◌, ◌⊎◌, ◌==◌, ◌&&◌, ℕ, nat_lt, List, Bool, true, false}
 use Rattle.std.proofs.Common.{is_lt, reverse, refl, sym, ap, ◌∙◌, inl, inr, IsPermutation}
 use Rattle.std.specs.List.{list_any}
-use Rattle.std.specs.Ordering.{ordering_reverse}
 use Rattle.std.proofs.lemmas.Bool.{and_parts, and_from, ltb-true, lt-ltb, eq-eqb}
 use Rattle.std.proofs.lemmas.List.{reverse-reverse}
 use Rattle.std.proofs.lemmas.List.Sorted.{IsPermutation-sym}
@@ -10,36 +9,13 @@ use Rattle.tl_layout.specs.Coordinates.{Coordinates}
 use Rattle.tl_shape.specs.Chain.{Chain}
 use Rattle.tl_shape.specs.PointOrder.{points_cmp}
 use Rattle.tl_county.specs.County.{County}
-use Rattle.tl_county.proofs.ByKey.KeyOrders.{points_keys}
 use Rattle.tl_county.proofs.Lists.Members.{among-permutation, among-map, among-unmap, among_any}
 use Rattle.tl_profile.specs.Profile.{are_one_shape, same_shape}
 use Rattle.tl_profile.specs.Shapes.{ShapeKey, TlidPair, is_one_shape, least_points, points_from, shape_keys}
 use Rattle.tl_profile.proofs.Pairs.{HasOneShape, one_shape_parts, one_shape_from}
 use Rattle.tl_profile.proofs.ProfileFaults.{AreOneShape, one_shape_entries}
 use Rattle.tl_profile.proofs.SameProfile.{OneShape, shape-true, shape-same}
-
--- the lesser of two lists is the same from either of them
-least_reverse : (ps : List Coordinates) → least_points (reverse ps) ≡ least_points ps
-least_reverse ps = go (points_cmp (reverse ps) ps) refl
-  where
-    back : points_cmp (reverse (reverse ps)) (reverse ps) ≡ points_cmp ps (reverse ps)
-    back = ap (λ qs. points_cmp qs (reverse ps)) (reverse-reverse ps)
-
-    other : points_cmp ps (reverse ps) ≡ ordering_reverse (points_cmp (reverse ps) ps)
-    other = points_keys.total.antisymm ps (reverse ps)
-
-    go : (o : Ordering) → points_cmp (reverse ps) ps ≡ o → least_points (reverse ps) ≡ least_points ps
-    go Less e =
-        ap (λ r. points_from (is_lt r) (reverse ps)) (back ∙ other ∙ ap ordering_reverse e)
-        ∙ sym (ap (λ r. points_from (is_lt r) ps) e)
-    go Equal e =
-        ap (λ r. points_from (is_lt r) (reverse ps)) (back ∙ other ∙ ap ordering_reverse e)
-        ∙ points_keys.exact (reverse ps) ps e
-        ∙ sym (ap (λ r. points_from (is_lt r) ps) e)
-    go Greater e =
-        ap (λ r. points_from (is_lt r) (reverse ps)) (back ∙ other ∙ ap ordering_reverse e)
-        ∙ reverse-reverse ps
-        ∙ sym (ap (λ r. points_from (is_lt r) ps) e)
+use Rattle.tl_profile.proofs.ShapePoints.{least_reverse}
 
 either : (b : Bool) (ps : List Coordinates) → (points_from b ps ≡ ps) ⊎ (points_from b ps ≡ reverse ps)
 either true ps = inr refl

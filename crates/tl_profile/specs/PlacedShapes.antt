@@ -5,6 +5,7 @@ use Rattle.std.specs.Ordering.{nat_cmp, ordering_then}
 use Rattle.tl_layout.specs.Coordinates.{Coordinates}
 use Rattle.tl_shape.specs.PointOrder.{point_cmp, points_cmp}
 use Rattle.tl_county.specs.County.{County}
+use Rattle.tl_profile.specs.Choices.{is_either_way}
 use Rattle.tl_profile.specs.Shapes.{ShapeKey}
 use Rattle.tl_profile.specs.ShapeOrder.{key_of_walk, points_along}
 use Rattle.tl_profile.specs.declared.chain_walk.ChainWalk.{ChainWalk}
@@ -12,20 +13,21 @@ use Rattle.tl_profile.specs.declared.shapes.PlacedShape.{PlacedShape}
 
 -- the walk along the chain
 abbrev pub placed_walk : PlacedShape → ChainWalk
-placed_walk shape = shape.walk
+placed_walk shape = record { place = shape.place; turned = shape.turned }
 
 -- the whole shape of the chain
 abbrev pub whole_shape : County → PlacedShape → List Coordinates
-whole_shape county shape = points_along county shape.walk
+whole_shape county shape = points_along county (placed_walk shape)
 
 -- the shape with its TLID
 abbrev pub key_of_shape : County → PlacedShape → ShapeKey
-key_of_shape county shape = key_of_walk county shape.walk
+key_of_shape county shape = key_of_walk county (placed_walk shape)
 
--- the first two points are those of the shape
+-- the first two points are those of the shape, and it is told whether the shape is the same from both ends
 pub record HasHead (county : County) (shape : PlacedShape) : Type 0 where
   pub rest : List Coordinates
   pub is : whole_shape county shape ≡ shape.first ∷ shape.second ∷ rest
+  pub either_way : shape.either_way ≡ is_either_way (whole_shape county shape)
 
 -- by the first two points, and then by the whole shape
 abbrev pub placed_cmp : County → PlacedShape → PlacedShape → Ordering
@@ -34,4 +36,4 @@ placed_cmp county a b = ordering_then (point_cmp a.first b.first)
 
 -- the same, and then by the place
 abbrev pub placed_key_cmp : County → PlacedShape → PlacedShape → Ordering
-placed_key_cmp county a b = ordering_then (placed_cmp county a b) (nat_cmp a.walk.place b.walk.place)
+placed_key_cmp county a b = ordering_then (placed_cmp county a b) (nat_cmp a.place b.place)

@@ -3,7 +3,7 @@
 ghost use Rattle.std.specs.Prelude.{◌≡◌, reverse, slice_get};
 ghost use Rattle.tl_shape.specs.PointOrder.{points_cmp};
 ghost use Rattle.tl_profile.specs.Shapes.{points_at};
-ghost use Rattle.tl_profile.specs.ShapeOrder.{least_walk, points_along};
+ghost use Rattle.tl_profile.specs.ShapeOrder.{points_along};
 
 use std::cmp::Ordering;
 use tl_county::Chart;
@@ -64,14 +64,4 @@ pub(crate) fn compare_reverse<C: Chart>(chart: &C, place: u32) -> Ordering
         turned: false,
     };
     compare_walks(chart, backward, forward)
-}
-
-/// The walk along which the points of the chain at a place are its shape.
-pub(crate) fn shape_walk<C: Chart>(chart: &C, place: u32) -> ChainWalk
-    ensures { result ≡ least_walk (C.county chart.now) place }
-{
-    ChainWalk {
-        place,
-        turned: compare_reverse(chart, place).is_lt(),
-    }
 }

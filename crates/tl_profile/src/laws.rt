@@ -4,6 +4,7 @@ ghost use Rattle.std.specs.Prelude.{◌≡◌, ◌⊎◌};
 ghost use Rattle.tl_county.specs.County.{County};
 ghost use Rattle.tl_county.specs.CountyRules.{IsCounty};
 ghost use Rattle.tl_county.specs.Renumbering.{AreSame};
+ghost use Rattle.tl_profile.specs.Choices.{choices};
 ghost use Rattle.tl_profile.specs.Profile.{IsFirstBrokenClause, IsInProfile};
 ghost use Rattle.tl_profile.specs.declared.fault.ProfileFault.{ProfileFault};
 
@@ -21,4 +22,9 @@ pub fn in_profile_or_one_first_broken_clause()
 pub fn same_counties_agree_on_the_profile()
     ensures forth { (a b : County) → AreSame a b → IsInProfile a → IsInProfile b }
     ensures back { (a b : County) → IsCounty a → IsCounty b → AreSame a b → IsInProfile b → IsInProfile a }
+{}
+
+/// Counties that are the same leave equally many choices open.
+pub fn same_counties_have_equal_choices()
+    ensures { (a b : County) → AreSame a b → choices a ≡ choices b }
 {}

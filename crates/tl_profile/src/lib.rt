@@ -9,6 +9,7 @@ mod admission;
 mod chain_walk;
 mod fault;
 mod laws;
+mod open_places;
 mod shape_order;
 mod shapes;
 mod sides;
@@ -18,5 +19,9 @@ pub use admission::{
 };
 pub use chain_walk::{ChainWalk, point_along};
 pub use fault::ProfileFault;
-pub use laws::{in_profile_or_one_first_broken_clause, same_counties_agree_on_the_profile};
+pub use laws::{
+    in_profile_or_one_first_broken_clause, same_counties_agree_on_the_profile,
+    same_counties_have_equal_choices,
+};
+pub use open_places::OpenPlace;
 pub use shape_order::{ShapeOrder, order_by_shape};

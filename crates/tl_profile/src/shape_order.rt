@@ -31,7 +31,7 @@ impl ShapeOrder {
     pub(crate) fn of_shapes(alloc: Global, shapes: &[PlacedShape]) -> Result<ShapeOrder, AllocError>
         ensures { IfOk result (λ order. order ≡ map placed_walk shapes.now) }
     {
-        let walks = shapes.iter().map(|shape| shape.walk).collect(alloc)?;
+        let walks = shapes.iter().map(|shape| shape.walk()).collect(alloc)?;
         Ok(ShapeOrder { walks })
     }
 

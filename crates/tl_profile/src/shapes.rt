@@ -15,7 +15,7 @@ ghost use Rattle.tl_profile.specs.Shapes.{is_one_shape, lesser, next_pair, pair_
 ghost use Rattle.tl_profile.specs.ShapeOrder.{IsShapeOrder, least_walk, least_walks};
 ghost use Rattle.tl_profile.specs.PlacedShapes.{HasHead, key_of_shape, placed_cmp, placed_key_cmp, placed_walk};
 
-use crate::chain_walk::{ChainWalk, compare_reverse, compare_walks, point_along, shape_walk};
+use crate::chain_walk::{ChainWalk, compare_reverse, compare_walks, point_along};
 use std::alloc::{AllocError, Global};
 use std::cmp::Ordering;
 use tl_county::Chart;
@@ -29,8 +29,24 @@ pub(crate) struct PlacedShape {
     pub(crate) first: Point,
     /// The second point of the shape.
     pub(crate) second: Point,
+    /// The chain's place.
+    pub(crate) place: u32,
+    /// Whether the chain's points are its shape from the end node on.
+    pub(crate) turned: bool,
+    /// Whether the shape is the same from both ends.
+    pub(crate) either_way: bool,
+}
+
+impl PlacedShape {
     /// The walk along the chain on which its points are the shape.
-    pub(crate) walk: ChainWalk,
+    pub(crate) fn walk(&self) -> ChainWalk
+        ensures { result ≡ placed_walk self.now }
+    {
+        ChainWalk {
+            place: self.place,
+            turned: self.turned,
+        }
+    }
 }
 
 /// The least TLID of a chain whose points are their own reverse.
@@ -48,14 +64,18 @@ pub(crate) fn least_own_reverse<C: Chart>(chart: &C) -> Option<u64>
 /// The chain at a place with the beginning of its shape.
 fn placed_shape<C: Chart>(chart: &C, place: u32) -> PlacedShape
     requires { place < length (C.county chart.now).chains }
-    ensures walk { result.walk ≡ least_walk (C.county chart.now) place }
+    ensures walk { placed_walk result ≡ least_walk (C.county chart.now) place }
     ensures head { HasHead (C.county chart.now) result }
 {
-    let walk = shape_walk(chart, place);
+    let reversed = compare_reverse(chart, place);
+    let turned = reversed.is_lt();
+    let walk = ChainWalk { place, turned };
     PlacedShape {
         first: point_along(chart, walk, 0).unwrap(),
         second: point_along(chart, walk, 1).unwrap(),
-        walk,
+        place,
+        turned,
+        either_way: reversed.is_eq(),
     }
 }
 
@@ -73,7 +93,11 @@ fn placed_shapes<C: Chart>(alloc: Global, chart: &C) -> Result<Vec<PlacedShape>,
 }
 
 /// How one chain's shape stands to another's.
-fn compare_shapes<C: Chart>(chart: &C, shape: &PlacedShape, other: &PlacedShape) -> Ordering
+pub(crate) fn compare_shapes<C: Chart>(
+    chart: &C,
+    shape: &PlacedShape,
+    other: &PlacedShape,
+) -> Ordering
     ensures { result ≡ placed_cmp (C.county chart.now) shape.now other.now }
 {
     match shape.first.cmp(&other.first) {
@@ -84,7 +108,7 @@ fn compare_shapes<C: Chart>(chart: &C, shape: &PlacedShape, other: &PlacedShape)
         Ordering::Equal => {}
         unequal => return unequal,
     }
-    compare_walks(chart, shape.walk, other.walk)
+    compare_walks(chart, shape.walk(), other.walk())
 }
 
 /// How two chains stand by their shapes, and by their places where the shapes are one.
@@ -92,7 +116,7 @@ fn compare_placed<C: Chart>(chart: &C, shape: &PlacedShape, other: &PlacedShape)
     ensures { result ≡ placed_key_cmp (C.county chart.now) shape.now other.now }
 {
     match compare_shapes(chart, shape, other) {
-        Ordering::Equal => shape.walk.place.cmp(&other.walk.place),
+        Ordering::Equal => shape.place.cmp(&other.place),
         unequal => unequal,
     }
 }
@@ -121,9 +145,9 @@ pub(crate) fn ordered_shapes<C: Chart>(
 /// The TLID of a chain.
 fn tlid_of<C: Chart>(chart: &C, shape: &PlacedShape) -> u64
     requires { HasHead (C.county chart.now) shape.now }
-    ensures { result ≡ slice_index (tlids (C.county chart.now)) shape.now.walk.place }
+    ensures { result ≡ slice_index (tlids (C.county chart.now)) shape.now.place }
 {
-    chart.tlid_at(shape.walk.place as usize).unwrap()
+    chart.tlid_at(shape.place as usize).unwrap()
 }
 
 /// The TLIDs of a chain and the one after it, if their shapes are one.

@@ -1,14 +1,3 @@
-pub mod Pieces
-pub mod Grouped
-pub mod ChainPlaces
-pub mod Selected
-pub mod PackedGroups
 pub mod TextLengths
-pub mod EntryPlaces
 pub mod Finished
 pub mod SameGroups
-pub mod RecordFields
-pub mod ReadHeads
-pub mod RecordPlaces
-pub mod OneAfterAnother
-pub mod GivenGroups

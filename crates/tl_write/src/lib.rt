@@ -6,14 +6,8 @@
 #![tactic(auto)]
 
 mod bytes_out;
-mod chain_records;
 mod county_text;
 mod fault;
-mod groups;
-mod heads;
-mod name_records;
-mod polygon_records;
-mod record_eq;
 mod sameness;
 mod sink;
 mod slow_sink;

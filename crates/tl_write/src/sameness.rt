@@ -3,20 +3,16 @@
 ghost use Rattle.std.specs.Bool.{Decides};
 ghost use Rattle.std.specs.Prelude.{◌≡◌, ◌<◌, ◌≤◌, ◌+◌, length, drop, take};
 ghost use Rattle.tl_county.specs.Packing.{packed};
+ghost use Rattle.tl_number.specs.Groups.{AreHeads, group_at};
 ghost use Rattle.tl_number.specs.Views.{arranged_county};
-ghost use Rattle.tl_write.specs.CountyGroups.{HaveSameChains, HaveSameCounts, HaveSameEntries, HaveSameHeads, HaveSameLandmarks, HaveSameLists};
-ghost use Rattle.tl_write.specs.Groups.{AreHeads, group_at};
+ghost use Rattle.tl_write.specs.SharedGroups.{HaveSameChains, HaveSameCounts, HaveSameEntries, HaveSameHeads, HaveSameLandmarks, HaveSameLists};
 
-use crate::chain_records::{
-    ChainRecords, FurtherNameRecords, LinkRecords, RangeRecords, ShapePointRecords,
-};
-use crate::groups::{RecordGroups, read_heads};
-use crate::heads::HeadRoom;
-use crate::name_records::{LandmarkLinkRecords, LandmarkRecords, NameRecords};
-use crate::polygon_records::PolygonRecords;
-use crate::record_eq::RecordEq;
 use tl_county::Chart;
-use tl_number::CanonCounty;
+use tl_number::{
+    CanonCounty, ChainRecords, FurtherNameRecords, HeadRoom, LandmarkLinkRecords, LandmarkRecords,
+    LinkRecords, NameRecords, PolygonRecords, RangeRecords, RecordEq, RecordGroups,
+    ShapePointRecords, read_heads,
+};
 
 /// Whether a group that both have is the same in both, record by record.
 fn is_same_group<L: RecordEq, G: RecordGroups<Item = L>, H: RecordGroups<Item = L>>(

@@ -7,7 +7,7 @@ use crate::bytes_out::write_bytes;
 use crate::fault::WriteFault;
 use crate::sink::Sink;
 use std::marker::Model;
-use tl_layout::Layout;
+use tl_layout::{Layout, put_line};
 
 /// How many bytes the buffer has room for: some hundred lines.
 const BUFFER_BYTES: usize = 65_536;
@@ -29,16 +29,6 @@ impl Model for TextBuffer {
     ghost view = { λ b. record { waiting = take b.filled b.bytes; sent = b.sent } };
 
     ghost invariant = { λ b. b.filled ≤ length b.bytes };
-}
-
-/// Writes the line of a record, its canonical spelling and LF, into room of its length.
-fn put_line_into<L: Layout>(found: &L, room: &mut [u8])
-    requires { length room.old ≡ L.LEN + 1 }
-    ensures { room.new ≡ L.spelling found.now ++ 10 ∷ [] }
-{
-    let len = L::LEN;
-    found.put(&mut room[..len]);
-    room[len] = b'\n';
 }
 
 impl TextBuffer {
@@ -98,7 +88,7 @@ impl TextBuffer {
         ensures { self.new ≡ record { waiting = self.old.waiting ++ (L.spelling found.now ++ 10 ∷ []); sent = self.old.sent } }
     {
         let end = self.filled + L::LEN + 1;
-        put_line_into(found, &mut self.bytes[self.filled..end]);
+        put_line(found, &mut self.bytes[self.filled..end]);
         self.filled = end;
     }
 

@@ -1,7 +1,6 @@
 //! Calls on counties in an arena, beside those on counties that own their memory.
 
-use super::refusals::{Call, Set, ample_answer};
-use super::sets::lines_of;
+use super::refusals::{Call, Set, SetLines, ample_answer};
 use super::worked_sets::{Worked, worked};
 use std::alloc::Global;
 use std::process::Abort;
@@ -22,13 +21,8 @@ pub(super) fn arenas_make_no_difference(rt: &impl Abort, alloc: Global, set: &Se
 
 /// In an arena calls on this set answer what they answer outside.
 fn is_alike_in_an_arena(rt: &impl Abort, alloc: Global, row: &Worked) {
-    let bytes = lines_of(rt, alloc, row.1);
-    let text = lines_of(rt, alloc, row.2);
-    let set = Set {
-        row: row.0,
-        bytes: &bytes,
-        text: &text,
-    };
+    let lines = SetLines::of(rt, alloc, row);
+    let set = lines.set();
     arenas_make_no_difference(rt, alloc, &set);
 }
 

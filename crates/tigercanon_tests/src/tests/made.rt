@@ -2,7 +2,7 @@
 //! of its own. It has chains of many points and of many names, names that no chain bears, landmarks with several contents and
 //! links, hundreds of CENIDs, and numbers of ten digits.
 
-ghost use Rattle.std.specs.Prelude.{◌<◌};
+ghost use Rattle.std.specs.Prelude.{◌×◌, ◌<◌};
 
 use super::sets::lines_of;
 use std::alloc::Global;
@@ -158,18 +158,18 @@ fn add_ends(rt: &impl Abort, alloc: Global, text: &mut Vec<u8>, other: bool, cha
 const SHAPE: &str =
     "22006{13}+000000000+00000000+000000000+00000000+000000000+00000000+000000000+00000000+000000000+00000000+000000000+00000000+000000000+00000000+000000000+00000000+000000000+00000000+000000000+00000000";
 
-/// Adds the points of a chain behind the first so many, ten at most, as the hand sees them.
-fn add_points(
-    rt: &impl Abort,
-    alloc: Global,
-    text: &mut Vec<u8>,
-    other: bool,
+/// What stands along a chain behind its first so many points or names.
+#[derive(Clone, Copy)]
+struct Rest {
     chain: u64,
     first: u64,
-)
-    requires chain { chain < 5000 }
-    requires first { first < 30 }
+}
+
+/// Adds points of a chain, ten at most, as the hand sees them.
+fn add_points(rt: &impl Abort, alloc: Global, text: &mut Vec<u8>, other: bool, rest: Rest)
+    requires { (rest.chain < 5000) × (rest.first < 30) }
 {
+    let Rest { chain, first } = rest;
     let mut line = lines_of(rt, alloc, &[SHAPE]);
     put(&mut line, 15, tlid(other, chain));
     put(&mut line, 18, first + 3);
@@ -192,18 +192,11 @@ fn add_points(
     text.extend_from_slice(&line).expect(rt, "there is memory");
 }
 
-/// Adds the names of a chain behind the first so many, five at most.
-fn add_names(
-    rt: &impl Abort,
-    alloc: Global,
-    text: &mut Vec<u8>,
-    other: bool,
-    chain: u64,
-    first: u64,
-)
-    requires chain { chain < 5000 }
-    requires first { first < 30 }
+/// Adds names of a chain, five at most.
+fn add_names(rt: &impl Abort, alloc: Global, text: &mut Vec<u8>, other: bool, rest: Rest)
+    requires { (rest.chain < 5000) × (rest.first < 30) }
 {
+    let Rest { chain, first } = rest;
     let mut line = lines_of(rt, alloc, &["42006{53}"]);
     put(&mut line, 15, tlid(other, chain));
     put(&mut line, 18, first + 1);
@@ -287,10 +280,11 @@ fn add_chain(rt: &impl Abort, alloc: Global, text: &mut Vec<u8>, other: bool, ch
     add_link(rt, alloc, text, other, chain);
     for first in [10, 0, 20] {
         if first <= inner(chain) {
-            add_points(rt, alloc, text, other, chain, first);
+            add_points(rt, alloc, text, other, Rest { chain, first });
         }
         if first / 2 <= names(chain) {
-            add_names(rt, alloc, text, other, chain, first / 2);
+            let first = first / 2;
+            add_names(rt, alloc, text, other, Rest { chain, first });
         }
     }
     add_ends(rt, alloc, text, other, chain);

@@ -5,13 +5,13 @@ use super::counties::{county_in_of, county_of};
 use super::sets::{lines_of, spelled};
 use super::worked_sets::{CHAIN, LINK, MAIN, MAIN_TURNED};
 use bumpalo::Bump;
-use std::alloc::Global;
+use std::alloc::{AllocError, Global};
 use std::process::Abort;
 use tl_county::Chart;
-use tl_layout::Mask;
+use tl_layout::{Mask, Record};
 use tl_number::{CanonCounty, canonise_in_masked, canonise_masked};
 use tl_profile::{admit, admit_in};
-use tl_write::{CountedOut, records_of, records_of_in, write_in, write_to};
+use tl_write::{CountedOut, WriteFault, records_of, records_of_in, write_in, write_to};
 
 /// The canonical lines of Main St: as they are, and without SOURCE.
 const STREET: &str =
@@ -52,7 +52,31 @@ fn mask(sources: bool, reserved: bool) -> Mask {
     Mask { sources, reserved }
 }
 
-/// What is written and what is listed of the county is this text.
+/// What was written is this text.
+fn is_written(
+    rt: &impl Abort,
+    row: &str,
+    outcome: Result<u64, WriteFault>,
+    out: CountedOut<Vec<u8>>,
+    text: &[u8],
+) {
+    same(rt, row, &outcome, &Ok(text.len() as u64));
+    same_items(rt, row, &out.into_inner(), text);
+}
+
+/// The spellings of the records are this text.
+fn is_listed(
+    rt: &impl Abort,
+    alloc: Global,
+    row: &str,
+    records: Result<Vec<Record>, AllocError>,
+    text: &[u8],
+) {
+    let records = records.expect(rt, row);
+    same_items(rt, row, &spelled(rt, alloc, &records), text);
+}
+
+/// What is written and what is listed of the county, by the calls for arenas too, is this text.
 fn has_text<C: Chart>(
     rt: &impl Abort,
     alloc: Global,
@@ -61,25 +85,13 @@ fn has_text<C: Chart>(
     text: &[u8],
 ) {
     let mut out = CountedOut::new(Vec::new(alloc));
-    same(rt, row, &write_to(county, &mut out), &Ok(text.len() as u64));
-    same_items(rt, row, &out.into_inner(), text);
-    let records = records_of(alloc, county).expect(rt, row);
-    same_items(rt, row, &spelled(rt, alloc, &records), text);
-}
-
-/// The same by the calls for arenas.
-fn has_text_in<C: Chart>(
-    rt: &impl Abort,
-    alloc: Global,
-    row: &str,
-    county: &CanonCounty<C>,
-    text: &[u8],
-) {
+    let outcome = write_to(county, &mut out);
+    is_written(rt, row, outcome, out, text);
     let mut out = CountedOut::new(Vec::new(alloc));
-    same(rt, row, &write_in(county, &mut out), &Ok(text.len() as u64));
-    same_items(rt, row, &out.into_inner(), text);
-    let records = records_of_in(alloc, county).expect(rt, row);
-    same_items(rt, row, &spelled(rt, alloc, &records), text);
+    let outcome = write_in(county, &mut out);
+    is_written(rt, row, outcome, out, text);
+    is_listed(rt, alloc, row, records_of(alloc, county), text);
+    is_listed(rt, alloc, row, records_of_in(alloc, county), text);
 }
 
 /// The set becomes this text under the mask.
@@ -95,7 +107,7 @@ fn becomes_in(rt: &impl Abort, alloc: Global, row: &str, mask: Mask, set: &[u8],
     let arena = Bump::new(alloc);
     let admitted = admit_in(alloc, county_in_of(rt, alloc, &arena, row, set)).expect(rt, row);
     let found = canonise_in_masked(alloc, admitted, mask).expect(rt, row);
-    has_text_in(rt, alloc, row, &found.0, text);
+    has_text(rt, alloc, row, &found.0, text);
     drop(found);
 }
 

@@ -5,7 +5,7 @@ ghost use Rattle.std.specs.Prelude.{◌<◌};
 use super::counties::county_of;
 use super::refusals::{
     Run, Set, admitted_in_of, admitted_of, canonised, ended, has_refused, refuse, renaming_of,
-    told, written_by,
+    told, with_text, written_by,
 };
 use bumpalo::Bump;
 use std::alloc::Global;
@@ -91,12 +91,7 @@ pub(super) fn put_into_form(rt: &impl Abort, alloc: Global, set: &Set<'_>, asked
     refuse(alloc, asked);
     let outcome = canonise_masked(alloc, admitted, BOTH);
     let refused = has_refused(alloc);
-    let set = Set {
-        row: set.row,
-        bytes: set.bytes,
-        text: &text,
-    };
-    canonised(rt, alloc, &set, refused, outcome)
+    canonised(rt, alloc, &with_text(set, &text), refused, outcome)
 }
 
 pub(super) fn put_into_form_in(rt: &impl Abort, alloc: Global, set: &Set<'_>, asked: usize) -> Run {
@@ -106,10 +101,5 @@ pub(super) fn put_into_form_in(rt: &impl Abort, alloc: Global, set: &Set<'_>, as
     refuse(alloc, asked);
     let outcome = canonise_in_masked(alloc, admitted, BOTH);
     let refused = has_refused(alloc);
-    let set = Set {
-        row: set.row,
-        bytes: set.bytes,
-        text: &text,
-    };
-    canonised(rt, alloc, &set, refused, outcome)
+    canonised(rt, alloc, &with_text(set, &text), refused, outcome)
 }

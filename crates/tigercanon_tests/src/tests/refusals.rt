@@ -101,6 +101,43 @@ pub(super) struct Set<'a> {
     pub(super) text: &'a [u8],
 }
 
+/// The bytes of a worked set and of its canonical text.
+#[derive(Drop)]
+pub(super) struct SetLines {
+    row: &'static str,
+    bytes: Vec<u8>,
+    text: Vec<u8>,
+}
+
+impl SetLines {
+    /// The lines of this row, put out.
+    pub(super) fn of(rt: &impl Abort, alloc: Global, row: &Worked) -> SetLines {
+        SetLines {
+            row: row.0,
+            bytes: lines_of(rt, alloc, row.1),
+            text: lines_of(rt, alloc, row.2),
+        }
+    }
+
+    /// The set with its text, lent.
+    pub(super) fn set(&self) -> Set<'_> {
+        Set {
+            row: self.row,
+            bytes: &self.bytes,
+            text: &self.text,
+        }
+    }
+}
+
+/// The set with another canonical text.
+pub(super) fn with_text<'a>(set: &Set<'a>, text: &'a [u8]) -> Set<'a> {
+    Set {
+        row: set.row,
+        bytes: set.bytes,
+        text,
+    }
+}
+
 // The runs of the calls. What a call takes is made before growths are refused, and what it answers is told when none is any more.
 
 fn respelt(rt: &impl Abort, alloc: Global, set: &Set<'_>, asked: usize) -> Run {
@@ -704,13 +741,8 @@ fn growths(rt: &impl Abort, alloc: Global, call: Call, set: &Set<'_>, first: usi
 
 /// Each growth of a call on a set is refused, alone and then with all later ones. Answers how many there are.
 fn growths_of(rt: &impl Abort, alloc: Global, call: Call, row: &Worked) -> usize {
-    let bytes = lines_of(rt, alloc, row.1);
-    let text = lines_of(rt, alloc, row.2);
-    let set = Set {
-        row: row.0,
-        bytes: &bytes,
-        text: &text,
-    };
+    let lines = SetLines::of(rt, alloc, row);
+    let set = lines.set();
     let found = growths(rt, alloc, call, &set, ALONE);
     let again = growths(rt, alloc, call, &set, WITH_LATER_ONES);
     same(rt, row.0, &(call, again), &(call, found));

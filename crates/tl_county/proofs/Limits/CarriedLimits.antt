@@ -36,7 +36,7 @@ use Rattle.tl_county.proofs.Rules.LinkedCounty.{each_from, length-in_order}
 use Rattle.tl_county.proofs.Lists.Elements.{all_weaker, all_map}
 use Rattle.tl_county.proofs.Lists.Members.{among-permutation, among-unmap}
 use Rattle.tl_county.proofs.Sameness.Equivalence.{image-keeps}
-use Rattle.tl_county.proofs.Packing.TypeCounts.{HasWithin}
+use Rattle.tl_county.proofs.Packing.TypeCounts.{HasAsMany, HasWithin}
 
 -- a turn exchanges fields of one width
 ranges_turned_fit : (ranges : Ranges) → FitsRanges ranges → FitsRanges (turned_ranges ranges)
@@ -277,24 +277,33 @@ module _ (r : Renumbering) (a b : County) (h : Carries r a b) where
       carried_sum (e ∷ es) = sum_by-cons (λ (d : PolygonKey × Option BodyP). weight d.1) (carried_polygon r e) (map (carried_polygon r) es)
           ∙ ap (λ n. weight e.1 + n) (carried_sum es) ∙ sym (sum_by-cons (λ (d : PolygonKey × Option BodyP). weight d.1) e es)
 
-  pub carried_counts : (limits : ℕ → ℕ) → HasWithin limits (packed_by_type a) → HasWithin limits (packed_by_type b)
-  carried_counts limits few =
-      let chains : length b.chains ≡ length a.chains = same_length (carried_chain r) a.chains b.chains h.chains in
+  -- as many records of each type
+  pub carried_many : HasAsMany (packed_by_type a) (packed_by_type b)
+  carried_many =
+      let chains : length a.chains ≡ length b.chains = sym (same_length (carried_chain r) a.chains b.chains h.chains) in
       record {
-        of_type_1 = subst (λ n. n ≤ limits 49) (sym (length-map b.chains packed_one ∙ chains
-            ∙ sym (length-map a.chains packed_one))) few.of_type_1;
-        of_type_2 = subst (λ n. n ≤ limits 50) (sym (same_count packed_twos
-            (carried_chain r) a.chains b.chains twos_carried h.chains)) few.of_type_2;
-        of_type_4 = subst (λ n. n ≤ limits 52) (sym (same_count packed_fours
-            (carried_chain r) a.chains b.chains fours_carried h.chains)) few.of_type_4;
-        of_type_5 = subst (λ n. n ≤ limits 53) (sym (length-map b.names packed_five ∙ same_length (carried_name r) a.names b.names h.names
-            ∙ sym (length-map a.names packed_five))) few.of_type_5;
-        of_type_6 = subst (λ n. n ≤ limits 54) (sym (same_count packed_sixes
-            (carried_chain r) a.chains b.chains sixes_carried h.chains)) few.of_type_6;
-        of_type_7 = subst (λ n. n ≤ limits 55) (sym (same_count packed_sevens
-            (carried_landmark r) a.landmarks b.landmarks sevens_carried h.landmarks)) few.of_type_7;
-        of_type_8 = subst (λ n. n ≤ limits 56) (sym (same_length (carried_link r) a.links b.links h.links)) few.of_type_8;
-        of_type_i = subst (λ n. n ≤ limits 73) (sym (length-map b.chains packed_i ∙ chains ∙ sym (length-map a.chains packed_i))) few.of_type_i;
-        of_type_p = subst (λ n. n ≤ limits 80) (sym (length-in_order (on p_polyid nat_cmp) (filter_map packed_p b.polygons) ∙ polygons_carried
-            ∙ sym (length-in_order (on p_polyid nat_cmp) (filter_map packed_p a.polygons)))) few.of_type_p;
+        of_type_1 = length-map a.chains packed_one ∙ chains ∙ sym (length-map b.chains packed_one);
+        of_type_2 = sym (same_count packed_twos (carried_chain r) a.chains b.chains twos_carried h.chains);
+        of_type_4 = sym (same_count packed_fours (carried_chain r) a.chains b.chains fours_carried h.chains);
+        of_type_5 = length-map a.names packed_five ∙ sym (same_length (carried_name r) a.names b.names h.names)
+            ∙ sym (length-map b.names packed_five);
+        of_type_6 = sym (same_count packed_sixes (carried_chain r) a.chains b.chains sixes_carried h.chains);
+        of_type_7 = sym (same_count packed_sevens (carried_landmark r) a.landmarks b.landmarks sevens_carried h.landmarks);
+        of_type_8 = sym (same_length (carried_link r) a.links b.links h.links);
+        of_type_i = length-map a.chains packed_i ∙ chains ∙ sym (length-map b.chains packed_i);
+        of_type_p = length-in_order (on p_polyid nat_cmp) (filter_map packed_p a.polygons) ∙ sym polygons_carried
+            ∙ sym (length-in_order (on p_polyid nat_cmp) (filter_map packed_p b.polygons));
       }
+
+  pub carried_counts : (limits : ℕ → ℕ) → HasWithin limits (packed_by_type a) → HasWithin limits (packed_by_type b)
+  carried_counts limits few = record {
+    of_type_1 = subst (λ n. n ≤ limits 49) carried_many.of_type_1 few.of_type_1;
+    of_type_2 = subst (λ n. n ≤ limits 50) carried_many.of_type_2 few.of_type_2;
+    of_type_4 = subst (λ n. n ≤ limits 52) carried_many.of_type_4 few.of_type_4;
+    of_type_5 = subst (λ n. n ≤ limits 53) carried_many.of_type_5 few.of_type_5;
+    of_type_6 = subst (λ n. n ≤ limits 54) carried_many.of_type_6 few.of_type_6;
+    of_type_7 = subst (λ n. n ≤ limits 55) carried_many.of_type_7 few.of_type_7;
+    of_type_8 = subst (λ n. n ≤ limits 56) carried_many.of_type_8 few.of_type_8;
+    of_type_i = subst (λ n. n ≤ limits 73) carried_many.of_type_i few.of_type_i;
+    of_type_p = subst (λ n. n ≤ limits 80) carried_many.of_type_p few.of_type_p;
+  }

@@ -32,6 +32,18 @@ pub record HasWithin (limits : ℕ → ℕ) (records : Typed) : Type 0 where
 abbrev pub HasAtMost : ℕ → Typed → Type 0
 HasAtMost limit = HasWithin (λ _. limit)
 
+-- as many records of each type
+pub record HasAsMany (records others : Typed) : Type 0 where
+  pub of_type_1 : length records.of_type_1 ≡ length others.of_type_1
+  pub of_type_2 : length records.of_type_2 ≡ length others.of_type_2
+  pub of_type_4 : length records.of_type_4 ≡ length others.of_type_4
+  pub of_type_5 : length records.of_type_5 ≡ length others.of_type_5
+  pub of_type_6 : length records.of_type_6 ≡ length others.of_type_6
+  pub of_type_7 : length records.of_type_7 ≡ length others.of_type_7
+  pub of_type_8 : length records.of_type_8 ≡ length others.of_type_8
+  pub of_type_i : length records.of_type_i ≡ length others.of_type_i
+  pub of_type_p : length records.of_type_p ≡ length others.of_type_p
+
 -- no more records of any type than the limits tell
 abbrev pub KeepsLimits : (ℕ → ℕ) → List Record → Type 0
 KeepsLimits limits records = (rtype : ℕ) → count_of_type rtype records ≤ limits rtype

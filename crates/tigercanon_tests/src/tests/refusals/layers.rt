@@ -1,9 +1,8 @@
 //! Which layer tells want of memory within a whole call: the one that was refused.
 
 use super::super::comparing::same;
-use super::super::sets::lines_of;
 use super::super::worked_sets::{Worked, worked};
-use super::{ALONE, Call, MANY, Run, Set, has_refused, refuse, run_of};
+use super::{ALONE, Call, MANY, Run, Set, SetLines, has_refused, refuse, run_of};
 use std::alloc::Global;
 use std::process::Abort;
 use tigercanon::{Fault, normalise};
@@ -75,13 +74,8 @@ fn tellings(rt: &impl Abort, alloc: Global, call: Call, set: &Set<'_>) -> usize 
 
 /// Each layer tells as many refusals within a whole call as it tells by itself. Answers how many linking tells.
 fn layers_tell_their_refusals(rt: &impl Abort, alloc: Global, row: &Worked) -> usize {
-    let bytes = lines_of(rt, alloc, row.1);
-    let text = lines_of(rt, alloc, row.2);
-    let set = Set {
-        row: row.0,
-        bytes: &bytes,
-        text: &text,
-    };
+    let lines = SetLines::of(rt, alloc, row);
+    let set = lines.set();
     let told = tellings_by_layer(rt, alloc, &set);
     let wanted = [
         tellings(rt, alloc, Call::TablesOf, &set),

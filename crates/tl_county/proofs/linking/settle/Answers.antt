@@ -1,5 +1,5 @@
 use Rattle.std.proofs.Common.{◌≡◌, ◌≢◌, List, Result, IfErr, IsErrAnd}
-use Rattle.std.proofs.lemmas.Result.{err_from_is_err_and}
+use Rattle.tl_layout.proofs.Exits.{exit_with}
 use Rattle.tl_layout.specs.Tables.{HoldsByType}
 use Rattle.tl_layout.specs.declared.record_type.Record.{Record}
 use Rattle.tl_county.specs.LinkRules.{IsFirstBrokenRule}
@@ -10,10 +10,6 @@ use Rattle.tl_county.specs.declared.fault.LinkFault.TheVariants.{Memory}
 use Rattle.tl_county.proofs.Rules.BuiltTables.{also_first, held}
 use Rattle.tl_county.proofs.Rules.TypedRecords.{by_type-after}
 use Rattle.tl_county.proofs.linking.settle.Goals as goal
-
--- the exit of a `?`: what holds of the callee's fault holds of the answer
-exit_with : {T : Type 0} (r : Result T LinkFault) (f : LinkFault) (P : LinkFault → Type 0) → IsErrAnd r (λ e. e ≡ f) → P f → IfErr r P
-exit_with r f P is holds = let p = err_from_is_err_and r is in rw (p.1, p.2) holds
 
 pub returns-clause-linked : goal.returns-clause-linked
 returns-clause-linked c =

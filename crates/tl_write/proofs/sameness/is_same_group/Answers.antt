@@ -1,5 +1,5 @@
 use Rattle.std.proofs.Common.{◌≡◌, ◌∙◌, true, false, rules, refl, sym, ap, slice_get, Some, arith}
-use Rattle.tl_write.specs.Groups.{group_at}
+use Rattle.tl_number.specs.Groups.{group_at}
 use Rattle.tl_write.proofs.SameGroups.{decides_no, same_next, same_whole}
 use Rattle.tl_write.proofs.sameness.is_same_group.Goals as goal
 

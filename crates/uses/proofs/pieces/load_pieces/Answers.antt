@@ -1,6 +1,6 @@
 use Rattle.std.proofs.Common.{◌≡◌, ◌∙◌, Result, IfErr, IsErrAnd, [], ◌∷◌, subst, arith}
 use Rattle.std.proofs.lemmas.List.{take_all}
-use Rattle.std.proofs.lemmas.Result.{err_from_is_err_and}
+use Rattle.tl_layout.proofs.Exits.{exit_with}
 use Rattle.tl_layout.specs.declared.record_type.TheConstants.{MOST_RECORDS}
 use Rattle.tl_load.specs.Choice.{tiger}
 use Rattle.tl_load.specs.Loaded.{IsOfLines, WasFed}
@@ -8,10 +8,6 @@ use Rattle.tl_load.specs.Outcome.{FaultAt}
 use Rattle.tl_load.specs.declared.fault.LoadFault.{LoadFault}
 use Rattle.uses.proofs.WholeFile.{whole, whole_so_far, fault_of_whole}
 use Rattle.uses.proofs.pieces.load_pieces.Goals as goal
-
--- the exit of a `?`: what holds of the callee's error holds of the answer
-exit_with : {T : Type 0} (r : Result T LoadFault) (f : LoadFault) (P : LoadFault → Type 0) → IsErrAnd r (λ e. e ≡ f) → P f → IfErr r P
-exit_with r f P is holds = let p = err_from_is_err_and r is in rw (p.1, p.2) holds
 
 pub loop-piece-preserved : goal.loop-piece-preserved
 loop-piece-preserved c = record {

@@ -1,0 +1,17 @@
+use Rattle.tigercanon.specs.Comparing.{AreDifferentThrough}
+use Rattle.tigercanon.specs.LentParts.{bytes_of_parts}
+use Rattle.tigercanon.specs.Sets.{CarriesSetThrough}
+use Rattle.tigercanon.proofs.Masking.{as_it_is}
+use Rattle.tigercanon.proofs.library.comparing.compare.Goals as goal
+
+pub returns-clause-same : goal.returns-clause-same
+returns-clause-same c = λ r told.
+    let first = bytes_of_parts c.args.a.now in
+    let second = bytes_of_parts c.args.b.now in
+    as_it_is (λ seen. CarriesSetThrough seen r first second) (c.compare_masked.ensures.same r told)
+
+pub returns-clause-different : goal.returns-clause-different
+returns-clause-different c = λ told.
+    let first = bytes_of_parts c.args.a.now in
+    let second = bytes_of_parts c.args.b.now in
+    as_it_is (λ seen. AreDifferentThrough seen first second) (c.compare_masked.ensures.different told)

@@ -1,0 +1,18 @@
+use Rattle.std.proofs.Common.{◌≡◌, sym, subst}
+use Rattle.std.proofs.lemmas.Result.{IfOk-weaker}
+use Rattle.tl_county.specs.Renumbering.{Carries}
+use Rattle.tl_number.specs.ViewFacts.{stepped}
+use Rattle.tigercanon.proofs.Verdicts.{one_county}
+use Rattle.tigercanon.proofs.library.comparing.renaming_between.Goals as goal
+
+pub returns : goal.returns
+returns g c =
+    let a = g.A.Chart.county c.args.a.now.chart in
+    let b = g.B.Chart.county c.args.b.now.chart in
+    let canon = stepped a c.args.a.now.steps.items in
+    let other = stepped b c.args.b.now.steps.items in
+    let one : canon ≡ other = one_county canon other c.args.a.now.whole.is_county c.args.b.now.whole.is_county c.requires in
+    IfOk-weaker c.then.result _ _
+    (λ r on. on a canon b (g.met.A.Chart.is_county c.args.a.now.chart) c.args.a.now.whole.is_county
+    c.in_ok-there.ensures.carries (subst (λ county. Carries c.in_ok-back.back county b) (sym one) c.in_ok-back.ensures))
+    c.then.ensures.carries_on

@@ -1,0 +1,22 @@
+use Rattle.std.proofs.Common.{◌∙◌, subst, sym}
+use Rattle.std.proofs.lemmas.Result.{err_from_is_err_and}
+use Rattle.tl_county.specs.County.{County}
+use Rattle.tl_county.specs.CountyRules.{is_without_chain}
+use Rattle.tl_county.specs.Keyed.{IsLeastPassing}
+use Rattle.tl_county.specs.PolygonKeys.{key_cmp}
+use Rattle.tl_profile.specs.Profile.{IsFirstBrokenClause}
+use Rattle.tigercanon.proofs.library.linked.admit_county.Goals as goal
+
+pub admit_linked-requires : goal.admit_linked-requires
+admit_linked-requires c =
+    subst (λ (county : County). IsLeastPassing key_cmp (is_without_chain county) c.polygon_without_chain.result) (sym c.requires)
+    c.polygon_without_chain.ensures
+
+pub returns-in_err-admit_linked-clause-refused : goal.returns-in_err-admit_linked-clause-refused
+returns-in_err-admit_linked-clause-refused c =
+    let p = err_from_is_err_and c.from_residual.result c.from_residual.ensures.1 in
+    rw (p.1, p.2) (λ records linked ne. (
+      linked.0,
+      subst (λ (county : County). IsFirstBrokenClause county c.in_err-admit_linked.field-0.0) (c.requires ∙ linked.1)
+          (c.in_err-admit_linked.ensures.broken ne),
+    ))

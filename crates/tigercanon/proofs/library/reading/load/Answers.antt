@@ -1,0 +1,29 @@
+use Rattle.std.proofs.Common.{◌≡◌, ◌+◌, ◌∙◌, ap, Result, IfErr, IsErrAnd, [], subst}
+use Rattle.tl_layout.proofs.Exits.{exit_with}
+use Rattle.tl_load.specs.Loaded.{IsOfLines}
+use Rattle.tl_load.specs.Keeping.{WasFedInto}
+use Rattle.tl_load.specs.declared.fault.LoadFault.{LoadFault}
+use Rattle.tigercanon.specs.Respelling.{record_limit, IsFirstFault}
+use Rattle.tigercanon.proofs.Parts.{parts_of, parts_so_far, fault_of_all, fault_of_closed}
+use Rattle.tigercanon.proofs.library.reading.load.Goals as goal
+
+pub returns-in_err-feed-clause-faulty : goal.returns-in_err-feed-clause-faulty
+returns-in_err-feed-clause-faulty g c =
+    exit_with _ _ (λ f. IsOfLines f → IsFirstFault (parts_of c.args.parts.now) f) c.from_residual.ensures.1
+    (λ lines. fault_of_all _ _ _ _ c.loop-part-test.true (c.in_err-feed.ensures.fault _ _ _ c.loop-part.invariant.0 lines))
+
+pub returns-in_err-end_part-clause-faulty : goal.returns-in_err-end_part-clause-faulty
+returns-in_err-end_part-clause-faulty g c =
+    let fed = c.in_ok-feed.ensures.fed _ _ _ c.loop-part.invariant.0 in
+    exit_with _ _ (λ f. IsOfLines f → IsFirstFault (parts_of c.args.parts.now) f) c.from_residual-in_err-end_part.ensures.1
+    (λ lines. fault_of_closed _ _ _ _ c.loop-part-test.true (c.in_err-end_part.ensures.fault _ _ _ fed lines))
+
+pub loop-part-preserved : goal.loop-part-preserved
+loop-part-preserved g c =
+    let fed = c.in_ok-feed.ensures.fed _ _ _ c.loop-part.invariant.0 in (
+      subst (λ ps. WasFedInto g.K.Keeper.holds record_limit c.end_part.new.self ps []) (parts_so_far _ _ _ c.loop-part-test.true)
+          (c.in_ok-end_part.ensures.fed _ _ _ fed),
+      c.in_ok-end_part.ensures.ok,
+      c.in_ok-end_part.ensures.parts
+          ∙ ap (λ n. n + 1) (c.in_ok-feed.ensures.parts ∙ c.loop-part.invariant.2),
+    )

@@ -1,0 +1,68 @@
+use Rattle.std.proofs.Common.{◌+◌, ◌∙◌, ◌<◌, ℕ, [], ◌∷◌, ◌++◌, refl, sym, ap, arith, subst}
+use Rattle.std.proofs.lemmas.List.{length-append}
+use Rattle.std.proofs.lemmas.Result.{err_from_is_err_and}
+use Rattle.std.below.core.specs.declared.int.u64.TheConstants.{MAX}
+use Rattle.tigercanon.specs.Reading.{IsUnread}
+use Rattle.tigercanon.proofs.ReadParts.{all_read, none_more, one_more_at, unread_at, untouched_at}
+use Rattle.tigercanon.proofs.library.reading.read_each.Goals as goal
+
+pub loop-source-init : goal.loop-source-init
+loop-source-init g c = record {
+  read = ([], refl, refl, c.requires.fed);
+  none_failed = refl;
+  no_device = c.requires.no_device;
+  counted = omega (arith, c.requires.new);
+}
+
+pub read_to_end-requires-clause-parts : goal.read_to_end-requires-clause-parts
+read_to_end-requires-clause-parts g c = omega arith
+
+pub read_to_end-requires-clause-failures : goal.read_to_end-requires-clause-failures
+read_to_end-requires-clause-failures g c =
+    let i = c.loop-source.source-index in
+    let d = c.source-item.result in
+    let r = c.loop-source.invariant.read in
+    let same = untouched_at g.R.Source.remaining g.R.Source.given _ _ r.0 i d d r.1 r.2 c.loop-source-test.true in
+    subst (λ s. g.R.Source.failed s < MAX) (sym same) (c.requires.failures i d c.loop-source-test.true)
+
+pub returns-in_err-read_to_end-clause-device : goal.returns-in_err-read_to_end-clause-device
+returns-in_err-read_to_end-clause-device g c =
+    let p = err_from_is_err_and c.from_residual.result c.from_residual.ensures.1 in
+    let i = c.loop-source.source-index in
+    let d = c.source-item.result in
+    let r = c.loop-source.invariant.read in
+    let same = untouched_at g.R.Source.remaining g.R.Source.given _ _ r.0 i d d r.1 r.2 c.loop-source-test.true in
+    let device = c.in_err-read_to_end.ensures.device in
+    rw (p.1, p.2) (
+      device.0,
+      unread_at g.R.Source.failed g.R.Source.reads _ _ i d c.read_to_end.new.source c.loop-source.invariant.none_failed
+          c.loop-source-test.true
+          (subst (λ s. IsUnread g.R.Source.failed g.R.Source.reads s c.read_to_end.new.source) same device.1),
+    )
+
+pub loop-source-preserved : goal.loop-source-preserved
+loop-source-preserved g c =
+    let i = c.loop-source.source-index in
+    let d = c.source-item.result in
+    let x = c.read_to_end.new.source in
+    let r = c.loop-source.invariant.read in
+    let f = c.in_ok-read_to_end.ensures.fed in
+    record {
+      read = (
+        r.0 ++ f.0 ∷ [],
+        one_more_at g.R.Source.remaining g.R.Source.given _ _ r.0 i d x r.1 r.2 c.loop-source-test.true f.0 f.1 f.2,
+        length-append r.0 (f.0 ∷ []) ∙ ap (λ (n : ℕ). n + 1) r.2,
+        f.3 r.0 r.3,
+      );
+      none_failed = none_more g.R.Source.failed _ _ i d x c.loop-source.invariant.none_failed c.in_ok-read_to_end.ensures.none_failed;
+      no_device = c.in_ok-read_to_end.ensures.no_device;
+      counted = omega (arith, c.loop-source.invariant.counted, c.in_ok-read_to_end.ensures.parts);
+    }
+
+pub returns-clause-fed : goal.returns-clause-fed
+returns-clause-fed g c =
+    let r = c.loop-source.invariant.read in (
+      r.0,
+      all_read g.R.Source.remaining g.R.Source.given _ _ r.0 r.1 (omega (arith, r.2, c.loop-source-test.false)),
+      r.3,
+    )

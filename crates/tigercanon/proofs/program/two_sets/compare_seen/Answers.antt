@@ -1,0 +1,11 @@
+use Rattle.std.proofs.Common.{inl, refl}
+use Rattle.std.proofs.lemmas.Result.{err_from_is_err_and}
+use Rattle.tigercanon.proofs.CanonicalTexts.{err_holds, ok_holds}
+use Rattle.tigercanon.proofs.Masking.{lacking_read, seen_by_none}
+use Rattle.tigercanon.proofs.program.two_sets.compare_seen.Goals as goal
+
+pub returns-then-is_none-clause-verdict : goal.returns-then-is_none-clause-verdict
+returns-then-is_none-clause-verdict g c = λ a b set later.
+    c.compare_chart.ensures.verdict a b
+    (seen_by_none c.args.mask a (c.is_none.ensures.none c.if-is_none.true) (g.A.Chart.county c.args.first) set)
+    later

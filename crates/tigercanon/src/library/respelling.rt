@@ -1,0 +1,32 @@
+//! Records in canonical spelling, in the order of their lines.
+
+ghost use Rattle.tigercanon.specs.LentParts.{bytes_of_parts};
+ghost use Rattle.std.specs.Prelude.{◌≢◌, Err, List, IfOk, IfErr};
+ghost use Rattle.tigercanon.specs.Faults.{TellsFirstFault, IsWantOfMemory};
+ghost use Rattle.tigercanon.specs.Respelling.{record_limit, IsRespelt};
+ghost use Rattle.tl_layout.specs.declared.record_type.Record.{Record};
+ghost use Rattle.tl_load.specs.Choice.{tiger};
+ghost use Rattle.tl_load.specs.Outcome.{SpellsWithin};
+
+use crate::fault::Fault;
+use crate::library::reading::load;
+use std::alloc::Global;
+use tl_load::{CanonicalText, LoadFault};
+
+/// The records of the parts in canonical spelling, each line ended by LF, in the order of their lines, with their
+/// numbers kept and nothing joined.
+///
+/// # Errors
+///
+/// [`Fault::Load`] tells the first faulty line, or that memory was lacking for the text.
+pub fn respell(alloc: Global, parts: &[&[u8]]) -> Result<Vec<u8>, Fault>
+    ensures respelt { IfOk result (λ text. IsRespelt (bytes_of_parts parts.now) text.items) }
+    ensures faulty { IfErr result (TellsFirstFault (bytes_of_parts parts.now)) }
+    ensures no_device { result ≢ Err (Fault.Load LoadFault.Device) }
+    // Where the parts spell records, nothing but want of memory is told.
+    ensures succeeds { (records : List Record) →
+        SpellsWithin tiger record_limit (bytes_of_parts parts.now) records → IfErr result IsWantOfMemory }
+{
+    let text: CanonicalText = load(alloc, parts)?;
+    Ok(text.bytes)
+}

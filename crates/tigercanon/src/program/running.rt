@@ -1,0 +1,236 @@
+//! What the program does, over files that are open already.
+
+ghost use Rattle.std.specs.Io.KnownBytes.{Keeps};
+ghost use Rattle.std.specs.Prelude.{◌≡◌, ◌≢◌, ◌<◌, ◌≤◌, ◌+◌, ◌⊎◌, ◌∷◌, [], All, Contains, IfErr, IfOk, List, OnOk, Option, ℕ};
+ghost use Rattle.tigercanon.specs.Devices.{set_of_sources, to_sink};
+ghost use Rattle.tigercanon.specs.Files.{AreSourcesOf, IsMissing};
+ghost use Rattle.tigercanon.specs.Outcomes.{TellsLine, TellsLineTo};
+ghost use Rattle.tigercanon.specs.Reading.{NoneFailed, SomeUnread};
+ghost use Rattle.tigercanon.specs.Running.{IsMissingOne, IsRefusedBy, NamesMissing, PrintsDifferent, PrintsDone, PrintsSome};
+ghost use Rattle.tigercanon.specs.Running.{TellsMissing, TellsWhy, set_of_files};
+ghost use Rattle.tigercanon.specs.Stopping.{set_of_job};
+ghost use Rattle.tigercanon.specs.TwoSets.{IsDifferent, IsDone, IsToldWhy};
+
+use crate::fault::Fault;
+use crate::library::comparing::{FIRST, SECOND};
+use crate::program::command_line::Job;
+use crate::program::ending::{Ending, Stopped, tell_stopped};
+use crate::program::files::{OpenFile, Opened, is_missing_a_file, open_files};
+use crate::program::jobs::do_job;
+use crate::program::writing::LentOut;
+use std::alloc::Global;
+use std::io::{Read, Write};
+use tl_layout::Mask;
+use tl_load::{LoadFault, Source};
+use tl_write::Sink;
+
+/// The set that is named where one of a job's sets is at fault: where it has one set alone, none is.
+fn named_set(job: Job, set: u8) -> Option<u8>
+    ensures { result ≡ set_of_job job set }
+{
+    match job {
+        Job::Compare => Some(set),
+        Job::Respell | Job::Normalise | Job::Check | Job::Fingerprint => None,
+    }
+}
+
+/// Refuses a set that lacks a file that it needs.
+fn refuse_missing<R>(job: Job, set: u8, files: &[Opened<R>]) -> Result<(), Stopped>
+    ensures found { OnOk result (¬ IsMissing files.now) }
+    ensures missing { IfErr result (λ stopped. IsMissing files.now
+        × (stopped ≡ record { fault = Fault.Load LoadFault.Device; set = set_of_job job set })) }
+{
+    if is_missing_a_file(files) {
+        return Err(Stopped {
+            fault: Fault::Load(LoadFault::Device),
+            set: named_set(job, set),
+        });
+    }
+    Ok(())
+}
+
+/// Refuses sets of which one that the job reads lacks a file that it needs. A file of the first set is told before one of the
+/// second.
+fn refuse_missing_sets<R>(
+    job: Job,
+    first: &[Opened<R>],
+    second: &[Opened<R>],
+) -> Result<(), Stopped>
+    ensures found { OnOk result (¬ IsMissingOne job first.now second.now) }
+    ensures missing { IfErr result (λ stopped. (stopped.fault ≡ Fault.Load LoadFault.Device)
+        × NamesMissing job first.now second.now stopped.set) }
+{
+    refuse_missing(job, FIRST, first)?;
+    match job {
+        Job::Compare => refuse_missing(job, SECOND, second),
+        Job::Respell | Job::Normalise | Job::Check | Job::Fingerprint => Ok(()),
+    }
+}
+
+/// The files of one of a job's sets as sources, none of which has failed.
+fn open_set<R: Read + Drop>(
+    alloc: Global,
+    job: Job,
+    set: u8,
+    files: Vec<Opened<R>>,
+) -> Result<Vec<OpenFile<R>>, Stopped>
+    ensures bytes { IfOk result (λ sources. AreSourcesOf ⟦<OpenFile<R> as Source>⟧.remaining sources.items R.remaining files.items) }
+    ensures failures { IfOk result (λ sources. All (λ source. ⟦<OpenFile<R> as Source>⟧.failed source ≡ 0) sources.items) }
+    ensures memory { IfErr result (λ stopped. stopped ≡ record { fault = Fault.Memory; set = set_of_job job set }) }
+{
+    match open_files(alloc, files) {
+        Ok(sources) => Ok(sources),
+        Err(_) => Err(Stopped {
+            fault: Fault::Memory,
+            set: named_set(job, set),
+        }),
+    }
+}
+
+/// Does a job over the sources of its sets, and answers the exit status. What is told goes to a sink, which counts its failures: the
+/// whole line is there where it counts none.
+fn run_to<R: Source, W: Sink, E: Sink>(
+    alloc: Global,
+    job: Job,
+    first: &mut [R],
+    second: &mut [R],
+    out: &mut W,
+    err: &mut E,
+    mask: Mask,
+) -> u8
+    requires first { All (λ part. R.failed part < u64.MAX) first.old }
+    requires second { All (λ part. R.failed part < u64.MAX) second.old }
+    requires out { W.failed out.old < u64.MAX }
+    requires err { E.failed err.old < u64.MAX }
+    ensures statuses { Contains (0 ∷ 1 ∷ 3 ∷ 4 ∷ 5 ∷ []) result }
+    ensures done { result ≡ 0 → IsDone mask job (set_of_sources R.remaining R.given R.failed R.reads first.old first.new)
+        (set_of_sources R.remaining R.given R.failed R.reads second.old second.new) (to_sink W.failed W.holds out.old out.new) }
+    // Only a comparison comes to this.
+    ensures different { result ≡ 1 → IsDifferent mask job
+        (set_of_sources R.remaining R.given R.failed R.reads first.old first.new)
+        (set_of_sources R.remaining R.given R.failed R.reads second.old second.new) (to_sink W.failed W.holds out.old out.new) }
+    // What is told is a line that says which fault it was, and of two sets which one is at fault; nothing where the job is done.
+    ensures told { 1 < result → IsToldWhy mask job (set_of_sources R.remaining R.given R.failed R.reads first.old first.new)
+        (set_of_sources R.remaining R.given R.failed R.reads second.old second.new) (to_sink W.failed W.holds out.old out.new)
+        (TellsLineTo E.failed E.holds err.old err.new) result }
+    ensures untold { result ≤ 1 → err.new ≡ err.old }
+    // It comes to this only where a source failed or has no end, or the sink failed.
+    ensures device { result ≡ 4 → SomeUnread R.failed R.reads first.old first.new ⊎ SomeUnread R.failed R.reads second.old second.new
+        ⊎ (W.failed out.new ≡ W.failed out.old + 1) }
+    // And where a source failed it does.
+    ensures no_device { result ≢ 4 → NoneFailed R.failed first.old first.new × NoneFailed R.failed second.old second.new }
+{
+    match do_job(alloc, job, first, second, out, mask) {
+        Ok(Ending::Done) => 0,
+        Ok(Ending::Different) => 1,
+        Err(stopped) => tell_stopped(stopped, err),
+    }
+}
+
+/// Does a job over the files of its sets, none of which is missing, as over sources that have not failed, and answers the exit
+/// status.
+fn run_found<R: Read + Drop, W: Sink, E: Sink>(
+    alloc: Global,
+    job: Job,
+    first: Vec<Opened<R>>,
+    second: Vec<Opened<R>>,
+    out: &mut W,
+    err: &mut E,
+    mask: Mask,
+) -> u8
+    requires out { W.failed out.old < u64.MAX }
+    requires err { E.failed err.old < u64.MAX }
+    ensures statuses { Contains (0 ∷ 1 ∷ 3 ∷ 4 ∷ 5 ∷ []) result }
+    ensures done { result ≡ 0 → IsDone mask job (set_of_files R.remaining first.items) (set_of_files R.remaining second.items)
+        (to_sink W.failed W.holds out.old out.new) }
+    ensures different { result ≡ 1 → IsDifferent mask job (set_of_files R.remaining first.items) (set_of_files R.remaining second.items)
+        (to_sink W.failed W.holds out.old out.new) }
+    ensures told { 1 < result → IsToldWhy mask job (set_of_files R.remaining first.items) (set_of_files R.remaining second.items)
+        (to_sink W.failed W.holds out.old out.new) (TellsLineTo E.failed E.holds err.old err.new) result }
+    ensures untold { result ≤ 1 → err.new ≡ err.old }
+{
+    let mut first = match open_set(alloc, job, FIRST, first) {
+        Ok(sources) => sources,
+        Err(stopped) => return tell_stopped(stopped, err),
+    };
+    let mut second = match open_set(alloc, job, SECOND, second) {
+        Ok(sources) => sources,
+        Err(stopped) => return tell_stopped(stopped, err),
+    };
+    run_to(alloc, job, &mut first, &mut second, out, err, mask)
+}
+
+/// Does a job over the files of its sets, and answers the exit status.
+fn run_files<R: Read + Drop, W: Sink, E: Sink>(
+    alloc: Global,
+    job: Job,
+    first: Vec<Opened<R>>,
+    second: Vec<Opened<R>>,
+    out: &mut W,
+    err: &mut E,
+    mask: Mask,
+) -> u8
+    requires out { W.failed out.old < u64.MAX }
+    requires err { E.failed err.old < u64.MAX }
+    ensures statuses { Contains (0 ∷ 1 ∷ 3 ∷ 4 ∷ 5 ∷ []) result }
+    ensures done { result ≡ 0 → IsDone mask job (set_of_files R.remaining first.items) (set_of_files R.remaining second.items)
+        (to_sink W.failed W.holds out.old out.new) }
+    ensures different { result ≡ 1 → IsDifferent mask job (set_of_files R.remaining first.items) (set_of_files R.remaining second.items)
+        (to_sink W.failed W.holds out.old out.new) }
+    ensures told { 1 < result → IsToldWhy mask job (set_of_files R.remaining first.items) (set_of_files R.remaining second.items)
+        (to_sink W.failed W.holds out.old out.new) (TellsLineTo E.failed E.holds err.old err.new) result }
+    ensures untold { result ≤ 1 → err.new ≡ err.old }
+    ensures missing { IsMissingOne job first.items second.items → result ≡ 4 }
+    ensures missing_silent { IsMissingOne job first.items second.items → out.new ≡ out.old }
+    ensures missing_told { IsMissingOne job first.items second.items →
+        TellsMissing job first.items second.items (TellsLineTo E.failed E.holds err.old err.new) }
+{
+    match refuse_missing_sets(job, &first, &second) {
+        Ok(()) => run_found(alloc, job, first, second, out, err, mask),
+        Err(stopped) => tell_stopped(stopped, err),
+    }
+}
+
+/// Does a job over the files of its sets, and answers the exit status: 0 where it is done, 1 where two sets are different maps,
+/// 3 where a set is refused, 4 where a device failed, 5 where memory was lacking. `second` is looked at by a comparison alone, and
+/// the mask by the jobs that tell or compare maps: the fields that it leaves out are blank in what these see.
+///
+/// What is asked for goes to `out`, and nothing goes there before the sets are accepted. Why a job isn't done is one line on `err`:
+/// the refusal, and of two sets which one is at fault. A failure of `err` changes nothing.
+pub fn run<R: Read + Drop, W: Write, E: Write>(
+    alloc: Global,
+    job: Job,
+    first: Vec<Opened<R>>,
+    second: Vec<Opened<R>>,
+    out: &mut W,
+    err: &mut E,
+    mask: Mask,
+) -> u8
+    ensures statuses { Contains (0 ∷ 1 ∷ 3 ∷ 4 ∷ 5 ∷ []) result }
+    ensures done { result ≡ 0 → PrintsDone mask job R.remaining first.items second.items (W.contents out.old) (W.contents out.new) }
+    // Only a comparison comes to this.
+    ensures different { result ≡ 1 → PrintsDifferent mask job R.remaining first.items second.items (W.contents out.old) (W.contents out.new) }
+
+    // A set that isn't accepted leaves nothing behind.
+    ensures refused { result ≡ 3 → IsRefusedBy job R.remaining first.items second.items }
+    ensures silent { result ≡ 3 → Keeps (W.contents out.old) (W.contents out.new) }
+    ensures memory { result ≡ 5 → Keeps (W.contents out.old) (W.contents out.new) }
+
+    ensures device { result ≡ 4 → PrintsSome mask job R.remaining first.items second.items (W.contents out.old) (W.contents out.new) }
+    ensures missing { IsMissingOne job first.items second.items → result ≡ 4 }
+    ensures missing_silent { IsMissingOne job first.items second.items → Keeps (W.contents out.old) (W.contents out.new) }
+
+    // What `err` gets is a line that says which fault it was, and of two sets which one is at fault; nothing where the job is done.
+    ensures told { 1 < result → TellsWhy mask job R.remaining first.items second.items (W.contents out.old) (W.contents out.new)
+        (TellsLine (E.contents err.old) (E.contents err.new)) result }
+    ensures missing_told { IsMissingOne job first.items second.items →
+        TellsMissing job first.items second.items (TellsLine (E.contents err.old) (E.contents err.new)) }
+    ensures untold { result ≤ 1 → Keeps (E.contents err.old) (E.contents err.new) }
+{
+    let mut text = LentOut::new(out);
+    let mut lines = LentOut::new(err);
+    let status = run_files(alloc, job, first, second, &mut text, &mut lines, mask);
+    text.give_back();
+    lines.give_back();
+    status
+}

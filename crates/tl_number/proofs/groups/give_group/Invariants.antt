@@ -1,0 +1,11 @@
+use Rattle.std.proofs.Common.{map, take, Ok}
+use Rattle.tl_number.specs.Groups.{group_at}
+use Rattle.tl_number.proofs.groups.give_group.Given as goal
+
+-- the records up to the place were taken
+abbrev pub invariant-loop-place : goal.invariant-loop-place
+invariant-loop-place g l = record {
+  taken : g.T.RecordTaker.Takes (map g.G.Item.Tabled.as_record (take l.place (group_at (g.G.RecordGroups.groups l.groups) l.group)))
+      l.initial.taker l.initial.device (Ok tt) l.taker l.device;
+  ready : g.T.RecordTaker.IsReady l.taker l.device;
+}

@@ -1,0 +1,10 @@
+use Rattle.std.proofs.Common.{◌≡◌, length, take}
+use Rattle.tl_number.specs.Groups.{AreHeads}
+use Rattle.tl_number.proofs.groups.read_heads.Given as goal
+
+-- the heads up to this one were read
+abbrev pub invariant-loop-ahead : goal.invariant-loop-ahead
+invariant-loop-ahead g l = record {
+  room : length l.room ≡ length l.initial.room;
+  heads : AreHeads (g.G.RecordGroups.IsHead l.groups) l.first (take l.ahead l.room);
+}

@@ -1,0 +1,11 @@
+use Rattle.tl_number.proofs.TidyChoices.{numbered_is_choice, choice_number, first_choice}
+use Rattle.tl_number.proofs.laws.choices_are_numbered.Goals as goal
+
+pub returns-clause-told : goal.returns-clause-told
+returns-clause-told c = λ county number is. numbered_is_choice county is number
+
+pub returns-clause-each : goal.returns-clause-each
+returns-clause-each c = λ county steps is. choice_number county is steps
+
+pub returns-clause-first : goal.returns-clause-first
+returns-clause-first c = first_choice

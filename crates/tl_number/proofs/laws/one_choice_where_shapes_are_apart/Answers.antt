@@ -1,0 +1,8 @@
+use Rattle.tl_number.proofs.OneChoice.{one_choice, only_choice}
+use Rattle.tl_number.proofs.laws.one_choice_where_shapes_are_apart.Goals as goal
+
+pub returns-clause-count : goal.returns-clause-count
+returns-clause-count c = one_choice
+
+pub returns-clause-only : goal.returns-clause-only
+returns-clause-only c = λ county steps is apart. only_choice county is apart steps

@@ -1,0 +1,253 @@
+//! The records of a county's chains.
+
+ghost use Rattle.std.specs.Prelude.{◌≡◌, ◌<◌, ◌+◌, length, take, drop};
+ghost use Rattle.tl_county.specs.ChartWords.{chain_at, feats_of, points_of};
+ghost use Rattle.tl_county.specs.Packing.{inner_points};
+
+use crate::groups::RecordGroups;
+use arrayvec::ArrayVec;
+use tl_county::Chart;
+use tl_layout::{BodyI, Point, Rec1, Rec2, Rec4, Rec6, RecI};
+
+/// How many shape points a record of type 2 has room for.
+const POINTS_A_RECORD: usize = 10;
+
+/// How many further names a record of type 4 has room for.
+const NAMES_A_RECORD: usize = 5;
+
+/// The number of a record among those of one type of its chain (RTSQ), which are numbered from 1.
+fn sequence_number(place: usize) -> u16
+    requires { place < 999 }
+    ensures { result ≡ place + 1 }
+{
+    place as u16 + 1
+}
+
+/// How many shape points the chain at a place has between its ends.
+fn shape_point_count<C: Chart>(chart: &C, place: usize) -> usize
+    requires { place < length (C.county chart.now).chains }
+    ensures { result ≡ length (inner_points (points_of (chain_at (C.county chart.now) place))) }
+{
+    chart.point_count_at(place) - 2
+}
+
+/// Shape points of the chain at a place, as many as a record of type 2 has room for, from one of them on.
+fn shape_points_from<C: Chart>(chart: &C, place: usize, first: usize) -> ArrayVec<Point, 10>
+    requires place { place < length (C.county chart.now).chains }
+    requires first { first < length (inner_points (points_of (chain_at (C.county chart.now) place))) }
+    ensures { result.items ≡ take 10 (drop first (inner_points (points_of (chain_at (C.county chart.now) place)))) }
+{
+    let end = shape_point_count(chart, place).min(first + POINTS_A_RECORD);
+    let mut points = ArrayVec::new();
+    for shape_point in first..end {
+        points.push(chart.point_there(place, shape_point + 1));
+    }
+    points
+}
+
+/// Further names of the chain at a place, as many as a record of type 4 has room for, from one of them on.
+fn names_from<C: Chart>(chart: &C, place: usize, first: usize) -> ArrayVec<u32, 5>
+    requires place { place < length (C.county chart.now).chains }
+    requires first { first < length (feats_of (chain_at (C.county chart.now) place)) }
+    ensures { result.items ≡ take 5 (drop first (feats_of (chain_at (C.county chart.now) place))) }
+{
+    let end = chart.feat_count_at(place).min(first + NAMES_A_RECORD);
+    let mut names = ArrayVec::new();
+    for name in first..end {
+        names.push(chart.chain_feat_there(place, name));
+    }
+    names
+}
+
+/// The record of type 1 of each chain.
+#[derive(Drop)]
+pub struct ChainRecords<'a, C: Chart> {
+    pub chart: &'a C,
+}
+
+impl<C: Chart> RecordGroups for ChainRecords<'_, C> {
+    ghost use Rattle.tl_number.specs.CountyGroups.{AreEndsAt, type_1_by_chain};
+
+    type Item = Rec1;
+
+    type Head = (Point, Point);
+
+    ghost groups = { λ g. type_1_by_chain (C.county g.chart.now) };
+
+    ghost IsHead = { λ g. AreEndsAt (C.county g.chart.now) };
+
+    fn count(&self) -> usize {
+        self.chart.chain_count()
+    }
+
+    fn head(&self, group: usize) -> (Point, Point) {
+        let last = self.chart.point_count_at(group) - 1;
+        (
+            self.chart.point_there(group, 0),
+            self.chart.point_there(group, last),
+        )
+    }
+
+    fn count_in(&self, _group: usize, _head: (Point, Point)) -> usize {
+        1
+    }
+
+    fn record(&self, group: usize, head: (Point, Point), _place: usize) -> Rec1 {
+        let (start, end) = head;
+        Rec1::new(
+            self.chart.tlid_there(group),
+            self.chart.chain_body_there(group),
+            start,
+            end,
+        )
+    }
+}
+
+/// The records of type 2 of each chain: its shape points.
+#[derive(Drop)]
+pub struct ShapePointRecords<'a, C: Chart> {
+    pub chart: &'a C,
+}
+
+impl<C: Chart> RecordGroups for ShapePointRecords<'_, C> {
+    ghost use Rattle.tl_number.specs.CountyGroups.{type_2_by_chain};
+    ghost use Rattle.tl_number.specs.Groups.{HasRecords};
+
+    type Item = Rec2;
+
+    type Head = usize;
+
+    ghost groups = { λ g. type_2_by_chain (C.county g.chart.now) };
+
+    ghost IsHead = { λ g. HasRecords (type_2_by_chain (C.county g.chart.now)) };
+
+    fn count(&self) -> usize {
+        self.chart.chain_count()
+    }
+
+    fn head(&self, group: usize) -> usize {
+        shape_point_count(self.chart, group).div_ceil(POINTS_A_RECORD)
+    }
+
+    fn count_in(&self, _group: usize, head: usize) -> usize {
+        head
+    }
+
+    fn record(&self, group: usize, _head: usize, place: usize) -> Rec2 {
+        let points = shape_points_from(self.chart, group, place * POINTS_A_RECORD);
+        Rec2::new(self.chart.tlid_there(group), sequence_number(place), points)
+    }
+}
+
+/// The records of type 4 of each chain: its further names.
+#[derive(Drop)]
+pub struct FurtherNameRecords<'a, C: Chart> {
+    pub chart: &'a C,
+}
+
+impl<C: Chart> RecordGroups for FurtherNameRecords<'_, C> {
+    ghost use Rattle.tl_number.specs.CountyGroups.{type_4_by_chain};
+    ghost use Rattle.tl_number.specs.Groups.{HasRecords};
+
+    type Item = Rec4;
+
+    type Head = usize;
+
+    ghost groups = { λ g. type_4_by_chain (C.county g.chart.now) };
+
+    ghost IsHead = { λ g. HasRecords (type_4_by_chain (C.county g.chart.now)) };
+
+    fn count(&self) -> usize {
+        self.chart.chain_count()
+    }
+
+    fn head(&self, group: usize) -> usize {
+        self.chart.feat_count_at(group).div_ceil(NAMES_A_RECORD)
+    }
+
+    fn count_in(&self, _group: usize, head: usize) -> usize {
+        head
+    }
+
+    fn record(&self, group: usize, _head: usize, place: usize) -> Rec4 {
+        let names = names_from(self.chart, group, place * NAMES_A_RECORD);
+        Rec4::new(self.chart.tlid_there(group), sequence_number(place), names)
+    }
+}
+
+/// The records of type 6 of each chain: its further address ranges.
+#[derive(Drop)]
+pub struct RangeRecords<'a, C: Chart> {
+    pub chart: &'a C,
+}
+
+impl<C: Chart> RecordGroups for RangeRecords<'_, C> {
+    ghost use Rattle.tl_number.specs.CountyGroups.{type_6_by_chain};
+    ghost use Rattle.tl_number.specs.Groups.{HasRecords};
+
+    type Item = Rec6;
+
+    type Head = usize;
+
+    ghost groups = { λ g. type_6_by_chain (C.county g.chart.now) };
+
+    ghost IsHead = { λ g. HasRecords (type_6_by_chain (C.county g.chart.now)) };
+
+    fn count(&self) -> usize {
+        self.chart.chain_count()
+    }
+
+    fn head(&self, group: usize) -> usize {
+        self.chart.range_count_at(group)
+    }
+
+    fn count_in(&self, _group: usize, head: usize) -> usize {
+        head
+    }
+
+    fn record(&self, group: usize, _head: usize, place: usize) -> Rec6 {
+        let ranges = self.chart.range_there(group, place);
+        Rec6::new(self.chart.tlid_there(group), sequence_number(place), ranges)
+    }
+}
+
+/// The record of type I of each chain: its nodes and what stands on its sides.
+#[derive(Drop)]
+pub struct LinkRecords<'a, C: Chart> {
+    pub chart: &'a C,
+}
+
+impl<C: Chart> RecordGroups for LinkRecords<'_, C> {
+    ghost use Rattle.tl_number.specs.CountyGroups.{IsLinkBodyAt, type_i_by_chain};
+
+    type Item = RecI;
+
+    type Head = Option<BodyI>;
+
+    ghost groups = { λ g. type_i_by_chain (C.county g.chart.now) };
+
+    ghost IsHead = { λ g. IsLinkBodyAt (C.county g.chart.now) };
+
+    fn count(&self) -> usize {
+        self.chart.chain_count()
+    }
+
+    fn head(&self, group: usize) -> Option<BodyI> {
+        self.chart.link_body_at(group)
+    }
+
+    fn count_in(&self, _group: usize, _head: Option<BodyI>) -> usize {
+        1
+    }
+
+    fn record(&self, group: usize, head: Option<BodyI>, _place: usize) -> RecI {
+        RecI::new(
+            self.chart.tlid_there(group),
+            head.unwrap(),
+            self.chart.start_node_there(group),
+            self.chart.end_node_there(group),
+            self.chart.left_there(group),
+            self.chart.right_there(group),
+        )
+    }
+}

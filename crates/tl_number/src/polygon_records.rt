@@ -1,0 +1,45 @@
+//! The records of a county's polygons.
+
+use crate::arranged::{Arranged, Standing};
+use crate::groups::RecordGroups;
+use tl_county::{Chart, PolygonKey};
+use tl_layout::{BodyP, RecP};
+
+/// The record of type P of each polygon that has one, by the numbers of the polygons.
+#[derive(Drop)]
+pub struct PolygonRecords<'a, C: Chart, S: Standing> {
+    pub county: &'a Arranged<C, S>,
+}
+
+impl<C: Chart, S: Standing> RecordGroups for PolygonRecords<'_, C, S> {
+    ghost use Rattle.tl_number.specs.Views.{arranged_county};
+    ghost use Rattle.tl_number.specs.CountyGroups.{IsPolygonAt, type_p_by_number};
+
+    type Item = RecP;
+
+    type Head = (PolygonKey, Option<BodyP>);
+
+    ghost groups = { λ g. type_p_by_number (arranged_county g.county.now) };
+
+    ghost IsHead = { λ g. IsPolygonAt (arranged_county g.county.now) };
+
+    fn count(&self) -> usize {
+        self.county.polygon_count()
+    }
+
+    fn head(&self, group: usize) -> (PolygonKey, Option<BodyP>) {
+        self.county.polygon_by_number(group)
+    }
+
+    fn count_in(&self, _group: usize, head: (PolygonKey, Option<BodyP>)) -> usize {
+        match head.1 {
+            Some(_) => 1,
+            None => 0,
+        }
+    }
+
+    fn record(&self, _group: usize, head: (PolygonKey, Option<BodyP>), _place: usize) -> RecP {
+        let (key, body) = head;
+        RecP::new(key.0, key.1, body.unwrap())
+    }
+}

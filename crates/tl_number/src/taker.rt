@@ -1,0 +1,35 @@
+//! Who takes the records of a county, one after the other.
+
+ghost use Rattle.std.specs.Prelude.{◌∷◌, ◌++◌, [], List, Ok, Err, Result, OnOk};
+ghost use Rattle.tl_layout.specs.declared.record_type.Record.{Record};
+
+use tl_layout::Tabled;
+
+/// Takes records one after the other, with the help of a device that is lent to it.
+pub trait RecordTaker<D> {
+    /// How it can fail.
+    type Fault;
+
+    /// It can take one more record.
+    ghost IsReady: { Self → D → Type 0 };
+
+    /// It took these records from one state to the other; or it failed with some of them, and takes none after them.
+    ghost Takes: { List Record → Self → D → Result (Unit {0}) Self.Fault → Self → D → Type 0 };
+
+    /// Takes one more record.
+    fn take<L: Tabled>(&mut self, found: L, device: &mut D) -> Result<(), Self::Fault>
+        requires { IsReady self.old device.old }
+        ensures takes { Takes (L.as_record found ∷ []) self.old device.old result self.new device.new }
+        ensures ready { OnOk result (IsReady self.new device.new) };
+
+    /// To take no records changes nothing.
+    ghost none: { (t : Self) (d : D) → Takes [] t d (Ok tt) t d };
+
+    /// Records that are taken after others are taken with them.
+    ghost then: { (xs ys : List Record) (a b c : Self) (d e f : D) (result : Result (Unit {0}) Self.Fault) →
+        Takes xs a d (Ok tt) b e → Takes ys b e result c f → Takes (xs ++ ys) a d result c f };
+
+    /// After a failure no further record matters.
+    ghost stops: { (xs ys : List Record) (a b : Self) (d e : D) (fault : Self.Fault) →
+        Takes xs a d (Err fault) b e → Takes (xs ++ ys) a d (Err fault) b e };
+}

@@ -1,0 +1,61 @@
+-- Same counties leave equally many choices, and the shapes of a county in order tell how many.
+use Rattle.std.proofs.Common.{◌≡◌, ℕ, List, map, Bool, true, false, refl, sym, ap, ◌∙◌, subst, IsPermutation}
+use Rattle.std.proofs.lemmas.List.Sorted.{IsPermutation-sym}
+use Rattle.tl_layout.specs.Coordinates.{Coordinates}
+use Rattle.tl_shape.specs.Chain.{Chain}
+use Rattle.tl_shape.specs.Turned.{turned_if}
+use Rattle.tl_shape.specs.PointOrder.{points_cmp}
+use Rattle.tl_county.specs.County.{County}
+use Rattle.tl_county.specs.Renumbering.{Renumbering, Carries, AreSame, carried_chain, turns}
+use Rattle.tl_county.proofs.ByKey.KeyOrders.{points_keys}
+use Rattle.tl_county.proofs.Lists.Elements.{map-map, map_agree_everywhere}
+use Rattle.tl_county.proofs.Lists.Reordered.{SameElements, from_permutation, same-map}
+use Rattle.tl_profile.specs.Choices.{choices, is_either_way, running, shapes}
+use Rattle.tl_profile.specs.Shapes.{ShapeKey, least_points}
+use Rattle.tl_profile.specs.ShapeOrder.{IsShapeOrder, key_of_walk, least_walks, points_along}
+use Rattle.tl_profile.specs.declared.chain_walk.ChainWalk.{ChainWalk}
+use Rattle.tl_profile.proofs.Factorials.{running_is, running-same}
+use Rattle.tl_profile.proofs.KeysInOrder.{keys_of_walks}
+use Rattle.tl_profile.proofs.ShapePoints.{least_reverse}
+
+-- the choices by the shapes alone
+pub choices_of_shapes : (county : County) → running points_cmp is_either_way (shapes county) ≡ choices county
+choices_of_shapes county = running_is points_keys is_either_way (shapes county)
+
+shape_carried : (r : Renumbering) (entry : ℕ × Chain) → least_points (carried_chain r entry).1.points ≡ least_points entry.1.points
+shape_carried r entry = go (turns r entry.0)
+  where
+    go : (b : Bool) → least_points (turned_if b entry.1).points ≡ least_points entry.1.points
+    go true = least_reverse entry.1.points
+    go false = refl
+
+shapes_carried : (r : Renumbering) (a b : County) → Carries r a b → SameElements (shapes a) (shapes b)
+shapes_carried r a b k =
+    let shape : ℕ × Chain → List Coordinates = λ entry. least_points entry.1.points in
+    subst (λ ks. SameElements ks (shapes b))
+    (map-map shape (carried_chain r) a.chains ∙ map_agree_everywhere (λ entry. shape (carried_chain r entry)) shape (shape_carried r) a.chains)
+    (same-map shape (map (carried_chain r) a.chains) b.chains (from_permutation (map (carried_chain r) a.chains) b.chains k.chains))
+
+pub same_choices : (a b : County) → AreSame a b → choices a ≡ choices b
+same_choices a b s =
+    sym (choices_of_shapes a)
+    ∙ running-same points_keys is_either_way (shapes a) (shapes b) (shapes_carried s.by a b s.carries)
+    ∙ choices_of_shapes b
+
+-- the points along the walks, in whatever order these stand, are the shapes
+shapes_of_walks : (county : County) (walks : List ChainWalk) → IsPermutation (least_walks county) walks
+    → SameElements (map (points_along county) walks) (shapes county)
+shapes_of_walks county walks p =
+    let along : SameElements (map (points_along county) walks) (map (points_along county) (least_walks county)) =
+    same-map (points_along county) walks (least_walks county)
+    (from_permutation walks (least_walks county) (IsPermutation-sym (least_walks county) walks p)) in
+    subst (SameElements (map (points_along county) walks))
+    (sym (map-map (λ (k : ShapeKey). k.0) (key_of_walk county) (least_walks county))
+    ∙ ap (map (λ (k : ShapeKey). k.0)) (keys_of_walks county)
+    ∙ map-map (λ (k : ShapeKey). k.0) (λ entry. (least_points entry.1.points, entry.0)) county.chains) along
+
+pub choices_told : (county : County) (walks : List ChainWalk) → IsShapeOrder county walks
+    → running points_cmp is_either_way (map (points_along county) walks) ≡ choices county
+choices_told county walks order =
+    running-same points_keys is_either_way (map (points_along county) walks) (shapes county) (shapes_of_walks county walks order.all)
+    ∙ choices_of_shapes county

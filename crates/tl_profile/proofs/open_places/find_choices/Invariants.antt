@@ -1,0 +1,21 @@
+-- The shapes that are left, and those behind them, which are counted.
+use Rattle.std.proofs.Common.{◌≡◌, ◌≤◌, ◌++◌, List, length, map}
+use Rattle.tl_shape.specs.PointOrder.{points_cmp}
+use Rattle.tl_profile.specs.Choices.{is_either_way, most_choices}
+use Rattle.tl_profile.specs.PlacedShapes.{whole_shape}
+use Rattle.tl_profile.specs.declared.shapes.PlacedShape.{PlacedShape}
+use Rattle.tl_profile.proofs.CountedChoices.{IsCounted}
+use Rattle.tl_profile.proofs.open_places.find_choices.Given as goal
+
+abbrev pub invariant-loop-shape : goal.invariant-loop-shape
+invariant-loop-shape g l = record {
+  done : List PlacedShape;
+  cut : l.shapes ≡ l.rest ++ done;
+  counted :
+      IsCounted points_cmp is_either_way (length l.rest) (map (whole_shape (g.C.Chart.county l.chart)) done) l.found.count l.found.alike
+      l.found.places.items;
+  few : l.found.count ≤ most_choices;
+}
+
+abbrev pub decreases-loop-shape : goal.decreases-loop-shape
+decreases-loop-shape g l = length l.rest

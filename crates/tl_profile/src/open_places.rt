@@ -1,0 +1,164 @@
+//! Places in the order of shapes at which more than one chain, or more than one direction, can stand, and how many choices they leave.
+//!
+//! Chains of one shape are neighbours in that order. So one pass from the last shape to the first, which compares each with the next
+//! one, knows how many of the same are still to come.
+
+ghost use Rattle.std.specs.Prelude.{◌≡◌, ◌<◌, ◌≤◌, ◌+◌, ◌*◌, ◌^◌, [], ◌∷◌, ◌++◌, cond, length, map, min, reverse, suc, IfOk, OnOk};
+ghost use Rattle.std.specs.List.{AllByRecursion};
+ghost use Rattle.tl_shape.specs.PointOrder.{points_cmp};
+ghost use Rattle.tl_county.specs.Orders.{IsInOrder};
+ghost use Rattle.tl_profile.specs.Choices.{alike_first, choices, counted_choices, is_either_way, is_first, is_settled, most_choices, open_places, place_of, ways_at};
+ghost use Rattle.tl_profile.specs.PlacedShapes.{HasHead, placed_walk, whole_shape};
+ghost use Rattle.tl_profile.specs.ShapeOrder.{IsShapeOrder};
+
+use crate::shapes::{PlacedShape, compare_shapes};
+use std::alloc::{AllocError, Global};
+use tl_county::Chart;
+
+/// The most choices that are tried.
+const MOST_CHOICES: u64 = 5040;
+
+/// A place in the order of shapes that is open: several chains have the shape that stands there, or it is the same from both ends.
+#[derive(Clone, Copy, Debug, PartialEq, Eq)]
+pub struct OpenPlace {
+    /// Place in the order of shapes, from 0.
+    pub place: u32,
+    /// How many chains from this place on have the shape that stands there, the one at the place counted.
+    pub alike: u32,
+    /// Whether the shape is the same from both ends, so that each of these chains can stand in either direction.
+    pub either_way: bool,
+}
+
+impl OpenPlace {
+    /// In how many directions a chain can stand at the place.
+    pub fn ways(&self) -> u64
+        ensures { result ≡ ways_at self.now }
+    {
+        if self.either_way { 2 } else { 1 }
+    }
+
+    /// Whether there is no choice at the place.
+    fn is_settled(&self) -> bool
+        ensures { result ≡ is_settled self.now }
+    {
+        self.alike == 1 && !self.either_way
+    }
+}
+
+/// The choices that shapes in order leave open, from some place on.
+#[derive(Drop)]
+pub(crate) struct OpenChoices {
+    /// The open places, the last of them first.
+    pub(crate) places: Vec<OpenPlace>,
+    /// How many choices they leave.
+    pub(crate) count: u64,
+    /// How many of the shapes are the same as the first of them, that one counted.
+    alike: u32,
+}
+
+impl OpenChoices {
+    /// Those of no shapes.
+    fn none(alloc: Global) -> OpenChoices
+        ensures places { result.places.items ≡ [] }
+        ensures count { result.count ≡ 1 }
+        ensures alike { result.alike ≡ 0 }
+    {
+        OpenChoices {
+            places: Vec::new(alloc),
+            count: 1,
+            alike: 0,
+        }
+    }
+
+    /// Puts a place in front.
+    fn put_in_front(&mut self, at: OpenPlace) -> Result<(), AllocError>
+        requires { self.old.count ≤ most_choices }
+        ensures places { OnOk result (self.new.places.items ≡ cond (is_settled at) self.old.places.items (self.old.places.items ++ (at ∷ []))) }
+        ensures count { OnOk result (self.new.count ≡ at.alike * (ways_at at * self.old.count)) }
+        ensures alike { OnOk result (self.new.alike ≡ at.alike) }
+    {
+        if !at.is_settled() {
+            self.places.push(at)?;
+        }
+        self.count = u64::from(at.alike) * (at.ways() * self.count);
+        self.alike = at.alike;
+        Ok(())
+    }
+
+    /// The places in order, and no more than one choice above the most.
+    fn in_order(self) -> OpenChoices
+        ensures places { result.places.items ≡ reverse self.places.items }
+        ensures count { result.count ≡ min self.count (suc most_choices) }
+    {
+        let mut places = self.places;
+        places.reverse();
+        OpenChoices {
+            places,
+            count: self.count.min(MOST_CHOICES + 1),
+            alike: self.alike,
+        }
+    }
+}
+
+/// Whether a shape is the same as the first of those behind it.
+fn is_twin<C: Chart>(chart: &C, shape: &PlacedShape, later: &[PlacedShape]) -> bool
+    requires shape { HasHead (C.county chart.now) shape.now }
+    requires later { AllByRecursion (HasHead (C.county chart.now)) later.now }
+    ensures { result ≡ is_first points_cmp (whole_shape (C.county chart.now) shape.now) (map (whole_shape (C.county chart.now)) later.now) }
+{
+    match later.split_first() {
+        Some((next, _)) => compare_shapes(chart, shape, next).is_eq(),
+        None => false,
+    }
+}
+
+/// What there is at the place of a shape. Told are the shapes behind it, and how many of them are the same as the first of these.
+fn place_in_order<C: Chart>(
+    chart: &C,
+    shape: &PlacedShape,
+    later: &[PlacedShape],
+    place: u32,
+    alike: u32,
+) -> OpenPlace
+    requires shape { HasHead (C.county chart.now) shape.now }
+    requires later { AllByRecursion (HasHead (C.county chart.now)) later.now }
+    requires in_order { IsInOrder points_cmp (whole_shape (C.county chart.now) shape.now ∷ map (whole_shape (C.county chart.now)) later.now) }
+    requires alike { alike ≡ alike_first points_cmp (map (whole_shape (C.county chart.now)) later.now) }
+    requires few { length later.now + 1 < 2 ^ 32 }
+    ensures { result ≡ place_of points_cmp is_either_way place (whole_shape (C.county chart.now) shape.now)
+        (map (whole_shape (C.county chart.now)) later.now) }
+{
+    let is_twin = is_twin(chart, shape, later);
+    OpenPlace {
+        place,
+        alike: if is_twin { alike + 1 } else { 1 },
+        either_way: shape.either_way,
+    }
+}
+
+/// The choices that the shapes of a county's chains leave open, these being in order. It stops where there are more than are tried.
+pub(crate) fn find_choices<C: Chart>(
+    alloc: Global,
+    chart: &C,
+    shapes: &[PlacedShape],
+) -> Result<OpenChoices, AllocError>
+    requires heads { AllByRecursion (HasHead (C.county chart.now)) shapes.now }
+    requires order { IsShapeOrder (C.county chart.now) (map placed_walk shapes.now) }
+    ensures count { IfOk result (λ found. found.count ≡ counted_choices (C.county chart.now)) }
+    ensures places { choices (C.county chart.now) ≤ most_choices → IfOk result (λ found.
+        found.places.items ≡ open_places points_cmp is_either_way 0 (map (whole_shape (C.county chart.now)) shapes.now)) }
+{
+    let mut found = OpenChoices::none(alloc);
+    let mut rest = shapes;
+    while let Some((shape, before)) = rest.split_last() {
+        let later = &shapes[rest.len()..];
+        let place = before.len() as u32;
+        let alike = found.alike;
+        found.put_in_front(place_in_order(chart, shape, later, place, alike))?;
+        if found.count > MOST_CHOICES {
+            break;
+        }
+        rest = before;
+    }
+    Ok(found.in_order())
+}
