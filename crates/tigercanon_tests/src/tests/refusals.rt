@@ -129,15 +129,6 @@ impl SetLines {
     }
 }
 
-/// The set with another canonical text.
-pub(super) fn with_text<'a>(set: &Set<'a>, text: &'a [u8]) -> Set<'a> {
-    Set {
-        row: set.row,
-        bytes: set.bytes,
-        text,
-    }
-}
-
 // The runs of the calls. What a call takes is made before growths are refused, and what it answers is told when none is any more.
 
 fn respelt(rt: &impl Abort, alloc: Global, set: &Set<'_>, asked: usize) -> Run {
