@@ -585,8 +585,6 @@ pub(super) enum Call {
     NewShape,
     TablesOf,
     OrderByShape,
-    AdmitLinked,
-    Arrange,
     WriteInOrder,
 }
 
@@ -630,8 +628,6 @@ const OF_LAYERS: &[Call] = &[
     Call::NewShape,
     Call::TablesOf,
     Call::OrderByShape,
-    Call::AdmitLinked,
-    Call::Arrange,
     Call::WriteInOrder,
 ];
 
@@ -681,8 +677,6 @@ fn run_of(rt: &impl Abort, alloc: Global, call: Call, set: &Set<'_>, asked: usiz
         Call::NewShape => shaped(rt, alloc, asked),
         Call::TablesOf => tabled(rt, alloc, set, asked),
         Call::OrderByShape => ordered(rt, alloc, set, asked),
-        Call::AdmitLinked => pieces::admitted_linked(rt, alloc, set, asked),
-        Call::Arrange => pieces::arranged(rt, alloc, set, asked),
         Call::WriteInOrder => pieces::written_in_order(rt, alloc, set, asked),
     }
 }
