@@ -59,5 +59,5 @@ pub mod EachTidy
 pub mod TidyChoices
 pub mod TidyLists
 pub mod OneChoice
-pub mod LeastCounties
+pub mod CanonLists
 pub mod MovedChoice
