@@ -25,9 +25,9 @@ use Rattle.tl_county.specs.LinkRules.{IsLinked, IsFirstBrokenRule}
 use Rattle.tl_county.proofs.Rules.LinkFaults.{linked_has_none, one_first_rule}
 use Rattle.tl_profile.specs.Profile.{IsFirstBrokenClause}
 use Rattle.tl_profile.proofs.ProfileFaults.{profile_has_none, one_first_clause}
-use Rattle.tl_number.proofs.Accepted.{accepted_or_refused, same_one_canonical, one_canonical_same}
+use Rattle.tl_number.proofs.Accepted.{accepted_or_refused, one_canonical_same, same_canonical_text}
 use Rattle.tl_number.proofs.Accepted.{canonical_accepted, canonical_as_it_is, canonical_of_itself}
-use Rattle.tl_number.proofs.Ascending.{canonical_list, canonical_exists}
+use Rattle.tl_number.proofs.Ascending.{canonical_exists}
 use Rattle.tl_number.proofs.ArrangedNumbers.{canonical_within}
 use Rattle.tl_county.proofs.Sameness.Equivalence.{same-reflexive}
 
@@ -121,30 +121,29 @@ module _ (seen : County → County) (sight : IsSight seen) where
   module _ (p q : List (List ℕ)) (t u : List ℕ) (h : IsCanonicalTextThrough seen p t) (k : IsCanonicalTextThrough seen q u) where
     pub same_one_text : AreSame (seen (county_of h.records)) (seen (county_of k.records)) → t ≡ u
     same_one_text s = sym h.text_is
-        ∙ ap text_of (same_one_canonical seen sight h.records k.records h.canonical k.canonical h.canonical_of k.canonical_of s)
+        ∙ same_canonical_text seen sight h.records k.records h.canonical k.canonical h.canonical_of k.canonical_of s
         ∙ k.text_is
 
-    pub one_text_same : t ≡ u → AreSame (seen (county_of h.records)) (seen (county_of k.records))
-    one_text_same e =
+    -- lists that fit are one list if their texts are
+    pub one_text_one_list : t ≡ u → h.canonical ≡ k.canonical
+    one_text_one_list e =
         let texts : text_of k.canonical ≡ text_of h.canonical = k.text_is ∙ sym e ∙ sym h.text_is in
         let spelled : Spells tiger (text_of h.canonical ∷ []) k.canonical =
         subst (λ bytes. Spells tiger (bytes ∷ []) k.canonical) texts (text_spells k.canonical (fitting q u k).0) in
-        let lists : k.canonical ≡ h.canonical = text_spells_only h.canonical k.canonical (fitting p t h).0 spelled in
-        one_canonical_same seen sight h.records k.records h.canonical k.canonical h.canonical_of k.canonical_of (sym lists)
+        sym (text_spells_only h.canonical k.canonical (fitting p t h).0 spelled)
+
+    pub one_text_same : t ≡ u → AreSame (seen (county_of h.records)) (seen (county_of k.records))
+    one_text_same e =
+        one_canonical_same seen sight h.records k.records h.canonical k.canonical h.canonical_of k.canonical_of (one_text_one_list e)
 
   -- an accepted set has one canonical text
   pub canonical_text : (parts : List (List ℕ)) (records : List Record) → IsAcceptedSet parts records
       → (text : List ℕ) × IsCanonicalTextThrough seen parts text
-  canonical_text parts records a = (
-    text_of (canonical_list (seen (county_of records))),
-    record {
-      records = records;
-      canonical = canonical_list (seen (county_of records));
-      spelled = a.spelled;
-      canonical_of = canonical_exists seen sight records a.accepted;
-      text_is = refl;
-    },
-  )
+  canonical_text parts records a =
+      let found = canonical_exists seen sight records a.accepted in (
+        text_of found.0,
+        record { records = records; canonical = found.0; spelled = a.spelled; canonical_of = found.1; text_is = refl },
+      )
 
   pub one_text : (parts : List (List ℕ)) (t u : List ℕ) → IsCanonicalTextThrough seen parts t → IsCanonicalTextThrough seen parts u
       → t ≡ u

@@ -1,17 +1,19 @@
 -- Two sets that were put into canonical form.
-use Rattle.std.proofs.Common.{◌≡◌, ◌≢◌, ◌∙◌, ℕ, List, sym, ap, subst}
+use Rattle.std.proofs.Common.{◌≡◌, ◌≢◌, ◌∙◌, ℕ, List, refl, sym, ap, subst}
+use Rattle.tl_layout.specs.RecordText.{text_of}
 use Rattle.tl_county.specs.County.{County, county_of}
 use Rattle.tl_county.specs.CountyRules.{IsCounty}
 use Rattle.tl_county.specs.Packing.{packed}
-use Rattle.tl_county.specs.Renumbering.{Carries, Renumbering}
+use Rattle.tl_county.specs.Renumbering.{AreSame, Carries, Renumbering}
 use Rattle.tl_county.proofs.Packing.PackedCounty.{packed_county}
 use Rattle.tl_number.specs.Sights.{IsSight, plain}
-use Rattle.tl_number.proofs.Accepted.{one_canonical_same, plain_sight, same_one_canonical}
+use Rattle.tl_number.proofs.Accepted.{one_canonical_same, plain_sight}
 use Rattle.tigercanon.specs.Comparing.{AreDifferent, AreDifferentThrough, AreOneMap, AreOneMapThrough, IsAcceptable}
-use Rattle.tigercanon.specs.Sets.{CarriesSetThrough, IsCanonSet, IsCanonSetThrough}
+use Rattle.tigercanon.specs.Sets.{CarriesSetThrough, IsCanonSet, IsCanonSetThrough, IsCanonicalTextThrough}
 use Rattle.tigercanon.specs.TwoSets.{where_ended}
 use Rattle.tigercanon.specs.declared.program.ending.Ending.{Ending}
 use Rattle.tigercanon.specs.declared.program.ending.Ending.TheVariants.{Done, Different}
+use Rattle.tigercanon.proofs.Sets.{one_text_one_list, same_one_text}
 
 -- counties with one packing are one county
 pub one_county : (a b : County) → IsCounty a → IsCounty b → packed a ≡ packed b → a ≡ b
@@ -29,14 +31,37 @@ module _ (seen : County → County) (sight : IsSight seen) (parts others : List 
     carries = subst (λ c. Carries r c (seen (county_of second.records))) first.county_is (subst (Carries r a) second.county_is carries);
   }
 
+  abbrev first_text : IsCanonicalTextThrough seen parts (text_of (packed a'))
+  first_text = record {
+    records = first.records;
+    canonical = packed a';
+    spelled = first.accepted.spelled;
+    canonical_of = first.canonical;
+    text_is = refl;
+  }
+
+  abbrev second_text : IsCanonicalTextThrough seen others (text_of (packed b'))
+  second_text = record {
+    records = second.records;
+    canonical = packed b';
+    spelled = second.accepted.spelled;
+    canonical_of = second.canonical;
+    text_is = refl;
+  }
+
+  -- the canonical lists have one text, and so are one list, where the counties are the same
+  one_packing : AreSame (seen (county_of first.records)) (seen (county_of second.records)) → packed a' ≡ packed b'
+  one_packing same =
+      one_text_one_list seen sight parts others (text_of (packed a')) (text_of (packed b')) first_text second_text
+      (same_one_text seen sight parts others (text_of (packed a')) (text_of (packed b')) first_text second_text same)
+
   pub sets_different : packed a' ≢ packed b' → AreDifferentThrough seen parts others
   sets_different other = record {
     records = first.records;
     others = second.records;
     first = first.accepted;
     second = second.accepted;
-    not_same = λ same. other
-        (same_one_canonical seen sight first.records second.records (packed a') (packed b') first.canonical second.canonical same);
+    not_same = λ same. other (one_packing same);
   }
 
   pub sets_one_map : packed a' ≡ packed b' → AreOneMapThrough seen parts others

@@ -1,6 +1,7 @@
--- Each list of records is accepted or has one refusal; through each sight two accepted lists have one canonical list exactly if
--- what is seen of their counties is the same.
+-- Each list of records is accepted or has one refusal; through each sight the canonical lists of two accepted lists have one text if
+-- what is seen of their counties is the same, and are equal only then.
 use Rattle.std.proofs.Common.{◌≡◌, ◌⊎◌, List, refl, sym, ap, subst, inl, inr}
+use Rattle.tl_layout.specs.RecordText.{text_of}
 use Rattle.tl_layout.specs.declared.record_type.Record.{Record}
 use Rattle.tl_county.specs.County.{County, county_of}
 use Rattle.tl_county.specs.CountyRules.{IsCounty}
@@ -16,7 +17,7 @@ use Rattle.tl_profile.proofs.ProfileFaults.{profile_or_first, profile_has_none, 
 use Rattle.tl_profile.proofs.SameProfile.{same_in_profile}
 use Rattle.tl_number.specs.Accepted.{IsAccepted, RecordsRefusal, Unlinked, OutOfProfile, IsRefusal, IsCanonicalOf, IsCanonicalThrough}
 use Rattle.tl_number.specs.Sights.{IsSight, plain}
-use Rattle.tl_number.proofs.Uniqueness.{unique}
+use Rattle.tl_number.proofs.TidyLists.{canonical_texts_equal}
 
 pub accepted_or_refused : (records : List Record) → IsAccepted records ⊎ ((refusal : RecordsRefusal) × IsRefusal records refusal)
 accepted_or_refused records = go (linked_or_first records)
@@ -57,15 +58,15 @@ module _ (seen : County → County) (sight : IsSight seen) where
   seen_county records accepted = sight.is_county (county_of records) (county-is_county records accepted.linked)
 
   module _ (xs ys c d : List Record) (h : IsCanonicalThrough seen xs c) (k : IsCanonicalThrough seen ys d) where
-    pub same_one_canonical : AreSame (seen (county_of xs)) (seen (county_of ys)) → c ≡ d
-    same_one_canonical s =
+    pub same_canonical_text : AreSame (seen (county_of xs)) (seen (county_of ys)) → text_of c ≡ text_of d
+    same_canonical_text s =
         let old : County = seen (county_of xs) in
         let other : County = seen (county_of ys) in
         let back : AreSame (county_of c) old =
         same-symmetric old (county_of c) (seen_county xs h.accepted) (county-is_county c h.canonical.in_form.linked) h.same in
         let there : AreSame (county_of c) other =
         same-transitive (county_of c) old other (county-is_county c h.canonical.in_form.linked) (seen_county xs h.accepted) back s in
-        unique c d h.canonical k.canonical (same-transitive (county_of c) other (county_of d)
+        canonical_texts_equal c d h.canonical k.canonical (same-transitive (county_of c) other (county_of d)
         (county-is_county c h.canonical.in_form.linked) (seen_county ys k.accepted) there k.same)
 
     pub one_canonical_same : c ≡ d → AreSame (seen (county_of xs)) (seen (county_of ys))

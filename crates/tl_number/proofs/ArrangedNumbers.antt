@@ -28,21 +28,21 @@ use Rattle.tl_county.proofs.ByKey.Keys.{nat_keys, known_all, all_known}
 use Rattle.tl_county.proofs.Rules.LinkedCounty.{county-is_county}
 use Rattle.tl_county.proofs.Lists.Elements.{all_weaker, all_both, all_unmap, all_pieces}
 use Rattle.tl_county.proofs.Packing.PackedTypes.{by_type_of}
-use Rattle.tl_county.proofs.Sameness.Equivalence.{same-reflexive}
 use Rattle.tl_county.proofs.Packing.TypeCounts.{HasAtMost, HasWithin, KeepsLimits, by_type_keeps, by_type_within, packed_keeps}
 use Rattle.tl_county.proofs.Packing.TypeCounts.{packed_within}
 use Rattle.tl_number.specs.Accepted.{IsAccepted, IsCanonicalOf, IsCanonicalThrough}
-use Rattle.tl_number.specs.Arrangement.{Arrangement, Arranges, ascending, renaming_of, arranged}
+use Rattle.tl_number.specs.Arrangement.{Arrangement, Arranges, renaming_of, arranged}
 use Rattle.tl_number.specs.Growth.{GrowsFrom, up_to}
 use Rattle.tl_number.specs.ArrangedCounty.{IsArranged}
 use Rattle.tl_number.specs.Sights.{IsSight, plain}
-use Rattle.tl_profile.specs.Profile.{IsInProfile}
-use Rattle.tl_number.proofs.Accepted.{plain_sight, same_one_canonical}
-use Rattle.tl_number.proofs.Ascending.{ascending_arranges, sides_in_profile, canonical_list, canonical_exists}
+use Rattle.tl_number.specs.Tidy.{IsLeastChoice, arranged_list}
+use Rattle.tl_number.proofs.Accepted.{plain_sight}
+use Rattle.tl_number.proofs.Ascending.{sides_in_profile}
 use Rattle.tl_number.proofs.Carrying.{arrangement_carries}
 use Rattle.tl_number.specs.RecordNumbers.{numbers_of, greatest_number}
 use Rattle.tl_number.proofs.SmallNumbers.{IsSmall, IsSmallKey, NamesSmall, NumbersSmall, small_numbers_fit, packed_low}
 use Rattle.tl_number.proofs.ArrangedCounties.{is_arranged, arranged_county}
+use Rattle.tl_number.proofs.TidyLists.{canonical_is_choice}
 
 -- numbers that count up are within their bounds
 counted_bounds : (i n : ℕ) → AllByRecursion (λ k. (i ≤ k) × (k < i + n)) (range_with_len i n)
@@ -211,38 +211,37 @@ module _ (limit : ℕ) (low : limit ≤ most_records) (county : County) (is : Is
     counts = packed_within limit (arranged county steps) counts;
   }
 
--- the canonical list of what is seen of an accepted list
+-- a canonical list of what is seen of an accepted list
 module _ (seen : County → County) (sight : IsSight seen) (records : List Record) (accepted : IsAccepted records) where
   abbrev old : County
   old = seen (county_of records)
 
-  abbrev new : County
-  new = arranged old (ascending old)
-
   old_is_county : IsCounty old
   old_is_county = sight.is_county (county_of records) (county-is_county records accepted.linked)
 
-  old_in_profile : IsInProfile old
-  old_in_profile = sight.profile (county_of records) accepted.profile
-
-  old_arranges : Arranges (ascending old) old
-  old_arranges = ascending_arranges old old_is_county old_in_profile
-
   old_sides : AllKeysStandIn (polygons_along old.chains) (polygon_keys old)
-  old_sides = sides_in_profile old old_is_county old_in_profile
+  old_sides = sides_in_profile old old_is_county (sight.profile (county_of records) accepted.profile)
 
   module _ (canonical : List Record) (h : IsCanonicalThrough seen records canonical) where
-    is_the_list : packed new ≡ canonical
-    is_the_list = same_one_canonical seen sight records records (canonical_list old) canonical
-        (canonical_exists seen sight records accepted) h (same-reflexive old)
+    -- it is that of a choice
+    made : (steps : Arrangement) × IsLeastChoice old steps × (canonical ≡ arranged_list old steps)
+    made = canonical_is_choice old old_is_county old_sides canonical h.canonical h.same
+
+    abbrev steps : Arrangement
+    steps = made.0
+
+    abbrev new : County
+    new = arranged old steps
+
+    arranges : Arranges steps old
+    arranges = made.1.choice.arranges
 
     -- it has no more records of any type than the packing of what is seen
     counts_kept : (limits : ℕ → ℕ) → HasWithin limits (packed_by_type old) → KeepsLimits limits canonical
     counts_kept limits few =
-        subst (KeepsLimits limits) is_the_list
+        subst (KeepsLimits limits) (sym made.2)
         (packed_keeps limits new
-        (carried_counts (renaming_of old (ascending old)) old new
-        (arrangement_carries old (ascending old) old_is_county old_arranges old_sides) limits few))
+        (carried_counts (renaming_of old steps) old new (arrangement_carries old steps old_is_county arranges old_sides) limits few))
 
     module _ (fits : AllByRecursion FitsRecord records) (limit : ℕ) (low : limit ≤ most_records) (few : IsWithinLimit limit records) where
       within_limits : IsWithinLimits limit old
@@ -250,13 +249,13 @@ module _ (seen : County → County) (sight : IsSight seen) (records : List Recor
 
       -- the arranged county is within the limits of the records that it comes of
       arranged_within : IsWithinLimits limit new
-      arranged_within = arrangement_within limit low old old_is_county (ascending old) old_arranges old_sides within_limits
+      arranged_within = arrangement_within limit low old old_is_county steps arranges old_sides within_limits
 
       -- the canonical list keeps the limits
       pub canonical_within : AllByRecursion FitsRecord canonical × IsWithinLimit limit canonical
       canonical_within =
-          let whole : IsCounty new = arranged_county old (ascending old) old_is_county old_arranges old_sides in
-          subst (λ (l : List Record). AllByRecursion FitsRecord l × IsWithinLimit limit l) is_the_list (
+          let whole : IsCounty new = arranged_county old steps old_is_county arranges old_sides in
+          subst (λ (l : List Record). AllByRecursion FitsRecord l × IsWithinLimit limit l) (sym made.2) (
             packed-fits new whole.whole arranged_within.contents arranged_within.numbers arranged_within.room,
             arranged_within.counts,
           )
@@ -264,10 +263,10 @@ module _ (seen : County → County) (sight : IsSight seen) (records : List Recor
       -- its numbers are no greater than need be
       pub canonical_low : AllByRecursion (λ r. AllByRecursion (λ n. n ≤ greatest_number) (numbers_of r)) canonical
       canonical_low =
-          subst (λ (l : List Record). AllByRecursion (λ r. AllByRecursion (λ n. n ≤ greatest_number) (numbers_of r)) l) is_the_list
-          (packed_low new (arrangement_small limit low old old_is_county (ascending old) old_arranges old_sides within_limits))
+          subst (λ (l : List Record). AllByRecursion (λ r. AllByRecursion (λ n. n ≤ greatest_number) (numbers_of r)) l) (sym made.2)
+          (packed_low new (arrangement_small limit low old old_is_county steps arranges old_sides within_limits))
 
--- the canonical list of an accepted one has no more records of any type
+-- a canonical list of an accepted one has no more records of any type
 pub canonical_counts : (records : List Record) → IsAccepted records → AllByRecursion FitsRecord records
     → (canonical : List Record) → IsCanonicalOf records canonical → (rtype : ℕ)
     → count_of_type rtype canonical ≤ count_of_type rtype records

@@ -59,7 +59,7 @@ pub mod EachTidy
 pub mod TidyChoices
 pub mod TidyLists
 pub mod OneChoice
-pub mod LeastCounties
+pub mod CanonLists
 pub mod MovedChoice
 pub mod MovedSteps
 pub mod RecordTexts

@@ -13,6 +13,7 @@ use Rattle.tl_county.proofs.Samples.Counties.{canonical_schools, canonical_meeti
 use Rattle.tl_number.specs.Canonical.{IsCanonical, AreFull}
 use Rattle.tl_county.specs.Packing.{packed}
 use Rattle.tl_number.specs.ArrangedCounty.{IsArranged}
+use Rattle.tl_number.proofs.OneChoice.{strict_is_canonical}
 
 -- the packing of these counties
 pub packed_there : packed (county_of canonical_there) ≡ canonical_there
@@ -33,38 +34,36 @@ packed_meeting = refl
 -- one chain
 pub there_is_canonical : IsCanonical canonical_there
 unfolding IsStrictlySortedBy
-there_is_canonical = record {
-  in_form = record {
-    linked = linked_computed canonical_there refl;
-    order = record {
-      types = refl;
-      of_type_1 = (tt, tt);
-      of_type_2 = tt;
-      of_type_4 = tt;
-      of_type_5 = tt;
-      of_type_6 = tt;
-      of_type_7 =
-          tt;
-      of_type_8 = tt;
-      of_type_i = (tt, tt);
-      of_type_p = tt;
-    };
-    packed = record { points = λ n. tt; feats = λ n. tt; two_rtsqs = λ n. refl; four_rtsqs = λ n. refl; six_rtsqs = λ n. refl };
-    numbers = record {
-      tlids = refl;
-      feats = refl;
-      lands = refl;
-      nodes = (lit≤ tt, lit≤ tt, (lit≤ tt, lit≤ tt, tt));
-      polygons =
-          tt;
-      one_cenid = tt;
-      on_sides = tt;
-      names = tt;
-      landmarks = tt;
-    };
-  };
-  least = record { directions = (refl, tt); ascending = (tt, tt) };
-}
+there_is_canonical = strict_is_canonical canonical_there
+    (record {
+      linked = linked_computed canonical_there refl;
+      order = record {
+        types = refl;
+        of_type_1 = (tt, tt);
+        of_type_2 = tt;
+        of_type_4 = tt;
+        of_type_5 = tt;
+        of_type_6 = tt;
+        of_type_7 =
+            tt;
+        of_type_8 = tt;
+        of_type_i = (tt, tt);
+        of_type_p = tt;
+      };
+      packed = record { points = λ n. tt; feats = λ n. tt; two_rtsqs = λ n. refl; four_rtsqs = λ n. refl; six_rtsqs = λ n. refl };
+      numbers = record {
+        tlids = refl;
+        feats = refl;
+        lands = refl;
+        nodes = (lit≤ tt, lit≤ tt, (lit≤ tt, lit≤ tt, tt));
+        polygons =
+            tt;
+        one_cenid = tt;
+        on_sides = tt;
+        names = tt;
+        landmarks = tt;
+      };
+    }) (record { directions = (refl, tt); ascending = (tt, tt) })
 
 -- its source isn't canonical: its TLID isn't 1
 pub source_is_not : IsCanonical there → ⊥
@@ -98,108 +97,102 @@ there_is_same = record {
 -- two polygons: one numbering over both CENIDs
 pub polygons_are_canonical : IsCanonical canonical_polygons
 unfolding IsStrictlySortedBy
-polygons_are_canonical = record {
-  in_form = record {
-    linked = linked_computed canonical_polygons refl;
-    order = record {
-      types = refl;
-      of_type_1 = (tt, tt);
-      of_type_2 = tt;
-      of_type_4 = tt;
-      of_type_5 = tt;
-      of_type_6 = tt;
-      of_type_7 =
-          tt;
-      of_type_8 = tt;
-      of_type_i = (tt, tt);
-      of_type_p = tt;
-    };
-    packed = record { points = λ n. tt; feats = λ n. tt; two_rtsqs = λ n. refl; four_rtsqs = λ n. refl; six_rtsqs = λ n. refl };
-    numbers = record {
-      tlids = refl;
-      feats = refl;
-      lands = refl;
-      nodes = (lit≤ tt, lit≤ tt, (lit≤ tt, lit≤ tt, tt));
-      polygons = (lit≤ tt, lit≤ tt, (lit≤ tt, lit≤ tt, tt));
-      one_cenid = ((λ e. refl, (λ e. absurd (omega (arith, e)), tt)), ((λ e. absurd (omega (arith, e)), (λ e. refl, tt)), tt));
-      on_sides = (refl, (refl, tt));
-      names = tt;
-      landmarks = tt;
-    };
-  };
-  least = record { directions = (refl, tt); ascending = (tt, tt) };
-}
+polygons_are_canonical = strict_is_canonical canonical_polygons
+    (record {
+      linked = linked_computed canonical_polygons refl;
+      order = record {
+        types = refl;
+        of_type_1 = (tt, tt);
+        of_type_2 = tt;
+        of_type_4 = tt;
+        of_type_5 = tt;
+        of_type_6 = tt;
+        of_type_7 =
+            tt;
+        of_type_8 = tt;
+        of_type_i = (tt, tt);
+        of_type_p = tt;
+      };
+      packed = record { points = λ n. tt; feats = λ n. tt; two_rtsqs = λ n. refl; four_rtsqs = λ n. refl; six_rtsqs = λ n. refl };
+      numbers = record {
+        tlids = refl;
+        feats = refl;
+        lands = refl;
+        nodes = (lit≤ tt, lit≤ tt, (lit≤ tt, lit≤ tt, tt));
+        polygons = (lit≤ tt, lit≤ tt, (lit≤ tt, lit≤ tt, tt));
+        one_cenid = ((λ e. refl, (λ e. absurd (omega (arith, e)), tt)), ((λ e. absurd (omega (arith, e)), (λ e. refl, tt)), tt));
+        on_sides = (refl, (refl, tt));
+        names = tt;
+        landmarks = tt;
+      };
+    }) (record { directions = (refl, tt); ascending = (tt, tt) })
 
 -- two chains that meet
 pub meeting_is_canonical : IsCanonical canonical_meeting
 unfolding IsStrictlySortedBy
-meeting_is_canonical = record {
-  in_form = record {
-    linked = linked_computed canonical_meeting refl;
-    order = record {
-      types = refl;
-      of_type_1 = ((refl, tt), (tt, tt));
-      of_type_2 = tt;
-      of_type_4 = tt;
-      of_type_5 = tt;
-      of_type_6 =
-          tt;
-      of_type_7 = tt;
-      of_type_8 = tt;
-      of_type_i = ((refl, tt), (tt, tt));
-      of_type_p = tt;
-    };
-    packed = record { points = λ n. tt; feats = λ n. tt; two_rtsqs = λ n. refl; four_rtsqs = λ n. refl; six_rtsqs = λ n. refl };
-    numbers = record {
-      tlids = refl;
-      feats = refl;
-      lands = refl;
-      nodes = (lit≤ tt, lit≤ tt, (lit≤ tt, lit≤ tt, (lit≤ tt, lit≤ tt, (lit≤ tt, lit≤ tt, tt))));
-      polygons = (lit≤ tt, lit≤ tt, (lit≤ tt, lit≤ tt, tt));
-      one_cenid = ((λ e. refl, (λ e. refl, tt)), ((λ e. refl, (λ e. refl, tt)), tt));
-      on_sides = (refl, tt);
-      names = tt;
-      landmarks = tt;
-    };
-  };
-  least = record { directions = (refl, (refl, tt)); ascending = ((refl, tt), (tt, tt)) };
-}
+meeting_is_canonical = strict_is_canonical canonical_meeting
+    (record {
+      linked = linked_computed canonical_meeting refl;
+      order = record {
+        types = refl;
+        of_type_1 = ((refl, tt), (tt, tt));
+        of_type_2 = tt;
+        of_type_4 = tt;
+        of_type_5 = tt;
+        of_type_6 =
+            tt;
+        of_type_7 = tt;
+        of_type_8 = tt;
+        of_type_i = ((refl, tt), (tt, tt));
+        of_type_p = tt;
+      };
+      packed = record { points = λ n. tt; feats = λ n. tt; two_rtsqs = λ n. refl; four_rtsqs = λ n. refl; six_rtsqs = λ n. refl };
+      numbers = record {
+        tlids = refl;
+        feats = refl;
+        lands = refl;
+        nodes = (lit≤ tt, lit≤ tt, (lit≤ tt, lit≤ tt, (lit≤ tt, lit≤ tt, (lit≤ tt, lit≤ tt, tt))));
+        polygons = (lit≤ tt, lit≤ tt, (lit≤ tt, lit≤ tt, tt));
+        one_cenid = ((λ e. refl, (λ e. refl, tt)), ((λ e. refl, (λ e. refl, tt)), tt));
+        on_sides = (refl, tt);
+        names = tt;
+        landmarks = tt;
+      };
+    }) (record { directions = (refl, (refl, tt)); ascending = ((refl, tt), (tt, tt)) })
 
 -- landmarks in the order of their bodies, one landmark with two
 pub schools_are_canonical : IsCanonical canonical_schools
 unfolding IsStrictlySortedBy
-schools_are_canonical = record {
-  in_form = record {
-    linked = linked_computed canonical_schools refl;
-    order = record {
-      types = refl;
-      of_type_1 = (tt, tt);
-      of_type_2 = tt;
-      of_type_4 = tt;
-      of_type_5 = tt;
-      of_type_6 = tt;
-      of_type_7 =
-          ((refl, (refl, (refl, tt))), ((refl, (refl, tt)), ((refl, tt), (tt, tt))));
-      of_type_8 = ((refl, tt), (tt, tt));
-      of_type_i =
-          (tt, tt);
-      of_type_p = tt;
-    };
-    packed = record { points = λ n. tt; feats = λ n. tt; two_rtsqs = λ n. refl; four_rtsqs = λ n. refl; six_rtsqs = λ n. refl };
-    numbers = record {
-      tlids = refl;
-      feats = refl;
-      lands = refl;
-      nodes = (lit≤ tt, lit≤ tt, (lit≤ tt, lit≤ tt, tt));
-      polygons = (lit≤ tt, lit≤ tt, (lit≤ tt, lit≤ tt, tt));
-      one_cenid = ((λ e. refl, (λ e. absurd (omega (arith, e)), tt)), ((λ e. absurd (omega (arith, e)), (λ e. refl, tt)), tt));
-      on_sides = (refl, (refl, tt));
-      names = tt;
-      landmarks = ((refl, (refl, tt)), ((refl, tt), (tt, tt)));
-    };
-  };
-  least = record { directions = (refl, tt); ascending = (tt, tt) };
-}
+schools_are_canonical = strict_is_canonical canonical_schools
+    (record {
+      linked = linked_computed canonical_schools refl;
+      order = record {
+        types = refl;
+        of_type_1 = (tt, tt);
+        of_type_2 = tt;
+        of_type_4 = tt;
+        of_type_5 = tt;
+        of_type_6 = tt;
+        of_type_7 =
+            ((refl, (refl, (refl, tt))), ((refl, (refl, tt)), ((refl, tt), (tt, tt))));
+        of_type_8 = ((refl, tt), (tt, tt));
+        of_type_i =
+            (tt, tt);
+        of_type_p = tt;
+      };
+      packed = record { points = λ n. tt; feats = λ n. tt; two_rtsqs = λ n. refl; four_rtsqs = λ n. refl; six_rtsqs = λ n. refl };
+      numbers = record {
+        tlids = refl;
+        feats = refl;
+        lands = refl;
+        nodes = (lit≤ tt, lit≤ tt, (lit≤ tt, lit≤ tt, tt));
+        polygons = (lit≤ tt, lit≤ tt, (lit≤ tt, lit≤ tt, tt));
+        one_cenid = ((λ e. refl, (λ e. absurd (omega (arith, e)), tt)), ((λ e. absurd (omega (arith, e)), (λ e. refl, tt)), tt));
+        on_sides = (refl, (refl, tt));
+        names = tt;
+        landmarks = ((refl, (refl, tt)), ((refl, tt), (tt, tt)));
+      };
+    }) (record { directions = (refl, tt); ascending = (tt, tt) })
 
 -- two names that tie in their content stand in the order of their uses
 pub named_are_canonical : IsArranged (county_of (canonical_named (1 ∷ 2 ∷ [])))
@@ -249,42 +242,40 @@ shaped_rtsqs false = refl
 
 pub shaped_is_canonical : IsCanonical canonical_shaped
 unfolding IsStrictlySortedBy
-shaped_is_canonical = record {
-  in_form = record {
-    linked = linked_computed canonical_shaped refl;
-    order = record {
-      types = refl;
-      of_type_1 = (tt, tt);
-      of_type_2 = ((refl, tt), (tt, tt));
-      of_type_4 = tt;
-      of_type_5 = tt;
-      of_type_6 =
-          tt;
-      of_type_7 = tt;
-      of_type_8 = tt;
-      of_type_i = (tt, tt);
-      of_type_p = tt;
-    };
-    packed = record {
-      points = λ n. shaped_full (1 == n);
-      feats = λ n. tt;
-      two_rtsqs = λ n. shaped_rtsqs (1 == n);
-      four_rtsqs =
-          λ n. refl;
-      six_rtsqs = λ n. refl;
-    };
-    numbers = record {
-      tlids = refl;
-      feats = refl;
-      lands = refl;
-      nodes = (lit≤ tt, lit≤ tt, (lit≤ tt, lit≤ tt, tt));
-      polygons =
-          tt;
-      one_cenid = tt;
-      on_sides = tt;
-      names = tt;
-      landmarks = tt;
-    };
-  };
-  least = record { directions = (refl, tt); ascending = (tt, tt) };
-}
+shaped_is_canonical = strict_is_canonical canonical_shaped
+    (record {
+      linked = linked_computed canonical_shaped refl;
+      order = record {
+        types = refl;
+        of_type_1 = (tt, tt);
+        of_type_2 = ((refl, tt), (tt, tt));
+        of_type_4 = tt;
+        of_type_5 = tt;
+        of_type_6 =
+            tt;
+        of_type_7 = tt;
+        of_type_8 = tt;
+        of_type_i = (tt, tt);
+        of_type_p = tt;
+      };
+      packed = record {
+        points = λ n. shaped_full (1 == n);
+        feats = λ n. tt;
+        two_rtsqs = λ n. shaped_rtsqs (1 == n);
+        four_rtsqs =
+            λ n. refl;
+        six_rtsqs = λ n. refl;
+      };
+      numbers = record {
+        tlids = refl;
+        feats = refl;
+        lands = refl;
+        nodes = (lit≤ tt, lit≤ tt, (lit≤ tt, lit≤ tt, tt));
+        polygons =
+            tt;
+        one_cenid = tt;
+        on_sides = tt;
+        names = tt;
+        landmarks = tt;
+      };
+    }) (record { directions = (refl, tt); ascending = (tt, tt) })

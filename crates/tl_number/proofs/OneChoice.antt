@@ -3,6 +3,7 @@ use Rattle.std.proofs.Common.{◌≡◌, ◌<◌, ◌*◌, suc, List, [], ◌∷
 use Rattle.std.proofs.Common.{is_eq, is_gt, sym, refl, ap, ◌∙◌, subst, arith}
 use Rattle.std.specs.List.{AllByRecursion}
 use Rattle.std.specs.List.Sorted.{IsStrictlySortedBy}
+use Rattle.std.specs.Ordering.{on}
 use Rattle.tl_layout.specs.declared.record_type.Record.{Record}
 use Rattle.tl_shape.specs.PointOrder.{points_cmp}
 use Rattle.tl_county.specs.County.{County, county_of}
@@ -21,12 +22,12 @@ use Rattle.tl_profile.specs.Choices.{choices, is_either_way, running, shapes}
 use Rattle.tl_profile.specs.Shapes.{points_from}
 use Rattle.tl_profile.proofs.SameChoices.{choices_of_shapes}
 use Rattle.tl_number.specs.Arrangement.{Arrangement, entry_shape, ascending}
-use Rattle.tl_number.specs.ArrangedCounty.{IsLeast, entry_points}
-use Rattle.tl_number.specs.Canonical.{IsArrangedList}
-use Rattle.tl_number.specs.Tidy.{HasShapesApart, IsTidy, IsTidyList, IsNotAfter, IsLeastTidyList, IsChoice, arranged_list, numbered_choice}
+use Rattle.tl_number.specs.ArrangedCounty.{IsTidy, entry_points}
+use Rattle.tl_number.specs.Canonical.{IsArrangedList, IsCanonical, IsNotAfter, IsTidyList}
+use Rattle.tl_number.specs.Tidy.{HasShapesApart, IsChoice, IsLeastChoice, arranged_list, numbered_choice}
 use Rattle.tl_number.proofs.AscendingSteps.{turned_same}
 use Rattle.tl_number.proofs.SortedPlaces.{in_order-unmap}
-use Rattle.tl_number.proofs.TidyChoices.{choice_number, first_choice}
+use Rattle.tl_number.proofs.TidyChoices.{choice_number, first_choice, numbered_is_choice}
 use Rattle.tl_number.proofs.TidyLists.{tidy_is_choice, not_after_itself}
 
 running_one : {K : Type 0} {cmp : K → K → Ordering} (o : IsKeyOrder cmp) (either : K → Bool) (ks : List K) → IsApart cmp ks
@@ -49,6 +50,19 @@ only_choice county is h steps c =
     let first : found.0 ≡ 0 = omega (arith, below, one_choice county h) in
     sym found.2 ∙ ap (numbered_choice county) first ∙ first_choice county is
 
+-- So it has the least text.
+pub only_choice_is_least : (county : County) → IsCounty county → HasShapesApart county → IsLeastChoice county (ascending county)
+only_choice_is_least county is h = record {
+  choice = subst (IsChoice county) (first_choice county is) (numbered_is_choice county is 0);
+  least = λ other c. subst (λ steps. IsNotAfter (arranged_list county (ascending county)) (arranged_list county steps))
+      (sym (only_choice county is h other c)) (not_after_itself (arranged_list county (ascending county)));
+}
+
+-- each chain runs so that its points come before their reverse, and the points ascend strictly from chain to chain
+pub record IsStrict (county : County) : Type 0 where
+  pub directions : AllByRecursion (λ entry. points_cmp (entry_points entry) (reverse (entry_points entry)) ≡ Less) county.chains
+  pub ascending : IsStrictlySortedBy (on entry_points points_cmp) county.chains
+
 -- points that come before their reverse
 less_cases : (o : Ordering) → o ≡ Less → (is_gt o ≡ false) × (is_eq o ≡ false)
 less_cases Less e = (refl, refl)
@@ -56,7 +70,7 @@ less_cases Equal e = cc
 less_cases Greater e = cc
 
 -- Where points come before their reverse and ascend strictly, shapes are apart and the county is tidy.
-module _ (county : County) (h : IsLeast county) where
+module _ (county : County) (h : IsStrict county) where
   each_shape : map entry_points county.chains ≡ shapes county
   each_shape = map_agree_all entry_points entry_shape
       (λ e. points_cmp (entry_points e) (reverse (entry_points e)) ≡ Less)
@@ -64,8 +78,8 @@ module _ (county : County) (h : IsLeast county) where
       (turned_same e.1.points ∙ (less_cases (points_cmp e.1.points (reverse e.1.points)) less).0)))
       county.chains h.directions
 
-  pub least_apart_shapes : HasShapesApart county
-  least_apart_shapes = record {
+  strict_apart : HasShapesApart county
+  strict_apart = record {
     apart = has_repeat-apart points_keys (shapes county) (apart_from_sorted points_keys (shapes county)
         (subst (IsStrictlySortedBy points_cmp) each_shape (strict-unmap points_cmp entry_points county.chains h.ascending)));
     one_way = subst (AllByRecursion (λ points. is_eq (points_cmp points (reverse points)) ≡ false)) each_shape
@@ -75,8 +89,8 @@ module _ (county : County) (h : IsLeast county) where
         (λ e less. (less_cases (points_cmp (entry_points e) (reverse (entry_points e))) less).1) county.chains h.directions));
   }
 
-  pub least_tidy : IsTidy county
-  least_tidy = record {
+  strict_tidy : IsTidy county
+  strict_tidy = record {
     directions = all_weaker (λ e. points_cmp (entry_points e) (reverse (entry_points e)) ≡ Less)
         (λ e. is_gt (points_cmp (entry_points e) (reverse (entry_points e))) ≡ false)
         (λ e less. (less_cases (points_cmp (entry_points e) (reverse (entry_points e))) less).0) county.chains h.directions;
@@ -84,11 +98,11 @@ module _ (county : County) (h : IsLeast county) where
         (in_order-strict points_cmp (map entry_points county.chains) (strict-unmap points_cmp entry_points county.chains h.ascending));
   }
 
--- So an arranged list of such a county is the only tidy list of its map, and the one of least text.
-pub strict_is_least : (records : List Record) → IsArrangedList records → IsLeast (county_of records) → IsLeastTidyList records
-strict_is_least records form h = record {
+-- So an arranged list of such a county is the only tidy list of its map, and canonical.
+pub strict_is_canonical : (records : List Record) → IsArrangedList records → IsStrict (county_of records) → IsCanonical records
+strict_is_canonical records form h = record {
   in_form = form;
-  tidy = least_tidy (county_of records) h;
+  tidy = strict_tidy (county_of records) h;
   least = λ other tidy s. subst (IsNotAfter records) (sym (only_one other tidy s)) (not_after_itself records);
 }
   where
@@ -96,7 +110,7 @@ strict_is_least records form h = record {
     is = county-is_county records form.linked
 
     apart : HasShapesApart (county_of records)
-    apart = least_apart_shapes (county_of records) h
+    apart = strict_apart (county_of records) h
 
     only_list : (list : List Record) → IsTidyList list → AreSame (county_of records) (county_of list)
         → list ≡ arranged_list (county_of records) (ascending (county_of records))
@@ -105,5 +119,5 @@ strict_is_least records form h = record {
         found.2 ∙ ap (arranged_list (county_of records)) (only_choice (county_of records) is apart found.0 found.1)
 
     only_one : (list : List Record) → IsTidyList list → AreSame (county_of records) (county_of list) → list ≡ records
-    only_one list tidy s = only_list list tidy s ∙ sym (only_list records (record { in_form = form; tidy = least_tidy (county_of records) h })
+    only_one list tidy s = only_list list tidy s ∙ sym (only_list records (record { in_form = form; tidy = strict_tidy (county_of records) h })
         (same-reflexive (county_of records)))

@@ -1,34 +1,26 @@
--- Arranged counties that are carried onto each other with every TLID kept and nothing turned are equal; and of counties that
--- are least besides, any renaming that carries one onto the other is such a one.
-use Rattle.std.proofs.Common.{◌≡◌, ℕ, List, map, length, reverse, Bool, true, false, Option, Some, None, option_map}
-use Rattle.std.proofs.Common.{option_to_list, IsTrue, Ordering, Less, Equal, Greater, sym, refl, ap, ◌∙◌, subst, nat_cmp}
+-- Arranged counties that are carried onto each other with every TLID kept and nothing turned are equal.
+use Rattle.std.proofs.Common.{◌≡◌, ℕ, List, map, false, Option, Some, None, option_map}
+use Rattle.std.proofs.Common.{option_to_list, IsTrue, sym, refl, ap, ◌∙◌, subst, nat_cmp}
 use Rattle.std.proofs.Common.{IsPermutation, map-id}
 use Rattle.std.proofs.lemmas.Bool.{ltb-true}
 use Rattle.std.proofs.lemmas.Cmp.{nat_cmp_total}
-use Rattle.std.proofs.lemmas.List.{reverse-reverse, length-map}
 use Rattle.std.specs.List.{AllByRecursion}
 use Rattle.std.specs.List.Sorted.{IsStrictlySortedBy}
-use Rattle.std.specs.Ordering.{ordering_reverse}
 use Rattle.tl_layout.specs.declared.type_p.BodyP.{BodyP}
 use Rattle.tl_shape.specs.Chain.{Chain}
 use Rattle.tl_county.specs.County.{County}
 use Rattle.tl_county.specs.CountyRules.{IsCounty, tlids, polygon_keys, polygons_along, chain_nodes, chain_polygons}
 use Rattle.tl_county.specs.Orders.{stands_in, times}
-use Rattle.tl_shape.specs.PointOrder.{points_cmp}
 use Rattle.tl_county.specs.PolygonKeys.{PolygonKey, key_cmp, key_on, key_under}
 use Rattle.tl_county.specs.Renumbering.{Renumbering, Carries, image, turns, renumbered, renumbered_polygon, carried_chain, carried_polygon}
 use Rattle.tl_shape.specs.Turned.{turned_if}
-use Rattle.tl_county.proofs.Rules.FirstFault.{Among, all_among}
-use Rattle.tl_county.proofs.Lists.InOrder.{strict-permutation, strict-map, strict-unmap}
-use Rattle.tl_county.proofs.ByKey.KeyOrders.{key_keys, points_keys}
+use Rattle.tl_county.proofs.Lists.InOrder.{strict-permutation, strict-map}
+use Rattle.tl_county.proofs.ByKey.KeyOrders.{key_keys}
 use Rattle.tl_county.proofs.ByKey.Keys.{Known, nat_keys, known_all}
-use Rattle.tl_county.proofs.Lists.Elements.{map-map, map_agree_all, all_weaker, all_both, all_pieces, all_left, all_right}
-use Rattle.tl_county.proofs.Lists.Members.{among-permutation, among-map}
+use Rattle.tl_county.proofs.Lists.Elements.{map-map, map_agree_all, all_both, all_pieces, all_left, all_right}
 use Rattle.tl_county.proofs.Sameness.Equivalence.{keys_known}
-use Rattle.tl_number.specs.Growth.{up_to}
-use Rattle.tl_number.specs.ArrangedCounty.{IsArranged, IsLeast, entry_points}
-use Rattle.tl_number.proofs.Counting.{map-equal_all}
-use Rattle.tl_number.proofs.SameNumbers.{kept_entry, KeepsChains, nodes_kept, polygons_kept, all_themselves}
+use Rattle.tl_number.specs.ArrangedCounty.{IsArranged}
+use Rattle.tl_number.proofs.SameNumbers.{kept_entry, KeepsChains, nodes_kept, polygons_kept}
 use Rattle.tl_number.proofs.SameNames.{names_equal, feats_kept}
 use Rattle.tl_number.proofs.SameLandmarks.{landmarks_equal, links_equal}
 
@@ -130,60 +122,3 @@ module _ (r : Renumbering) (a b : County) (h : Carries r a b) (wa : IsCounty a) 
         (subst (IsStrictlySortedBy nat_cmp) (sym tl) wa.ascending.chains))
         (strict-map nat_cmp (λ (c : ℕ × Chain). c.0) b.chains wb.ascending.chains)
         (subst (λ cs. IsPermutation cs b.chains) same h.chains)))
-
-    -- Counties that are least leave no choice of directions and TLIDs.
-    module _ (la : IsLeast a) (lb : IsLeast b) where
-      not_both_less : (x y : Ordering) → x ≡ ordering_reverse y → x ≡ Less → y ≡ Less → ⊥
-      not_both_less x Less e f g = cc
-      not_both_less x Equal e f g = cc
-      not_both_less x Greater e f g = cc
-
-      no_turn_at : (c : ℕ × Chain) → Among c a.chains → (t : Bool) → turns r c.0 ≡ t → t ≡ false
-      no_turn_at c m false e = refl
-      no_turn_at c m true e =
-          let there : Among (carried_chain r c) b.chains =
-          among-permutation (carried_chain r c) (map (carried_chain r) a.chains) b.chains h.chains
-          (among-map (carried_chain r) c a.chains m) in
-          let mine : points_cmp c.1.points (reverse c.1.points) ≡ Less =
-          all_among (λ d. points_cmp (entry_points d) (reverse (entry_points d)) ≡ Less) c a.chains la.directions m in
-          let yours : points_cmp (carried_chain r c).1.points (reverse (carried_chain r c).1.points) ≡ Less =
-          all_among (λ d. points_cmp (entry_points d) (reverse (entry_points d)) ≡ Less)
-          (carried_chain r c) b.chains lb.directions there in
-          let turned : points_cmp (reverse c.1.points) (reverse (reverse c.1.points)) ≡ Less =
-          subst (λ t. points_cmp (turned_if t c.1).points (reverse (turned_if t c.1).points) ≡ Less) e yours in
-          let back : points_cmp (reverse c.1.points) c.1.points ≡ Less =
-          subst (λ ps. points_cmp (reverse c.1.points) ps ≡ Less) (reverse-reverse c.1.points) turned in
-          absurd (not_both_less (points_cmp c.1.points (reverse c.1.points)) (points_cmp (reverse c.1.points) c.1.points)
-          (points_keys.total.antisymm c.1.points (reverse c.1.points)) mine back)
-
-      none_turned : AllByRecursion (λ c. turns r c.0 ≡ false) a.chains
-      none_turned = all_weaker (λ c. Among c a.chains) (λ c. turns r c.0 ≡ false) (λ c m. no_turn_at c m (turns r c.0) refl) a.chains
-          (all_themselves a.chains)
-
-      carried_is : map (carried_chain r) a.chains ≡ b.chains
-      carried_is =
-          let points : map entry_points (map (carried_chain r) a.chains) ≡ map entry_points a.chains =
-          map-map entry_points (carried_chain r) a.chains
-          ∙ map_agree_all (λ c. entry_points (carried_chain r c)) entry_points (λ c. turns r c.0 ≡ false)
-          (λ c f. ap (λ t. (turned_if t c.1).points) f) a.chains none_turned in
-          strict-permutation points_keys.total entry_points (map (carried_chain r) a.chains) b.chains
-          (strict-map points_cmp entry_points (map (carried_chain r) a.chains)
-          (subst (IsStrictlySortedBy points_cmp) (sym points) (strict-unmap points_cmp entry_points a.chains la.ascending)))
-          lb.ascending h.chains
-
-      images_kept : AllByRecursion (λ c. image nat_cmp r.chains c.0 ≡ c.0) a.chains
-      images_kept =
-          let len : length a.chains ≡ length b.chains = sym (length-map a.chains (carried_chain r)) ∙ ap length carried_is in
-          let left : map (λ (c : ℕ × Chain). image nat_cmp r.chains c.0) a.chains ≡ map (λ (c : ℕ × Chain). c.0) a.chains =
-          sym (map-map (λ (c : ℕ × Chain). c.0) (carried_chain r) a.chains) ∙ ap (map (λ (c : ℕ × Chain). c.0)) carried_is ∙ tb.tlids
-          ∙ ap up_to (sym len) ∙ sym ta.tlids in
-          map-equal_all (λ (c : ℕ × Chain). image nat_cmp r.chains c.0) (λ (c : ℕ × Chain). c.0) a.chains left
-
-      keeps_chains : KeepsChains r a b
-      keeps_chains = sym carried_is ∙ map_agree_all (carried_chain r) (kept_entry r)
-          (λ c. (turns r c.0 ≡ false) × (image nat_cmp r.chains c.0 ≡ c.0))
-          (λ c s i. (s.1 i, ap (λ t. renumbered r (turned_if t c.1)) s.0 i)) a.chains
-          (all_both (λ c. turns r c.0 ≡ false) (λ c. image nat_cmp r.chains c.0 ≡ c.0) a.chains none_turned images_kept)
-
-      pub least_equal : a ≡ b
-      least_equal = kept_equal keeps_chains

@@ -32,9 +32,9 @@ use Rattle.tl_profile.proofs.Factorials.{running-same}
 use Rattle.tl_profile.proofs.SameChoices.{choices_of_shapes}
 use Rattle.tl_number.specs.Arrangement.{Arrangement, Arranges, arranged_tlids, entries_of, placed, comes_turned, entry_shape, ascending}
 use Rattle.tl_number.specs.Arrangement.{renaming_of, arranged}
-use Rattle.tl_number.specs.ArrangedCounty.{entry_points}
+use Rattle.tl_number.specs.ArrangedCounty.{IsTidy, entry_points}
 use Rattle.tl_number.specs.NumberedChoices.{chosen}
-use Rattle.tl_number.specs.Tidy.{IsTidy, IsChoice, step_shape, turned_step, numbered_choice}
+use Rattle.tl_number.specs.Tidy.{IsChoice, step_shape, turned_step, numbered_choice}
 use Rattle.tl_number.proofs.AscendingSteps.{shape_turned, turned_same}
 use Rattle.tl_number.proofs.Carrying.{chains_arranged}
 use Rattle.tl_number.proofs.Choosing.{IsChosen, permutation_of_times, chosen_is_choice, choice_has_number, first_told}

@@ -1,5 +1,5 @@
--- The tidy lists of a map are those of its choices. One choice has the least text, its list is the one of least text, and all such lists
--- of one map have one text.
+-- The tidy lists of a map are those of its choices. One choice has the least text, its list is canonical, and all canonical lists of one
+-- map have one text.
 use Rattle.std.proofs.Common.{◌≡◌, ◌<◌, ℕ, List, sym, ap, ◌∙◌, subst, arith}
 use Rattle.tl_layout.specs.RecordText.{text_of}
 use Rattle.tl_layout.specs.declared.record_type.Record.{Record}
@@ -14,7 +14,9 @@ use Rattle.tl_county.proofs.Rules.LinkedCounty.{county-is_county}
 use Rattle.tl_county.proofs.Sameness.Equivalence.{same-symmetric, same-transitive}
 use Rattle.tl_profile.specs.Choices.{choices}
 use Rattle.tl_number.specs.Arrangement.{Arrangement, renaming_of, arranged}
-use Rattle.tl_number.specs.Tidy.{IsTidy, IsTidyList, IsNotAfter, IsLeastTidyList, IsChoice, IsLeastChoice, arranged_list, numbered_choice}
+use Rattle.tl_number.specs.ArrangedCounty.{IsTidy}
+use Rattle.tl_number.specs.Canonical.{IsCanonical, IsNotAfter, IsTidyList}
+use Rattle.tl_number.specs.Tidy.{IsChoice, IsLeastChoice, arranged_list, numbered_choice}
 use Rattle.tl_number.proofs.ArrangedCounties.{arranged_county, is_arranged}
 use Rattle.tl_number.proofs.ArrangedPacking.{packed_arranged}
 use Rattle.tl_number.proofs.Carrying.{arrangement_carries}
@@ -23,17 +25,17 @@ use Rattle.tl_number.proofs.EachTidy.{read_off, read_arranges, read_makes}
 use Rattle.tl_number.proofs.RepackedPolygons.{arranged_list_is_packed}
 use Rattle.tl_number.proofs.TidyChoices.{numbered_is_choice, choice_number}
 
-pub tidy_of : (records : List Record) → IsLeastTidyList records → IsTidyList records
+pub tidy_of : (records : List Record) → IsCanonical records → IsTidyList records
 tidy_of records h = record { in_form = h.in_form; tidy = h.tidy }
 
 -- no text comes after itself
 pub not_after_itself : (records : List Record) → IsNotAfter records records
 not_after_itself records = order_itself bytes_keys (text_of records)
 
--- Lists of least text of one map have one text.
-pub least_texts_equal : (xs ys : List Record) → IsLeastTidyList xs → IsLeastTidyList ys → AreSame (county_of xs) (county_of ys)
+-- Canonical lists of one map have one text.
+pub canonical_texts_equal : (xs ys : List Record) → IsCanonical xs → IsCanonical ys → AreSame (county_of xs) (county_of ys)
     → text_of xs ≡ text_of ys
-least_texts_equal xs ys h k s =
+canonical_texts_equal xs ys h k s =
     let back : AreSame (county_of ys) (county_of xs) =
     same-symmetric (county_of xs) (county_of ys) (county-is_county xs h.in_form.linked) (county-is_county ys k.in_form.linked) s in
     order_antisymm bytes_keys (text_of xs) (text_of ys) (h.least ys (tidy_of ys k) s) (k.least xs (tidy_of xs h) back)
@@ -44,7 +46,7 @@ module _ (county : County) (is : IsCounty county) (sides : AllKeysStandIn (polyg
     choice_county : IsCounty (arranged county steps)
     choice_county = arranged_county county steps is choice.arranges sides
 
-    read_back : county_of (arranged_list county steps) ≡ arranged county steps
+    pub read_back : county_of (arranged_list county steps) ≡ arranged county steps
     read_back = packed_county (arranged county steps) choice_county
 
     pub choice_is_tidy : IsTidyList (arranged_list county steps)
@@ -101,9 +103,9 @@ module _ (county : County) (is : IsCounty county) (sides : AllKeysStandIn (polyg
         },
       )
 
-  -- Its list is one of least text.
-  pub least_choice_is_least : (steps : Arrangement) → IsLeastChoice county steps → IsLeastTidyList (arranged_list county steps)
-  least_choice_is_least steps h = record {
+  -- Its list is canonical.
+  pub least_choice_is_canonical : (steps : Arrangement) → IsLeastChoice county steps → IsCanonical (arranged_list county steps)
+  least_choice_is_canonical steps h = record {
     in_form = (choice_is_tidy steps h.choice).in_form;
     tidy = (choice_is_tidy steps h.choice).tidy;
     least = λ other tidy s. (let found = tidy_is_choice other tidy
@@ -112,10 +114,10 @@ module _ (county : County) (is : IsCounty county) (sides : AllKeysStandIn (polyg
         subst (λ records. IsNotAfter (arranged_list county steps) records) (sym found.2) (h.least found.0 found.1));
   }
 
-  -- Each list of least text of the map is that of a choice of least text.
-  pub least_is_choice : (records : List Record) → IsLeastTidyList records → AreSame county (county_of records)
+  -- Each canonical list of the map is that of a choice of least text.
+  pub canonical_is_choice : (records : List Record) → IsCanonical records → AreSame county (county_of records)
       → (steps : Arrangement) × IsLeastChoice county steps × (records ≡ arranged_list county steps)
-  least_is_choice records h s =
+  canonical_is_choice records h s =
       let found = tidy_is_choice records (tidy_of records h) s in
       let new : IsCounty (county_of records) = county-is_county records h.in_form.linked in (
         found.0,
@@ -127,13 +129,4 @@ module _ (county : County) (is : IsCounty county) (sides : AllKeysStandIn (polyg
               (same-symmetric county (county_of records) is new s) (choice_is_same other choice)));
         },
         found.2,
-      )
-
-  -- So the map has a list of least text.
-  pub least_there : (records : List Record) × IsLeastTidyList records × AreSame county (county_of records)
-  least_there =
-      let steps : Arrangement = numbered_choice county least_choice.0 in (
-        arranged_list county steps,
-        least_choice_is_least steps least_choice.2,
-        choice_is_same steps least_choice.2.choice,
       )

@@ -1,16 +1,16 @@
--- Two canonical lists of one county are equal.
+-- Two lists in the canonical order, packing and numbering are equal where a renaming keeps the choice of TLIDs and directions.
 use Rattle.std.proofs.Common.{◌≡◌, List, sym, ap, ◌∙◌, nat_cmp}
 use Rattle.tl_layout.specs.declared.record_type.Record.{Record}
 use Rattle.tl_county.specs.County.{county_of}
 use Rattle.tl_county.specs.CountyRules.{tlids}
 use Rattle.tl_county.specs.Orders.{stands_in}
-use Rattle.tl_county.specs.Renumbering.{Renumbering, Carries, AreSame, image}
+use Rattle.tl_county.specs.Renumbering.{Renumbering, Carries, image}
 use Rattle.tl_county.proofs.ByKey.Keys.{nat_keys, known_all}
 use Rattle.tl_county.proofs.Rules.LinkedCounty.{county-is_county}
-use Rattle.tl_number.specs.Canonical.{IsArrangedList, IsCanonical, KeepsChainNumbers}
+use Rattle.tl_number.specs.Canonical.{IsArrangedList, KeepsChainNumbers}
 use Rattle.tl_county.specs.Packing.{packed}
 use Rattle.tl_number.proofs.RepackedPolygons.{arranged_list_is_packed}
-use Rattle.tl_number.proofs.Rigid.{rigid, least_equal}
+use Rattle.tl_number.proofs.Rigid.{rigid}
 
 one_county_one_list : (xs ys : List Record) → IsArrangedList xs → IsArrangedList ys → county_of xs ≡ county_of ys → xs ≡ ys
 one_county_one_list xs ys g h e = arranged_list_is_packed xs g ∙ ap packed e ∙ sym (arranged_list_is_packed ys h)
@@ -21,8 +21,3 @@ rigid_lists r xs ys g h c k = one_county_one_list xs ys g h
     (rigid r (county_of xs) (county_of ys) c (county-is_county xs g.linked) (county-is_county ys h.linked) g.numbers h.numbers
     (known_all nat_keys (λ n. image nat_cmp r.chains n ≡ n) (tlids (county_of xs)) k.keeps)
     (λ n l. ap (stands_in nat_cmp n) k.turns_none))
-
-pub unique : (xs ys : List Record) → IsCanonical xs → IsCanonical ys → AreSame (county_of xs) (county_of ys) → xs ≡ ys
-unique xs ys g h s = one_county_one_list xs ys g.in_form h.in_form
-    (least_equal s.by (county_of xs) (county_of ys) s.carries (county-is_county xs g.in_form.linked)
-    (county-is_county ys h.in_form.linked) g.in_form.numbers h.in_form.numbers g.least h.least)

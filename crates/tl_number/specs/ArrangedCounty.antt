@@ -1,9 +1,7 @@
 -- A county whose numbers are those of the canonical form.
-use Rattle.std.specs.Prelude.{ℕ, ◌≡◌, List, map, length, reverse}
+use Rattle.std.specs.Prelude.{ℕ, ◌≡◌, List, map, length, reverse, false}
 use Rattle.std.specs.List.{AllByRecursion}
-use Rattle.std.specs.List.Sorted.{IsStrictlySortedBy}
-use Rattle.std.specs.declared.cmp.Ordering.TheVariants.{Less}
-use Rattle.std.specs.Ordering.{on}
+use Rattle.std.specs.Ordering.{is_gt, on}
 use Rattle.tl_layout.specs.Coordinates.{Coordinates}
 use Rattle.tl_shape.specs.Chain.{Chain}
 use Rattle.tl_county.specs.County.{County}
@@ -40,8 +38,7 @@ pub record IsArranged (county : County) : Type 0 where
 abbrev pub entry_points : ℕ × Chain → List Coordinates
 entry_points entry = entry.1.points
 
--- The choice of TLIDs and directions: a chain runs so that its points come before their reverse, and the points ascend from
--- chain to chain. It is the one clause by which chains have different points.
-pub record IsLeast (county : County) : Type 0 where
-  pub directions : AllByRecursion (λ entry. points_cmp (entry_points entry) (reverse (entry_points entry)) ≡ Less) county.chains
-  pub ascending : IsStrictlySortedBy (on entry_points points_cmp) county.chains
+-- TLIDs and directions as far as points tell them: no chain's points come after their reverse, and none after those of a later chain.
+pub record IsTidy (county : County) : Type 0 where
+  pub directions : AllByRecursion (λ entry. is_gt (points_cmp (entry_points entry) (reverse (entry_points entry))) ≡ false) county.chains
+  pub ascending : IsInOrder (on entry_points points_cmp) county.chains

@@ -3,13 +3,19 @@ use Rattle.std.specs.Prelude.{ℕ, max, List, [], ◌∷◌}
 use Rattle.std.proofs.Props.{props}
 use Rattle.tl_county.specs.County.{County}
 use Rattle.tl_county.specs.CountyProps.{IsInOrder-prop}
+use Rattle.tl_county.specs.CountyRules.{IsCounty}
+use Rattle.tl_county.specs.Packing.{packed}
+use Rattle.tl_county.specs.Renumbering.{AreSame}
 use Rattle.tl_number.specs.Growth.{GrowsFrom}
-use Rattle.tl_number.specs.ArrangedCounty.{IsArranged, IsLeast}
+use Rattle.tl_number.specs.ArrangedCounty.{IsArranged, IsTidy}
+use Rattle.tl_number.specs.Canonical.{IsNotAfter}
 
--- all numbers are those of the canonical form, and the choice of TLIDs and directions is the least one
+-- all numbers are those of the canonical form, the county is tidy, and its text comes after that of no other such county of the same map
 pub record IsCanonCounty (county : County) : Type 0 where
   pub in_form : IsArranged county
-  pub least : IsLeast county
+  pub tidy : IsTidy county
+  pub least : (other : County) → IsCounty other → IsArranged other → IsTidy other → AreSame county other
+      → IsNotAfter (packed county) (packed other)
 
 pub GrowsFrom-prop : (greatest : ℕ) (ns : List ℕ) → IsProp (GrowsFrom greatest ns)
 GrowsFrom-prop greatest [] = hlevel props

@@ -1,22 +1,24 @@
 -- Canonical lists of records.
-use Rattle.std.specs.Prelude.{ℕ, ◌≡◌, ◌≤◌, List, [], ◌∷◌, map, length, ⊤}
+use Rattle.std.specs.Prelude.{ℕ, ◌≡◌, ◌≤◌, List, [], ◌∷◌, map, length, false, ⊤}
+use Rattle.std.specs.Cmp.Lexicographic.{slice_cmp}
 use Rattle.std.specs.declared.cmp.Ordering.{Ordering}
-use Rattle.std.specs.Ordering.{nat_cmp, on, then_cmp, ordering_then}
+use Rattle.std.specs.Ordering.{is_gt, nat_cmp, on, then_cmp, ordering_then}
 use Rattle.tl_layout.specs.Fields.{Fields7}
 use Rattle.tl_layout.specs.declared.record_type.Record.{Record}
 use Rattle.tl_county.specs.BodyOrder.{landmark_body_cmp, link_cmp}
 use Rattle.tl_layout.specs.ByType.{of_type_1, of_type_2, of_type_4, of_type_5, of_type_6, of_type_7, of_type_8, of_type_i}
 use Rattle.tl_layout.specs.ByType.{of_type_p, of_number}
+use Rattle.tl_layout.specs.RecordText.{text_of}
 use Rattle.std.specs.List.{AllByRecursion}
 use Rattle.tl_county.specs.CountyRules.{tlids}
-use Rattle.tl_county.specs.Renumbering.{Renumbering, image}
+use Rattle.tl_county.specs.Renumbering.{Renumbering, AreSame, image}
 use Rattle.tl_county.specs.County.{County, county_of, one_tlid, two_tlid, two_rtsq, four_tlid, four_rtsq, five_feat, six_tlid}
 use Rattle.tl_county.specs.County.{six_rtsq, i_tlid}
 use Rattle.tl_county.specs.LinkRules.{IsLinked}
 use Rattle.tl_county.specs.Orders.{IsInOrder}
 use Rattle.tl_number.specs.Growth.{up_to}
 use Rattle.tl_county.specs.Packing.{by_type, type_after_type, p_polyid}
-use Rattle.tl_number.specs.ArrangedCounty.{IsArranged, IsLeast}
+use Rattle.tl_number.specs.ArrangedCounty.{IsArranged, IsTidy}
 
 -- by LAND, then by the body
 abbrev pub seven_cmp : Fields7 → Fields7 → Ordering
@@ -60,10 +62,21 @@ pub record IsArrangedList (records : List Record) : Type 0 where
   pub packed : IsPacked records
   pub numbers : IsArranged (county_of records)
 
--- A canonical list of records. `in_form` leaves it open which chain has which TLID and direction, and `least` says it.
+-- such a list whose county is tidy
+pub record IsTidyList (records : List Record) : Type 0 where
+  pub in_form : IsArrangedList records
+  pub tidy : IsTidy (county_of records)
+
+-- the text of these records doesn't come after that of the others
+abbrev pub IsNotAfter : List Record → List Record → Type 0
+IsNotAfter records other = is_gt (slice_cmp nat_cmp (text_of records) (text_of other)) ≡ false
+
+-- A canonical list of records: a tidy one whose text comes after that of no tidy list of the same map. `in_form` leaves it open which
+-- chain has which TLID and direction, `tidy` says it as far as points tell, and `least` says the rest.
 pub record IsCanonical (records : List Record) : Type 0 where
   pub in_form : IsArrangedList records
-  pub least : IsLeast (county_of records)
+  pub tidy : IsTidy (county_of records)
+  pub least : (other : List Record) → IsTidyList other → AreSame (county_of records) (county_of other) → IsNotAfter records other
 
 -- the renaming keeps each TLID of the county and turns no chain
 pub record KeepsChainNumbers (r : Renumbering) (county : County) : Type 0 where

@@ -3,11 +3,12 @@
 ghost use Rattle.std.specs.Prelude.{◌≡◌, ◌<◌, ◌^◌, Err, IfOk, MatchResult, Ok, length};
 ghost use Rattle.tl_county.specs.CountyRules.{AllKeysStandIn, polygon_keys, polygons_along};
 ghost use Rattle.tl_county.specs.Renumbering.{AreSame, Carries};
-ghost use Rattle.tl_number.specs.Arrangement.{arranged, ascending, polygons_in_order, renaming_of};
+ghost use Rattle.tl_number.specs.Arrangement.{arranged, polygons_in_order, renaming_of};
 ghost use Rattle.tl_number.specs.Steps.{AreSteps, arrangement_of};
 ghost use Rattle.tl_number.specs.Views.{arranged_county, arrangement_in, source_of, steps_of};
 ghost use Rattle.tl_number.specs.ViewFacts.{stepped, AreWhole, NamesEachOnce, TellsLandmarks, TellsNames, TellsNodes, TellsPolygons};
 ghost use Rattle.tl_number.specs.CanonCounties.{IsCanonCounty};
+ghost use Rattle.tl_number.specs.Tidy.{IsLeastChoice};
 ghost use Rattle.tl_profile.specs.Profile.{IsInProfile};
 ghost use Rattle.tl_profile.specs.ShapeOrder.{IsShapeOrder};
 
@@ -132,8 +133,8 @@ fn known_as_canonical<C: Chart + Drop>(view: Arranged<C>) -> CanonCounty<C>
     }
 }
 
-/// The canonical county of a county in the profile, from the order of its chains by their shapes: it is that of the ascending
-/// arrangement, its chains run and stand as their points tell, all other numbers follow from that, and it is the same map.
+/// The canonical county of a county in the profile, from the order of its chains by their shapes: its chains run and stand as their
+/// points tell, where these leave a choice by the least text, all other numbers follow from that, and it is the same map.
 ///
 /// # Errors
 ///
@@ -147,11 +148,10 @@ pub fn canonise_in_order<C: Chart + Drop>(
     requires shapes { IsShapeOrder (C.county chart) order.now }
     ensures source { IfOk result (λ canon. source_of canon ≡ chart) }
     ensures source_county { IfOk result (λ canon. C.county (source_of canon) ≡ C.county chart) }
-    ensures county { IfOk result
-        (λ canon. arranged_county canon ≡ arranged (C.county chart) (ascending (C.county chart))) }
-    ensures order { IfOk result (λ canon. arrangement_in canon ≡ ascending (C.county chart)) }
+    ensures county { IfOk result (λ canon. arranged_county canon ≡ arranged (C.county chart) (arrangement_in canon)) }
+    ensures choice { IfOk result (λ canon. IsLeastChoice (C.county chart) (arrangement_in canon)) }
     ensures carried { IfOk result
-        (λ canon. Carries (renaming_of (C.county chart) (ascending (C.county chart))) (C.county chart)
+        (λ canon. Carries (renaming_of (C.county chart) (arrangement_in canon)) (C.county chart)
         (arranged_county canon)) }
     ensures canonical { IfOk result (λ canon. IsCanonCounty (arranged_county canon)) }
 {
@@ -160,19 +160,18 @@ pub fn canonise_in_order<C: Chart + Drop>(
     Ok(known_as_canonical(view))
 }
 
-/// The canonical county of a county in the profile, however it is kept: it is that of the ascending arrangement, its chains
-/// run and stand as their points tell, all other numbers follow from that, and it is the same map.
+/// The canonical county of a county in the profile, however it is kept: its chains run and stand as their points tell, where these
+/// leave a choice by the least text, all other numbers follow from that, and it is the same map.
 pub fn canonise_chart<C: Chart + Drop>(
     alloc: Global,
     chart: C,
 ) -> Result<CanonCounty<C>, AllocError>
     requires profile { IsInProfile (C.county chart) }
     ensures source { IfOk result (λ canon. source_of canon ≡ chart) }
-    ensures county { IfOk result
-        (λ canon. arranged_county canon ≡ arranged (C.county chart) (ascending (C.county chart))) }
-    ensures order { IfOk result (λ canon. arrangement_in canon ≡ ascending (C.county chart)) }
+    ensures county { IfOk result (λ canon. arranged_county canon ≡ arranged (C.county chart) (arrangement_in canon)) }
+    ensures choice { IfOk result (λ canon. IsLeastChoice (C.county chart) (arrangement_in canon)) }
     ensures carried { IfOk result
-        (λ canon. Carries (renaming_of (C.county chart) (ascending (C.county chart))) (C.county chart)
+        (λ canon. Carries (renaming_of (C.county chart) (arrangement_in canon)) (C.county chart)
         (arranged_county canon)) }
     ensures canonical { IfOk result (λ canon. IsCanonCounty (arranged_county canon)) }
 {
@@ -199,9 +198,9 @@ pub fn canonise<C: Chart + Drop>(
     alloc: Global,
     admitted: Admitted<C>,
 ) -> Result<(CanonCounty<C>, Renaming), AllocError>
-    ensures county { IfOk result
-        (λ pair. arranged_county pair.0 ≡ arranged (C.county admitted) (ascending (C.county admitted))) }
-    ensures renaming { IfOk result (λ pair. pair.1 ≡ renaming_of (C.county admitted) (ascending (C.county admitted))) }
+    ensures county { IfOk result (λ pair. arranged_county pair.0 ≡ arranged (C.county admitted) (arrangement_in pair.0)) }
+    ensures choice { IfOk result (λ pair. IsLeastChoice (C.county admitted) (arrangement_in pair.0)) }
+    ensures renaming { IfOk result (λ pair. pair.1 ≡ renaming_of (C.county admitted) (arrangement_in pair.0)) }
     ensures carried { IfOk result (λ pair. Carries pair.1 (C.county admitted) (arranged_county pair.0)) }
     ensures canonical { IfOk result (λ pair. IsCanonCounty (arranged_county pair.0)) }
 {
@@ -220,10 +219,11 @@ pub fn canonise_in<'a>(
     admitted: AdmittedIn<'a>,
 ) -> Result<(CanonCountyIn<'a>, Renaming), AllocError>
     ensures county { IfOk result
-        (λ pair. arranged_county pair.0
-        ≡ arranged (⟦<CountyIn<'a> as Chart>⟧.county admitted.entry) (ascending (⟦<CountyIn<'a> as Chart>⟧.county admitted.entry))) }
+        (λ pair. arranged_county pair.0 ≡ arranged (⟦<CountyIn<'a> as Chart>⟧.county admitted.entry) (arrangement_in pair.0)) }
+    ensures choice { IfOk result
+        (λ pair. IsLeastChoice (⟦<CountyIn<'a> as Chart>⟧.county admitted.entry) (arrangement_in pair.0)) }
     ensures renaming { IfOk result
-        (λ pair. pair.1 ≡ renaming_of (⟦<CountyIn<'a> as Chart>⟧.county admitted.entry) (ascending (⟦<CountyIn<'a> as Chart>⟧.county admitted.entry))) }
+        (λ pair. pair.1 ≡ renaming_of (⟦<CountyIn<'a> as Chart>⟧.county admitted.entry) (arrangement_in pair.0)) }
     ensures carried { IfOk result
         (λ pair. Carries pair.1 (⟦<CountyIn<'a> as Chart>⟧.county admitted.entry) (arranged_county pair.0)) }
     ensures canonical { IfOk result (λ pair. IsCanonCounty (arranged_county pair.0)) }

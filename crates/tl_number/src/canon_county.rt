@@ -3,8 +3,8 @@
 use crate::arranged::{Arranged, Standing};
 use tl_county::{County, CountyIn};
 
-/// What is known of a county in canonical form: its chains run and stand as their points tell, all numbers follow from that, and
-/// it is the same map as the county that it comes from.
+/// What is known of a county in canonical form: its chains run and stand as their points tell, where these leave a choice by the least
+/// text, all numbers follow from that, and it is the same map as the county that it comes from.
 #[derive(Drop)]
 pub struct Canonical;
 

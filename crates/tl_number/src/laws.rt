@@ -14,12 +14,11 @@ ghost use Rattle.tl_layout.specs.RecordText.{FitsRecord, text_of};
 ghost use Rattle.tl_layout.specs.declared.record_type.Record.{Record};
 ghost use Rattle.tl_number.specs.Accepted.{IsAccepted, IsCanonicalOf, IsCanonicalThrough, IsRefusal, RecordsRefusal};
 ghost use Rattle.tl_number.specs.Arrangement.{Arrangement, Arranges, arranged, ascending, renaming_of};
-ghost use Rattle.tl_number.specs.Canonical.{IsCanonical, IsArrangedList, KeepsChainNumbers};
+ghost use Rattle.tl_number.specs.Canonical.{IsCanonical, IsArrangedList, IsTidyList, KeepsChainNumbers};
 ghost use Rattle.tl_county.specs.Packing.{packed};
 ghost use Rattle.tl_number.specs.ArrangedCounty.{IsArranged};
 ghost use Rattle.tl_number.specs.Sights.{IsSight, plain};
-ghost use Rattle.tl_number.specs.Tidy.{HasShapesApart, IsChoice, IsLeastChoice, IsLeastTidyList, IsTidyList};
-ghost use Rattle.tl_number.specs.Tidy.{arranged_list, numbered_choice};
+ghost use Rattle.tl_number.specs.Tidy.{HasShapesApart, IsChoice, IsLeastChoice, arranged_list, numbered_choice};
 ghost use Rattle.tl_profile.specs.Choices.{choices};
 ghost use Rattle.tl_number.specs.RecordNumbers.{greatest_number, numbers_of};
 
@@ -36,10 +35,10 @@ pub fn arranged_lists_with_one_choice_are_equal()
         IsArrangedList xs → IsArrangedList ys → Carries r (county_of xs) (county_of ys) → KeepsChainNumbers r (county_of xs) → xs ≡ ys }
 {}
 
-/// A map has one canonical list at most: two of them are equal if their counties are the same.
-pub fn canonical_lists_of_one_county_are_equal()
+/// All canonical lists of a map have one text: two of them have it if their counties are the same.
+pub fn canonical_lists_of_one_county_have_one_text()
     ensures { (xs ys : List Record) →
-        IsCanonical xs → IsCanonical ys → AreSame (county_of xs) (county_of ys) → xs ≡ ys }
+        IsCanonical xs → IsCanonical ys → AreSame (county_of xs) (county_of ys) → text_of xs ≡ text_of ys }
 {}
 
 /// Any arrangement of a county whose polygons stand on sides gives a county that is the same, in canonical numbers for the
@@ -59,13 +58,17 @@ pub fn a_packed_county_is_read_back()
     ensures { (county : County) → IsCounty county → county_of (packed county) ≡ county }
 {}
 
-/// Each accepted list of records has exactly one canonical list: the packing of its county under the ascending
-/// arrangement.
-pub fn each_accepted_list_has_one_canonical_list()
-    ensures exists { (records : List Record) →
-        IsAccepted records →
-        IsCanonicalOf records (packed (arranged (county_of records) (ascending (county_of records)))) }
-    ensures only { (records c d : List Record) → IsCanonicalOf records c → IsCanonicalOf records d → c ≡ d }
+/// Each accepted list of records has a canonical list, and the packing of its county under any choice of least text is one. All
+/// its canonical lists have one text. Where no two chains have one shape, and none is its own reverse, there is one canonical list:
+/// the packing of the county under the ascending arrangement.
+pub fn each_accepted_list_has_one_canonical_text()
+    ensures exists { (records : List Record) → IsAccepted records → (answer : List Record) × IsCanonicalOf records answer }
+    ensures choice { (records : List Record) (steps : Arrangement) →
+        IsAccepted records → IsLeastChoice (county_of records) steps → IsCanonicalOf records (arranged_list (county_of records) steps) }
+    ensures only { (records c d : List Record) → IsCanonicalOf records c → IsCanonicalOf records d → text_of c ≡ text_of d }
+    ensures apart { (records answer : List Record) →
+        HasShapesApart (county_of records) → IsCanonicalOf records answer →
+        answer ≡ arranged_list (county_of records) (ascending (county_of records)) }
 {}
 
 /// A canonical list has no more records of any type than the list of records that fit, of which it is one. If there are at
@@ -90,27 +93,27 @@ pub fn accepted_or_one_refusal()
         IsRefusal records refusal → IsRefusal records other → refusal ≡ other }
 {}
 
-/// Canonical lists of two accepted lists are equal exactly if the counties of these are the same; and a canonical list is
-/// accepted and its own canonical list.
-pub fn one_canonical_list_exactly_for_one_map()
+/// Canonical lists of two accepted lists have one text if the counties of these are the same, and are equal only then; and a
+/// canonical list is accepted and its own canonical list.
+pub fn one_canonical_text_for_one_map()
     ensures same { (xs ys c d : List Record) →
-        IsCanonicalOf xs c → IsCanonicalOf ys d → AreSame (county_of xs) (county_of ys) → c ≡ d }
+        IsCanonicalOf xs c → IsCanonicalOf ys d → AreSame (county_of xs) (county_of ys) → text_of c ≡ text_of d }
     ensures equal { (xs ys c d : List Record) →
         IsCanonicalOf xs c → IsCanonicalOf ys d → c ≡ d → AreSame (county_of xs) (county_of ys) }
     ensures itself { (xs c : List Record) → IsCanonicalOf xs c → IsCanonicalOf c c }
 {}
 
-/// Through each sight, which shows all of a county or less, an accepted list has exactly one canonical list. Those of two accepted
-/// lists are equal exactly if what is seen of their counties is the same. And a canonical list is its own through the sight, and
-/// as it is.
-pub fn one_canonical_list_through_each_sight()
+/// Through each sight, which shows all of a county or less, an accepted list has canonical lists, all of one text. Those of two
+/// accepted lists have one text if what is seen of their counties is the same, and are equal only then. And a canonical list is its own
+/// through the sight, and as it is.
+pub fn one_canonical_text_through_each_sight()
     ensures exists { (seen : County → County) (records : List Record) →
         IsSight seen → IsAccepted records → (answer : List Record) × IsCanonicalThrough seen records answer }
     ensures only { (seen : County → County) (records c d : List Record) →
-        IsSight seen → IsCanonicalThrough seen records c → IsCanonicalThrough seen records d → c ≡ d }
+        IsSight seen → IsCanonicalThrough seen records c → IsCanonicalThrough seen records d → text_of c ≡ text_of d }
     ensures same { (seen : County → County) (xs ys c d : List Record) →
         IsSight seen → IsCanonicalThrough seen xs c → IsCanonicalThrough seen ys d →
-        AreSame (seen (county_of xs)) (seen (county_of ys)) → c ≡ d }
+        AreSame (seen (county_of xs)) (seen (county_of ys)) → text_of c ≡ text_of d }
     ensures equal { (seen : County → County) (xs ys c d : List Record) →
         IsSight seen → IsCanonicalThrough seen xs c → IsCanonicalThrough seen ys d →
         c ≡ d → AreSame (seen (county_of xs)) (seen (county_of ys)) }
@@ -119,18 +122,18 @@ pub fn one_canonical_list_through_each_sight()
 {}
 
 /// To see counties under a mask is a sight, and under the mask that leaves nothing out it is the county as it is. So under each mask
-/// an accepted list has exactly one canonical list. Those of two accepted lists are equal exactly if their counties are the same
-/// under the mask. And a canonical list is its own under the mask, and as it is.
-pub fn one_canonical_list_under_each_mask()
+/// an accepted list has canonical lists, all of one text. Those of two accepted lists have one text if their counties are the same
+/// under the mask, and are equal only then. And a canonical list is its own under the mask, and as it is.
+pub fn one_canonical_text_under_each_mask()
     ensures sight { (mask : Mask) → IsSight (masked mask) }
     ensures no_mask { masked no_mask ≡ plain }
     ensures exists { (mask : Mask) (records : List Record) →
         IsAccepted records → (answer : List Record) × IsCanonicalThrough (masked mask) records answer }
     ensures only { (mask : Mask) (records c d : List Record) →
-        IsCanonicalThrough (masked mask) records c → IsCanonicalThrough (masked mask) records d → c ≡ d }
+        IsCanonicalThrough (masked mask) records c → IsCanonicalThrough (masked mask) records d → text_of c ≡ text_of d }
     ensures same { (mask : Mask) (xs ys c d : List Record) →
         IsCanonicalThrough (masked mask) xs c → IsCanonicalThrough (masked mask) ys d →
-        AreSame (masked mask (county_of xs)) (masked mask (county_of ys)) → c ≡ d }
+        AreSame (masked mask (county_of xs)) (masked mask (county_of ys)) → text_of c ≡ text_of d }
     ensures equal { (mask : Mask) (xs ys c d : List Record) →
         IsCanonicalThrough (masked mask) xs c → IsCanonicalThrough (masked mask) ys d →
         c ≡ d → AreSame (masked mask (county_of xs)) (masked mask (county_of ys)) }
@@ -167,19 +170,17 @@ pub fn tidy_lists_are_those_of_choices()
         (steps : Arrangement) × IsChoice county steps × (records ≡ arranged_list county steps) }
 {}
 
-/// Of a county whose polygons stand on sides, some choice has the least text. Its list is of least text among the tidy lists of the map,
-/// and each such list is that of a choice of least text. Lists of least text have one text if their maps are the same.
-pub fn one_least_text_for_each_map()
+/// Of a county whose polygons stand on sides, some choice has the least text. The list of such a choice is a canonical list of the same
+/// map, and each canonical list of the same map is that of such a choice.
+pub fn canonical_lists_are_those_of_least_choices()
     ensures exists { (county : County) →
         IsCounty county → AllKeysStandIn (polygons_along county.chains) (polygon_keys county) →
         (number : ℕ) × (number < choices county) × IsLeastChoice county (numbered_choice county number) }
     ensures list { (county : County) (steps : Arrangement) →
         IsCounty county → AllKeysStandIn (polygons_along county.chains) (polygon_keys county) → IsLeastChoice county steps →
-        IsLeastTidyList (arranged_list county steps) × AreSame county (county_of (arranged_list county steps)) }
+        IsCanonical (arranged_list county steps) × AreSame county (county_of (arranged_list county steps)) }
     ensures choice { (county : County) (records : List Record) →
         IsCounty county → AllKeysStandIn (polygons_along county.chains) (polygon_keys county) →
-        IsLeastTidyList records → AreSame county (county_of records) →
+        IsCanonical records → AreSame county (county_of records) →
         (steps : Arrangement) × IsLeastChoice county steps × (records ≡ arranged_list county steps) }
-    ensures one_text { (xs ys : List Record) →
-        IsLeastTidyList xs → IsLeastTidyList ys → AreSame (county_of xs) (county_of ys) → text_of xs ≡ text_of ys }
 {}

@@ -51,11 +51,11 @@ pub use heads::HeadRoom;
 pub use laws::{
     a_packed_county_is_read_back, accepted_or_one_refusal, an_arrangement_gives_an_arranged_list,
     arranged_lists_are_the_packing_of_their_county, arranged_lists_with_one_choice_are_equal,
-    canonical_lists_keep_the_limits, canonical_lists_of_one_county_are_equal, choices_are_numbered,
-    each_accepted_list_has_one_canonical_list, one_canonical_list_exactly_for_one_map,
-    one_canonical_list_through_each_sight, one_canonical_list_under_each_mask,
-    one_choice_where_shapes_are_apart, one_least_text_for_each_map,
-    tidy_lists_are_those_of_choices,
+    canonical_lists_are_those_of_least_choices, canonical_lists_keep_the_limits,
+    canonical_lists_of_one_county_have_one_text, choices_are_numbered,
+    each_accepted_list_has_one_canonical_text, one_canonical_text_for_one_map,
+    one_canonical_text_through_each_sight, one_canonical_text_under_each_mask,
+    one_choice_where_shapes_are_apart, tidy_lists_are_those_of_choices,
 };
 pub use masking::{canonise_in_masked, canonise_masked};
 pub use name_records::{LandmarkLinkRecords, LandmarkRecords, NameRecords};

@@ -5,6 +5,7 @@ ghost use Rattle.tl_cert.specs.MaskedCounty.{masked};
 ghost use Rattle.tl_county.specs.Renumbering.{Carries};
 ghost use Rattle.tl_number.specs.Arrangement.{arranged, renaming_of};
 ghost use Rattle.tl_number.specs.CanonCounties.{IsCanonCounty};
+ghost use Rattle.tl_number.specs.Tidy.{IsLeastChoice};
 ghost use Rattle.tl_number.specs.Views.{arranged_county, arrangement_in};
 
 use crate::arranging::{canonise_chart, paired};
@@ -28,6 +29,7 @@ pub fn canonise_masked<C: Chart + Drop>(
 ) -> Result<(CanonCounty<Masked<C>>, Renaming), AllocError>
     ensures county { IfOk result
         (λ pair. arranged_county pair.0 ≡ arranged (masked mask (C.county admitted)) (arrangement_in pair.0)) }
+    ensures choice { IfOk result (λ pair. IsLeastChoice (masked mask (C.county admitted)) (arrangement_in pair.0)) }
     ensures renaming { IfOk result (λ pair. pair.1 ≡ renaming_of (masked mask (C.county admitted)) (arrangement_in pair.0)) }
     ensures carried { IfOk result (λ pair. Carries pair.1 (masked mask (C.county admitted)) (arranged_county pair.0)) }
     ensures canonical { IfOk result (λ pair. IsCanonCounty (arranged_county pair.0)) }
@@ -54,6 +56,8 @@ pub fn canonise_in_masked<'a>(
     ensures county { IfOk result
         (λ pair. arranged_county pair.0
         ≡ arranged (masked mask (⟦<CountyIn<'a> as Chart>⟧.county admitted.entry)) (arrangement_in pair.0)) }
+    ensures choice { IfOk result
+        (λ pair. IsLeastChoice (masked mask (⟦<CountyIn<'a> as Chart>⟧.county admitted.entry)) (arrangement_in pair.0)) }
     ensures renaming { IfOk result
         (λ pair. pair.1 ≡ renaming_of (masked mask (⟦<CountyIn<'a> as Chart>⟧.county admitted.entry)) (arrangement_in pair.0)) }
     ensures carried { IfOk result

@@ -13,7 +13,7 @@ use std::alloc::Global;
 use tigercanon::Fault;
 use tl_county::{Chart, link};
 use tl_layout::Record;
-use tl_number::{CanonCounty, canonise, each_accepted_list_has_one_canonical_list};
+use tl_number::{CanonCounty, canonise, each_accepted_list_has_one_canonical_text};
 use tl_profile::admit;
 use tl_write::{CountedOut, write_to};
 
@@ -22,7 +22,7 @@ fn canonical_county(alloc: Global, records: Vec<Record>) -> Result<CanonCounty, 
     requires { IsWithinLimit most_records records.items }
     ensures { IfOk result (λ canon. IsCanonicalOf records.items (packed (⟦<CanonCounty as Chart>⟧.county canon))) }
 {
-    each_accepted_list_has_one_canonical_list();
+    each_accepted_list_has_one_canonical_text();
     let county = link(alloc, records)?;
     let admitted = admit(alloc, county)?;
     let (canon, _) = canonise(alloc, admitted)?;

@@ -1,32 +1,39 @@
-use Rattle.std.proofs.Common.{sym, ap, ◌∙◌, subst}
+use Rattle.std.proofs.Common.{◌≡◌, ◌∙◌, List, sym, ap, subst}
 use Rattle.tl_county.specs.County.{County}
 use Rattle.tl_county.specs.CountyRules.{IsCounty, tlids}
 use Rattle.tl_county.specs.Renumbering.{AreSame, Carries}
 use Rattle.tl_county.proofs.ByKey.Keys.{nat_keys, times-permutation}
 use Rattle.tl_profile.specs.Profile.{IsInProfile}
-use Rattle.tl_number.specs.Arrangement.{arranged, arranged_tlids, ascending, renaming_of}
+use Rattle.tl_profile.specs.ShapeOrder.{IsShapeOrder}
+use Rattle.tl_profile.specs.declared.chain_walk.ChainWalk.{ChainWalk}
+use Rattle.tl_number.specs.Arrangement.{Arrangement, arranged, arranged_tlids, renaming_of}
 use Rattle.tl_number.specs.CanonCounties.{IsCanonCounty}
-use Rattle.tl_number.specs.ViewFacts.{NamesEachOnce, stepped}
+use Rattle.tl_number.specs.Tidy.{IsLeastChoice}
+use Rattle.tl_number.specs.ViewFacts.{stepped}
 use Rattle.tl_number.specs.Steps.{arrangement_of}
 use Rattle.tl_number.proofs.AscendingSteps.{steps_ascend, steps_there}
-use Rattle.tl_number.proofs.Ascending.{ascending_arranges, ascending_least, sides_in_profile}
+use Rattle.tl_number.proofs.Ascending.{ascending_is_least, sides_in_profile}
+use Rattle.tl_number.proofs.CanonLists.{least_choice_county}
 use Rattle.tl_number.proofs.Carrying.{arrangement_carries}
-use Rattle.tl_number.proofs.ArrangedCounties.{is_arranged}
 use Rattle.tl_number.proofs.arranging.canonise_in_order.Goals as goal
 
--- the county of the ascending arrangement is canonical, and the renaming that belongs to it carries
-module _ (county : County) (is : IsCounty county) (profile : IsInProfile county) where
-  canonical : IsCanonCounty (arranged county (ascending county))
-  canonical = record {
-    in_form = is_arranged county (ascending county) is (ascending_arranges county is profile) (sides_in_profile county is profile);
-    least = ascending_least county is profile;
-  }
+-- the steps along the shapes in their order are a choice of least text
+least_steps : (county : County) → IsCounty county → IsInProfile county → (walks : List ChainWalk) → IsShapeOrder county walks
+    → (steps : List ChainWalk) → steps ≡ walks → IsLeastChoice county (arrangement_of county steps)
+least_steps county is profile walks order steps e =
+    subst (IsLeastChoice county) (sym (steps_ascend county walks order steps e)) (ascending_is_least county is profile)
 
-  carried : Carries (renaming_of county (ascending county)) county (arranged county (ascending county))
-  carried = arrangement_carries county (ascending county) is (ascending_arranges county is profile) (sides_in_profile county is profile)
+-- the county of a choice of least text is canonical, and the renaming that belongs to it carries
+module _ (county : County) (is : IsCounty county) (profile : IsInProfile county) (steps : Arrangement) (least : IsLeastChoice county steps)
+  where
+    canonical : IsCanonCounty (arranged county steps)
+    canonical = least_choice_county county steps is (sides_in_profile county is profile) least
 
-  same : AreSame county (arranged county (ascending county))
-  same = record { by = renaming_of county (ascending county); carries = carried }
+    carried : Carries (renaming_of county steps) county (arranged county steps)
+    carried = arrangement_carries county steps is least.choice.arranges (sides_in_profile county is profile)
+
+    same : AreSame county (arranged county steps)
+    same = record { by = renaming_of county steps; carries = carried }
 
 pub arrange-requires-clause-there : goal.arrange-requires-clause-there
 arrange-requires-clause-there g c =
@@ -35,9 +42,10 @@ arrange-requires-clause-there g c =
 pub arrange-requires-clause-once : goal.arrange-requires-clause-once
 arrange-requires-clause-once g c =
     let county = g.C.Chart.county c.args.chart in
-    subst (NamesEachOnce county) (sym (steps_ascend county c.args.order.now.walks c.requires.shapes.walks c.in_ok-steps.steps.items c.in_ok-steps.ensures))
-    (λ tlid. sym (times-permutation nat_keys tlid (arranged_tlids (ascending county)) (tlids county)
-    (ascending_arranges county (g.met.C.Chart.is_county c.args.chart) c.requires.profile)))
+    let steps = arrangement_of county c.in_ok-steps.steps.items in
+    let least = least_steps county (g.met.C.Chart.is_county c.args.chart) c.requires.profile c.args.order.now.walks c.requires.shapes.walks
+    c.in_ok-steps.steps.items c.in_ok-steps.ensures in
+    λ tlid. sym (times-permutation nat_keys tlid (arranged_tlids steps) (tlids county) least.choice.arranges)
 
 pub arrange-requires-clause-sides : goal.arrange-requires-clause-sides
 arrange-requires-clause-sides g c =
@@ -46,44 +54,53 @@ arrange-requires-clause-sides g c =
 pub known_as_canonical-requires-clause-canonical : goal.known_as_canonical-requires-clause-canonical
 known_as_canonical-requires-clause-canonical g c =
     let county = g.C.Chart.county c.args.chart in
-    let ascends = steps_ascend county c.args.order.now.walks c.requires.shapes.walks c.in_ok-steps.steps.items c.in_ok-steps.ensures in
-    subst IsCanonCounty (sym (c.in_ok-view.ensures.county ∙ ap (arranged county) ascends))
-    (canonical county (g.met.C.Chart.is_county c.args.chart) c.requires.profile)
+    let is = g.met.C.Chart.is_county c.args.chart in
+    let least = least_steps county is c.requires.profile c.args.order.now.walks c.requires.shapes.walks
+    c.in_ok-steps.steps.items c.in_ok-steps.ensures in
+    subst IsCanonCounty (sym c.in_ok-view.ensures.county)
+    (canonical county is c.requires.profile (arrangement_of county c.in_ok-steps.steps.items) least)
 
 pub known_as_canonical-requires-clause-same : goal.known_as_canonical-requires-clause-same
 known_as_canonical-requires-clause-same g c =
     let county = g.C.Chart.county c.args.chart in
+    let is = g.met.C.Chart.is_county c.args.chart in
     let view = c.in_ok-view.view in
-    let ascends = steps_ascend county c.args.order.now.walks c.requires.shapes.walks c.in_ok-steps.steps.items c.in_ok-steps.ensures in
+    let least = least_steps county is c.requires.profile c.args.order.now.walks c.requires.shapes.walks
+    c.in_ok-steps.steps.items c.in_ok-steps.ensures in
     subst (λ source. AreSame (g.C.Chart.county source) (stepped (g.C.Chart.county view.chart) view.steps.items))
     (sym c.in_ok-view.ensures.source)
-    (subst (AreSame county) (sym (c.in_ok-view.ensures.county ∙ ap (arranged county) ascends))
-    (same county (g.met.C.Chart.is_county c.args.chart) c.requires.profile))
+    (subst (AreSame county) (sym c.in_ok-view.ensures.county)
+    (same county is c.requires.profile (arrangement_of county c.in_ok-steps.steps.items) least))
 
 pub returns-clause-source_county : goal.returns-clause-source_county
 returns-clause-source_county g c = ap g.C.Chart.county (c.known_as_canonical.ensures.source ∙ c.in_ok-view.ensures.source)
 
 pub returns-clause-county : goal.returns-clause-county
 returns-clause-county g c =
-    let county = g.C.Chart.county c.args.chart in
-    let ascends = steps_ascend county c.args.order.now.walks c.requires.shapes.walks c.in_ok-steps.steps.items c.in_ok-steps.ensures in
-    (λ i. stepped (g.C.Chart.county (c.known_as_canonical.ensures.source i)) (c.known_as_canonical.ensures.order i).items)
-    ∙ c.in_ok-view.ensures.county ∙ ap (arranged county) ascends
+    let canon = c.known_as_canonical.result in
+    ap (λ county. arranged county (arrangement_of (g.C.Chart.county canon.chart) canon.steps.items)) (returns-clause-source_county g c)
 
-pub returns-clause-order : goal.returns-clause-order
-returns-clause-order g c =
+pub returns-clause-choice : goal.returns-clause-choice
+returns-clause-choice g c =
     let county = g.C.Chart.county c.args.chart in
-    (λ i. arrangement_of (g.C.Chart.county (c.known_as_canonical.ensures.source i)) (c.known_as_canonical.ensures.order i).items)
-    ∙ (λ i. arrangement_of (g.C.Chart.county (c.in_ok-view.ensures.source i)) (c.in_ok-view.ensures.order i).items)
-    ∙ steps_ascend county c.args.order.now.walks c.requires.shapes.walks c.in_ok-steps.steps.items c.in_ok-steps.ensures
+    subst (IsLeastChoice county)
+    (sym ((λ i. arrangement_of (g.C.Chart.county (c.known_as_canonical.ensures.source i)) (c.known_as_canonical.ensures.order i).items)
+    ∙ (λ i. arrangement_of (g.C.Chart.county (c.in_ok-view.ensures.source i)) (c.in_ok-view.ensures.order i).items)))
+    (least_steps county (g.met.C.Chart.is_county c.args.chart) c.requires.profile c.args.order.now.walks c.requires.shapes.walks
+    c.in_ok-steps.steps.items c.in_ok-steps.ensures)
 
 pub returns-clause-carried : goal.returns-clause-carried
 returns-clause-carried g c =
     let county = g.C.Chart.county c.args.chart in
-    subst (Carries (renaming_of county (ascending county)) county) (sym (returns-clause-county g c))
-    (carried county (g.met.C.Chart.is_county c.args.chart) c.requires.profile)
+    let canon = c.known_as_canonical.result in
+    let steps = arrangement_of (g.C.Chart.county canon.chart) canon.steps.items in
+    subst (Carries (renaming_of county steps) county) (sym (returns-clause-county g c))
+    (carried county (g.met.C.Chart.is_county c.args.chart) c.requires.profile steps (returns-clause-choice g c))
 
 pub returns-clause-canonical : goal.returns-clause-canonical
 returns-clause-canonical g c =
+    let county = g.C.Chart.county c.args.chart in
+    let canon = c.known_as_canonical.result in
     subst IsCanonCounty (sym (returns-clause-county g c))
-    (canonical (g.C.Chart.county c.args.chart) (g.met.C.Chart.is_county c.args.chart) c.requires.profile)
+    (canonical county (g.met.C.Chart.is_county c.args.chart) c.requires.profile
+    (arrangement_of (g.C.Chart.county canon.chart) canon.steps.items) (returns-clause-choice g c))

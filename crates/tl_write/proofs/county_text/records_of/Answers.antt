@@ -1,23 +1,16 @@
 use Rattle.std.proofs.Common.{◌++◌, ◌∙◌, List, sym, ap, subst}
 use Rattle.tl_layout.specs.declared.record_type.Record.{Record}
 use Rattle.tl_county.specs.Packing.{packed}
-use Rattle.tl_county.proofs.Packing.PackedCounty.{packed_county}
 use Rattle.std.proofs.Math.Logic.{∥∥₁_elim}
 use Rattle.tl_number.specs.Canonical.{IsCanonical}
 use Rattle.tl_number.specs.CanonCounties.{IsCanonCounty, IsCanonCounty-prop}
-use Rattle.tl_number.specs.ArrangedCounty.{IsLeast}
 use Rattle.tl_number.specs.ViewFacts.{stepped}
-use Rattle.tl_number.proofs.ArrangedPacking.{packed_arranged}
+use Rattle.tl_number.proofs.CanonLists.{canonical_packing}
 use Rattle.tl_write.proofs.county_text.records_of.Goals as goal
 
 pub returns-clause-canonical : goal.returns-clause-canonical
 returns-clause-canonical g c =
     let county = stepped (g.C.Chart.county c.args.county.now.chart) c.args.county.now.steps.items in
-    let is = c.args.county.now.whole.is_county in
     let known : IsCanonCounty county = ∥∥₁_elim c.args.county.now.stands (IsCanonCounty-prop county) (λ h. h.0) in
-    let canonical : IsCanonical (packed county) = record {
-      in_form = packed_arranged county is known.in_form;
-      least = subst IsLeast (sym (packed_county county is)) known.least;
-    } in
     subst IsCanonical (sym (c.in_ok-give_records.ensures.given ∙ ap (λ (xs : List Record). xs ++ packed county)
-    c.new-records.ensures.items)) canonical
+    c.new-records.ensures.items)) (canonical_packing county c.args.county.now.whole.is_county known)

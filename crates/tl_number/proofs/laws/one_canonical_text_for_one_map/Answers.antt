@@ -1,9 +1,9 @@
 use Rattle.tl_number.specs.Sights.{plain}
-use Rattle.tl_number.proofs.Accepted.{plain_sight, same_one_canonical, one_canonical_same, canonical_of_itself}
-use Rattle.tl_number.proofs.laws.one_canonical_list_exactly_for_one_map.Goals as goal
+use Rattle.tl_number.proofs.Accepted.{plain_sight, same_canonical_text, one_canonical_same, canonical_of_itself}
+use Rattle.tl_number.proofs.laws.one_canonical_text_for_one_map.Goals as goal
 
 pub returns-clause-same : goal.returns-clause-same
-returns-clause-same c = same_one_canonical plain plain_sight
+returns-clause-same c = same_canonical_text plain plain_sight
 
 pub returns-clause-equal : goal.returns-clause-equal
 returns-clause-equal c = one_canonical_same plain plain_sight

@@ -1,19 +1,18 @@
 use Rattle.tl_county.specs.County.{county_of}
 use Rattle.tl_county.proofs.Sameness.Equivalence.{same-reflexive}
-use Rattle.tl_number.proofs.Accepted.{same_one_canonical, one_canonical_same, canonical_of_itself, canonical_as_it_is}
-use Rattle.tl_number.proofs.Ascending.{canonical_list, canonical_exists}
-use Rattle.tl_number.proofs.laws.one_canonical_list_through_each_sight.Goals as goal
+use Rattle.tl_number.proofs.Accepted.{same_canonical_text, one_canonical_same, canonical_of_itself, canonical_as_it_is}
+use Rattle.tl_number.proofs.Ascending.{canonical_exists}
+use Rattle.tl_number.proofs.laws.one_canonical_text_through_each_sight.Goals as goal
 
 pub returns-clause-exists : goal.returns-clause-exists
-returns-clause-exists c = λ seen records sight accepted.
-    (canonical_list (seen (county_of records)), canonical_exists seen sight records accepted)
+returns-clause-exists c = λ seen records sight. canonical_exists seen sight records
 
 pub returns-clause-only : goal.returns-clause-only
 returns-clause-only c = λ seen records c d sight h k.
-    same_one_canonical seen sight records records c d h k (same-reflexive (seen (county_of records)))
+    same_canonical_text seen sight records records c d h k (same-reflexive (seen (county_of records)))
 
 pub returns-clause-same : goal.returns-clause-same
-returns-clause-same c = λ seen xs ys c d sight. same_one_canonical seen sight xs ys c d
+returns-clause-same c = λ seen xs ys c d sight. same_canonical_text seen sight xs ys c d
 
 pub returns-clause-equal : goal.returns-clause-equal
 returns-clause-equal c = λ seen xs ys c d sight. one_canonical_same seen sight xs ys c d

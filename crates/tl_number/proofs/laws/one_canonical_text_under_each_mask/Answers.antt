@@ -2,10 +2,10 @@ use Rattle.tl_county.specs.County.{county_of}
 use Rattle.tl_county.proofs.Sameness.Equivalence.{same-reflexive}
 use Rattle.tl_cert.specs.MaskedCounty.{masked}
 use Rattle.tl_cert.proofs.MaskedCounties.{no_mask_is_plain}
-use Rattle.tl_number.proofs.Accepted.{same_one_canonical, one_canonical_same, canonical_of_itself, canonical_as_it_is}
-use Rattle.tl_number.proofs.Ascending.{canonical_list, canonical_exists}
+use Rattle.tl_number.proofs.Accepted.{same_canonical_text, one_canonical_same, canonical_of_itself, canonical_as_it_is}
+use Rattle.tl_number.proofs.Ascending.{canonical_exists}
 use Rattle.tl_number.proofs.MaskedSights.{masked_sight}
-use Rattle.tl_number.proofs.laws.one_canonical_list_under_each_mask.Goals as goal
+use Rattle.tl_number.proofs.laws.one_canonical_text_under_each_mask.Goals as goal
 
 pub returns-clause-sight : goal.returns-clause-sight
 returns-clause-sight c = masked_sight
@@ -14,15 +14,14 @@ pub returns-clause-no_mask : goal.returns-clause-no_mask
 returns-clause-no_mask c = no_mask_is_plain
 
 pub returns-clause-exists : goal.returns-clause-exists
-returns-clause-exists c = λ mask records accepted.
-    (canonical_list (masked mask (county_of records)), canonical_exists (masked mask) (masked_sight mask) records accepted)
+returns-clause-exists c = λ mask. canonical_exists (masked mask) (masked_sight mask)
 
 pub returns-clause-only : goal.returns-clause-only
 returns-clause-only c = λ mask records c d h k.
-    same_one_canonical (masked mask) (masked_sight mask) records records c d h k (same-reflexive (masked mask (county_of records)))
+    same_canonical_text (masked mask) (masked_sight mask) records records c d h k (same-reflexive (masked mask (county_of records)))
 
 pub returns-clause-same : goal.returns-clause-same
-returns-clause-same c = λ mask. same_one_canonical (masked mask) (masked_sight mask)
+returns-clause-same c = λ mask. same_canonical_text (masked mask) (masked_sight mask)
 
 pub returns-clause-equal : goal.returns-clause-equal
 returns-clause-equal c = λ mask. one_canonical_same (masked mask) (masked_sight mask)

@@ -1,4 +1,4 @@
--- A tidy county of least text is one whose packing is a tidy list of least text.
+-- A canonical county is one whose packing is a canonical list.
 use Rattle.std.proofs.Common.{◌≡◌, sym, subst}
 use Rattle.tl_county.specs.County.{County, county_of}
 use Rattle.tl_county.specs.CountyRules.{IsCounty, polygon_keys, polygons_along, AllKeysStandIn}
@@ -7,13 +7,14 @@ use Rattle.tl_county.specs.Renumbering.{AreSame}
 use Rattle.tl_county.proofs.Packing.PackedCounty.{packed_county}
 use Rattle.tl_county.proofs.Rules.LinkedCounty.{county-is_county}
 use Rattle.tl_number.specs.Arrangement.{Arrangement, arranged}
-use Rattle.tl_number.specs.ArrangedCounty.{IsArranged}
-use Rattle.tl_number.specs.LeastTidyCounties.{IsLeastTidyCounty}
-use Rattle.tl_number.specs.Tidy.{IsTidy, IsTidyList, IsNotAfter, IsLeastTidyList, IsLeastChoice}
+use Rattle.tl_number.specs.ArrangedCounty.{IsArranged, IsTidy}
+use Rattle.tl_number.specs.CanonCounties.{IsCanonCounty}
+use Rattle.tl_number.specs.Canonical.{IsCanonical, IsNotAfter, IsTidyList}
+use Rattle.tl_number.specs.Tidy.{IsLeastChoice}
 use Rattle.tl_number.proofs.ArrangedCounties.{arranged_county}
 use Rattle.tl_number.proofs.ArrangedPacking.{packed_arranged}
 use Rattle.tl_number.proofs.RepackedPolygons.{arranged_list_is_packed}
-use Rattle.tl_number.proofs.TidyLists.{least_choice_is_least}
+use Rattle.tl_number.proofs.TidyLists.{least_choice_is_canonical}
 
 pub packed_tidy : (county : County) → IsCounty county → IsArranged county → IsTidy county → IsTidyList (packed county)
 packed_tidy county is form tidy = record {
@@ -21,8 +22,8 @@ packed_tidy county is form tidy = record {
   tidy = subst IsTidy (sym (packed_county county is)) tidy;
 }
 
-pub least_list : (county : County) → IsCounty county → IsLeastTidyCounty county → IsLeastTidyList (packed county)
-least_list county is h =
+pub canonical_packing : (county : County) → IsCounty county → IsCanonCounty county → IsCanonical (packed county)
+canonical_packing county is h =
     let tidy : IsTidyList (packed county) = packed_tidy county is h.in_form h.tidy in
     record {
       in_form = tidy.in_form;
@@ -32,8 +33,8 @@ least_list county is h =
           (subst (λ c. AreSame c (county_of other)) (packed_county county is) s));
     }
 
-pub least_county : (county : County) → IsCounty county → IsLeastTidyList (packed county) → IsLeastTidyCounty county
-least_county county is h =
+pub canonical_county : (county : County) → IsCounty county → IsCanonical (packed county) → IsCanonCounty county
+canonical_county county is h =
     let back : county_of (packed county) ≡ county = packed_county county is in
     record {
       in_form = subst IsArranged back h.in_form.numbers;
@@ -46,7 +47,7 @@ least_county county is h =
 -- The county of a choice of least text is one.
 pub least_choice_county : (county : County) (steps : Arrangement) → IsCounty county
     → AllKeysStandIn (polygons_along county.chains) (polygon_keys county) → IsLeastChoice county steps
-    → IsLeastTidyCounty (arranged county steps)
+    → IsCanonCounty (arranged county steps)
 least_choice_county county steps is sides h =
-    least_county (arranged county steps) (arranged_county county steps is h.choice.arranges sides)
-    (least_choice_is_least county is sides steps h)
+    canonical_county (arranged county steps) (arranged_county county steps is h.choice.arranges sides)
+    (least_choice_is_canonical county is sides steps h)

@@ -1,0 +1,19 @@
+use Rattle.tl_county.specs.County.{county_of}
+use Rattle.tl_county.proofs.Sameness.Equivalence.{same-reflexive}
+use Rattle.tl_number.specs.Sights.{plain}
+use Rattle.tl_number.proofs.Accepted.{plain_sight, same_canonical_text}
+use Rattle.tl_number.proofs.Ascending.{canonical_exists, choice_is_canonical, ascends_where_apart}
+use Rattle.tl_number.proofs.laws.each_accepted_list_has_one_canonical_text.Goals as goal
+
+pub returns-clause-exists : goal.returns-clause-exists
+returns-clause-exists c = canonical_exists plain plain_sight
+
+pub returns-clause-choice : goal.returns-clause-choice
+returns-clause-choice c = λ records steps accepted. choice_is_canonical plain plain_sight records accepted steps
+
+pub returns-clause-only : goal.returns-clause-only
+returns-clause-only c = λ records c d h k.
+    same_canonical_text plain plain_sight records records c d h k (same-reflexive (county_of records))
+
+pub returns-clause-apart : goal.returns-clause-apart
+returns-clause-apart c = λ records answer apart h. ascends_where_apart plain plain_sight records h.accepted apart answer h
