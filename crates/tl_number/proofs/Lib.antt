@@ -62,6 +62,8 @@ pub mod OneChoice
 pub mod LeastCounties
 pub mod MovedChoice
 pub mod MovedSteps
+pub mod ChosenSteps
+pub mod LeastNumbers
 pub mod RecordTexts
 pub mod GroupRests
 pub mod TypeOrders
