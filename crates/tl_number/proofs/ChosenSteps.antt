@@ -1,7 +1,7 @@
 -- Walks in the order of shapes, moved at their open places, are the steps of the choice of a number.
 use Rattle.std.proofs.Common.{◌≡◌, ◌<◌, ◌≤◌, ◌+◌, ◌/◌, ◌%◌, ℕ, zero, suc, List, [], ◌∷◌, ◌++◌, map, take, drop, length, Bool, true, false}
 use Rattle.std.proofs.Common.{cond}
-use Rattle.std.proofs.Common.{Ordering, nat_cmp, sym, refl, ap, ◌∙◌, subst, arith}
+use Rattle.std.proofs.Common.{Ordering, sym, refl, ap, ◌∙◌, subst, arith}
 use Rattle.std.proofs.lemmas.List.{drop-map, length-map, map-append, take-map}
 use Rattle.std.specs.List.{AllByRecursion, insert}
 use Rattle.tl_shape.specs.PointOrder.{points_cmp}
@@ -15,7 +15,7 @@ use Rattle.tl_profile.specs.ShapeOrder.{AreWalksInOrder, points_along}
 use Rattle.tl_profile.specs.declared.chain_walk.ChainWalk.{ChainWalk}
 use Rattle.tl_profile.specs.declared.open_places.OpenPlace.{OpenPlace}
 use Rattle.tl_profile.proofs.CountedChoices.{alike_few}
-use Rattle.tl_number.specs.Arrangement.{arranged_tlids, ascending}
+use Rattle.tl_number.specs.Arrangement.{arranged_tlids}
 use Rattle.tl_number.specs.MovedSteps.{AreWithin, other_way}
 use Rattle.tl_number.specs.NumberedChoices.{turned_by, stood, chosen, moved}
 use Rattle.tl_number.specs.Steps.{arrangement_of, AreSteps, tlid_at}
@@ -54,7 +54,7 @@ module _ {X Y K : Type 0} (cmp : K → K → Ordering) (either : K → Bool) (ke
       (stood turn_told g w (tell x) (map tell later.0, later.1))
   stood_told g w x later =
       let put = insert_told later.0 (later.1 % g) (turned_by turn (later.1 / g % w) x)
-          ∙ ap (insert (map tell later.0) (later.1 % g)) (turned_told (later.1 / g % w) x) in
+      ∙ ap (insert (map tell later.0) (later.1 % g)) (turned_told (later.1 / g % w) x) in
       λ j. (put j, later.1 / g / w)
 
   chosen_told : (xs : List X) → map key xs ≡ map key_told (map tell xs) → (n : ℕ)
