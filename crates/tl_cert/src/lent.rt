@@ -7,14 +7,14 @@ use tl_layout::{Body1, Body5, Body7, BodyI, BodyP, Point, Ranges, Rec8, Side};
 
 /// A chart that is lent, and answers as its owner does.
 #[derive(Drop)]
-pub(crate) struct Lent<'a, C: Chart> {
+pub struct Lent<'a, C: Chart> {
     chart: &'a C,
 }
 
 impl<'a, C: Chart> Lent<'a, C> {
     /// The chart, lent.
-    pub(crate) fn new(chart: &'a C) -> Lent<'a, C>
-        ensures { result.chart.now ≡ chart.now }
+    pub fn new(chart: &'a C) -> Lent<'a, C>
+        ensures { ⟦<Lent<'a, C> as Chart>⟧.county result ≡ C.county chart.now }
     {
         Lent { chart }
     }

@@ -4,7 +4,8 @@
 //! `check` whether it carries one county onto another. No county and no renaming is asked to be good for that: what doesn't pair the
 //! numbers of the two is answered by `false`. Numbers are looked up and sorted, and never searched along a list.
 //!
-//! A `Masked` county is a chart under which the fields that a mask leaves out are blank; `check_masked` compares two counties so.
+//! A `Masked` county is a chart under which the fields that a mask leaves out are blank; `check_masked` compares two counties so. A `Lent`
+//! chart is for callers who read a county through something that owns its chart.
 #![tactic(auto)]
 
 mod carrying;
@@ -26,5 +27,6 @@ mod renaming_tables;
 mod turning;
 
 pub use carrying::{check, check_masked};
+pub use lent::Lent;
 pub use masked::Masked;
 pub use renaming::{PolygonKey, Renaming, RenamingParts};

@@ -108,6 +108,22 @@ module _ (county : County) where
     each_walk = each_item (least_walk county) place_of (λ i. refl) (walk_cmp county) (on_total entry_shape points_keys.total) county.chains
         agrees walks order.all order.in_order
 
+    -- the points along the walks are the shapes in order
+    shapes_told : (ws : List ChainWalk) (ordered : List (ℕ × Chain)) → AllByRecursion (λ w. w ≡ least_walk county (place_of w)) ws
+        → map (slice_get county.chains) (map place_of ws) ≡ map Some ordered
+        → map (points_along county) ws ≡ map entry_shape ordered
+    shapes_told [] [] a e = refl
+    shapes_told [] (x ∷ xs) a e = cc
+    shapes_told (w ∷ ws) [] a e = cc
+    shapes_told (w ∷ ws) (x ∷ xs) a e =
+        let here : slice_get county.chains w.place ≡ Some x = cc in
+        let rest : map (slice_get county.chains) (map place_of ws) ≡ map Some xs = cc in
+        let along : points_along county w ≡ entry_shape x = ap (points_along county) a.0 ∙ along_read w.place x here in
+        λ i. along i ∷ shapes_told ws xs a.1 rest i
+
+    pub walks_shapes : map (points_along county) walks ≡ map entry_shape (in_order (on entry_shape points_cmp) county.chains)
+    walks_shapes = shapes_told walks (in_order (on entry_shape points_cmp) county.chains) each_walk read
+
     -- The steps along the shapes in their order are the ascending arrangement.
     pub steps_ascend : (steps : List ChainWalk) → steps ≡ walks → arrangement_of county steps ≡ ascending county
     steps_ascend steps e =

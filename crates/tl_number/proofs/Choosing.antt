@@ -47,7 +47,7 @@ times-cancel {K} {cmp} o k j xs ys e = go (same_or_not o k j)
     go (inr ne) = sym (times-no o k j xs ne) ∙ e ∙ times-no o k j ys ne
 
 -- an element put in among others
-all_insert : {X : Type 0} (P : X → Type 0) (x : X) (i : ℕ) (xs : List X) → P x → AllByRecursion P xs → AllByRecursion P (insert xs i x)
+pub all_insert : {X : Type 0} (P : X → Type 0) (x : X) (i : ℕ) (xs : List X) → P x → AllByRecursion P xs → AllByRecursion P (insert xs i x)
 all_insert P x i xs p a = all_append P (take i xs) (x ∷ drop i xs) (all_take P i xs a) (p, all_drop P i xs a)
 
 all_inserted : {X : Type 0} (P : X → Type 0) (x : X) (i : ℕ) (xs : List X) → AllByRecursion P (insert xs i x) → P x × AllByRecursion P xs
@@ -91,7 +91,7 @@ module _ {T : Type 0} {cmp : T → T → Ordering} (o : IsTotalOrder cmp) (f : �
   abbrev IsLeastBelow : ℕ → ℕ → Type 0
   IsLeastBelow bound n = (m : ℕ) → m < bound → is_gt (cmp (f n) (f m)) ≡ false
 
-  one_more : (bound n : ℕ) → IsLeastBelow bound n → is_gt (cmp (f n) (f bound)) ≡ false → IsLeastBelow (suc bound) n
+  pub one_more : (bound n : ℕ) → IsLeastBelow bound n → is_gt (cmp (f n) (f bound)) ≡ false → IsLeastBelow (suc bound) n
   one_more bound n least last m below = go (nat_lt m bound) refl
     where
       go : (b : Bool) → nat_lt m bound ≡ b → is_gt (cmp (f n) (f m)) ≡ false

@@ -62,6 +62,8 @@ pub mod OneChoice
 pub mod CanonLists
 pub mod MovedChoice
 pub mod MovedSteps
+pub mod ChosenSteps
+pub mod LeastNumbers
 pub mod RecordTexts
 pub mod GroupRests
 pub mod TypeOrders

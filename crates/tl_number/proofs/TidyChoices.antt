@@ -281,7 +281,7 @@ module _ (county : County) (is : IsCounty county) where
     ordered = ordered_from_tidy steps c.arranges c.tidy;
   }
 
-  told_here : (n : ℕ) → numbered_choice county n ≡ (chosen points_cmp is_either_way (step_shape county) turned_step (ascending county) n).0
+  pub told_here : (n : ℕ) → numbered_choice county n ≡ (chosen points_cmp is_either_way (step_shape county) turned_step (ascending county) n).0
   unfolding numbered_choice
   told_here n = refl
 

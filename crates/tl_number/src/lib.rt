@@ -24,6 +24,7 @@ mod heads;
 mod landmark_links;
 mod landmark_order;
 mod laws;
+mod least_choice;
 mod masking;
 mod name_order;
 mod name_records;

@@ -12,7 +12,7 @@ returns g c =
     let r = c.args.renaming.now in
     let a = masked c.in_ok-a.a.mask (county_a c.in_ok-a.a.chart.chart.now) in
     let own_b = masked c.args.mask (county_b c.args.b.now) in
-    let same_a = c.in_ok-a.ensures.county ∙ ap (λ chart. masked c.args.mask (county_a chart)) c.new.ensures in
-    let same_b = c.in_ok-b.ensures.county ∙ ap (λ chart. masked c.args.mask (county_b chart)) c.new-3.ensures in
+    let same_a = c.in_ok-a.ensures.county ∙ ap (masked c.args.mask) c.new.ensures in
+    let same_b = c.in_ok-b.ensures.county ∙ ap (masked c.args.mask) c.new-3.ensures in
     subst (λ (x : County). IfOk c.check.result (λ yes. Decides yes (Carries r x own_b))) same_a
     (subst (λ (y : County). IfOk c.check.result (λ yes. Decides yes (Carries r a y))) same_b c.check.ensures)

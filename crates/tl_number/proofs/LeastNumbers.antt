@@ -1,0 +1,93 @@
+-- The least of the texts that numbers tell, number by number.
+use Rattle.std.proofs.Common.{◌≡◌, ◌+◌, ℕ, suc, List, Bool, true, false, cond, Ordering, is_gt, nat_cmp, refl, sym, ap, ◌∙◌, subst, arith}
+use Rattle.std.specs.Cmp.Lexicographic.{slice_cmp}
+use Rattle.tl_layout.specs.RecordText.{text_of}
+use Rattle.tl_county.specs.County.{County}
+use Rattle.tl_county.specs.CountyRules.{IsCounty, polygon_keys, polygons_along, AllKeysStandIn}
+use Rattle.tl_county.specs.Packing.{packed}
+use Rattle.tl_county.specs.Renumbering.{AreSame}
+use Rattle.tl_county.proofs.ByKey.KeyOrders.{bytes_keys}
+use Rattle.tl_county.proofs.Lists.InOrder.{not_greater}
+use Rattle.tl_county.proofs.Sameness.Equivalence.{same-symmetric, same-transitive}
+use Rattle.tl_profile.specs.Choices.{choices}
+use Rattle.std.proofs.lemmas.Cmp.{upto}
+use Rattle.tl_number.specs.Arrangement.{Arrangement, arranged, renaming_of}
+use Rattle.tl_number.specs.LeastNumber.{IsLeastBelow, choice_list}
+use Rattle.tl_number.specs.Tidy.{IsChoice, IsLeastChoice, IsNotAfter, arranged_list, numbered_choice}
+use Rattle.tl_number.proofs.ArrangedCounties.{arranged_county}
+use Rattle.tl_number.proofs.Carrying.{arrangement_carries}
+use Rattle.tl_number.proofs.Choosing.{one_more}
+use Rattle.tl_number.proofs.TidyChoices.{choice_number, numbered_is_choice}
+use Rattle.tl_number.proofs.TidyLists.{not_after_itself}
+
+module _ (county : County) where
+  abbrev text_at : ℕ → List ℕ
+  text_at n = text_of (choice_list county n)
+
+  -- one number alone
+  pub first_least : IsLeastBelow county 1 0
+  first_least = one_more bytes_keys.total text_at 0 0 (λ m below. absurd (omega (arith, below))) (not_after_itself (choice_list county 0))
+
+  -- the least so far and the next number: the lesser of the two is least
+  pub still_least : (bound n : ℕ) → IsLeastBelow county bound n → (o : Ordering) → o ≡ slice_cmp nat_cmp (text_at n) (text_at bound)
+      → IsLeastBelow county (bound + 1) (cond (is_gt o) bound n)
+  still_least bound n least o is =
+      subst (λ b. IsLeastBelow county b (cond (is_gt o) bound n)) (let e : suc bound ≡ bound + 1 = omega arith in e) (go (is_gt o) refl)
+    where
+      go : (b : Bool) → is_gt o ≡ b → IsLeastBelow county (suc bound) (cond b bound n)
+      go false e = one_more bytes_keys.total text_at bound n least (sym (ap is_gt is) ∙ e)
+      go true e =
+          let turned : is_gt (slice_cmp nat_cmp (text_at bound) (text_at n)) ≡ false =
+          not_greater (slice_cmp nat_cmp (text_at n) (text_at bound)) (slice_cmp nat_cmp (text_at bound) (text_at n))
+          (bytes_keys.total.antisymm (text_at n) (text_at bound)) (sym (ap is_gt is) ∙ e) in
+          one_more bytes_keys.total text_at bound bound
+          (λ m l. upto bytes_keys.total (text_at bound) (text_at n) (text_at m) turned (least m l))
+          (not_after_itself (choice_list county bound))
+
+  -- the same of the counties of these numbers, however they are told
+  pub text_compared : (bound n : ℕ) → IsLeastBelow county bound n → (o : Ordering) → (one other : County)
+      → one ≡ arranged county (numbered_choice county n) → other ≡ arranged county (numbered_choice county bound)
+      → o ≡ slice_cmp nat_cmp (text_of (packed one)) (text_of (packed other))
+      → IsLeastBelow county (bound + 1) (cond (is_gt o) bound n)
+  text_compared bound n least o one other is_one is_other e =
+      still_least bound n least o (e ∙ (λ j. slice_cmp nat_cmp (text_of (packed (is_one j))) (text_of (packed (is_other j)))))
+
+-- what holds of two things holds of either
+pub of_either : {X : Type 0} (P : X → Type 0) (b : Bool) (x y : X) → P x → P y → P (cond b x y)
+of_either P true x y p q = p
+of_either P false x y p q = q
+
+pub told_of_either : {X Y : Type 0} (tell : X → Y) (P : Y → Type 0) (b : Bool) (x y : X) → P (cond b (tell x) (tell y))
+    → P (tell (cond b x y))
+told_of_either tell P true x y p = p
+told_of_either tell P false x y p = p
+
+module _ (county : County) (is : IsCounty county) where
+  -- the choice of the number that is least of all
+  pub least_of_all : (n : ℕ) → IsLeastBelow county (choices county) n → IsLeastChoice county (numbered_choice county n)
+  least_of_all n least = record {
+    choice = numbered_is_choice county is n;
+    least = λ other choice. (let m = choice_number county is other choice in
+        subst (λ steps. IsNotAfter (choice_list county n) (arranged_list county steps)) m.2 (least m.0 m.1));
+  }
+
+  -- the counties of two choices are the same
+  module _ (sides : AllKeysStandIn (polygons_along county.chains) (polygon_keys county)) where
+    same_by : (steps : Arrangement) → IsChoice county steps → AreSame county (arranged county steps)
+    same_by steps choice = record {
+      by = renaming_of county steps;
+      carries = arrangement_carries county steps is choice.arranges sides;
+    }
+
+    county_by : (steps : Arrangement) → IsChoice county steps → IsCounty (arranged county steps)
+    county_by steps choice = arranged_county county steps is choice.arranges sides
+
+    pub choices_same : (n m : ℕ) → AreSame (arranged county (numbered_choice county n)) (arranged county (numbered_choice county m))
+    choices_same n m =
+        let a = numbered_is_choice county is n in
+        let b = numbered_is_choice county is m in
+        same-transitive (arranged county (numbered_choice county n)) county (arranged county (numbered_choice county m))
+        (county_by (numbered_choice county n) a) is
+        (same-symmetric county (arranged county (numbered_choice county n)) is (county_by (numbered_choice county n) a)
+        (same_by (numbered_choice county n) a))
+        (same_by (numbered_choice county m) b)
