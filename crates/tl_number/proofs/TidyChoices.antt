@@ -172,7 +172,7 @@ module _ (county : County) (is : IsCounty county) where
   all_lawful = all_map (IsLawful county) least_step ordered
       (all_weaker (λ e. Among e county.chains) (λ e. IsLawful county (least_step e)) least_lawful ordered among_ordered)
 
-  shapes_ascending : map (step_shape county) (ascending county) ≡ map entry_shape ordered
+  pub shapes_ascending : map (step_shape county) (ascending county) ≡ map entry_shape ordered
   shapes_ascending = map-map (step_shape county) least_step ordered
       ∙ map_agree_all (λ e. step_shape county (least_step e)) entry_shape (λ e. Among e county.chains)
       (λ e m. shape_under e.0 e (under_own e m)) ordered among_ordered

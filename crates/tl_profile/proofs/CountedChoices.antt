@@ -1,7 +1,8 @@
 -- What a pass over keys in order, from the last to the first, knows of their running product and of the places with a choice.
-use Rattle.std.proofs.Common.{◌≡◌, ◌⊎◌, ◌≤◌, ◌+◌, ◌*◌, ℕ, suc, List, [], ◌∷◌, ◌++◌, length, reverse, Bool, true, false, cond}
+use Rattle.std.proofs.Common.{◌≡◌, ◌⊎◌, ◌<◌, ◌≤◌, ◌+◌, ◌*◌, ℕ, suc, List, [], ◌∷◌, ◌++◌, length, reverse, Bool, true, false, cond}
 use Rattle.std.proofs.Common.{Ordering, is_eq, refl, ap, ◌∙◌, inl, inr, arith}
 use Rattle.std.proofs.lemmas.List.{reverse-append}
+use Rattle.std.specs.List.{AllByRecursion}
 use Rattle.tl_county.specs.Orders.{times, IsInOrder}
 use Rattle.tl_county.proofs.ByKey.Keys.{IsKeyOrder, same_or_not, same-true, times-yes, times-no}
 use Rattle.tl_county.proofs.ByKey.KeyedLists.{before_all, less_from}
@@ -30,7 +31,7 @@ module _ {K : Type 0} {cmp : K → K → Ordering} (o : IsKeyOrder cmp) where
       go true e = omega (arith, e)
       go false e = omega (arith, e)
 
-  times_few : (k : K) (ks : List K) → times cmp k ks ≤ length ks
+  pub times_few : (k : K) (ks : List K) → times cmp k ks ≤ length ks
   times_few k [] = omega arith
   times_few k (j ∷ js) = go (same_or_not o k j) (times_few k js)
     where
@@ -92,3 +93,22 @@ module _ {K : Type 0} (cmp : K → K → Ordering) (either : K → Bool) where
           ≡ cond b (open_places cmp either (suc place) ks) (here ∷ open_places cmp either (suc place) ks)
       go true = was.places_are
       go false = reverse-append places (here ∷ []) ∙ ap (λ l. here ∷ l) was.places_are
+
+-- open places have so many of their key from there on
+module _ {K : Type 0} {cmp : K → K → Ordering} (o : IsKeyOrder cmp) (either : K → Bool) where
+  pub open_places_within : (P : OpenPlace → Type 0) (place : ℕ) (keys : List K)
+      → ((at : OpenPlace) → 0 < at.alike → at.place + at.alike ≤ place + length keys → P at)
+      → AllByRecursion P (open_places cmp either place keys)
+  open_places_within P place [] h = tt
+  open_places_within P place (k ∷ ks) h =
+      go (is_settled (place_of cmp either place k ks))
+      (open_places_within P (suc place) ks (λ at some there. h at some (omega (arith, there))))
+    where
+      here : P (place_of cmp either place k ks)
+      here = h (place_of cmp either place k ks) (omega arith) (let few = times_few o k ks in omega (arith, few))
+
+      go : (b : Bool) → AllByRecursion P (open_places cmp either (suc place) ks)
+          → AllByRecursion P (cond b (open_places cmp either (suc place) ks)
+          (place_of cmp either place k ks ∷ open_places cmp either (suc place) ks))
+      go true rest = rest
+      go false rest = (here, rest)

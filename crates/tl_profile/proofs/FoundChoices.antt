@@ -47,7 +47,7 @@ capped : (m n : ℕ) → most_choices < m → m ≤ n → min m (suc most_choice
 capped m n h k = omega (arith, h, k)
 
 module _ (county : County) where
-  walks_in_order : (walks : List ChainWalk) → IsInOrder (walk_cmp county) walks → IsInOrder points_cmp (map (points_along county) walks)
+  pub walks_in_order : (walks : List ChainWalk) → IsInOrder (walk_cmp county) walks → IsInOrder points_cmp (map (points_along county) walks)
   walks_in_order [] h = tt
   walks_in_order (w ∷ ws) h = (each ws h.0, walks_in_order ws h.1)
     where

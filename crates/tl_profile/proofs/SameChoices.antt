@@ -43,7 +43,7 @@ same_choices a b s =
     ∙ choices_of_shapes b
 
 -- the points along the walks, in whatever order these stand, are the shapes
-shapes_of_walks : (county : County) (walks : List ChainWalk) → IsPermutation (least_walks county) walks
+pub shapes_of_walks : (county : County) (walks : List ChainWalk) → IsPermutation (least_walks county) walks
     → SameElements (map (points_along county) walks) (shapes county)
 shapes_of_walks county walks p =
     let along : SameElements (map (points_along county) walks) (map (points_along county) (least_walks county)) =
