@@ -4,12 +4,8 @@ pub mod OnSamples
 pub mod PlacedOrder
 pub mod Walks
 pub mod Places
-pub mod OwnReverses
-pub mod Lessers
-pub mod Pairs
 pub mod ShapesOfCounty
 pub mod SideKeys
-pub mod KeysInOrder
 pub mod FirstClauses
 pub mod FewChains
 pub mod Factorials

@@ -1,10 +1,24 @@
 -- What the profile says of the samples.
-use Rattle.std.proofs.Common.{◌∷◌, refl}
+use Rattle.std.proofs.Common.{List, [], ◌∷◌, flat_map, Some, refl}
+use Rattle.tl_layout.specs.declared.record_type.Record.{Record}
 use Rattle.tl_county.specs.County.{county_of}
-use Rattle.tl_county.proofs.Samples.Counties.{cenid_1, there, loop, bare_loop, doubled, meeting, landmark, in_polygon, polygon}
+use Rattle.tl_county.proofs.Samples.Counties.{
+  cenid_1,
+  there,
+  loop,
+  loop_chain,
+  bare_loop,
+  doubled,
+  meeting,
+  landmark,
+  in_polygon,
+  polygon,
+  link,
+  no_side,
+}
 use Rattle.std.proofs.Common.{codes}
 use Rattle.tl_profile.specs.Profile.{IsInProfile, IsFirstBrokenClause}
-use Rattle.tl_profile.specs.declared.fault.ProfileFault.TheVariants.{OwnReverse, SameShape, PolygonWithoutChain}
+use Rattle.tl_profile.specs.declared.fault.ProfileFault.TheVariants.{PolygonWithoutChain, TooSymmetric}
 use Rattle.tl_profile.proofs.ProfileFaults.{profile_computed, first_clause_computed}
 
 pub there_in_profile : IsInProfile (county_of there)
@@ -17,15 +31,24 @@ loop_in_profile = profile_computed (county_of loop) refl
 pub meeting_in_profile : IsInProfile (county_of meeting)
 meeting_in_profile = profile_computed (county_of meeting) refl
 
--- a chain from a point to itself is its own reverse
-pub bare_loop_refused : IsFirstBrokenClause (county_of bare_loop) (OwnReverse 500)
-bare_loop_refused = first_clause_computed (county_of bare_loop) (OwnReverse 500) refl
+-- a chain from a point to itself is its own reverse: two choices
+pub bare_loop_in_profile : IsInProfile (county_of bare_loop)
+bare_loop_in_profile = profile_computed (county_of bare_loop) refl
 
-pub doubled_refused : IsFirstBrokenClause (county_of doubled) (SameShape 4 9)
-doubled_refused = first_clause_computed (county_of doubled) (SameShape 4 9) refl
+-- two chains of one shape: two choices
+pub doubled_in_profile : IsInProfile (county_of doubled)
+doubled_in_profile = profile_computed (county_of doubled) refl
 
 -- a polygon of type P on no side
 pub polygon_refused : IsFirstBrokenClause (county_of (polygon 12 ∷ landmark 30 (codes "Lee School") ∷ in_polygon 12 30 ∷ there))
     (PolygonWithoutChain cenid_1 12)
 polygon_refused = first_clause_computed (county_of (polygon 12 ∷ landmark 30 (codes "Lee School") ∷ in_polygon 12 30 ∷ there))
     (PolygonWithoutChain cenid_1 12) refl
+
+-- six chains from a point to itself: 720 orders, each in 64 directions
+abbrev symmetric : List Record
+symmetric =
+    flat_map (λ tlid. loop_chain tlid ∷ link tlid (Some 11) (Some 11) no_side no_side ∷ []) (1 ∷ 2 ∷ 3 ∷ 4 ∷ 5 ∷ 6 ∷ [])
+
+pub symmetric_refused : IsFirstBrokenClause (county_of symmetric) TooSymmetric
+symmetric_refused = first_clause_computed (county_of symmetric) TooSymmetric refl

@@ -5,22 +5,24 @@ use Rattle.std.specs.Cmp.{IsTotalOrder}
 use Rattle.std.specs.List.{AllByRecursion}
 use Rattle.std.specs.Ordering.{ordering_then}
 use Rattle.std.proofs.lemmas.Cmp.{nat_cmp_total, then_total, on_total}
-use Rattle.std.proofs.lemmas.List.Sorted.{IsPermutation-map}
+use Rattle.std.proofs.lemmas.List.Sorted.{IsPermutation-map, IsPermutation-sym}
 use Rattle.tl_shape.specs.PointOrder.{point_cmp, points_cmp}
 use Rattle.tl_county.specs.County.{County}
 use Rattle.tl_county.specs.Orders.{IsInOrder}
-use Rattle.tl_county.proofs.ByKey.KeyOrders.{point_keys, points_keys, pair_keys}
-use Rattle.tl_county.proofs.ByKey.Keys.{IsKeyOrder, nat_keys}
-use Rattle.tl_profile.specs.Shapes.{shape_key_cmp, pair_cmp}
+use Rattle.tl_county.proofs.ByKey.KeyOrders.{point_keys, points_keys}
+use Rattle.tl_county.proofs.ByKey.Numbers.{all_themselves}
+use Rattle.tl_county.proofs.Lists.Elements.{all_weaker}
+use Rattle.tl_county.proofs.Lists.Members.{among-permutation}
+use Rattle.tl_county.proofs.Rules.FirstFault.{Among, all_among}
 use Rattle.tl_profile.specs.ShapeOrder.{AreWalksInOrder, least_walks, walk_cmp}
 use Rattle.tl_profile.specs.PlacedShapes.{HasHead, placed_cmp, placed_key_cmp, placed_walk, whole_shape}
 use Rattle.tl_profile.specs.declared.shapes.PlacedShape.{PlacedShape}
 
-pub shape_key_keys : IsKeyOrder shape_key_cmp
-shape_key_keys = pair_keys points_keys nat_keys
-
-pub pair_cmp_keys : IsKeyOrder pair_cmp
-pair_cmp_keys = pair_keys nat_keys nat_keys
+-- what holds of each element holds of each of a permutation
+pub all_permuted : {X : Type 0} (P : X → Type 0) (xs ys : List X) → IsPermutation xs ys → AllByRecursion P xs → AllByRecursion P ys
+all_permuted P xs ys p a =
+    all_weaker (λ y. Among y ys) P (λ y m. all_among P y xs a (among-permutation y ys xs (IsPermutation-sym xs ys p) m)) ys
+    (all_themselves ys)
 
 pub placed_key_total : (county : County) → IsTotalOrder (placed_key_cmp county)
 placed_key_total county =

@@ -3,7 +3,6 @@ use Rattle.std.proofs.Common.{◌≡◌, ◌⊎◌, ℕ, zero, suc, ◌<◌, ◌
 use Rattle.std.proofs.Common.{Bool, true, false, Option, Some, option_map, refl, sym, ap, ◌∙◌, subst, inl, inr, arith, nat_cmp}
 use Rattle.std.proofs.Common.{Less, IsSome}
 use Rattle.std.specs.List.{AllByRecursion}
-use Rattle.std.specs.List.Sorted.{IsStrictlySortedBy}
 use Rattle.std.specs.Ordering.{is_lt}
 use Rattle.std.proofs.lemmas.List.{length-reverse}
 use Rattle.std.proofs.lemmas.Option.{slice_get-map}
@@ -12,7 +11,7 @@ use Rattle.tl_shape.specs.Chain.{Chain}
 use Rattle.tl_shape.specs.PointOrder.{points_cmp}
 use Rattle.tl_county.specs.ChartWords.{chain_at, points_of}
 use Rattle.tl_county.specs.County.{County}
-use Rattle.tl_county.specs.CountyRules.{IsCounty, tlids}
+use Rattle.tl_county.specs.CountyRules.{IsCounty}
 use Rattle.tl_county.proofs.Rules.FirstFault.{Among, all_among}
 use Rattle.tl_profile.specs.Shapes.{least_points, points_at, points_from}
 
@@ -39,33 +38,11 @@ pub all_next : {X : Type 0} (P : X → Type 0) (xs : List X) (x : X) → AllByRe
 all_next P [] x a p = (p, tt)
 all_next P (y ∷ ys) x a p = (a.0, all_next P ys x a.1 p)
 
-pub among_parts : {X : Type 0} (x : X) (ys zs : List X) → Among x (ys ++ zs) → Among x ys ⊎ Among x zs
-among_parts x [] zs h = inr h
-among_parts x (y ∷ ys) zs (inl e) = inl (inl e)
-among_parts {X} x (y ∷ ys) zs (inr h) = go (among_parts x ys zs h)
-  where
-    go : Among x ys ⊎ Among x zs → ((x ≡ y) ⊎ Among x ys) ⊎ Among x zs
-    go (inl m) = inl (inr m)
-    go (inr m) = inr m
-
--- of keys that ascend strictly, those behind one are greater
-pub above_behind : {X : Type 0} (key : X → ℕ) (xs : List X) (y : X) (zs : List X) → IsStrictlySortedBy nat_cmp (map key (xs ++ (y ∷ zs)))
-    → AllByRecursion (λ z. nat_cmp (key y) (key z) ≡ Less) zs
-unfolding IsStrictlySortedBy
-above_behind key [] y zs h = each zs h.0
-  where
-    each : (ws : List _) → AllByRecursion (λ k. nat_cmp (key y) k ≡ Less) (map key ws)
-        → AllByRecursion (λ w. nat_cmp (key y) (key w) ≡ Less) ws
-    each [] a = tt
-    each (w ∷ ws) a = (a.0, each ws a.1)
-above_behind key (x ∷ xs) y zs h = above_behind key xs y zs h.1
-
 -- the chain at a place
 pub record ChainStands (county : County) (place : ℕ) : Type 0 where
   pub stands : StandsAt county.chains place
   pub chain : chain_at county place ≡ Some stands.item.1
   pub points : points_at county place ≡ stands.item.1.points
-  pub tlid : slice_get (tlids county) place ≡ Some stands.item.0
 
 pub chain_stands : (county : County) (place : ℕ) → place < length county.chains → ChainStands county place
 chain_stands county place h =
@@ -76,8 +53,6 @@ chain_stands county place h =
       stands = s;
       chain = chain;
       points = ap points_of chain;
-      tlid =
-          slice_get-map (λ entry. entry.0) county.chains place ∙ ap (option_map (λ entry. entry.0)) s.get;
     }
 
 -- a shape has a start and an end

@@ -11,12 +11,12 @@ use Rattle.tl_county.proofs.ByKey.KeyOrders.{points_keys}
 use Rattle.tl_county.proofs.Lists.Elements.{map-map, map_agree_everywhere}
 use Rattle.tl_county.proofs.Lists.Reordered.{SameElements, from_permutation, same-map}
 use Rattle.tl_profile.specs.Choices.{choices, is_either_way, running, shapes}
-use Rattle.tl_profile.specs.Shapes.{ShapeKey, least_points}
-use Rattle.tl_profile.specs.ShapeOrder.{AreWalksInOrder, key_of_walk, least_walks, points_along}
+use Rattle.tl_profile.specs.Shapes.{least_points}
+use Rattle.tl_profile.specs.ShapeOrder.{AreWalksInOrder, least_walks, points_along}
 use Rattle.tl_profile.specs.declared.chain_walk.ChainWalk.{ChainWalk}
 use Rattle.tl_profile.proofs.Factorials.{running_is, running-same}
-use Rattle.tl_profile.proofs.KeysInOrder.{keys_of_walks}
 use Rattle.tl_profile.proofs.ShapePoints.{least_reverse}
+use Rattle.tl_profile.proofs.ShapesOfCounty.{shapes_along}
 
 -- the choices by the shapes alone
 pub choices_of_shapes : (county : County) → running points_cmp is_either_way (shapes county) ≡ choices county
@@ -49,10 +49,7 @@ shapes_of_walks county walks p =
     let along : SameElements (map (points_along county) walks) (map (points_along county) (least_walks county)) =
     same-map (points_along county) walks (least_walks county)
     (from_permutation walks (least_walks county) (IsPermutation-sym (least_walks county) walks p)) in
-    subst (SameElements (map (points_along county) walks))
-    (sym (map-map (λ (k : ShapeKey). k.0) (key_of_walk county) (least_walks county))
-    ∙ ap (map (λ (k : ShapeKey). k.0)) (keys_of_walks county)
-    ∙ map-map (λ (k : ShapeKey). k.0) (λ entry. (least_points entry.1.points, entry.0)) county.chains) along
+    subst (SameElements (map (points_along county) walks)) (shapes_along county) along
 
 pub choices_told : (county : County) (walks : List ChainWalk) → AreWalksInOrder county walks
     → running points_cmp is_either_way (map (points_along county) walks) ≡ choices county

@@ -6,8 +6,7 @@ use Rattle.tl_layout.specs.Coordinates.{Coordinates}
 use Rattle.tl_shape.specs.PointOrder.{point_cmp, points_cmp}
 use Rattle.tl_county.specs.County.{County}
 use Rattle.tl_profile.specs.Choices.{is_either_way}
-use Rattle.tl_profile.specs.Shapes.{ShapeKey}
-use Rattle.tl_profile.specs.ShapeOrder.{key_of_walk, points_along}
+use Rattle.tl_profile.specs.ShapeOrder.{points_along}
 use Rattle.tl_profile.specs.declared.chain_walk.ChainWalk.{ChainWalk}
 use Rattle.tl_profile.specs.declared.shapes.PlacedShape.{PlacedShape}
 
@@ -18,10 +17,6 @@ placed_walk shape = record { place = shape.place; turned = shape.turned }
 -- the whole shape of the chain
 abbrev pub whole_shape : County → PlacedShape → List Coordinates
 whole_shape county shape = points_along county (placed_walk shape)
-
--- the shape with its TLID
-abbrev pub key_of_shape : County → PlacedShape → ShapeKey
-key_of_shape county shape = key_of_walk county (placed_walk shape)
 
 -- the first two points are those of the shape, and it is told whether the shape is the same from both ends
 pub record HasHead (county : County) (shape : PlacedShape) : Type 0 where

@@ -1,15 +1,14 @@
 -- The order of a county's chains by their shapes.
-use Rattle.std.specs.Prelude.{ℕ, ◌≡◌, ◌≤◌, List, map, reverse, length, slice_index, IsPermutation}
+use Rattle.std.specs.Prelude.{ℕ, ◌≡◌, ◌≤◌, List, map, reverse, length, IsPermutation}
 use Rattle.std.specs.List.{range_with_len}
 use Rattle.std.specs.declared.cmp.Ordering.{Ordering}
 use Rattle.std.specs.Ordering.{is_lt, nat_cmp, ordering_then}
 use Rattle.tl_layout.specs.Coordinates.{Coordinates}
 use Rattle.tl_shape.specs.PointOrder.{points_cmp}
 use Rattle.tl_county.specs.County.{County}
-use Rattle.tl_county.specs.CountyRules.{tlids}
 use Rattle.tl_county.specs.Orders.{IsInOrder}
 use Rattle.tl_profile.specs.Choices.{choices, counted_choices, is_either_way, most_choices, open_places}
-use Rattle.tl_profile.specs.Shapes.{ShapeKey, points_at, points_from}
+use Rattle.tl_profile.specs.Shapes.{points_at, points_from}
 use Rattle.tl_profile.specs.declared.chain_walk.ChainWalk.{ChainWalk}
 use Rattle.tl_profile.specs.declared.open_places.OpenPlace.{OpenPlace}
 
@@ -49,7 +48,3 @@ pub record IsShapeOrder (county : County) (order : OrderOfShapes) : Type 0 where
   pub count : order.choices ≡ counted_choices county
   pub places : choices county ≤ most_choices
       → order.places ≡ open_places points_cmp is_either_way 0 (map (points_along county) order.walks)
-
--- the points along a walk, with the TLID of its chain
-abbrev pub key_of_walk : County → ChainWalk → ShapeKey
-key_of_walk county walk = (points_along county walk, slice_index (tlids county) walk.place)

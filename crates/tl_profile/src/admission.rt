@@ -1,24 +1,23 @@
 //! Admission: a county in the profile is kept as such, or the first clause that it breaks is told.
 
-ghost use Rattle.std.specs.Prelude.{◌≡◌, ◌≢◌, OnOk, IfOk, IfErr};
+ghost use Rattle.std.specs.Prelude.{◌≡◌, ◌≢◌, IfOk, IfErr};
 ghost use Rattle.tl_county.specs.CountyRules.{is_without_chain};
 ghost use Rattle.tl_county.specs.Keyed.{IsLeastPassing};
 ghost use Rattle.tl_county.specs.PolygonKeys.{key_cmp};
-ghost use Rattle.tl_profile.specs.Profile.{IsFirstBrokenClause, IsInProfile};
+ghost use Rattle.tl_profile.specs.Profile.{AreAllOnSides, IsFirstBrokenClause, IsInProfile};
 ghost use Rattle.tl_profile.specs.ShapeOrder.{IsShapeOrder};
-ghost use Rattle.tl_profile.specs.Shapes.{HasDistinctShapes};
 ghost use Rattle.tl_profile.specs.declared.fault.ProfileFault.TheVariants.{Memory};
 
 use crate::fault::ProfileFault;
-use crate::shape_order::ShapeOrder;
-use crate::shapes::{least_own_reverse, least_same_shape, ordered_shapes};
+use crate::open_places::MOST_CHOICES;
+use crate::shape_order::{ShapeOrder, order_by_shape};
 use crate::sides::{check_polygons, refuse_without_chain};
 use std::alloc::Global;
 use std::marker::Model;
 use tl_county::{Chart, County, CountyIn, PolygonKey};
 
-/// A county in the profile, however it is kept: no chain is its own reverse, no two chains have one shape, and each polygon
-/// with a record of type P is on a side of a chain.
+/// A county in the profile, however it is kept: each polygon with a record of type P is on a side of a chain, and the shapes of the
+/// chains leave at most 5,040 choices open.
 #[derive(Drop)]
 pub struct Admitted<C: Chart = County> {
     pub(crate) chart: C,
@@ -76,21 +75,19 @@ impl<'a> Admitted<CountyIn<'a>> {
     }
 }
 
-/// The clauses of shapes: no chain is its own reverse, and no two chains have one shape. Where they hold, the order of the
-/// shapes is what was found on the way.
-fn check_shapes<C: Chart>(alloc: Global, chart: &C) -> Result<ShapeOrder, ProfileFault>
+/// The clause of choices, of a county that keeps that of polygons: no more choices are open than are tried. The order of the shapes,
+/// by which these are counted, is handed on.
+fn check_choices<C: Chart>(alloc: Global, chart: &C) -> Result<ShapeOrder, ProfileFault>
+    requires { AreAllOnSides (C.county chart.now) }
     ensures order { IfOk result (IsShapeOrder (C.county chart.now)) }
-    ensures distinct { IfOk result (λ _. HasDistinctShapes (C.county chart.now)) }
+    ensures within { IfOk result (λ _. IsInProfile (C.county chart.now)) }
     ensures broken { IfErr result (λ fault. fault ≢ Memory → IsFirstBrokenClause (C.county chart.now) fault) }
 {
-    if let Some(tlid) = least_own_reverse(chart) {
-        return Err(ProfileFault::OwnReverse { tlid });
+    let order = order_by_shape(alloc, chart)?;
+    if order.choices() > MOST_CHOICES {
+        return Err(ProfileFault::TooSymmetric);
     }
-    let shapes = ordered_shapes(alloc, chart)?;
-    if let Some((first, second)) = least_same_shape(chart, &shapes) {
-        return Err(ProfileFault::SameShape { first, second });
-    }
-    Ok(ShapeOrder::of_shapes(alloc, chart, &shapes)?)
+    Ok(order)
 }
 
 /// Admits a county, however it is kept, if it is in the profile, and hands on the order of its chains by their shapes, which
@@ -110,8 +107,8 @@ pub fn admit_with_order<C: Chart + Drop>(
     // Of a county in the profile nothing but want of memory is told.
     ensures succeeds { IsInProfile (C.county chart) → IfErr result (λ fault. fault ≡ Memory) }
 {
-    let order = check_shapes(alloc, &chart)?;
     check_polygons(alloc, &chart)?;
+    let order = check_choices(alloc, &chart)?;
     Ok((Admitted { chart }, order))
 }
 
@@ -134,8 +131,8 @@ pub fn admit_linked<C: Chart + Drop>(
     // Of a county in the profile nothing but want of memory is told.
     ensures succeeds { IsInProfile (C.county chart) → IfErr result (λ fault. fault ≡ Memory) }
 {
-    let order = check_shapes(alloc, &chart)?;
     refuse_without_chain(without_chain)?;
+    let order = check_choices(alloc, &chart)?;
     Ok((Admitted { chart }, order))
 }
 

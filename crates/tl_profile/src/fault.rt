@@ -6,15 +6,12 @@ use thiserror::Error;
 /// The first clause of the profile that a county breaks, with the least place at which it is broken.
 #[derive(Clone, Copy, Debug, PartialEq, Eq, Error)]
 pub enum ProfileFault {
-    /// The point list of a chain equals its own reverse (21).
-    #[error("the points of the chain with the TLID {tlid} are the same from both ends")]
-    OwnReverse { tlid: u64 },
-    /// The points of two chains are equal, as they are or with one of them reversed (22).
-    #[error("the chains with the TLIDs {first} and {second} have the same points")]
-    SameShape { first: u64, second: u64 },
     /// A polygon with a record of type P is on no side of a chain (23).
     #[error("the POLYID {polyid} under the CENID {cenid:?} has a record of type P and is on no side of a chain")]
     PolygonWithoutChain { cenid: [u8; 5], polyid: u64 },
+    /// Chains of the same points, or whose points are the same from both ends, leave more than 5,040 choices open (24).
+    #[error("too many chains have the same points, or points that are the same from both ends")]
+    TooSymmetric,
     /// There was no memory (9).
     #[error("there is not enough memory")]
     Memory,

@@ -1,4 +1,8 @@
-//! The profile: the counties whose chains can be told apart by their points alone.
+//! The profile: the counties whose polygons are all on sides of chains, and whose chains leave at most 5,040 choices open.
+//!
+//! The points of most chains are their own alone, and differ from one end and from the other. Such chains stand in one order, each in one
+//! direction. Chains of the same points can stand in any order among themselves, and a chain whose points are the same from both ends in
+//! either direction: these are the choices.
 //!
 //! A caller starts with `admit`, or with `admit_in` for a county in an arena; `admit_chart` takes a county that is kept otherwise. A
 //! whole call goes by `admit_linked`, which is told by linking which polygon is on no side, and takes the order of the chains by their

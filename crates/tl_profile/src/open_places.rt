@@ -16,7 +16,7 @@ use std::alloc::{AllocError, Global};
 use tl_county::Chart;
 
 /// The most choices that are tried.
-const MOST_CHOICES: u64 = 5040;
+pub(crate) const MOST_CHOICES: u64 = 5040;
 
 /// A place in the order of shapes that is open: several chains have the shape that stands there, or it is the same from both ends.
 #[derive(Clone, Copy, Debug, PartialEq, Eq)]

@@ -1,19 +1,13 @@
-//! The shapes of chains, put in order, and which of them are the same.
+//! The shapes of chains, put in order.
 //!
 //! Most shapes differ in their first two points, so these stand beside a chain's place and direction while chains are put in order, and
 //! the county is asked only where both are equal. After that chains of one shape are neighbours.
 
-ghost use Rattle.std.specs.Prelude.{◌≡◌, ◌<◌, length, map, slice_index, IfOk, IsPermutation};
+ghost use Rattle.std.specs.Prelude.{◌≡◌, ◌<◌, length, map, IfOk, IsPermutation};
 ghost use Rattle.std.specs.List.{AllByRecursion};
-ghost use Rattle.std.specs.List.Sorted.{IsStrictlySortedBy};
-ghost use Rattle.std.specs.Ordering.{nat_cmp};
-ghost use Rattle.tl_county.specs.CountyRules.{tlids};
-ghost use Rattle.tl_county.specs.Keyed.{IsLeastPassing};
 ghost use Rattle.tl_county.specs.Orders.{IsInOrder};
-ghost use Rattle.tl_profile.specs.Profile.{is_own_reverse};
-ghost use Rattle.tl_profile.specs.Shapes.{is_one_shape, lesser, next_pair, pair_cmp, pair_refused, shape_key_cmp};
 ghost use Rattle.tl_profile.specs.ShapeOrder.{AreWalksInOrder, least_walk, least_walks};
-ghost use Rattle.tl_profile.specs.PlacedShapes.{HasHead, key_of_shape, placed_cmp, placed_key_cmp, placed_walk};
+ghost use Rattle.tl_profile.specs.PlacedShapes.{HasHead, placed_cmp, placed_key_cmp, placed_walk};
 
 use crate::chain_walk::{ChainWalk, compare_reverse, compare_walks, point_along};
 use std::alloc::{AllocError, Global};
@@ -47,18 +41,6 @@ impl PlacedShape {
             turned: self.turned,
         }
     }
-}
-
-/// The least TLID of a chain whose points are their own reverse.
-pub(crate) fn least_own_reverse<C: Chart>(chart: &C) -> Option<u64>
-    ensures { IsLeastPassing nat_cmp (is_own_reverse (C.county chart.now)) result }
-{
-    for place in 0..chart.chain_count() {
-        if compare_reverse(chart, place as u32).is_eq() {
-            return chart.tlid_at(place);
-        }
-    }
-    None
 }
 
 /// The chain at a place with the beginning of its shape.
@@ -140,66 +122,4 @@ pub(crate) fn ordered_shapes<C: Chart>(
     let mut shapes = placed_shapes(alloc, chart)?;
     order_shapes(chart, &mut shapes);
     Ok(shapes)
-}
-
-/// The TLID of a chain.
-fn tlid_of<C: Chart>(chart: &C, shape: &PlacedShape) -> u64
-    requires { HasHead (C.county chart.now) shape.now }
-    ensures { result ≡ slice_index (tlids (C.county chart.now)) shape.now.place }
-{
-    chart.tlid_at(shape.place as usize).unwrap()
-}
-
-/// The TLIDs of a chain and the one after it, if their shapes are one.
-fn pair_with_next<C: Chart>(
-    chart: &C,
-    shape: &PlacedShape,
-    later: &[PlacedShape],
-) -> Option<(u64, u64)>
-    requires shape { HasHead (C.county chart.now) shape.now }
-    requires later { AllByRecursion (HasHead (C.county chart.now)) later.now }
-    ensures { result ≡ next_pair (key_of_shape (C.county chart.now) shape.now) (map (key_of_shape (C.county chart.now)) later.now) }
-{
-    match later.split_first() {
-        Some((next, _)) if compare_shapes(chart, shape, next).is_eq() => {
-            Some((tlid_of(chart, shape), tlid_of(chart, next)))
-        }
-        _ => None,
-    }
-}
-
-/// The lesser of two pairs, where there are two.
-fn lesser_pair(known: Option<(u64, u64)>, found: Option<(u64, u64)>) -> Option<(u64, u64)>
-    ensures { result ≡ lesser pair_cmp known found }
-{
-    match (known, found) {
-        (Some(pair), Some(other)) if pair.cmp(&other).is_gt() => Some(other),
-        (None, other) => other,
-        (pair, _) => pair,
-    }
-}
-
-/// The least pair of TLIDs of chains with one shape, the lesser TLID first. The chains are in the order of their shapes.
-fn least_pair<C: Chart>(chart: &C, shapes: &[PlacedShape]) -> Option<(u64, u64)>
-    requires heads { AllByRecursion (HasHead (C.county chart.now)) shapes.now }
-    requires in_order { IsStrictlySortedBy shape_key_cmp (map (key_of_shape (C.county chart.now)) shapes.now) }
-    ensures { IsLeastPassing pair_cmp (is_one_shape (map (key_of_shape (C.county chart.now)) shapes.now)) result }
-{
-    let mut least = None;
-    let mut rest = shapes;
-    while let Some((shape, later)) = rest.split_first() {
-        least = lesser_pair(least, pair_with_next(chart, shape, later));
-        rest = later;
-    }
-    least
-}
-
-/// The least pair of TLIDs of chains whose points are equal, as they are or with one of them reversed; the lesser TLID
-/// is the first. The chains are all of the county's, in the order of their shapes.
-pub(crate) fn least_same_shape<C: Chart>(chart: &C, shapes: &[PlacedShape]) -> Option<(u64, u64)>
-    requires heads { AllByRecursion (HasHead (C.county chart.now)) shapes.now }
-    requires order { AreWalksInOrder (C.county chart.now) (map placed_walk shapes.now) }
-    ensures { IsLeastPassing pair_cmp (pair_refused (C.county chart.now)) result }
-{
-    least_pair(chart, shapes)
 }

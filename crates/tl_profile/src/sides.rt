@@ -6,8 +6,7 @@ ghost use Rattle.tl_county.specs.CountyRules.{is_without_chain, polygons_along};
 ghost use Rattle.tl_county.specs.Keyed.{IsLeastPassing};
 ghost use Rattle.tl_county.specs.Orders.{distinct};
 ghost use Rattle.tl_county.specs.PolygonKeys.{key_cmp};
-ghost use Rattle.tl_profile.specs.Profile.{IsFirstBrokenClause, IsInProfile};
-ghost use Rattle.tl_profile.specs.Shapes.{HasDistinctShapes};
+ghost use Rattle.tl_profile.specs.Profile.{AreAllOnSides, IsFirstBrokenClause};
 ghost use Rattle.tl_profile.specs.declared.fault.ProfileFault.TheVariants.{Memory};
 ghost use Rattle.tl_profile.specs.Sides.{key_if_bodied, keys_on, keys_with_body};
 
@@ -86,12 +85,11 @@ fn least_without_chain<C: Chart>(alloc: Global, chart: &C) -> Result<Option<Poly
     Ok(least_unknown::<PolygonKey, PolygonKey, PolygonKey>(&bodies, &sides))
 }
 
-/// The clause of polygons, of a county that keeps those of shapes: each polygon with a record of type P is on a side of a chain.
-/// Given is the least polygon that isn't, if there is one.
+/// The clause of polygons: each polygon with a record of type P is on a side of a chain. Given is the least polygon that isn't, if
+/// there is one.
 pub(crate) fn refuse_without_chain(least: Option<PolygonKey>) -> Result<(), ProfileFault>
-    ensures within { OnOk result ((county : County) → HasDistinctShapes county → IsLeastPassing key_cmp (is_without_chain county) least
-        → IsInProfile county) }
-    ensures broken { IfErr result (λ fault. (county : County) → HasDistinctShapes county → IsLeastPassing key_cmp (is_without_chain county) least
+    ensures all { OnOk result ((county : County) → IsLeastPassing key_cmp (is_without_chain county) least → AreAllOnSides county) }
+    ensures broken { IfErr result (λ fault. (county : County) → IsLeastPassing key_cmp (is_without_chain county) least
         → IsFirstBrokenClause county fault) }
 {
     if let Some(key) = least {
@@ -102,10 +100,9 @@ pub(crate) fn refuse_without_chain(least: Option<PolygonKey>) -> Result<(), Prof
     Ok(())
 }
 
-/// The clause of polygons, of a county that keeps those of shapes.
+/// The clause of polygons.
 pub(crate) fn check_polygons<C: Chart>(alloc: Global, chart: &C) -> Result<(), ProfileFault>
-    requires shapes { HasDistinctShapes (C.county chart.now) }
-    ensures within { OnOk result (IsInProfile (C.county chart.now)) }
+    ensures all { OnOk result (AreAllOnSides (C.county chart.now)) }
     ensures broken { IfErr result (λ fault. fault ≢ Memory → IsFirstBrokenClause (C.county chart.now) fault) }
 {
     refuse_without_chain(least_without_chain(alloc, chart)?)

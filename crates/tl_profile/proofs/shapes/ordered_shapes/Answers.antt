@@ -1,6 +1,5 @@
 use Rattle.tl_profile.specs.PlacedShapes.{HasHead}
-use Rattle.tl_profile.proofs.PlacedOrder.{sorted_walks}
-use Rattle.tl_profile.proofs.KeysInOrder.{all_permuted}
+use Rattle.tl_profile.proofs.PlacedOrder.{all_permuted, sorted_walks}
 use Rattle.tl_profile.proofs.shapes.ordered_shapes.Goals as goal
 
 pub returns-clause-heads : goal.returns-clause-heads
