@@ -10,7 +10,7 @@ use Rattle.tl_load.specs.declared.fault.LoadFault.TheVariants.{UnknownType, Line
 use Rattle.tl_load.specs.declared.fault.LoadFault.TheVariants.{GapInRecord, TooManyRecords, Device}
 use Rattle.tl_load.specs.declared.fault.LoadFault.TheVariants.{Memory as LoadMemory}
 use Rattle.tl_profile.specs.declared.fault.ProfileFault.{ProfileFault}
-use Rattle.tl_profile.specs.declared.fault.ProfileFault.TheVariants.{OwnReverse, SameShape, PolygonWithoutChain}
+use Rattle.tl_profile.specs.declared.fault.ProfileFault.TheVariants.{PolygonWithoutChain, TooSymmetric}
 use Rattle.tl_profile.specs.declared.fault.ProfileFault.TheVariants.{Memory as ProfileMemory}
 use Rattle.tl_layout.specs.declared.mask.Mask.{Mask}
 use Rattle.tigercanon.specs.declared.program.command_line.Job.{Job}
@@ -46,8 +46,7 @@ status_is_one (Link (PolygonTwice cenid polyid)) = (2, lit< tt, refl)
 status_is_one (Link (LandUnknown land)) = (2, lit< tt, refl)
 status_is_one (Link (PolygonUnknown cenid polyid)) = (2, lit< tt, refl)
 status_is_one (Profile ProfileMemory) = (4, lit< tt, refl)
-status_is_one (Profile (OwnReverse tlid)) = (2, lit< tt, refl)
-status_is_one (Profile (SameShape tlid other)) = (2, lit< tt, refl)
+status_is_one (Profile TooSymmetric) = (2, lit< tt, refl)
 status_is_one (Profile (PolygonWithoutChain cenid polyid)) = (2, lit< tt, refl)
 status_is_one (Write fault) = (3, lit< tt, refl)
 status_is_one Memory = (4, lit< tt, refl)
@@ -125,8 +124,7 @@ no_link_device (PolygonUnknown c p) s = omega (arith, s)
 
 no_profile_device : (f : ProfileFault) → status_of (Profile f) ≡ 4 → ⊥
 no_profile_device ProfileMemory s = omega (arith, s)
-no_profile_device (OwnReverse t) s = omega (arith, s)
-no_profile_device (SameShape t u) s = omega (arith, s)
+no_profile_device TooSymmetric s = omega (arith, s)
 no_profile_device (PolygonWithoutChain c p) s = omega (arith, s)
 
 set_unread : (set : GivenSet) (fault : Fault) → TellsSet set fault → status_of fault ≡ 4 → set.unread

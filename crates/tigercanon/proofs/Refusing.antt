@@ -17,7 +17,7 @@ use Rattle.tl_county.specs.declared.fault.LinkFault.TheVariants.{Memory as LinkM
 use Rattle.tl_county.proofs.Rules.LinkFaults.{linked_has_none}
 use Rattle.tl_profile.specs.Profile.{IsFirstBrokenClause}
 use Rattle.tl_profile.specs.declared.fault.ProfileFault.{ProfileFault}
-use Rattle.tl_profile.specs.declared.fault.ProfileFault.TheVariants.{OwnReverse, SameShape, PolygonWithoutChain}
+use Rattle.tl_profile.specs.declared.fault.ProfileFault.TheVariants.{PolygonWithoutChain, TooSymmetric}
 use Rattle.tl_profile.specs.declared.fault.ProfileFault.TheVariants.{Memory as ProfileMemory}
 use Rattle.tl_profile.proofs.ProfileFaults.{profile_has_none}
 use Rattle.tigercanon.specs.declared.fault.Fault.{Fault}
@@ -46,9 +46,8 @@ link_memory_or_not (PolygonUnknown c p) = inr (λ e. cc)
 
 profile_memory_or_not : (f : ProfileFault) → (f ≡ ProfileMemory) ⊎ (f ≢ ProfileMemory)
 profile_memory_or_not ProfileMemory = inl refl
-profile_memory_or_not (OwnReverse t) = inr (λ e. cc)
-profile_memory_or_not (SameShape t s) = inr (λ e. cc)
 profile_memory_or_not (PolygonWithoutChain c p) = inr (λ e. cc)
+profile_memory_or_not TooSymmetric = inr (λ e. cc)
 
 -- of the records of an accepted set nothing but want of memory is told
 pub accepted_memory_alone : (parts : List (List ℕ)) (records others : List Record) (f : Fault) → IsAcceptedSet parts records

@@ -12,7 +12,7 @@ use Rattle.tl_load.specs.declared.fault.LoadFault.TheVariants.{UnknownType, Line
 use Rattle.tl_load.specs.declared.fault.LoadFault.TheVariants.{GapInRecord, TooManyRecords, Device}
 use Rattle.tl_load.specs.declared.fault.LoadFault.TheVariants.{Memory as LoadMemory}
 use Rattle.tl_profile.specs.declared.fault.ProfileFault.{ProfileFault}
-use Rattle.tl_profile.specs.declared.fault.ProfileFault.TheVariants.{OwnReverse, SameShape, PolygonWithoutChain}
+use Rattle.tl_profile.specs.declared.fault.ProfileFault.TheVariants.{PolygonWithoutChain, TooSymmetric}
 use Rattle.tl_profile.specs.declared.fault.ProfileFault.TheVariants.{Memory as ProfileMemory}
 use Rattle.tigercanon.specs.declared.program.command_line.PlanFault.{PlanFault}
 use Rattle.tigercanon.specs.declared.program.command_line.PlanFault.TheVariants.{Usage}
@@ -57,10 +57,9 @@ link_refusal LinkMemory = want_of_memory
 
 -- how a county outside the profile is told
 abbrev pub profile_refusal : ProfileFault → List ℕ
-profile_refusal (OwnReverse tlid) = refusal (codes "refused 21 OwnReverse") (decimal tlid ∷ [])
-profile_refusal (SameShape first second) = refusal (codes "refused 22 SameShape") (decimal first ∷ decimal second ∷ [])
 profile_refusal (PolygonWithoutChain cenid polyid) =
     refusal (codes "refused 23 PolygonWithoutChain") (encode_lower cenid ∷ decimal polyid ∷ [])
+profile_refusal TooSymmetric = refusal (codes "refused 24 TooSymmetric") []
 profile_refusal ProfileMemory = want_of_memory
 
 -- how a fault is told

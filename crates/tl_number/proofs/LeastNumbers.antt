@@ -13,7 +13,8 @@ use Rattle.tl_profile.specs.Choices.{choices}
 use Rattle.std.proofs.lemmas.Cmp.{upto}
 use Rattle.tl_number.specs.Arrangement.{Arrangement, arranged, renaming_of}
 use Rattle.tl_number.specs.LeastNumber.{IsLeastBelow, choice_list}
-use Rattle.tl_number.specs.Tidy.{IsChoice, IsLeastChoice, IsNotAfter, arranged_list, numbered_choice}
+use Rattle.tl_number.specs.Canonical.{IsNotAfter}
+use Rattle.tl_number.specs.Tidy.{IsChoice, IsLeastChoice, arranged_list, numbered_choice}
 use Rattle.tl_number.proofs.ArrangedCounties.{arranged_county}
 use Rattle.tl_number.proofs.Carrying.{arrangement_carries}
 use Rattle.tl_number.proofs.Choosing.{one_more}

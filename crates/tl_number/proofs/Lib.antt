@@ -61,7 +61,6 @@ pub mod TidyLists
 pub mod OneChoice
 pub mod CanonLists
 pub mod MovedChoice
-pub mod MovedSteps
 pub mod ChosenSteps
 pub mod LeastNumbers
 pub mod RecordTexts

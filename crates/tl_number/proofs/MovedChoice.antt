@@ -11,6 +11,12 @@ use Rattle.tl_profile.specs.declared.open_places.OpenPlace.{OpenPlace}
 use Rattle.tl_number.specs.NumberedChoices.{turned_by, stood, chosen, first_stood, moved_at, moved}
 use Rattle.tl_number.proofs.Choosing.{stood-digits}
 
+-- the last place comes first
+pub moved-last : {X : Type 0} (turn : X → X) (places : List OpenPlace) (at : OpenPlace) (state : List X × ℕ)
+    → moved turn (places ++ (at ∷ [])) state ≡ moved turn places (moved_at turn at state)
+moved-last turn [] at state = refl
+moved-last turn (first ∷ places) at state = ap (moved_at turn first) (moved-last turn places at state)
+
 -- where there is no choice nothing moves and no digit is taken
 settled : {X : Type 0} (turn : X → X) (x : X) (xs : List X) (n : ℕ) → stood turn 1 1 x (xs, n) ≡ (x ∷ xs, n)
 settled turn x xs n =

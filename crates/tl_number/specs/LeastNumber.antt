@@ -2,7 +2,8 @@
 use Rattle.std.specs.Prelude.{ℕ, ◌<◌, List}
 use Rattle.tl_layout.specs.declared.record_type.Record.{Record}
 use Rattle.tl_county.specs.County.{County}
-use Rattle.tl_number.specs.Tidy.{IsNotAfter, arranged_list, numbered_choice}
+use Rattle.tl_number.specs.Canonical.{IsNotAfter}
+use Rattle.tl_number.specs.Tidy.{arranged_list, numbered_choice}
 
 -- the list of records of the choice of a number
 abbrev pub choice_list : County → ℕ → List Record

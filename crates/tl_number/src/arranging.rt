@@ -14,10 +14,10 @@ ghost use Rattle.tl_profile.specs.ShapeOrder.{IsShapeOrder};
 
 use crate::arranged::Arranged;
 use crate::arranged_tables::{LandmarkTables, NameTables, NodeTables, PolygonTables};
-use crate::ascending_order::steps_in_order;
 use crate::canon_county::{CanonCounty, CanonCountyIn};
 use crate::first_appearance::number_nodes;
 use crate::landmark_order::arrange_landmarks;
+use crate::least_choice::least_steps;
 use crate::name_order::arrange_names;
 use crate::numbers::Numbers;
 use crate::polygon_order::arrange_polygons;
@@ -155,7 +155,7 @@ pub fn canonise_in_order<C: Chart + Drop>(
         (arranged_county canon)) }
     ensures canonical { IfOk result (λ canon. IsCanonCounty (arranged_county canon)) }
 {
-    let steps = steps_in_order(alloc, order)?;
+    let steps = least_steps(alloc, &chart, order)?;
     let view = arrange(alloc, chart, steps)?;
     Ok(known_as_canonical(view))
 }

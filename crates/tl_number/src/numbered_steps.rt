@@ -1,13 +1,11 @@
 //! The steps of the choice of a number. In the order of shapes a number tells, open place by open place, behind how many of the same
 //! shape a step comes, and whether it is turned; steps at other places stay.
 
-ghost use Rattle.std.specs.Prelude.{◌≡◌, IfOk, length};
+ghost use Rattle.std.specs.Prelude.{◌≡◌, length};
 ghost use Rattle.tl_number.specs.MovedSteps.{AreWithin, IsWithin, other_way};
 ghost use Rattle.tl_number.specs.NumberedChoices.{moved, moved_at};
 
-use crate::ascending_order::steps_in_order;
-use std::alloc::{AllocError, Global};
-use tl_profile::{ChainWalk, OpenPlace, ShapeOrder};
+use tl_profile::{ChainWalk, OpenPlace};
 
 /// Puts the step at an open place among those of its shape that come after it, as the last two digits of a number say: the last one,
 /// behind how many of these; the next one, whether in the other direction. What is left of the number is answered.
@@ -39,18 +37,4 @@ pub(crate) fn choose(steps: &mut [ChainWalk], places: &[OpenPlace], number: u64)
         left = stand(steps, *at, left);
         rest = before;
     }
-}
-
-/// The steps of the choice of a number, from the order of chains by their shapes.
-pub(crate) fn steps_of_choice(
-    alloc: Global,
-    order: &ShapeOrder,
-    number: u64,
-) -> Result<Vec<ChainWalk>, AllocError>
-    requires { AreWithin (length order.now.walks) order.now.places }
-    ensures { IfOk result (λ steps. steps.items ≡ (moved other_way order.now.places (order.now.walks, number)).0) }
-{
-    let mut steps = steps_in_order(alloc, order)?;
-    choose(&mut steps, order.open_places(), number);
-    Ok(steps)
 }

@@ -274,13 +274,10 @@ fn profile_line(fault: &ProfileFault) -> Line
     ensures short { length result.items ≤ 95 }
 {
     match fault {
-        ProfileFault::OwnReverse { tlid } => number_line(b"refused 21 OwnReverse", *tlid),
-        ProfileFault::SameShape { first, second } => {
-            pair_line(b"refused 22 SameShape", *first, *second)
-        }
         ProfileFault::PolygonWithoutChain { cenid, polyid } => {
             polygon_line(b"refused 23 PolygonWithoutChain", cenid, *polyid)
         }
+        ProfileFault::TooSymmetric => words_line(b"refused 24 TooSymmetric"),
         ProfileFault::Memory => memory_line(),
     }
 }

@@ -1,27 +1,17 @@
-use Rattle.std.proofs.Common.{◌≡◌, ◌∙◌, List, sym, ap, subst}
+use Rattle.std.proofs.Common.{◌∙◌, sym, ap, subst}
 use Rattle.tl_county.specs.County.{County}
-use Rattle.tl_county.specs.CountyRules.{IsCounty, tlids}
+use Rattle.tl_county.specs.CountyRules.{IsCounty}
 use Rattle.tl_county.specs.Renumbering.{AreSame, Carries}
-use Rattle.tl_county.proofs.ByKey.Keys.{nat_keys, times-permutation}
 use Rattle.tl_profile.specs.Profile.{IsInProfile}
-use Rattle.tl_profile.specs.ShapeOrder.{IsShapeOrder}
-use Rattle.tl_profile.specs.declared.chain_walk.ChainWalk.{ChainWalk}
-use Rattle.tl_number.specs.Arrangement.{Arrangement, arranged, arranged_tlids, renaming_of}
+use Rattle.tl_number.specs.Arrangement.{Arrangement, arranged, renaming_of}
 use Rattle.tl_number.specs.CanonCounties.{IsCanonCounty}
 use Rattle.tl_number.specs.Tidy.{IsLeastChoice}
 use Rattle.tl_number.specs.ViewFacts.{stepped}
 use Rattle.tl_number.specs.Steps.{arrangement_of}
-use Rattle.tl_number.proofs.AscendingSteps.{steps_ascend, steps_there}
-use Rattle.tl_number.proofs.Ascending.{ascending_is_least, sides_in_profile}
+use Rattle.tl_number.proofs.Ascending.{few_in_profile, sides_in_profile}
 use Rattle.tl_number.proofs.CanonLists.{least_choice_county}
 use Rattle.tl_number.proofs.Carrying.{arrangement_carries}
 use Rattle.tl_number.proofs.arranging.canonise_in_order.Goals as goal
-
--- the steps along the shapes in their order are a choice of least text
-least_steps : (county : County) → IsCounty county → IsInProfile county → (walks : List ChainWalk) → IsShapeOrder county walks
-    → (steps : List ChainWalk) → steps ≡ walks → IsLeastChoice county (arrangement_of county steps)
-least_steps county is profile walks order steps e =
-    subst (IsLeastChoice county) (sym (steps_ascend county walks order steps e)) (ascending_is_least county is profile)
 
 -- the county of a choice of least text is canonical, and the renaming that belongs to it carries
 module _ (county : County) (is : IsCounty county) (profile : IsInProfile county) (steps : Arrangement) (least : IsLeastChoice county steps)
@@ -35,17 +25,13 @@ module _ (county : County) (is : IsCounty county) (profile : IsInProfile county)
     same : AreSame county (arranged county steps)
     same = record { by = renaming_of county steps; carries = carried }
 
-pub arrange-requires-clause-there : goal.arrange-requires-clause-there
-arrange-requires-clause-there g c =
-    steps_there (g.C.Chart.county c.args.chart) c.args.order.now.walks c.requires.shapes.walks c.in_ok-steps.steps.items c.in_ok-steps.ensures
+pub least_steps-requires-clause-few : goal.least_steps-requires-clause-few
+least_steps-requires-clause-few g c =
+    few_in_profile (g.C.Chart.county c.args.chart) (g.met.C.Chart.is_county c.args.chart) c.requires.profile
 
-pub arrange-requires-clause-once : goal.arrange-requires-clause-once
-arrange-requires-clause-once g c =
-    let county = g.C.Chart.county c.args.chart in
-    let steps = arrangement_of county c.in_ok-steps.steps.items in
-    let least = least_steps county (g.met.C.Chart.is_county c.args.chart) c.requires.profile c.args.order.now.walks c.requires.shapes.walks
-    c.in_ok-steps.steps.items c.in_ok-steps.ensures in
-    λ tlid. sym (times-permutation nat_keys tlid (arranged_tlids steps) (tlids county) least.choice.arranges)
+pub least_steps-requires-clause-sides : goal.least_steps-requires-clause-sides
+least_steps-requires-clause-sides g c =
+    sides_in_profile (g.C.Chart.county c.args.chart) (g.met.C.Chart.is_county c.args.chart) c.requires.profile
 
 pub arrange-requires-clause-sides : goal.arrange-requires-clause-sides
 arrange-requires-clause-sides g c =
@@ -55,22 +41,18 @@ pub known_as_canonical-requires-clause-canonical : goal.known_as_canonical-requi
 known_as_canonical-requires-clause-canonical g c =
     let county = g.C.Chart.county c.args.chart in
     let is = g.met.C.Chart.is_county c.args.chart in
-    let least = least_steps county is c.requires.profile c.args.order.now.walks c.requires.shapes.walks
-    c.in_ok-steps.steps.items c.in_ok-steps.ensures in
     subst IsCanonCounty (sym c.in_ok-view.ensures.county)
-    (canonical county is c.requires.profile (arrangement_of county c.in_ok-steps.steps.items) least)
+    (canonical county is c.requires.profile (arrangement_of county c.in_ok-steps.steps.items) c.in_ok-steps.ensures.least)
 
 pub known_as_canonical-requires-clause-same : goal.known_as_canonical-requires-clause-same
 known_as_canonical-requires-clause-same g c =
     let county = g.C.Chart.county c.args.chart in
     let is = g.met.C.Chart.is_county c.args.chart in
     let view = c.in_ok-view.view in
-    let least = least_steps county is c.requires.profile c.args.order.now.walks c.requires.shapes.walks
-    c.in_ok-steps.steps.items c.in_ok-steps.ensures in
     subst (λ source. AreSame (g.C.Chart.county source) (stepped (g.C.Chart.county view.chart) view.steps.items))
     (sym c.in_ok-view.ensures.source)
     (subst (AreSame county) (sym c.in_ok-view.ensures.county)
-    (same county is c.requires.profile (arrangement_of county c.in_ok-steps.steps.items) least))
+    (same county is c.requires.profile (arrangement_of county c.in_ok-steps.steps.items) c.in_ok-steps.ensures.least))
 
 pub returns-clause-source_county : goal.returns-clause-source_county
 returns-clause-source_county g c = ap g.C.Chart.county (c.known_as_canonical.ensures.source ∙ c.in_ok-view.ensures.source)
@@ -86,8 +68,7 @@ returns-clause-choice g c =
     subst (IsLeastChoice county)
     (sym ((λ i. arrangement_of (g.C.Chart.county (c.known_as_canonical.ensures.source i)) (c.known_as_canonical.ensures.order i).items)
     ∙ (λ i. arrangement_of (g.C.Chart.county (c.in_ok-view.ensures.source i)) (c.in_ok-view.ensures.order i).items)))
-    (least_steps county (g.met.C.Chart.is_county c.args.chart) c.requires.profile c.args.order.now.walks c.requires.shapes.walks
-    c.in_ok-steps.steps.items c.in_ok-steps.ensures)
+    c.in_ok-steps.ensures.least
 
 pub returns-clause-carried : goal.returns-clause-carried
 returns-clause-carried g c =
