@@ -9,6 +9,7 @@ mod devices;
 mod fields;
 mod hoard;
 mod loading;
+mod long;
 mod made;
 mod many;
 mod masked;

@@ -32,6 +32,29 @@ fn sources_are_read_to_their_end(rt: HostRuntime) {
     gives_the_street(&rt, rt.alloc(), "a reader", &mut counted);
 }
 
+/// The source gives this set by a hundred bytes a read, and fails at the read that is named: that is told, then and in the end, and
+/// no part is closed.
+fn fails_at(rt: &impl Abort, alloc: Global, set: &[u8], read: u64) {
+    let mut source = SlowSource::new(set, 100, Some(read));
+    let mut loader = Loader::new(alloc);
+    let answer = loader.read_part(&mut source);
+    let wanted = Err(LoadFault::Device);
+    same(rt, "answer", &(read, answer), &(read, wanted));
+    same(rt, "failures", &source.failures(), &1);
+    same(rt, "parts", &loader.parts(), &0);
+    let fault = loader.finish().err();
+    same(rt, "in the end", &fault, &Some(LoadFault::Device));
+}
+
+#[test]
+fn a_failed_read_is_told_wherever_it_comes(rt: HostRuntime) {
+    let set = lines_of(&rt, rt.alloc(), street_respelt());
+    same(&rt, "bytes", &set.len(), &357);
+    for read in 1..6 {
+        fails_at(&rt, rt.alloc(), &set, read);
+    }
+}
+
 /// A reader that fails at its third read was asked three times, and then no more.
 fn fails_once(rt: &impl Abort, alloc: Global, kind: ErrorKind) {
     let count = Cell::new(0);

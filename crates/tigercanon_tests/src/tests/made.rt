@@ -2,7 +2,7 @@
 //! of its own. It has chains of many points and of many names, names that no chain bears, landmarks with several contents and
 //! links, hundreds of CENIDs, and numbers of ten digits.
 
-ghost use Rattle.std.specs.Prelude.{◌×◌, ◌<◌};
+ghost use Rattle.std.specs.Prelude.{◌<◌};
 
 use super::sets::lines_of;
 use std::alloc::Global;
@@ -113,7 +113,13 @@ fn put(line: &mut [u8], last: usize, number: u64) {
 }
 
 /// Adds the line of this pattern, with numbers in the columns that end with these.
-fn add(rt: &impl Abort, alloc: Global, text: &mut Vec<u8>, pattern: &str, fields: &[(usize, u64)]) {
+pub(super) fn add(
+    rt: &impl Abort,
+    alloc: Global,
+    text: &mut Vec<u8>,
+    pattern: &str,
+    fields: &[(usize, u64)],
+) {
     let mut line = lines_of(rt, alloc, &[pattern]);
     for (last, number) in fields {
         put(&mut line, *last, *number);

@@ -3,6 +3,8 @@
 //! all later ones. Elsewhere nothing is refused, and a test sees that each call answers where memory is ample.
 
 mod layers;
+mod pieces;
+mod refused;
 
 ghost use Rattle.std.specs.Prelude.{◌<◌};
 ghost use Rattle.tl_county.specs.Limits.{HoldsWithinLimits};
@@ -592,6 +594,9 @@ pub(super) enum Call {
     NewShape,
     TablesOf,
     OrderByShape,
+    AdmitLinked,
+    Arrange,
+    WriteInOrder,
 }
 
 /// The whole calls.
@@ -634,24 +639,9 @@ const OF_LAYERS: &[Call] = &[
     Call::NewShape,
     Call::TablesOf,
     Call::OrderByShape,
-];
-
-/// The calls that refuse a county outside the profile.
-const REFUSING: &[Call] = &[
-    Call::Normalise,
-    Call::NormaliseWithRenaming,
-    Call::NormaliseTo,
-    Call::Fingerprint,
-    Call::Check,
-    Call::CompareWithItself,
-    Call::CompareWithStreet,
-    Call::NormaliseMasked,
-    Call::NormaliseWithRenamingMasked,
-    Call::NormaliseToMasked,
-    Call::FingerprintMasked,
-    Call::CompareMasked,
-    Call::Admit,
-    Call::AdmitIn,
+    Call::AdmitLinked,
+    Call::Arrange,
+    Call::WriteInOrder,
 ];
 
 /// Those lists.
@@ -661,10 +651,6 @@ pub(super) fn whole() -> &'static [Call] {
 
 pub(super) fn of_layers() -> &'static [Call] {
     OF_LAYERS
-}
-
-fn refusing() -> &'static [Call] {
-    REFUSING
 }
 
 /// The run of a call on a set, with growths refused as is asked for.
@@ -704,6 +690,9 @@ fn run_of(rt: &impl Abort, alloc: Global, call: Call, set: &Set<'_>, asked: usiz
         Call::NewShape => shaped(rt, alloc, asked),
         Call::TablesOf => tabled(rt, alloc, set, asked),
         Call::OrderByShape => ordered(rt, alloc, set, asked),
+        Call::AdmitLinked => pieces::admitted_linked(rt, alloc, set, asked),
+        Call::Arrange => pieces::arranged(rt, alloc, set, asked),
+        Call::WriteInOrder => pieces::written_in_order(rt, alloc, set, asked),
     }
 }
 
@@ -782,46 +771,5 @@ fn calls_of_layers_tell_refused_growths(rt: HostRuntime) {
     for call in of_layers() {
         let count = growths_on(&rt, rt.alloc(), *call, worked());
         println!(rt; "{call:?}: {count} growths refused").expect(&rt, "a line goes out");
-    }
-}
-
-/// A set that is refused since two of its chains have one shape.
-const ONE_SHAPE: &[Worked] = &[(
-    "two chains of one shape",
-    &[
-        "1{13}9{183}+2{7}+1{8}+3{7}+1",
-        "1{13}4{183}+3{7}+1{8}+2{7}+1",
-        "I{18}9",
-        "I{18}4",
-    ],
-    &[],
-)];
-
-/// That set alone.
-fn one_shape() -> &'static [Worked] {
-    ONE_SHAPE
-}
-
-/// The county of each set is refused, since its chains 4 and 9 have one shape.
-fn are_of_one_shape(rt: &impl Abort, alloc: Global, rows: &[Worked]) {
-    let fault = ProfileFault::SameShape {
-        first: 4,
-        second: 9,
-    };
-    for row in rows {
-        let county = county_of(rt, alloc, row.0, &lines_of(rt, alloc, row.1));
-        same(rt, row.0, &admit(alloc, county).err(), &Some(fault));
-    }
-}
-
-#[test]
-fn a_refusal_stays_where_growths_are_refused(rt: HostRuntime) {
-    are_of_one_shape(&rt, rt.alloc(), one_shape());
-    for call in refusing() {
-        let count = growths_on(&rt, rt.alloc(), *call, one_shape());
-        println!(rt; "{call:?} of a refused set: {count} growths refused").expect(
-            &rt,
-            "a line goes out",
-        );
     }
 }

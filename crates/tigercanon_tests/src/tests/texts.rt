@@ -183,6 +183,12 @@ fn faults_of_linking_say_which_numbers(rt: HostRuntime) {
     link_says(&rt, alloc, LinkFault::Memory, "there is not enough memory");
 }
 
+/// A command line that is no plan is told by the usage as it is.
+fn usage_says(rt: &impl Abort, alloc: Global, text: &str) {
+    let usage = String::from_str(alloc, text).expect(rt, text);
+    says(rt, alloc, &PlanFault::Usage(usage), text);
+}
+
 #[test]
 fn faults_of_the_profile_and_of_calls_say_what_they_are(rt: HostRuntime) {
     let alloc = rt.alloc();
@@ -229,4 +235,5 @@ fn faults_of_the_profile_and_of_calls_say_what_they_are(rt: HostRuntime) {
     );
     says(&rt, alloc, &CompareFault::Memory, "out of memory");
     says(&rt, alloc, &PlanFault::Memory, "refused 9 Memory");
+    usage_says(&rt, alloc, "error: no such word\n\nUsage: tigercanon\n");
 }

@@ -16,7 +16,7 @@ const LINK_RESPELT: &str = "I200601001{7}500{8}11{8}12{87}";
 pub(super) const RESPELT: &[&str] = &[CHAIN_RESPELT, LINK_RESPELT];
 
 /// The line of record type I of Main St between two polygons 12.
-const SIDES: &str = "I{4}01001{7}500{8}11{8}1200001{8}1200002{8}12";
+pub(super) const SIDES: &str = "I{4}01001{7}500{8}11{8}1200001{8}1200002{8}12";
 
 /// The chain of Main St seen from its other end, with the TLID 77.
 pub(super) const TURNED: &str =
@@ -50,6 +50,21 @@ const SHAPED: &[&str] = &[
     "2{12}77{2}1{1}-86468559+32424925{1}-86468569+32424924{1}-86468579+32424923{1}-86468589+32424922{1}-86468599+32424921{1}-86468609+32424920{1}-86468619+32424919{1}-86468629+32424918{1}-86468639+32424917{1}-86468649+32424916",
 ];
 
+/// The same points from the chain's start on, in other records, under sequence numbers with gaps.
+const SHAPED_OTHERWISE: &[&str] = &[
+    CHAIN,
+    LINK,
+    "2{11}500{2}2{1}-86468659+32424915{1}-86468649+32424916{1}-86468639+32424917{1}-86468629+32424918{1}-86468619+32424919{1}-86468609+32424920",
+    "2{11}500{2}5{1}-86468599+32424921{1}-86468589+32424922{1}-86468579+32424923{1}-86468569+32424924{1}-86468559+32424925",
+];
+
+/// A chain that ends where it starts, and comes back another way.
+const LOOP: &[&str] = &[
+    "1{11}500{1}A{2}Main{26}St{4}A41{8}101{8}199{8}100{8}19801{2}3600336006{14}0101001001{30}02020002030010012002{1}-86468669+32424914{1}-86468669+32424914",
+    "I{4}01001{7}500{8}11{8}11{87}",
+    "2{11}500{2}1{1}-86468600+32424990{1}-86468600+32424900",
+];
+
 /// A chain between two polygons of one number.
 pub(super) const SIDED: &[&str] = &[CHAIN, SIDES];
 
@@ -63,6 +78,24 @@ pub(super) const NAMED_BACKWARDS: &[&str] = &[
     OLD_MILL_9,
     "4{11}500{2}1{7}9{7}8",
 ];
+
+/// One of the names twice, and the other one unused.
+const NAMED_TWICE: &[&str] = &[CHAIN, LINK, OLD_MILL_8, OLD_MILL_9, "4{11}500{2}1{7}8{7}8"];
+
+/// Two landmarks of one content with a link each, and one with two contents and none.
+const LANDMARKS: &[&str] = &[
+    CHAIN,
+    SIDES,
+    "7{4}01001{8}30AD43Lee School",
+    "7{4}01001{8}31AD43Lee School",
+    "7{4}01001{8}40AD43Barn",
+    "7{4}01001{8}40AD43Annex",
+    "8{4}0100100001{8}12{8}30",
+    "8{4}0100100001{8}12{8}31",
+];
+
+/// A landmark whose point is told by zeros, which is none.
+const WITHOUT_A_POINT: &[&str] = &[CHAIN, LINK, "7{4}01001{8}30AD43Barn{26}+000000000+00000000"];
 
 /// Two chains that share a node and a polygon.
 const TWO_CHAINS: &[&str] = &[
@@ -106,6 +139,14 @@ const SHAPED_TEXT: &[&str] = &[
     LINK_1,
 ];
 
+const LOOP_TEXT: &[&str] = &[
+    "12006{9}1{1}A{2}Main{26}St{4}A41{8}198{8}100{8}199{8}101{2}103600636003{14}0101001001{30}02030002020020021001-086468669+32424914-086468669+32424914",
+    "22006{9}1{2}1-086468600+32424900-086468600+32424990+000000000+00000000+000000000+00000000+000000000+00000000+000000000+00000000+000000000+00000000+000000000+00000000+000000000+00000000+000000000+00000000",
+    "I200601001{9}1{9}1{9}1{87}",
+];
+
+const SIDED_TEXT: &[&str] = &[CHAIN_1, SIDES_1];
+
 const OTHER_ADDRESSES_TEXT: &[&str] = &[
     "12006{9}1{1}A{2}Main{26}St{4}A41{8}101{8}199{8}198{8}10001{2}3600336006{14}0101001001{30}02020002030010012002-086468669+32424914-086468545+32424948",
     LINK_1,
@@ -122,6 +163,27 @@ const NAMED_TEXT: &[&str] = &[
     OLD_MILL_2,
     LINK_1,
 ];
+
+const NAMED_TWICE_TEXT: &[&str] = &[
+    CHAIN_1,
+    "42006{9}1{2}1{7}2{7}2{24}",
+    OLD_MILL_1,
+    OLD_MILL_2,
+    LINK_1,
+];
+
+const LANDMARKS_TEXT: &[&str] = &[
+    CHAIN_1,
+    "7200601001{9}1AD43Annex{45}",
+    "7200601001{9}1AD43Barn{46}",
+    "7200601001{9}2AD43Lee School{40}",
+    "7200601001{9}3AD43Lee School{40}",
+    "820060100100001{9}1{9}2{1}",
+    "820060100100001{9}1{9}3{1}",
+    SIDES_1,
+];
+
+const WITHOUT_A_POINT_TEXT: &[&str] = &[CHAIN_1, "7200601001{9}1AD43Barn{46}", LINK_1];
 
 const TWO_CHAINS_TEXT: &[&str] = &[
     "12006{9}1{175}+000000001+00000001+000000002+00000001",
@@ -158,8 +220,22 @@ const WORKED: &[Worked] = &[
     ("a street from its other end", MAIN_TURNED, MAIN_TEXT),
     ("other addresses", OTHER_ADDRESSES, OTHER_ADDRESSES_TEXT),
     ("shape points", SHAPED, SHAPED_TEXT),
+    (
+        "shape points in other records",
+        SHAPED_OTHERWISE,
+        SHAPED_TEXT,
+    ),
+    ("a loop", LOOP, LOOP_TEXT),
+    ("two sides", SIDED, SIDED_TEXT),
     ("names", NAMED, NAMED_TEXT),
     ("names in the other order", NAMED_BACKWARDS, NAMED_TEXT),
+    ("a name twice", NAMED_TWICE, NAMED_TWICE_TEXT),
+    ("landmarks", LANDMARKS, LANDMARKS_TEXT),
+    (
+        "a landmark without a point",
+        WITHOUT_A_POINT,
+        WITHOUT_A_POINT_TEXT,
+    ),
     ("two chains", TWO_CHAINS, TWO_CHAINS_TEXT),
     ("a record of each type", RICH, RICH_TEXT),
 ];

@@ -80,8 +80,8 @@ fn layers_tell_their_refusals(rt: &impl Abort, alloc: Global, row: &Worked) -> u
     let wanted = [
         tellings(rt, alloc, Call::TablesOf, &set),
         tellings(rt, alloc, Call::LinkInOrder, &set),
-        tellings(rt, alloc, Call::OrderByShape, &set),
-        told[3],
+        tellings(rt, alloc, Call::AdmitLinked, &set),
+        tellings(rt, alloc, Call::WriteInOrder, &set),
     ];
     same(rt, row.0, &told, &wanted);
     told[1]
