@@ -5,7 +5,7 @@ ghost use Rattle.std.specs.Prelude.{◌<◌};
 use super::counties::county_of;
 use super::refusals::{
     Run, Set, admitted_in_of, admitted_of, canonised, ended, has_refused, refuse, renaming_of,
-    told, with_text, written_by,
+    told, written_by,
 };
 use bumpalo::Bump;
 use std::alloc::Global;
@@ -91,7 +91,12 @@ pub(super) fn put_into_form(rt: &impl Abort, alloc: Global, set: &Set<'_>, asked
     refuse(alloc, asked);
     let outcome = canonise_masked(alloc, admitted, BOTH);
     let refused = has_refused(alloc);
-    canonised(rt, alloc, &with_text(set, &text), refused, outcome)
+    let set = Set {
+        row: set.row,
+        bytes: set.bytes,
+        text: &text,
+    };
+    canonised(rt, alloc, &set, refused, outcome)
 }
 
 pub(super) fn put_into_form_in(rt: &impl Abort, alloc: Global, set: &Set<'_>, asked: usize) -> Run {
@@ -101,5 +106,10 @@ pub(super) fn put_into_form_in(rt: &impl Abort, alloc: Global, set: &Set<'_>, as
     refuse(alloc, asked);
     let outcome = canonise_in_masked(alloc, admitted, BOTH);
     let refused = has_refused(alloc);
-    canonised(rt, alloc, &with_text(set, &text), refused, outcome)
+    let set = Set {
+        row: set.row,
+        bytes: set.bytes,
+        text: &text,
+    };
+    canonised(rt, alloc, &set, refused, outcome)
 }

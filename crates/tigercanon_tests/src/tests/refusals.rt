@@ -129,15 +129,6 @@ impl SetLines {
     }
 }
 
-/// The set with another canonical text.
-pub(super) fn with_text<'a>(set: &Set<'a>, text: &'a [u8]) -> Set<'a> {
-    Set {
-        row: set.row,
-        bytes: set.bytes,
-        text,
-    }
-}
-
 // The runs of the calls. What a call takes is made before growths are refused, and what it answers is told when none is any more.
 
 fn respelt(rt: &impl Abort, alloc: Global, set: &Set<'_>, asked: usize) -> Run {
@@ -594,8 +585,6 @@ pub(super) enum Call {
     NewShape,
     TablesOf,
     OrderByShape,
-    AdmitLinked,
-    Arrange,
     WriteInOrder,
 }
 
@@ -639,8 +628,6 @@ const OF_LAYERS: &[Call] = &[
     Call::NewShape,
     Call::TablesOf,
     Call::OrderByShape,
-    Call::AdmitLinked,
-    Call::Arrange,
     Call::WriteInOrder,
 ];
 
@@ -690,8 +677,6 @@ fn run_of(rt: &impl Abort, alloc: Global, call: Call, set: &Set<'_>, asked: usiz
         Call::NewShape => shaped(rt, alloc, asked),
         Call::TablesOf => tabled(rt, alloc, set, asked),
         Call::OrderByShape => ordered(rt, alloc, set, asked),
-        Call::AdmitLinked => pieces::admitted_linked(rt, alloc, set, asked),
-        Call::Arrange => pieces::arranged(rt, alloc, set, asked),
         Call::WriteInOrder => pieces::written_in_order(rt, alloc, set, asked),
     }
 }

@@ -80,7 +80,7 @@ fn layers_tell_their_refusals(rt: &impl Abort, alloc: Global, row: &Worked) -> u
     let wanted = [
         tellings(rt, alloc, Call::TablesOf, &set),
         tellings(rt, alloc, Call::LinkInOrder, &set),
-        tellings(rt, alloc, Call::AdmitLinked, &set),
+        tellings(rt, alloc, Call::OrderByShape, &set),
         tellings(rt, alloc, Call::WriteInOrder, &set),
     ];
     same(rt, row.0, &told, &wanted);
