@@ -203,7 +203,7 @@ fn faults_of_the_profile_and_of_calls_say_what_they_are(rt: HostRuntime) {
         &rt,
         alloc,
         ProfileFault::TooSymmetric,
-        "the points of the chains leave more than 5040 choices of their order and directions",
+        "too many chains have the same points, or points that are the same from both ends",
     );
     profile_says(
         &rt,
