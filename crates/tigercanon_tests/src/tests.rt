@@ -22,6 +22,8 @@ mod running;
 mod sets;
 mod sinks;
 mod texts;
+mod twin_sets;
+mod twins;
 mod usage;
 mod whole_calls;
 mod worked_sets;

@@ -4,7 +4,8 @@ use super::comparing::{same, same_items};
 use super::counties::county_of;
 use super::renamings::{Lists, has_lists, turn_of_the_street};
 use super::sets::lines_of;
-use super::worked_sets::{CHAIN, LINK, closed, street, street_text, street_turned};
+use super::twin_sets::{of_no_sources_text, of_two_sources, of_two_sources_text, too_symmetric};
+use super::worked_sets::{CHAIN, LINK, street, street_text, street_turned};
 use std::alloc::Global;
 use std::process::Abort;
 use tigercanon::{
@@ -96,7 +97,7 @@ fn text_of_none() -> &'static [&'static str] {
 
 /// What is written of the set from a source to a sink under the mask is this text.
 fn is_written(rt: &impl Abort, alloc: Global, row: &str, mask: Mask, set: &[u8], text: &[u8]) {
-    let mut room = vec![in alloc; 0u8; 400].expect(rt, row);
+    let mut room = vec![in alloc; 0u8; 800].expect(rt, row);
     let mut sink = SlowSink::new(&mut room, 7);
     let mut sources = [SlowSource::new(set, 100, None)];
     let answer = normalise_to_masked(alloc, &mut sources, &mut sink, mask);
@@ -344,11 +345,33 @@ fn sets_are_one_map_under_just_these_masks(rt: HostRuntime) {
 
 /// A mask changes nothing of what is refused.
 #[test]
-fn a_closed_chain_is_refused_under_each_mask(rt: HostRuntime) {
-    let set = lines_of(&rt, rt.alloc(), closed());
-    let told = Some(Fault::Profile(ProfileFault::OwnReverse { tlid: 500 }));
+fn too_many_choices_are_refused_under_each_mask(rt: HostRuntime) {
+    let set = lines_of(&rt, rt.alloc(), too_symmetric());
+    let told = Some(Fault::Profile(ProfileFault::TooSymmetric));
     for row in street_rows() {
         let fault = normalise_masked(rt.alloc(), &[&set], row.1).err();
         same(&rt, row.0, &fault, &told);
+    }
+}
+
+/// Which of two chains of one shape comes first is decided without the fields that are left out.
+#[test]
+fn the_least_text_is_that_under_the_mask(rt: HostRuntime) {
+    let alloc = rt.alloc();
+    let set = lines_of(&rt, alloc, of_two_sources());
+    let whole = lines_of(&rt, alloc, of_two_sources_text());
+    let bare = lines_of(&rt, alloc, of_no_sources_text());
+    for (mask, text) in [
+        (NONE, &whole),
+        (SOURCES, &bare),
+        (RESERVED, &whole),
+        (BOTH, &bare),
+    ] {
+        has_text_under(&rt, alloc, "two sources", mask, &set, text);
+        is_its_own(&rt, alloc, "two sources", mask, text);
+        assert!(&rt;
+            are_one_map(&rt, alloc, &set, text, mask),
+            "one map with its text"
+        );
     }
 }

@@ -3,6 +3,7 @@
 use super::comparing::{same, same_items};
 use super::counties::{county_in_of, county_of};
 use super::sets::{lines_of, spelled};
+use super::twin_sets::{of_no_sources_text, of_two_sources, of_two_sources_text};
 use super::worked_sets::{CHAIN, LINK, MAIN, MAIN_TURNED};
 use bumpalo::Bump;
 use std::alloc::{AllocError, Global};
@@ -157,5 +158,25 @@ fn contents_stand_in_the_order_that_they_have_under_the_mask(rt: HostRuntime) {
         mask(true, false),
         &set,
         &annex_first,
+    );
+}
+
+/// Two chains of one shape stand in the order that they have without the fields that are left out.
+#[test]
+fn chains_of_one_shape_stand_in_the_order_that_they_have_under_the_mask(rt: HostRuntime) {
+    let alloc = rt.alloc();
+    let set = lines_of(&rt, alloc, of_two_sources());
+    let whole = lines_of(&rt, alloc, of_two_sources_text());
+    let bare = lines_of(&rt, alloc, of_no_sources_text());
+    becomes(&rt, alloc, "none", Mask::NONE, &set, &whole);
+    becomes(&rt, alloc, "sources", mask(true, false), &set, &bare);
+    becomes_in(&rt, alloc, "none, in an arena", Mask::NONE, &set, &whole);
+    becomes_in(
+        &rt,
+        alloc,
+        "sources, in an arena",
+        mask(true, false),
+        &set,
+        &bare,
     );
 }

@@ -192,24 +192,18 @@ fn usage_says(rt: &impl Abort, alloc: Global, text: &str) {
 #[test]
 fn faults_of_the_profile_and_of_calls_say_what_they_are(rt: HostRuntime) {
     let alloc = rt.alloc();
-    let (tlid, first, second, cenid, polyid) = (500, 4, 9, *b"00012", 9);
-    profile_says(
-        &rt,
-        alloc,
-        ProfileFault::OwnReverse { tlid },
-        "the points of the chain with the TLID 500 are the same from both ends",
-    );
-    profile_says(
-        &rt,
-        alloc,
-        ProfileFault::SameShape { first, second },
-        "the chains with the TLIDs 4 and 9 have the same points",
-    );
+    let (cenid, polyid) = (*b"00012", 9);
     profile_says(
         &rt,
         alloc,
         ProfileFault::PolygonWithoutChain { cenid, polyid },
         "the POLYID 9 under the CENID [48, 48, 48, 49, 50] has a record of type P and is on no side of a chain",
+    );
+    profile_says(
+        &rt,
+        alloc,
+        ProfileFault::TooSymmetric,
+        "too many chains have the same points, or points that are the same from both ends",
     );
     profile_says(
         &rt,

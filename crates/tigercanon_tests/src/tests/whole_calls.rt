@@ -3,9 +3,8 @@
 use super::comparing::{same, same_items};
 use super::renamings::{carries, has_lists, turn_of_the_street};
 use super::sets::lines_of;
-use super::worked_sets::{
-    Worked, closed, street, street_respelt, street_text, street_turned, worked,
-};
+use super::twin_sets::too_symmetric;
+use super::worked_sets::{Worked, street, street_respelt, street_text, street_turned, worked};
 use std::alloc::Global;
 use std::process::Abort;
 use tigercanon::{
@@ -76,8 +75,8 @@ fn is_refused(rt: &impl Abort, alloc: Global, set: &[u8], fault: Fault) {
 
 #[test]
 fn each_call_tells_what_a_set_is_refused_for(rt: HostRuntime) {
-    let set = lines_of(&rt, rt.alloc(), closed());
-    let fault = Fault::Profile(ProfileFault::OwnReverse { tlid: 500 });
+    let set = lines_of(&rt, rt.alloc(), too_symmetric());
+    let fault = Fault::Profile(ProfileFault::TooSymmetric);
     is_refused(&rt, rt.alloc(), &set, fault);
 }
 

@@ -1,5 +1,10 @@
 //! Worked sets, each a list of patterns of lines. The texts were worked out by hand, from what the canonical form asks for.
 
+use super::twin_sets::{
+    ALIKE, ALIKE_TEXT, CLOSED, CLOSED_TEXT, CLOSED_TWICE, CLOSED_TWICE_TEXT, NAMES_5_AND_7,
+    NAMES_5_AND_7_TEXT, ON_END, ON_END_EXCHANGED, ON_END_TEXT, STREET_TWICE, STREET_TWICE_TEXT,
+};
+
 /// The chain of Main St: its line of record type 1.
 pub(super) const CHAIN: &str =
     "1{11}500{1}A{2}Main{26}St{4}A41{8}101{8}199{8}100{8}19801{2}3600336006{14}0101001001{30}02020002030010012002{1}-86468669+32424914{1}-86468545+32424948";
@@ -238,6 +243,21 @@ const WORKED: &[Worked] = &[
     ),
     ("two chains", TWO_CHAINS, TWO_CHAINS_TEXT),
     ("a record of each type", RICH, RICH_TEXT),
+    ("a chain that is its own reverse", CLOSED, CLOSED_TEXT),
+    ("a street twice", STREET_TWICE, STREET_TWICE_TEXT),
+    ("a street twice, on end", ON_END, ON_END_TEXT),
+    (
+        "a street twice, on end, with TLIDs exchanged",
+        ON_END_EXCHANGED,
+        ON_END_TEXT,
+    ),
+    (
+        "a chain that is its own reverse, twice",
+        CLOSED_TWICE,
+        CLOSED_TWICE_TEXT,
+    ),
+    ("five and seven names", NAMES_5_AND_7, NAMES_5_AND_7_TEXT),
+    ("two chains that are nearly alike", ALIKE, ALIKE_TEXT),
 ];
 
 /// The sets that are accepted. The tables of tests are asked of functions: what a constant holds is known wherever it is named, and
@@ -274,12 +294,4 @@ pub(super) fn record_of_each_type() -> &'static [&'static str] {
 /// Two chains that share a node and a polygon.
 pub(super) fn two_chains() -> &'static [&'static str] {
     TWO_CHAINS
-}
-
-/// A chain that ends where it starts, without shape points.
-pub(super) fn closed() -> &'static [&'static str] {
-    &[
-        "1{11}500{175}{1}-86468669+32424914{1}-86468669+32424914",
-        "I{16}500",
-    ]
 }

@@ -2,17 +2,16 @@
 
 use super::super::comparing::same_items;
 use super::super::sets::lines_of;
+use super::super::twin_sets::TOO_SYMMETRIC;
 use super::super::worked_sets::{CHAIN, LINK, SIDES, Worked};
 use super::{Call, growths_on, whole};
 use std::alloc::Global;
 use std::process::Abort;
 use tigercanon::{Refusal, check};
 
-/// Main St without a start, and one that ends where it starts.
+/// Main St without a start.
 const STARTLESS: &str =
     "1{11}500{1}A{2}Main{26}St{4}A41{132}+000000000+00000000{1}-86468545+32424948";
-
-const CLOSED: &str = "1{11}500{1}A{2}Main{26}St{4}A41{133}-86468669+32424914{1}-86468669+32424914";
 
 /// A polygon, and one of a landmark.
 const POINT: &str = "P{4}0100100001{8}12";
@@ -89,25 +88,11 @@ const RULES: &[Worked] = &[
 /// Sets whose county is outside of the profile.
 const CLAUSES: &[Worked] = &[
     (
-        "refused 21 OwnReverse 500",
-        &[CLOSED, "I{4}01001{7}500{8}11{8}11"],
-        &[],
-    ),
-    (
-        "refused 22 SameShape 4 9",
-        &[
-            "1{13}9{183}+2{7}+1{8}+3{7}+1",
-            "1{13}4{183}+3{7}+1{8}+2{7}+1",
-            "I{18}9",
-            "I{18}4",
-        ],
-        &[],
-    ),
-    (
         "refused 23 PolygonWithoutChain 3030303031 12",
         &[CHAIN, LINK, POINT, "7{4}01001{8}30", POLYGON],
         &[],
     ),
+    ("refused 24 TooSymmetric", TOO_SYMMETRIC, &[]),
 ];
 
 /// Those sets.
