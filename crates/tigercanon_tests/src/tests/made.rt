@@ -2,7 +2,7 @@
 //! of its own. It has chains of many points and of many names, names that no chain bears, landmarks with several contents and
 //! links, hundreds of CENIDs, and numbers of ten digits.
 
-ghost use Rattle.std.specs.Prelude.{◌×◌, ◌<◌};
+ghost use Rattle.std.specs.Prelude.{◌<◌};
 
 use super::sets::lines_of;
 use std::alloc::Global;
