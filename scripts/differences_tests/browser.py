@@ -56,6 +56,14 @@ class Browser:
         WebDriverWait(self.driver, seconds, 0.05).until(lambda driver: driver.execute_script(drawn) is not None)
         return float(self.run(drawn)) / 1000
 
+    def paper(self, orientation: str) -> Any:
+        """How a page is to be printed: portrait or landscape."""
+        from selenium.webdriver.common.print_page_options import PrintOptions
+
+        options = PrintOptions()
+        options.orientation = orientation
+        return options
+
     def run(self, script: str, *arguments: Any) -> Any:
         return self.driver.execute_script(script, *arguments)
 

@@ -4,6 +4,7 @@ from __future__ import annotations
 
 import re
 from collections import Counter
+from copy import deepcopy
 
 from .changes import Changing, much_changed
 from .county import made_county, written
@@ -111,6 +112,14 @@ class Counties(InRoom):
         for place, what in enumerate(("chain", "landmark", "polygon")):
             for kind in (*KINDS, "alike"):
                 self.assertEqual(features[what, kind], int(counts[kind][place].replace(",", "")), (what, kind))
+
+    def test_masks(self) -> None:
+        """What a flag leaves out makes no difference with it, and one without it or with the other flag."""
+        other = deepcopy(self.county)
+        other.chains[0].fields["SOURCE"] = "Z"
+        second = self.put("sources.txt", written(other, 8))
+        for flags, status in (((), 1), (("--no-reserved",), 1), (("--no-sources",), 0)):
+            self.assertEqual(self.call(*flags, self.first, second).status, status, flags)
 
     def test_ties(self) -> None:
         """Where nothing differs but how things are tied, that is said, and where."""

@@ -2,6 +2,9 @@
 
 from __future__ import annotations
 
+import base64
+import shutil
+import subprocess
 import unittest
 from collections import Counter
 from pathlib import Path
@@ -183,6 +186,19 @@ class Page(InBrowser):
         self.assertGreater(len(self.browser.driver.print_page()), 10_000)
         self.assertEqual(self.browser.run("return window.printed"), self.listed())
         self.assertEqual(self.browser.run("return JSON.stringify(window.differences.map.getBounds())"), before)
+
+    def test_printed_map(self) -> None:
+        """The map is whole on the first sheet, with its scale, whichever way the paper lies."""
+        if not shutil.which("pdftotext"):
+            self.skipTest("no poppler-utils")
+        for orientation in ("portrait", "landscape"):
+            options = self.browser.paper(orientation)
+            printed = self.room / "printed.pdf"
+            printed.write_bytes(base64.b64decode(self.browser.driver.print_page(options)))
+            words = ["pdftotext", "-f", "1", "-l", "1", printed, "-"]
+            text = subprocess.run(words, check=True, stdout=subprocess.PIPE).stdout.decode()
+            self.assertRegex(text, r"(?m)^ *\d+ k?m$")
+            self.assertRegex(text, r"(?m)^ *\d+ (ft|mi)$")
 
 
 class Verdicts(InBrowser):
