@@ -5,7 +5,7 @@ ghost use Rattle.tl_number.specs.Groups.{rest_of};
 
 use crate::groups::RecordGroups;
 
-/// A place among records in groups: before a record, or behind the last one of a group.
+/// A place among records in groups: before a record, or behind the last one.
 #[derive(Drop)]
 pub(crate) struct Cursor {
     group: usize,

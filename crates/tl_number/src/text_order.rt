@@ -28,33 +28,33 @@ use tl_county::Chart;
 use tl_layout::{LONGEST_LINE, Layout};
 
 /// Compares two records of one type by their lines.
-fn compare_lines<L: Layout>(record: &L, other: &L) -> Ordering
-    ensures { result ≡ slice_cmp nat_cmp (L.spelling record.now) (L.spelling other.now) }
+fn compare_lines<L: Layout>(a: &L, b: &L) -> Ordering
+    ensures { result ≡ slice_cmp nat_cmp (L.spelling a.now) (L.spelling b.now) }
 {
     let mut line = [0; LONGEST_LINE];
-    let mut other_line = [0; LONGEST_LINE];
+    let mut other = [0; LONGEST_LINE];
     let len = L::LEN;
-    record.put(&mut line[..len]);
-    other.put(&mut other_line[..len]);
-    line[..len].cmp(&other_line[..len])
+    a.put(&mut line[..len]);
+    b.put(&mut other[..len]);
+    line[..len].cmp(&other[..len])
 }
 
 /// Compares two records of one type by their canonical spellings. Only where they differ are lines made of them.
-fn compare_records<L: RecordEq>(record: &L, other: &L) -> Ordering
-    ensures { result ≡ spelling_cmp (L.as_record record.now) (L.as_record other.now) }
+fn compare_records<L: RecordEq>(a: &L, b: &L) -> Ordering
+    ensures { result ≡ spelling_cmp (L.as_record a.now) (L.as_record b.now) }
 {
-    if record.is_same(other) {
+    if a.is_same(b) {
         return Ordering::Equal;
     }
-    compare_lines(record, other)
+    compare_lines(a, b)
 }
 
 /// Compares a record with the one that stands in its place, if there is one.
-fn compare_with<L: RecordEq>(record: &L, other: &Option<L>) -> Ordering
-    ensures { MatchOption other.now (result ≡ Greater) (λ found. result ≡ spelling_cmp (L.as_record record.now) (L.as_record found)) }
+fn compare_with<L: RecordEq>(a: &L, b: &Option<L>) -> Ordering
+    ensures { MatchOption b.now (result ≡ Greater) (λ found. result ≡ spelling_cmp (L.as_record a.now) (L.as_record found)) }
 {
-    match other {
-        Some(found) => compare_records(record, found),
+    match b {
+        Some(found) => compare_records(a, found),
         None => Ordering::Greater,
     }
 }
