@@ -10,8 +10,7 @@ ghost use Rattle.tl_cert.specs.MaskedCounty.{masked};
 ghost use Rattle.tl_layout.specs.RecordText.{text_of};
 ghost use Rattle.tl_number.specs.Sights.{IsSight, plain};
 ghost use Rattle.tl_profile.specs.Profile.{IsInProfile};
-ghost use Rattle.tl_profile.specs.ShapeOrder.{IsShapeOrder};
-ghost use Rattle.tl_profile.specs.declared.chain_walk.ChainWalk.{ChainWalk};
+ghost use Rattle.tl_profile.specs.ShapeOrder.{IsShapeOrder, OrderOfShapes};
 
 use crate::fault::Fault;
 use std::alloc::Global;
@@ -32,7 +31,7 @@ pub(crate) fn under_mask<C: Chart + Drop>(
     ensures seen { IfOk result (λ m. (parts : List (List ℕ)) → IsSeenSet plain parts (C.county chart)
         → IsSeenSet (masked mask) parts (⟦<Masked<C> as Chart>⟧.county m)) }
     ensures profile { IfOk result (λ m. IsInProfile (⟦<Masked<C> as Chart>⟧.county m)) }
-    ensures order { IfOk result (λ m. (order : List ChainWalk) → IsShapeOrder (C.county chart) order
+    ensures order { IfOk result (λ m. (order : OrderOfShapes) → IsShapeOrder (C.county chart) order
         → IsShapeOrder (⟦<Masked<C> as Chart>⟧.county m) order) }
     ensures memory { IfErr result (λ fault. fault ≡ Fault.Memory) }
 {
