@@ -64,6 +64,8 @@ pub mod MovedChoice
 pub mod MovedSteps
 pub mod ChosenSteps
 pub mod LeastNumbers
+pub mod TypeOnes
+pub mod LeastOnes
 pub mod RecordTexts
 pub mod GroupRests
 pub mod TypeOrders

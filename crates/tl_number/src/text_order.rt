@@ -40,7 +40,7 @@ fn compare_lines<L: Layout>(record: &L, other: &L) -> Ordering
 }
 
 /// Compares two records of one type by their canonical spellings. Only where they differ are lines made of them.
-fn compare_records<L: RecordEq>(record: &L, other: &L) -> Ordering
+pub(crate) fn compare_records<L: RecordEq>(record: &L, other: &L) -> Ordering
     ensures { result ≡ spelling_cmp (L.as_record record.now) (L.as_record other.now) }
 {
     if record.is_same(other) {
