@@ -246,11 +246,7 @@ fn least_of_ties<C: Chart>(
 }
 
 /// The number of the choice of least text.
-fn least_number<C: Chart>(
-    alloc: Global,
-    chart: &C,
-    order: &ShapeOrder,
-) -> Result<u64, AllocError>
+fn least_number<C: Chart>(alloc: Global, chart: &C, order: &ShapeOrder) -> Result<u64, AllocError>
     requires order { IsShapeOrder (C.county chart.now) order.now }
     requires few { choices (C.county chart.now) ≤ most_choices }
     requires sides { AllKeysStandIn (polygons_along (C.county chart.now).chains) (polygon_keys (C.county chart.now)) }

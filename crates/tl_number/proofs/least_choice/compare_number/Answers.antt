@@ -33,7 +33,7 @@ pub compare_ones-requires-clause-other : goal.compare_ones-requires-clause-other
 compare_ones-requires-clause-other g c =
     let county = g.C.Chart.county c.args.chart.now in
     let told = c.choose.ensures.steps
-        ∙ (λ i. (moved other_way (c.open_places.ensures i) ((c.copy_from_slice.ensures.after ∙ c.walks.ensures) i, c.args.number)).0) in
+    ∙ (λ i. (moved other_way (c.open_places.ensures i) ((c.copy_from_slice.ensures.after ∙ c.walks.ensures) i, c.args.number)).0) in
     whole_of_number county (g.met.C.Chart.is_county c.args.chart.now) (g.met.C.Chart.within_limits c.args.chart.now) c.requires.sides
     c.args.order.now.walks c.requires.order.walks c.args.order.now.places (c.requires.order.places c.requires.few)
     c.choose.new.steps c.args.number told
@@ -54,7 +54,7 @@ returns-clause-order g c =
     let places = c.args.order.now.places in
     let there = c.requires.order.places c.requires.few in
     let told = c.choose.ensures.steps
-        ∙ (λ i. (moved other_way (c.open_places.ensures i) ((c.copy_from_slice.ensures.after ∙ c.walks.ensures) i, c.args.number)).0) in
+    ∙ (λ i. (moved other_way (c.open_places.ensures i) ((c.copy_from_slice.ensures.after ∙ c.walks.ensures) i, c.args.number)).0) in
     c.compare_ones.ensures
     ∙ ap (λ steps. groups_cmp One (type_1_by_chain (stepped county steps)) (type_1_by_chain (stepped county c.choose.new.steps)))
     c.deref.ensures.value

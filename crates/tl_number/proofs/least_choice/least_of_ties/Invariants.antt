@@ -1,5 +1,5 @@
 -- The least so far is arranged, and it is the least below the number from which on further ones are looked for.
-use Rattle.std.proofs.Common.{◌≡◌, ◌≤◌, ◌-◌, length}
+use Rattle.std.proofs.Common.{◌≡◌, ◌-◌, length}
 use Rattle.tl_profile.specs.Choices.{choices}
 use Rattle.tl_number.specs.Arrangement.{arranged}
 use Rattle.tl_number.specs.LeastNumber.{IsLeastBelow, choice_list}

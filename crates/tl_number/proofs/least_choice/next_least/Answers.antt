@@ -1,4 +1,4 @@
-use Rattle.std.proofs.Common.{◌≡◌, cond, is_gt, ap, ◌∙◌, sym, subst}
+use Rattle.std.proofs.Common.{◌≡◌, is_gt, sym, subst}
 use Rattle.tl_county.specs.Renumbering.{AreSame}
 use Rattle.tl_number.specs.Arrangement.{arranged}
 use Rattle.tl_number.specs.LeastNumber.{choice_list}
