@@ -3,6 +3,7 @@ use Rattle.std.proofs.Common.{◌≡◌, ◌<◌, ◌≤◌, ◌+◌, ◌/◌, �
 use Rattle.std.proofs.Common.{cond}
 use Rattle.std.proofs.Common.{Ordering, sym, refl, ap, ◌∙◌, subst, arith}
 use Rattle.std.proofs.lemmas.List.{drop-map, length-map, map-append, take-map}
+use Rattle.std.proofs.lemmas.List.Sorted.{length_permutation, IsPermutation-insert}
 use Rattle.std.specs.List.{AllByRecursion, insert}
 use Rattle.tl_shape.specs.PointOrder.{points_cmp}
 use Rattle.tl_county.specs.County.{County}
@@ -37,6 +38,17 @@ chosen_all {X} cmp either key turn P kept (x ∷ xs) a n =
     either_kept : (d : ℕ) → P (turned_by turn d x)
     either_kept zero = a.0
     either_kept (suc d) = kept x a.0
+
+-- and they are as many
+chosen_count : {X K : Type 0} (cmp : K → K → Ordering) (either : K → Bool) (key : X → K) (turn : X → X) (xs : List X) (n : ℕ)
+    → length (chosen cmp either key turn xs n).0 ≡ length xs
+chosen_count cmp either key turn [] n = refl
+chosen_count cmp either key turn (x ∷ xs) n =
+    length_inserted (chosen cmp either key turn xs n).0 _ _ ∙ ap suc (chosen_count cmp either key turn xs n)
+  where
+    length_inserted : {Z : Type 0} (zs : List Z) (i : ℕ) (z : Z) → length (insert zs i z) ≡ suc (length zs)
+    length_inserted zs i z =
+        let same = length_permutation (z ∷ zs) (insert zs i z) (IsPermutation-insert zs i z) in omega (arith, same)
 
 -- elements told by others, with the same keys and turned as these
 module _ {X Y K : Type 0} (cmp : K → K → Ordering) (either : K → Bool) (key : X → K) (turn : X → X) (key_told : Y → K) (turn_told : Y → Y)
@@ -106,6 +118,10 @@ module _ (county : County) (is : IsCounty county) (walks : List ChainWalk) (orde
         (λ (step : ChainWalk). (tlid_at county step.place, step.turned)) (λ step. refl) walks keys_same n)
         ∙ ap (λ l. (chosen points_cmp is_either_way (step_shape county) turned_step l n).0) (steps_ascend county walks order walks refl)
         ∙ sym (told_here county is n)
+
+    pub steps_of_number_count : length steps ≡ length walks
+    steps_of_number_count = ap length as_chosen
+        ∙ chosen_count points_cmp is_either_way (points_along county) other_way walks n
 
     -- each of a chain that is there,
     pub steps_of_number_there : AreSteps county steps

@@ -1,5 +1,7 @@
 -- The least of the texts that numbers tell, number by number.
-use Rattle.std.proofs.Common.{◌≡◌, ◌+◌, ℕ, suc, List, Bool, true, false, cond, Ordering, is_gt, nat_cmp, refl, sym, ap, ◌∙◌, subst, arith}
+use Rattle.std.proofs.Common.{◌≡◌, ◌≤◌, ◌+◌, ℕ, nat_lt, List, Bool, true, false, cond, Ordering, is_gt, nat_cmp, refl, sym, ap, ◌∙◌, subst}
+use Rattle.std.proofs.Common.{arith}
+use Rattle.std.proofs.lemmas.Bool.{ltb-true, ltb-false}
 use Rattle.std.specs.Cmp.Lexicographic.{slice_cmp}
 use Rattle.tl_layout.specs.RecordText.{text_of}
 use Rattle.tl_county.specs.County.{County}
@@ -15,6 +17,7 @@ use Rattle.tl_number.specs.Arrangement.{Arrangement, arranged, renaming_of}
 use Rattle.tl_number.specs.LeastNumber.{IsLeastBelow, choice_list}
 use Rattle.tl_number.specs.Canonical.{IsNotAfter}
 use Rattle.tl_number.specs.Tidy.{IsChoice, IsLeastChoice, arranged_list, numbered_choice}
+use Rattle.tl_number.specs.TypeOneOrder.{IsLeastFrom}
 use Rattle.tl_number.proofs.ArrangedCounties.{arranged_county}
 use Rattle.tl_number.proofs.Carrying.{arrangement_carries}
 use Rattle.tl_number.proofs.Choosing.{one_more}
@@ -29,29 +32,58 @@ module _ (county : County) where
   pub first_least : IsLeastBelow county 1 0
   first_least = one_more bytes_keys.total text_at 0 0 (λ m below. absurd (omega (arith, below))) (not_after_itself (choice_list county 0))
 
-  -- the least so far and the next number: the lesser of the two is least
-  pub still_least : (bound n : ℕ) → IsLeastBelow county bound n → (o : Ordering) → o ≡ slice_cmp nat_cmp (text_at n) (text_at bound)
-      → IsLeastBelow county (bound + 1) (cond (is_gt o) bound n)
-  still_least bound n least o is =
-      subst (λ b. IsLeastBelow county b (cond (is_gt o) bound n)) (let e : suc bound ≡ bound + 1 = omega arith in e) (go (is_gt o) refl)
+  -- one text isn't after two others, if it is the lesser of the first and the second
+  pub lesser_of : (n m : ℕ) (o : Ordering) → o ≡ slice_cmp nat_cmp (text_at n) (text_at m)
+      → IsNotAfter (choice_list county (cond (is_gt o) m n)) (choice_list county n)
+      × IsNotAfter (choice_list county (cond (is_gt o) m n)) (choice_list county m)
+  lesser_of n m o is = go (is_gt o) refl
     where
-      go : (b : Bool) → is_gt o ≡ b → IsLeastBelow county (suc bound) (cond b bound n)
-      go false e = one_more bytes_keys.total text_at bound n least (sym (ap is_gt is) ∙ e)
-      go true e =
-          let turned : is_gt (slice_cmp nat_cmp (text_at bound) (text_at n)) ≡ false =
-          not_greater (slice_cmp nat_cmp (text_at n) (text_at bound)) (slice_cmp nat_cmp (text_at bound) (text_at n))
-          (bytes_keys.total.antisymm (text_at n) (text_at bound)) (sym (ap is_gt is) ∙ e) in
-          one_more bytes_keys.total text_at bound bound
-          (λ m l. upto bytes_keys.total (text_at bound) (text_at n) (text_at m) turned (least m l))
-          (not_after_itself (choice_list county bound))
+      go : (b : Bool) → is_gt o ≡ b
+          → IsNotAfter (choice_list county (cond b m n)) (choice_list county n) × IsNotAfter (choice_list county (cond b m n)) (choice_list county m)
+      go false e = (not_after_itself (choice_list county n), sym (ap is_gt is) ∙ e)
+      go true e = (
+        not_greater (slice_cmp nat_cmp (text_at n) (text_at m)) (slice_cmp nat_cmp (text_at m) (text_at n))
+            (bytes_keys.total.antisymm (text_at n) (text_at m)) (sym (ap is_gt is) ∙ e),
+        not_after_itself (choice_list county m),
+      )
 
   -- the same of the counties of these numbers, however they are told
-  pub text_compared : (bound n : ℕ) → IsLeastBelow county bound n → (o : Ordering) → (one other : County)
-      → one ≡ arranged county (numbered_choice county n) → other ≡ arranged county (numbered_choice county bound)
+  pub text_compared : (n m : ℕ) (o : Ordering) (one other : County)
+      → one ≡ arranged county (numbered_choice county n) → other ≡ arranged county (numbered_choice county m)
       → o ≡ slice_cmp nat_cmp (text_of (packed one)) (text_of (packed other))
-      → IsLeastBelow county (bound + 1) (cond (is_gt o) bound n)
-  text_compared bound n least o one other is_one is_other e =
-      still_least bound n least o (e ∙ (λ j. slice_cmp nat_cmp (text_of (packed (is_one j))) (text_of (packed (is_other j)))))
+      → IsNotAfter (choice_list county (cond (is_gt o) m n)) (choice_list county n)
+      × IsNotAfter (choice_list county (cond (is_gt o) m n)) (choice_list county m)
+  text_compared n m o one other is_one is_other e =
+      lesser_of n m o (e ∙ (λ j. slice_cmp nat_cmp (text_of (packed (is_one j))) (text_of (packed (is_other j)))))
+
+  -- texts that aren't after one another
+  pub not_after_both : (n m k : ℕ) → IsNotAfter (choice_list county n) (choice_list county m)
+      → IsNotAfter (choice_list county m) (choice_list county k) → IsNotAfter (choice_list county n) (choice_list county k)
+  not_after_both n m k e f = upto bytes_keys.total (text_at n) (text_at m) (text_at k) e f
+
+  -- The least among those that tie up to a number, and the next tie: the lesser of the two is least up to the next number.
+  pub tie_least : (first from tie old new : ℕ) → IsLeastBelow county from old → IsNotAfter (choice_list county old) (choice_list county first)
+      → IsLeastFrom county from tie first → IsNotAfter (choice_list county new) (choice_list county old)
+      → IsNotAfter (choice_list county new) (choice_list county tie) → IsLeastBelow county (tie + 1) new
+  tie_least first from tie old new below upper among lesser other m l = go (nat_lt m from) refl (nat_lt m tie) refl
+    where
+      go : (b : Bool) → nat_lt m from ≡ b → (d : Bool) → nat_lt m tie ≡ d → IsNotAfter (choice_list county new) (choice_list county m)
+      go true e d f = not_after_both new old m lesser (below m (ltb-true m from e))
+      go false e true f =
+          not_after_both new first m (not_after_both new old first lesser upper) (among m (ltb-false m from e) (ltb-true m tie f))
+      go false e false f =
+          let past : tie ≤ m = ltb-false m tie f in
+          let same : tie ≡ m = omega (arith, l, past) in
+          subst (λ k. IsNotAfter (choice_list county new) (choice_list county k)) same other
+
+  -- and where no further one ties, it is least of all
+  pub ties_least : (first from count old : ℕ) → IsLeastBelow county from old → IsNotAfter (choice_list county old) (choice_list county first)
+      → IsLeastFrom county from count first → IsLeastBelow county count old
+  ties_least first from count old below upper among m l = go (nat_lt m from) refl
+    where
+      go : (b : Bool) → nat_lt m from ≡ b → IsNotAfter (choice_list county old) (choice_list county m)
+      go true e = below m (ltb-true m from e)
+      go false e = not_after_both old first m upper (among m (ltb-false m from e) l)
 
 -- what holds of two things holds of either
 pub of_either : {X : Type 0} (P : X → Type 0) (b : Bool) (x y : X) → P x → P y → P (cond b x y)

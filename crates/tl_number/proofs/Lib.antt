@@ -63,6 +63,8 @@ pub mod CanonLists
 pub mod MovedChoice
 pub mod ChosenSteps
 pub mod LeastNumbers
+pub mod TypeOnes
+pub mod LeastOnes
 pub mod RecordTexts
 pub mod GroupRests
 pub mod TypeOrders

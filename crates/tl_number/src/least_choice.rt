@@ -1,14 +1,19 @@
-//! The steps of the choice of least text. Each choice is arranged in turn, and of two the one with the lesser text is kept.
+//! The steps of the choice of least text.
+//!
+//! Records of type 1 stand before all others in a text, and those of a choice are told by its steps alone. So the choices are gone
+//! through for the one with the least of these first. Only others that have the same are arranged and compared with it as texts, of
+//! which there are few: chains of one shape mostly differ in an address, a name or a code.
 
-ghost use Rattle.std.specs.Prelude.{◌≡◌, ◌<◌, ◌≤◌, ◌+◌, cond, length, IfOk};
+ghost use Rattle.std.specs.Prelude.{◌≡◌, ◌<◌, ◌≤◌, cond, length, IfOk, IfSome, MatchOption};
 ghost use Rattle.std.specs.Ordering.{is_gt};
 ghost use Rattle.tl_county.specs.CountyRules.{AllKeysStandIn, polygon_keys, polygons_along};
 ghost use Rattle.tl_number.specs.Arrangement.{arranged};
-ghost use Rattle.tl_number.specs.LeastNumber.{IsLeastBelow};
+ghost use Rattle.tl_number.specs.LeastNumber.{IsLeastBelow, choice_list};
 ghost use Rattle.tl_number.specs.MovedSteps.{AreWithin, other_way};
 ghost use Rattle.tl_number.specs.NumberedChoices.{moved};
 ghost use Rattle.tl_number.specs.Steps.{AreSteps, arrangement_of};
-ghost use Rattle.tl_number.specs.Tidy.{IsLeastChoice, numbered_choice};
+ghost use Rattle.tl_number.specs.Tidy.{IsLeastChoice, IsNotAfter, numbered_choice};
+ghost use Rattle.tl_number.specs.TypeOneOrder.{IsLeastFrom, IsLeastOne, ones_cmp};
 ghost use Rattle.tl_number.specs.ViewFacts.{NamesEachOnce};
 ghost use Rattle.tl_number.specs.Views.{arranged_county};
 ghost use Rattle.tl_profile.specs.Choices.{choices, most_choices};
@@ -19,8 +24,10 @@ use crate::arranging::arrange;
 use crate::ascending_order::steps_in_order;
 use crate::numbered_steps::choose;
 use crate::text_order::compare_texts;
+use crate::type_1_order::compare_ones;
 use std::alloc::{AllocError, Global};
 use std::cmp::Ordering;
+use std::mem::swap;
 use tl_cert::Lent;
 use tl_county::Chart;
 use tl_profile::{ChainWalk, ShapeOrder};
@@ -76,7 +83,7 @@ fn number_of<V: Drop>(numbered: Numbered<V>) -> u64
     numbered.number
 }
 
-/// The lesser of the least choice so far and that of the next number, which is arranged.
+/// The lesser of the least choice so far and that of another number, which is arranged.
 fn next_least<'a, C: Chart>(
     alloc: Global,
     chart: &'a C,
@@ -87,17 +94,155 @@ fn next_least<'a, C: Chart>(
     requires order { IsShapeOrder (C.county chart.now) order.now }
     requires few { choices (C.county chart.now) ≤ most_choices }
     requires sides { AllKeysStandIn (polygons_along (C.county chart.now).chains) (polygon_keys (C.county chart.now)) }
-    requires below { least.number < number }
     requires choice { arranged_county least.choice ≡ arranged (C.county chart.now) (numbered_choice (C.county chart.now) least.number) }
-    requires least { IsLeastBelow (C.county chart.now) number least.number }
-    ensures below { IfOk result (λ kept. kept.number < number + 1) }
     ensures choice { IfOk result
         (λ kept. arranged_county kept.choice ≡ arranged (C.county chart.now) (numbered_choice (C.county chart.now) kept.number)) }
-    ensures least { IfOk result (λ kept. IsLeastBelow (C.county chart.now) (number + 1) kept.number) }
+    ensures least { IfOk result
+        (λ kept. IsNotAfter (choice_list (C.county chart.now) kept.number) (choice_list (C.county chart.now) least.entry.number)) }
+    ensures other { IfOk result
+        (λ kept. IsNotAfter (choice_list (C.county chart.now) kept.number) (choice_list (C.county chart.now) number)) }
 {
-    let choice = arrange_choice(alloc, chart, order, number)?;
-    let ordering = compare_texts(&least.choice, &choice);
-    Ok(lesser(ordering, least, Numbered { number, choice }))
+    match arrange_choice(alloc, chart, order, number) {
+        Ok(choice) => {
+            let ordering = compare_texts(&least.choice, &choice);
+            Ok(lesser(ordering, least, Numbered { number, choice }))
+        }
+        Err(error) => {
+            // One call for the prover, which else reads the drop of each table.
+            drop(least);
+            Err(error)
+        }
+    }
+}
+
+/// Compares the least choice so far and that of another number by their records of type 1. The steps become those of the number.
+fn compare_number<C: Chart>(
+    chart: &C,
+    order: &ShapeOrder,
+    least: &Numbered<Vec<ChainWalk>>,
+    steps: &mut [ChainWalk],
+    number: u64,
+) -> Ordering
+    requires order { IsShapeOrder (C.county chart.now) order.now }
+    requires few { choices (C.county chart.now) ≤ most_choices }
+    requires sides { AllKeysStandIn (polygons_along (C.county chart.now).chains) (polygon_keys (C.county chart.now)) }
+    requires least { least.now.choice.items ≡ (moved other_way order.now.places (order.now.walks, least.now.number)).0 }
+    requires count { length steps.old ≡ length order.now.walks }
+    ensures order { result ≡ ones_cmp (C.county chart.now) least.now.number number }
+    ensures steps { steps.new ≡ (moved other_way order.now.places (order.now.walks, number)).0 }
+    ensures count { length steps.new ≡ length order.now.walks }
+{
+    steps.copy_from_slice(order.walks());
+    choose(steps, order.open_places(), number);
+    compare_ones(chart, &least.choice, steps)
+}
+
+/// The same for steps in a vector.
+fn compare_next<C: Chart>(
+    chart: &C,
+    order: &ShapeOrder,
+    least: &Numbered<Vec<ChainWalk>>,
+    steps: &mut Vec<ChainWalk>,
+    number: u64,
+) -> Ordering
+    requires order { IsShapeOrder (C.county chart.now) order.now }
+    requires few { choices (C.county chart.now) ≤ most_choices }
+    requires sides { AllKeysStandIn (polygons_along (C.county chart.now).chains) (polygon_keys (C.county chart.now)) }
+    requires least { least.now.choice.items ≡ (moved other_way order.now.places (order.now.walks, least.now.number)).0 }
+    requires count { length steps.old.items ≡ length order.now.walks }
+    ensures order { result ≡ ones_cmp (C.county chart.now) least.now.number number }
+    ensures steps { steps.new.items ≡ (moved other_way order.now.places (order.now.walks, number)).0 }
+    ensures count { length steps.new.items ≡ length order.now.walks }
+{
+    compare_number(chart, order, least, steps, number)
+}
+
+/// The steps of the choice whose records of type 1 come first, and its number.
+fn least_of_type_1<C: Chart>(
+    alloc: Global,
+    chart: &C,
+    order: &ShapeOrder,
+) -> Result<Numbered<Vec<ChainWalk>>, AllocError>
+    requires order { IsShapeOrder (C.county chart.now) order.now }
+    requires few { choices (C.county chart.now) ≤ most_choices }
+    requires sides { AllKeysStandIn (polygons_along (C.county chart.now).chains) (polygon_keys (C.county chart.now)) }
+    ensures steps { IfOk result (λ least. least.choice.items ≡ (moved other_way order.now.places (order.now.walks, least.number)).0) }
+    ensures least { IfOk result (λ least. IsLeastOne (C.county chart.now) (choices (C.county chart.now)) least.number) }
+{
+    let mut steps = steps_in_order(alloc, order)?;
+    let choice = steps_of_number(alloc, order, 0)?;
+    let mut least = Numbered { number: 0, choice };
+    for number in 1..order.choices() {
+        let ordering = compare_next(chart, order, &least, &mut steps, number);
+        if ordering.is_le() {
+            continue;
+        }
+        swap(&mut least.choice, &mut steps);
+        least.number = number;
+    }
+    Ok(least)
+}
+
+/// The next number, from one on, whose choice has the same records of type 1 as the one with the least of them.
+fn next_tie<C: Chart>(
+    chart: &C,
+    order: &ShapeOrder,
+    least: &Numbered<Vec<ChainWalk>>,
+    steps: &mut [ChainWalk],
+    first: u64,
+) -> Option<u64>
+    requires order { IsShapeOrder (C.county chart.now) order.now }
+    requires few { choices (C.county chart.now) ≤ most_choices }
+    requires sides { AllKeysStandIn (polygons_along (C.county chart.now).chains) (polygon_keys (C.county chart.now)) }
+    requires steps { least.now.choice.items ≡ (moved other_way order.now.places (order.now.walks, least.now.number)).0 }
+    requires least { IsLeastOne (C.county chart.now) (choices (C.county chart.now)) least.now.number }
+    requires count { length steps.old ≡ length order.now.walks }
+    ensures count { length steps.new ≡ length order.now.walks }
+    ensures tie { MatchOption result (IsLeastFrom (C.county chart.now) first (choices (C.county chart.now)) least.now.number)
+        (λ tie. IsLeastFrom (C.county chart.now) first tie least.now.number) }
+    ensures within { IfSome result (λ tie. (first ≤ tie) × (tie < choices (C.county chart.now))) }
+{
+    for number in first..order.choices() {
+        if number == least.number {
+            continue;
+        }
+        let ordering = compare_number(chart, order, least, steps, number);
+        if ordering.is_eq() {
+            return Some(number);
+        }
+    }
+    None
+}
+
+/// The number of the choice of least text among those that have the least records of type 1, from the first two of these on.
+fn least_of_ties<C: Chart>(
+    alloc: Global,
+    chart: &C,
+    order: &ShapeOrder,
+    first: &Numbered<Vec<ChainWalk>>,
+    steps: &mut [ChainWalk],
+    tie: u64,
+) -> Result<u64, AllocError>
+    requires order { IsShapeOrder (C.county chart.now) order.now }
+    requires few { choices (C.county chart.now) ≤ most_choices }
+    requires sides { AllKeysStandIn (polygons_along (C.county chart.now).chains) (polygon_keys (C.county chart.now)) }
+    requires steps { first.now.choice.items ≡ (moved other_way order.now.places (order.now.walks, first.now.number)).0 }
+    requires least { IsLeastOne (C.county chart.now) (choices (C.county chart.now)) first.now.number }
+    requires before { IsLeastFrom (C.county chart.now) 0 tie first.now.number }
+    requires count { length steps.old ≡ length order.now.walks }
+    ensures { IfOk result (IsLeastBelow (C.county chart.now) (choices (C.county chart.now))) }
+{
+    let choice = arrange_choice(alloc, chart, order, first.number)?;
+    let mut least = Numbered {
+        number: first.number,
+        choice,
+    };
+    let mut from = tie;
+    while let Some(next) = next_tie(chart, order, first, steps, from) {
+        least = next_least(alloc, chart, order, least, next)?;
+        from = next + 1;
+    }
+    Ok(number_of(least))
 }
 
 /// The number of the choice of least text.
@@ -107,15 +252,15 @@ fn least_number<C: Chart>(alloc: Global, chart: &C, order: &ShapeOrder) -> Resul
     requires sides { AllKeysStandIn (polygons_along (C.county chart.now).chains) (polygon_keys (C.county chart.now)) }
     ensures { IfOk result (IsLeastBelow (C.county chart.now) (choices (C.county chart.now))) }
 {
-    let choice = arrange_choice(alloc, chart, order, 0)?;
-    let mut least = Numbered { number: 0, choice };
-    for number in 1..order.choices() {
-        least = next_least(alloc, chart, order, least, number)?;
+    let mut steps = steps_in_order(alloc, order)?;
+    let first = least_of_type_1(alloc, chart, order)?;
+    match next_tie(chart, order, &first, &mut steps, 0) {
+        Some(tie) => least_of_ties(alloc, chart, order, &first, &mut steps, tie),
+        None => Ok(first.number),
     }
-    Ok(number_of(least))
 }
 
-/// The same, with nothing arranged where the county leaves no choice.
+/// The same, with nothing compared where the county leaves no choice.
 fn number_of_least<C: Chart>(
     alloc: Global,
     chart: &C,

@@ -38,6 +38,7 @@ mod renumbering;
 mod step_readers;
 mod taker;
 mod text_order;
+mod type_1_order;
 
 pub use arranged::{AnyArrangement, Arranged, Standing};
 pub use arranging::{arrange, canonise, canonise_chart, canonise_in, canonise_in_order};

@@ -40,7 +40,7 @@ fn compare_lines<L: Layout>(a: &L, b: &L) -> Ordering
 }
 
 /// Compares two records of one type by their canonical spellings. Only where they differ are lines made of them.
-fn compare_records<L: RecordEq>(a: &L, b: &L) -> Ordering
+pub(crate) fn compare_records<L: RecordEq>(a: &L, b: &L) -> Ordering
     ensures { result ≡ spelling_cmp (L.as_record a.now) (L.as_record b.now) }
 {
     if a.is_same(b) {

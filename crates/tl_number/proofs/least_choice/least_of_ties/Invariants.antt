@@ -1,0 +1,20 @@
+-- The least so far is arranged, and it is the least below the number from which on further ones are looked for.
+use Rattle.std.proofs.Common.{◌≡◌, ◌-◌, length}
+use Rattle.tl_profile.specs.Choices.{choices}
+use Rattle.tl_number.specs.Arrangement.{arranged}
+use Rattle.tl_number.specs.LeastNumber.{IsLeastBelow, choice_list}
+use Rattle.tl_number.specs.Tidy.{IsNotAfter, numbered_choice}
+use Rattle.tl_number.specs.Views.{arranged_county}
+use Rattle.tl_number.proofs.least_choice.least_of_ties.Given as goal
+
+abbrev pub invariant-loop-next : goal.invariant-loop-next
+invariant-loop-next g l = record {
+  choice : arranged_county l.least.choice
+      ≡ arranged (g.C.Chart.county l.chart) (numbered_choice (g.C.Chart.county l.chart) l.least.number);
+  least : IsLeastBelow (g.C.Chart.county l.chart) l.from l.least.number;
+  upper : IsNotAfter (choice_list (g.C.Chart.county l.chart) l.least.number) (choice_list (g.C.Chart.county l.chart) l.first.number);
+  count : length l.steps ≡ length l.order.walks;
+}
+
+abbrev pub decreases-loop-next : goal.decreases-loop-next
+decreases-loop-next g l = choices (g.C.Chart.county l.chart) - l.from

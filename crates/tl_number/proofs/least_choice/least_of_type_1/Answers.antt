@@ -1,0 +1,33 @@
+use Rattle.std.proofs.Common.{◌≡◌, is_gt, length, sym, ap, ◌∙◌, true}
+use Rattle.tl_number.specs.TypeOneOrder.{ones_cmp}
+use Rattle.tl_number.proofs.ChosenSteps.{places_within, steps_of_number_count}
+use Rattle.tl_number.proofs.LeastOnes.{first_one, greater_from, one_gives_way}
+use Rattle.tl_number.proofs.least_choice.least_of_type_1.Goals as goal
+
+pub steps_of_number-requires : goal.steps_of_number-requires
+steps_of_number-requires g c =
+    places_within (g.C.Chart.county c.args.chart.now) (g.met.C.Chart.is_county c.args.chart.now) c.args.order.now.walks
+    c.requires.order.walks c.args.order.now.places (c.requires.order.places c.requires.few)
+
+pub loop-number-init : goal.loop-number-init
+loop-number-init g c = record {
+  steps = c.in_ok-choice.ensures;
+  least = first_one (g.C.Chart.county c.args.chart.now);
+  least_count = steps_of_number_count (g.C.Chart.county c.args.chart.now) (g.met.C.Chart.is_county c.args.chart.now) c.args.order.now.walks
+      c.requires.order.walks c.args.order.now.places (c.requires.order.places c.requires.few) c.in_ok-choice.choice.items 0
+      c.in_ok-choice.ensures;
+  count = ap length c.in_ok-steps.ensures;
+}
+
+pub loop-number-preserved : goal.loop-number-preserved
+loop-number-preserved g c =
+    let county = g.C.Chart.county c.args.chart.now in
+    let before : is_gt (ones_cmp county c.loop-number.least.number c.loop-number.number) ≡ true =
+    ap is_gt (sym c.compare_next-ordering.ensures.order)
+    ∙ greater_from c.compare_next-ordering.result (sym c.is_le.ensures ∙ c.if-is_le.false) in
+    record {
+      steps = ap (λ v. v.items) c.swap.ensures.x_after ∙ c.compare_next-ordering.ensures.steps;
+      least = one_gives_way county c.loop-number.number c.loop-number.least.number c.loop-number.invariant.least before;
+      least_count = ap (λ v. length v.items) c.swap.ensures.x_after ∙ c.compare_next-ordering.ensures.count;
+      count = ap (λ v. length v.items) c.swap.ensures.y_after ∙ c.loop-number.invariant.least_count;
+    }

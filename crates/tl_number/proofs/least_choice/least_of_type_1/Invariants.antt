@@ -1,0 +1,14 @@
+-- The steps of the least number so far, and what they are least of.
+use Rattle.std.proofs.Common.{◌≡◌, length}
+use Rattle.tl_number.specs.MovedSteps.{other_way}
+use Rattle.tl_number.specs.NumberedChoices.{moved}
+use Rattle.tl_number.specs.TypeOneOrder.{IsLeastOne}
+use Rattle.tl_number.proofs.least_choice.least_of_type_1.Given as goal
+
+abbrev pub invariant-loop-number : goal.invariant-loop-number
+invariant-loop-number g l = record {
+  steps : l.least.choice.items ≡ (moved other_way l.order.places (l.order.walks, l.least.number)).0;
+  least : IsLeastOne (g.C.Chart.county l.chart) l.number l.least.number;
+  least_count : length l.least.choice.items ≡ length l.order.walks;
+  count : length l.steps.items ≡ length l.order.walks;
+}

@@ -1,0 +1,66 @@
+use Rattle.std.proofs.Common.{◌≡◌, ◌+◌, ◌-◌, Some, is_some, length, option_map, slice_get, sym, ap, ◌∙◌, arith}
+use Rattle.tl_county.specs.ChartWords.{points_of}
+use Rattle.tl_county.specs.Packing.{first_point, last_point, packed_one}
+use Rattle.tl_profile.proofs.FewChains.{few_chains}
+use Rattle.tl_number.proofs.ChainPlaces.{first_at, last_at}
+use Rattle.tl_number.proofs.Grouped.{some-same}
+use Rattle.tl_number.proofs.TypeOnes.{step_there}
+use Rattle.tl_number.proofs.type_1_order.record_of_step.Goals as goal
+
+pub overflow_sub-last : goal.overflow_sub-last
+overflow_sub-last g c =
+    let chart = c.args.chart.now in
+    let there = step_there (g.C.Chart.county chart) (g.met.C.Chart.is_county chart) (g.met.C.Chart.within_limits chart) c.args.step c.requires.step in
+    omega (arith, c.point_count_of_step-last.ensures, ap (λ o. length (points_of o)) there.there, there.two)
+
+pub unwrap-body-requires : goal.unwrap-body-requires
+unwrap-body-requires g c =
+    let chart = c.args.chart.now in
+    let there = step_there (g.C.Chart.county chart) (g.met.C.Chart.is_county chart) (g.met.C.Chart.within_limits chart) c.args.step c.requires.step in
+    ap is_some (c.body_of_step.ensures ∙ ap (option_map (λ chain. chain.body)) there.there)
+
+pub unwrap-start-requires : goal.unwrap-start-requires
+unwrap-start-requires g c =
+    let chart = c.args.chart.now in
+    let there = step_there (g.C.Chart.county chart) (g.met.C.Chart.is_county chart) (g.met.C.Chart.within_limits chart) c.args.step c.requires.step in
+    ap is_some (c.point_along.ensures ∙ ap (λ points. slice_get points 0) there.along ∙ first_at there.chain.points (omega (arith, there.two)))
+
+pub unwrap-end-requires : goal.unwrap-end-requires
+unwrap-end-requires g c =
+    let chart = c.args.chart.now in
+    let there = step_there (g.C.Chart.county chart) (g.met.C.Chart.is_county chart) (g.met.C.Chart.within_limits chart) c.args.step c.requires.step in
+    let points = there.chain.points in
+    let count : c.point_count_of_step-last.result ≡ length points =
+    c.point_count_of_step-last.ensures ∙ ap (λ o. length (points_of o)) there.there in
+    ap is_some (c.point_along-2.ensures ∙ ap (λ ps. slice_get ps (c.point_count_of_step-last.result - 1)) there.along
+    ∙ ap (λ n. slice_get points (n - 1)) count ∙ last_at points (omega (arith, there.two)))
+
+pub overflow_add-place : goal.overflow_add-place
+overflow_add-place g c =
+    let few = few_chains (g.C.Chart.county c.args.chart.now) (g.met.C.Chart.within_limits c.args.chart.now) in
+    omega (arith, few, c.requires.place)
+
+pub new-requires : goal.new-requires
+new-requires g c =
+    let few = few_chains (g.C.Chart.county c.args.chart.now) (g.met.C.Chart.within_limits c.args.chart.now) in
+    (omega arith, omega (arith, few, c.requires.place))
+
+pub returns : goal.returns
+returns g c =
+    let chart = c.args.chart.now in
+    let there = step_there (g.C.Chart.county chart) (g.met.C.Chart.is_county chart) (g.met.C.Chart.within_limits chart) c.args.step c.requires.step in
+    let points = there.chain.points in
+    let count : c.point_count_of_step-last.result ≡ length points =
+    c.point_count_of_step-last.ensures ∙ ap (λ o. length (points_of o)) there.there in
+    let body_is : c.unwrap-body.result ≡ there.chain.body =
+    some-same c.body_of_step.result c.unwrap-body.result there.chain.body (sym c.unwrap-body.ensures)
+    (c.body_of_step.ensures ∙ ap (option_map (λ chain. chain.body)) there.there) in
+    let start_is : c.unwrap-start.result ≡ first_point points =
+    some-same c.point_along.result c.unwrap-start.result (first_point points) (sym c.unwrap-start.ensures)
+    (c.point_along.ensures ∙ ap (λ ps. slice_get ps 0) there.along ∙ first_at points (omega (arith, there.two))) in
+    let end_is : c.unwrap-end.result ≡ last_point points =
+    some-same c.point_along-2.result c.unwrap-end.result (last_point points) (sym c.unwrap-end.ensures)
+    (c.point_along-2.ensures ∙ ap (λ ps. slice_get ps (c.point_count_of_step-last.result - 1)) there.along
+    ∙ ap (λ n. slice_get points (n - 1)) count ∙ last_at points (omega (arith, there.two))) in
+    ap Some (c.new.ensures ∙ (λ i. record { tlid = c.args.place + 1; body = body_is i; start = start_is i; end = end_is i }))
+    ∙ sym (ap (option_map (λ chain. packed_one (c.args.place + 1, chain))) there.there)

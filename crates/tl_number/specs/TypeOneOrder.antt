@@ -1,0 +1,32 @@
+-- The order of choices by their records of type 1.
+use Rattle.std.specs.Prelude.{ℕ, ◌≡◌, ◌+◌, ◌<◌, ◌≤◌, Option, option_map, false}
+use Rattle.std.specs.Ordering.{is_gt}
+use Rattle.std.specs.declared.cmp.Ordering.{Ordering}
+use Rattle.tl_layout.specs.declared.record_type.Record.{Record}
+use Rattle.tl_layout.specs.declared.record_type.Record.TheVariants.{One}
+use Rattle.tl_county.specs.County.{County}
+use Rattle.tl_county.specs.Packing.{packed_one}
+use Rattle.tl_profile.specs.declared.chain_walk.ChainWalk.{ChainWalk}
+use Rattle.tl_number.specs.Arrangement.{arranged}
+use Rattle.tl_number.specs.CountyGroups.{type_1_by_chain}
+use Rattle.tl_number.specs.LeastNumber.{choice_list}
+use Rattle.tl_number.specs.RecordOrder.{groups_cmp}
+use Rattle.tl_number.specs.Steps.{step_chain}
+use Rattle.tl_number.specs.Tidy.{IsNotAfter, numbered_choice}
+
+-- the record of type 1 of a step's chain, where the step stands at a place
+abbrev pub one_at : County → ChainWalk → ℕ → Option Record
+one_at county step place = option_map (λ chain. One (packed_one (place + 1, chain))) (step_chain county step)
+
+-- the choices of two numbers by their records of type 1
+abbrev pub ones_cmp : County → ℕ → ℕ → Ordering
+ones_cmp county n m = groups_cmp One (type_1_by_chain (arranged county (numbered_choice county n)))
+    (type_1_by_chain (arranged county (numbered_choice county m)))
+
+-- the records of type 1 of the choice of a number don't come after those of the choice of any number below the bound
+abbrev pub IsLeastOne : County → ℕ → ℕ → Type 0
+IsLeastOne county bound n = (m : ℕ) → m < bound → is_gt (ones_cmp county n m) ≡ false
+
+-- the text of the choice of a number doesn't come after that of the choice of any number from one to below another
+abbrev pub IsLeastFrom : County → ℕ → ℕ → ℕ → Type 0
+IsLeastFrom county first bound n = (m : ℕ) → first ≤ m → m < bound → IsNotAfter (choice_list county n) (choice_list county m)
