@@ -22,7 +22,8 @@ use Rattle.tl_number.specs.LeastNumber.{choice_list}
 use Rattle.tl_number.specs.MovedSteps.{other_way}
 use Rattle.tl_number.specs.NumberedChoices.{moved}
 use Rattle.tl_number.specs.RecordOrder.{records_cmp}
-use Rattle.tl_number.specs.Tidy.{IsNotAfter, numbered_choice}
+use Rattle.tl_number.specs.Canonical.{IsNotAfter}
+use Rattle.tl_number.specs.Tidy.{numbered_choice}
 use Rattle.tl_number.specs.TypeOneOrder.{IsLeastFrom, IsLeastOne, ones_cmp}
 use Rattle.tl_number.specs.ViewFacts.{AreWhole}
 use Rattle.tl_number.proofs.ArrangedCounties.{arranged_county}

@@ -12,7 +12,8 @@ use Rattle.tl_number.specs.CountyGroups.{type_1_by_chain}
 use Rattle.tl_number.specs.LeastNumber.{choice_list}
 use Rattle.tl_number.specs.RecordOrder.{groups_cmp}
 use Rattle.tl_number.specs.Steps.{step_chain}
-use Rattle.tl_number.specs.Tidy.{IsNotAfter, numbered_choice}
+use Rattle.tl_number.specs.Canonical.{IsNotAfter}
+use Rattle.tl_number.specs.Tidy.{numbered_choice}
 
 -- the record of type 1 of a step's chain, where the step stands at a place
 abbrev pub one_at : County → ChainWalk → ℕ → Option Record

@@ -3,7 +3,8 @@ use Rattle.std.proofs.Common.{◌≡◌, ◌-◌, length}
 use Rattle.tl_profile.specs.Choices.{choices}
 use Rattle.tl_number.specs.Arrangement.{arranged}
 use Rattle.tl_number.specs.LeastNumber.{IsLeastBelow, choice_list}
-use Rattle.tl_number.specs.Tidy.{IsNotAfter, numbered_choice}
+use Rattle.tl_number.specs.Canonical.{IsNotAfter}
+use Rattle.tl_number.specs.Tidy.{numbered_choice}
 use Rattle.tl_number.specs.Views.{arranged_county}
 use Rattle.tl_number.proofs.least_choice.least_of_ties.Given as goal
 

@@ -2,7 +2,8 @@ use Rattle.std.proofs.Common.{◌≡◌, is_gt, sym, subst}
 use Rattle.tl_county.specs.Renumbering.{AreSame}
 use Rattle.tl_number.specs.Arrangement.{arranged}
 use Rattle.tl_number.specs.LeastNumber.{choice_list}
-use Rattle.tl_number.specs.Tidy.{IsNotAfter, numbered_choice}
+use Rattle.tl_number.specs.Canonical.{IsNotAfter}
+use Rattle.tl_number.specs.Tidy.{numbered_choice}
 use Rattle.tl_number.specs.Views.{arranged_county}
 use Rattle.tl_number.proofs.LeastNumbers.{choices_same, of_either, text_compared, told_of_either}
 use Rattle.tl_number.proofs.least_choice.next_least.Goals as goal

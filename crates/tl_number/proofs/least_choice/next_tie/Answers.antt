@@ -1,7 +1,7 @@
 use Rattle.std.proofs.Common.{◌≡◌, ◌<◌, is_eq, sym, ap, ◌∙◌, subst, arith, false}
 use Rattle.tl_profile.specs.Choices.{choices}
 use Rattle.tl_number.specs.LeastNumber.{choice_list}
-use Rattle.tl_number.specs.Tidy.{IsNotAfter}
+use Rattle.tl_number.specs.Canonical.{IsNotAfter}
 use Rattle.tl_number.specs.TypeOneOrder.{ones_cmp}
 use Rattle.tl_number.proofs.LeastOnes.{from_more, least_one_first}
 use Rattle.tl_number.proofs.TidyLists.{not_after_itself}
