@@ -20,7 +20,7 @@ DEFINITION = re.compile(
     r"^(?:(?:  )?(?:abbrev|unfoldable)\s+(?:pub\s+)?|pub\s+(?:record\s+|data\s+)?|(?:record|data)\s+)"
     r"(?!mod\s)(◌[^\s:]+◌|[^\W\d][\w-]*)(?=\s)"
 )
-HEAD = re.compile(r"(pub(?:\(\w+\))?\s+)?(?:final\s+)?\b(fn|trait|impl|struct|enum|ghost|const|mod|use)\b")
+HEAD = re.compile(r"(pub(?:\(\w+\))?\s+)?(?:final\s+)?(?:extern\s+)?\b(fn|trait|impl|struct|enum|ghost|const|mod|use)\b")
 NAME = re.compile(r"\s*([^\W\d]\w*)")
 CLAUSE = re.compile(r"\b(ensures|requires)\b\s*(\w*)\s*(?=\{)")
 EXPORT = re.compile(r"pub use [\w:]+::(?:\{([^}]*)\}|(\w+));")

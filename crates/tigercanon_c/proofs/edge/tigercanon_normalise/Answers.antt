@@ -1,0 +1,18 @@
+use Rattle.std.proofs.Common.{◌≡◌, inr, subst, sym}
+use Rattle.tigercanon.specs.Normalising.{IsOnlyTextThrough}
+use Rattle.tigercanon.specs.Sets.{IsOneCanonicalTextThrough}
+use Rattle.tigercanon_c.specs.Answers.{bytes_of_lent}
+use Rattle.tl_cert.specs.MaskedCounty.{masked}
+use Rattle.tigercanon_c.proofs.edge.tigercanon_normalise.Goals as goal
+
+pub returns-in-Ok-clause-only : goal.returns-in-Ok-clause-only
+returns-in-Ok-clause-only c = λ zero. subst (λ mask. IsOnlyTextThrough (masked mask) (bytes_of_lent c.args.parts.now) c.in-Ok.bytes.now)
+    c.mask_of-mask.ensures c.in-Ok.ensures.only
+
+pub returns-in-Ok-clause-again : goal.returns-in-Ok-clause-again
+returns-in-Ok-clause-again c = λ bytes is zero. c.in-Ok.ensures.again bytes
+    (subst (λ mask. IsOneCanonicalTextThrough (masked mask) (bytes_of_lent c.args.parts.now) bytes) (sym c.mask_of-mask.ensures) is)
+
+pub returns-in-Err-clause-again_succeeds : goal.returns-in-Err-clause-again_succeeds
+returns-in-Err-clause-again_succeeds c = λ bytes is. inr (c.tell.ensures.memory (c.in-Err.ensures.again_succeeds bytes
+    (subst (λ mask. IsOneCanonicalTextThrough (masked mask) (bytes_of_lent c.args.parts.now) bytes) (sym c.mask_of-mask.ensures) is)))

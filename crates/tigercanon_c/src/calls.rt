@@ -1,0 +1,157 @@
+//! The calls over parts as C lends them. Each restates the contract of the library's call, which it makes.
+
+ghost use Rattle.std.specs.Prelude.{◌≡◌, ◌≢◌, Ok, Err, ℕ, List, ◌∷◌, [], IfErr, IfOk, OnOk, map, true, false};
+ghost use Rattle.tigercanon.specs.Comparing.{AreDifferentThrough, AreOneMapThrough, TellsMemoryOfAccepted, TellsRefusalOfOne};
+ghost use Rattle.tigercanon.specs.Faults.{IsWantOfMemory, TellsRefusalOfRead};
+ghost use Rattle.tigercanon.specs.Fingerprints.{IsFingerprintThrough};
+ghost use Rattle.tigercanon.specs.LentParts.{bytes_of_parts};
+ghost use Rattle.tigercanon.specs.Normalising.{IsOnlyTextThrough};
+ghost use Rattle.tigercanon.specs.Respelling.{record_limit, IsRespelt};
+ghost use Rattle.tigercanon.specs.Sets.{IsAcceptedSet, IsCanonicalText, IsCanonicalTextThrough, IsOneCanonicalTextThrough};
+ghost use Rattle.tigercanon_c.specs.Answers.{TellsFirstFaultOfRead, bytes_of_lent};
+ghost use Rattle.tl_cert.specs.MaskedCounty.{masked};
+ghost use Rattle.tl_layout.specs.declared.record_type.Record.{Record};
+ghost use Rattle.tl_load.specs.Choice.{tiger};
+ghost use Rattle.tl_load.specs.Outcome.{SpellsWithin};
+
+use crate::edge::Part;
+use std::alloc::{AllocError, Global};
+use tigercanon::{
+    CompareFault, Fault, Verdict, check, compare_masked, fingerprint_masked, normalise_masked,
+    respell,
+};
+use tl_layout::Mask;
+use tl_load::LoadFault;
+
+/// The parts as slices.
+fn beside<'a>(alloc: Global, parts: &[Part<'a>]) -> Result<Vec<&'a [u8]>, AllocError>
+    ensures { IfOk result (λ slices. bytes_of_parts slices.items ≡ bytes_of_lent parts.now) }
+{
+    let mut slices = Vec::with_capacity(alloc, parts.len())?;
+    for part in parts {
+        slices.push(part.bytes)?;
+    }
+    Ok(slices)
+}
+
+/// The parts of one of two sets as slices. Want of memory for them is told of the first set, with which work would have begun.
+fn beside_of_two<'a>(alloc: Global, parts: &[Part<'a>]) -> Result<Vec<&'a [u8]>, CompareFault>
+    ensures slices { IfOk result (λ slices. bytes_of_parts slices.items ≡ bytes_of_lent parts.now) }
+    ensures memory { IfErr result (λ fault. fault ≡ CompareFault.In 1 Fault.Memory) }
+{
+    match beside(alloc, parts) {
+        Ok(slices) => Ok(slices),
+        Err(_) => Err(CompareFault::In {
+            set: 1,
+            fault: Fault::Memory,
+        }),
+    }
+}
+
+/// The bytes of a text as a block of memory that its caller frees, or none where there are no bytes.
+fn handed_out<'t>(text: Vec<u8>) -> &'t [u8]
+    ensures { result.now ≡ text.items }
+{
+    if text.is_empty() { &[] } else { text.leak() }
+}
+
+/// Whether the parts are accepted.
+pub(crate) fn check_parts(alloc: Global, parts: &[Part]) -> Result<(), Fault>
+    ensures accepted { OnOk result ((records : List Record) × IsAcceptedSet (bytes_of_lent parts.now) records) }
+    ensures refused { IfErr result (TellsRefusalOfRead (bytes_of_lent parts.now)) }
+    ensures succeeds { (records : List Record) → IsAcceptedSet (bytes_of_lent parts.now) records → IfErr result IsWantOfMemory }
+{
+    let slices = beside(alloc, parts)?;
+    check(alloc, slices.as_slice())
+}
+
+/// The records of the parts in canonical spelling.
+pub(crate) fn respell_parts<'t>(alloc: Global, parts: &[Part]) -> Result<&'t [u8], Fault>
+    ensures respelt { IfOk result (λ text. IsRespelt (bytes_of_lent parts.now) text.now) }
+    ensures faulty { IfErr result (TellsFirstFaultOfRead (bytes_of_lent parts.now)) }
+    ensures succeeds { (records : List Record) →
+        SpellsWithin tiger record_limit (bytes_of_lent parts.now) records → IfErr result IsWantOfMemory }
+{
+    let slices = beside(alloc, parts)?;
+    match respell(alloc, slices.as_slice()) {
+        Ok(text) => Ok(handed_out(text)),
+        Err(fault) => Err(fault),
+    }
+}
+
+/// The canonical text of the parts under a mask.
+pub(crate) fn normalise_parts<'t>(
+    alloc: Global,
+    parts: &[Part],
+    mask: Mask,
+) -> Result<&'t [u8], Fault>
+    ensures canonical { IfOk result (λ text. IsCanonicalTextThrough (masked mask) (bytes_of_lent parts.now) text.now) }
+    ensures only { IfOk result (λ text. IsOnlyTextThrough (masked mask) (bytes_of_lent parts.now) text.now) }
+    ensures again { (bytes : List ℕ) → IsOneCanonicalTextThrough (masked mask) (bytes_of_lent parts.now) bytes →
+        IfOk result (λ text. text.now ≡ bytes) }
+    ensures again_succeeds { (bytes : List ℕ) → IsOneCanonicalTextThrough (masked mask) (bytes_of_lent parts.now) bytes →
+        IfErr result IsWantOfMemory }
+    ensures plain { IfOk result (λ text. IsCanonicalText (text.now ∷ []) text.now) }
+    ensures refused { IfErr result (TellsRefusalOfRead (bytes_of_lent parts.now)) }
+    ensures succeeds { (records : List Record) → IsAcceptedSet (bytes_of_lent parts.now) records → IfErr result IsWantOfMemory }
+{
+    let slices = beside(alloc, parts)?;
+    match normalise_masked(alloc, slices.as_slice(), mask) {
+        Ok(text) => Ok(handed_out(text)),
+        Err(fault) => Err(fault),
+    }
+}
+
+/// The fingerprint of the parts under a mask.
+pub(crate) fn fingerprint_parts(
+    alloc: Global,
+    parts: &[Part],
+    mask: Mask,
+) -> Result<[u8; 32], Fault>
+    ensures fingerprint { IfOk result (IsFingerprintThrough (masked mask) (bytes_of_lent parts.now)) }
+    ensures refused { IfErr result (TellsRefusalOfRead (bytes_of_lent parts.now)) }
+    ensures succeeds { (records : List Record) → IsAcceptedSet (bytes_of_lent parts.now) records → IfErr result IsWantOfMemory }
+{
+    let slices = beside(alloc, parts)?;
+    fingerprint_masked(alloc, slices.as_slice(), mask)
+}
+
+/// Whether two sets are one map under a mask.
+fn are_one_map(
+    alloc: Global,
+    first: &[&[u8]],
+    second: &[&[u8]],
+    mask: Mask,
+) -> Result<bool, CompareFault>
+    ensures same { result ≡ Ok true → AreOneMapThrough (masked mask) (bytes_of_parts first.now) (bytes_of_parts second.now) }
+    ensures different { result ≡ Ok false →
+        AreDifferentThrough (masked mask) (bytes_of_parts first.now) (bytes_of_parts second.now) }
+    ensures refused { IfErr result (TellsRefusalOfOne (bytes_of_parts first.now) (bytes_of_parts second.now)) }
+    ensures no_device { (set : ℕ) → result ≢ Err (CompareFault.In set (Fault.Load LoadFault.Device)) }
+    ensures succeeds { IfErr result (TellsMemoryOfAccepted (bytes_of_parts first.now) (bytes_of_parts second.now)) }
+{
+    match compare_masked(alloc, first, second, mask) {
+        Ok(Verdict::Same(_)) => Ok(true),
+        Ok(Verdict::Different) => Ok(false),
+        Err(fault) => Err(fault),
+    }
+}
+
+/// Whether two sets of parts are one map under a mask.
+pub(crate) fn compare_parts(
+    alloc: Global,
+    first: &[Part],
+    second: &[Part],
+    mask: Mask,
+) -> Result<bool, CompareFault>
+    ensures same { result ≡ Ok true → AreOneMapThrough (masked mask) (bytes_of_lent first.now) (bytes_of_lent second.now) }
+    ensures different { result ≡ Ok false →
+        AreDifferentThrough (masked mask) (bytes_of_lent first.now) (bytes_of_lent second.now) }
+    ensures refused { IfErr result (TellsRefusalOfOne (bytes_of_lent first.now) (bytes_of_lent second.now)) }
+    ensures no_device { (set : ℕ) → result ≢ Err (CompareFault.In set (Fault.Load LoadFault.Device)) }
+    ensures succeeds { IfErr result (TellsMemoryOfAccepted (bytes_of_lent first.now) (bytes_of_lent second.now)) }
+{
+    let first = beside_of_two(alloc, first)?;
+    let second = beside_of_two(alloc, second)?;
+    are_one_map(alloc, first.as_slice(), second.as_slice(), mask)
+}

@@ -1,0 +1,234 @@
+//! The edge to C: what crosses it, and the five calls.
+//!
+//! Everything here is safe code. What isn't checked is the caller: a [`Part`] has to be what it says, an address that isn't null
+//! and as many bytes behind it as its length, which nothing writes to during the call.
+
+ghost use Rattle.std.specs.Prelude.{◌≡◌, ◌≢◌, ◌<◌, ◌⊎◌, ◌∷◌, [], ℕ, List};
+ghost use Rattle.tigercanon.specs.Comparing.{AreDifferentThrough, AreOneMapThrough, TellsMemoryOfAccepted, TellsRefusalOfOne};
+ghost use Rattle.tigercanon.specs.Faults.{TellsRefusalOfRead};
+ghost use Rattle.tigercanon.specs.Fingerprints.{IsFingerprintThrough};
+ghost use Rattle.tigercanon.specs.Normalising.{IsOnlyTextThrough};
+ghost use Rattle.tigercanon.specs.Respelling.{record_limit, IsRespelt};
+ghost use Rattle.tigercanon.specs.Sets.{IsAcceptedSet, IsCanonicalText, IsCanonicalTextThrough, IsOneCanonicalTextThrough};
+ghost use Rattle.tigercanon_c.specs.Answers.{TellsFirstFaultOfRead, TellsOne, TellsOneOfTwo, bytes_of_lent, mask_of};
+ghost use Rattle.tigercanon_c.specs.Told.{no_fault};
+ghost use Rattle.tl_cert.specs.MaskedCounty.{masked};
+ghost use Rattle.tl_layout.specs.declared.record_type.Record.{Record};
+ghost use Rattle.tl_load.specs.Choice.{tiger};
+ghost use Rattle.tl_load.specs.Outcome.{SpellsWithin};
+
+use crate::calls::{check_parts, compare_parts, fingerprint_parts, normalise_parts, respell_parts};
+use crate::telling::{tell, tell_none, tell_of_two};
+use std::alloc::Global;
+use tl_layout::Mask;
+
+/// A part of a set: in C, an address and a length.
+#[repr(C)]
+#[derive(Clone, Copy)]
+pub struct Part<'a> {
+    /// The bytes of the part.
+    pub bytes: &'a [u8],
+}
+
+/// A text that a call answers: in C, an address and a length. Where it isn't empty its owner frees it by `free`.
+#[repr(C)]
+#[derive(Clone, Copy)]
+pub struct Text<'t> {
+    /// The bytes of the text.
+    pub bytes: &'t [u8],
+}
+
+/// A fingerprint.
+#[repr(C)]
+#[derive(Clone, Copy)]
+pub struct Hash {
+    /// Its 32 bytes, as SHA-256 gives them.
+    pub bytes: [u8; 32],
+}
+
+/// A fault in numbers. What a fault doesn't have is 0.
+#[repr(C)]
+#[derive(Clone, Copy)]
+pub struct ToldFault {
+    /// The number of the refusal, from 1 to 23, or 0 where no fault is told.
+    pub number: u8,
+    /// Which of two sets is at fault, 1 or 2.
+    pub set: u8,
+    /// The record type, by the byte in column 1 of its lines.
+    pub record_type: u8,
+    /// The bytes of the CENID.
+    pub cenid: [u8; 5],
+    /// The numbers among the places, in the order in which the refusal's line has them: parts, lines and columns, which count
+    /// from 1, or TLIDs, FEATs, LANDs and POLYIDs.
+    pub first: u64,
+    pub second: u64,
+    pub third: u64,
+}
+
+/// The mask that leaves out what the two flags say.
+fn mask_of(no_sources: bool, no_reserved: bool) -> Mask
+    ensures { result ≡ mask_of no_sources no_reserved }
+{
+    Mask {
+        sources: no_sources,
+        reserved: no_reserved,
+    }
+}
+
+/// Whether the parts are accepted, as [`tigercanon::check`] answers it: 0 if they are, and else the status of the fault that is
+/// told.
+#[unsafe(no_mangle)]
+pub extern "C" fn tigercanon_check(alloc: Global, parts: &[Part], fault: &mut ToldFault) -> u8
+    ensures accepted { result ≡ 0 → (records : List Record) × IsAcceptedSet (bytes_of_lent parts.now) records }
+    ensures refused { result ≢ 0 → TellsOne (TellsRefusalOfRead (bytes_of_lent parts.now)) result fault.new }
+    ensures statuses { (result ≡ 0) ⊎ (result ≡ 3) ⊎ (result ≡ 5) }
+    ensures untold { result ≡ 0 → fault.new ≡ no_fault }
+    // Of accepted parts nothing but want of memory is told.
+    ensures succeeds { (records : List Record) → IsAcceptedSet (bytes_of_lent parts.now) records → (result ≡ 0) ⊎ (result ≡ 5) }
+{
+    match check_parts(alloc, parts) {
+        Ok(()) => tell_none(fault),
+        Err(of) => tell(of, fault),
+    }
+}
+
+/// The records of the parts in canonical spelling, as [`tigercanon::respell`] answers them: 0 if the parts spell records, and else
+/// the status of the fault that is told.
+#[unsafe(no_mangle)]
+pub extern "C" fn tigercanon_respell<'t>(
+    alloc: Global,
+    parts: &[Part],
+    text: &mut Text<'t>,
+    fault: &mut ToldFault,
+) -> u8
+    ensures respelt { result ≡ 0 → IsRespelt (bytes_of_lent parts.now) text.new.bytes.now }
+    ensures faulty { result ≢ 0 → TellsOne (TellsFirstFaultOfRead (bytes_of_lent parts.now)) result fault.new }
+    ensures statuses { (result ≡ 0) ⊎ (result ≡ 3) ⊎ (result ≡ 5) }
+    ensures empty { result ≢ 0 → text.new.bytes.now ≡ [] }
+    ensures untold { result ≡ 0 → fault.new ≡ no_fault }
+    // Where the parts spell records, nothing but want of memory is told.
+    ensures succeeds { (records : List Record) →
+        SpellsWithin tiger record_limit (bytes_of_lent parts.now) records → (result ≡ 0) ⊎ (result ≡ 5) }
+{
+    match respell_parts(alloc, parts) {
+        Ok(bytes) => {
+            text.bytes = bytes;
+            tell_none(fault)
+        }
+        Err(of) => {
+            text.bytes = &[];
+            tell(of, fault)
+        }
+    }
+}
+
+/// The canonical text of the parts under a mask, as [`tigercanon::normalise_masked`] answers it: 0 if they are accepted, and else
+/// the status of the fault that is told.
+#[unsafe(no_mangle)]
+pub extern "C" fn tigercanon_normalise<'t>(
+    alloc: Global,
+    parts: &[Part],
+    no_sources: bool,
+    no_reserved: bool,
+    text: &mut Text<'t>,
+    fault: &mut ToldFault,
+) -> u8
+    ensures canonical { result ≡ 0 →
+        IsCanonicalTextThrough (masked (mask_of no_sources no_reserved)) (bytes_of_lent parts.now) text.new.bytes.now }
+    // No canonical list of the same map under the mask has another text.
+    ensures only { result ≡ 0 →
+        IsOnlyTextThrough (masked (mask_of no_sources no_reserved)) (bytes_of_lent parts.now) text.new.bytes.now }
+    // A text that is canonical under the mask is answered again,
+    ensures again { (bytes : List ℕ) → IsOneCanonicalTextThrough (masked (mask_of no_sources no_reserved)) (bytes_of_lent parts.now) bytes
+        → result ≡ 0 → text.new.bytes.now ≡ bytes }
+    ensures again_succeeds { (bytes : List ℕ)
+        → IsOneCanonicalTextThrough (masked (mask_of no_sources no_reserved)) (bytes_of_lent parts.now) bytes
+        → (result ≡ 0) ⊎ (result ≡ 5) }
+    // and is its own canonical text under no mask.
+    ensures plain { result ≡ 0 → IsCanonicalText (text.new.bytes.now ∷ []) text.new.bytes.now }
+    ensures refused { result ≢ 0 → TellsOne (TellsRefusalOfRead (bytes_of_lent parts.now)) result fault.new }
+    ensures statuses { (result ≡ 0) ⊎ (result ≡ 3) ⊎ (result ≡ 5) }
+    ensures empty { result ≢ 0 → text.new.bytes.now ≡ [] }
+    ensures untold { result ≡ 0 → fault.new ≡ no_fault }
+    // Of accepted parts nothing but want of memory is told.
+    ensures succeeds { (records : List Record) → IsAcceptedSet (bytes_of_lent parts.now) records → (result ≡ 0) ⊎ (result ≡ 5) }
+{
+    let mask = mask_of(no_sources, no_reserved);
+    match normalise_parts(alloc, parts, mask) {
+        Ok(bytes) => {
+            text.bytes = bytes;
+            tell_none(fault)
+        }
+        Err(of) => {
+            text.bytes = &[];
+            tell(of, fault)
+        }
+    }
+}
+
+/// The fingerprint of the parts under a mask, as [`tigercanon::fingerprint_masked`] answers it: 0 if they are accepted, and else the
+/// status of the fault that is told.
+#[unsafe(no_mangle)]
+pub extern "C" fn tigercanon_fingerprint(
+    alloc: Global,
+    parts: &[Part],
+    no_sources: bool,
+    no_reserved: bool,
+    hash: &mut Hash,
+    fault: &mut ToldFault,
+) -> u8
+    ensures fingerprint { result ≡ 0 →
+        IsFingerprintThrough (masked (mask_of no_sources no_reserved)) (bytes_of_lent parts.now) hash.new.bytes }
+    ensures refused { result ≢ 0 → TellsOne (TellsRefusalOfRead (bytes_of_lent parts.now)) result fault.new }
+    ensures statuses { (result ≡ 0) ⊎ (result ≡ 3) ⊎ (result ≡ 5) }
+    ensures kept { result ≢ 0 → hash.new ≡ hash.old }
+    ensures untold { result ≡ 0 → fault.new ≡ no_fault }
+    // Of accepted parts nothing but want of memory is told.
+    ensures succeeds { (records : List Record) → IsAcceptedSet (bytes_of_lent parts.now) records → (result ≡ 0) ⊎ (result ≡ 5) }
+{
+    let mask = mask_of(no_sources, no_reserved);
+    match fingerprint_parts(alloc, parts, mask) {
+        Ok(bytes) => {
+            hash.bytes = bytes;
+            tell_none(fault)
+        }
+        Err(of) => tell(of, fault),
+    }
+}
+
+/// Whether two sets of parts are one map under a mask, as [`tigercanon::compare_masked`] answers it: 0 if they are, 1 if they are
+/// different maps, and else the status of the fault that is told.
+#[unsafe(no_mangle)]
+pub extern "C" fn tigercanon_compare(
+    alloc: Global,
+    first: &[Part],
+    second: &[Part],
+    no_sources: bool,
+    no_reserved: bool,
+    fault: &mut ToldFault,
+) -> u8
+    // The sets are one map only where both are accepted and some renaming carries the one onto the other under the mask,
+    ensures same { result ≡ 0 →
+        AreOneMapThrough (masked (mask_of no_sources no_reserved)) (bytes_of_lent first.now) (bytes_of_lent second.now) }
+    // and different only where both are accepted and no renaming does.
+    ensures different { result ≡ 1 →
+        AreDifferentThrough (masked (mask_of no_sources no_reserved)) (bytes_of_lent first.now) (bytes_of_lent second.now) }
+    // Else one of them is refused, the second only where the first is accepted.
+    ensures refused { 1 < result →
+        TellsOneOfTwo (TellsRefusalOfOne (bytes_of_lent first.now) (bytes_of_lent second.now)) result fault.new }
+    ensures statuses { (result ≡ 0) ⊎ (result ≡ 1) ⊎ (result ≡ 3) ⊎ (result ≡ 5) }
+    ensures untold { result < 2 → fault.new ≡ no_fault }
+    // Of an accepted set nothing but want of memory is told.
+    ensures succeeds { 1 < result →
+        TellsOneOfTwo (TellsMemoryOfAccepted (bytes_of_lent first.now) (bytes_of_lent second.now)) result fault.new }
+{
+    let mask = mask_of(no_sources, no_reserved);
+    match compare_parts(alloc, first, second, mask) {
+        Ok(true) => tell_none(fault),
+        Ok(false) => {
+            tell_none(fault);
+            1
+        }
+        Err(of) => tell_of_two(of, fault),
+    }
+}

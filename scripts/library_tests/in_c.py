@@ -1,0 +1,173 @@
+"""The library by a caller in C."""
+
+from __future__ import annotations
+
+import concurrent.futures
+import os
+import re
+import resource
+import shutil
+import subprocess
+from pathlib import Path
+from typing import List
+
+from library_tests.support import ROOT, WARNINGS, Answer, Tests, cases_of, compiled, in_library, judge_cases, run, script, tools
+
+CALLS = ["check", "compare", "fingerprint", "normalise", "respell"]
+AUTAUGA = ROOT / "examples/autauga/all.txt"
+RENUMBERED = ROOT / "examples/autauga-renumbered/all.txt"
+# How much more memory a process may have after 1,000 rounds than after 10, in KiB: what the C library keeps for itself.
+GROWTH = 256
+
+
+def try_exports(tests: Tests) -> None:
+    """The shared library has the calls, and nothing else, and needs nothing but the C library."""
+    shared = tests.library / "lib/libtigercanon.so.1"
+    listed = run(["nm", "-D", "--defined-only", shared]).out.decode().split("\n")
+    tests.equal("exports", [f"tigercanon_{call}" for call in CALLS], sorted(line.split()[-1] for line in listed if line))
+    needed = re.findall(r"\(NEEDED\).*\[(.*)\]", run(["readelf", "-d", shared]).out.decode())
+    tests.equal("needs", ["libc.so.6"], needed)
+    tests.equal("its link", "libtigercanon.so.1", os.readlink(tests.library / "lib/libtigercanon.so"))
+
+
+def try_header(tests: Tests) -> None:
+    """The header by itself, by each compiler that is there."""
+    header = tests.library / "include/tigercanon.h"
+    source = tests.room / "header.c"
+    source.write_text('#include "tigercanon.h"\n#include "tigercanon.h"\nint main(void) { struct tigercanon_text text = '
+                      "TIGERCANON_NO_TEXT; tigercanon_free(&text); return 0; }\n")
+    for compiler in tools("gcc", "clang"):
+        for standard in ("c99", "c11"):
+            words = [compiler, f"-std={standard}", *WARNINGS, "-Wno-unused-function", "-fsyntax-only", "-I", header.parent, source]
+            tests.count(run(words).status == 0, f"the header by {compiler} in {standard}: {run(words).err.decode()[:1000]}")
+    for compiler in tools("g++", "clang++"):
+        words = [compiler, "-std=c++11", *WARNINGS, "-Wno-unused-function", "-fsyntax-only", "-I", header.parent, "-x", "c++", source]
+        tests.count(run(words).status == 0, f"the header by {compiler}: {run(words).err.decode()[:1000]}")
+
+
+def compile_callers(tests: Tests) -> None:
+    """The caller with the archive and with the shared library, by each compiler that is there."""
+    include, archive = ["-I", tests.library / "include"], tests.library / "lib/libtigercanon.a"
+    for compiler in tools("gcc", "clang"):
+        made = compiled(tests, f"by-{compiler}", [compiler, *include, archive])
+        if made:
+            tests.callers[compiler] = [str(made)]
+    if tools("gcc", "pkg-config"):
+        found = run(["pkg-config", "--cflags", "--libs", "tigercanon"],
+                    env={**os.environ, "PKG_CONFIG_PATH": str(tests.library / "lib/pkgconfig")})
+        made = compiled(tests, "by-pkg-config", ["gcc", *found.out.decode().split()])
+        if made:
+            tests.callers["shared"] = [str(made)]
+    else:
+        tests.skip("pkg-config isn't installed")
+
+
+def try_vectors(tests: Tests, name: str, words: List[str]) -> None:
+    """The cases of vectors/ that need no device, by a caller."""
+    vectors = script("vectors/run")
+    with concurrent.futures.ThreadPoolExecutor(2 * (os.cpu_count() or 1)) as pool:
+        judge_cases(tests, name, lambda case: vectors.judge(words, case), cases_of(vectors), pool.map)
+
+
+def try_shared(tests: Tests) -> None:
+    """Every example of a refusal and the worked set, by the shared library."""
+    for path in [AUTAUGA, RENUMBERED, ROOT / "examples/broken.txt", *sorted((ROOT / "examples/refused").iterdir())]:
+        for command in CALLS[:1] + CALLS[2:]:
+            by_archive = run([*tests.callers["gcc"], command, path])
+            tests.equal(f"shared, {command} {path.name}", by_archive, run([*tests.callers["shared"], command, path], env=in_library(tests)))
+
+
+def try_empty(tests: Tests) -> None:
+    """Parts without bytes, among others and alone."""
+    caller, empty = tests.callers["gcc"], tests.room / "empty"
+    empty.write_bytes(b"")
+    digits = b"e3b0c44298fc1c149afbf4c8996fb92427ae41e4649b934ca495991b7852b855\n"
+    for command, wanted in [("check", b"accepted\n"), ("normalise", b""), ("respell", b""), ("fingerprint", digits)]:
+        tests.equal(f"{command} of nothing", Answer(0, wanted, b""), run([*caller, command, empty]))
+    tests.equal("compare of nothing", Answer(0, b"same\n", b""), run([*caller, "compare", empty, empty]))
+    stem = tests.room / "empty-parts"
+    shutil.copy(AUTAUGA, f"{stem}.RT1")
+    tests.equal("nine parts, of which one has bytes", run([*caller, "normalise", AUTAUGA]), run([*caller, "normalise", "--stem", stem]))
+
+
+def try_rounds(tests: Tests) -> None:
+    """A thousand calls leave no memory behind."""
+    words = [["check", AUTAUGA], ["respell", AUTAUGA], ["normalise", AUTAUGA], ["normalise", "--no-sources", AUTAUGA],
+             ["fingerprint", AUTAUGA], ["compare", AUTAUGA, RENUMBERED], ["check", ROOT / "examples/broken.txt"],
+             ["compare", AUTAUGA, ROOT / "examples/refused/same-shape.txt"], ["respell", os.devnull]]
+    for call in words:
+        done = run([*tests.callers["gcc"], "--rounds", "1000", *call])
+        found = [int(kib) for kib in re.findall(rb": (\d+) KiB", done.err)]
+        is_so = len(found) == 2 and found[1] - found[0] <= GROWTH
+        tests.count(is_so, f"1,000 rounds of {call[0]}: {done.err.decode()[:300]}")
+
+
+def try_threads(tests: Tests, county: Path) -> None:
+    """Calls in several threads at once answer what one answers."""
+    for call in [["fingerprint", county], ["normalise", county], ["compare", county, county], ["check", AUTAUGA]]:
+        wanted = run([*tests.callers["gcc"], *call])
+        for threads in (2, 4):
+            tests.equal(f"{threads} threads, {call[0]}", wanted, run([*tests.callers["gcc"], "--threads", threads, *call]))
+
+
+def try_little_memory(tests: Tests, county: Path) -> None:
+    """Where there is little memory, want of it is told, and nothing else."""
+    lacking, caller = Answer(5, b"", b"refused 9 Memory\n"), tests.callers["gcc"]
+    # With large pages a growth is so large that none of the steps below may stop it.
+    plain = {key: text for key, text in os.environ.items() if key != "GLIBC_TUNABLES"}
+    for command in ("check", "respell", "normalise", "fingerprint"):
+        right, told = run([*caller, command, county]), set()
+        for kib in range(2048, 32768, 512):
+            size = (kib << 10, kib << 10)
+            found = run([*caller, command, county], env=plain, preexec_fn=lambda: resource.setrlimit(resource.RLIMIT_AS, size))
+            # With less still neither the caller nor its file finds room.
+            if found.status in (0, 5):
+                tests.count(found in (right, lacking), f"{command} in {kib} KiB: {found.status}, {found.err!r}")
+                told.add(found.status)
+        tests.equal(f"{command} in little memory, its statuses", {0, 5}, told)
+
+
+def try_checked(tests: Tests) -> None:
+    """The caller under checkers of addresses: gcc's own, and valgrind."""
+    examples = [["check", AUTAUGA], ["respell", ROOT / "examples/other-spelling.txt"], ["normalise", AUTAUGA],
+                ["normalise", "--no-reserved", RENUMBERED], ["fingerprint", "--stem", ROOT / "examples/autauga/TGR01001"],
+                ["compare", AUTAUGA, RENUMBERED], ["compare", AUTAUGA, ROOT / "examples/broken.txt"], ["respell", os.devnull],
+                *(["check", path] for path in sorted((ROOT / "examples/refused").iterdir()))]
+    checkers = []
+    include, archive = ["-I", tests.library / "include"], tests.library / "lib/libtigercanon.a"
+    trial = run(["gcc", "-fsanitize=address,undefined", "-x", "c", "-", "-o", tests.room / "trial"], input=b"int main(void) { return 0; }")
+    if trial.status == 0:
+        made = compiled(tests, "sanitized", ["gcc", "-g", "-fsanitize=address,undefined", "-fno-sanitize-recover=all", *include, archive])
+        checkers += [("gcc's checkers", [str(made)])] if made else []
+    else:
+        tests.skip("gcc has no checker of addresses here")
+    if tools("valgrind"):
+        checkers.append(("valgrind", ["valgrind", "-q", "--leak-check=full", "--error-exitcode=99", *tests.callers["gcc"]]))
+    else:
+        tests.skip("valgrind isn't installed")
+    for name, words in checkers:
+        for call in examples:
+            tests.equal(f"{name}, {' '.join(map(str, call))}", run([*tests.callers["gcc"], *call]), run([*words, *call]))
+        tests.equal(f"{name}, two threads", run([*tests.callers["gcc"], "normalise", AUTAUGA]),
+                    run([*words, "--threads", "2", "normalise", AUTAUGA]))
+
+
+def run_all(tests: Tests) -> None:
+    try_exports(tests)
+    if not tools("gcc"):
+        tests.skip("gcc isn't installed: nothing was tried by C")
+        return
+    try_header(tests)
+    compile_callers(tests)
+    if "gcc" not in tests.callers:
+        return
+    county = tests.room / "county.txt"
+    subprocess.run([ROOT / "scripts/make-county", "2000", county], check=True)
+    try_vectors(tests, "C", tests.callers["gcc"])
+    if "shared" in tests.callers:
+        try_shared(tests)
+    try_empty(tests)
+    try_rounds(tests)
+    try_threads(tests, county)
+    try_little_memory(tests, county)
+    try_checked(tests)

@@ -1,0 +1,73 @@
+"""The library on a county of 100,000 chains, held to the program's answers."""
+
+from __future__ import annotations
+
+import mmap
+import os
+import resource
+import subprocess
+import sys
+from pathlib import Path
+from typing import List, Tuple
+
+from library_tests.support import ROOT, SUFFIXES, Answer, Tests, run
+
+CHAINS = 100_000
+
+
+def make_counties(room: Path) -> Tuple[Path, Path]:
+    """One file of a county, and the stem of nine files of it under other numbers."""
+    whole, stem = room / "large.txt", room / "large"
+    subprocess.run([ROOT / "scripts/make-county", str(CHAINS), whole], check=True)
+    subprocess.run([ROOT / "scripts/make-county", "--stem", "--shuffle", "--renumber", "--turn", str(CHAINS), stem], check=True)
+    return whole, stem
+
+
+def try_c(tests: Tests, whole: Path, stem: Path) -> None:
+    """The same bytes as the program's."""
+    words: List[List[object]] = [[command, whole] for command in ("check", "respell", "normalise", "fingerprint")]
+    words += [[command, "--stem", stem] for command in ("respell", "normalise", "fingerprint")]
+    words += [["fingerprint", "--no-sources", "--no-reserved", whole], ["compare", whole, f"{stem}.RT1"], ["compare", whole, whole]]
+    for call in words:
+        for name in ("gcc", "clang"):
+            if name in tests.callers:
+                found, wanted = run([*tests.callers[name], *call]), run([tests.program, *call])
+                tests.count(found == wanted, f"{CHAINS} chains by {name}, {call[0]}: {found.status} {found.err!r}, {len(found.out)} bytes")
+    wanted = run([tests.program, "fingerprint", whole])
+    tests.equal("two threads on large counties", wanted, run([*tests.callers["gcc"], "--threads", 2, "fingerprint", whole]))
+
+
+def try_python(tests: Tests, whole: Path, stem: Path) -> None:
+    module = sys.modules["tigercanon"]
+    parts = [Path(f"{stem}{suffix}").read_bytes() for suffix in SUFFIXES]
+    with open(whole, "rb") as file, mmap.mmap(file.fileno(), 0, prot=mmap.PROT_READ) as mapped:
+        digits = run([tests.program, "fingerprint", whole]).out.decode().strip()
+        tests.equal("fingerprint of an mmap", digits, module.fingerprint(mapped))
+        tests.equal("fingerprint of nine parts", digits, module.fingerprint(parts))
+        tests.equal("fingerprint of a file", digits, module.fingerprint(file))
+        text = run([tests.program, "normalise", whole]).out
+        tests.count(module.normalise(mapped) == text, "normalise of an mmap isn't what the program prints")
+        tests.count(module.normalise(parts) == text, "normalise of nine parts isn't what the program prints")
+        tests.count(module.respell(mapped) == run([tests.program, "respell", whole]).out, "respell isn't what the program prints")
+        tests.equal("compare", True, module.compare(mapped, parts))
+
+
+def try_little_memory(tests: Tests, whole: Path) -> None:
+    """A file of 47 MB in little memory."""
+    lacking, told = Answer(5, b"", b"refused 9 Memory\n"), set()
+    for mib in (60, 90, 120, 400):
+        size = mib << 20
+        found = run([*tests.callers["gcc"], "fingerprint", whole], preexec_fn=lambda: resource.setrlimit(resource.RLIMIT_AS, (size, size)))
+        if found.status in (0, 5):
+            tests.count(found.status == 0 or found == lacking, f"{mib} MiB: {found.status} {found.err!r}")
+            told.add(found.status)
+    tests.equal("large counties in little memory", {0, 5}, told)
+
+
+def run_all(tests: Tests) -> None:
+    os.environ.setdefault("GLIBC_TUNABLES", "glibc.malloc.hugetlb=1")
+    whole, stem = make_counties(tests.room)
+    if "gcc" in tests.callers:
+        try_c(tests, whole, stem)
+        try_little_memory(tests, whole)
+    try_python(tests, whole, stem)
