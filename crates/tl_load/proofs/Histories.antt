@@ -10,7 +10,7 @@ use Rattle.tl_load.specs.declared.fault.LoadFault.{LoadFault}
 use Rattle.tl_load.specs.declared.fault.LoadFault.TheVariants as faults
 use Rattle.tl_load.specs.Lines.{is_line_feed, IsWithoutLineFeed, without_return, lines}
 use Rattle.tl_load.specs.Places.{PlacedLine, numbered_lines, lines_from_part, placed_lines}
-use Rattle.tl_load.specs.Outcome.{SpellsWithin, FaultAt, ◌>>=◌, outcome_after, outcome}
+use Rattle.tl_load.specs.Outcome.{SpellsWithin, FaultAt, ◌then_with◌, outcome_after, outcome}
 use Rattle.tl_load.specs.Choice.{tiger}
 use Rattle.tl_load.specs.Loaded.{Loaded, IsOfLines, IsFaultHowever, with_line_feeds, HasLoaded, IsWellSoFar}
 use Rattle.tl_load.specs.Loaded.{IsWellAfter, all_parts}
@@ -87,7 +87,7 @@ comes_after limit l closed open_part rest later same h =
     ap (outcome_after tiger limit []) (ended_then closed h.ended rest later h.lines_are.each_ended)
     ∙ outcome_after-append tiger limit [] (placed_lines (closed ++ with_line_feeds h.ended ∷ []))
     (numbered_lines (1 + length closed) (1 + length h.ended) (lines rest) ++ lines_from_part (1 + length closed + 1) later)
-    ∙ ap (λ (r : Result (List Record) LoadFault). r >>= λ records. outcome_after tiger limit records
+    ∙ ap (λ (r : Result (List Record) LoadFault). r then_with λ records. outcome_after tiger limit records
     (numbered_lines (1 + length closed) (1 + length h.ended) (lines rest) ++ lines_from_part (1 + length closed + 1) later))
     (outcome_from_accepts tiger tiger_is_sound limit (closed ++ with_line_feeds h.ended ∷ []) l.records h.accepts)
     ∙ ap (λ (k : ℕ). outcome_after tiger limit l.records (numbered_lines k (1 + length h.ended) (lines rest) ++ lines_from_part (k + 1)
@@ -350,7 +350,7 @@ fed_closed holds limit before mid (Err f) closed open_part none same stays closi
     let t = closing h.records h.kept in
     let e : (later : List (List ℕ)) → IsOfLines f → to_come (seen before h.records) [] later ≡ Err f =
     λ later is. comes_at_end (seen before h.records) later
-    ∙ ap (λ (r : Result (List Record) LoadFault). r >>= λ records. outcome_after tiger before.limit records
+    ∙ ap (λ (r : Result (List Record) LoadFault). r then_with λ records. outcome_after tiger before.limit records
     (lines_from_part (before.parts + 1 + 1) later)) (t.2 is) in
     record {
       limit_is = same ∙ w.limit_is;
@@ -402,7 +402,7 @@ outcome_all limit l closed open_part same h =
     ∙ bind_ok (to_end l)
   where
     bind_ok : (r : Result (List Record) LoadFault)
-        → (r >>= λ records. outcome_after tiger l.limit records (lines_from_part (l.parts + 1 + 1) [])) ≡ r
+        → (r then_with λ records. outcome_after tiger l.limit records (lines_from_part (l.parts + 1 + 1) [])) ≡ r
     bind_ok (Ok x) = refl
     bind_ok (Err f) = refl
 

@@ -10,7 +10,7 @@ use Rattle.tl_load.specs.declared.fault.LoadFault.TheVariants as faults
 use Rattle.tl_load.specs.Places.{PlacedLine, placed_lines}
 use Rattle.tl_load.specs.Verdicts.{Judge, fault_at}
 use Rattle.tl_load.specs.Outcome.{count_of, IsWithinLimitBy, AreLinesSpelled, Spells, SpellsWithin, IsFaultOf, of_line, of_limit, FaultAt}
-use Rattle.tl_load.specs.Outcome.{IsSpelled, IsFaulty, ◌>>=◌, after_verdict, next, outcome_after, outcome}
+use Rattle.tl_load.specs.Outcome.{IsSpelled, IsFaulty, ◌then_with◌, after_verdict, next, outcome_after, outcome}
 
 -- ---- verdicts
 
@@ -72,32 +72,32 @@ verdict_fault {R} judge sound limit records line fault = go (judge.verdict line.
 -- ---- steps
 
 bind_assoc : {A B C : Type 0} (r : Result A LoadFault) (f : A → Result B LoadFault) (g : B → Result C LoadFault)
-    → ((r >>= f) >>= g) ≡ (r >>= λ x. f x >>= g)
+    → ((r then_with f) then_with g) ≡ (r then_with λ x. f x then_with g)
 bind_assoc (Ok x) f g = refl
 bind_assoc (Err e) f g = refl
 
-bind_same : {A B : Type 0} (r : Result A LoadFault) (f g : A → Result B LoadFault) → ((x : A) → f x ≡ g x) → (r >>= f) ≡ (r >>= g)
+bind_same : {A B : Type 0} (r : Result A LoadFault) (f g : A → Result B LoadFault) → ((x : A) → f x ≡ g x) → (r then_with f) ≡ (r then_with g)
 bind_same (Ok x) f g h = h x
 bind_same (Err e) f g h = refl
 
-bind_ok : {A B : Type 0} (r : Result A LoadFault) (f : A → Result B LoadFault) (y : B) → (r >>= f) ≡ Ok y
+bind_ok : {A B : Type 0} (r : Result A LoadFault) (f : A → Result B LoadFault) (y : B) → (r then_with f) ≡ Ok y
     → (x : A) × (r ≡ Ok x) × (f x ≡ Ok y)
 bind_ok (Ok x) f y e = (x, refl, e)
 bind_ok (Err d) f y e = absurd cc
 
-bind_err : {A B : Type 0} (r : Result A LoadFault) (f : A → Result B LoadFault) (y : LoadFault) → (r >>= f) ≡ Err y
+bind_err : {A B : Type 0} (r : Result A LoadFault) (f : A → Result B LoadFault) (y : LoadFault) → (r then_with f) ≡ Err y
     → (r ≡ Err y) ⊎ ((x : A) × (r ≡ Ok x) × (f x ≡ Err y))
 bind_err (Ok x) f y e = inr (x, refl, e)
 bind_err {A} {B} (Err d) f y e = let same : d ≡ y = cc in inl (ap (λ (z : LoadFault). Err z) same)
 
 -- lines after lines
 pub outcome_after-append : {R : Type 0} (judge : Judge R) (limit : ℕ) (records : List R) (a b : List PlacedLine)
-    → outcome_after judge limit records (a ++ b) ≡ (outcome_after judge limit records a >>= λ more. outcome_after judge limit more b)
+    → outcome_after judge limit records (a ++ b) ≡ (outcome_after judge limit records a then_with λ more. outcome_after judge limit more b)
 unfolding outcome_after
 outcome_after-append judge limit records [] b = refl
 outcome_after-append judge limit records (x ∷ a) b =
     bind_same (next judge limit records x) (λ more. outcome_after judge limit more (a ++ b))
-    (λ more. outcome_after judge limit more a >>= λ rest. outcome_after judge limit rest b)
+    (λ more. outcome_after judge limit more a then_with λ rest. outcome_after judge limit rest b)
     (λ more. outcome_after-append judge limit more a b)
     ∙ sym (bind_assoc (next judge limit records x) (λ more. outcome_after judge limit more a) (λ rest. outcome_after judge limit rest b))
 
@@ -241,7 +241,7 @@ reads_from {R} judge limit records (x ∷ lines) (r ∷ found) e h =
     let joined : (records ++ r ∷ []) ++ found ≡ records ++ r ∷ found = append_assoc records (r ∷ []) found in
     let step = next_from judge limit records x r first (room_before judge limit records r found h) in
     let again = reads_from judge limit (records ++ r ∷ []) lines found rest (subst (IsWithinLimitBy judge limit) (sym joined) h) in
-    ap (λ (z : Result (List R) LoadFault). z >>= λ more. outcome_after judge limit more lines) step ∙ again ∙ ap (λ (z : List R). Ok z)
+    ap (λ (z : Result (List R) LoadFault). z then_with λ more. outcome_after judge limit more lines) step ∙ again ∙ ap (λ (z : List R). Ok z)
     joined
 
 -- the first fault of the lines, after these records
@@ -335,9 +335,9 @@ unfolding outcome_after
 outcome_from_fault {R} judge sound limit parts fault f =
     ap (outcome_after judge limit []) f.split
     ∙ outcome_after-append judge limit [] f.before (f.line ∷ f.after)
-    ∙ ap (λ (z : Result (List R) LoadFault). z >>= λ more. outcome_after judge limit more (f.line ∷ f.after))
+    ∙ ap (λ (z : Result (List R) LoadFault). z then_with λ more. outcome_after judge limit more (f.line ∷ f.after))
     (reads_from judge limit [] f.before f.records (spelled_judged judge sound f.before f.records f.well) f.within)
-    ∙ ap (λ (z : Result (List R) LoadFault). z >>= λ more. outcome_after judge limit more f.after)
+    ∙ ap (λ (z : Result (List R) LoadFault). z then_with λ more. outcome_after judge limit more f.after)
     (next_faulty judge limit f.records f.line fault (fault_verdict judge sound limit f.records f.line fault f.fault_is))
 
 -- the same line is judged one way

@@ -15,7 +15,7 @@ use Rattle.tl_load.specs.declared.fault.LoadFault.{LoadFault}
 use Rattle.tl_load.specs.Lines.{is_line_feed, IsWithoutLineFeed, without_return, last_line, lines}
 use Rattle.tl_load.specs.Places.{PlacedLine, numbered_lines, lines_from_part}
 use Rattle.tl_load.specs.Verdicts.{fault_at, field_fault_at}
-use Rattle.tl_load.specs.Outcome.{◌>>=◌, after_verdict, next, outcome_after}
+use Rattle.tl_load.specs.Outcome.{◌then_with◌, after_verdict, next, outcome_after}
 use Rattle.tl_load.specs.Choice.{tiger, judged}
 use Rattle.tl_load.specs.Loaded.{Loaded, IsNotDevice, with_line_feeds}
 use Rattle.tl_load.specs.Steps.{to_come, to_end, TakesLines, Takes, LeavesRest, next_place, Judges, Ends}
@@ -53,7 +53,7 @@ takes_comes before after bytes more later t =
     (append_assoc there (numbered_lines (before.parts + 1) (before.judged + 1 + length (map without_return t.ended)) rest) tail)
     ∙ outcome_after-append tiger before.limit before.records there
     (numbered_lines (before.parts + 1) (before.judged + 1 + length (map without_return t.ended)) rest ++ tail)
-    ∙ ap (λ (r : Result (List Record) LoadFault). r >>= λ records. outcome_after tiger before.limit records
+    ∙ ap (λ (r : Result (List Record) LoadFault). r then_with λ records. outcome_after tiger before.limit records
     (numbered_lines (before.parts + 1) (before.judged + 1 + length (map without_return t.ended)) rest ++ tail)) t.reads
     ∙ ap (λ (k : ℕ). outcome_after tiger before.limit after.records (numbered_lines (before.parts + 1) k rest ++ tail)) place
     ∙ ap (λ (k : ℕ). outcome_after tiger before.limit after.records
@@ -113,7 +113,7 @@ takes_both before mid after a b p q =
           ∙ ap (outcome_after tiger before.limit before.records) (numbered_lines-append (before.parts + 1) (before.judged + 1) first second)
           ∙ outcome_after-append tiger before.limit before.records (numbered_lines (before.parts + 1) (before.judged + 1) first)
           (numbered_lines (before.parts + 1) (before.judged + 1 + length first) second)
-          ∙ ap (λ (r : Result (List Record) LoadFault). r >>= λ records. outcome_after tiger before.limit records
+          ∙ ap (λ (r : Result (List Record) LoadFault). r then_with λ records. outcome_after tiger before.limit records
           (numbered_lines (before.parts + 1) (before.judged + 1 + length first) second)) p.reads
           ∙ ap (λ (k : ℕ). outcome_after tiger before.limit mid.records (numbered_lines (before.parts + 1) k second)) place
           ∙ ap (λ (k : ℕ). outcome_after tiger before.limit mid.records (numbered_lines (k + 1) (mid.judged + 1) second)) (sym p.parts_are)
@@ -162,7 +162,7 @@ pub record IsBefore (mid before : Loaded) : Type 0 where
 -- the next line is judged, and then what follows it
 reading_line : (l : Loaded) (line : List ℕ) (more : List (List ℕ)) (tail : List PlacedLine)
     → outcome_after tiger l.limit l.records (numbered_lines (l.parts + 1) (l.judged + 1) (line ∷ more) ++ tail)
-    ≡ (after_verdict tiger l.limit l.records (next_place l line) (judged line) >>= λ records. outcome_after tiger l.limit records
+    ≡ (after_verdict tiger l.limit l.records (next_place l line) (judged line) then_with λ records. outcome_after tiger l.limit records
     (numbered_lines (l.parts + 1) (l.judged + 1 + 1) more ++ tail))
 unfolding numbered_lines outcome_after next tiger
 reading_line l line more tail = refl
@@ -173,7 +173,7 @@ verdict_before : (mid before : Loaded) (line : List ℕ) → IsBefore mid before
 verdict_before mid before line same = let a = same.records in let b = same.parts in let c = same.judged in let d = same.limit in cc
 
 one_line : (l : Loaded) (line : List ℕ) → outcome_after tiger l.limit l.records (numbered_lines (l.parts + 1) (l.judged + 1) (line ∷ []))
-    ≡ (after_verdict tiger l.limit l.records (next_place l line) (judged line) >>= λ records. Ok records)
+    ≡ (after_verdict tiger l.limit l.records (next_place l line) (judged line) then_with λ records. Ok records)
 unfolding numbered_lines outcome_after next tiger
 one_line l line = refl
 
@@ -194,9 +194,9 @@ ends_line before mid after bytes line (Ok x) same is none judges count empty par
         not_ended = subst IsWithoutLineFeed (sym empty) (All-nil (λ b. is_line_feed b ≡ false));
       };
       reads = one_line before (without_return whole)
-          ∙ ap (λ (l : List ℕ). after_verdict tiger before.limit before.records (next_place before l) (judged l) >>= λ records. Ok records)
+          ∙ ap (λ (l : List ℕ). after_verdict tiger before.limit before.records (next_place before l) (judged l) then_with λ records. Ok records)
           (sym is)
-          ∙ ap (λ (r : Result (List Record) LoadFault). r >>= λ records. Ok records) (sym (verdict_before mid before line same) ∙ judges);
+          ∙ ap (λ (r : Result (List Record) LoadFault). r then_with λ records. Ok records) (sym (verdict_before mid before line same) ∙ judges);
       judged_are = omega (arith, same.judged, count);
       parts_are = parts ∙ same.parts;
       limit_is = limit ∙ same.limit;
@@ -213,7 +213,7 @@ ends_line before mid after bytes line (Err f) same is none judges count empty pa
     ∙ ap (λ (l : List (List ℕ)). outcome_after tiger before.limit before.records
     (numbered_lines (before.parts + 1) (before.judged + 1) l ++ lines_from_part (before.parts + 1 + 1) later)) (lines_line whole more none)
     ∙ reading_line before (without_return whole) (lines more) (lines_from_part (before.parts + 1 + 1) later)
-    ∙ ap (λ (r : Result (List Record) LoadFault). r >>= λ records. outcome_after tiger before.limit records
+    ∙ ap (λ (r : Result (List Record) LoadFault). r then_with λ records. outcome_after tiger before.limit records
     (numbered_lines (before.parts + 1) (before.judged + 1 + 1) (lines more) ++ lines_from_part (before.parts + 1 + 1) later)) step
 
 -- ---- a line that is too long, whatever follows
@@ -243,7 +243,7 @@ long_line before bytes line c z fault split long none e more later =
     (numbered_lines (before.parts + 1) (before.judged + 1) l ++ lines_from_part (before.parts + 1 + 1) later)) first
     ∙ reading_line before (line ++ front.0) begins.rest (lines_from_part (before.parts + 1 + 1) later)
     ∙ ap (λ (v : Result Record LineFault). after_verdict tiger before.limit before.records
-    (next_place before (line ++ front.0)) v >>= λ records. outcome_after tiger before.limit records
+    (next_place before (line ++ front.0)) v then_with λ records. outcome_after tiger before.limit records
     (numbered_lines (before.parts + 1) (before.judged + 1 + 1) begins.rest ++ lines_from_part (before.parts + 1 + 1) later)) settled
 
 pub refuses : {T : Type 0} (before mid after : Loaded) (bytes line rest : List ℕ) (result : Result T LoadFault) → IsBefore mid before
@@ -312,21 +312,21 @@ pub ends_part : {T : Type 0} (before mid after : Loaded) (line : List ℕ) (resu
     → Judges line mid result after → Ends before result after
 ends_part {T} before mid after line result same some none is judges = go result judges
   where
-    first : to_end before ≡ (after_verdict tiger mid.limit mid.records (next_place mid line) (judged line) >>= λ records. Ok records)
+    first : to_end before ≡ (after_verdict tiger mid.limit mid.records (next_place mid line) (judged line) then_with λ records. Ok records)
     first =
         ap (λ (l : List (List ℕ)). outcome_after tiger before.limit before.records
         (numbered_lines (before.parts + 1) (before.judged + 1) l))
         (lines_rest before.unfinished none ∙ last_of before.unfinished some ∙ ap (λ (l : List ℕ). l ∷ []) (sym is))
         ∙ one_line before line
-        ∙ ap (λ (r : Result (List Record) LoadFault). r >>= λ records. Ok records) (sym (verdict_before mid before line same))
+        ∙ ap (λ (r : Result (List Record) LoadFault). r then_with λ records. Ok records) (sym (verdict_before mid before line same))
 
     go : (r : Result T LoadFault) → Judges line mid r after → Ends before r after
-    go (Ok x) j = first ∙ ap (λ (r : Result (List Record) LoadFault). r >>= λ records. Ok records) j
-    go (Err f) j = λ is_of. first ∙ ap (λ (r : Result (List Record) LoadFault). r >>= λ records. Ok records) (j is_of)
+    go (Ok x) j = first ∙ ap (λ (r : Result (List Record) LoadFault). r then_with λ records. Ok records) j
+    go (Err f) j = λ is_of. first ∙ ap (λ (r : Result (List Record) LoadFault). r then_with λ records. Ok records) (j is_of)
 
 -- what comes where the open part ends
 pub comes_at_end : (l : Loaded) (later : List (List ℕ))
-    → to_come l [] later ≡ (to_end l >>= λ records. outcome_after tiger l.limit records (lines_from_part (l.parts + 1 + 1) later))
+    → to_come l [] later ≡ (to_end l then_with λ records. outcome_after tiger l.limit records (lines_from_part (l.parts + 1 + 1) later))
 unfolding to_come
 comes_at_end l later =
     ap (λ (b : List ℕ). outcome_after tiger l.limit l.records
@@ -337,7 +337,7 @@ comes_at_end l later =
 pub closed_comes : (T : Type 0) (before after : Loaded) (f : LoadFault) (later : List (List ℕ)) → to_end before ≡ Err f
     → to_come before [] later ≡ Err f
 closed_comes T before after f later e = comes_at_end before later
-    ∙ ap (λ (r : Result (List Record) LoadFault). r >>= λ records. outcome_after tiger before.limit records
+    ∙ ap (λ (r : Result (List Record) LoadFault). r then_with λ records. outcome_after tiger before.limit records
     (lines_from_part (before.parts + 1 + 1) later)) e
 
 -- ---- parts that are read

@@ -63,10 +63,11 @@ pub record IsFaulty {R : Type 0} (judge : Judge R) (limit : ℕ) (parts : List (
 
 -- ---- the same by going over the lines
 
-infixl 10 ◌>>=◌
-abbrev pub ◌>>=◌ : {A B : Type 0} → Result A LoadFault → (A → Result B LoadFault) → Result B LoadFault
-(Ok x) >>= f = f x
-(Err e) >>= f = Err e
+-- what comes of one more step over what was found, or the fault that was found before it
+infixl 10 ◌then_with◌
+abbrev pub ◌then_with◌ : {A B : Type 0} → Result A LoadFault → (A → Result B LoadFault) → Result B LoadFault
+(Ok x) then_with f = f x
+(Err e) then_with f = Err e
 
 -- the records with one more, or the fault that there are limit of its type already
 abbrev pub with_record : {R : Type 0} → Judge R → ℕ → List R → R → Result (List R) LoadFault
@@ -85,7 +86,7 @@ next judge limit records line = after_verdict judge limit records line (judge.ve
 -- the records after the lines, or the first fault
 unfoldable pub outcome_after : {R : Type 0} → Judge R → ℕ → List R → List PlacedLine → Result (List R) LoadFault
 outcome_after judge limit records [] = Ok records
-outcome_after judge limit records (line ∷ lines) = next judge limit records line >>= λ more. outcome_after judge limit more lines
+outcome_after judge limit records (line ∷ lines) = next judge limit records line then_with λ more. outcome_after judge limit more lines
 
 -- what comes of the parts
 abbrev pub outcome : {R : Type 0} → Judge R → ℕ → List (List ℕ) → Result (List R) LoadFault
