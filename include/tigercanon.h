@@ -99,13 +99,12 @@ enum tigercanon_number {
     TIGERCANON_POLYGON_TWICE = 18,        /* CENID, POLYID */
     TIGERCANON_LAND_UNKNOWN = 19,         /* LAND */
     TIGERCANON_POLYGON_UNKNOWN = 20,      /* CENID, POLYID */
-    TIGERCANON_OWN_REVERSE = 21,          /* TLID */
-    TIGERCANON_SAME_SHAPE = 22,           /* TLID, TLID */
-    TIGERCANON_POLYGON_WITHOUT_CHAIN = 23 /* CENID, POLYID */
+    TIGERCANON_POLYGON_WITHOUT_CHAIN = 23, /* CENID, POLYID */
+    TIGERCANON_TOO_SYMMETRIC = 24
 };
 
-/* Whether the parts are accepted: each line is a record, the records fit together to a county, and its chains can be told apart by
- * their points. TIGERCANON_DONE if so. */
+/* Whether the parts are accepted: each line is a record, the records fit together to a county, each polygon of record type P is on a
+ * side of a chain, and the points of chains leave few enough choices open. TIGERCANON_DONE if so. */
 uint8_t tigercanon_check(const struct tigercanon_part *parts, size_t count, struct tigercanon_fault *fault);
 
 /* The records of the parts in canonical spelling, each line ended by LF, in the order of their lines. Of the refusals it knows 1 to 7
@@ -146,10 +145,10 @@ static inline void tigercanon_line(const struct tigercanon_fault *fault, char li
 {
     static const char *const names[] = {"", "UnknownType", "LineTooLong", "BadByte", "BadNumber", "BadPoint", "GapInRecord",
         "TooManyRecords", "Device", "Memory", "WriteFault", "ChainTwice", "NoChain", "SequenceBroken", "LinkMissing", "LinkTwice",
-        "NameTwice", "NameUnknown", "PolygonTwice", "LandUnknown", "PolygonUnknown", "OwnReverse", "SameShape",
-        "PolygonWithoutChain"};
+        "NameTwice", "NameUnknown", "PolygonTwice", "LandUnknown", "PolygonUnknown", "", "",
+        "PolygonWithoutChain", "TooSymmetric"};
     /* How many of first, second and third are places. */
-    static const uint8_t places[] = {0, 2, 2, 3, 3, 3, 3, 0, 0, 0, 1, 1, 1, 1, 1, 1, 1, 2, 1, 1, 1, 1, 2, 1};
+    static const uint8_t places[] = {0, 2, 2, 3, 3, 3, 3, 0, 0, 0, 1, 1, 1, 1, 1, 1, 1, 2, 1, 1, 1, 0, 0, 1, 0};
     const uint64_t numbers[] = {fault->first, fault->second, fault->third};
     const uint8_t *cenid = fault->cenid;
     int i, end = 0;

@@ -68,16 +68,15 @@ _PLACES: Dict[int, _Place] = {
     18: _Place("PolygonTwice", has_cenid=True, numbers=1),
     19: _Place("LandUnknown", numbers=1),
     20: _Place("PolygonUnknown", has_cenid=True, numbers=1),
-    21: _Place("OwnReverse", numbers=1),
-    22: _Place("SameShape", numbers=2),
     23: _Place("PolygonWithoutChain", has_cenid=True, numbers=1),
+    24: _Place("TooSymmetric"),
 }
 
 
 class Refusal(Exception):
     """A set is refused. docs/guide.md tells each refusal, and what to do about it.
 
-    number  1 to 7 where a line is at fault, 9 for want of memory (OutOfMemory), 11 to 23 where the records are
+    number  1 to 7 where a line is at fault, 9 for want of memory (OutOfMemory), 11 to 24 where the records are
     name    the refusal's name, as "BadNumber"
     places  where it is, in the order of the line: a record type as a text ("6"), a CENID as ten hexadecimal digits ("3036303031"),
             and all else as numbers: parts, lines and columns, which count from 1, or TLIDs, FEATs, LANDs and POLYIDs

@@ -94,7 +94,7 @@ def try_rounds(tests: Tests) -> None:
     """A thousand calls leave no memory behind."""
     words = [["check", AUTAUGA], ["respell", AUTAUGA], ["normalise", AUTAUGA], ["normalise", "--no-sources", AUTAUGA],
              ["fingerprint", AUTAUGA], ["compare", AUTAUGA, RENUMBERED], ["check", ROOT / "examples/broken.txt"],
-             ["compare", AUTAUGA, ROOT / "examples/refused/same-shape.txt"], ["respell", os.devnull]]
+             ["compare", AUTAUGA, ROOT / "examples/refused/too-symmetric.txt"], ["respell", os.devnull]]
     for call in words:
         done = run([*tests.callers["gcc"], "--rounds", "1000", *call])
         found = [int(kib) for kib in re.findall(rb": (\d+) KiB", done.err)]

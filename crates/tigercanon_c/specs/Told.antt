@@ -12,7 +12,7 @@ use Rattle.tl_load.specs.declared.fault.LoadFault.TheVariants.{UnknownType, Line
 use Rattle.tl_load.specs.declared.fault.LoadFault.TheVariants.{GapInRecord, TooManyRecords, Device}
 use Rattle.tl_load.specs.declared.fault.LoadFault.TheVariants.{Memory as LoadMemory}
 use Rattle.tl_profile.specs.declared.fault.ProfileFault.{ProfileFault}
-use Rattle.tl_profile.specs.declared.fault.ProfileFault.TheVariants.{OwnReverse, SameShape, PolygonWithoutChain}
+use Rattle.tl_profile.specs.declared.fault.ProfileFault.TheVariants.{PolygonWithoutChain, TooSymmetric}
 use Rattle.tl_profile.specs.declared.fault.ProfileFault.TheVariants.{Memory as ProfileMemory}
 use Rattle.tigercanon.specs.declared.library.comparing.CompareFault.{CompareFault}
 use Rattle.tigercanon.specs.declared.library.comparing.CompareFault.TheVariants.{In, Memory as NoVerdict}
@@ -99,9 +99,8 @@ link_told set LinkMemory = with_numbers set 9 0 0 0
 
 -- a county outside the profile, in numbers
 abbrev pub profile_told : ℕ → ProfileFault → ToldFault
-profile_told set (OwnReverse tlid) = with_numbers set 21 tlid 0 0
-profile_told set (SameShape first second) = with_numbers set 22 first second 0
 profile_told set (PolygonWithoutChain cenid polyid) = with_polygon set 23 cenid polyid
+profile_told set TooSymmetric = with_numbers set 24 0 0 0
 profile_told set ProfileMemory = with_numbers set 9 0 0 0
 
 -- the fault of a set in numbers; the set is 0 where one alone is read

@@ -50,7 +50,7 @@ pub struct Hash {
 #[repr(C)]
 #[derive(Clone, Copy)]
 pub struct ToldFault {
-    /// The number of the refusal, from 1 to 23, or 0 where no fault is told.
+    /// The number of the refusal, from 1 to 24, or 0 where no fault is told.
     pub number: u8,
     /// Which of two sets is at fault, 1 or 2.
     pub set: u8,

@@ -134,11 +134,10 @@ fn profile_told(set: u8, fault: ProfileFault) -> ToldFault
     ensures { result ≡ profile_told set fault }
 {
     match fault {
-        ProfileFault::OwnReverse { tlid } => with_numbers(set, 21, tlid, 0, 0),
-        ProfileFault::SameShape { first, second } => with_numbers(set, 22, first, second, 0),
         ProfileFault::PolygonWithoutChain { cenid, polyid } => {
             with_polygon(set, 23, cenid, polyid)
         }
+        ProfileFault::TooSymmetric => with_numbers(set, 24, 0, 0, 0),
         ProfileFault::Memory => with_numbers(set, 9, 0, 0, 0),
     }
 }
