@@ -8,6 +8,7 @@ mod counties;
 mod devices;
 mod fields;
 mod hoard;
+mod lanes;
 mod loading;
 mod long;
 mod made;

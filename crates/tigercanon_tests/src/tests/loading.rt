@@ -32,6 +32,18 @@ fn sources_are_read_to_their_end(rt: HostRuntime) {
     gives_the_street(&rt, rt.alloc(), "a reader", &mut counted);
 }
 
+/// A line that is too long is told by its first 230 bytes, and the source isn't asked again.
+#[test]
+fn a_long_line_is_told_before_a_read_fails(rt: HostRuntime) {
+    let mut source = SlowSource::new(&[b'1'; 1000], 230, Some(2));
+    let mut loader = Loader::new(rt.alloc());
+    let answer = loader.read_part(&mut source);
+    let too_long = LoadFault::LineTooLong { part: 1, line: 1 };
+    same(&rt, "answer", &answer, &Err(too_long));
+    same(&rt, "failures", &source.failures(), &0);
+    same(&rt, "in the end", &loader.finish().err(), &Some(too_long));
+}
+
 /// The source gives this set by a hundred bytes a read, and fails at the read that is named: that is told, then and in the end, and
 /// no part is closed.
 fn fails_at(rt: &impl Abort, alloc: Global, set: &[u8], read: u64) {
