@@ -175,6 +175,7 @@ fn sign(value: i32) -> u8
 }
 
 /// Writes a coordinate: its sign, and digits in all columns but the first.
+#[inline(always)]
 #[tactic(auto, using(crate::proofs::Writes::first_then_rest), unfolding(crate::specs::FieldTexts::coordinate_text))]
 pub fn put_coordinate(out: &mut [u8], value: i32)
     requires { 1 ≤ length out.old }

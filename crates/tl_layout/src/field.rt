@@ -18,6 +18,7 @@ use crate::point::Point;
 use crate::text::Text;
 
 /// The opaque bytes of these columns.
+#[inline(always)]
 pub fn text_at<const N: usize>(line: &[u8], first: usize, last: usize) -> Text<N>
     requires allowed { AreAllowed line.now }
     requires from_one { 1 ≤ first }
@@ -29,6 +30,7 @@ pub fn text_at<const N: usize>(line: &[u8], first: usize, last: usize) -> Text<N
 }
 
 /// The number in these columns, where one is demanded.
+#[inline(always)]
 #[tactic(auto, unfolding(crate::specs::FieldReading::number_at))]
 pub fn read_number(line: &[u8], first: usize, last: usize) -> Result<u64, FieldFault>
     requires from_one { 1 ≤ first }
@@ -48,6 +50,7 @@ pub fn read_number(line: &[u8], first: usize, last: usize) -> Result<u64, FieldF
 }
 
 /// The number in these columns, where there may be none.
+#[inline(always)]
 #[tactic(auto, unfolding(crate::specs::FieldReading::number_or_none_at))]
 pub fn read_number_or_none(
     line: &[u8],
@@ -94,6 +97,7 @@ pub fn gap(column: usize) -> FieldFault
 }
 
 /// The pair of coordinates that begins at this column, where there may be none.
+#[inline(always)]
 #[tactic(auto, using(crate::specs::CoordinateLaws::coordinate_read_within), unfolding(crate::specs::FieldReading::point_or_none_at, crate::specs::FieldReading::point_or_none))]
 pub fn read_point_or_none(line: &[u8], column: usize) -> Result<Option<Point>, FieldFault>
     requires from_one { 1 ≤ column }
@@ -113,6 +117,7 @@ pub fn read_point_or_none(line: &[u8], column: usize) -> Result<Option<Point>, F
 }
 
 /// The point in the pair of coordinates that begins at this column, where one is demanded.
+#[inline(always)]
 #[tactic(auto, unfolding(crate::specs::FieldReading::point_at, crate::specs::FieldReading::and_then))]
 pub fn read_point(line: &[u8], column: usize) -> Result<Point, FieldFault>
     requires from_one { 1 ≤ column }

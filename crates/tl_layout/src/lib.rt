@@ -11,6 +11,7 @@ mod coordinate;
 mod digits;
 mod fault;
 mod field;
+mod growing;
 mod laws;
 mod layout;
 mod mask;
@@ -39,6 +40,7 @@ mod writing;
 
 pub use blank::Blank;
 pub use fault::{DeviceFault, FieldFault, FieldKind};
+pub use growing::make_room_ahead;
 pub use laws::{
     a_mask_blanks_its_fields, a_turn_exchanges_partners, blanking_and_turning_change_places,
 };

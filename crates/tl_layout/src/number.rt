@@ -125,6 +125,7 @@ pub fn digits(field: &[u8]) -> Option<u64>
 }
 
 /// The number that a field spells, 0 where it spells none.
+#[inline(always)]
 #[tactic(auto, unfolding(crate::specs::NumberReading::number_of))]
 pub fn number(field: &[u8]) -> Option<u64>
     requires { length field.now ≤ 19 }

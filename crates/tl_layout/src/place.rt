@@ -77,7 +77,8 @@ impl Places for ArrayVec<Point, 10> {
     }
 
     fn read(line: &[u8], column: usize) -> Result<Option<Point>, FieldFault> {
-        if line[column - 1..column + 18] == ZEROS[..] {
+        // Most points lie west of Greenwich: a minus tells a used place at once.
+        if line[column - 1] == b'+' && line[column - 1..column + 18] == ZEROS[..] {
             return Ok(None);
         }
         read_point_or_none(line, column)

@@ -5,6 +5,7 @@ ghost use Rattle.tl_layout.specs.declared.record_type.Record.{Record};
 ghost use Rattle.tl_layout.specs.RecordText.{type_of, spelling_of};
 ghost use Rattle.tl_layout.specs.Tables.{AddsRecord, AreSameTables};
 
+use crate::growing::push_ahead;
 use crate::layout::Layout;
 use crate::record_type::Record;
 use crate::tables::Tables;
@@ -52,7 +53,7 @@ impl Tabled for Rec1 {
     }
 
     fn push_into(self, tables: &mut Tables) -> Result<(), AllocError> {
-        Ok(tables.type_1.push(self)?)
+        push_ahead(&mut tables.type_1, self)
     }
 
     ghost type_is = { type_1_type };
@@ -71,7 +72,7 @@ impl Tabled for Rec2 {
     }
 
     fn push_into(self, tables: &mut Tables) -> Result<(), AllocError> {
-        Ok(tables.type_2.push(self)?)
+        push_ahead(&mut tables.type_2, self)
     }
 
     ghost type_is = { type_2_type };
@@ -90,7 +91,7 @@ impl Tabled for Rec4 {
     }
 
     fn push_into(self, tables: &mut Tables) -> Result<(), AllocError> {
-        Ok(tables.type_4.push(self)?)
+        push_ahead(&mut tables.type_4, self)
     }
 
     ghost type_is = { type_4_type };
@@ -109,7 +110,7 @@ impl Tabled for Rec5 {
     }
 
     fn push_into(self, tables: &mut Tables) -> Result<(), AllocError> {
-        Ok(tables.type_5.push(self)?)
+        push_ahead(&mut tables.type_5, self)
     }
 
     ghost type_is = { type_5_type };
@@ -128,7 +129,7 @@ impl Tabled for Rec6 {
     }
 
     fn push_into(self, tables: &mut Tables) -> Result<(), AllocError> {
-        Ok(tables.type_6.push(self)?)
+        push_ahead(&mut tables.type_6, self)
     }
 
     ghost type_is = { type_6_type };
@@ -147,7 +148,7 @@ impl Tabled for Rec7 {
     }
 
     fn push_into(self, tables: &mut Tables) -> Result<(), AllocError> {
-        Ok(tables.type_7.push(self)?)
+        push_ahead(&mut tables.type_7, self)
     }
 
     ghost type_is = { type_7_type };
@@ -166,7 +167,7 @@ impl Tabled for Rec8 {
     }
 
     fn push_into(self, tables: &mut Tables) -> Result<(), AllocError> {
-        Ok(tables.type_8.push(self)?)
+        push_ahead(&mut tables.type_8, self)
     }
 
     ghost type_is = { type_8_type };
@@ -185,7 +186,7 @@ impl Tabled for RecI {
     }
 
     fn push_into(self, tables: &mut Tables) -> Result<(), AllocError> {
-        Ok(tables.type_i.push(self)?)
+        push_ahead(&mut tables.type_i, self)
     }
 
     ghost type_is = { type_i_type };
@@ -204,7 +205,7 @@ impl Tabled for RecP {
     }
 
     fn push_into(self, tables: &mut Tables) -> Result<(), AllocError> {
-        Ok(tables.type_p.push(self)?)
+        push_ahead(&mut tables.type_p, self)
     }
 
     ghost type_is = { type_p_type };

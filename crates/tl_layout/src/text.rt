@@ -31,6 +31,7 @@ impl<const N: usize> Text<N> {
     }
 
     /// A field of these bytes, of which there are just `N`.
+    #[inline(always)]
     pub fn from_slice(bytes: &[u8]) -> Text<N>
         requires { IsText N bytes.now }
         ensures { result ≡ bytes.now }
@@ -49,6 +50,7 @@ impl<const N: usize> Text<N> {
     }
 
     /// The bytes of the field, where they stand.
+    #[inline(always)]
     pub fn as_bytes(&self) -> &[u8; N]
         ensures value { result.now ≡ self.now }
         ensures text { IsText N self.now }

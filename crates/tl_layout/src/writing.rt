@@ -14,6 +14,7 @@ use crate::point::Point;
 use crate::text::Text;
 
 /// Writes the record type and the version, which is 2006.
+#[inline(always)]
 #[tactic(auto, using(crate::proofs::Writes::head_written))]
 pub fn write_head(out: &mut [u8], rtype: u8)
     requires { 5 ≤ length out.old }
@@ -24,6 +25,7 @@ pub fn write_head(out: &mut [u8], rtype: u8)
 }
 
 /// Writes opaque bytes into these columns.
+#[inline(always)]
 #[tactic(auto, using(crate::proofs::Writes::columns_written))]
 pub fn write_text<const N: usize>(out: &mut [u8], first: usize, last: usize, text: &Text<N>)
     requires from_one { 1 ≤ first }
@@ -35,6 +37,7 @@ pub fn write_text<const N: usize>(out: &mut [u8], first: usize, last: usize, tex
 }
 
 /// Writes a number right justified into these columns, blanks for 0.
+#[inline(always)]
 #[tactic(auto, using(crate::proofs::Writes::columns_written))]
 pub fn write_number(out: &mut [u8], first: usize, last: usize, number: u64)
     requires from_one { 1 ≤ first }
@@ -46,6 +49,7 @@ pub fn write_number(out: &mut [u8], first: usize, last: usize, number: u64)
 }
 
 /// Writes blanks into these columns.
+#[inline(always)]
 #[tactic(auto, using(crate::proofs::Writes::columns_written))]
 pub fn write_blanks(out: &mut [u8], first: usize, last: usize)
     requires from_one { 1 ≤ first }
@@ -57,6 +61,7 @@ pub fn write_blanks(out: &mut [u8], first: usize, last: usize)
 }
 
 /// Writes a coordinate of a sign and digits into these columns.
+#[inline(always)]
 #[tactic(auto, using(crate::proofs::Writes::columns_written))]
 fn write_coordinate(out: &mut [u8], first: usize, last: usize, value: i32)
     requires from_one { 1 ≤ first }
@@ -68,6 +73,7 @@ fn write_coordinate(out: &mut [u8], first: usize, last: usize, value: i32)
 }
 
 /// Writes the pair of coordinates of a point into the 19 columns from this one on.
+#[inline(always)]
 pub fn write_point(out: &mut [u8], column: usize, point: &Point)
     requires from_one { 1 ≤ column }
     requires within { column + 18 ≤ length out.old }
@@ -83,6 +89,7 @@ pub fn write_point(out: &mut [u8], column: usize, point: &Point)
 pub const ZEROS: [u8; 19] = *b"+000000000+00000000";
 
 /// Writes a pair of zeros into the 19 columns from this one on.
+#[inline(always)]
 pub fn write_zeros(out: &mut [u8], column: usize)
     requires from_one { 1 ≤ column }
     requires within { column + 18 ≤ length out.old }

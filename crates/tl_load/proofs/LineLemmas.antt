@@ -1,11 +1,13 @@
 -- The lines of bytes that come one after the other.
 use Rattle.std.proofs.Common.{◌≡◌, ℕ, suc, ◌+◌, ◌-◌, ◌<◌, ◌≤◌, Bool, true, false, cond, List, [], ◌∷◌, ◌++◌, length, take, get_or}
 use Rattle.std.proofs.Common.{refl, sym, ap, ◌∙◌, append_assoc, append-nil, arith, eqb}
+use Rattle.std.specs.Prelude.{All, IsTrue}
 use Rattle.std.specs.List.{slice_split}
 use Rattle.std.proofs.lemmas.List.Splits.{slice_split_at, slice_split_none, length-slice_split}
-use Rattle.std.proofs.lemmas.List.Elements.{All-append, All-nil, All-cons}
+use Rattle.std.proofs.lemmas.List.Elements.{All-append, All-nil, All-cons, All-take}
 use Rattle.std.proofs.lemmas.List.{length-append, length-take}
 use Rattle.std.proofs.lemmas.Bool.{eqb-true}
+use Rattle.tl_layout.specs.Bytes.{is_allowed, AreAllowed}
 use Rattle.tl_load.specs.Lines.{is_line_feed, IsWithoutLineFeed, without_return, last_line, lines_of_pieces, lines}
 
 -- there is a first piece
@@ -64,6 +66,15 @@ without_return_length a = go (eqb (get_or a (length a - 1) 0) 13)
     go : (b : Bool) → length a ≤ length (cond b (take (length a - 1) a) a) + 1
     go true = omega (arith, length-take (length a - 1) a)
     go false = omega arith
+
+-- what is left of clean bytes is clean
+pub clean_without_return : (a : List ℕ) → AreAllowed a → AreAllowed (without_return a)
+unfolding without_return AreAllowed
+clean_without_return a clean = go (eqb (get_or a (length a - 1) 0) 13)
+  where
+    go : (b : Bool) → All (λ x. IsTrue (is_allowed x)) (cond b (take (length a - 1) a) a)
+    go true = All-take (λ x. IsTrue (is_allowed x)) (length a - 1) a clean
+    go false = clean
 
 without_feed_cons : (a : List ℕ) (c : ℕ) → IsWithoutLineFeed a → is_line_feed c ≡ false → IsWithoutLineFeed (a ++ c ∷ [])
 without_feed_cons a c h n =

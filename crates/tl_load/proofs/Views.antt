@@ -1,12 +1,13 @@
 -- Small facts for the loader's answers.
-use Rattle.std.proofs.Common.{◌≡◌, ℕ, ◌+◌, ◌-◌, ◌<◌, ◌≤◌, true, false, List, [], ◌∷◌, ◌++◌, length, get_or, take, drop, Result}
+use Rattle.std.proofs.Common.{◌≡◌, ℕ, ◌+◌, ◌-◌, ◌<◌, ◌≤◌, Bool, true, false, List, [], ◌∷◌, ◌++◌, length, get_or, take, drop, Result}
 use Rattle.std.proofs.Common.{Ok, Err, Option, Some, None, refl, sym, ap, subst, ◌∙◌, arith, eqb}
-use Rattle.std.specs.Prelude.{OnOk, IsOk}
+use Rattle.std.specs.Prelude.{OnOk, IsOk, IsTrue}
 use Rattle.std.proofs.lemmas.Bool.{eqb-true, false_from_ne_true}
 use Rattle.std.proofs.lemmas.List.{take-append-drop, length-take, get_or-take, get_or_default, drop_more, take_all, take_rest}
 use Rattle.memchr.specs.Find.{Nowhere, Passes, is_byte}
+use Rattle.tl_layout.specs.Bytes.{is_allowed, AreAllowed}
 use Rattle.tl_layout.specs.declared.record_type.Record.{Record}
-use Rattle.tl_load.specs.Lines.{is_line_feed, IsWithoutLineFeed}
+use Rattle.tl_load.specs.Lines.{is_line_feed, IsWithoutLineFeed, IsLineEnd}
 use Rattle.tl_load.specs.Loaded.{Loaded}
 use Rattle.tl_load.specs.declared.loader_into.LoaderInto.TheInside.{Inside}
 
@@ -51,6 +52,28 @@ cut_at bytes n lt h =
     let rest : drop 1 (drop n bytes) ≡ drop (n + 1) bytes = ap (λ (l : List ℕ). drop 1 l) e in
     sym (take-append-drop n bytes) ∙ ap (λ (l : List ℕ). take n bytes ++ l) (e ∙ ap (λ (b : ℕ). b ∷ drop (n + 1) bytes) (eqb-true _ _ h)
     ∙ ap (λ (l : List ℕ). 10 ∷ l) (sym rest))
+
+-- a byte that a line may hold ends none
+not_feed : (b : ℕ) → IsTrue (is_allowed b) → is_line_feed b ≡ false
+not_feed b allowed = go (eqb b 10) refl
+  where
+    go : (t : Bool) → eqb b 10 ≡ t → t ≡ false
+    go false h = refl
+    go true h = let ten : IsTrue (is_allowed 10) = subst (λ (x : ℕ). IsTrue (is_allowed x)) (eqb-true _ _ h) allowed in absurd cc
+
+clean_no_feed : (bytes : List ℕ) → AreAllowed bytes → IsWithoutLineFeed bytes
+unfolding AreAllowed
+clean_no_feed bytes allowed k d lt = not_feed (get_or bytes k d) (allowed k d lt)
+
+-- an LF behind clean bytes ends the first line
+pub ends_clean : (bytes : List ℕ) (n : ℕ) → n < length bytes → get_or bytes n 0 ≡ 10 → AreAllowed (take n bytes)
+    → IsLineEnd bytes n true
+ends_clean bytes n lt feed allowed = record {
+  within = lt;
+  cut = cut_at bytes n lt (ap (λ (b : ℕ). eqb b 10) feed);
+  first = clean_no_feed (take n bytes) allowed;
+  clean = λ _. allowed;
+}
 
 -- what `&bytes[1..]` is
 pub rest_of : (bytes : List ℕ) → take (length bytes - 1) (drop 1 bytes) ≡ drop 1 bytes

@@ -1,6 +1,7 @@
 -- The lines of a part: the pieces that LF ends, and what stands after the last LF.
-use Rattle.std.specs.Prelude.{◌≡◌, ℕ, ◌-◌, List, [], ◌∷◌, length, take, slice_index, Bool, false, ◌==◌, if◌then◌else◌, All}
+use Rattle.std.specs.Prelude.{◌≡◌, ◌<◌, ℕ, ◌-◌, List, [], ◌∷◌, ◌++◌, length, take, drop, slice_index, Bool, false, IsTrue, ◌==◌, if◌then◌else◌, All}
 use Rattle.std.specs.List.{slice_split}
+use Rattle.tl_layout.specs.Bytes.{AreAllowed}
 
 -- the byte that ends a line, LF
 abbrev pub is_line_feed : ℕ → Bool
@@ -9,6 +10,14 @@ is_line_feed b = b == 10
 -- no byte ends a line
 abbrev pub IsWithoutLineFeed : List ℕ → Type 0
 IsWithoutLineFeed bytes = All (λ b. is_line_feed b ≡ false) bytes
+
+-- The first line of the bytes ends at this place, counted from 0: an LF stands there and none before it. Where it is said to be
+-- clean, each byte before that is one that a line may hold.
+pub record IsLineEnd (bytes : List ℕ) (place : ℕ) (is_clean : Bool) : Type 0 where
+  pub within : place < length bytes
+  pub cut : bytes ≡ take place bytes ++ 10 ∷ drop 1 (drop place bytes)
+  pub first : IsWithoutLineFeed (take place bytes)
+  pub clean : IsTrue is_clean → AreAllowed (take place bytes)
 
 -- the bytes without one CR at their very end
 unfoldable pub without_return : List ℕ → List ℕ

@@ -21,7 +21,8 @@ pub fn first_bad(bytes: &[u8]) -> Option<usize>
 
 /// A line may hold each of the bytes: they are tested 32 at a time, the last of them with those before them, and fewer than
 /// 32 one by one.
-fn is_clean(bytes: &[u8]) -> bool
+#[inline(always)]
+pub(crate) fn is_clean(bytes: &[u8]) -> bool
     ensures { IsTrue result → AreAllowed bytes.now }
 {
     let len = bytes.len();

@@ -1,7 +1,7 @@
 //! What a line is judged as.
 
-ghost use Rattle.std.specs.Prelude.{◌≡◌, ◌≤◌, [], ◌∷◌, take, length, replicate};
-ghost use Rattle.tl_layout.specs.Bytes.{IsLine};
+ghost use Rattle.std.specs.Prelude.{◌≡◌, ◌≤◌, [], ◌∷◌, take, length, replicate, not, position, IsTrue};
+ghost use Rattle.tl_layout.specs.Bytes.{AreAllowed, IsLine, is_allowed};
 ghost use Rattle.tl_load.specs.LineOf.{filled, judged_as, judged_full};
 
 use crate::bytes::first_bad;
@@ -9,10 +9,11 @@ use crate::fault::LineFault;
 use tl_layout::{LONGEST_LINE, Layout};
 
 /// The record of a line that begins with the layout's type, or its fault. The line has neither LF nor the CR before it;
-/// a short one is filled with blanks.
+/// a short one is filled with blanks. Its bytes are tested, unless each is known to be one that a line may hold.
 #[tactic(auto, unfolding(crate::specs::LineOf::judged_as))]
-pub(crate) fn judge_line<L: Layout>(line: &[u8]) -> Result<L, LineFault>
-    requires { take 1 line.now ≡ L.RTYPE ∷ [] }
+pub(crate) fn judge_line<L: Layout>(line: &[u8], is_clean: bool) -> Result<L, LineFault>
+    requires begins { take 1 line.now ≡ L.RTYPE ∷ [] }
+    requires clean { IsTrue is_clean → AreAllowed line.now }
     ensures { result ≡ judged_as L.LEN L.reading line.now }
 {
     let len = line.len();
@@ -20,10 +21,10 @@ pub(crate) fn judge_line<L: Layout>(line: &[u8]) -> Result<L, LineFault>
         return Err(LineFault::LineTooLong);
     }
     if len == L::LEN {
-        return judge_full::<L>(line);
+        return judge_full::<L>(line, is_clean);
     }
     let filled = fill(line);
-    judge_full::<L>(&filled[..L::LEN])
+    judge_full::<L>(&filled[..L::LEN], false)
 }
 
 /// A line of blanks.
@@ -44,14 +45,24 @@ fn fill(line: &[u8]) -> [u8; LONGEST_LINE]
     filled
 }
 
-/// The record of a full line that begins with the layout's type, or its fault.
+/// The place of the leftmost byte that no line may hold. Bytes that are known to be clean aren't tested.
+fn bad_place(line: &[u8], is_clean: bool) -> Option<usize>
+    requires { IsTrue is_clean → AreAllowed line.now }
+    ensures { result ≡ position (λ b. not (is_allowed b)) line.now }
+{
+    if is_clean { None } else { first_bad(line) }
+}
+
+/// The record of a full line that begins with the layout's type, or its fault. Its bytes are tested, unless they are known to be
+/// clean.
 #[tactic(auto, unfolding(crate::specs::LineOf::judged_full))]
-fn judge_full<L: Layout>(line: &[u8]) -> Result<L, LineFault>
+fn judge_full<L: Layout>(line: &[u8], is_clean: bool) -> Result<L, LineFault>
     requires begins { take 1 line.now ≡ L.RTYPE ∷ [] }
     requires full { length line.now ≡ L.LEN }
+    requires clean { IsTrue is_clean → AreAllowed line.now }
     ensures { result ≡ judged_full L.reading line.now }
 {
-    if let Some(place) = first_bad(line) {
+    if let Some(place) = bad_place(line, is_clean) {
         return Err(LineFault::BadByte((place + 1) as u16));
     }
     match L::take(line) {

@@ -6,7 +6,7 @@ ghost use Rattle.tl_layout.specs.Tables.{HoldsByType};
 ghost use Rattle.tl_layout.specs.declared.record_type.Record.{Record};
 
 use std::alloc::{AllocError, Global};
-use tl_layout::{LONGEST_LINE, Layout, Record, Tabled, Tables, put_line};
+use tl_layout::{LONGEST_LINE, Layout, Record, Tabled, Tables, make_room_ahead, put_line};
 
 /// Where a loader puts its records.
 pub trait Keeper: Drop + Sized {
@@ -62,6 +62,7 @@ fn append_line<L: Layout>(text: &mut Vec<u8>, found: &L) -> Result<(), AllocErro
     let mut room = [0; LONGEST_LINE + 1];
     let line = &mut room[..L::LEN + 1];
     put_line(found, line);
+    make_room_ahead(text, L::LEN + 1);
     Ok(text.extend_from_slice(line)?)
 }
 

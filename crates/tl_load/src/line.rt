@@ -1,10 +1,76 @@
-//! The end of a line.
+//! Where a line ends, and what ends it.
 
-ghost use Rattle.std.specs.Prelude.{◌≡◌, ◌≤◌, length};
-ghost use Rattle.tl_load.specs.Lines.{without_return};
+ghost use Rattle.std.specs.Prelude.{◌≡◌, ◌≤◌, length, true, IfSome, MatchOption};
+ghost use Rattle.tl_load.specs.Lines.{without_return, IsLineEnd, IsWithoutLineFeed};
+
+use crate::bytes::is_clean;
+use memchr::memchr;
+use tl_layout::{Layout, Rec1, Rec2, Rec4, Rec5, Rec6, Rec7, Rec8, RecI, RecP};
+
+/// Where the first line of some bytes ends.
+#[derive(Clone, Copy)]
+pub(crate) struct LineEnd {
+    /// The place of its LF, from 0.
+    pub(crate) place: usize,
+    /// A line may hold each byte before it. Where this isn't said, they weren't tested.
+    pub(crate) is_clean: bool,
+}
+
+/// Where the first line of the bytes ends. A full line of clean bytes, as nearly all are, has its LF at the length of its
+/// type, and so none is searched for.
+pub(crate) fn line_end(bytes: &[u8]) -> Option<LineEnd>
+    ensures { MatchOption result (IsWithoutLineFeed bytes.now) (λ end. IsLineEnd bytes.now end.place end.is_clean) }
+{
+    if let Some(place) = full_line_end(bytes) {
+        return Some(LineEnd {
+            place,
+            is_clean: true,
+        });
+    }
+    match memchr(b'\n', bytes) {
+        Some(place) => Some(LineEnd {
+            place,
+            is_clean: false,
+        }),
+        None => None,
+    }
+}
+
+/// Where the first line ends, if it is a full one of its type and each of its bytes is one that a line may hold.
+#[inline(always)]
+fn full_line_end(bytes: &[u8]) -> Option<usize>
+    ensures { IfSome result (λ place. IsLineEnd bytes.now place true) }
+{
+    match bytes {
+        [b'1', ..] => end_at_length::<Rec1>(bytes),
+        [b'2', ..] => end_at_length::<Rec2>(bytes),
+        [b'4', ..] => end_at_length::<Rec4>(bytes),
+        [b'5', ..] => end_at_length::<Rec5>(bytes),
+        [b'6', ..] => end_at_length::<Rec6>(bytes),
+        [b'7', ..] => end_at_length::<Rec7>(bytes),
+        [b'8', ..] => end_at_length::<Rec8>(bytes),
+        [b'I', ..] => end_at_length::<RecI>(bytes),
+        [b'P', ..] => end_at_length::<RecP>(bytes),
+        _ => None,
+    }
+}
+
+/// The length of this record type, if an LF stands there and a line may hold each byte before it.
+#[inline(always)]
+fn end_at_length<L: Layout>(bytes: &[u8]) -> Option<usize>
+    ensures { IfSome result (λ place. IsLineEnd bytes.now place true) }
+{
+    let len = L::LEN;
+    if bytes.len() > len && bytes[len] == b'\n' && is_clean(&bytes[..len]) {
+        Some(len)
+    } else {
+        None
+    }
+}
 
 /// The line without one CR at its very end.
 #[tactic(auto, unfolding(crate::specs::Lines::without_return))]
+#[inline(always)]
 pub(crate) fn without_carriage_return(line: &[u8]) -> &[u8]
     ensures { result.now ≡ without_return line.now }
 {

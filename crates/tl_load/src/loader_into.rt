@@ -1,8 +1,9 @@
 //! The loader over any keeper: lines out of pieces of bytes, each judged when it ends, and its record kept.
 
-ghost use Rattle.std.specs.Prelude.{◌≡◌, ◌≤◌, ◌<◌, ◌+◌, ◌*◌, ℕ, List, [], ◌∷◌, ◌++◌, None, Some, length, take, replicate, IfSome, Err, MatchResult, IfOk, IfErr, OnOk, is_ok, if◌then◌else◌};
+ghost use Rattle.std.specs.Prelude.{◌≡◌, ◌≤◌, ◌<◌, ◌+◌, ◌*◌, ℕ, List, [], ◌∷◌, ◌++◌, None, Some, length, take, replicate, IfSome, Err, MatchResult, IfOk, IfErr, OnOk, IsTrue, is_ok, if◌then◌else◌};
 ghost use Rattle.std.specs.Result.{IsErr};
 ghost use Rattle.std.specs.Io.KnownBytes.{IsAtEnd};
+ghost use Rattle.tl_layout.specs.Bytes.{AreAllowed};
 ghost use Rattle.tl_layout.specs.declared.record_type.Record.{Record};
 ghost use Rattle.tl_load.specs.Choice.{tiger, judged, as_record};
 ghost use Rattle.tl_load.specs.Lines.{IsWithoutLineFeed};
@@ -17,10 +18,9 @@ ghost use Rattle.tl_load.specs.declared.fault.LineFault.TheVariants.{UnknownType
 use crate::fault::{LineFault, LoadFault};
 use crate::judge::judge_line;
 use crate::keeper::Keeper;
-use crate::line::without_carriage_return;
+use crate::line::{line_end, without_carriage_return};
 use crate::source::Source;
 use arrayvec::ArrayVec;
-use memchr::memchr;
 use std::alloc::Global;
 use std::marker::Model;
 use tl_layout::{
@@ -105,6 +105,7 @@ impl<K: Keeper> LoaderInto<K> {
     }
 
     /// Keeps the record of a line, and counts it.
+    #[inline(always)]
     fn add<L: Tabled>(&mut self, found: L) -> Result<(), LoadFault>
         ensures adds { Lifts K.holds (Adds (L.as_record found)) self.old result self.new }
         ensures same_part { IsSamePart self.old self.new }
@@ -129,9 +130,10 @@ impl<K: Keeper> LoaderInto<K> {
     }
 
     /// Judges the next line by the layout of its type.
-    fn judge_as<L: Tabled>(&mut self, line: &[u8]) -> Result<(), LoadFault>
+    fn judge_as<L: Tabled>(&mut self, line: &[u8], is_clean: bool) -> Result<(), LoadFault>
         requires room { self.old.parts < u64.MAX }
         requires begins { take 1 line.now ≡ L.RTYPE ∷ [] }
+        requires clean { IsTrue is_clean → AreAllowed line.now }
         ensures judges { Lifts K.holds (JudgesAs line.now (as_record L.as_record (judged_as L.LEN L.reading line.now))) self.old result self.new }
         ensures short { OnOk result (length line.now ≤ LONGEST_LINE) }
         ensures same_part { IsSamePart self.old self.new }
@@ -140,7 +142,7 @@ impl<K: Keeper> LoaderInto<K> {
         ensures one_more { OnOk result (total self.new.counts ≡ total self.old.counts + 1) }
         ensures no_device { IfErr result IsNotDevice }
     {
-        match judge_line::<L>(line) {
+        match judge_line::<L>(line, is_clean) {
             Ok(found) => self.add(found),
             Err(fault) => Err(fault.at(self.parts + 1, self.judged + 1)),
         }
@@ -158,10 +160,12 @@ impl<K: Keeper> LoaderInto<K> {
         Err(LineFault::UnknownType.at(self.parts + 1, self.judged + 1))
     }
 
-    /// Judges the next line, which has neither LF nor the CR before it, by its first byte.
+    /// Judges the next line, which has neither LF nor the CR before it, by its first byte. Whether a line may hold each of its
+    /// bytes may be known already.
     #[tactic(auto, unfolding(crate::specs::Choice::judged, crate::specs::Choice::judged_by))]
-    fn judge_next(&mut self, line: &[u8]) -> Result<(), LoadFault>
-        requires { self.old.parts < u64.MAX }
+    fn judge_next(&mut self, line: &[u8], is_clean: bool) -> Result<(), LoadFault>
+        requires room { self.old.parts < u64.MAX }
+        requires clean { IsTrue is_clean → AreAllowed line.now }
         ensures judges { Lifts K.holds (Judges line.now) self.old result self.new }
         ensures short { OnOk result (length line.now ≤ LONGEST_LINE) }
         ensures same_part { IsSamePart self.old self.new }
@@ -171,15 +175,15 @@ impl<K: Keeper> LoaderInto<K> {
         ensures no_device { IfErr result IsNotDevice }
     {
         match line {
-            [b'1', ..] => self.judge_as::<Rec1>(line),
-            [b'2', ..] => self.judge_as::<Rec2>(line),
-            [b'4', ..] => self.judge_as::<Rec4>(line),
-            [b'5', ..] => self.judge_as::<Rec5>(line),
-            [b'6', ..] => self.judge_as::<Rec6>(line),
-            [b'7', ..] => self.judge_as::<Rec7>(line),
-            [b'8', ..] => self.judge_as::<Rec8>(line),
-            [b'I', ..] => self.judge_as::<RecI>(line),
-            [b'P', ..] => self.judge_as::<RecP>(line),
+            [b'1', ..] => self.judge_as::<Rec1>(line, is_clean),
+            [b'2', ..] => self.judge_as::<Rec2>(line, is_clean),
+            [b'4', ..] => self.judge_as::<Rec4>(line, is_clean),
+            [b'5', ..] => self.judge_as::<Rec5>(line, is_clean),
+            [b'6', ..] => self.judge_as::<Rec6>(line, is_clean),
+            [b'7', ..] => self.judge_as::<Rec7>(line, is_clean),
+            [b'8', ..] => self.judge_as::<Rec8>(line, is_clean),
+            [b'I', ..] => self.judge_as::<RecI>(line, is_clean),
+            [b'P', ..] => self.judge_as::<RecP>(line, is_clean),
             _ => self.refuse_unknown(line),
         }
     }
@@ -197,7 +201,7 @@ impl<K: Keeper> LoaderInto<K> {
         let mut line = self.line.take();
         let rest = LINE_BYTES - line.len();
         let _ = line.try_extend_from_slice(&bytes[..rest]);
-        self.judge_next(line.as_slice())
+        self.judge_next(line.as_slice(), false)
     }
 
     /// Keeps bytes of a line that no LF has ended yet.
@@ -226,20 +230,22 @@ impl<K: Keeper> LoaderInto<K> {
         ensures no_device { IfErr result IsNotDevice }
     {
         let line = self.line.take();
-        self.judge_next(without_carriage_return(line.as_slice()))
+        self.judge_next(without_carriage_return(line.as_slice()), false)
     }
 
-    /// Takes the bytes before an LF, and the LF. They are judged where they lie, unless a line was begun.
-    fn end_line(&mut self, bytes: &[u8]) -> Result<(), LoadFault>
+    /// Takes the bytes before an LF, which may be known to be clean, and the LF. They are judged where they lie, unless a line was
+    /// begun.
+    fn end_line(&mut self, bytes: &[u8], is_clean: bool) -> Result<(), LoadFault>
         requires room { self.old.parts < u64.MAX }
         requires no_feed { IsWithoutLineFeed bytes.now }
+        requires clean { IsTrue is_clean → AreAllowed bytes.now }
         ensures takes { Lifts K.holds (Takes (bytes.now ++ 10 ∷ [])) self.old result self.new }
         ensures same_part { IsSamePart self.old self.new }
         ensures used { OnOk result (bytes_used self.old + length bytes.now + 1 ≤ bytes_used self.new) }
         ensures no_device { IfErr result IsNotDevice }
     {
         if self.line.is_empty() {
-            return self.judge_next(without_carriage_return(bytes));
+            return self.judge_next(without_carriage_return(bytes), is_clean);
         }
         self.hold(bytes)?;
         self.end_held_line()
@@ -258,9 +264,9 @@ impl<K: Keeper> LoaderInto<K> {
         // From here on the loader's invariant is known: no LF stands in what is unfinished.
         let _ = &self.line;
         let mut rest = piece;
-        while let Some(end) = memchr(b'\n', rest) {
-            let (line, more) = rest.split_at(end);
-            self.end_line(line)?;
+        while let Some(end) = line_end(rest) {
+            let (line, more) = rest.split_at(end.place);
+            self.end_line(line, end.is_clean)?;
             rest = &more[1..];
         }
         self.hold(rest)
@@ -277,7 +283,7 @@ impl<K: Keeper> LoaderInto<K> {
             return Ok(());
         }
         let tail = self.line.take();
-        self.judge_next(without_carriage_return(tail.as_slice()))
+        self.judge_next(without_carriage_return(tail.as_slice()), false)
     }
 
     /// Ends the open part, and opens the next one.

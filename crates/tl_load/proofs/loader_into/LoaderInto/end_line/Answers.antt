@@ -1,10 +1,11 @@
 use Rattle.std.proofs.Common.{◌≡◌, ◌≤◌, ◌+◌, ◌*◌, ℕ, Result, Ok, Err, List, [], ◌∷◌, ◌++◌, length, refl, sym, ap, subst, ◌∙◌, arith}
 use Rattle.std.specs.Prelude.{OnOk}
 use Rattle.std.proofs.lemmas.Result.{err_from_is_err_and}
+use Rattle.tl_layout.specs.Bytes.{AreAllowed}
 use Rattle.tl_load.specs.Lines.{IsWithoutLineFeed, without_return}
 use Rattle.tl_load.specs.declared.fault.LoadFault.{LoadFault}
 use Rattle.tl_load.specs.Keeping.{seen, total}
-use Rattle.tl_load.proofs.LineLemmas.{without_return_length}
+use Rattle.tl_load.proofs.LineLemmas.{clean_without_return, without_return_length}
 use Rattle.tl_load.proofs.Steps.{ends_line, takes_then, fault_then}
 use Rattle.tl_load.proofs.Views.{empty_is}
 use Rattle.tl_load.proofs.loader_into.LoaderInto.end_line.Goals as goal
@@ -15,6 +16,10 @@ line_used : {T : Type 0} (r : Result T LoadFault) (line bytes was now open_was :
     → bytes ≤ line + 1 → open_was ≡ 0 → (open_now : ℕ) → OnOk r (230 * was + open_was + bytes + 1 ≤ 230 * now + open_now)
 line_used (Ok x) line bytes was now open_was short one dropped none open_now = omega arith
 line_used (Err f) line bytes was now open_was short one dropped none open_now = tt
+
+pub judge_next-requires-clause-clean : goal.judge_next-requires-clause-clean
+judge_next-requires-clause-clean g c = λ clean.
+    subst AreAllowed (sym c.without_carriage_return.ensures) (clean_without_return c.args.bytes.now (c.requires.clean clean))
 
 pub returns-then-is_empty-clause-takes : goal.returns-then-is_empty-clause-takes
 returns-then-is_empty-clause-takes g c = λ records kept.

@@ -2,13 +2,14 @@ use Rattle.std.proofs.Common.{◌≡◌, ℕ, ◌+◌, ◌-◌, List, ◌∷◌,
 use Rattle.std.specs.Prelude.{Option, Some, None, MatchOption}
 use Rattle.std.proofs.lemmas.Result.{err_from_is_err_and}
 use Rattle.std.proofs.lemmas.List.{length-append}
+use Rattle.tl_layout.specs.Bytes.{AreAllowed}
 use Rattle.tl_load.specs.Lines.{IsWithoutLineFeed}
 use Rattle.tl_load.specs.Keeping.{seen}
 use Rattle.tl_load.proofs.Steps.{leaves_all, leaves_after, leaves_fault, leaves_taken}
-use Rattle.tl_load.proofs.Views.{no_feed, no_feed_below, cut_at, rest_of}
+use Rattle.tl_load.proofs.Views.{rest_of}
 use Rattle.tl_load.proofs.loader_into.LoaderInto.take_piece.Goals as goal
 
-none_by : (P : Type 0) (Q : ℕ → Type 0) (o : Option ℕ) → ((k : ℕ) → o ≡ Some k → ⊥) → MatchOption o P Q → P
+none_by : {A : Type 0} (P : Type 0) (Q : A → Type 0) (o : Option A) → ((x : A) → o ≡ Some x → ⊥) → MatchOption o P Q → P
 none_by P Q None h m = m
 none_by P Q (Some k) h m = absurd (h k refl)
 
@@ -23,16 +24,15 @@ loop-end-init g c =
 
 pub end_line-requires-clause-no_feed : goal.end_line-requires-clause-no_feed
 end_line-requires-clause-no_feed g c =
-    let at = c.in-Some.ensures in
-    subst IsWithoutLineFeed (sym c.split_at.ensures.front)
-    (no_feed_below c.loop-end.rest.now c.in-Some.end (omega (arith, at.0.high)) at.0.before)
+    subst IsWithoutLineFeed (sym c.split_at.ensures.front) c.in-Some.ensures.first
+
+pub end_line-requires-clause-clean : goal.end_line-requires-clause-clean
+end_line-requires-clause-clean g c = λ clean. subst AreAllowed (sym c.split_at.ensures.front) (c.in-Some.ensures.clean clean)
 
 pub returns-in_err-end_line-clause-takes : goal.returns-in_err-end_line-clause-takes
 returns-in_err-end_line-clause-takes g c =
-    let at = c.in-Some.ensures in
-    let left = drop 1 (drop c.in-Some.end c.loop-end.rest.now) in
-    let cut = cut_at c.loop-end.rest.now c.in-Some.end at.0.high at.1 in
-    let split : c.loop-end.rest.now ≡ c.split_at.result.0.now ++ 10 ∷ left = cut
+    let left = drop 1 (drop c.in-Some.end.place c.loop-end.rest.now) in
+    let split : c.loop-end.rest.now ≡ c.split_at.result.0.now ++ 10 ∷ left = c.in-Some.ensures.cut
     ∙ ap (λ (l : List ℕ). l ++ 10 ∷ left) (sym c.split_at.ensures.front) in
     let p = err_from_is_err_and c.from_residual.result c.from_residual.ensures.1 in
     rw (p.1, p.2) (λ records kept.
@@ -46,10 +46,8 @@ returns-in_err-end_line-clause-takes g c =
 
 pub loop-end-preserved : goal.loop-end-preserved
 loop-end-preserved g c =
-    let at = c.in-Some.ensures in
-    let left = drop 1 (drop c.in-Some.end c.loop-end.rest.now) in
-    let cut = cut_at c.loop-end.rest.now c.in-Some.end at.0.high at.1 in
-    let split : c.loop-end.rest.now ≡ c.split_at.result.0.now ++ 10 ∷ left = cut
+    let left = drop 1 (drop c.in-Some.end.place c.loop-end.rest.now) in
+    let split : c.loop-end.rest.now ≡ c.split_at.result.0.now ++ 10 ∷ left = c.in-Some.ensures.cut
     ∙ ap (λ (l : List ℕ). l ++ 10 ∷ left) (sym c.split_at.ensures.front) in
     let rest : take (length c.split_at.result.1.now - 1) (drop 1 c.split_at.result.1.now) ≡ left = rest_of c.split_at.result.1.now
     ∙ ap (λ (l : List ℕ). drop 1 l) c.split_at.ensures.back in
@@ -70,7 +68,7 @@ loop-end-preserved g c =
     })
 
 pub hold-requires-clause-no_feed : goal.hold-requires-clause-no_feed
-hold-requires-clause-no_feed g c = no_feed c.loop-end.rest.now (none_by _ _ c.memchr.result c.in_default.not-Some c.memchr.ensures)
+hold-requires-clause-no_feed g c = none_by _ _ c.line_end.result c.in_default.not-Some c.line_end.ensures
 
 pub returns-clause-takes : goal.returns-clause-takes
 returns-clause-takes g c = λ records kept.
