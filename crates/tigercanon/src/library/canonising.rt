@@ -57,6 +57,24 @@ pub(crate) fn canonise_admitted<C: Chart + Drop>(
     Ok(canon)
 }
 
+/// A county of so many chains is large: room for its text is made ahead.
+const MANY_CHAINS: usize = 1024;
+
+/// So many bytes a chain the text of a county with all record types has at the most, nearly always.
+const BYTES_A_CHAIN: usize = 512;
+
+/// An empty text, with room for that of a county of so many chains, if that is much. Room that is never written to takes no memory,
+/// and where it isn't found the text grows as any other.
+fn text_with_room(alloc: Global, chains: usize) -> Vec<u8>
+    ensures { result.items ≡ [] }
+{
+    let mut text = Vec::new(alloc);
+    if chains >= MANY_CHAINS {
+        let _ = text.reserve(chains.saturating_mul(BYTES_A_CHAIN));
+    }
+    text
+}
+
 /// The text of a canonical county, in memory.
 pub(crate) fn text_in_memory<C: Chart>(
     alloc: Global,
@@ -65,7 +83,7 @@ pub(crate) fn text_in_memory<C: Chart>(
     ensures text { IfOk result (λ text. text.items ≡ text_of (packed (arranged_county county.now))) }
     ensures memory { IfErr result (λ fault. fault ≡ Fault.Memory) }
 {
-    let mut sink = CountedOut::new(Vec::new(alloc));
+    let mut sink = CountedOut::new(text_with_room(alloc, county.chain_count()));
     match write_to(county, &mut sink) {
         Ok(_) => Ok(sink.into_inner()),
         // A vector fails only where it can't grow.
