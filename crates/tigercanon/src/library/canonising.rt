@@ -1,7 +1,7 @@
 //! A county put into canonical form, its text in memory, and the renaming onto it.
 
 ghost use Rattle.tl_number.specs.Views.{arranged_county, source_of};
-ghost use Rattle.std.specs.Prelude.{◌≡◌, ℕ, List, IfOk, IfErr};
+ghost use Rattle.std.specs.Prelude.{◌≡◌, ℕ, List, [], IfOk, IfErr};
 ghost use Rattle.tigercanon.specs.Sets.{IsCanonSetThrough, IsSeenSet};
 ghost use Rattle.tl_county.specs.County.{County};
 ghost use Rattle.tl_county.specs.Packing.{packed};
