@@ -77,6 +77,7 @@ fn minus(magnitude: Option<u32>) -> Coordinate
 }
 
 /// What a coordinate's field holds, whose magnitude may be up to the limit.
+#[inline(never)]
 #[tactic(auto, unfolding(crate::specs::CoordinateReading::coordinate_of, crate::specs::CoordinateReading::signed_of))]
 fn read_coordinate(field: &[u8], limit: u32) -> Coordinate
     requires len { length field.now ≤ 19 }

@@ -10,6 +10,7 @@ use crate::digits::{put_behind, put_eight_columns, put_eight_digits};
 use std::simd::prelude::*;
 
 /// What is left of a field behind the blanks in front.
+#[inline(never)]
 pub fn trim_start(field: &[u8]) -> &[u8]
     ensures value { result.now ≡ drop_blanks field.now }
     ensures len { length result.now ≤ length field.now }
@@ -105,6 +106,7 @@ fn usual_number(field: &[u8]) -> Option<u64>
 }
 
 /// The number of digits that nothing but blanks may follow.
+#[inline(never)]
 #[tactic(auto, using(crate::proofs::NumberLemmas::stepping), unfolding(crate::specs::NumberReading::number_after))]
 pub fn digits(field: &[u8]) -> Option<u64>
     requires { length field.now ≤ 19 }

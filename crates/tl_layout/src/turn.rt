@@ -30,11 +30,14 @@ impl<const N: usize> LeftRight<N> {
     }
 }
 
+// What turns isn't inlined: the room that an exchange needs is cleared when a function begins, and most values aren't turned.
+
 /// The address at the left start changes places with the one at the right end, and the one at the left end with the one at
 /// the right start; so do their flags. The two postal codes change places.
 impl Turn for Ranges {
     ghost turned = { turned_ranges };
 
+    #[inline(never)]
     fn turn(&mut self) {
         swap(&mut self.fraddl, &mut self.toaddr);
         swap(&mut self.toaddl, &mut self.fraddr);
@@ -76,6 +79,7 @@ impl GeographicEntities {
 impl Turn for Body1 {
     ghost turned = { turned_body };
 
+    #[inline(never)]
     fn turn(&mut self) {
         self.ranges.turn();
         self.native_areas.exchange();

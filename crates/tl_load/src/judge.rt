@@ -1,6 +1,6 @@
 //! What a line is judged as.
 
-ghost use Rattle.std.specs.Prelude.{◌≡◌, ◌≤◌, [], ◌∷◌, take, length, replicate, not, position, IsTrue};
+ghost use Rattle.std.specs.Prelude.{◌≡◌, ◌≤◌, ◌<◌, [], ◌∷◌, take, length, replicate, not, position, IsTrue};
 ghost use Rattle.tl_layout.specs.Bytes.{AreAllowed, IsLine, is_allowed};
 ghost use Rattle.tl_load.specs.LineOf.{filled, judged_as, judged_full};
 
@@ -8,8 +8,7 @@ use crate::bytes::first_bad;
 use crate::fault::LineFault;
 use tl_layout::{LONGEST_LINE, Layout};
 
-/// The record of a line that begins with the layout's type, or its fault. The line has neither LF nor the CR before it;
-/// a short one is filled with blanks. Its bytes are tested, unless each is known to be one that a line may hold.
+/// The record of a line that begins with the layout's type, or its fault. The line has neither LF nor the CR before it. Its bytes are tested, unless each is known to be one that a line may hold.
 #[tactic(auto, unfolding(crate::specs::LineOf::judged_as))]
 pub(crate) fn judge_line<L: Layout>(line: &[u8], is_clean: bool) -> Result<L, LineFault>
     requires begins { take 1 line.now ≡ L.RTYPE ∷ [] }
@@ -23,6 +22,18 @@ pub(crate) fn judge_line<L: Layout>(line: &[u8], is_clean: bool) -> Result<L, Li
     if len == L::LEN {
         return judge_full::<L>(line, is_clean);
     }
+    judge_short::<L>(line)
+}
+
+/// The record of a line that is shorter than its layout and begins with its type, or its fault: it is filled with blanks. It isn't
+/// inlined, since the room for the filled line is cleared when a function begins, and most lines are full.
+#[inline(never)]
+#[tactic(auto, unfolding(crate::specs::LineOf::judged_as))]
+fn judge_short<L: Layout>(line: &[u8]) -> Result<L, LineFault>
+    requires begins { take 1 line.now ≡ L.RTYPE ∷ [] }
+    requires short { length line.now < L.LEN }
+    ensures { result ≡ judged_as L.LEN L.reading line.now }
+{
     let filled = fill(line);
     judge_full::<L>(&filled[..L::LEN], false)
 }
