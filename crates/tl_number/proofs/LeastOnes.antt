@@ -24,7 +24,7 @@ use Rattle.tl_number.specs.NumberedChoices.{moved}
 use Rattle.tl_number.specs.RecordOrder.{records_cmp}
 use Rattle.tl_number.specs.Canonical.{IsNotAfter}
 use Rattle.tl_number.specs.Tidy.{numbered_choice}
-use Rattle.tl_number.specs.TypeOneOrder.{IsLeastFrom, IsLeastOne, ones_cmp}
+use Rattle.tl_number.specs.TypeOneOrder.{IsLeastFrom, IsLeastOne, ones_cmp, ones_of}
 use Rattle.tl_number.specs.ViewFacts.{AreWhole}
 use Rattle.tl_number.proofs.ArrangedCounties.{arranged_county}
 use Rattle.tl_number.proofs.ArrangedNumbers.{arrangement_within}
@@ -34,10 +34,9 @@ use Rattle.tl_number.proofs.Choosing.{one_more}
 use Rattle.tl_number.proofs.LeastNumbers.{choices_same}
 use Rattle.tl_number.proofs.TidyChoices.{numbered_is_choice}
 use Rattle.tl_number.proofs.TidyLists.{not_after_itself}
-use Rattle.tl_number.proofs.TypeOnes.{ones_of}
 use Rattle.tl_number.proofs.TypeOrders.{texts_in_order}
 
-records_total : IsTotalOrder records_cmp
+pub records_total : IsTotalOrder records_cmp
 records_total = lists_total (on_total spelling_of nat_list_cmp_total)
 
 less_from_others : (o : Ordering) → is_gt o ≡ false → is_eq o ≡ false → o ≡ Less
@@ -50,6 +49,16 @@ greater_from Less e = absurd (false≢true (sym e))
 greater_from Equal e = absurd (false≢true (sym e))
 greater_from Greater e = refl
 
+pub not_greater_from : (o : Ordering) → is_le o ≡ true → is_gt o ≡ false
+not_greater_from Less e = refl
+not_greater_from Equal e = refl
+not_greater_from Greater e = absurd (false≢true e)
+
+pub equal_from : (o : Ordering) → is_eq o ≡ true → o ≡ Equal
+equal_from Less e = absurd (false≢true e)
+equal_from Equal e = refl
+equal_from Greater e = absurd (false≢true e)
+
 then_less : (o p q : Ordering) → o ≡ Less → is_gt (ordering_then (ordering_then o p) q) ≡ false
 then_less o p q e = ap (λ r. is_gt (ordering_then (ordering_then r p) q)) e
 
@@ -59,6 +68,16 @@ module _ (county : County) where
 
   one_itself : (n : ℕ) → is_gt (ones_cmp county n n) ≡ false
   one_itself n = ap is_gt (tied_itself records_total (ones_at n))
+
+  -- two numbers whose records of type 1 are spelt as those of a third one
+  pub both_tied : (first n m : ℕ) → ones_cmp county first n ≡ Equal → ones_cmp county first m ≡ Equal → ones_cmp county n m ≡ Equal
+  both_tied first n m e f = sym (records_total.congr (ones_at first) (ones_at n) (ones_at m) e) ∙ f
+
+  pub tied_along : (first n m : ℕ) → ones_cmp county first n ≡ Equal → ones_cmp county n m ≡ Equal → ones_cmp county first m ≡ Equal
+  tied_along first n m e f = records_total.congr (ones_at first) (ones_at n) (ones_at m) e ∙ f
+
+  pub tied_with_itself : (n : ℕ) → ones_cmp county n n ≡ Equal
+  tied_with_itself n = tied_itself records_total (ones_at n)
 
   pub first_one : IsLeastOne county 1 0
   first_one = one_more records_total ones_at 0 0 (λ m below. absurd (omega (arith, below))) (one_itself 0)
