@@ -2,10 +2,8 @@
 use Rattle.std.proofs.Common.{◌≡◌, ◌<◌, ◌≤◌, ◌+◌, ℕ, suc, nat_lt, List, Bool, true, false, Ordering, Less, Equal, Greater}
 use Rattle.std.proofs.Common.{is_eq, is_gt, map, sym, refl, ap, ◌∙◌, subst, arith}
 use Rattle.std.proofs.lemmas.Bool.{ltb-true, ltb-false, false≢true}
-use Rattle.std.proofs.lemmas.Cmp.{lists_total, nat_list_cmp_total, on_total, tied_itself, upto}
-use Rattle.std.specs.Cmp.{IsTotalOrder}
+use Rattle.std.proofs.lemmas.Cmp.{tied_itself, upto}
 use Rattle.std.specs.Ordering.{is_le, ordering_then}
-use Rattle.tl_layout.specs.RecordText.{spelling_of}
 use Rattle.tl_layout.specs.declared.record_type.Record.{Record}
 use Rattle.tl_county.specs.County.{County}
 use Rattle.tl_county.specs.CountyRules.{IsCounty, polygon_keys, polygons_along, AllKeysStandIn}
@@ -21,7 +19,6 @@ use Rattle.tl_number.specs.Arrangement.{arranged}
 use Rattle.tl_number.specs.LeastNumber.{choice_list}
 use Rattle.tl_number.specs.MovedSteps.{other_way}
 use Rattle.tl_number.specs.NumberedChoices.{moved}
-use Rattle.tl_number.specs.RecordOrder.{records_cmp}
 use Rattle.tl_number.specs.Canonical.{IsNotAfter}
 use Rattle.tl_number.specs.Tidy.{numbered_choice}
 use Rattle.tl_number.specs.TypeOneOrder.{IsLeastFrom, IsLeastOne, ones_cmp, ones_of}
@@ -31,13 +28,11 @@ use Rattle.tl_number.proofs.ArrangedNumbers.{arrangement_within}
 use Rattle.tl_number.proofs.ArrangedViews.{whole_steps}
 use Rattle.tl_number.proofs.ChosenSteps.{steps_of_number_there, steps_of_number_once}
 use Rattle.tl_number.proofs.Choosing.{one_more}
+use Rattle.tl_number.proofs.GroupOrders.{records_total}
 use Rattle.tl_number.proofs.LeastNumbers.{choices_same}
 use Rattle.tl_number.proofs.TidyChoices.{numbered_is_choice}
 use Rattle.tl_number.proofs.TidyLists.{not_after_itself}
 use Rattle.tl_number.proofs.TypeOrders.{texts_in_order}
-
-pub records_total : IsTotalOrder records_cmp
-records_total = lists_total (on_total spelling_of nat_list_cmp_total)
 
 less_from_others : (o : Ordering) → is_gt o ≡ false → is_eq o ≡ false → o ≡ Less
 less_from_others Less e f = refl

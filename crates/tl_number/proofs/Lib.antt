@@ -63,6 +63,7 @@ pub mod CanonLists
 pub mod MovedChoice
 pub mod KeptPlaces
 pub mod TiedOnes
+pub mod SameShapes
 pub mod LinkOrder
 pub mod ChosenSteps
 pub mod LeastNumbers

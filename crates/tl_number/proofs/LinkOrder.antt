@@ -26,7 +26,7 @@ use Rattle.tl_number.specs.Steps.{arrangement_of, step_chain}
 use Rattle.tl_number.specs.ViewFacts.{AreWhole, stepped}
 use Rattle.tl_number.proofs.Carrying.{chains_arranged}
 use Rattle.tl_number.proofs.KeptPlaces.{same_everywhere}
-use Rattle.tl_number.proofs.LeastOnes.{records_total}
+use Rattle.tl_number.proofs.GroupOrders.{records_total}
 use Rattle.tl_number.proofs.PackedGroups.{is}
 use Rattle.tl_number.proofs.SameNumbers.{kept_entry}
 use Rattle.tl_number.proofs.TiedOnes.{all_tied}

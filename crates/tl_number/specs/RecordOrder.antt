@@ -37,14 +37,10 @@ AreTiedBelow end rs ss = (place : ℕ) → place < end → AreTiedAt rs ss place
 abbrev pub links_of : County → List Record
 links_of county = map I (grouped (type_i_by_chain county))
 
--- two counties by their records of types 2 and 4, of which the first type that differs decides
-abbrev pub types_2_and_4_cmp : County → County → Ordering
-types_2_and_4_cmp a b =
-    ordering_then (groups_cmp Two (type_2_by_chain a) (type_2_by_chain b)) (groups_cmp Four (type_4_by_chain a) (type_4_by_chain b))
-
--- by those of type 1, and then by these
+-- two counties by their records of types 1, 2 and 4, of which the first type that differs decides
 abbrev pub types_1_to_4_cmp : County → County → Ordering
-types_1_to_4_cmp a b = ordering_then (groups_cmp One (type_1_by_chain a) (type_1_by_chain b)) (types_2_and_4_cmp a b)
+types_1_to_4_cmp a b = ordering_then (groups_cmp One (type_1_by_chain a) (type_1_by_chain b))
+    (ordering_then (groups_cmp Two (type_2_by_chain a) (type_2_by_chain b)) (groups_cmp Four (type_4_by_chain a) (type_4_by_chain b)))
 
 -- by those of types 5, 6 and 7
 abbrev pub types_5_to_7_cmp : County → County → Ordering

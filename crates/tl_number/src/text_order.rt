@@ -1,36 +1,29 @@
-//! Which of two arrangements of a county whose records of type 1 are spelt alike has the lesser text.
+//! Which of two arrangements of a county that have the same records of types 1 and 2 has the lesser text.
 
 ghost use Rattle.std.specs.Prelude.{◌≡◌};
 ghost use Rattle.std.specs.Cmp.Lexicographic.{slice_cmp};
 ghost use Rattle.std.specs.Ordering.{nat_cmp};
 ghost use Rattle.std.specs.declared.cmp.Ordering.TheVariants.{Equal};
 ghost use Rattle.tl_layout.specs.RecordText.{text_of};
-ghost use Rattle.tl_layout.specs.declared.record_type.Record.TheVariants.{One};
+ghost use Rattle.tl_layout.specs.declared.record_type.Record.TheVariants.{Four, One};
 ghost use Rattle.tl_county.specs.Packing.{packed};
 ghost use Rattle.tl_county.specs.Renumbering.{AreSame};
-ghost use Rattle.tl_number.specs.CountyGroups.{type_1_by_chain};
-ghost use Rattle.tl_number.specs.RecordOrder.{groups_cmp, types_2_and_4_cmp, types_5_to_7_cmp, types_8_to_p_cmp};
+ghost use Rattle.tl_number.specs.CountyGroups.{type_1_by_chain, type_2_by_chain, type_4_by_chain};
+ghost use Rattle.tl_number.specs.RecordOrder.{groups_cmp, types_5_to_7_cmp, types_8_to_p_cmp};
 ghost use Rattle.tl_number.specs.Views.{arranged_county};
 
 use crate::arranged::{Arranged, Standing};
-use crate::chain_records::{FurtherNameRecords, RangeRecords, ShapePointRecords};
+use crate::chain_records::{FurtherNameRecords, RangeRecords};
 use crate::group_order::compare_groups;
 use crate::name_records::{LandmarkLinkRecords, LandmarkRecords, NameRecords};
 use crate::type_i_and_p_order::{compare_links, compare_polygons};
 use std::cmp::Ordering;
 use tl_county::Chart;
 
-/// Compares two counties by their records of types 2 and 4.
-fn compare_types_2_and_4<A: Chart, B: Chart>(a: &A, b: &B) -> Ordering
-    ensures { result ≡ types_2_and_4_cmp (A.county a.now) (B.county b.now) }
+/// Compares two counties by their records of type 4.
+fn compare_further_names<A: Chart, B: Chart>(a: &A, b: &B) -> Ordering
+    ensures { result ≡ groups_cmp Four (type_4_by_chain (A.county a.now)) (type_4_by_chain (B.county b.now)) }
 {
-    match compare_groups(
-        &ShapePointRecords { chart: a },
-        &ShapePointRecords { chart: b },
-    ) {
-        Ordering::Equal => {}
-        unequal => return unequal,
-    }
     compare_groups(
         &FurtherNameRecords { chart: a },
         &FurtherNameRecords { chart: b },
@@ -74,8 +67,8 @@ fn compare_types_8_to_p<A: Chart, R: Standing, B: Chart, S: Standing>(
     compare_polygons(a, b)
 }
 
-/// Which of two arrangements of a county whose records of type 1 are spelt alike has the lesser text. No text is made, and no memory is
-/// taken.
+/// Which of two arrangements of a county has the lesser text, where their records of type 1 are spelt alike and those of type 2 are the
+/// same. No text is made, and no memory is taken.
 pub(crate) fn compare_texts<A: Chart, R: Standing, B: Chart, S: Standing>(
     a: &Arranged<A, R>,
     b: &Arranged<B, S>,
@@ -83,9 +76,10 @@ pub(crate) fn compare_texts<A: Chart, R: Standing, B: Chart, S: Standing>(
     requires county { A.county a.now.chart ≡ B.county b.now.chart }
     requires same { AreSame (arranged_county a.now) (arranged_county b.now) }
     requires ones { groups_cmp One (type_1_by_chain (arranged_county a.now)) (type_1_by_chain (arranged_county b.now)) ≡ Equal }
+    requires twos { type_2_by_chain (arranged_county a.now) ≡ type_2_by_chain (arranged_county b.now) }
     ensures { result ≡ slice_cmp nat_cmp (text_of (packed (arranged_county a.now))) (text_of (packed (arranged_county b.now))) }
 {
-    match compare_types_2_and_4(a, b) {
+    match compare_further_names(a, b) {
         Ordering::Equal => {}
         unequal => return unequal,
     }

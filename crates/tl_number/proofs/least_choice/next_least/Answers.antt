@@ -1,8 +1,8 @@
-use Rattle.std.proofs.Common.{◌≡◌, ◌∙◌, Equal, is_gt, ap₂, sym, subst}
+use Rattle.std.proofs.Common.{◌≡◌, ◌∙◌, Equal, is_gt, ap, ap₂, sym, subst}
 use Rattle.tl_layout.specs.declared.record_type.Record.TheVariants.{One}
 use Rattle.tl_county.specs.Renumbering.{AreSame}
 use Rattle.tl_number.specs.Arrangement.{arranged}
-use Rattle.tl_number.specs.CountyGroups.{type_1_by_chain}
+use Rattle.tl_number.specs.CountyGroups.{type_1_by_chain, type_2_by_chain}
 use Rattle.tl_number.specs.LeastNumber.{choice_list}
 use Rattle.tl_number.specs.Canonical.{IsNotAfter}
 use Rattle.tl_number.specs.RecordOrder.{groups_cmp}
@@ -11,11 +11,19 @@ use Rattle.tl_number.specs.TypeOneOrder.{ones_cmp}
 use Rattle.tl_number.specs.Views.{arranged_county}
 use Rattle.tl_number.proofs.LeastNumbers.{choices_same, of_either, text_compared, told_of_either}
 use Rattle.tl_number.proofs.LeastOnes.{tied_with_itself}
+use Rattle.tl_number.proofs.SameShapes.{twos_of_numbers}
 use Rattle.tl_number.proofs.least_choice.next_least.Goals as goal
 
 pub compare_texts-ordering-requires-clause-ones : goal.compare_texts-ordering-requires-clause-ones
 compare_texts-ordering-requires-clause-ones g c =
     ap₂ (λ one other. groups_cmp One (type_1_by_chain one) (type_1_by_chain other)) c.requires.choice c.in-Ok.ensures.county ∙ c.requires.tied
+
+pub compare_texts-ordering-requires-clause-twos : goal.compare_texts-ordering-requires-clause-twos
+compare_texts-ordering-requires-clause-twos g c =
+    let county = g.C.Chart.county c.args.chart.now in
+    ap type_2_by_chain c.requires.choice
+    ∙ twos_of_numbers county (g.met.C.Chart.is_county c.args.chart.now) c.requires.sides c.args.least.number c.args.number
+    ∙ sym (ap type_2_by_chain c.in-Ok.ensures.county)
 
 pub compare_texts-ordering-requires-clause-county : goal.compare_texts-ordering-requires-clause-county
 compare_texts-ordering-requires-clause-county g c = c.requires.source ∙ sym c.in-Ok.ensures.source

@@ -1,6 +1,6 @@
 use Rattle.std.proofs.Common.{◌∙◌, sym, ap}
 use Rattle.std.specs.Ordering.{ordering_then}
-use Rattle.tl_number.specs.RecordOrder.{types_2_and_4_cmp, types_5_to_7_cmp, types_8_to_p_cmp}
+use Rattle.tl_number.specs.RecordOrder.{types_5_to_7_cmp, types_8_to_p_cmp}
 use Rattle.tl_number.specs.ViewFacts.{stepped}
 use Rattle.tl_number.proofs.GroupOrders.{decided}
 use Rattle.tl_number.proofs.TypeOrders.{tied_texts_in_order}
@@ -12,9 +12,9 @@ returns-in_default g c =
     let b = stepped (g.B.Chart.county c.args.b.now.chart) c.args.b.now.steps.items in
     let rest = ordering_then (types_5_to_7_cmp a b) (types_8_to_p_cmp a b) in
     sym (tied_texts_in_order a b c.args.a.now.whole.is_county c.args.b.now.whole.is_county c.args.a.now.whole.within_limits
-    c.args.b.now.whole.within_limits c.requires.same c.requires.ones
-    ∙ ap (λ o. ordering_then o rest) (sym c.compare_types_2_and_4.ensures)
-    ∙ decided c.compare_types_2_and_4.result rest c.in_default.not-Equal)
+    c.args.b.now.whole.within_limits c.requires.same c.requires.ones c.requires.twos
+    ∙ ap (λ o. ordering_then o rest) (sym c.compare_further_names.ensures)
+    ∙ decided c.compare_further_names.result rest c.in_default.not-Equal)
 
 pub returns-in_default-compare_types_5_to_7 : goal.returns-in_default-compare_types_5_to_7
 returns-in_default-compare_types_5_to_7 g c =
@@ -22,8 +22,8 @@ returns-in_default-compare_types_5_to_7 g c =
     let b = stepped (g.B.Chart.county c.args.b.now.chart) c.args.b.now.steps.items in
     let rest = ordering_then (types_5_to_7_cmp a b) (types_8_to_p_cmp a b) in
     sym (tied_texts_in_order a b c.args.a.now.whole.is_county c.args.b.now.whole.is_county c.args.a.now.whole.within_limits
-    c.args.b.now.whole.within_limits c.requires.same c.requires.ones
-    ∙ ap (λ o. ordering_then o rest) (sym c.compare_types_2_and_4.ensures ∙ c.in-Equal.is)
+    c.args.b.now.whole.within_limits c.requires.same c.requires.ones c.requires.twos
+    ∙ ap (λ o. ordering_then o rest) (sym c.compare_further_names.ensures ∙ c.in-Equal.is)
     ∙ ap (λ o. ordering_then o (types_8_to_p_cmp a b)) (sym c.compare_types_5_to_7.ensures)
     ∙ decided c.compare_types_5_to_7.result (types_8_to_p_cmp a b) c.in_default-compare_types_5_to_7.not-Equal)
 
@@ -33,7 +33,7 @@ returns g c =
     let b = stepped (g.B.Chart.county c.args.b.now.chart) c.args.b.now.steps.items in
     let rest = ordering_then (types_5_to_7_cmp a b) (types_8_to_p_cmp a b) in
     sym (tied_texts_in_order a b c.args.a.now.whole.is_county c.args.b.now.whole.is_county c.args.a.now.whole.within_limits
-    c.args.b.now.whole.within_limits c.requires.same c.requires.ones
-    ∙ ap (λ o. ordering_then o rest) (sym c.compare_types_2_and_4.ensures ∙ c.in-Equal.is)
+    c.args.b.now.whole.within_limits c.requires.same c.requires.ones c.requires.twos
+    ∙ ap (λ o. ordering_then o rest) (sym c.compare_further_names.ensures ∙ c.in-Equal.is)
     ∙ ap (λ o. ordering_then o (types_8_to_p_cmp a b)) (sym c.compare_types_5_to_7.ensures ∙ c.in-Equal-compare_types_5_to_7.is)
     ∙ sym c.compare_types_8_to_p.ensures)
