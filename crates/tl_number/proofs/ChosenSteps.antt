@@ -17,13 +17,14 @@ use Rattle.tl_profile.specs.declared.chain_walk.ChainWalk.{ChainWalk}
 use Rattle.tl_profile.specs.declared.open_places.OpenPlace.{OpenPlace}
 use Rattle.tl_profile.proofs.CountedChoices.{alike_few}
 use Rattle.tl_number.specs.Arrangement.{arranged_tlids}
-use Rattle.tl_number.specs.MovedSteps.{AreWithin, other_way}
+use Rattle.tl_number.specs.MovedSteps.{AgreeApart, AreWithin, StandInOrder, other_way}
 use Rattle.tl_number.specs.NumberedChoices.{turned_by, stood, chosen, moved}
 use Rattle.tl_number.specs.Steps.{arrangement_of, AreSteps, tlid_at}
 use Rattle.tl_number.specs.Tidy.{step_shape, turned_step, numbered_choice}
 use Rattle.tl_number.specs.ViewFacts.{NamesEachOnce}
 use Rattle.tl_number.proofs.AscendingSteps.{steps_ascend, steps_there, walks_shapes}
 use Rattle.tl_number.proofs.Choosing.{all_insert}
+use Rattle.tl_number.proofs.KeptPlaces.{moved_apart, open_in_order}
 use Rattle.tl_number.proofs.MovedChoice.{moved_is}
 use Rattle.tl_number.proofs.TidyChoices.{numbered_is_choice, shapes_ascending, told_here}
 
@@ -101,6 +102,9 @@ module _ (county : County) (is : IsCounty county) (walks : List ChainWalk) (orde
       (open_within points_keys is_either_way (length walks) 0 (map (points_along county) walks)
       (let same = length-map walks (points_along county) in omega (arith, same)))
 
+  pub places_in_order : StandInOrder places
+  places_in_order = subst StandInOrder (sym there) (open_in_order points_cmp is_either_way 0 (map (points_along county) walks))
+
   keys_same : map (points_along county) walks ≡ map (step_shape county) (arrangement_of county walks)
   keys_same = walks_shapes county walks order ∙ sym (shapes_ascending county is)
       ∙ ap (map (step_shape county)) (sym (steps_ascend county walks order walks refl))
@@ -122,6 +126,10 @@ module _ (county : County) (is : IsCounty county) (walks : List ChainWalk) (orde
     pub steps_of_number_count : length steps ≡ length walks
     steps_of_number_count = ap length as_chosen
         ∙ chosen_count points_cmp is_either_way (points_along county) other_way walks n
+
+    -- which stay but for what moves at open places,
+    pub steps_of_number_apart : AgreeApart places steps walks
+    steps_of_number_apart = subst (λ moving. AgreeApart places moving walks) (sym told) (moved_apart other_way places walks n places_within)
 
     -- each of a chain that is there,
     pub steps_of_number_there : AreSteps county steps

@@ -1,11 +1,15 @@
 -- Records in groups that are compared one after the other.
 use Rattle.std.proofs.Common.{◌≡◌, ◌∙◌, List, [], ◌∷◌, map, Option, Some, None, Ordering, Less, Equal, Greater, sym, ap, ap₂, refl}
-use Rattle.std.proofs.lemmas.Cmp.{nat_list_cmp_total, tied_itself}
+use Rattle.std.proofs.lemmas.Cmp.{lists_total, nat_list_cmp_total, on_total, tied_itself}
+use Rattle.std.specs.Cmp.{IsTotalOrder}
 use Rattle.std.specs.Option.{MatchOption}
 use Rattle.std.specs.Ordering.{ordering_then}
 use Rattle.tl_layout.specs.RecordText.{spelling_of}
 use Rattle.tl_layout.specs.declared.record_type.Record.{Record}
 use Rattle.tl_number.specs.RecordOrder.{records_cmp, spelling_cmp}
+
+pub records_total : IsTotalOrder records_cmp
+records_total = lists_total (on_total spelling_of nat_list_cmp_total)
 
 -- a record and itself
 pub same_spelling : (r s : Record) → r ≡ s → Equal ≡ spelling_cmp r s

@@ -2,10 +2,8 @@
 use Rattle.std.proofs.Common.{◌≡◌, ◌<◌, ◌≤◌, ◌+◌, ℕ, suc, nat_lt, List, Bool, true, false, Ordering, Less, Equal, Greater}
 use Rattle.std.proofs.Common.{is_eq, is_gt, map, sym, refl, ap, ◌∙◌, subst, arith}
 use Rattle.std.proofs.lemmas.Bool.{ltb-true, ltb-false, false≢true}
-use Rattle.std.proofs.lemmas.Cmp.{lists_total, nat_list_cmp_total, on_total, tied_itself, upto}
-use Rattle.std.specs.Cmp.{IsTotalOrder}
+use Rattle.std.proofs.lemmas.Cmp.{tied_itself, upto}
 use Rattle.std.specs.Ordering.{is_le, ordering_then}
-use Rattle.tl_layout.specs.RecordText.{spelling_of}
 use Rattle.tl_layout.specs.declared.record_type.Record.{Record}
 use Rattle.tl_county.specs.County.{County}
 use Rattle.tl_county.specs.CountyRules.{IsCounty, polygon_keys, polygons_along, AllKeysStandIn}
@@ -21,24 +19,20 @@ use Rattle.tl_number.specs.Arrangement.{arranged}
 use Rattle.tl_number.specs.LeastNumber.{choice_list}
 use Rattle.tl_number.specs.MovedSteps.{other_way}
 use Rattle.tl_number.specs.NumberedChoices.{moved}
-use Rattle.tl_number.specs.RecordOrder.{records_cmp}
 use Rattle.tl_number.specs.Canonical.{IsNotAfter}
 use Rattle.tl_number.specs.Tidy.{numbered_choice}
-use Rattle.tl_number.specs.TypeOneOrder.{IsLeastFrom, IsLeastOne, ones_cmp}
+use Rattle.tl_number.specs.TypeOneOrder.{IsLeastFrom, IsLeastOne, ones_cmp, ones_of}
 use Rattle.tl_number.specs.ViewFacts.{AreWhole}
 use Rattle.tl_number.proofs.ArrangedCounties.{arranged_county}
 use Rattle.tl_number.proofs.ArrangedNumbers.{arrangement_within}
 use Rattle.tl_number.proofs.ArrangedViews.{whole_steps}
 use Rattle.tl_number.proofs.ChosenSteps.{steps_of_number_there, steps_of_number_once}
 use Rattle.tl_number.proofs.Choosing.{one_more}
+use Rattle.tl_number.proofs.GroupOrders.{records_total}
 use Rattle.tl_number.proofs.LeastNumbers.{choices_same}
 use Rattle.tl_number.proofs.TidyChoices.{numbered_is_choice}
 use Rattle.tl_number.proofs.TidyLists.{not_after_itself}
-use Rattle.tl_number.proofs.TypeOnes.{ones_of}
 use Rattle.tl_number.proofs.TypeOrders.{texts_in_order}
-
-records_total : IsTotalOrder records_cmp
-records_total = lists_total (on_total spelling_of nat_list_cmp_total)
 
 less_from_others : (o : Ordering) → is_gt o ≡ false → is_eq o ≡ false → o ≡ Less
 less_from_others Less e f = refl
@@ -50,6 +44,16 @@ greater_from Less e = absurd (false≢true (sym e))
 greater_from Equal e = absurd (false≢true (sym e))
 greater_from Greater e = refl
 
+pub not_greater_from : (o : Ordering) → is_le o ≡ true → is_gt o ≡ false
+not_greater_from Less e = refl
+not_greater_from Equal e = refl
+not_greater_from Greater e = absurd (false≢true e)
+
+pub equal_from : (o : Ordering) → is_eq o ≡ true → o ≡ Equal
+equal_from Less e = absurd (false≢true e)
+equal_from Equal e = refl
+equal_from Greater e = absurd (false≢true e)
+
 then_less : (o p q : Ordering) → o ≡ Less → is_gt (ordering_then (ordering_then o p) q) ≡ false
 then_less o p q e = ap (λ r. is_gt (ordering_then (ordering_then r p) q)) e
 
@@ -59,6 +63,16 @@ module _ (county : County) where
 
   one_itself : (n : ℕ) → is_gt (ones_cmp county n n) ≡ false
   one_itself n = ap is_gt (tied_itself records_total (ones_at n))
+
+  -- two numbers whose records of type 1 are spelt as those of a third one
+  pub both_tied : (first n m : ℕ) → ones_cmp county first n ≡ Equal → ones_cmp county first m ≡ Equal → ones_cmp county n m ≡ Equal
+  both_tied first n m e f = sym (records_total.congr (ones_at first) (ones_at n) (ones_at m) e) ∙ f
+
+  pub tied_along : (first n m : ℕ) → ones_cmp county first n ≡ Equal → ones_cmp county n m ≡ Equal → ones_cmp county first m ≡ Equal
+  tied_along first n m e f = records_total.congr (ones_at first) (ones_at n) (ones_at m) e ∙ f
+
+  pub tied_with_itself : (n : ℕ) → ones_cmp county n n ≡ Equal
+  tied_with_itself n = tied_itself records_total (ones_at n)
 
   pub first_one : IsLeastOne county 1 0
   first_one = one_more records_total ones_at 0 0 (λ m below. absurd (omega (arith, below))) (one_itself 0)

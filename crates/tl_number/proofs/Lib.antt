@@ -61,6 +61,10 @@ pub mod TidyLists
 pub mod OneChoice
 pub mod CanonLists
 pub mod MovedChoice
+pub mod KeptPlaces
+pub mod TiedOnes
+pub mod SameShapes
+pub mod LinkOrder
 pub mod ChosenSteps
 pub mod LeastNumbers
 pub mod TypeOnes

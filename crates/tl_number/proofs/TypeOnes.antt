@@ -25,7 +25,7 @@ use Rattle.tl_number.specs.CountyGroups.{type_1_by_chain}
 use Rattle.tl_number.specs.Groups.{grouped}
 use Rattle.tl_number.specs.RecordOrder.{spelling_cmp}
 use Rattle.tl_number.specs.Steps.{arrangement_of, step_chain, tlid_at}
-use Rattle.tl_number.specs.TypeOneOrder.{one_at}
+use Rattle.tl_number.specs.TypeOneOrder.{one_at, ones_of}
 use Rattle.tl_number.specs.ViewFacts.{AreWhole, stepped}
 use Rattle.tl_number.proofs.Carrying.{chains_arranged}
 use Rattle.tl_number.proofs.ChainPlaces.{chain_there}
@@ -68,15 +68,11 @@ step_there county is within step h =
     either true chain two = subst (λ n. 2 ≤ n) (sym (length-reverse chain.points)) two
     either false chain two = two
 
-numbered_at : {X : Type 0} (n : ℕ) (xs : List X) (i : ℕ) → slice_get (numbered_from n xs) i ≡ option_map (λ x. (n + i, x)) (slice_get xs i)
+pub numbered_at : {X : Type 0} (n : ℕ) (xs : List X) (i : ℕ) → slice_get (numbered_from n xs) i ≡ option_map (λ x. (n + i, x)) (slice_get xs i)
 numbered_at n [] i = refl
 numbered_at n (x ∷ xs) zero = ap (λ m. Some (m, x)) (let e : n ≡ n + zero = omega arith in e)
 numbered_at n (x ∷ xs) (suc i) = numbered_at (suc n) xs i
     ∙ ap (λ m. option_map (λ y. (m, y)) (slice_get xs i)) (let e : suc n + i ≡ n + suc i = omega arith in e)
-
--- the records of type 1 of a county
-abbrev pub ones_of : County → List Record
-ones_of county = map One (grouped (type_1_by_chain county))
 
 pub length-ones : (county : County) → length (ones_of county) ≡ length county.chains
 length-ones county = ap length (ones county) ∙ length-map (map packed_one county.chains) One ∙ length-map county.chains packed_one

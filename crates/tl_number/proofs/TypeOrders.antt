@@ -1,5 +1,6 @@
 -- Two packings with as many records of each type are in the order in which the first type that differs puts them.
-use Rattle.std.proofs.Common.{◌≡◌, ◌∙◌, ◌+◌, List, ◌++◌, length, map, length-append, nat_cmp, sym, ap, ap₂}
+use Rattle.std.proofs.Common.{◌≡◌, ◌∙◌, ◌+◌, List, ◌++◌, length, map, length-append, nat_cmp, Equal, sym, ap, ap₂}
+use Rattle.std.proofs.lemmas.Cmp.{tied_itself}
 use Rattle.std.proofs.lemmas.List.{length-map}
 use Rattle.std.specs.Cmp.Lexicographic.{slice_cmp}
 use Rattle.std.specs.Ordering.{ordering_then}
@@ -18,7 +19,8 @@ use Rattle.tl_number.specs.CountyGroups.{type_1_by_chain, type_2_by_chain, type_
 use Rattle.tl_number.specs.CountyGroups.{type_7_by_landmark, type_8_together, type_i_by_chain}
 use Rattle.tl_number.specs.CountyGroups.{types_1_to_4, types_5_to_7, types_8_to_p}
 use Rattle.tl_number.specs.Groups.{grouped}
-use Rattle.tl_number.specs.RecordOrder.{records_cmp, spelling_cmp, types_1_to_4_cmp, types_5_to_7_cmp, types_8_to_p_cmp}
+use Rattle.tl_number.specs.RecordOrder.{groups_cmp, records_cmp, spelling_cmp, types_1_to_4_cmp, types_5_to_7_cmp, types_8_to_p_cmp}
+use Rattle.tl_number.proofs.GroupOrders.{records_total}
 use Rattle.tl_number.proofs.PackedGroups.{all_groups, ones, twos, fours, fives, sixes, sevens, eights, is}
 use Rattle.tl_number.proofs.RecordTexts.{cmp-append, text_cmp}
 
@@ -81,3 +83,17 @@ texts_in_order a b is_a is_b within_a within_b same =
     text_cmp (packed a) (packed b) (packed-fits a is_a.whole within_a.contents within_a.numbers within_a.room)
     (packed-fits b is_b.whole within_b.contents within_b.numbers within_b.room)
     ∙ types_in_order a b (carried_many same.by a b same.carries)
+
+-- So, where their records of type 1 are spelt alike and those of type 2 are the same, those of the other types decide.
+pub tied_texts_in_order : (a b : County) → IsCounty a → IsCounty b → IsWithinLimits most_records a → IsWithinLimits most_records b → AreSame a b
+    → groups_cmp One (type_1_by_chain a) (type_1_by_chain b) ≡ Equal → type_2_by_chain a ≡ type_2_by_chain b
+    → slice_cmp nat_cmp (text_of (packed a)) (text_of (packed b))
+    ≡ ordering_then (groups_cmp Four (type_4_by_chain a) (type_4_by_chain b)) (ordering_then (types_5_to_7_cmp a b) (types_8_to_p_cmp a b))
+tied_texts_in_order a b is_a is_b within_a within_b same ones_tied twos_same =
+    let fours = groups_cmp Four (type_4_by_chain a) (type_4_by_chain b) in
+    let rest = ordering_then (types_5_to_7_cmp a b) (types_8_to_p_cmp a b) in
+    let twos_tied : groups_cmp Two (type_2_by_chain a) (type_2_by_chain b) ≡ Equal =
+    ap (λ groups. groups_cmp Two groups (type_2_by_chain b)) twos_same ∙ tied_itself records_total (map Two (grouped (type_2_by_chain b))) in
+    texts_in_order a b is_a is_b within_a within_b same
+    ∙ ap (λ o. ordering_then (ordering_then o (ordering_then (groups_cmp Two (type_2_by_chain a) (type_2_by_chain b)) fours)) rest) ones_tied
+    ∙ ap (λ o. ordering_then (ordering_then o fours) rest) twos_tied

@@ -1,5 +1,5 @@
--- Steps that are moved at the open places of the order of shapes.
-use Rattle.std.specs.Prelude.{ℕ, ◌+◌, ◌<◌, ◌≤◌, List, not}
+-- Steps that are moved at the open places of the order of shapes, and the places at which none of them moves.
+use Rattle.std.specs.Prelude.{ℕ, ◌≡◌, ◌+◌, ◌<◌, ◌≤◌, List, [], ◌∷◌, not, slice_get, ⊤}
 use Rattle.std.specs.List.{AllByRecursion}
 use Rattle.tl_profile.specs.declared.chain_walk.ChainWalk.{ChainWalk}
 use Rattle.tl_profile.specs.declared.open_places.OpenPlace.{OpenPlace}
@@ -16,3 +16,16 @@ pub record IsWithin (count : ℕ) (at : OpenPlace) : Type 0 where
 -- so at each of these places
 abbrev pub AreWithin : ℕ → List OpenPlace → Type 0
 AreWithin count places = AllByRecursion (IsWithin count) places
+
+-- an open place moves no step to the place or from it
+abbrev pub IsApart : ℕ → OpenPlace → Type 0
+IsApart place at = at.place ≤ place → at.place + at.alike ≤ place
+
+-- two lists agree at each place that is apart from all open ones
+abbrev pub AgreeApart : {X : Type 0} → List OpenPlace → List X → List X → Type 0
+AgreeApart places xs ys = (place : ℕ) → AllByRecursion (IsApart place) places → slice_get xs place ≡ slice_get ys place
+
+-- no open place stands in front of an earlier one
+abbrev pub StandInOrder : List OpenPlace → Type 0
+StandInOrder [] = ⊤
+StandInOrder (at ∷ places) = AllByRecursion (λ later. at.place ≤ later.place) places × StandInOrder places

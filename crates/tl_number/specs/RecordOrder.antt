@@ -1,8 +1,10 @@
 -- The order of records is that of their canonical spellings.
-use Rattle.std.specs.Prelude.{List, map}
+use Rattle.std.specs.Prelude.{ℕ, ◌≡◌, ◌<◌, List, map, slice_get}
 use Rattle.std.specs.Cmp.Lexicographic.{slice_cmp}
+use Rattle.std.specs.Option.{option_cmp}
 use Rattle.std.specs.Ordering.{nat_cmp, ordering_then}
 use Rattle.std.specs.declared.cmp.Ordering.{Ordering}
+use Rattle.std.specs.declared.cmp.Ordering.TheVariants.{Equal}
 use Rattle.tl_layout.specs.RecordText.{spelling_of}
 use Rattle.tl_layout.specs.declared.record_type.Record.{Record}
 use Rattle.tl_layout.specs.declared.record_type.Record.TheVariants.{One, Two, Four, Five, Six, Seven, Eight, I, P}
@@ -22,6 +24,18 @@ records_cmp = slice_cmp spelling_cmp
 -- the same for records of one type in groups
 abbrev pub groups_cmp : {X : Type 0} → (X → Record) → List (List X) → List (List X) → Ordering
 groups_cmp record_of groups others = records_cmp (map record_of (grouped groups)) (map record_of (grouped others))
+
+-- two lists of records are spelt alike at a place, or both have none there
+abbrev pub AreTiedAt : List Record → List Record → ℕ → Type 0
+AreTiedAt rs ss place = option_cmp spelling_cmp (slice_get rs place) (slice_get ss place) ≡ Equal
+
+-- so at each place below this one
+abbrev pub AreTiedBelow : ℕ → List Record → List Record → Type 0
+AreTiedBelow end rs ss = (place : ℕ) → place < end → AreTiedAt rs ss place
+
+-- the records of type I of a county
+abbrev pub links_of : County → List Record
+links_of county = map I (grouped (type_i_by_chain county))
 
 -- two counties by their records of types 1, 2 and 4, of which the first type that differs decides
 abbrev pub types_1_to_4_cmp : County → County → Ordering

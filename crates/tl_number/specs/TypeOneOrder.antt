@@ -1,5 +1,5 @@
 -- The order of choices by their records of type 1.
-use Rattle.std.specs.Prelude.{ℕ, ◌≡◌, ◌+◌, ◌<◌, ◌≤◌, Option, option_map, false}
+use Rattle.std.specs.Prelude.{ℕ, ◌≡◌, ◌+◌, ◌<◌, ◌≤◌, List, map, Option, option_map, false}
 use Rattle.std.specs.Ordering.{is_gt}
 use Rattle.std.specs.declared.cmp.Ordering.{Ordering}
 use Rattle.tl_layout.specs.declared.record_type.Record.{Record}
@@ -9,6 +9,7 @@ use Rattle.tl_county.specs.Packing.{packed_one}
 use Rattle.tl_profile.specs.declared.chain_walk.ChainWalk.{ChainWalk}
 use Rattle.tl_number.specs.Arrangement.{arranged}
 use Rattle.tl_number.specs.CountyGroups.{type_1_by_chain}
+use Rattle.tl_number.specs.Groups.{grouped}
 use Rattle.tl_number.specs.LeastNumber.{choice_list}
 use Rattle.tl_number.specs.RecordOrder.{groups_cmp}
 use Rattle.tl_number.specs.Steps.{step_chain}
@@ -18,6 +19,10 @@ use Rattle.tl_number.specs.Tidy.{numbered_choice}
 -- the record of type 1 of a step's chain, where the step stands at a place
 abbrev pub one_at : County → ChainWalk → ℕ → Option Record
 one_at county step place = option_map (λ chain. One (packed_one (place + 1, chain))) (step_chain county step)
+
+-- the records of type 1 of a county
+abbrev pub ones_of : County → List Record
+ones_of county = map One (grouped (type_1_by_chain county))
 
 -- the choices of two numbers by their records of type 1
 abbrev pub ones_cmp : County → ℕ → ℕ → Ordering

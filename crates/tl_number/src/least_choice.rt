@@ -1,29 +1,31 @@
 //! The steps of the choice of least text.
 //!
 //! Records of type 1 stand before all others in a text, and those of a choice are told by its steps alone. So the choices are gone
-//! through for the one with the least of these first. Only others that have the same are arranged and compared with it as texts, of
-//! which there are few: chains of one shape mostly differ in an address, a name or a code.
+//! through for the one with the least of these first, and from one to the next no more is looked at than what moves at open places. Only
+//! others that have the same are arranged and compared with it as texts, of which there are few: chains of one shape mostly differ in an
+//! address, a name or a code.
 
 ghost use Rattle.std.specs.Prelude.{◌≡◌, ◌<◌, ◌≤◌, cond, length, IfOk, IfSome, MatchOption};
 ghost use Rattle.std.specs.Ordering.{is_gt};
+ghost use Rattle.std.specs.declared.cmp.Ordering.TheVariants.{Equal};
 ghost use Rattle.tl_county.specs.CountyRules.{AllKeysStandIn, polygon_keys, polygons_along};
 ghost use Rattle.tl_number.specs.Arrangement.{arranged};
 ghost use Rattle.tl_number.specs.LeastNumber.{IsLeastBelow, choice_list};
-ghost use Rattle.tl_number.specs.MovedSteps.{AreWithin, other_way};
+ghost use Rattle.tl_number.specs.MovedSteps.{AgreeApart, AreWithin, other_way};
 ghost use Rattle.tl_number.specs.NumberedChoices.{moved};
 ghost use Rattle.tl_number.specs.Steps.{AreSteps, arrangement_of};
 ghost use Rattle.tl_number.specs.Canonical.{IsNotAfter};
 ghost use Rattle.tl_number.specs.Tidy.{IsLeastChoice, numbered_choice};
 ghost use Rattle.tl_number.specs.TypeOneOrder.{IsLeastFrom, IsLeastOne, ones_cmp};
 ghost use Rattle.tl_number.specs.ViewFacts.{NamesEachOnce};
-ghost use Rattle.tl_number.specs.Views.{arranged_county};
+ghost use Rattle.tl_number.specs.Views.{arranged_county, source_of};
 ghost use Rattle.tl_profile.specs.Choices.{choices, most_choices};
 ghost use Rattle.tl_profile.specs.ShapeOrder.{IsShapeOrder};
 
 use crate::arranged::Arranged;
 use crate::arranging::arrange;
 use crate::ascending_order::steps_in_order;
-use crate::numbered_steps::choose;
+use crate::numbered_steps::{choose, put_back};
 use crate::text_order::compare_texts;
 use crate::type_1_order::compare_ones;
 use std::alloc::{AllocError, Global};
@@ -57,7 +59,8 @@ fn arrange_choice<'a, C: Chart>(
     requires order { IsShapeOrder (C.county chart.now) order.now }
     requires few { choices (C.county chart.now) ≤ most_choices }
     requires sides { AllKeysStandIn (polygons_along (C.county chart.now).chains) (polygon_keys (C.county chart.now)) }
-    ensures { IfOk result (λ view. arranged_county view ≡ arranged (C.county chart.now) (numbered_choice (C.county chart.now) number)) }
+    ensures county { IfOk result (λ view. arranged_county view ≡ arranged (C.county chart.now) (numbered_choice (C.county chart.now) number)) }
+    ensures source { IfOk result (λ view. ⟦<Lent<'a, C> as Chart>⟧.county (source_of view) ≡ C.county chart.now) }
 {
     let steps = steps_of_number(alloc, order, number)?;
     arrange(alloc, Lent::new(chart), steps)
@@ -84,7 +87,7 @@ fn number_of<V: Drop>(numbered: Numbered<V>) -> u64
     numbered.number
 }
 
-/// The lesser of the least choice so far and that of another number, which is arranged.
+/// The lesser of the least choice so far and that of another number with the same records of type 1, which is arranged.
 fn next_least<'a, C: Chart>(
     alloc: Global,
     chart: &'a C,
@@ -96,12 +99,16 @@ fn next_least<'a, C: Chart>(
     requires few { choices (C.county chart.now) ≤ most_choices }
     requires sides { AllKeysStandIn (polygons_along (C.county chart.now).chains) (polygon_keys (C.county chart.now)) }
     requires choice { arranged_county least.choice ≡ arranged (C.county chart.now) (numbered_choice (C.county chart.now) least.number) }
+    requires source { ⟦<Lent<'a, C> as Chart>⟧.county (source_of least.choice) ≡ C.county chart.now }
+    requires tied { ones_cmp (C.county chart.now) least.number number ≡ Equal }
     ensures choice { IfOk result
         (λ kept. arranged_county kept.choice ≡ arranged (C.county chart.now) (numbered_choice (C.county chart.now) kept.number)) }
+    ensures source { IfOk result (λ kept. ⟦<Lent<'a, C> as Chart>⟧.county (source_of kept.choice) ≡ C.county chart.now) }
     ensures least { IfOk result
         (λ kept. IsNotAfter (choice_list (C.county chart.now) kept.number) (choice_list (C.county chart.now) least.entry.number)) }
     ensures other { IfOk result
         (λ kept. IsNotAfter (choice_list (C.county chart.now) kept.number) (choice_list (C.county chart.now) number)) }
+    ensures tied { IfOk result (λ kept. ones_cmp (C.county chart.now) least.entry.number kept.number ≡ Equal) }
 {
     match arrange_choice(alloc, chart, order, number) {
         Ok(choice) => {
@@ -116,7 +123,8 @@ fn next_least<'a, C: Chart>(
     }
 }
 
-/// Compares the least choice so far and that of another number by their records of type 1. The steps become those of the number.
+/// Compares the least choice so far and that of another number by their records of type 1. The steps, those of any number, become those
+/// of this one.
 fn compare_number<C: Chart>(
     chart: &C,
     order: &ShapeOrder,
@@ -129,13 +137,16 @@ fn compare_number<C: Chart>(
     requires sides { AllKeysStandIn (polygons_along (C.county chart.now).chains) (polygon_keys (C.county chart.now)) }
     requires least { least.now.choice.items ≡ (moved other_way order.now.places (order.now.walks, least.now.number)).0 }
     requires count { length steps.old ≡ length order.now.walks }
+    requires apart { AgreeApart order.now.places steps.old order.now.walks }
     ensures order { result ≡ ones_cmp (C.county chart.now) least.now.number number }
     ensures steps { steps.new ≡ (moved other_way order.now.places (order.now.walks, number)).0 }
     ensures count { length steps.new ≡ length order.now.walks }
+    ensures apart { AgreeApart order.now.places steps.new order.now.walks }
 {
-    steps.copy_from_slice(order.walks());
-    choose(steps, order.open_places(), number);
-    compare_ones(chart, &least.choice, steps)
+    let places = order.open_places();
+    put_back(steps, order.walks(), places);
+    choose(steps, places, number);
+    compare_ones(chart, places, &least.choice, steps)
 }
 
 /// The same for steps in a vector.
@@ -151,9 +162,11 @@ fn compare_next<C: Chart>(
     requires sides { AllKeysStandIn (polygons_along (C.county chart.now).chains) (polygon_keys (C.county chart.now)) }
     requires least { least.now.choice.items ≡ (moved other_way order.now.places (order.now.walks, least.now.number)).0 }
     requires count { length steps.old.items ≡ length order.now.walks }
+    requires apart { AgreeApart order.now.places steps.old.items order.now.walks }
     ensures order { result ≡ ones_cmp (C.county chart.now) least.now.number number }
     ensures steps { steps.new.items ≡ (moved other_way order.now.places (order.now.walks, number)).0 }
     ensures count { length steps.new.items ≡ length order.now.walks }
+    ensures apart { AgreeApart order.now.places steps.new.items order.now.walks }
 {
     compare_number(chart, order, least, steps, number)
 }
@@ -198,10 +211,13 @@ fn next_tie<C: Chart>(
     requires steps { least.now.choice.items ≡ (moved other_way order.now.places (order.now.walks, least.now.number)).0 }
     requires least { IsLeastOne (C.county chart.now) (choices (C.county chart.now)) least.now.number }
     requires count { length steps.old ≡ length order.now.walks }
+    requires apart { AgreeApart order.now.places steps.old order.now.walks }
     ensures count { length steps.new ≡ length order.now.walks }
+    ensures apart { AgreeApart order.now.places steps.new order.now.walks }
     ensures tie { MatchOption result (IsLeastFrom (C.county chart.now) first (choices (C.county chart.now)) least.now.number)
         (λ tie. IsLeastFrom (C.county chart.now) first tie least.now.number) }
     ensures within { IfSome result (λ tie. (first ≤ tie) × (tie < choices (C.county chart.now))) }
+    ensures tied { IfSome result (λ tie. ones_cmp (C.county chart.now) least.now.number tie ≡ Equal) }
 {
     for number in first..order.choices() {
         if number == least.number {
@@ -231,6 +247,7 @@ fn least_of_ties<C: Chart>(
     requires least { IsLeastOne (C.county chart.now) (choices (C.county chart.now)) first.now.number }
     requires before { IsLeastFrom (C.county chart.now) 0 tie first.now.number }
     requires count { length steps.old ≡ length order.now.walks }
+    requires apart { AgreeApart order.now.places steps.old order.now.walks }
     ensures { IfOk result (IsLeastBelow (C.county chart.now) (choices (C.county chart.now))) }
 {
     let choice = arrange_choice(alloc, chart, order, first.number)?;

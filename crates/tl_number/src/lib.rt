@@ -19,6 +19,7 @@ mod chain_records;
 mod cursor;
 mod first_appearance;
 mod giving;
+mod group_order;
 mod groups;
 mod heads;
 mod landmark_links;
@@ -39,6 +40,7 @@ mod step_readers;
 mod taker;
 mod text_order;
 mod type_1_order;
+mod type_i_and_p_order;
 
 pub use arranged::{AnyArrangement, Arranged, Standing};
 pub use arranging::{arrange, canonise, canonise_chart, canonise_in, canonise_in_order};

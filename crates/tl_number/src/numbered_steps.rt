@@ -1,8 +1,9 @@
 //! The steps of the choice of a number. In the order of shapes a number tells, open place by open place, behind how many of the same
-//! shape a step comes, and whether it is turned; steps at other places stay.
+//! shape a step comes, and whether it is turned; steps at other places stay. So from one number to another no more is put back and moved
+//! than the few steps at open places.
 
-ghost use Rattle.std.specs.Prelude.{◌≡◌, length};
-ghost use Rattle.tl_number.specs.MovedSteps.{AreWithin, IsWithin, other_way};
+ghost use Rattle.std.specs.Prelude.{◌≡◌, ◌++◌, drop, length, take};
+ghost use Rattle.tl_number.specs.MovedSteps.{AgreeApart, AreWithin, IsWithin, other_way};
 ghost use Rattle.tl_number.specs.NumberedChoices.{moved, moved_at};
 
 use tl_profile::{ChainWalk, OpenPlace};
@@ -36,5 +37,31 @@ pub(crate) fn choose(steps: &mut [ChainWalk], places: &[OpenPlace], number: u64)
     while let Some((at, before)) = rest.split_last() {
         left = stand(steps, *at, left);
         rest = before;
+    }
+}
+
+/// Puts back the steps among which an open place moves one.
+fn put_back_at(steps: &mut [ChainWalk], walks: &[ChainWalk], at: OpenPlace)
+    requires within { IsWithin (length steps.old) at }
+    requires count { length steps.old ≡ length walks.now }
+    ensures steps { steps.new ≡ take at.place steps.old ++ (take at.alike (drop at.place walks.now) ++ drop at.alike (drop at.place steps.old)) }
+    ensures count { length steps.new ≡ length steps.old }
+{
+    let first = at.place as usize;
+    let end = first + at.alike as usize;
+    steps[first..end].copy_from_slice(&walks[first..end]);
+}
+
+/// Puts steps that were moved at open places back to where they stand in the order of shapes.
+pub(crate) fn put_back(steps: &mut [ChainWalk], walks: &[ChainWalk], places: &[OpenPlace])
+    requires within { AreWithin (length steps.old) places.now }
+    requires count { length steps.old ≡ length walks.now }
+    requires apart { AgreeApart places.now steps.old walks.now }
+    ensures { steps.new ≡ walks.now }
+{
+    let mut rest = places;
+    while let Some((at, behind)) = rest.split_first() {
+        put_back_at(steps, walks, *at);
+        rest = behind;
     }
 }

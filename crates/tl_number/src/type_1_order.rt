@@ -1,22 +1,24 @@
 //! Choices by their records of type 1, which stand before all others in a text. Those of a choice are told by its steps alone, so that
-//! nothing has to be arranged.
+//! nothing has to be arranged; and but for those among which an open place puts its step, all choices have the same.
 
-ghost use Rattle.std.specs.Prelude.{◌≡◌, ◌<◌, ◌+◌, Some, length, option_map};
+ghost use Rattle.std.specs.Prelude.{◌≡◌, ◌≢◌, ◌<◌, ◌+◌, Some, length, option_map};
 ghost use Rattle.std.specs.Option.{option_cmp};
+ghost use Rattle.std.specs.declared.cmp.Ordering.TheVariants.{Equal};
 ghost use Rattle.tl_county.specs.Packing.{packed_one};
 ghost use Rattle.tl_layout.specs.declared.record_type.Record.TheVariants.{One};
 ghost use Rattle.tl_number.specs.CountyGroups.{type_1_by_chain};
-ghost use Rattle.tl_number.specs.RecordOrder.{groups_cmp, spelling_cmp};
+ghost use Rattle.tl_number.specs.MovedSteps.{AgreeApart, AreWithin, IsWithin, StandInOrder};
+ghost use Rattle.tl_number.specs.RecordOrder.{AreTiedBelow, groups_cmp, records_cmp, spelling_cmp};
 ghost use Rattle.tl_number.specs.Steps.{step_chain};
-ghost use Rattle.tl_number.specs.TypeOneOrder.{one_at};
+ghost use Rattle.tl_number.specs.TypeOneOrder.{one_at, ones_of};
 ghost use Rattle.tl_number.specs.ViewFacts.{AreWhole, stepped};
 
+use crate::group_order::compare_records;
 use crate::step_readers::{body_of_step, point_count_of_step};
-use crate::text_order::compare_records;
 use std::cmp::Ordering;
 use tl_county::Chart;
 use tl_layout::Rec1;
-use tl_profile::{ChainWalk, point_along};
+use tl_profile::{ChainWalk, OpenPlace, point_along};
 
 /// The record of type 1 of a step's chain, where the step stands at a place.
 fn record_of_step<C: Chart>(chart: &C, step: ChainWalk, place: usize) -> Rec1
@@ -46,18 +48,56 @@ fn compare_at<C: Chart>(chart: &C, one: ChainWalk, other: ChainWalk, place: usiz
     compare_records(&first, &second)
 }
 
-/// Compares a county in two arrangements by the records of type 1.
-pub(crate) fn compare_ones<C: Chart>(chart: &C, one: &[ChainWalk], other: &[ChainWalk]) -> Ordering
+/// Compares a county in two arrangements by the records of type 1 among which an open place puts its step. Those in front of them are
+/// tied.
+fn compare_at_open<C: Chart>(
+    chart: &C,
+    at: OpenPlace,
+    one: &[ChainWalk],
+    other: &[ChainWalk],
+) -> Ordering
     requires one { AreWhole (C.county chart.now) one.now }
     requires other { AreWhole (C.county chart.now) other.now }
     requires count { length one.now ≡ length other.now }
-    ensures { result ≡ groups_cmp One (type_1_by_chain (stepped (C.county chart.now) one.now)) (type_1_by_chain (stepped (C.county chart.now) other.now)) }
+    requires within { IsWithin (length one.now) at }
+    requires before { AreTiedBelow at.place (ones_of (stepped (C.county chart.now) one.now)) (ones_of (stepped (C.county chart.now) other.now)) }
+    ensures tied { result ≡ Equal → AreTiedBelow (at.place + at.alike)
+        (ones_of (stepped (C.county chart.now) one.now)) (ones_of (stepped (C.county chart.now) other.now)) }
+    ensures untied { result ≢ Equal → result ≡ records_cmp
+        (ones_of (stepped (C.county chart.now) one.now)) (ones_of (stepped (C.county chart.now) other.now)) }
 {
-    for place in 0..one.len() {
+    let first = at.place as usize;
+    for place in first..first + at.alike as usize {
         match compare_at(chart, one[place], other[place], place) {
             Ordering::Equal => {}
             unequal => return unequal,
         }
+    }
+    Ordering::Equal
+}
+
+/// Compares a county by the records of type 1 in two arrangements that agree but for what moves at open places.
+pub(crate) fn compare_ones<C: Chart>(
+    chart: &C,
+    places: &[OpenPlace],
+    one: &[ChainWalk],
+    other: &[ChainWalk],
+) -> Ordering
+    requires one { AreWhole (C.county chart.now) one.now }
+    requires other { AreWhole (C.county chart.now) other.now }
+    requires count { length one.now ≡ length other.now }
+    requires within { AreWithin (length one.now) places.now }
+    requires in_order { StandInOrder places.now }
+    requires apart { AgreeApart places.now one.now other.now }
+    ensures { result ≡ groups_cmp One (type_1_by_chain (stepped (C.county chart.now) one.now)) (type_1_by_chain (stepped (C.county chart.now) other.now)) }
+{
+    let mut rest = places;
+    while let Some((at, behind)) = rest.split_first() {
+        match compare_at_open(chart, *at, one, other) {
+            Ordering::Equal => {}
+            unequal => return unequal,
+        }
+        rest = behind;
     }
     Ordering::Equal
 }

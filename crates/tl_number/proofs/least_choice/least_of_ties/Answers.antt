@@ -2,6 +2,7 @@ use Rattle.std.proofs.Common.{sym, subst, arith}
 use Rattle.tl_profile.specs.Choices.{choices}
 use Rattle.tl_number.specs.LeastNumber.{IsLeastBelow, choice_list}
 use Rattle.tl_number.proofs.LeastNumbers.{not_after_both, tie_least, ties_least}
+use Rattle.tl_number.proofs.LeastOnes.{both_tied, tied_along, tied_with_itself}
 use Rattle.tl_number.proofs.TidyLists.{not_after_itself}
 use Rattle.tl_number.proofs.least_choice.least_of_ties.Goals as goal
 
@@ -9,11 +10,19 @@ pub loop-next-init : goal.loop-next-init
 loop-next-init g c =
     let county = g.C.Chart.county c.args.chart.now in
     record {
-      choice = c.in_ok-choice.ensures;
+      choice = c.in_ok-choice.ensures.county;
+      source = c.in_ok-choice.ensures.source;
       least = λ m l. c.requires.before m (omega arith) l;
       upper = not_after_itself (choice_list county c.args.first.now.number);
+      tied = tied_with_itself county c.args.first.now.number;
       count = c.requires.count;
+      apart = c.requires.apart;
     }
+
+pub next_least-requires-clause-tied : goal.next_least-requires-clause-tied
+next_least-requires-clause-tied g c =
+    both_tied (g.C.Chart.county c.args.chart.now) c.args.first.now.number c.loop-next.least.number c.in-Some.next
+    c.loop-next.invariant.tied c.in-Some.ensures.tied
 
 pub loop-next-preserved : goal.loop-next-preserved
 loop-next-preserved g c =
@@ -23,10 +32,13 @@ loop-next-preserved g c =
     let new = c.in_ok-least.least.number in
     record {
       choice = c.in_ok-least.ensures.choice;
+      source = c.in_ok-least.ensures.source;
       least = tie_least county first c.loop-next.from c.in-Some.next old new c.loop-next.invariant.least c.loop-next.invariant.upper
           c.in-Some.ensures.tie c.in_ok-least.ensures.least c.in_ok-least.ensures.other;
       upper = not_after_both county new old first c.in_ok-least.ensures.least c.loop-next.invariant.upper;
+      tied = tied_along county first old new c.loop-next.invariant.tied c.in_ok-least.ensures.tied;
       count = c.in-Some.ensures.count;
+      apart = c.in-Some.ensures.apart;
     }
 
 pub returns : goal.returns

@@ -1,10 +1,12 @@
 -- The least so far is arranged, and it is the least below the number from which on further ones are looked for.
-use Rattle.std.proofs.Common.{◌≡◌, ◌-◌, length}
+use Rattle.std.proofs.Common.{◌≡◌, ◌-◌, Equal, length}
 use Rattle.tl_profile.specs.Choices.{choices}
 use Rattle.tl_number.specs.Arrangement.{arranged}
 use Rattle.tl_number.specs.LeastNumber.{IsLeastBelow, choice_list}
 use Rattle.tl_number.specs.Canonical.{IsNotAfter}
+use Rattle.tl_number.specs.MovedSteps.{AgreeApart}
 use Rattle.tl_number.specs.Tidy.{numbered_choice}
+use Rattle.tl_number.specs.TypeOneOrder.{ones_cmp}
 use Rattle.tl_number.specs.Views.{arranged_county}
 use Rattle.tl_number.proofs.least_choice.least_of_ties.Given as goal
 
@@ -12,9 +14,12 @@ abbrev pub invariant-loop-next : goal.invariant-loop-next
 invariant-loop-next g l = record {
   choice : arranged_county l.least.choice
       ≡ arranged (g.C.Chart.county l.chart) (numbered_choice (g.C.Chart.county l.chart) l.least.number);
+  source : g.C.Chart.county l.least.choice.chart.chart.now ≡ g.C.Chart.county l.chart;
   least : IsLeastBelow (g.C.Chart.county l.chart) l.from l.least.number;
   upper : IsNotAfter (choice_list (g.C.Chart.county l.chart) l.least.number) (choice_list (g.C.Chart.county l.chart) l.first.number);
+  tied : ones_cmp (g.C.Chart.county l.chart) l.first.number l.least.number ≡ Equal;
   count : length l.steps ≡ length l.order.walks;
+  apart : AgreeApart l.order.places l.steps l.order.walks;
 }
 
 abbrev pub decreases-loop-next : goal.decreases-loop-next

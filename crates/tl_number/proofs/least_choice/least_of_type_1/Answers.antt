@@ -1,7 +1,9 @@
-use Rattle.std.proofs.Common.{◌≡◌, is_gt, length, sym, ap, ◌∙◌, true}
+use Rattle.std.proofs.Common.{◌≡◌, is_gt, length, sym, ap, ◌∙◌, subst, true, false}
+use Rattle.tl_number.specs.MovedSteps.{AgreeApart}
 use Rattle.tl_number.specs.TypeOneOrder.{ones_cmp}
-use Rattle.tl_number.proofs.ChosenSteps.{places_within, steps_of_number_count}
-use Rattle.tl_number.proofs.LeastOnes.{first_one, greater_from, one_gives_way}
+use Rattle.tl_number.proofs.ChosenSteps.{places_within, steps_of_number_apart, steps_of_number_count}
+use Rattle.tl_number.proofs.KeptPlaces.{agree_itself}
+use Rattle.tl_number.proofs.LeastOnes.{first_one, greater_from, not_greater_from, one_gives_way, one_stays}
 use Rattle.tl_number.proofs.least_choice.least_of_type_1.Goals as goal
 
 pub steps_of_number-requires : goal.steps_of_number-requires
@@ -17,7 +19,22 @@ loop-number-init g c = record {
       c.requires.order.walks c.args.order.now.places (c.requires.order.places c.requires.few) c.in_ok-choice.choice.items 0
       c.in_ok-choice.ensures;
   count = ap length c.in_ok-steps.ensures;
+  apart = agree_itself c.args.order.now.places c.in_ok-steps.steps.items c.args.order.now.walks c.in_ok-steps.ensures;
 }
+
+pub loop-number-preserved-then-is_le : goal.loop-number-preserved-then-is_le
+loop-number-preserved-then-is_le g c =
+    let county = g.C.Chart.county c.args.chart.now in
+    let stays : is_gt (ones_cmp county c.loop-number.least.number c.loop-number.number) ≡ false =
+    ap is_gt (sym c.compare_next-ordering.ensures.order)
+    ∙ not_greater_from c.compare_next-ordering.result (sym c.is_le.ensures ∙ c.if-is_le.true) in
+    record {
+      steps = c.loop-number.invariant.steps;
+      least = one_stays county c.loop-number.number c.loop-number.least.number c.loop-number.invariant.least stays;
+      least_count = c.loop-number.invariant.least_count;
+      count = c.compare_next-ordering.ensures.count;
+      apart = c.compare_next-ordering.ensures.apart;
+    }
 
 pub loop-number-preserved : goal.loop-number-preserved
 loop-number-preserved g c =
@@ -30,4 +47,8 @@ loop-number-preserved g c =
       least = one_gives_way county c.loop-number.number c.loop-number.least.number c.loop-number.invariant.least before;
       least_count = ap (λ v. length v.items) c.swap.ensures.x_after ∙ c.compare_next-ordering.ensures.count;
       count = ap (λ v. length v.items) c.swap.ensures.y_after ∙ c.loop-number.invariant.least_count;
+      apart = subst (λ v. AgreeApart c.args.order.now.places v.items c.args.order.now.walks) (sym c.swap.ensures.y_after)
+          (steps_of_number_apart county (g.met.C.Chart.is_county c.args.chart.now) c.args.order.now.walks c.requires.order.walks
+          c.args.order.now.places (c.requires.order.places c.requires.few) c.loop-number.least.choice.items c.loop-number.least.number
+          c.loop-number.invariant.steps);
     }

@@ -1,6 +1,6 @@
 -- The steps of the least number so far, and what they are least of.
 use Rattle.std.proofs.Common.{◌≡◌, length}
-use Rattle.tl_number.specs.MovedSteps.{other_way}
+use Rattle.tl_number.specs.MovedSteps.{AgreeApart, other_way}
 use Rattle.tl_number.specs.NumberedChoices.{moved}
 use Rattle.tl_number.specs.TypeOneOrder.{IsLeastOne}
 use Rattle.tl_number.proofs.least_choice.least_of_type_1.Given as goal
@@ -11,4 +11,5 @@ invariant-loop-number g l = record {
   least : IsLeastOne (g.C.Chart.county l.chart) l.number l.least.number;
   least_count : length l.least.choice.items ≡ length l.order.walks;
   count : length l.steps.items ≡ length l.order.walks;
+  apart : AgreeApart l.order.places l.steps.items l.order.walks;
 }

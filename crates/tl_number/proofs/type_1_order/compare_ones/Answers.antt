@@ -1,64 +1,55 @@
-use Rattle.std.proofs.Common.{◌≡◌, ◌<◌, ◌+◌, suc, length, drop, get_or, slice_get, sym, ap₂, ◌∙◌, subst, arith, false}
-use Rattle.std.proofs.lemmas.Option.{slice_get-get_or}
-use Rattle.std.specs.Cmp.Lexicographic.{slice_cmp}
-use Rattle.std.specs.Option.{option_cmp}
-use Rattle.tl_number.specs.RecordOrder.{spelling_cmp}
+use Rattle.std.proofs.Common.{◌≡◌, ◌∷◌, ℕ, length, sym, subst, ap, ◌∙◌}
+use Rattle.std.specs.List.{AllByRecursion}
+use Rattle.tl_number.specs.MovedSteps.{AreWithin, IsApart, StandInOrder}
+use Rattle.tl_number.specs.RecordOrder.{AreTiedAt}
+use Rattle.tl_number.specs.TypeOneOrder.{ones_of}
 use Rattle.tl_number.specs.ViewFacts.{stepped}
-use Rattle.tl_profile.specs.declared.chain_walk.ChainWalk.{ChainWalk}
-use Rattle.tl_number.proofs.ItemByItem.{agrees_at, differs_at, both_end}
-use Rattle.tl_number.proofs.TypeOnes.{length-ones_stepped, length_whole, ones_of, ones_stepped}
+use Rattle.tl_number.proofs.KeptPlaces.{before_apart, nothing_left, past_first}
+use Rattle.tl_number.proofs.TiedOnes.{all_tied, same_tied}
 use Rattle.tl_number.proofs.type_1_order.compare_ones.Goals as goal
 
-pub compare_at-requires-clause-place : goal.compare_at-requires-clause-place
-compare_at-requires-clause-place g c =
-    let county = g.C.Chart.county c.args.chart.now in
-    omega (arith, c.loop-place-test.true, length_whole county c.args.one.now (g.met.C.Chart.is_county c.args.chart.now) c.requires.one)
+pub loop-at-init : goal.loop-at-init
+loop-at-init g c = record {
+  within = c.requires.within;
+  in_order = c.requires.in_order;
+  tied = λ place apart. same_tied (g.C.Chart.county c.args.chart.now) (g.met.C.Chart.is_county c.args.chart.now) c.args.one.now
+      c.args.other.now c.requires.one c.requires.other c.requires.count place (c.requires.apart place apart);
+}
 
-pub returns-in_default : goal.returns-in_default
-returns-in_default g c =
-    let county = g.C.Chart.county c.args.chart.now in
-    let is = g.met.C.Chart.is_county c.args.chart.now in
-    let xs = ones_of (stepped county c.args.one.now) in
-    let ys = ones_of (stepped county c.args.other.now) in
-    let i = c.loop-place.place in
-    let none : ChainWalk = record { place = 0; turned = false } in
-    let there : i < length c.args.one.now = c.loop-place-test.true in
-    let answer : c.compare_at.result ≡ option_cmp spelling_cmp (slice_get xs i) (slice_get ys i) =
-    c.compare_at.ensures
-    ∙ sym (ap₂ (option_cmp spelling_cmp)
-    (ones_stepped county c.args.one.now is c.requires.one i (get_or c.args.one.now i none) (slice_get-get_or c.args.one.now i none there))
-    (ones_stepped county c.args.other.now is c.requires.other i (get_or c.args.other.now i none)
-    (slice_get-get_or c.args.other.now i none (omega (arith, there, c.requires.count))))) in
-    answer ∙ differs_at spelling_cmp i xs ys (slice_cmp spelling_cmp xs ys)
-    (omega (arith, there, length-ones_stepped county c.args.one.now is c.requires.one)) c.loop-place.invariant
-    (λ same. c.in_default.not-Equal (answer ∙ same))
+pub compare_at_open-requires-clause-within : goal.compare_at_open-requires-clause-within
+compare_at_open-requires-clause-within g c =
+    (subst (AreWithin (length c.args.one.now)) c.in-Some.ensures.cases.0 c.loop-at.invariant.within).0
 
-pub loop-place-preserved : goal.loop-place-preserved
-loop-place-preserved g c =
+pub compare_at_open-requires-clause-before : goal.compare_at_open-requires-clause-before
+compare_at_open-requires-clause-before g c =
+    let cut = c.in-Some.ensures.cases.0 in
+    let at = c.in-Some.at.now in
+    let behind = c.in-Some.behind.now in
+    λ place before. c.loop-at.invariant.tied place (subst (AllByRecursion (IsApart place)) (sym cut)
+    (before_apart at behind (subst StandInOrder cut c.loop-at.invariant.in_order) place before))
+
+pub returns-in_default-compare_at_open : goal.returns-in_default-compare_at_open
+returns-in_default-compare_at_open g c = c.compare_at_open.ensures.untied c.in_default-compare_at_open.not-Equal
+
+pub loop-at-preserved : goal.loop-at-preserved
+loop-at-preserved g c =
     let county = g.C.Chart.county c.args.chart.now in
-    let is = g.met.C.Chart.is_county c.args.chart.now in
-    let xs = ones_of (stepped county c.args.one.now) in
-    let ys = ones_of (stepped county c.args.other.now) in
-    let i = c.loop-place.place in
-    let none : ChainWalk = record { place = 0; turned = false } in
-    let there : i < length c.args.one.now = c.loop-place-test.true in
-    let answer : c.compare_at.result ≡ option_cmp spelling_cmp (slice_get xs i) (slice_get ys i) =
-    c.compare_at.ensures
-    ∙ sym (ap₂ (option_cmp spelling_cmp)
-    (ones_stepped county c.args.one.now is c.requires.one i (get_or c.args.one.now i none) (slice_get-get_or c.args.one.now i none there))
-    (ones_stepped county c.args.other.now is c.requires.other i (get_or c.args.other.now i none)
-    (slice_get-get_or c.args.other.now i none (omega (arith, there, c.requires.count))))) in
-    subst (λ n. slice_cmp spelling_cmp (drop n xs) (drop n ys) ≡ slice_cmp spelling_cmp xs ys) (let e : suc i ≡ i + 1 = omega arith in e)
-    (agrees_at spelling_cmp i xs ys (slice_cmp spelling_cmp xs ys)
-    (omega (arith, there, length-ones_stepped county c.args.one.now is c.requires.one)) c.loop-place.invariant (sym answer ∙ c.in-Equal.is))
+    let rs = ones_of (stepped county c.args.one.now) in
+    let ss = ones_of (stepped county c.args.other.now) in
+    let cut = c.in-Some.ensures.cases.0 in
+    let at = c.in-Some.at.now in
+    let behind = c.in-Some.behind.now in
+    record {
+      within = (subst (AreWithin (length c.args.one.now)) cut c.loop-at.invariant.within).1;
+      in_order = (subst StandInOrder cut c.loop-at.invariant.in_order).1;
+      tied = past_first (AreTiedAt rs ss) at behind
+          (λ place apart. c.loop-at.invariant.tied place (subst (AllByRecursion (IsApart place)) (sym cut) apart))
+          (c.compare_at_open.ensures.tied c.in-Equal.is);
+    }
 
 pub returns : goal.returns
 returns g c =
     let county = g.C.Chart.county c.args.chart.now in
-    let is = g.met.C.Chart.is_county c.args.chart.now in
-    let xs = ones_of (stepped county c.args.one.now) in
-    let ys = ones_of (stepped county c.args.other.now) in
-    both_end spelling_cmp c.loop-place.place xs ys (slice_cmp spelling_cmp xs ys)
-    (omega (arith, c.loop-place-test.false, length-ones_stepped county c.args.one.now is c.requires.one))
-    (omega (arith, c.loop-place-test.false, c.requires.count, length-ones_stepped county c.args.other.now is c.requires.other))
-    c.loop-place.invariant
+    let none = nothing_left c.loop-at.rest.now c.in_default.ensures.cases in
+    all_tied (ones_of (stepped county c.args.one.now)) (ones_of (stepped county c.args.other.now))
+    (λ place. c.loop-at.invariant.tied place (subst (AllByRecursion (IsApart place)) (sym none) tt))

@@ -1,13 +1,19 @@
--- the records behind a place decide
-use Rattle.std.proofs.Common.{◌≡◌, drop}
-use Rattle.std.specs.Cmp.Lexicographic.{slice_cmp}
-use Rattle.tl_number.specs.RecordOrder.{spelling_cmp}
+-- The records that are apart from the open places that are left are tied.
+use Rattle.std.proofs.Common.{ℕ, length}
+use Rattle.std.specs.List.{AllByRecursion}
+use Rattle.tl_number.specs.MovedSteps.{AreWithin, IsApart, StandInOrder}
+use Rattle.tl_number.specs.RecordOrder.{AreTiedAt}
+use Rattle.tl_number.specs.TypeOneOrder.{ones_of}
 use Rattle.tl_number.specs.ViewFacts.{stepped}
-use Rattle.tl_number.proofs.TypeOnes.{ones_of}
 use Rattle.tl_number.proofs.type_1_order.compare_ones.Given as goal
 
-abbrev pub invariant-loop-place : goal.invariant-loop-place
-invariant-loop-place g l =
-    let ones = ones_of (stepped (g.C.Chart.county l.chart) l.one) in
-    let others = ones_of (stepped (g.C.Chart.county l.chart) l.other) in
-    slice_cmp spelling_cmp (drop l.place ones) (drop l.place others) ≡ slice_cmp spelling_cmp ones others
+abbrev pub invariant-loop-at : goal.invariant-loop-at
+invariant-loop-at g l = record {
+  within : AreWithin (length l.one) l.rest;
+  in_order : StandInOrder l.rest;
+  tied : (place : ℕ) → AllByRecursion (IsApart place) l.rest
+      → AreTiedAt (ones_of (stepped (g.C.Chart.county l.chart) l.one)) (ones_of (stepped (g.C.Chart.county l.chart) l.other)) place;
+}
+
+abbrev pub decreases-loop-at : goal.decreases-loop-at
+decreases-loop-at g l = length l.rest

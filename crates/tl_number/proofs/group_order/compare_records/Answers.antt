@@ -1,6 +1,6 @@
 use Rattle.std.proofs.Common.{ap}
 use Rattle.tl_number.proofs.GroupOrders.{same_spelling}
-use Rattle.tl_number.proofs.text_order.compare_records.Goals as goal
+use Rattle.tl_number.proofs.group_order.compare_records.Goals as goal
 
 pub returns-then-is_same : goal.returns-then-is_same
 returns-then-is_same g c = same_spelling (g.L.Tabled.as_record c.args.a.now) (g.L.Tabled.as_record c.args.b.now)

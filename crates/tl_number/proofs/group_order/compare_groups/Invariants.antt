@@ -1,7 +1,7 @@
 use Rattle.std.proofs.Common.{◌≡◌, length, map}
 use Rattle.tl_number.specs.Groups.{rest_of}
 use Rattle.tl_number.specs.RecordOrder.{groups_cmp, records_cmp}
-use Rattle.tl_number.proofs.text_order.compare_groups.Given as goal
+use Rattle.tl_number.proofs.group_order.compare_groups.Given as goal
 
 -- what is left decides
 abbrev pub invariant-loop-record : goal.invariant-loop-record

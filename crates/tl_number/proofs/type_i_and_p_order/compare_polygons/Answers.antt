@@ -1,0 +1,18 @@
+use Rattle.std.proofs.Common.{◌≡◌, ◌∙◌, map, sym, ap, ap₂}
+use Rattle.tl_layout.specs.declared.record_type.Record.TheVariants.{P}
+use Rattle.tl_number.specs.ByNumber.{polygons_by_number, under_number}
+use Rattle.tl_number.specs.CountyGroups.{type_p_by_number}
+use Rattle.tl_number.specs.Growth.{numbered}
+use Rattle.tl_number.specs.RecordOrder.{groups_cmp}
+use Rattle.tl_number.specs.ViewFacts.{stepped}
+use Rattle.tl_number.proofs.LinkOrder.{same_polygons}
+use Rattle.tl_number.proofs.type_i_and_p_order.compare_polygons.Goals as goal
+
+pub returns-then-have_same_numbers : goal.returns-then-have_same_numbers
+returns-then-have_same_numbers g c =
+    let a = stepped (g.A.Chart.county c.args.a.now.chart) c.args.a.now.steps.items in
+    let b = stepped (g.B.Chart.county c.args.b.now.chart) c.args.b.now.steps.items in
+    same_polygons a b
+    (sym c.args.a.now.polygons_told.by_number
+    ∙ ap₂ (λ county numbers. map (under_number county) (numbered numbers)) c.requires (c.have_same_numbers.ensures c.if-have_same_numbers.true)
+    ∙ c.args.b.now.polygons_told.by_number)

@@ -1,0 +1,35 @@
+use Rattle.std.proofs.Common.{◌≡◌, ◌<◌, ◌∙◌, ◌∷◌, [], Some, length, map, option_map, slice_get, sym, ap, subst, arith}
+use Rattle.std.proofs.lemmas.List.{length-map}
+use Rattle.tl_layout.specs.declared.record_type.Record.TheVariants.{I}
+use Rattle.tl_county.specs.Packing.{packed_i}
+use Rattle.tl_number.specs.CountyGroups.{type_i_by_chain}
+use Rattle.tl_number.specs.Groups.{group_at}
+use Rattle.tl_number.specs.ViewFacts.{stepped}
+use Rattle.tl_number.proofs.ChainPlaces.{some_at}
+use Rattle.tl_number.proofs.Grouped.{group_of, some-same}
+use Rattle.tl_number.proofs.LinkOrder.{link_there}
+use Rattle.tl_number.proofs.type_i_and_p_order.link_record.Goals as goal
+
+pub head-head-requires : goal.head-head-requires
+head-head-requires g c =
+    let county = stepped (g.C.Chart.county c.args.county.now.chart) c.args.county.now.steps.items in
+    subst (λ n. c.args.place < n) (sym (length-map county.chains (λ entry. packed_i entry ∷ []))) c.requires
+
+pub record-requires-clause-group : goal.record-requires-clause-group
+record-requires-clause-group g c =
+    let county = stepped (g.C.Chart.county c.args.county.now.chart) c.args.county.now.steps.items in
+    subst (λ n. c.args.place < n) (sym (length-map county.chains (λ entry. packed_i entry ∷ []))) c.requires
+
+pub record-requires-clause-place : goal.record-requires-clause-place
+record-requires-clause-place g c =
+    let county = stepped (g.C.Chart.county c.args.county.now.chart) c.args.county.now.steps.items in
+    let at = some_at county.chains c.args.place c.requires in
+    subst (λ rs. 0 < length rs) (sym (group_of (λ entry. packed_i entry ∷ []) county.chains c.args.place at.0 at.1)) (omega arith)
+
+pub returns : goal.returns
+returns g c =
+    let county = stepped (g.C.Chart.county c.args.county.now.chart) c.args.county.now.steps.items in
+    let at = some_at county.chains c.args.place c.requires in
+    ap (option_map I) (c.record.ensures
+    ∙ ap (λ rs. slice_get rs 0) (group_of (λ entry. packed_i entry ∷ []) county.chains c.args.place at.0 at.1))
+    ∙ sym (link_there county c.args.place ∙ ap (option_map (λ entry. I (packed_i entry))) at.1)

@@ -1,0 +1,70 @@
+//! Records in groups, compared one after the other.
+//!
+//! No text is made: lines are made of two records at a time, and the first records that differ decide. Groups of two arrangements
+//! needn't line up, since a chain may have more records of a type than the one that stands in its place in the other. So each side
+//! is read by a cursor of its own.
+
+ghost use Rattle.std.specs.Prelude.{◌≡◌, MatchOption};
+ghost use Rattle.std.specs.Cmp.Lexicographic.{slice_cmp};
+ghost use Rattle.std.specs.Ordering.{nat_cmp};
+ghost use Rattle.std.specs.declared.cmp.Ordering.TheVariants.{Greater};
+ghost use Rattle.tl_number.specs.RecordOrder.{groups_cmp, spelling_cmp};
+
+use crate::cursor::{Cursor, next};
+use crate::groups::RecordGroups;
+use crate::record_eq::RecordEq;
+use std::cmp::Ordering;
+use tl_layout::{LONGEST_LINE, Layout};
+
+/// Compares two records of one type by their lines.
+fn compare_lines<L: Layout>(a: &L, b: &L) -> Ordering
+    ensures { result ≡ slice_cmp nat_cmp (L.spelling a.now) (L.spelling b.now) }
+{
+    let mut line = [0; LONGEST_LINE];
+    let mut other = [0; LONGEST_LINE];
+    let len = L::LEN;
+    a.put(&mut line[..len]);
+    b.put(&mut other[..len]);
+    line[..len].cmp(&other[..len])
+}
+
+/// Compares two records of one type by their canonical spellings. Only where they differ are lines made of them.
+pub(crate) fn compare_records<L: RecordEq>(a: &L, b: &L) -> Ordering
+    ensures { result ≡ spelling_cmp (L.as_record a.now) (L.as_record b.now) }
+{
+    if a.is_same(b) {
+        return Ordering::Equal;
+    }
+    compare_lines(a, b)
+}
+
+/// Compares a record with the one that stands in its place, if there is one.
+fn compare_with<L: RecordEq>(a: &L, b: &Option<L>) -> Ordering
+    ensures { MatchOption b.now (result ≡ Greater) (λ found. result ≡ spelling_cmp (L.as_record a.now) (L.as_record found)) }
+{
+    match b {
+        Some(found) => compare_records(a, found),
+        None => Ordering::Greater,
+    }
+}
+
+/// Compares records in groups, record by record.
+pub(crate) fn compare_groups<L: RecordEq, G: RecordGroups<Item = L>, H: RecordGroups<Item = L>>(
+    a: &G,
+    b: &H,
+) -> Ordering
+    ensures { result ≡ groups_cmp L.as_record (G.groups a.now) (H.groups b.now) }
+{
+    let mut at = Cursor::new();
+    let mut other_at = Cursor::new();
+    while let Some(record) = next(a, &mut at) {
+        match compare_with(&record, &next(b, &mut other_at)) {
+            Ordering::Equal => {}
+            unequal => return unequal,
+        }
+    }
+    match next(b, &mut other_at) {
+        Some(_) => Ordering::Less,
+        None => Ordering::Equal,
+    }
+}

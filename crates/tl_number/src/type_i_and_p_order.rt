@@ -1,0 +1,145 @@
+//! Two arrangements of a county by their records of types I and P.
+//!
+//! Mostly one chain stands at a place in both arrangements, in one direction, and with the same new numbers at its ends and on its
+//! sides: then its record of type I is the same, and isn't made. Where polygons have the same new numbers, so are all records of type P.
+
+ghost use Rattle.std.specs.Bool.{Decides};
+ghost use Rattle.std.specs.Option.{option_cmp};
+ghost use Rattle.std.specs.Prelude.{◌≡◌, ◌<◌, Some, length, slice_get, true};
+ghost use Rattle.tl_layout.specs.declared.record_type.Record.TheVariants.{I, P};
+ghost use Rattle.tl_number.specs.CountyGroups.{type_i_by_chain, type_p_by_number};
+ghost use Rattle.tl_number.specs.RecordOrder.{groups_cmp, links_of, spelling_cmp};
+ghost use Rattle.tl_number.specs.Views.{arranged_county};
+
+use crate::arranged::{Arranged, Standing};
+use crate::arranged_tables::{Ends, Sides};
+use crate::chain_records::LinkRecords;
+use crate::group_order::{compare_groups, compare_records};
+use crate::groups::RecordGroups;
+use crate::numbers::Numbers;
+use crate::polygon_records::PolygonRecords;
+use std::cmp::Ordering;
+use tl_county::{Chart, PolygonKey};
+use tl_layout::RecI;
+use tl_profile::ChainWalk;
+
+/// Whether two steps are the same.
+fn is_same_step(a: Option<ChainWalk>, b: Option<ChainWalk>) -> bool
+    ensures { Decides result (a ≡ b) }
+{
+    a == b
+}
+
+/// Whether two chains have the same ends.
+fn has_same_ends(a: Option<Ends>, b: Option<Ends>) -> bool
+    ensures { Decides result (a ≡ b) }
+{
+    a == b
+}
+
+/// Whether two chains have the same sides.
+fn has_same_sides(a: Option<Sides>, b: Option<Sides>) -> bool
+    ensures { Decides result (a ≡ b) }
+{
+    a == b
+}
+
+/// Whether the same chain stands at a place in two arrangements of a county, in the same direction, with the same nodes at its ends and
+/// the same polygons on its sides.
+fn is_same_link<A: Chart, R: Standing, B: Chart, S: Standing>(
+    a: &Arranged<A, R>,
+    b: &Arranged<B, S>,
+    place: usize,
+) -> bool
+    requires { A.county a.now.chart ≡ B.county b.now.chart }
+    ensures { result ≡ true → slice_get (links_of (arranged_county a.now)) place ≡ slice_get (links_of (arranged_county b.now)) place }
+{
+    if !is_same_step(a.step_at(place), b.step_at(place)) {
+        return false;
+    }
+    if !has_same_ends(a.ends_at(place), b.ends_at(place)) {
+        return false;
+    }
+    has_same_sides(a.sides_at(place), b.sides_at(place))
+}
+
+/// The record of type I of the chain at a place.
+fn link_record<C: Chart, S: Standing>(county: &Arranged<C, S>, place: usize) -> RecI
+    requires { place < length (arranged_county county.now).chains }
+    ensures { Some (I result) ≡ slice_get (links_of (arranged_county county.now)) place }
+{
+    let records = LinkRecords { chart: county };
+    let head = records.head(place);
+    records.record(place, head, 0)
+}
+
+/// Compares two arrangements of a county by their records of type I at a place.
+fn compare_link<A: Chart, R: Standing, B: Chart, S: Standing>(
+    a: &Arranged<A, R>,
+    b: &Arranged<B, S>,
+    place: usize,
+) -> Ordering
+    requires county { A.county a.now.chart ≡ B.county b.now.chart }
+    requires one { place < length (arranged_county a.now).chains }
+    requires other { place < length (arranged_county b.now).chains }
+    ensures { result ≡ option_cmp spelling_cmp (slice_get (links_of (arranged_county a.now)) place) (slice_get (links_of (arranged_county b.now)) place) }
+{
+    if is_same_link(a, b, place) {
+        return Ordering::Equal;
+    }
+    compare_records(&link_record(a, place), &link_record(b, place))
+}
+
+/// Compares two arrangements of a county by their records of type I.
+pub(crate) fn compare_links<A: Chart, R: Standing, B: Chart, S: Standing>(
+    a: &Arranged<A, R>,
+    b: &Arranged<B, S>,
+) -> Ordering
+    requires { A.county a.now.chart ≡ B.county b.now.chart }
+    ensures { result ≡ groups_cmp I (type_i_by_chain (arranged_county a.now)) (type_i_by_chain (arranged_county b.now)) }
+{
+    for place in 0..a.chain_count() {
+        match compare_link(a, b, place) {
+            Ordering::Equal => {}
+            unequal => return unequal,
+        }
+    }
+    Ordering::Equal
+}
+
+/// Whether two keys are the same.
+fn is_same_key(a: Option<PolygonKey>, b: Option<PolygonKey>) -> bool
+    ensures { Decides result (a ≡ b) }
+{
+    a == b
+}
+
+/// Whether polygons have the same new numbers.
+fn have_same_numbers(a: &Numbers<PolygonKey>, b: &Numbers<PolygonKey>) -> bool
+    ensures { result ≡ true → a.now ≡ b.now }
+{
+    let count = a.len();
+    if count != b.len() {
+        return false;
+    }
+    for place in 0..count {
+        if !is_same_key(a.key_at(place), b.key_at(place)) {
+            return false;
+        }
+    }
+    true
+}
+
+/// Compares two arrangements of a county by their records of type P.
+pub(crate) fn compare_polygons<A: Chart, R: Standing, B: Chart, S: Standing>(
+    a: &Arranged<A, R>,
+    b: &Arranged<B, S>,
+) -> Ordering
+    requires { A.county a.now.chart ≡ B.county b.now.chart }
+    ensures { result ≡ groups_cmp P (type_p_by_number (arranged_county a.now)) (type_p_by_number (arranged_county b.now)) }
+{
+    if have_same_numbers(&a.polygons.numbers, &b.polygons.numbers) {
+        return Ordering::Equal;
+    }
+    compare_groups(&PolygonRecords { county: a }, &PolygonRecords { county: b })
+}
