@@ -1,0 +1,194 @@
+"""The engine, which is Dask: a cluster of this machine's processors, or one that stands; what its workers have, and tasks for them."""
+
+from __future__ import annotations
+
+import logging
+import multiprocessing
+import os
+import shutil
+import signal
+import sys
+import tempfile
+import urllib.request
+import uuid
+import warnings
+from dataclasses import astuple
+from pathlib import Path
+from typing import Any, Iterable, List, NamedTuple, Optional, Sequence
+
+from . import judging
+from .telling import Stop, plainly
+
+MEMORY = "MB"
+"""The resource that workers offer and counties ask for, in millions of bytes."""
+
+SHARE = 0.8
+"""A local worker offers this share of its memory; the rest is for Python and for what was freed and isn't given back yet."""
+
+PATIENCE_FOR_SCHEDULER = 30.0
+PATIENCE_AT_END = 5.0
+
+
+class Workers(NamedTuple):
+    """The workers that are there: how many, how many counties they take at once, and the most memory, in bytes, that one of them can
+    give to a county. Where they offer none as a resource, is_rationed is false, and it is the most that one of them has."""
+
+    count: int
+    threads: int
+    most: int
+    is_rationed: bool
+    without: int
+
+    @staticmethod
+    def of(infos: Iterable[dict]) -> "Workers":
+        workers = list(infos)
+        offers = [info["resources"][MEMORY] for info in workers if MEMORY in info.get("resources", {})]
+        threads = sum(info["nthreads"] for info in workers)
+        if offers:
+            return Workers(len(workers), threads, int(max(offers) * 10**6), True, len(workers) - len(offers))
+        limits = [info.get("memory_limit") or sys.maxsize for info in workers]
+        return Workers(len(workers), threads, max(limits, default=0), False, len(workers))
+
+
+class Task(NamedTuple):
+    """What a worker is asked: a county's files, and the memory that it may take."""
+
+    key: str
+    files: Sequence[Any]
+    asked: int
+
+
+def prepare_local_workers() -> None:
+    """Begins to load what local workers need, while this process loads it too. Each worker is then a copy of that process, which is there
+    at once. An interrupt from the keyboard goes to them too, and is left to this process."""
+    from multiprocessing import forkserver
+
+    os.environ.setdefault("GLIBC_TUNABLES", "glibc.malloc.hugetlb=1")
+    find_module()
+    before = signal.signal(signal.SIGINT, signal.SIG_IGN)
+    multiprocessing.get_context("forkserver").set_forkserver_preload(["distributed.nanny", "distributed.worker", "fsspec"])
+    forkserver.ensure_running()
+    signal.signal(signal.SIGINT, before)
+
+
+def find_module() -> None:
+    """Has local workers find the module: the one that Python finds, else that of a release, beside the folder of this script, or else the
+    one that was built in this repository."""
+    import importlib.util
+
+    if importlib.util.find_spec("tigercanon") is not None:
+        return
+    above = Path(__file__).resolve().parent.parent.parent
+    for folder in (above / "python", above / "out/library/python"):
+        if (folder / "tigercanon.py").exists() and (folder.parent / "lib").exists():
+            os.environ["PYTHONPATH"] = os.pathsep.join(filter(None, [str(folder), os.environ.get("PYTHONPATH")]))
+            return
+
+
+class Cluster:
+    """A client of the engine, and its cluster where that is this run's own."""
+
+    def __init__(self, address: Optional[str], jobs: int) -> None:
+        self.address, self.room, self.own, self.client = address, None, None, None
+        self.token = uuid.uuid4().hex[:12]
+        import cloudpickle
+        import dask
+        import distributed
+
+        cloudpickle.register_pickle_by_value(judging)
+        logging.getLogger("distributed").setLevel(logging.CRITICAL)
+        warnings.simplefilter("ignore")
+        dask.config.set({"distributed.admin.system-monitor.interval": "2s"})
+        try:
+            if address is None:
+                self.own = self.local(dask, distributed, jobs)
+            self.client = self.client_of(distributed)
+        except BaseException:
+            self.close()
+            raise
+
+    def client_of(self, distributed: Any) -> Any:
+        try:
+            if self.own is None and os.path.isfile(self.address):
+                return distributed.Client(scheduler_file=self.address, timeout=PATIENCE_FOR_SCHEDULER)
+            return distributed.Client(self.own or self.address, timeout=PATIENCE_FOR_SCHEDULER)
+        except (OSError, ValueError) as error:
+            raise Stop(f"no scheduler answers at {self.address}: {plainly(error)}") from None
+
+    def local(self, dask: Any, distributed: Any, jobs: int) -> Any:
+        """A worker a job, each with one thread and its share of this machine's memory."""
+        dask.config.set({
+            "distributed.worker.multiprocessing-method": "forkserver",
+            "distributed.worker.profile.enabled": False,
+            "distributed.worker.memory.target": False,
+            "distributed.worker.memory.spill": False,
+            "distributed.worker.memory.pause": False,
+        })
+        self.room = tempfile.mkdtemp(prefix="fingerprint-archive-")
+        limit = distributed.system.MEMORY_LIMIT // jobs
+        return distributed.LocalCluster(
+            n_workers=jobs, threads_per_worker=1, memory_limit=limit, resources={MEMORY: int(limit * SHARE / 10**6)},
+            local_directory=self.room, dashboard_address="127.0.0.1:0", silence_logs=logging.CRITICAL,
+        )
+
+    @property
+    def is_there(self) -> bool:
+        return self.client.status == "running"
+
+    @property
+    def name(self) -> str:
+        return f"the scheduler at {self.address}" if self.own is None else "the scheduler"
+
+    def workers(self) -> Workers:
+        """The workers that are there now; none, where the scheduler doesn't answer."""
+        try:
+            return Workers.of(self.client.scheduler_info().get("workers", {}).values())
+        except Exception:
+            return Workers(0, 0, 0, True, 0)
+
+    def look(self) -> Any:
+        """A task that answers what keeps a worker from judging. It also wakes a cluster that has no worker until there is work."""
+        return self.client.submit(judging.ready, key=f"look-{self.token}", pure=False)
+
+    def submit(self, tasks: List[Task], order: judging.Order, memory: Optional[int]) -> List[Any]:
+        """Has counties judged, each of which is given this many bytes of a worker's memory."""
+        resources = {MEMORY: -(-memory // 10**6)} if memory is not None else None
+        count = len(tasks)
+        return self.client.map(
+            judging.judge, [list(task.files) for task in tasks], [task.asked for task in tasks], [astuple(order)] * count,
+            key=[f"{task.key}-{self.token}" for task in tasks], resources=resources, pure=False,
+        )
+
+    def answers(self, futures: List[Any]) -> List[Any]:
+        """What came of tasks that have finished: of each the answer, or the exception that took its place."""
+        try:
+            return self.client.gather(futures)
+        except Exception:
+            return [self.answer(future) for future in futures]
+
+    def answer(self, future: Any) -> Any:
+        try:
+            return future.result()
+        except Exception as error:
+            return error
+
+    def dashboard(self) -> Optional[str]:
+        """Where the engine shows how it works, if it does: it needs a library of its own, and says so in its place."""
+        link = self.client.dashboard_link
+        try:
+            with urllib.request.build_opener(urllib.request.ProxyHandler({})).open(link, timeout=2) as page:
+                return None if b"needs bokeh" in page.read(10_000) else link
+        except Exception:
+            return None
+
+    def close(self) -> None:
+        """Ends what this run has started, and nothing else."""
+        for each in (self.client, self.own):
+            try:
+                if each is not None:
+                    each.close(timeout=PATIENCE_AT_END)
+            except Exception:
+                pass
+        self.client = self.own = None
+        if self.room is not None:
+            shutil.rmtree(self.room, ignore_errors=True)
