@@ -2,17 +2,18 @@
 
 from __future__ import annotations
 
+import importlib.util
 import logging
 import multiprocessing
 import os
-import shutil
 import signal
 import sys
-import tempfile
+import time
 import urllib.request
 import uuid
 import warnings
 from dataclasses import astuple
+from multiprocessing import forkserver
 from pathlib import Path
 from typing import Any, Iterable, List, NamedTuple, Optional, Sequence
 
@@ -61,8 +62,6 @@ class Task(NamedTuple):
 def prepare_local_workers() -> None:
     """Begins to load what local workers need, while this process loads it too. Each worker is then a copy of that process, which is there
     at once. An interrupt from the keyboard goes to them too, and is left to this process."""
-    from multiprocessing import forkserver
-
     os.environ.setdefault("GLIBC_TUNABLES", "glibc.malloc.hugetlb=1")
     find_module()
     before = signal.signal(signal.SIGINT, signal.SIG_IGN)
@@ -74,8 +73,6 @@ def prepare_local_workers() -> None:
 def find_module() -> None:
     """Has local workers find the module: the one that Python finds, else that of a release, beside the folder of this script, or else the
     one that was built in this repository."""
-    import importlib.util
-
     if importlib.util.find_spec("tigercanon") is not None:
         return
     above = Path(__file__).resolve().parent.parent.parent
@@ -88,8 +85,8 @@ def find_module() -> None:
 class Cluster:
     """A client of the engine, and its cluster where that is this run's own."""
 
-    def __init__(self, address: Optional[str], jobs: int) -> None:
-        self.address, self.room, self.own, self.client = address, None, None, None
+    def __init__(self, address: Optional[str], jobs: int, room: str) -> None:
+        self.address, self.room, self.own, self.client = address, room, None, None
         self.token = uuid.uuid4().hex[:12]
         import cloudpickle
         import dask
@@ -108,12 +105,21 @@ class Cluster:
             raise
 
     def client_of(self, distributed: Any) -> Any:
+        """A client of the cluster. An address has a port; what has none is a file that the scheduler has written or will write."""
         try:
-            if self.own is None and os.path.isfile(self.address):
+            if self.own is None and ":" not in self.address:
+                self.wait_for_file()
                 return distributed.Client(scheduler_file=self.address, timeout=PATIENCE_FOR_SCHEDULER)
             return distributed.Client(self.own or self.address, timeout=PATIENCE_FOR_SCHEDULER)
         except (OSError, ValueError) as error:
             raise Stop(f"no scheduler answers at {self.address}: {plainly(error)}") from None
+
+    def wait_for_file(self) -> None:
+        until = time.monotonic() + PATIENCE_FOR_SCHEDULER
+        while not os.path.exists(self.address) and time.monotonic() < until:
+            time.sleep(0.1)
+        with open(self.address, "rb"):
+            pass
 
     def local(self, dask: Any, distributed: Any, jobs: int) -> Any:
         """A worker a job, each with one thread and its share of this machine's memory."""
@@ -124,7 +130,6 @@ class Cluster:
             "distributed.worker.memory.spill": False,
             "distributed.worker.memory.pause": False,
         })
-        self.room = tempfile.mkdtemp(prefix="fingerprint-archive-")
         limit = distributed.system.MEMORY_LIMIT // jobs
         return distributed.LocalCluster(
             n_workers=jobs, threads_per_worker=1, memory_limit=limit, resources={MEMORY: int(limit * SHARE / 10**6)},
@@ -190,5 +195,3 @@ class Cluster:
             except Exception:
                 pass
         self.client = self.own = None
-        if self.room is not None:
-            shutil.rmtree(self.room, ignore_errors=True)

@@ -3,10 +3,13 @@
 from __future__ import annotations
 
 import argparse
+import atexit
 import os
 import re
+import shutil
 import signal
 import sys
+import tempfile
 from contextlib import contextmanager
 from typing import Iterator, List, NoReturn, Optional, Tuple
 
@@ -17,6 +20,7 @@ from .telling import ReaderIsGone, Stop, Tally, Teller, groups_of_one_map, print
 
 SIZES = {"": 1, "kB": 10**3, "MB": 10**6, "GB": 10**9}
 LARGEST = "2GB"
+SIGNALS = (signal.SIGINT, signal.SIGTERM, signal.SIGHUP)
 
 
 class Stopped(Exception):
@@ -71,36 +75,46 @@ def main(usage: str, words: Optional[List[str]] = None) -> int:
     given = parsed(usage, words)
     teller = Teller()
     run = Command(given, teller)
-    listen()
+    ending = Ending()
+    ending.listen()
     try:
         return run.run()
     except Stop as stop:
         teller.say(f"{stop}{run.how_far()}")
         return 2
     except ReaderIsGone:
-        return end_by(signal.SIGPIPE)
+        return ending.by(signal.SIGPIPE)
     except Stopped as stopped:
         teller.say(f"stopped by {signal.Signals(stopped.number).name[3:]}: {run.ended} of {run.counties} done")
-        return end_by(stopped.number)
+        return ending.by(stopped.number)
 
 
-def listen() -> None:
-    """Has the first signal stop the run. A second one ends it where it is."""
+class Ending:
+    """The end of this process by the signal that it got, when all that is done at its end is done: what is registered first comes last."""
 
-    def stop(number: int, _: object) -> None:
-        for each in (signal.SIGINT, signal.SIGTERM, signal.SIGHUP):
-            signal.signal(each, signal.SIG_DFL)
-        raise Stopped(number)
+    def __init__(self) -> None:
+        self.number: Optional[int] = None
+        atexit.register(self.kill)
 
-    for number in (signal.SIGINT, signal.SIGTERM, signal.SIGHUP):
-        signal.signal(number, stop)
+    def listen(self) -> None:
+        """Has the first signal stop the run. A second one ends it where it is."""
 
+        def stop(number: int, _: object) -> None:
+            for each in SIGNALS:
+                signal.signal(each, signal.SIG_DFL)
+            raise Stopped(number)
 
-def end_by(number: int) -> int:
-    """Ends this process by a signal."""
-    signal.signal(number, signal.SIG_DFL)
-    os.kill(os.getpid(), number)
-    return 128 + number
+        for number in SIGNALS:
+            signal.signal(number, stop)
+
+    def by(self, number: int) -> int:
+        self.number = number
+        return 128 + number
+
+    def kill(self) -> None:
+        if self.number is not None:
+            signal.signal(self.number, signal.SIG_DFL)
+            os.kill(os.getpid(), self.number)
 
 
 class Command:
@@ -112,6 +126,7 @@ class Command:
         self.tally: Optional[Tally] = None
         self.manifest: Optional[Manifest] = None
         self.wanted: List[str] = []
+        self.room = ""
         self.gone = ""
 
     @property
@@ -130,7 +145,7 @@ class Command:
             if not name or "\n" in name:
                 raise Stop("a name is empty, or has a line end")
         place = place_of(self.given.manifest, self.given.check)
-        with held(Lock(self.given.manifest, place), self.given.check):
+        with held(Lock(self.given.manifest, place), self.given.check), room_of_its_own() as self.room:
             return self.check(place) if self.given.check else self.make(place)
 
     def make(self, place: str) -> int:
@@ -190,7 +205,7 @@ class Command:
             return
         from .cluster import Cluster
 
-        cluster = Cluster(self.given.scheduler, self.given.jobs or len(os.sched_getaffinity(0)))
+        cluster = Cluster(self.given.scheduler, self.given.jobs or len(os.sched_getaffinity(0)), self.room)
         try:
             dashboard = cluster.dashboard()
             if dashboard:
@@ -237,8 +252,21 @@ class Command:
 
 
 def rule_of(line: str) -> str:
-    """The rule by which a county is refused, of the line that says so: its number and name."""
-    return " ".join(line.split()[1:3])
+    """The rule by which a county is refused, of the line that says so: its number and name, or the flag."""
+    return " ".join(line.removeprefix("refused by ").removeprefix("refused ").split()[:2])
+
+
+@contextmanager
+def room_of_its_own() -> Iterator[str]:
+    """A folder for files of this run's own. Who still writes into it while it is taken away only loses what he writes."""
+    try:
+        room = tempfile.mkdtemp(prefix="archive-")
+    except OSError:
+        raise Stop("there is no room for files of its own") from None
+    try:
+        yield room
+    finally:
+        shutil.rmtree(room, ignore_errors=True)
 
 
 @contextmanager

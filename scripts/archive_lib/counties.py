@@ -33,6 +33,11 @@ class County(NamedTuple):
         return len(self.files) == 1
 
     @property
+    def need_is_guessed(self) -> bool:
+        """Whether it isn't known before it is read how much it unpacks to."""
+        return self.is_zip or any(file is not None and file[1] is None for file in self.files)
+
+    @property
     def size(self) -> int:
         """The bytes of its files as they lie in the archive."""
         return sum(file[1] or 0 for file in self.files if file)

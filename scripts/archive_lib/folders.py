@@ -27,7 +27,7 @@ def joined(folder: str, name: str) -> str:
 def parted(path: str) -> Tuple[str, str]:
     """A path's folder and the name in it; the other way round as `joined`."""
     folder, slash, name = path.rpartition("/")
-    return (folder or slash, name) if folder[-2:] not in (":", ":/") else (f"{folder}/", name)
+    return (folder + slash if not folder or folder.endswith((":/", "://")) else folder), name
 
 
 def place_of(path: str) -> str:

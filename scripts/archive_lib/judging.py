@@ -31,7 +31,7 @@ Answer = Tuple[str, str, str, int]
     refused  the text is the line that refuses it
     failed   the text says what is wrong with its files
     memory   the worker had too little memory; the text is the refusal
-    needs    it takes so many bytes of memory, which is more than was asked for; nothing was unpacked
+    needs    it takes so many bytes of memory, which is more than was asked for; nothing was unpacked or judged
     module   the worker can't load the module; the text says why
 """
 
@@ -170,12 +170,14 @@ def judged_zip(place: str, size: Optional[int], asked: int, order: Order) -> Ans
     return verdict(parts, order, missing)
 
 
-def judged_files(files: List[Optional[Tuple[str, Optional[int]]]], order: Order) -> Answer:
-    """A county of single files, each with its place and its size."""
+def judged_files(files: List[Optional[Tuple[str, Optional[int]]]], asked: int, order: Order) -> Answer:
+    """A county of single files, each with its place and its size, if that is known."""
     missing = lacking({kind: file for kind, file in zip(TYPES, files) if file})
     if order.is_strict and missing:
         return "refused", "refused by --strict", missing, 0
-    return verdict([fetched(*file) if file else b"" for file in files], order, missing)
+    parts = [fetched(*file) if file else b"" for file in files]
+    need = needed(sum(map(len, parts)))
+    return ("needs", "", missing, need) if need > asked else verdict(parts, order, missing)
 
 
 def judge(files: List[Optional[Tuple[str, Optional[int]]]], asked: int, order: tuple) -> Answer:
@@ -183,7 +185,7 @@ def judge(files: List[Optional[Tuple[str, Optional[int]]]], asked: int, order: t
     try:
         if len(files) == 1:
             return judged_zip(*files[0], asked, Order(*order))
-        return judged_files(files, Order(*order))
+        return judged_files(files, asked, Order(*order))
     except Failed as failure:
         return "failed", str(failure), "", 0
     except ImportError as error:

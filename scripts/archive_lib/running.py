@@ -15,6 +15,9 @@ from .telling import Stop, Tally, Teller, megabytes
 EXPANSION = 12
 """A zip is taken to hold so many times its own bytes, until the worker that has read it knows better."""
 
+UNKNOWN = 5_000_000
+"""A file of which no size is told is taken to have so many bytes, until it was read."""
+
 A_WORKER_AHEAD = 3
 """So many counties a thread are with the scheduler at once, so that none waits for its next one."""
 
@@ -57,8 +60,9 @@ class Ended(NamedTuple):
 
 
 def first_need(county: County) -> int:
-    """The memory that a county takes: as its files say, or for a zip as it is guessed."""
-    return needed(county.size * EXPANSION, county.size) if county.is_zip else needed(county.size)
+    """The memory that a county takes: as its files say, or for a zip, or where a store tells no sizes, as it is guessed."""
+    size = sum(UNKNOWN if file[1] is None else file[1] for file in county.files if file)
+    return needed(size * EXPANSION, size) if county.is_zip else needed(size)
 
 
 class Run:
@@ -161,7 +165,7 @@ class Run:
         worker is known yet. Else it is set aside."""
         if not self.most:
             return True
-        if job.county.is_zip and job.handed_over == 0:
+        if job.handed_over == 0 and job.county.need_is_guessed:
             job.need = self.most
             return True
         self.too_large.append(self.waiting.popleft())

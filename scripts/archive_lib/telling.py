@@ -135,8 +135,9 @@ class Tally:
         if self.others:
             words.insert(1, f"{self.others:,} another map")
         self.teller.say(f"{', '.join(words)}, {amount(self.bytes)} in {duration(took)}")
-        for rule, count in sorted(self.refused.items(), key=lambda item: (-item[1], item[0])):
-            self.teller.say(f"{count:,} refused {rule}")
+        if self.refused:
+            rules = sorted(self.refused.items(), key=lambda item: (-item[1], item[0]))
+            self.teller.say(f"refused: {', '.join(f'{count:,} by {rule}' for rule, count in rules)}")
 
 
 def groups_of_one_map(lines: Iterable[str]) -> List[List[str]]:
