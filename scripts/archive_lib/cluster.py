@@ -12,6 +12,7 @@ import time
 import urllib.request
 import uuid
 import warnings
+from asyncio import CancelledError
 from dataclasses import astuple
 from multiprocessing import forkserver
 from pathlib import Path
@@ -31,14 +32,18 @@ PATIENCE_AT_END = 5.0
 
 
 class Workers(NamedTuple):
-    """The workers that are there: how many, how many counties they take at once, and the most memory, in bytes, that one of them can
-    give to a county. Where they offer none as a resource, is_rationed is false, and it is the most that one of them has."""
+    """The workers that are there: how many, how many counties they take at once, and the most memory, in bytes, that one of them
+    offers; and how many offer none. Where that is all of them memory isn't rationed, and the most is what one of them has.
+    """
 
-    count: int
+    number: int
     threads: int
     most: int
-    is_rationed: bool
     without: int
+
+    @property
+    def are_rationed(self) -> bool:
+        return self.without < self.number
 
     @staticmethod
     def of(infos: Iterable[dict]) -> "Workers":
@@ -46,9 +51,12 @@ class Workers(NamedTuple):
         offers = [info["resources"][MEMORY] for info in workers if MEMORY in info.get("resources", {})]
         threads = sum(info["nthreads"] for info in workers)
         if offers:
-            return Workers(len(workers), threads, int(max(offers) * 10**6), True, len(workers) - len(offers))
+            return Workers(len(workers), threads, int(max(offers) * 10**6), len(workers) - len(offers))
         limits = [info.get("memory_limit") or sys.maxsize for info in workers]
-        return Workers(len(workers), threads, max(limits, default=0), False, len(workers))
+        return Workers(len(workers), threads, max(limits, default=0), len(workers))
+
+
+NO_WORKERS = Workers(0, 0, 0, 0)
 
 
 class Task(NamedTuple):
@@ -65,7 +73,9 @@ def prepare_local_workers() -> None:
     os.environ.setdefault("GLIBC_TUNABLES", "glibc.malloc.hugetlb=1")
     find_module()
     before = signal.signal(signal.SIGINT, signal.SIG_IGN)
-    multiprocessing.get_context("forkserver").set_forkserver_preload(["distributed.nanny", "distributed.worker", "fsspec"])
+    multiprocessing.get_context("forkserver").set_forkserver_preload(
+        ["distributed.nanny", "distributed.worker", "fsspec"]
+    )
     forkserver.ensure_running()
     signal.signal(signal.SIGINT, before)
 
@@ -82,11 +92,21 @@ def find_module() -> None:
             return
 
 
+def wait_for_file(name: str) -> None:
+    """Waits for a file that a scheduler writes when it begins. Raises OSError where it doesn't come."""
+    until = time.monotonic() + PATIENCE_FOR_SCHEDULER
+    while not os.path.exists(name) and time.monotonic() < until:
+        time.sleep(0.1)
+    os.stat(name)
+
+
 class Cluster:
     """A client of the engine, and its cluster where that is this run's own."""
 
     def __init__(self, address: Optional[str], jobs: int, room: str) -> None:
-        self.address, self.room, self.own, self.client = address, room, None, None
+        self.address, self.room = address, room
+        self.own: Any = None
+        self.client: Any = None
         self.token = uuid.uuid4().hex[:12]
         import cloudpickle
         import dask
@@ -95,7 +115,6 @@ class Cluster:
         cloudpickle.register_pickle_by_value(judging)
         logging.getLogger("distributed").setLevel(logging.CRITICAL)
         warnings.simplefilter("ignore")
-        dask.config.set({"distributed.admin.system-monitor.interval": "2s"})
         try:
             if address is None:
                 self.own = self.local(dask, distributed, jobs)
@@ -106,50 +125,48 @@ class Cluster:
 
     def client_of(self, distributed: Any) -> Any:
         """A client of the cluster. An address has a port; what has none is a file that the scheduler has written or will write."""
+        if self.address is None:
+            return distributed.Client(self.own)
         try:
-            if self.own is None and ":" not in self.address:
-                self.wait_for_file()
-                return distributed.Client(scheduler_file=self.address, timeout=PATIENCE_FOR_SCHEDULER)
-            return distributed.Client(self.own or self.address, timeout=PATIENCE_FOR_SCHEDULER)
+            if ":" in self.address:
+                return distributed.Client(self.address, timeout=PATIENCE_FOR_SCHEDULER)
+            wait_for_file(self.address)
+            return distributed.Client(scheduler_file=self.address, timeout=PATIENCE_FOR_SCHEDULER)
         except (OSError, ValueError) as error:
             raise Stop(f"no scheduler answers at {self.address}: {plainly(error)}") from None
 
-    def wait_for_file(self) -> None:
-        until = time.monotonic() + PATIENCE_FOR_SCHEDULER
-        while not os.path.exists(self.address) and time.monotonic() < until:
-            time.sleep(0.1)
-        with open(self.address, "rb"):
-            pass
-
     def local(self, dask: Any, distributed: Any, jobs: int) -> Any:
         """A worker a job, each with one thread and its share of this machine's memory."""
-        dask.config.set({
-            "distributed.worker.multiprocessing-method": "forkserver",
-            "distributed.worker.profile.enabled": False,
-            "distributed.worker.memory.target": False,
-            "distributed.worker.memory.spill": False,
-            "distributed.worker.memory.pause": False,
-        })
+        dask.config.set(
+            {
+                "distributed.worker.multiprocessing-method": "forkserver",
+                "distributed.worker.profile.enabled": False,
+                "distributed.worker.memory.target": False,
+                "distributed.worker.memory.spill": False,
+                "distributed.worker.memory.pause": False,
+            }
+        )
         limit = distributed.system.MEMORY_LIMIT // jobs
         return distributed.LocalCluster(
-            n_workers=jobs, threads_per_worker=1, memory_limit=limit, resources={MEMORY: int(limit * SHARE / 10**6)},
-            local_directory=self.room, dashboard_address="127.0.0.1:0", silence_logs=logging.CRITICAL,
+            n_workers=jobs,
+            threads_per_worker=1,
+            memory_limit=limit,
+            resources={MEMORY: int(limit * SHARE / 10**6)},
+            local_directory=self.room,
+            dashboard_address="127.0.0.1:0",
+            silence_logs=logging.CRITICAL,
         )
 
     @property
-    def is_there(self) -> bool:
-        return self.client.status == "running"
-
-    @property
     def name(self) -> str:
-        return f"the scheduler at {self.address}" if self.own is None else "the scheduler"
+        return "the scheduler" if self.address is None else f"the scheduler at {self.address}"
 
     def workers(self) -> Workers:
         """The workers that are there now; none, where the scheduler doesn't answer."""
         try:
             return Workers.of(self.client.scheduler_info().get("workers", {}).values())
         except Exception:
-            return Workers(0, 0, 0, True, 0)
+            return NO_WORKERS
 
     def look(self) -> Any:
         """A task that answers what keeps a worker from judging. It also wakes a cluster that has no worker until there is work."""
@@ -158,23 +175,27 @@ class Cluster:
     def submit(self, tasks: List[Task], order: judging.Order, memory: Optional[int]) -> List[Any]:
         """Has counties judged, each of which is given this many bytes of a worker's memory."""
         resources = {MEMORY: -(-memory // 10**6)} if memory is not None else None
-        count = len(tasks)
         return self.client.map(
-            judging.judge, [list(task.files) for task in tasks], [task.asked for task in tasks], [astuple(order)] * count,
-            key=[f"{task.key}-{self.token}" for task in tasks], resources=resources, pure=False,
+            judging.judge,
+            [list(task.files) for task in tasks],
+            [task.asked for task in tasks],
+            [astuple(order)] * len(tasks),
+            key=[f"{task.key}-{self.token}" for task in tasks],
+            resources=resources,
+            pure=False,
         )
 
     def answers(self, futures: List[Any]) -> List[Any]:
-        """What came of tasks that have finished: of each the answer, or the exception that took its place."""
+        """What came of tasks that have ended: of each the answer, or the exception that took its place."""
         try:
             return self.client.gather(futures)
-        except Exception:
+        except (Exception, CancelledError):
             return [self.answer(future) for future in futures]
 
     def answer(self, future: Any) -> Any:
         try:
             return future.result()
-        except Exception as error:
+        except (Exception, CancelledError) as error:
             return error
 
     def dashboard(self) -> Optional[str]:

@@ -11,11 +11,13 @@ import signal
 import sys
 import tempfile
 from contextlib import contextmanager
-from typing import Iterator, List, NoReturn, Optional, Tuple
+from typing import Iterator, List, NoReturn, Optional
 
+from .cluster import Cluster, prepare_local_workers
 from .counties import Archive, County
 from .judging import Order
 from .manifest import FLAGS, Lock, Manifest, agreed_flags, content_of, place_of
+from .running import Ended, Job, Run, first_need
 from .telling import ReaderIsGone, Stop, Tally, Teller, groups_of_one_map, print_lines
 
 SIZES = {"": 1, "kB": 10**3, "MB": 10**6, "GB": 10**9}
@@ -34,8 +36,12 @@ class Stopped(Exception):
 class Parser(argparse.ArgumentParser):
     """A parser that answers whatever it doesn't understand with the usage."""
 
+    def __init__(self, usage: str) -> None:
+        super().__init__(add_help=False, allow_abbrev=False)
+        self.told = usage
+
     def error(self, message: str) -> NoReturn:
-        print(self.description.strip(), file=sys.stderr)
+        print(self.told, file=sys.stderr)
         sys.exit(2)
 
 
@@ -55,7 +61,7 @@ def count_of(word: str) -> int:
 
 def parsed(usage: str, words: Optional[List[str]]) -> argparse.Namespace:
     """The command line, if it can be understood."""
-    reader = Parser(prog="fingerprint-archive", description=usage, add_help=False, allow_abbrev=False)
+    reader = Parser(usage.strip())
     reader.add_argument("--scheduler")
     reader.add_argument("--jobs", type=count_of)
     reader.add_argument("--largest", type=size_of, default=size_of(LARGEST))
@@ -80,12 +86,12 @@ def main(usage: str, words: Optional[List[str]] = None) -> int:
     try:
         return run.run()
     except Stop as stop:
-        teller.say(f"{stop}{run.how_far()}")
+        teller.say(f"{stop}: {run.how_far}" if run.tally.counties else str(stop))
         return 2
     except ReaderIsGone:
         return ending.by(signal.SIGPIPE)
     except Stopped as stopped:
-        teller.say(f"stopped by {signal.Signals(stopped.number).name[3:]}: {run.ended} of {run.counties} done")
+        teller.say(f"stopped by {signal.Signals(stopped.number).name[3:]}: {run.how_far}")
         return ending.by(stopped.number)
 
 
@@ -123,22 +129,15 @@ class Command:
     def __init__(self, given: argparse.Namespace, teller: Teller) -> None:
         self.given, self.teller = given, teller
         self.flags = tuple(flag for flag in FLAGS if getattr(given, flag[2:].replace("-", "_")))
-        self.tally: Optional[Tally] = None
+        self.tally = Tally(teller)
         self.manifest: Optional[Manifest] = None
         self.wanted: List[str] = []
         self.room = ""
         self.gone = ""
 
     @property
-    def ended(self) -> int:
-        return self.tally.ended if self.tally else 0
-
-    @property
-    def counties(self) -> int:
-        return self.tally.counties if self.tally else 0
-
     def how_far(self) -> str:
-        return f": {self.ended} of {self.counties} done" if self.tally else ""
+        return f"{self.tally.ended} of {self.tally.counties} done"
 
     def run(self) -> int:
         for name in (self.given.manifest, *self.given.sources):
@@ -186,15 +185,11 @@ class Command:
 
     def prepare(self) -> None:
         if self.given.scheduler is None:
-            from .cluster import prepare_local_workers
-
             prepare_local_workers()
 
     def judge(self, counties: List[County]) -> None:
         """Has the counties judged. Those whose files can't be judged are told at once."""
-        from .running import Ended, Job, Run, first_need
-
-        self.tally = Tally(self.teller, len(counties), sum(county.size for county in counties))
+        self.tally.begin(len(counties), sum(county.size for county in counties))
         jobs = []
         for number, county in enumerate(counties):
             if county.trouble:
@@ -203,8 +198,6 @@ class Command:
                 jobs.append(Job(number, county, first_need(county)))
         if not jobs:
             return
-        from .cluster import Cluster
-
         cluster = Cluster(self.given.scheduler, self.given.jobs or len(os.sched_getaffinity(0)), self.room)
         try:
             dashboard = cluster.dashboard()
@@ -219,7 +212,7 @@ class Command:
     def order(self) -> Order:
         return Order(self.given.largest, self.given.strict, *(flag in self.flags for flag in FLAGS))
 
-    def take_in(self, number: int, ended: "Ended") -> None:
+    def take_in(self, number: int, ended: Ended) -> None:
         """What came of a county: it is added to the manifest, or held to it; and told, where there is something to tell."""
         words, verdict = ended.words, "OK"
         if ended.digits and self.manifest:
@@ -240,14 +233,16 @@ class Command:
 
     def finish(self, told: str) -> int:
         """Ends the run with what is to be told of all."""
-        missing = self.counties - self.ended
+        missing = self.tally.counties - self.tally.ended
         if missing:
-            self.teller.say(f"{self.gone}: {missing} of {self.counties} are missing, and the same words go on with them")
+            self.teller.say(
+                f"{self.gone}: {missing} of {self.tally.counties} are missing, and the same words go on with them"
+            )
         failed = self.tally.without_fingerprint + self.tally.others + missing
         if failed == 0:
-            self.teller.say(f"{self.counties} done")
+            self.teller.say(f"{self.tally.counties} done")
             return 0
-        self.teller.say(f"{failed} of {self.counties} {told}")
+        self.teller.say(f"{failed} of {self.tally.counties} {told}")
         return 1
 
 

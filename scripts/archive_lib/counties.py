@@ -7,16 +7,13 @@ from dataclasses import dataclass, field
 from fnmatch import fnmatchcase
 from typing import Callable, Dict, Iterable, Iterator, List, NamedTuple, Optional, Set, Tuple
 
-from .folders import Entry, Folders, is_folder, is_url, joined, parted, place_of, real_folder
-from .judging import TYPES
+from .folders import Entry, Folders, is_folder, is_url, joined, parted, place_of, real_folder, system_of
+from .judging import TYPES, File
 from .telling import plainly
 
 RECORD_FILE = re.compile(r"(.+)\.([Rr][Tt])([0-9A-Za-z])", re.S)
 ZIP_FILE = re.compile(r"(.+)\.[Zz][Ii][Pp]", re.S)
 MAGIC = re.compile(r"[*?[]")
-
-File = Tuple[str, Optional[int]]
-"""Where a file is, and how many bytes it has, if that is known."""
 
 
 class County(NamedTuple):
@@ -52,8 +49,9 @@ class Names:
     small: List[str] = field(default_factory=list)
     has_record_files: bool = False
 
-    def add(self, entry: Entry, ending: re.Match[str]) -> None:
-        if ZIP_FILE.fullmatch(entry.name):
+    def add(self, entry: Entry) -> None:
+        ending = RECORD_FILE.fullmatch(entry.name)
+        if not ending:
             self.zips.append(entry)
             return
         self.has_record_files = True
@@ -136,7 +134,7 @@ class Archive:
 
     def of_pattern(self, pattern: str) -> Iterator[County]:
         """The counties of what a pattern matches: of folders, and of files."""
-        root, words = pattern, []
+        root, words = pattern, list[str]()
         while MAGIC.search(root):
             root, word = parted(root)
             words.insert(0, word)
@@ -188,7 +186,7 @@ class Archive:
             for entry in self.folders.entries(folder):
                 ending = RECORD_FILE.fullmatch(entry.name) or ZIP_FILE.fullmatch(entry.name)
                 if ending and not entry.is_folder:
-                    grouped.setdefault(ending[1], Names()).add(entry, ending)
+                    grouped.setdefault(ending[1], Names()).add(entry)
             self.grouped[folder] = grouped
         return self.grouped[folder]
 
@@ -226,8 +224,6 @@ def county_of(stem: str, folder: str, names: Names) -> County:
 
 def probed(stem: str) -> Names:
     """What is there under a stem where the folder can't be listed, as on a server of files."""
-    from .folders import system_of
-
     names = Names()
     for ending in (".ZIP", ".zip", *(f".RT{kind}" for kind in TYPES)):
         system, path = system_of(stem + ending)
@@ -235,6 +231,5 @@ def probed(stem: str) -> Names:
             info = system.info(path)
         except Exception:
             continue
-        entry = Entry(parted(stem + ending)[1], False, info.get("size"))
-        names.add(entry, RECORD_FILE.fullmatch(entry.name) or ZIP_FILE.fullmatch(entry.name))
+        names.add(Entry(parted(stem + ending)[1], False, info.get("size")))
     return names

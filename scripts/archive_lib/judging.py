@@ -10,7 +10,7 @@ import io
 import time
 import zipfile
 from dataclasses import dataclass
-from typing import Dict, List, Optional, Tuple
+from typing import Container, Dict, List, Optional, Tuple
 
 TYPES = "1245678IP"
 """The record types of the nine files, in the order of the parts."""
@@ -23,6 +23,9 @@ PAUSES = (0.5, 2.0)
 
 NO_FIRST_FILE = "refused 8 Device"
 """What the program tells where there is no file of type 1."""
+
+File = Tuple[str, Optional[int]]
+"""Where a file is, and how many bytes it has, if that is known."""
 
 Answer = Tuple[str, str, str, int]
 """What came of a county: one of the words below, a text, the types of which there is no file, and a number of bytes.
@@ -55,8 +58,9 @@ def needed(unpacked: int, packed: int = 0) -> int:
     return int(unpacked * (1 + FACTOR)) + packed
 
 
-def fetched(place: str, size: Optional[int]) -> bytes:
+def fetched(file: File) -> bytes:
     """All bytes of a file, by three tries."""
+    place, size = file
     for pause in (*PAUSES, None):
         try:
             text = read(place)
@@ -147,14 +151,14 @@ def verdict(parts: List[bytes], order: Order, missing: str) -> Answer:
     return "made", digits, missing, 0
 
 
-def lacking(kinds: Dict[str, object]) -> str:
+def lacking(kinds: Container[str]) -> str:
     """The types of which there is no file."""
     return "".join(kind for kind in TYPES if kind not in kinds)
 
 
-def judged_zip(place: str, size: Optional[int], asked: int, order: Order) -> Answer:
+def judged_zip(file: File, asked: int, order: Order) -> Answer:
     """A county in a zip, which is read once, and of which nothing is unpacked that has no room."""
-    packed = fetched(place, size)
+    packed = fetched(file)
     with opened(packed) as archive:
         members = members_of(archive)
         missing = lacking(members)
@@ -170,21 +174,21 @@ def judged_zip(place: str, size: Optional[int], asked: int, order: Order) -> Ans
     return verdict(parts, order, missing)
 
 
-def judged_files(files: List[Optional[Tuple[str, Optional[int]]]], asked: int, order: Order) -> Answer:
+def judged_files(files: List[Optional[File]], asked: int, order: Order) -> Answer:
     """A county of single files, each with its place and its size, if that is known."""
-    missing = lacking({kind: file for kind, file in zip(TYPES, files) if file})
+    missing = lacking([kind for kind, file in zip(TYPES, files) if file])
     if order.is_strict and missing:
         return "refused", "refused by --strict", missing, 0
-    parts = [fetched(*file) if file else b"" for file in files]
+    parts = [fetched(file) if file else b"" for file in files]
     need = needed(sum(map(len, parts)))
     return ("needs", "", missing, need) if need > asked else verdict(parts, order, missing)
 
 
-def judge(files: List[Optional[Tuple[str, Optional[int]]]], asked: int, order: tuple) -> Answer:
+def judge(files: List[Optional[File]], asked: int, order: tuple) -> Answer:
     """Judges a county: nine files of which some may not be there, or one that is a zip. asked is the memory that it may take."""
     try:
-        if len(files) == 1:
-            return judged_zip(*files[0], asked, Order(*order))
+        if len(files) == 1 and files[0]:
+            return judged_zip(files[0], asked, Order(*order))
         return judged_files(files, asked, Order(*order))
     except Failed as failure:
         return "failed", str(failure), "", 0

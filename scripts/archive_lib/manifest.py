@@ -9,9 +9,9 @@ import re
 import socket
 import stat
 import time
-from typing import Dict, List, NamedTuple, Optional, Tuple
+from typing import List, NamedTuple, Optional, Tuple
 
-from .telling import Stop, plainly
+from .telling import Stop
 
 FLAGS = ("--no-sources", "--no-reserved")
 HEADINGS = [b"# --no-sources", b"# --no-reserved", b"# --no-sources --no-reserved"]
@@ -125,7 +125,9 @@ class Lock:
                 return
             except BlockingIOError:
                 if time.monotonic() >= until:
-                    raise Stop(f"another run writes to {self.name}: {self.holder()}, which holds {self.name}.lock") from None
+                    raise Stop(
+                        f"another run writes to {self.name}: {self.holder()}, which holds {self.name}.lock"
+                    ) from None
                 time.sleep(0.02)
             except OSError:
                 raise Stop(f"{self.name}.lock can't be locked: the folder's file system may have no locks") from None
@@ -191,7 +193,7 @@ class Manifest:
                 if self.flags and os.fstat(file.fileno()).st_size == 0:
                     line = f"# {' '.join(self.flags)}\n".encode() + line
                 while line:
-                    line = line[file.write(line):]
+                    line = line[file.write(line) :]
         except OSError:
             raise Stop(f"{self.name} can't be written") from None
 

@@ -5,11 +5,11 @@ from __future__ import annotations
 import time
 from collections import deque
 from dataclasses import dataclass
-from typing import Any, Callable, Deque, Dict, List, NamedTuple, Optional
+from typing import Any, Callable, Deque, Dict, List, NamedTuple
 
-from .cluster import Cluster, Task, Workers
+from .cluster import NO_WORKERS, Cluster, Task
 from .counties import County, lacks
-from .judging import Answer, Order, needed
+from .judging import Order, needed
 from .telling import Stop, Tally, Teller, megabytes
 
 EXPANSION = 12
@@ -69,14 +69,17 @@ class Run:
     """Judges counties by a cluster, and tells what came of each. take_in gets each county once, but for those that are missing in the
     end, because the scheduler or all workers were gone."""
 
-    def __init__(self, cluster: Cluster, order: Order, teller: Teller, tally: Tally, take_in: Callable[[int, Ended], None]) -> None:
+    def __init__(
+        self, cluster: Cluster, order: Order, teller: Teller, tally: Tally, take_in: Callable[[int, Ended], None]
+    ) -> None:
         self.cluster, self.order, self.teller, self.tally, self.take_in = cluster, order, teller, tally, take_in
         self.waiting: Deque[Job] = deque()
         self.under_way: Dict[Any, Job] = {}
         self.too_large: List[Job] = []
         self.suspects: List[Job] = []
-        self.workers = Workers(0, 0, 0, True, 0)
+        self.workers = NO_WORKERS
         self.most = 0
+        self.is_rationed = True
         self.looked_at = self.served_at = time.monotonic()
         self.gone = ""
 
@@ -94,9 +97,14 @@ class Run:
         for job in suspects:
             self.waiting.append(job)
             self.work(is_alone=True)
-        if not self.gone:
-            for job in self.too_large:
-                self.fail(job, f"it needs {megabytes(job.need)} of memory, and no worker has more than {megabytes(self.most)}")
+        self.tell_too_large()
+
+    def tell_too_large(self) -> None:
+        """Tells the counties that need more memory than there is."""
+        self.look_at_workers()
+        most = megabytes(self.workers.most)
+        for job in self.too_large if not self.gone else []:
+            self.fail(job, f"it needs {megabytes(job.need)} of memory, and no worker has more than {most}")
 
     # The workers.
 
@@ -115,18 +123,21 @@ class Run:
         if trouble:
             raise Stop(f"a worker can't judge: {trouble}")
         self.look_at_workers()
-        if not self.workers.is_rationed:
-            self.teller.say("the workers offer no resource MB, so that counties aren't kept from taking more memory than there is")
+        self.is_rationed = self.workers.are_rationed
+        if not self.is_rationed:
+            self.teller.say(
+                "the workers offer no resource MB, so that counties aren't kept from taking more memory than there is"
+            )
         elif self.workers.without:
-            self.teller.say(f"{self.workers.without} of {self.workers.count} workers offer no resource MB, and get no county")
+            self.teller.say(
+                f"{self.workers.without} of {self.workers.number} workers offer no resource MB, and get no county"
+            )
 
     def look_at_workers(self) -> None:
-        now = time.monotonic()
-        is_rationed = self.workers.is_rationed or self.workers.count == 0
-        found = self.cluster.workers()
-        self.workers = found._replace(is_rationed=found.is_rationed if is_rationed else False)
-        self.most = max(self.most, found.most)
-        self.looked_at = now
+        """Sees which workers are there. The most that one of them has offered so far may be offered again."""
+        self.workers = self.cluster.workers()
+        self.most = max(self.most, self.workers.most)
+        self.looked_at = time.monotonic()
 
     def ahead(self) -> int:
         return max(self.workers.threads * A_WORKER_AHEAD, FEWEST_AHEAD)
@@ -172,7 +183,7 @@ class Run:
         return False
 
     def submit(self, jobs: List[Job]) -> None:
-        memory = jobs[0].need if self.workers.is_rationed else None
+        memory = jobs[0].need if self.is_rationed else None
         tasks = []
         for job in jobs:
             job.handed_over += 1
@@ -189,7 +200,7 @@ class Run:
 
     def sort_out(self, job: Job, answer: Any, is_alone: bool) -> None:
         """What came of a county, or what is to be tried next."""
-        if isinstance(answer, Exception):
+        if isinstance(answer, BaseException):
             if type(answer).__name__ == "CancelledError":
                 self.lose(f"{self.cluster.name} is gone")
             elif type(answer).__name__ != "KilledWorker":
@@ -228,7 +239,7 @@ class Run:
         """Tells how far the run has come, and sees whether there are workers to go on."""
         if self.tally.is_due():
             self.look_at_workers()
-            self.tally.tell_progress(self.workers.count)
+            self.tally.tell_progress(self.workers.number)
         elif time.monotonic() - self.looked_at > 10:
             self.look_at_workers()
         can_go_on = any(job.need <= self.workers.most for job in self.under_way.values())
@@ -239,7 +250,7 @@ class Run:
 
     def give_up_waiting(self) -> None:
         """Nothing that is under way finds a worker. Where there are none at all the run ends; else these counties are told."""
-        if not self.workers.count:
+        if not self.workers.number:
             self.lose(f"{self.cluster.name} has had no worker for {int(PATIENCE_FOR_WORKERS / 60)} minutes")
             return
         self.too_large.extend(self.under_way.values())

@@ -95,12 +95,16 @@ class Teller:
 class Tally:
     """What came of the counties so far, and the progress of the run."""
 
-    def __init__(self, teller: Teller, counties: int, bytes_in_all: int) -> None:
-        self.teller, self.counties, self.bytes_in_all = teller, counties, bytes_in_all
+    def __init__(self, teller: Teller) -> None:
+        self.teller, self.counties, self.bytes_in_all = teller, 0, 0
         self.ended = self.fingerprints = self.others = self.failed = self.bytes = 0
         self.refused: Counter[str] = Counter()
         self.begun = time.monotonic()
         self.told_at = self.begun
+
+    def begin(self, counties: int, bytes_in_all: int) -> None:
+        """What there is to do is known."""
+        self.counties, self.bytes_in_all = counties, bytes_in_all
 
     @property
     def without_fingerprint(self) -> int:
@@ -117,16 +121,19 @@ class Tally:
         """Whether it is time to tell how far the run has come."""
         return time.monotonic() - self.told_at >= (PAUSE_OF_A_TERMINAL if self.teller.is_terminal else PAUSE)
 
-    def tell_progress(self, workers: int, waiting: str = "") -> None:
+    def tell_progress(self, workers: int) -> None:
         """How far the run has come, at what rate, and how long it will take if it goes on so."""
         self.told_at = time.monotonic()
         took = self.told_at - self.begun
         rate = self.bytes / took
-        words = [f"{self.ended:,} of {self.counties:,} counties", f"{amount(self.bytes)} of {amount(self.bytes_in_all)}"]
+        words = [
+            f"{self.ended:,} of {self.counties:,} counties",
+            f"{amount(self.bytes)} of {amount(self.bytes_in_all)}",
+        ]
         if rate > 0:
             words += [f"{amount(int(rate))} a second", f"{duration((self.bytes_in_all - self.bytes) / rate)} left"]
-        words += [f"{sum(self.refused.values()):,} refused", f"{self.failed:,} failed", f"{workers} workers"]
-        self.teller.say_for_now(", ".join([*words, waiting] if waiting else words))
+        words += [f"{sum(self.refused.values()):,} refused", f"{self.failed:,} failed", f"workers: {workers}"]
+        self.teller.say_for_now(", ".join(words))
 
     def tell_summary(self, made: str) -> None:
         """What came of all; made says what those are that were neither refused nor failed."""

@@ -11,8 +11,14 @@ ROOT = Path(__file__).resolve().parent.parent.parent
 EXAMPLES = ROOT / "examples"
 TYPES = "1245678IP"
 
-ACCEPTED = ["autauga/all.txt", "autauga-renumbered/all.txt", "autauga-one-address.txt", "two-maps/second.txt", "twins/there-and-back.txt",
-            "twins/one-shape.txt"]
+ACCEPTED = [
+    "autauga/all.txt",
+    "autauga-renumbered/all.txt",
+    "autauga-one-address.txt",
+    "two-maps/second.txt",
+    "twins/there-and-back.txt",
+    "twins/one-shape.txt",
+]
 COUNTIES = 300
 
 Parts = Dict[str, bytes]
@@ -42,7 +48,7 @@ def renumbered(text: bytes, by: int) -> bytes:
     for line in text.splitlines():
         at = {b"1": 5, b"2": 5, b"4": 5, b"6": 5, b"I": 10}.get(line[:1])
         if at is not None:
-            line = line[:at] + b"%10d" % (int(line[at:at + 10]) + by) + line[at + 10:]
+            line = line[:at] + b"%10d" % (int(line[at : at + 10]) + by) + line[at + 10 :]
         lines.append(line + b"\n")
     return b"".join(lines)
 
@@ -58,7 +64,9 @@ def changed(text: bytes, number: int) -> bytes:
 def texts(count: int) -> List[bytes]:
     """The texts of so many counties: each map twice under other numbers, and some once. Each tenth county is refused."""
     accepted = [(EXAMPLES / name).read_bytes() for name in ACCEPTED]
-    refused = [path.read_bytes() for path in sorted((EXAMPLES / "refused").iterdir())] + [(EXAMPLES / "broken.txt").read_bytes()]
+    refused = [path.read_bytes() for path in sorted((EXAMPLES / "refused").iterdir())] + [
+        (EXAMPLES / "broken.txt").read_bytes()
+    ]
     made = []
     for number in range(count):
         if number % 10 == 9:
@@ -94,7 +102,9 @@ def put_zip(room: Path, county: Made, is_small: bool = False) -> Path:
     path = room / f"{county.stem}{'.zip' if is_small else '.ZIP'}"
     path.parent.mkdir(parents=True, exist_ok=True)
     name = Path(county.stem).name
-    members = {f"{name}.RT{kind}": text for kind, text in [*county.parts.items(), ("A", b"A2006\r\n"), ("Z", b"Z2006\r\n")]}
+    members = {
+        f"{name}.RT{kind}": text for kind, text in [*county.parts.items(), ("A", b"A2006\r\n"), ("Z", b"Z2006\r\n")]
+    }
     with zipfile.ZipFile(path, "w", zipfile.ZIP_DEFLATED) as packed:
         for member, text in members.items():
             packed.writestr(member.lower() if is_small else member, text)

@@ -2,6 +2,7 @@
 
 from __future__ import annotations
 
+import ctypes
 import importlib.util
 import os
 import re
@@ -13,7 +14,7 @@ import tempfile
 import time
 import unittest
 from pathlib import Path
-from typing import Any, Dict, List, NamedTuple, Optional
+from typing import Any, Dict, Iterator, List, NamedTuple, Optional
 
 from .made import ROOT
 
@@ -23,12 +24,19 @@ PACKAGES = ("distributed", "fsspec")
 PATIENCE = 100.0
 """No call and no engine gets more seconds than these."""
 
+PR_SET_PDEATHSIG = 1
+
 program: Path = ROOT / "crates/tigercanon_main/out/tigercanon_main"
 library: Optional[Path] = None
 """The program by which fingerprint-all works, and the folder of the library, where one is built."""
 
 has_engine = all(map(importlib.util.find_spec, PACKAGES))
 with_engine = unittest.skipUnless(has_engine, "distributed or fsspec isn't installed")
+
+
+def die_with_the_test() -> None:
+    """Has the process that begins here end with this one, however this one ends."""
+    ctypes.CDLL(None).prctl(PR_SET_PDEATHSIG, signal.SIGKILL)
 
 
 class Ended(NamedTuple):
@@ -61,8 +69,16 @@ def tripping(**more: str) -> Dict[str, str]:
 
 def call(script: str, *words: object, cwd: Path, env: Optional[Dict[str, str]] = None, **options: Any) -> Ended:
     """Calls a script of this repository."""
-    command = [str(word) for word in ([sys.executable] if script == "fingerprint-archive" else []) + [SCRIPTS / script, *words]]
-    options = {"stdout": subprocess.PIPE, "stderr": subprocess.PIPE, "timeout": PATIENCE, **options}
+    command = [
+        str(word) for word in ([sys.executable] if script == "fingerprint-archive" else []) + [SCRIPTS / script, *words]
+    ]
+    options = {
+        "stdout": subprocess.PIPE,
+        "stderr": subprocess.PIPE,
+        "timeout": PATIENCE,
+        "preexec_fn": die_with_the_test,
+        **options,
+    }
     run = subprocess.run(command, cwd=cwd, env=env or environment(), stdin=subprocess.DEVNULL, **options)
     return Ended(run.returncode, (run.stdout or b"").decode(), (run.stderr or b"").decode())
 
@@ -70,8 +86,10 @@ def call(script: str, *words: object, cwd: Path, env: Optional[Dict[str, str]] =
 def begin(*words: object, cwd: Path, env: Optional[Dict[str, str]] = None, **options: Any) -> subprocess.Popen:
     """Begins a call of fingerprint-archive."""
     command = [sys.executable, str(SCRIPTS / "fingerprint-archive"), *map(str, words)]
-    options = {"stdout": subprocess.PIPE, "stderr": subprocess.PIPE, **options}
-    return subprocess.Popen(command, cwd=cwd, env=env or environment(), stdin=subprocess.DEVNULL, start_new_session=True, **options)
+    options = {"stdout": subprocess.PIPE, "stderr": subprocess.PIPE, "preexec_fn": die_with_the_test, **options}
+    return subprocess.Popen(
+        command, cwd=cwd, env=env or environment(), stdin=subprocess.DEVNULL, start_new_session=True, **options
+    )
 
 
 def end(run: subprocess.Popen) -> Ended:
@@ -102,11 +120,38 @@ def await_that(holds: Any, seconds: float = 60.0) -> bool:
     return True
 
 
+class Process(NamedTuple):
+    """A process that is there: its number and its parent's, that of its session, and its words."""
+
+    number: int
+    parent: int
+    session: int
+    command: str
+
+
+def processes() -> Iterator[Process]:
+    """All processes, but for those that have ended and are still listed."""
+    for status in Path("/proc").glob("[0-9]*/stat"):
+        try:
+            words = status.read_text().rpartition(")")[2].split()
+            command = (status.parent / "cmdline").read_bytes().decode(errors="replace")
+        except OSError:
+            continue
+        if words[0] != "Z":
+            yield Process(int(status.parent.name), int(words[1]), int(words[3]), command)
+
+
 class Engine:
     """A scheduler and workers on 127.0.0.1, each a process as a cluster would start it."""
 
-    def __init__(self, room: Path, workers: int = 3, env: Optional[Dict[str, str]] = None, memory: Optional[int] = 400,
-                 threads: int = 1) -> None:
+    def __init__(
+        self,
+        room: Path,
+        workers: int = 3,
+        env: Optional[Dict[str, str]] = None,
+        memory: Optional[int] = 400,
+        threads: int = 1,
+    ) -> None:
         self.room = Path(tempfile.mkdtemp(dir=room))
         self.file = self.room / "scheduler.json"
         self.env = env or environment()
@@ -125,27 +170,49 @@ class Engine:
 
     def start_worker(self, memory: Optional[int] = 400, threads: int = 1) -> None:
         offer = ["--resources", f"MB={memory}"] if memory is not None else []
-        self.workers.append(self.begin("worker", "--nthreads", str(threads), "--memory-limit", "2GB", *offer, "--no-dashboard",
-                                       "--local-directory", str(self.room)))
+        self.workers.append(
+            self.begin(
+                "worker",
+                "--nthreads",
+                str(threads),
+                "--memory-limit",
+                "2GB",
+                *offer,
+                "--no-dashboard",
+                "--local-directory",
+                str(self.room),
+            )
+        )
 
     def begin(self, kind: str, *words: str) -> subprocess.Popen:
-        command = [sys.executable, "-m", f"distributed.cli.dask_{kind}", "--scheduler-file", str(self.file), "--host", "127.0.0.1", *words]
+        command = [
+            sys.executable,
+            "-m",
+            f"distributed.cli.dask_{kind}",
+            "--scheduler-file",
+            str(self.file),
+            "--host",
+            "127.0.0.1",
+            *words,
+        ]
         with open(self.room / f"{kind}.log", "ab") as log:
-            return subprocess.Popen(command, cwd=self.room, env=self.env, stdin=subprocess.DEVNULL, stdout=log, stderr=log,
-                                    start_new_session=True)
+            return subprocess.Popen(
+                command,
+                cwd=self.room,
+                env=self.env,
+                stdin=subprocess.DEVNULL,
+                stdout=log,
+                stderr=log,
+                start_new_session=True,
+                preexec_fn=die_with_the_test,
+            )
 
     def worker_processes(self) -> List[int]:
         """The processes in which counties are judged: what the workers' watchers have started."""
-        watchers = {str(worker.pid) for worker in self.workers}
-        found = []
-        for status in Path("/proc").glob("[0-9]*/stat"):
-            try:
-                state, parent = status.read_text().rpartition(")")[2].split()[:2]
-                if parent in watchers and state != "Z" and b"spawn_main" in (status.parent / "cmdline").read_bytes():
-                    found.append(int(status.parent.name))
-            except OSError:
-                continue
-        return found
+        watchers = {worker.pid for worker in self.workers}
+        return [
+            process.number for process in processes() if process.parent in watchers and "spawn_main" in process.command
+        ]
 
     def close(self) -> None:
         for run in (*self.workers, self.scheduler):

@@ -6,14 +6,12 @@ import os
 import signal
 import subprocess
 import sys
-import time
-from pathlib import Path
 from typing import List
 
 from archive_lib.telling import Tally, Teller, amount, duration, groups_of_one_map
 
 from .made import Made, parts_of, put_files, put_zip, texts
-from .support import SCRIPTS, Ended, InRoom, begin, call, end, environment, with_engine
+from .support import SCRIPTS, Ended, InRoom, begin, call, end, environment, tripping, with_engine
 
 DIGITS = "0123456789abcdef" * 4
 
@@ -33,17 +31,40 @@ class Words(InRoom):
             self.assertEqual((ended.status, ended.out, ended.err), (2, "", f"fingerprint-all: {told}\n"))
 
     def test_usage(self) -> None:
-        for words in ((), ("manifest",), ("--check",), ("--check", "m", "in"), ("--strict", "--check", "m"), ("--loud", "m", "in"),
-                      ("--jobs", "0", "m", "in"), ("--jobs", "x", "m", "in"), ("--largest", "2XB", "m", "in"), ("--largest", "0", "m", "in"),
-                      ("--same", "--check", "m"), ("--jobs", "2", "--scheduler", "a:1", "m", "in"), ("--help",), ("--sche", "a:1", "m", "in")):
+        for words in (
+            (),
+            ("manifest",),
+            ("--check",),
+            ("--check", "m", "in"),
+            ("--strict", "--check", "m"),
+            ("--loud", "m", "in"),
+            ("--jobs", "0", "m", "in"),
+            ("--jobs", "x", "m", "in"),
+            ("--largest", "2XB", "m", "in"),
+            ("--largest", "0", "m", "in"),
+            ("--same", "--check", "m"),
+            ("--jobs", "2", "--scheduler", "a:1", "m", "in"),
+            ("--help",),
+            ("--sche", "a:1", "m", "in"),
+        ):
             ended = call("fingerprint-archive", *words, cwd=self.room)
             self.assertEqual((ended.status, ended.out), (2, ""))
             self.assertTrue(ended.err.startswith("Writes the fingerprints of an archive's counties"), words)
-            self.assertIn("fingerprint-archive [--scheduler ADDRESS | --jobs N] [--largest SIZE] --check MANIFEST\n", ended.err)
+            self.assertIn(
+                "fingerprint-archive [--scheduler ADDRESS | --jobs N] [--largest SIZE] --check MANIFEST\n", ended.err
+            )
 
     def test_what_is_no_manifest(self) -> None:
         line = f"{DIGITS}  in/a\n".encode()
-        for text in (b"something else\n", b"something", line[1:], line[:65] + b"\n", line + b"x\n" + line, b"# --loud\n" + line, line + b"# --no-sources\n"):
+        for text in (
+            b"something else\n",
+            b"something",
+            line[1:],
+            line[:65] + b"\n",
+            line + b"x\n" + line,
+            b"# --loud\n" + line,
+            line + b"# --no-sources\n",
+        ):
             self.put("m", text)
             self.assert_same("m is no manifest", "m", "in/b")
             self.assertEqual(self.text("m"), text)
@@ -62,8 +83,16 @@ class Words(InRoom):
         line = f"{DIGITS}  in/a\n".encode()
         self.put("m", b"# --no-sources\n" + line)
         self.assert_same("m was made with --no-sources, and this run is with none", "m", "in/b")
-        self.assert_same("m was made with --no-sources, and this run is with --no-sources --no-reserved", "--no-reserved", "--no-sources", "m", "in/b")
-        self.assert_same("m was made with --no-sources, and this run is with --no-reserved", "--no-reserved", "--check", "m")
+        self.assert_same(
+            "m was made with --no-sources, and this run is with --no-sources --no-reserved",
+            "--no-reserved",
+            "--no-sources",
+            "m",
+            "in/b",
+        )
+        self.assert_same(
+            "m was made with --no-sources, and this run is with --no-reserved", "--no-reserved", "--check", "m"
+        )
         self.put("m", line)
         self.assert_same("m was made with no flag, and this run is with --no-reserved", "--no-reserved", "m", "in/b")
 
@@ -77,8 +106,12 @@ class Words(InRoom):
             self.assertEqual(call("fingerprint-all", "by-all", "in/a", "in/b.RT1", cwd=self.room).status, 0)
             ended = call("fingerprint-archive", "--same", "by-archive", "in/a", "in/b.RT1", cwd=self.room)
             self.assertEqual((ended.status, ended.out.encode()), (0, ordered))
-            self.assertTrue(ended.err.endswith("fingerprint-archive: 4 counties in the manifest hold a map that another one holds too\n"
-                                               "fingerprint-archive: 0 done\n"))
+            self.assertTrue(
+                ended.err.endswith(
+                    "fingerprint-archive: 4 counties in the manifest hold a map that another one holds too\n"
+                    "fingerprint-archive: 0 done\n"
+                )
+            )
             self.assertEqual((self.text("by-all"), self.text("by-archive")), (ordered, ordered))
         self.assertEqual(sorted(os.listdir(self.room)), ["by-all", "by-archive"])
 
@@ -98,8 +131,13 @@ class Words(InRoom):
         self.put("m", text)
         put_files(self.room, Made("in/a", parts_of(texts(1)[0]), False))
         shell = 'trap "" XFSZ; ulimit -f 8; exec "$@"'
-        run = subprocess.run(["bash", "-c", shell, "-", sys.executable, SCRIPTS / "fingerprint-archive", "--jobs", "1", "m", "in"],
-                             cwd=self.room, env=environment(), capture_output=True, timeout=60)
+        run = subprocess.run(
+            ["bash", "-c", shell, "-", sys.executable, SCRIPTS / "fingerprint-archive", "--jobs", "1", "m", "in"],
+            cwd=self.room,
+            env=environment(),
+            capture_output=True,
+            timeout=60,
+        )
         self.assertEqual(run.returncode, 2, run.stderr)
         self.assertIn(b"fingerprint-archive: m can't be written: 0 of 1 done\n", run.stderr)
         self.assertTrue(self.text("m").startswith(text))
@@ -110,8 +148,13 @@ class Words(InRoom):
         without = "import sys, runpy; sys.path = [path for path in sys.path if 'packages' not in path]; import os; os.path.exists = lambda _: False;"
         code = f"{without} sys.argv = ['x', 'm', 'in']; runpy.run_path({str(SCRIPTS / 'fingerprint-archive')!r}, run_name='__main__')"
         run = subprocess.run([sys.executable, "-c", code], cwd=self.room, capture_output=True, timeout=60)
-        self.assertEqual((run.returncode, run.stderr), (
-            2, b"fingerprint-archive: Python has no distributed or no fsspec: Debian's python3-distributed and python3-fsspec\n"))
+        self.assertEqual(
+            (run.returncode, run.stderr),
+            (
+                2,
+                b"fingerprint-archive: Python has no distributed or no fsspec: Debian's python3-distributed and python3-fsspec\n",
+            ),
+        )
 
 
 @with_engine
@@ -127,12 +170,23 @@ class Calls(InRoom):
 
     def test_flags_and_strict(self) -> None:
         """By flags other fingerprints, the same as by fingerprint-all; by --strict none where a file is lacking, in a zip as well."""
-        put_zip(self.room, Made("in/d", {kind: text for kind, text in parts_of(self.text_of_all).items() if kind != "8"}, True))
+        put_zip(
+            self.room,
+            Made("in/d", {kind: text for kind, text in parts_of(self.text_of_all).items() if kind != "8"}, True),
+        )
         (self.room / "in/b.RT7").rename(self.room / "in/b.rt7")
         flags = ["--no-reserved", "--no-sources"]
         ended = call("fingerprint-archive", "--jobs", "1", "--strict", *flags, "m", "in", cwd=self.room)
-        self.assertEqual((ended.status, ended.told()), (1, {
-            "in/b": "refused by --strict; without .RT7, and lower case isn't read: .rt7", "in/d": "refused by --strict; without .RT8"}))
+        self.assertEqual(
+            (ended.status, ended.told()),
+            (
+                1,
+                {
+                    "in/b": "refused by --strict; without .RT7, and lower case isn't read: .rt7",
+                    "in/d": "refused by --strict; without .RT8",
+                },
+            ),
+        )
         self.assertIn("refused: 2 by --strict\n", ended.err)
         self.assertEqual(self.text("m").splitlines()[0], b"# --no-sources --no-reserved")
         put_files(self.room, Made("in/c", parts_of(self.text_of_all), False))
@@ -153,8 +207,10 @@ class Calls(InRoom):
 
     def test_no_scheduler(self) -> None:
         """One that doesn't answer, and a file that isn't written: both are waited for, and then told."""
-        runs = [begin("--scheduler", address, f"m{number}", "in", cwd=self.room)
-                for number, address in enumerate(("tcp://127.0.0.1:9", "nowhere.json"))]
+        runs = [
+            begin("--scheduler", address, f"m{number}", "in", cwd=self.room)
+            for number, address in enumerate(("tcp://127.0.0.1:9", "nowhere.json"))
+        ]
         for run, address in zip(runs, ("tcp://127.0.0.1:9", "nowhere.json")):
             ended = end(run)
             self.assertEqual(ended.status, 2, ended.err)
@@ -171,8 +227,6 @@ class Calls(InRoom):
 
     def test_a_terminal(self) -> None:
         """Where standard error is a terminal one line tells how far the run has come, and each next one takes its place."""
-        from .support import tripping
-
         terminal, inner = os.openpty()
         run = begin("--jobs", "1", "m", "in", cwd=self.room, env=tripping(TRIPPING_PAUSE="0.8"), stderr=inner)
         os.close(inner)
@@ -185,7 +239,10 @@ class Calls(InRoom):
             told += more
         os.close(terminal)
         self.assertEqual(end(run).status, 0)
-        self.assertRegex(told.decode(), "\r\x1b\\[Kfingerprint-archive: 2 of 3 counties, .* left, 0 refused, 0 failed, 1 workers\r\x1b\\[K")
+        self.assertRegex(
+            told.decode(),
+            "\r\x1b\\[Kfingerprint-archive: 2 of 3 counties, .* left, 0 refused, 0 failed, workers: 1\r\x1b\\[K",
+        )
 
 
 class Numbers(InRoom):
@@ -194,10 +251,16 @@ class Numbers(InRoom):
     def test_amounts(self) -> None:
         found = [amount(count) for count in (0, 999, 1000, 1_250_000, 3_400_000_000, 5_000_000_000_000)]
         self.assertEqual(found, ["0 bytes", "999 bytes", "1.0 kB", "1.2 MB", "3.4 GB", "5,000.0 GB"])
-        self.assertEqual([duration(seconds) for seconds in (0.2, 59.6, 61, 3600, 90_061)], ["0 s", "1 min 0 s", "1 min 1 s", "1 h 0 min", "25 h 1 min"])
+        self.assertEqual(
+            [duration(seconds) for seconds in (0.2, 59.6, 61, 3600, 90_061)],
+            ["0 s", "1 min 0 s", "1 min 1 s", "1 h 0 min", "25 h 1 min"],
+        )
 
     def test_groups(self) -> None:
-        lines = ["%064d  %s" % (number, name) for number, name in ((1, "a"), (2, "b"), (1, "c"), (3, "d"), (2, "e"), (1, "f"))]
+        lines = [
+            "%064d  %s" % (number, name)
+            for number, name in ((1, "a"), (2, "b"), (1, "c"), (3, "d"), (2, "e"), (1, "f"))
+        ]
         self.assertEqual(groups_of_one_map(lines), [[lines[0], lines[2], lines[5]], [lines[1], lines[4]]])
 
     def test_progress(self) -> None:
@@ -210,7 +273,8 @@ class Numbers(InRoom):
 
         teller = Heard()
         teller.is_terminal = False
-        tally = Tally(teller, 3200, 40_000_000_000)
+        tally = Tally(teller)
+        tally.begin(3200, 40_000_000_000)
         self.assertFalse(tally.is_due())
         tally.told_at -= 10
         tally.begun -= 100
@@ -218,6 +282,11 @@ class Numbers(InRoom):
         tally.bytes, tally.ended, tally.failed = 10_000_000_000, 1200, 2
         tally.refused["4 BadNumber"] += 3
         tally.tell_progress(4)
-        self.assertEqual(told, ["fingerprint-archive: 1,200 of 3,200 counties, 10.0 GB of 40.0 GB, 100.0 MB a second, 5 min 0 s left, "
-                                "3 refused, 2 failed, 4 workers\n"])
+        self.assertEqual(
+            told,
+            [
+                "fingerprint-archive: 1,200 of 3,200 counties, 10.0 GB of 40.0 GB, 100.0 MB a second, 5 min 0 s left, "
+                "3 refused, 2 failed, workers: 4\n"
+            ],
+        )
         self.assertFalse(tally.is_due())

@@ -4,7 +4,6 @@ from __future__ import annotations
 
 import os
 from importlib.util import find_spec
-from pathlib import Path
 from typing import List
 from unittest import skipUnless
 
@@ -23,8 +22,18 @@ class Finding(InRoom):
         before = os.getcwd()
         os.chdir(self.room)
         self.addCleanup(os.chdir, before)
-        for name in ("in/b.RT1", "in/b.RT2", "in/b.RTA", "in/a.ZIP", "in/read.me", "in/deep/er/c.zip", "in/deep/d.RT7", "in/.e.zip",
-                     "in/small.rt1", "in/[f].RT1"):
+        for name in (
+            "in/b.RT1",
+            "in/b.RT2",
+            "in/b.RTA",
+            "in/a.ZIP",
+            "in/read.me",
+            "in/deep/er/c.zip",
+            "in/deep/d.RT7",
+            "in/.e.zip",
+            "in/small.rt1",
+            "in/[f].RT1",
+        ):
             self.put(name, b"12345")
         for ending in ALL:
             self.put(f"in/all{ending}", b"123")
@@ -40,8 +49,13 @@ class Finding(InRoom):
     def test_folders(self) -> None:
         self.assertEqual(self.stems("in"), self.everything)
         self.assertEqual(self.stems("in/"), self.everything)
-        self.assertEqual(self.stems("in", "in/deep", known="in/a in/b"), [stem for stem in self.everything if stem not in ("in/a", "in/b")])
-        self.assertEqual(self.stems(str(self.room / "in/deep")), [str(self.room / "in/deep/d"), str(self.room / "in/deep/er/c")])
+        self.assertEqual(
+            self.stems("in", "in/deep", known="in/a in/b"),
+            [stem for stem in self.everything if stem not in ("in/a", "in/b")],
+        )
+        self.assertEqual(
+            self.stems(str(self.room / "in/deep")), [str(self.room / "in/deep/d"), str(self.room / "in/deep/er/c")]
+        )
         os.chdir("in/deep")
         self.assertEqual(self.stems("."), ["./d", "./er/c"])
 
@@ -64,15 +78,25 @@ class Finding(InRoom):
 
     def test_names(self) -> None:
         """A name that has letters of a pattern and is there is a name."""
-        self.assertEqual(self.stems("in/b", "in/b.RT2", "in/b.RTA", "in/a.ZIP", "in/[f].RT1"), ["in/[f]", "in/a", "in/b"])
+        self.assertEqual(
+            self.stems("in/b", "in/b.RT2", "in/b.RTA", "in/a.ZIP", "in/[f].RT1"), ["in/[f]", "in/a", "in/b"]
+        )
         self.assertEqual(self.stems("in/b.RT?"), ["in/b"])
 
     def test_nothing_there(self) -> None:
         os.mkdir("empty")
-        for source, why in (("empty", "no county is in it"), ("in/x", lacks(TYPES)), ("in/x.ZIP", lacks(TYPES)), ("nowhere/x", lacks(TYPES)),
-                            ("in/x*.RT1", lacks(TYPES)), ("nowhere/*", "it can't be listed: No such file or directory")):
+        for source, why in (
+            ("empty", "no county is in it"),
+            ("in/x", lacks(TYPES)),
+            ("in/x.ZIP", lacks(TYPES)),
+            ("nowhere/x", lacks(TYPES)),
+            ("in/x*.RT1", lacks(TYPES)),
+            ("nowhere/*", "it can't be listed: No such file or directory"),
+        ):
             (county,) = self.found(source)
-            self.assertEqual((county.stem, county.trouble, county.files), (source[:-4] if source == "in/x.ZIP" else source, why, []))
+            self.assertEqual(
+                (county.stem, county.trouble, county.files), (source[:-4] if source == "in/x.ZIP" else source, why, [])
+            )
 
     def test_files(self) -> None:
         """What a county's files are, and what is told of those that aren't there."""
@@ -90,11 +114,24 @@ class Finding(InRoom):
         self.assertIsNone(self.found("in/b")[0].files[2])
 
     def test_paths(self) -> None:
-        for path, folder, name in (("a", "", "a"), ("a/b", "a", "b"), ("/a", "/", "a"), ("s3://a/b", "s3://a", "b"), ("s3://a", "s3://", "a"),
-                                   ("file:///a", "file:///", "a")):
+        for path, folder, name in (
+            ("a", "", "a"),
+            ("a/b", "a", "b"),
+            ("/a", "/", "a"),
+            ("s3://a/b", "s3://a", "b"),
+            ("s3://a", "s3://", "a"),
+            ("file:///a", "file:///", "a"),
+        ):
             self.assertEqual(parted(path), (folder, name))
             self.assertEqual(joined(folder, name), path)
-        for path, stem in (("a.RT1", "a"), ("a.rtZ", "a"), ("a.b.ZiP", "a.b"), ("a.txt", "a.txt"), (".RT1", ".RT1"), ("x/a.RT12", "x/a.RT12")):
+        for path, stem in (
+            ("a.RT1", "a"),
+            ("a.rtZ", "a"),
+            ("a.b.ZiP", "a.b"),
+            ("a.txt", "a.txt"),
+            (".RT1", ".RT1"),
+            ("x/a.RT12", "x/a.RT12"),
+        ):
             self.assertEqual(stem_of(path), stem)
 
 
@@ -110,16 +147,23 @@ class Stores(InRoom):
             store.pipe_file(name, b"12345")
         self.addCleanup(store.rm, "/tiger", recursive=True)
         found = Archive().counties(["memory://tiger"], lambda _: False)
-        self.assertEqual([county.stem for county in found], ["memory://tiger/AL/TGR01001", "memory://tiger/AL/TGR01003", "memory://tiger/GA/tgr13001"])
+        self.assertEqual(
+            [county.stem for county in found],
+            ["memory://tiger/AL/TGR01001", "memory://tiger/AL/TGR01003", "memory://tiger/GA/tgr13001"],
+        )
         self.assertEqual(found[0].files, [("memory://tiger/AL/TGR01001.ZIP", 5)])
         self.assertEqual(found[1].files, [("memory://tiger/AL/TGR01003.RT1", 5), *[None] * 8])
         found = Archive().counties(["memory://tiger/*/*.zip", "memory://tiger/AL/TGR01003"], lambda _: False)
-        self.assertEqual([county.stem for county in found], ["memory://tiger/GA/tgr13001", "memory://tiger/AL/TGR01003"])
+        self.assertEqual(
+            [county.stem for county in found], ["memory://tiger/GA/tgr13001", "memory://tiger/AL/TGR01003"]
+        )
 
     def test_files_by_url(self) -> None:
         self.put("in/a.ZIP", b"123")
         url = f"file://{self.room}/in"
-        self.assertEqual([county.files for county in Archive().counties([url], lambda _: False)], [[(f"{url}/a.ZIP", 3)]])
+        self.assertEqual(
+            [county.files for county in Archive().counties([url], lambda _: False)], [[(f"{url}/a.ZIP", 3)]]
+        )
         self.assertEqual(Archive().of_stem(f"{url}/a").files, [(f"{url}/a.ZIP", 3)])
         (county,) = Archive().counties(["nothing://a/b"], lambda _: False)
         self.assertIn("can't be reached", county.trouble)

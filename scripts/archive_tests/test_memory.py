@@ -11,8 +11,9 @@ from typing import Dict, List, Tuple
 
 from archive_lib.judging import FACTOR, needed
 
+from . import support
 from .made import ROOT, TYPES, Made, parts_of, put_files, texts
-from .support import InRoom, call, tripping, with_engine
+from .support import Ended, InRoom, await_that, call, tripping, with_engine
 
 CHAINS = 20_000
 """So many chains a large county has."""
@@ -90,20 +91,25 @@ class Memory(InRoom):
         self.assertEqual(ended.status, 1)
         least = {"in/TGR00000": needed(size), "in/TGR00003": needed(size + 1, packed)}
         told = {stem: words.partition(";")[0] for stem, words in ended.told().items()}
-        self.assertEqual(told, {stem: f"it needs {-(-need // 10**6)} MB of memory, and no worker has more than {offered} MB"
-                                for stem, need in least.items()})
+        self.assertEqual(
+            told,
+            {
+                stem: f"it needs {-(-need // 10**6)} MB of memory, and no worker has more than {offered} MB"
+                for stem, need in least.items()
+            },
+        )
         self.assertEqual(self.text("manifest").count(b"\n"), 1)
         self.assertIn(": 2 of 3 have no fingerprint", ended.err)
 
     def test_the_factor(self) -> None:
         """What judging was measured to take beside the parts is no more than what is asked for."""
-        from . import support
-
         if not support.library:
             self.skipTest("there is no library here: the program was asked in its place")
         size = self.large(["TGR00000", "TGR00001"], 5 * CHAINS)
         engine = self.engine(workers=1, memory=1000, env=tripping(TRIPPING_LOG=str(self.log)))
-        self.assertEqual(call("fingerprint-archive", "--scheduler", engine.file, *self.manifest, cwd=self.room).status, 0)
+        self.assertEqual(
+            call("fingerprint-archive", "--scheduler", engine.file, *self.manifest, cwd=self.room).status, 0
+        )
         (calls,) = self.spans().values()
         self.assertEqual([call[2] for call in calls], [size, size])
         grown = 1000 * calls[0][3] / size
@@ -121,15 +127,13 @@ class Memory(InRoom):
         engine.start_worker(400)
         self.log.unlink()
         (self.room / "manifest").unlink()
-        from .support import await_that
-
         self.assertTrue(await_that(lambda: len(engine.worker_processes()) == 3))
         self.assertTrue(await_that(lambda: b"Registered to" in (engine.room / "worker.log").read_bytes()))
         ended = self.until_some_offer(words)
         self.assertIn("2 of 3 workers offer no resource MB, and get no county", ended.err)
         self.assertEqual((ended.status, self.text("manifest").count(b"\n"), len(self.spans())), (0, 12, 1))
 
-    def until_some_offer(self, words: List[object]):
+    def until_some_offer(self, words: List[object]) -> Ended:
         """Calls until the third worker is known to the scheduler."""
         for _ in range(10):
             ended = call("fingerprint-archive", *words, cwd=self.room)

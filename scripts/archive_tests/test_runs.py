@@ -6,13 +6,13 @@ import os
 import re
 import shutil
 import signal
+import subprocess
 import tempfile
-import unittest
 from pathlib import Path
 from typing import ClassVar, List
 
 from .made import COUNTIES, Made, counties, put_archive, put_unpacked
-from .support import Ended, InRoom, await_that, begin, call, end, environment, tripping, with_engine
+from .support import SCRIPTS, Ended, InRoom, await_that, begin, call, end, environment, processes, tripping, with_engine
 
 
 @with_engine
@@ -48,8 +48,12 @@ class Runs(InRoom):
         found = self.text("manifest")
         if found != self.wanted:
             lines, wanted = set(found.splitlines()), set(self.wanted.splitlines())
-            self.fail(f"{len(lines)} lines of {len(wanted)}, {len(wanted - lines)} are lacking and {len(lines - wanted)} are others")
-        self.assertEqual(sorted(os.listdir(self.room)), sorted({*os.listdir(self.room)} - {"manifest.lock", "manifest.new"}))
+            self.fail(
+                f"{len(lines)} lines of {len(wanted)}, {len(wanted - lines)} are lacking and {len(lines - wanted)} are others"
+            )
+        self.assertEqual(
+            sorted(os.listdir(self.room)), sorted({*os.listdir(self.room)} - {"manifest.lock", "manifest.new"})
+        )
 
     def test_reference(self) -> None:
         """What the tests hold to: most counties have a fingerprint, and of those that haven't each is told."""
@@ -66,7 +70,10 @@ class Runs(InRoom):
         self.assertEqual(ended.told(), self.reference.told())
         self.assert_summary(ended)
         again = self.archive("--jobs", "3", "manifest", "in")
-        self.assertEqual((again.status, again.told()), (1, {stem: words for stem, words in self.reference.told().items() if "refused" in words}))
+        self.assertEqual(
+            (again.status, again.told()),
+            (1, {stem: words for stem, words in self.reference.told().items() if "refused" in words}),
+        )
         self.assert_same_manifest()
 
     def assert_summary(self, ended: Ended) -> None:
@@ -77,11 +84,16 @@ class Runs(InRoom):
         for line in lines:
             by_map.setdefault(line[:64], []).append(line)
         groups = [group for group in by_map.values() if len(group) > 1]
-        self.assertIn(f": {len(lines)} fingerprints, {len(refused)} refused, {COUNTIES - len(lines) - len(refused)} failed, ", ended.err)
+        self.assertIn(
+            f": {len(lines)} fingerprints, {len(refused)} refused, {COUNTIES - len(lines) - len(refused)} failed, ",
+            ended.err,
+        )
         told = re.search(r": refused: (.*)$", ended.err, re.M)[1]
         rules = [" ".join(words.split()[1:3]) for words in refused]
         self.assertEqual(sorted(told.split(", ")), sorted(f"{rules.count(rule)} by {rule}" for rule in set(rules)))
-        self.assertIn(f": {sum(map(len, groups))} counties in the manifest hold a map that another one holds too\n", ended.err)
+        self.assertIn(
+            f": {sum(map(len, groups))} counties in the manifest hold a map that another one holds too\n", ended.err
+        )
         self.assertEqual([block.splitlines() for block in ended.out.split("\n\n")], groups)
         self.assertIn(f": {COUNTIES - len(lines)} of {COUNTIES} have no fingerprint\n", ended.err)
 
@@ -110,8 +122,13 @@ class Runs(InRoom):
 
     def check_a_changed_byte(self, scheduler: Path) -> None:
         """One byte of one county is another: a check says of it alone that it is another map."""
-        county = next(county for county in self.made if not county.is_zip and b"Street" in county.parts.get("1", b"")
-                      and f"  {county.stem}\n".encode() in self.wanted)
+        county = next(
+            county
+            for county in self.made
+            if not county.is_zip
+            and b"Street" in county.parts.get("1", b"")
+            and f"  {county.stem}\n".encode() in self.wanted
+        )
         path = self.room / f"{county.stem}.RT1"
         path.write_bytes(path.read_bytes().replace(b"Street", b"Streeu", 1))
         checked = self.archive("--scheduler", scheduler, "--check", "manifest")
@@ -148,7 +165,10 @@ class Runs(InRoom):
         self.assertEqual(ended.status, 1, ended.err)
         done = manifest.read_bytes().splitlines()
         missing = int(re.search(rf"is gone: (\d+) of {COUNTIES} are missing", ended.err)[1])
-        self.assertEqual(missing, COUNTIES - len(done) - sum("refused" in words or "none of" in words for words in ended.told().values()))
+        self.assertEqual(
+            missing,
+            COUNTIES - len(done) - sum("refused" in words or "none of" in words for words in ended.told().values()),
+        )
         self.assertGreater(missing, 100)
         self.assertTrue(set(done) <= set(self.wanted.splitlines()))
         self.assertEqual(done, sorted(done, key=lambda line: line[66:]))
@@ -168,8 +188,11 @@ class Runs(InRoom):
         self.assert_same_manifest()
         told = ended.told()
         for stem in killers:
-            self.assertEqual(told.pop(stem), "its judging ended each worker that tried it, also with nothing beside it; "
-                                             "without .RT2 .RT4 .RT5 .RT6 .RT7 .RT8 .RTI .RTP")
+            self.assertEqual(
+                told.pop(stem),
+                "its judging ended each worker that tried it, also with nothing beside it; "
+                "without .RT2 .RT4 .RT5 .RT6 .RT7 .RT8 .RTI .RTP",
+            )
         self.assertEqual(told, self.reference.told())
 
     def test_two_runs_on_one_manifest(self) -> None:
@@ -177,8 +200,12 @@ class Runs(InRoom):
         run = begin("--jobs", "2", "manifest", "in", cwd=self.room, env=tripping(TRIPPING_PAUSE="0.02"))
         self.addCleanup(end, run)
         self.assertTrue(await_that((self.room / "manifest").exists))
-        for script, words in (("fingerprint-archive", ("manifest", "in")), ("fingerprint-archive", ("--check", "manifest")),
-                              ("fingerprint-all", ("manifest", "in/TGR00001")), ("fingerprint-all", ("--check", "manifest"))):
+        for script, words in (
+            ("fingerprint-archive", ("manifest", "in")),
+            ("fingerprint-archive", ("--check", "manifest")),
+            ("fingerprint-all", ("manifest", "in/TGR00001")),
+            ("fingerprint-all", ("--check", "manifest")),
+        ):
             second = call(script, *words, cwd=self.room)
             self.assertEqual(second.status, 2)
             self.assertIn(f"{script}: another run writes to manifest: process {run.pid} on ", second.err)
@@ -190,11 +217,13 @@ class Runs(InRoom):
         pause = self.put("program", b'#!/bin/sh\nif [ "$1" = fingerprint ]; then sleep 30; fi\n')
         pause.chmod(0o755)
         self.put("in/x.RT1", b"")
-        script = Path(__file__).resolve().parent.parent / "fingerprint-all"
-        from subprocess import DEVNULL, Popen
-
-        run = Popen([script, "manifest", "in/x"], cwd=self.room, env=environment(TIGERCANON=str(pause)), stderr=DEVNULL,
-                    start_new_session=True)
+        run = subprocess.Popen(
+            [SCRIPTS / "fingerprint-all", "manifest", "in/x"],
+            cwd=self.room,
+            env=environment(TIGERCANON=str(pause)),
+            stderr=subprocess.DEVNULL,
+            start_new_session=True,
+        )
         self.addCleanup(end, run)
         lock = self.room / "manifest.lock"
         self.assertTrue(await_that(lambda: lock.exists() and lock.read_bytes()))
@@ -208,7 +237,9 @@ class Runs(InRoom):
         rooms = self.put("tmp/here", b"").parent
         for number in (signal.SIGTERM, signal.SIGHUP, signal.SIGINT):
             (self.room / "manifest").unlink(missing_ok=True)
-            run = begin("--jobs", "2", "manifest", "in", cwd=self.room, env=tripping(TRIPPING_PAUSE="0.05", TMPDIR=str(rooms)))
+            run = begin(
+                "--jobs", "2", "manifest", "in", cwd=self.room, env=tripping(TRIPPING_PAUSE="0.05", TMPDIR=str(rooms))
+            )
             self.addCleanup(end, run)
             manifest = self.room / "manifest"
             self.assertTrue(await_that(lambda: manifest.exists() and manifest.read_bytes().count(b"\n") > 3))
@@ -223,21 +254,8 @@ class Runs(InRoom):
             self.assertTrue(set(lines) <= set(self.wanted.splitlines()))
             self.assertEqual(sorted(os.listdir(rooms)), ["here"])
             self.assertFalse((self.room / "manifest.lock").exists())
-            self.assertTrue(await_that(lambda: not processes_of(run.pid), 10), "leaves processes")
+            self.assertTrue(
+                await_that(lambda: run.pid not in [process.session for process in processes()], 10), "leaves processes"
+            )
         self.assertEqual(self.archive("--jobs", "3", "manifest", "in").status, 1)
         self.assert_same_manifest()
-
-
-def processes_of(session: int) -> List[str]:
-    """The processes that are in a session still."""
-    found = []
-    for status in Path("/proc").glob("[0-9]*/stat"):
-        try:
-            words = status.read_text().rpartition(")")[2].split()
-            if words[3] == str(session) and words[0] != "Z":
-                found.append(status.parent.name)
-        except OSError:
-            continue
-    return found
-
-

@@ -43,7 +43,7 @@ def headers(text: bytes, name: str) -> Tuple[int, int]:
 def patched(text: bytes, *changes: Tuple[int, bytes]) -> bytes:
     changed = bytearray(text)
     for at, new in changes:
-        changed[at:at + len(new)] = new
+        changed[at : at + len(new)] = new
     return bytes(changed)
 
 
@@ -58,20 +58,29 @@ def broken_zips() -> Dict[str, Tuple[bytes, str]]:
         "no-zip": (b"no zip", "it is no zip"),
         "empty": (b"", "it is no zip"),
         "cut": (good[:-60], "its zip is cut off"),
-        "cut-in-half": (good[:len(good) // 2], "its zip is cut off"),
+        "cut-in-half": (good[: len(good) // 2], "its zip is cut off"),
         "byte": (patched(good, (data + 40, bytes([good[data + 40] ^ 255]))), broken),
         "directory": (patched(good, (line, b"XX")), "its zip is broken: its directory can't be read"),
         "header": (patched(good, (before, b"XX")), broken),
         "locked": (patched(good, (before + 6, b"\1"), (line + 8, b"\1")), "its zip is locked by a password"),
-        "method": (patched(good, (before + 8, b"\x09"), (line + 10, b"\x09")), f"its zip can't be unpacked: {name} is packed by an unknown method"),
+        "method": (
+            patched(good, (before + 8, b"\x09"), (line + 10, b"\x09")),
+            f"its zip can't be unpacked: {name} is packed by an unknown method",
+        ),
         "says-nothing": (patched(good, (line + 24, struct.pack("<L", 0))), broken),
         "says-less": (patched(good, (line + 24, struct.pack("<L", size - 1))), broken),
         "says-more": (patched(good, (line + 24, struct.pack("<L", size + 1))), broken),
         "two": (packed([*good_members(), *good_members("tgr00003")]), "its zip has 2 counties: TGR00001, TGR00003"),
-        "two-folders": (packed([*good_members("a/TGR00001"), ("b/TGR00001.RT2", b"")]), "its zip has 2 counties: A/TGR00001, B/TGR00001"),
+        "two-folders": (
+            packed([*good_members("a/TGR00001"), ("b/TGR00001.RT2", b"")]),
+            "its zip has 2 counties: A/TGR00001, B/TGR00001",
+        ),
         "none": (packed([("TGR00001.RTA", b"A"), ("read.me", b"")]), "its zip has no county"),
         "twice": (packed(twice), "its zip has the file .RT2 2 times"),
-        "large": (packed([*good_members()[:-1], (NAMES[-1], b" " * 300_000)]), r"its zip unpacks to \d+ bytes, and --largest is 200000"),
+        "large": (
+            packed([*good_members()[:-1], (NAMES[-1], b" " * 300_000)]),
+            r"its zip unpacks to \d+ bytes, and --largest is 200000",
+        ),
     }
 
 
@@ -90,8 +99,14 @@ class Zips(InRoom):
         self.put("in/line\nend.zip", packed(good_members()))
         wanted["in/line\\nend"] = "its name has a line end"
         put_files(self.room, Made("in/single", parts_of(TEXT), False))
-        for name, method in (("stored", zipfile.ZIP_STORED), ("deflated", zipfile.ZIP_DEFLATED), ("in-a-folder", zipfile.ZIP_BZIP2)):
-            self.put(f"in/{name}.zip", packed(good_members("of/TGR00001" if name == "in-a-folder" else "TGR00001"), method))
+        for name, method in (
+            ("stored", zipfile.ZIP_STORED),
+            ("deflated", zipfile.ZIP_DEFLATED),
+            ("in-a-folder", zipfile.ZIP_BZIP2),
+        ):
+            self.put(
+                f"in/{name}.zip", packed(good_members("of/TGR00001" if name == "in-a-folder" else "TGR00001"), method)
+            )
         ended = call("fingerprint-archive", "--jobs", "2", "--largest", "200kB", "manifest", "in", cwd=self.room)
         self.assertEqual(ended.status, 1)
         told = ended.told()
@@ -109,7 +124,9 @@ class Zips(InRoom):
         put_files(self.room, county)
         put_zip(self.room, county._replace(parts={**county.parts, "1": b"broken\n"}))
         ended = call("fingerprint-archive", "--jobs", "1", "manifest", "in/TGR00001.ZIP", cwd=self.room)
-        self.assertEqual((ended.status, ended.told()), (0, {"in/TGR00001": "its single files are read, and not TGR00001.ZIP"}))
+        self.assertEqual(
+            (ended.status, ended.told()), (0, {"in/TGR00001": "its single files are read, and not TGR00001.ZIP"})
+        )
         self.assertEqual(call("fingerprint-all", "--check", "manifest", cwd=self.room).status, 0)
 
 
@@ -127,7 +144,7 @@ class Server(SimpleHTTPRequestHandler):
             self.send_response(200)
             self.send_header("Content-Length", str(len(text)))
             self.end_headers()
-            self.wfile.write(text[:len(text) // 2])
+            self.wfile.write(text[: len(text) // 2])
             self.close_connection = True
         else:
             super().do_GET()
@@ -162,7 +179,10 @@ class Servers(InRoom):
         self.assertEqual(Server.asked.count("/in/failing.ZIP"), 3)
         self.assertEqual(Server.asked.count("/in/TGR00001.ZIP"), 1)
         lines = self.text("manifest").decode().splitlines()
-        self.assertEqual([line[66:] for line in lines], [f"{folder}/{name}" for name in ("TGR00001", "TGR00003", "TGR00005", "breaking")])
+        self.assertEqual(
+            [line[66:] for line in lines],
+            [f"{folder}/{name}" for name in ("TGR00001", "TGR00003", "TGR00005", "breaking")],
+        )
         self.assertEqual(len({line[:64] for line in lines}), 1)
         checked = call("fingerprint-archive", "--jobs", "1", "--check", "manifest", cwd=self.room)
         self.assertEqual((checked.status, checked.out.count(": OK\n")), (0, 4), checked.err)
