@@ -3,7 +3,6 @@
 from __future__ import annotations
 
 import argparse
-import atexit
 import os
 import re
 import shutil
@@ -15,6 +14,7 @@ from typing import Iterator, List, NoReturn, Optional
 
 from .cluster import Cluster, prepare_local_workers
 from .counties import Archive, County
+from .ending import Ending, Stopped
 from .judging import Order
 from .manifest import FLAGS, Lock, Manifest, agreed_flags, content_of, place_of
 from .running import Ended, Job, Run, first_need
@@ -22,15 +22,6 @@ from .telling import ReaderIsGone, Stop, Tally, Teller, groups_of_one_map, print
 
 SIZES = {"": 1, "kB": 10**3, "MB": 10**6, "GB": 10**9}
 LARGEST = "2GB"
-SIGNALS = (signal.SIGINT, signal.SIGTERM, signal.SIGHUP)
-
-
-class Stopped(Exception):
-    """The run got a signal."""
-
-    def __init__(self, number: int) -> None:
-        super().__init__(number)
-        self.number = number
 
 
 class Parser(argparse.ArgumentParser):
@@ -59,7 +50,7 @@ def count_of(word: str) -> int:
     return int(word)
 
 
-def parsed(usage: str, words: Optional[List[str]]) -> argparse.Namespace:
+def parsed(usage: str) -> argparse.Namespace:
     """The command line, if it can be understood."""
     reader = Parser(usage.strip())
     reader.add_argument("--scheduler")
@@ -69,19 +60,18 @@ def parsed(usage: str, words: Optional[List[str]]) -> argparse.Namespace:
         reader.add_argument(flag, action="store_true")
     reader.add_argument("manifest")
     reader.add_argument("sources", nargs="*")
-    given = reader.parse_args(words)
+    given = reader.parse_args()
     is_odd = given.sources or given.strict or given.same if given.check else not given.sources
     if is_odd or (given.scheduler is not None and given.jobs is not None) or given.scheduler == "":
         reader.error("")
     return given
 
 
-def main(usage: str, words: Optional[List[str]] = None) -> int:
+def main(usage: str, ending: Ending) -> int:
     """Runs the command, and answers its exit status."""
-    given = parsed(usage, words)
+    given = parsed(usage)
     teller = Teller()
     run = Command(given, teller)
-    ending = Ending()
     ending.listen()
     try:
         return run.run()
@@ -93,34 +83,6 @@ def main(usage: str, words: Optional[List[str]] = None) -> int:
     except Stopped as stopped:
         teller.say(f"stopped by {signal.Signals(stopped.number).name[3:]}: {run.how_far}")
         return ending.by(stopped.number)
-
-
-class Ending:
-    """The end of this process by the signal that it got, when all that is done at its end is done: what is registered first comes last."""
-
-    def __init__(self) -> None:
-        self.number: Optional[int] = None
-        atexit.register(self.kill)
-
-    def listen(self) -> None:
-        """Has the first signal stop the run. A second one ends it where it is."""
-
-        def stop(number: int, _: object) -> None:
-            for each in SIGNALS:
-                signal.signal(each, signal.SIG_DFL)
-            raise Stopped(number)
-
-        for number in SIGNALS:
-            signal.signal(number, stop)
-
-    def by(self, number: int) -> int:
-        self.number = number
-        return 128 + number
-
-    def kill(self) -> None:
-        if self.number is not None:
-            signal.signal(self.number, signal.SIG_DFL)
-            os.kill(os.getpid(), self.number)
 
 
 class Command:

@@ -87,24 +87,28 @@ class Run:
         """Judges the largest first, so that the end isn't a wait for one of them. Then those are tried again that needed more memory than
         there was, and at last, one by one with nothing beside, those whose workers died."""
         self.meet_workers()
-        self.waiting.extend(sorted(jobs, key=lambda job: -job.need))
-        self.work()
-        self.look_at_workers()
-        self.waiting.extend(job for job in self.too_large if job.need <= self.most)
-        self.too_large = [job for job in self.too_large if job.need > self.most]
-        self.work()
+        self.work(sorted(jobs, key=lambda job: -job.need))
+        self.try_too_large()
         suspects, self.suspects = self.suspects, []
         for job in suspects:
-            self.waiting.append(job)
-            self.work(is_alone=True)
+            self.work([job], is_alone=True)
         self.tell_too_large()
+
+    def try_too_large(self) -> None:
+        """Tries again those that a worker has room for, which came meanwhile."""
+        if self.too_large and not self.gone:
+            self.look_at_workers()
+            fitting = [job for job in self.too_large if job.need <= self.most]
+            self.too_large = [job for job in self.too_large if job.need > self.most]
+            self.work(fitting)
 
     def tell_too_large(self) -> None:
         """Tells the counties that need more memory than there is."""
-        self.look_at_workers()
-        most = megabytes(self.workers.most)
-        for job in self.too_large if not self.gone else []:
-            self.fail(job, f"it needs {megabytes(job.need)} of memory, and no worker has more than {most}")
+        if self.too_large and not self.gone:
+            self.look_at_workers()
+            for job in self.too_large:
+                most = f"no worker has more than {megabytes(self.workers.most)}"
+                self.fail(job, f"it needs {megabytes(job.need)} of memory, and {most}")
 
     # The workers.
 
@@ -144,12 +148,14 @@ class Run:
 
     # The counties.
 
-    def work(self, is_alone: bool = False) -> None:
+    def work(self, jobs: List[Job], is_alone: bool = False) -> None:
         """Goes on until nothing is waiting and nothing is under way, or until what does the work is gone."""
+        self.waiting.extend(jobs)
         self.served_at = time.monotonic()
         while (self.waiting or self.under_way) and not self.gone:
             self.hand_over()
-            ended = [future for future in self.under_way if future.status != "pending"]
+            # What is lost was judged by a worker that died before it was asked for the answer; it is judged again by itself.
+            ended = [future for future in self.under_way if future.status not in ("pending", "lost")]
             if ended:
                 self.served_at = time.monotonic()
                 self.take_in_ended(ended, is_alone)
@@ -191,9 +197,9 @@ class Run:
         self.under_way.update(zip(self.cluster.submit(tasks, self.order, memory), jobs))
 
     def take_in_ended(self, futures: List[Any], is_alone: bool) -> None:
-        if any(future.status in ("cancelled", "lost") for future in futures):
+        kept = [future for future in futures if future.status != "cancelled"]
+        if len(kept) < len(futures):
             self.lose(f"{self.cluster.name} is gone")
-        kept = [future for future in futures if future.status in ("finished", "error")]
         jobs = [self.under_way.pop(future) for future in kept]
         for job, answer in zip(jobs, self.cluster.answers(kept)):
             self.sort_out(job, answer, is_alone)

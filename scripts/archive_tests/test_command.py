@@ -205,18 +205,6 @@ class Calls(InRoom):
         self.assertEqual(ended.status, 2)
         self.assertIn("standard output can't be written: 0 of 3 done\n", ended.err)
 
-    def test_no_scheduler(self) -> None:
-        """One that doesn't answer, and a file that isn't written: both are waited for, and then told."""
-        runs = [
-            begin("--scheduler", address, f"m{number}", "in", cwd=self.room)
-            for number, address in enumerate(("tcp://127.0.0.1:9", "nowhere.json"))
-        ]
-        for run, address in zip(runs, ("tcp://127.0.0.1:9", "nowhere.json")):
-            ended = end(run)
-            self.assertEqual(ended.status, 2, ended.err)
-            self.assertIn(f"fingerprint-archive: no scheduler answers at {address}", ended.err)
-        self.assertEqual(os.listdir(self.room), ["in"])
-
     def test_workers_without_the_module(self) -> None:
         """It is the workers' fault and no county's."""
         env = environment(PYTHONPATH="")

@@ -12,7 +12,23 @@ from pathlib import Path
 from typing import ClassVar, List
 
 from .made import COUNTIES, Made, counties, put_archive, put_unpacked
-from .support import SCRIPTS, Ended, InRoom, await_that, begin, call, end, environment, processes, tripping, with_engine
+from .support import (
+    SCRIPTS,
+    Ended,
+    InRoom,
+    await_that,
+    begin,
+    call,
+    end,
+    environment,
+    kill_group,
+    processes,
+    tripping,
+    with_engine,
+)
+
+
+NOWHERE = ("tcp://127.0.0.1:9", "nowhere.json")
 
 
 @with_engine
@@ -23,6 +39,7 @@ class Runs(InRoom):
     files: ClassVar[Path]
     reference: ClassVar[Ended]
     wanted: ClassVar[bytes]
+    vain: ClassVar[List[subprocess.Popen]]
 
     @classmethod
     def setUpClass(cls) -> None:
@@ -32,6 +49,15 @@ class Runs(InRoom):
         put_unpacked(cls.files, cls.made)
         cls.reference = call("fingerprint-all", "manifest", *cls.words_of_files(), cwd=cls.files)
         cls.wanted = (cls.files / "manifest").read_bytes()
+
+        cls.vain = [cls.begin_without_scheduler(*each) for each in enumerate(NOWHERE)]
+
+    @classmethod
+    def begin_without_scheduler(cls, number: int, address: str) -> subprocess.Popen:
+        """Begins a run for which there is no scheduler. It waits for one, so it is asked for its end later."""
+        run = begin("--scheduler", address, f"vain-{number}", "in", cwd=cls.files)
+        cls.addClassCleanup(kill_group, run)
+        return run
 
     @classmethod
     def words_of_files(cls) -> List[str]:
@@ -189,7 +215,7 @@ class Runs(InRoom):
         told = ended.told()
         for stem in killers:
             self.assertEqual(
-                told.pop(stem),
+                told.pop(stem, ended.err[-2000:]),
                 "its judging ended each worker that tried it, also with nothing beside it; "
                 "without .RT2 .RT4 .RT5 .RT6 .RT7 .RT8 .RTI .RTP",
             )
@@ -231,6 +257,14 @@ class Runs(InRoom):
         self.assertEqual(second.status, 2)
         self.assertIn(f"another run writes to manifest: process {run.pid} on ", second.err)
         run.terminate()
+
+    def test_without_a_scheduler(self) -> None:
+        """One that doesn't answer, and a file that isn't written: both are waited for, and then told."""
+        for run, address in zip(self.vain, NOWHERE):
+            ended = end(run)
+            self.assertEqual(ended.status, 2, ended.err)
+            self.assertIn(f"fingerprint-archive: no scheduler answers at {address}: ", ended.err)
+        self.assertEqual(sorted(os.listdir(self.files)), ["in", "manifest"])
 
     def test_a_signal(self) -> None:
         """It ends what it has started, and then itself by the signal; the manifest has whole lines, and a further run goes on."""
