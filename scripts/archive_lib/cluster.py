@@ -82,14 +82,11 @@ def prepare_local_workers() -> None:
 
 def find_module() -> None:
     """Has local workers find the module: the one that Python finds, else that of a release, beside the folder of this script, or else the
-    one that was built in this repository."""
-    if importlib.util.find_spec("tigercanon") is not None:
-        return
+    one that was built in this repository. Where Python looks for modules is handed on to them."""
     above = Path(__file__).resolve().parent.parent.parent
     for folder in (above / "python", above / "out/library/python"):
-        if (folder / "tigercanon.py").exists() and (folder.parent / "lib").exists():
-            os.environ["PYTHONPATH"] = os.pathsep.join(filter(None, [str(folder), os.environ.get("PYTHONPATH")]))
-            return
+        if importlib.util.find_spec("tigercanon") is None and (folder.parent / "lib").exists():
+            sys.path.append(str(folder))
 
 
 def wait_for_file(name: str) -> None:
@@ -113,7 +110,7 @@ class Cluster:
         import distributed
 
         cloudpickle.register_pickle_by_value(judging)
-        logging.getLogger("distributed").setLevel(logging.CRITICAL)
+        logging.disable()  # what goes wrong is told in the run's own lines
         warnings.simplefilter("ignore")
         try:
             if address is None:

@@ -161,7 +161,8 @@ class Run:
                 self.take_in_ended(ended, is_alone)
             else:
                 time.sleep(A_LOOK)
-            self.look_round()
+            if not self.gone:
+                self.look_round()
 
     def hand_over(self) -> None:
         """Hands over as many counties as there is room for, those together that need about the same."""
@@ -197,11 +198,12 @@ class Run:
         self.under_way.update(zip(self.cluster.submit(tasks, self.order, memory), jobs))
 
     def take_in_ended(self, futures: List[Any], is_alone: bool) -> None:
-        kept = [future for future in futures if future.status != "cancelled"]
-        if len(kept) < len(futures):
+        """What came of tasks that have ended. Where a task is cancelled the scheduler is gone, and answers nothing any more."""
+        if any(future.status == "cancelled" for future in futures):
             self.lose(f"{self.cluster.name} is gone")
-        jobs = [self.under_way.pop(future) for future in kept]
-        for job, answer in zip(jobs, self.cluster.answers(kept)):
+            return
+        jobs = [self.under_way.pop(future) for future in futures]
+        for job, answer in zip(jobs, self.cluster.answers(futures)):
             self.sort_out(job, answer, is_alone)
 
     def sort_out(self, job: Job, answer: Any, is_alone: bool) -> None:

@@ -3,6 +3,7 @@
 from __future__ import annotations
 
 import os
+import shutil
 import signal
 import subprocess
 import sys
@@ -10,6 +11,7 @@ from typing import List
 
 from archive_lib.telling import Tally, Teller, amount, duration, groups_of_one_map
 
+from . import support
 from .made import Made, parts_of, put_files, put_zip, texts
 from .support import SCRIPTS, Ended, InRoom, begin, call, end, environment, tripping, with_engine
 
@@ -204,6 +206,18 @@ class Calls(InRoom):
             ended = call("fingerprint-archive", "--jobs", "1", "--check", "m", cwd=self.room, stdout=full)
         self.assertEqual(ended.status, 2)
         self.assertIn("standard output can't be written: 0 of 3 done\n", ended.err)
+
+    def test_in_the_place_where_a_release_has_it(self) -> None:
+        """It finds the module beside its folder."""
+        release = self.room / "a release"
+        (release / "lib").mkdir(parents=True)
+        (release / "bin").mkdir()
+        shutil.copy(SCRIPTS / "fingerprint-archive", release / "bin")
+        shutil.copytree(SCRIPTS / "archive_lib", release / "bin/archive_lib")
+        (release / "python").symlink_to(support.real_module())
+        command = [sys.executable, release / "bin/fingerprint-archive", "--jobs", "1", "m", "in"]
+        run = subprocess.run(command, cwd=self.room, env=environment(PYTHONPATH=""), capture_output=True, timeout=60)
+        self.assertEqual((run.returncode, self.text("m").count(b"\n")), (0, 3), run.stderr)
 
     def test_workers_without_the_module(self) -> None:
         """It is the workers' fault and no county's."""

@@ -68,7 +68,12 @@ class Runs(InRoom):
         put_archive(self.room, self.made)
 
     def archive(self, *words: object, **how: object) -> Ended:
-        return call("fingerprint-archive", *words, cwd=self.room, **how)
+        return self.of_own_lines(call("fingerprint-archive", *words, cwd=self.room, **how))
+
+    def of_own_lines(self, ended: Ended) -> Ended:
+        """Sees that nothing else tells anything on standard error."""
+        self.assertEqual([line for line in ended.err.splitlines() if not line.startswith("fingerprint-archive: ")], [])
+        return ended
 
     def assert_same_manifest(self) -> None:
         found = self.text("manifest")
@@ -174,7 +179,7 @@ class Runs(InRoom):
         self.assertEqual(len(victims), 3)
         for victim in victims[:2]:
             os.kill(victim, signal.SIGKILL)
-        ended = end(run)
+        ended = self.of_own_lines(end(run))
         self.assertEqual(ended.status, 1)
         self.assert_same_manifest()
         self.assertEqual(ended.told(), self.reference.told())
@@ -187,7 +192,7 @@ class Runs(InRoom):
         manifest = self.room / "manifest"
         self.assertTrue(await_that(lambda: manifest.exists() and manifest.read_bytes().count(b"\n") > 40))
         os.killpg(engine.scheduler.pid, signal.SIGKILL)
-        ended = end(run)
+        ended = self.of_own_lines(end(run))
         self.assertEqual(ended.status, 1, ended.err)
         done = manifest.read_bytes().splitlines()
         missing = int(re.search(rf"is gone: (\d+) of {COUNTIES} are missing", ended.err)[1])
@@ -261,7 +266,7 @@ class Runs(InRoom):
     def test_without_a_scheduler(self) -> None:
         """One that doesn't answer, and a file that isn't written: both are waited for, and then told."""
         for run, address in zip(self.vain, NOWHERE):
-            ended = end(run)
+            ended = self.of_own_lines(end(run))
             self.assertEqual(ended.status, 2, ended.err)
             self.assertIn(f"fingerprint-archive: no scheduler answers at {address}: ", ended.err)
         self.assertEqual(sorted(os.listdir(self.files)), ["in", "manifest"])
