@@ -113,27 +113,25 @@ class Cluster:
         logging.disable()  # what goes wrong is told in the run's own lines
         warnings.simplefilter("ignore")
         try:
-            if address is None:
-                self.own = self.local(dask, distributed, jobs)
-            self.client = self.client_of(distributed)
+            self.client = (
+                self.local_client(dask, distributed, jobs) if address is None else self.client_of(distributed, address)
+            )
         except BaseException:
             self.close()
             raise
 
-    def client_of(self, distributed: Any) -> Any:
-        """A client of the cluster. An address has a port; what has none is a file that the scheduler has written or will write."""
-        if self.address is None:
-            return distributed.Client(self.own)
+    def client_of(self, distributed: Any, address: str) -> Any:
+        """A client of a scheduler. An address has a port; what has none is a file that the scheduler has written or will write."""
         try:
-            if ":" in self.address:
-                return distributed.Client(self.address, timeout=PATIENCE_FOR_SCHEDULER)
-            wait_for_file(self.address)
-            return distributed.Client(scheduler_file=self.address, timeout=PATIENCE_FOR_SCHEDULER)
-        except (OSError, ValueError) as error:
-            raise Stop(f"no scheduler answers at {self.address}: {plainly(error)}") from None
+            if ":" in address:
+                return distributed.Client(address, timeout=PATIENCE_FOR_SCHEDULER)
+            wait_for_file(address)
+            return distributed.Client(scheduler_file=address, timeout=PATIENCE_FOR_SCHEDULER)
+        except Exception as error:
+            raise Stop(f"no scheduler answers at {address}: {plainly(error)}") from None
 
-    def local(self, dask: Any, distributed: Any, jobs: int) -> Any:
-        """A worker a job, each with one thread and its share of this machine's memory."""
+    def local_client(self, dask: Any, distributed: Any, jobs: int) -> Any:
+        """A client of a cluster of its own: a worker a job, each with one thread and its share of this machine's memory."""
         dask.config.set(
             {
                 "distributed.worker.multiprocessing-method": "forkserver",
@@ -144,15 +142,19 @@ class Cluster:
             }
         )
         limit = distributed.system.MEMORY_LIMIT // jobs
-        return distributed.LocalCluster(
-            n_workers=jobs,
-            threads_per_worker=1,
-            memory_limit=limit,
-            resources={MEMORY: int(limit * SHARE / 10**6)},
-            local_directory=self.room,
-            dashboard_address="127.0.0.1:0",
-            silence_logs=logging.CRITICAL,
-        )
+        try:
+            self.own = distributed.LocalCluster(
+                n_workers=jobs,
+                threads_per_worker=1,
+                memory_limit=limit,
+                resources={MEMORY: int(limit * SHARE / 10**6)},
+                local_directory=self.room,
+                dashboard_address="127.0.0.1:0",
+                silence_logs=logging.CRITICAL,
+            )
+            return distributed.Client(self.own)
+        except Exception as error:
+            raise Stop(f"no workers can be started: {plainly(error)}") from None
 
     @property
     def name(self) -> str:

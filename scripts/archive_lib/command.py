@@ -18,7 +18,7 @@ from .ending import Ending, Stopped
 from .judging import Order
 from .manifest import FLAGS, Lock, Manifest, agreed_flags, content_of, place_of
 from .running import Ended, Job, Run, first_need
-from .telling import ReaderIsGone, Stop, Tally, Teller, groups_of_one_map, print_lines
+from .telling import ReaderIsGone, Stop, Tally, Teller, groups_of_one_map, plainly, print_lines
 
 SIZES = {"": 1, "kB": 10**3, "MB": 10**6, "GB": 10**9}
 LARGEST = "2GB"
@@ -83,6 +83,9 @@ def main(usage: str, ending: Ending) -> int:
     except Stopped as stopped:
         teller.say(f"stopped by {signal.Signals(stopped.number).name[3:]}: {run.how_far}")
         return ending.by(stopped.number)
+    except Exception as error:
+        teller.say(f"it can't go on: {type(error).__name__}: {plainly(error)}: {run.how_far}")
+        return 2
 
 
 class Command:

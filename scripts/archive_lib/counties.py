@@ -47,15 +47,12 @@ class Names:
     zips: List[Entry] = field(default_factory=list)
     files: Dict[str, Entry] = field(default_factory=dict)
     small: List[str] = field(default_factory=list)
-    has_record_files: bool = False
 
     def add(self, entry: Entry) -> None:
         ending = RECORD_FILE.fullmatch(entry.name)
         if not ending:
             self.zips.append(entry)
-            return
-        self.has_record_files = True
-        if entry.is_there and ending[2] == "RT" and ending[3] in TYPES:
+        elif entry.is_there and ending[2] == "RT" and ending[3] in TYPES:
             self.files[ending[3]] = entry
         elif entry.is_there and ending[2] == "rt" and ending[3] in TYPES.lower():
             self.small.append(ending[3])
@@ -199,7 +196,7 @@ class Archive:
             names = Names()
         except Exception as error:
             return County(stem, [], f"it can't be listed: {plainly(error)}")
-        if not names.has_record_files and not names.zips and is_url(stem):
+        if is_url(stem) and names == Names():
             names = probed(stem)
         return county_of(stem, folder, names)
 
@@ -208,10 +205,10 @@ def county_of(stem: str, folder: str, names: Names) -> County:
     """The county of what lies under a stem. Single files are read where there are some, as fingerprint-all reads them, and else the zip."""
     if "\n" in stem:
         return County(stem, [], "its name has a line end")
-    if not names.has_record_files and len(names.zips) == 1:
-        return County(stem, [(place_of(joined(folder, names.zips[0].name)), names.zips[0].size)])
-    if not names.has_record_files and names.zips:
+    if len(names.zips) > 1 and not names.files:
         return County(stem, [], f"it has {len(names.zips)} zips: {' '.join(entry.name for entry in names.zips)}")
+    if names.zips and not names.files:
+        return County(stem, [(place_of(joined(folder, names.zips[0].name)), names.zips[0].size)])
     found = [names.files.get(kind) for kind in TYPES]
     files = [(place_of(joined(folder, entry.name)), entry.size) if entry else None for entry in found]
     told = lacks([kind for kind in TYPES if kind not in names.files], names.small)

@@ -207,6 +207,19 @@ class Calls(InRoom):
         self.assertEqual(ended.status, 2)
         self.assertIn("standard output can't be written: 0 of 3 done\n", ended.err)
 
+    def test_a_name_in_another_spelling(self) -> None:
+        """Names are bytes, as for fingerprint-all."""
+        for kind, text in parts_of(self.text_of_all).items():
+            (self.room / os.fsdecode(b"in/\xc4 \xe4.RT" + kind.encode())).write_bytes(text)
+        ended = call("fingerprint-archive", "--jobs", "1", "m", "in", cwd=self.room)
+        self.assertEqual((ended.status, ended.told()), (0, {}), ended.err)
+        self.assertEqual(self.text("m").splitlines()[-1][66:], b"in/\xc4 \xe4")
+        (self.room / "in/c.ZIP").unlink()
+        checked = subprocess.run(
+            [SCRIPTS / "fingerprint-all", "--check", "m"], cwd=self.room, env=environment(), capture_output=True
+        )
+        self.assertEqual((checked.returncode, b"in/\xc4 \xe4: OK\n" in checked.stdout), (1, True))
+
     def test_in_the_place_where_a_release_has_it(self) -> None:
         """It finds the module beside its folder."""
         release = self.room / "a release"

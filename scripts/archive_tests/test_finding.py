@@ -110,6 +110,9 @@ class Finding(InRoom):
         self.assertEqual((county.files, county.is_zip), ([(f"{self.room}/in/a.ZIP", 5)], True))
         (county,) = self.found("in/small.rt1")
         self.assertEqual(county.trouble, "none of its nine files is there, and lower case isn't read: .rt1")
+        self.put("in/a.rt1", b"")
+        (county,) = self.found("in/a")
+        self.assertEqual((county.files, county.is_zip), ([(f"{self.room}/in/a.ZIP", 5)], True))
         os.symlink("nothing", "in/b.RT4")
         self.assertIsNone(self.found("in/b")[0].files[2])
 
