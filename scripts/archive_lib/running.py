@@ -23,8 +23,8 @@ A_WORKER_AHEAD = 3
 
 FEWEST_AHEAD, MOST_TOGETHER = 8, 16
 
-A_LOOK = 0.005
-"""So many seconds are between two looks for what has ended."""
+A_LOOK, A_LOOK_AT_WORKERS = 0.005, 10.0
+"""So many seconds are between two looks for what has ended, and for which workers are there."""
 
 PATIENCE_FOR_WORKERS = 300.0
 """After so many seconds in which there was no worker that could go on, what is left is told."""
@@ -248,7 +248,7 @@ class Run:
         if self.tally.is_due():
             self.look_at_workers()
             self.tally.tell_progress(self.workers.number)
-        elif time.monotonic() - self.looked_at > 10:
+        elif time.monotonic() - self.looked_at > A_LOOK_AT_WORKERS:
             self.look_at_workers()
         can_go_on = any(job.need <= self.workers.most for job in self.under_way.values())
         if can_go_on or not self.under_way:
