@@ -13,10 +13,11 @@ import urllib.request
 import uuid
 import warnings
 from asyncio import CancelledError
+from contextlib import contextmanager
 from dataclasses import astuple
 from multiprocessing import forkserver
 from pathlib import Path
-from typing import Any, Iterable, List, NamedTuple, Optional, Sequence
+from typing import Any, Iterable, Iterator, List, NamedTuple, Optional, Sequence
 
 from . import judging
 from .telling import Stop, plainly
@@ -69,15 +70,35 @@ class Task(NamedTuple):
 
 def prepare_local_workers() -> None:
     """Begins to load what local workers need, while this process loads it too. Each worker is then a copy of that process, which is there
-    at once. An interrupt from the keyboard goes to them too, and is left to this process."""
+    at once. An interrupt from the keyboard goes to them too, and is left to this process; and what they say of it when one of them has
+    died is nothing that this run doesn't tell."""
     os.environ.setdefault("GLIBC_TUNABLES", "glibc.malloc.hugetlb=1")
     find_module()
-    before = signal.signal(signal.SIGINT, signal.SIG_IGN)
     multiprocessing.get_context("forkserver").set_forkserver_preload(
         ["distributed.nanny", "distributed.worker", "fsspec"]
     )
-    forkserver.ensure_running()
+    before = signal.signal(signal.SIGINT, signal.SIG_IGN)
+    with silent_standard_error():
+        forkserver.ensure_running()
     signal.signal(signal.SIGINT, before)
+
+
+@contextmanager
+def silent_standard_error() -> Iterator[None]:
+    """Processes that are begun meanwhile have a standard error that goes nowhere."""
+    try:
+        kept = os.dup(2)
+    except OSError:  # there is none
+        yield
+        return
+    nowhere = os.open(os.devnull, os.O_WRONLY)
+    os.dup2(nowhere, 2)
+    try:
+        yield
+    finally:
+        os.dup2(kept, 2)
+        os.close(kept)
+        os.close(nowhere)
 
 
 def find_module() -> None:

@@ -207,6 +207,15 @@ class Calls(InRoom):
         self.assertEqual(ended.status, 2)
         self.assertIn("standard output can't be written: 0 of 3 done\n", ended.err)
 
+    def test_a_county_that_kills_its_worker(self) -> None:
+        """The worker is started again. Only this run says anything of it, and nothing is left behind."""
+        rooms = self.put("tmp/here", b"").parent
+        self.put("in/d.RT1", b"kill\r\n")
+        ended = call("fingerprint-archive", "--jobs", "2", "m", "in", cwd=self.room, env=tripping(TMPDIR=str(rooms)))
+        self.assertEqual((ended.status, list(ended.told()), self.text("m").count(b"\n")), (1, ["in/d"], 3))
+        self.assertEqual([line for line in ended.err.splitlines() if not line.startswith("fingerprint-archive: ")], [])
+        self.assertEqual(os.listdir(rooms), ["here"])
+
     def test_a_name_in_another_spelling(self) -> None:
         """Names are bytes, as for fingerprint-all."""
         for kind, text in parts_of(self.text_of_all).items():
