@@ -34,7 +34,7 @@ Answer = Tuple[str, str, str, int]
     refused  the text is the line that refuses it
     failed   the text says what is wrong with its files
     memory   the worker had too little memory; the text is the refusal
-    needs    it takes so many bytes of memory, which is more than was asked for; nothing was unpacked or judged
+    needs    it takes so many bytes of memory or more, which is more than was asked for; nothing was unpacked or judged
     module   the worker can't load the module; the text says why
 """
 
@@ -91,6 +91,8 @@ def opened(packed: bytes) -> zipfile.ZipFile:
     """A zip, of which the directory can be read."""
     try:
         return zipfile.ZipFile(io.BytesIO(packed))
+    except MemoryError:
+        raise
     except Exception:
         if not packed.startswith(b"PK"):
             raise Failed("it is no zip") from None
@@ -157,7 +159,9 @@ def lacking(kinds: Container[str]) -> str:
 
 
 def judged_zip(file: File, asked: int, order: Order) -> Answer:
-    """A county in a zip, which is read once, and of which nothing is unpacked that has no room."""
+    """A county in a zip, which is read once, and of which nothing is read or unpacked that has no room."""
+    if (file[1] or 0) > asked:
+        return "needs", "", "", file[1] or 0
     packed = fetched(file)
     with opened(packed) as archive:
         members = members_of(archive)

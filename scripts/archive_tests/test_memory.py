@@ -86,10 +86,16 @@ class Memory(InRoom):
         with zipfile.ZipFile(self.room / "in/TGR00003.ZIP") as archive:
             packed = Path(archive.filename).stat().st_size
         offered = int(0.9 * needed(size) / 10**6)
+        with open(self.room / "in/TGR00005.ZIP", "wb") as file:
+            file.truncate(offered * 10**6 + 1)
         engine = self.engine(workers=1, memory=offered)
         ended = call("fingerprint-archive", "--scheduler", engine.file, *self.manifest, cwd=self.room)
         self.assertEqual(ended.status, 1)
-        least = {"in/TGR00000": needed(size), "in/TGR00003": needed(size + 1, packed)}
+        least = {
+            "in/TGR00000": needed(size),
+            "in/TGR00003": needed(size + 1, packed),
+            "in/TGR00005": offered * 10**6 + 1,
+        }
         told = {stem: words.partition(";")[0] for stem, words in ended.told().items()}
         self.assertEqual(
             told,
@@ -99,7 +105,7 @@ class Memory(InRoom):
             },
         )
         self.assertEqual(self.text("manifest").count(b"\n"), 1)
-        self.assertIn(": 2 of 3 have no fingerprint", ended.err)
+        self.assertIn(": 3 of 4 have no fingerprint", ended.err)
 
     def test_the_factor(self) -> None:
         """What judging was measured to take beside the parts is no more than what is asked for."""
