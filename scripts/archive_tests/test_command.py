@@ -217,17 +217,15 @@ class Calls(InRoom):
         self.assertEqual(os.listdir(rooms), ["here"])
 
     def test_a_name_in_another_spelling(self) -> None:
-        """Names are bytes, as for fingerprint-all."""
+        """Names are bytes, also those that aren't UTF-8, which the program doesn't take."""
         for kind, text in parts_of(self.text_of_all).items():
             (self.room / os.fsdecode(b"in/\xc4 \xe4.RT" + kind.encode())).write_bytes(text)
         ended = call("fingerprint-archive", "--jobs", "1", "m", "in", cwd=self.room)
         self.assertEqual((ended.status, ended.told()), (0, {}), ended.err)
         self.assertEqual(self.text("m").splitlines()[-1][66:], b"in/\xc4 \xe4")
-        (self.room / "in/c.ZIP").unlink()
-        checked = subprocess.run(
-            [SCRIPTS / "fingerprint-all", "--check", "m"], cwd=self.room, env=environment(), capture_output=True
-        )
-        self.assertEqual((checked.returncode, b"in/\xc4 \xe4: OK\n" in checked.stdout), (1, True))
+        command = [sys.executable, SCRIPTS / "fingerprint-archive", "--jobs", "1", "--check", "m"]
+        checked = subprocess.run(command, cwd=self.room, env=environment(), capture_output=True, timeout=60)
+        self.assertEqual((checked.returncode, b"in/\xc4 \xe4: OK\n" in checked.stdout), (0, True))
 
     def test_in_the_place_where_a_release_has_it(self) -> None:
         """It finds the module beside its folder."""
