@@ -3,3 +3,4 @@ pub mod Carried
 pub mod SameCounty
 pub mod CarriedCounty
 pub mod SameRules
+pub mod SameChains

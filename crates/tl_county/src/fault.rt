@@ -62,7 +62,7 @@ impl fmt::Display for SequencedType {
 }
 
 /// The first rule that a list of records breaks, with the least place at which it is broken.
-#[derive(Clone, Copy, Debug, PartialEq, Eq, Error)]
+#[derive(Clone, Copy, PartialEq, Eq, Error)]
 pub enum LinkFault {
     /// Two records of type 1 have one TLID (11).
     #[error(fmt = tell_chain_twice)]
@@ -97,6 +97,79 @@ pub enum LinkFault {
     /// There was no memory (9).
     #[error("there is not enough memory")]
     Memory,
+}
+
+/// The fault as a derive would show it, which all in one is large for the prover.
+impl fmt::Debug for LinkFault {
+    fn fmt<W: fmt::Write>(&self, f: &mut fmt::Formatter<W>) -> fmt::Result {
+        match self {
+            LinkFault::ChainTwice { tlid } => show_number(f, "ChainTwice", "tlid", tlid),
+            LinkFault::NoChain { rtype, tlid } => show_record(f, "NoChain", rtype, tlid),
+            LinkFault::SequenceBroken { rtype, tlid } => {
+                show_record(f, "SequenceBroken", rtype, tlid)
+            }
+            LinkFault::LinkMissing { tlid } => show_number(f, "LinkMissing", "tlid", tlid),
+            LinkFault::LinkTwice { tlid } => show_number(f, "LinkTwice", "tlid", tlid),
+            LinkFault::NameTwice { feat } => show_number(f, "NameTwice", "feat", feat),
+            LinkFault::NameUnknown { tlid, feat } => show_name_unknown(f, tlid, feat),
+            LinkFault::PolygonTwice { cenid, polyid } => {
+                show_polygon(f, "PolygonTwice", cenid, polyid)
+            }
+            LinkFault::LandUnknown { land } => show_number(f, "LandUnknown", "land", land),
+            LinkFault::PolygonUnknown { cenid, polyid } => {
+                show_polygon(f, "PolygonUnknown", cenid, polyid)
+            }
+            LinkFault::Memory => f.write_str("Memory"),
+        }
+    }
+}
+
+/// Shows a fault of one number.
+fn show_number<T: fmt::Debug, W: fmt::Write>(
+    f: &mut fmt::Formatter<W>,
+    fault: &str,
+    field: &str,
+    number: &T,
+) -> fmt::Result {
+    f.debug_struct(fault).field(field, number).finish()
+}
+
+/// Shows a fault of the records of a chain in one type.
+fn show_record<T: fmt::Debug, W: fmt::Write>(
+    f: &mut fmt::Formatter<W>,
+    fault: &str,
+    rtype: &T,
+    tlid: &u64,
+) -> fmt::Result {
+    f.debug_struct(fault)
+        .field("rtype", rtype)
+        .field("tlid", tlid)
+        .finish()
+}
+
+/// Shows that a chain names a FEAT without a name.
+fn show_name_unknown<W: fmt::Write>(
+    f: &mut fmt::Formatter<W>,
+    tlid: &u64,
+    feat: &u32,
+) -> fmt::Result {
+    f.debug_struct("NameUnknown")
+        .field("tlid", tlid)
+        .field("feat", feat)
+        .finish()
+}
+
+/// Shows a fault of a polygon.
+fn show_polygon<W: fmt::Write>(
+    f: &mut fmt::Formatter<W>,
+    fault: &str,
+    cenid: &[u8; 5],
+    polyid: &u64,
+) -> fmt::Result {
+    f.debug_struct(fault)
+        .field("cenid", cenid)
+        .field("polyid", polyid)
+        .finish()
 }
 
 /// Tells that a TLID stands twice in type 1.

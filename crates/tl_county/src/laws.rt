@@ -31,6 +31,7 @@ pub fn renamings_compose()
 {}
 
 /// A list of records is linked or has a first broken rule, never both, and never two.
+#[tactic(auto, using(crate::proofs::Rules::LinkFaults::linked_has_none, crate::proofs::Rules::LinkFaults::one_first_rule))]
 pub fn linked_or_one_first_broken_rule()
     ensures either { (records : List Record) →
         IsLinked records ⊎ ((fault : LinkFault) × IsFirstBrokenRule records fault) }

@@ -30,6 +30,11 @@ head_written (x ∷ xs) rtype version h e =
 pub behind : {new rest before text text' : List ℕ} → new ≡ rest ++ text → rest ≡ before → text ≡ text' → new ≡ before ++ text'
 behind w h e = (cc)
 
+-- The same for column after column, from the left: how each was written, and what its text is.
+infixl 10 ◌▸◌
+pub ◌▸◌ : {new rest before text text' : List ℕ} → rest ≡ before → (new ≡ rest ++ text) × (text ≡ text') → new ≡ before ++ text'
+stood ▸ column = behind column.0 stood column.1
+
 -- The last column is the last byte of the buffer.
 pub whole : (last : ℕ) (out text : List ℕ) → length out ≡ last → take last out ≡ text → out ≡ text
 whole last out text l h = sym (take_all last out (omega arith)) ∙ h

@@ -132,6 +132,18 @@ impl<C: Chart, S: Standing> Arranged<C, S> {
         Ok((polygons, lands))
     }
 
+    /// The pairs of chains: each old TLID with its new one, in the order of the new ones; and the old TLIDs of those that are turned.
+    fn tlid_pairs(&self, alloc: Global) -> Result<(Vec<(u64, u64)>, Vec<u64>), AllocError>
+        ensures chains { IfOk result (λ told. told.0.items ≡
+            (renaming_of (C.county self.now.chart) (arrangement_of (C.county self.now.chart) self.now.steps.items)).chains) }
+        ensures turned { IfOk result (λ told. told.1.items ≡
+            (renaming_of (C.county self.now.chart) (arrangement_of (C.county self.now.chart) self.now.steps.items)).turned) }
+    {
+        let chains = chain_pairs(alloc, &self.chart, &self.steps)?;
+        let turned = turned_chains(alloc, &self.chart, &self.steps)?;
+        Ok((chains, turned))
+    }
+
     /// The renaming of the county that this one comes from onto this one: each old number with its new one, in the order
     /// of the new ones, and the old TLIDs of the chains that are turned.
     ///
@@ -142,11 +154,10 @@ impl<C: Chart, S: Standing> Arranged<C, S> {
         ensures value { IfOk result (λ r. r ≡ renaming_of (C.county (source_of self.now)) (arrangement_in self.now)) }
         ensures carries { IfOk result (λ r. Carries r (C.county (source_of self.now)) (arranged_county self.now)) }
     {
-        let chains = chain_pairs(alloc, &self.chart, &self.steps)?;
+        let (chains, turned) = self.tlid_pairs(alloc)?;
         let names = name_pairs(alloc, &self.names.feats)?;
         let (polygons, lands) = self.place_pairs(alloc)?;
         let nodes = node_pairs(alloc, &self.nodes.numbers)?;
-        let turned = turned_chains(alloc, &self.chart, &self.steps)?;
         Ok(Renaming::new(chains, names, polygons, lands, nodes, turned))
     }
 }

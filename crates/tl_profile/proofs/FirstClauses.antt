@@ -1,28 +1,16 @@
 -- A polygon without a chain, the least one, is the first broken clause.
-use Rattle.std.proofs.Common.{◌≡◌, true, false, Some, Ordering, Less, Equal, Greater, is_gt}
-use Rattle.std.proofs.Common.{refl, nat_cmp}
+use Rattle.std.proofs.Common.{◌≡◌, true, false, Some, is_gt, refl, nat_cmp}
 use Rattle.std.specs.Cmp.Lexicographic.{slice_cmp}
-use Rattle.std.specs.Ordering.{ordering_then}
 use Rattle.std.proofs.lemmas.Bool.{false≢true}
 use Rattle.tl_county.specs.County.{County}
 use Rattle.tl_county.specs.CountyRules.{is_without_chain}
 use Rattle.tl_county.specs.FirstOf.{place_cmp}
 use Rattle.tl_county.specs.Keyed.{IsLeastPassing}
 use Rattle.tl_county.specs.PolygonKeys.{PolygonKey, key_cmp}
+use Rattle.tl_county.proofs.Rules.RuleTests.{keyed}
 use Rattle.tl_profile.specs.declared.fault.ProfileFault.{ProfileFault}
 use Rattle.tl_profile.specs.declared.fault.ProfileFault.TheVariants.{PolygonWithoutChain, TooSymmetric, Memory}
 use Rattle.tl_profile.specs.Profile.{is_clause_broken, profile_fault_place, IsFirstBrokenClause}
-
--- orders of lists of one number, behind what decides first
-single : (a : Ordering) → is_gt a ≡ false → is_gt (ordering_then (ordering_then a Equal) Equal) ≡ false
-single Less e = refl
-single Equal e = refl
-single Greater e = e
-
-keyed : (a b : Ordering) → is_gt (ordering_then a b) ≡ false → is_gt (ordering_then a (ordering_then (ordering_then b Equal) Equal)) ≡ false
-keyed Less b e = refl
-keyed Equal b e = single b e
-keyed Greater b e = e
 
 module _ (county : County) where
   pub first_polygon : (key : PolygonKey) → IsLeastPassing key_cmp (is_without_chain county) (Some key)

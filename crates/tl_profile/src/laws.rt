@@ -9,6 +9,7 @@ ghost use Rattle.tl_profile.specs.Profile.{IsFirstBrokenClause, IsInProfile};
 ghost use Rattle.tl_profile.specs.declared.fault.ProfileFault.{ProfileFault};
 
 /// A county lies in the profile, or one clause that it breaks is the first: not both, and not two.
+#[tactic(auto, using(crate::proofs::ProfileFaults::profile_has_none, crate::proofs::ProfileFaults::one_first_clause))]
 pub fn in_profile_or_one_first_broken_clause()
     ensures either { (county : County) →
         IsInProfile county ⊎ ((fault : ProfileFault) × IsFirstBrokenClause county fault) }

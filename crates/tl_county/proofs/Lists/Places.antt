@@ -55,7 +55,7 @@ length_values [] = refl
 length_values (entry ∷ entries) = omega (arith, length_values entries)
 
 -- the value at the place of a key, or past the end where no entry has it, is the one under the key
-pub value-at_or_end : {K V : Type 0} {cmp : K → K → Ordering} (o : IsKeyOrder cmp) (key : K) (entries : List (K × V)) (found : Option ℕ)
+value-at_or_end : {K V : Type 0} {cmp : K → K → Ordering} (o : IsKeyOrder cmp) (key : K) (entries : List (K × V)) (found : Option ℕ)
     → IsStrictlySortedBy cmp (entry_keys entries) → IfSome found (λ place. slice_get (entry_keys entries) place ≡ Some key)
     → is_some found ≡ stands_in cmp key (entry_keys entries)
     → slice_get (entry_values entries) (unwrap_or found (length entries)) ≡ value_under cmp key entries
@@ -63,6 +63,14 @@ value-at_or_end o key entries (Some place) strict at known = value-at_place o ke
 value-at_or_end o key entries None strict at known =
     slice_get_past (entry_values entries) (length entries) (omega (arith, length_values entries))
     ∙ sym (none-under o key entries (sym known))
+
+-- the same of a place that a chart tells, and of its count of entries
+pub value-told : {K V : Type 0} {cmp : K → K → Ordering} (o : IsKeyOrder cmp) (key : K) (entries : List (K × V)) (found : Option ℕ)
+    {place count : ℕ} → place ≡ unwrap_or found count → count ≡ length entries → IsStrictlySortedBy cmp (entry_keys entries)
+    → IfSome found (λ at. slice_get (entry_keys entries) at ≡ Some key) → is_some found ≡ stands_in cmp key (entry_keys entries)
+    → slice_get (entry_values entries) place ≡ value_under cmp key entries
+value-told o key entries found is counted strict at known =
+    ap (slice_get (entry_values entries)) (is ∙ ap (unwrap_or found) counted) ∙ value-at_or_end o key entries found strict at known
 
 -- links whose LANDs all stand there have no LAND that doesn't
 none_of_land : (land : ℕ) (lands : List ℕ) → stands_in nat_cmp land lands ≡ false → (links : List Fields8)

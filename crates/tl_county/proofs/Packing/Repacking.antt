@@ -18,32 +18,31 @@ use Rattle.tl_county.specs.declared.fault.LinkedType.TheVariants.{Two as Type2, 
 use Rattle.tl_county.specs.declared.fault.SequencedType.{SequencedType}
 use Rattle.tl_county.specs.declared.fault.SequencedType.TheVariants as sequenced
 use Rattle.tl_county.specs.BodyOrder.{landmark_body_cmp, link_cmp}
-use Rattle.tl_layout.specs.ByType.{as_type_1, as_type_2, as_type_4, as_type_5, as_type_6, as_type_7, as_type_8, as_type_i}
-use Rattle.tl_layout.specs.ByType.{as_type_p, of_type_1, of_type_2, of_type_4, of_type_5, of_type_6, of_type_7, of_type_8}
-use Rattle.tl_layout.specs.ByType.{of_type_i, of_type_p, of_number}
+use Rattle.tl_layout.specs.ByType.{as_type_2, as_type_4, as_type_6, of_type_2, of_type_4, of_type_6, of_number}
 use Rattle.tl_county.specs.County.{one_tlid, two_tlid, two_rtsq, four_tlid, four_rtsq, five_feat, six_tlid, six_rtsq, seven_land}
 use Rattle.tl_county.specs.County.{eight_land, link_key}
 use Rattle.tl_county.specs.County.{i_tlid, p_key, shape_points, further_names, further_ranges, chain_of, chains_of, side_keys, first}
 use Rattle.tl_county.specs.County.{polygons_of, county_of}
 use Rattle.tl_county.specs.LinkRules.{linked_tlids, rtsqs, named_feats, is_rule_broken, IsLinked}
 use Rattle.tl_county.specs.Orders.{times, stands_in, has_repeat, put_in_order, in_order, distinct}
+use Rattle.tl_county.specs.Packing.{Typed, by_type}
 use Rattle.tl_county.specs.PolygonKeys.{key_cmp}
 use Rattle.tl_county.specs.Repacked.{Sequence, resequenced, KeepsSequence}
 use Rattle.tl_county.proofs.ByKey.Keys.{nat_keys, all_known}
-use Rattle.tl_county.proofs.Lists.Elements.{map-map, flat_map_agree, map_agree_all, map_agree_everywhere, all_both, all_map, all_unmap}
+use Rattle.tl_county.proofs.Lists.Elements.{map-map, map_agree_all, map_agree_everywhere, all_both, all_map, all_unmap}
+use Rattle.tl_county.proofs.Sameness.SameChains.{chains_alike}
 use Rattle.tl_county.proofs.ByKey.Numbers.{all-in_order, of_number-all}
+
+-- the records of the types that don't stand in the order of RTSQs
+abbrev pub unsequenced : List Record → Typed
+unsequenced records = record (by_type records) { of_type_2 = []; of_type_4 = []; of_type_6 = [] }
 
 -- Each chain has the same shape points, names and ranges, joined in the order of its RTSQs, and the other records are the same.
 pub record AreRepacked (xs ys : List Record) : Type 0 where
   pub points : (tlid : ℕ) → shape_points xs tlid ≡ shape_points ys tlid
   pub names : (tlid : ℕ) → further_names xs tlid ≡ further_names ys tlid
   pub ranges : (tlid : ℕ) → further_ranges xs tlid ≡ further_ranges ys tlid
-  pub of_type_1 : of_type_1 xs ≡ of_type_1 ys
-  pub of_type_5 : of_type_5 xs ≡ of_type_5 ys
-  pub of_type_7 : of_type_7 xs ≡ of_type_7 ys
-  pub of_type_8 : of_type_8 xs ≡ of_type_8 ys
-  pub of_type_i : of_type_i xs ≡ of_type_i ys
-  pub of_type_p : of_type_p xs ≡ of_type_p ys
+  pub rest : unsequenced xs ≡ unsequenced ys
 
 module _ (xs ys : List Record) (s : AreRepacked xs ys) where
   chain_same : (r : Fields1) (link : FieldsI) → chain_of xs r link ≡ chain_of ys r link
@@ -54,36 +53,23 @@ module _ (xs ys : List Record) (s : AreRepacked xs ys) where
   }
 
   chains_same : chains_of xs ≡ chains_of ys
-  chains_same =
-      flat_map_agree (λ r. map (λ link. (r.tlid, chain_of xs r link)) (of_number i_tlid r.tlid (of_type_i xs)))
-      (λ r. map (λ link. (r.tlid, chain_of ys r link)) (of_number i_tlid r.tlid (of_type_i ys)))
-      (λ r. map_agree_everywhere (λ link. (r.tlid, chain_of xs r link)) (λ link. (r.tlid, chain_of ys r link))
-      (λ link i. (r.tlid, chain_same r link i)) (of_number i_tlid r.tlid (of_type_i xs))
-      ∙ ap (λ ls. map (λ link. (r.tlid, chain_of ys r link)) (of_number i_tlid r.tlid ls)) s.of_type_i)
-      (in_order (on one_tlid nat_cmp) (of_type_1 xs))
-      ∙ ap (λ rs. flat_map (λ r. map (λ link. (r.tlid, chain_of ys r link)) (of_number i_tlid r.tlid (of_type_i ys)))
-      (in_order (on one_tlid nat_cmp) rs)) s.of_type_1
+  chains_same = chains_alike xs ys chain_same (λ n i. of_number i_tlid n (s.rest i).of_type_i) (λ i. in_order (on one_tlid nat_cmp) (s.rest i).of_type_1)
 
   polygons_same : polygons_of xs ≡ polygons_of ys
   polygons_same = ap₂ (λ ls qs. map (λ k. (k, first (map (λ (q : FieldsP). q.body) (filter (λ q. is_eq (key_cmp k (p_key q))) qs))))
-      (distinct key_cmp (flat_map side_keys ls ++ map p_key qs))) s.of_type_i s.of_type_p
+      (distinct key_cmp (flat_map side_keys ls ++ map p_key qs))) (λ i. (s.rest i).of_type_i) (λ i. (s.rest i).of_type_p)
 
   pub repacked-county : county_of xs ≡ county_of ys
   repacked-county = λ i. record {
     chains = chains_same i;
-    names = map (λ (r : Fields5). (r.feat, r.body)) (in_order (on five_feat nat_cmp) (s.of_type_5 i));
+    names = map (λ (r : Fields5). (r.feat, r.body)) (in_order (on five_feat nat_cmp) (s.rest i).of_type_5);
     polygons = polygons_same i;
-    landmarks = map (λ land. (land, in_order landmark_body_cmp (map (λ (r : Fields7). r.body) (of_number seven_land land (s.of_type_7 i)))))
-        (distinct nat_cmp (map seven_land (s.of_type_7 i)));
-    links = in_order link_cmp (s.of_type_8 i);
+    landmarks = map (λ land. (land, in_order landmark_body_cmp (map (λ (r : Fields7). r.body) (of_number seven_land land (s.rest i).of_type_7))))
+        (distinct nat_cmp (map seven_land (s.rest i).of_type_7));
+    links = in_order link_cmp (s.rest i).of_type_8;
   }
 
 -- lists changed element by element
-select-kept : {X Y : Type 0} (h : X → Option Y) (g : X → X) → ((x : X) → h (g x) ≡ h x) → (xs : List X)
-    → filter_map h (map g xs) ≡ filter_map h xs
-select-kept h g k [] = refl
-select-kept h g k (x ∷ xs) = ap₂ cons_option (k x) (select-kept h g k xs)
-
 select-changed : {X Y : Type 0} (h : X → Option Y) (g : X → X) (f : Y → Y) → ((x : X) → h (g x) ≡ option_map f (h x)) → (xs : List X)
     → filter_map h (map g xs) ≡ map f (filter_map h xs)
 select-changed h g f k [] = refl
@@ -219,29 +205,17 @@ module _ (q : Sequence) (xs : List Record) (up : KeepsSequence q xs) where
   new_six : Fields6 → Fields6
   new_six r = record r { rtsq = q sequenced.Six r.tlid r.rtsq }
 
-  keeps_one : (r : Record) → as_type_1 (resequenced q r) ≡ as_type_1 r
-  keeps_one (One r) = refl
-  keeps_one _ = refl
-
-  keeps_five : (r : Record) → as_type_5 (resequenced q r) ≡ as_type_5 r
-  keeps_five (Five r) = refl
-  keeps_five _ = refl
-
-  keeps_seven : (r : Record) → as_type_7 (resequenced q r) ≡ as_type_7 r
-  keeps_seven (Seven r) = refl
-  keeps_seven _ = refl
-
-  keeps_eight : (r : Record) → as_type_8 (resequenced q r) ≡ as_type_8 r
-  keeps_eight (Eight r) = refl
-  keeps_eight _ = refl
-
-  keeps_i : (r : Record) → as_type_i (resequenced q r) ≡ as_type_i r
-  keeps_i (I r) = refl
-  keeps_i _ = refl
-
-  keeps_p : (r : Record) → as_type_p (resequenced q r) ≡ as_type_p r
-  keeps_p (P r) = refl
-  keeps_p _ = refl
+  keeps_rest : (rs : List Record) → unsequenced (map (resequenced q) rs) ≡ unsequenced rs
+  keeps_rest [] = refl
+  keeps_rest (One r ∷ rs) = λ i. record (keeps_rest rs i) { of_type_1 = r ∷ (keeps_rest rs i).of_type_1 }
+  keeps_rest (Five r ∷ rs) = λ i. record (keeps_rest rs i) { of_type_5 = r ∷ (keeps_rest rs i).of_type_5 }
+  keeps_rest (Seven r ∷ rs) = λ i. record (keeps_rest rs i) { of_type_7 = r ∷ (keeps_rest rs i).of_type_7 }
+  keeps_rest (Eight r ∷ rs) = λ i. record (keeps_rest rs i) { of_type_8 = r ∷ (keeps_rest rs i).of_type_8 }
+  keeps_rest (I r ∷ rs) = λ i. record (keeps_rest rs i) { of_type_i = r ∷ (keeps_rest rs i).of_type_i }
+  keeps_rest (P r ∷ rs) = λ i. record (keeps_rest rs i) { of_type_p = r ∷ (keeps_rest rs i).of_type_p }
+  keeps_rest (Two r ∷ rs) = keeps_rest rs
+  keeps_rest (Four r ∷ rs) = keeps_rest rs
+  keeps_rest (Six r ∷ rs) = keeps_rest rs
 
   news_two : (r : Record) → as_type_2 (resequenced q r) ≡ option_map new_two (as_type_2 r)
   unfolding new_two
@@ -278,12 +252,7 @@ module _ (q : Sequence) (xs : List Record) (up : KeepsSequence q xs) where
         ∙ ap (map (λ (r : Fields6). r.ranges)) (sequence_kept six_tlid six_rtsq new_six (q sequenced.Six) (λ r. refl) (λ r. refl) n
         (of_type_6 xs) (up sequenced.Six n))
         ∙ map-map (λ (r : Fields6). r.ranges) new_six (in_order (on six_rtsq nat_cmp) (of_number six_tlid n (of_type_6 xs)));
-    of_type_1 = select-kept as_type_1 (resequenced q) keeps_one xs;
-    of_type_5 = select-kept as_type_5 (resequenced q) keeps_five xs;
-    of_type_7 = select-kept as_type_7 (resequenced q) keeps_seven xs;
-    of_type_8 = select-kept as_type_8 (resequenced q) keeps_eight xs;
-    of_type_i = select-kept as_type_i (resequenced q) keeps_i xs;
-    of_type_p = select-kept as_type_p (resequenced q) keeps_p xs;
+    rest = keeps_rest xs;
   }
 
   pub resequenced-county : county_of (map (resequenced q) xs) ≡ county_of xs
@@ -314,7 +283,7 @@ module _ (q : Sequence) (xs : List Record) (up : KeepsSequence q xs) where
   linked_same Type2 = ap (map two_tlid) two_is ∙ new_tlids two_tlid new_two (λ r. refl) (of_type_2 xs)
   linked_same Type4 = ap (map four_tlid) four_is ∙ new_tlids four_tlid new_four (λ r. refl) (of_type_4 xs)
   linked_same Type6 = ap (map six_tlid) six_is ∙ new_tlids six_tlid new_six (λ r. refl) (of_type_6 xs)
-  linked_same TypeI = ap (map i_tlid) (resequenced-repacked.of_type_i)
+  linked_same TypeI = λ i. map i_tlid (keeps_rest xs i).of_type_i
 
   named_same : (n : ℕ) → named_feats n ys ≡ named_feats n xs
   unfolding new_four
@@ -333,24 +302,23 @@ module _ (q : Sequence) (xs : List Record) (up : KeepsSequence q xs) where
 
   same_broken : (f : LinkFault) → is_rule_broken ys f ≡ is_rule_broken xs f
   unfolding ys
-  same_broken (ChainTwice n) = ap (λ rs. nat_lt 1 (times nat_cmp n (map one_tlid rs))) resequenced-repacked.of_type_1
-  same_broken (NoChain t n) = ap₂ (λ ks rs. stands_in nat_cmp n ks && not (stands_in nat_cmp n (map one_tlid rs))) (linked_same t)
-      resequenced-repacked.of_type_1
+  same_broken (ChainTwice n) = λ i. nat_lt 1 (times nat_cmp n (map one_tlid (keeps_rest xs i).of_type_1))
+  same_broken (NoChain t n) = λ i. stands_in nat_cmp n (linked_same t i) && not
+      (stands_in nat_cmp n (map one_tlid (keeps_rest xs i).of_type_1))
   same_broken (SequenceBroken t n) = sequence_same t n
-  same_broken (LinkMissing n) =
-      ap₂ (λ rs ls. stands_in nat_cmp n (map one_tlid rs) && not (stands_in nat_cmp n (map i_tlid ls))) resequenced-repacked.of_type_1
-      resequenced-repacked.of_type_i
-  same_broken (LinkTwice n) = ap (λ ls. nat_lt 1 (times nat_cmp n (map i_tlid ls))) resequenced-repacked.of_type_i
-  same_broken (NameTwice n) = ap (λ rs. nat_lt 1 (times nat_cmp n (map five_feat rs))) resequenced-repacked.of_type_5
-  same_broken (NameUnknown n y) = ap₂ (λ ks rs. stands_in nat_cmp y ks && not (stands_in nat_cmp y (map five_feat rs))) (named_same n)
-      resequenced-repacked.of_type_5
-  same_broken (PolygonTwice c k) = ap (λ rs. nat_lt 1 (times key_cmp (c, k) (map p_key rs))) resequenced-repacked.of_type_p
-  same_broken (LandUnknown n) =
-      ap₂ (λ es ss. stands_in nat_cmp n (map eight_land es) && not (stands_in nat_cmp n (map seven_land ss)))
-      resequenced-repacked.of_type_8 resequenced-repacked.of_type_7
+  same_broken (LinkMissing n) = λ i.
+      stands_in nat_cmp n (map one_tlid (keeps_rest xs i).of_type_1) && not (stands_in nat_cmp n (map i_tlid (keeps_rest xs i).of_type_i))
+  same_broken (LinkTwice n) = λ i. nat_lt 1 (times nat_cmp n (map i_tlid (keeps_rest xs i).of_type_i))
+  same_broken (NameTwice n) = λ i. nat_lt 1 (times nat_cmp n (map five_feat (keeps_rest xs i).of_type_5))
+  same_broken (NameUnknown n y) = λ i. stands_in nat_cmp y (named_same n i) && not
+      (stands_in nat_cmp y (map five_feat (keeps_rest xs i).of_type_5))
+  same_broken (PolygonTwice c k) = λ i. nat_lt 1 (times key_cmp (c, k) (map p_key (keeps_rest xs i).of_type_p))
+  same_broken (LandUnknown n) = λ i.
+      stands_in nat_cmp n (map eight_land (keeps_rest xs i).of_type_8) && not
+      (stands_in nat_cmp n (map seven_land (keeps_rest xs i).of_type_7))
   same_broken (PolygonUnknown c k) = λ i.
-      stands_in key_cmp (c, k) (map link_key (resequenced-repacked.of_type_8 i)) && not
-      (stands_in key_cmp (c, k) (flat_map side_keys (resequenced-repacked.of_type_i i) ++ map p_key (resequenced-repacked.of_type_p i)))
+      stands_in key_cmp (c, k) (map link_key (keeps_rest xs i).of_type_8) && not
+      (stands_in key_cmp (c, k) (flat_map side_keys (keeps_rest xs i).of_type_i ++ map p_key (keeps_rest xs i).of_type_p))
   same_broken Memory = refl
 
   pub resequenced-linked : IsLinked xs → IsLinked (map (resequenced q) xs)

@@ -223,12 +223,7 @@ module _ (others : List Record) (whole first second : Fields2)
     points = sequenced-cut two_tlid two_rtsq (λ (r : Fields2). r.points) (of_type_2 others) whole first second cut;
     names = λ n. refl;
     ranges = λ n. refl;
-    of_type_1 = refl;
-    of_type_5 = refl;
-    of_type_7 = refl;
-    of_type_8 = refl;
-    of_type_i = refl;
-    of_type_p = refl;
+    rest = refl;
   }
 
 -- a record of type 4 cut into two, at the head of a list
@@ -249,12 +244,7 @@ module _ (others : List Record) (whole first second : Fields4)
     points = λ n. refl;
     names = sequenced-cut four_tlid four_rtsq (λ (r : Fields4). r.feats) (of_type_4 others) whole first second cut;
     ranges = λ n. refl;
-    of_type_1 = refl;
-    of_type_5 = refl;
-    of_type_7 = refl;
-    of_type_8 = refl;
-    of_type_i = refl;
-    of_type_p = refl;
+    rest = refl;
   }
 
 -- the head of a list cut into two
@@ -330,12 +320,7 @@ left_out others (Two empty) none = (
     points = λ n. sequenced-empty two_tlid two_rtsq (λ (r : Fields2). r.points) empty none n (of_type_2 others);
     names = λ n. refl;
     ranges = λ n. refl;
-    of_type_1 = refl;
-    of_type_5 = refl;
-    of_type_7 = refl;
-    of_type_8 = refl;
-    of_type_i = refl;
-    of_type_p = refl;
+    rest = refl;
   }),
 )
 left_out others (Four empty) none = (
@@ -344,12 +329,7 @@ left_out others (Four empty) none = (
     points = λ n. refl;
     names = λ n. sequenced-empty four_tlid four_rtsq (λ (r : Fields4). r.feats) empty none n (of_type_4 others);
     ranges = λ n. refl;
-    of_type_1 = refl;
-    of_type_5 = refl;
-    of_type_7 = refl;
-    of_type_8 = refl;
-    of_type_i = refl;
-    of_type_p = refl;
+    rest = refl;
   }),
 )
 left_out others _ none = absurd none

@@ -1,5 +1,5 @@
 -- Entries whose values are kept in some way, and the entries that they stand for.
-use Rattle.std.proofs.Common.{◌≡◌, ℕ, zero, suc, List, [], ◌∷◌, map, flat_map, refl, sym, ap, ◌∙◌, subst, slice_get, Option, option_map, unwrap_or, nat_cmp}
+use Rattle.std.proofs.Common.{◌≡◌, ℕ, zero, suc, List, [], ◌∷◌, map, flat_map, refl, sym, ap, ◌∙◌, subst, slice_get, Option, Some, IfSome, option_map, unwrap_or, nat_cmp}
 use Rattle.std.specs.List.Sorted.{IsStrictlySortedBy}
 use Rattle.tl_layout.specs.ByType.{of_number}
 use Rattle.tl_layout.specs.Fields.{Fields5}
@@ -16,6 +16,12 @@ use Rattle.tl_county.proofs.Lists.Elements.{map-map}
 
 pub keys-kept : {K V W : Type 0} (f : V → W) (xs : List (K × V)) → entry_keys xs ≡ entry_keys (map_values f xs)
 keys-kept f xs = sym (keys-map_values f xs)
+
+-- what was found in the one list of keys is found in the other
+pub found-in : {keys others : List ℕ} (place : Option ℕ) (number : ℕ) → keys ≡ others
+    → IfSome place (λ at. slice_get keys at ≡ Some number) → IfSome place (λ at. slice_get others at ≡ Some number)
+found-in place number same found =
+    subst (λ (ks : List ℕ). IfSome place (λ at. slice_get ks at ≡ Some number)) same found
 
 pub value-at-kept : {K V W : Type 0} (f : V → W) (xs : List (K × V)) (place : ℕ)
     → option_map f (slice_get (entry_values xs) place) ≡ slice_get (entry_values (map_values f xs)) place

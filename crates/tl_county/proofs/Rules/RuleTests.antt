@@ -9,6 +9,7 @@ use Rattle.std.specs.Ordering.{ordering_then}
 use Rattle.tl_layout.specs.ByType.{of_number}
 use Rattle.tl_layout.specs.Fields.{Fields4}
 use Rattle.tl_layout.specs.declared.record_type.Record.{Record}
+use Rattle.tl_county.specs.declared.fault.LinkFault.{LinkFault}
 use Rattle.tl_county.specs.declared.fault.LinkFault.TheVariants.{ChainTwice, NoChain, SequenceBroken, LinkMissing, LinkTwice}
 use Rattle.tl_county.specs.declared.fault.LinkFault.TheVariants.{NameTwice, NameUnknown, PolygonTwice, LandUnknown}
 use Rattle.tl_county.specs.declared.fault.LinkFault.TheVariants.{PolygonUnknown}
@@ -17,10 +18,13 @@ use Rattle.tl_county.specs.declared.fault.SequencedType.TheVariants as sequenced
 use Rattle.tl_county.specs.BodyOrder.{bytes_cmp}
 use Rattle.tl_county.specs.County.{one_tlid, two_tlid, two_rtsq, four_tlid, four_rtsq, five_feat, six_tlid, six_rtsq, seven_land}
 use Rattle.tl_county.specs.County.{eight_land, link_key, i_tlid, p_key, side_keys}
+use Rattle.tl_county.specs.FirstOf.{place_cmp}
 use Rattle.tl_county.specs.Keyed.{IsLeastPassing, is_repeated, is_unknown}
+use Rattle.tl_county.specs.LinkRules.{is_rule_broken, link_fault_place}
 use Rattle.tl_county.specs.Orders.{times, stands_in, has_repeat, IsInOrder, distinct}
 use Rattle.tl_county.specs.Packing.{Typed, by_type}
 use Rattle.tl_county.specs.PolygonKeys.{PolygonKey, key_cmp}
+use Rattle.tl_county.specs.RuleOrder.{rule_place}
 use Rattle.tl_county.specs.SequenceKeys.{uses_of, is_unnamed, sequence_cmp}
 use Rattle.tl_county.proofs.Lists.Distinct.{apart_from_no_repeat, times-distinct, bit}
 use Rattle.tl_county.proofs.ByKey.KeyOrders.{key_keys, pair_keys}
@@ -29,15 +33,15 @@ use Rattle.tl_county.proofs.ByKey.Keys.{times-cons, same-itself, known-here}
 use Rattle.tl_county.proofs.ByKey.KeyedLists.{first_least}
 use Rattle.tl_county.proofs.Rules.LinkFaults.{part, number}
 use Rattle.tl_county.proofs.Lists.Elements.{all_weaker}
-use Rattle.tl_county.proofs.Rules.RuleOrders.{IsRule}
+use Rattle.tl_county.proofs.Rules.RuleOrders.{IsRule, fault_of_rule}
 
 -- orders of lists of one or two numbers
-single : (a : Ordering) → is_gt a ≡ false → is_gt (ordering_then (ordering_then a Equal) Equal) ≡ false
+pub single : (a : Ordering) → is_gt a ≡ false → is_gt (ordering_then (ordering_then a Equal) Equal) ≡ false
 single Less e = refl
 single Equal e = refl
 single Greater e = e
 
-keyed : (a b : Ordering) → is_gt (ordering_then a b) ≡ false → is_gt (ordering_then a (ordering_then (ordering_then b Equal) Equal)) ≡ false
+pub keyed : (a b : Ordering) → is_gt (ordering_then a b) ≡ false → is_gt (ordering_then a (ordering_then (ordering_then b Equal) Equal)) ≡ false
 keyed Less b e = refl
 keyed Equal b e = single b e
 keyed Greater b e = e
@@ -222,122 +226,79 @@ unknown-distinct keys others known p key = (λ i. nat_lt 0 (times-permutation ke
     once = ap (nat_lt 0) (times-distinct key_keys key known) ∙ flag (stands_in key_cmp key known)
 
 module _ (records : List Record) (t : Typed) (e : by_type records ≡ t) where
-  pub rule_11 : IsRule nat_cmp (is_repeated nat_cmp (map one_tlid t.of_type_1)) records 0 ChainTwice
-  rule_11 = record {
-    broken = λ k. ap (λ (u : Typed). nat_lt 1 (times nat_cmp k (map one_tlid u.of_type_1))) e;
-    place = λ k. refl;
-    key =
-        λ p. number p 0;
-    only = λ p. refl;
-    order = λ k j h. single (nat_cmp k j) h;
+  -- a rule whose faults have one number as their key
+  numbered : (n : ℕ) (at : ℕ → LinkFault) (test : Typed → ℕ → Bool) → ((k : ℕ) → is_rule_broken records (at k) ≡ test (by_type records) k)
+      → ((k : ℕ) → rule_place (at k) ≡ n) → ((p : List (List ℕ)) → fault_of_rule n p ≡ at (number p 0))
+      → ((k j : ℕ) → place_cmp (link_fault_place (at k)) (link_fault_place (at j)) ≡ ordering_then (ordering_then (nat_cmp k j) Equal) Equal)
+      → IsRule nat_cmp (test t) records n at
+  numbered n at test broken place only order = record {
+    broken = λ k. broken k ∙ ap (λ u. test u k) e;
+    place = place;
+    key = λ p. number p 0;
+    only = only;
+    order = λ k j h. ap is_gt (order k j) ∙ single (nat_cmp k j) h;
   }
+
+  -- a rule whose faults have a polygon as their key
+  of_polygons : (n : ℕ) (at : PolygonKey → LinkFault) (test : Typed → PolygonKey → Bool)
+      → ((k : PolygonKey) → is_rule_broken records (at k) ≡ test (by_type records) k) → ((k : PolygonKey) → rule_place (at k) ≡ n)
+      → ((p : List (List ℕ)) → fault_of_rule n p ≡ at (part p 0, number p 1))
+      → ((k j : PolygonKey) → place_cmp (link_fault_place (at k)) (link_fault_place (at j))
+      ≡ ordering_then (bytes_cmp k.0 j.0) (ordering_then (ordering_then (nat_cmp k.1 j.1) Equal) Equal))
+      → IsRule key_cmp (test t) records n at
+  of_polygons n at test broken place only order = record {
+    broken = λ k. broken k ∙ ap (λ u. test u k) e;
+    place = place;
+    key = λ p. (part p 0, number p 1);
+    only = only;
+    order = λ k j h. ap is_gt (order k j) ∙ keyed (bytes_cmp k.0 j.0) (nat_cmp k.1 j.1) h;
+  }
+
+  pub rule_11 : IsRule nat_cmp (is_repeated nat_cmp (map one_tlid t.of_type_1)) records 0 ChainTwice
+  rule_11 = numbered 0 ChainTwice (λ u. is_repeated nat_cmp (map one_tlid u.of_type_1))
+      (λ k. refl) (λ k. refl) (λ p. refl) (λ k j. refl)
 
   pub rule_12_two : IsRule nat_cmp (is_unknown nat_cmp (map two_tlid t.of_type_2) (map one_tlid t.of_type_1)) records 1 (NoChain Two)
-  rule_12_two = record {
-    broken =
-        λ k. ap (λ (u : Typed). is_unknown nat_cmp (map two_tlid u.of_type_2) (map one_tlid u.of_type_1) k) e;
-    place = λ k. refl;
-    key =
-        λ p. number p 0;
-    only = λ p. refl;
-    order = λ k j h. single (nat_cmp k j) h;
-  }
+  rule_12_two = numbered 1 (NoChain Two) (λ u. is_unknown nat_cmp (map two_tlid u.of_type_2) (map one_tlid u.of_type_1))
+      (λ k. refl) (λ k. refl) (λ p. refl) (λ k j. refl)
 
   pub rule_12_four : IsRule nat_cmp (is_unknown nat_cmp (map four_tlid t.of_type_4) (map one_tlid t.of_type_1)) records 2 (NoChain Four)
-  rule_12_four = record {
-    broken =
-        λ k. ap (λ (u : Typed). is_unknown nat_cmp (map four_tlid u.of_type_4) (map one_tlid u.of_type_1) k) e;
-    place = λ k. refl;
-    key =
-        λ p. number p 0;
-    only = λ p. refl;
-    order = λ k j h. single (nat_cmp k j) h;
-  }
+  rule_12_four = numbered 2 (NoChain Four) (λ u. is_unknown nat_cmp (map four_tlid u.of_type_4) (map one_tlid u.of_type_1))
+      (λ k. refl) (λ k. refl) (λ p. refl) (λ k j. refl)
 
   pub rule_12_six : IsRule nat_cmp (is_unknown nat_cmp (map six_tlid t.of_type_6) (map one_tlid t.of_type_1)) records 3 (NoChain Six)
-  rule_12_six = record {
-    broken =
-        λ k. ap (λ (u : Typed). is_unknown nat_cmp (map six_tlid u.of_type_6) (map one_tlid u.of_type_1) k) e;
-    place = λ k. refl;
-    key =
-        λ p. number p 0;
-    only = λ p. refl;
-    order = λ k j h. single (nat_cmp k j) h;
-  }
+  rule_12_six = numbered 3 (NoChain Six) (λ u. is_unknown nat_cmp (map six_tlid u.of_type_6) (map one_tlid u.of_type_1))
+      (λ k. refl) (λ k. refl) (λ p. refl) (λ k j. refl)
 
   pub rule_12_i : IsRule nat_cmp (is_unknown nat_cmp (map i_tlid t.of_type_i) (map one_tlid t.of_type_1)) records 4 (NoChain I)
-  rule_12_i = record {
-    broken = λ k. ap (λ (u : Typed). is_unknown nat_cmp (map i_tlid u.of_type_i) (map one_tlid u.of_type_1) k) e;
-    place =
-        λ k. refl;
-    key = λ p. number p 0;
-    only = λ p. refl;
-    order = λ k j h. single (nat_cmp k j) h;
-  }
+  rule_12_i = numbered 4 (NoChain I) (λ u. is_unknown nat_cmp (map i_tlid u.of_type_i) (map one_tlid u.of_type_1))
+      (λ k. refl) (λ k. refl) (λ p. refl) (λ k j. refl)
 
   pub rule_13_two : IsRule nat_cmp (λ k. has_repeat nat_cmp (map two_rtsq (of_number two_tlid k t.of_type_2))) records 5
       (SequenceBroken sequenced.Two)
-  rule_13_two = record {
-    broken = λ k. ap (λ (u : Typed). has_repeat nat_cmp (map two_rtsq (of_number two_tlid k u.of_type_2))) e;
-    place =
-        λ k. refl;
-    key = λ p. number p 0;
-    only = λ p. refl;
-    order = λ k j h. single (nat_cmp k j) h;
-  }
+  rule_13_two = numbered 5 (SequenceBroken sequenced.Two) (λ u k. has_repeat nat_cmp (map two_rtsq (of_number two_tlid k u.of_type_2)))
+      (λ k. refl) (λ k. refl) (λ p. refl) (λ k j. refl)
 
   pub rule_13_four : IsRule nat_cmp (λ k. has_repeat nat_cmp (map four_rtsq (of_number four_tlid k t.of_type_4))) records 6
       (SequenceBroken sequenced.Four)
-  rule_13_four = record {
-    broken =
-        λ k. ap (λ (u : Typed). has_repeat nat_cmp (map four_rtsq (of_number four_tlid k u.of_type_4))) e;
-    place = λ k. refl;
-    key =
-        λ p. number p 0;
-    only = λ p. refl;
-    order = λ k j h. single (nat_cmp k j) h;
-  }
+  rule_13_four = numbered 6 (SequenceBroken sequenced.Four) (λ u k. has_repeat nat_cmp (map four_rtsq (of_number four_tlid k u.of_type_4)))
+      (λ k. refl) (λ k. refl) (λ p. refl) (λ k j. refl)
 
   pub rule_13_six : IsRule nat_cmp (λ k. has_repeat nat_cmp (map six_rtsq (of_number six_tlid k t.of_type_6))) records 7
       (SequenceBroken sequenced.Six)
-  rule_13_six = record {
-    broken = λ k. ap (λ (u : Typed). has_repeat nat_cmp (map six_rtsq (of_number six_tlid k u.of_type_6))) e;
-    place =
-        λ k. refl;
-    key = λ p. number p 0;
-    only = λ p. refl;
-    order = λ k j h. single (nat_cmp k j) h;
-  }
+  rule_13_six = numbered 7 (SequenceBroken sequenced.Six) (λ u k. has_repeat nat_cmp (map six_rtsq (of_number six_tlid k u.of_type_6)))
+      (λ k. refl) (λ k. refl) (λ p. refl) (λ k j. refl)
 
   pub rule_14 : IsRule nat_cmp (is_unknown nat_cmp (map one_tlid t.of_type_1) (map i_tlid t.of_type_i)) records 8 LinkMissing
-  rule_14 = record {
-    broken = λ k. ap (λ (u : Typed). is_unknown nat_cmp (map one_tlid u.of_type_1) (map i_tlid u.of_type_i) k) e;
-    place =
-        λ k. refl;
-    key = λ p. number p 0;
-    only = λ p. refl;
-    order = λ k j h. single (nat_cmp k j) h;
-  }
+  rule_14 = numbered 8 LinkMissing (λ u. is_unknown nat_cmp (map one_tlid u.of_type_1) (map i_tlid u.of_type_i))
+      (λ k. refl) (λ k. refl) (λ p. refl) (λ k j. refl)
 
   pub rule_15 : IsRule nat_cmp (is_repeated nat_cmp (map i_tlid t.of_type_i)) records 9 LinkTwice
-  rule_15 = record {
-    broken = λ k. ap (λ (u : Typed). is_repeated nat_cmp (map i_tlid u.of_type_i) k) e;
-    place = λ k. refl;
-    key =
-        λ p. number p 0;
-    only = λ p. refl;
-    order = λ k j h. single (nat_cmp k j) h;
-  }
+  rule_15 = numbered 9 LinkTwice (λ u. is_repeated nat_cmp (map i_tlid u.of_type_i)) (λ k. refl) (λ k. refl) (λ p. refl) (λ k j. refl)
 
   pub rule_16 : IsRule nat_cmp (is_repeated nat_cmp (map five_feat t.of_type_5)) records 10 NameTwice
-  rule_16 = record {
-    broken = λ k. ap (λ (u : Typed). is_repeated nat_cmp (map five_feat u.of_type_5) k) e;
-    place = λ k. refl;
-    key =
-        λ p. number p 0;
-    only = λ p. refl;
-    order = λ k j h. single (nat_cmp k j) h;
-  }
+  rule_16 = numbered 10 NameTwice (λ u. is_repeated nat_cmp (map five_feat u.of_type_5))
+      (λ k. refl) (λ k. refl) (λ p. refl) (λ k j. refl)
 
   pub rule_17 : IsRule sequence_cmp (is_unnamed (flat_map uses_of t.of_type_4) (map five_feat t.of_type_5)) records 11
       (λ pair. NameUnknown pair.0 pair.1)
@@ -353,35 +314,15 @@ module _ (records : List Record) (t : Typed) (e : by_type records ≡ t) where
   }
 
   pub rule_18 : IsRule key_cmp (is_repeated key_cmp (map p_key t.of_type_p)) records 12 (λ key. PolygonTwice key.0 key.1)
-  rule_18 = record {
-    broken = λ k. ap (λ (u : Typed). is_repeated key_cmp (map p_key u.of_type_p) k) e;
-    place = λ k. refl;
-    key =
-        λ p. (part p 0, number p 1);
-    only = λ p. refl;
-    order = λ k j h. keyed (bytes_cmp k.0 j.0) (nat_cmp k.1 j.1) h;
-  }
+  rule_18 = of_polygons 12 (λ key. PolygonTwice key.0 key.1) (λ u. is_repeated key_cmp (map p_key u.of_type_p))
+      (λ k. refl) (λ k. refl) (λ p. refl) (λ k j. refl)
 
   pub rule_19 : IsRule nat_cmp (is_unknown nat_cmp (map eight_land t.of_type_8) (map seven_land t.of_type_7)) records 13 LandUnknown
-  rule_19 = record {
-    broken =
-        λ k. ap (λ (u : Typed). is_unknown nat_cmp (map eight_land u.of_type_8) (map seven_land u.of_type_7) k) e;
-    place = λ k. refl;
-    key =
-        λ p. number p 0;
-    only = λ p. refl;
-    order = λ k j h. single (nat_cmp k j) h;
-  }
+  rule_19 = numbered 13 LandUnknown (λ u. is_unknown nat_cmp (map eight_land u.of_type_8) (map seven_land u.of_type_7))
+      (λ k. refl) (λ k. refl) (λ p. refl) (λ k j. refl)
 
   pub rule_20 : IsRule key_cmp (is_unknown key_cmp (map link_key t.of_type_8)
       (flat_map side_keys t.of_type_i ++ map p_key t.of_type_p)) records 14 (λ key. PolygonUnknown key.0 key.1)
-  rule_20 = record {
-    broken =
-        λ k. ap (λ (u : Typed). is_unknown key_cmp (map link_key u.of_type_8) (flat_map side_keys u.of_type_i ++ map p_key u.of_type_p) k)
-        e;
-    place = λ k. refl;
-    key = λ p. (part p 0, number p 1);
-    only = λ p. refl;
-    order =
-        λ k j h. keyed (bytes_cmp k.0 j.0) (nat_cmp k.1 j.1) h;
-  }
+  rule_20 = of_polygons 14 (λ key. PolygonUnknown key.0 key.1)
+      (λ u. is_unknown key_cmp (map link_key u.of_type_8) (flat_map side_keys u.of_type_i ++ map p_key u.of_type_p))
+      (λ k. refl) (λ k. refl) (λ p. refl) (λ k j. refl)

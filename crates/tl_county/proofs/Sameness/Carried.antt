@@ -47,11 +47,15 @@ among-unpieces {X} f y (x ∷ xs) h = go (among-unappend y (f x) (flat_map f xs)
     go (inl k) ih = (x, inl refl, k)
     go (inr k) ih = let r : (z : X) × Among z xs × Among y (f z) = ih k in (r.0, inr r.1, r.2)
 
+-- what stands in two lists stands in them the other way round
+pub among-swapped : {X : Type 0} (x : X) (xs ys : List X) → Among x (xs ++ ys) → Among x (ys ++ xs)
+among-swapped x xs ys h = go (among-unappend x xs ys h)
+  where
+    go : Among x xs ⊎ Among x ys → Among x (ys ++ xs)
+    go (inl h) = among_right x ys xs h
+    go (inr h) = among_left x ys xs h
+
 -- a turn keeps the polygons on the sides
 pub among-turned : (k : PolygonKey) (b : Bool) (c : Chain) → Among k (chain_polygons c) → Among k (chain_polygons (turned_if b c))
 among-turned k false c h = h
-among-turned k true c h = go (among-unappend k (key_on c.left) (key_on c.right) h)
-  where
-    go : Among k (key_on c.left) ⊎ Among k (key_on c.right) → Among k (key_on c.right ++ key_on c.left)
-    go (inl h) = among_right k (key_on c.right) (key_on c.left) h
-    go (inr h) = among_left k (key_on c.right) (key_on c.left) h
+among-turned k true c h = among-swapped k (key_on c.left) (key_on c.right) h

@@ -1,5 +1,5 @@
 -- What a renaming that carries keeps: a closed county is carried onto a closed one, a whole one onto a whole one.
-use Rattle.std.proofs.Common.{◌≡◌, ◌⊎◌, ◌≤◌, ◌||◌, ℕ, List, ◌++◌, map, length, Bool, true, false}
+use Rattle.std.proofs.Common.{◌≡◌, ◌⊎◌, ◌≤◌, ◌||◌, ℕ, List, map, length, Bool, true, false}
 use Rattle.std.proofs.Common.{Option, IsTrue, is_some, option_to_list, Ordering, sym, refl, subst, inl, inr, arith}
 use Rattle.std.proofs.Common.{nat_cmp}
 use Rattle.std.proofs.lemmas.Bool.{ltb-true, lt-ltb, or_left, or_right, or_cases}
@@ -17,8 +17,8 @@ use Rattle.tl_county.specs.Orders.{times, stands_in}
 use Rattle.tl_county.specs.PolygonKeys.{PolygonKey, key_cmp, key_on}
 use Rattle.tl_county.specs.Renumbering.{Renumbering, image, turns, carried_chain, carried_polygon, carried_landmark}
 use Rattle.tl_county.specs.Renumbering.{carried_link, ArePaired, Carries}
-use Rattle.tl_county.proofs.Sameness.Carried.{among-turned, among-unappend, among-unpieces, chain_polygons-renumbered}
-use Rattle.tl_county.proofs.Rules.FirstFault.{Among, all_among, among_left, among_right}
+use Rattle.tl_county.proofs.Sameness.Carried.{among-swapped, among-turned, among-unpieces, chain_polygons-renumbered}
+use Rattle.tl_county.proofs.Rules.FirstFault.{Among, all_among}
 use Rattle.tl_county.proofs.ByKey.KeyOrders.{key_keys}
 use Rattle.tl_county.proofs.ByKey.Keys.{IsKeyOrder, Known, nat_keys, lefts, rights, known-permutation, known-permutation_to, image-known}
 use Rattle.tl_county.proofs.Rules.LinkedCounty.{each_from}
@@ -27,29 +27,15 @@ use Rattle.tl_county.proofs.Lists.Members.{among-permutation, among-map, among-u
 -- a turn keeps the members of what is told of both ends and sides, in both directions
 pub nodes-turned : (n : ℕ) (b : Bool) (c : Chain) → Among n (chain_nodes c) → Among n (chain_nodes (turned_if b c))
 nodes-turned n false c h = h
-nodes-turned n true c h = go (among-unappend n (option_to_list c.start_node) (option_to_list c.end_node) h)
-  where
-    go : Among n (option_to_list c.start_node) ⊎ Among n (option_to_list c.end_node)
-        → Among n (option_to_list c.end_node ++ option_to_list c.start_node)
-    go (inl h) = among_right n (option_to_list c.end_node) (option_to_list c.start_node) h
-    go (inr h) = among_left n (option_to_list c.end_node) (option_to_list c.start_node) h
+nodes-turned n true c h = among-swapped n (option_to_list c.start_node) (option_to_list c.end_node) h
 
 pub nodes-unturned : (n : ℕ) (b : Bool) (c : Chain) → Among n (chain_nodes (turned_if b c)) → Among n (chain_nodes c)
 nodes-unturned n false c h = h
-nodes-unturned n true c h = go (among-unappend n (option_to_list c.end_node) (option_to_list c.start_node) h)
-  where
-    go : Among n (option_to_list c.end_node) ⊎ Among n (option_to_list c.start_node)
-        → Among n (option_to_list c.start_node ++ option_to_list c.end_node)
-    go (inl h) = among_right n (option_to_list c.start_node) (option_to_list c.end_node) h
-    go (inr h) = among_left n (option_to_list c.start_node) (option_to_list c.end_node) h
+nodes-unturned n true c h = among-swapped n (option_to_list c.end_node) (option_to_list c.start_node) h
 
 pub polygons-unturned : (k : PolygonKey) (b : Bool) (c : Chain) → Among k (chain_polygons (turned_if b c)) → Among k (chain_polygons c)
 polygons-unturned k false c h = h
-polygons-unturned k true c h = go (among-unappend k (key_on c.right) (key_on c.left) h)
-  where
-    go : Among k (key_on c.right) ⊎ Among k (key_on c.left) → Among k (key_on c.left ++ key_on c.right)
-    go (inl h) = among_right k (key_on c.left) (key_on c.right) h
-    go (inr h) = among_left k (key_on c.left) (key_on c.right) h
+polygons-unturned k true c h = among-swapped k (key_on c.right) (key_on c.left) h
 
 pub feats-turned : (b : Bool) (c : Chain) → (turned_if b c).feats ≡ c.feats
 feats-turned false c = refl

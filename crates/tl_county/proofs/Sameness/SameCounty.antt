@@ -18,11 +18,12 @@ use Rattle.tl_county.specs.County.{polygons_of, landmarks_of, county_of}
 use Rattle.tl_county.specs.LinkRules.{chain_tlids, IsLinked}
 use Rattle.tl_county.specs.Orders.{times, has_repeat, in_order, distinct}
 use Rattle.tl_county.specs.PolygonKeys.{PolygonKey, key_cmp}
+use Rattle.tl_county.proofs.Sameness.SameChains.{chains_alike}
 use Rattle.tl_county.proofs.Sameness.SameRules.{keys_alike, s_lands, same-linked}
 use Rattle.tl_county.proofs.Lists.Distinct.{apart_from_no_repeat}
 use Rattle.tl_county.proofs.ByKey.KeyOrders.{key_keys, landmark_body_keys, link_keys}
 use Rattle.tl_county.proofs.ByKey.Keys.{nat_keys}
-use Rattle.tl_county.proofs.Lists.Elements.{flat_map_agree, map_agree_everywhere}
+use Rattle.tl_county.proofs.Lists.Elements.{map_agree_everywhere}
 use Rattle.tl_county.proofs.ByKey.Numbers.{times-of_number, count-map}
 use Rattle.tl_county.proofs.Lists.Reordered.{SameElements, from_permutation, same-filter_map, same-filter, same-map, times-same}
 use Rattle.tl_county.proofs.Lists.Reordered.{few_same, numbered_same, ordered_same, distinct_same}
@@ -89,15 +90,7 @@ module _ (xs ys : List Record) (p : IsPermutation xs ys) (linked : IsLinked xs) 
       (same-filter (λ l. l.tlid == n) (of_type_i xs) (of_type_i ys) s_is)
 
   chains_same : chains_of xs ≡ chains_of ys
-  chains_same =
-      flat_map_agree (λ r. map (λ link. (r.tlid, chain_of xs r link)) (of_number i_tlid r.tlid (of_type_i xs)))
-      (λ r. map (λ link. (r.tlid, chain_of ys r link)) (of_number i_tlid r.tlid (of_type_i ys)))
-      (λ r. map_agree_everywhere (λ link. (r.tlid, chain_of xs r link)) (λ link. (r.tlid, chain_of ys r link))
-      (λ link i. (r.tlid, chain_same r link i)) (of_number i_tlid r.tlid (of_type_i xs))
-      ∙ ap (map (λ link. (r.tlid, chain_of ys r link))) (links_same r.tlid))
-      (in_order (on one_tlid nat_cmp) (of_type_1 xs))
-      ∙ ap (flat_map (λ r. map (λ link. (r.tlid, chain_of ys r link)) (of_number i_tlid r.tlid (of_type_i ys))))
-      (numbered_same one_tlid (of_type_1 xs) (of_type_1 ys) s_ones
+  chains_same = chains_alike xs ys chain_same links_same (numbered_same one_tlid (of_type_1 xs) (of_type_1 ys) s_ones
       (λ n. ltb-false 1 (times nat_cmp n (chain_tlids xs)) (linked (ChainTwice n))))
 
   body_same : (k : PolygonKey) → polygon_body xs k ≡ polygon_body ys k

@@ -20,28 +20,22 @@ use Rattle.tl_county.proofs.Samples.Counties.{no_side, cenid_1, cenid_2, there, 
 use Rattle.tl_county.proofs.Samples.Counties.{canonical_shaped, points_up, two_polygons, named, schools, landmark, in_polygon, four, two}
 use Rattle.tl_county.proofs.Samples.Counties.{chain_there, meeting, old_mill}
 
--- the county of one chain
-pub county_there : county_of there ≡ record {
-  chains = (
-    500,
-    record {
-      body = street_there;
-      points = west_end ∷ east_end ∷ [];
-      feats = [];
-      ranges = [];
-      link_body =
-          link_body;
-      start_node = Some 11;
-      end_node = Some 12;
-      left = no_side;
-      right = no_side;
-    },
-  ) ∷ [];
-  names = [];
-  polygons = [];
-  landmarks = [];
-  links = [];
+-- the one chain, with further names
+abbrev named_chain : List ℕ → Chain
+named_chain names = record {
+  body = street_there;
+  points = west_end ∷ east_end ∷ [];
+  feats = names;
+  ranges = [];
+  link_body = link_body;
+  start_node = Some 11;
+  end_node = Some 12;
+  left = no_side;
+  right = no_side;
 }
+
+-- the county of one chain
+pub county_there : county_of there ≡ record { chains = (500, named_chain []) ∷ []; names = []; polygons = []; landmarks = []; links = [] }
 county_there = refl
 
 pub turned_street : turned_body street_there ≡ street_back
@@ -153,18 +147,7 @@ wrong_entry = (
 )
 
 abbrev there_chain : Chain
-there_chain = record {
-  body = street_there;
-  points = west_end ∷ east_end ∷ [];
-  feats = [];
-  ranges = [];
-  link_body = link_body;
-  start_node =
-      Some 11;
-  end_node = Some 12;
-  left = no_side;
-  right = no_side;
-}
+there_chain = named_chain []
 
 abbrev address : Chain → Bool
 address c = (slice_index c.body.ranges.fraddl 8 == 49) &&
@@ -216,20 +199,6 @@ exchanged_names_carry = record {
 -- A chain with one name twice is no renaming of a chain with two names.
 feats_of : Chain → List ℕ
 feats_of c = c.feats
-
-abbrev named_chain : List ℕ → Chain
-named_chain names = record {
-  body = street_there;
-  points = west_end ∷ east_end ∷ [];
-  feats = names;
-  ranges = [];
-  link_body =
-      link_body;
-  start_node = Some 11;
-  end_node = Some 12;
-  left = no_side;
-  right = no_side;
-}
 
 twice_at : (r : Renumbering) (b : Bool) → feats_of (renumbered r (turned_if b (named_chain (8 ∷ 8 ∷ []))))
     ≡ image nat_cmp r.names 8 ∷ image nat_cmp r.names 8 ∷ []

@@ -8,12 +8,12 @@ ghost use Rattle.tl_layout.specs.Numbers.{IsNumber};
 use crate::kept::chain_over::ChainOver;
 use crate::kept::lent::{LandmarkIn, NameIn};
 use crate::linking::building::{
-    ChainBuilder, LandmarkBuilder, join_bodies, join_feats, join_points, join_ranges, name_bodies,
-    surroundings_of,
+    ChainBuilder, ChainRecords, LandmarkBuilder, join_bodies, join_feats, join_points, join_ranges,
+    name_bodies, surroundings_of,
 };
 use bumpalo::Bump;
 use std::alloc::{AllocError, Global};
-use tl_layout::{Body5, Body7, Point, Ranges, Rec1, Rec2, Rec4, Rec5, Rec6, Rec7, Rec8, RecI};
+use tl_layout::{Body5, Body7, Point, Ranges, Rec1, Rec2, Rec4, Rec5, Rec6, Rec7, Rec8};
 use tl_shape::ChainIn;
 
 /// Copies a list into the arena.
@@ -86,21 +86,19 @@ impl<'a> InArena<'a> {
     }
 
     /// The lists of the chain of its records of types 1, 2, 4 and 6.
-    fn join_lists(
+    fn join_lists<'t, 'r>(
         &mut self,
-        head: &Rec1,
-        shape: &[Rec2],
-        names: &[Rec4],
-        ranges: &[Rec6],
+        records: &ChainRecords<'t, 'r>,
     ) -> Result<ChainLists<'a>, AllocError>
-        ensures points { IfOk result (λ lists. lists.points.now ≡ head.now.start ∷ (flat_map (λ (r : Fields2). r.points) shape.now ++ (head.now.end ∷ []))) }
-        ensures feats { IfOk result (λ lists. lists.feats.now ≡ flat_map (λ (r : Fields4). r.feats) names.now) }
+        ensures points { IfOk result (λ lists. lists.points.now ≡ records.now.head.now.start ∷
+            (flat_map (λ (r : Fields2). r.points) records.now.shape.now ++ (records.now.head.now.end ∷ []))) }
+        ensures feats { IfOk result (λ lists. lists.feats.now ≡ flat_map (λ (r : Fields4). r.feats) records.now.names.now) }
         ensures numbers { IfOk result (λ lists. AllByRecursion (IsNumber 8) lists.feats.now) }
-        ensures ranges { IfOk result (λ lists. lists.ranges.now ≡ map (λ (r : Fields6). r.ranges) ranges.now) }
+        ensures ranges { IfOk result (λ lists. lists.ranges.now ≡ map (λ (r : Fields6). r.ranges) records.now.ranges.now) }
     {
-        let points = self.keep_points(head, shape)?;
-        let feats = self.keep_feats(names)?;
-        let ranges = self.keep_ranges(ranges)?;
+        let points = self.keep_points(records.head, records.shape)?;
+        let feats = self.keep_feats(records.names)?;
+        let ranges = self.keep_ranges(records.ranges)?;
         Ok(ChainLists {
             points,
             feats,
@@ -110,38 +108,36 @@ impl<'a> InArena<'a> {
 }
 
 impl<'t, 'a> ChainBuilder<'t, ChainIn<'a>> for InArena<'a> {
-    fn build_chain(
+    fn build_chain<'r>(
         &mut self,
-        head: &'t Rec1,
-        shape: &[Rec2],
-        names: &[Rec4],
-        ranges: &[Rec6],
-        link: &'t RecI,
+        records: &ChainRecords<'t, 'r>,
     ) -> Result<ChainIn<'a>, AllocError> {
-        let lists = self.join_lists(head, shape, names, ranges)?;
-        let around = surroundings_of(link);
+        let lists = self.join_lists(records)?;
+        let around = surroundings_of(records.link);
         Ok(ChainIn::new(
-            *head.body(),
+            *records.head.body(),
             lists.points,
             lists.feats,
             lists.ranges,
-            *link.body(),
+            *records.link.body(),
             around,
         ))
     }
 }
 
 impl<'a> ChainBuilder<'a, ChainOver<'a>> for InArena<'a> {
-    fn build_chain(
+    fn build_chain<'r>(
         &mut self,
-        head: &'a Rec1,
-        shape: &[Rec2],
-        names: &[Rec4],
-        ranges: &[Rec6],
-        link: &'a RecI,
+        records: &ChainRecords<'a, 'r>,
     ) -> Result<ChainOver<'a>, AllocError> {
-        let lists = self.join_lists(head, shape, names, ranges)?;
-        Ok(ChainOver::new(head, link, lists.points, lists.feats, lists.ranges))
+        let lists = self.join_lists(records)?;
+        Ok(ChainOver::new(
+            records.head,
+            records.link,
+            lists.points,
+            lists.feats,
+            lists.ranges,
+        ))
     }
 }
 

@@ -123,18 +123,22 @@ pub(crate) fn surroundings_of(link: &RecI) -> Surroundings
     }
 }
 
+/// The records of a chain: those of types 1 and I, which live for `'t`, and those of types 2, 4 and 6 in the order of their RTSQs.
+#[derive(Drop)]
+pub(crate) struct ChainRecords<'t, 'r> {
+    pub(crate) head: &'t Rec1,
+    pub(crate) shape: &'r [Rec2],
+    pub(crate) names: &'r [Rec4],
+    pub(crate) ranges: &'r [Rec6],
+    pub(crate) link: &'t RecI,
+}
+
 /// What builds the chains of a county, as they are kept there. They may keep the records of types 1 and I, which live for `'t`.
 pub(crate) trait ChainBuilder<'t, C: KeptChain> {
-    /// The chain of its records of types 1, 2, 4, 6 and I, those of types 2, 4 and 6 in the order of their RTSQs.
-    fn build_chain(
-        &mut self,
-        head: &'t Rec1,
-        shape: &[Rec2],
-        names: &[Rec4],
-        ranges: &[Rec6],
-        link: &'t RecI,
-    ) -> Result<C, AllocError>
-        ensures { IfOk result (λ built. C.chain built ≡ chain_with head.now link.now shape.now names.now ranges.now) };
+    /// The chain of its records.
+    fn build_chain<'r>(&mut self, records: &ChainRecords<'t, 'r>) -> Result<C, AllocError>
+        ensures { IfOk result (λ built. C.chain built ≡ chain_with records.now.head.now records.now.link.now records.now.shape.now
+            records.now.names.now records.now.ranges.now) };
 }
 
 /// Records of types 2, 4 and 6, which tell of chains what their records of types 1 and I don't.
@@ -172,7 +176,14 @@ fn push_chain<'t, 'r, C: KeptChain, B: ChainBuilder<'t, C>>(
     details.shapes = shapes;
     details.names = names;
     details.ranges = ranges;
-    chains.push(builder.build_chain(head, shape, named, ranged, link)?)?;
+    let records = ChainRecords {
+        head,
+        shape,
+        names: named,
+        ranges: ranged,
+        link,
+    };
+    chains.push(builder.build_chain(&records)?)?;
     Ok(())
 }
 

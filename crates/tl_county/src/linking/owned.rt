@@ -1,12 +1,15 @@
 //! The parts of an owned county: each list is a vector of its own.
 
+ghost use Rattle.std.specs.Prelude.{◌≡◌, ◌∷◌, [], ◌++◌, IfOk, flat_map};
+ghost use Rattle.tl_layout.specs.Fields.{Fields2};
+
 use crate::kept::landmark::Landmark;
 use crate::linking::building::{
-    ChainBuilder, LandmarkBuilder, join_bodies, join_feats, join_points, join_ranges,
+    ChainBuilder, ChainRecords, LandmarkBuilder, join_bodies, join_feats, join_points, join_ranges,
     surroundings_of,
 };
 use std::alloc::{AllocError, Global};
-use tl_layout::{Rec1, Rec2, Rec4, Rec6, Rec7, Rec8, RecI};
+use tl_layout::{Rec1, Rec2, Rec7, Rec8};
 use tl_shape::{Chain, Shape};
 
 /// Builds chains and landmarks that own their lists.
@@ -15,22 +18,24 @@ pub(crate) struct Owned {
     pub(crate) alloc: Global,
 }
 
+/// The points of a chain, of its records of types 1 and 2.
+fn shape_of(alloc: Global, head: &Rec1, shape: &[Rec2]) -> Result<Shape, AllocError>
+    ensures { IfOk result (λ points. points ≡ head.now.start ∷ (flat_map (λ (r : Fields2). r.points) shape.now ++ (head.now.end ∷ []))) }
+{
+    let mut inner = Vec::new(alloc);
+    join_points(&mut inner, shape)?;
+    Ok(Shape::new(alloc, head.start(), &inner, head.end())?)
+}
+
 impl<'t> ChainBuilder<'t, Chain> for Owned {
-    fn build_chain(
-        &mut self,
-        head: &'t Rec1,
-        shape: &[Rec2],
-        names: &[Rec4],
-        ranges: &[Rec6],
-        link: &'t RecI,
-    ) -> Result<Chain, AllocError> {
-        let mut inner = Vec::new(self.alloc);
-        join_points(&mut inner, shape)?;
-        let points = Shape::new(self.alloc, head.start(), &inner, head.end())?;
+    fn build_chain<'r>(&mut self, records: &ChainRecords<'t, 'r>) -> Result<Chain, AllocError> {
+        let head = records.head;
+        let link = records.link;
+        let points = shape_of(self.alloc, head, records.shape)?;
         let mut feats = Vec::new(self.alloc);
-        join_feats(&mut feats, names)?;
-        let mut entries = Vec::with_capacity(self.alloc, ranges.len())?;
-        join_ranges(&mut entries, ranges)?;
+        join_feats(&mut feats, records.names)?;
+        let mut entries = Vec::with_capacity(self.alloc, records.ranges.len())?;
+        join_ranges(&mut entries, records.ranges)?;
         let around = surroundings_of(link);
         Ok(Chain::new(*head.body(), points, feats, entries, *link.body(), around))
     }

@@ -1,4 +1,4 @@
-use Rattle.std.proofs.Common.{List, Result, Ok, Err, OnOk, IfErr, MatchResult, sym, subst, arith}
+use Rattle.std.proofs.Common.{ℕ, List, Result, Ok, Err, OnOk, IfErr, MatchResult, sym, subst, arith}
 use Rattle.std.proofs.lemmas.Result.{err_from_is_err_and}
 use Rattle.tl_layout.specs.declared.record_type.Record.{Record}
 use Rattle.tl_county.specs.declared.fault.LinkFault.{LinkFault}
@@ -22,23 +22,25 @@ module _ (Of : List Record → Type 0) (before : (records : List Record) → Of 
   first_told (Ok u) h = tt
   first_told (Err f) h = λ records e. first_of_all records f (first-after records (omega arith) (before records e) (h records e))
 
+-- four stretches of rules, one after the other
+all_before : {Of : List Record → Type 0} {first second third : ℕ} → ((records : List Record) → Of records → RulesHold records 0 first)
+    → ((records : List Record) → Of records → RulesHold records first second)
+    → ((records : List Record) → Of records → RulesHold records second third)
+    → ((records : List Record) → Of records → RulesHold records third 12) → (records : List Record) → Of records → RulesHold records 0 12
+all_before one two three four records e = rules-join records (one records e)
+    (rules-join records (two records e) (rules-join records (three records e) (four records e)))
+
 pub returns-clause-linked : goal.returns-clause-linked
 returns-clause-linked c =
-    all_linked _
-    (λ records e. rules-join records (c.in_ok-check_chains.ensures records e)
-    (rules-join records
-    (c.in_ok-check_sequences.ensures records (subst (AreLeastRepeated c.args.ordered.now.repeated) (sym e) c.requires.repeated))
-    (rules-join records (c.in_ok-check_links.ensures records e)
-    (c.in_ok-check_names.ensures records e)))) c.check_landmarks.result c.check_landmarks.ensures
+    all_linked _ (all_before c.in_ok-check_chains.ensures
+    (λ records e. c.in_ok-check_sequences.ensures records (subst (AreLeastRepeated c.args.ordered.now.repeated) (sym e) c.requires.repeated))
+    c.in_ok-check_links.ensures c.in_ok-check_names.ensures) c.check_landmarks.result c.check_landmarks.ensures
 
 pub returns-clause-broken : goal.returns-clause-broken
 returns-clause-broken c =
-    first_told _
-    (λ records e. rules-join records (c.in_ok-check_chains.ensures records e)
-    (rules-join records
-    (c.in_ok-check_sequences.ensures records (subst (AreLeastRepeated c.args.ordered.now.repeated) (sym e) c.requires.repeated))
-    (rules-join records (c.in_ok-check_links.ensures records e)
-    (c.in_ok-check_names.ensures records e)))) c.check_landmarks.result c.check_landmarks.ensures
+    first_told _ (all_before c.in_ok-check_chains.ensures
+    (λ records e. c.in_ok-check_sequences.ensures records (subst (AreLeastRepeated c.args.ordered.now.repeated) (sym e) c.requires.repeated))
+    c.in_ok-check_links.ensures c.in_ok-check_names.ensures) c.check_landmarks.result c.check_landmarks.ensures
 
 pub returns-in_err-check_sequences-clause-broken : goal.returns-in_err-check_sequences-clause-broken
 returns-in_err-check_sequences-clause-broken c =

@@ -1,8 +1,7 @@
-use Rattle.std.proofs.Common.{◌≡◌, ◌+◌, ◌++◌, append_assoc, flat_map, take, option_to_list, ap, sym, ◌∙◌, nat_cmp, arith}
+use Rattle.std.proofs.Common.{◌≡◌, ◌+◌, ◌++◌, flat_map, take, option_to_list, arith}
 use Rattle.std.proofs.lemmas.Grind.{common_steps}
 use Rattle.tl_county.specs.Building.{link_nodes}
-use Rattle.tl_county.specs.Orders.{distinct}
-use Rattle.tl_county.proofs.ByKey.KeySets.{distinct-more}
+use Rattle.tl_county.proofs.ByKey.KeySets.{distinct-two-more}
 use Rattle.tl_county.proofs.ByKey.Keys.{nat_keys}
 use Rattle.tl_county.proofs.linking.building.nodes_of.Goals as goal
 
@@ -13,8 +12,5 @@ loop-link-preserved c =
     let start = option_to_list c.start_node.result in
     let end = option_to_list c.end_node.result in
     let next : flat_map link_nodes (take (i + 1) c.args.links.now) ≡ met ++ (start ++ end) = grind (arith, common_steps) in
-    c.in_ok-insert_node-2.ensures
-    ∙ distinct-more nat_keys c.insert_node.new.nodes (c.loop-link.nodes ++ start) end c.in_ok-insert_node.ensures
-    ∙ ap (distinct nat_cmp) (append_assoc c.loop-link.nodes start end)
-    ∙ distinct-more nat_keys c.loop-link.nodes met (start ++ end) c.loop-link.invariant
-    ∙ ap (distinct nat_cmp) (sym next)
+    distinct-two-more nat_keys c.loop-link.nodes met c.insert_node.new.nodes c.insert_node-in-loop-link.new.nodes start end c.in_ok-insert_node.ensures
+    c.in_ok-insert_node-2.ensures c.loop-link.invariant next

@@ -3,7 +3,7 @@ use Rattle.std.proofs.Common.{arith, refl, ap, ◌∙◌, subst}
 use Rattle.std.proofs.Common.{List, length, ◌≤◌}
 use Rattle.std.specs.List.{AllByRecursion}
 use Rattle.tl_layout.specs.Coordinates.{Coordinates, IsOnMap}
-use Rattle.tl_layout.proofs.Writes.{behind, whole}
+use Rattle.tl_layout.proofs.Writes.{◌▸◌, behind, whole}
 use Rattle.tl_layout.specs.FieldTexts.{number_text}
 use Rattle.tl_layout.specs.FieldTexts.{point_place_text}
 use Rattle.tl_layout.specs.FieldTexts.{places_text}
@@ -13,8 +13,7 @@ use Rattle.tl_layout.proofs.type2.Rec2Layout.put.Goals as goal
 pub returns-clause-spelling : goal.returns-clause-spelling
 unfolding type_2_spelling
 returns-clause-spelling c =
-    let tlid = behind c.write_number.ensures c.write_head.ensures refl in
-    let rtsq = behind c.write_number-2.ensures tlid (ap (number_text 3) c.from.ensures) in
+    let rtsq = c.write_head.ensures ▸ (c.write_number.ensures, refl) ▸ (c.write_number-2.ensures, ap (number_text 3) c.from.ensures) in
     let points = behind c.write_points.ensures.written rtsq (ap (places_text point_place_text 10) c.as_slice.ensures.value) in
     whole 208 c.write_points.new.out _ (omega arith) points ∙ ap type_2_spelling c.self.view_is
 

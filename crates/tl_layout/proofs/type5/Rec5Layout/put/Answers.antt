@@ -1,6 +1,6 @@
 -- One column after another was written behind the record type and the version.
 use Rattle.std.proofs.Common.{arith, refl, ap, ◌∙◌}
-use Rattle.tl_layout.proofs.Writes.{behind, group_behind, whole}
+use Rattle.tl_layout.proofs.Writes.{◌▸◌, group_behind, whole}
 use Rattle.tl_layout.specs.FieldTexts.{number_text}
 use Rattle.tl_layout.specs.Names.{name_texts}
 use Rattle.tl_layout.specs.Type5.{type_5_spelling}
@@ -9,8 +9,6 @@ use Rattle.tl_layout.proofs.type5.Rec5Layout.put.Goals as goal
 pub returns-clause-spelling : goal.returns-clause-spelling
 unfolding type_5_spelling
 returns-clause-spelling c =
-    let r = c.self.inside in
-    let file = behind c.write_text.ensures c.write_head.ensures refl in
-    let feat = behind c.write_number.ensures file (ap (number_text 8) c.from.ensures) in
-    let name = group_behind (name_texts r.body.name) c.put.ensures feat in
-    whole 56 c.put.new.out _ (omega arith) name ∙ ap type_5_spelling c.self.view_is
+    let feat = c.write_head.ensures ▸ (c.write_text.ensures, refl) ▸ (c.write_number.ensures, ap (number_text 8) c.from.ensures) in
+    whole 56 c.put.new.out _ (omega arith) (group_behind (name_texts c.self.inside.body.name) c.put.ensures feat)
+    ∙ ap type_5_spelling c.self.view_is

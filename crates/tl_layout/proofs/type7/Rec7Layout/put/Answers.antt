@@ -1,6 +1,6 @@
 -- One column after another was written behind the record type and the version.
 use Rattle.std.proofs.Common.{arith, refl, ap, ◌∙◌, [], ◌∷◌}
-use Rattle.tl_layout.proofs.Writes.{behind, group_behind, whole}
+use Rattle.tl_layout.proofs.Writes.{◌▸◌, group_behind, whole}
 use Rattle.tl_layout.specs.FieldTexts.{long_text, lat_text}
 use Rattle.tl_layout.specs.Type7.{type_7_spelling}
 use Rattle.tl_layout.proofs.type7.Rec7Layout.put.Goals as goal
@@ -9,11 +9,7 @@ pub returns-clause-spelling : goal.returns-clause-spelling
 unfolding type_7_spelling
 returns-clause-spelling c =
     let r = c.self.inside in
-    let file = behind c.write_text.ensures c.write_head.ensures refl in
-    let land = behind c.write_number.ensures file refl in
-    let source = behind c.write_text-2.ensures land refl in
-    let cfcc = behind c.write_text-3.ensures source refl in
-    let laname = behind c.write_text-4.ensures cfcc refl in
+    let laname = c.write_head.ensures ▸ (c.write_text.ensures, refl) ▸ (c.write_number.ensures, refl)
+    ▸ (c.write_text-2.ensures, refl) ▸ (c.write_text-3.ensures, refl) ▸ (c.write_text-4.ensures, refl) in
     let point = group_behind (long_text r.body.point ∷ lat_text r.body.point ∷ []) c.write_point_or_blanks.ensures laname in
-    let filler = behind c.write_blanks.ensures point refl in
-    whole 74 c.write_blanks.new.out _ (omega arith) filler ∙ ap type_7_spelling c.self.view_is
+    whole 74 c.write_blanks.new.out _ (omega arith) (point ▸ (c.write_blanks.ensures, refl)) ∙ ap type_7_spelling c.self.view_is

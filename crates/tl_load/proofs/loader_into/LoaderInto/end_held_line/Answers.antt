@@ -14,12 +14,11 @@ returns-clause-takes g c =
     ∙ whole) in
     let no_feed = subst IsWithoutLineFeed whole c.self.invariant.no_feed in
     rw (← c.self.view_is) (λ records kept.
-    let before = opened c.self.inside records in
-    let mid : Loaded = record before { unfinished = c.take-line.new.self.items } in
+    let mid : Loaded = record (opened c.self.inside records) { unfinished = c.take-line.new.self.items } in
     let j = c.judge_next.ensures.judges records (record { held = kept.held; counted = kept.counted }) in (
       j.0,
       j.1,
-      ends_line before mid (seen c.judge_next.new.self j.0) [] _ c.judge_next.result
+      ends_line (opened c.self.inside records) mid (seen c.judge_next.new.self j.0) [] _ c.judge_next.result
           (record { records = refl; parts = refl; judged = refl; limit = refl }) line no_feed j.2
           c.judge_next.ensures.judged (c.judge_next.ensures.unfinished
           ∙ c.take-line.ensures.after) c.judge_next.ensures.same_part.parts c.judge_next.ensures.same_part.limit,

@@ -1,6 +1,6 @@
 use Rattle.std.proofs.Common.{◌∙◌, ap, subst, sym}
 use Rattle.tl_county.specs.Renumbering.{Carries}
-use Rattle.tl_number.specs.Arrangement.{arranged_tlids, renaming_of, turned_tlids}
+use Rattle.tl_number.specs.Arrangement.{renaming_of}
 use Rattle.tl_number.specs.Growth.{numbered}
 use Rattle.tl_number.specs.Steps.{arrangement_of}
 use Rattle.tl_number.specs.ViewFacts.{stepped}
@@ -15,12 +15,12 @@ returns-clause-value g c =
     let county = g.C.Chart.county view.chart in
     let order = arrangement_of county view.steps.items in
     c.new.ensures ∙ (λ i. record {
-      chains = (c.in_ok-chains.ensures ∙ ap (λ steps. numbered (arranged_tlids (arrangement_of county steps))) c.deref.ensures.value) i;
+      chains = c.in_ok-chains.ensures.chains i;
       names = (c.in_ok-names.ensures ∙ ap numbered view.names_told.feats) i;
       polygons = c.in_ok-polygons.ensures.polygons i;
       lands = c.in_ok-polygons.ensures.lands i;
       nodes = (c.in_ok-nodes.ensures ∙ ap numbered view.nodes_told.numbers) i;
-      turned = (c.in_ok-turned.ensures ∙ ap (λ steps. turned_tlids (arrangement_of county steps)) c.deref-2.ensures.value) i;
+      turned = c.in_ok-chains.ensures.turned i;
     })
 
 pub returns-clause-carries : goal.returns-clause-carries
