@@ -4,8 +4,11 @@ use Rattle.std.proofs.Common.{inl, inr, refl, sym, ap, ◌∙◌, subst, arith, 
 use Rattle.std.proofs.Math.ListN.{set}
 use Rattle.std.proofs.Math.Seq.{map-set_same}
 use Rattle.std.specs.Io.KnownBytes.{Consumes, IsAtEnd}
+use Rattle.tl_layout.specs.declared.record_type.Record.{Record}
+use Rattle.tl_load.specs.Keeping.{LoadedInto, WasFedInto}
 use Rattle.tl_load.specs.Sources.{Gave}
 use Rattle.tigercanon.specs.Reading.{AreRead, AreReadUpTo, IsUnread, NoneFailed, OneFailed, SomeUnread}
+use Rattle.tigercanon.specs.Respelling.{record_limit}
 
 module _ {R : Type 0} (remaining : R → Option (List ℕ)) (given : R → ℕ) where
   -- the first sources were read to their ends and gave these parts, and the others are as they were
@@ -14,6 +17,11 @@ module _ {R : Type 0} (remaining : R → Option (List ℕ)) (given : R → ℕ) 
   GaveParts (b ∷ bs) (n ∷ ns) (part ∷ parts) = Gave remaining given b n part × IsAtEnd (remaining n) × GaveParts bs ns parts
   GaveParts [] after (part ∷ parts) = ⊥
   GaveParts (b ∷ bs) [] (part ∷ parts) = ⊥
+
+  -- so many of the sources were read, and the loader was fed what they gave
+  abbrev pub HasRead : {K : Type 0} → (K → List Record → Type 0) → List R → List R → ℕ → LoadedInto K → Type 0
+  HasRead holds before after count loader = (parts : List (List ℕ)) × GaveParts before after parts × (length parts ≡ count)
+      × WasFedInto holds record_limit loader parts []
 
   -- the next source is as it was
   pub next_untouched : (bs ns : List R) (parts : List (List ℕ)) (d : R) → GaveParts bs ns parts

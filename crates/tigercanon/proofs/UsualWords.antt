@@ -236,16 +236,19 @@ second_read rows Fingerprint is_stem second names given named = named
 part : {X : Type 0} (f : Read → X) (a b : Read) → Some a ≡ Some b → f a ≡ f b
 part f a b e = ap (λ (r : Option Read). f (unwrap_or r a)) e
 
+-- what a plan and its words are read as
+abbrev told : Plan → Bool → Text → Text → Read
+told plan is_stem first second = (
+  word_of plan.job,
+  Some first,
+  second_of plan.job second,
+  Some (flag is_stem),
+  mask_flag plan.job plan.mask.sources,
+  mask_flag plan.job plan.mask.reserved,
+)
+
 planned : (o : Option (Text × List Row)) (plan : Plan) (is_stem : Bool) (first second : Text)
-    → read o ≡ Some (
-      word_of plan.job,
-      Some first,
-      second_of plan.job second,
-      Some (flag is_stem),
-      mask_flag plan.job plan.mask.sources,
-      mask_flag plan.job plan.mask.reserved,
-    )
-    → HasFilesOf is_stem first second plan → MayLeaveOut plan.job plan.mask → IsPlanOf o plan
+    → read o ≡ Some (told plan is_stem first second) → HasFilesOf is_stem first second plan → MayLeaveOut plan.job plan.mask → IsPlanOf o plan
 planned None plan is_stem first second e files may = absurd cc
 planned (Some (name, rows)) plan is_stem first second e files may =
     let found : Read = (
@@ -256,21 +259,14 @@ planned (Some (name, rows)) plan is_stem first second e files may =
       one_of (codes "no-sources") rows,
       one_of (codes "no-reserved") rows,
     ) in
-    let told : Read = (
-      word_of plan.job,
-      Some first,
-      second_of plan.job second,
-      Some (flag is_stem),
-      mask_flag plan.job plan.mask.sources,
-      mask_flag plan.job plan.mask.reserved,
-    ) in (
-      part (λ r. r.0) found told e,
+    let wanted : Read = told plan is_stem first second in (
+      part (λ r. r.0) found wanted e,
       record {
         is_stem = is_stem;
-        flag = flag_read (one_of (codes "stem") rows) is_stem (part (λ r. r.3) found told e);
-        mask = mask_read rows plan.job plan.mask may (part (λ r. r.4) found told e) (part (λ r. r.5) found told e);
-        first = record { name = first; given = part (λ r. r.1) found told e; named = files.first_files };
-        second = second_read rows plan.job is_stem second (map string_bytes plan.second.items) (part (λ r. r.2) found told e)
+        flag = flag_read (one_of (codes "stem") rows) is_stem (part (λ r. r.3) found wanted e);
+        mask = mask_read rows plan.job plan.mask may (part (λ r. r.4) found wanted e) (part (λ r. r.5) found wanted e);
+        first = record { name = first; given = part (λ r. r.1) found wanted e; named = files.first_files };
+        second = second_read rows plan.job is_stem second (map string_bytes plan.second.items) (part (λ r. r.2) found wanted e)
             files.second_files_too;
       },
     )

@@ -15,6 +15,7 @@ ghost use Rattle.tigercanon.specs.declared.program.command_line.Job.{Job};
 ghost use Rattle.tl_number.specs.Sights.{IsSight};
 
 /// A set of parts is accepted or has a refusal, never both, and never two.
+#[tactic(auto, using(crate::proofs::Sets::accepted_set_not_refused, crate::proofs::Sets::one_set_refusal))]
 pub fn accepted_set_or_one_refusal()
     ensures either { (parts : List (List ℕ)) →
         ((records : List Record) × IsAcceptedSet parts records) ⊎ ((refusal : Fault) × IsSetRefusal parts refusal) }

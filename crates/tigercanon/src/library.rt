@@ -5,6 +5,7 @@ pub(crate) mod checking;
 pub(crate) mod comparing;
 pub(crate) mod fingerprinting;
 pub(crate) mod hashing;
+pub(crate) mod judged;
 pub(crate) mod linked;
 pub(crate) mod normalising;
 pub(crate) mod reading;

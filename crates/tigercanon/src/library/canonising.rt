@@ -9,51 +9,44 @@ ghost use Rattle.tl_county.specs.Renumbering.{Carries};
 ghost use Rattle.tl_cert.specs.MaskedCounty.{masked};
 ghost use Rattle.tl_layout.specs.RecordText.{text_of};
 ghost use Rattle.tl_number.specs.Sights.{IsSight, plain};
-ghost use Rattle.tl_profile.specs.Profile.{IsInProfile};
-ghost use Rattle.tl_profile.specs.ShapeOrder.{IsShapeOrder, OrderOfShapes};
 
 use crate::fault::Fault;
+use crate::library::judged::Judged;
 use std::alloc::Global;
 use tl_cert::{Masked, Renaming};
 use tl_county::Chart;
 use tl_layout::Mask;
 use tl_number::{CanonCounty, canonise_in_order};
-use tl_profile::ShapeOrder;
 use tl_write::{CountedOut, write_to};
 
-/// An admitted county under a mask. It is in the profile too, and its chains stay in their order by their shapes.
+/// A judged county under a mask. It is in the profile too, and its chains stay in their order by their shapes.
 pub(crate) fn under_mask<C: Chart + Drop>(
     alloc: Global,
-    chart: C,
+    judged: Judged<C>,
     mask: Mask,
-) -> Result<Masked<C>, Fault>
-    requires { IsInProfile (C.county chart) }
-    ensures seen { IfOk result (λ m. (parts : List (List ℕ)) → IsSeenSet plain parts (C.county chart)
-        → IsSeenSet (masked mask) parts (⟦<Masked<C> as Chart>⟧.county m)) }
-    ensures profile { IfOk result (λ m. IsInProfile (⟦<Masked<C> as Chart>⟧.county m)) }
-    ensures order { IfOk result (λ m. (order : OrderOfShapes) → IsShapeOrder (C.county chart) order
-        → IsShapeOrder (⟦<Masked<C> as Chart>⟧.county m) order) }
+) -> Result<Judged<Masked<C>>, Fault>
+    ensures seen { IfOk result (λ shown. (parts : List (List ℕ)) → IsSeenSet plain parts (C.county judged.0)
+        → IsSeenSet (masked mask) parts (⟦<Masked<C> as Chart>⟧.county shown.0)) }
     ensures memory { IfErr result (λ fault. fault ≡ Fault.Memory) }
 {
+    let (chart, order) = judged.into_parts();
     let shown = Masked::new(alloc, chart, mask)?;
-    Ok(shown)
+    Ok(Judged::new(shown, order))
 }
 
-/// The canonical county of an admitted county, from the order of its chains by their shapes. Who is done with it says `drop`: that
-/// is one call for the prover, which else reads the drop of each field wherever its owner ends.
+/// The canonical county of a judged county. Who is done with it says `drop`: that is one call for the prover, which else reads the
+/// drop of each field wherever its owner ends.
 pub(crate) fn canonise_admitted<C: Chart + Drop>(
     alloc: Global,
-    chart: C,
-    order: &ShapeOrder,
+    judged: Judged<C>,
 ) -> Result<CanonCounty<C>, Fault>
-    requires profile { IsInProfile (C.county chart) }
-    requires shapes { IsShapeOrder (C.county chart) order.now }
     ensures canonical { IfOk result (λ canon. (seen : County → County) (parts : List (List ℕ)) → IsSight seen
-        → IsSeenSet seen parts (C.county chart)
+        → IsSeenSet seen parts (C.county judged.0)
         → IsCanonSetThrough seen parts (C.county (source_of canon)) (arranged_county canon)) }
     ensures memory { IfErr result (λ fault. fault ≡ Fault.Memory) }
 {
-    let canon = canonise_in_order(alloc, chart, order)?;
+    let (chart, order) = judged.into_parts();
+    let canon = canonise_in_order(alloc, chart, &order)?;
     Ok(canon)
 }
 

@@ -14,11 +14,10 @@ ghost use Rattle.tl_county.specs.Packing.{packed};
 ghost use Rattle.tl_county.specs.Renumbering.{Carries, Renumbering};
 ghost use Rattle.tl_layout.specs.declared.record_type.Record.{Record};
 ghost use Rattle.tl_number.specs.Sights.{plain};
-ghost use Rattle.tl_profile.specs.Profile.{IsInProfile};
-ghost use Rattle.tl_profile.specs.ShapeOrder.{IsShapeOrder};
 
 use crate::fault::Fault;
 use crate::library::canonising::{canonise_admitted, under_mask};
+use crate::library::judged::Judged;
 use crate::library::linked::{admitted_county, link_parts};
 use bumpalo::Bump;
 use std::alloc::{AllocError, Global};
@@ -28,7 +27,6 @@ use tl_county::{Chart, LinkedRecords};
 use tl_layout::Mask;
 use tl_load::LoadFault;
 use tl_number::CanonCounty;
-use tl_profile::ShapeOrder;
 use tl_write::same_records;
 
 /// How a fault tells the first set.
@@ -125,20 +123,17 @@ fn verdict_on<A: Chart, B: Chart>(
 fn verdict_with<A: Chart, B: Chart + Drop>(
     alloc: Global,
     first: &CanonCounty<A>,
-    second: B,
-    order: &ShapeOrder,
+    second: Judged<B>,
 ) -> Result<Verdict, CompareFault>
-    requires profile { IsInProfile (B.county second) }
-    requires shapes { IsShapeOrder (B.county second) order.now }
     ensures same { (mask : Mask) (a b : List (List ℕ)) (r : Renumbering)
         → IsCanonSetThrough (masked mask) a (A.county (source_of first.now)) (arranged_county first.now)
-        → IsSeenSet (masked mask) b (B.county second) → result ≡ Ok (Verdict.Same r) → CarriesSetThrough (masked mask) r a b }
+        → IsSeenSet (masked mask) b (B.county second.0) → result ≡ Ok (Verdict.Same r) → CarriesSetThrough (masked mask) r a b }
     ensures different { (mask : Mask) (a b : List (List ℕ))
         → IsCanonSetThrough (masked mask) a (A.county (source_of first.now)) (arranged_county first.now)
-        → IsSeenSet (masked mask) b (B.county second) → result ≡ Ok Verdict.Different → AreDifferentThrough (masked mask) a b }
+        → IsSeenSet (masked mask) b (B.county second.0) → result ≡ Ok Verdict.Different → AreDifferentThrough (masked mask) a b }
     ensures memory { IfErr result (λ fault. (fault ≡ CompareFault.Memory) ⊎ (fault ≡ CompareFault.In 2 Fault.Memory)) }
 {
-    let second = of_set(SECOND, canonise_admitted(alloc, second, order))?;
+    let second = of_set(SECOND, canonise_admitted(alloc, second))?;
     let verdict = verdict_on(alloc, first, &second);
     drop(second);
     verdict
@@ -149,30 +144,27 @@ fn verdict_with<A: Chart, B: Chart + Drop>(
 fn verdict_under<A: Chart, B: Chart + Drop>(
     alloc: Global,
     first: &CanonCounty<A>,
-    second: B,
-    order: &ShapeOrder,
+    second: Judged<B>,
     mask: Mask,
 ) -> Result<Verdict, CompareFault>
-    requires profile { IsInProfile (B.county second) }
-    requires shapes { IsShapeOrder (B.county second) order.now }
     ensures same { (a b : List (List ℕ)) (r : Renumbering)
         → IsCanonSetThrough (masked mask) a (A.county (source_of first.now)) (arranged_county first.now)
-        → IsSeenSet plain b (B.county second) → result ≡ Ok (Verdict.Same r) → CarriesSetThrough (masked mask) r a b }
+        → IsSeenSet plain b (B.county second.0) → result ≡ Ok (Verdict.Same r) → CarriesSetThrough (masked mask) r a b }
     ensures different { (a b : List (List ℕ))
         → IsCanonSetThrough (masked mask) a (A.county (source_of first.now)) (arranged_county first.now)
-        → IsSeenSet plain b (B.county second) → result ≡ Ok Verdict.Different → AreDifferentThrough (masked mask) a b }
+        → IsSeenSet plain b (B.county second.0) → result ≡ Ok Verdict.Different → AreDifferentThrough (masked mask) a b }
     ensures memory { IfErr result (λ fault. (fault ≡ CompareFault.Memory) ⊎ (fault ≡ CompareFault.In 2 Fault.Memory)) }
 {
     if mask.is_none() {
-        verdict_with(alloc, first, second, order)
+        verdict_with(alloc, first, second)
     } else {
         let shown = of_set(SECOND, under_mask(alloc, second, mask))?;
-        verdict_with(alloc, first, shown, order)
+        verdict_with(alloc, first, shown)
     }
 }
 
 /// The verdict on a set in canonical form under a mask and the linked records of another.
-fn compare_linked<'b, A: Chart>(
+fn verdict_of_linked<'b, A: Chart>(
     alloc: Global,
     arena: &'b Bump,
     first: &CanonCounty<A>,
@@ -190,8 +182,8 @@ fn compare_linked<'b, A: Chart>(
         → result ≢ Err (CompareFault.In set (Fault.Load LoadFault.Device)) }
     ensures succeeds { (a b : List (List ℕ)) → IsLinkedSet b second.now → IfErr result (TellsMemoryOfAccepted a b) }
 {
-    let (second, order) = of_set(SECOND, admitted_county(alloc, arena, second))?;
-    verdict_under(alloc, first, second, &order, mask)
+    let second = of_set(SECOND, admitted_county(alloc, arena, second))?;
+    verdict_under(alloc, first, second, mask)
 }
 
 /// The verdict on a set in canonical form under a mask and one that is still to be judged.
@@ -213,29 +205,26 @@ fn compare_with<A: Chart>(
 {
     let linked = of_set(SECOND, link_parts(alloc, b))?;
     let arena = Bump::new(alloc);
-    compare_linked(alloc, &arena, first, &linked, mask)
+    verdict_of_linked(alloc, &arena, first, &linked, mask)
 }
 
 /// The verdict on the admitted county of one set, which is put into canonical form from the order of its chains, and another set
 /// that is still to be judged and is seen under a mask.
 fn compare_chart<A: Chart + Drop>(
     alloc: Global,
-    first: A,
-    order: &ShapeOrder,
+    first: Judged<A>,
     b: &[&[u8]],
     mask: Mask,
 ) -> Result<Verdict, CompareFault>
-    requires profile { IsInProfile (A.county first) }
-    requires shapes { IsShapeOrder (A.county first) order.now }
-    ensures same { (a : List (List ℕ)) (r : Renumbering) → IsSeenSet (masked mask) a (A.county first)
+    ensures same { (a : List (List ℕ)) (r : Renumbering) → IsSeenSet (masked mask) a (A.county first.0)
         → result ≡ Ok (Verdict.Same r) → CarriesSetThrough (masked mask) r a (bytes_of_parts b.now) }
-    ensures different { (a : List (List ℕ)) → IsSeenSet (masked mask) a (A.county first)
+    ensures different { (a : List (List ℕ)) → IsSeenSet (masked mask) a (A.county first.0)
         → result ≡ Ok Verdict.Different → AreDifferentThrough (masked mask) a (bytes_of_parts b.now) }
     ensures refused { (a : List (List ℕ)) → IsAcceptable a → IfErr result (TellsRefusalOfOne a (bytes_of_parts b.now)) }
     ensures no_device { (set : ℕ) → result ≢ Err (CompareFault.In set (Fault.Load LoadFault.Device)) }
     ensures succeeds { (a : List (List ℕ)) → IfErr result (TellsMemoryOfAccepted a (bytes_of_parts b.now)) }
 {
-    let first = of_set(FIRST, canonise_admitted(alloc, first, order))?;
+    let first = of_set(FIRST, canonise_admitted(alloc, first))?;
     let verdict = compare_with(alloc, &first, b, mask);
     drop(first);
     verdict
@@ -245,26 +234,23 @@ fn compare_chart<A: Chart + Drop>(
 /// still to be judged.
 fn compare_under<A: Chart + Drop>(
     alloc: Global,
-    first: A,
-    order: &ShapeOrder,
+    first: Judged<A>,
     b: &[&[u8]],
     mask: Mask,
 ) -> Result<Verdict, CompareFault>
-    requires profile { IsInProfile (A.county first) }
-    requires shapes { IsShapeOrder (A.county first) order.now }
-    ensures same { (a : List (List ℕ)) (r : Renumbering) → IsSeenSet plain a (A.county first)
+    ensures same { (a : List (List ℕ)) (r : Renumbering) → IsSeenSet plain a (A.county first.0)
         → result ≡ Ok (Verdict.Same r) → CarriesSetThrough (masked mask) r a (bytes_of_parts b.now) }
-    ensures different { (a : List (List ℕ)) → IsSeenSet plain a (A.county first)
+    ensures different { (a : List (List ℕ)) → IsSeenSet plain a (A.county first.0)
         → result ≡ Ok Verdict.Different → AreDifferentThrough (masked mask) a (bytes_of_parts b.now) }
     ensures refused { (a : List (List ℕ)) → IsAcceptable a → IfErr result (TellsRefusalOfOne a (bytes_of_parts b.now)) }
     ensures no_device { (set : ℕ) → result ≢ Err (CompareFault.In set (Fault.Load LoadFault.Device)) }
     ensures succeeds { (a : List (List ℕ)) → IfErr result (TellsMemoryOfAccepted a (bytes_of_parts b.now)) }
 {
     if mask.is_none() {
-        compare_chart(alloc, first, order, b, mask)
+        compare_chart(alloc, first, b, mask)
     } else {
         let shown = of_set(FIRST, under_mask(alloc, first, mask))?;
-        compare_chart(alloc, shown, order, b, mask)
+        compare_chart(alloc, shown, b, mask)
     }
 }
 
@@ -285,8 +271,8 @@ fn compare_first<'a>(
         → result ≢ Err (CompareFault.In set (Fault.Load LoadFault.Device)) }
     ensures succeeds { (a : List (List ℕ)) → IsLinkedSet a first.now → IfErr result (TellsMemoryOfAccepted a (bytes_of_parts b.now)) }
 {
-    let (first, order) = of_set(FIRST, admitted_county(alloc, arena, first))?;
-    compare_under(alloc, first, &order, b, mask)
+    let first = of_set(FIRST, admitted_county(alloc, arena, first))?;
+    compare_under(alloc, first, b, mask)
 }
 
 /// Whether two sets of parts are one map: some renumbering and turning of chains carries the county of the first set onto that

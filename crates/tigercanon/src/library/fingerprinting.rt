@@ -13,12 +13,11 @@ ghost use Rattle.tl_county.specs.Packing.{packed};
 ghost use Rattle.tl_layout.specs.RecordText.{text_of};
 ghost use Rattle.tl_layout.specs.declared.record_type.Record.{Record};
 ghost use Rattle.tl_number.specs.Sights.{plain};
-ghost use Rattle.tl_profile.specs.Profile.{IsInProfile};
-ghost use Rattle.tl_profile.specs.ShapeOrder.{IsShapeOrder};
 
 use crate::fault::Fault;
 use crate::library::canonising::{canonise_admitted, under_mask};
 use crate::library::hashing::Hashing;
+use crate::library::judged::Judged;
 use crate::library::linked::{admitted_county, link_parts};
 use bumpalo::Bump;
 use std::alloc::Global;
@@ -26,7 +25,6 @@ use tl_county::{Chart, LinkedRecords};
 use tl_layout::Mask;
 use tl_load::LoadFault;
 use tl_number::CanonCounty;
-use tl_profile::ShapeOrder;
 use tl_write::write_to;
 
 /// The SHA-256 hash of the text of a canonical county. The text is hashed as it is written, and never held.
@@ -39,40 +37,34 @@ fn hash_of<C: Chart + Drop>(county: CanonCounty<C>) -> [u8; 32]
     hashing.hash()
 }
 
-/// The fingerprint of an admitted county, from the order of its chains by their shapes.
+/// The fingerprint of a judged county.
 fn fingerprint_of_chart<C: Chart + Drop>(
     alloc: Global,
-    chart: C,
-    order: &ShapeOrder,
+    judged: Judged<C>,
 ) -> Result<[u8; 32], Fault>
-    requires profile { IsInProfile (C.county chart) }
-    requires shapes { IsShapeOrder (C.county chart) order.now }
-    ensures fingerprint { (mask : Mask) (parts : List (List ℕ)) → IsSeenSet (masked mask) parts (C.county chart)
+    ensures fingerprint { (mask : Mask) (parts : List (List ℕ)) → IsSeenSet (masked mask) parts (C.county judged.0)
         → IfOk result (IsFingerprintThrough (masked mask) parts) }
     ensures memory { IfErr result (λ fault. fault ≡ Fault.Memory) }
 {
-    let county = canonise_admitted(alloc, chart, order)?;
+    let county = canonise_admitted(alloc, judged)?;
     Ok(hash_of(county))
 }
 
-/// The fingerprint of an admitted county under a mask. The order of its chains stays under it.
+/// The fingerprint of a judged county under a mask. The order of its chains stays under it.
 fn fingerprint_under<C: Chart + Drop>(
     alloc: Global,
-    chart: C,
-    order: &ShapeOrder,
+    judged: Judged<C>,
     mask: Mask,
 ) -> Result<[u8; 32], Fault>
-    requires profile { IsInProfile (C.county chart) }
-    requires shapes { IsShapeOrder (C.county chart) order.now }
-    ensures fingerprint { (parts : List (List ℕ)) → IsSeenSet plain parts (C.county chart)
+    ensures fingerprint { (parts : List (List ℕ)) → IsSeenSet plain parts (C.county judged.0)
         → IfOk result (IsFingerprintThrough (masked mask) parts) }
     ensures memory { IfErr result (λ fault. fault ≡ Fault.Memory) }
 {
     if mask.is_none() {
-        fingerprint_of_chart(alloc, chart, order)
+        fingerprint_of_chart(alloc, judged)
     } else {
-        let shown = under_mask(alloc, chart, mask)?;
-        fingerprint_of_chart(alloc, shown, order)
+        let shown = under_mask(alloc, judged, mask)?;
+        fingerprint_of_chart(alloc, shown)
     }
 }
 
@@ -91,8 +83,8 @@ pub(crate) fn fingerprint_linked<'a>(
     ensures succeeds { (parts : List (List ℕ)) (records : List Record) → IsLinkedSet parts linked.now
         → IsAcceptedSet parts records → IfErr result IsWantOfMemory }
 {
-    let (county, order) = admitted_county(alloc, arena, linked)?;
-    fingerprint_under(alloc, county, &order, mask)
+    let county = admitted_county(alloc, arena, linked)?;
+    fingerprint_under(alloc, county, mask)
 }
 
 /// The fingerprint of the parts: the SHA-256 hash of the text that [`normalise`](crate::normalise) gives for them. All sets of

@@ -13,10 +13,10 @@ ghost use Rattle.tl_layout.specs.Tables.{HoldsByType};
 ghost use Rattle.tl_layout.specs.declared.record_type.Record.{Record};
 ghost use Rattle.tl_number.specs.Accepted.{IsAccepted};
 ghost use Rattle.tl_number.specs.Sights.{plain};
-ghost use Rattle.tl_profile.specs.Profile.{IsInProfile};
 ghost use Rattle.tl_profile.specs.ShapeOrder.{IsShapeOrder};
 
 use crate::fault::Fault;
+use crate::library::judged::Judged;
 use crate::library::reading::load;
 use bumpalo::Bump;
 use std::alloc::Global;
@@ -100,17 +100,14 @@ pub(crate) fn judge_tables(alloc: Global, tables: Tables) -> Result<(), Fault>
     judge_linked(alloc, &linked)
 }
 
-/// The county of linked records, over their tables and an arena, which outlive it, and the order of its chains by their shapes. It is
-/// admitted.
+/// The county of linked records, judged. It is kept over their tables and an arena, which outlive it.
 pub(crate) fn admitted_county<'a>(
     alloc: Global,
     arena: &'a Bump,
     linked: &'a LinkedRecords,
-) -> Result<(CountyOver<'a>, ShapeOrder), Fault>
-    ensures seen { IfOk result (λ pair. (parts : List (List ℕ)) → IsLinkedSet parts linked.now
-        → IsSeenSet plain parts (⟦<CountyOver<'a> as Chart>⟧.county pair.0)) }
-    ensures profile { IfOk result (λ pair. IsInProfile (⟦<CountyOver<'a> as Chart>⟧.county pair.0)) }
-    ensures order { IfOk result (λ pair. IsShapeOrder (⟦<CountyOver<'a> as Chart>⟧.county pair.0) pair.1) }
+) -> Result<Judged<CountyOver<'a>>, Fault>
+    ensures seen { IfOk result (λ judged. (parts : List (List ℕ)) → IsLinkedSet parts linked.now
+        → IsSeenSet plain parts (⟦<CountyOver<'a> as Chart>⟧.county judged.0)) }
     ensures of_no_sink { IfErr result (λ fault. is_of_sink fault ≡ false) }
     ensures refused { IfErr result (λ fault. (records : List Record) → AreLinkedAs linked.now records → RefusesRecords records fault) }
     ensures set_refused { IfErr result (λ fault. (parts : List (List ℕ)) → IsLinkedSet parts linked.now → TellsRefusal parts fault) }
@@ -121,5 +118,5 @@ pub(crate) fn admitted_county<'a>(
 {
     let county = county_of_linked(alloc, arena, linked)?;
     let (admitted, order) = admit_county(alloc, county, linked)?;
-    Ok((admitted.into_chart(), order))
+    Ok(Judged::new(admitted.into_chart(), order))
 }

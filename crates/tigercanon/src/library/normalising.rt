@@ -15,14 +15,13 @@ ghost use Rattle.tl_county.specs.Packing.{packed};
 ghost use Rattle.tl_layout.specs.RecordText.{text_of};
 ghost use Rattle.tl_layout.specs.declared.record_type.Record.{Record};
 ghost use Rattle.tl_number.specs.Sights.{plain};
-ghost use Rattle.tl_profile.specs.Profile.{IsInProfile};
-ghost use Rattle.tl_profile.specs.ShapeOrder.{IsShapeOrder};
 ghost use Rattle.tl_write.specs.declared.fault.WriteFault.{WriteFault};
 
 use crate::fault::Fault;
 use crate::library::canonising::{
     canonise_admitted, text_and_renaming, text_in_memory, under_mask,
 };
+use crate::library::judged::Judged;
 use crate::library::linked::{admitted_county, link_parts, link_records};
 use crate::library::reading::load_sources;
 use bumpalo::Bump;
@@ -32,45 +31,35 @@ use tl_county::{Chart, LinkedRecords};
 use tl_layout::{Mask, Tables};
 use tl_load::{LoadFault, Source};
 use tl_number::CanonCounty;
-use tl_profile::ShapeOrder;
 use tl_write::{Sink, write_to};
 
-/// The canonical text of an admitted county, from the order of its chains by their shapes.
-fn text_of_chart<C: Chart + Drop>(
-    alloc: Global,
-    chart: C,
-    order: &ShapeOrder,
-) -> Result<Vec<u8>, Fault>
-    requires profile { IsInProfile (C.county chart) }
-    requires shapes { IsShapeOrder (C.county chart) order.now }
-    ensures canonical { (mask : Mask) (parts : List (List ℕ)) → IsSeenSet (masked mask) parts (C.county chart)
+/// The canonical text of a judged county.
+fn text_of_chart<C: Chart + Drop>(alloc: Global, judged: Judged<C>) -> Result<Vec<u8>, Fault>
+    ensures canonical { (mask : Mask) (parts : List (List ℕ)) → IsSeenSet (masked mask) parts (C.county judged.0)
         → IfOk result (λ text. IsCanonicalTextThrough (masked mask) parts text.items) }
     ensures memory { IfErr result (λ fault. fault ≡ Fault.Memory) }
 {
-    let county = canonise_admitted(alloc, chart, order)?;
+    let county = canonise_admitted(alloc, judged)?;
     let text = text_in_memory(alloc, &county);
     drop(county);
     text
 }
 
-/// The canonical text of an admitted county under a mask. The order of its chains stays under it.
+/// The canonical text of a judged county under a mask. The order of its chains stays under it.
 fn text_under<C: Chart + Drop>(
     alloc: Global,
-    chart: C,
-    order: &ShapeOrder,
+    judged: Judged<C>,
     mask: Mask,
 ) -> Result<Vec<u8>, Fault>
-    requires profile { IsInProfile (C.county chart) }
-    requires shapes { IsShapeOrder (C.county chart) order.now }
-    ensures canonical { (parts : List (List ℕ)) → IsSeenSet plain parts (C.county chart)
+    ensures canonical { (parts : List (List ℕ)) → IsSeenSet plain parts (C.county judged.0)
         → IfOk result (λ text. IsCanonicalTextThrough (masked mask) parts text.items) }
     ensures memory { IfErr result (λ fault. fault ≡ Fault.Memory) }
 {
     if mask.is_none() {
-        text_of_chart(alloc, chart, order)
+        text_of_chart(alloc, judged)
     } else {
-        let shown = under_mask(alloc, chart, mask)?;
-        text_of_chart(alloc, shown, order)
+        let shown = under_mask(alloc, judged, mask)?;
+        text_of_chart(alloc, shown)
     }
 }
 
@@ -88,50 +77,44 @@ fn text_of_linked<'a>(
     ensures succeeds { (parts : List (List ℕ)) (records : List Record) → IsLinkedSet parts linked.now
         → IsAcceptedSet parts records → IfErr result IsWantOfMemory }
 {
-    let (county, order) = admitted_county(alloc, arena, linked)?;
-    text_under(alloc, county, &order, mask)
+    let county = admitted_county(alloc, arena, linked)?;
+    text_under(alloc, county, mask)
 }
 
-/// The canonical text of an admitted county, from the order of its chains by their shapes, and the renaming onto it.
+/// The canonical text of a judged county, and the renaming onto it.
 fn text_and_renaming_of_chart<C: Chart + Drop>(
     alloc: Global,
-    chart: C,
-    order: &ShapeOrder,
+    judged: Judged<C>,
 ) -> Result<(Vec<u8>, Renaming), Fault>
-    requires profile { IsInProfile (C.county chart) }
-    requires shapes { IsShapeOrder (C.county chart) order.now }
-    ensures canonical { (mask : Mask) (parts : List (List ℕ)) → IsSeenSet (masked mask) parts (C.county chart)
+    ensures canonical { (mask : Mask) (parts : List (List ℕ)) → IsSeenSet (masked mask) parts (C.county judged.0)
         → IfOk result (λ answer. IsCanonicalTextThrough (masked mask) parts answer.0.items) }
-    ensures carries { (mask : Mask) (parts : List (List ℕ)) → IsSeenSet (masked mask) parts (C.county chart)
+    ensures carries { (mask : Mask) (parts : List (List ℕ)) → IsSeenSet (masked mask) parts (C.county judged.0)
         → IfOk result (λ answer. CarriesSetThrough (masked mask) answer.1 parts (answer.0.items ∷ [])) }
     ensures memory { IfErr result (λ fault. fault ≡ Fault.Memory) }
 {
-    let county = canonise_admitted(alloc, chart, order)?;
+    let county = canonise_admitted(alloc, judged)?;
     let told = text_and_renaming(alloc, &county);
     drop(county);
     told
 }
 
-/// The canonical text of an admitted county under a mask, and the renaming onto it. The order of its chains stays under the mask.
+/// The canonical text of a judged county under a mask, and the renaming onto it. The order of its chains stays under the mask.
 fn text_and_renaming_under<C: Chart + Drop>(
     alloc: Global,
-    chart: C,
-    order: &ShapeOrder,
+    judged: Judged<C>,
     mask: Mask,
 ) -> Result<(Vec<u8>, Renaming), Fault>
-    requires profile { IsInProfile (C.county chart) }
-    requires shapes { IsShapeOrder (C.county chart) order.now }
-    ensures canonical { (parts : List (List ℕ)) → IsSeenSet plain parts (C.county chart)
+    ensures canonical { (parts : List (List ℕ)) → IsSeenSet plain parts (C.county judged.0)
         → IfOk result (λ answer. IsCanonicalTextThrough (masked mask) parts answer.0.items) }
-    ensures carries { (parts : List (List ℕ)) → IsSeenSet plain parts (C.county chart)
+    ensures carries { (parts : List (List ℕ)) → IsSeenSet plain parts (C.county judged.0)
         → IfOk result (λ answer. CarriesSetThrough (masked mask) answer.1 parts (answer.0.items ∷ [])) }
     ensures memory { IfErr result (λ fault. fault ≡ Fault.Memory) }
 {
     if mask.is_none() {
-        text_and_renaming_of_chart(alloc, chart, order)
+        text_and_renaming_of_chart(alloc, judged)
     } else {
-        let shown = under_mask(alloc, chart, mask)?;
-        text_and_renaming_of_chart(alloc, shown, order)
+        let shown = under_mask(alloc, judged, mask)?;
+        text_and_renaming_of_chart(alloc, shown)
     }
 }
 
@@ -151,8 +134,8 @@ fn text_and_renaming_of_linked<'a>(
     ensures succeeds { (parts : List (List ℕ)) (records : List Record) → IsLinkedSet parts linked.now
         → IsAcceptedSet parts records → IfErr result IsWantOfMemory }
 {
-    let (county, order) = admitted_county(alloc, arena, linked)?;
-    text_and_renaming_under(alloc, county, &order, mask)
+    let county = admitted_county(alloc, arena, linked)?;
+    text_and_renaming_under(alloc, county, mask)
 }
 
 /// The canonical text of the parts: the records of their map in canonical numbers, order, packing and spelling. All sets of
@@ -276,47 +259,41 @@ fn write_county<C: Chart, W: Sink>(county: &CanonCounty<C>, out: &mut W) -> Resu
     Ok(write_to(county, out)?)
 }
 
-/// Writes the canonical text of an admitted county to the sink, from the order of its chains by their shapes, and answers how many
+/// Writes the canonical text of a judged county to the sink, and answers how many
 /// bytes that is.
 fn write_chart<C: Chart + Drop, W: Sink>(
     alloc: Global,
-    chart: C,
-    order: &ShapeOrder,
+    judged: Judged<C>,
     out: &mut W,
 ) -> Result<u64, Fault>
-    requires profile { IsInProfile (C.county chart) }
-    requires shapes { IsShapeOrder (C.county chart) order.now }
     requires out { W.failed out.old < u64.MAX }
-    ensures written { (mask : Mask) (parts : List (List ℕ)) → IsSeenSet (masked mask) parts (C.county chart) → IfOk result (λ n.
+    ensures written { (mask : Mask) (parts : List (List ℕ)) → IsSeenSet (masked mask) parts (C.county judged.0) → IfOk result (λ n.
         (text : List ℕ) × IsCanonicalTextThrough (masked mask) parts text × GoesOut W.holds out.old out.new text n) }
-    ensures stopped { (mask : Mask) (parts : List (List ℕ)) (fault : WriteFault) → IsSeenSet (masked mask) parts (C.county chart) →
+    ensures stopped { (mask : Mask) (parts : List (List ℕ)) (fault : WriteFault) → IsSeenSet (masked mask) parts (C.county judged.0) →
         result ≡ Err (Fault.Write fault) →
         (text : List ℕ) × IsCanonicalTextThrough (masked mask) parts text × StopsShort W.holds out.old out.new text fault.written }
     ensures failures { W.failed out.new ≡ (if is_stopped result then W.failed out.old + 1 else W.failed out.old) }
     ensures memory { IfErr result (λ fault. is_of_sink fault ≡ false → fault ≡ Fault.Memory) }
     ensures silent { IfErr result (λ fault. is_of_sink fault ≡ false → out.new ≡ out.old) }
 {
-    let county = canonise_admitted(alloc, chart, order)?;
+    let county = canonise_admitted(alloc, judged)?;
     let written = write_county(&county, out);
     drop(county);
     written
 }
 
-/// Writes the canonical text of an admitted county under a mask to the sink, and answers how many bytes that is. The order of its
+/// Writes the canonical text of a judged county under a mask to the sink, and answers how many bytes that is. The order of its
 /// chains stays under the mask.
 fn write_under<C: Chart + Drop, W: Sink>(
     alloc: Global,
-    chart: C,
-    order: &ShapeOrder,
+    judged: Judged<C>,
     out: &mut W,
     mask: Mask,
 ) -> Result<u64, Fault>
-    requires profile { IsInProfile (C.county chart) }
-    requires shapes { IsShapeOrder (C.county chart) order.now }
     requires out { W.failed out.old < u64.MAX }
-    ensures written { (parts : List (List ℕ)) → IsSeenSet plain parts (C.county chart) → IfOk result (λ n.
+    ensures written { (parts : List (List ℕ)) → IsSeenSet plain parts (C.county judged.0) → IfOk result (λ n.
         (text : List ℕ) × IsCanonicalTextThrough (masked mask) parts text × GoesOut W.holds out.old out.new text n) }
-    ensures stopped { (parts : List (List ℕ)) (fault : WriteFault) → IsSeenSet plain parts (C.county chart) →
+    ensures stopped { (parts : List (List ℕ)) (fault : WriteFault) → IsSeenSet plain parts (C.county judged.0) →
         result ≡ Err (Fault.Write fault) →
         (text : List ℕ) × IsCanonicalTextThrough (masked mask) parts text × StopsShort W.holds out.old out.new text fault.written }
     ensures failures { W.failed out.new ≡ (if is_stopped result then W.failed out.old + 1 else W.failed out.old) }
@@ -324,10 +301,10 @@ fn write_under<C: Chart + Drop, W: Sink>(
     ensures silent { IfErr result (λ fault. is_of_sink fault ≡ false → out.new ≡ out.old) }
 {
     if mask.is_none() {
-        write_chart(alloc, chart, order, out)
+        write_chart(alloc, judged, out)
     } else {
-        let shown = under_mask(alloc, chart, mask)?;
-        write_chart(alloc, shown, order, out)
+        let shown = under_mask(alloc, judged, mask)?;
+        write_chart(alloc, shown, out)
     }
 }
 
@@ -351,8 +328,8 @@ fn write_linked<'a, W: Sink>(
     ensures silent { IfErr result (λ fault. is_of_sink fault ≡ false → out.new ≡ out.old) }
     ensures no_device { (parts : List (List ℕ)) → IsLinkedSet parts linked.now → result ≢ Err (Fault.Load LoadFault.Device) }
 {
-    let (county, order) = admitted_county(alloc, arena, linked)?;
-    write_under(alloc, county, &order, out, mask)
+    let county = admitted_county(alloc, arena, linked)?;
+    write_under(alloc, county, out, mask)
 }
 
 /// Reads the parts from their sources, and writes their canonical text to the sink; answers how many bytes that is. No part

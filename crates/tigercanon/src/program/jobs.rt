@@ -4,15 +4,19 @@
 //! all of the answer is there where the sink hasn't.
 
 ghost use Rattle.hex.specs.Hex.{encode_lower};
-ghost use Rattle.std.specs.Prelude.{◌≡◌, ◌≢◌, ◌<◌, ◌++◌, ◌∷◌, [], All, Err, IfErr, IfOk, Ok, OnOk, string_bytes};
+ghost use Rattle.std.specs.Prelude.{◌≡◌, ◌≢◌, ◌<◌, ◌++◌, ◌∷◌, [], All, Err, IfErr, IfOk, List, Ok, OnOk, string_bytes, ℕ};
 ghost use Rattle.tigercanon.specs.Devices.{TellsNoDevice, set_of_sources, to_sink};
 ghost use Rattle.tigercanon.specs.Fingerprints.{IsFingerprintThrough, SaysFingerprintThrough};
 ghost use Rattle.tigercanon.specs.Outcomes.{HoldsAccepted, IsAnswered, Leaves, PrintsWhole, TellsSet};
-ghost use Rattle.tigercanon.specs.Reading.{NoneFailed};
-ghost use Rattle.tigercanon.specs.Respelling.{IsRespelt};
+ghost use Rattle.tigercanon.specs.Reading.{AreRead, NoneFailed};
+ghost use Rattle.tigercanon.specs.Respelling.{IsRespelt, record_limit};
 ghost use Rattle.tigercanon.specs.Sets.{IsCanonicalTextThrough, SaysAccepted};
 ghost use Rattle.tl_cert.specs.MaskedCounty.{masked};
 ghost use Rattle.tl_layout.specs.Masked.{no_mask};
+ghost use Rattle.tl_layout.specs.Tables.{HoldsByType};
+ghost use Rattle.tl_layout.specs.declared.record_type.Record.{Record};
+ghost use Rattle.tl_load.specs.Choice.{tiger};
+ghost use Rattle.tl_load.specs.Outcome.{SpellsWithin};
 ghost use Rattle.tigercanon.specs.TwoSets.{IsDifferent, IsDone, LeavesStopped};
 
 use crate::fault::Fault;
@@ -67,6 +71,18 @@ fn normalise_set<R: Source, W: Sink>(
     Ok(())
 }
 
+/// The tables of a set, all of which is read.
+fn read_tables<R: Source>(alloc: Global, set: &mut [R]) -> Result<Tables, Fault>
+    requires { All (λ part. R.failed part < u64.MAX) set.old }
+    ensures loaded { IfOk result (λ tables. (parts : List (List ℕ)) × AreRead R.remaining R.given set.old set.new parts
+        × (records : List Record) × HoldsByType tables records × SpellsWithin tiger record_limit parts records) }
+    ensures refused { IfErr result (TellsSet (set_of_sources R.remaining R.given R.failed R.reads set.old set.new)) }
+    // Where no device is told none has failed.
+    ensures no_device { result ≢ Err (Fault.Load LoadFault.Device) → NoneFailed R.failed set.old set.new }
+{
+    load_to_ends(alloc, set)
+}
+
 /// Reads a set, and judges it.
 fn judge_set<R: Source>(alloc: Global, set: &mut [R]) -> Result<(), Fault>
     requires { All (λ part. R.failed part < u64.MAX) set.old }
@@ -75,7 +91,7 @@ fn judge_set<R: Source>(alloc: Global, set: &mut [R]) -> Result<(), Fault>
     // Where no device is told none has failed.
     ensures no_device { result ≢ Err (Fault.Load LoadFault.Device) → NoneFailed R.failed set.old set.new }
 {
-    let tables: Tables = load_to_ends(alloc, set)?;
+    let tables = read_tables(alloc, set)?;
     judge_tables(alloc, tables)?;
     Ok(())
 }
@@ -105,7 +121,7 @@ fn hash_set<R: Source>(alloc: Global, set: &mut [R], mask: Mask) -> Result<[u8; 
     // Where no device is told none has failed.
     ensures no_device { result ≢ Err (Fault.Load LoadFault.Device) → NoneFailed R.failed set.old set.new }
 {
-    let tables: Tables = load_to_ends(alloc, set)?;
+    let tables = read_tables(alloc, set)?;
     let linked = link_records(alloc, tables)?;
     let arena = Bump::new(alloc);
     fingerprint_linked(alloc, &arena, &linked, mask)

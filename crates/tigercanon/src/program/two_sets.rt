@@ -16,14 +16,13 @@ ghost use Rattle.tl_cert.specs.MaskedCounty.{masked};
 ghost use Rattle.tl_county.specs.Packing.{packed};
 ghost use Rattle.tl_layout.specs.Tables.{HoldsByType};
 ghost use Rattle.tl_number.specs.Sights.{plain};
-ghost use Rattle.tl_profile.specs.Profile.{IsInProfile};
-ghost use Rattle.tl_profile.specs.ShapeOrder.{IsShapeOrder};
 ghost use Rattle.tl_load.specs.Keeping.{WasFedInto};
 ghost use Rattle.tl_load.specs.Loaded.{IsNotDevice};
 
 use crate::fault::Fault;
 use crate::library::canonising::{canonise_admitted, under_mask};
 use crate::library::comparing::{FIRST, SECOND, of_set};
+use crate::library::judged::Judged;
 use crate::library::linked::{admitted_county, link_records};
 use crate::library::reading::read_to_ends;
 use crate::program::ending::{Ending, Stopped};
@@ -34,7 +33,6 @@ use tl_county::{Chart, LinkedRecords};
 use tl_layout::{Mask, Tables};
 use tl_load::{LoaderInto, Source};
 use tl_number::CanonCounty;
-use tl_profile::ShapeOrder;
 use tl_write::{Sink, same_records};
 
 /// The records of what a loader was fed, linked.
@@ -66,18 +64,15 @@ fn compare_counties<A: Chart, B: Chart>(first: &CanonCounty<A>, second: &CanonCo
 fn compare_with<A: Chart, B: Chart + Drop>(
     alloc: Global,
     first: &CanonCounty<A>,
-    second: B,
-    order: &ShapeOrder,
+    second: Judged<B>,
 ) -> Result<Ending, Fault>
-    requires profile { IsInProfile (B.county second) }
-    requires shapes { IsShapeOrder (B.county second) order.now }
     ensures verdict { (mask : Mask) (a b : List (List ℕ))
         → IsCanonSetThrough (masked mask) a (A.county (source_of first.now)) (arranged_county first.now)
-        → IsSeenSet (masked mask) b (B.county second)
+        → IsSeenSet (masked mask) b (B.county second.0)
         → IfOk result (λ ending. where_ended ending (AreOneMapThrough (masked mask) a b) (AreDifferentThrough (masked mask) a b)) }
     ensures memory { IfErr result (λ fault. fault ≡ Fault.Memory) }
 {
-    let second = canonise_admitted(alloc, second, order)?;
+    let second = canonise_admitted(alloc, second)?;
     let ending = compare_counties(first, &second);
     drop(second);
     Ok(ending)
@@ -87,23 +82,20 @@ fn compare_with<A: Chart, B: Chart + Drop>(
 fn compare_under<A: Chart, B: Chart + Drop>(
     alloc: Global,
     first: &CanonCounty<A>,
-    second: B,
-    order: &ShapeOrder,
+    second: Judged<B>,
     mask: Mask,
 ) -> Result<Ending, Fault>
-    requires profile { IsInProfile (B.county second) }
-    requires shapes { IsShapeOrder (B.county second) order.now }
     ensures verdict { (a b : List (List ℕ))
         → IsCanonSetThrough (masked mask) a (A.county (source_of first.now)) (arranged_county first.now)
-        → IsSeenSet plain b (B.county second)
+        → IsSeenSet plain b (B.county second.0)
         → IfOk result (λ ending. where_ended ending (AreOneMapThrough (masked mask) a b) (AreDifferentThrough (masked mask) a b)) }
     ensures memory { IfErr result (λ fault. fault ≡ Fault.Memory) }
 {
     if mask.is_none() {
-        compare_with(alloc, first, second, order)
+        compare_with(alloc, first, second)
     } else {
         let shown = under_mask(alloc, second, mask)?;
-        compare_with(alloc, first, shown, order)
+        compare_with(alloc, first, shown)
     }
 }
 
@@ -121,8 +113,8 @@ fn compare_linked<'b, A: Chart>(
         → IfOk result (λ ending. where_ended ending (AreOneMapThrough (masked mask) a b) (AreDifferentThrough (masked mask) a b)) }
     ensures refused { (b : List (List ℕ)) → IsLinkedSet b second.now → IfErr result (TellsRefusalOfRead b) }
 {
-    let (second, order) = admitted_county(alloc, arena, second)?;
-    compare_under(alloc, first, second, &order, mask)
+    let second = admitted_county(alloc, arena, second)?;
+    compare_under(alloc, first, second, mask)
 }
 
 /// Compares a set in canonical form under a mask with what a loader was fed.
@@ -169,22 +161,19 @@ fn compare_second<A: Chart>(
 /// under a mask.
 fn compare_chart<A: Chart + Drop>(
     alloc: Global,
-    first: A,
-    order: &ShapeOrder,
+    first: Judged<A>,
     second: LoaderInto<Tables>,
     mask: Mask,
 ) -> Result<Ending, Stopped>
-    requires profile { IsInProfile (A.county first) }
-    requires shapes { IsShapeOrder (A.county first) order.now }
     requires fed { (parts : List (List ℕ)) × WasFedInto HoldsByType record_limit second parts [] }
     requires no_device { IfSome second.fault IsNotDevice }
-    ensures verdict { (a b : List (List ℕ)) → IsSeenSet (masked mask) a (A.county first) → WasFedInto HoldsByType record_limit second b []
+    ensures verdict { (a b : List (List ℕ)) → IsSeenSet (masked mask) a (A.county first.0) → WasFedInto HoldsByType record_limit second b []
         → IfOk result (λ ending. where_ended ending (AreOneMapThrough (masked mask) a b) (AreDifferentThrough (masked mask) a b)) }
     ensures refused { (a b : List (List ℕ)) → IsAcceptable a → WasFedInto HoldsByType record_limit second b [] →
         IfErr result (λ stopped. ((stopped.set ≡ Some 1) × TellsRefusalOfRead a stopped.fault)
         ⊎ ((stopped.set ≡ Some 2) × IsAcceptable a × TellsRefusalOfRead b stopped.fault)) }
 {
-    let first = of_set(FIRST, canonise_admitted(alloc, first, order))?;
+    let first = of_set(FIRST, canonise_admitted(alloc, first))?;
     let ending = compare_second(alloc, &first, second, mask);
     drop(first);
     ending
@@ -193,26 +182,23 @@ fn compare_chart<A: Chart + Drop>(
 /// Compares the admitted county of a set, whose chains stay in their order under a mask, with what a loader was fed.
 fn compare_seen<A: Chart + Drop>(
     alloc: Global,
-    first: A,
-    order: &ShapeOrder,
+    first: Judged<A>,
     second: LoaderInto<Tables>,
     mask: Mask,
 ) -> Result<Ending, Stopped>
-    requires profile { IsInProfile (A.county first) }
-    requires shapes { IsShapeOrder (A.county first) order.now }
     requires fed { (parts : List (List ℕ)) × WasFedInto HoldsByType record_limit second parts [] }
     requires no_device { IfSome second.fault IsNotDevice }
-    ensures verdict { (a b : List (List ℕ)) → IsSeenSet plain a (A.county first) → WasFedInto HoldsByType record_limit second b []
+    ensures verdict { (a b : List (List ℕ)) → IsSeenSet plain a (A.county first.0) → WasFedInto HoldsByType record_limit second b []
         → IfOk result (λ ending. where_ended ending (AreOneMapThrough (masked mask) a b) (AreDifferentThrough (masked mask) a b)) }
     ensures refused { (a b : List (List ℕ)) → IsAcceptable a → WasFedInto HoldsByType record_limit second b [] →
         IfErr result (λ stopped. ((stopped.set ≡ Some 1) × TellsRefusalOfRead a stopped.fault)
         ⊎ ((stopped.set ≡ Some 2) × IsAcceptable a × TellsRefusalOfRead b stopped.fault)) }
 {
     if mask.is_none() {
-        compare_chart(alloc, first, order, second, mask)
+        compare_chart(alloc, first, second, mask)
     } else {
         let shown = of_set(FIRST, under_mask(alloc, first, mask))?;
-        compare_chart(alloc, shown, order, second, mask)
+        compare_chart(alloc, shown, second, mask)
     }
 }
 
@@ -232,8 +218,8 @@ fn compare_first<'a>(
         IfErr result (λ stopped. ((stopped.set ≡ Some 1) × TellsRefusalOfRead a stopped.fault)
         ⊎ ((stopped.set ≡ Some 2) × IsAcceptable a × TellsRefusalOfRead b stopped.fault)) }
 {
-    let (first, order) = of_set(FIRST, admitted_county(alloc, arena, first))?;
-    compare_seen(alloc, first, &order, second, mask)
+    let first = of_set(FIRST, admitted_county(alloc, arena, first))?;
+    compare_seen(alloc, first, second, mask)
 }
 
 /// Judges what two loaders were fed, the first wholly before the second, and compares it under a mask.

@@ -11,12 +11,13 @@ use Rattle.tigercanon.proofs.library.canonising.canonise_admitted.Goals as goal
 pub returns-clause-canonical : goal.returns-clause-canonical
 returns-clause-canonical g c = λ seen parts sight set.
     let steps = arrangement_in c.in_ok-canon.canon in
+    let is = c.into_parts-chart.ensures.county ∙ set.county_is in
     record {
       records = set.records;
       accepted = set.accepted;
-      county_is = c.in_ok-canon.ensures.source_county ∙ set.county_is;
+      county_is = c.in_ok-canon.ensures.source_county ∙ is;
       canonical = subst (λ (county : County). IsCanonicalThrough seen set.records (packed county))
-          (ap (λ (county : County). arranged county steps) (sym set.county_is) ∙ sym c.in_ok-canon.ensures.county)
+          (ap (λ (county : County). arranged county steps) (sym is) ∙ sym c.in_ok-canon.ensures.county)
           (choice_is_canonical seen sight set.records set.accepted.accepted steps
-          (subst (λ (county : County). IsLeastChoice county steps) set.county_is c.in_ok-canon.ensures.choice));
+          (subst (λ (county : County). IsLeastChoice county steps) is c.in_ok-canon.ensures.choice));
     }

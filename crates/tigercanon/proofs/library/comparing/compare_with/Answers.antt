@@ -6,27 +6,27 @@ use Rattle.tigercanon.proofs.library.comparing.compare_with.Goals as goal
 pub returns-clause-same : goal.returns-clause-same
 returns-clause-same g c = λ a r set told.
     let linked = ok_holds _ _ _ c.in_ok-linked.ensures.ok c.link_parts.ensures.linked in
-    c.compare_linked.ensures.same a _ r set linked told
+    c.verdict_of_linked.ensures.same a _ r set linked told
 
 pub returns-clause-different : goal.returns-clause-different
 returns-clause-different g c = λ a set told.
     let linked = ok_holds _ _ _ c.in_ok-linked.ensures.ok c.link_parts.ensures.linked in
-    c.compare_linked.ensures.different a _ set linked told
+    c.verdict_of_linked.ensures.different a _ set linked told
 
 pub returns-clause-refused : goal.returns-clause-refused
 returns-clause-refused g c = λ a accepted.
     let linked = ok_holds _ _ _ c.in_ok-linked.ensures.ok c.link_parts.ensures.linked in
-    c.compare_linked.ensures.refused a _ accepted linked
+    c.verdict_of_linked.ensures.refused a _ accepted linked
 
 pub returns-clause-no_device : goal.returns-clause-no_device
 returns-clause-no_device g c = λ set.
     let linked = ok_holds _ _ _ c.in_ok-linked.ensures.ok c.link_parts.ensures.linked in
-    c.compare_linked.ensures.no_device _ set linked
+    c.verdict_of_linked.ensures.no_device _ set linked
 
 pub returns-clause-succeeds : goal.returns-clause-succeeds
 returns-clause-succeeds g c = λ a.
     let linked = ok_holds _ _ _ c.in_ok-linked.ensures.ok c.link_parts.ensures.linked in
-    c.compare_linked.ensures.succeeds a _ linked
+    c.verdict_of_linked.ensures.succeeds a _ linked
 
 pub returns-in_err-linked-clause-refused : goal.returns-in_err-linked-clause-refused
 returns-in_err-linked-clause-refused g c = λ a accepted.

@@ -12,7 +12,7 @@ returns-clause-seen c = λ parts set.
     record {
       records = set.0;
       accepted = record { spelled = set.1; accepted = a.0 };
-      county_is = c.into_chart.ensures.same ∙ a.1;
+      county_is = c.new.ensures.county ∙ c.into_chart.ensures.same ∙ a.1;
     }
 
 pub returns-in_err-admitted-clause-set_refused : goal.returns-in_err-admitted-clause-set_refused

@@ -4,12 +4,12 @@ use Rattle.tigercanon.proofs.library.normalising.write_under.Goals as goal
 pub returns-then-is_none-clause-written : goal.returns-then-is_none-clause-written
 returns-then-is_none-clause-written g c = λ parts set.
     c.write_chart.ensures.written c.args.mask parts
-    (seen_by_none c.args.mask parts (c.is_none.ensures.none c.if-is_none.true) (g.C.Chart.county c.args.chart) set)
+    (seen_by_none c.args.mask parts (c.is_none.ensures.none c.if-is_none.true) (g.C.Chart.county c.args.judged.0) set)
 
 pub returns-then-is_none-clause-stopped : goal.returns-then-is_none-clause-stopped
 returns-then-is_none-clause-stopped g c = λ parts fault set told.
     c.write_chart.ensures.stopped c.args.mask parts fault
-    (seen_by_none c.args.mask parts (c.is_none.ensures.none c.if-is_none.true) (g.C.Chart.county c.args.chart) set)
+    (seen_by_none c.args.mask parts (c.is_none.ensures.none c.if-is_none.true) (g.C.Chart.county c.args.judged.0) set)
     told
 
 pub returns-in_ok-shown-clause-written : goal.returns-in_ok-shown-clause-written

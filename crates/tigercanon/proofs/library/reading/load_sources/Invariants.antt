@@ -1,15 +1,12 @@
-use Rattle.std.proofs.Common.{◌≡◌, List, ℕ, [], length, None}
-use Rattle.tl_load.specs.Keeping.{WasFedInto}
-use Rattle.tigercanon.proofs.ReadParts.{GaveParts}
+use Rattle.std.proofs.Common.{◌≡◌, None}
+use Rattle.tigercanon.proofs.ReadParts.{HasRead}
 use Rattle.tigercanon.specs.Reading.{NoneFailed}
-use Rattle.tigercanon.specs.Respelling.{record_limit}
 use Rattle.tigercanon.proofs.library.reading.load_sources.Given as goal
 
 -- the sources so far were read to their ends, none has failed, and the loader was fed what they gave
 abbrev pub invariant-loop-source : goal.invariant-loop-source
 invariant-loop-source g l = record {
-  read : (parts : List (List ℕ)) × GaveParts g.R.Source.remaining g.R.Source.given l.initial.sources l.sources parts
-      × (length parts ≡ l.source-index) × WasFedInto g.K.Keeper.holds record_limit l.loader parts [];
+  read : HasRead g.R.Source.remaining g.R.Source.given g.K.Keeper.holds l.initial.sources l.sources l.source-index l.loader;
   none_failed : NoneFailed g.R.Source.failed l.initial.sources l.sources;
   no_fault : l.loader.fault ≡ None;
   counted : l.loader.parts ≡ l.source-index;

@@ -1,10 +1,19 @@
-use Rattle.std.proofs.Common.{List, ℕ, refl, subst, string_bytes}
+use Rattle.std.proofs.Common.{◌≡◌, ◌++◌, ◌∷◌, [], List, ℕ, refl, subst, string_bytes}
 use Rattle.std.proofs.lemmas.Result.{err_from_is_err_and}
+use Rattle.hex.specs.Hex.{encode_lower}
+use Rattle.tl_county.specs.County.{County}
 use Rattle.tigercanon.specs.Devices.{set_of_sources, to_sink}
+use Rattle.tigercanon.specs.Fingerprints.{IsFingerprintThrough, SaysFingerprintThrough}
 use Rattle.tigercanon.specs.Normalising.{StopsShort, Took}
+use Rattle.tigercanon.specs.Outcomes.{GivenSet, IsAnswered}
 use Rattle.tigercanon.specs.declared.program.command_line.Job.TheVariants.{Fingerprint}
 use Rattle.tigercanon.proofs.SourceSets.{leaves_untouched, set_of_no_sink}
 use Rattle.tigercanon.proofs.program.jobs.fingerprint_set.Goals as goal
+
+-- the line of the bytes that are a set's fingerprint
+said : {seen : County → County} {set : GivenSet} {bytes line : List ℕ} → IsAnswered (IsFingerprintThrough seen) set bytes
+    → line ≡ encode_lower bytes ++ 10 ∷ [] → IsAnswered (SaysFingerprintThrough seen) set line
+said a is = record { parts = a.parts; held = a.held; answered = record { bytes = _; fingerprint = a.answered; text_is = is } }
 
 pub returns-in_err-bytes-clause-stopped : goal.returns-in_err-bytes-clause-stopped
 returns-in_err-bytes-clause-stopped g c =
@@ -26,11 +35,7 @@ returns-in_err-write_text-clause-stopped g c =
       w.failed,
       record {
         text = string_bytes c.in_ok-line.line;
-        answered = record {
-          parts = a.parts;
-          held = a.held;
-          answered = record { bytes = _; fingerprint = a.answered; text_is = c.in_ok-line.ensures };
-        };
+        answered = said a c.in_ok-line.ensures;
         printed = short.1;
         short = short.0;
       },
@@ -41,11 +46,7 @@ returns-clause-done g c =
     let a = c.in_ok-bytes.ensures.accepted in
     record {
       text = string_bytes c.in_ok-line.line;
-      answered = record {
-        parts = a.parts;
-        held = a.held;
-        answered = record { bytes = _; fingerprint = a.answered; text_is = c.in_ok-line.ensures };
-      };
+      answered = said a c.in_ok-line.ensures;
       printed = subst (λ (text : List ℕ). Took g.W.Sink.holds c.args.out.now c.write_text.new.out text) c.as_bytes.ensures.value
           c.in_ok-write_text.ensures.whole;
     }

@@ -2,25 +2,18 @@ use Rattle.std.proofs.lemmas.Result.{err_from_is_err_and, IfOk-weaker}
 use Rattle.tigercanon.specs.Devices.{set_of_sources}
 use Rattle.tigercanon.proofs.CanonicalTexts.{if_err_by}
 use Rattle.tigercanon.proofs.Refusing.{given_refused, within_limits}
-use Rattle.tigercanon.proofs.SourceSets.{lines_as_set, refused_of_read}
+use Rattle.tigercanon.proofs.SourceSets.{refused_of_read}
 use Rattle.tigercanon.proofs.program.jobs.hash_set.Goals as goal
 
 pub link_records-requires : goal.link_records-requires
 link_records-requires g c = let l = c.in_ok-tables.ensures.loaded in within_limits l.0 _ l.2 l.3 l.4
-
-pub returns-in_err-tables-clause-refused : goal.returns-in_err-tables-clause-refused
-returns-in_err-tables-clause-refused g c =
-    let p = err_from_is_err_and c.from_residual.result c.from_residual.ensures.1 in
-    rw (p.1, p.2) (lines_as_set
-    (set_of_sources g.R.Source.remaining g.R.Source.given g.R.Source.failed g.R.Source.reads c.args.set.now c.load_to_ends.new.sources)
-    c.in_err-tables.field-0.0 c.in_err-tables.ensures.stopped)
 
 pub returns-in_err-linked-clause-refused : goal.returns-in_err-linked-clause-refused
 returns-in_err-linked-clause-refused g c =
     let p = err_from_is_err_and c.from_residual-in_err-linked.result c.from_residual-in_err-linked.ensures.1 in
     let l = c.in_ok-tables.ensures.loaded in
     rw (p.1, p.2) (given_refused
-    (set_of_sources g.R.Source.remaining g.R.Source.given g.R.Source.failed g.R.Source.reads c.args.set.now c.load_to_ends.new.sources)
+    (set_of_sources g.R.Source.remaining g.R.Source.given g.R.Source.failed g.R.Source.reads c.args.set.now c.read_tables.new.set)
     l.0 (refused_of_read g.R.Source.remaining g.R.Source.given _ _ l.0 l.1) l.2 l.4
     c.in_err-linked.field-0.0 (c.in_err-linked.ensures.refused l.2 l.3))
 
@@ -29,7 +22,7 @@ returns-clause-refused g c =
     let l = c.in_ok-tables.ensures.loaded in
     if_err_by c.fingerprint_linked.result
     (given_refused
-    (set_of_sources g.R.Source.remaining g.R.Source.given g.R.Source.failed g.R.Source.reads c.args.set.now c.load_to_ends.new.sources)
+    (set_of_sources g.R.Source.remaining g.R.Source.given g.R.Source.failed g.R.Source.reads c.args.set.now c.read_tables.new.set)
     l.0 (refused_of_read g.R.Source.remaining g.R.Source.given _ _ l.0 l.1) l.2 l.4)
     (c.fingerprint_linked.ensures.refused l.2 (c.in_ok-linked.ensures.linked l.2 l.3))
 

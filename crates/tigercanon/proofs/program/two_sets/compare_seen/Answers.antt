@@ -7,7 +7,7 @@ use Rattle.tigercanon.proofs.program.two_sets.compare_seen.Goals as goal
 pub returns-then-is_none-clause-verdict : goal.returns-then-is_none-clause-verdict
 returns-then-is_none-clause-verdict g c = λ a b set later.
     c.compare_chart.ensures.verdict a b
-    (seen_by_none c.args.mask a (c.is_none.ensures.none c.if-is_none.true) (g.A.Chart.county c.args.first) set)
+    (seen_by_none c.args.mask a (c.is_none.ensures.none c.if-is_none.true) (g.A.Chart.county c.args.first.0) set)
     later
 
 pub returns-in_ok-shown-clause-verdict : goal.returns-in_ok-shown-clause-verdict

@@ -2,7 +2,7 @@ use Rattle.std.proofs.Common.{arith, inr, refl}
 use Rattle.std.proofs.lemmas.Result.{err_from_is_err_and}
 use Rattle.tigercanon.proofs.CanonicalTexts.{err_holds, if_err_by, ok_holds}
 use Rattle.tigercanon.proofs.Masking.{lacking_is_wanted, lacking_no_device, lacking_refuses, seen_acceptable}
-use Rattle.tigercanon.proofs.library.comparing.compare_linked.Goals as goal
+use Rattle.tigercanon.proofs.library.comparing.verdict_of_linked.Goals as goal
 
 pub returns-clause-same : goal.returns-clause-same
 returns-clause-same g c = λ a b r set linked told.
