@@ -16,7 +16,8 @@ TYPES = "1245678IP"
 """The record types of the nine files, in the order of the parts."""
 
 FACTOR = 2.5
-"""So many times the bytes of its parts a county takes while it is judged, beside the parts."""
+"""So many times the bytes of its parts a county takes while it is judged, beside the parts. Measured were 1.7 to 1.9 with 47 MB, and up
+to 2.3 with 5 MB, of which a part is the same for all sizes (scripts/measure-archive)."""
 
 PAUSES = (0.5, 2.0)
 """So many seconds are between the three tries to fetch a county."""
