@@ -75,6 +75,16 @@ fn mask_of(no_sources: bool, no_reserved: bool) -> Mask
     }
 }
 
+/// Answers a text, and tells no fault.
+fn answer_text<'t>(bytes: &'t [u8], text: &mut Text<'t>, fault: &mut ToldFault) -> u8
+    ensures text { text.new.bytes.now ≡ bytes.now }
+    ensures status { result ≡ 0 }
+    ensures untold { fault.new ≡ no_fault }
+{
+    text.bytes = bytes;
+    tell_none(fault)
+}
+
 /// Whether the parts are accepted, as [`tigercanon::check`] answers it: 0 if they are, and else the status of the fault that is
 /// told.
 #[unsafe(no_mangle)]
@@ -111,10 +121,7 @@ pub extern "C" fn tigercanon_respell<'t>(
         SpellsWithin tiger record_limit (bytes_of_lent parts.now) records → (result ≡ 0) ⊎ (result ≡ 5) }
 {
     match respell_parts(alloc, parts) {
-        Ok(bytes) => {
-            text.bytes = bytes;
-            tell_none(fault)
-        }
+        Ok(bytes) => answer_text(bytes, text, fault),
         Err(of) => {
             text.bytes = &[];
             tell(of, fault)
@@ -155,10 +162,7 @@ pub extern "C" fn tigercanon_normalise<'t>(
 {
     let mask = mask_of(no_sources, no_reserved);
     match normalise_parts(alloc, parts, mask) {
-        Ok(bytes) => {
-            text.bytes = bytes;
-            tell_none(fault)
-        }
+        Ok(bytes) => answer_text(bytes, text, fault),
         Err(of) => {
             text.bytes = &[];
             tell(of, fault)

@@ -28,12 +28,12 @@ use tl_number::CanonCounty;
 use tl_write::write_to;
 
 /// The SHA-256 hash of the text of a canonical county. The text is hashed as it is written, and never held.
-fn hash_of<C: Chart + Drop>(county: CanonCounty<C>) -> [u8; 32]
-    ensures { result ≡ sha256 (text_of (packed (arranged_county county))) }
+fn hash_of<C: Chart>(county: &CanonCounty<C>) -> [u8; 32]
+    ensures { result ≡ sha256 (text_of (packed (arranged_county county.now))) }
 {
     let mut hashing = Hashing::new();
     // To hash never fails.
-    let _ = write_to(&county, &mut hashing);
+    let _ = write_to(county, &mut hashing);
     hashing.hash()
 }
 
@@ -47,7 +47,9 @@ fn fingerprint_of_chart<C: Chart + Drop>(
     ensures memory { IfErr result (λ fault. fault ≡ Fault.Memory) }
 {
     let county = canonise_admitted(alloc, judged)?;
-    Ok(hash_of(county))
+    let hash = hash_of(&county);
+    drop(county);
+    Ok(hash)
 }
 
 /// The fingerprint of a judged county under a mask. The order of its chains stays under it.

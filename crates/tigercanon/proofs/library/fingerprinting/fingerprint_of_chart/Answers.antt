@@ -11,5 +11,5 @@ returns-clause-fingerprint g c = λ mask parts set.
       text = _;
       canonical = text_of_set (masked mask) (masked_sight mask) _ _ _ canon _ refl;
       only = only_of_set (masked mask) (masked_sight mask) _ _ _ canon _ refl;
-      bytes_are = c.hash_of.ensures;
+      bytes_are = c.hash_of-hash.ensures;
     }
