@@ -4,12 +4,12 @@
 
 ghost use Rattle.std.specs.Prelude.{◌≡◌};
 
-use super::comparing::same;
+use super::comparing::{same, same_items};
 use super::counties::{county_in_of, county_of};
 use super::masks::{is_masked, plain, without_either};
 use super::refusals::{is_memory, normalise_slowly};
 use super::sets::{lines_of, records_of};
-use super::worked_sets::{record_of_each_type, street, street_text};
+use super::worked_sets::{chain_of_each_type_turned, record_of_each_type, street, street_text};
 use bumpalo::Bump;
 use std::alloc::Global;
 use std::cmp::Ordering;
@@ -23,7 +23,7 @@ use tl_layout::{Layout, Mask, Point, Record, Turn};
 use tl_load::{LoadFault, Loader, first_bad};
 use tl_number::{CanonCounty, CanonCountyIn, canonise_chart};
 use tl_profile::{admit, admit_in};
-use tl_shape::Shape;
+use tl_shape::{Chain, Shape, Surroundings};
 use tl_write::{SlowSink, write_in, write_to};
 
 /// The largest piece that is asked for: half of what a process can address.
@@ -178,6 +178,61 @@ fn shapes_are_compared_and_reversed(rt: HostRuntime) {
     same(&rt, "a new shape", &is_refused, &true);
     let wanted = (Ordering::Greater, false, true, 3, Ordering::Equal);
     same(&rt, "shapes", &found, &wanted);
+}
+
+/// A chain of its own, with what this one has.
+fn copy_of(rt: &impl Abort, alloc: Global, chain: &Chain) -> Chain {
+    let points = chain.shape().points();
+    let last = points.len() - 1;
+    let shape = Shape::new(alloc, points[0], &points[1..last], points[last]);
+    let surroundings = Surroundings {
+        start_node: chain.start_node(),
+        end_node: chain.end_node(),
+        left: *chain.left(),
+        right: *chain.right(),
+    };
+    Chain::new(
+        *chain.body(),
+        shape.expect(rt, "there is memory"),
+        Vec::from_slice(alloc, chain.feats()).expect(rt, "there is memory"),
+        Vec::from_slice(alloc, chain.ranges()).expect(rt, "there is memory"),
+        *chain.link_body(),
+        surroundings,
+    )
+}
+
+/// The chain of this TLID in the county of these lines.
+fn chain_of(rt: &impl Abort, alloc: Global, lines: &[&str], tlid: u64) -> Chain {
+    let county = county_of(rt, alloc, "a chain", &lines_of(rt, alloc, lines));
+    let chain = copy_of(rt, alloc, county.chain(tlid).expect(rt, "a chain"));
+    drop(county);
+    chain
+}
+
+/// The chains have the same of all that a chain has.
+fn are_alike(rt: &impl Abort, chain: &Chain, other: &Chain) {
+    same(rt, "content", chain.body(), other.body());
+    same_items(rt, "points", chain.shape().points(), other.shape().points());
+    same_items(rt, "further names", chain.feats(), other.feats());
+    same_items(rt, "further ranges", chain.ranges(), other.ranges());
+    same(rt, "type I", chain.link_body(), other.link_body());
+    same(rt, "start", &chain.start_node(), &other.start_node());
+    same(rt, "end", &chain.end_node(), &other.end_node());
+    same(rt, "left", chain.left(), other.left());
+    same(rt, "right", chain.right(), other.right());
+}
+
+/// A whole chain is turned.
+#[test]
+fn chains_are_turned(rt: HostRuntime) {
+    let mut chain = chain_of(&rt, rt.alloc(), record_of_each_type(), 500);
+    let other = chain_of(&rt, rt.alloc(), chain_of_each_type_turned(), 77);
+    let pieces = all_memory(&rt, rt.alloc());
+    let is_taken = is_all_taken(rt.alloc());
+    chain.turn();
+    drop(pieces);
+    are_alike(&rt, &chain, &other);
+    same(&rt, "memory", &is_taken, &true);
 }
 
 /// What a loader answers to a line that is a record, and to one behind it.

@@ -4,78 +4,58 @@ use super::comparing::same;
 use std::process::Abort;
 use tl_load::first_bad;
 
-/// The first and the last bytes of the two ranges that no line may hold, and DEL.
-const BAD: [u8; 5] = [0x00, 0x1f, 0x7f, 0x80, 0x9f];
-
-/// The first and the last bytes of the two ranges that a line may hold.
-const GOOD: [u8; 4] = [0x20, 0x7e, 0xa0, 0xff];
+/// The first and the last bytes of the ranges that no line may hold, and of those that a line may, and whether it may not.
+const BYTES: [(u8, bool); 9] = [
+    (0x00, true),
+    (0x1f, true),
+    (0x20, false),
+    (0x7e, false),
+    (0x7f, true),
+    (0x80, true),
+    (0x9f, true),
+    (0xa0, false),
+    (0xff, false),
+];
 
 /// The longest text.
 const MOST: usize = 100;
 
-/// A text of so many letters with this byte at one place has its first bad byte where that is wanted.
-fn is_found(rt: &impl Abort, len: usize, place: usize, byte: u8, wanted: Option<usize>) {
+/// A text of so many letters has its first bad byte where this one stands, or, if it is none, where the other one does.
+fn is_found(rt: &impl Abort, len: usize, place: usize, byte: (u8, bool), other: Option<usize>) {
     let mut text = [b'A'; MOST];
     assert!(rt; len <= MOST && place < len, "the place is in the text");
-    text[place] = byte;
+    if let Some(later) = other {
+        assert!(rt; place < later && later < len, "it is behind the other");
+        text[later] = 0x7f;
+    }
+    text[place] = byte.0;
+    let wanted = if byte.1 { Some(place) } else { other };
     let found = first_bad(&text[..len]);
-    let row = "one byte";
-    same(
-        rt,
-        row,
-        &(len, place, byte, found),
-        &(len, place, byte, wanted),
-    );
+    let row = "the first bad byte";
+    same(rt, row, &(byte, place, found), &(byte, place, wanted));
 }
 
-/// Each bad byte is found at this place.
-fn bad_ones_are_found(rt: &impl Abort, len: usize, place: usize) {
-    for byte in BAD {
-        is_found(rt, len, place, byte, Some(place));
+/// Each byte is told apart at this place, and before a bad one.
+fn are_told_apart(rt: &impl Abort, len: usize, place: usize, other: Option<usize>) {
+    for byte in BYTES {
+        is_found(rt, len, place, byte, other);
     }
 }
 
-/// No good byte is.
-fn good_ones_are_not(rt: &impl Abort, len: usize, place: usize) {
-    for byte in GOOD {
-        is_found(rt, len, place, byte, None);
-    }
-}
-
-/// Both at each place of a text of this length.
-fn are_told_apart(rt: &impl Abort, len: usize) {
+/// At each place of a text of this length.
+fn are_told_apart_everywhere(rt: &impl Abort, len: usize) {
     let none = first_bad(&[b'A'; MOST][..len.min(MOST)]);
-    same(rt, "no such byte", &none, &None);
+    same(rt, "no bad byte", &none, &None);
     for place in 0..len {
-        bad_ones_are_found(rt, len, place);
-        good_ones_are_not(rt, len, place);
+        are_told_apart(rt, len, place, None);
     }
 }
 
 #[test]
-fn a_bad_byte_is_found_at_each_place(rt: HostRuntime) {
+fn the_first_bad_byte_is_found_at_each_place(rt: HostRuntime) {
     for len in 0..101 {
-        are_told_apart(&rt, len);
+        are_told_apart_everywhere(&rt, len);
     }
-}
-
-/// Of two bad bytes the first is found.
-fn first_is_found(rt: &impl Abort, first: usize, second: usize, byte: u8) {
-    let mut text = [b'A'; MOST];
-    assert!(rt;
-        first < second && second < MOST,
-        "the places are in the text"
-    );
-    text[first] = byte;
-    text[second] = byte;
-    let found = first_bad(&text);
-    same(rt, "two bytes", &(byte, found), &(byte, Some(first)));
-}
-
-#[test]
-fn the_first_of_two_bad_bytes_is_found(rt: HostRuntime) {
-    for byte in BAD {
-        first_is_found(&rt, 31, 32, byte);
-        first_is_found(&rt, 32, 64, byte);
-    }
+    are_told_apart(&rt, MOST, 31, Some(32));
+    are_told_apart(&rt, MOST, 32, Some(64));
 }

@@ -32,6 +32,28 @@ fn sources_are_read_to_their_end(rt: HostRuntime) {
     gives_the_street(&rt, rt.alloc(), "a reader", &mut counted);
 }
 
+/// Main St in pieces of this size is Main St, though no part was ended.
+fn is_fed_in_pieces(rt: &impl Abort, alloc: Global, set: &[u8], size: usize) {
+    assert!(rt; 0 < size, "a piece has a byte");
+    let mut loader = Loader::new(alloc);
+    for piece in set.chunks(size) {
+        assert!(rt; loader.parts() == 0, "no part was ended");
+        same(rt, "a piece", &loader.feed(piece), &Ok(()));
+    }
+    let records = loader.finish().expect(rt, "the street");
+    let text = spelled(rt, alloc, &records);
+    same_items(rt, "the street", &text, set);
+}
+
+#[test]
+fn pieces_of_any_size_give_the_same_records(rt: HostRuntime) {
+    let set = lines_of(&rt, rt.alloc(), street_respelt());
+    same(&rt, "bytes", &set.len(), &357);
+    for size in 1..358 {
+        is_fed_in_pieces(&rt, rt.alloc(), &set, size);
+    }
+}
+
 /// A line that is too long is told by its first 230 bytes, and the source isn't asked again.
 #[test]
 fn a_long_line_is_told_before_a_read_fails(rt: HostRuntime) {

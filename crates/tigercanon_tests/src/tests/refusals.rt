@@ -3,6 +3,7 @@
 //! all later ones. Elsewhere nothing is refused, and a test sees that each call answers where memory is ample.
 
 mod layers;
+mod over_linked;
 mod pieces;
 mod refused;
 
@@ -27,7 +28,9 @@ use tl_county::{Chart, LinkFault, LinkedRecords, link, link_in, link_in_order};
 use tl_layout::{Point, Tables};
 use tl_load::{LoadFault, Loader, SlowSource, Source};
 use tl_number::{CanonCounty, CanonCountyIn, canonise, canonise_chart, canonise_in};
-use tl_profile::{Admitted, AdmittedIn, ProfileFault, admit, admit_in, order_by_shape};
+use tl_profile::{
+    Admitted, AdmittedIn, ChainWalk, ProfileFault, ShapeOrder, admit, admit_in, order_by_shape,
+};
 use tl_shape::Shape;
 use tl_write::{SlowSink, records_of as records_of_county, records_of_in, write_in, write_to};
 
@@ -535,6 +538,11 @@ fn tabled(rt: &impl Abort, alloc: Global, set: &Set<'_>, asked: usize) -> Run {
     ended(rt, alloc, has_refused(alloc), outcome.map_err(Fault::from))
 }
 
+/// The chains of an order, as they stand in it.
+fn walks_of(rt: &impl Abort, alloc: Global, order: &ShapeOrder) -> Vec<ChainWalk> {
+    Vec::from_slice(alloc, order.walks()).expect(rt, "there is memory")
+}
+
 fn ordered(rt: &impl Abort, alloc: Global, set: &Set<'_>, asked: usize) -> Run {
     let county = county_of(rt, alloc, set.row, set.bytes);
     refuse(alloc, asked);
@@ -542,7 +550,7 @@ fn ordered(rt: &impl Abort, alloc: Global, set: &Set<'_>, asked: usize) -> Run {
     let refused = has_refused(alloc);
     drop(county);
     let outcome = match outcome {
-        Ok(order) => Ok(order.walks().len()),
+        Ok(order) => Ok(walks_of(rt, alloc, &order)),
         Err(_) => Err(Fault::Memory),
     };
     ended(rt, alloc, refused, outcome)
@@ -572,6 +580,8 @@ pub(super) enum Call {
     LinkInOrder,
     Admit,
     AdmitIn,
+    AdmitLinked,
+    Arrange,
     Canonise,
     CanoniseIn,
     CanoniseMasked,
@@ -615,6 +625,8 @@ const OF_LAYERS: &[Call] = &[
     Call::LinkInOrder,
     Call::Admit,
     Call::AdmitIn,
+    Call::AdmitLinked,
+    Call::Arrange,
     Call::Canonise,
     Call::CanoniseIn,
     Call::CanoniseMasked,
@@ -664,6 +676,8 @@ fn run_of(rt: &impl Abort, alloc: Global, call: Call, set: &Set<'_>, asked: usiz
         Call::LinkInOrder => linked_in_order(rt, alloc, set, asked),
         Call::Admit => admitted(rt, alloc, set, asked),
         Call::AdmitIn => admitted_in(rt, alloc, set, asked),
+        Call::AdmitLinked => over_linked::admitted(rt, alloc, set, asked),
+        Call::Arrange => pieces::arranged(rt, alloc, set, asked),
         Call::Canonise => put_into_form(rt, alloc, set, asked),
         Call::CanoniseIn => put_into_form_in(rt, alloc, set, asked),
         Call::CanoniseMasked => masked_runs::put_into_form(rt, alloc, set, asked),

@@ -6,7 +6,7 @@ use super::sets::lines_of;
 use super::worked_sets::{CHAIN, LINK, MAIN_TEXT, OTHER_CHAIN, RESPELT, TURNED, TURNED_LINK};
 use std::alloc::Global;
 use std::cell::Cell;
-use std::io::ErrorKind;
+use std::io::{ErrorKind, Read};
 use std::process::Abort;
 use tigercanon::{Fault, Job, Opened, Refusal, run};
 use tl_county::LinkFault;
@@ -510,6 +510,24 @@ fn jobs_end_as_their_files_and_devices_let_them(rt: HostRuntime) {
     for kind in KINDS {
         all_end(&rt, rt.alloc(), kind);
     }
+}
+
+/// A file as it was opened gives so many of its bytes at a read, or the read fails.
+fn gives(rt: &impl Abort, row: &str, file: Opened<SlowReader<'_>>, wanted: Option<usize>) {
+    let mut file = file;
+    let mut room = [0; 9];
+    let found = file.read(&mut room).ok();
+    same(rt, row, &found, &wanted);
+}
+
+#[test]
+fn a_file_is_read_as_it_was_opened(rt: HostRuntime) {
+    let count = Cell::new(0);
+    let lines = lines_of(&rt, rt.alloc(), &["8"]);
+    let open = reader(lines, 100, None, ErrorKind::Other, &count);
+    gives(&rt, "one that is open", open, Some(2));
+    gives(&rt, "one that isn't there", Opened::Absent, Some(0));
+    gives(&rt, "one that couldn't be opened", Opened::Failed, None);
 }
 
 /// Faults that no files bring about, or hardly any, their line, and the status.

@@ -127,6 +127,17 @@ const RICH: &[&str] = &[
     "5{4}01001{7}8{2}Elm{27}St{4}",
 ];
 
+/// The chain of that county as it is seen from its other end, and the names that it uses.
+const RICH_TURNED: &[&str] = &[
+    TURNED,
+    "I{4}01001{8}77{8}12{8}1100002{8}1200001{8}12",
+    "2{12}77{2}1{1}-86468600+32424930{1}-86468650+32424920",
+    "4{12}77{2}1{7}9{7}8",
+    "6{12}77{2}1{9}41{9}31{9}40{9}30{4}3600636003",
+    "5{4}01001{7}8{2}Elm{27}St",
+    "5{4}01001{7}9{2}Old Mill{22}Rd",
+];
+
 /// Main St in canonical numbers: its chain, and the line of type I without polygons and between two.
 const CHAIN_1: &str =
     "12006{9}1{1}A{2}Main{26}St{4}A41{8}101{8}199{8}100{8}19801{2}3600336006{14}0101001001{30}02020002030010012002-086468669+32424914-086468545+32424948";
@@ -289,6 +300,11 @@ pub(super) fn street_respelt() -> &'static [&'static str] {
 /// One chain, and a record of each other type that says more of it.
 pub(super) fn record_of_each_type() -> &'static [&'static str] {
     RICH
+}
+
+/// That chain as it is seen from its other end.
+pub(super) fn chain_of_each_type_turned() -> &'static [&'static str] {
+    RICH_TURNED
 }
 
 /// Two chains that share a node and a polygon.

@@ -1,16 +1,21 @@
 //! What comes behind admission within whole calls, with growths refused as is asked for.
 
+ghost use Rattle.std.specs.Prelude.{◌≡◌};
+ghost use Rattle.tl_number.specs.Arrangement.{ascending};
+ghost use Rattle.tl_number.specs.Steps.{AreSteps, arrangement_of};
 ghost use Rattle.tl_profile.specs.Profile.{IsInProfile};
 ghost use Rattle.tl_profile.specs.ShapeOrder.{IsShapeOrder};
 
+use super::super::comparing::same;
 use super::super::counties::county_of;
-use super::{Run, Set, ended, has_refused, refuse};
-use std::alloc::Global;
+use super::{Run, Set, admitted_of, carries, ended, has_refused, refuse};
+use std::alloc::{AllocError, Global};
 use std::process::Abort;
 use tigercanon::Fault;
+use tl_cert::Renaming;
 use tl_county::Chart;
-use tl_number::canonise_in_order;
-use tl_profile::{ShapeOrder, admit_with_order};
+use tl_number::{Arranged, arrange, ascending_steps, canonise_in_order};
+use tl_profile::{ChainWalk, ShapeOrder, admit_with_order};
 use tl_write::{CountedOut, write_to};
 
 /// The text of an admitted county, from the order of its chains by their shapes, in memory.
@@ -41,4 +46,49 @@ pub(super) fn written_in_order(rt: &impl Abort, alloc: Global, set: &Set<'_>, as
     refuse(alloc, asked);
     let outcome = text_in_order(alloc, chart, &order);
     ended(rt, alloc, has_refused(alloc), outcome)
+}
+
+/// A county in the profile, in its ascending arrangement.
+fn arrange_ascending<C: Chart + Drop>(
+    alloc: Global,
+    chart: C,
+    steps: Vec<ChainWalk>,
+) -> Result<Arranged<C>, AllocError>
+    requires profile { IsInProfile (C.county chart) }
+    requires there { AreSteps (C.county chart) steps.items }
+    requires ascending { arrangement_of (C.county chart) steps.items ≡ ascending (C.county chart) }
+{
+    arrange(alloc, chart, steps)
+}
+
+/// The renaming of the set's county onto an arranged one. It carries the one onto the other.
+fn renaming_onto<C: Chart>(
+    rt: &impl Abort,
+    alloc: Global,
+    set: &Set<'_>,
+    view: &Arranged<C>,
+) -> Renaming {
+    let county = county_of(rt, alloc, set.row, set.bytes);
+    let renaming = view.renaming(alloc).expect(rt, set.row);
+    let carried = carries(alloc, &county, view, &renaming);
+    drop(county);
+    same(rt, set.row, &carried, &Ok(true));
+    renaming
+}
+
+/// The arranged county. The answer is the renaming onto it.
+pub(super) fn arranged(rt: &impl Abort, alloc: Global, set: &Set<'_>, asked: usize) -> Run {
+    let chart = admitted_of(rt, alloc, set).into_chart();
+    let steps = ascending_steps(alloc, &chart).expect(rt, set.row);
+    refuse(alloc, asked);
+    let outcome = arrange_ascending(alloc, chart, steps);
+    let refused = has_refused(alloc);
+    match outcome {
+        Ok(view) => {
+            let renaming = renaming_onto(rt, alloc, set, &view);
+            drop(view);
+            ended(rt, alloc, refused, Ok(renaming))
+        }
+        Err(_) => ended::<()>(rt, alloc, refused, Err(Fault::Memory)),
+    }
 }

@@ -113,7 +113,7 @@ const READING: [Call; 3] = [Call::Feed, Call::EndPart, Call::ReadPart];
 
 const LINKING: [Call; 3] = [Call::Link, Call::LinkIn, Call::LinkInOrder];
 
-const ADMITTING: [Call; 2] = [Call::Admit, Call::AdmitIn];
+const ADMITTING: [Call; 3] = [Call::Admit, Call::AdmitIn, Call::AdmitLinked];
 
 /// The set is refused as its name says.
 fn is_refused(rt: &impl Abort, alloc: Global, row: &Worked) {

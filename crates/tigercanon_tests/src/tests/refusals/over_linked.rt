@@ -1,0 +1,58 @@
+//! Admission within whole calls, of a county over linked records, with growths refused as is asked for.
+
+ghost use Rattle.std.specs.Prelude.{◌≡◌};
+ghost use Rattle.tl_county.specs.County.{county_of};
+ghost use Rattle.tl_county.specs.Packing.{type_after_type};
+
+use super::super::comparing::same;
+use super::{Run, Set, ended, has_refused, is_of_set, refuse, tables_of, walks_of};
+use bumpalo::Bump;
+use std::alloc::Global;
+use std::process::Abort;
+use tigercanon::Fault;
+use tl_county::{Chart, CountyOver, LinkedRecords, link_in_order};
+use tl_profile::{Admitted, ChainWalk, ProfileFault, ShapeOrder, admit_linked};
+
+/// A county as it is admitted, and the order of its chains by their shapes.
+type Admission<C> = Result<(Admitted<C>, ShapeOrder), ProfileFault>;
+
+/// Admits the county of these linked records.
+fn admit_over<'a>(
+    alloc: Global,
+    county: CountyOver<'a>,
+    linked: &LinkedRecords,
+) -> Admission<CountyOver<'a>>
+    requires { ⟦<CountyOver<'a> as Chart>⟧.county county ≡ county_of (type_after_type linked.now) }
+{
+    admit_linked(alloc, county, linked.polygon_without_chain())
+}
+
+/// The county that is admitted is that of the set. The answer is the order of its chains, or why it isn't admitted.
+fn order_of<C: Chart + Drop>(
+    rt: &impl Abort,
+    alloc: Global,
+    set: &Set<'_>,
+    outcome: Admission<C>,
+) -> Result<Vec<ChainWalk>, Fault> {
+    match outcome {
+        Ok((admitted, order)) => {
+            let county = admitted.into_chart();
+            let is_same = is_of_set(rt, alloc, set, &county);
+            drop(county);
+            same(rt, set.row, &is_same, &Ok(true));
+            Ok(walks_of(rt, alloc, &order))
+        }
+        Err(fault) => Err(Fault::Profile(fault)),
+    }
+}
+
+pub(super) fn admitted(rt: &impl Abort, alloc: Global, set: &Set<'_>, asked: usize) -> Run {
+    let arena = Bump::new(alloc);
+    let linked = link_in_order(alloc, tables_of(rt, alloc, set)).expect(rt, set.row);
+    let county = linked.county(alloc, &arena).expect(rt, set.row);
+    refuse(alloc, asked);
+    let outcome = admit_over(alloc, county, &linked);
+    let refused = has_refused(alloc);
+    let outcome = order_of(rt, alloc, set, outcome);
+    ended(rt, alloc, refused, outcome)
+}
