@@ -1,17 +1,17 @@
 //! Laws of what a set is, and of what words are a command line. The functions do nothing; their contracts are the laws.
 
 ghost use Rattle.std.specs.Prelude.{◌≡◌, ◌⊎◌, ◌↔◌, [], ◌∷◌, ℕ, List};
-ghost use Rattle.tl_cert.specs.MaskedCounty.{masked};
-ghost use Rattle.tl_county.specs.County.{County, county_of};
-ghost use Rattle.tl_county.specs.Renumbering.{AreSame};
-ghost use Rattle.tl_layout.specs.Masked.{no_mask};
-ghost use Rattle.tl_layout.specs.declared.mask.Mask.{Mask};
-ghost use Rattle.tl_layout.specs.declared.record_type.Record.{Record};
 ghost use Rattle.tigercanon.specs.declared.fault.Fault.{Fault};
+ghost use Rattle.tigercanon.specs.declared.program.command_line.Job.{Job};
 ghost use Rattle.tigercanon.specs.Names.{AreUsualWordsPlanned, TakesNoMask};
 ghost use Rattle.tigercanon.specs.Normalising.{IsOnlyTextThrough};
 ghost use Rattle.tigercanon.specs.Sets.{IsAcceptedSet, IsCanonicalText, IsCanonicalTextThrough, IsSetRefusal};
-ghost use Rattle.tigercanon.specs.declared.program.command_line.Job.{Job};
+ghost use Rattle.tl_cert.specs.MaskedCounty.{masked};
+ghost use Rattle.tl_county.specs.County.{County, county_of};
+ghost use Rattle.tl_county.specs.Renumbering.{AreSame};
+ghost use Rattle.tl_layout.specs.declared.mask.Mask.{Mask};
+ghost use Rattle.tl_layout.specs.declared.record_type.Record.{Record};
+ghost use Rattle.tl_layout.specs.Masked.{no_mask};
 ghost use Rattle.tl_number.specs.Sights.{IsSight};
 
 /// A set of parts is accepted or has a refusal, never both, and never two.

@@ -5,8 +5,7 @@ ghost use Rattle.tigercanon.specs.Comparing.{TellsMemoryOfAccepted, TellsRefusal
 ghost use Rattle.tigercanon.specs.Faults.{IsWantOfMemory, TellsRefusalOfRead};
 ghost use Rattle.tigercanon.specs.Statuses.{status_of};
 ghost use Rattle.tigercanon_c.specs.Answers.{TellsFirstFaultOfRead, status_of_two};
-ghost use Rattle.tigercanon_c.specs.Told.{byte_of, fault_told, fault_told_of_two, link_told, load_told, no_fault, profile_told};
-ghost use Rattle.tigercanon_c.specs.Told.{with_numbers, with_polygon, with_type};
+ghost use Rattle.tigercanon_c.specs.Told.{byte_of, fault_told, fault_told_of_two, link_told, load_told, no_fault, profile_told, with_numbers, with_polygon, with_type};
 ghost use Rattle.tl_county.specs.LinkedTypes.{linked_type};
 
 use crate::edge::ToldFault;

@@ -4,8 +4,8 @@
 //! place by place: each is looked up under its new number and compared with what stands there, a chain in the direction in which the
 //! renaming turns it. Links have no number: their fields under new numbers, sorted, are compared as lists.
 
-ghost use Rattle.std.specs.Prelude.{IfOk};
 ghost use Rattle.std.specs.Bool.{Decides};
+ghost use Rattle.std.specs.Prelude.{IfOk};
 ghost use Rattle.tl_cert.specs.MaskedCounty.{masked};
 ghost use Rattle.tl_cert.specs.RenamingTables.{RenumbersAs};
 ghost use Rattle.tl_county.specs.Renumbering.{Carries, NumbersArePaired, Renumbering};

@@ -1,13 +1,12 @@
 //! Whether a county has the chains of another, turned where a renaming says so, under their new numbers.
 
-ghost use Rattle.std.specs.Prelude.{◌≡◌, ◌<◌, IfSome, length, map, option_map, slice_get};
 ghost use Rattle.std.specs.Bool.{Decides};
 ghost use Rattle.std.specs.List.{AllByRecursion};
 ghost use Rattle.std.specs.Ordering.{nat_cmp};
+ghost use Rattle.std.specs.Prelude.{◌≡◌, ◌<◌, IfSome, length, map, option_map, slice_get};
+ghost use Rattle.tl_cert.specs.PartsThere.{HaveSameContent, HaveSameEnds, HaveSameLists, IsChainThere, chain_carried, chain_towards};
 ghost use Rattle.tl_county.specs.ChartWords.{chain_at, feats_of, points_of, ranges_of};
 ghost use Rattle.tl_county.specs.Renumbering.{image, renumbered_side};
-ghost use Rattle.tl_cert.specs.PartsThere.{HaveSameContent, HaveSameEnds, HaveSameLists, IsChainThere};
-ghost use Rattle.tl_cert.specs.PartsThere.{chain_carried, chain_towards};
 
 use crate::renaming_tables::RenamingTables;
 use tl_county::Chart;

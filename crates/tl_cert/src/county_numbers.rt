@@ -33,8 +33,8 @@ pub(crate) struct Tlids;
 
 impl NumberKind<u64> for Tlids {
     ghost use Rattle.std.specs.Ordering.{nat_cmp};
-    ghost use Rattle.tl_county.specs.CountyRules.{tlids};
     ghost use Rattle.tl_county.proofs.Lists.EntryLists.{in_order-strict};
+    ghost use Rattle.tl_county.specs.CountyRules.{tlids};
 
     ghost numbers = { tlids };
 
@@ -54,8 +54,8 @@ pub(crate) struct Feats;
 
 impl NumberKind<u32> for Feats {
     ghost use Rattle.std.specs.Ordering.{nat_cmp};
-    ghost use Rattle.tl_county.specs.CountyRules.{feats};
     ghost use Rattle.tl_county.proofs.Lists.EntryLists.{in_order-strict};
+    ghost use Rattle.tl_county.specs.CountyRules.{feats};
 
     ghost numbers = { feats };
 
@@ -74,9 +74,9 @@ impl NumberKind<u32> for Feats {
 pub(crate) struct PolygonKeys;
 
 impl NumberKind<PolygonKey> for PolygonKeys {
+    ghost use Rattle.tl_county.proofs.Lists.EntryLists.{in_order-strict};
     ghost use Rattle.tl_county.specs.CountyRules.{polygon_keys};
     ghost use Rattle.tl_county.specs.PolygonKeys.{key_cmp};
-    ghost use Rattle.tl_county.proofs.Lists.EntryLists.{in_order-strict};
 
     ghost numbers = { polygon_keys };
 
@@ -96,8 +96,8 @@ pub(crate) struct Lands;
 
 impl NumberKind<u64> for Lands {
     ghost use Rattle.std.specs.Ordering.{nat_cmp};
-    ghost use Rattle.tl_county.specs.CountyRules.{lands};
     ghost use Rattle.tl_county.proofs.Lists.EntryLists.{in_order-strict};
+    ghost use Rattle.tl_county.specs.CountyRules.{lands};
 
     ghost numbers = { lands };
 
@@ -117,10 +117,10 @@ pub(crate) struct Nodes;
 
 impl NumberKind<u64> for Nodes {
     ghost use Rattle.std.specs.Ordering.{nat_cmp};
-    ghost use Rattle.tl_county.specs.CountyRules.{nodes, nodes_along};
     ghost use Rattle.tl_county.proofs.ByKey.Keys.{nat_keys};
     ghost use Rattle.tl_county.proofs.ByKey.Numbers.{distinct-strict};
     ghost use Rattle.tl_county.proofs.Lists.EntryLists.{in_order-strict};
+    ghost use Rattle.tl_county.specs.CountyRules.{nodes, nodes_along};
 
     ghost numbers = { nodes };
 

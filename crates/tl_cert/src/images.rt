@@ -1,9 +1,9 @@
 //! The new numbers of old ones.
 
 ghost use Rattle.std.specs.Prelude.{◌≡◌, IfOk};
+ghost use Rattle.tl_cert.specs.Images.{AnswersAs};
 ghost use Rattle.tl_county.specs.Entries.{value_under};
 ghost use Rattle.tl_county.specs.Renumbering.{image};
-ghost use Rattle.tl_cert.specs.Images.{AnswersAs};
 
 use indexmap::IndexMap;
 use std::alloc::{AllocError, Global};

@@ -1,10 +1,10 @@
 //! Whether a county has the links of another's landmarks under their new numbers.
 
-ghost use Rattle.std.specs.Prelude.{◌≡◌, ◌++◌, IfOk, IsPermutation, OnOk, map};
 ghost use Rattle.std.specs.Bool.{Decides};
+ghost use Rattle.std.specs.Prelude.{◌≡◌, ◌++◌, IfOk, IsPermutation, OnOk, map};
+ghost use Rattle.tl_cert.specs.LinkFields.{link_fields};
 ghost use Rattle.tl_county.specs.ChartWords.{links_at};
 ghost use Rattle.tl_county.specs.Renumbering.{carried_link};
-ghost use Rattle.tl_cert.specs.LinkFields.{link_fields};
 
 use crate::pairing::are_reordered;
 use crate::renaming_tables::RenamingTables;

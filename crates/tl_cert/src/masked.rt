@@ -4,13 +4,13 @@
 //! apart, and only where SOURCE is left out, since they stand in an order that SOURCE is part of.
 
 ghost use Rattle.std.specs.Prelude.{◌≡◌, IfErr, IfOk, true};
-ghost use Rattle.tl_county.specs.ChartWords.{bodies_at};
-ghost use Rattle.tl_county.specs.Limits.{most_records};
 ghost use Rattle.tl_cert.specs.MaskedCounty.{masked};
 ghost use Rattle.tl_cert.specs.MaskedLaws.{masked_is_county};
 ghost use Rattle.tl_cert.specs.MaskedLimits.{masked_within_limits};
-ghost use Rattle.tl_cert.specs.MaskedTables.{TellsBodies};
 ghost use Rattle.tl_cert.specs.MaskedProps.{TellsBodies-prop};
+ghost use Rattle.tl_cert.specs.MaskedTables.{TellsBodies};
+ghost use Rattle.tl_county.specs.ChartWords.{bodies_at};
+ghost use Rattle.tl_county.specs.Limits.{most_records};
 
 use crate::joined_lists::JoinedLists;
 use crate::masked_bodies::masked_lists;

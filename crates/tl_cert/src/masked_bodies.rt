@@ -1,12 +1,12 @@
 //! The contents of landmarks under a mask, in order again.
 
 ghost use Rattle.std.specs.Prelude.{◌≡◌, ◌++◌, IfOk, OnOk, map, true};
-ghost use Rattle.tl_layout.specs.Masked.{masked_body_7};
+ghost use Rattle.tl_cert.specs.MaskedCounty.{masked, masked_bodies};
 ghost use Rattle.tl_county.specs.BodyOrder.{landmark_body_cmp};
 ghost use Rattle.tl_county.specs.ChartWords.{bodies_at};
 ghost use Rattle.tl_county.specs.Entries.{entry_values};
 ghost use Rattle.tl_county.specs.Orders.{in_order};
-ghost use Rattle.tl_cert.specs.MaskedCounty.{masked, masked_bodies};
+ghost use Rattle.tl_layout.specs.Masked.{masked_body_7};
 
 use crate::joined_lists::JoinedLists;
 use std::alloc::{AllocError, Global};

@@ -1,9 +1,9 @@
 //! Whether the lists of a renaming are those of the numbers of two counties.
 
-ghost use Rattle.std.specs.Prelude.{◌≡◌, IfOk, IsTrue, false};
 ghost use Rattle.std.specs.Bool.{Decides};
 ghost use Rattle.std.specs.List.{AllByRecursion};
 ghost use Rattle.std.specs.Ordering.{nat_cmp};
+ghost use Rattle.std.specs.Prelude.{◌≡◌, IfOk, IsTrue, false};
 ghost use Rattle.tl_county.specs.CountyRules.{feats, lands, nodes, polygon_keys, tlids};
 ghost use Rattle.tl_county.specs.Orders.{IsInOrder, has_repeat, stands_in};
 ghost use Rattle.tl_county.specs.Renumbering.{ArePaired, NumbersArePaired};

@@ -1,7 +1,7 @@
 //! Whether pairs name each number of one list once on the left, and each of another once on the right.
 
-ghost use Rattle.std.specs.Prelude.{◌≡◌, IfOk, IsPermutation, map};
 ghost use Rattle.std.specs.Bool.{Decides};
+ghost use Rattle.std.specs.Prelude.{◌≡◌, IfOk, IsPermutation, map};
 ghost use Rattle.tl_county.specs.Orders.{IsInOrder};
 ghost use Rattle.tl_county.specs.Renumbering.{ArePaired};
 

@@ -1,8 +1,8 @@
 //! Lists of pairs of an old and a new number: the other way round, and one list after another.
 
 ghost use Rattle.std.specs.Prelude.{◌≡◌, ◌++◌, IfOk, OnOk, option_to_list, filter_map};
-ghost use Rattle.tl_county.specs.Renumbering.{composed, swapped};
 ghost use Rattle.tl_cert.specs.Images.{named_images, pair_on};
+ghost use Rattle.tl_county.specs.Renumbering.{composed, swapped};
 
 use crate::images::Images;
 use std::alloc::{AllocError, Global};

@@ -1,10 +1,10 @@
 //! Whether a county has the names, the polygons and the landmarks of another under their new numbers.
 
-ghost use Rattle.std.specs.Prelude.{◌≡◌, ◌<◌, IfSome, length, slice_get};
 ghost use Rattle.std.specs.Bool.{Decides};
 ghost use Rattle.std.specs.List.{AllByRecursion};
-ghost use Rattle.tl_county.specs.ChartWords.{bodies_at};
+ghost use Rattle.std.specs.Prelude.{◌≡◌, ◌<◌, IfSome, length, slice_get};
 ghost use Rattle.tl_cert.specs.PartsThere.{IsLandmarkThere, IsNameThere, IsPolygonThere};
+ghost use Rattle.tl_county.specs.ChartWords.{bodies_at};
 
 use crate::renaming_tables::RenamingTables;
 use tl_county::Chart;

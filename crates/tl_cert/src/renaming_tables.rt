@@ -1,12 +1,12 @@
 //! A renaming in tables, which answer without a search along its lists.
 
-ghost use Rattle.std.specs.Prelude.{◌≡◌, ℕ, IfOk};
 ghost use Rattle.std.specs.Ordering.{nat_cmp};
+ghost use Rattle.std.specs.Prelude.{◌≡◌, ℕ, IfOk};
+ghost use Rattle.tl_cert.specs.Images.{AnswersAs};
+ghost use Rattle.tl_cert.specs.RenamingTables.{RenumbersAs};
 ghost use Rattle.tl_county.specs.Orders.{IsInOrder, stands_in};
 ghost use Rattle.tl_county.specs.PolygonKeys.{key_cmp};
 ghost use Rattle.tl_county.specs.Renumbering.{image, turns};
-ghost use Rattle.tl_cert.specs.Images.{AnswersAs};
-ghost use Rattle.tl_cert.specs.RenamingTables.{RenumbersAs};
 
 use crate::images::Images;
 use crate::renaming::Renaming;

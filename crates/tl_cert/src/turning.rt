@@ -1,10 +1,10 @@
 //! Which chains two renamings turn, one after the other.
 
-ghost use Rattle.std.specs.Prelude.{◌≡◌, ◌++◌, [], ◌∷◌, ℕ, IfOk, IsPermutation, OnOk, cond, filter, map};
 ghost use Rattle.std.specs.Ordering.{nat_cmp};
+ghost use Rattle.std.specs.Prelude.{◌≡◌, ◌++◌, [], ◌∷◌, ℕ, IfOk, IsPermutation, OnOk, cond, filter, map};
+ghost use Rattle.tl_cert.specs.Images.{is_turned_once};
 ghost use Rattle.tl_county.specs.Orders.{IsInOrder, stands_in};
 ghost use Rattle.tl_county.specs.Renumbering.{image, is_named};
-ghost use Rattle.tl_cert.specs.Images.{is_turned_once};
 
 use crate::images::Images;
 use crate::pairs::named_images_of;

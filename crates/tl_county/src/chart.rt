@@ -1,10 +1,9 @@
 //! A county however it is kept.
 
-ghost use Rattle.std.specs.Prelude.{◌≡◌, ◌<◌, Some, length, is_some, IfSome, option_map, slice_get};
 ghost use Rattle.std.specs.Option.{option_and_then};
 ghost use Rattle.std.specs.Ordering.{nat_cmp};
-ghost use Rattle.tl_county.specs.ChartWords.{bodies_at, chain_at, feats_of, links_at, name_at, points_of, polygon_at, ranges_of};
-ghost use Rattle.tl_county.specs.ChartWords.{bodies_under, chain_under, links_under, name_under, polygon_under};
+ghost use Rattle.std.specs.Prelude.{◌≡◌, ◌<◌, Some, length, is_some, IfSome, option_map, slice_get};
+ghost use Rattle.tl_county.specs.ChartWords.{bodies_at, chain_at, feats_of, links_at, name_at, points_of, polygon_at, ranges_of, bodies_under, chain_under, links_under, name_under, polygon_under};
 ghost use Rattle.tl_county.specs.County.{County};
 ghost use Rattle.tl_county.specs.CountyRules.{IsCounty, feats, lands, nodes, polygon_keys, tlids};
 ghost use Rattle.tl_county.specs.Limits.{IsWithinLimits, most_records};

@@ -1,9 +1,8 @@
 //! A county: chains, names, polygons and landmarks under their numbers, in each of the ways to keep them.
 
-ghost use Rattle.std.specs.Prelude.{◌≡◌, [], option_map, unwrap_or};
 ghost use Rattle.std.specs.Option.{option_copied, option_and_then};
 ghost use Rattle.std.specs.Ordering.{nat_cmp};
-ghost use Rattle.tl_layout.specs.ByType.{of_number};
+ghost use Rattle.std.specs.Prelude.{◌≡◌, [], option_map, unwrap_or};
 ghost use Rattle.tl_county.specs.ChartWords.{bodies_at, chain_at, links_at};
 ghost use Rattle.tl_county.specs.County.{eight_land};
 ghost use Rattle.tl_county.specs.CountyProps.{IsCounty-prop, LinksUnderLands-prop};
@@ -13,6 +12,7 @@ ghost use Rattle.tl_county.specs.KeptCounty.{county_with, LinksUnderLands};
 ghost use Rattle.tl_county.specs.Limits.{IsWithinLimits, most_records};
 ghost use Rattle.tl_county.specs.LimitsProps.{IsWithinLimits-prop};
 ghost use Rattle.tl_county.specs.PolygonKeys.{key_cmp};
+ghost use Rattle.tl_layout.specs.ByType.{of_number};
 
 pub(crate) mod chain_over;
 pub(crate) mod keeping;

@@ -3,16 +3,16 @@
 ghost use Rattle.std.specs.List.{AllByRecursion};
 ghost use Rattle.std.specs.Prelude.{◌≡◌, ◌⊎◌, IsPermutation, List, map, ℕ};
 ghost use Rattle.tl_county.specs.County.{County, county_of};
+ghost use Rattle.tl_county.specs.CountyRules.{IsCounty};
+ghost use Rattle.tl_county.specs.declared.fault.LinkFault.{LinkFault};
 ghost use Rattle.tl_county.specs.Limits.{IsWithinLimits};
 ghost use Rattle.tl_county.specs.LinkRules.{IsFirstBrokenRule, IsLinked};
 ghost use Rattle.tl_county.specs.Packing.{packed};
+ghost use Rattle.tl_county.specs.Renumbering.{AreSame, Carries, Renumbering, identity, inverse, then};
 ghost use Rattle.tl_county.specs.Repacked.{IsSplit, KeepsSequence, LeavesEmptyOut, Sequence, resequenced};
-ghost use Rattle.tl_county.specs.declared.fault.LinkFault.{LinkFault};
+ghost use Rattle.tl_layout.specs.declared.record_type.Record.{Record};
 ghost use Rattle.tl_layout.specs.Limits.{IsWithinLimit};
 ghost use Rattle.tl_layout.specs.RecordText.{FitsRecord};
-ghost use Rattle.tl_layout.specs.declared.record_type.Record.{Record};
-ghost use Rattle.tl_county.specs.CountyRules.{IsCounty};
-ghost use Rattle.tl_county.specs.Renumbering.{AreSame, Carries, Renumbering, identity, inverse, then};
 
 /// Being the same is an equivalence of counties.
 pub fn sameness_is_an_equivalence()

@@ -4,25 +4,25 @@
 //! are looked up, once for each use by a chain, and uses are put in order only where some FEAT has no record of type 5. A county is built
 //! the same way whichever way it is kept: a builder makes its chains and landmarks.
 
-ghost use Rattle.std.specs.Prelude.{◌≡◌, ◌≢◌, ◌++◌, List, map, flat_map, OnOk, IfOk, IfErr, IsPermutation};
 ghost use Rattle.std.specs.Ordering.{nat_cmp};
-ghost use Rattle.tl_layout.specs.Fields.{Fields5};
-ghost use Rattle.tl_layout.specs.Limits.{IsWithinLimit};
-ghost use Rattle.tl_layout.specs.declared.record_type.Record.{Record};
-ghost use Rattle.tl_layout.specs.Tables.{HoldsByType};
+ghost use Rattle.std.specs.Prelude.{◌≡◌, ◌≢◌, ◌++◌, List, map, flat_map, OnOk, IfOk, IfErr, IsPermutation};
 ghost use Rattle.tl_county.specs.Building.{county_along, landmarks_along, link_nodes};
 ghost use Rattle.tl_county.specs.County.{county_of, five_feat, i_tlid, link_key, one_tlid, p_key, side_keys};
-ghost use Rattle.tl_county.specs.Limits.{HoldsWithinLimits, IsWithinLimits, most_records};
-ghost use Rattle.tl_county.specs.LinkRules.{IsFirstBrokenRule, IsLinked};
+ghost use Rattle.tl_county.specs.declared.fault.LinkFault.TheVariants.{Memory};
 ghost use Rattle.tl_county.specs.Entries.{map_values};
 ghost use Rattle.tl_county.specs.Keyed.{IsLeastPassing, is_unknown};
+ghost use Rattle.tl_county.specs.Limits.{HoldsWithinLimits, IsWithinLimits, most_records};
+ghost use Rattle.tl_county.specs.LinkRules.{IsFirstBrokenRule, IsLinked};
 ghost use Rattle.tl_county.specs.OrderedTables.{typed_of, AreInOrder, ArePermuted};
 ghost use Rattle.tl_county.specs.Orders.{IsInOrder, distinct};
-ghost use Rattle.tl_county.specs.RepeatedKeys.{AreLeastRepeated};
-ghost use Rattle.tl_county.specs.SequenceKeys.{is_unnamed, sequence_cmp, uses_of};
 ghost use Rattle.tl_county.specs.Packing.{by_type, type_after_type};
 ghost use Rattle.tl_county.specs.PolygonKeys.{key_cmp};
-ghost use Rattle.tl_county.specs.declared.fault.LinkFault.TheVariants.{Memory};
+ghost use Rattle.tl_county.specs.RepeatedKeys.{AreLeastRepeated};
+ghost use Rattle.tl_county.specs.SequenceKeys.{is_unnamed, sequence_cmp, uses_of};
+ghost use Rattle.tl_layout.specs.declared.record_type.Record.{Record};
+ghost use Rattle.tl_layout.specs.Fields.{Fields5};
+ghost use Rattle.tl_layout.specs.Limits.{IsWithinLimit};
+ghost use Rattle.tl_layout.specs.Tables.{HoldsByType};
 
 mod arena;
 mod building;

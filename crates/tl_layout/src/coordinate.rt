@@ -3,8 +3,8 @@
 ghost use Rattle.std.specs.Prelude.{◌≡◌, ◌≤◌, ◌<◌, ◌-◌, ◌⊎◌, length, Some, IfSome};
 ghost use Rattle.tl_layout.specs.CoordinateReading.{plus_of, minus_of, magnitude_of, signed_of, coordinate_of};
 ghost use Rattle.tl_layout.specs.declared.coordinate.Coordinate.TheVariants.{Value};
-ghost use Rattle.tl_layout.specs.FieldTexts.{sign_of, coordinate_text, digits_text};
 ghost use Rattle.tl_layout.specs.declared.coordinate.TheConstants.{MOST_LONGITUDE, MOST_LATITUDE};
+ghost use Rattle.tl_layout.specs.FieldTexts.{sign_of, coordinate_text, digits_text};
 
 use crate::digits::{put_behind, put_eight_digits};
 use crate::number::{digits, eight_digits, nine_digits, trim_start};

@@ -2,13 +2,11 @@
 
 ghost use Rattle.std.specs.Prelude.{◌≡◌, ◌+◌, ◌-◌, ◌≤◌, ◌<◌, ◌++◌, length, take, IfOk};
 ghost use Rattle.tl_layout.specs.Bytes.{AreAllowed, IsText, columns};
-ghost use Rattle.tl_layout.specs.Numbers.{IsNumber, IsNumberOrNone};
-ghost use Rattle.tl_layout.specs.FieldTexts.{number_text};
-ghost use Rattle.tl_layout.specs.FieldTexts.{coordinate_text};
 ghost use Rattle.tl_layout.specs.Columns.{joined};
-ghost use Rattle.tl_layout.specs.FieldFaults.{gap};
+ghost use Rattle.tl_layout.specs.FieldFaults.{gap, bad_point};
 ghost use Rattle.tl_layout.specs.FieldReading.{number_at, number_or_none_at, point_at, point_or_none_at};
-ghost use Rattle.tl_layout.specs.FieldFaults.{bad_point};
+ghost use Rattle.tl_layout.specs.FieldTexts.{number_text, coordinate_text};
+ghost use Rattle.tl_layout.specs.Numbers.{IsNumber, IsNumberOrNone};
 
 use crate::coordinate::{Coordinate, read_latitude, read_longitude};
 use crate::fault::{FieldFault, FieldKind};

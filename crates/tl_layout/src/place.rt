@@ -1,12 +1,10 @@
 //! Places of one kind that stand side by side in a line.
 
-ghost use Rattle.std.specs.Prelude.{◌≡◌, ◌+◌, ◌-◌, ◌*◌, ◌≤◌, ◌<◌, ℕ, false, List, [], ◌∷◌, ◌++◌, length, take, slice_get};
-ghost use Rattle.std.specs.Prelude.{Option, Result, IfSome};
 ghost use Rattle.std.specs.List.{AllByRecursion};
+ghost use Rattle.std.specs.Prelude.{◌≡◌, ◌+◌, ◌-◌, ◌*◌, ◌≤◌, ◌<◌, ℕ, false, List, [], ◌∷◌, ◌++◌, length, take, slice_get, Option, Result, IfSome};
 ghost use Rattle.tl_layout.specs.Coordinates.{IsOnMap};
-ghost use Rattle.tl_layout.specs.FieldTexts.{point_place_text, number_place_text};
-ghost use Rattle.tl_layout.specs.FieldTexts.{places_text};
 ghost use Rattle.tl_layout.specs.FieldReading.{Gives, places_reading};
+ghost use Rattle.tl_layout.specs.FieldTexts.{point_place_text, number_place_text, places_text};
 
 use crate::fault::FieldFault;
 use crate::field::{gap, read_number_or_none, read_point_or_none};

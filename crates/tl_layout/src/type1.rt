@@ -1,10 +1,10 @@
 //! Record type 1: a chain's basic data.
 
 ghost use Rattle.std.specs.Prelude.{◌≡◌, ◌≤◌, length, take};
-ghost use Rattle.tl_layout.specs.RecordTables.{len_1};
 ghost use Rattle.tl_layout.specs.Bytes.{AreAllowed, IsText};
 ghost use Rattle.tl_layout.specs.Columns.{joined};
 ghost use Rattle.tl_layout.specs.Numbers.{IsNumber};
+ghost use Rattle.tl_layout.specs.RecordTables.{len_1};
 
 use crate::fault::FieldFault;
 use crate::field::{read_number, read_point, text_at};
@@ -613,8 +613,8 @@ impl Rec1 {
 }
 
 impl Layout for Rec1 {
-    ghost use Rattle.std.specs.Prelude.{ℕ, List};
     ghost use Rattle.std.proofs.Common.{lit≤};
+    ghost use Rattle.std.specs.Prelude.{ℕ, List};
     ghost use Rattle.tl_layout.specs.FieldFaults.{IsLeftmostFault};
     ghost use Rattle.tl_layout.specs.RecordTables.{rtype_1, table_1};
     ghost use Rattle.tl_layout.specs.Type1.{FitsType1, SpellsType1, type_1_reading, type_1_spelling};

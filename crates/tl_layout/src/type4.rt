@@ -1,12 +1,11 @@
 //! Record type 4: further names of a chain.
 
-ghost use Rattle.std.specs.Prelude.{◌≡◌, ◌+◌, ◌≤◌, length, false};
 ghost use Rattle.std.specs.List.{AllByRecursion};
-ghost use Rattle.tl_layout.specs.RecordTables.{len_4};
+ghost use Rattle.std.specs.Prelude.{◌≡◌, ◌+◌, ◌≤◌, length, false};
 ghost use Rattle.tl_layout.specs.Bytes.{IsText};
+ghost use Rattle.tl_layout.specs.FieldReading.{Gives, number_or_none_at, places_reading};
 ghost use Rattle.tl_layout.specs.Numbers.{IsNumber};
-ghost use Rattle.tl_layout.specs.FieldReading.{Gives, number_or_none_at};
-ghost use Rattle.tl_layout.specs.FieldReading.{places_reading};
+ghost use Rattle.tl_layout.specs.RecordTables.{len_4};
 
 use crate::fault::FieldFault;
 use crate::field::read_number;
@@ -83,8 +82,8 @@ impl Rec4 {
 }
 
 impl Layout for Rec4 {
-    ghost use Rattle.std.specs.Prelude.{ℕ, List};
     ghost use Rattle.std.proofs.Common.{lit≤};
+    ghost use Rattle.std.specs.Prelude.{ℕ, List};
     ghost use Rattle.tl_layout.specs.FieldFaults.{IsLeftmostFault};
     ghost use Rattle.tl_layout.specs.RecordTables.{rtype_4, table_4};
     ghost use Rattle.tl_layout.specs.Type4.{FitsType4, SpellsType4, type_4_reading, type_4_spelling};

@@ -1,9 +1,9 @@
 //! Record type 5: the name of a feature.
 
 ghost use Rattle.std.specs.Prelude.{◌≡◌};
-ghost use Rattle.tl_layout.specs.RecordTables.{len_5};
 ghost use Rattle.tl_layout.specs.Bytes.{AreAllowed, IsText};
 ghost use Rattle.tl_layout.specs.Numbers.{IsNumber};
+ghost use Rattle.tl_layout.specs.RecordTables.{len_5};
 
 use crate::fault::FieldFault;
 use crate::field::{read_number, text_at};
@@ -146,8 +146,8 @@ impl Rec5 {
 }
 
 impl Layout for Rec5 {
-    ghost use Rattle.std.specs.Prelude.{ℕ, List};
     ghost use Rattle.std.proofs.Common.{lit≤};
+    ghost use Rattle.std.specs.Prelude.{ℕ, List};
     ghost use Rattle.tl_layout.specs.FieldFaults.{IsLeftmostFault};
     ghost use Rattle.tl_layout.specs.RecordTables.{rtype_5, table_5};
     ghost use Rattle.tl_layout.specs.Type5.{FitsType5, SpellsType5, type_5_reading, type_5_spelling};

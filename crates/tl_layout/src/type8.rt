@@ -1,9 +1,9 @@
 //! Record type 8: a polygon of a landmark.
 
 ghost use Rattle.std.specs.Prelude.{◌≡◌};
-ghost use Rattle.tl_layout.specs.RecordTables.{len_8};
 ghost use Rattle.tl_layout.specs.Bytes.{AreAllowed, IsText};
 ghost use Rattle.tl_layout.specs.Numbers.{IsNumber};
+ghost use Rattle.tl_layout.specs.RecordTables.{len_8};
 
 use crate::fault::FieldFault;
 use crate::field::{read_number, text_at};
@@ -95,8 +95,8 @@ impl Rec8 {
 }
 
 impl Layout for Rec8 {
-    ghost use Rattle.std.specs.Prelude.{ℕ, List};
     ghost use Rattle.std.proofs.Common.{lit≤};
+    ghost use Rattle.std.specs.Prelude.{ℕ, List};
     ghost use Rattle.tl_layout.specs.FieldFaults.{IsLeftmostFault};
     ghost use Rattle.tl_layout.specs.RecordTables.{rtype_8, table_8};
     ghost use Rattle.tl_layout.specs.Type8.{FitsType8, SpellsType8, type_8_reading, type_8_spelling};

@@ -1,10 +1,9 @@
 //! Record type I: the nodes of a chain and the polygons beside it.
 
 ghost use Rattle.std.specs.Prelude.{◌≡◌, ◌≤◌, ◌<◌, ℕ, List, Option, Result, Ok, Err, length};
-ghost use Rattle.tl_layout.specs.RecordTables.{len_i};
-ghost use Rattle.tl_layout.specs.Bytes.{IsLine};
+ghost use Rattle.tl_layout.specs.Bytes.{IsLine, AreAllowed, IsText};
 ghost use Rattle.tl_layout.specs.Numbers.{IsNumber, IsNumberOrNone};
-ghost use Rattle.tl_layout.specs.Bytes.{AreAllowed, IsText};
+ghost use Rattle.tl_layout.specs.RecordTables.{len_i};
 ghost use Rattle.tl_layout.specs.TypeI.{FitsTypeI, body_i_at, type_i_reading};
 
 use crate::fault::FieldFault;
@@ -242,12 +241,12 @@ impl RecI {
 }
 
 impl Layout for RecI {
+    ghost use Rattle.std.proofs.Common.{lit≤};
     ghost use Rattle.std.specs.Prelude.{ℕ, List};
     ghost use Rattle.tl_layout.specs.FieldFaults.{IsLeftmostFault};
     ghost use Rattle.tl_layout.specs.RecordTables.{rtype_i, table_i};
     ghost use Rattle.tl_layout.specs.TypeI.{FitsTypeI, SpellsTypeI, type_i_reading, type_i_spelling};
     ghost use Rattle.tl_layout.specs.TypeLaws.{type_i_laws};
-    ghost use Rattle.std.proofs.Common.{lit≤};
 
     const LEN: usize = 127;
 

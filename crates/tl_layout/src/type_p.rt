@@ -1,9 +1,9 @@
 //! Record type P: a polygon's inner point.
 
 ghost use Rattle.std.specs.Prelude.{◌≡◌};
-ghost use Rattle.tl_layout.specs.RecordTables.{len_p};
 ghost use Rattle.tl_layout.specs.Bytes.{AreAllowed, IsText};
 ghost use Rattle.tl_layout.specs.Numbers.{IsNumber};
+ghost use Rattle.tl_layout.specs.RecordTables.{len_p};
 
 use crate::fault::FieldFault;
 use crate::field::{read_number, read_point_or_none, text_at};
@@ -135,12 +135,12 @@ impl RecP {
 }
 
 impl Layout for RecP {
-    ghost use Rattle.std.specs.Prelude.{ℕ, List};
     ghost use Rattle.std.proofs.Common.{lit≤};
+    ghost use Rattle.std.specs.Prelude.{ℕ, List};
     ghost use Rattle.tl_layout.specs.FieldFaults.{IsLeftmostFault};
     ghost use Rattle.tl_layout.specs.RecordTables.{rtype_p, table_p};
-    ghost use Rattle.tl_layout.specs.TypeP.{FitsTypeP, SpellsTypeP, type_p_reading, type_p_spelling};
     ghost use Rattle.tl_layout.specs.TypeLaws.{type_p_laws};
+    ghost use Rattle.tl_layout.specs.TypeP.{FitsTypeP, SpellsTypeP, type_p_reading, type_p_spelling};
 
     const LEN: usize = 45;
 

@@ -1,11 +1,9 @@
 //! Writing fields into the columns of a line, counted from 1 as in the column tables, from left to right.
 
 ghost use Rattle.std.specs.Prelude.{◌≡◌, ◌+◌, ◌-◌, ◌≤◌, ◌<◌, [], ◌∷◌, ◌++◌, length, take, replicate, codes, pos};
-ghost use Rattle.tl_layout.specs.FieldTexts.{number_text};
-ghost use Rattle.tl_layout.specs.FieldTexts.{coordinate_text};
-ghost use Rattle.tl_layout.specs.Coordinates.{IsOnMap};
-ghost use Rattle.tl_layout.specs.FieldTexts.{long_text, lat_text};
 ghost use Rattle.tl_layout.specs.Columns.{joined};
+ghost use Rattle.tl_layout.specs.Coordinates.{IsOnMap};
+ghost use Rattle.tl_layout.specs.FieldTexts.{number_text, coordinate_text, long_text, lat_text};
 
 use crate::coordinate::put_coordinate;
 use crate::layout::Layout;

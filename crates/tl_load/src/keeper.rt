@@ -1,9 +1,9 @@
 //! What becomes of the records that a loader takes.
 
 ghost use Rattle.std.specs.Prelude.{◌≡◌, List, [], ◌∷◌, ◌++◌, OnOk};
+ghost use Rattle.tl_layout.specs.declared.record_type.Record.{Record};
 ghost use Rattle.tl_layout.specs.RecordText.{text_of};
 ghost use Rattle.tl_layout.specs.Tables.{HoldsByType};
-ghost use Rattle.tl_layout.specs.declared.record_type.Record.{Record};
 
 use std::alloc::{AllocError, Global};
 use tl_layout::{LONGEST_LINE, Layout, Record, Tabled, Tables, make_room_ahead, put_line};

@@ -2,14 +2,14 @@
 
 ghost use Rattle.std.specs.Prelude.{◌≡◌, ◌↔◌, ◌⊎◌, ◌++◌, ℕ, List, [], ◌∷◌, take, All, Ok, Err};
 ghost use Rattle.tl_layout.specs.declared.record_type.Record.{Record};
-ghost use Rattle.tl_layout.specs.RecordText.{FitsRecord, text_of};
 ghost use Rattle.tl_layout.specs.Limits.{IsWithinLimit};
+ghost use Rattle.tl_layout.specs.RecordText.{FitsRecord, text_of};
+ghost use Rattle.tl_load.specs.Choice.{tiger};
 ghost use Rattle.tl_load.specs.declared.fault.LineFault.{LineFault};
 ghost use Rattle.tl_load.specs.declared.fault.LoadFault.{LoadFault};
-ghost use Rattle.tl_load.specs.Choice.{tiger};
+ghost use Rattle.tl_load.specs.LineOf.{IsLineOf, IsFaultIn, judged_as};
 ghost use Rattle.tl_load.specs.Outcome.{IsSpelled, IsFaulty, Spells, SpellsWithin, FaultAt};
 ghost use Rattle.tl_load.specs.RecordLine.{HasRecord, IsFaultOfLine};
-ghost use Rattle.tl_load.specs.LineOf.{IsLineOf, IsFaultIn, judged_as};
 
 use tl_layout::Layout;
 

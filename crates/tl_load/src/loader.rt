@@ -1,12 +1,12 @@
 //! The loader of a list of records.
 
-ghost use Rattle.std.specs.Prelude.{◌≡◌, ◌≤◌, ◌<◌, ◌+◌, ℕ, List, [], ◌∷◌, ◌++◌, None, Some, All, length, IfSome, Err, MatchResult, IfOk, IfErr, OnOk, is_ok, if◌then◌else◌};
 ghost use Rattle.std.specs.Io.KnownBytes.{IsAtEnd};
-ghost use Rattle.tl_layout.specs.RecordText.{FitsRecord};
+ghost use Rattle.std.specs.Prelude.{◌≡◌, ◌≤◌, ◌<◌, ◌+◌, ℕ, List, [], ◌∷◌, ◌++◌, None, Some, All, length, IfSome, Err, MatchResult, IfOk, IfErr, OnOk, is_ok, if◌then◌else◌};
 ghost use Rattle.tl_layout.specs.declared.record_type.Record.{Record};
+ghost use Rattle.tl_layout.specs.RecordText.{FitsRecord};
 ghost use Rattle.tl_load.specs.Choice.{tiger};
-ghost use Rattle.tl_load.specs.Outcome.{SpellsWithin, FaultAt};
 ghost use Rattle.tl_load.specs.Loaded.{FedPart, IsNotDevice, is_device, IsOfLines, IsFaultHowever, IsWellAfter, WasFed, all_parts};
+ghost use Rattle.tl_load.specs.Outcome.{SpellsWithin, FaultAt};
 ghost use Rattle.tl_load.specs.Sources.{Gave, StopsThere};
 
 use crate::fault::LoadFault;
@@ -25,8 +25,8 @@ pub struct Loader {
 
 impl Model for Loader {
     ghost use Rattle.std.specs.Prelude.{◌≡◌, None};
-    ghost use Rattle.tl_load.specs.Loaded.{Loaded};
     ghost use Rattle.tl_load.specs.Keeping.{seen, AreCounted};
+    ghost use Rattle.tl_load.specs.Loaded.{Loaded};
 
     ghost Value = { Loaded };
 

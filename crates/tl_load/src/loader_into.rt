@@ -1,19 +1,19 @@
 //! The loader over any keeper: lines out of pieces of bytes, each judged when it ends, and its record kept.
 
+ghost use Rattle.std.specs.Io.KnownBytes.{IsAtEnd};
 ghost use Rattle.std.specs.Prelude.{◌≡◌, ◌≤◌, ◌<◌, ◌+◌, ◌*◌, ℕ, List, [], ◌∷◌, ◌++◌, None, Some, length, take, replicate, IfSome, Err, MatchResult, IfOk, IfErr, OnOk, IsTrue, is_ok, if◌then◌else◌};
 ghost use Rattle.std.specs.Result.{IsErr};
-ghost use Rattle.std.specs.Io.KnownBytes.{IsAtEnd};
 ghost use Rattle.tl_layout.specs.Bytes.{AreAllowed};
 ghost use Rattle.tl_layout.specs.declared.record_type.Record.{Record};
 ghost use Rattle.tl_load.specs.Choice.{tiger, judged, as_record};
-ghost use Rattle.tl_load.specs.Lines.{IsWithoutLineFeed};
-ghost use Rattle.tl_load.specs.LineOf.{judged_as};
-ghost use Rattle.tl_load.specs.Outcome.{SpellsWithin, FaultAt};
-ghost use Rattle.tl_load.specs.Loaded.{FedPart, IsNotDevice, is_device, IsOfLines, IsFaultHowever, IsWellAfter, all_parts};
+ghost use Rattle.tl_load.specs.declared.fault.LineFault.TheVariants.{UnknownType};
 ghost use Rattle.tl_load.specs.Keeping.{WasFedInto, HasSome, IsSamePart, Lifts, total, bytes_used};
+ghost use Rattle.tl_load.specs.LineOf.{judged_as};
+ghost use Rattle.tl_load.specs.Lines.{IsWithoutLineFeed};
+ghost use Rattle.tl_load.specs.Loaded.{FedPart, IsNotDevice, is_device, IsOfLines, IsFaultHowever, IsWellAfter, all_parts};
+ghost use Rattle.tl_load.specs.Outcome.{SpellsWithin, FaultAt};
 ghost use Rattle.tl_load.specs.Sources.{Gave, StopsThere};
 ghost use Rattle.tl_load.specs.Steps.{Takes, Ends, Closes, Judges, JudgesAs, Adds, ReadsPart, TakesWell, with_fault};
-ghost use Rattle.tl_load.specs.declared.fault.LineFault.TheVariants.{UnknownType};
 
 use crate::fault::{LineFault, LoadFault};
 use crate::judge::judge_line;

@@ -2,10 +2,10 @@
 //!
 //! A source counts its failures, so that a device is told exactly where one failed, and a read that failed isn't tried again.
 
+ghost use Rattle.std.specs.Io.KnownBytes.{ReadConsumes};
 ghost use Rattle.std.specs.Prelude.{◌≡◌, ◌≤◌, ◌<◌, ◌+◌, ℕ, List, Option, Some, length, IfOk, MatchResult, is_ok, IsTrue, ◌↔◌, if◌then◌else◌, min};
 ghost use Rattle.std.specs.Result.{IsErr};
 ghost use Rattle.tl_load.specs.Sources.{RoseBy, counted_down};
-ghost use Rattle.std.specs.Io.KnownBytes.{ReadConsumes};
 
 use std::io::Read;
 use std::marker::Model;

@@ -1,14 +1,14 @@
 //! A county in an arrangement of its chains, read through the county that it comes from.
 
-ghost use Rattle.std.specs.Prelude.{◌≡◌, ◌<◌, Some, length, option_map, slice_get};
 ghost use Rattle.std.specs.Ordering.{nat_cmp};
-ghost use Rattle.tl_county.specs.CountyRules.{AllKeysStandIn, polygon_keys, polygons_along};
+ghost use Rattle.std.specs.Prelude.{◌≡◌, ◌<◌, Some, length, option_map, slice_get};
 ghost use Rattle.tl_county.specs.ChartWords.{chain_at};
+ghost use Rattle.tl_county.specs.CountyRules.{AllKeysStandIn, polygon_keys, polygons_along};
 ghost use Rattle.tl_county.specs.Renumbering.{image};
 ghost use Rattle.tl_number.specs.Arrangement.{renaming_of};
+ghost use Rattle.tl_number.specs.ByNumber.{polygons_by_number};
 ghost use Rattle.tl_number.specs.ByStep.{ends_of, sides_of};
 ghost use Rattle.tl_number.specs.Steps.{arrangement_of};
-ghost use Rattle.tl_number.specs.ByNumber.{polygons_by_number};
 ghost use Rattle.tl_number.specs.ViewFacts.{AreWhole, stepped, TellsNodes, TellsPolygons, TellsNames, TellsLandmarks};
 ghost use Rattle.tl_number.specs.ViewProps.{AreWhole-prop, StandOnSides-prop, TellsNodes-prop, TellsPolygons-prop, TellsNames-prop, TellsLandmarks-prop};
 

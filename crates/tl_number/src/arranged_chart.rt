@@ -3,8 +3,8 @@
 //! Numbers of chains, names, landmarks and nodes count from 1, so that the place of a number is at hand. Old numbers and points stay
 //! where they are: chains are read through the county that this one comes from, turned and renumbered as they are asked for.
 
-ghost use Rattle.std.specs.Prelude.{◌≡◌, IfSome, Some, is_some, slice_get};
 ghost use Rattle.std.specs.Ordering.{nat_cmp};
+ghost use Rattle.std.specs.Prelude.{◌≡◌, IfSome, Some, is_some, slice_get};
 ghost use Rattle.tl_county.specs.Orders.{stands_in};
 ghost use Rattle.tl_number.specs.Growth.{up_to};
 

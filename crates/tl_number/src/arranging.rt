@@ -4,11 +4,11 @@ ghost use Rattle.std.specs.Prelude.{◌≡◌, ◌<◌, ◌^◌, Err, IfOk, Matc
 ghost use Rattle.tl_county.specs.CountyRules.{AllKeysStandIn, polygon_keys, polygons_along};
 ghost use Rattle.tl_county.specs.Renumbering.{AreSame, Carries};
 ghost use Rattle.tl_number.specs.Arrangement.{arranged, polygons_in_order, renaming_of};
-ghost use Rattle.tl_number.specs.Steps.{AreSteps, arrangement_of};
-ghost use Rattle.tl_number.specs.Views.{arranged_county, arrangement_in, source_of, steps_of};
-ghost use Rattle.tl_number.specs.ViewFacts.{stepped, AreWhole, NamesEachOnce, TellsLandmarks, TellsNames, TellsNodes, TellsPolygons};
 ghost use Rattle.tl_number.specs.CanonCounties.{IsCanonCounty};
+ghost use Rattle.tl_number.specs.Steps.{AreSteps, arrangement_of};
 ghost use Rattle.tl_number.specs.Tidy.{IsLeastChoice};
+ghost use Rattle.tl_number.specs.ViewFacts.{stepped, AreWhole, NamesEachOnce, TellsLandmarks, TellsNames, TellsNodes, TellsPolygons};
+ghost use Rattle.tl_number.specs.Views.{arranged_county, arrangement_in, source_of, steps_of};
 ghost use Rattle.tl_profile.specs.Profile.{IsInProfile};
 ghost use Rattle.tl_profile.specs.ShapeOrder.{IsShapeOrder};
 

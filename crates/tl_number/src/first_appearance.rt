@@ -3,8 +3,8 @@
 //! The ends and the sides of all chains are copied along the arrangement first and numbered from there, so that reading one chain need
 //! not wait until another's number is found. They are kept under their new numbers, and no number is looked up again.
 
-ghost use Rattle.std.specs.Prelude.{◌≡◌, [], ◌<◌, ◌^◌, ℕ, List, Some, IfOk, OnOk, flat_map, length, map, option_map, option_to_list};
 ghost use Rattle.std.specs.Ordering.{nat_cmp};
+ghost use Rattle.std.specs.Prelude.{◌≡◌, [], ◌<◌, ◌^◌, ℕ, List, Some, IfOk, OnOk, flat_map, length, map, option_map, option_to_list};
 ghost use Rattle.tl_county.specs.Entries.{entry_values};
 ghost use Rattle.tl_county.specs.PolygonKeys.{PolygonKey, key_cmp, key_on};
 ghost use Rattle.tl_number.specs.Arrangement.{polygons_in_order};

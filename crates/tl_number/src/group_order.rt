@@ -4,10 +4,10 @@
 //! needn't line up, since a chain may have more records of a type than the one that stands in its place in the other. So each side
 //! is read by a cursor of its own.
 
-ghost use Rattle.std.specs.Prelude.{◌≡◌, MatchOption};
 ghost use Rattle.std.specs.Cmp.Lexicographic.{slice_cmp};
-ghost use Rattle.std.specs.Ordering.{nat_cmp};
 ghost use Rattle.std.specs.declared.cmp.Ordering.TheVariants.{Greater};
+ghost use Rattle.std.specs.Ordering.{nat_cmp};
+ghost use Rattle.std.specs.Prelude.{◌≡◌, MatchOption};
 ghost use Rattle.tl_number.specs.RecordOrder.{groups_cmp, spelling_cmp};
 
 use crate::cursor::{Cursor, next};

@@ -1,8 +1,8 @@
 //! The links of a county's landmarks under new numbers, in order, and those of one landmark among them.
 
-ghost use Rattle.std.specs.Prelude.{◌≡◌, ◌++◌, ◌+◌, ◌-◌, ◌<◌, ◌^◌, IfOk, OnOk, flat_map, length, map, option_to_list, slice_get};
 ghost use Rattle.std.specs.List.{range_with_len};
 ghost use Rattle.std.specs.Ordering.{nat_cmp, on};
+ghost use Rattle.std.specs.Prelude.{◌≡◌, ◌++◌, ◌+◌, ◌-◌, ◌<◌, ◌^◌, IfOk, OnOk, flat_map, length, map, option_to_list, slice_get};
 ghost use Rattle.tl_county.specs.BodyOrder.{link_cmp};
 ghost use Rattle.tl_county.specs.ChartWords.{links_at, links_with};
 ghost use Rattle.tl_county.specs.County.{eight_land};

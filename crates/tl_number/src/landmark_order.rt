@@ -1,20 +1,20 @@
 //! The landmarks of a county in their new order: by their bodies, and then by their links under the new numbers.
 
-ghost use Rattle.std.specs.Prelude.{◌≡◌, ◌<◌, ◌^◌, ◌-◌, IfOk, IsPermutation, OnOk, false, filter_map, length, map, option_to_list, slice_get};
 ghost use Rattle.std.specs.Cmp.Lexicographic.{slice_cmp};
 ghost use Rattle.std.specs.List.{range_with_len};
 ghost use Rattle.std.specs.Option.{option_cmp};
 ghost use Rattle.std.specs.Ordering.{nat_cmp, on};
+ghost use Rattle.std.specs.Prelude.{◌≡◌, ◌<◌, ◌^◌, ◌-◌, IfOk, IsPermutation, OnOk, false, filter_map, length, map, option_to_list, slice_get};
 ghost use Rattle.tl_county.specs.BodyOrder.{landmark_body_cmp, link_part, link_part_cmp};
 ghost use Rattle.tl_county.specs.ChartWords.{bodies_at};
 ghost use Rattle.tl_county.specs.County.{eight_land};
-ghost use Rattle.tl_county.specs.CountyRules.{lands};
 ghost use Rattle.tl_county.specs.CountyProps.{IsInOrder-prop};
+ghost use Rattle.tl_county.specs.CountyRules.{lands};
 ghost use Rattle.tl_county.specs.Orders.{IsInOrder, has_repeat};
+ghost use Rattle.tl_number.specs.Arrangement.{polygons_in_order};
 ghost use Rattle.tl_number.specs.Growth.{first_seen_after};
 ghost use Rattle.tl_number.specs.LandmarkItems.{landmark_place_cmp, lands_at, numbered_links, own_links, place_cmp_under};
 ghost use Rattle.tl_number.specs.Steps.{arrangement_of};
-ghost use Rattle.tl_number.specs.Arrangement.{polygons_in_order};
 ghost use Rattle.tl_number.specs.ViewFacts.{AreWhole, TellsLandmarks, link_bounds};
 
 use crate::arranged_tables::LandmarkTables;

@@ -2,25 +2,25 @@
 
 ghost use Rattle.std.specs.List.{AllByRecursion};
 ghost use Rattle.std.specs.Prelude.{◌<◌, ◌≡◌, ◌≤◌, ◌⊎◌, List, ℕ};
+ghost use Rattle.tl_cert.specs.MaskedCounty.{masked};
 ghost use Rattle.tl_county.specs.County.{County, county_of};
 ghost use Rattle.tl_county.specs.CountyRules.{AllKeysStandIn, IsCounty, polygon_keys, polygons_along};
-ghost use Rattle.tl_county.specs.Renumbering.{AreSame, Carries, Renumbering};
 ghost use Rattle.tl_county.specs.Limits.{most_records};
-ghost use Rattle.tl_cert.specs.MaskedCounty.{masked};
-ghost use Rattle.tl_layout.specs.Masked.{no_mask};
+ghost use Rattle.tl_county.specs.Packing.{packed};
+ghost use Rattle.tl_county.specs.Renumbering.{AreSame, Carries, Renumbering};
 ghost use Rattle.tl_layout.specs.declared.mask.Mask.{Mask};
-ghost use Rattle.tl_layout.specs.Limits.{IsWithinLimit, count_of_type};
-ghost use Rattle.tl_layout.specs.RecordText.{FitsRecord, text_of};
 ghost use Rattle.tl_layout.specs.declared.record_type.Record.{Record};
+ghost use Rattle.tl_layout.specs.Limits.{IsWithinLimit, count_of_type};
+ghost use Rattle.tl_layout.specs.Masked.{no_mask};
+ghost use Rattle.tl_layout.specs.RecordText.{FitsRecord, text_of};
 ghost use Rattle.tl_number.specs.Accepted.{IsAccepted, IsCanonicalOf, IsCanonicalThrough, IsRefusal, RecordsRefusal};
+ghost use Rattle.tl_number.specs.ArrangedCounty.{IsArranged};
 ghost use Rattle.tl_number.specs.Arrangement.{Arrangement, Arranges, arranged, ascending, renaming_of};
 ghost use Rattle.tl_number.specs.Canonical.{IsCanonical, IsArrangedList, IsTidyList, KeepsChainNumbers};
-ghost use Rattle.tl_county.specs.Packing.{packed};
-ghost use Rattle.tl_number.specs.ArrangedCounty.{IsArranged};
+ghost use Rattle.tl_number.specs.RecordNumbers.{greatest_number, numbers_of};
 ghost use Rattle.tl_number.specs.Sights.{IsSight, plain};
 ghost use Rattle.tl_number.specs.Tidy.{HasShapesApart, IsChoice, IsLeastChoice, arranged_list, numbered_choice};
 ghost use Rattle.tl_profile.specs.Choices.{choices};
-ghost use Rattle.tl_number.specs.RecordNumbers.{greatest_number, numbers_of};
 
 /// A list in the canonical order, packing and numbering is the packing of its county, whatever the choice of TLIDs and
 /// directions.

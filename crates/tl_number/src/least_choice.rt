@@ -5,16 +5,16 @@
 //! others that have the same are arranged and compared with it as texts, of which there are few: chains of one shape mostly differ in an
 //! address, a name or a code.
 
-ghost use Rattle.std.specs.Prelude.{◌≡◌, ◌<◌, ◌≤◌, cond, length, IfOk, IfSome, MatchOption};
-ghost use Rattle.std.specs.Ordering.{is_gt};
 ghost use Rattle.std.specs.declared.cmp.Ordering.TheVariants.{Equal};
+ghost use Rattle.std.specs.Ordering.{is_gt};
+ghost use Rattle.std.specs.Prelude.{◌≡◌, ◌<◌, ◌≤◌, cond, length, IfOk, IfSome, MatchOption};
 ghost use Rattle.tl_county.specs.CountyRules.{AllKeysStandIn, polygon_keys, polygons_along};
 ghost use Rattle.tl_number.specs.Arrangement.{arranged};
+ghost use Rattle.tl_number.specs.Canonical.{IsNotAfter};
 ghost use Rattle.tl_number.specs.LeastNumber.{IsLeastBelow, choice_list};
 ghost use Rattle.tl_number.specs.MovedSteps.{AgreeApart, AreWithin, other_way};
 ghost use Rattle.tl_number.specs.NumberedChoices.{moved};
 ghost use Rattle.tl_number.specs.Steps.{AreSteps, arrangement_of};
-ghost use Rattle.tl_number.specs.Canonical.{IsNotAfter};
 ghost use Rattle.tl_number.specs.Tidy.{IsLeastChoice, numbered_choice};
 ghost use Rattle.tl_number.specs.TypeOneOrder.{IsLeastFrom, IsLeastOne, ones_cmp};
 ghost use Rattle.tl_number.specs.ViewFacts.{NamesEachOnce};

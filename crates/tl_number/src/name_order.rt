@@ -3,10 +3,10 @@
 //! A use belongs to one name, so of two names with one content the one that is met first along the chains comes first, and one that is
 //! never met comes before both: a name has a rank, and no list of uses is made.
 
-ghost use Rattle.std.specs.Prelude.{◌≡◌, ◌<◌, ◌^◌, IfOk, OnOk, false, filter_map, length, map, option_to_list, slice_get};
 ghost use Rattle.std.specs.List.{range_with_len};
 ghost use Rattle.std.specs.Option.{option_cmp};
 ghost use Rattle.std.specs.Ordering.{nat_cmp};
+ghost use Rattle.std.specs.Prelude.{◌≡◌, ◌<◌, ◌^◌, IfOk, OnOk, false, filter_map, length, map, option_to_list, slice_get};
 ghost use Rattle.tl_county.specs.BodyOrder.{name_body_cmp};
 ghost use Rattle.tl_county.specs.ChartWords.{feats_of};
 ghost use Rattle.tl_county.specs.CountyRules.{feats};

@@ -88,9 +88,9 @@ pub struct LandmarkLinkRecords<'a, C: Chart, S: Standing> {
 }
 
 impl<C: Chart, S: Standing> RecordGroups for LandmarkLinkRecords<'_, C, S> {
-    ghost use Rattle.tl_number.specs.Views.{arranged_county};
     ghost use Rattle.tl_number.specs.CountyGroups.{type_8_together};
     ghost use Rattle.tl_number.specs.Groups.{HasRecords};
+    ghost use Rattle.tl_number.specs.Views.{arranged_county};
 
     type Item = Rec8;
 

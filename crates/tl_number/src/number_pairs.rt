@@ -1,14 +1,14 @@
 //! The renaming by which a county becomes its arrangement.
 
 ghost use Rattle.std.specs.Prelude.{◌≡◌, ◌<◌, ◌^◌, ℕ, List, IfOk, length, map};
-ghost use Rattle.tl_layout.specs.declared.type7.Body7.{Body7};
 ghost use Rattle.tl_county.specs.Entries.{entry_keys};
 ghost use Rattle.tl_county.specs.Renumbering.{Carries};
+ghost use Rattle.tl_layout.specs.declared.type7.Body7.{Body7};
 ghost use Rattle.tl_number.specs.Arrangement.{arranged_tlids, renaming_of, turned_tlids, under_cenid};
 ghost use Rattle.tl_number.specs.Growth.{numbered};
-ghost use Rattle.tl_number.specs.Views.{arranged_county, arrangement_in, source_of};
 ghost use Rattle.tl_number.specs.Steps.{AreSteps, arrangement_of};
 ghost use Rattle.tl_number.specs.ViewFacts.{AreReadAt};
+ghost use Rattle.tl_number.specs.Views.{arranged_county, arrangement_in, source_of};
 
 use crate::arranged::{Arranged, Standing, old_place};
 use crate::numbers::Numbers;

@@ -1,8 +1,8 @@
 //! Numbers by first appearance.
 
-ghost use Rattle.std.specs.Prelude.{◌≡◌, ◌∷◌, [], ◌<◌, ◌^◌, length, is_some, IfSome, Some, IfOk, OnOk, OnErr, slice_get};
 ghost use Rattle.std.specs.List.{position};
 ghost use Rattle.std.specs.Ordering.{is_eq};
+ghost use Rattle.std.specs.Prelude.{◌≡◌, ◌∷◌, [], ◌<◌, ◌^◌, length, is_some, IfSome, Some, IfOk, OnOk, OnErr, slice_get};
 ghost use Rattle.tl_county.specs.Orders.{stands_in};
 ghost use Rattle.tl_number.specs.Growth.{first_seen_after};
 

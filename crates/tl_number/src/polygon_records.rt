@@ -12,8 +12,8 @@ pub struct PolygonRecords<'a, C: Chart, S: Standing> {
 }
 
 impl<C: Chart, S: Standing> RecordGroups for PolygonRecords<'_, C, S> {
-    ghost use Rattle.tl_number.specs.Views.{arranged_county};
     ghost use Rattle.tl_number.specs.CountyGroups.{IsPolygonAt, type_p_by_number};
+    ghost use Rattle.tl_number.specs.Views.{arranged_county};
 
     type Item = RecP;
 

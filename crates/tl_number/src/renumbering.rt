@@ -1,10 +1,10 @@
 //! New numbers of old ones, by first appearance. What wasn't seen keeps its number.
 
-ghost use Rattle.std.specs.Prelude.{◌≡◌, ◌<◌, ◌^◌, length, map};
 ghost use Rattle.std.specs.Ordering.{nat_cmp};
-ghost use Rattle.tl_layout.specs.Numbers.{IsNumber};
+ghost use Rattle.std.specs.Prelude.{◌≡◌, ◌<◌, ◌^◌, length, map};
 ghost use Rattle.tl_county.specs.PolygonKeys.{key_cmp};
 ghost use Rattle.tl_county.specs.Renumbering.{image};
+ghost use Rattle.tl_layout.specs.Numbers.{IsNumber};
 ghost use Rattle.tl_number.specs.Arrangement.{under_cenid};
 ghost use Rattle.tl_number.specs.Growth.{numbered};
 

@@ -1,13 +1,13 @@
 //! Which of two arrangements of a county that have the same records of types 1 and 2 has the lesser text.
 
-ghost use Rattle.std.specs.Prelude.{◌≡◌};
 ghost use Rattle.std.specs.Cmp.Lexicographic.{slice_cmp};
-ghost use Rattle.std.specs.Ordering.{nat_cmp};
 ghost use Rattle.std.specs.declared.cmp.Ordering.TheVariants.{Equal};
-ghost use Rattle.tl_layout.specs.RecordText.{text_of};
-ghost use Rattle.tl_layout.specs.declared.record_type.Record.TheVariants.{Four, One};
+ghost use Rattle.std.specs.Ordering.{nat_cmp};
+ghost use Rattle.std.specs.Prelude.{◌≡◌};
 ghost use Rattle.tl_county.specs.Packing.{packed};
 ghost use Rattle.tl_county.specs.Renumbering.{AreSame};
+ghost use Rattle.tl_layout.specs.declared.record_type.Record.TheVariants.{Four, One};
+ghost use Rattle.tl_layout.specs.RecordText.{text_of};
 ghost use Rattle.tl_number.specs.CountyGroups.{type_1_by_chain, type_2_by_chain, type_4_by_chain};
 ghost use Rattle.tl_number.specs.RecordOrder.{groups_cmp, types_5_to_7_cmp, types_8_to_p_cmp};
 ghost use Rattle.tl_number.specs.Views.{arranged_county};

@@ -1,9 +1,9 @@
 //! Choices by their records of type 1, which stand before all others in a text. Those of a choice are told by its steps alone, so that
 //! nothing has to be arranged; and but for those among which an open place puts its step, all choices have the same.
 
-ghost use Rattle.std.specs.Prelude.{◌≡◌, ◌≢◌, ◌<◌, ◌+◌, Some, length, option_map};
-ghost use Rattle.std.specs.Option.{option_cmp};
 ghost use Rattle.std.specs.declared.cmp.Ordering.TheVariants.{Equal};
+ghost use Rattle.std.specs.Option.{option_cmp};
+ghost use Rattle.std.specs.Prelude.{◌≡◌, ◌≢◌, ◌<◌, ◌+◌, Some, length, option_map};
 ghost use Rattle.tl_county.specs.Packing.{packed_one};
 ghost use Rattle.tl_layout.specs.declared.record_type.Record.TheVariants.{One};
 ghost use Rattle.tl_number.specs.CountyGroups.{type_1_by_chain};

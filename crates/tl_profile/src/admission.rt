@@ -4,9 +4,9 @@ ghost use Rattle.std.specs.Prelude.{◌≡◌, ◌≢◌, IfOk, IfErr};
 ghost use Rattle.tl_county.specs.CountyRules.{is_without_chain};
 ghost use Rattle.tl_county.specs.Keyed.{IsLeastPassing};
 ghost use Rattle.tl_county.specs.PolygonKeys.{key_cmp};
+ghost use Rattle.tl_profile.specs.declared.fault.ProfileFault.TheVariants.{Memory};
 ghost use Rattle.tl_profile.specs.Profile.{AreAllOnSides, IsFirstBrokenClause, IsInProfile};
 ghost use Rattle.tl_profile.specs.ShapeOrder.{IsShapeOrder};
-ghost use Rattle.tl_profile.specs.declared.fault.ProfileFault.TheVariants.{Memory};
 
 use crate::fault::ProfileFault;
 use crate::open_places::MOST_CHOICES;

@@ -1,9 +1,9 @@
 //! Ways along the points of chains.
 
 ghost use Rattle.std.specs.Prelude.{◌≡◌, reverse, slice_get};
-ghost use Rattle.tl_shape.specs.PointOrder.{points_cmp};
-ghost use Rattle.tl_profile.specs.Shapes.{points_at};
 ghost use Rattle.tl_profile.specs.ShapeOrder.{points_along};
+ghost use Rattle.tl_profile.specs.Shapes.{points_at};
+ghost use Rattle.tl_shape.specs.PointOrder.{points_cmp};
 
 use std::cmp::Ordering;
 use tl_county::Chart;

@@ -5,8 +5,8 @@ ghost use Rattle.tl_county.specs.County.{County};
 ghost use Rattle.tl_county.specs.CountyRules.{IsCounty};
 ghost use Rattle.tl_county.specs.Renumbering.{AreSame};
 ghost use Rattle.tl_profile.specs.Choices.{choices};
-ghost use Rattle.tl_profile.specs.Profile.{IsFirstBrokenClause, IsInProfile};
 ghost use Rattle.tl_profile.specs.declared.fault.ProfileFault.{ProfileFault};
+ghost use Rattle.tl_profile.specs.Profile.{IsFirstBrokenClause, IsInProfile};
 
 /// A county lies in the profile, or one clause that it breaks is the first: not both, and not two.
 #[tactic(auto, using(crate::proofs::ProfileFaults::profile_has_none, crate::proofs::ProfileFaults::one_first_clause))]

@@ -3,13 +3,13 @@
 //! Chains of one shape are neighbours in that order. So one pass from the last shape to the first, which compares each with the next
 //! one, knows how many of the same are still to come.
 
-ghost use Rattle.std.specs.Prelude.{◌≡◌, ◌<◌, ◌≤◌, ◌+◌, ◌*◌, ◌^◌, [], ◌∷◌, ◌++◌, cond, length, map, min, reverse, suc, IfOk, OnOk};
 ghost use Rattle.std.specs.List.{AllByRecursion};
-ghost use Rattle.tl_shape.specs.PointOrder.{points_cmp};
+ghost use Rattle.std.specs.Prelude.{◌≡◌, ◌<◌, ◌≤◌, ◌+◌, ◌*◌, ◌^◌, [], ◌∷◌, ◌++◌, cond, length, map, min, reverse, suc, IfOk, OnOk};
 ghost use Rattle.tl_county.specs.Orders.{IsInOrder};
 ghost use Rattle.tl_profile.specs.Choices.{alike_first, choices, counted_choices, is_either_way, is_first, is_settled, most_choices, open_places, place_of, ways_at};
 ghost use Rattle.tl_profile.specs.PlacedShapes.{HasHead, placed_walk, whole_shape};
 ghost use Rattle.tl_profile.specs.ShapeOrder.{AreWalksInOrder};
+ghost use Rattle.tl_shape.specs.PointOrder.{points_cmp};
 
 use crate::shapes::{PlacedShape, compare_shapes};
 use std::alloc::{AllocError, Global};

@@ -1,7 +1,7 @@
 //! The order of a county's chains by their shapes.
 
-ghost use Rattle.std.specs.Prelude.{◌≡◌, map, IfOk};
 ghost use Rattle.std.specs.List.{AllByRecursion};
+ghost use Rattle.std.specs.Prelude.{◌≡◌, map, IfOk};
 ghost use Rattle.tl_profile.specs.PlacedShapes.{HasHead, placed_walk};
 ghost use Rattle.tl_profile.specs.ShapeOrder.{AreWalksInOrder, IsShapeOrder};
 

@@ -3,11 +3,11 @@
 //! Most shapes differ in their first two points, so these stand beside a chain's place and direction while chains are put in order, and
 //! the county is asked only where both are equal. After that chains of one shape are neighbours.
 
-ghost use Rattle.std.specs.Prelude.{◌≡◌, ◌<◌, length, map, IfOk, IsPermutation};
 ghost use Rattle.std.specs.List.{AllByRecursion};
+ghost use Rattle.std.specs.Prelude.{◌≡◌, ◌<◌, length, map, IfOk, IsPermutation};
 ghost use Rattle.tl_county.specs.Orders.{IsInOrder};
-ghost use Rattle.tl_profile.specs.ShapeOrder.{AreWalksInOrder, least_walk, least_walks};
 ghost use Rattle.tl_profile.specs.PlacedShapes.{HasHead, placed_cmp, placed_key_cmp, placed_walk};
+ghost use Rattle.tl_profile.specs.ShapeOrder.{AreWalksInOrder, least_walk, least_walks};
 
 use crate::chain_walk::{ChainWalk, compare_reverse, compare_walks, point_along};
 use std::alloc::{AllocError, Global};

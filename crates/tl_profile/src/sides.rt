@@ -6,8 +6,8 @@ ghost use Rattle.tl_county.specs.CountyRules.{is_without_chain, polygons_along};
 ghost use Rattle.tl_county.specs.Keyed.{IsLeastPassing};
 ghost use Rattle.tl_county.specs.Orders.{distinct};
 ghost use Rattle.tl_county.specs.PolygonKeys.{key_cmp};
-ghost use Rattle.tl_profile.specs.Profile.{AreAllOnSides, IsFirstBrokenClause};
 ghost use Rattle.tl_profile.specs.declared.fault.ProfileFault.TheVariants.{Memory};
+ghost use Rattle.tl_profile.specs.Profile.{AreAllOnSides, IsFirstBrokenClause};
 ghost use Rattle.tl_profile.specs.Sides.{key_if_bodied, keys_on, keys_with_body};
 
 use crate::fault::ProfileFault;

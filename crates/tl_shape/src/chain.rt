@@ -1,7 +1,7 @@
 //! Chains: a record of type 1 with all records of its TLID.
 
-ghost use Rattle.std.specs.Prelude.{◌≡◌, map};
 ghost use Rattle.std.specs.List.{AllByRecursion};
+ghost use Rattle.std.specs.Prelude.{◌≡◌, map};
 ghost use Rattle.tl_layout.specs.Numbers.{IsNumber, IsNumberOrNone};
 ghost use Rattle.tl_layout.specs.Turned.{turned_ranges};
 ghost use Rattle.tl_shape.specs.Turned.{IsTurned};

@@ -1,7 +1,7 @@
 //! Chains whose lists are lent.
 
-ghost use Rattle.std.specs.Prelude.{◌≡◌, ◌≤◌, length};
 ghost use Rattle.std.specs.List.{AllByRecursion};
+ghost use Rattle.std.specs.Prelude.{◌≡◌, ◌≤◌, length};
 ghost use Rattle.tl_layout.specs.Numbers.{IsNumber, IsNumberOrNone};
 
 use crate::chain::Surroundings;

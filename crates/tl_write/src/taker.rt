@@ -39,8 +39,8 @@ pub(crate) struct NoDevice;
 
 /// The records are listed behind those that stood there.
 impl RecordTaker<NoDevice> for Vec<Record> {
-    ghost use Rattle.tl_write.specs.Taking.{ListsRecords};
     ghost use Rattle.std.proofs.Common.{append-nil, sym};
+    ghost use Rattle.tl_write.specs.Taking.{ListsRecords};
     ghost use Rattle.tl_write.specs.TakingLaws.{lists_then};
 
     type Fault = AllocError;

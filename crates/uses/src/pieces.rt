@@ -1,7 +1,7 @@
 //! A file that comes in pieces, as off a network.
 
-ghost use Rattle.std.specs.Prelude.{◌∷◌, [], map, IfErr, IfOk};
 ghost use Rattle.std.specs.List.{concat};
+ghost use Rattle.std.specs.Prelude.{◌∷◌, [], map, IfErr, IfOk};
 ghost use Rattle.tl_load.specs.Choice.{tiger};
 ghost use Rattle.tl_load.specs.Loaded.{IsOfLines};
 ghost use Rattle.tl_load.specs.Outcome.{SpellsWithin, FaultAt};

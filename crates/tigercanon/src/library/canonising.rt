@@ -1,14 +1,14 @@
 //! A county put into canonical form, its text in memory, and the renaming onto it.
 
-ghost use Rattle.tl_number.specs.Views.{arranged_county, source_of};
 ghost use Rattle.std.specs.Prelude.{◌≡◌, ℕ, List, [], IfOk, IfErr};
 ghost use Rattle.tigercanon.specs.Sets.{IsCanonSetThrough, IsSeenSet};
+ghost use Rattle.tl_cert.specs.MaskedCounty.{masked};
 ghost use Rattle.tl_county.specs.County.{County};
 ghost use Rattle.tl_county.specs.Packing.{packed};
 ghost use Rattle.tl_county.specs.Renumbering.{Carries};
-ghost use Rattle.tl_cert.specs.MaskedCounty.{masked};
 ghost use Rattle.tl_layout.specs.RecordText.{text_of};
 ghost use Rattle.tl_number.specs.Sights.{IsSight, plain};
+ghost use Rattle.tl_number.specs.Views.{arranged_county, source_of};
 
 use crate::fault::Fault;
 use crate::library::judged::Judged;

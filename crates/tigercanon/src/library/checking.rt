@@ -1,8 +1,8 @@
 //! Whether a set is accepted.
 
-ghost use Rattle.tigercanon.specs.LentParts.{bytes_of_parts};
 ghost use Rattle.std.specs.Prelude.{◌≢◌, Err, List, OnOk, IfErr};
 ghost use Rattle.tigercanon.specs.Faults.{IsWantOfMemory, TellsRefusal};
+ghost use Rattle.tigercanon.specs.LentParts.{bytes_of_parts};
 ghost use Rattle.tigercanon.specs.Sets.{IsAcceptedSet};
 ghost use Rattle.tl_layout.specs.declared.record_type.Record.{Record};
 

@@ -1,19 +1,19 @@
 //! Whether two sets are one map, as they are or under a mask.
 
-ghost use Rattle.tigercanon.specs.LentParts.{bytes_of_parts};
-ghost use Rattle.tl_number.specs.Views.{arranged_county, source_of};
 ghost use Rattle.std.specs.Prelude.{◌≡◌, ◌≢◌, ◌⊎◌, Ok, Err, ℕ, List, map, IfOk, IfErr};
 ghost use Rattle.tigercanon.specs.Comparing.{AreDifferent, AreDifferentThrough, IsAcceptable, TellsMemoryOfAccepted, TellsRefusalOfOne};
+ghost use Rattle.tigercanon.specs.declared.fault.Fault.{Fault};
+ghost use Rattle.tigercanon.specs.declared.library.comparing.CompareFault.TheVariants.{Memory};
 ghost use Rattle.tigercanon.specs.Faults.{IsWantOfMemory, TellsRefusal};
+ghost use Rattle.tigercanon.specs.LentParts.{bytes_of_parts};
 ghost use Rattle.tigercanon.specs.Linked.{IsLinkedSet};
 ghost use Rattle.tigercanon.specs.Sets.{CarriesSet, CarriesSetThrough, IsCanonSetThrough, IsSeenSet};
-ghost use Rattle.tigercanon.specs.declared.library.comparing.CompareFault.TheVariants.{Memory};
-ghost use Rattle.tigercanon.specs.declared.fault.Fault.{Fault};
 ghost use Rattle.tl_cert.specs.MaskedCounty.{masked};
 ghost use Rattle.tl_county.specs.Packing.{packed};
 ghost use Rattle.tl_county.specs.Renumbering.{Carries, Renumbering};
 ghost use Rattle.tl_layout.specs.declared.record_type.Record.{Record};
 ghost use Rattle.tl_number.specs.Sights.{plain};
+ghost use Rattle.tl_number.specs.Views.{arranged_county, source_of};
 
 use crate::fault::Fault;
 use crate::library::canonising::{canonise_admitted, under_mask};

@@ -1,18 +1,18 @@
 //! The fingerprint of a map, by which it can be cited, as it is or under a mask.
 
-ghost use Rattle.tl_number.specs.Views.{arranged_county};
-ghost use Rattle.tigercanon.specs.LentParts.{bytes_of_parts};
-ghost use Rattle.std.specs.Prelude.{◌≡◌, ◌≢◌, ℕ, Err, List, map, IfOk, IfErr};
 ghost use Rattle.sha2.specs.Sha256.{sha256};
+ghost use Rattle.std.specs.Prelude.{◌≡◌, ◌≢◌, ℕ, Err, List, map, IfOk, IfErr};
 ghost use Rattle.tigercanon.specs.Faults.{IsWantOfMemory, RefusesRecords, TellsRefusal};
 ghost use Rattle.tigercanon.specs.Fingerprints.{IsFingerprint, IsFingerprintThrough};
+ghost use Rattle.tigercanon.specs.LentParts.{bytes_of_parts};
 ghost use Rattle.tigercanon.specs.Linked.{AreLinkedAs, IsLinkedSet};
 ghost use Rattle.tigercanon.specs.Sets.{IsAcceptedSet, IsSeenSet};
 ghost use Rattle.tl_cert.specs.MaskedCounty.{masked};
 ghost use Rattle.tl_county.specs.Packing.{packed};
-ghost use Rattle.tl_layout.specs.RecordText.{text_of};
 ghost use Rattle.tl_layout.specs.declared.record_type.Record.{Record};
+ghost use Rattle.tl_layout.specs.RecordText.{text_of};
 ghost use Rattle.tl_number.specs.Sights.{plain};
+ghost use Rattle.tl_number.specs.Views.{arranged_county};
 
 use crate::fault::Fault;
 use crate::library::canonising::{canonise_admitted, under_mask};

@@ -1,7 +1,7 @@
 //! A sink that hashes what it takes.
 
-ghost use Rattle.std.specs.Prelude.{◌≡◌, List, ℕ, []};
 ghost use Rattle.sha2.specs.Sha256.{sha256};
+ghost use Rattle.std.specs.Prelude.{◌≡◌, List, ℕ, []};
 
 use sha2::{Digest, Sha256};
 use tl_layout::DeviceFault;

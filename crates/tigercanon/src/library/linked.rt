@@ -1,16 +1,16 @@
 //! A set's records, linked, judged and put into canonical form where they stand.
 
-ghost use Rattle.tigercanon.specs.LentParts.{bytes_of_parts};
 ghost use Rattle.std.specs.Prelude.{◌≡◌, ◌≢◌, ℕ, Err, List, false, OnOk, IfOk, IfErr};
 ghost use Rattle.tigercanon.specs.Faults.{IsWantOfMemory, RefusesRecords, TellsRefusal};
+ghost use Rattle.tigercanon.specs.LentParts.{bytes_of_parts};
 ghost use Rattle.tigercanon.specs.Linked.{AreLinkedAs, IsLinkedSet};
 ghost use Rattle.tigercanon.specs.Normalising.{is_of_sink};
 ghost use Rattle.tigercanon.specs.Sets.{IsAcceptedSet, IsSeenSet};
 ghost use Rattle.tl_county.specs.County.{county_of};
 ghost use Rattle.tl_county.specs.Limits.{HoldsWithinLimits};
 ghost use Rattle.tl_county.specs.Packing.{type_after_type};
-ghost use Rattle.tl_layout.specs.Tables.{HoldsByType};
 ghost use Rattle.tl_layout.specs.declared.record_type.Record.{Record};
+ghost use Rattle.tl_layout.specs.Tables.{HoldsByType};
 ghost use Rattle.tl_number.specs.Accepted.{IsAccepted};
 ghost use Rattle.tl_number.specs.Sights.{plain};
 ghost use Rattle.tl_profile.specs.ShapeOrder.{IsShapeOrder};

@@ -1,20 +1,18 @@
 //! The canonical text of a set, as it is or under a mask.
 
-ghost use Rattle.tigercanon.specs.LentParts.{bytes_of_parts};
-ghost use Rattle.tl_number.specs.Views.{arranged_county};
 ghost use Rattle.std.specs.Prelude.{◌≡◌, ◌≢◌, ◌<◌, ◌+◌, ◌∷◌, [], Err, ℕ, List, All, true, false, length, map, IfOk, IfErr, if◌then◌else◌};
 ghost use Rattle.tigercanon.specs.Faults.{IsWantOfMemory, RefusesRecords, TellsRefusal};
+ghost use Rattle.tigercanon.specs.LentParts.{bytes_of_parts};
 ghost use Rattle.tigercanon.specs.Linked.{AreLinkedAs, IsLinkedSet};
-ghost use Rattle.tigercanon.specs.Normalising.{AreNormalised, AreNormalisedThrough, GoesOut, IsCutOff, IsCutOffThrough};
-ghost use Rattle.tigercanon.specs.Normalising.{IsOnlyText, IsOnlyTextThrough, StopsShort, TellsRead, Took, is_of_sink, is_stopped};
+ghost use Rattle.tigercanon.specs.Normalising.{AreNormalised, AreNormalisedThrough, GoesOut, IsCutOff, IsCutOffThrough, IsOnlyText, IsOnlyTextThrough, StopsShort, TellsRead, Took, is_of_sink, is_stopped};
 ghost use Rattle.tigercanon.specs.Reading.{AreRead, NoneFailed, OneFailed};
-ghost use Rattle.tigercanon.specs.Sets.{CarriesSet, CarriesSetThrough, IsAcceptedSet, IsCanonicalText, IsCanonicalTextThrough};
-ghost use Rattle.tigercanon.specs.Sets.{IsOneCanonicalText, IsOneCanonicalTextThrough, IsSeenSet};
+ghost use Rattle.tigercanon.specs.Sets.{CarriesSet, CarriesSetThrough, IsAcceptedSet, IsCanonicalText, IsCanonicalTextThrough, IsOneCanonicalText, IsOneCanonicalTextThrough, IsSeenSet};
 ghost use Rattle.tl_cert.specs.MaskedCounty.{masked};
 ghost use Rattle.tl_county.specs.Packing.{packed};
-ghost use Rattle.tl_layout.specs.RecordText.{text_of};
 ghost use Rattle.tl_layout.specs.declared.record_type.Record.{Record};
+ghost use Rattle.tl_layout.specs.RecordText.{text_of};
 ghost use Rattle.tl_number.specs.Sights.{plain};
+ghost use Rattle.tl_number.specs.Views.{arranged_county};
 ghost use Rattle.tl_write.specs.declared.fault.WriteFault.{WriteFault};
 
 use crate::fault::Fault;

@@ -1,8 +1,8 @@
 //! Records in canonical spelling, in the order of their lines.
 
-ghost use Rattle.tigercanon.specs.LentParts.{bytes_of_parts};
 ghost use Rattle.std.specs.Prelude.{◌≢◌, Err, List, IfOk, IfErr};
 ghost use Rattle.tigercanon.specs.Faults.{TellsFirstFault, IsWantOfMemory};
+ghost use Rattle.tigercanon.specs.LentParts.{bytes_of_parts};
 ghost use Rattle.tigercanon.specs.Respelling.{record_limit, IsRespelt};
 ghost use Rattle.tl_layout.specs.declared.record_type.Record.{Record};
 ghost use Rattle.tl_load.specs.Choice.{tiger};

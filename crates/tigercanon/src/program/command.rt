@@ -1,10 +1,9 @@
 //! The commands that the program understands, as its help tells them.
 
-ghost use Rattle.clap.specs.Words.{app_of, rule_of, with_subcommand};
 ghost use Rattle.clap.specs.declared.builder.command.Command.TheViews.{out-Command};
+ghost use Rattle.clap.specs.Words.{app_of, rule_of, with_subcommand};
 ghost use Rattle.std.specs.Prelude.{◌≡◌, IfOk, codes, false};
-ghost use Rattle.tigercanon.specs.Grammar.{over_one_set, over_two_sets, program_alone, reserved_flag, set_argument, sources_flag};
-ghost use Rattle.tigercanon.specs.Grammar.{stem_flag, understood, with_mask};
+ghost use Rattle.tigercanon.specs.Grammar.{over_one_set, over_two_sets, program_alone, reserved_flag, set_argument, sources_flag, stem_flag, understood, with_mask};
 
 use clap::{Arg, ArgAction, Command};
 use std::alloc::{AllocError, Global};

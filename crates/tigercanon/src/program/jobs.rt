@@ -11,13 +11,13 @@ ghost use Rattle.tigercanon.specs.Outcomes.{HoldsAccepted, IsAnswered, Leaves, P
 ghost use Rattle.tigercanon.specs.Reading.{AreRead, NoneFailed};
 ghost use Rattle.tigercanon.specs.Respelling.{IsRespelt, record_limit};
 ghost use Rattle.tigercanon.specs.Sets.{IsCanonicalTextThrough, SaysAccepted};
+ghost use Rattle.tigercanon.specs.TwoSets.{IsDifferent, IsDone, LeavesStopped};
 ghost use Rattle.tl_cert.specs.MaskedCounty.{masked};
+ghost use Rattle.tl_layout.specs.declared.record_type.Record.{Record};
 ghost use Rattle.tl_layout.specs.Masked.{no_mask};
 ghost use Rattle.tl_layout.specs.Tables.{HoldsByType};
-ghost use Rattle.tl_layout.specs.declared.record_type.Record.{Record};
 ghost use Rattle.tl_load.specs.Choice.{tiger};
 ghost use Rattle.tl_load.specs.Outcome.{SpellsWithin};
-ghost use Rattle.tigercanon.specs.TwoSets.{IsDifferent, IsDone, LeavesStopped};
 
 use crate::fault::Fault;
 use crate::library::fingerprinting::fingerprint_linked;

@@ -1,12 +1,12 @@
 //! Reading the words of a command line.
 
-ghost use Rattle.clap.specs.Words.{Text, first_of, found_of, kind_of, rows_of};
 ghost use Rattle.clap.specs.declared.error.kind.ErrorKind.TheVariants.{OutOfMemory};
+ghost use Rattle.clap.specs.Words.{Text, first_of, found_of, kind_of, rows_of};
 ghost use Rattle.std.specs.Prelude.{◌≡◌, Bool, List, Some, IfErr, IfOk, IfSome, OnOk, map, string_bytes};
-ghost use Rattle.tigercanon.specs.Names.{AreFilesOf, AreSecondOf, AreUnderstood, IsMaskGiven, IsPlanned, NamesItsSets};
-ghost use Rattle.tigercanon.specs.declared.program.command_line.Plan.{Plan};
-ghost use Rattle.tigercanon.specs.Words.{word_of};
 ghost use Rattle.tigercanon.specs.declared.program.command_line.Job.{Job};
+ghost use Rattle.tigercanon.specs.declared.program.command_line.Plan.{Plan};
+ghost use Rattle.tigercanon.specs.Names.{AreFilesOf, AreSecondOf, AreUnderstood, IsMaskGiven, IsPlanned, NamesItsSets};
+ghost use Rattle.tigercanon.specs.Words.{word_of};
 
 use crate::program::command::{FIRST, NO_RESERVED, NO_SOURCES, SECOND, STEM, command};
 use crate::program::command_line::{Job, Plan, PlanFault};

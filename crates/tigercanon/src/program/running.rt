@@ -6,8 +6,7 @@ ghost use Rattle.tigercanon.specs.Devices.{set_of_sources, to_sink};
 ghost use Rattle.tigercanon.specs.Files.{AreSourcesOf, IsMissing};
 ghost use Rattle.tigercanon.specs.Outcomes.{TellsLine, TellsLineTo};
 ghost use Rattle.tigercanon.specs.Reading.{NoneFailed, SomeUnread};
-ghost use Rattle.tigercanon.specs.Running.{IsMissingOne, IsRefusedBy, NamesMissing, PrintsDifferent, PrintsDone, PrintsSome};
-ghost use Rattle.tigercanon.specs.Running.{TellsMissing, TellsWhy, set_of_files};
+ghost use Rattle.tigercanon.specs.Running.{IsMissingOne, IsRefusedBy, NamesMissing, PrintsDifferent, PrintsDone, PrintsSome, TellsMissing, TellsWhy, set_of_files};
 ghost use Rattle.tigercanon.specs.Stopping.{set_of_job};
 ghost use Rattle.tigercanon.specs.TwoSets.{IsDifferent, IsDone, IsToldWhy};
 

@@ -1,23 +1,22 @@
 //! Comparing two sets that sources give.
 
-ghost use Rattle.tl_number.specs.Views.{arranged_county, source_of};
 ghost use Rattle.std.specs.Prelude.{◌≡◌, ◌≢◌, ◌<◌, ◌⊎◌, All, Ok, Some, ℕ, List, [], IfOk, IfErr, IfSome};
 ghost use Rattle.tigercanon.specs.Comparing.{AreDifferentThrough, AreOneMapThrough, IsAcceptable};
 ghost use Rattle.tigercanon.specs.Devices.{TellsNoDevice, set_of_sources, to_sink};
-ghost use Rattle.tigercanon.specs.Reading.{NoneFailed};
 ghost use Rattle.tigercanon.specs.Faults.{TellsRefusalOfRead};
 ghost use Rattle.tigercanon.specs.Linked.{IsLinkedSet};
 ghost use Rattle.tigercanon.specs.Outcomes.{Prints};
+ghost use Rattle.tigercanon.specs.Reading.{NoneFailed};
 ghost use Rattle.tigercanon.specs.Respelling.{record_limit};
 ghost use Rattle.tigercanon.specs.Sets.{IsCanonSetThrough, IsSeenSet};
-ghost use Rattle.tigercanon.specs.TwoSets.{IsLineDifferent, IsLineSame, LeavesComparison};
-ghost use Rattle.tigercanon.specs.TwoSets.{OfTwoSets, TellsOne, line_of_ending, where_ended};
+ghost use Rattle.tigercanon.specs.TwoSets.{IsLineDifferent, IsLineSame, LeavesComparison, OfTwoSets, TellsOne, line_of_ending, where_ended};
 ghost use Rattle.tl_cert.specs.MaskedCounty.{masked};
 ghost use Rattle.tl_county.specs.Packing.{packed};
 ghost use Rattle.tl_layout.specs.Tables.{HoldsByType};
-ghost use Rattle.tl_number.specs.Sights.{plain};
 ghost use Rattle.tl_load.specs.Keeping.{WasFedInto};
 ghost use Rattle.tl_load.specs.Loaded.{IsNotDevice};
+ghost use Rattle.tl_number.specs.Sights.{plain};
+ghost use Rattle.tl_number.specs.Views.{arranged_county, source_of};
 
 use crate::fault::Fault;
 use crate::library::canonising::{canonise_admitted, under_mask};

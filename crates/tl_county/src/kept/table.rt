@@ -1,8 +1,8 @@
 //! Tables: values under ascending keys.
 
-ghost use Rattle.std.specs.Prelude.{◌≡◌, List, Some, length, map, is_some, IfSome, slice_get, option_map};
 ghost use Rattle.std.specs.List.Sorted.{IsStrictlySortedBy};
 ghost use Rattle.std.specs.Option.{option_copied};
+ghost use Rattle.std.specs.Prelude.{◌≡◌, List, Some, length, map, is_some, IfSome, slice_get, option_map};
 ghost use Rattle.tl_county.specs.Entries.{entry_keys, entry_values, value_under};
 ghost use Rattle.tl_county.specs.Orders.{stands_in};
 
@@ -17,9 +17,9 @@ pub(crate) struct Table<K: Key, V> {
 }
 
 impl<K: Key, V> Model for Table<K, V> {
-    ghost use Rattle.std.specs.Prelude.{◌≡◌, List, length};
     ghost use Rattle.std.specs.List.{zip};
     ghost use Rattle.std.specs.List.Sorted.{IsStrictlySortedBy};
+    ghost use Rattle.std.specs.Prelude.{◌≡◌, List, length};
 
     ghost Value = { List (K × V) };
 

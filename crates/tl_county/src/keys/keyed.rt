@@ -1,9 +1,8 @@
 //! Lists of what has a key, in the order of their keys.
 
-ghost use Rattle.std.specs.Prelude.{◌≡◌, List, map, filter, not, false, true, Some, None, OnOk, IfOk, IfSome};
-ghost use Rattle.std.specs.Prelude.{IsPermutation, slice_get, is_some};
-ghost use Rattle.std.specs.Ordering.{on, is_eq, is_gt, is_lt};
 ghost use Rattle.std.specs.declared.cmp.Ordering.TheVariants.{Equal};
+ghost use Rattle.std.specs.Ordering.{on, is_eq, is_gt, is_lt};
+ghost use Rattle.std.specs.Prelude.{◌≡◌, List, map, filter, not, false, true, Some, None, OnOk, IfOk, IfSome, IsPermutation, slice_get, is_some};
 ghost use Rattle.tl_county.specs.Keyed.{IsLeastPassing, is_repeated, is_unknown};
 ghost use Rattle.tl_county.specs.Orders.{IsInOrder, distinct, stands_in};
 

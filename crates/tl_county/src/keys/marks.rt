@@ -1,7 +1,7 @@
 //! Marks by number. Where a number has a mark, one reading tells that it stands in a list.
 
-ghost use Rattle.std.specs.Prelude.{◌≡◌, ◌≤◌, ◌*◌, length, IfOk};
 ghost use Rattle.std.specs.Ordering.{nat_cmp};
+ghost use Rattle.std.specs.Prelude.{◌≡◌, ◌≤◌, ◌*◌, length, IfOk};
 ghost use Rattle.tl_county.specs.Marks.{AreMarksOf};
 ghost use Rattle.tl_county.specs.Orders.{IsInOrder, stands_in};
 

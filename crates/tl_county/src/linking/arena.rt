@@ -1,7 +1,7 @@
 //! The parts of a county in an arena: each list is a final slice of it. What grows stands in ordinary memory.
 
-ghost use Rattle.std.specs.Prelude.{◌≡◌, ◌∷◌, [], ◌++◌, IfOk, flat_map, map};
 ghost use Rattle.std.specs.List.{AllByRecursion};
+ghost use Rattle.std.specs.Prelude.{◌≡◌, ◌∷◌, [], ◌++◌, IfOk, flat_map, map};
 ghost use Rattle.tl_layout.specs.Fields.{Fields2, Fields4, Fields5, Fields6};
 ghost use Rattle.tl_layout.specs.Numbers.{IsNumber};
 

@@ -1,8 +1,8 @@
 //! What linking gathers from tables in order: uses of names, linked polygons, and all polygons with their places on sides.
 
-ghost use Rattle.std.specs.Prelude.{◌≡◌, ◌++◌, map, flat_map, OnOk, IfOk, IsPermutation};
 ghost use Rattle.std.specs.List.Sorted.{IsStrictlySortedBy};
 ghost use Rattle.std.specs.Ordering.{on};
+ghost use Rattle.std.specs.Prelude.{◌≡◌, ◌++◌, map, flat_map, OnOk, IfOk, IsPermutation};
 ghost use Rattle.tl_county.specs.BodyOrder.{bytes_cmp};
 ghost use Rattle.tl_county.specs.County.{link_key, p_key, side_keys};
 ghost use Rattle.tl_county.specs.Keyed.{IsLeastPassing, is_unknown};

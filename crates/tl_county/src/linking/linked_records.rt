@@ -1,16 +1,16 @@
 //! Records that fit together, in order, and the counties that are built of them.
 
 ghost use Rattle.std.specs.Prelude.{◌≡◌, ◌≢◌, List, IfOk, IfErr};
-ghost use Rattle.tl_layout.specs.Tables.{HoldsByType};
-ghost use Rattle.tl_layout.specs.declared.record_type.Record.{Record};
 ghost use Rattle.tl_county.specs.County.{county_of};
 ghost use Rattle.tl_county.specs.CountyRules.{is_without_chain};
+ghost use Rattle.tl_county.specs.declared.fault.LinkFault.TheVariants.{Memory};
 ghost use Rattle.tl_county.specs.Keyed.{IsLeastPassing};
 ghost use Rattle.tl_county.specs.Limits.{HoldsWithinLimits};
 ghost use Rattle.tl_county.specs.LinkRules.{IsFirstBrokenRule, IsLinked};
 ghost use Rattle.tl_county.specs.Packing.{type_after_type};
 ghost use Rattle.tl_county.specs.PolygonKeys.{key_cmp};
-ghost use Rattle.tl_county.specs.declared.fault.LinkFault.TheVariants.{Memory};
+ghost use Rattle.tl_layout.specs.declared.record_type.Record.{Record};
+ghost use Rattle.tl_layout.specs.Tables.{HoldsByType};
 
 use crate::chart::Chart;
 use crate::fault::LinkFault;

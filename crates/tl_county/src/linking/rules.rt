@@ -1,18 +1,18 @@
 //! The rules by which records fit together, over tables in order.
 
-ghost use Rattle.std.specs.Prelude.{◌≡◌, false, true, List, map, flat_map, ◌++◌, MatchResult, IfOk, OnOk, IsPermutation};
 ghost use Rattle.std.specs.Ordering.{nat_cmp};
+ghost use Rattle.std.specs.Prelude.{◌≡◌, false, true, List, map, flat_map, ◌++◌, MatchResult, IfOk, OnOk, IsPermutation};
 ghost use Rattle.tl_county.specs.County.{link_key, five_feat, i_tlid, one_tlid, p_key, side_keys};
 ghost use Rattle.tl_county.specs.Keyed.{IsLeastPassing, is_repeated};
 ghost use Rattle.tl_county.specs.Marks.{AllNamed, AreMarksOf, AreNamed};
-ghost use Rattle.tl_county.specs.PolygonKeys.{key_cmp};
-ghost use Rattle.tl_county.specs.SequenceKeys.{is_unnamed, sequence_cmp, uses_of};
-ghost use Rattle.tl_layout.specs.declared.record_type.Record.{Record};
 ghost use Rattle.tl_county.specs.OrderedTables.{typed_of, AreInOrder};
 ghost use Rattle.tl_county.specs.Orders.{IsInOrder, distinct};
 ghost use Rattle.tl_county.specs.Packing.{by_type};
+ghost use Rattle.tl_county.specs.PolygonKeys.{key_cmp};
 ghost use Rattle.tl_county.specs.RepeatedKeys.{AreLeastRepeated};
 ghost use Rattle.tl_county.specs.RuleOrder.{RulesHold, IsFirstFrom};
+ghost use Rattle.tl_county.specs.SequenceKeys.{is_unnamed, sequence_cmp, uses_of};
+ghost use Rattle.tl_layout.specs.declared.record_type.Record.{Record};
 
 use crate::fault::{LinkFault, LinkedType, SequencedType};
 use crate::keys::keyed::{least_repeated, least_unknown, place_of};

@@ -3,8 +3,8 @@
 //! Each table is put in order once, by std's stable sort; a table that is in order already is read once. The walk that finds it in
 //! order also tells its keys, or the least key that stands twice.
 
-ghost use Rattle.std.specs.Prelude.{◌≡◌, map, OnOk, IfOk};
 ghost use Rattle.std.specs.Ordering.{nat_cmp, on};
+ghost use Rattle.std.specs.Prelude.{◌≡◌, map, OnOk, IfOk};
 ghost use Rattle.tl_county.specs.BodyOrder.{link_cmp};
 ghost use Rattle.tl_county.specs.County.{five_feat, i_tlid, one_tlid, p_key};
 ghost use Rattle.tl_county.specs.Keyed.{IsLeastPassing, is_repeated};
