@@ -6,6 +6,7 @@
 //! [`normalise_masked`] and its like. [`respell`] gives records in canonical spelling, and [`check`] says whether a set is accepted.
 //! [`plan`] reads a command line, and [`run`] does what was planned, over files that somebody else opened; the crate
 //! `tigercanon_main` is the program around the two.
+//! Proved callers stand in `alike.rt` and `citing.rt` of the crate `uses`.
 #![tactic(auto)]
 
 mod fault;

@@ -4,6 +4,7 @@
 //! call goes by `link_in_order` and then `LinkedRecords::county`, which leaves the records where they are. A county is read by its
 //! getters, and in whatever way it is kept by the calls of `Chart`, which answer by place (`tlid_at`), by number (`chain_body_of`),
 //! and at a place that is known to be there (`tlid_there`). Another way to keep a county is another `impl Chart`.
+//! A proved caller stands in `layers.rt` of the crate `uses`.
 #![tactic(auto)]
 
 mod body_order;

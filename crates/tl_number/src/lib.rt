@@ -4,6 +4,7 @@
 //! out don't count; whoever needs no renaming, or has the order of the chains by their shapes from admission, calls `canonise_chart`
 //! or `canonise_in_order`. What they answer is a `CanonCounty`, which is a `Chart`, and tells `polygon_by_number`, `links` and
 //! `renaming` beside. `arrange` makes a county in an arrangement of one's own, and `Numbers` are numbers by first appearance.
+//! A proved caller stands in `layers.rt` of the crate `uses`.
 //!
 //! Whoever wants the records of an arranged county in their order is a `RecordTaker`, to whom `give_records` hands them on one after
 //! the other; or reads those of one type from a `RecordGroups`, group by group.

@@ -7,6 +7,7 @@
 //! A caller starts with `admit`, or with `admit_in` for a county in an arena; `admit_chart` takes a county that is kept otherwise. A
 //! whole call goes by `admit_linked`, which is told by linking which polygon is on no side, and takes the order of the chains by their
 //! shapes along as a `ShapeOrder`. Whoever holds an `Admitted` need not ask again. `point_along` reads a chain along a `ChainWalk`.
+//! A proved caller stands in `layers.rt` of the crate `uses`.
 #![tactic(auto)]
 
 mod admission;

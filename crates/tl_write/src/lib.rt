@@ -3,6 +3,7 @@
 //! A caller who has a canonical county writes its text by `write_to`, to whatever is a `Sink`: a writer in a `CountedOut`, a slice in a
 //! `SlowSink`, or a sink of one's own. `records_of` answers its records as a list, `same_records` compares two canonical counties
 //! without making any, and `write_bytes` writes bytes that are there already.
+//! A proved caller stands in `layers.rt` of the crate `uses`.
 #![tactic(auto)]
 
 mod bytes_out;
