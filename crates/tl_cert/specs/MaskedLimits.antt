@@ -11,7 +11,7 @@ use Rattle.tl_layout.specs.Type1Groups.{FitsBody1}
 use Rattle.tl_layout.specs.Type7.{FitsType7}
 use Rattle.tl_layout.specs.TypeI.{FitsTypeI}
 use Rattle.tl_layout.specs.declared.mask.Mask.{Mask}
-use Rattle.tl_layout.specs.declared.type1.Body1.{Body1}
+use Rattle.tl_layout.specs.declared.type1.Body1Fields.{Body1Fields}
 use Rattle.tl_layout.specs.declared.type7.Body7.{Body7}
 use Rattle.tl_layout.specs.declared.type_i.BodyI.{BodyI}
 use Rattle.tl_shape.specs.Chain.{Chain}
@@ -34,7 +34,7 @@ hidden_fits true width text t = blanks_are_text width
 hidden_fits false width text t = t
 
 module _ (mask : Mask) where
-  body_1_fits : (body : Body1) → FitsBody1 body → FitsBody1 (masked_body_1 mask body)
+  body_1_fits : (body : Body1Fields) → FitsBody1 body → FitsBody1 (masked_body_1 mask body)
   body_1_fits body f = record {
     side1 = f.side1;
     source = hidden_fits mask.sources 1 body.source f.source;

@@ -1,5 +1,5 @@
 -- What stands in the columns of a line that texts of those widths make.
-use Rattle.std.proofs.Common.{◌≡◌, ℕ, ◌+◌, ◌-◌, ◌≤◌, List, [], ◌∷◌, ◌++◌, length, drop, refl, sym, ap, ◌∙◌, arith, append_assoc, IsTrue}
+use Rattle.std.proofs.Common.{◌≡◌, ℕ, ◌+◌, ◌-◌, ◌≤◌, List, [], ◌∷◌, ◌++◌, length, take, drop, refl, sym, ap, ◌∙◌, arith, append_assoc, subst, IsTrue}
 use Rattle.std.proofs.lemmas.List.{append-nil, length-drop, length-take-le}
 use Rattle.std.proofs.lemmas.List.Elements.{All-drop, All-take}
 use Rattle.tl_layout.specs.Bytes.{IsText, AreAllowed, is_allowed, columns}
@@ -12,19 +12,24 @@ joined-before before (text ∷ texts) =
     joined-before (before ++ text) texts ∙ (append_assoc before text (joined [] texts)
     ∙ ap (λ (l : List ℕ). before ++ l) (sym (joined-before text texts)))
 
+-- a part of a text is a text of its width
+pub part_of_text : (len : ℕ) (text : List ℕ) → IsText len text → (at width : ℕ) → at + width ≤ len → IsText width (take width (drop at text))
+unfolding AreAllowed
+part_of_text len text t at width within =
+    let text_len = t.len in
+    let dropped = length-drop at text in
+    record {
+      len = length-take-le width (drop at text) (omega arith);
+      allowed = All-take (λ b. IsTrue (is_allowed b)) width (drop at text) (All-drop (λ b. IsTrue (is_allowed b)) at text t.allowed);
+    }
+
 -- columns of a line are a text of their width
 pub columns_text : (first last len : ℕ) (line : List ℕ) → IsText len line → 1 ≤ first → first ≤ last + 1 → last ≤ len
     → IsText (last + 1 - first) (columns first last line)
-unfolding AreAllowed
 columns_text first last len line t f l m =
-    let line_len = t.len in
-    let dropped = length-drop (first - 1) line in
-    let shorter : last - (first - 1) ≤ length (drop (first - 1) line) = omega arith in
-    record {
-      len = length-take-le (last - (first - 1)) (drop (first - 1) line) shorter ∙ omega arith;
-      allowed = All-take (λ b. IsTrue (is_allowed b)) (last - (first - 1)) (drop (first - 1) line)
-          (All-drop (λ b. IsTrue (is_allowed b)) (first - 1) line t.allowed);
-    }
+    let same : last - (first - 1) ≡ last + 1 - first = omega arith in
+    subst (λ (width : ℕ). IsText width (columns first last line)) same
+    (part_of_text len line t (first - 1) (last - (first - 1)) (omega arith))
 
 -- columns of allowed bytes are a text of their width
 pub columns_of_width : (first last width : ℕ) (line : List ℕ) → AreAllowed line → 1 ≤ first → last ≤ length line → last + 1 ≡ first + width

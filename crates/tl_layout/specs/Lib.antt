@@ -42,6 +42,10 @@ pub mod Type2
 pub mod Type4
 pub mod Type4Laws
 pub mod TypeLaws
+pub mod Pieces
+pub mod PieceLaws
+pub mod Type1Columns
+pub mod Type1ColumnLaws
 pub mod RecordText
 pub mod RecordLaws
 pub mod Limits

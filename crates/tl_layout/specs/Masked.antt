@@ -3,7 +3,7 @@ use Rattle.std.specs.Prelude.{false}
 use Rattle.tl_layout.specs.Bytes.{blanks_if}
 use Rattle.tl_layout.specs.Fields.{Fields1, Fields7, FieldsI}
 use Rattle.tl_layout.specs.declared.mask.Mask.{Mask}
-use Rattle.tl_layout.specs.declared.type1.Body1.{Body1}
+use Rattle.tl_layout.specs.declared.type1.Body1Fields.{Body1Fields}
 use Rattle.tl_layout.specs.declared.type7.Body7.{Body7}
 use Rattle.tl_layout.specs.declared.type_i.BodyI.{BodyI}
 
@@ -12,7 +12,7 @@ abbrev pub no_mask : Mask
 no_mask = record { sources = false; reserved = false }
 
 -- SOURCE tells of sources; CENSUS1 and CENSUS2 are reserved
-abbrev pub masked_body_1 : Mask → Body1 → Body1
+abbrev pub masked_body_1 : Mask → Body1Fields → Body1Fields
 masked_body_1 mask body =
     record {
       side1 = body.side1;

@@ -3,7 +3,7 @@ use Rattle.std.specs.Prelude.{ℕ}
 use Rattle.tl_layout.specs.Fields.{Fields1, Fields6, FieldsI}
 use Rattle.tl_layout.specs.declared.pair.LeftRight.{LeftRight}
 use Rattle.tl_layout.specs.declared.ranges.Ranges.{Ranges}
-use Rattle.tl_layout.specs.declared.type1.Body1.{Body1}
+use Rattle.tl_layout.specs.declared.type1.Body1Fields.{Body1Fields}
 use Rattle.tl_layout.specs.declared.type1.NativeAreas.{NativeAreas}
 use Rattle.tl_layout.specs.declared.type1.GeographicEntities.{GeographicEntities}
 
@@ -42,7 +42,7 @@ turned_entities entities =
     }
 
 -- SIDE1, SOURCE, the name, CFCC, CENSUS1 and CENSUS2 stay
-abbrev pub turned_body : Body1 → Body1
+abbrev pub turned_body : Body1Fields → Body1Fields
 turned_body body =
     record {
       side1 = body.side1;

@@ -9,7 +9,7 @@ use Rattle.tl_layout.specs.Names.{FitsName, feature_name_at, name_texts}
 use Rattle.tl_layout.specs.AddressRanges.{FitsRanges, ranges_at, ranges_texts}
 use Rattle.tl_layout.specs.declared.type1.NativeAreas.{NativeAreas}
 use Rattle.tl_layout.specs.declared.type1.GeographicEntities.{GeographicEntities}
-use Rattle.tl_layout.specs.declared.type1.Body1.{Body1}
+use Rattle.tl_layout.specs.declared.type1.Body1Fields.{Body1Fields}
 
 pub record FitsNativeAreas (areas : NativeAreas) : Type 0 where
   pub aianhhfp : FitsPair 5 areas.aianhhfp
@@ -25,7 +25,7 @@ pub record FitsEntities (entities : GeographicEntities) : Type 0 where
   pub block : FitsPair 4 entities.block
 
 -- the content has fields of their widths
-pub record FitsBody1 (body : Body1) : Type 0 where
+pub record FitsBody1 (body : Body1Fields) : Type 0 where
   pub side1 : IsText 1 body.side1
   pub source : IsText 1 body.source
   pub name : FitsName body.name
@@ -50,7 +50,7 @@ entities_at line =
     }
 
 -- the content in the columns of a line
-unfoldable pub body_1_at : List ℕ → Body1
+unfoldable pub body_1_at : List ℕ → Body1Fields
 body_1_at line =
     record {
       side1 = columns 16 16 line;
@@ -71,7 +71,7 @@ entities_texts entities =
     ++ pair_texts 5 entities.place ++ pair_texts 6 entities.tract ++ pair_texts 4 entities.block
 
 -- the texts of the content
-abbrev pub body_1_texts : Body1 → List (List ℕ)
+abbrev pub body_1_texts : Body1Fields → List (List ℕ)
 body_1_texts body =
     body.side1 ∷ body.source ∷ (name_texts body.name ++ body.cfcc ∷ ranges_texts body.ranges ++ pair_texts 5 body.native_areas.aianhhfp
     ++ pair_texts 1 body.native_areas.aihhtli ++ body.census1 ∷ body.census2 ∷ entities_texts body.entities)

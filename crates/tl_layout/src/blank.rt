@@ -31,9 +31,11 @@ impl Blank for Body1 {
     ghost masked = { masked_body_1 };
 
     fn blank(&mut self, mask: Mask) {
-        self.source.blank_if(mask.sources);
-        self.census1.blank_if(mask.reserved);
-        self.census2.blank_if(mask.reserved);
+        let mut fields = self.fields();
+        fields.source.blank_if(mask.sources);
+        fields.census1.blank_if(mask.reserved);
+        fields.census2.blank_if(mask.reserved);
+        *self = Body1::of(&fields);
     }
 
     ghost blanks_once = { masked_twice_1 };

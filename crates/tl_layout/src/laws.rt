@@ -3,7 +3,7 @@
 ghost use Rattle.std.specs.Prelude.{◌≡◌};
 ghost use Rattle.tl_layout.specs.ColumnTable.{MasksRows, TurnsRows};
 ghost use Rattle.tl_layout.specs.declared.mask.Mask.{Mask};
-ghost use Rattle.tl_layout.specs.declared.type1.Body1.{Body1};
+ghost use Rattle.tl_layout.specs.declared.type1.Body1Fields.{Body1Fields};
 ghost use Rattle.tl_layout.specs.Fields.{Fields1, Fields2, Fields4, Fields5, Fields6, Fields7, Fields8, FieldsI, FieldsP};
 ghost use Rattle.tl_layout.specs.Masked.{masked_body_1, masked_type_1, masked_type_7, masked_type_i};
 ghost use Rattle.tl_layout.specs.RecordTables.{table_1, table_2, table_4, table_5, table_6, table_7, table_8, table_i, table_p};
@@ -32,5 +32,5 @@ pub fn a_mask_blanks_its_fields()
 
 /// Blanking the content of a record of type 1 and turning it may change places.
 pub fn blanking_and_turning_change_places()
-    ensures { (mask : Mask) (body : Body1) → turned_body (masked_body_1 mask body) ≡ masked_body_1 mask (turned_body body) }
+    ensures { (mask : Mask) (body : Body1Fields) → turned_body (masked_body_1 mask body) ≡ masked_body_1 mask (turned_body body) }
 {}

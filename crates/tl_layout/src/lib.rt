@@ -58,7 +58,7 @@ pub use text::Text;
 pub use turn::Turn;
 pub use type_i::{BodyI, RecI};
 pub use type_p::{BodyP, RecP};
-pub use type1::{Body1, GeographicEntities, NativeAreas, Rec1};
+pub use type1::{Body1, Body1Fields, GeographicEntities, NativeAreas, Rec1};
 pub use type2::Rec2;
 pub use type4::Rec4;
 pub use type5::{Body5, Rec5};

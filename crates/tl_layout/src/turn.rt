@@ -81,9 +81,11 @@ impl Turn for Body1 {
 
     #[inline(never)]
     fn turn(&mut self) {
-        self.ranges.turn();
-        self.native_areas.exchange();
-        self.entities.exchange();
+        let mut fields = self.fields();
+        fields.ranges.turn();
+        fields.native_areas.exchange();
+        fields.entities.exchange();
+        *self = Body1::of(&fields);
     }
 
     ghost turns_back = { λ _. refl };

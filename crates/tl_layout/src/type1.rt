@@ -1,5 +1,7 @@
 //! Record type 1: a chain's basic data.
 
+ghost use Rattle.std.proofs.Common.{rules};
+ghost use Rattle.std.specs.Cmp.Rules.{comparing};
 ghost use Rattle.std.specs.Prelude.{◌≡◌, ◌≤◌, length, take};
 ghost use Rattle.tl_layout.specs.Bytes.{AreAllowed, IsText};
 ghost use Rattle.tl_layout.specs.Columns.{joined};
@@ -15,6 +17,7 @@ use crate::point::Point;
 use crate::ranges::Ranges;
 use crate::text::Text;
 use crate::writing::{write_head, write_number, write_point, write_text};
+use std::fmt;
 use std::marker::Model;
 
 /// The American Indian, Alaska Native and Hawaiian Home Land areas beside a chain (columns 117-128).
@@ -45,9 +48,27 @@ pub struct GeographicEntities {
     pub block: LeftRight<4>,
 }
 
-/// The content of a record of type 1: all but its TLID and its two points.
+/// The content of a record of type 1, field by field.
+///
+/// Of so many fields in a row two are soon exchanged, so a literal names them:
+///
+/// ```
+/// Body1Fields {
+///     side1: Text::new(*b" "),
+///     source: Text::new(*b"A"),
+///     name: FeatureName { fedirp, fename, fetype, fedirs },
+///     cfcc: Text::new(*b"A41"),
+///     ranges,
+///     native_areas: NativeAreas { aianhhfp, aihhtli },
+///     census1: Text::new(*b" "),
+///     census2: Text::new(*b" "),
+///     entities: GeographicEntities { state, county, cousub, submcd, place, tract, block },
+/// }
+/// ```
+///
+/// where `state` is `LeftRight { left: Text::new(*b"06"), right: Text::new(*b"06") }`, and the others likewise.
 #[derive(Clone, Copy, Debug, PartialEq, Eq)]
-pub struct Body1 {
+pub struct Body1Fields {
     /// One-sided chain indicator (SIDE1).
     pub side1: Text<1>,
     /// Source of the chain (SOURCE).
@@ -68,6 +89,15 @@ pub struct Body1 {
     pub entities: GeographicEntities,
 }
 
+/// The content of a record of type 1: all but its TLID and its two points.
+///
+/// It is kept as it stands in a line, in columns 16 to 190, since a content is read, written and compared far more often than
+/// one of its fields is asked for.
+#[derive(Clone, Copy)]
+pub struct Body1 {
+    columns: Text<175>,
+}
+
 /// A chain with its two end points (record type 1, 228 bytes).
 #[derive(Clone, Copy, Debug, PartialEq, Eq)]
 pub struct Rec1 {
@@ -77,26 +107,98 @@ pub struct Rec1 {
     end: Point,
 }
 
+impl Model for Body1 {
+    ghost use Rattle.std.proofs.Common.{ap};
+    ghost use Rattle.tl_layout.specs.Bytes.{IsText};
+    ghost use Rattle.tl_layout.specs.Type1Columns.{body_1_of, body_1_text};
+    ghost use Rattle.tl_layout.specs.Type1ColumnLaws.{text_of_columns};
+    ghost use Rattle.tl_layout.specs.declared.type1.Body1Fields.{Body1Fields};
+
+    ghost Value = { Body1Fields };
+
+    ghost view = { λ content. body_1_of content.columns };
+
+    ghost invariant = { λ content. IsText 175 content.columns };
+
+    ghost inverse = { λ fields. record { columns = body_1_text fields } };
+
+    ghost inverse_ok = { λ content is_text. ap (λ text. record { columns = text }) (text_of_columns content.columns is_text) };
+}
+
+/// Contents are equal where all of their fields are.
+impl PartialEq for Body1 {
+    ghost eq = { ⟦<Body1Fields as PartialEq>⟧.eq };
+
+    ghost laws = { Prim.search (comparing, rules) };
+
+    fn eq(&self, other: &Body1) -> bool {
+        self.columns == other.columns
+    }
+}
+
+impl Eq for Body1 {
+    ghost laws = { Prim.search (comparing, rules) };
+}
+
+/// The fields, by their names.
+impl fmt::Debug for Body1 {
+    fn fmt<W: fmt::Write>(&self, f: &mut fmt::Formatter<W>) -> fmt::Result {
+        self.fields().fmt(f)
+    }
+}
+
 impl Body1 {
-    /// The content of these fields, each of bytes that a line may hold, with the address ranges and ZIP codes.
-    ///
-    /// Of so many arguments in a row two are soon exchanged. The fields are public, and a literal names them:
-    ///
-    /// ```
-    /// Body1 {
-    ///     side1: Text::new(*b" "),
-    ///     source: Text::new(*b"A"),
-    ///     name: FeatureName { fedirp, fename, fetype, fedirs },
-    ///     cfcc: Text::new(*b"A41"),
-    ///     ranges,
-    ///     native_areas: NativeAreas { aianhhfp, aihhtli },
-    ///     census1: Text::new(*b" "),
-    ///     census2: Text::new(*b" "),
-    ///     entities: GeographicEntities { state, county, cousub, submcd, place, tract, block },
-    /// }
-    /// ```
-    ///
-    /// where `state` is `LeftRight { left: Text::new(*b"06"), right: Text::new(*b"06") }`, and the others likewise.
+    ghost use Rattle.tl_layout.specs.Type1Groups.{FitsBody1, body_1_at, body_1_texts};
+
+    /// The content of these fields.
+    #[tactic(auto, using(crate::specs::Type1ColumnLaws::columns_are_text, crate::specs::Type1ColumnLaws::fields_again))]
+    pub fn of(fields: &Body1Fields) -> Body1
+        ensures { result ≡ fields.now }
+    {
+        let mut line = [b' '; 190];
+        fields.show_fit();
+        fields.put(&mut line);
+        Body1 {
+            columns: Text::from_slice(&line[15..]),
+        }
+    }
+
+    /// The fields, by their names.
+    pub fn fields(&self) -> Body1Fields
+        ensures { result ≡ self.now }
+    {
+        let mut line = [b' '; 190];
+        write_text(&mut line, 16, 190, &self.columns);
+        Body1Fields::at(&line)
+    }
+
+    /// The content in the columns of a full line.
+    fn at(line: &[u8]) -> Body1
+        requires { IsText len_1 line.now }
+        ensures { result ≡ body_1_at line.now }
+    {
+        Body1 {
+            columns: text_at(line, 16, 190),
+        }
+    }
+
+    /// Writes the content into columns 16 to 190.
+    fn put(&self, out: &mut [u8])
+        requires { 190 ≤ length out.old }
+        ensures { take 190 out.new ≡ joined (take 15 out.old) (body_1_texts self.now) }
+    {
+        write_text(out, 16, 190, &self.columns);
+    }
+
+    /// Does nothing: that each field fits its columns is so by its type.
+    fn show_fit(&self)
+        ensures { FitsBody1 self.now }
+    {
+        self.columns.show_fit();
+    }
+
+    /// The content of these fields, each of bytes that a line may hold, with the address ranges and ZIP codes. A literal of
+    /// [`Body1Fields`] names what stands here in a row.
     pub fn new(
         side1: [u8; 1],
         source: [u8; 1],
@@ -178,7 +280,7 @@ impl Body1 {
               };
             } }
     {
-        Body1 {
+        Body1::of(&Body1Fields {
             side1: Text::new(side1),
             source: Text::new(source),
             name: FeatureName::new(fedirp, fename, fetype, fedirs),
@@ -199,7 +301,7 @@ impl Body1 {
                 tract: LeftRight::new(tractl, tractr),
                 block: LeftRight::new(blockl, blockr),
             },
-        }
+        })
     }
 
     /// One-sided chain indicator (SIDE1).
@@ -207,7 +309,7 @@ impl Body1 {
         ensures value { result ≡ self.now.side1 }
         ensures text { IsText 1 result }
     {
-        self.side1.bytes()
+        self.fields().side1.bytes()
     }
 
     /// Source of the chain (SOURCE).
@@ -215,7 +317,7 @@ impl Body1 {
         ensures value { result ≡ self.now.source }
         ensures text { IsText 1 result }
     {
-        self.source.bytes()
+        self.fields().source.bytes()
     }
 
     /// Direction before the name (FEDIRP).
@@ -223,7 +325,7 @@ impl Body1 {
         ensures value { result ≡ self.now.name.fedirp }
         ensures text { IsText 2 result }
     {
-        self.name.fedirp.bytes()
+        self.fields().name.fedirp.bytes()
     }
 
     /// The name itself (FENAME).
@@ -231,7 +333,7 @@ impl Body1 {
         ensures value { result ≡ self.now.name.fename }
         ensures text { IsText 30 result }
     {
-        self.name.fename.bytes()
+        self.fields().name.fename.bytes()
     }
 
     /// Type of the feature, as `St` (FETYPE).
@@ -239,7 +341,7 @@ impl Body1 {
         ensures value { result ≡ self.now.name.fetype }
         ensures text { IsText 4 result }
     {
-        self.name.fetype.bytes()
+        self.fields().name.fetype.bytes()
     }
 
     /// Direction after the name (FEDIRS).
@@ -247,7 +349,7 @@ impl Body1 {
         ensures value { result ≡ self.now.name.fedirs }
         ensures text { IsText 2 result }
     {
-        self.name.fedirs.bytes()
+        self.fields().name.fedirs.bytes()
     }
 
     /// Census feature class code (CFCC).
@@ -255,14 +357,14 @@ impl Body1 {
         ensures value { result ≡ self.now.cfcc }
         ensures text { IsText 3 result }
     {
-        self.cfcc.bytes()
+        self.fields().cfcc.bytes()
     }
 
     /// Address ranges and ZIP codes (FRADDL to ZIPR).
     pub fn ranges(&self) -> Ranges
         ensures { result ≡ self.now.ranges }
     {
-        self.ranges
+        self.fields().ranges
     }
 
     /// FIPS 55 code of the American Indian, Alaska Native or Hawaiian Home Land area, left (AIANHHFPL).
@@ -270,7 +372,7 @@ impl Body1 {
         ensures value { result ≡ self.now.native_areas.aianhhfp.left }
         ensures text { IsText 5 result }
     {
-        self.native_areas.aianhhfp.left.bytes()
+        self.fields().native_areas.aianhhfp.left.bytes()
     }
 
     /// FIPS 55 code of the American Indian, Alaska Native or Hawaiian Home Land area, right (AIANHHFPR).
@@ -278,7 +380,7 @@ impl Body1 {
         ensures value { result ≡ self.now.native_areas.aianhhfp.right }
         ensures text { IsText 5 result }
     {
-        self.native_areas.aianhhfp.right.bytes()
+        self.fields().native_areas.aianhhfp.right.bytes()
     }
 
     /// Trust land indicator, left (AIHHTLIL).
@@ -286,7 +388,7 @@ impl Body1 {
         ensures value { result ≡ self.now.native_areas.aihhtli.left }
         ensures text { IsText 1 result }
     {
-        self.native_areas.aihhtli.left.bytes()
+        self.fields().native_areas.aihhtli.left.bytes()
     }
 
     /// Trust land indicator, right (AIHHTLIR).
@@ -294,7 +396,7 @@ impl Body1 {
         ensures value { result ≡ self.now.native_areas.aihhtli.right }
         ensures text { IsText 1 result }
     {
-        self.native_areas.aihhtli.right.bytes()
+        self.fields().native_areas.aihhtli.right.bytes()
     }
 
     /// Reserved for the Census Bureau (CENSUS1).
@@ -302,7 +404,7 @@ impl Body1 {
         ensures value { result ≡ self.now.census1 }
         ensures text { IsText 1 result }
     {
-        self.census1.bytes()
+        self.fields().census1.bytes()
     }
 
     /// Reserved for the Census Bureau (CENSUS2).
@@ -310,7 +412,7 @@ impl Body1 {
         ensures value { result ≡ self.now.census2 }
         ensures text { IsText 1 result }
     {
-        self.census2.bytes()
+        self.fields().census2.bytes()
     }
 
     /// State, left (STATEL).
@@ -318,7 +420,7 @@ impl Body1 {
         ensures value { result ≡ self.now.entities.state.left }
         ensures text { IsText 2 result }
     {
-        self.entities.state.left.bytes()
+        self.fields().entities.state.left.bytes()
     }
 
     /// State, right (STATER).
@@ -326,7 +428,7 @@ impl Body1 {
         ensures value { result ≡ self.now.entities.state.right }
         ensures text { IsText 2 result }
     {
-        self.entities.state.right.bytes()
+        self.fields().entities.state.right.bytes()
     }
 
     /// County, left (COUNTYL).
@@ -334,7 +436,7 @@ impl Body1 {
         ensures value { result ≡ self.now.entities.county.left }
         ensures text { IsText 3 result }
     {
-        self.entities.county.left.bytes()
+        self.fields().entities.county.left.bytes()
     }
 
     /// County, right (COUNTYR).
@@ -342,7 +444,7 @@ impl Body1 {
         ensures value { result ≡ self.now.entities.county.right }
         ensures text { IsText 3 result }
     {
-        self.entities.county.right.bytes()
+        self.fields().entities.county.right.bytes()
     }
 
     /// County subdivision, left (COUSUBL).
@@ -350,7 +452,7 @@ impl Body1 {
         ensures value { result ≡ self.now.entities.cousub.left }
         ensures text { IsText 5 result }
     {
-        self.entities.cousub.left.bytes()
+        self.fields().entities.cousub.left.bytes()
     }
 
     /// County subdivision, right (COUSUBR).
@@ -358,7 +460,7 @@ impl Body1 {
         ensures value { result ≡ self.now.entities.cousub.right }
         ensures text { IsText 5 result }
     {
-        self.entities.cousub.right.bytes()
+        self.fields().entities.cousub.right.bytes()
     }
 
     /// Subminor civil division, left (SUBMCDL).
@@ -366,7 +468,7 @@ impl Body1 {
         ensures value { result ≡ self.now.entities.submcd.left }
         ensures text { IsText 5 result }
     {
-        self.entities.submcd.left.bytes()
+        self.fields().entities.submcd.left.bytes()
     }
 
     /// Subminor civil division, right (SUBMCDR).
@@ -374,7 +476,7 @@ impl Body1 {
         ensures value { result ≡ self.now.entities.submcd.right }
         ensures text { IsText 5 result }
     {
-        self.entities.submcd.right.bytes()
+        self.fields().entities.submcd.right.bytes()
     }
 
     /// Place, left (PLACEL).
@@ -382,7 +484,7 @@ impl Body1 {
         ensures value { result ≡ self.now.entities.place.left }
         ensures text { IsText 5 result }
     {
-        self.entities.place.left.bytes()
+        self.fields().entities.place.left.bytes()
     }
 
     /// Place, right (PLACER).
@@ -390,7 +492,7 @@ impl Body1 {
         ensures value { result ≡ self.now.entities.place.right }
         ensures text { IsText 5 result }
     {
-        self.entities.place.right.bytes()
+        self.fields().entities.place.right.bytes()
     }
 
     /// Census tract, left (TRACTL).
@@ -398,7 +500,7 @@ impl Body1 {
         ensures value { result ≡ self.now.entities.tract.left }
         ensures text { IsText 6 result }
     {
-        self.entities.tract.left.bytes()
+        self.fields().entities.tract.left.bytes()
     }
 
     /// Census tract, right (TRACTR).
@@ -406,7 +508,7 @@ impl Body1 {
         ensures value { result ≡ self.now.entities.tract.right }
         ensures text { IsText 6 result }
     {
-        self.entities.tract.right.bytes()
+        self.fields().entities.tract.right.bytes()
     }
 
     /// Census block, left (BLOCKL).
@@ -414,7 +516,7 @@ impl Body1 {
         ensures value { result ≡ self.now.entities.block.left }
         ensures text { IsText 4 result }
     {
-        self.entities.block.left.bytes()
+        self.fields().entities.block.left.bytes()
     }
 
     /// Census block, right (BLOCKR).
@@ -422,7 +524,7 @@ impl Body1 {
         ensures value { result ≡ self.now.entities.block.right }
         ensures text { IsText 4 result }
     {
-        self.entities.block.right.bytes()
+        self.fields().entities.block.right.bytes()
     }
 }
 
@@ -442,9 +544,10 @@ impl Model for Rec1 {
 impl GeographicEntities {
     ghost use Rattle.tl_layout.specs.Type1Groups.{FitsEntities, entities_at, entities_texts};
 
-    /// The geographic entities in the columns of a full line.
+    /// The geographic entities in columns 131 to 190 of a line.
     fn at(line: &[u8]) -> GeographicEntities
-        requires { IsText len_1 line.now }
+        requires allowed { AreAllowed line.now }
+        requires within { 190 ≤ length line.now }
         ensures { result ≡ entities_at line.now }
     {
         GeographicEntities {
@@ -486,15 +589,16 @@ impl GeographicEntities {
     }
 }
 
-impl Body1 {
+impl Body1Fields {
     ghost use Rattle.tl_layout.specs.Type1Groups.{FitsBody1, body_1_at, body_1_texts};
 
-    /// The content in the columns of a full line.
-    fn at(line: &[u8]) -> Body1
-        requires { IsText len_1 line.now }
+    /// The fields in columns 16 to 190 of a line.
+    fn at(line: &[u8]) -> Body1Fields
+        requires allowed { AreAllowed line.now }
+        requires within { 190 ≤ length line.now }
         ensures { result ≡ body_1_at line.now }
     {
-        Body1 {
+        Body1Fields {
             side1: text_at(line, 16, 16),
             source: text_at(line, 17, 17),
             name: FeatureName::at(line, 18),
@@ -510,7 +614,7 @@ impl Body1 {
         }
     }
 
-    /// Writes the content into columns 16 to 190.
+    /// Writes the fields into columns 16 to 190.
     fn put(&self, out: &mut [u8])
         requires { 190 ≤ length out.old }
         ensures { take 190 out.new ≡ joined (take 15 out.old) (body_1_texts self.now) }

@@ -3,13 +3,13 @@ use Rattle.std.specs.Prelude.{ℕ, List, Option}
 use Rattle.tl_layout.specs.Coordinates.{Coordinates}
 use Rattle.tl_layout.specs.PolygonSide.{PolygonSide}
 use Rattle.tl_layout.specs.declared.ranges.Ranges.{Ranges}
-use Rattle.tl_layout.specs.declared.type1.Body1.{Body1}
+use Rattle.tl_layout.specs.declared.type1.Body1Fields.{Body1Fields}
 use Rattle.tl_layout.specs.declared.type_i.BodyI.{BodyI}
 
 -- all of a chain but its TLID
 pub record Chain : Type 0 where
   -- the content of its type 1 record
-  pub body : Body1
+  pub body : Body1Fields
   -- in the direction in which it runs
   pub points : List Coordinates
   -- the FEATs of its further names, in order

@@ -15,7 +15,7 @@ use Rattle.tl_layout.specs.Coordinates.{Coordinates, IsOnMap}
 use Rattle.tl_layout.specs.Turned.{turned_ranges, turned_body}
 use Rattle.tl_layout.specs.Type1Groups.{FitsBody1}
 use Rattle.tl_layout.specs.declared.ranges.Ranges.{Ranges}
-use Rattle.tl_layout.specs.declared.type1.Body1.{Body1}
+use Rattle.tl_layout.specs.declared.type1.Body1Fields.{Body1Fields}
 use Rattle.tl_layout.specs.declared.type5.Body5.{Body5}
 use Rattle.tl_layout.specs.declared.type7.Body7.{Body7}
 use Rattle.tl_layout.specs.declared.type_p.BodyP.{BodyP}
@@ -52,7 +52,7 @@ ranges_turned_fit ranges f = record {
   zip = record { left = f.zip.right; right = f.zip.left };
 }
 
-body_turned_fits : (body : Body1) → FitsBody1 body → FitsBody1 (turned_body body)
+body_turned_fits : (body : Body1Fields) → FitsBody1 body → FitsBody1 (turned_body body)
 body_turned_fits body f = record {
   side1 = f.side1;
   source = f.source;

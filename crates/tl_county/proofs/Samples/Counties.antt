@@ -3,7 +3,7 @@ use Rattle.std.proofs.Common.{ℕ, ◌-◌, ◌+◌, ◌*◌, List, [], ◌∷�
 use Rattle.tl_layout.specs.Coordinates.{Coordinates}
 use Rattle.tl_layout.specs.PolygonSide.{PolygonSide}
 use Rattle.tl_layout.specs.declared.ranges.Ranges.{Ranges}
-use Rattle.tl_layout.specs.declared.type1.Body1.{Body1}
+use Rattle.tl_layout.specs.declared.type1.Body1Fields.{Body1Fields}
 use Rattle.tl_layout.specs.declared.type5.Body5.{Body5}
 use Rattle.tl_layout.specs.declared.type_i.BodyI.{BodyI}
 use Rattle.tl_layout.specs.declared.record_type.Record.{Record}
@@ -47,7 +47,7 @@ abbrev pub link_body : BodyI
 link_body = record { file = file; source = blanks 10; ftseg = blanks 17; rs_i1 = blanks 10; rs_i2 = blanks 10; rs_i3 = blanks 10 }
 
 -- a street with its ranges, tracts and blocks, all else of it fixed
-abbrev pub street : Ranges → List ℕ → List ℕ → List ℕ → List ℕ → Body1
+abbrev pub street : Ranges → List ℕ → List ℕ → List ℕ → List ℕ → Body1Fields
 street ranges tractl tractr blockl blockr = record {
   side1 = blanks 1;
   source = codes "A";
@@ -96,10 +96,10 @@ ranges_back = record {
   zip = record { left = codes "36006"; right = codes "36003" };
 }
 
-abbrev pub street_there : Body1
+abbrev pub street_there : Body1Fields
 street_there = street ranges_there (codes "020200") (codes "020300") (codes "1001") (codes "2002")
 
-abbrev pub street_back : Body1
+abbrev pub street_back : Body1Fields
 street_back = street ranges_back (codes "020300") (codes "020200") (codes "2002") (codes "1001")
 
 abbrev pub west_end : Coordinates

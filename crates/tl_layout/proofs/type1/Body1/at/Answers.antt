@@ -1,19 +1,7 @@
-use Rattle.std.proofs.Common.{refl}
-use Rattle.tl_layout.specs.Type1Groups.{body_1_at}
+use Rattle.std.proofs.Common.{ap, ◌∙◌}
+use Rattle.tl_layout.specs.Type1ColumnLaws.{content_of_line}
+use Rattle.tl_layout.specs.Type1Columns.{body_1_of}
 use Rattle.tl_layout.proofs.type1.Body1.at.Goals as goal
 
 pub returns : goal.returns
-unfolding body_1_at
-returns c =
-    rw (
-      c.text_at.ensures,
-      c.text_at-2.ensures,
-      c.at.ensures,
-      c.text_at-3.ensures,
-      c.at-2.ensures,
-      c.at-3.ensures,
-      c.at-4.ensures,
-      c.text_at-4.ensures,
-      c.text_at-5.ensures,
-      c.at-5.ensures,
-    ) refl
+returns c = ap body_1_of c.text_at.ensures ∙ content_of_line c.args.line.now

@@ -1,0 +1,17 @@
+-- The columns were written behind fifteen blanks, and the fields are read there.
+use Rattle.std.proofs.Common.{arith, ap, sym, subst, ◌∙◌}
+use Rattle.tl_layout.proofs.Writes.{whole}
+use Rattle.tl_layout.proofs.type1.Body1.fields.Goals as goal
+use Rattle.tl_layout.specs.ByteLaws.{blanks_are_text}
+use Rattle.tl_layout.specs.Bytes.{AreAllowed}
+use Rattle.tl_layout.specs.PlaceLaws.{pair_of_texts}
+use Rattle.tl_layout.specs.Type1Groups.{body_1_at}
+
+pub at-requires-clause-allowed : goal.at-requires-clause-allowed
+at-requires-clause-allowed c =
+    subst AreAllowed (sym (whole 190 c.write_text.new.out _ (omega arith) c.write_text.ensures))
+    (pair_of_texts 15 175 _ _ (blanks_are_text 15) c.self.invariant).allowed
+
+pub returns : goal.returns
+returns c =
+    c.at.ensures ∙ (ap body_1_at (whole 190 c.write_text.new.out _ (omega arith) c.write_text.ensures) ∙ c.self.view_is)

@@ -1,0 +1,12 @@
+-- The columns were written behind what stood there.
+use Rattle.std.proofs.Common.{ap, take, ◌∙◌}
+use Rattle.tl_layout.specs.Columns.{joined}
+use Rattle.tl_layout.specs.Type1ColumnLaws.{content_behind}
+use Rattle.tl_layout.specs.Type1Groups.{body_1_texts}
+use Rattle.tl_layout.proofs.type1.Body1.put.Goals as goal
+
+pub returns : goal.returns
+returns c =
+    c.write_text.ensures
+    ∙ (content_behind (take 15 c.args.out.now) c.self.inside.columns c.self.invariant
+    ∙ ap (λ body. joined (take 15 c.args.out.now) (body_1_texts body)) c.self.view_is)
