@@ -2,13 +2,16 @@
 
 ghost use Rattle.std.specs.Option.{option_and_then};
 ghost use Rattle.std.specs.Ordering.{nat_cmp};
-ghost use Rattle.std.specs.Prelude.{◌≡◌, ◌<◌, Some, length, is_some, IfSome, option_map, slice_get};
+ghost use Rattle.std.specs.Prelude.{◌≡◌, ◌<◌, ◌≤◌, Some, length, is_some, IfSome, option_map, slice_get, take};
 ghost use Rattle.tl_county.specs.ChartWords.{bodies_at, chain_at, feats_of, links_at, name_at, points_of, polygon_at, ranges_of, bodies_under, chain_under, links_under, name_under, polygon_under};
 ghost use Rattle.tl_county.specs.County.{County};
 ghost use Rattle.tl_county.specs.CountyRules.{IsCounty, feats, lands, nodes, polygon_keys, tlids};
 ghost use Rattle.tl_county.specs.Limits.{IsWithinLimits, most_records};
 ghost use Rattle.tl_county.specs.Orders.{stands_in};
 ghost use Rattle.tl_county.specs.PolygonKeys.{key_cmp};
+ghost use Rattle.tl_layout.specs.Columns.{joined};
+ghost use Rattle.tl_layout.specs.Turned.{body_towards};
+ghost use Rattle.tl_layout.specs.Type1Groups.{body_1_texts};
 
 use crate::keys::record_keys::PolygonKey;
 use tl_layout::{Body1, Body5, Body7, BodyI, BodyP, Point, Ranges, Rec8, Side};
@@ -88,6 +91,17 @@ pub trait Chart {
     /// The content of the type 1 record of the chain at a place.
     fn chain_body_at(&self, place: usize) -> Option<Body1>
         ensures { result ≡ option_map (λ c. c.body) (chain_at (county self.now) place) };
+
+    /// Writes the content of the type 1 record of the chain at a place, which is below the count of chains, into columns 16 to 190
+    /// of a line, as it is seen from the chain's other end if told.
+    fn put_chain_body(&self, place: usize, turned: bool, out: &mut [u8])
+        requires place { place < length (county self.now).chains }
+        requires room { 190 ≤ length out.old }
+        ensures { Some (take 190 out.new)
+            ≡ option_map (λ c. joined (take 15 out.old) (body_1_texts (body_towards turned c.body))) (chain_at (county self.now) place) }
+    {
+        self.chain_body_there(place).put_towards(turned, out);
+    }
 
     /// How many points the chain at a place has.
     fn point_count_at(&self, place: usize) -> usize

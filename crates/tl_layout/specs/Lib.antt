@@ -50,6 +50,7 @@ pub mod RecordText
 pub mod RecordLaws
 pub mod Limits
 pub mod Turned
+pub mod TurnedFits
 pub mod Masked
 pub mod MaskLaws
 pub mod ByType

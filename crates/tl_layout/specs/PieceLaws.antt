@@ -23,10 +23,10 @@ pieces_of_part first len line at (width ∷ widths) l =
     let short : width ≤ len - at = omega arith in
     let next : first + at + width ≡ first + (at + width) = omega arith in
     let whole : drop at (take len (drop first line)) ≡ take (len - at) (drop (first + at) line) =
-        ap (λ (n : ℕ). drop at (take n (drop first line))) (sym rest)
-        ∙ (drop-take at (len - at) (drop first line) ∙ ap (take (len - at)) (drop-drop at first line)) in
+    ap (λ (n : ℕ). drop at (take n (drop first line))) (sym rest)
+    ∙ (drop-take at (len - at) (drop first line) ∙ ap (take (len - at)) (drop-drop at first line)) in
     let piece : take width (drop at (take len (drop first line))) ≡ take width (drop (first + at) line) =
-        ap (take width) whole ∙ take-take width (len - at) (drop (first + at) line) short in
+    ap (take width) whole ∙ take-take width (len - at) (drop (first + at) line) short in
     let later : pieces_from (at + width) widths (take len (drop first line)) ≡ pieces_from (first + at + width) widths line =
-        pieces_of_part first len line (at + width) widths (omega arith) ∙ ap (λ (n : ℕ). pieces_from n widths line) (sym next) in
+    pieces_of_part first len line (at + width) widths (omega arith) ∙ ap (λ (n : ℕ). pieces_from n widths line) (sym next) in
     rw (piece, later) refl

@@ -1,5 +1,5 @@
 -- What a chain's fields are when it is seen from its other end: what was left is right, and what was the start is the end.
-use Rattle.std.specs.Prelude.{ℕ}
+use Rattle.std.specs.Prelude.{ℕ, Bool, cond}
 use Rattle.tl_layout.specs.Fields.{Fields1, Fields6, FieldsI}
 use Rattle.tl_layout.specs.declared.pair.LeftRight.{LeftRight}
 use Rattle.tl_layout.specs.declared.ranges.Ranges.{Ranges}
@@ -55,6 +55,10 @@ turned_body body =
       census2 = body.census2;
       entities = turned_entities body.entities;
     }
+
+-- the content as it is seen from the chain's other end if told
+abbrev pub body_towards : Bool → Body1Fields → Body1Fields
+body_towards turned body = cond turned (turned_body body) body
 
 -- the records of a chain that is seen from its other end: the points and the nodes are exchanged, and the sides
 abbrev pub turned_type_1 : Fields1 → Fields1

@@ -89,7 +89,7 @@ pub content_of_line : (line : List ℕ) → body_1_of (columns 16 190 line) ≡ 
 unfolding widths
 content_of_line line =
     let part : body_1_texts (body_1_of (columns 16 190 line)) ≡ body_1_texts (body_1_at line) =
-        are_pieces_of_columns (columns 16 190 line) ∙ (pieces_of_part 15 175 line 0 widths (omega arith) ∙ sym (are_pieces line)) in
+    are_pieces_of_columns (columns 16 190 line) ∙ (pieces_of_part 15 175 line 0 widths (omega arith) ∙ sym (are_pieces line)) in
     sym (content_again (body_1_of (columns 16 190 line))) ∙ (ap content part ∙ content_again (body_1_at line))
 
 -- the content was written behind what stood there

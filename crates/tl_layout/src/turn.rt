@@ -1,11 +1,14 @@
 //! Turning: what a chain's fields are when it is seen from its other end.
 
-ghost use Rattle.std.specs.Prelude.{◌≡◌, refl};
-ghost use Rattle.tl_layout.specs.Turned.{exchanged, turned_ranges, turned_areas, turned_entities, turned_body};
+ghost use Rattle.std.specs.Prelude.{◌≡◌, ◌+◌, ◌-◌, ◌*◌, ◌≤◌, length, refl, take};
+ghost use Rattle.tl_layout.specs.Columns.{joined};
+ghost use Rattle.tl_layout.specs.Turned.{exchanged, turned_ranges, turned_entities, turned_body};
 
+use crate::layout::LONGEST_LINE;
 use crate::pair::LeftRight;
 use crate::ranges::Ranges;
-use crate::type1::{Body1, GeographicEntities, NativeAreas};
+use crate::type1::{Body1, GeographicEntities};
+use crate::writing::write_text;
 use std::mem::swap;
 
 /// What can be seen from the other end of its chain.
@@ -30,7 +33,7 @@ impl<const N: usize> LeftRight<N> {
     }
 }
 
-// What turns isn't inlined: the room that an exchange needs is cleared when a function begins, and most values aren't turned.
+// What turns ranges isn't inlined: the room that an exchange needs is cleared when a function begins, and most values aren't turned.
 
 /// The address at the left start changes places with the one at the right end, and the one at the left end with the one at
 /// the right start; so do their flags. The two postal codes change places.
@@ -49,28 +52,77 @@ impl Turn for Ranges {
     ghost turns_back = { λ _. refl };
 }
 
-impl NativeAreas {
-    /// Exchanges left and right.
-    fn exchange(&mut self)
-        ensures { self.new ≡ turned_areas self.old }
+impl<const N: usize> LeftRight<N> {
+    ghost use Rattle.tl_layout.specs.Pairs.{pair_texts};
+
+    /// Writes the pair from this column on, left and right exchanged.
+    fn put_exchanged(&self, out: &mut [u8], first: usize)
+        requires from_one { 1 ≤ first }
+        requires within { (first + 2 * N ≤ length out.old + 1) × (first + 2 * N ≤ LONGEST_LINE + 1) }
+        ensures { take (first + 2 * N - 1) out.new ≡ joined (take (first - 1) out.old) (pair_texts N (exchanged self.now)) }
     {
-        self.aianhhfp.exchange();
-        self.aihhtli.exchange();
+        write_text(out, first, first + N - 1, &self.right);
+        write_text(out, first + N, first + 2 * N - 1, &self.left);
+    }
+}
+
+impl Ranges {
+    ghost use Rattle.tl_layout.specs.AddressRanges.{ranges_texts};
+
+    /// Writes the ranges into columns 59 to 116, as they are seen from the other end.
+    fn put_turned(&self, out: &mut [u8])
+        requires { 116 ≤ length out.old }
+        ensures { take 116 out.new ≡ joined (take 58 out.old) (ranges_texts (turned_ranges self.now)) }
+    {
+        write_text(out, 59, 69, &self.toaddr);
+        write_text(out, 70, 80, &self.fraddr);
+        write_text(out, 81, 91, &self.toaddl);
+        write_text(out, 92, 102, &self.fraddl);
+        write_text(out, 103, 103, &self.toiaddr);
+        write_text(out, 104, 104, &self.friaddr);
+        write_text(out, 105, 105, &self.toiaddl);
+        write_text(out, 106, 106, &self.friaddl);
+        self.zip.put_exchanged(out, 107);
     }
 }
 
 impl GeographicEntities {
-    /// Exchanges left and right.
-    fn exchange(&mut self)
-        ensures { self.new ≡ turned_entities self.old }
+    ghost use Rattle.tl_layout.specs.Type1Groups.{entities_texts};
+
+    /// Writes the geographic entities into columns 131 to 190, left and right exchanged.
+    fn put_exchanged(&self, out: &mut [u8])
+        requires { 190 ≤ length out.old }
+        ensures { take 190 out.new ≡ joined (take 130 out.old) (entities_texts (turned_entities self.now)) }
     {
-        self.state.exchange();
-        self.county.exchange();
-        self.cousub.exchange();
-        self.submcd.exchange();
-        self.place.exchange();
-        self.tract.exchange();
-        self.block.exchange();
+        self.state.put_exchanged(out, 131);
+        self.county.put_exchanged(out, 135);
+        self.cousub.put_exchanged(out, 141);
+        self.submcd.put_exchanged(out, 151);
+        self.place.put_exchanged(out, 161);
+        self.tract.put_exchanged(out, 171);
+        self.block.put_exchanged(out, 183);
+    }
+}
+
+impl Body1 {
+    ghost use Rattle.tl_layout.specs.Type1Groups.{body_1_texts};
+
+    /// Writes the content into columns 16 to 190 of a line, as it is seen from the chain's other end.
+    pub(crate) fn put_turned(&self, out: &mut [u8])
+        requires { 190 ≤ length out.old }
+        ensures { take 190 out.new ≡ joined (take 15 out.old) (body_1_texts (turned_body self.now)) }
+    {
+        let fields = self.fields();
+        write_text(out, 16, 16, &fields.side1);
+        write_text(out, 17, 17, &fields.source);
+        fields.name.put(out, 18);
+        write_text(out, 56, 58, &fields.cfcc);
+        fields.ranges.put_turned(out);
+        fields.native_areas.aianhhfp.put_exchanged(out, 117);
+        fields.native_areas.aihhtli.put_exchanged(out, 127);
+        write_text(out, 129, 129, &fields.census1);
+        write_text(out, 130, 130, &fields.census2);
+        fields.entities.put_exchanged(out);
     }
 }
 
@@ -79,13 +131,11 @@ impl GeographicEntities {
 impl Turn for Body1 {
     ghost turned = { turned_body };
 
-    #[inline(never)]
     fn turn(&mut self) {
-        let mut fields = self.fields();
-        fields.ranges.turn();
-        fields.native_areas.exchange();
-        fields.entities.exchange();
-        *self = Body1::of(&fields);
+        let mut line = [b' '; 190];
+        self.show_fit();
+        self.put_turned(&mut line);
+        *self = Body1::at(&line);
     }
 
     ghost turns_back = { λ _. refl };

@@ -1,8 +1,6 @@
 //! Record type 1: a chain's basic data.
 
-ghost use Rattle.std.proofs.Common.{rules};
-ghost use Rattle.std.specs.Cmp.Rules.{comparing};
-ghost use Rattle.std.specs.Prelude.{◌≡◌, ◌≤◌, length, take};
+ghost use Rattle.std.specs.Prelude.{◌≡◌, ◌≤◌, ◌++◌, ◌∷◌, codes, length, take};
 ghost use Rattle.tl_layout.specs.Bytes.{AreAllowed, IsText};
 ghost use Rattle.tl_layout.specs.Columns.{joined};
 ghost use Rattle.tl_layout.specs.Numbers.{IsNumber};
@@ -127,9 +125,11 @@ impl Model for Body1 {
 
 /// Contents are equal where all of their fields are.
 impl PartialEq for Body1 {
+    ghost use Rattle.tl_layout.specs.contracts.type1.Body1FieldsPartialEq.TheImpl.Laws as fields;
+
     ghost eq = { ⟦<Body1Fields as PartialEq>⟧.eq };
 
-    ghost laws = { Prim.search (comparing, rules) };
+    ghost laws = { fields.laws-law };
 
     fn eq(&self, other: &Body1) -> bool {
         self.columns == other.columns
@@ -137,7 +137,9 @@ impl PartialEq for Body1 {
 }
 
 impl Eq for Body1 {
-    ghost laws = { Prim.search (comparing, rules) };
+    ghost use Rattle.tl_layout.specs.contracts.type1.Body1FieldsEq.TheImpl.Laws as fields;
+
+    ghost laws = { fields.laws-law };
 }
 
 /// The fields, by their names.
@@ -148,6 +150,7 @@ impl fmt::Debug for Body1 {
 }
 
 impl Body1 {
+    ghost use Rattle.tl_layout.specs.Turned.{body_towards};
     ghost use Rattle.tl_layout.specs.Type1Groups.{FitsBody1, body_1_at, body_1_texts};
 
     /// The content of these fields.
@@ -172,9 +175,10 @@ impl Body1 {
         Body1Fields::at(&line)
     }
 
-    /// The content in the columns of a full line.
-    fn at(line: &[u8]) -> Body1
-        requires { IsText len_1 line.now }
+    /// The content in columns 16 to 190 of a line.
+    pub(crate) fn at(line: &[u8]) -> Body1
+        requires allowed { AreAllowed line.now }
+        requires within { 190 ≤ length line.now }
         ensures { result ≡ body_1_at line.now }
     {
         Body1 {
@@ -182,7 +186,7 @@ impl Body1 {
         }
     }
 
-    /// Writes the content into columns 16 to 190.
+    /// Writes the content into columns 16 to 190 of a line.
     fn put(&self, out: &mut [u8])
         requires { 190 ≤ length out.old }
         ensures { take 190 out.new ≡ joined (take 15 out.old) (body_1_texts self.now) }
@@ -190,8 +194,20 @@ impl Body1 {
         write_text(out, 16, 190, &self.columns);
     }
 
+    /// Writes the content into columns 16 to 190 of a line, as it is seen from the chain's other end if told.
+    pub fn put_towards(&self, turned: bool, out: &mut [u8])
+        requires { 190 ≤ length out.old }
+        ensures { take 190 out.new ≡ joined (take 15 out.old) (body_1_texts (body_towards turned self.now)) }
+    {
+        if turned {
+            self.put_turned(out);
+        } else {
+            self.put(out);
+        }
+    }
+
     /// Does nothing: that each field fits its columns is so by its type.
-    fn show_fit(&self)
+    pub(crate) fn show_fit(&self)
         ensures { FitsBody1 self.now }
     {
         self.columns.show_fit();
@@ -649,7 +665,10 @@ impl Body1Fields {
 }
 
 impl Rec1 {
+    ghost use Rattle.tl_layout.specs.FieldTexts.{number_text};
+    ghost use Rattle.tl_layout.specs.RecordTables.{rtype_1};
     ghost use Rattle.tl_layout.specs.Type1.{FitsType1, type_1_short_reading};
+    ghost use Rattle.tl_layout.specs.Type1Groups.{point_texts};
 
     /// The record of these fields. The TLID is from 1 to 9,999,999,999.
     pub fn new(tlid: u64, body: Body1, start: Point, end: Point) -> Rec1
@@ -703,6 +722,24 @@ impl Rec1 {
         self.end.show_fit();
     }
 
+    /// Writes columns 1 to 15 of the record of this number: the record type, the version and the TLID.
+    pub fn put_number(tlid: u64, out: &mut [u8])
+        requires { 15 ≤ length out.old }
+        ensures { take 15 out.new ≡ (rtype_1 ∷ codes "2006") ++ number_text 10 tlid }
+    {
+        write_head(out, b'1');
+        write_number(out, 6, 15, tlid);
+    }
+
+    /// Writes columns 191 to 228 of the record of these points, behind what stands before them.
+    pub fn put_points(start: &Point, end: &Point, out: &mut [u8])
+        requires { length out.old ≡ 228 }
+        ensures { out.new ≡ joined (joined (take 190 out.old) (point_texts start.now)) (point_texts end.now) }
+    {
+        write_point(out, 191, start);
+        write_point(out, 210, end);
+    }
+
     /// What a full line is read as, group by group.
     #[tactic(auto, unfolding(crate::specs::Type1::type_1_short_reading, crate::specs::FieldReading::and_then))]
     fn read_groups(line: &[u8]) -> Result<Rec1, FieldFault>
@@ -749,11 +786,9 @@ impl Layout for Rec1 {
     #[tactic(auto, unfolding(crate::specs::Type1::type_1_spelling))]
     fn put(&self, out: &mut [u8]) {
         self.show_fit();
-        write_head(out, b'1');
-        write_number(out, 6, 15, self.tlid);
+        Rec1::put_number(self.tlid, out);
         self.body.put(out);
-        write_point(out, 191, &self.start);
-        write_point(out, 210, &self.end);
+        Rec1::put_points(&self.start, &self.end, out);
     }
 
     ghost bounded = { (lit≤ tt, lit≤ tt) };

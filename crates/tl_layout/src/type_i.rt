@@ -4,7 +4,7 @@ ghost use Rattle.std.specs.Prelude.{◌≡◌, ◌≤◌, ◌<◌, ℕ, List, Op
 ghost use Rattle.tl_layout.specs.Bytes.{IsLine, AreAllowed, IsText};
 ghost use Rattle.tl_layout.specs.Numbers.{IsNumber, IsNumberOrNone};
 ghost use Rattle.tl_layout.specs.RecordTables.{len_i};
-ghost use Rattle.tl_layout.specs.TypeI.{FitsTypeI, body_i_at, type_i_reading};
+ghost use Rattle.tl_layout.specs.TypeI.{FitsTypeI, body_i_at, type_i_reading, type_i_spelling};
 
 use crate::fault::FieldFault;
 use crate::field::{read_number, read_number_or_none, text_at};
@@ -224,6 +224,44 @@ impl RecI {
         &self.right
     }
 
+    /// Writes the canonical spelling of the record of these fields.
+    #[tactic(auto, unfolding(crate::specs::TypeI::type_i_spelling))]
+    pub fn put_fields(
+        tlid: u64,
+        body: &BodyI,
+        start_node: Option<u64>,
+        end_node: Option<u64>,
+        left: &Side,
+        right: &Side,
+        out: &mut [u8],
+    )
+        requires { length out.old ≡ len_i }
+        ensures { out.new
+            ≡ type_i_spelling (record {
+              tlid = tlid;
+              body = body.now;
+              start_node = start_node;
+              end_node = end_node;
+              left = left.now;
+              right = right.now;
+            }) }
+    {
+        write_head(out, b'I');
+        write_text(out, 6, 10, &body.file);
+        write_number(out, 11, 20, tlid);
+        write_number(out, 21, 30, start_node.unwrap_or(0));
+        write_number(out, 31, 40, end_node.unwrap_or(0));
+        write_text(out, 41, 45, left.cenid_text());
+        write_number(out, 46, 55, left.polyid().unwrap_or(0));
+        write_text(out, 56, 60, right.cenid_text());
+        write_number(out, 61, 70, right.polyid().unwrap_or(0));
+        write_text(out, 71, 80, &body.source);
+        write_text(out, 81, 97, &body.ftseg);
+        write_text(out, 98, 107, &body.rs_i1);
+        write_text(out, 108, 117, &body.rs_i2);
+        write_text(out, 118, 127, &body.rs_i3);
+    }
+
     /// Does nothing: that each field fits its columns is so by its type.
     pub(crate) fn show_fit(&self)
         ensures { FitsTypeI self.now }
@@ -278,24 +316,17 @@ impl Layout for RecI {
         Ok(RecI::new(tlid, BodyI::at(line), start_node, end_node, left, right))
     }
 
-    #[tactic(auto, unfolding(crate::specs::TypeI::type_i_spelling))]
     fn put(&self, out: &mut [u8]) {
-        let body = &self.body;
         self.show_fit();
-        write_head(out, b'I');
-        write_text(out, 6, 10, &body.file);
-        write_number(out, 11, 20, self.tlid);
-        write_number(out, 21, 30, self.start_node.unwrap_or(0));
-        write_number(out, 31, 40, self.end_node.unwrap_or(0));
-        write_text(out, 41, 45, self.left.cenid_text());
-        write_number(out, 46, 55, self.left.polyid().unwrap_or(0));
-        write_text(out, 56, 60, self.right.cenid_text());
-        write_number(out, 61, 70, self.right.polyid().unwrap_or(0));
-        write_text(out, 71, 80, &body.source);
-        write_text(out, 81, 97, &body.ftseg);
-        write_text(out, 98, 107, &body.rs_i1);
-        write_text(out, 108, 117, &body.rs_i2);
-        write_text(out, 118, 127, &body.rs_i3);
+        RecI::put_fields(
+            self.tlid,
+            &self.body,
+            self.start_node,
+            self.end_node,
+            &self.left,
+            &self.right,
+            out,
+        );
     }
 
     ghost bounded = { (lit≤ tt, lit≤ tt) };

@@ -12,7 +12,7 @@ use crate::arranged::{Arranged, Standing, old_place};
 use crate::landmark_links::{link_at, links_of_landmark};
 use crate::step_readers::{
     body_of_step, feat_count_of_step, feat_of_step, link_body_of_step, point_count_of_step,
-    range_count_of_step, range_of_step,
+    put_body_of_step, range_count_of_step, range_of_step,
 };
 use tl_county::{Chart, PolygonKey, place_of};
 use tl_layout::{Body1, Body5, Body7, BodyI, BodyP, Point, Ranges, Rec8, Side};
@@ -114,6 +114,12 @@ impl<C: Chart, S: Standing> Chart for Arranged<C, S> {
         match self.step_at(place) {
             Some(step) => body_of_step(&self.chart, step),
             None => None,
+        }
+    }
+
+    fn put_chain_body(&self, place: usize, turned: bool, out: &mut [u8]) {
+        if let Some(step) = self.step_at(place) {
+            put_body_of_step(&self.chart, step, turned, out);
         }
     }
 

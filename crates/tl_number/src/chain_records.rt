@@ -101,6 +101,12 @@ impl<C: Chart> RecordGroups for ChainRecords<'_, C> {
             end,
         )
     }
+
+    fn put(&self, group: usize, head: (Point, Point), _place: usize, out: &mut [u8]) {
+        Rec1::put_number(self.chart.tlid_there(group), out);
+        self.chart.put_chain_body(group, false, out);
+        Rec1::put_points(&head.0, &head.1, out);
+    }
 }
 
 /// The records of type 2 of each chain: its shape points.
@@ -249,5 +255,19 @@ impl<C: Chart> RecordGroups for LinkRecords<'_, C> {
             self.chart.left_there(group),
             self.chart.right_there(group),
         )
+    }
+
+    fn put(&self, group: usize, head: Option<BodyI>, _place: usize, out: &mut [u8]) {
+        if let Some(body) = &head {
+            RecI::put_fields(
+                self.chart.tlid_there(group),
+                body,
+                self.chart.start_node_there(group),
+                self.chart.end_node_there(group),
+                &self.chart.left_there(group),
+                &self.chart.right_there(group),
+                out,
+            );
+        }
     }
 }

@@ -4,11 +4,11 @@
 //! made but the record that is handed on, so that one loop walks all nine types. What a type reads ahead of a group's records is the
 //! group's head. Heads are read one after the other before any of their records, since each may have to wait for memory.
 
-ghost use Rattle.std.specs.Prelude.{◌≡◌, ◌<◌, ◌≤◌, ◌+◌, ◌-◌, ℕ, List, Some, length, drop, map, min, take, flat_map, slice_get, OnOk};
+ghost use Rattle.std.specs.Prelude.{◌≡◌, ◌<◌, ◌≤◌, ◌+◌, ◌-◌, ℕ, List, Some, length, drop, map, min, take, flat_map, slice_get, option_map, OnOk};
 ghost use Rattle.tl_number.specs.Groups.{AreHeads, group_at, grouped};
 
 use crate::taker::RecordTaker;
-use tl_layout::Tabled;
+use tl_layout::{Layout, Tabled};
 
 /// Records of one type in groups, such as those of each chain. Groups count from 0, and so do the records of a group.
 pub trait RecordGroups {
@@ -45,6 +45,17 @@ pub trait RecordGroups {
         requires head { IsHead self.now group head }
         requires place { place < length (group_at (groups self.now) group) }
         ensures { Some result ≡ slice_get (group_at (groups self.now) group) place };
+
+    /// Writes the canonical spelling of a record of a group into room of its length.
+    fn put(&self, group: usize, head: Self::Head, place: usize, out: &mut [u8])
+        requires group { group < length (groups self.now) }
+        requires head { IsHead self.now group head }
+        requires place { place < length (group_at (groups self.now) group) }
+        requires room { length out.old ≡ Self.Item.LEN }
+        ensures { Some out.new ≡ option_map Self.Item.spelling (slice_get (group_at (groups self.now) group) place) }
+    {
+        self.record(group, head, place).put(out);
+    }
 }
 
 /// Reads the heads of groups, from one of them on, as many as there is room for, or up to the last; answers how many they are.
@@ -76,7 +87,7 @@ fn give_group<D, G: RecordGroups, T: RecordTaker<D>>(
     ensures ready { OnOk result (T.IsReady taker.new device.new) }
 {
     for place in 0..groups.count_in(group, head) {
-        taker.take(groups.record(group, head, place), device)?;
+        taker.take_from(groups, group, head, place, device)?;
     }
     Ok(())
 }

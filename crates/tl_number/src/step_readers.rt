@@ -1,7 +1,10 @@
 //! The chain of a step, read through a county's chart in the direction of the step.
 
-ghost use Rattle.std.specs.Prelude.{◌≡◌, ◌<◌, Some, length, option_map, slice_get};
+ghost use Rattle.std.specs.Prelude.{◌≡◌, ◌<◌, ◌≤◌, Some, length, option_map, slice_get, take};
 ghost use Rattle.tl_county.specs.ChartWords.{feats_of, points_of, ranges_of};
+ghost use Rattle.tl_layout.specs.Columns.{joined};
+ghost use Rattle.tl_layout.specs.Turned.{body_towards};
+ghost use Rattle.tl_layout.specs.Type1Groups.{body_1_texts};
 ghost use Rattle.tl_number.specs.ByStep.{ends_of, sides_of};
 ghost use Rattle.tl_number.specs.Steps.{step_chain};
 
@@ -24,6 +27,17 @@ pub(crate) fn body_of_step<C: Chart>(chart: &C, step: ChainWalk) -> Option<Body1
         }
         None => None,
     }
+}
+
+/// Writes the content of the type 1 record of the chain of a step into columns 16 to 190 of a line, as it is seen from the other end of
+/// the step if told.
+pub(crate) fn put_body_of_step<C: Chart>(chart: &C, step: ChainWalk, turned: bool, out: &mut [u8])
+    requires place { step.place < length (C.county chart.now).chains }
+    requires room { 190 ≤ length out.old }
+    ensures { Some (take 190 out.new)
+        ≡ option_map (λ c. joined (take 15 out.old) (body_1_texts (body_towards turned c.body))) (step_chain (C.county chart.now) step) }
+{
+    chart.put_chain_body(step.place as usize, turned != step.turned, out);
 }
 
 /// How many points the chain of a step has.

@@ -1,8 +1,10 @@
 //! Who takes the records of a county, one after the other.
 
-ghost use Rattle.std.specs.Prelude.{◌∷◌, ◌++◌, [], List, Ok, Err, Result, OnOk};
+ghost use Rattle.std.specs.Prelude.{◌≡◌, ◌<◌, ◌∷◌, ◌++◌, [], List, Ok, Err, Result, OnOk, Some, length, slice_get};
 ghost use Rattle.tl_layout.specs.declared.record_type.Record.{Record};
+ghost use Rattle.tl_number.specs.Groups.{group_at};
 
+use crate::groups::RecordGroups;
 use tl_layout::Tabled;
 
 /// Takes records one after the other, with the help of a device that is lent to it.
@@ -21,6 +23,26 @@ pub trait RecordTaker<D> {
         requires { IsReady self.old device.old }
         ensures takes { Takes (L.as_record found ∷ []) self.old device.old result self.new device.new }
         ensures ready { OnOk result (IsReady self.new device.new) };
+
+    /// Takes one record more, that at a place of a group. Who wants but its text needn't have the record made.
+    fn take_from<G: RecordGroups>(
+        &mut self,
+        groups: &G,
+        group: usize,
+        head: G::Head,
+        place: usize,
+        device: &mut D,
+    ) -> Result<(), Self::Fault>
+        requires group { group < length (G.groups groups.now) }
+        requires head { G.IsHead groups.now group head }
+        requires place { place < length (group_at (G.groups groups.now) group) }
+        requires ready { IsReady self.old device.old }
+        ensures takes { (found : G.Item) → slice_get (group_at (G.groups groups.now) group) place ≡ Some found
+            → Takes (G.Item.as_record found ∷ []) self.old device.old result self.new device.new }
+        ensures ready { OnOk result (IsReady self.new device.new) }
+    {
+        self.take(groups.record(group, head, place), device)
+    }
 
     /// To take no records changes nothing.
     ghost none: { (t : Self) (d : D) → Takes [] t d (Ok tt) t d };

@@ -8,7 +8,7 @@ use crate::sink::Sink;
 use crate::text_buffer::TextBuffer;
 use std::alloc::AllocError;
 use tl_layout::{Record, Tabled};
-use tl_number::RecordTaker;
+use tl_number::{RecordGroups, RecordTaker};
 
 /// The text of the records goes out to a sink, behind what went out before.
 impl<W: Sink> RecordTaker<W> for TextBuffer {
@@ -24,6 +24,17 @@ impl<W: Sink> RecordTaker<W> for TextBuffer {
 
     fn take<L: Tabled>(&mut self, found: L, device: &mut W) -> Result<(), WriteFault> {
         self.put_line(&found, device)
+    }
+
+    fn take_from<G: RecordGroups>(
+        &mut self,
+        groups: &G,
+        group: usize,
+        head: G::Head,
+        place: usize,
+        device: &mut W,
+    ) -> Result<(), WriteFault> {
+        self.put_line_from(groups, group, head, place, device)
     }
 
     ghost none = { puts_none W.failed W.holds };

@@ -1,6 +1,7 @@
 //! A buffer between the lines of a text and the sink that it goes out to.
 
-ghost use Rattle.std.specs.Prelude.{◌≡◌, ◌<◌, ◌≤◌, ◌+◌, ◌++◌, ◌∷◌, ℕ, List, [], length, MatchResult, OnOk, is_ok, if◌then◌else◌};
+ghost use Rattle.std.specs.Prelude.{◌≡◌, ◌<◌, ◌≤◌, ◌+◌, ◌++◌, ◌∷◌, ℕ, List, [], length, MatchResult, OnOk, Some, is_ok, slice_get, if◌then◌else◌};
+ghost use Rattle.tl_number.specs.Groups.{group_at};
 ghost use Rattle.tl_write.specs.GoingOut.{HasCounted, HoldsBeginning, IsGoingOut, up_to_most};
 
 use crate::bytes_out::write_bytes;
@@ -8,6 +9,7 @@ use crate::fault::WriteFault;
 use crate::sink::Sink;
 use std::marker::Model;
 use tl_layout::{Layout, put_line};
+use tl_number::RecordGroups;
 
 /// How many bytes the buffer has room for: some hundred lines.
 const BUFFER_BYTES: usize = 65_536;
@@ -108,6 +110,48 @@ impl TextBuffer {
     {
         self.make_room(L::LEN + 1, w)?;
         self.append(found);
+        Ok(())
+    }
+
+    /// Adds the line of a record of a group, for which there is room.
+    fn append_from<G: RecordGroups>(&mut self, groups: &G, group: usize, head: G::Head, place: usize)
+        requires group { group < length (G.groups groups.now) }
+        requires head { G.IsHead groups.now group head }
+        requires place { place < length (group_at (G.groups groups.now) group) }
+        requires room { length self.old.waiting + G.Item.LEN < BUFFER_BYTES }
+        ensures { (found : G.Item) → slice_get (group_at (G.groups groups.now) group) place ≡ Some found
+            → self.new ≡ record { waiting = self.old.waiting ++ (G.Item.spelling found ++ 10 ∷ []); sent = self.old.sent } }
+    {
+        let end = self.filled + <G::Item as Layout>::LEN;
+        groups.put(group, head, place, &mut self.bytes[self.filled..end]);
+        self.bytes[end] = b'\n';
+        self.filled = end + 1;
+    }
+
+    /// Adds the line of a record of a group. What waits is sent before, where there is no room for the line.
+    pub(crate) fn put_line_from<G: RecordGroups, W: Sink>(
+        &mut self,
+        groups: &G,
+        group: usize,
+        head: G::Head,
+        place: usize,
+        w: &mut W,
+    ) -> Result<(), WriteFault>
+        requires group { group < length (G.groups groups.now) }
+        requires head { G.IsHead groups.now group head }
+        requires place { place < length (group_at (G.groups groups.now) group) }
+        requires failures { W.failed w.old < u64.MAX }
+        ensures failures { W.failed w.new ≡ (if is_ok result then W.failed w.old else W.failed w.old + 1) }
+        ensures counted { (found : G.Item) → slice_get (group_at (G.groups groups.now) group) place ≡ Some found
+            → (total : ℕ) → HasCounted total self.old
+            → MatchResult result (λ _. HasCounted (total + length (G.Item.spelling found ++ 10 ∷ [])) self.new) (λ f. f.written < total) }
+        ensures put { (found : G.Item) → slice_get (group_at (G.groups groups.now) group) place ≡ Some found
+            → (held text : List ℕ) → IsGoingOut W.holds held text self.old w.old
+            → MatchResult result (λ _. IsGoingOut W.holds held (text ++ (G.Item.spelling found ++ 10 ∷ [])) self.new w.new)
+            (λ f. HoldsBeginning W.holds held text f.written w.new) }
+    {
+        self.make_room(<G::Item as Layout>::LEN + 1, w)?;
+        self.append_from(groups, group, head, place);
         Ok(())
     }
 

@@ -81,6 +81,12 @@ impl<C: KeptChain, N: KeptName, L: KeptLandmark> Chart for Kept<C, N, L> {
         }
     }
 
+    fn put_chain_body(&self, place: usize, turned: bool, out: &mut [u8]) {
+        if let Some(chain) = self.chain_of_place(place) {
+            chain.body().put_towards(turned, out);
+        }
+    }
+
     fn point_count_at(&self, place: usize) -> usize {
         match self.chain_of_place(place) {
             Some(chain) => chain.points().len(),

@@ -15,6 +15,6 @@ returns c =
     let written = whole 190 c.put.new.out _ (omega arith) c.put.ensures ∙ joined-before (blanks 15) (body_1_texts fields) in
     let text = columns_are_text fields c.show_fit.ensures in
     let kept : c.from_slice.result ≡ body_1_text fields =
-        c.from_slice.ensures
-        ∙ (ap (λ (l : List ℕ). take 175 (drop 15 l)) written ∙ take_all 175 (body_1_text fields) (omega (arith, text.len))) in
+    c.from_slice.ensures
+    ∙ (ap (λ (l : List ℕ). take 175 (drop 15 l)) written ∙ take_all 175 (body_1_text fields) (omega (arith, text.len))) in
     ap body_1_of kept ∙ fields_again fields c.show_fit.ensures

@@ -1,0 +1,25 @@
+-- The turned content was written behind fifteen blanks, and is kept as it stands there.
+use Rattle.std.proofs.Common.{◌≡◌, arith, ap, sym, subst, ◌++◌, ◌∙◌}
+use Rattle.tl_layout.proofs.Writes.{whole}
+use Rattle.tl_layout.proofs.turn.Body1Turn.turn.Goals as goal
+use Rattle.tl_layout.specs.ByteLaws.{blanks_are_text}
+use Rattle.tl_layout.specs.Bytes.{AreAllowed, blanks}
+use Rattle.tl_layout.specs.ColumnLaws.{joined-before}
+use Rattle.tl_layout.specs.PlaceLaws.{pair_of_texts}
+use Rattle.tl_layout.specs.Turned.{turned_body}
+use Rattle.tl_layout.specs.TurnedFits.{body_turned_fits}
+use Rattle.tl_layout.specs.Type1ColumnLaws.{columns_are_text, fields_again}
+use Rattle.tl_layout.specs.Type1Groups.{body_1_at, body_1_texts}
+
+pub at-requires-clause-allowed : goal.at-requires-clause-allowed
+at-requires-clause-allowed c =
+    let body = turned_body c.args.self.now in
+    let written = whole 190 c.put_turned.new.out _ (omega arith) c.put_turned.ensures ∙ joined-before (blanks 15) (body_1_texts body) in
+    subst AreAllowed (sym written)
+    (pair_of_texts 15 175 _ _ (blanks_are_text 15) (columns_are_text body (body_turned_fits c.args.self.now c.show_fit.ensures))).allowed
+
+pub returns : goal.returns
+returns c =
+    let body = turned_body c.args.self.now in
+    let written = whole 190 c.put_turned.new.out _ (omega arith) c.put_turned.ensures ∙ joined-before (blanks 15) (body_1_texts body) in
+    c.at.ensures ∙ (ap body_1_at written ∙ fields_again body (body_turned_fits c.args.self.now c.show_fit.ensures))
