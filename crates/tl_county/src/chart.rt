@@ -100,7 +100,8 @@ pub trait Chart {
         ensures { Some (take 190 out.new)
             ≡ option_map (λ c. joined (take 15 out.old) (body_1_texts (body_towards turned c.body))) (chain_at (county self.now) place) }
     {
-        self.chain_body_there(place).put_towards(turned, out);
+        let body = self.chain_body_at(place).unwrap();
+        body.put_towards(turned, out);
     }
 
     /// How many points the chain at a place has.

@@ -2,8 +2,8 @@
 //!
 //! Where to start: [`Layout::take`] of a record's type, as `Rec1::take(line)`, reads a full line, and [`Layout::put`] writes
 //! one. A [`Record`] is of any type, and [`Tables`] hold records by their types. A record is made of its numbers and its
-//! content, as `Rec5::new(feat, body)`; a content such as [`Body1`] is a literal of [`Text`]s under their names, and `new`
-//! takes the same as arrays in a row. Files are read by the crate `tl_load`.
+//! content, as `Rec5::new(feat, body)`; a content such as [`Body7`] is a literal of [`Text`]s under their names, and `new`
+//! takes the same as arrays in a row. [`Body1`] is made of such a literal, of [`Body1Fields`]. Files are read by the crate `tl_load`.
 #![tactic(auto)]
 
 mod blank;

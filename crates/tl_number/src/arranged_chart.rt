@@ -118,8 +118,9 @@ impl<C: Chart, S: Standing> Chart for Arranged<C, S> {
     }
 
     fn put_chain_body(&self, place: usize, turned: bool, out: &mut [u8]) {
-        if let Some(step) = self.step_at(place) {
-            put_body_of_step(&self.chart, step, turned, out);
+        match self.step_at(place) {
+            Some(step) => put_body_of_step(&self.chart, step, turned, out),
+            None => {}
         }
     }
 

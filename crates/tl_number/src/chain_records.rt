@@ -258,16 +258,14 @@ impl<C: Chart> RecordGroups for LinkRecords<'_, C> {
     }
 
     fn put(&self, group: usize, head: Option<BodyI>, _place: usize, out: &mut [u8]) {
-        if let Some(body) = &head {
-            RecI::put_fields(
-                self.chart.tlid_there(group),
-                body,
-                self.chart.start_node_there(group),
-                self.chart.end_node_there(group),
-                &self.chart.left_there(group),
-                &self.chart.right_there(group),
-                out,
-            );
-        }
+        RecI::put_fields(
+            self.chart.tlid_there(group),
+            head.as_ref().unwrap(),
+            self.chart.start_node_there(group),
+            self.chart.end_node_there(group),
+            &self.chart.left_there(group),
+            &self.chart.right_there(group),
+            out,
+        );
     }
 }

@@ -37,7 +37,8 @@ pub(crate) fn put_body_of_step<C: Chart>(chart: &C, step: ChainWalk, turned: boo
     ensures { Some (take 190 out.new)
         ≡ option_map (λ c. joined (take 15 out.old) (body_1_texts (body_towards turned c.body))) (step_chain (C.county chart.now) step) }
 {
-    chart.put_chain_body(step.place as usize, turned != step.turned, out);
+    let seen_from_end = if step.turned { !turned } else { turned };
+    chart.put_chain_body(step.place as usize, seen_from_end, out);
 }
 
 /// How many points the chain of a step has.

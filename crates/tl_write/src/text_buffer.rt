@@ -33,6 +33,26 @@ impl Model for TextBuffer {
     ghost invariant = { λ b. b.filled ≤ length b.bytes };
 }
 
+/// Writes the line of a record of a group, its canonical spelling and LF, into room of its length.
+fn put_line_of<G: RecordGroups>(
+    groups: &G,
+    group: usize,
+    head: G::Head,
+    place: usize,
+    room: &mut [u8],
+)
+    requires group { group < length (G.groups groups.now) }
+    requires head { G.IsHead groups.now group head }
+    requires place { place < length (group_at (G.groups groups.now) group) }
+    requires room { length room.old ≡ G.Item.LEN + 1 }
+    ensures { (found : G.Item) → slice_get (group_at (G.groups groups.now) group) place ≡ Some found
+        → room.new ≡ G.Item.spelling found ++ 10 ∷ [] }
+{
+    let len = <G::Item as Layout>::LEN;
+    groups.put(group, head, place, &mut room[..len]);
+    room[len] = b'\n';
+}
+
 impl TextBuffer {
     /// A buffer of nothing.
     pub(crate) fn new() -> TextBuffer
@@ -114,7 +134,13 @@ impl TextBuffer {
     }
 
     /// Adds the line of a record of a group, for which there is room.
-    fn append_from<G: RecordGroups>(&mut self, groups: &G, group: usize, head: G::Head, place: usize)
+    fn append_from<G: RecordGroups>(
+        &mut self,
+        groups: &G,
+        group: usize,
+        head: G::Head,
+        place: usize,
+    )
         requires group { group < length (G.groups groups.now) }
         requires head { G.IsHead groups.now group head }
         requires place { place < length (group_at (G.groups groups.now) group) }
@@ -122,10 +148,10 @@ impl TextBuffer {
         ensures { (found : G.Item) → slice_get (group_at (G.groups groups.now) group) place ≡ Some found
             → self.new ≡ record { waiting = self.old.waiting ++ (G.Item.spelling found ++ 10 ∷ []); sent = self.old.sent } }
     {
-        let end = self.filled + <G::Item as Layout>::LEN;
-        groups.put(group, head, place, &mut self.bytes[self.filled..end]);
-        self.bytes[end] = b'\n';
-        self.filled = end + 1;
+        let end = self.filled + <G::Item as Layout>::LEN + 1;
+        let room = &mut self.bytes[self.filled..end];
+        put_line_of(groups, group, head, place, room);
+        self.filled = end;
     }
 
     /// Adds the line of a record of a group. What waits is sent before, where there is no room for the line.

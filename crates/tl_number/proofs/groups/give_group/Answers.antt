@@ -3,6 +3,7 @@ use Rattle.std.proofs.lemmas.List.{take_all}
 use Rattle.std.proofs.lemmas.Result.{err_from_is_err_and}
 use Rattle.tl_number.specs.Groups.{group_at}
 use Rattle.tl_county.proofs.Lists.Places.{next_taken}
+use Rattle.tl_number.proofs.ChainPlaces.{some_at}
 use Rattle.tl_number.proofs.Grouped.{map-append, parted}
 use Rattle.tl_number.proofs.groups.give_group.Goals as goal
 
@@ -12,39 +13,41 @@ loop-place-init g c = record {
   ready = c.requires.ready;
 }
 
-pub take-requires : goal.take-requires
-take-requires g c = c.loop-place.invariant.ready
+pub take_from-requires-clause-ready : goal.take_from-requires-clause-ready
+take_from-requires-clause-ready g c = c.loop-place.invariant.ready
 
-pub returns-in_err-take-clause-given : goal.returns-in_err-take-clause-given
-returns-in_err-take-clause-given g c =
+pub returns-in_err-take_from-clause-given : goal.returns-in_err-take_from-clause-given
+returns-in_err-take_from-clause-given g c =
     let f = g.G.Item.Tabled.as_record in
     let xs = group_at (g.G.RecordGroups.groups c.args.groups.now) c.args.group in
     let i = c.loop-place.place in
-    let x = c.record.result in
+    let found = some_at xs i (omega (arith, c.count_in-place-end.ensures, c.loop-place-test.true)) in
+    let x = found.0 in
     let p = err_from_is_err_and c.from_residual.result c.from_residual.ensures.1 in
     let all : map f xs ≡ map f (take i xs) ++ ((f x ∷ []) ++ map f (drop (suc i) xs)) =
-    ap (map f) (parted xs i x c.record.ensures) ∙ map-append f (take i xs) (x ∷ drop (suc i) xs) in
-    subst (λ rs. g.T.RecordTaker.Takes rs c.args.taker.now c.args.device.now c.from_residual.result c.take.new.self c.take.new.device)
+    ap (map f) (parted xs i x (sym found.1)) ∙ map-append f (take i xs) (x ∷ drop (suc i) xs) in
+    subst (λ rs. g.T.RecordTaker.Takes rs c.args.taker.now c.args.device.now c.from_residual.result c.take_from.new.self c.take_from.new.device)
     (sym all)
     (rw (p.1, p.2) (g.met.T.RecordTaker.then (map f (take i xs)) ((f x ∷ []) ++ map f (drop (suc i) xs)) c.args.taker.now c.loop-place.taker
-    c.take.new.self
-    c.args.device.now c.loop-place.device c.take.new.device (Err c.in_err-take.field-0.0) c.loop-place.invariant.taken
-    (g.met.T.RecordTaker.stops (f x ∷ []) (map f (drop (suc i) xs)) c.loop-place.taker c.take.new.self c.loop-place.device c.take.new.device
-    c.in_err-take.field-0.0 c.in_err-take.ensures.takes)))
+    c.take_from.new.self
+    c.args.device.now c.loop-place.device c.take_from.new.device (Err c.in_err-take_from.field-0.0) c.loop-place.invariant.taken
+    (g.met.T.RecordTaker.stops (f x ∷ []) (map f (drop (suc i) xs)) c.loop-place.taker c.take_from.new.self c.loop-place.device c.take_from.new.device
+    c.in_err-take_from.field-0.0 (c.in_err-take_from.ensures.takes x found.1))))
 
 pub loop-place-preserved : goal.loop-place-preserved
 loop-place-preserved g c =
     let f = g.G.Item.Tabled.as_record in
     let xs = group_at (g.G.RecordGroups.groups c.args.groups.now) c.args.group in
     let i = c.loop-place.place in
-    let x = c.record.result in
+    let found = some_at xs i (omega (arith, c.count_in-place-end.ensures, c.loop-place-test.true)) in
+    let x = found.0 in
     let next : map f (take (i + 1) xs) ≡ map f (take i xs) ++ (f x ∷ []) =
-    rw (add-one) (ap (map f) (next_taken xs i x c.record.ensures) ∙ map-append f (take i xs) (x ∷ [])) in
+    rw (add-one) (ap (map f) (next_taken xs i x (sym found.1)) ∙ map-append f (take i xs) (x ∷ [])) in
     record {
-      taken = subst (λ rs. g.T.RecordTaker.Takes rs c.args.taker.now c.args.device.now (Ok tt) c.take.new.self c.take.new.device) (sym next)
-          (g.met.T.RecordTaker.then (map f (take i xs)) (f x ∷ []) c.args.taker.now c.loop-place.taker c.take.new.self
-          c.args.device.now c.loop-place.device c.take.new.device (Ok tt) c.loop-place.invariant.taken c.in_ok-take.ensures.takes);
-      ready = c.in_ok-take.ensures.ready;
+      taken = subst (λ rs. g.T.RecordTaker.Takes rs c.args.taker.now c.args.device.now (Ok tt) c.take_from.new.self c.take_from.new.device) (sym next)
+          (g.met.T.RecordTaker.then (map f (take i xs)) (f x ∷ []) c.args.taker.now c.loop-place.taker c.take_from.new.self
+          c.args.device.now c.loop-place.device c.take_from.new.device (Ok tt) c.loop-place.invariant.taken (c.in_ok-take_from.ensures.takes x found.1));
+      ready = c.in_ok-take_from.ensures.ready;
     }
 
 pub returns-clause-given : goal.returns-clause-given

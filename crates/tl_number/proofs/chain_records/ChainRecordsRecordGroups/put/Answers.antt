@@ -1,0 +1,34 @@
+-- The number, the content and the points were written one behind the other, as the record is spelled.
+use Rattle.std.proofs.Common.{◌≡◌, ◌<◌, ◌∙◌, ◌∷◌, ◌++◌, [], Some, length, option_map, codes, take, sym, ap, subst}
+use Rattle.std.proofs.lemmas.List.{length-map}
+use Rattle.tl_county.specs.Packing.{packed_one, first_point, last_point}
+use Rattle.tl_layout.specs.Columns.{joined}
+use Rattle.tl_layout.specs.FieldTexts.{number_text}
+use Rattle.tl_layout.specs.RecordTables.{rtype_1}
+use Rattle.tl_layout.specs.Type1.{type_1_spelling}
+use Rattle.tl_layout.specs.Type1Groups.{body_1_texts, point_texts}
+use Rattle.tl_number.proofs.ChainPlaces.{chain_of_group}
+use Rattle.tl_number.proofs.RecordPlaces.{tlid_of, part_of, lone_of}
+use Rattle.tl_number.proofs.chain_records.ChainRecordsRecordGroups.put.Goals as goal
+
+pub put_chain_body-requires-clause-place : goal.put_chain_body-requires-clause-place
+put_chain_body-requires-clause-place g c =
+    let county = g.C.Chart.county c.args.self.now.chart.now in
+    subst (λ n. c.args.group < n) (length-map county.chains (λ entry. packed_one entry ∷ [])) c.requires.group
+
+pub returns : goal.returns
+unfolding type_1_spelling
+returns g c =
+    let chart = c.args.self.now.chart.now in
+    let there = chain_of_group (λ entry. packed_one entry ∷ []) (g.C.Chart.county chart) (g.met.C.Chart.is_county chart)
+    (g.met.C.Chart.within_limits chart) c.args.group c.requires.group in
+    let tlid_is = tlid_of there c.tlid_there.result c.tlid_there.ensures in
+    let numbered = c.put_number.ensures ∙ ap (λ n. (rtype_1 ∷ codes "2006") ++ number_text 10 n) tlid_is in
+    let body_is = part_of (λ chain. joined (take 15 c.put_number.new.out) (body_1_texts chain.body)) there
+    (take 190 c.put_chain_body.new.out) c.put_chain_body.ensures in
+    let ends_are = part_of (λ chain. (first_point chain.points, last_point chain.points)) there c.args.head c.requires.head in
+    ap Some (c.put_points.ensures
+    ∙ ((λ i. joined (joined (body_is i) (point_texts (ends_are i).0)) (point_texts (ends_are i).1))
+    ∙ ap (λ before. joined (joined (joined before (body_1_texts there.entry.1.body)) (point_texts (first_point there.entry.1.points)))
+    (point_texts (last_point there.entry.1.points))) numbered))
+    ∙ sym (ap (option_map type_1_spelling) (lone_of packed_one there c.args._place c.requires.place))
