@@ -16,7 +16,12 @@ fn tells_feature(rt: &impl Abort, body: &Body1) {
     same(rt, "FEDIRP, FETYPE, FEDIRS", &found, &wanted);
     let wanted = b"Main                          ";
     same_items(rt, "FENAME", &body.fename(), wanted);
-    same(rt, "the content of its fields", &Body1::of(&body.fields()), body);
+    same(
+        rt,
+        "the content of its fields",
+        &Body1::of(&body.fields()),
+        body,
+    );
 }
 
 /// Tells the native areas beside a chain, and what is reserved.
