@@ -2,7 +2,7 @@
 
 ghost use Rattle.std.specs.Prelude.{◌≡◌, ◌+◌, ◌-◌, ◌*◌, ◌≤◌, length, refl, take};
 ghost use Rattle.tl_layout.specs.Columns.{joined};
-ghost use Rattle.tl_layout.specs.Turned.{exchanged, turned_ranges, turned_entities, turned_body};
+ghost use Rattle.tl_layout.specs.Turned.{exchanged, turned_ranges, turned_entities, turned_body, body_towards};
 
 use crate::layout::LONGEST_LINE;
 use crate::pair::LeftRight;
@@ -33,7 +33,7 @@ impl<const N: usize> LeftRight<N> {
     }
 }
 
-// What turns ranges isn't inlined: the room that an exchange needs is cleared when a function begins, and most values aren't turned.
+// What turns isn't inlined: the room that it needs is cleared when a function begins, and most values aren't turned.
 
 /// The address at the left start changes places with the one at the right end, and the one at the left end with the one at
 /// the right start; so do their flags. The two postal codes change places.
@@ -108,7 +108,8 @@ impl Body1 {
     ghost use Rattle.tl_layout.specs.Type1Groups.{body_1_texts};
 
     /// Writes the content into columns 16 to 190 of a line, as it is seen from the chain's other end.
-    pub(crate) fn put_turned(&self, out: &mut [u8])
+    #[inline(never)]
+    fn put_turned(&self, out: &mut [u8])
         requires { 190 ≤ length out.old }
         ensures { take 190 out.new ≡ joined (take 15 out.old) (body_1_texts (turned_body self.now)) }
     {
@@ -124,6 +125,18 @@ impl Body1 {
         write_text(out, 130, 130, &fields.census2);
         fields.entities.put_exchanged(out);
     }
+
+    /// Writes the content into columns 16 to 190 of a line, as it is seen from the chain's other end if told.
+    pub fn put_towards(&self, turned: bool, out: &mut [u8])
+        requires { 190 ≤ length out.old }
+        ensures { take 190 out.new ≡ joined (take 15 out.old) (body_1_texts (body_towards turned self.now)) }
+    {
+        if turned {
+            self.put_turned(out);
+        } else {
+            self.put(out);
+        }
+    }
 }
 
 /// The address ranges are turned, and each field of the left is exchanged with that of the right. SIDE1, SOURCE, the
@@ -131,6 +144,7 @@ impl Body1 {
 impl Turn for Body1 {
     ghost turned = { turned_body };
 
+    #[inline(never)]
     fn turn(&mut self) {
         let mut line = [b' '; 190];
         self.show_fit();

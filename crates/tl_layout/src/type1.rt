@@ -150,7 +150,6 @@ impl fmt::Debug for Body1 {
 }
 
 impl Body1 {
-    ghost use Rattle.tl_layout.specs.Turned.{body_towards};
     ghost use Rattle.tl_layout.specs.Type1Groups.{FitsBody1, body_1_at, body_1_texts};
 
     /// The content of these fields.
@@ -187,23 +186,11 @@ impl Body1 {
     }
 
     /// Writes the content into columns 16 to 190 of a line.
-    fn put(&self, out: &mut [u8])
+    pub(crate) fn put(&self, out: &mut [u8])
         requires { 190 ≤ length out.old }
         ensures { take 190 out.new ≡ joined (take 15 out.old) (body_1_texts self.now) }
     {
         write_text(out, 16, 190, &self.columns);
-    }
-
-    /// Writes the content into columns 16 to 190 of a line, as it is seen from the chain's other end if told.
-    pub fn put_towards(&self, turned: bool, out: &mut [u8])
-        requires { 190 ≤ length out.old }
-        ensures { take 190 out.new ≡ joined (take 15 out.old) (body_1_texts (body_towards turned self.now)) }
-    {
-        if turned {
-            self.put_turned(out);
-        } else {
-            self.put(out);
-        }
     }
 
     /// Does nothing: that each field fits its columns is so by its type.

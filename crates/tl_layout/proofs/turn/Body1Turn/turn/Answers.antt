@@ -1,5 +1,5 @@
 -- The turned content was written behind fifteen blanks, and is kept as it stands there.
-use Rattle.std.proofs.Common.{◌≡◌, arith, ap, sym, subst, ◌++◌, ◌∙◌}
+use Rattle.std.proofs.Common.{arith, ap, sym, subst, ◌∙◌}
 use Rattle.tl_layout.proofs.Writes.{whole}
 use Rattle.tl_layout.proofs.turn.Body1Turn.turn.Goals as goal
 use Rattle.tl_layout.specs.ByteLaws.{blanks_are_text}
