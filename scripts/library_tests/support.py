@@ -103,7 +103,7 @@ def in_library(tests: Tests, **more: str) -> Dict[str, str]:
 
 
 def main(library: Path, program: Path, is_quick: bool) -> int:
-    from library_tests import in_c, in_python, large
+    from library_tests import in_c, in_guide, in_python, large
 
     if not (library / "lib/libtigercanon.a").exists():
         print(f"library, there is none in {library}: scripts/build-library builds it", file=sys.stderr)
@@ -112,6 +112,7 @@ def main(library: Path, program: Path, is_quick: bool) -> int:
         tests = Tests(library, program, Path(room))
         in_c.run_all(tests)
         in_python.run_all(tests)
+        in_guide.run_all(tests)
         if is_quick:
             pass
         elif not program.exists():

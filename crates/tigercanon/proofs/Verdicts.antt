@@ -9,6 +9,8 @@ use Rattle.tl_county.proofs.Packing.PackedCounty.{packed_county}
 use Rattle.tl_number.specs.Sights.{IsSight, plain}
 use Rattle.tl_number.proofs.Accepted.{one_canonical_same, plain_sight}
 use Rattle.tigercanon.specs.Comparing.{AreDifferent, AreDifferentThrough, AreOneMap, AreOneMapThrough, IsAcceptable}
+use Rattle.tigercanon.specs.Findings.{Finding, IsFound, IsFoundOfCounties}
+use Rattle.tigercanon.specs.Findings.Finding.{Carried, OneMap, TwoMaps}
 use Rattle.tigercanon.specs.Sets.{CarriesSetThrough, IsCanonSet, IsCanonSetThrough, IsCanonicalTextThrough}
 use Rattle.tigercanon.specs.TwoSets.{where_ended}
 use Rattle.tigercanon.specs.declared.program.ending.Ending.{Ending}
@@ -76,6 +78,12 @@ module _ (seen : County → County) (sight : IsSight seen) (parts others : List 
           carries = same.carries;
         },
       )
+
+  -- what is found of the counties is found of the sets
+  pub found_of_sets : (finding : Finding) → IsFoundOfCounties a b a' b' finding → IsFound seen parts others finding
+  found_of_sets (Carried r) carries = sets_carried r carries
+  found_of_sets OneMap same = sets_one_map same
+  found_of_sets TwoMaps other = sets_different other
 
   -- what an ending says of the packings it says of the sets
   pub verdict_through : (ending : Ending) → where_ended ending (packed a' ≡ packed b') (packed a' ≢ packed b')

@@ -2,6 +2,7 @@ pub mod Files
 pub mod Respelling
 pub mod Sets
 pub mod Faults
+pub mod Findings
 pub mod LentParts
 pub mod Linked
 pub mod Statuses

@@ -22,7 +22,9 @@ pub use laws::{
     one_canonical_text_under_each_mask, usual_words_are_planned,
 };
 pub use library::checking::check;
-pub use library::comparing::{CompareFault, Verdict, compare, compare_masked};
+pub use library::comparing::{
+    CompareFault, Verdict, are_one_map, are_one_map_masked, compare, compare_masked,
+};
 pub use library::fingerprinting::{fingerprint, fingerprint_masked};
 pub use library::normalising::{
     normalise, normalise_masked, normalise_to, normalise_to_masked, normalise_with_renaming,

@@ -3,6 +3,7 @@
 pub(crate) mod canonising;
 pub(crate) mod checking;
 pub(crate) mod comparing;
+pub(crate) mod concluding;
 pub(crate) mod fingerprinting;
 pub(crate) mod hashing;
 pub(crate) mod judged;

@@ -17,8 +17,7 @@ ghost use Rattle.tl_load.specs.Outcome.{SpellsWithin};
 use crate::edge::Part;
 use std::alloc::{AllocError, Global};
 use tigercanon::{
-    CompareFault, Fault, Verdict, check, compare_masked, fingerprint_masked, normalise_masked,
-    respell,
+    CompareFault, Fault, are_one_map_masked, check, fingerprint_masked, normalise_masked, respell,
 };
 use tl_layout::Mask;
 use tl_load::LoadFault;
@@ -116,27 +115,6 @@ pub(crate) fn fingerprint_parts(
     fingerprint_masked(alloc, slices.as_slice(), mask)
 }
 
-/// Whether two sets are one map under a mask.
-fn are_one_map(
-    alloc: Global,
-    first: &[&[u8]],
-    second: &[&[u8]],
-    mask: Mask,
-) -> Result<bool, CompareFault>
-    ensures same { result ≡ Ok true → AreOneMapThrough (masked mask) (bytes_of_parts first.now) (bytes_of_parts second.now) }
-    ensures different { result ≡ Ok false →
-        AreDifferentThrough (masked mask) (bytes_of_parts first.now) (bytes_of_parts second.now) }
-    ensures refused { IfErr result (TellsRefusalOfOne (bytes_of_parts first.now) (bytes_of_parts second.now)) }
-    ensures no_device { (set : ℕ) → result ≢ Err (CompareFault.In set (Fault.Load LoadFault.Device)) }
-    ensures succeeds { IfErr result (TellsMemoryOfAccepted (bytes_of_parts first.now) (bytes_of_parts second.now)) }
-{
-    match compare_masked(alloc, first, second, mask) {
-        Ok(Verdict::Same(_)) => Ok(true),
-        Ok(Verdict::Different) => Ok(false),
-        Err(fault) => Err(fault),
-    }
-}
-
 /// Whether two sets of parts are one map under a mask.
 pub(crate) fn compare_parts(
     alloc: Global,
@@ -153,5 +131,5 @@ pub(crate) fn compare_parts(
 {
     let first = beside_of_two(alloc, first)?;
     let second = beside_of_two(alloc, second)?;
-    are_one_map(alloc, first.as_slice(), second.as_slice(), mask)
+    are_one_map_masked(alloc, first.as_slice(), second.as_slice(), mask)
 }

@@ -1,4 +1,4 @@
-use Rattle.tigercanon.proofs.UsualWords.{usual_words_planned}
+use Rattle.tigercanon.proofs.UsualWords.Planned.{usual_words_planned}
 use Rattle.tigercanon.proofs.laws.usual_words_are_planned.Goals as goal
 
 pub returns : goal.returns

@@ -8,6 +8,6 @@ pub returns-clause-refused : goal.returns-clause-refused
 returns-clause-refused c =
     let first = ap bytes_of_parts c.as_slice.ensures.value ∙ c.in_ok-first.ensures.slices in
     let second = ap bytes_of_parts c.as_slice-2.ensures.value ∙ c.in_ok-second.ensures.slices in
-    subst (λ a. IfErr c.are_one_map.result (TellsRefusalOfOne a (bytes_of_lent c.args.second.now))) first
-    (subst (λ b. IfErr c.are_one_map.result (TellsRefusalOfOne (bytes_of_parts c.as_slice.result.now) b)) second
-    c.are_one_map.ensures.refused)
+    subst (λ a. IfErr c.are_one_map_masked.result (TellsRefusalOfOne a (bytes_of_lent c.args.second.now))) first
+    (subst (λ b. IfErr c.are_one_map_masked.result (TellsRefusalOfOne (bytes_of_parts c.as_slice.result.now) b)) second
+    c.are_one_map_masked.ensures.refused)

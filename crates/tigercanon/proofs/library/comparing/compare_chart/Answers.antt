@@ -5,17 +5,11 @@ use Rattle.tl_number.proofs.MaskedSights.{masked_sight}
 use Rattle.tigercanon.proofs.CanonicalTexts.{err_holds, ok_holds}
 use Rattle.tigercanon.proofs.library.comparing.compare_chart.Goals as goal
 
-pub returns-clause-same : goal.returns-clause-same
-returns-clause-same g c = λ a r set told.
+pub returns-clause-found : goal.returns-clause-found
+returns-clause-found g c = λ a set.
     let first = ok_holds _ _ _ c.in_ok-first.ensures.ok c.canonise_admitted.ensures.canonical (masked c.args.mask) a
     (masked_sight c.args.mask) set in
-    c.compare_with-verdict.ensures.same a r first told
-
-pub returns-clause-different : goal.returns-clause-different
-returns-clause-different g c = λ a set told.
-    let first = ok_holds _ _ _ c.in_ok-first.ensures.ok c.canonise_admitted.ensures.canonical (masked c.args.mask) a
-    (masked_sight c.args.mask) set in
-    c.compare_with-verdict.ensures.different a first told
+    c.compare_with-conclusion.ensures.found a first
 
 pub returns-in_err-first-clause-refused : goal.returns-in_err-first-clause-refused
 returns-in_err-first-clause-refused g c = λ a accepted.

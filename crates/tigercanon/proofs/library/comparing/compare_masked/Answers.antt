@@ -1,35 +1,8 @@
-use Rattle.std.proofs.Common.{inl, refl}
-use Rattle.std.proofs.lemmas.Result.{err_from_is_err_and}
-use Rattle.tigercanon.proofs.CanonicalTexts.{err_holds, ok_holds}
+use Rattle.tigercanon.proofs.CanonicalTexts.{ok_holds}
 use Rattle.tigercanon.proofs.library.comparing.compare_masked.Goals as goal
 
 pub returns-clause-same : goal.returns-clause-same
-returns-clause-same c = λ r told.
-    let linked = ok_holds _ _ _ c.in_ok-linked.ensures.ok c.link_parts.ensures.linked in
-    c.compare_first.ensures.same _ r linked told
+returns-clause-same c = λ r told. ok_holds _ _ _ told c.compare_parts.ensures.found
 
 pub returns-clause-different : goal.returns-clause-different
-returns-clause-different c = λ told.
-    let linked = ok_holds _ _ _ c.in_ok-linked.ensures.ok c.link_parts.ensures.linked in
-    c.compare_first.ensures.different _ linked told
-
-pub returns-clause-refused : goal.returns-clause-refused
-returns-clause-refused c =
-    let linked = ok_holds _ _ _ c.in_ok-linked.ensures.ok c.link_parts.ensures.linked in
-    c.compare_first.ensures.refused _ linked
-
-pub returns-clause-no_device : goal.returns-clause-no_device
-returns-clause-no_device c = λ set.
-    let linked = ok_holds _ _ _ c.in_ok-linked.ensures.ok c.link_parts.ensures.linked in
-    c.compare_first.ensures.no_device _ set linked
-
-pub returns-clause-succeeds : goal.returns-clause-succeeds
-returns-clause-succeeds c =
-    let linked = ok_holds _ _ _ c.in_ok-linked.ensures.ok c.link_parts.ensures.linked in
-    c.compare_first.ensures.succeeds _ linked
-
-pub returns-in_err-linked-clause-refused : goal.returns-in_err-linked-clause-refused
-returns-in_err-linked-clause-refused c =
-    let p = err_from_is_err_and c.from_residual.result c.from_residual.ensures.1 in
-    let e = c.in_err-linked.ensures.err in
-    rw (p.1, p.2, e.2) (inl (refl, err_holds _ _ e.0 e.1 c.link_parts.ensures.refused))
+returns-clause-different c = λ told. ok_holds _ _ _ told c.compare_parts.ensures.found

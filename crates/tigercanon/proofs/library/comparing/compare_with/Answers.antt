@@ -3,15 +3,10 @@ use Rattle.std.proofs.lemmas.Result.{err_from_is_err_and}
 use Rattle.tigercanon.proofs.CanonicalTexts.{err_holds, ok_holds}
 use Rattle.tigercanon.proofs.library.comparing.compare_with.Goals as goal
 
-pub returns-clause-same : goal.returns-clause-same
-returns-clause-same g c = λ a r set told.
+pub returns-clause-found : goal.returns-clause-found
+returns-clause-found g c = λ a set.
     let linked = ok_holds _ _ _ c.in_ok-linked.ensures.ok c.link_parts.ensures.linked in
-    c.verdict_of_linked.ensures.same a _ r set linked told
-
-pub returns-clause-different : goal.returns-clause-different
-returns-clause-different g c = λ a set told.
-    let linked = ok_holds _ _ _ c.in_ok-linked.ensures.ok c.link_parts.ensures.linked in
-    c.verdict_of_linked.ensures.different a _ set linked told
+    c.verdict_of_linked.ensures.found a _ set linked
 
 pub returns-clause-refused : goal.returns-clause-refused
 returns-clause-refused g c = λ a accepted.

@@ -4,13 +4,9 @@ use Rattle.tigercanon.proofs.CanonicalTexts.{err_holds, if_err_by, ok_holds}
 use Rattle.tigercanon.proofs.Masking.{lacking_is_wanted, lacking_no_device, lacking_refuses, seen_acceptable}
 use Rattle.tigercanon.proofs.library.comparing.verdict_of_linked.Goals as goal
 
-pub returns-clause-same : goal.returns-clause-same
-returns-clause-same g c = λ a b r set linked told.
-    c.verdict_under.ensures.same a b r set (ok_holds _ _ _ c.in_ok-second.ensures.ok c.admitted_county.ensures.seen b linked) told
-
-pub returns-clause-different : goal.returns-clause-different
-returns-clause-different g c = λ a b set linked told.
-    c.verdict_under.ensures.different a b set (ok_holds _ _ _ c.in_ok-second.ensures.ok c.admitted_county.ensures.seen b linked) told
+pub returns-clause-found : goal.returns-clause-found
+returns-clause-found g c = λ a b set linked.
+    c.verdict_under.ensures.found a b set (ok_holds _ _ _ c.in_ok-second.ensures.ok c.admitted_county.ensures.seen b linked)
 
 pub returns-clause-refused : goal.returns-clause-refused
 returns-clause-refused g c = λ a b accepted linked.

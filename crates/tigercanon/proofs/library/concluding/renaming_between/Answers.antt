@@ -3,7 +3,7 @@ use Rattle.std.proofs.lemmas.Result.{IfOk-weaker}
 use Rattle.tl_county.specs.Renumbering.{Carries}
 use Rattle.tl_number.specs.ViewFacts.{stepped}
 use Rattle.tigercanon.proofs.Verdicts.{one_county}
-use Rattle.tigercanon.proofs.library.comparing.renaming_between.Goals as goal
+use Rattle.tigercanon.proofs.library.concluding.renaming_between.Goals as goal
 
 pub returns : goal.returns
 returns g c =

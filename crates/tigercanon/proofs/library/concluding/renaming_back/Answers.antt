@@ -1,6 +1,6 @@
 use Rattle.std.proofs.lemmas.Result.{IfOk-weaker}
 use Rattle.tl_number.specs.ViewFacts.{stepped}
-use Rattle.tigercanon.proofs.library.comparing.renaming_back.Goals as goal
+use Rattle.tigercanon.proofs.library.concluding.renaming_back.Goals as goal
 
 pub returns : goal.returns
 returns g c =

@@ -1,0 +1,73 @@
+"""The examples of the guide's pages on C and Python, as they stand there, where a reader of the page would call them."""
+
+from __future__ import annotations
+
+import os
+import re
+import subprocess
+import zipfile
+from pathlib import Path
+from typing import List
+
+from library_tests.support import ROOT, SUFFIXES, Tests, run, tools
+
+STEM = ROOT / "examples/autauga/TGR01001"
+REFUSED = ROOT / "examples/broken.txt"
+
+
+def blocks(heading: str) -> List[str]:
+    """The blocks of code below a heading of the guide, without their indent."""
+    guide = (ROOT / "docs/guide.md").read_text(encoding="utf-8")
+    page = guide.partition(f"\n## {heading}\n")[2].partition("\n## ")[0]
+    return [re.sub("^    ", "", block, flags=re.M).strip("\n") + "\n" for block in re.findall(r"(?:^(?:    .*)?\n)*^    .*\n", page, re.M)]
+
+
+def desk(tests: Tests) -> Path:
+    """A folder that looks to the examples as the root of the repository does, with the library where the page has it."""
+    place = tests.room / "guide"
+    (place / "out").mkdir(parents=True)
+    (place / "out/library").symlink_to(tests.library)
+    (place / "examples").symlink_to(ROOT / "examples")
+    return place
+
+
+def try_c(tests: Tests, place: Path, fingerprint: str) -> None:
+    """The program of the page, by each of its lines that compile and run it."""
+    source, lines = blocks("From C")
+    (place / "one.c").write_text(source)
+    exported, *calls = lines.splitlines()
+    for call in calls:
+        lacking = {"gcc", *re.findall("pkg-config", call)}.difference(tools("gcc", "pkg-config"))
+        if lacking:
+            tests.skip(f"the guide's {call}: {' and '.join(sorted(lacking))} isn't installed")
+            continue
+        found = run(["bash", "-ec", f"{exported}\n{call}"], cwd=place)
+        tests.equal(f"the guide's {call}", (0, f"{fingerprint}\n".encode(), b""), tuple(found))
+    if (place / "one").exists():
+        with open(REFUSED, "rb") as refused:
+            done = subprocess.run([place / "one"], stdin=refused, stdout=subprocess.PIPE, stderr=subprocess.PIPE, check=False)
+        tests.equal("the guide's program of a refused set", (1, b"", b"refused 4 BadNumber 1 4 6\n"), (done.returncode, done.stdout, done.stderr))
+
+
+def try_python(tests: Tests, place: Path, fingerprint: str) -> None:
+    """The program of the page, over a folder with a county, the same with other letters and packing, and a refused one."""
+    source, line = blocks("From Python")
+    (place / "counties.py").write_text(source)
+    (place / "in").mkdir()
+    for name, letters in (("TGR01001", str.upper), ("TGR01002", str.lower)):
+        with zipfile.ZipFile(place / f"in/{name}.ZIP", "w", zipfile.ZIP_DEFLATED) as county:
+            for suffix in SUFFIXES:
+                county.write(f"{STEM}{suffix}", letters(name + suffix))
+    with zipfile.ZipFile(place / "in/TGR01003.ZIP", "w") as county:
+        county.write(REFUSED, "TGR01003.RT1")
+    found = run(["bash", "-ec", line], cwd=place, env={**os.environ, "PYTHONDONTWRITEBYTECODE": "1"})
+    wanted = f"{fingerprint}  TGR01001\n{fingerprint}  TGR01002\n"
+    tests.equal("the guide's counties.py", (0, wanted.encode(), b"TGR01003: refused 4 BadNumber 1 4 6\n"), tuple(found))
+
+
+def run_all(tests: Tests) -> None:
+    readme = (ROOT / "README.md").read_text(encoding="utf-8")
+    fingerprint = re.search(r"fingerprint --stem examples/autauga/TGR01001\n +([0-9a-f]{64})\n", readme)[1]
+    place = desk(tests)
+    try_c(tests, place, fingerprint)
+    try_python(tests, place, fingerprint)
