@@ -1,4 +1,4 @@
-use Rattle.std.proofs.Common.{◌≡◌, ap, ◌∙◌, flat_map, map, nat_cmp}
+use Rattle.std.proofs.Common.{◌≡◌, ◌∙◌, flat_map, map, nat_cmp}
 use Rattle.tl_number.specs.ByStep.{ends_among, nodes_at}
 use Rattle.tl_number.specs.Growth.{first_seen}
 use Rattle.tl_number.specs.ViewFacts.{TellsNodes}
@@ -11,12 +11,10 @@ returns g c =
     let is = g.met.C.Chart.is_county c.args.chart.now in
     let steps = c.args.steps.now in
     let met = c.in_ok-met.met.items in
-    both_ok c.number_ends.result (λ tables. tables.numbers ≡ first_seen nat_cmp (flat_map nodes_at c.deref.result.now))
-    (λ tables. tables.ends.items ≡ map (ends_among (first_seen nat_cmp (flat_map nodes_at c.deref.result.now))) c.deref.result.now)
+    both_ok c.number_ends.result (λ tables. tables.numbers ≡ first_seen nat_cmp (flat_map nodes_at met))
+    (λ tables. tables.ends.items ≡ map (ends_among (first_seen nat_cmp (flat_map nodes_at met))) met)
     (TellsNodes county steps)
     (λ tables numbers ends. record {
-      numbers = numbers ∙ ap (λ met. first_seen nat_cmp (flat_map nodes_at met)) c.deref.ensures.value
-          ∙ nodes_met county steps is c.requires met c.in_ok-met.ensures;
-      ends = ends ∙ ap (λ met. map (ends_among (first_seen nat_cmp (flat_map nodes_at met))) met) c.deref.ensures.value
-          ∙ ends_met county steps is c.requires met c.in_ok-met.ensures;
+      numbers = numbers ∙ nodes_met county steps is c.requires met c.in_ok-met.ensures;
+      ends = ends ∙ ends_met county steps is c.requires met c.in_ok-met.ensures;
     }) c.number_ends.ensures.numbers c.number_ends.ensures.ends
