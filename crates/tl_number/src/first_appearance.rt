@@ -24,37 +24,24 @@ use tl_profile::ChainWalk;
 /// How many numbers of nodes have a mark for each chain, and how many POLYIDs: numbers that run on are hardly more than the chains.
 const MARKS_A_CHAIN: usize = 2;
 
-/// The ends of the chains of these steps. They are read before any node is numbered, so that reading one chain need not wait
-/// for another.
-fn ends_along<C: Chart>(
+/// The ends and the sides of the chains of these steps, each one after the other. They are read before any node or polygon is numbered, so
+/// that reading one chain need not wait for another, and in one walk, since a chain may lie anywhere in memory.
+fn links_along<C: Chart>(
     alloc: Global,
     chart: &C,
     steps: &[ChainWalk],
-) -> Result<Vec<Ends>, AllocError>
+) -> Result<(Vec<Ends>, Vec<Sides>), AllocError>
     requires { AreSteps (C.county chart.now) steps.now }
-    ensures { IfOk result (λ met. map Some met.items ≡ map (λ step. option_map ends_of (step_chain (C.county chart.now) step)) steps.now) }
+    ensures ends { IfOk result (λ met. map Some met.0.items ≡ map (λ step. option_map ends_of (step_chain (C.county chart.now) step)) steps.now) }
+    ensures sides { IfOk result (λ met. map Some met.1.items ≡ map (λ step. option_map sides_of (step_chain (C.county chart.now) step)) steps.now) }
 {
-    let mut met = Vec::with_capacity(alloc, steps.len())?;
+    let mut ends = Vec::with_capacity(alloc, steps.len())?;
+    let mut sides = Vec::with_capacity(alloc, steps.len())?;
     for step in steps {
-        met.push(ends_of_step(chart, *step))?;
+        ends.push(ends_of_step(chart, *step))?;
+        sides.push(sides_of_step(chart, *step))?;
     }
-    Ok(met)
-}
-
-/// The sides of the chains of these steps, read before any polygon is numbered.
-fn sides_along<C: Chart>(
-    alloc: Global,
-    chart: &C,
-    steps: &[ChainWalk],
-) -> Result<Vec<Sides>, AllocError>
-    requires { AreSteps (C.county chart.now) steps.now }
-    ensures { IfOk result (λ met. map Some met.items ≡ map (λ step. option_map sides_of (step_chain (C.county chart.now) step)) steps.now) }
-{
-    let mut met = Vec::with_capacity(alloc, steps.len())?;
-    for step in steps {
-        met.push(sides_of_step(chart, *step))?;
-    }
-    Ok(met)
+    Ok((ends, sides))
 }
 
 /// Sees a node, if there is one, and answers its number, which stays whatever is seen later.
@@ -144,30 +131,20 @@ fn number_sides(
     Ok((numbers, sides))
 }
 
-/// The nodes of a county in the order in which the chains of these steps first meet them, start before end.
-pub(crate) fn number_nodes<C: Chart>(
+/// The nodes and the polygons of a county in the order in which the chains of these steps first meet them, start before end and left
+/// before right, and the ends and the sides of these chains under the new numbers and keys.
+pub(crate) fn number_links<C: Chart>(
     alloc: Global,
     chart: &C,
     steps: &[ChainWalk],
-) -> Result<NodeTables, AllocError>
+) -> Result<(NodeTables, Numbers<PolygonKey>, Vec<Sides>), AllocError>
     requires { AreWhole (C.county chart.now) steps.now }
-    ensures { IfOk result (TellsNodes (C.county chart.now) steps.now) }
+    ensures nodes { IfOk result (λ tables. TellsNodes (C.county chart.now) steps.now tables.0) }
+    ensures polygons { IfOk result (λ tables. tables.1 ≡ polygons_in_order (C.county chart.now) (arrangement_of (C.county chart.now) steps.now)) }
+    ensures sides { IfOk result (λ tables. tables.2.items ≡ map sides_of (entry_values (stepped (C.county chart.now) steps.now).chains)) }
 {
-    let met = ends_along(alloc, chart, steps)?;
-    number_ends(alloc, met)
-}
-
-/// The polygons of a county in the order in which the chains of these steps first meet them, left before right, and the
-/// sides of these chains under the new keys.
-pub(crate) fn number_polygons<C: Chart>(
-    alloc: Global,
-    chart: &C,
-    steps: &[ChainWalk],
-) -> Result<(Numbers<PolygonKey>, Vec<Sides>), AllocError>
-    requires { AreWhole (C.county chart.now) steps.now }
-    ensures numbers { IfOk result (λ tables. tables.0 ≡ polygons_in_order (C.county chart.now) (arrangement_of (C.county chart.now) steps.now)) }
-    ensures sides { IfOk result (λ tables. tables.1.items ≡ map sides_of (entry_values (stepped (C.county chart.now) steps.now).chains)) }
-{
-    let met = sides_along(alloc, chart, steps)?;
-    number_sides(alloc, met)
+    let (ends, sides) = links_along(alloc, chart, steps)?;
+    let nodes = number_ends(alloc, ends)?;
+    let (numbers, sides) = number_sides(alloc, sides)?;
+    Ok((nodes, numbers, sides))
 }
