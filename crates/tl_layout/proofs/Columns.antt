@@ -1,67 +1,50 @@
 -- The texts of numbers in eight columns.
 use Rattle.std.proofs.Common.{◌≡◌, ℕ, ◌+◌, ◌-◌, ◌*◌, ◌/◌, ◌%◌, ◌<◌, List, [], ◌∷◌, ◌++◌, refl, ap, ◌∙◌, arith}
-use Rattle.std.proofs.Common.{zero, suc, nat_eq, Bool, true, false, cond, eqb, if◌then◌else◌, ◌==◌}
+use Rattle.std.proofs.Common.{zero, suc, nat_eq, Bool, true, false, if◌then◌else◌, ◌==◌}
 use Rattle.std.proofs.Common.{◌≤◌, ◌⊎◌, inl, inr, length, slice_set}
 use Rattle.std.proofs.lemmas.List.{append-nil, drop_all}
 use borrow.Rule.Slice.PartMut.{put_mid}
-use Rattle.std.proofs.lemmas.Bool.{eqb-true, eqb-false, eq-eqb, ne_eqb}
+use Rattle.std.proofs.lemmas.Bool.{cases_lt, eqb-true, ne_eqb}
 use Rattle.tl_layout.specs.FieldTexts.{digits_text, number_text, text_behind}
 
 -- eight digits written side by side
 pub eight_digits_text : (n : ℕ) → n < 100000000
-    → (48 + n / 10000000) % 256 ∷ (48 + n / 1000000 % 10) % 256 ∷ (48 + n / 100000 % 10) % 256 ∷ (48 + n / 10000 % 10) % 256
-    ∷ (48 + n / 1000 % 10) % 256 ∷ (48 + n / 100 % 10) % 256 ∷ (48 + n / 10 % 10) % 256 ∷ (48 + n % 10) % 256 ∷ [] ≡ digits_text 8 n
+    → (48 + n / 10000000) ∷ (48 + n / 1000000 % 10) ∷ (48 + n / 100000 % 10) ∷ (48 + n / 10000 % 10) ∷ (48 + n / 1000 % 10) ∷ (48 + n / 100 % 10) ∷ (48 + n / 10 % 10) ∷ (48 + n % 10) ∷ []
+    ≡ digits_text 8 n
 unfolding digits_text
 eight_digits_text n low =
-    let a : (48 + n / 10000000) % 256 ≡ 48 + n / 10 / 10 / 10 / 10 / 10 / 10 / 10 % 10 = omega arith in
-    let b : (48 + n / 1000000 % 10) % 256 ≡ 48 + n / 10 / 10 / 10 / 10 / 10 / 10 % 10 = omega arith in
-    let c : (48 + n / 100000 % 10) % 256 ≡ 48 + n / 10 / 10 / 10 / 10 / 10 % 10 = omega arith in
-    let d : (48 + n / 10000 % 10) % 256 ≡ 48 + n / 10 / 10 / 10 / 10 % 10 = omega arith in
-    let e : (48 + n / 1000 % 10) % 256 ≡ 48 + n / 10 / 10 / 10 % 10 = omega arith in
-    let f : (48 + n / 100 % 10) % 256 ≡ 48 + n / 10 / 10 % 10 = omega arith in
-    let g : (48 + n / 10 % 10) % 256 ≡ 48 + n / 10 % 10 = omega arith in
-    let h : (48 + n % 10) % 256 ≡ 48 + n % 10 = omega arith in
+    let a : 48 + n / 10000000 ≡ 48 + n / 10 / 10 / 10 / 10 / 10 / 10 / 10 % 10 = omega arith in
+    let b : 48 + n / 1000000 % 10 ≡ 48 + n / 10 / 10 / 10 / 10 / 10 / 10 % 10 = omega arith in
+    let c : 48 + n / 100000 % 10 ≡ 48 + n / 10 / 10 / 10 / 10 / 10 % 10 = omega arith in
+    let d : 48 + n / 10000 % 10 ≡ 48 + n / 10 / 10 / 10 / 10 % 10 = omega arith in
+    let e : 48 + n / 1000 % 10 ≡ 48 + n / 10 / 10 / 10 % 10 = omega arith in
+    let f : 48 + n / 100 % 10 ≡ 48 + n / 10 / 10 % 10 = omega arith in
+    let g : 48 + n / 10 % 10 ≡ 48 + n / 10 % 10 = omega arith in
+    let h : 48 + n % 10 ≡ 48 + n % 10 = omega arith in
     λ i. a i ∷ b i ∷ c i ∷ d i ∷ e i ∷ f i ∷ g i ∷ h i ∷ []
 
--- the sums of neighbours, of fours and of eights
-pub sums_of_eight : (a b c d e f g h : ℕ) → a + b + c + d + e + f + g + h < 256
-    → (((a + 0) % 256 + 0) % 256 + 0) % 256 ∷ (((b + a) % 256 + 0) % 256 + 0) % 256 ∷ (((c + b) % 256 + (a + 0) % 256) % 256 + 0) % 256
-    ∷ (((d + c) % 256 + (b + a) % 256) % 256 + 0) % 256 ∷ (((e + d) % 256 + (c + b) % 256) % 256 + ((a + 0) % 256 + 0) % 256) % 256
-    ∷ (((f + e) % 256 + (d + c) % 256) % 256 + ((b + a) % 256 + 0) % 256) % 256
-    ∷ (((g + f) % 256 + (e + d) % 256) % 256 + ((c + b) % 256 + (a + 0) % 256) % 256) % 256
-    ∷ (((h + g) % 256 + (f + e) % 256) % 256 + ((d + c) % 256 + (b + a) % 256) % 256) % 256 ∷ []
-    ≡ a ∷ (a + b) ∷ (a + b + c) ∷ (a + b + c + d) ∷ (a + b + c + d + e) ∷ (a + b + c + d + e + f) ∷ (a + b + c + d + e + f + g)
-    ∷ (a + b + c + d + e + f + g + h) ∷ []
-sums_of_eight a b c d e f g h low =
-    let a' : (((a + 0) % 256 + 0) % 256 + 0) % 256 ≡ a = omega arith in
-    let b' : (((b + a) % 256 + 0) % 256 + 0) % 256 ≡ a + b = omega arith in
-    let c' : (((c + b) % 256 + (a + 0) % 256) % 256 + 0) % 256 ≡ a + b + c = omega arith in
-    let d' : (((d + c) % 256 + (b + a) % 256) % 256 + 0) % 256 ≡ a + b + c + d = omega arith in
-    let e' : (((e + d) % 256 + (c + b) % 256) % 256 + ((a + 0) % 256 + 0) % 256) % 256 ≡ a + b + c + d + e = omega arith in
-    let f' : (((f + e) % 256 + (d + c) % 256) % 256 + ((b + a) % 256 + 0) % 256) % 256 ≡ a + b + c + d + e + f = omega arith in
-    let g' : (((g + f) % 256 + (e + d) % 256) % 256 + ((c + b) % 256 + (a + 0) % 256) % 256) % 256 ≡ a + b + c + d + e + f + g =
-    omega arith in
-    let h' : (((h + g) % 256 + (f + e) % 256) % 256 + ((d + c) % 256 + (b + a) % 256) % 256) % 256 ≡ a + b + c + d + e + f + g + h =
-    omega arith in
-    λ i. a' i ∷ b' i ∷ c' i ∷ d' i ∷ e' i ∷ f' i ∷ g' i ∷ h' i ∷ []
-
 -- A column is blank where the digits up to it make 0, and otherwise has the last of them.
-column_by : (sum digit left : ℕ) (b : Bool) → eqb sum 0 ≡ b → (sum ≡ 0 → left ≡ 0) → (left ≡ 0 → sum ≡ 0) → digit ≡ left % 10
-    → cond (eqb sum 0) 32 ((48 + digit) % 256) ≡ (if left == 0 then 32 else 48 + left % 10)
-column_by sum digit left true e f g d = rw (e, eq-eqb left 0 (f (eqb-true sum 0 e))) refl
-column_by sum digit left false e f g d = rw (e, ne_eqb left 0 (λ z. eqb-false sum 0 e (g z))) (omega arith)
+column_by : (sum digit left : ℕ) → (left < 1) ⊎ (1 ≤ left) → sum < 129 → (sum ≡ 0 → left ≡ 0) → (left ≡ 0 → sum ≡ 0) → digit ≡ left % 10
+    → digit + (sum + 127) / 128 * 16 + 32 ≡ (if left == 0 then 32 else 48 + left % 10)
+column_by sum digit left (inl none) few f g d =
+    let zero_left : left ≡ 0 = omega arith in
+    let zero_sum : sum ≡ 0 = g zero_left in
+    let blank : digit + (sum + 127) / 128 * 16 + 32 ≡ 32 = omega arith in
+    rw (zero_left, blank) refl
+column_by sum digit left (inr some) few f g d =
+    let some_left : left ≡ 0 → ⊥ = λ z. omega arith in
+    let some_sum : sum ≡ 0 → ⊥ = λ z. some_left (f z) in
+    let shown : digit + (sum + 127) / 128 * 16 + 32 ≡ 48 + left % 10 = omega arith in
+    rw (ne_eqb left 0 some_left, shown) refl
 
-column : (sum digit left : ℕ) → (sum ≡ 0 → left ≡ 0) → (left ≡ 0 → sum ≡ 0) → digit ≡ left % 10
-    → cond (eqb sum 0) 32 ((48 + digit) % 256) ≡ (if left == 0 then 32 else 48 + left % 10)
-column sum digit left f g d = column_by sum digit left (eqb sum 0) refl f g d
+column : (sum digit left : ℕ) → sum < 129 → (sum ≡ 0 → left ≡ 0) → (left ≡ 0 → sum ≡ 0) → digit ≡ left % 10
+    → digit + (sum + 127) / 128 * 16 + 32 ≡ (if left == 0 then 32 else 48 + left % 10)
+column sum digit left = column_by sum digit left (cases_lt left 1)
 
 -- the columns of a number of eight digits, of which none but zeros stand in front
 columns_of : (n a b c d e f g h : ℕ) → n ≡ ((((((a * 10 + b) * 10 + c) * 10 + d) * 10 + e) * 10 + f) * 10 + g) * 10 + h
     → a < 10 → b < 10 → c < 10 → d < 10 → e < 10 → f < 10 → g < 10 → h < 10
-    → cond (eqb a 0) 32 ((48 + a) % 256) ∷ cond (eqb (a + b) 0) 32 ((48 + b) % 256) ∷ cond (eqb (a + b + c) 0) 32 ((48 + c) % 256)
-    ∷ cond (eqb (a + b + c + d) 0) 32 ((48 + d) % 256) ∷ cond (eqb (a + b + c + d + e) 0) 32 ((48 + e) % 256)
-    ∷ cond (eqb (a + b + c + d + e + f) 0) 32 ((48 + f) % 256) ∷ cond (eqb (a + b + c + d + e + f + g) 0) 32 ((48 + g) % 256)
-    ∷ cond (eqb (a + b + c + d + e + f + g + h) 0) 32 ((48 + h) % 256) ∷ [] ≡ number_text 8 n
+    → (a + (a + 127) / 128 * 16 + 32) ∷ (b + (a + b + 127) / 128 * 16 + 32) ∷ (c + (a + b + c + 127) / 128 * 16 + 32) ∷ (d + (a + b + c + d + 127) / 128 * 16 + 32) ∷ (e + (a + b + c + d + e + 127) / 128 * 16 + 32) ∷ (f + (a + b + c + d + e + f + 127) / 128 * 16 + 32) ∷ (g + (a + b + c + d + e + f + g + 127) / 128 * 16 + 32) ∷ (h + (a + b + c + d + e + f + g + h + 127) / 128 * 16 + 32) ∷ [] ≡ number_text 8 n
 unfolding number_text
 columns_of n a b c d e f g h is la lb lc ld le lf lg lh =
     let n1 : n / 10 ≡ (((((a * 10 + b) * 10 + c) * 10 + d) * 10 + e) * 10 + f) * 10 + g = omega arith in
@@ -71,28 +54,25 @@ columns_of n a b c d e f g h is la lb lc ld le lf lg lh =
     let n5 : n / 10 / 10 / 10 / 10 / 10 ≡ (a * 10 + b) * 10 + c = omega arith in
     let n6 : n / 10 / 10 / 10 / 10 / 10 / 10 ≡ a * 10 + b = omega arith in
     let n7 : n / 10 / 10 / 10 / 10 / 10 / 10 / 10 ≡ a = omega arith in
-    let a' = column a a (n / 10 / 10 / 10 / 10 / 10 / 10 / 10) (λ z. omega arith) (λ z. omega arith) (omega arith) in
-    let b' = column (a + b) b (n / 10 / 10 / 10 / 10 / 10 / 10) (λ z. omega arith) (λ z. omega arith) (omega arith) in
-    let c' = column (a + b + c) c (n / 10 / 10 / 10 / 10 / 10) (λ z. omega arith) (λ z. omega arith) (omega arith) in
-    let d' = column (a + b + c + d) d (n / 10 / 10 / 10 / 10) (λ z. omega arith) (λ z. omega arith) (omega arith) in
-    let e' = column (a + b + c + d + e) e (n / 10 / 10 / 10) (λ z. omega arith) (λ z. omega arith) (omega arith) in
-    let f' = column (a + b + c + d + e + f) f (n / 10 / 10) (λ z. omega arith) (λ z. omega arith) (omega arith) in
-    let g' = column (a + b + c + d + e + f + g) g (n / 10) (λ z. omega arith) (λ z. omega arith) (omega arith) in
-    let h' = column (a + b + c + d + e + f + g + h) h n (λ z. omega arith) (λ z. omega arith) (omega arith) in
+    let a' = column (a) a (n / 10 / 10 / 10 / 10 / 10 / 10 / 10) (omega arith) (λ z. omega arith) (λ z. omega arith) (omega arith) in
+    let b' = column (a + b) b (n / 10 / 10 / 10 / 10 / 10 / 10) (omega arith) (λ z. omega arith) (λ z. omega arith) (omega arith) in
+    let c' = column (a + b + c) c (n / 10 / 10 / 10 / 10 / 10) (omega arith) (λ z. omega arith) (λ z. omega arith) (omega arith) in
+    let d' = column (a + b + c + d) d (n / 10 / 10 / 10 / 10) (omega arith) (λ z. omega arith) (λ z. omega arith) (omega arith) in
+    let e' = column (a + b + c + d + e) e (n / 10 / 10 / 10) (omega arith) (λ z. omega arith) (λ z. omega arith) (omega arith) in
+    let f' = column (a + b + c + d + e + f) f (n / 10 / 10) (omega arith) (λ z. omega arith) (λ z. omega arith) (omega arith) in
+    let g' = column (a + b + c + d + e + f + g) g (n / 10) (omega arith) (λ z. omega arith) (λ z. omega arith) (omega arith) in
+    let h' = column (a + b + c + d + e + f + g + h) h (n) (omega arith) (λ z. omega arith) (λ z. omega arith) (omega arith) in
     λ i. a' i ∷ b' i ∷ c' i ∷ d' i ∷ e' i ∷ f' i ∷ g' i ∷ h' i ∷ []
 
 pub eight_columns_text : (n : ℕ) → n < 100000000
-    → cond (eqb (n / 10000000) 0) 32 ((48 + n / 10000000) % 256)
-    ∷ cond (eqb (n / 10000000 + n / 1000000 % 10) 0) 32 ((48 + n / 1000000 % 10) % 256)
-    ∷ cond (eqb (n / 10000000 + n / 1000000 % 10 + n / 100000 % 10) 0) 32 ((48 + n / 100000 % 10) % 256)
-    ∷ cond (eqb (n / 10000000 + n / 1000000 % 10 + n / 100000 % 10 + n / 10000 % 10) 0) 32 ((48 + n / 10000 % 10) % 256)
-    ∷ cond (eqb (n / 10000000 + n / 1000000 % 10 + n / 100000 % 10 + n / 10000 % 10 + n / 1000 % 10) 0) 32 ((48 + n / 1000 % 10) % 256)
-    ∷ cond (eqb (n / 10000000 + n / 1000000 % 10 + n / 100000 % 10 + n / 10000 % 10 + n / 1000 % 10 + n / 100 % 10) 0) 32 ((48
-    + n / 100 % 10) % 256)
-    ∷ cond (eqb (n / 10000000 + n / 1000000 % 10 + n / 100000 % 10 + n / 10000 % 10 + n / 1000 % 10 + n / 100 % 10 + n / 10 % 10) 0) 32
-    ((48 + n / 10 % 10) % 256)
-    ∷ cond (eqb (n / 10000000 + n / 1000000 % 10 + n / 100000 % 10 + n / 10000 % 10 + n / 1000 % 10 + n / 100 % 10 + n / 10 % 10
-    + n % 10) 0) 32 ((48 + n % 10) % 256)
+    → (n / 10000000 + (n / 10000000 + 127) / 128 * 16 + 32)
+    ∷ (n / 1000000 % 10 + (n / 10000000 + n / 1000000 % 10 + 127) / 128 * 16 + 32)
+    ∷ (n / 100000 % 10 + (n / 10000000 + n / 1000000 % 10 + n / 100000 % 10 + 127) / 128 * 16 + 32)
+    ∷ (n / 10000 % 10 + (n / 10000000 + n / 1000000 % 10 + n / 100000 % 10 + n / 10000 % 10 + 127) / 128 * 16 + 32)
+    ∷ (n / 1000 % 10 + (n / 10000000 + n / 1000000 % 10 + n / 100000 % 10 + n / 10000 % 10 + n / 1000 % 10 + 127) / 128 * 16 + 32)
+    ∷ (n / 100 % 10 + (n / 10000000 + n / 1000000 % 10 + n / 100000 % 10 + n / 10000 % 10 + n / 1000 % 10 + n / 100 % 10 + 127) / 128 * 16 + 32)
+    ∷ (n / 10 % 10 + (n / 10000000 + n / 1000000 % 10 + n / 100000 % 10 + n / 10000 % 10 + n / 1000 % 10 + n / 100 % 10 + n / 10 % 10 + 127) / 128 * 16 + 32)
+    ∷ (n % 10 + (n / 10000000 + n / 1000000 % 10 + n / 100000 % 10 + n / 10000 % 10 + n / 1000 % 10 + n / 100 % 10 + n / 10 % 10 + n % 10 + 127) / 128 * 16 + 32)
     ∷ [] ≡ number_text 8 n
 eight_columns_text n low =
     columns_of n (n / 10000000) (n / 1000000 % 10) (n / 100000 % 10) (n / 10000 % 10) (n / 1000 % 10) (n / 100 % 10) (n / 10 % 10) (n % 10)

@@ -7,3 +7,4 @@ pub mod Writes
 pub mod PlaceSteps
 pub mod PlaceWrites
 pub mod TableSteps
+pub mod WrittenWords

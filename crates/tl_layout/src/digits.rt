@@ -1,29 +1,26 @@
 //! Writing the digits of a number.
 
+ghost use Rattle.std.specs.Int.{w64, from_le_bytes};
 ghost use Rattle.std.specs.Prelude.{◌≡◌, ◌+◌, ◌-◌, ◌/◌, ◌%◌, ◌<◌, ℕ, [], ◌∷◌, length};
 ghost use Rattle.tl_layout.specs.FieldTexts.{digits_text, number_text, text_behind};
 
-use std::simd::prelude::*;
-
-/// The values of eight digits.
+/// The word that has the eight digits of a number in its bytes, the first one in the lowest. The number is parted into two halves,
+/// these into pairs of digits and the pairs into digits, all that stand in one word at once.
 #[inline(always)]
-fn digit_values(number: u32) -> u8x8
+fn digits_in_word(number: u32) -> u64
     requires { number < 100000000 }
     ensures { result
-        ≡ number / 10000000 ∷ number / 1000000 % 10 ∷ number / 100000 % 10 ∷ number / 10000 % 10 ∷ number / 1000 % 10 ∷ number / 100 % 10
-        ∷ number / 10 % 10 ∷ number % 10 ∷ [] }
+        ≡ from_le_bytes w64 (number / 10000000 ∷ number / 1000000 % 10 ∷ number / 100000 % 10 ∷ number / 10000 % 10 ∷ number / 1000 % 10
+        ∷ number / 100 % 10 ∷ number / 10 % 10 ∷ number % 10 ∷ []) }
 {
-    let (high, low) = (number / 10_000, number % 10_000);
-    let pairs = u16x4::from_array([
-        (high / 100) as u16,
-        (high % 100) as u16,
-        (low / 100) as u16,
-        (low % 100) as u16,
-    ]);
-    let tens = pairs / u16x4::splat(10);
-    let ones = pairs - tens * u16x4::splat(10);
-    let values: u16x8 = tens.shuffle(ones, [0, 4, 1, 5, 2, 6, 3, 7]);
-    values.cast::<u8>()
+    let high = u64::from(number / 10_000);
+    let low = u64::from(number % 10_000);
+    let halves = low * 0x1_0000_0000 + high;
+    // A hundredth of each number below 10,000 is so many parts of 2 ^ 19, and a tenth of each below 100 so many of 2 ^ 10.
+    let hundreds = (5_243 * halves >> 19) & 0x7f_0000_007f;
+    let pairs = hundreds + (halves - 100 * hundreds) * 0x1_0000;
+    let tens = (103 * pairs >> 10) & 0x000f_000f_000f_000f;
+    tens + (pairs - 10 * tens) * 0x100
 }
 
 /// Writes eight digits, zeros in front.
@@ -34,21 +31,8 @@ pub fn put_eight_digits(out: &mut [u8], number: u32)
     requires below { number < 100000000 }
     ensures { out.new ≡ digits_text 8 number }
 {
-    let text = u8x8::splat(b'0') + digit_values(number);
-    text.copy_to_slice(out);
-}
-
-/// Of each of eight values the sum of those up to it.
-#[inline(always)]
-fn running_sums(values: u8x8) -> u8x8
-    ensures { (a b c d e f g h : ℕ) → values ≡ a ∷ b ∷ c ∷ d ∷ e ∷ f ∷ g ∷ h ∷ [] → a + b + c + d + e + f + g + h < 256
-        → result ≡ a ∷ (a + b) ∷ (a + b + c) ∷ (a + b + c + d) ∷ (a + b + c + d + e) ∷ (a + b + c + d + e + f) ∷ (a + b + c + d + e + f + g)
-        ∷ (a + b + c + d + e + f + g + h) ∷ [] }
-{
-    let zeros = u8x8::splat(0);
-    let pairs = values + values.shuffle(zeros, [8, 0, 1, 2, 3, 4, 5, 6]);
-    let fours = pairs + pairs.shuffle(zeros, [8, 8, 0, 1, 2, 3, 4, 5]);
-    fours + fours.shuffle(zeros, [8, 8, 8, 8, 0, 1, 2, 3])
+    let text = digits_in_word(number) + 0x3030_3030_3030_3030;
+    out.copy_from_slice(&text.to_le_bytes());
 }
 
 /// Writes a number into eight columns, right justified, blanks in front, and blanks alone for 0.
@@ -59,11 +43,12 @@ pub fn put_eight_columns(out: &mut [u8], number: u32)
     requires below { number < 100000000 }
     ensures { out.new ≡ number_text 8 number }
 {
-    let values = digit_values(number);
-    // No digit up to a column but zeros: it is blank.
-    let blanks = running_sums(values).simd_eq(u8x8::splat(0));
-    let text = blanks.select(u8x8::splat(b' '), u8x8::splat(b'0') + values);
-    text.copy_to_slice(out);
+    let digits = digits_in_word(number);
+    // Of each digit the sum of those up to it. Where it is 0 the column is blank, and else a digit, whose byte is 16 more.
+    let sums = digits.wrapping_mul(0x0101_0101_0101_0101);
+    let shown = (sums + 0x7f7f_7f7f_7f7f_7f7f) & 0x8080_8080_8080_8080;
+    let text = digits + shown / 8 + 0x2020_2020_2020_2020;
+    out.copy_from_slice(&text.to_le_bytes());
 }
 
 /// Writes a number right justified, and this byte in each column in front of its digits.

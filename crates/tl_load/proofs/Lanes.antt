@@ -32,3 +32,18 @@ pub clean_at : (bytes : List ℕ) (at : ℕ) → at + 32 ≤ length bytes → ma
 clean_at bytes at room none none_above k from below byte =
     allowed_of (get_or bytes k 0) byte (none_from_empty_mask (λ b. ltb b 32) bytes at 32 0 room none k from below)
     (none_from_empty_mask (λ b. ltb ((b + (256 - 127)) % 256) 33) bytes at 32 0 room none_above k from below)
+
+-- a byte of printable ASCII is allowed
+allowed_ascii : (b : ℕ) → b < 256 → ltb ((b + (256 - 127)) % 256) 161 ≡ false → is_allowed b ≡ true
+allowed_ascii b byte high =
+    let from : 161 ≤ (b + (256 - 127)) % 256 = ltb-false ((b + (256 - 127)) % 256) 161 high in
+    let printable : leb 32 b ≡ true = le-leb 32 b (omega arith) in
+    let before : ltb b 127 ≡ true = lt-ltb b 127 (omega arith) in
+    ap (λ (x : Bool). (x && ltb b 127) || (leb 160 b && ltb b 256)) printable ∙ ap (λ (x : Bool). x || (leb 160 b && ltb b 256)) before
+
+pub ascii_at : (bytes : List ℕ) (at : ℕ) → at + 32 ≤ length bytes
+    → mask_l (map (λ b. ltb ((b + (256 - 127)) % 256) 161) (chunk at 32 bytes)) ≡ 0
+    → (k : ℕ) → at ≤ k → k < at + 32 → get_or bytes k 0 < 256 → is_allowed (get_or bytes k 0) ≡ true
+ascii_at bytes at room none k from below byte =
+    allowed_ascii (get_or bytes k 0) byte
+    (none_from_empty_mask (λ b. ltb ((b + (256 - 127)) % 256) 161) bytes at 32 0 room none k from below)

@@ -73,3 +73,4 @@ pub mod RecordTexts
 pub mod GroupRests
 pub mod TypeOrders
 pub mod GroupOrders
+pub mod PlacedKeys

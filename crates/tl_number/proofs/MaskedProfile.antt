@@ -1,8 +1,8 @@
 -- A mask leaves out nothing that the profile and the order of chains by their shapes look at.
-use Rattle.std.proofs.Common.{◌≡◌, ◌==◌, ◌&&◌, ℕ, List, [], ◌∷◌, map, reverse, Bool, not, refl, sym, ap, ◌∙◌, subst}
+use Rattle.std.proofs.Common.{◌≡◌, ◌&&◌, ℕ, List, map, reverse, not, refl, sym, ap, ◌∙◌, subst}
 use Rattle.std.proofs.Common.{nat_cmp, length, min, suc, ◌≤◌, IsPermutation}
-use Rattle.std.specs.Prelude.{◌||◌, nat_lt}
-use Rattle.std.specs.List.{list_any, range_with_len}
+use Rattle.std.specs.Prelude.{nat_lt}
+use Rattle.std.specs.List.{range_with_len}
 use Rattle.std.specs.Ordering.{is_lt, ordering_then}
 use Rattle.tl_layout.specs.Coordinates.{Coordinates}
 use Rattle.tl_layout.specs.declared.mask.Mask.{Mask}

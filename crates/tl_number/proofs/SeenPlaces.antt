@@ -30,10 +30,10 @@ module _ {X : Type 0} (p : X → Bool) where
       ap Some (sym found.1 ∙ sym stays)
       ∙ sym (ap (λ b. cond b (Some (position_or_len p (xs ++ ys))) None) (lt-ltb (position_or_len p (xs ++ ys)) (length (xs ++ ys)) within))
 
-  to_position : (xs : List X) → position_or_len p xs < length xs → Some (position_or_len p xs) ≡ position p xs
+  pub to_position : (xs : List X) → position_or_len p xs < length xs → Some (position_or_len p xs) ≡ position p xs
   to_position xs h = sym (ap (λ b. cond b (Some (position_or_len p xs)) None) (lt-ltb (position_or_len p xs) (length xs) h))
 
-  any_within : (xs : List X) → list_any p xs ≡ true → position_or_len p xs < length xs
+  pub any_within : (xs : List X) → list_any p xs ≡ true → position_or_len p xs < length xs
   any_within [] e = cc
   any_within (x ∷ xs) e = go (p x) e (any_within xs)
     where
@@ -43,7 +43,7 @@ module _ {X : Type 0} (p : X → Bool) where
       go false e ih = let h = ih e in omega (arith, h)
 
   -- what is not found would stand at the end
-  none_within : (xs : List X) (x : X) → list_any p xs ≡ false → p x ≡ true
+  pub none_within : (xs : List X) (x : X) → list_any p xs ≡ false → p x ≡ true
       → (position_or_len p xs ≡ length xs) × (position_or_len p (xs ++ (x ∷ [])) ≡ length xs)
   none_within [] x e y = (refl, ap (λ b. cond (not b) 1 0) y)
   none_within (z ∷ xs) x e y = go (p z) e (λ h. none_within xs x h y)

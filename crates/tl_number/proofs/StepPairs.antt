@@ -1,8 +1,9 @@
 -- The ends and the sides of chains, numbered as they are met.
 use Rattle.std.proofs.Common.{◌≡◌, ◌≤◌, ℕ, zero, suc, List, [], ◌∷◌, ◌++◌, map, flat_map, drop, take, length}
 use Rattle.std.proofs.Common.{Ordering, Option, Some, slice_get, sym, ap, ◌∙◌, arith, ◌+◌}
-use Rattle.std.proofs.Common.{◌<◌, ◌^◌, is_eq, nat_cmp}
-use Rattle.std.proofs.lemmas.List.{map-append}
+use Rattle.std.proofs.Common.{◌<◌, ◌^◌, get_or, is_eq, nat_cmp, set}
+use Rattle.std.proofs.lemmas.Grind.{drop_more_same}
+use Rattle.std.proofs.lemmas.List.{drop_more, drop-set-lt, map-append}
 use Rattle.std.specs.List.{position}
 use Rattle.tl_layout.specs.PolygonSide.{PolygonSide}
 use Rattle.tl_county.specs.PolygonKeys.{PolygonKey, key_cmp, key_on, key_under}
@@ -12,6 +13,7 @@ use Rattle.tl_county.proofs.ByKey.Keys.{IsKeyOrder, nat_keys}
 use Rattle.tl_number.specs.ByStep.{node_among, polygon_among, side_among}
 use Rattle.tl_number.specs.Growth.{first_seen_after}
 use Rattle.tl_county.proofs.Lists.Places.{one_more_taken}
+use Rattle.tl_number.proofs.Grouped.{get_dropped}
 use Rattle.tl_number.proofs.SeenLists.{seen_append}
 use Rattle.tl_number.proofs.SeenPlaces.{seen_fewer, seen_keeps}
 use Rattle.tl_number.proofs.ViewNumbers.{number_seen, key_seen, seen_within}
@@ -107,3 +109,13 @@ module _ (side : PolygonSide) (cenid : List ℕ) (polyid : ℕ) (same : cenid �
       let all : length seen ≡ length (first_seen_after key_cmp old (key_on side)) =
       ap length new ∙ ap (λ ks. length (first_seen_after key_cmp old ks)) (sym key_there) in
       omega (arith, within, all, few)
+
+-- Items of a list are put in the place of others, one after the other; those that are left stand where they stood.
+module _ {X : Type 0} (now old : List X) (i : ℕ) (left : drop i now ≡ drop i old) where
+  pub left_there : (d : X) → i < length now → Some (get_or now i d) ≡ slice_get old i
+  left_there d within =
+      let first : get_or now i d ∷ drop (i + 1) now ≡ drop i old = sym (drop_more now i d within) ∙ left in
+      ap (λ xs. slice_get xs 0) first ∙ get_dropped i old 0 ∙ ap (slice_get old) (let t : i + 0 ≡ i = omega arith in t)
+
+  pub left_later : (x : X) → drop (i + 1) (set now i x) ≡ drop (i + 1) old
+  left_later x = drop-set-lt (i + 1) now i x (omega arith) ∙ drop_more_same now old i left

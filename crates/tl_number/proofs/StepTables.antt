@@ -1,7 +1,7 @@
 -- The nodes and the polygons that are met along steps are those of the arrangement, and so are the ends and the sides under
 -- their numbers.
 use Rattle.std.proofs.Common.{◌≡◌, ◌<◌, ◌^◌, ℕ, List, [], ◌∷◌, map, flat_map, length, Option, Some, None, option_map}
-use Rattle.std.proofs.Common.{nat_cmp, sym, refl, ap, ◌∙◌, Result, Ok, Err, IfOk}
+use Rattle.std.proofs.Common.{nat_cmp, sym, refl, ap, ◌∙◌}
 use Rattle.tl_layout.specs.PolygonSide.{PolygonSide}
 use Rattle.tl_shape.specs.Chain.{Chain}
 use Rattle.tl_county.specs.County.{County}
@@ -31,11 +31,6 @@ same_somes (x ∷ xs) (y ∷ ys) e =
     let first : x ≡ y = cc in
     let rest : map Some xs ≡ map Some ys = cc in
     (λ i. first i ∷ same_somes xs ys rest i)
-
--- two facts of what is answered
-pub both_ok : {T E : Type 0} (r : Result T E) (P Q R : T → Type 0) → ((x : T) → P x → Q x → R x) → IfOk r P → IfOk r Q → IfOk r R
-both_ok (Ok x) P Q R f p q = f x p q
-both_ok (Err y) P Q R f p q = tt
 
 module _ (county : County) (steps : List ChainWalk) (is : IsCounty county) (whole : AreWhole county steps) where
   abbrev order : Arrangement

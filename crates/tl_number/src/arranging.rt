@@ -15,12 +15,11 @@ ghost use Rattle.tl_profile.specs.ShapeOrder.{IsShapeOrder};
 use crate::arranged::Arranged;
 use crate::arranged_tables::{LandmarkTables, NameTables, NodeTables, PolygonTables};
 use crate::canon_county::{CanonCounty, CanonCountyIn};
-use crate::first_appearance::number_nodes;
 use crate::landmark_order::arrange_landmarks;
 use crate::least_choice::least_steps;
 use crate::name_order::arrange_names;
 use crate::numbers::Numbers;
-use crate::polygon_order::arrange_polygons;
+use crate::polygon_order::arrange_nodes_and_polygons;
 use std::alloc::{AllocError, Global};
 use std::marker::PhantomData;
 use tl_cert::Renaming;
@@ -29,23 +28,6 @@ use tl_profile::{Admitted, AdmittedIn, ChainWalk, ShapeOrder, order_by_shape};
 
 /// The tables of a county in an arrangement: of its nodes, its polygons, its names and its landmarks.
 type Tables = (NodeTables, PolygonTables, NameTables, LandmarkTables);
-
-/// The nodes and the polygons of a county in the arrangement of these steps.
-fn arrange_nodes_and_polygons<C: Chart>(
-    alloc: Global,
-    chart: &C,
-    steps: &[ChainWalk],
-) -> Result<(NodeTables, PolygonTables), AllocError>
-    requires whole { AreWhole (C.county chart.now) steps.now }
-    requires few { length (C.county chart.now).polygons < 2 ^ 32 }
-    requires sides { AllKeysStandIn (polygons_along (C.county chart.now).chains) (polygon_keys (C.county chart.now)) }
-    ensures nodes { IfOk result (λ tables. TellsNodes (C.county chart.now) steps.now tables.0) }
-    ensures polygons { IfOk result (λ tables. TellsPolygons (C.county chart.now) steps.now tables.1) }
-{
-    let nodes = number_nodes(alloc, chart, steps)?;
-    let polygons = arrange_polygons(alloc, chart, steps)?;
-    Ok((nodes, polygons))
-}
 
 /// The names and the landmarks of a county in the arrangement of these steps, with its polygons by first appearance.
 fn arrange_names_and_landmarks<C: Chart>(

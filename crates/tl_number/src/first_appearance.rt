@@ -21,37 +21,27 @@ use tl_county::{Chart, PolygonKey};
 use tl_layout::Side;
 use tl_profile::ChainWalk;
 
-/// The ends of the chains of these steps. They are read before any node is numbered, so that reading one chain need not wait
-/// for another.
-fn ends_along<C: Chart>(
-    alloc: Global,
-    chart: &C,
-    steps: &[ChainWalk],
-) -> Result<Vec<Ends>, AllocError>
-    requires { AreSteps (C.county chart.now) steps.now }
-    ensures { IfOk result (λ met. map Some met.items ≡ map (λ step. option_map ends_of (step_chain (C.county chart.now) step)) steps.now) }
-{
-    let mut met = Vec::with_capacity(alloc, steps.len())?;
-    for step in steps {
-        met.push(ends_of_step(chart, *step))?;
-    }
-    Ok(met)
-}
+/// How many numbers of nodes have a mark for each chain, and how many POLYIDs: numbers that run on are hardly more than the chains.
+const MARKS_A_CHAIN: usize = 2;
 
-/// The sides of the chains of these steps, read before any polygon is numbered.
-fn sides_along<C: Chart>(
+/// The ends and the sides of the chains of these steps, each one after the other. They are read before any node or polygon is numbered, so
+/// that reading one chain need not wait for another, and in one walk, since a chain may lie anywhere in memory.
+fn links_along<C: Chart>(
     alloc: Global,
     chart: &C,
     steps: &[ChainWalk],
-) -> Result<Vec<Sides>, AllocError>
+) -> Result<(Vec<Ends>, Vec<Sides>), AllocError>
     requires { AreSteps (C.county chart.now) steps.now }
-    ensures { IfOk result (λ met. map Some met.items ≡ map (λ step. option_map sides_of (step_chain (C.county chart.now) step)) steps.now) }
+    ensures ends { IfOk result (λ met. map Some met.0.items ≡ map (λ step. option_map ends_of (step_chain (C.county chart.now) step)) steps.now) }
+    ensures sides { IfOk result (λ met. map Some met.1.items ≡ map (λ step. option_map sides_of (step_chain (C.county chart.now) step)) steps.now) }
 {
-    let mut met = Vec::with_capacity(alloc, steps.len())?;
+    let mut ends = Vec::with_capacity(alloc, steps.len())?;
+    let mut sides = Vec::with_capacity(alloc, steps.len())?;
     for step in steps {
-        met.push(sides_of_step(chart, *step))?;
+        ends.push(ends_of_step(chart, *step))?;
+        sides.push(sides_of_step(chart, *step))?;
     }
-    Ok(met)
+    Ok((ends, sides))
 }
 
 /// Sees a node, if there is one, and answers its number, which stays whatever is seen later.
@@ -84,54 +74,44 @@ fn number_side(polygons: &mut Numbers<PolygonKey>, side: Side) -> Result<Side, A
     }
 }
 
-/// Sees the nodes of these ends, and keeps the ends under their numbers.
-fn see_ends(
-    numbers: &mut Numbers<u64>,
-    ends: &mut Vec<Ends>,
-    met: &[Ends],
-) -> Result<(), AllocError>
+/// Sees the nodes of these ends, and puts the ends under their numbers.
+fn see_ends(numbers: &mut Numbers<u64>, ends: &mut [Ends]) -> Result<(), AllocError>
     requires first { numbers.old ≡ [] }
-    requires none { ends.old.items ≡ [] }
-    ensures numbers { OnOk result (numbers.new ≡ first_seen nat_cmp (flat_map nodes_at met.now)) }
-    ensures ends { OnOk result (ends.new.items ≡ map (ends_among (first_seen nat_cmp (flat_map nodes_at met.now))) met.now) }
+    ensures numbers { OnOk result (numbers.new ≡ first_seen nat_cmp (flat_map nodes_at ends.old)) }
+    ensures ends { OnOk result (ends.new ≡ map (ends_among (first_seen nat_cmp (flat_map nodes_at ends.old))) ends.old) }
 {
-    for pair in met {
+    for pair in ends.iter_mut() {
         let (start, end) = *pair;
         let new_start = number_node(numbers, start)?;
         let new_end = number_node(numbers, end)?;
-        ends.push((new_start, new_end))?;
+        *pair = (new_start, new_end);
     }
     Ok(())
 }
 
 /// The nodes of these ends in the order in which they are first met, and the ends under these numbers.
-fn number_ends(alloc: Global, met: &[Ends]) -> Result<NodeTables, AllocError>
-    ensures numbers { IfOk result (λ tables. tables.numbers ≡ first_seen nat_cmp (flat_map nodes_at met.now)) }
-    ensures ends { IfOk result (λ tables. tables.ends.items ≡ map (ends_among (first_seen nat_cmp (flat_map nodes_at met.now))) met.now) }
+fn number_ends(alloc: Global, ends: Vec<Ends>) -> Result<NodeTables, AllocError>
+    ensures numbers { IfOk result (λ tables. tables.numbers ≡ first_seen nat_cmp (flat_map nodes_at ends.items)) }
+    ensures ends { IfOk result (λ tables. tables.ends.items ≡ map (ends_among (first_seen nat_cmp (flat_map nodes_at ends.items))) ends.items) }
 {
-    let mut ends = Vec::with_capacity(alloc, met.len())?;
-    let mut numbers = Numbers::new(alloc);
-    see_ends(&mut numbers, &mut ends, met)?;
+    let mut ends = ends;
+    let mut numbers = Numbers::with_marks(alloc, MARKS_A_CHAIN * ends.len())?;
+    see_ends(&mut numbers, &mut ends)?;
     Ok(NodeTables { numbers, ends })
 }
 
-/// Sees the polygons on these sides, and keeps the sides under their numbers.
-fn see_sides(
-    numbers: &mut Numbers<PolygonKey>,
-    sides: &mut Vec<Sides>,
-    met: &[Sides],
-) -> Result<(), AllocError>
+/// Sees the polygons on these sides, and puts the sides under their numbers.
+fn see_sides(numbers: &mut Numbers<PolygonKey>, sides: &mut [Sides]) -> Result<(), AllocError>
     requires first { numbers.old ≡ [] }
-    requires none { sides.old.items ≡ [] }
-    requires few { length (first_seen key_cmp (flat_map polygons_at met.now)) < 10 ^ 10 }
-    ensures numbers { OnOk result (numbers.new ≡ first_seen key_cmp (flat_map polygons_at met.now)) }
-    ensures sides { OnOk result (sides.new.items ≡ map (sides_among (first_seen key_cmp (flat_map polygons_at met.now))) met.now) }
+    requires few { length (first_seen key_cmp (flat_map polygons_at sides.old)) < 10 ^ 10 }
+    ensures numbers { OnOk result (numbers.new ≡ first_seen key_cmp (flat_map polygons_at sides.old)) }
+    ensures sides { OnOk result (sides.new ≡ map (sides_among (first_seen key_cmp (flat_map polygons_at sides.old))) sides.old) }
 {
-    for pair in met {
+    for pair in sides.iter_mut() {
         let (left, right) = *pair;
         let new_left = number_side(numbers, left)?;
         let new_right = number_side(numbers, right)?;
-        sides.push((new_left, new_right))?;
+        *pair = (new_left, new_right);
     }
     Ok(())
 }
@@ -139,42 +119,32 @@ fn see_sides(
 /// The polygons on these sides in the order in which they are first met, and the sides under these numbers.
 fn number_sides(
     alloc: Global,
-    met: &[Sides],
+    sides: Vec<Sides>,
 ) -> Result<(Numbers<PolygonKey>, Vec<Sides>), AllocError>
-    requires few { length (first_seen key_cmp (flat_map polygons_at met.now)) < 10 ^ 10 }
-    ensures numbers { IfOk result (λ tables. tables.0 ≡ first_seen key_cmp (flat_map polygons_at met.now)) }
-    ensures sides { IfOk result (λ tables. tables.1.items ≡ map (sides_among (first_seen key_cmp (flat_map polygons_at met.now))) met.now) }
+    requires few { length (first_seen key_cmp (flat_map polygons_at sides.items)) < 10 ^ 10 }
+    ensures numbers { IfOk result (λ tables. tables.0 ≡ first_seen key_cmp (flat_map polygons_at sides.items)) }
+    ensures sides { IfOk result (λ tables. tables.1.items ≡ map (sides_among (first_seen key_cmp (flat_map polygons_at sides.items))) sides.items) }
 {
-    let mut sides = Vec::with_capacity(alloc, met.len())?;
-    let mut numbers = Numbers::new(alloc);
-    see_sides(&mut numbers, &mut sides, met)?;
+    let mut sides = sides;
+    let mut numbers = Numbers::with_marks(alloc, MARKS_A_CHAIN * sides.len())?;
+    see_sides(&mut numbers, &mut sides)?;
     Ok((numbers, sides))
 }
 
-/// The nodes of a county in the order in which the chains of these steps first meet them, start before end.
-pub(crate) fn number_nodes<C: Chart>(
+/// The nodes and the polygons of a county in the order in which the chains of these steps first meet them, start before end and left
+/// before right, and the ends and the sides of these chains under the new numbers and keys.
+pub(crate) fn number_links<C: Chart>(
     alloc: Global,
     chart: &C,
     steps: &[ChainWalk],
-) -> Result<NodeTables, AllocError>
+) -> Result<(NodeTables, Numbers<PolygonKey>, Vec<Sides>), AllocError>
     requires { AreWhole (C.county chart.now) steps.now }
-    ensures { IfOk result (TellsNodes (C.county chart.now) steps.now) }
+    ensures nodes { IfOk result (λ tables. TellsNodes (C.county chart.now) steps.now tables.0) }
+    ensures polygons { IfOk result (λ tables. tables.1 ≡ polygons_in_order (C.county chart.now) (arrangement_of (C.county chart.now) steps.now)) }
+    ensures sides { IfOk result (λ tables. tables.2.items ≡ map sides_of (entry_values (stepped (C.county chart.now) steps.now).chains)) }
 {
-    let met = ends_along(alloc, chart, steps)?;
-    number_ends(alloc, &met)
-}
-
-/// The polygons of a county in the order in which the chains of these steps first meet them, left before right, and the
-/// sides of these chains under the new keys.
-pub(crate) fn number_polygons<C: Chart>(
-    alloc: Global,
-    chart: &C,
-    steps: &[ChainWalk],
-) -> Result<(Numbers<PolygonKey>, Vec<Sides>), AllocError>
-    requires { AreWhole (C.county chart.now) steps.now }
-    ensures numbers { IfOk result (λ tables. tables.0 ≡ polygons_in_order (C.county chart.now) (arrangement_of (C.county chart.now) steps.now)) }
-    ensures sides { IfOk result (λ tables. tables.1.items ≡ map sides_of (entry_values (stepped (C.county chart.now) steps.now).chains)) }
-{
-    let met = sides_along(alloc, chart, steps)?;
-    number_sides(alloc, &met)
+    let (ends, sides) = links_along(alloc, chart, steps)?;
+    let nodes = number_ends(alloc, ends)?;
+    let (numbers, sides) = number_sides(alloc, sides)?;
+    Ok((nodes, numbers, sides))
 }

@@ -64,7 +64,7 @@ pub use laws::{
 };
 pub use masking::{canonise_in_masked, canonise_masked};
 pub use name_records::{LandmarkLinkRecords, LandmarkRecords, NameRecords};
-pub use numbers::Numbers;
+pub use numbers::{Numbered, Numbers};
 pub use polygon_records::PolygonRecords;
 pub use record_eq::RecordEq;
 pub use taker::RecordTaker;

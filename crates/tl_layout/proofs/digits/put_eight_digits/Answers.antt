@@ -1,7 +1,17 @@
-use Rattle.std.proofs.Common.{◌∙◌}
-use Rattle.std.proofs.lemmas.Simd.{put_chunk_whole}
+use Rattle.std.proofs.Common.{◌/◌, ◌%◌, ◌∙◌, arith}
 use Rattle.tl_layout.proofs.Columns.{eight_digits_text}
+use Rattle.tl_layout.proofs.WrittenWords.{digits_shown}
 use Rattle.tl_layout.proofs.digits.put_eight_digits.Goals as goal
 
+pub overflow_add-text : goal.overflow_add-text
+overflow_add-text c = let is = c.digits_in_word-text.ensures in let below = c.requires.below in omega arith
+
 pub returns : goal.returns
-returns c = rw c.digit_values.ensures (put_chunk_whole c.args.out.now _ c.requires.len ∙ eight_digits_text c.args.number c.requires.below)
+returns c =
+    let n = c.args.number in
+    let below = c.requires.below in
+    c.copy_from_slice.ensures.after ∙ c.to_le_bytes.ensures
+    ∙ digits_shown (n / 10000000) (n / 1000000 % 10) (n / 100000 % 10) (n / 10000 % 10) (n / 1000 % 10) (n / 100 % 10) (n / 10 % 10) (n % 10)
+    c.digits_in_word-text.result (omega (arith, below)) (omega (arith, below)) (omega (arith, below)) (omega (arith, below)) (omega (arith, below)) (omega (arith, below)) (omega (arith, below)) (omega (arith, below))
+    (c.digits_in_word-text.ensures ∙ omega arith)
+    ∙ eight_digits_text n below

@@ -1,4 +1,4 @@
--- What was seen so far, and then the rest, is what all ends give; and what is numbered has its last numbers.
+-- What was seen so far, and then the rest, is what all ends give; what is numbered has its last numbers, and the rest is as it was.
 use Rattle.std.proofs.Common.{◌≡◌, drop, flat_map, map, nat_cmp, take}
 use Rattle.tl_number.specs.ByStep.{ends_among, nodes_at}
 use Rattle.tl_number.specs.Growth.{first_seen, first_seen_after}
@@ -6,5 +6,7 @@ use Rattle.tl_number.proofs.first_appearance.see_ends.Given as goal
 
 abbrev pub invariant-loop-pair : goal.invariant-loop-pair
 invariant-loop-pair l =
-    (first_seen_after nat_cmp l.numbers (flat_map nodes_at (drop l.pair-index l.met)) ≡ first_seen nat_cmp (flat_map nodes_at l.met))
-    × (l.ends.items ≡ map (ends_among (first_seen nat_cmp (flat_map nodes_at l.met))) (take l.pair-index l.met))
+    (first_seen_after nat_cmp l.numbers (flat_map nodes_at (drop l.pair-index l.initial.ends))
+    ≡ first_seen nat_cmp (flat_map nodes_at l.initial.ends))
+    × (take l.pair-index l.ends ≡ map (ends_among (first_seen nat_cmp (flat_map nodes_at l.initial.ends))) (take l.pair-index l.initial.ends))
+    × (drop l.pair-index l.ends ≡ drop l.pair-index l.initial.ends)

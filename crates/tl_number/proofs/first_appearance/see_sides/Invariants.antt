@@ -1,4 +1,4 @@
--- What was seen so far, and then the rest, is what all sides give; and what is numbered has its last numbers.
+-- What was seen so far, and then the rest, is what all sides give; what is numbered has its last numbers, and the rest is as it was.
 use Rattle.std.proofs.Common.{◌≡◌, drop, flat_map, map, take}
 use Rattle.tl_county.specs.PolygonKeys.{key_cmp}
 use Rattle.tl_number.specs.ByStep.{polygons_at, sides_among}
@@ -7,5 +7,8 @@ use Rattle.tl_number.proofs.first_appearance.see_sides.Given as goal
 
 abbrev pub invariant-loop-pair : goal.invariant-loop-pair
 invariant-loop-pair l =
-    (first_seen_after key_cmp l.numbers (flat_map polygons_at (drop l.pair-index l.met)) ≡ first_seen key_cmp (flat_map polygons_at l.met))
-    × (l.sides.items ≡ map (sides_among (first_seen key_cmp (flat_map polygons_at l.met))) (take l.pair-index l.met))
+    (first_seen_after key_cmp l.numbers (flat_map polygons_at (drop l.pair-index l.initial.sides))
+    ≡ first_seen key_cmp (flat_map polygons_at l.initial.sides))
+    × (take l.pair-index l.sides
+    ≡ map (sides_among (first_seen key_cmp (flat_map polygons_at l.initial.sides))) (take l.pair-index l.initial.sides))
+    × (drop l.pair-index l.sides ≡ drop l.pair-index l.initial.sides)

@@ -1,5 +1,5 @@
 -- The number, the content and the points were written one behind the other, as the record is spelled.
-use Rattle.std.proofs.Common.{◌≡◌, ◌<◌, ◌∙◌, ◌∷◌, ◌++◌, [], Some, length, option_map, codes, take, sym, ap, subst}
+use Rattle.std.proofs.Common.{◌<◌, ◌∙◌, ◌∷◌, ◌++◌, [], Some, option_map, codes, take, sym, ap, subst}
 use Rattle.std.proofs.lemmas.List.{length-map}
 use Rattle.tl_county.specs.Packing.{packed_one, first_point, last_point}
 use Rattle.tl_layout.specs.Columns.{joined}

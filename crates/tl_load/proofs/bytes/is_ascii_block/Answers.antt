@@ -1,0 +1,20 @@
+use Rattle.std.proofs.Common.{◌≡◌, ◌+◌, ◌-◌, ◌%◌, ℕ, length, map, replicate, ltb, sym, ap, ◌∙◌, lit≤, w8}
+use Rattle.std.proofs.lemmas.Bool.{eqb-true}
+use Rattle.std.proofs.lemmas.Simd.{bitmask_splat, length-chunk, length-zip2, map-map, zip2_splat}
+use lib.Lanes.{chunk, mask_l, zip2}
+use Rattle.tl_load.proofs.Lanes.{ascii_at}
+use Rattle.tl_load.proofs.bytes.is_ascii_block.Goals as goal
+
+pub returns : goal.returns
+returns c none_else k from below =
+    let bytes = c.args.bytes.now in
+    let v = chunk c.args.at 32 bytes in
+    let long : length v ≡ 32 = length-chunk c.args.at 32 bytes c.requires in
+    let from_delete = λ (b : ℕ). (b + (256 - 127)) % 256 in
+    let less = zip2 (λ a b. (a + (256 - b)) % 256) v (replicate 32 127) in
+    let less_is : less ≡ map from_delete v = zip2_splat (λ a b. (a + (256 - b)) % 256) v 32 127 long in
+    let lanes : length less ≡ 32 = length-zip2 (λ a b. (a + (256 - b)) % 256) v (replicate 32 127) long ∙ long in
+    let none : mask_l (map (λ b. ltb (from_delete b) 161) v) ≡ 0 =
+    ap mask_l (sym (map-map (λ b. ltb b 161) from_delete v) ∙ ap (map (λ b. ltb b 161)) (sym less_is))
+    ∙ sym (bitmask_splat w8 ltb less 32 161 lanes (lit≤ tt)) ∙ eqb-true _ _ none_else in
+    ascii_at bytes c.args.at c.requires none k from below (c.type_inv.bytes k).fits
