@@ -66,6 +66,7 @@ pub mod TiedOnes
 pub mod SameShapes
 pub mod LinkOrder
 pub mod ChosenSteps
+pub mod SameChains
 pub mod LeastNumbers
 pub mod TypeOnes
 pub mod LeastOnes
