@@ -67,6 +67,7 @@ pub mod SameShapes
 pub mod LinkOrder
 pub mod ChosenSteps
 pub mod SameChains
+pub mod SameLists
 pub mod LeastNumbers
 pub mod TypeOnes
 pub mod LeastOnes

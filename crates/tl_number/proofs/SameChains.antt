@@ -73,6 +73,13 @@ pub chain_read : (county : County) (steps : List ChainWalk) (i : ℕ) → i < le
 chain_read county steps i there = slice_get-map (step_chain county) steps i
     ∙ ap (option_map (step_chain county)) (slice_get-get_or steps i (record { place = 0; turned = false }) there)
 
+-- and a part of it
+pub part_read : {X : Type 0} (county : County) (part : Option Chain → X) (steps : List ChainWalk) (i : ℕ) → i < length steps
+    → slice_get (map (λ step. part (step_chain county step)) steps) i
+    ≡ Some (part (step_chain county (get_or steps i (record { place = 0; turned = false }))))
+part_read county part steps i there = slice_get-map (λ step. part (step_chain county step)) steps i
+    ∙ ap (option_map (λ step. part (step_chain county step))) (slice_get-get_or steps i (record { place = 0; turned = false }) there)
+
 -- A chain under new numbers is told by those of names, of polygons and of nodes.
 module _ (r s : Renumbering) (names : r.names ≡ s.names) (polygons : r.polygons ≡ s.polygons) (nodes : r.nodes ≡ s.nodes) where
   same_side : (cenid : List ℕ) (polyid : Option ℕ) → renumbered_polygon r cenid polyid ≡ renumbered_polygon s cenid polyid

@@ -6,7 +6,7 @@ ghost use Rattle.std.specs.Prelude.{◌≡◌, ◌<◌, ◌+◌, length, map};
 ghost use Rattle.tl_cert.specs.PartsThere.{HaveSameContent, HaveSameEnds, HaveSameLists};
 ghost use Rattle.tl_county.specs.ChartWords.{feats_of, points_of, ranges_of};
 ghost use Rattle.tl_number.specs.MovedSteps.{AgreeButOpen, HaveSameChainsBelow, IsWithin};
-ghost use Rattle.tl_number.specs.Steps.{step_chain};
+ghost use Rattle.tl_number.specs.Steps.{feats_along, ranges_along, step_chain};
 ghost use Rattle.tl_number.specs.ViewFacts.{AreWhole};
 
 use crate::arranged_tables::{Ends, Sides};
@@ -51,6 +51,13 @@ fn is_same_link_body(a: Option<BodyI>, b: Option<BodyI>) -> bool
     ensures { Decides result (a ≡ b) }
 {
     a == b
+}
+
+/// Whether two steps are the same.
+fn is_same_step(one: ChainWalk, other: ChainWalk) -> bool
+    ensures { Decides result (one ≡ other) }
+{
+    one == other
 }
 
 /// Whether chains have the same nodes at their ends.
@@ -119,6 +126,28 @@ fn have_same_ranges<C: Chart>(chart: &C, one: ChainWalk, other: ChainWalk) -> bo
         }
     }
     true
+}
+
+/// The same, with nothing read where the steps are the same.
+fn have_same_feats_at<C: Chart>(chart: &C, one: ChainWalk, other: ChainWalk) -> bool
+    ensures { Decides result (feats_of (step_chain (C.county chart.now) one) ≡ feats_of (step_chain (C.county chart.now) other)) }
+{
+    let same = is_same_step(one, other);
+    if same {
+        return true;
+    }
+    have_same_feats(chart, one, other)
+}
+
+/// The same of their further address ranges.
+fn have_same_ranges_at<C: Chart>(chart: &C, one: ChainWalk, other: ChainWalk) -> bool
+    ensures { Decides result (ranges_of (step_chain (C.county chart.now) one) ≡ ranges_of (step_chain (C.county chart.now) other)) }
+{
+    let same = is_same_step(one, other);
+    if same {
+        return true;
+    }
+    have_same_ranges(chart, one, other)
 }
 
 /// Whether the chains of two steps have the same content in their records of types 1 and I.
@@ -221,6 +250,42 @@ pub(crate) fn have_same_chains<C: Chart>(
             return false;
         }
         rest = behind;
+    }
+    true
+}
+
+/// Whether two arrangements of as many steps have the same further names, place by place.
+pub(crate) fn have_same_feats_along<C: Chart>(
+    chart: &C,
+    one: &[ChainWalk],
+    other: &[ChainWalk],
+) -> bool
+    requires { length one.now ≡ length other.now }
+    ensures { Decides result (feats_along (C.county chart.now) one.now ≡ feats_along (C.county chart.now) other.now) }
+{
+    for place in 0..one.len() {
+        let same = have_same_feats_at(chart, one[place], other[place]);
+        if !same {
+            return false;
+        }
+    }
+    true
+}
+
+/// Whether they have the same further address ranges.
+pub(crate) fn have_same_ranges_along<C: Chart>(
+    chart: &C,
+    one: &[ChainWalk],
+    other: &[ChainWalk],
+) -> bool
+    requires { length one.now ≡ length other.now }
+    ensures { Decides result (ranges_along (C.county chart.now) one.now ≡ ranges_along (C.county chart.now) other.now) }
+{
+    for place in 0..one.len() {
+        let same = have_same_ranges_at(chart, one[place], other[place]);
+        if !same {
+            return false;
+        }
     }
     true
 }
