@@ -1,6 +1,6 @@
 -- What moves at open places leaves the elements at all other places as they are.
 use Rattle.std.proofs.Common.{◌≡◌, ◌<◌, ◌≤◌, ◌+◌, ◌/◌, ◌%◌, ℕ, zero, suc, nat_lt, List, [], ◌∷◌, ◌++◌, take, drop, length, Bool, true, false, cond}
-use Rattle.std.proofs.Common.{Ordering, Some, None, slice_get, sym, refl, ap, ◌∙◌, subst, arith}
+use Rattle.std.proofs.Common.{Ordering, Some, None, slice_get, sym, refl, ap, ◌∙◌, arith}
 use Rattle.std.proofs.lemmas.Bool.{ltb-true, ltb-false}
 use Rattle.std.proofs.lemmas.List.Sorted.{length_permutation, IsPermutation-insert}
 use Rattle.std.specs.List.{AllByRecursion, insert}
@@ -8,7 +8,7 @@ use Rattle.tl_county.proofs.Lists.Elements.{all_weaker}
 use Rattle.tl_profile.specs.Choices.{is_settled, open_places, place_of}
 use Rattle.tl_profile.specs.declared.open_places.OpenPlace.{OpenPlace}
 use Rattle.tl_number.specs.MovedSteps.{AgreeApart, AreWithin, IsApart, IsWithin, StandInOrder}
-use Rattle.tl_number.specs.NumberedChoices.{turned_by, first_stood, moved_at, moved}
+use Rattle.tl_number.specs.NumberedChoices.{turned_by, first_stood, moved}
 
 pub nothing_left : {X : Type 0} (xs : List X) → length xs ≡ 0 → xs ≡ []
 nothing_left [] e = refl

@@ -1,5 +1,5 @@
 -- The records of types I and P of a county in two arrangements.
-use Rattle.std.proofs.Common.{◌≡◌, ◌<◌, ◌≤◌, ◌+◌, ℕ, suc, nat_lt, List, [], ◌∷◌, map, length, Bool, true, false, Option, Some, None}
+use Rattle.std.proofs.Common.{◌≡◌, ◌<◌, ◌≤◌, ◌+◌, ℕ, nat_lt, List, map, length, Bool, true, false, Option, Some, None}
 use Rattle.std.proofs.Common.{option_map, option_to_list, slice_get, Equal, sym, refl, ap, ap₂, ◌∙◌, subst, arith}
 use Rattle.std.proofs.lemmas.Bool.{ltb-true, ltb-false}
 use Rattle.std.proofs.lemmas.Cmp.{tied_itself}

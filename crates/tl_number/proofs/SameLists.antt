@@ -1,6 +1,6 @@
 -- Arrangements of chains with the same further names have the same records of types 4 and 5, and those of chains with the same further
 -- address ranges the same of type 6.
-use Rattle.std.proofs.Common.{◌≡◌, ◌∙◌, ℕ, suc, List, [], ◌∷◌, ◌++◌, map, Option, Some, length, Equal, sym, refl, ap, ap₂, nat_cmp, subst}
+use Rattle.std.proofs.Common.{◌≡◌, ◌∙◌, ℕ, suc, List, [], ◌∷◌, ◌++◌, map, Option, Some, Equal, sym, refl, ap, nat_cmp, subst}
 use Rattle.std.proofs.lemmas.Cmp.{tied_itself}
 use Rattle.std.specs.Ordering.{on}
 use Rattle.tl_layout.specs.Fields.{Fields4, Fields6}
@@ -14,9 +14,9 @@ use Rattle.tl_county.specs.County.{County}
 use Rattle.tl_county.specs.CountyRules.{IsCounty}
 use Rattle.tl_county.specs.Orders.{in_order}
 use Rattle.tl_county.specs.Packing.{in_pieces, numbered_from, packed_five, packed_fours, packed_sixes}
-use Rattle.tl_county.specs.Renumbering.{Renumbering, carried_name, image}
+use Rattle.tl_county.specs.Renumbering.{Renumbering, image}
 use Rattle.tl_county.proofs.Lists.Elements.{map-map}
-use Rattle.tl_number.specs.Arrangement.{names_in_order, placed, renaming_of}
+use Rattle.tl_number.specs.Arrangement.{names_in_order, renaming_of}
 use Rattle.tl_number.specs.CountyGroups.{type_4_by_chain, type_5_by_name, type_6_by_chain}
 use Rattle.tl_number.specs.Groups.{grouped}
 use Rattle.tl_number.specs.Growth.{numbered}

@@ -3,7 +3,6 @@ use Rattle.std.proofs.Common.{◌≡◌, ◌∙◌, ℕ, List, [], ◌∷◌, ma
 use Rattle.std.proofs.Common.{sym, refl, ap, subst}
 use Rattle.std.proofs.lemmas.Bool.{false≢true}
 use Rattle.std.proofs.lemmas.List.{length-map}
-use Rattle.std.specs.List.{AllByRecursion}
 use Rattle.std.specs.Ordering.{is_lt, on, ordering_reverse}
 use Rattle.tl_layout.specs.Coordinates.{Coordinates}
 use Rattle.tl_layout.specs.Fields.{Fields2}

@@ -1,6 +1,6 @@
 -- The records of type 1 of two arrangements that are compared at open places alone.
-use Rattle.std.proofs.Common.{◌≡◌, ◌≢◌, ◌<◌, ◌≤◌, ◌+◌, ℕ, zero, suc, nat_lt, List, [], ◌∷◌, length, get_or, Bool, true, false, Ordering, Less}
-use Rattle.std.proofs.Common.{Equal, Greater, Option, Some, None, slice_get, sym, refl, ap, ap₂, ◌∙◌, subst, arith}
+use Rattle.std.proofs.Common.{◌≡◌, ◌≢◌, ◌≤◌, ◌+◌, ℕ, zero, suc, nat_lt, List, [], ◌∷◌, length, get_or, Bool, true, false, Less}
+use Rattle.std.proofs.Common.{Equal, Greater, Some, slice_get, sym, refl, ap, ap₂, ◌∙◌, subst, arith}
 use Rattle.std.proofs.lemmas.Bool.{ltb-true, ltb-false}
 use Rattle.std.proofs.lemmas.Option.{slice_get-get_or, slice_get_past}
 use Rattle.std.specs.Option.{option_cmp}

@@ -21,8 +21,6 @@ use Rattle.tl_county.specs.Packing.{numbered_from, packed_one}
 use Rattle.tl_profile.specs.ShapeOrder.{points_along}
 use Rattle.tl_profile.specs.declared.chain_walk.ChainWalk.{ChainWalk}
 use Rattle.tl_number.specs.Arrangement.{arranged_tlids, placed, renaming_of}
-use Rattle.tl_number.specs.CountyGroups.{type_1_by_chain}
-use Rattle.tl_number.specs.Groups.{grouped}
 use Rattle.tl_number.specs.RecordOrder.{spelling_cmp}
 use Rattle.tl_number.specs.Steps.{arrangement_of, step_chain, tlid_at}
 use Rattle.tl_number.specs.TypeOneOrder.{one_at, ones_of}

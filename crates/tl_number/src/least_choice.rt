@@ -3,7 +3,8 @@
 //! Records of type 1 stand before all others in a text, and those of a choice are told by its steps alone. So the choices are gone
 //! through for the one with the least of these first, and from one to the next no more is looked at than what moves at open places. Only
 //! others that have the same are arranged and compared with it as texts, of which there are few: chains of one shape mostly differ in an
-//! address, a name or a code.
+//! address, a name or a code. Nor are those arranged that have the same chains as it, place by place: chains that were entered twice with
+//! all they say make one county in whatever order they stand.
 
 ghost use Rattle.std.specs.declared.cmp.Ordering.TheVariants.{Equal};
 ghost use Rattle.std.specs.Ordering.{is_gt};

@@ -1,8 +1,6 @@
-use Rattle.std.proofs.Common.{◌≡◌, ◌∙◌, Bool, true, false, not, is_eq, sym, ap, refl, subst}
+use Rattle.std.proofs.Common.{◌≡◌, ◌∙◌, Bool, true, false, not, is_eq, sym, ap, refl}
 use Rattle.std.proofs.lemmas.Bool.{false≢true}
-use Rattle.std.specs.Bool.{Decides}
 use Rattle.tl_profile.specs.Choices.{choices}
-use Rattle.tl_number.specs.Steps.{step_chain}
 use Rattle.tl_number.specs.TypeOneOrder.{ones_cmp}
 use Rattle.tl_number.proofs.LeastOnes.{agree_of_numbers, equal_from, least_one_first, one_list}
 use Rattle.tl_number.proofs.least_choice.is_other_tie.Goals as goal

@@ -1,5 +1,4 @@
-use Rattle.std.proofs.Common.{◌≡◌, ◌<◌, false, rules, arith}
-use Rattle.tl_profile.specs.Choices.{choices}
+use Rattle.std.proofs.Common.{◌≡◌, false, rules, arith}
 use Rattle.tl_number.proofs.LeastOnes.{from_more}
 use Rattle.tl_number.proofs.least_choice.next_tie.Goals as goal
 

@@ -1,4 +1,4 @@
-use Rattle.std.proofs.Common.{◌≡◌, length, sym, subst, ◌∙◌}
+use Rattle.std.proofs.Common.{length, sym, subst, ◌∙◌}
 use Rattle.tl_number.specs.MovedSteps.{AgreeApart, AreWithin}
 use Rattle.tl_number.proofs.KeptPlaces.{agree_put, agree_same, nothing_left}
 use Rattle.tl_number.proofs.numbered_steps.put_back.Goals as goal

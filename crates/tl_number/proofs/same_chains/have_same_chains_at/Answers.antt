@@ -1,6 +1,4 @@
-use Rattle.std.proofs.Common.{◌≡◌, ◌<◌, ◌∙◌, Some, get_or, length, map, slice_get, true, false, rules, refl, sym, ap, arith}
-use Rattle.std.proofs.lemmas.Option.{slice_get-get_or, slice_get-map}
-use Rattle.tl_county.specs.County.{County}
+use Rattle.std.proofs.Common.{◌≡◌, ◌<◌, ◌∙◌, Some, get_or, length, map, true, false, rules, refl, sym, ap, arith}
 use Rattle.tl_profile.specs.declared.chain_walk.ChainWalk.{ChainWalk}
 use Rattle.tl_number.specs.Steps.{step_chain}
 use Rattle.tl_cert.proofs.Places.{decides_no}

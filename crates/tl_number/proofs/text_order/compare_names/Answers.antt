@@ -1,4 +1,4 @@
-use Rattle.std.proofs.Common.{◌≡◌, ◌∙◌, length, sym, ap, ap₂, arith}
+use Rattle.std.proofs.Common.{◌∙◌, length, sym, ap}
 use Rattle.tl_number.specs.Steps.{feats_along}
 use Rattle.tl_number.proofs.SameLists.{type_5_through}
 use Rattle.tl_number.proofs.TypeOnes.{as_many_steps}

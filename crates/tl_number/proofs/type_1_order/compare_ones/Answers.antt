@@ -1,4 +1,4 @@
-use Rattle.std.proofs.Common.{◌≡◌, ◌∷◌, ℕ, length, sym, subst, ap, ◌∙◌}
+use Rattle.std.proofs.Common.{length, sym, subst}
 use Rattle.std.specs.List.{AllByRecursion}
 use Rattle.tl_number.specs.MovedSteps.{AreWithin, IsApart, StandInOrder}
 use Rattle.tl_number.specs.RecordOrder.{AreTiedAt}

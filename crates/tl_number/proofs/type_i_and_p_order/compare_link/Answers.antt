@@ -1,4 +1,4 @@
-use Rattle.std.proofs.Common.{◌≡◌, ◌∙◌, slice_get, sym, ap, ap₂}
+use Rattle.std.proofs.Common.{◌∙◌, slice_get, ap, ap₂}
 use Rattle.std.specs.Option.{option_cmp}
 use Rattle.tl_number.specs.RecordOrder.{links_of, spelling_cmp}
 use Rattle.tl_number.specs.ViewFacts.{stepped}

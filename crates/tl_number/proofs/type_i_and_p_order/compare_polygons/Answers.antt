@@ -1,9 +1,6 @@
-use Rattle.std.proofs.Common.{◌≡◌, ◌∙◌, map, sym, ap, ap₂}
-use Rattle.tl_layout.specs.declared.record_type.Record.TheVariants.{P}
-use Rattle.tl_number.specs.ByNumber.{polygons_by_number, under_number}
-use Rattle.tl_number.specs.CountyGroups.{type_p_by_number}
+use Rattle.std.proofs.Common.{◌∙◌, map, sym, ap₂}
+use Rattle.tl_number.specs.ByNumber.{under_number}
 use Rattle.tl_number.specs.Growth.{numbered}
-use Rattle.tl_number.specs.RecordOrder.{groups_cmp}
 use Rattle.tl_number.specs.ViewFacts.{stepped}
 use Rattle.tl_number.proofs.LinkOrder.{same_polygons}
 use Rattle.tl_number.proofs.type_i_and_p_order.compare_polygons.Goals as goal

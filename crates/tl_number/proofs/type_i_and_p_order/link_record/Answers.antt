@@ -1,12 +1,10 @@
-use Rattle.std.proofs.Common.{◌≡◌, ◌<◌, ◌∙◌, ◌∷◌, [], Some, length, map, option_map, slice_get, sym, ap, subst, arith}
+use Rattle.std.proofs.Common.{◌<◌, ◌∙◌, ◌∷◌, [], length, option_map, slice_get, sym, ap, subst, arith}
 use Rattle.std.proofs.lemmas.List.{length-map}
 use Rattle.tl_layout.specs.declared.record_type.Record.TheVariants.{I}
 use Rattle.tl_county.specs.Packing.{packed_i}
-use Rattle.tl_number.specs.CountyGroups.{type_i_by_chain}
-use Rattle.tl_number.specs.Groups.{group_at}
 use Rattle.tl_number.specs.ViewFacts.{stepped}
 use Rattle.tl_number.proofs.ChainPlaces.{some_at}
-use Rattle.tl_number.proofs.Grouped.{group_of, some-same}
+use Rattle.tl_number.proofs.Grouped.{group_of}
 use Rattle.tl_number.proofs.LinkOrder.{link_there}
 use Rattle.tl_number.proofs.type_i_and_p_order.link_record.Goals as goal
 
