@@ -1,6 +1,6 @@
 -- The least of the records of type 1 of choices, number by number, and what it says of texts.
 use Rattle.std.proofs.Common.{◌≡◌, ◌<◌, ◌≤◌, ◌+◌, ℕ, suc, nat_lt, List, Bool, true, false, Ordering, Less, Equal, Greater}
-use Rattle.std.proofs.Common.{is_eq, is_gt, map, sym, refl, ap, ◌∙◌, subst, arith}
+use Rattle.std.proofs.Common.{is_eq, is_gt, length, map, sym, refl, ap, ◌∙◌, subst, arith}
 use Rattle.std.proofs.lemmas.Bool.{ltb-true, ltb-false, false≢true}
 use Rattle.std.proofs.lemmas.Cmp.{tied_itself, upto}
 use Rattle.std.specs.Ordering.{is_le, ordering_then}
@@ -8,6 +8,7 @@ use Rattle.tl_layout.specs.declared.record_type.Record.{Record}
 use Rattle.tl_county.specs.County.{County}
 use Rattle.tl_county.specs.CountyRules.{IsCounty, polygon_keys, polygons_along, AllKeysStandIn}
 use Rattle.tl_county.specs.Limits.{IsWithinLimits, most_records}
+use Rattle.tl_county.specs.Packing.{packed}
 use Rattle.tl_county.proofs.Lists.InOrder.{not_greater}
 use Rattle.tl_profile.specs.Choices.{is_either_way, open_places}
 use Rattle.tl_profile.specs.ShapeOrder.{AreWalksInOrder, points_along}
@@ -17,19 +18,23 @@ use Rattle.tl_profile.proofs.FewChains.{few_chains}
 use Rattle.tl_shape.specs.PointOrder.{points_cmp}
 use Rattle.tl_number.specs.Arrangement.{arranged}
 use Rattle.tl_number.specs.LeastNumber.{choice_list}
-use Rattle.tl_number.specs.MovedSteps.{other_way}
+use Rattle.tl_number.specs.MovedSteps.{AgreeApart, AgreeButOpen, AreWithin, StandInOrder, other_way}
 use Rattle.tl_number.specs.NumberedChoices.{moved}
 use Rattle.tl_number.specs.Canonical.{IsNotAfter}
+use Rattle.tl_number.specs.Steps.{step_chain}
 use Rattle.tl_number.specs.Tidy.{numbered_choice}
 use Rattle.tl_number.specs.TypeOneOrder.{IsLeastFrom, IsLeastOne, ones_cmp, ones_of}
 use Rattle.tl_number.specs.ViewFacts.{AreWhole}
 use Rattle.tl_number.proofs.ArrangedCounties.{arranged_county}
 use Rattle.tl_number.proofs.ArrangedNumbers.{arrangement_within}
 use Rattle.tl_number.proofs.ArrangedViews.{whole_steps}
+use Rattle.tl_number.proofs.ChosenSteps.{places_in_order, places_within, steps_of_number, steps_of_number_apart, steps_of_number_count}
 use Rattle.tl_number.proofs.ChosenSteps.{steps_of_number_there, steps_of_number_once}
 use Rattle.tl_number.proofs.Choosing.{one_more}
 use Rattle.tl_number.proofs.GroupOrders.{records_total}
+use Rattle.tl_number.proofs.KeptPlaces.{agree_both}
 use Rattle.tl_number.proofs.LeastNumbers.{choices_same}
+use Rattle.tl_number.proofs.SameChains.{stepped_same}
 use Rattle.tl_number.proofs.TidyChoices.{numbered_is_choice}
 use Rattle.tl_number.proofs.TidyLists.{not_after_itself}
 use Rattle.tl_number.proofs.TypeOrders.{texts_in_order}
@@ -132,3 +137,34 @@ module _ (county : County) (is : IsCounty county) (within : IsWithinLimits most_
   whole_of_number walks order places there steps n told =
       whole_steps county steps is within (steps_of_number_there county is walks order places there steps n told)
       (steps_of_number_once county is walks order places there steps n told) sides (few_chains county within)
+
+  module _ (walks : List ChainWalk) (order : AreWalksInOrder county walks) (places : List OpenPlace)
+      (there : places ≡ open_places points_cmp is_either_way 0 (map (points_along county) walks)) (one other : List ChainWalk) (n m : ℕ)
+      (told : one ≡ (moved other_way places (walks, n)).0) (other_told : other ≡ (moved other_way places (walks, m)).0) where
+    -- The steps of two numbers agree but for what moves at open places,
+    pub agree_of_numbers : (all : List OpenPlace) → all ≡ places → AgreeButOpen county all one other
+    agree_of_numbers all same =
+        let count : length one ≡ length walks = steps_of_number_count county is walks order places there one n told in
+        let other_count : length other ≡ length walks = steps_of_number_count county is walks order places there other m other_told in
+        record {
+          whole = whole_of_number walks order places there one n told;
+          other_whole = whole_of_number walks order places there other m other_told;
+          count = count ∙ sym other_count;
+          within = subst (λ k. AreWithin k all) (sym count)
+              (subst (AreWithin (length walks)) (sym same) (places_within county is walks order places there));
+          in_order = subst StandInOrder (sym same) (places_in_order county is walks order places there);
+          apart = subst (λ ps. AgreeApart ps one other) (sym same)
+              (agree_both places one other walks (steps_of_number_apart county is walks order places there one n told)
+              (steps_of_number_apart county is walks order places there other m other_told));
+        }
+
+    -- and where they have the same chains, their choices have one list.
+    pub one_list : map (step_chain county) one ≡ map (step_chain county) other
+        → IsNotAfter (choice_list county n) (choice_list county m)
+    one_list same =
+        let lists : choice_list county n ≡ choice_list county m =
+        ap (λ a. packed (arranged county a)) (sym (steps_of_number county is walks order places there one n told))
+        ∙ ap packed (stepped_same county is one other (whole_of_number walks order places there one n told)
+        (whole_of_number walks order places there other m other_told) same)
+        ∙ ap (λ a. packed (arranged county a)) (steps_of_number county is walks order places there other m other_told) in
+        subst (IsNotAfter (choice_list county n)) lists (not_after_itself (choice_list county n))

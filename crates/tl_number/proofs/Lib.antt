@@ -66,6 +66,8 @@ pub mod TiedOnes
 pub mod SameShapes
 pub mod LinkOrder
 pub mod ChosenSteps
+pub mod SameChains
+pub mod SameLists
 pub mod LeastNumbers
 pub mod TypeOnes
 pub mod LeastOnes

@@ -23,7 +23,7 @@ use Rattle.tl_number.proofs.StepChains.{flat_map-map}
 use Rattle.tl_number.proofs.ViewChains.{bodies_read, chains, values}
 use Rattle.tl_number.proofs.ViewTables.{keys_paired, nodes_paired}
 
-same_somes : {X : Type 0} (xs ys : List X) → map Some xs ≡ map Some ys → xs ≡ ys
+pub same_somes : {X : Type 0} (xs ys : List X) → map Some xs ≡ map Some ys → xs ≡ ys
 same_somes [] [] e = refl
 same_somes [] (y ∷ ys) e = cc
 same_somes (x ∷ xs) [] e = cc

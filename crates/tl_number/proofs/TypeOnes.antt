@@ -102,3 +102,10 @@ module _ (county : County) (steps : List ChainWalk) (is : IsCounty county) (whol
       ∙ ap (option_map (kept_entry r)) (numbered_at 1 (chains county steps is whole) i ∙ ap (option_map (λ x. (1 + i, x))) c.1)))
       ∙ ap (λ n. Some (One (packed_one (n, c.0)))) (let m : 1 + i ≡ i + 1 = omega arith in m)
       ∙ sym (ap (option_map (λ chain. One (packed_one (i + 1, chain)))) c.2)
+
+-- arrangements of a county, told by two words for it, have as many steps
+pub as_many_steps : (a b : County) → a ≡ b → IsCounty a → (one other : List ChainWalk) → AreWhole a one → AreWhole b other
+    → length one ≡ length other
+as_many_steps a b told is one other whole other_whole =
+    length_whole a one is whole
+    ∙ sym (length_whole a other is (subst (λ c. AreWhole c other) (sym told) other_whole))

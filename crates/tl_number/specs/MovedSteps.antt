@@ -1,8 +1,11 @@
 -- Steps that are moved at the open places of the order of shapes, and the places at which none of them moves.
-use Rattle.std.specs.Prelude.{ℕ, ◌≡◌, ◌+◌, ◌<◌, ◌≤◌, List, [], ◌∷◌, not, slice_get, ⊤}
+use Rattle.std.specs.Prelude.{ℕ, ◌≡◌, ◌+◌, ◌<◌, ◌≤◌, List, [], ◌∷◌, length, map, not, slice_get, ⊤}
 use Rattle.std.specs.List.{AllByRecursion}
+use Rattle.tl_county.specs.County.{County}
 use Rattle.tl_profile.specs.declared.chain_walk.ChainWalk.{ChainWalk}
 use Rattle.tl_profile.specs.declared.open_places.OpenPlace.{OpenPlace}
+use Rattle.tl_number.specs.Steps.{step_chain}
+use Rattle.tl_number.specs.ViewFacts.{AreWhole}
 
 -- the step in the other direction
 abbrev pub other_way : ChainWalk → ChainWalk
@@ -29,3 +32,20 @@ AgreeApart places xs ys = (place : ℕ) → AllByRecursion (IsApart place) place
 abbrev pub StandInOrder : List OpenPlace → Type 0
 StandInOrder [] = ⊤
 StandInOrder (at ∷ places) = AllByRecursion (λ later. at.place ≤ later.place) places × StandInOrder places
+
+-- the steps of two arrangements of a county, which agree but for what moves at open places
+pub record AgreeButOpen (county : County) (places : List OpenPlace) (one other : List ChainWalk) : Type 0 where
+  pub whole : AreWhole county one
+  pub other_whole : AreWhole county other
+  pub count : length one ≡ length other
+  pub within : AreWithin (length one) places
+  pub in_order : StandInOrder places
+  pub apart : AgreeApart places one other
+
+-- at a place two lists of steps have the same chain, or none
+abbrev pub HaveSameChainAt : County → List ChainWalk → List ChainWalk → ℕ → Type 0
+HaveSameChainAt county one other place = slice_get (map (step_chain county) one) place ≡ slice_get (map (step_chain county) other) place
+
+-- so at each place below this one
+abbrev pub HaveSameChainsBelow : County → ℕ → List ChainWalk → List ChainWalk → Type 0
+HaveSameChainsBelow county end one other = (place : ℕ) → place < end → HaveSameChainAt county one other place

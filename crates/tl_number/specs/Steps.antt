@@ -1,9 +1,10 @@
 -- Steps: an arrangement of a county told by the places of its chains.
 use Rattle.std.specs.Prelude.{ℕ, ◌<◌, List, map, Option, option_map, slice_index, length}
 use Rattle.std.specs.List.{AllByRecursion}
+use Rattle.tl_layout.specs.declared.ranges.Ranges.{Ranges}
 use Rattle.tl_shape.specs.Chain.{Chain}
 use Rattle.tl_shape.specs.Turned.{turned_if}
-use Rattle.tl_county.specs.ChartWords.{chain_at}
+use Rattle.tl_county.specs.ChartWords.{chain_at, feats_of, ranges_of}
 use Rattle.tl_county.specs.County.{County}
 use Rattle.tl_county.specs.CountyRules.{tlids}
 use Rattle.tl_number.specs.Arrangement.{Arrangement}
@@ -24,3 +25,10 @@ AreSteps county steps = AllByRecursion (λ step. step.place < length county.chai
 -- the chain of a step, in the direction of the step
 abbrev pub step_chain : County → ChainWalk → Option Chain
 step_chain county step = option_map (turned_if step.turned) (chain_at county step.place)
+
+-- the further names of the steps' chains, and their further address ranges, chain by chain
+abbrev pub feats_along : County → List ChainWalk → List (List ℕ)
+feats_along county steps = map (λ step. feats_of (step_chain county step)) steps
+
+abbrev pub ranges_along : County → List ChainWalk → List (List Ranges)
+ranges_along county steps = map (λ step. ranges_of (step_chain county step)) steps

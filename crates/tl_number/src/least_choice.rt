@@ -3,11 +3,12 @@
 //! Records of type 1 stand before all others in a text, and those of a choice are told by its steps alone. So the choices are gone
 //! through for the one with the least of these first, and from one to the next no more is looked at than what moves at open places. Only
 //! others that have the same are arranged and compared with it as texts, of which there are few: chains of one shape mostly differ in an
-//! address, a name or a code.
+//! address, a name or a code. Nor are those arranged that have the same chains as it, place by place: chains that were entered twice with
+//! all they say make one county in whatever order they stand.
 
 ghost use Rattle.std.specs.declared.cmp.Ordering.TheVariants.{Equal};
 ghost use Rattle.std.specs.Ordering.{is_gt};
-ghost use Rattle.std.specs.Prelude.{◌≡◌, ◌<◌, ◌≤◌, cond, length, IfOk, IfSome, MatchOption};
+ghost use Rattle.std.specs.Prelude.{◌≡◌, ◌<◌, ◌≤◌, cond, false, length, true, IfOk, IfSome, MatchOption};
 ghost use Rattle.tl_county.specs.CountyRules.{AllKeysStandIn, polygon_keys, polygons_along};
 ghost use Rattle.tl_number.specs.Arrangement.{arranged};
 ghost use Rattle.tl_number.specs.Canonical.{IsNotAfter};
@@ -26,6 +27,7 @@ use crate::arranged::Arranged;
 use crate::arranging::arrange;
 use crate::ascending_order::steps_in_order;
 use crate::numbered_steps::{choose, put_back};
+use crate::same_chains::have_same_chains;
 use crate::text_order::compare_texts;
 use crate::type_1_order::compare_ones;
 use std::alloc::{AllocError, Global};
@@ -197,7 +199,36 @@ fn least_of_type_1<C: Chart>(
     Ok(least)
 }
 
-/// The next number, from one on, whose choice has the same records of type 1 as the one with the least of them.
+/// Whether the choice of a number has the same records of type 1 as the one with the least of them, but not the same chains: if it has, it
+/// is the same county. The steps, those of any number, become those of this one.
+fn is_other_tie<C: Chart>(
+    chart: &C,
+    order: &ShapeOrder,
+    least: &Numbered<Vec<ChainWalk>>,
+    steps: &mut [ChainWalk],
+    number: u64,
+) -> bool
+    requires order { IsShapeOrder (C.county chart.now) order.now }
+    requires few { choices (C.county chart.now) ≤ most_choices }
+    requires sides { AllKeysStandIn (polygons_along (C.county chart.now).chains) (polygon_keys (C.county chart.now)) }
+    requires steps { least.now.choice.items ≡ (moved other_way order.now.places (order.now.walks, least.now.number)).0 }
+    requires least { IsLeastOne (C.county chart.now) (choices (C.county chart.now)) least.now.number }
+    requires number { number < choices (C.county chart.now) }
+    requires count { length steps.old ≡ length order.now.walks }
+    requires apart { AgreeApart order.now.places steps.old order.now.walks }
+    ensures tied { result ≡ true → ones_cmp (C.county chart.now) least.now.number number ≡ Equal }
+    ensures least { result ≡ false → IsNotAfter (choice_list (C.county chart.now) least.now.number) (choice_list (C.county chart.now) number) }
+    ensures count { length steps.new ≡ length order.now.walks }
+    ensures apart { AgreeApart order.now.places steps.new order.now.walks }
+{
+    let ordering = compare_number(chart, order, least, steps, number);
+    if ordering.is_eq() {
+        return !have_same_chains(chart, order.open_places(), &least.choice, steps);
+    }
+    false
+}
+
+/// The next number, from one on, whose choice has the same records of type 1 as the one with the least of them, but not the same chains.
 fn next_tie<C: Chart>(
     chart: &C,
     order: &ShapeOrder,
@@ -220,11 +251,8 @@ fn next_tie<C: Chart>(
     ensures tied { IfSome result (λ tie. ones_cmp (C.county chart.now) least.now.number tie ≡ Equal) }
 {
     for number in first..order.choices() {
-        if number == least.number {
-            continue;
-        }
-        let ordering = compare_number(chart, order, least, steps, number);
-        if ordering.is_eq() {
+        let tied = is_other_tie(chart, order, least, steps, number);
+        if tied {
             return Some(number);
         }
     }

@@ -37,6 +37,7 @@ mod polygon_order;
 mod polygon_records;
 mod record_eq;
 mod renumbering;
+mod same_chains;
 mod step_readers;
 mod taker;
 mod text_order;

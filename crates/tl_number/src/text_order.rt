@@ -1,4 +1,7 @@
 //! Which of two arrangements of a county that have the same records of types 1 and 2 has the lesser text.
+//!
+//! Mostly the same chain stands at a place in both arrangements, or another with the same further names and address ranges. Where that is
+//! so of all further names, the records of types 4 and 5 are the same and aren't made, and where it is of all ranges, those of type 6.
 
 ghost use Rattle.std.specs.Cmp.Lexicographic.{slice_cmp};
 ghost use Rattle.std.specs.declared.cmp.Ordering.TheVariants.{Equal};
@@ -6,9 +9,9 @@ ghost use Rattle.std.specs.Ordering.{nat_cmp};
 ghost use Rattle.std.specs.Prelude.{◌≡◌};
 ghost use Rattle.tl_county.specs.Packing.{packed};
 ghost use Rattle.tl_county.specs.Renumbering.{AreSame};
-ghost use Rattle.tl_layout.specs.declared.record_type.Record.TheVariants.{Four, One};
+ghost use Rattle.tl_layout.specs.declared.record_type.Record.TheVariants.{Five, Four, One, Six};
 ghost use Rattle.tl_layout.specs.RecordText.{text_of};
-ghost use Rattle.tl_number.specs.CountyGroups.{type_1_by_chain, type_2_by_chain, type_4_by_chain};
+ghost use Rattle.tl_number.specs.CountyGroups.{type_1_by_chain, type_2_by_chain, type_4_by_chain, type_5_by_name, type_6_by_chain};
 ghost use Rattle.tl_number.specs.RecordOrder.{groups_cmp, types_5_to_7_cmp, types_8_to_p_cmp};
 ghost use Rattle.tl_number.specs.Views.{arranged_county};
 
@@ -16,29 +19,69 @@ use crate::arranged::{Arranged, Standing};
 use crate::chain_records::{FurtherNameRecords, RangeRecords};
 use crate::group_order::compare_groups;
 use crate::name_records::{LandmarkLinkRecords, LandmarkRecords, NameRecords};
+use crate::same_chains::{have_same_feats_along, have_same_ranges_along};
 use crate::type_i_and_p_order::{compare_links, compare_polygons};
 use std::cmp::Ordering;
 use tl_county::Chart;
 
-/// Compares two counties by their records of type 4.
-fn compare_further_names<A: Chart, B: Chart>(a: &A, b: &B) -> Ordering
-    ensures { result ≡ groups_cmp Four (type_4_by_chain (A.county a.now)) (type_4_by_chain (B.county b.now)) }
+/// Compares two arrangements of a county by their records of type 4.
+fn compare_further_names<A: Chart, R: Standing, B: Chart, S: Standing>(
+    a: &Arranged<A, R>,
+    b: &Arranged<B, S>,
+) -> Ordering
+    requires { A.county a.now.chart ≡ B.county b.now.chart }
+    ensures { result ≡ groups_cmp Four (type_4_by_chain (arranged_county a.now)) (type_4_by_chain (arranged_county b.now)) }
 {
+    if have_same_feats_along(&a.chart, &a.steps, &b.steps) {
+        return Ordering::Equal;
+    }
     compare_groups(
         &FurtherNameRecords { chart: a },
         &FurtherNameRecords { chart: b },
     )
 }
 
-/// Compares two counties by their records of types 5, 6 and 7.
-fn compare_types_5_to_7<A: Chart, B: Chart>(a: &A, b: &B) -> Ordering
-    ensures { result ≡ types_5_to_7_cmp (A.county a.now) (B.county b.now) }
+/// Compares them by their records of type 5.
+fn compare_names<A: Chart, R: Standing, B: Chart, S: Standing>(
+    a: &Arranged<A, R>,
+    b: &Arranged<B, S>,
+) -> Ordering
+    requires { A.county a.now.chart ≡ B.county b.now.chart }
+    ensures { result ≡ groups_cmp Five (type_5_by_name (arranged_county a.now)) (type_5_by_name (arranged_county b.now)) }
 {
-    match compare_groups(&NameRecords { chart: a }, &NameRecords { chart: b }) {
+    if have_same_feats_along(&a.chart, &a.steps, &b.steps) {
+        return Ordering::Equal;
+    }
+    compare_groups(&NameRecords { chart: a }, &NameRecords { chart: b })
+}
+
+/// Compares them by their records of type 6.
+fn compare_ranges<A: Chart, R: Standing, B: Chart, S: Standing>(
+    a: &Arranged<A, R>,
+    b: &Arranged<B, S>,
+) -> Ordering
+    requires { A.county a.now.chart ≡ B.county b.now.chart }
+    ensures { result ≡ groups_cmp Six (type_6_by_chain (arranged_county a.now)) (type_6_by_chain (arranged_county b.now)) }
+{
+    if have_same_ranges_along(&a.chart, &a.steps, &b.steps) {
+        return Ordering::Equal;
+    }
+    compare_groups(&RangeRecords { chart: a }, &RangeRecords { chart: b })
+}
+
+/// Compares them by their records of types 5, 6 and 7.
+fn compare_types_5_to_7<A: Chart, R: Standing, B: Chart, S: Standing>(
+    a: &Arranged<A, R>,
+    b: &Arranged<B, S>,
+) -> Ordering
+    requires { A.county a.now.chart ≡ B.county b.now.chart }
+    ensures { result ≡ types_5_to_7_cmp (arranged_county a.now) (arranged_county b.now) }
+{
+    match compare_names(a, b) {
         Ordering::Equal => {}
         unequal => return unequal,
     }
-    match compare_groups(&RangeRecords { chart: a }, &RangeRecords { chart: b }) {
+    match compare_ranges(a, b) {
         Ordering::Equal => {}
         unequal => return unequal,
     }

@@ -7,7 +7,7 @@ ghost use Rattle.std.specs.Prelude.{◌≡◌, ◌≢◌, ◌<◌, ◌+◌, Some
 ghost use Rattle.tl_county.specs.Packing.{packed_one};
 ghost use Rattle.tl_layout.specs.declared.record_type.Record.TheVariants.{One};
 ghost use Rattle.tl_number.specs.CountyGroups.{type_1_by_chain};
-ghost use Rattle.tl_number.specs.MovedSteps.{AgreeApart, AreWithin, IsWithin, StandInOrder};
+ghost use Rattle.tl_number.specs.MovedSteps.{AgreeButOpen, IsWithin};
 ghost use Rattle.tl_number.specs.RecordOrder.{AreTiedBelow, groups_cmp, records_cmp, spelling_cmp};
 ghost use Rattle.tl_number.specs.Steps.{step_chain};
 ghost use Rattle.tl_number.specs.TypeOneOrder.{one_at, ones_of};
@@ -83,12 +83,7 @@ pub(crate) fn compare_ones<C: Chart>(
     one: &[ChainWalk],
     other: &[ChainWalk],
 ) -> Ordering
-    requires one { AreWhole (C.county chart.now) one.now }
-    requires other { AreWhole (C.county chart.now) other.now }
-    requires count { length one.now ≡ length other.now }
-    requires within { AreWithin (length one.now) places.now }
-    requires in_order { StandInOrder places.now }
-    requires apart { AgreeApart places.now one.now other.now }
+    requires { AgreeButOpen (C.county chart.now) places.now one.now other.now }
     ensures { result ≡ groups_cmp One (type_1_by_chain (stepped (C.county chart.now) one.now)) (type_1_by_chain (stepped (C.county chart.now) other.now)) }
 {
     let mut rest = places;

@@ -2,13 +2,12 @@ use Rattle.std.proofs.Common.{length, sym, ap, ap₂, ◌∙◌, subst}
 use Rattle.tl_layout.specs.declared.record_type.Record.TheVariants.{One}
 use Rattle.tl_number.specs.Arrangement.{arranged}
 use Rattle.tl_number.specs.CountyGroups.{type_1_by_chain}
-use Rattle.tl_number.specs.MovedSteps.{AgreeApart, AreWithin, StandInOrder, other_way}
+use Rattle.tl_number.specs.MovedSteps.{AgreeApart, AreWithin, other_way}
 use Rattle.tl_number.specs.NumberedChoices.{moved}
 use Rattle.tl_number.specs.RecordOrder.{groups_cmp}
-use Rattle.tl_number.specs.ViewFacts.{AreWhole, stepped}
-use Rattle.tl_number.proofs.ChosenSteps.{places_in_order, places_within, steps_of_number, steps_of_number_apart, steps_of_number_count}
-use Rattle.tl_number.proofs.KeptPlaces.{agree_both}
-use Rattle.tl_number.proofs.LeastOnes.{whole_of_number}
+use Rattle.tl_number.specs.ViewFacts.{stepped}
+use Rattle.tl_number.proofs.ChosenSteps.{places_within, steps_of_number, steps_of_number_apart}
+use Rattle.tl_number.proofs.LeastOnes.{agree_of_numbers}
 use Rattle.tl_number.proofs.least_choice.compare_number.Goals as goal
 
 pub put_back-requires-clause-within : goal.put_back-requires-clause-within
@@ -30,64 +29,15 @@ choose-requires g c =
     (places_within (g.C.Chart.county c.args.chart.now) (g.met.C.Chart.is_county c.args.chart.now) c.args.order.now.walks
     c.requires.order.walks c.args.order.now.places (c.requires.order.places c.requires.few)))
 
-pub compare_ones-requires-clause-one : goal.compare_ones-requires-clause-one
-compare_ones-requires-clause-one g c =
-    let county = g.C.Chart.county c.args.chart.now in
-    subst (AreWhole county) (sym c.deref.ensures.value)
-    (whole_of_number county (g.met.C.Chart.is_county c.args.chart.now) (g.met.C.Chart.within_limits c.args.chart.now) c.requires.sides
-    c.args.order.now.walks c.requires.order.walks c.args.order.now.places (c.requires.order.places c.requires.few)
-    c.args.least.now.choice.items c.args.least.now.number c.requires.least)
-
-pub compare_ones-requires-clause-other : goal.compare_ones-requires-clause-other
-compare_ones-requires-clause-other g c =
+pub compare_ones-requires : goal.compare_ones-requires
+compare_ones-requires g c =
     let county = g.C.Chart.county c.args.chart.now in
     let told = c.choose.ensures.steps
     ∙ (λ i. (moved other_way (c.open_places-places.ensures i) ((c.put_back.ensures ∙ c.walks.ensures) i, c.args.number)).0) in
-    whole_of_number county (g.met.C.Chart.is_county c.args.chart.now) (g.met.C.Chart.within_limits c.args.chart.now) c.requires.sides
-    c.args.order.now.walks c.requires.order.walks c.args.order.now.places (c.requires.order.places c.requires.few)
-    c.choose.new.steps c.args.number told
-
-pub compare_ones-requires-clause-count : goal.compare_ones-requires-clause-count
-compare_ones-requires-clause-count g c =
-    let county = g.C.Chart.county c.args.chart.now in
-    ap length c.deref.ensures.value
-    ∙ steps_of_number_count county (g.met.C.Chart.is_county c.args.chart.now) c.args.order.now.walks c.requires.order.walks
-    c.args.order.now.places (c.requires.order.places c.requires.few) c.args.least.now.choice.items c.args.least.now.number c.requires.least
-    ∙ sym (c.choose.ensures.count ∙ ap length (c.put_back.ensures ∙ c.walks.ensures))
-
-pub compare_ones-requires-clause-within : goal.compare_ones-requires-clause-within
-compare_ones-requires-clause-within g c =
-    let county = g.C.Chart.county c.args.chart.now in
-    let is = g.met.C.Chart.is_county c.args.chart.now in
-    let there = c.requires.order.places c.requires.few in
-    let count = ap length c.deref.ensures.value
-    ∙ steps_of_number_count county is c.args.order.now.walks c.requires.order.walks c.args.order.now.places there
-    c.args.least.now.choice.items c.args.least.now.number c.requires.least in
-    subst (λ n. AreWithin n c.open_places-places.result.now) (sym count)
-    (subst (AreWithin (length c.args.order.now.walks)) (sym c.open_places-places.ensures)
-    (places_within county is c.args.order.now.walks c.requires.order.walks c.args.order.now.places there))
-
-pub compare_ones-requires-clause-in_order : goal.compare_ones-requires-clause-in_order
-compare_ones-requires-clause-in_order g c =
-    subst StandInOrder (sym c.open_places-places.ensures)
-    (places_in_order (g.C.Chart.county c.args.chart.now) (g.met.C.Chart.is_county c.args.chart.now) c.args.order.now.walks
-    c.requires.order.walks c.args.order.now.places (c.requires.order.places c.requires.few))
-
-pub compare_ones-requires-clause-apart : goal.compare_ones-requires-clause-apart
-compare_ones-requires-clause-apart g c =
-    let county = g.C.Chart.county c.args.chart.now in
-    let is = g.met.C.Chart.is_county c.args.chart.now in
-    let walks = c.args.order.now.walks in
-    let places = c.args.order.now.places in
-    let there = c.requires.order.places c.requires.few in
-    let told = c.choose.ensures.steps
-    ∙ (λ i. (moved other_way (c.open_places-places.ensures i) ((c.put_back.ensures ∙ c.walks.ensures) i, c.args.number)).0) in
-    subst (λ ps. AgreeApart ps c.deref.result.now c.choose.new.steps) (sym c.open_places-places.ensures)
-    (subst (λ least. AgreeApart places least c.choose.new.steps) (sym c.deref.ensures.value)
-    (agree_both places c.args.least.now.choice.items c.choose.new.steps walks
-    (steps_of_number_apart county is walks c.requires.order.walks places there c.args.least.now.choice.items c.args.least.now.number
-    c.requires.least)
-    (steps_of_number_apart county is walks c.requires.order.walks places there c.choose.new.steps c.args.number told)))
+    agree_of_numbers county (g.met.C.Chart.is_county c.args.chart.now) (g.met.C.Chart.within_limits c.args.chart.now) c.requires.sides
+    c.args.order.now.walks c.requires.order.walks c.args.order.now.places (c.requires.order.places c.requires.few) c.deref.result.now
+    c.choose.new.steps c.args.least.now.number c.args.number (c.deref.ensures.value ∙ c.requires.least) told
+    c.open_places-places.result.now c.open_places-places.ensures
 
 pub returns-clause-order : goal.returns-clause-order
 returns-clause-order g c =

@@ -13,7 +13,7 @@ loop-at-init g c = record {
   within = c.requires.within;
   in_order = c.requires.in_order;
   tied = λ place apart. same_tied (g.C.Chart.county c.args.chart.now) (g.met.C.Chart.is_county c.args.chart.now) c.args.one.now
-      c.args.other.now c.requires.one c.requires.other c.requires.count place (c.requires.apart place apart);
+      c.args.other.now c.requires.whole c.requires.other_whole c.requires.count place (c.requires.apart place apart);
 }
 
 pub compare_at_open-requires-clause-within : goal.compare_at_open-requires-clause-within

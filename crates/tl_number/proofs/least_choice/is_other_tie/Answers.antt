@@ -1,0 +1,39 @@
+use Rattle.std.proofs.Common.{◌≡◌, ◌∙◌, Bool, true, false, not, is_eq, sym, ap, refl}
+use Rattle.std.proofs.lemmas.Bool.{false≢true}
+use Rattle.tl_profile.specs.Choices.{choices}
+use Rattle.tl_number.specs.TypeOneOrder.{ones_cmp}
+use Rattle.tl_number.proofs.LeastOnes.{agree_of_numbers, equal_from, least_one_first, one_list}
+use Rattle.tl_number.proofs.least_choice.is_other_tie.Goals as goal
+
+was_true : (b : Bool) → not b ≡ false → b ≡ true
+was_true true e = refl
+was_true false e = absurd (false≢true (sym e))
+
+pub have_same_chains-requires : goal.have_same_chains-requires
+have_same_chains-requires g c =
+    agree_of_numbers (g.C.Chart.county c.args.chart.now) (g.met.C.Chart.is_county c.args.chart.now)
+    (g.met.C.Chart.within_limits c.args.chart.now) c.requires.sides c.args.order.now.walks c.requires.order.walks c.args.order.now.places
+    (c.requires.order.places c.requires.few) c.deref.result.now c.compare_number-ordering.new.steps c.args.least.now.number c.args.number
+    (c.deref.ensures.value ∙ c.requires.steps) c.compare_number-ordering.ensures.steps c.open_places.result.now c.open_places.ensures
+
+pub returns-then-is_eq-clause-tied : goal.returns-then-is_eq-clause-tied
+returns-then-is_eq-clause-tied g c = λ e.
+    sym c.compare_number-ordering.ensures.order
+    ∙ equal_from c.compare_number-ordering.result (sym c.is_eq.ensures ∙ c.if-is_eq.true)
+
+pub returns-then-is_eq-clause-least : goal.returns-then-is_eq-clause-least
+returns-then-is_eq-clause-least g c = λ e.
+    one_list (g.C.Chart.county c.args.chart.now) (g.met.C.Chart.is_county c.args.chart.now)
+    (g.met.C.Chart.within_limits c.args.chart.now) c.requires.sides c.args.order.now.walks c.requires.order.walks c.args.order.now.places
+    (c.requires.order.places c.requires.few) c.deref.result.now c.compare_number-ordering.new.steps c.args.least.now.number c.args.number
+    (c.deref.ensures.value ∙ c.requires.steps) c.compare_number-ordering.ensures.steps
+    (c.have_same_chains.ensures.0 (was_true c.have_same_chains.result e))
+
+pub returns-clause-least : goal.returns-clause-least
+returns-clause-least g c = λ e.
+    let county = g.C.Chart.county c.args.chart.now in
+    let n = c.args.least.now.number in
+    let differ : is_eq (ones_cmp county n c.args.number) ≡ false =
+    ap is_eq (sym c.compare_number-ordering.ensures.order) ∙ sym c.is_eq.ensures ∙ c.if-is_eq.false in
+    least_one_first county (g.met.C.Chart.is_county c.args.chart.now) (g.met.C.Chart.within_limits c.args.chart.now) c.requires.sides
+    (choices county) n c.args.number c.requires.least c.requires.number differ

@@ -1,0 +1,35 @@
+use Rattle.std.proofs.Common.{◌≡◌, ◌<◌, ◌∙◌, Some, get_or, length, map, true, false, rules, refl, sym, ap, arith}
+use Rattle.tl_profile.specs.declared.chain_walk.ChainWalk.{ChainWalk}
+use Rattle.tl_number.specs.Steps.{step_chain}
+use Rattle.tl_cert.proofs.Places.{decides_no}
+use Rattle.tl_number.proofs.LinkOrder.{same_further}
+use Rattle.tl_number.proofs.SameChains.{chain_read, the_same}
+use Rattle.tl_number.proofs.same_chains.have_same_chains_at.Goals as goal
+
+pub loop-place-preserved : goal.loop-place-preserved
+loop-place-preserved g c =
+    let county = g.C.Chart.county c.args.chart.now in
+    let i = c.loop-place.place in
+    let there : i < length c.args.one.now = omega (arith, c.loop-place-test.true, c.requires.within.there) in
+    let yes : c.is_same_chain-same.result ≡ true = search rules in
+    same_further (map (step_chain county) c.args.one.now) (map (step_chain county) c.args.other.now) i c.loop-place.invariant
+    (chain_read county c.args.one.now i there ∙ ap Some (c.is_same_chain-same.ensures.0 yes)
+    ∙ sym (chain_read county c.args.other.now i (omega (arith, there, c.requires.count))))
+
+pub returns-then-not-same : goal.returns-then-not-same
+returns-then-not-same g c =
+    let county = g.C.Chart.county c.args.chart.now in
+    let i = c.loop-place.place in
+    let none : ChainWalk = record { place = 0; turned = false } in
+    let there : i < length c.args.one.now = omega (arith, c.loop-place-test.true, c.requires.within.there) in
+    let not_same : c.is_same_chain-same.result ≡ false = search rules in
+    decides_no c.is_same_chain-same.result not_same c.is_same_chain-same.ensures
+    (λ all. the_same (step_chain county (get_or c.args.one.now i none)) (step_chain county (get_or c.args.other.now i none))
+    (sym (chain_read county c.args.one.now i there) ∙ all i (omega (arith, c.loop-place-test.true))
+    ∙ chain_read county c.args.other.now i (omega (arith, there, c.requires.count))))
+
+pub returns : goal.returns
+returns g c = (
+  λ e. λ place l. c.loop-place.invariant place (omega (arith, l, c.loop-place-test.false)),
+  λ all. refl,
+)

@@ -1,0 +1,6 @@
+-- the chains in front of a place are the same
+use Rattle.tl_number.specs.MovedSteps.{HaveSameChainsBelow}
+use Rattle.tl_number.proofs.same_chains.have_same_chains_at.Given as goal
+
+abbrev pub invariant-loop-place : goal.invariant-loop-place
+invariant-loop-place g l = HaveSameChainsBelow (g.C.Chart.county l.chart) l.place l.one l.other

@@ -1,0 +1,13 @@
+use Rattle.std.proofs.Common.{◌≡◌, ◌∙◌, true, rules, sym}
+use Rattle.tl_cert.proofs.Places.{decides_same}
+use Rattle.tl_number.proofs.same_chains.have_same_content.Goals as goal
+
+pub returns : goal.returns
+returns g c =
+    let yes : c.is_same_body-body.result ≡ true = search rules in
+    decides_same c.is_same_link_body.result c.is_same_link_body.ensures
+    (λ e. record {
+      body = sym c.body_of_step.ensures ∙ c.is_same_body-body.ensures.0 yes ∙ c.body_of_step-2.ensures;
+      link_body = sym c.link_body_of_step.ensures ∙ e ∙ c.link_body_of_step-2.ensures;
+    })
+    (λ h. c.link_body_of_step.ensures ∙ h.link_body ∙ sym c.link_body_of_step-2.ensures)

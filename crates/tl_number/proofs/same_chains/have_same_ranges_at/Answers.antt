@@ -1,0 +1,10 @@
+use Rattle.std.proofs.Common.{refl, ap}
+use Rattle.tl_county.specs.ChartWords.{ranges_of}
+use Rattle.tl_number.specs.Steps.{step_chain}
+use Rattle.tl_number.proofs.same_chains.have_same_ranges_at.Goals as goal
+
+pub returns-then-same : goal.returns-then-same
+returns-then-same g c = (
+  λ _. ap (λ step. ranges_of (step_chain (g.C.Chart.county c.args.chart.now) step)) (c.is_same_step-same.ensures.0 c.if-same.true),
+  λ _. refl,
+)

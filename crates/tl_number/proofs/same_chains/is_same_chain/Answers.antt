@@ -1,0 +1,14 @@
+use Rattle.std.proofs.Common.{◌≡◌, true, rules}
+use Rattle.tl_number.specs.Steps.{step_chain}
+use Rattle.tl_cert.proofs.Places.{decides_same}
+use Rattle.tl_cert.proofs.Towards.{agree, agree_lists}
+use Rattle.tl_number.proofs.same_chains.is_same_chain.Goals as goal
+
+pub returns : goal.returns
+returns g c =
+    let one = step_chain (g.C.Chart.county c.args.chart.now) c.args.one in
+    let other = step_chain (g.C.Chart.county c.args.chart.now) c.args.other in
+    let content : c.have_same_content-content.result ≡ true = search rules in
+    let ends : c.have_same_ends-ends.result ≡ true = search rules in
+    decides_same c.have_same_lists.result c.have_same_lists.ensures
+    (agree one other (c.have_same_content-content.ensures.0 content) (c.have_same_ends-ends.ensures.0 ends)) (agree_lists one other)
