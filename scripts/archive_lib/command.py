@@ -12,10 +12,11 @@ import tempfile
 from contextlib import contextmanager
 from typing import Iterator, List, NoReturn, Optional
 
-from .cluster import Cluster, prepare_local_workers
+from .cluster import Cluster
 from .counties import Archive, County
 from .ending import Ending, Stopped
 from .judging import Order
+from .local import prepare_local_workers
 from .manifest import FLAGS, Lock, Manifest, agreed_flags, content_of, place_of
 from .running import Ended, Job, Run, first_need
 from .telling import ReaderIsGone, Stop, Tally, Teller, groups_of_one_map, plainly, print_lines

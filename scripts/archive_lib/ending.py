@@ -19,12 +19,13 @@ class Stopped(Exception):
 
 
 class Ending:
-    """Ends this process by the signal that it got, when all is done that Python and its libraries do at an end. What is registered for
-    the end first comes last, so one of these has to be made before other modules are loaded."""
+    """Ends this process, by its status or by the signal that it got, when all is done that Python and its libraries have registered for
+    the end. What is registered first comes last, so one of these has to be made before other modules are loaded."""
 
     def __init__(self) -> None:
         self.number: Optional[int] = None
-        atexit.register(self.kill)
+        self.status: Optional[int] = None
+        atexit.register(self.end)
 
     def listen(self) -> None:
         """Has the first signal stop the run. A second one ends it where it is."""
@@ -42,7 +43,16 @@ class Ending:
         self.number = number
         return 128 + number
 
-    def kill(self) -> None:
+    def with_status(self, status: int) -> int:
+        """Has the process end with this status, unless a signal ends it."""
+        self.status = status
+        return status
+
+    def end(self) -> None:
+        """Ends the process here: to take all modules and objects apart, as Python does, takes longer than to end the workers. What goes
+        to standard output and standard error is written out as it is printed."""
         if self.number is not None:
             signal.signal(self.number, signal.SIG_DFL)
             os.kill(os.getpid(), self.number)
+        if self.status is not None:
+            os._exit(self.status)
