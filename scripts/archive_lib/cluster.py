@@ -77,7 +77,7 @@ class Cluster:
         logging.disable()  # what goes wrong is told in the run's own lines
         warnings.simplefilter("ignore")
         try:
-            self.client = self.client_of(address) if address is not None else self.own_client()
+            self.client = self.client_of(address) if address is not None else self.client_of_own(self.own)
         except BaseException:
             self.close()
             raise
@@ -94,10 +94,10 @@ class Cluster:
         except Exception as error:
             raise Stop(f"no scheduler answers at {address}: {plainly(error)}") from None
 
-    def own_client(self) -> Any:
+    def client_of_own(self, own: Any) -> Any:
         """A client of a cluster of its own, of which the workers begin."""
         try:
-            return self.own.begin()
+            return own.begin()
         except Exception as error:
             raise Stop(f"no workers can be started: {plainly(error)}") from None
 

@@ -18,12 +18,12 @@ EXPANSION = 12
 UNKNOWN = 5_000_000
 """A file of which no size is told is taken to have so many bytes, until it was read."""
 
-A_WORKER_AHEAD = 3
+A_WORKER_AHEAD = 5
 """So many counties a thread are with the scheduler at once, so that none waits for its next one."""
 
 FEWEST_AHEAD, MOST_TOGETHER = 8, 16
 
-A_LOOK, A_LOOK_AT_WORKERS = 0.005, 10.0
+A_LOOK, A_LOOK_AT_WORKERS = 0.01, 10.0
 """So many seconds are between two looks for what has ended, and for which workers are there."""
 
 A_MOMENT = 0.2
