@@ -115,7 +115,9 @@ class Cluster:
     def workers(self) -> Workers:
         """The workers that are there now; none, where the scheduler doesn't answer."""
         try:
-            return Workers.of(self.own.workers() if self.own else self.client.scheduler_info().get("workers", {}).values())
+            if self.own:
+                return Workers.of(self.own.workers())
+            return Workers.of(self.client.scheduler_info().get("workers", {}).values())
         except Exception:
             return NO_WORKERS
 

@@ -1,4 +1,4 @@
-"""Loads the engine as quickly as can be. Local workers are copies of a process that has loaded this file, and nothing else of this folder."""
+"""How the engine is loaded quickly, by the client and by the process that local workers are copies of."""
 
 from __future__ import annotations
 
@@ -12,8 +12,8 @@ from typing import Iterator
 @contextmanager
 def quick_loading() -> Iterator[None]:
     """Modules that are loaded meanwhile aren't searched for garbage, now and later. And tornado doesn't read the certificates of all
-    authorities, which takes it longer than all else: a cluster of one machine has no use for them, and what reads a store by https
-    reads them itself."""
+    authorities, which took a fifth of the time: a cluster of one machine has no use for them, and what reads a store by https reads
+    them itself."""
     gc.disable()
     load = ssl.SSLContext.load_default_certs
     ssl.SSLContext.load_default_certs = lambda *_: None  # type: ignore[method-assign]

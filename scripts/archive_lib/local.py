@@ -138,7 +138,7 @@ class LocalCluster:
         )
         loop = self.cluster.loop
         self.beginning = asyncio.run_coroutine_threadsafe(self.begin_workers(), loop.asyncio_loop)
-        # The client isn't given the cluster itself, for whose workers it would wait, and it speaks to the scheduler within this process.
+        # A client that is given the cluster itself waits for its workers. This one speaks to the scheduler within the process.
         self.cluster.sync(self.cluster.scheduler.listen, "inproc://")
         return distributed.Client(self.cluster.scheduler.listeners[-1].contact_address, loop=loop)
 

@@ -64,9 +64,8 @@ class Loading(unittest.TestCase):
 
     def state(self, first: str) -> List[object]:
         """What is the state of a process that does something first."""
-        run = subprocess.run(
-            [sys.executable, "-B", "-c", f"{first}\n{STATE}"], cwd=SCRIPTS, env=environment(), stdout=subprocess.PIPE, check=True
-        )
+        command = [sys.executable, "-B", "-c", f"{first}\n{STATE}"]
+        run = subprocess.run(command, cwd=SCRIPTS, env=environment(), stdout=subprocess.PIPE, check=True)
         found: List[object] = json.loads(run.stdout)
         return found
 
@@ -79,7 +78,9 @@ class Keeping(InRoom):
         for number in range(8):
             put_files(self.room, Made(f"in/TGR0000{number}", parts_of(texts(1)[0]), False))
         env = environment(
-            PYTHONPATH=str(self.room / "module"), FAULTS=str(self.room / "faults"), GLIBC_TUNABLES="glibc.malloc.hugetlb=0"
+            PYTHONPATH=str(self.room / "module"),
+            FAULTS=str(self.room / "faults"),
+            GLIBC_TUNABLES="glibc.malloc.hugetlb=0",
         )
         ended = call("fingerprint-archive", "--jobs", "2", "m", "in", cwd=self.room, env=env)
         self.assertEqual(ended.status, 0, ended.err)
