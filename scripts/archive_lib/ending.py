@@ -10,8 +10,8 @@ from typing import Optional
 SIGNALS = (signal.SIGINT, signal.SIGTERM, signal.SIGHUP)
 
 
-class Stopped(Exception):
-    """The run got a signal."""
+class Stopped(BaseException):
+    """The run got a signal. As with an interrupt from the keyboard, nothing that catches errors takes it for one."""
 
     def __init__(self, number: int) -> None:
         super().__init__(number)

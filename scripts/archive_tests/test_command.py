@@ -7,6 +7,7 @@ import shutil
 import signal
 import subprocess
 import sys
+import time
 from typing import List
 
 from archive_lib.telling import Tally, Teller, amount, duration, groups_of_one_map
@@ -234,6 +235,22 @@ class Calls(InRoom):
         ended = call("fingerprint-archive", "--jobs", "2", "m", "in", cwd=self.room, env=env)
         self.assertEqual(ended.status, 2)
         self.assertIn("no workers can be started: No module named 'no_such_module': 0 of 3 done\n", ended.err)
+
+    def test_a_signal_while_it_begins(self) -> None:
+        """Before there are workers it ends by the signal too, which is no trouble with workers, and leaves nothing."""
+        rooms = self.put("tmp/here", b"").parent
+        for pause in (0.0, 0.2, 0.4, 0.6):
+            run = begin("--jobs", "2", "m", "in", cwd=self.room, env=tripping(TRIPPING_PAUSE="2", TMPDIR=str(rooms)))
+            self.addCleanup(end, run)
+            self.assertTrue(await_that(lambda: len(os.listdir(rooms)) > 1))
+            time.sleep(pause)
+            run.send_signal(signal.SIGTERM)
+            _, err = run.communicate(timeout=30)
+            self.assertEqual(run.returncode, -signal.SIGTERM, err)
+            self.assertRegex(err.decode(), r"^fingerprint-archive: stopped by TERM: 0 of [03] done\n$")
+            self.assertEqual(os.listdir(rooms), ["here"])
+            gone = await_that(lambda: run.pid not in [process.session for process in processes()], 10)
+            self.assertTrue(gone, "leaves processes")
 
     def test_nothing_is_left(self) -> None:
         """A run that has come to its end leaves no file of its own, and no process."""
