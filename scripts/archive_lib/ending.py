@@ -5,7 +5,8 @@ from __future__ import annotations
 import atexit
 import os
 import signal
-from typing import Optional
+from contextlib import contextmanager
+from typing import Iterator, Optional
 
 SIGNALS = (signal.SIGINT, signal.SIGTERM, signal.SIGHUP)
 
@@ -16,6 +17,16 @@ class Stopped(BaseException):
     def __init__(self, number: int) -> None:
         super().__init__(number)
         self.number = number
+
+
+@contextmanager
+def signals_held_back() -> Iterator[None]:
+    """A signal that comes meanwhile stops the run afterwards, so that a folder isn't left that was made and isn't noted yet."""
+    before = signal.pthread_sigmask(signal.SIG_BLOCK, SIGNALS)
+    try:
+        yield
+    finally:
+        signal.pthread_sigmask(signal.SIG_SETMASK, before)
 
 
 class Ending:

@@ -4,6 +4,7 @@ from __future__ import annotations
 
 import importlib.util
 import multiprocessing
+import multiprocessing.util
 import os
 import signal
 import sys
@@ -12,6 +13,7 @@ from multiprocessing import forkserver
 from pathlib import Path
 from typing import Any, Dict, Iterator, List
 
+from .ending import signals_held_back
 from .loading import quick_loading
 
 MEMORY = "MB"
@@ -59,6 +61,8 @@ def prepare_local_workers() -> None:
         os.environ.setdefault(name, setting)
     find_module()
     multiprocessing.get_context("forkserver").set_forkserver_preload([PRELOADED])
+    with signals_held_back():
+        multiprocessing.util.get_temp_dir()
     before = signal.signal(signal.SIGINT, signal.SIG_IGN)
     with silent_standard_error(), found_by_others():
         forkserver.ensure_running()
