@@ -2,31 +2,16 @@
 
 from __future__ import annotations
 
-import importlib.util
-import logging
-import multiprocessing
 import os
-import signal
 import sys
 import time
-import urllib.request
-import uuid
 import warnings
-from asyncio import CancelledError
-from contextlib import contextmanager
 from dataclasses import astuple
-from multiprocessing import forkserver
-from pathlib import Path
-from typing import Any, Iterable, Iterator, List, NamedTuple, Optional, Sequence
+from typing import Any, Iterable, List, NamedTuple, Optional, Sequence
 
 from . import judging
+from .local import MEMORY, LocalCluster
 from .telling import Stop, plainly
-
-MEMORY = "MB"
-"""The resource that workers offer and counties ask for, in millions of bytes."""
-
-SHARE = 0.8
-"""A local worker offers this share of its memory; the rest is for Python and for what was freed and isn't given back yet."""
 
 PATIENCE_FOR_SCHEDULER = 30.0
 PATIENCE_AT_END = 5.0
@@ -68,48 +53,6 @@ class Task(NamedTuple):
     asked: int
 
 
-def prepare_local_workers() -> None:
-    """Begins to load what local workers need, while this process loads it too. Each worker is then a copy of that process, which is there
-    at once. An interrupt from the keyboard goes to them too, and is left to this process; and what they say of it when one of them has
-    died is nothing that this run doesn't tell."""
-    os.environ.setdefault("GLIBC_TUNABLES", "glibc.malloc.hugetlb=1")
-    find_module()
-    multiprocessing.get_context("forkserver").set_forkserver_preload(
-        ["distributed.nanny", "distributed.worker", "fsspec"]
-    )
-    before = signal.signal(signal.SIGINT, signal.SIG_IGN)
-    with silent_standard_error():
-        forkserver.ensure_running()
-    signal.signal(signal.SIGINT, before)
-
-
-@contextmanager
-def silent_standard_error() -> Iterator[None]:
-    """Processes that are begun meanwhile have a standard error that goes nowhere."""
-    try:
-        kept = os.dup(2)
-    except OSError:  # there is none
-        yield
-        return
-    nowhere = os.open(os.devnull, os.O_WRONLY)
-    os.dup2(nowhere, 2)
-    try:
-        yield
-    finally:
-        os.dup2(kept, 2)
-        os.close(kept)
-        os.close(nowhere)
-
-
-def find_module() -> None:
-    """Has local workers find the module: the one that Python finds, else that of a release, beside the folder of this script, or else the
-    one that was built in this repository. Where Python looks for modules is handed on to them."""
-    above = Path(__file__).resolve().parent.parent.parent
-    for folder in (above / "python", above / "out/library/python"):
-        if importlib.util.find_spec("tigercanon") is None and (folder.parent / "lib").exists():
-            sys.path.append(str(folder))
-
-
 def wait_for_file(name: str) -> None:
     """Waits for a file that a scheduler writes when it begins. Raises OSError where it doesn't come."""
     until = time.monotonic() + PATIENCE_FOR_SCHEDULER
@@ -122,27 +65,27 @@ class Cluster:
     """A client of the engine, and its cluster where that is this run's own."""
 
     def __init__(self, address: Optional[str], jobs: int, room: str) -> None:
-        self.address, self.room = address, room
-        self.own: Any = None
+        self.address = address
+        self.own = LocalCluster(jobs, room) if address is None else None
         self.client: Any = None
-        self.token = uuid.uuid4().hex[:12]
+        self.token = os.urandom(6).hex()
+        import logging
+
         import cloudpickle
-        import dask
-        import distributed
 
         cloudpickle.register_pickle_by_value(judging)
         logging.disable()  # what goes wrong is told in the run's own lines
         warnings.simplefilter("ignore")
         try:
-            self.client = (
-                self.local_client(dask, distributed, jobs) if address is None else self.client_of(distributed, address)
-            )
+            self.client = self.client_of(address) if address is not None else self.client_of_own(self.own)
         except BaseException:
             self.close()
             raise
 
-    def client_of(self, distributed: Any, address: str) -> Any:
+    def client_of(self, address: str) -> Any:
         """A client of a scheduler. An address has a port; what has none is a file that the scheduler has written or will write."""
+        import distributed
+
         try:
             if ":" in address:
                 return distributed.Client(address, timeout=PATIENCE_FOR_SCHEDULER)
@@ -151,29 +94,17 @@ class Cluster:
         except Exception as error:
             raise Stop(f"no scheduler answers at {address}: {plainly(error)}") from None
 
-    def local_client(self, dask: Any, distributed: Any, jobs: int) -> Any:
-        """A client of a cluster of its own: a worker a job, each with one thread and its share of this machine's memory."""
-        dask.config.set(
-            {
-                "distributed.worker.multiprocessing-method": "forkserver",
-                "distributed.worker.profile.enabled": False,
-                "distributed.worker.memory.target": False,
-                "distributed.worker.memory.spill": False,
-                "distributed.worker.memory.pause": False,
-            }
-        )
-        limit = distributed.system.MEMORY_LIMIT // jobs
+    def client_of_own(self, own: Any) -> Any:
+        """A client of a cluster of its own, of which the workers begin."""
         try:
-            self.own = distributed.LocalCluster(
-                n_workers=jobs,
-                threads_per_worker=1,
-                memory_limit=limit,
-                resources={MEMORY: int(limit * SHARE / 10**6)},
-                local_directory=self.room,
-                dashboard_address="127.0.0.1:0",
-                silence_logs=logging.CRITICAL,
-            )
-            return distributed.Client(self.own)
+            return own.begin()
+        except Exception as error:
+            raise Stop(f"no workers can be started: {plainly(error)}") from None
+
+    def are_workers_beginning(self) -> bool:
+        """Whether there are workers of its own that aren't there yet. Stops where they can't be started."""
+        try:
+            return self.own is not None and self.own.is_beginning
         except Exception as error:
             raise Stop(f"no workers can be started: {plainly(error)}") from None
 
@@ -184,6 +115,8 @@ class Cluster:
     def workers(self) -> Workers:
         """The workers that are there now; none, where the scheduler doesn't answer."""
         try:
+            if self.own:
+                return Workers.of(self.own.workers())
             return Workers.of(self.client.scheduler_info().get("workers", {}).values())
         except Exception:
             return NO_WORKERS
@@ -207,12 +140,16 @@ class Cluster:
 
     def answers(self, futures: List[Any]) -> List[Any]:
         """What came of tasks that have ended: of each the answer, or the exception that took its place."""
+        from asyncio import CancelledError
+
         try:
             return self.client.gather(futures)
         except (Exception, CancelledError):
             return [self.answer(future) for future in futures]
 
     def answer(self, future: Any) -> Any:
+        from asyncio import CancelledError
+
         try:
             return future.result()
         except (Exception, CancelledError) as error:
@@ -220,6 +157,10 @@ class Cluster:
 
     def dashboard(self) -> Optional[str]:
         """Where the engine shows how it works, if it does: it needs a library of its own, and says so in its place."""
+        if self.own and not self.own.has_dashboard:
+            return None
+        import urllib.request
+
         link = self.client.dashboard_link
         try:
             with urllib.request.build_opener(urllib.request.ProxyHandler({})).open(link, timeout=2) as page:

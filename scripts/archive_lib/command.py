@@ -12,10 +12,11 @@ import tempfile
 from contextlib import contextmanager
 from typing import Iterator, List, NoReturn, Optional
 
-from .cluster import Cluster, prepare_local_workers
+from .cluster import Cluster
 from .counties import Archive, County
-from .ending import Ending, Stopped
+from .ending import Ending, Stopped, signals_held_back
 from .judging import Order
+from .local import prepare_local_workers
 from .manifest import FLAGS, Lock, Manifest, agreed_flags, content_of, place_of
 from .running import Ended, Job, Run, first_need
 from .telling import ReaderIsGone, Stop, Tally, Teller, groups_of_one_map, plainly, print_lines
@@ -219,14 +220,17 @@ def rule_of(line: str) -> str:
 @contextmanager
 def room_of_its_own() -> Iterator[str]:
     """A folder for files of this run's own. Who still writes into it while it is taken away only loses what he writes."""
+    room = ""
     try:
-        room = tempfile.mkdtemp(prefix="archive-")
-    except OSError:
-        raise Stop("there is no room for files of its own") from None
-    try:
+        with signals_held_back():
+            try:
+                room = tempfile.mkdtemp(prefix="archive-")
+            except OSError:
+                raise Stop("there is no room for files of its own") from None
         yield room
     finally:
-        shutil.rmtree(room, ignore_errors=True)
+        if room:
+            shutil.rmtree(room, ignore_errors=True)
 
 
 @contextmanager

@@ -18,13 +18,16 @@ EXPANSION = 12
 UNKNOWN = 5_000_000
 """A file of which no size is told is taken to have so many bytes, until it was read."""
 
-A_WORKER_AHEAD = 3
+A_WORKER_AHEAD = 5
 """So many counties a thread are with the scheduler at once, so that none waits for its next one."""
 
 FEWEST_AHEAD, MOST_TOGETHER = 8, 16
 
-A_LOOK, A_LOOK_AT_WORKERS = 0.005, 10.0
+A_LOOK, A_LOOK_AT_WORKERS = 0.01, 10.0
 """So many seconds are between two looks for what has ended, and for which workers are there."""
+
+A_MOMENT = 0.2
+"""So many seconds the first worker may wait for the others, so that what is handed over first isn't all given to it."""
 
 PATIENCE_FOR_WORKERS = 300.0
 """After so many seconds in which there was no worker that could go on, what is left is told."""
@@ -116,6 +119,7 @@ class Run:
         """Waits for the first worker, and sees that it can judge."""
         look = self.cluster.look()
         while look.status == "pending":
+            self.cluster.are_workers_beginning()
             if self.tally.is_due():
                 self.tally.told_at = time.monotonic()
                 self.teller.say_for_now(f"waiting for a worker of {self.cluster.name}")
@@ -126,6 +130,9 @@ class Run:
         trouble = self.cluster.answer(look)
         if trouble:
             raise Stop(f"a worker can't judge: {trouble}")
+        until = time.monotonic() + A_MOMENT
+        while self.cluster.are_workers_beginning() and time.monotonic() < until:
+            time.sleep(A_LOOK)
         self.look_at_workers()
         self.is_rationed = self.workers.are_rationed
         if not self.is_rationed:
@@ -248,7 +255,7 @@ class Run:
         if self.tally.is_due():
             self.look_at_workers()
             self.tally.tell_progress(self.workers.number)
-        elif time.monotonic() - self.looked_at > A_LOOK_AT_WORKERS:
+        elif self.cluster.are_workers_beginning() or time.monotonic() - self.looked_at > A_LOOK_AT_WORKERS:
             self.look_at_workers()
         can_go_on = any(job.need <= self.workers.most for job in self.under_way.values())
         if can_go_on or not self.under_way:

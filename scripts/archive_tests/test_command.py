@@ -7,13 +7,26 @@ import shutil
 import signal
 import subprocess
 import sys
+import time
 from typing import List
 
 from archive_lib.telling import Tally, Teller, amount, duration, groups_of_one_map
 
 from . import support
 from .made import Made, parts_of, put_files, put_zip, texts
-from .support import SCRIPTS, Ended, InRoom, begin, call, end, environment, tripping, with_engine
+from .support import (
+    SCRIPTS,
+    Ended,
+    InRoom,
+    await_that,
+    begin,
+    call,
+    end,
+    environment,
+    processes,
+    tripping,
+    with_engine,
+)
 
 DIGITS = "0123456789abcdef" * 4
 
@@ -215,6 +228,40 @@ class Calls(InRoom):
         self.assertEqual((ended.status, list(ended.told()), self.text("m").count(b"\n")), (1, ["in/d"], 3))
         self.assertEqual([line for line in ended.err.splitlines() if not line.startswith("fingerprint-archive: ")], [])
         self.assertEqual(os.listdir(rooms), ["here"])
+
+    def test_workers_that_cannot_begin(self) -> None:
+        """It is told at once, and nothing waits for them."""
+        env = environment(DASK_DISTRIBUTED__WORKER__PRELOAD='["no_such_module"]')
+        ended = call("fingerprint-archive", "--jobs", "2", "m", "in", cwd=self.room, env=env)
+        self.assertEqual(ended.status, 2)
+        self.assertIn("no workers can be started: No module named 'no_such_module': 0 of 3 done\n", ended.err)
+
+    def test_a_signal_while_it_begins(self) -> None:
+        """Before there are workers it ends by the signal too, which is no trouble with workers, and leaves nothing."""
+        rooms = self.put("tmp/here", b"").parent
+        for pause in (0.0, 0.2, 0.4, 0.6):
+            run = begin("--jobs", "2", "m", "in", cwd=self.room, env=tripping(TRIPPING_PAUSE="2", TMPDIR=str(rooms)))
+            self.addCleanup(end, run)
+            self.assertTrue(await_that(lambda: len(os.listdir(rooms)) > 1))
+            time.sleep(pause)
+            run.send_signal(signal.SIGTERM)
+            _, err = run.communicate(timeout=30)
+            self.assertEqual(run.returncode, -signal.SIGTERM, err)
+            self.assertRegex(err.decode(), r"^fingerprint-archive: stopped by TERM: 0 of [03] done\n$")
+            self.assertEqual(os.listdir(rooms), ["here"])
+            gone = await_that(lambda: run.pid not in [process.session for process in processes()], 10)
+            self.assertTrue(gone, "leaves processes")
+
+    def test_nothing_is_left(self) -> None:
+        """A run that has come to its end leaves no file of its own, and no process."""
+        rooms = self.put("tmp/here", b"").parent
+        run = begin("--jobs", "4", "m", "in", cwd=self.room, env=environment(TMPDIR=str(rooms)))
+        self.addCleanup(end, run)
+        _, err = run.communicate(timeout=60)
+        self.assertEqual((run.returncode, err.count(b"\n")), (0, 3), err)
+        self.assertEqual(os.listdir(rooms), ["here"])
+        gone = await_that(lambda: run.pid not in [process.session for process in processes()], 10)
+        self.assertTrue(gone, "leaves processes")
 
     def test_a_name_in_another_spelling(self) -> None:
         """Names are bytes, also those that aren't UTF-8, which the program doesn't take."""

@@ -39,6 +39,9 @@ class MadeUp:
     def answer(self, future: Any) -> Any:
         return future.answer
 
+    def are_workers_beginning(self) -> bool:
+        return False
+
     def workers(self) -> Workers:
         return self.now
 
