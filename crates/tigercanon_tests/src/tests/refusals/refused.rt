@@ -113,20 +113,26 @@ fn of_clauses() -> &'static [Row] {
     CLAUSES
 }
 
-/// The set is refused as its name says, by each whole call, and comparing tells which set it is.
+/// Each whole call tells this fault of the set, and comparing tells which set it is.
+fn each_tells(rt: &impl Abort, alloc: Global, set: &Set<'_>, fault: Fault) {
+    let told = Some(fault);
+    let faults = [
+        normalise(alloc, &[set.bytes]).err(),
+        normalise_with_renaming(alloc, &[set.bytes]).err(),
+        fingerprint(alloc, &[set.bytes]).err(),
+    ];
+    same(rt, set.row, &faults, &[told; 3]);
+    let in_set = Some(CompareFault::In { set: 2, fault });
+    let compared = compare(alloc, &[], &[set.bytes]).err();
+    same(rt, set.row, &compared, &in_set);
+}
+
+/// The set is refused as its name says, by each whole call.
 fn is_refused(rt: &impl Abort, alloc: Global, set: &Set<'_>) {
     let fault = check(alloc, &[set.bytes]).expect_err(rt, set.row);
     let line = format!(in alloc; "{}", Refusal(fault)).expect(rt, "there is memory");
     same_items(rt, set.row, line.as_bytes(), set.row.as_bytes());
-    let told = Some(fault);
-    same(rt, set.row, &normalise(alloc, &[set.bytes]).err(), &told);
-    let renamed = normalise_with_renaming(alloc, &[set.bytes]).err();
-    same(rt, set.row, &renamed, &told);
-    let hashed = fingerprint(alloc, &[set.bytes]).err();
-    same(rt, set.row, &hashed, &told);
-    let in_set = Some(CompareFault::In { set: 2, fault });
-    let compared = compare(alloc, &[], &[set.bytes]).err();
-    same(rt, set.row, &compared, &in_set);
+    each_tells(rt, alloc, set, fault);
 }
 
 /// A county outside of the profile is refused as its set is, where it is kept.
