@@ -1,6 +1,5 @@
 //! What only a call shows: getters, counties and renamings as values, and devices that give little and fail.
 
-mod arenas;
 mod callers;
 mod canonical;
 mod comparing;
@@ -15,7 +14,6 @@ mod made;
 mod many;
 mod masked;
 mod masked_counties;
-mod masked_runs;
 mod masks;
 mod refusals;
 mod renamings;
@@ -24,7 +22,5 @@ mod sets;
 mod sinks;
 mod texts;
 mod twin_sets;
-mod twins;
-mod usage;
 mod whole_calls;
 mod worked_sets;

@@ -3,28 +3,16 @@
 use super::comparing::{same, same_items};
 use super::counties::county_of;
 use super::renamings::{carries, has_lists, have_the_same_lists, onto_the_text};
-use super::sets::{lines_of, spelled};
-use super::worked_sets::{Worked, street_turned, two_chains, worked};
+use super::sets::{Set, lines_of, spelled};
+use super::worked_sets::{street_turned, two_chains, worked};
 use std::alloc::Global;
 use std::process::Abort;
-use tigercanon::normalise_with_renaming;
+use tigercanon::{check, normalise, normalise_with_renaming};
 use tl_cert::Renaming;
 use tl_county::{Chart, County};
 use tl_number::{CanonCounty, ascending_steps, canonise};
 use tl_profile::{Admitted, admit, order_by_shape};
 use tl_write::{CountedOut, records_of, write_to};
-
-/// The canonical county of a set, and the renaming onto it.
-fn canonical(
-    rt: &impl Abort,
-    alloc: Global,
-    row: &str,
-    set: &[u8],
-) -> (CanonCounty<County>, Renaming) {
-    let county = county_of(rt, alloc, row, set);
-    let admitted = admit(alloc, county).expect(rt, row);
-    canonise(alloc, admitted).expect(rt, row)
-}
 
 /// What is written and what is listed of the county is this text.
 fn has_text(rt: &impl Abort, alloc: Global, row: &str, county: &CanonCounty<County>, text: &[u8]) {
@@ -35,40 +23,27 @@ fn has_text(rt: &impl Abort, alloc: Global, row: &str, county: &CanonCounty<Coun
     same_items(rt, row, &spelled(rt, alloc, &records), text);
 }
 
-/// The renaming carries the set onto its text, and is the one that is told beside the text.
-fn is_onto_the_text(
-    rt: &impl Abort,
-    alloc: Global,
-    row: &str,
-    set: &[u8],
-    text: &[u8],
-    renaming: &Renaming,
-) {
-    same(
-        rt,
-        row,
-        &carries(rt, alloc, row, set, text, renaming),
-        &true,
-    );
-    let told = normalise_with_renaming(alloc, &[set]).expect(rt, row);
+/// The set is accepted, and its text is this one. The renaming carries the set onto it, and is the one that is told beside it.
+fn is_onto_the_text(rt: &impl Abort, alloc: Global, set: &Set<'_>, renaming: &Renaming) {
+    let Set { row, bytes, text } = *set;
+    same(rt, row, &check(alloc, &[bytes]), &Ok(()));
+    let found = normalise(alloc, &[bytes]).expect(rt, row);
+    same_items(rt, row, &found, text);
+    let carried = carries(rt, alloc, row, bytes, text, renaming);
+    same(rt, row, &carried, &true);
+    let told = normalise_with_renaming(alloc, &[bytes]).expect(rt, row);
     same_items(rt, row, &told.0, text);
     have_the_same_lists(rt, row, renaming, &told.1);
 }
 
 /// The set becomes what its text says.
-fn becomes(rt: &impl Abort, alloc: Global, row: &str, set: &[u8], text: &[u8]) {
-    let found = canonical(rt, alloc, row, set);
-    has_text(rt, alloc, row, &found.0, text);
-    is_onto_the_text(rt, alloc, row, set, text, &found.1);
+fn becomes(rt: &impl Abort, alloc: Global, set: &Set<'_>) {
+    let admitted = admit(alloc, county_of(rt, alloc, set.row, set.bytes)).expect(rt, set.row);
+    let found = canonise(alloc, admitted).expect(rt, set.row);
+    has_text(rt, alloc, set.row, &found.0, set.text);
+    is_onto_the_text(rt, alloc, set, &found.1);
     // One call for the prover, where the end of the block would be a step for each field.
     drop(found);
-}
-
-/// The worked set becomes what its text says.
-fn worked_becomes(rt: &impl Abort, alloc: Global, row: &Worked) {
-    let set = lines_of(rt, alloc, row.1);
-    let text = lines_of(rt, alloc, row.2);
-    becomes(rt, alloc, row.0, &set, &text);
 }
 
 /// How many chains an admitted county has, by its chart, by its list of TLIDs, by its order of shapes and by its arrangement.
@@ -95,8 +70,8 @@ fn an_admitted_county_has_its_chains(rt: HostRuntime) {
 
 #[test]
 fn sets_become_their_canonical_counties(rt: HostRuntime) {
-    for row in worked() {
-        worked_becomes(&rt, rt.alloc(), row);
+    for lines in &worked(&rt, rt.alloc()) {
+        becomes(&rt, rt.alloc(), &lines.set());
     }
 }
 

@@ -7,83 +7,89 @@ use tl_layout::{
     Body1, Body5, Body7, Point, Ranges, Rec1, Rec2, Rec4, Rec6, Rec8, RecI, RecP, Record,
 };
 
-/// Tells what a chain is and the name of its feature.
+/// Tells what a chain is, and the name of its feature.
 fn tells_feature(rt: &impl Abort, body: &Body1) {
-    let found = (body.side1(), body.source(), body.cfcc());
-    same(rt, "SIDE1, SOURCE, CFCC", &found, &(*b"1", *b"A", *b"A41"));
-    let found = (body.fedirp(), body.fetype(), body.fedirs());
-    let wanted = (*b"N ", *b"St  ", *b"SW");
-    same(rt, "FEDIRP, FETYPE, FEDIRS", &found, &wanted);
-    let wanted = b"Main                          ";
-    same_items(rt, "FENAME", &body.fename(), wanted);
-    same(
-        rt,
-        "the content of its fields",
-        &Body1::of(&body.fields()),
-        body,
+    let found = (
+        (body.side1(), body.source(), body.cfcc()),
+        (body.fedirp(), body.fename(), body.fetype(), body.fedirs()),
     );
+    let wanted = (
+        (*b"1", *b"A", *b"A41"),
+        (*b"N ", *b"Main                          ", *b"St  ", *b"SW"),
+    );
+    let row = "SIDE1, SOURCE, CFCC; FEDIRP, FENAME, FETYPE, FEDIRS";
+    same(rt, row, &found, &wanted);
+    let again = Body1::of(&body.fields());
+    same(rt, "the content of its fields", &again, body);
 }
 
-/// Tells the native areas beside a chain, and what is reserved.
-fn tells_native_areas(rt: &impl Abort, body: &Body1) {
-    let found = (body.aianhhfpl(), body.aianhhfpr());
-    same(rt, "AIANHHFPL, AIANHHFPR", &found, &(*b"70001", *b"70002"));
-    let found = (body.aihhtlil(), body.aihhtlir());
-    same(rt, "AIHHTLIL, AIHHTLIR", &found, &(*b"L", *b"R"));
-    let found = (body.census1(), body.census2());
-    same(rt, "CENSUS1, CENSUS2", &found, &(*b"4", *b"5"));
-}
-
-/// Tells the states and counties beside a chain, and their parts.
+/// Tells the native areas beside a chain, what is reserved, and the states and counties with their parts.
 fn tells_entities(rt: &impl Abort, body: &Body1) {
-    let found = (body.statel(), body.stater());
-    same(rt, "STATEL, STATER", &found, &(*b"01", *b"28"));
-    let found = (body.countyl(), body.countyr());
-    same(rt, "COUNTYL, COUNTYR", &found, &(*b"001", *b"051"));
-    let found = (body.cousubl(), body.cousubr());
-    same(rt, "COUSUBL, COUSUBR", &found, &(*b"90001", *b"90002"));
-    let found = (body.submcdl(), body.submcdr());
-    same(rt, "SUBMCDL, SUBMCDR", &found, &(*b"80001", *b"80002"));
+    let found = (
+        (body.aianhhfpl(), body.aianhhfpr()),
+        (body.aihhtlil(), body.aihhtlir()),
+        (body.census1(), body.census2()),
+        (body.statel(), body.stater()),
+        (body.countyl(), body.countyr()),
+    );
+    let wanted = (
+        (*b"70001", *b"70002"),
+        (*b"L", *b"R"),
+        (*b"4", *b"5"),
+        (*b"01", *b"28"),
+        (*b"001", *b"051"),
+    );
+    let row = "AIANHHFPL, ..R, AIHHTLIL, ..R, CENSUS1, 2, STATEL, ..R, COUNTYL, ..R";
+    same(rt, row, &found, &wanted);
 }
 
-/// Tells the places, census tracts and census blocks beside a chain.
+/// Tells the subdivisions, places, census tracts and census blocks beside a chain.
 fn tells_blocks(rt: &impl Abort, body: &Body1) {
-    let found = (body.placel(), body.placer());
-    same(rt, "PLACEL, PLACER", &found, &(*b"60001", *b"60002"));
-    let found = (body.tractl(), body.tractr());
-    same(rt, "TRACTL, TRACTR", &found, &(*b"020200", *b"020300"));
-    let found = (body.blockl(), body.blockr());
-    same(rt, "BLOCKL, BLOCKR", &found, &(*b"1001", *b"2002"));
+    let found = (
+        (body.cousubl(), body.cousubr()),
+        (body.submcdl(), body.submcdr()),
+        (body.placel(), body.placer()),
+        (body.tractl(), body.tractr()),
+        (body.blockl(), body.blockr()),
+    );
+    let wanted = (
+        (*b"90001", *b"90002"),
+        (*b"80001", *b"80002"),
+        (*b"60001", *b"60002"),
+        (*b"020200", *b"020300"),
+        (*b"1001", *b"2002"),
+    );
+    let row = "COUSUBL, ..R, SUBMCDL, ..R, PLACEL, ..R, TRACTL, ..R, BLOCKL, ..R";
+    same(rt, row, &found, &wanted);
 }
 
 /// Tells address ranges and ZIP codes.
 fn tells_ranges(rt: &impl Abort, ranges: &Ranges) {
-    let found = (ranges.fraddl(), ranges.toaddl());
-    let wanted = (*b"        101", *b"        199");
-    same(rt, "FRADDL, TOADDL", &found, &wanted);
-    let found = (ranges.fraddr(), ranges.toaddr());
-    let wanted = (*b"        100", *b"        198");
-    same(rt, "FRADDR, TOADDR", &found, &wanted);
-    let found = (ranges.friaddl(), ranges.toiaddl());
-    same(rt, "FRIADDL, TOIADDL", &found, &(*b"6", *b"7"));
-    let found = (ranges.friaddr(), ranges.toiaddr());
-    same(rt, "FRIADDR, TOIADDR", &found, &(*b"8", *b"9"));
-    let found = (ranges.zipl(), ranges.zipr());
-    same(rt, "ZIPL, ZIPR", &found, &(*b"36003", *b"36006"));
+    let found = (
+        (ranges.fraddl(), ranges.toaddl()),
+        (ranges.fraddr(), ranges.toaddr()),
+        (ranges.friaddl(), ranges.toiaddl()),
+        (ranges.friaddr(), ranges.toiaddr()),
+        (ranges.zipl(), ranges.zipr()),
+    );
+    let wanted = (
+        (*b"        101", *b"        199"),
+        (*b"        100", *b"        198"),
+        (*b"6", *b"7"),
+        (*b"8", *b"9"),
+        (*b"36003", *b"36006"),
+    );
+    let row = "FRADDL, TOADDL, ..R, FRIADDL, TOIADDL, ..R, ZIPL, ZIPR";
+    same(rt, row, &found, &wanted);
 }
 
 /// Tells the number, the ends and the content of a chain.
 fn tells_1(rt: &impl Abort, record: &Rec1) {
-    same(rt, "TLID", &record.tlid(), &500);
-    same(
-        rt,
-        "start",
-        &record.start(),
-        &Point::new(-86468669, 32424914),
-    );
-    same(rt, "end", &record.end(), &Point::new(-86468545, 32424948));
+    let found = (record.tlid(), record.start(), record.end());
+    let start = Point::new(-86468669, 32424914);
+    let end = Point::new(-86468545, 32424948);
+    same(rt, "TLID, start, end", &found, &(500, start, end));
     tells_feature(rt, record.body());
-    tells_native_areas(rt, record.body());
     tells_entities(rt, record.body());
     tells_blocks(rt, record.body());
     tells_ranges(rt, &record.body().ranges());
@@ -104,16 +110,16 @@ fn tells_4(rt: &impl Abort, record: &Rec4) {
 
 /// Tells a name.
 fn tells_5(rt: &impl Abort, body: &Body5) {
-    same_items(rt, "FILE", &body.file(), b"01001");
-    same_items(rt, "FEDIRP", &body.fedirp(), b"N ");
-    same_items(
-        rt,
-        "FENAME",
-        &body.fename(),
-        b"Old Mill                      ",
+    let found = (
+        body.file(),
+        (body.fedirp(), body.fename(), body.fetype(), body.fedirs()),
     );
-    same_items(rt, "FETYPE", &body.fetype(), b"Rd  ");
-    same_items(rt, "FEDIRS", &body.fedirs(), b"SW");
+    let wanted = (
+        *b"01001",
+        (*b"N ", *b"Old Mill                      ", *b"Rd  ", *b"SW"),
+    );
+    let row = "FILE, FEDIRP, FENAME, FETYPE, FEDIRS";
+    same(rt, row, &found, &wanted);
 }
 
 /// Tells further address ranges of a chain.
@@ -124,60 +130,73 @@ fn tells_6(rt: &impl Abort, record: &Rec6) {
 
 /// Tells the content of a landmark.
 fn tells_7(rt: &impl Abort, body: &Body7) {
-    same_items(rt, "FILE", &body.file(), b"01001");
-    same_items(rt, "SOURCE", &body.source(), b"A");
-    same_items(rt, "CFCC", &body.cfcc(), b"D43");
-    same_items(
-        rt,
-        "LANAME",
-        &body.laname(),
-        b"Barn                          ",
+    let found = (
+        (body.file(), body.source(), body.cfcc()),
+        (body.laname(), body.point()),
     );
-    same(
-        rt,
-        "point",
-        &body.point(),
-        &Some(Point::new(-86468669, 32424914)),
+    let wanted = (
+        (*b"01001", *b"A", *b"D43"),
+        (
+            *b"Barn                          ",
+            Some(Point::new(-86468669, 32424914)),
+        ),
     );
+    same(rt, "FILE, SOURCE, CFCC, LANAME, point", &found, &wanted);
 }
 
 /// Tells the polygon of a landmark.
 fn tells_8(rt: &impl Abort, record: &Rec8) {
-    same_items(rt, "FILE", &record.file(), b"01001");
-    same_items(rt, "CENID", &record.cenid(), b"00001");
-    same(
-        rt,
-        "POLYID, LAND",
-        &(record.polyid(), record.land()),
-        &(12, 30),
+    let found = (
+        (record.file(), record.cenid()),
+        (record.polyid(), record.land()),
     );
+    let wanted = ((*b"01001", *b"00001"), (12, 30));
+    same(rt, "FILE, CENID, POLYID, LAND", &found, &wanted);
 }
 
 /// Tells what a chain runs between.
+fn tells_between(rt: &impl Abort, record: &RecI) {
+    let found = (
+        (record.start_node(), record.end_node()),
+        (record.left().cenid(), record.left().polyid()),
+        (record.right().cenid(), record.right().polyid()),
+    );
+    let wanted = (
+        (Some(11), Some(12)),
+        (*b"00001", Some(13)),
+        (*b"00002", Some(14)),
+    );
+    let row = "TZIDS, TZIDE, CENIDL, POLYIDL, CENIDR, POLYIDR";
+    same(rt, row, &found, &wanted);
+}
+
+/// Tells what else stands beside it.
 fn tells_i(rt: &impl Abort, record: &RecI) {
-    let nodes = (record.start_node(), record.end_node());
-    same(rt, "TZIDS, TZIDE", &nodes, &(Some(11), Some(12)));
-    same_items(rt, "CENIDL", &record.left().cenid(), b"00001");
-    same_items(rt, "CENIDR", &record.right().cenid(), b"00002");
-    let polygons = (record.left().polyid(), record.right().polyid());
-    same(rt, "POLYIDL, POLYIDR", &polygons, &(Some(13), Some(14)));
+    tells_between(rt, record);
     let body = record.body();
-    same_items(rt, "FILE", &body.file(), b"01001");
-    same_items(rt, "SOURCE", &body.source(), b"Bureau    ");
-    same_items(rt, "FTSEG", &body.ftseg(), b"                9");
-    same_items(rt, "RS_I1", &body.rs_i1(), b"         6");
-    same_items(rt, "RS_I2", &body.rs_i2(), b"         7");
-    same_items(rt, "RS_I3", &body.rs_i3(), b"         8");
+    let found = (
+        (body.file(), body.source(), body.ftseg()),
+        (body.rs_i1(), body.rs_i2(), body.rs_i3()),
+    );
+    let wanted = (
+        (*b"01001", *b"Bureau    ", *b"                9"),
+        (*b"         6", *b"         7", *b"         8"),
+    );
+    same(rt, "FILE, SOURCE, FTSEG, RS_I1 to 3", &found, &wanted);
 }
 
 /// Tells a polygon.
 fn tells_p(rt: &impl Abort, record: &RecP) {
-    same_items(rt, "CENID", &record.cenid(), b"00001");
-    same(rt, "POLYID", &record.polyid(), &12);
-    same_items(rt, "FILE", &record.body().file(), b"01001");
-    same_items(rt, "WATER", &record.body().water(), b"1");
-    let point = record.body().point();
-    same(rt, "point", &point, &Some(Point::new(-86468669, 32424914)));
+    let body = record.body();
+    let found = (
+        (record.cenid(), record.polyid()),
+        (body.file(), body.water(), body.point()),
+    );
+    let wanted = (
+        (*b"00001", 12),
+        (*b"01001", *b"1", Some(Point::new(-86468669, 32424914))),
+    );
+    same(rt, "CENID, POLYID, FILE, WATER, point", &found, &wanted);
 }
 
 /// Tells the fields of one record.

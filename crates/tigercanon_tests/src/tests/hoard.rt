@@ -6,7 +6,7 @@ ghost use Rattle.std.specs.Prelude.{◌≡◌};
 
 use super::comparing::{same, same_items};
 use super::counties::{county_in_of, county_of};
-use super::masks::{is_masked, plain, without_either};
+use super::masks::{BOTH, are_masked, plain, without_either};
 use super::refusals::{is_memory, normalise_slowly};
 use super::sets::{lines_of, records_of};
 use super::worked_sets::{chain_of_each_type_turned, record_of_each_type, street, street_text};
@@ -19,9 +19,9 @@ use tigercanon::{
     respell,
 };
 use tl_county::Chart;
-use tl_layout::{Layout, Mask, Point, Record, Turn};
+use tl_layout::{Layout, Point, Record, Turn};
 use tl_load::{LoadFault, Loader, first_bad};
-use tl_number::{CanonCounty, CanonCountyIn, canonise_chart};
+use tl_number::{CanonCounty, canonise_chart};
 use tl_profile::{admit, admit_in};
 use tl_shape::{Chain, Shape, Surroundings};
 use tl_write::{SlowSink, write_in, write_to};
@@ -113,18 +113,6 @@ fn is_record_turned_back(record: &Record) -> bool {
     }
 }
 
-/// Whether these records have under a mask of both kinds the contents of the others.
-fn are_masked(records: &[Record], others: &[Record]) -> bool {
-    let mask = Mask {
-        sources: true,
-        reserved: true,
-    };
-    records
-        .iter()
-        .zip(others.iter())
-        .all(|(record, other)| is_masked(record, mask, other))
-}
-
 /// Records of each type are read, written and turned.
 #[test]
 fn records_are_read_and_written(rt: HostRuntime) {
@@ -148,7 +136,10 @@ fn contents_are_blanked(rt: HostRuntime) {
     let set = lines_of(&rt, rt.alloc(), without_either());
     let others = records_of(&rt, rt.alloc(), "without either", &set);
     let pieces = all_memory(&rt, rt.alloc());
-    let found = (is_all_taken(rt.alloc()), are_masked(&records, &others));
+    let found = (
+        is_all_taken(rt.alloc()),
+        are_masked(&records, &others, BOTH),
+    );
     drop(pieces);
     same(&rt, "contents", &found, &(true, true));
 }
@@ -258,19 +249,40 @@ fn loaders_are_made(rt: HostRuntime) {
 }
 
 /// Whether a canonical county is written as this text.
-fn is_written(county: &CanonCounty, text: &[u8]) -> bool {
+fn is_written<C: Chart>(county: &CanonCounty<C>, text: &[u8]) -> bool {
     let mut room = [0; 400];
     let mut sink = SlowSink::new(&mut room, 100);
     let answer = write_to(county, &mut sink);
     answer == Ok(text.len() as u64) && sink.held() == text
 }
 
-/// Whether one in an arena is.
-fn is_written_in(county: &CanonCountyIn<'_>, text: &[u8]) -> bool {
+/// Whether it is by the call for counties in an arena.
+fn is_written_in<C: Chart>(county: &CanonCounty<C>, text: &[u8]) -> bool {
     let mut room = [0; 400];
     let mut sink = SlowSink::new(&mut room, 100);
     let answer = write_in(county, &mut sink);
     answer == Ok(text.len() as u64) && sink.held() == text
+}
+
+/// A canonical county is written as this text by both calls, where memory is ample and where none is left.
+fn is_written_anyhow<C: Chart>(
+    rt: &impl Abort,
+    alloc: Global,
+    county: &CanonCounty<C>,
+    text: &[u8],
+) {
+    let before = (is_written(county, text), is_written_in(county, text));
+    let pieces = all_memory(rt, alloc);
+    let is_taken = is_all_taken(alloc);
+    let found = (is_written(county, text), is_written_in(county, text));
+    drop(pieces);
+    same(rt, "memory", &is_taken, &true);
+    same(
+        rt,
+        "the street",
+        &(before, found),
+        &((true, true), (true, true)),
+    );
 }
 
 /// A canonical county is written.
@@ -278,15 +290,11 @@ fn is_written_in(county: &CanonCountyIn<'_>, text: &[u8]) -> bool {
 fn counties_are_written(rt: HostRuntime) {
     let set = lines_of(&rt, rt.alloc(), street());
     let text = lines_of(&rt, rt.alloc(), street_text());
-    let admitted = admit(rt.alloc(), county_of(&rt, rt.alloc(), "the street", &set));
-    let chart = admitted.expect(&rt, "the street").into_chart();
-    let county = canonise_chart(rt.alloc(), chart).expect(&rt, "the street");
-    let before = is_written(&county, &text);
-    let pieces = all_memory(&rt, rt.alloc());
-    let found = (is_all_taken(rt.alloc()), is_written(&county, &text));
-    drop(pieces);
+    let county = county_of(&rt, rt.alloc(), "the street", &set);
+    let admitted = admit(rt.alloc(), county).expect(&rt, "the street");
+    let county = canonise_chart(rt.alloc(), admitted.into_chart()).expect(&rt, "the street");
+    is_written_anyhow(&rt, rt.alloc(), &county, &text);
     drop(county);
-    same(&rt, "the street", &(before, found), &(true, (true, true)));
 }
 
 /// One in an arena is written too.
@@ -298,12 +306,8 @@ fn counties_in_an_arena_are_written(rt: HostRuntime) {
     let county = county_in_of(&rt, rt.alloc(), &arena, "the street", &set);
     let admitted = admit_in(rt.alloc(), county).expect(&rt, "the street");
     let county = canonise_chart(rt.alloc(), admitted.into_chart()).expect(&rt, "the street");
-    let before = is_written_in(&county, &text);
-    let pieces = all_memory(&rt, rt.alloc());
-    let found = (is_all_taken(rt.alloc()), is_written_in(&county, &text));
-    drop(pieces);
+    is_written_anyhow(&rt, rt.alloc(), &county, &text);
     drop(county);
-    same(&rt, "the street", &(before, found), &(true, (true, true)));
 }
 
 /// Whether a whole call told want of memory.

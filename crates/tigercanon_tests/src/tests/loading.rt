@@ -32,14 +32,19 @@ fn sources_are_read_to_their_end(rt: HostRuntime) {
     gives_the_street(&rt, rt.alloc(), "a reader", &mut counted);
 }
 
-/// Main St in pieces of this size is Main St, though no part was ended.
-fn is_fed_in_pieces(rt: &impl Abort, alloc: Global, set: &[u8], size: usize) {
+/// Feeds a loader in pieces of this size.
+fn feed_pieces(rt: &impl Abort, loader: &mut Loader, set: &[u8], size: usize) {
     assert!(rt; 0 < size, "a piece has a byte");
-    let mut loader = Loader::new(alloc);
     for piece in set.chunks(size) {
         assert!(rt; loader.parts() == 0, "no part was ended");
         same(rt, "a piece", &loader.feed(piece), &Ok(()));
     }
+}
+
+/// Main St in pieces of this size is Main St, though no part was ended.
+fn is_fed_in_pieces(rt: &impl Abort, alloc: Global, set: &[u8], size: usize) {
+    let mut loader = Loader::new(alloc);
+    feed_pieces(rt, &mut loader, set, size);
     let records = loader.finish().expect(rt, "the street");
     let text = spelled(rt, alloc, &records);
     same_items(rt, "the street", &text, set);

@@ -1,9 +1,11 @@
 //! A made map of many chains through each call.
 
-use super::arenas::arenas_make_no_difference;
 use super::comparing::{same, same_items};
 use super::made::made;
-use super::refusals::{Set, ample_answer, of_layers, whole};
+use super::refusals::{
+    Swept, sweep_admitting, sweep_linking, sweep_others, sweep_reading, sweep_whole_calls,
+};
+use super::sets::SetLines;
 use std::alloc::Global;
 use std::process::Abort;
 use tigercanon::{Verdict, compare, normalise};
@@ -29,17 +31,6 @@ fn are_same(rt: &impl Abort, alloc: Global, set: &[u8], other: &[u8]) {
     same(rt, "one map", &is_same, &true);
 }
 
-/// Each call answers where memory is ample, and an arena makes no difference.
-fn goes_through_each_call(rt: &impl Abort, alloc: Global, set: &Set<'_>) {
-    for call in whole() {
-        let _ = ample_answer(rt, alloc, *call, set);
-    }
-    for call in of_layers() {
-        let _ = ample_answer(rt, alloc, *call, set);
-    }
-    arenas_make_no_difference(rt, alloc, set);
-}
-
 /// More than a million bytes are read from a reader and written to a writer, without a failure.
 fn goes_through_devices(rt: &impl Abort, alloc: Global, set: &[u8]) {
     let mut source = Counted::new(set);
@@ -53,15 +44,21 @@ fn goes_through_devices(rt: &impl Abort, alloc: Global, set: &[u8]) {
 
 #[test]
 fn a_map_of_many_chains_goes_through_each_call(rt: HostRuntime) {
-    let set = made(&rt, rt.alloc(), false);
-    let other = made(&rt, rt.alloc(), true);
-    let text = has_one_text(&rt, rt.alloc(), &set, &other);
-    are_same(&rt, rt.alloc(), &set, &other);
-    let set = Set {
-        row: "many chains",
-        bytes: &set,
-        text: &text,
+    let alloc = rt.alloc();
+    let bytes = made(&rt, alloc, false);
+    let other = made(&rt, alloc, true);
+    let text = has_one_text(&rt, alloc, &bytes, &other);
+    are_same(&rt, alloc, &bytes, &other);
+    goes_through_devices(&rt, alloc, &text);
+    let row = "many chains";
+    let sets = [SetLines { row, bytes, text }];
+    let of = Swept {
+        what: " of many chains",
+        sets: &sets,
     };
-    goes_through_each_call(&rt, rt.alloc(), &set);
-    goes_through_devices(&rt, rt.alloc(), &text);
+    sweep_whole_calls(&rt, alloc, of);
+    sweep_reading(&rt, alloc, of);
+    sweep_linking(&rt, alloc, of);
+    sweep_admitting(&rt, alloc, of);
+    sweep_others(&rt, alloc, of);
 }

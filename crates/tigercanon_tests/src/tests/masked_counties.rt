@@ -2,17 +2,18 @@
 
 use super::comparing::{same, same_items};
 use super::counties::{county_in_of, county_of};
+use super::masks::{BOTH, RESERVED, SOURCES};
 use super::sets::{lines_of, spelled};
-use super::twin_sets::{of_no_sources_text, of_two_sources, of_two_sources_text};
+use super::twin_sets::{OF_NO_SOURCES_TEXT, OF_TWO_SOURCES, OF_TWO_SOURCES_TEXT};
 use super::worked_sets::{CHAIN, LINK, MAIN, MAIN_TURNED};
 use bumpalo::Bump;
-use std::alloc::{AllocError, Global};
+use std::alloc::Global;
 use std::process::Abort;
 use tl_county::Chart;
-use tl_layout::{Mask, Record};
+use tl_layout::Mask;
 use tl_number::{CanonCounty, canonise_in_masked, canonise_masked};
 use tl_profile::{admit, admit_in};
-use tl_write::{CountedOut, WriteFault, records_of, records_of_in, write_in, write_to};
+use tl_write::{CountedOut, records_of, records_of_in, write_in, write_to};
 
 /// The canonical lines of Main St: as they are, and without SOURCE.
 const STREET: &str =
@@ -49,33 +50,7 @@ const ANNEX_FIRST: &[&str] = &[
     STREET_LINK,
 ];
 
-fn mask(sources: bool, reserved: bool) -> Mask {
-    Mask { sources, reserved }
-}
-
-/// What was written is this text.
-fn is_written(
-    rt: &impl Abort,
-    row: &str,
-    outcome: Result<u64, WriteFault>,
-    out: CountedOut<Vec<u8>>,
-    text: &[u8],
-) {
-    same(rt, row, &outcome, &Ok(text.len() as u64));
-    same_items(rt, row, &out.into_inner(), text);
-}
-
-/// The spellings of the records are this text.
-fn is_listed(
-    rt: &impl Abort,
-    alloc: Global,
-    row: &str,
-    records: Result<Vec<Record>, AllocError>,
-    text: &[u8],
-) {
-    let records = records.expect(rt, row);
-    same_items(rt, row, &spelled(rt, alloc, &records), text);
-}
+const NONE: Mask = Mask::NONE;
 
 /// What is written and what is listed of the county, by the calls for arenas too, is this text.
 fn has_text<C: Chart>(
@@ -85,98 +60,94 @@ fn has_text<C: Chart>(
     county: &CanonCounty<C>,
     text: &[u8],
 ) {
+    let wanted = Ok(text.len() as u64);
     let mut out = CountedOut::new(Vec::new(alloc));
-    let outcome = write_to(county, &mut out);
-    is_written(rt, row, outcome, out, text);
+    same(rt, row, &write_to(county, &mut out), &wanted);
+    same_items(rt, row, &out.into_inner(), text);
     let mut out = CountedOut::new(Vec::new(alloc));
-    let outcome = write_in(county, &mut out);
-    is_written(rt, row, outcome, out, text);
-    is_listed(rt, alloc, row, records_of(alloc, county), text);
-    is_listed(rt, alloc, row, records_of_in(alloc, county), text);
+    same(rt, row, &write_in(county, &mut out), &wanted);
+    same_items(rt, row, &out.into_inner(), text);
+    let records = records_of(alloc, county).expect(rt, row);
+    same_items(rt, row, &spelled(rt, alloc, &records), text);
+    let records = records_of_in(alloc, county).expect(rt, row);
+    same_items(rt, row, &spelled(rt, alloc, &records), text);
 }
 
-/// The set becomes this text under the mask.
-fn becomes(rt: &impl Abort, alloc: Global, row: &str, mask: Mask, set: &[u8], text: &[u8]) {
-    let admitted = admit(alloc, county_of(rt, alloc, row, set)).expect(rt, row);
-    let found = canonise_masked(alloc, admitted, mask).expect(rt, row);
-    has_text(rt, alloc, row, &found.0, text);
+/// A set, a mask, and the lines of the set's text under it.
+type MaskedRow = (
+    &'static str,
+    &'static [&'static str],
+    Mask,
+    &'static [&'static str],
+);
+
+/// Main St from either end is one county under each mask.
+const OF_MAIN: &[MaskedRow] = &[
+    ("none", MAIN, NONE, WITH_SOURCES),
+    ("sources", MAIN, SOURCES, WITHOUT_SOURCES),
+    ("reserved", MAIN, RESERVED, WITH_SOURCES),
+    ("both", MAIN, BOTH, WITHOUT_SOURCES),
+    ("none, turned", MAIN_TURNED, NONE, WITH_SOURCES),
+    ("sources, turned", MAIN_TURNED, SOURCES, WITHOUT_SOURCES),
+    ("reserved, turned", MAIN_TURNED, RESERVED, WITH_SOURCES),
+    ("both, turned", MAIN_TURNED, BOTH, WITHOUT_SOURCES),
+];
+
+/// Contents of a landmark, and chains of one shape, stand in the order that they have without the fields that are left out.
+const IN_ORDER: &[MaskedRow] = &[
+    ("contents", ANNEX_AND_BARN, NONE, BARN_FIRST),
+    (
+        "contents without sources",
+        ANNEX_AND_BARN,
+        SOURCES,
+        ANNEX_FIRST,
+    ),
+    ("chains", OF_TWO_SOURCES, NONE, OF_TWO_SOURCES_TEXT),
+    (
+        "chains without sources",
+        OF_TWO_SOURCES,
+        SOURCES,
+        OF_NO_SOURCES_TEXT,
+    ),
+];
+
+/// Those rows.
+fn of_main() -> &'static [MaskedRow] {
+    OF_MAIN
+}
+
+fn in_order() -> &'static [MaskedRow] {
+    IN_ORDER
+}
+
+/// The set of the row becomes its text under the mask.
+fn becomes(rt: &impl Abort, alloc: Global, row: &MaskedRow) {
+    let set = lines_of(rt, alloc, row.1);
+    let text = lines_of(rt, alloc, row.3);
+    let admitted = admit(alloc, county_of(rt, alloc, row.0, &set)).expect(rt, row.0);
+    let found = canonise_masked(alloc, admitted, row.2).expect(rt, row.0);
+    has_text(rt, alloc, row.0, &found.0, &text);
     drop(found);
 }
 
 /// The same over an arena.
-fn becomes_in(rt: &impl Abort, alloc: Global, row: &str, mask: Mask, set: &[u8], text: &[u8]) {
+fn becomes_in(rt: &impl Abort, alloc: Global, row: &MaskedRow) {
     let arena = Bump::new(alloc);
-    let admitted = admit_in(alloc, county_in_of(rt, alloc, &arena, row, set)).expect(rt, row);
-    let found = canonise_in_masked(alloc, admitted, mask).expect(rt, row);
-    has_text(rt, alloc, row, &found.0, text);
+    let set = lines_of(rt, alloc, row.1);
+    let text = lines_of(rt, alloc, row.3);
+    let county = county_in_of(rt, alloc, &arena, row.0, &set);
+    let admitted = admit_in(alloc, county).expect(rt, row.0);
+    let found = canonise_in_masked(alloc, admitted, row.2).expect(rt, row.0);
+    has_text(rt, alloc, row.0, &found.0, &text);
     drop(found);
 }
 
-/// Main St and Main St from its other end become this text under the mask.
-fn main_becomes(rt: &impl Abort, alloc: Global, row: &str, mask: Mask, text: &[&str]) {
-    let text = lines_of(rt, alloc, text);
-    let main = lines_of(rt, alloc, MAIN);
-    let turned = lines_of(rt, alloc, MAIN_TURNED);
-    becomes(rt, alloc, row, mask, &main, &text);
-    becomes(rt, alloc, row, mask, &turned, &text);
-    becomes_in(rt, alloc, row, mask, &main, &text);
-    becomes_in(rt, alloc, row, mask, &turned, &text);
-}
-
 #[test]
-fn a_street_and_its_turn_are_one_county_under_each_mask(rt: HostRuntime) {
-    main_becomes(&rt, rt.alloc(), "none", Mask::NONE, WITH_SOURCES);
-    main_becomes(
-        &rt,
-        rt.alloc(),
-        "sources",
-        mask(true, false),
-        WITHOUT_SOURCES,
-    );
-    main_becomes(&rt, rt.alloc(), "reserved", mask(false, true), WITH_SOURCES);
-    main_becomes(&rt, rt.alloc(), "both", mask(true, true), WITHOUT_SOURCES);
-}
-
-#[test]
-fn contents_stand_in_the_order_that_they_have_under_the_mask(rt: HostRuntime) {
-    let set = lines_of(&rt, rt.alloc(), ANNEX_AND_BARN);
-    let barn_first = lines_of(&rt, rt.alloc(), BARN_FIRST);
-    let annex_first = lines_of(&rt, rt.alloc(), ANNEX_FIRST);
-    becomes(&rt, rt.alloc(), "none", Mask::NONE, &set, &barn_first);
-    becomes(
-        &rt,
-        rt.alloc(),
-        "sources",
-        mask(true, false),
-        &set,
-        &annex_first,
-    );
-    becomes_in(
-        &rt,
-        rt.alloc(),
-        "sources, in an arena",
-        mask(true, false),
-        &set,
-        &annex_first,
-    );
-}
-
-/// Two chains of one shape stand in the order that they have without the fields that are left out.
-#[test]
-fn chains_of_one_shape_stand_in_the_order_that_they_have_under_the_mask(rt: HostRuntime) {
-    let alloc = rt.alloc();
-    let set = lines_of(&rt, alloc, of_two_sources());
-    let whole = lines_of(&rt, alloc, of_two_sources_text());
-    let bare = lines_of(&rt, alloc, of_no_sources_text());
-    becomes(&rt, alloc, "none", Mask::NONE, &set, &whole);
-    becomes(&rt, alloc, "sources", mask(true, false), &set, &bare);
-    becomes_in(&rt, alloc, "none, in an arena", Mask::NONE, &set, &whole);
-    becomes_in(
-        &rt,
-        alloc,
-        "sources, in an arena",
-        mask(true, false),
-        &set,
-        &bare,
-    );
+fn sets_become_their_canonical_counties_under_masks(rt: HostRuntime) {
+    for rows in [of_main(), in_order()] {
+        for row in rows {
+            becomes(&rt, rt.alloc(), row);
+            becomes_in(&rt, rt.alloc(), row);
+        }
+    }
 }

@@ -31,9 +31,21 @@ const NEITHER: &[&str] = &[
     "I200601001{7}500{8}11{8}1200001{8}1300002{8}14{26}9",
 ];
 
-fn mask(sources: bool, reserved: bool) -> Mask {
-    Mask { sources, reserved }
-}
+/// The masks that leave out something.
+pub(super) const SOURCES: Mask = Mask {
+    sources: true,
+    reserved: false,
+};
+
+pub(super) const RESERVED: Mask = Mask {
+    sources: false,
+    reserved: true,
+};
+
+pub(super) const BOTH: Mask = Mask {
+    sources: true,
+    reserved: true,
+};
 
 /// The plain records, and these without the fields of either kind.
 pub(super) fn plain() -> &'static [&'static str] {
@@ -45,7 +57,7 @@ pub(super) fn without_either() -> &'static [&'static str] {
 }
 
 /// Whether the content of the one record is under the mask that of the other.
-pub(super) fn is_masked(record: &Record, mask: Mask, other: &Record) -> bool {
+fn is_masked(record: &Record, mask: Mask, other: &Record) -> bool {
     match (record, other) {
         (Record::One(record), Record::One(other)) => {
             let mut body = *record.body();
@@ -66,14 +78,22 @@ pub(super) fn is_masked(record: &Record, mask: Mask, other: &Record) -> bool {
     }
 }
 
+/// Whether these records have under the mask the contents of the others.
+pub(super) fn are_masked(records: &[Record], others: &[Record], mask: Mask) -> bool {
+    records
+        .iter()
+        .zip(others.iter())
+        .all(|(record, other)| is_masked(record, mask, other))
+}
+
 /// Under this mask the plain records have the contents of these.
 fn become_these(rt: &impl Abort, alloc: Global, row: &str, mask: Mask, wanted: &[&str]) {
     let plain = records_of(rt, alloc, row, &lines_of(rt, alloc, PLAIN));
     let masked = records_of(rt, alloc, row, &lines_of(rt, alloc, wanted));
-    same(rt, row, &masked.len(), &3);
-    for (record, other) in plain.iter().zip(masked.iter()) {
-        same(rt, row, &is_masked(record, mask, other), &true);
-    }
+    let found = (masked.len(), are_masked(&plain, &masked, mask));
+    drop(plain);
+    drop(masked);
+    same(rt, row, &found, &(3, true));
     let is_none = mask.is_none();
     same(rt, row, &is_none, &(!mask.sources && !mask.reserved));
 }
@@ -81,7 +101,7 @@ fn become_these(rt: &impl Abort, alloc: Global, row: &str, mask: Mask, wanted: &
 #[test]
 fn a_mask_leaves_out_its_fields(rt: HostRuntime) {
     become_these(&rt, rt.alloc(), "none", Mask::NONE, PLAIN);
-    become_these(&rt, rt.alloc(), "sources", mask(true, false), NO_SOURCES);
-    become_these(&rt, rt.alloc(), "reserved", mask(false, true), NO_RESERVED);
-    become_these(&rt, rt.alloc(), "both", mask(true, true), NEITHER);
+    become_these(&rt, rt.alloc(), "sources", SOURCES, NO_SOURCES);
+    become_these(&rt, rt.alloc(), "reserved", RESERVED, NO_RESERVED);
+    become_these(&rt, rt.alloc(), "both", BOTH, NEITHER);
 }

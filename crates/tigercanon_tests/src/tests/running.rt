@@ -1,14 +1,14 @@
 //! Jobs over files that are missing or fail, and over devices that take little.
 
 use super::comparing::{same, same_items};
-use super::devices::{KINDS, SlowReader, failing_writer, reader};
+use super::devices::{KINDS, SlowReader, failing_writer, reader, writer};
 use super::sets::lines_of;
 use super::worked_sets::{CHAIN, LINK, MAIN_TEXT, OTHER_CHAIN, RESPELT, TURNED, TURNED_LINK};
 use std::alloc::Global;
 use std::cell::Cell;
 use std::io::{ErrorKind, Read};
 use std::process::Abort;
-use tigercanon::{Fault, Job, Opened, Refusal, run};
+use tigercanon::{Fault, Job, Opened, PlanFault, Refusal, run, tell};
 use tl_county::LinkFault;
 use tl_layout::Mask;
 use tl_load::LoadFault;
@@ -429,9 +429,25 @@ const STEPS: &[Row] = &[
     },
 ];
 
-/// Those rows.
-fn tables() -> [&'static [Row]; 5] {
-    [ABSENT, BROKEN, COMPARED, FULL, STEPS]
+/// Those tables.
+fn absent() -> &'static [Row] {
+    ABSENT
+}
+
+fn broken() -> &'static [Row] {
+    BROKEN
+}
+
+fn compared() -> &'static [Row] {
+    COMPARED
+}
+
+fn full() -> &'static [Row] {
+    FULL
+}
+
+fn steps() -> &'static [Row] {
+    STEPS
 }
 
 /// The files, opened.
@@ -491,24 +507,14 @@ fn ends(rt: &impl Abort, alloc: Global, row: &Row, kind: ErrorKind) {
     );
 }
 
-/// Each job ends as its row says.
-fn each_ends(rt: &impl Abort, alloc: Global, rows: &[Row], kind: ErrorKind) {
-    for row in rows {
-        ends(rt, alloc, row, kind);
-    }
-}
-
-/// Each job of each table ends as its row says.
-fn all_end(rt: &impl Abort, alloc: Global, kind: ErrorKind) {
-    for rows in tables() {
-        each_ends(rt, alloc, rows, kind);
-    }
-}
-
 #[test]
 fn jobs_end_as_their_files_and_devices_let_them(rt: HostRuntime) {
-    for kind in KINDS {
-        all_end(&rt, rt.alloc(), kind);
+    for rows in [absent(), broken(), compared(), full(), steps()] {
+        for row in rows {
+            for kind in KINDS {
+                ends(&rt, rt.alloc(), row, kind);
+            }
+        }
     }
 }
 
@@ -556,4 +562,11 @@ fn rare_refusals_are_told(rt: HostRuntime) {
         same_items(&rt, told, line.as_bytes(), told.as_bytes());
         same(&rt, told, &refusal.status(), status);
     }
+}
+
+#[test]
+fn want_of_memory_is_told(rt: HostRuntime) {
+    let mut err = writer(rt.alloc(), 7, 100);
+    same(&rt, "status", &tell(&PlanFault::Memory, &mut err), &5);
+    same_items(&rt, "line", &err.held, b"refused 9 Memory\n");
 }

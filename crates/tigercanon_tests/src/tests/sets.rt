@@ -1,4 +1,4 @@
-//! Patterns of lines, in which `{n}` stands for n blanks, and the lines of records.
+//! Patterns of lines, in which `{n}` stands for n blanks, sets told by them, and the lines of records.
 
 ghost use Rattle.std.specs.Prelude.{All};
 ghost use Rattle.tl_county.specs.Limits.{most_records};
@@ -10,38 +10,79 @@ use std::process::Abort;
 use tl_layout::Record;
 use tl_load::Loader;
 
-/// The number in braces so far, and one more digit.
-fn with_digit(count: usize, digit: u8) -> usize {
-    count
-        .saturating_mul(10)
-        .saturating_add(usize::from(digit.saturating_sub(b'0')))
-}
-
-/// Appends the bytes that a pattern stands for.
-fn append(rt: &impl Abort, bytes: &mut Vec<u8>, pattern: &str) {
-    let mut blanks = None;
-    for byte in pattern.bytes() {
-        match (byte, blanks) {
-            (b'{', _) => blanks = Some(0),
-            (b'}', Some(count)) => {
-                let len = bytes.len().saturating_add(count);
-                bytes.resize(len, b' ').expect(rt, "there is memory");
-                blanks = None;
-            }
-            (digit, Some(count)) => blanks = Some(with_digit(count, digit)),
-            (byte, None) => bytes.push(byte).expect(rt, "there is memory"),
-        }
-    }
-}
-
 /// The lines that the patterns stand for, each ended by LF.
 pub(super) fn lines_of(rt: &impl Abort, alloc: Global, patterns: &[&str]) -> Vec<u8> {
     let mut bytes = Vec::new(alloc);
     for pattern in patterns {
-        append(rt, &mut bytes, pattern);
-        append(rt, &mut bytes, "\n");
+        let mut blanks = None;
+        for byte in pattern.bytes() {
+            match (byte, blanks) {
+                (b'{', _) => blanks = Some(0usize),
+                (b'}', Some(count)) => {
+                    let len = bytes.len().saturating_add(count);
+                    bytes.resize(len, b' ').expect(rt, "there is memory");
+                    blanks = None;
+                }
+                (digit, Some(count)) => {
+                    let ones = usize::from(digit.saturating_sub(b'0'));
+                    blanks = Some(count.saturating_mul(10).saturating_add(ones));
+                }
+                (byte, None) => bytes.push(byte).expect(rt, "there is memory"),
+            }
+        }
+        bytes.push(b'\n').expect(rt, "there is memory");
     }
     bytes
+}
+
+/// A set by its patterns: what it shows or why it is refused, its lines, and the lines of its canonical text where it is accepted.
+pub(super) type Row = (
+    &'static str,
+    &'static [&'static str],
+    &'static [&'static str],
+);
+
+/// A set, and its canonical text where it is accepted.
+#[derive(Clone, Copy)]
+pub(super) struct Set<'a> {
+    pub(super) row: &'a str,
+    pub(super) bytes: &'a [u8],
+    pub(super) text: &'a [u8],
+}
+
+/// The bytes of a set and of its canonical text.
+#[derive(Drop)]
+pub(super) struct SetLines {
+    pub(super) row: &'static str,
+    pub(super) bytes: Vec<u8>,
+    pub(super) text: Vec<u8>,
+}
+
+impl SetLines {
+    /// The set with its text, lent.
+    pub(super) fn set(&self) -> Set<'_> {
+        Set {
+            row: self.row,
+            bytes: &self.bytes,
+            text: &self.text,
+        }
+    }
+}
+
+/// The sets of these tables.
+pub(super) fn sets_of(rt: &impl Abort, alloc: Global, tables: &[&'static [Row]]) -> Vec<SetLines> {
+    let mut sets = Vec::new(alloc);
+    for rows in tables {
+        for row in *rows {
+            let lines = SetLines {
+                row: row.0,
+                bytes: lines_of(rt, alloc, row.1),
+                text: lines_of(rt, alloc, row.2),
+            };
+            sets.push(lines).expect(rt, "there is memory");
+        }
+    }
+    sets
 }
 
 /// The records of this set.

@@ -59,6 +59,7 @@ fn few() -> &'static [(usize, usize, Result<u64, WriteFault>, u64)] {
     FEW
 }
 
+/// A write that takes nothing is a failure, but where there are no bytes.
 #[test]
 fn a_write_of_nothing_is_a_failure(rt: HostRuntime) {
     for (step, room, wanted, failures) in few() {
@@ -71,10 +72,6 @@ fn a_write_of_nothing_is_a_failure(rt: HostRuntime) {
             &(*step, *wanted, *failures),
         );
     }
-}
-
-#[test]
-fn no_bytes_need_no_room(rt: HostRuntime) {
     let mut sink = CountedOut::new(writer(rt.alloc(), 0, 0));
     same(&rt, "no bytes", &write_bytes(b"", &mut sink), &Ok(0));
     same(&rt, "a write", &sink.write(b""), &Ok(0));

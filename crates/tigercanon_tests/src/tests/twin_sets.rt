@@ -169,7 +169,7 @@ pub(super) const ALIKE_TEXT: &[&str] = &[
 ];
 
 /// Main St twice, under two sources, the one ending where the other begins.
-const OF_TWO_SOURCES: &[&str] = &[
+pub(super) const OF_TWO_SOURCES: &[&str] = &[
     "1{13}9{1}B{2}Main{26}St{4}A41{8}101{8}199{8}100{8}19801{2}3600336006{14}0101001001{30}02020002030010012002{1}-86468669+32424914{1}-86468545+32424948",
     "I{4}01001{9}9{8}11{8}12",
     STREET_4,
@@ -177,7 +177,7 @@ const OF_TWO_SOURCES: &[&str] = &[
 ];
 
 /// The source A comes before B.
-const OF_TWO_SOURCES_TEXT: &[&str] = &[
+pub(super) const OF_TWO_SOURCES_TEXT: &[&str] = &[
     STREET_1,
     "12006{9}2{1}B{2}Main{26}St{4}A41{8}101{8}199{8}100{8}19801{2}3600336006{14}0101001001{30}02020002030010012002-086468669+32424914-086468545+32424948",
     "I200601001{9}1{9}1{9}200001{82}",
@@ -185,26 +185,12 @@ const OF_TWO_SOURCES_TEXT: &[&str] = &[
 ];
 
 /// Where the sources are left out, the nodes decide.
-const OF_NO_SOURCES_TEXT: &[&str] = &[
+pub(super) const OF_NO_SOURCES_TEXT: &[&str] = &[
     "12006{9}1{4}Main{26}St{4}A41{8}101{8}199{8}100{8}19801{2}3600336006{14}0101001001{30}02020002030010012002-086468669+32424914-086468545+32424948",
     "12006{9}2{4}Main{26}St{4}A41{8}101{8}199{8}100{8}19801{2}3600336006{14}0101001001{30}02020002030010012002-086468669+32424914-086468545+32424948",
     LINK_1,
     "I200601001{9}2{9}2{9}300001{82}",
 ];
-
-/// Main St twice, under two sources.
-pub(super) fn of_two_sources() -> &'static [&'static str] {
-    OF_TWO_SOURCES
-}
-
-/// Its text with all fields, and without sources.
-pub(super) fn of_two_sources_text() -> &'static [&'static str] {
-    OF_TWO_SOURCES_TEXT
-}
-
-pub(super) fn of_no_sources_text() -> &'static [&'static str] {
-    OF_NO_SOURCES_TEXT
-}
 
 /// Six chains from a point to the same point, which leave more choices than are gone through.
 pub(super) const TOO_SYMMETRIC: &[&str] = &[
@@ -221,7 +207,3 @@ pub(super) const TOO_SYMMETRIC: &[&str] = &[
     "1{13}6{183}+2{7}+1{8}+2{7}+1",
     "I{18}6",
 ];
-
-pub(super) fn too_symmetric() -> &'static [&'static str] {
-    TOO_SYMMETRIC
-}

@@ -2,33 +2,13 @@
 
 use super::comparing::{same, same_items};
 use super::renamings::{carries, has_lists, turn_of_the_street};
-use super::sets::lines_of;
-use super::twin_sets::too_symmetric;
-use super::worked_sets::{Worked, street, street_respelt, street_text, street_turned, worked};
+use super::sets::{Set, lines_of};
+use super::worked_sets::{street, street_respelt, street_text, street_turned, worked};
 use std::alloc::Global;
 use std::process::Abort;
-use tigercanon::{
-    CompareFault, Fault, Verdict, check, compare, fingerprint, normalise, normalise_to,
-    normalise_with_renaming, respell,
-};
+use tigercanon::{Fault, Verdict, compare, fingerprint, normalise_to, respell};
 use tl_load::{LoadFault, SlowSource, Source};
-use tl_profile::ProfileFault;
 use tl_write::{SlowSink, WriteFault};
-
-/// The set is accepted, and this is its text.
-fn has_text(rt: &impl Abort, alloc: Global, row: &Worked) {
-    let set = lines_of(rt, alloc, row.1);
-    same(rt, row.0, &check(alloc, &[&set]), &Ok(()));
-    let text = normalise(alloc, &[&set]).expect(rt, row.0);
-    same_items(rt, row.0, &text, &lines_of(rt, alloc, row.2));
-}
-
-#[test]
-fn accepted_sets_have_their_texts(rt: HostRuntime) {
-    for row in worked() {
-        has_text(&rt, rt.alloc(), row);
-    }
-}
 
 /// The fingerprint of Main St, by another program.
 const MAIN_STREET: [u8; 32] = [
@@ -56,55 +36,29 @@ fn a_street_is_respelt_and_has_a_fingerprint(rt: HostRuntime) {
     );
 }
 
-/// Each whole call tells why the set is refused, and comparing tells which set it is.
-fn is_refused(rt: &impl Abort, alloc: Global, set: &[u8], fault: Fault) {
-    let told = Some(fault);
-    same(rt, "check", &check(alloc, &[set]).err(), &told);
-    same(rt, "normalise", &normalise(alloc, &[set]).err(), &told);
-    let renamed = normalise_with_renaming(alloc, &[set]).err();
-    same(rt, "normalise_with_renaming", &renamed, &told);
-    same(rt, "fingerprint", &fingerprint(alloc, &[set]).err(), &told);
-    let in_set = CompareFault::In { set: 2, fault };
-    same(
-        rt,
-        "compare",
-        &compare(alloc, &[], &[set]).err(),
-        &Some(in_set),
-    );
-}
-
-#[test]
-fn each_call_tells_what_a_set_is_refused_for(rt: HostRuntime) {
-    let set = lines_of(&rt, rt.alloc(), too_symmetric());
-    let fault = Fault::Profile(ProfileFault::TooSymmetric);
-    is_refused(&rt, rt.alloc(), &set, fault);
-}
-
 /// The sets are one map exactly if they have one text, and then the renaming that is told carries the one onto the other.
-fn are_compared(rt: &impl Abort, alloc: Global, row: &Worked, other: &Worked) {
-    let set = lines_of(rt, alloc, row.1);
-    let others = lines_of(rt, alloc, other.1);
-    let verdict = compare(alloc, &[&set], &[&others]).expect(rt, row.0);
+fn are_compared(rt: &impl Abort, alloc: Global, set: &Set<'_>, other: &Set<'_>) {
+    let verdict = compare(alloc, &[set.bytes], &[other.bytes]).expect(rt, set.row);
     let found = match &verdict {
-        Verdict::Same(renaming) => Some(carries(rt, alloc, row.0, &set, &others, renaming)),
+        Verdict::Same(by) => Some(carries(rt, alloc, set.row, set.bytes, other.bytes, by)),
         Verdict::Different => None,
     };
     drop(verdict);
-    let wanted = if row.2 == other.2 { Some(true) } else { None };
-    same(rt, row.0, &(other.0, found), &(other.0, wanted));
-}
-
-/// The set is compared with each worked set.
-fn is_compared(rt: &impl Abort, alloc: Global, row: &Worked) {
-    for other in worked() {
-        are_compared(rt, alloc, row, other);
-    }
+    let wanted = if set.text == other.text {
+        Some(true)
+    } else {
+        None
+    };
+    same(rt, set.row, &(other.row, found), &(other.row, wanted));
 }
 
 #[test]
 fn sets_are_one_map_exactly_if_they_have_one_text(rt: HostRuntime) {
-    for row in worked() {
-        is_compared(&rt, rt.alloc(), row);
+    let sets = worked(&rt, rt.alloc());
+    for lines in &sets {
+        for others in &sets {
+            are_compared(&rt, rt.alloc(), &lines.set(), &others.set());
+        }
     }
 }
 

@@ -1,9 +1,12 @@
 //! Worked sets, each a list of patterns of lines. The texts were worked out by hand, from what the canonical form asks for.
 
+use super::sets::{Row, SetLines, sets_of};
 use super::twin_sets::{
     ALIKE, ALIKE_TEXT, CLOSED, CLOSED_TEXT, CLOSED_TWICE, CLOSED_TWICE_TEXT, NAMES_5_AND_7,
     NAMES_5_AND_7_TEXT, ON_END, ON_END_EXCHANGED, ON_END_TEXT, STREET_TWICE, STREET_TWICE_TEXT,
 };
+use std::alloc::Global;
+use std::process::Abort;
 
 /// The chain of Main St: its line of record type 1.
 pub(super) const CHAIN: &str =
@@ -223,18 +226,16 @@ const RICH_TEXT: &[&str] = &[
     "P20060100100002{9}2-086468600+324249001",
 ];
 
-/// A set that is accepted: what it shows, its lines, and the lines of its canonical text.
-pub(super) type Worked = (
-    &'static str,
-    &'static [&'static str],
-    &'static [&'static str],
-);
-
-const WORKED: &[Worked] = &[
+const STREETS: &[Row] = &[
     ("no records", &[], &[]),
     ("a street", MAIN, MAIN_TEXT),
     ("a street from its other end", MAIN_TURNED, MAIN_TEXT),
     ("other addresses", OTHER_ADDRESSES, OTHER_ADDRESSES_TEXT),
+    ("two sides", SIDED, SIDED_TEXT),
+    ("two chains", TWO_CHAINS, TWO_CHAINS_TEXT),
+];
+
+const POINTS: &[Row] = &[
     ("shape points", SHAPED, SHAPED_TEXT),
     (
         "shape points in other records",
@@ -242,18 +243,25 @@ const WORKED: &[Worked] = &[
         SHAPED_TEXT,
     ),
     ("a loop", LOOP, LOOP_TEXT),
-    ("two sides", SIDED, SIDED_TEXT),
-    ("names", NAMED, NAMED_TEXT),
-    ("names in the other order", NAMED_BACKWARDS, NAMED_TEXT),
-    ("a name twice", NAMED_TWICE, NAMED_TWICE_TEXT),
-    ("landmarks", LANDMARKS, LANDMARKS_TEXT),
     (
         "a landmark without a point",
         WITHOUT_A_POINT,
         WITHOUT_A_POINT_TEXT,
     ),
-    ("two chains", TWO_CHAINS, TWO_CHAINS_TEXT),
+];
+
+const NAMES: &[Row] = &[
+    ("names", NAMED, NAMED_TEXT),
+    ("names in the other order", NAMED_BACKWARDS, NAMED_TEXT),
+    ("a name twice", NAMED_TWICE, NAMED_TWICE_TEXT),
+];
+
+const TYPES: &[Row] = &[
+    ("landmarks", LANDMARKS, LANDMARKS_TEXT),
     ("a record of each type", RICH, RICH_TEXT),
+];
+
+const TWINS: &[Row] = &[
     ("a chain that is its own reverse", CLOSED, CLOSED_TEXT),
     ("a street twice", STREET_TWICE, STREET_TWICE_TEXT),
     ("a street twice, on end", ON_END, ON_END_TEXT),
@@ -267,14 +275,50 @@ const WORKED: &[Worked] = &[
         CLOSED_TWICE,
         CLOSED_TWICE_TEXT,
     ),
+];
+
+const NEARLY_ALIKE: &[Row] = &[
     ("five and seven names", NAMES_5_AND_7, NAMES_5_AND_7_TEXT),
     ("two chains that are nearly alike", ALIKE, ALIKE_TEXT),
 ];
 
-/// The sets that are accepted. The tables of tests are asked of functions: what a constant holds is known wherever it is named, and
-/// that makes the proof there long.
-pub(super) fn worked() -> &'static [Worked] {
-    WORKED
+/// The tables of tests are asked of functions: what a constant holds is known wherever it is named, and that makes the proof there
+/// long. The proof of a table grows as the square of its length, so that several short ones are shorter than one.
+fn streets() -> &'static [Row] {
+    STREETS
+}
+
+fn points() -> &'static [Row] {
+    POINTS
+}
+
+fn names() -> &'static [Row] {
+    NAMES
+}
+
+fn types() -> &'static [Row] {
+    TYPES
+}
+
+fn twins() -> &'static [Row] {
+    TWINS
+}
+
+fn nearly_alike() -> &'static [Row] {
+    NEARLY_ALIKE
+}
+
+/// The sets that are accepted.
+pub(super) fn worked(rt: &impl Abort, alloc: Global) -> Vec<SetLines> {
+    let tables = [
+        streets(),
+        points(),
+        names(),
+        types(),
+        twins(),
+        nearly_alike(),
+    ];
+    sets_of(rt, alloc, &tables)
 }
 
 /// Main St.

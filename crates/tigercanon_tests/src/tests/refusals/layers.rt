@@ -1,8 +1,11 @@
 //! Which layer tells want of memory within a whole call: the one that was refused.
 
 use super::super::comparing::same;
-use super::super::worked_sets::{Worked, worked};
-use super::{ALONE, Call, MANY, Run, Set, SetLines, has_refused, refuse, run_of};
+use super::super::sets::{Set, SetLines};
+use super::super::worked_sets::worked;
+use super::{
+    ALONE, Call, LinkInOrder, MANY, OrderByShape, Run, TablesOf, WriteInOrder, has_refused, refuse,
+};
 use std::alloc::Global;
 use std::process::Abort;
 use tigercanon::{Fault, normalise};
@@ -60,10 +63,10 @@ fn tellings_by_layer(rt: &impl Abort, alloc: Global, set: &Set<'_>) -> [usize; 4
 }
 
 /// How often a call tells want of memory, while each of its growths is refused in turn.
-fn tellings(rt: &impl Abort, alloc: Global, call: Call, set: &Set<'_>) -> usize {
+fn tellings<C: Call>(rt: &impl Abort, alloc: Global, set: &Set<'_>) -> usize {
     let mut count = 0usize;
     for growth in 1..MANY {
-        let Run { answer, refused } = run_of(rt, alloc, call, set, ALONE.saturating_add(growth));
+        let Run { answer, refused } = C::run(rt, alloc, set, ALONE.saturating_add(growth));
         if !refused {
             break;
         }
@@ -73,25 +76,24 @@ fn tellings(rt: &impl Abort, alloc: Global, call: Call, set: &Set<'_>) -> usize 
 }
 
 /// Each layer tells as many refusals within a whole call as it tells by itself. Answers how many linking tells.
-fn layers_tell_their_refusals(rt: &impl Abort, alloc: Global, row: &Worked) -> usize {
-    let lines = SetLines::of(rt, alloc, row);
+fn layers_tell_their_refusals(rt: &impl Abort, alloc: Global, lines: &SetLines) -> usize {
     let set = lines.set();
     let told = tellings_by_layer(rt, alloc, &set);
     let wanted = [
-        tellings(rt, alloc, Call::TablesOf, &set),
-        tellings(rt, alloc, Call::LinkInOrder, &set),
-        tellings(rt, alloc, Call::OrderByShape, &set),
-        tellings(rt, alloc, Call::WriteInOrder, &set),
+        tellings::<TablesOf>(rt, alloc, &set),
+        tellings::<LinkInOrder>(rt, alloc, &set),
+        tellings::<OrderByShape>(rt, alloc, &set),
+        tellings::<WriteInOrder>(rt, alloc, &set),
     ];
-    same(rt, row.0, &told, &wanted);
+    same(rt, lines.row, &told, &wanted);
     told[1]
 }
 
 #[test]
 fn want_of_memory_is_told_by_the_layer_that_was_refused(rt: HostRuntime) {
     let mut count = 0usize;
-    for row in worked() {
-        count = count.saturating_add(layers_tell_their_refusals(&rt, rt.alloc(), row));
+    for lines in &worked(&rt, rt.alloc()) {
+        count = count.saturating_add(layers_tell_their_refusals(&rt, rt.alloc(), lines));
     }
     println!(rt; "Linking within Normalise: {count} growths refused").expect(
         &rt,

@@ -5,7 +5,10 @@ ghost use Rattle.tl_county.specs.County.{county_of};
 ghost use Rattle.tl_county.specs.Packing.{type_after_type};
 
 use super::super::comparing::same;
-use super::{Run, Set, ended, has_refused, is_of_set, refuse, tables_of, walks_of};
+use super::super::sets::Set;
+use super::linking::{is_of_set, walks_of};
+use super::reading::tables_of;
+use super::{Call, Run, ended, has_refused, refuse};
 use bumpalo::Bump;
 use std::alloc::Global;
 use std::process::Abort;
@@ -46,13 +49,17 @@ fn order_of<C: Chart + Drop>(
     }
 }
 
-pub(super) fn admitted(rt: &impl Abort, alloc: Global, set: &Set<'_>, asked: usize) -> Run {
-    let arena = Bump::new(alloc);
-    let linked = link_in_order(alloc, tables_of(rt, alloc, set)).expect(rt, set.row);
-    let county = linked.county(alloc, &arena).expect(rt, set.row);
-    refuse(alloc, asked);
-    let outcome = admit_over(alloc, county, &linked);
-    let refused = has_refused(alloc);
-    let outcome = order_of(rt, alloc, set, outcome);
-    ended(rt, alloc, refused, outcome)
+pub(super) struct AdmitLinked;
+
+impl Call for AdmitLinked {
+    fn run(rt: &impl Abort, alloc: Global, set: &Set<'_>, asked: usize) -> Run {
+        let arena = Bump::new(alloc);
+        let linked = link_in_order(alloc, tables_of(rt, alloc, set)).expect(rt, set.row);
+        let county = linked.county(alloc, &arena).expect(rt, set.row);
+        refuse(alloc, asked);
+        let outcome = admit_over(alloc, county, &linked);
+        let refused = has_refused(alloc);
+        let outcome = order_of(rt, alloc, set, outcome);
+        ended(rt, alloc, refused, outcome)
+    }
 }

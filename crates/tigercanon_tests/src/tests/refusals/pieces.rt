@@ -8,7 +8,9 @@ ghost use Rattle.tl_profile.specs.ShapeOrder.{IsShapeOrder};
 
 use super::super::comparing::same;
 use super::super::counties::county_of;
-use super::{Run, Set, admitted_of, carries, ended, has_refused, refuse};
+use super::super::sets::Set;
+use super::linking::{admitted_of, carries};
+use super::{Call, Run, ended, has_refused, refuse};
 use std::alloc::{AllocError, Global};
 use std::process::Abort;
 use tigercanon::Fault;
@@ -39,13 +41,17 @@ fn text_in_order<C: Chart + Drop>(
 }
 
 /// The canonical county, and its text in memory.
-pub(super) fn written_in_order(rt: &impl Abort, alloc: Global, set: &Set<'_>, asked: usize) -> Run {
-    let county = county_of(rt, alloc, set.row, set.bytes);
-    let (admitted, order) = admit_with_order(alloc, county).expect(rt, set.row);
-    let chart = admitted.into_chart();
-    refuse(alloc, asked);
-    let outcome = text_in_order(alloc, chart, &order);
-    ended(rt, alloc, has_refused(alloc), outcome)
+pub(super) struct WriteInOrder;
+
+impl Call for WriteInOrder {
+    fn run(rt: &impl Abort, alloc: Global, set: &Set<'_>, asked: usize) -> Run {
+        let county = county_of(rt, alloc, set.row, set.bytes);
+        let (admitted, order) = admit_with_order(alloc, county).expect(rt, set.row);
+        let chart = admitted.into_chart();
+        refuse(alloc, asked);
+        let outcome = text_in_order(alloc, chart, &order);
+        ended(rt, alloc, has_refused(alloc), outcome)
+    }
 }
 
 /// A county in the profile, in its ascending arrangement.
@@ -77,18 +83,22 @@ fn renaming_onto<C: Chart>(
 }
 
 /// The arranged county. The answer is the renaming onto it.
-pub(super) fn arranged(rt: &impl Abort, alloc: Global, set: &Set<'_>, asked: usize) -> Run {
-    let chart = admitted_of(rt, alloc, set).into_chart();
-    let steps = ascending_steps(alloc, &chart).expect(rt, set.row);
-    refuse(alloc, asked);
-    let outcome = arrange_ascending(alloc, chart, steps);
-    let refused = has_refused(alloc);
-    match outcome {
-        Ok(view) => {
-            let renaming = renaming_onto(rt, alloc, set, &view);
-            drop(view);
-            ended(rt, alloc, refused, Ok(renaming))
+pub(super) struct ArrangeSteps;
+
+impl Call for ArrangeSteps {
+    fn run(rt: &impl Abort, alloc: Global, set: &Set<'_>, asked: usize) -> Run {
+        let chart = admitted_of(rt, alloc, set).into_chart();
+        let steps = ascending_steps(alloc, &chart).expect(rt, set.row);
+        refuse(alloc, asked);
+        let outcome = arrange_ascending(alloc, chart, steps);
+        let refused = has_refused(alloc);
+        match outcome {
+            Ok(view) => {
+                let renaming = renaming_onto(rt, alloc, set, &view);
+                drop(view);
+                ended(rt, alloc, refused, Ok(renaming))
+            }
+            Err(_) => ended::<()>(rt, alloc, refused, Err(Fault::Memory)),
         }
-        Err(_) => ended::<()>(rt, alloc, refused, Err(Fault::Memory)),
     }
 }

@@ -1,13 +1,18 @@
 //! Sets that are refused, by calls of which growths of memory are refused too: what is told stays, or it is want of memory.
 
-use super::super::comparing::same_items;
-use super::super::sets::lines_of;
+use super::super::comparing::{same, same_items};
+use super::super::counties::{county_in_of, county_of};
+use super::super::sets::{Row, Set, SetLines, sets_of};
 use super::super::twin_sets::TOO_SYMMETRIC;
-use super::super::worked_sets::{CHAIN, LINK, SIDES, Worked};
-use super::{Call, growths_on, whole};
+use super::super::worked_sets::{CHAIN, LINK, SIDES};
+use super::{Swept, sweep_admitting, sweep_linking, sweep_reading, sweep_whole_calls};
+use bumpalo::Bump;
 use std::alloc::Global;
 use std::process::Abort;
-use tigercanon::{Refusal, check};
+use tigercanon::{
+    CompareFault, Fault, Refusal, check, compare, fingerprint, normalise, normalise_with_renaming,
+};
+use tl_profile::{admit, admit_in};
 
 /// Main St without a start.
 const STARTLESS: &str =
@@ -19,7 +24,7 @@ const POINT: &str = "P{4}0100100001{8}12";
 const POLYGON: &str = "8{4}0100100001{8}12{8}30";
 
 /// Sets with a faulty line, each under what is told of it.
-const LINES: &[Worked] = &[
+const LINES: &[Row] = &[
     ("refused 1 UnknownType 1 3", &[CHAIN, LINK, "A"], &[]),
     (
         "refused 2 LineTooLong 1 2",
@@ -42,7 +47,7 @@ const LINES: &[Worked] = &[
 ];
 
 /// Sets whose records don't fit together.
-const RULES: &[Worked] = &[
+const RULES: &[Row] = &[
     ("refused 11 ChainTwice 500", &[CHAIN, CHAIN], &[]),
     (
         "refused 12 NoChain 2 600",
@@ -86,7 +91,7 @@ const RULES: &[Worked] = &[
 ];
 
 /// Sets whose county is outside of the profile.
-const CLAUSES: &[Worked] = &[
+const CLAUSES: &[Row] = &[
     (
         "refused 23 PolygonWithoutChain 3030303031 12",
         &[CHAIN, LINK, POINT, "7{4}01001{8}30", POLYGON],
@@ -96,81 +101,93 @@ const CLAUSES: &[Worked] = &[
 ];
 
 /// Those sets.
-fn of_lines() -> &'static [Worked] {
+fn of_lines() -> &'static [Row] {
     LINES
 }
 
-fn of_rules() -> &'static [Worked] {
+fn of_rules() -> &'static [Row] {
     RULES
 }
 
-fn of_clauses() -> &'static [Worked] {
+fn of_clauses() -> &'static [Row] {
     CLAUSES
 }
 
-/// The calls of the layer that tells each of these refusals.
-const READING: [Call; 3] = [Call::Feed, Call::EndPart, Call::ReadPart];
-
-const LINKING: [Call; 3] = [Call::Link, Call::LinkIn, Call::LinkInOrder];
-
-const ADMITTING: [Call; 3] = [Call::Admit, Call::AdmitIn, Call::AdmitLinked];
-
-/// The set is refused as its name says.
-fn is_refused(rt: &impl Abort, alloc: Global, row: &Worked) {
-    let set = lines_of(rt, alloc, row.1);
-    let refusal = Refusal(check(alloc, &[&set]).expect_err(rt, row.0));
-    let told = format!(in alloc; "{refusal}").expect(rt, "there is memory");
-    same_items(rt, row.0, told.as_bytes(), row.0.as_bytes());
+/// Each whole call tells this fault of the set, and comparing tells which set it is.
+fn each_tells(rt: &impl Abort, alloc: Global, set: &Set<'_>, fault: Fault) {
+    let told = Some(fault);
+    let faults = [
+        normalise(alloc, &[set.bytes]).err(),
+        normalise_with_renaming(alloc, &[set.bytes]).err(),
+        fingerprint(alloc, &[set.bytes]).err(),
+    ];
+    same(rt, set.row, &faults, &[told; 3]);
+    let in_set = Some(CompareFault::In { set: 2, fault });
+    let compared = compare(alloc, &[], &[set.bytes]).err();
+    same(rt, set.row, &compared, &in_set);
 }
 
-/// Each of the sets is.
-fn are_refused(rt: &impl Abort, alloc: Global, rows: &[Worked]) {
-    for row in rows {
-        is_refused(rt, alloc, row);
+/// The set is refused as its name says, by each whole call.
+fn is_refused(rt: &impl Abort, alloc: Global, set: &Set<'_>) {
+    let fault = check(alloc, &[set.bytes]).expect_err(rt, set.row);
+    let line = format!(in alloc; "{}", Refusal(fault)).expect(rt, "there is memory");
+    same_items(rt, set.row, line.as_bytes(), set.row.as_bytes());
+    each_tells(rt, alloc, set, fault);
+}
+
+/// A county outside of the profile is refused as its set is, where it is kept.
+fn is_kept_out(rt: &impl Abort, alloc: Global, set: &Set<'_>) {
+    let told = check(alloc, &[set.bytes]).err();
+    let county = county_of(rt, alloc, set.row, set.bytes);
+    let fault = admit(alloc, county).err().map(Fault::from);
+    same(rt, set.row, &fault, &told);
+    let arena = Bump::new(alloc);
+    let county = county_in_of(rt, alloc, &arena, set.row, set.bytes);
+    let fault = admit_in(alloc, county).err().map(Fault::from);
+    same(rt, set.row, &fault, &told);
+}
+
+/// The sets of these tables, each of which is refused as its name says.
+fn refused_sets(rt: &impl Abort, alloc: Global, tables: &[&'static [Row]]) -> Vec<SetLines> {
+    let sets = sets_of(rt, alloc, tables);
+    for lines in &sets {
+        is_refused(rt, alloc, &lines.set());
     }
-}
-
-/// The whole calls, and these.
-fn with_whole(rt: &impl Abort, alloc: Global, others: &[Call]) -> Vec<Call> {
-    let mut calls = Vec::from_slice(alloc, whole()).expect(rt, "there is memory");
-    calls
-        .extend_from_slice(others)
-        .expect(rt, "there is memory");
-    calls
+    sets
 }
 
 #[test]
 fn faulty_lines_are_told_where_growths_are_refused(rt: HostRuntime) {
-    are_refused(&rt, rt.alloc(), of_lines());
-    for call in with_whole(&rt, rt.alloc(), &READING) {
-        let count = growths_on(&rt, rt.alloc(), call, of_lines());
-        println!(rt; "{call:?} of faulty lines: {count} growths refused").expect(
-            &rt,
-            "a line goes out",
-        );
-    }
+    let sets = refused_sets(&rt, rt.alloc(), &[of_lines()]);
+    let of = Swept {
+        what: " of faulty lines",
+        sets: &sets,
+    };
+    sweep_whole_calls(&rt, rt.alloc(), of);
+    sweep_reading(&rt, rt.alloc(), of);
 }
 
 #[test]
 fn broken_rules_are_told_where_growths_are_refused(rt: HostRuntime) {
-    are_refused(&rt, rt.alloc(), of_rules());
-    for call in with_whole(&rt, rt.alloc(), &LINKING) {
-        let count = growths_on(&rt, rt.alloc(), call, of_rules());
-        println!(rt; "{call:?} of broken rules: {count} growths refused").expect(
-            &rt,
-            "a line goes out",
-        );
-    }
+    let sets = refused_sets(&rt, rt.alloc(), &[of_rules()]);
+    let of = Swept {
+        what: " of broken rules",
+        sets: &sets,
+    };
+    sweep_whole_calls(&rt, rt.alloc(), of);
+    sweep_linking(&rt, rt.alloc(), of);
 }
 
 #[test]
 fn broken_clauses_are_told_where_growths_are_refused(rt: HostRuntime) {
-    are_refused(&rt, rt.alloc(), of_clauses());
-    for call in with_whole(&rt, rt.alloc(), &ADMITTING) {
-        let count = growths_on(&rt, rt.alloc(), call, of_clauses());
-        println!(rt; "{call:?} of broken clauses: {count} growths refused").expect(
-            &rt,
-            "a line goes out",
-        );
+    let sets = refused_sets(&rt, rt.alloc(), &[of_clauses()]);
+    let of = Swept {
+        what: " of broken clauses",
+        sets: &sets,
+    };
+    for lines in &sets {
+        is_kept_out(&rt, rt.alloc(), &lines.set());
     }
+    sweep_whole_calls(&rt, rt.alloc(), of);
+    sweep_admitting(&rt, rt.alloc(), of);
 }

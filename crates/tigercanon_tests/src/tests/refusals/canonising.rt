@@ -1,0 +1,148 @@
+//! Canonical counties and their records, with growths refused as is asked for.
+
+use super::super::comparing::{same, same_items};
+use super::super::masks::BOTH;
+use super::super::sets::Set;
+use super::linking::{admitted_in_of, admitted_of};
+use super::{Call, Run, ended, has_refused, refuse};
+use bumpalo::Bump;
+use std::alloc::{AllocError, Global};
+use std::process::Abort;
+use tigercanon::{Fault, normalise_masked};
+use tl_cert::Renaming;
+use tl_county::Chart;
+use tl_number::{CanonCounty, CanonCountyIn, canonise_chart};
+use tl_write::{SlowSink, write_in, write_to};
+
+/// A canonical county and the renaming onto it.
+type Canonical<C> = (CanonCounty<C>, Renaming);
+
+/// The canonical county has this text.
+fn has_text<C: Chart>(
+    rt: &impl Abort,
+    alloc: Global,
+    row: &str,
+    text: &[u8],
+    county: &CanonCounty<C>,
+) {
+    let mut room = vec![in alloc; 0u8; text.len()].expect(rt, "there is memory");
+    let mut sink = SlowSink::new(&mut room, 4000);
+    same(
+        rt,
+        row,
+        &write_to(county, &mut sink),
+        &Ok(text.len() as u64),
+    );
+    same_items(rt, row, sink.held(), text);
+}
+
+/// The run that came to a canonical county with this text, or to nothing. The answer is the renaming.
+fn canonised<C: Chart + Drop>(
+    rt: &impl Abort,
+    alloc: Global,
+    row: &str,
+    text: &[u8],
+    outcome: Result<Canonical<C>, AllocError>,
+) -> Run {
+    let refused = has_refused(alloc);
+    match outcome {
+        Ok((county, renaming)) => {
+            has_text(rt, alloc, row, text, &county);
+            drop(county);
+            ended(rt, alloc, refused, Ok(renaming))
+        }
+        Err(_) => ended::<()>(rt, alloc, refused, Err(Fault::Memory)),
+    }
+}
+
+pub(super) struct Canonise;
+
+impl Call for Canonise {
+    fn run(rt: &impl Abort, alloc: Global, set: &Set<'_>, asked: usize) -> Run {
+        let admitted = admitted_of(rt, alloc, set);
+        refuse(alloc, asked);
+        let outcome = tl_number::canonise(alloc, admitted);
+        canonised(rt, alloc, set.row, set.text, outcome)
+    }
+}
+
+pub(super) struct CanoniseIn;
+
+impl Call for CanoniseIn {
+    fn run(rt: &impl Abort, alloc: Global, set: &Set<'_>, asked: usize) -> Run {
+        let arena = Bump::new(alloc);
+        let admitted = admitted_in_of(rt, alloc, &arena, set);
+        refuse(alloc, asked);
+        let outcome = tl_number::canonise_in(alloc, admitted);
+        canonised(rt, alloc, set.row, set.text, outcome)
+    }
+}
+
+/// The text of the set under the mask.
+fn text_of(rt: &impl Abort, alloc: Global, set: &Set<'_>) -> Vec<u8> {
+    normalise_masked(alloc, &[set.bytes], BOTH).expect(rt, set.row)
+}
+
+pub(super) struct CanoniseMasked;
+
+impl Call for CanoniseMasked {
+    fn run(rt: &impl Abort, alloc: Global, set: &Set<'_>, asked: usize) -> Run {
+        let text = text_of(rt, alloc, set);
+        let admitted = admitted_of(rt, alloc, set);
+        refuse(alloc, asked);
+        let outcome = tl_number::canonise_masked(alloc, admitted, BOTH);
+        canonised(rt, alloc, set.row, &text, outcome)
+    }
+}
+
+pub(super) struct CanoniseInMasked;
+
+impl Call for CanoniseInMasked {
+    fn run(rt: &impl Abort, alloc: Global, set: &Set<'_>, asked: usize) -> Run {
+        let text = text_of(rt, alloc, set);
+        let arena = Bump::new(alloc);
+        let admitted = admitted_in_of(rt, alloc, &arena, set);
+        refuse(alloc, asked);
+        let outcome = tl_number::canonise_in_masked(alloc, admitted, BOTH);
+        canonised(rt, alloc, set.row, &text, outcome)
+    }
+}
+
+pub(super) struct RecordsOf;
+
+impl Call for RecordsOf {
+    fn run(rt: &impl Abort, alloc: Global, set: &Set<'_>, asked: usize) -> Run {
+        let admitted = admitted_of(rt, alloc, set);
+        let county = canonise_chart(alloc, admitted.into_chart()).expect(rt, set.row);
+        refuse(alloc, asked);
+        let outcome = tl_write::records_of(alloc, &county);
+        let refused = has_refused(alloc);
+        drop(county);
+        ended(rt, alloc, refused, outcome.map_err(Fault::from))
+    }
+}
+
+/// What is written of a county in an arena is the set's text.
+fn is_written_in(rt: &impl Abort, alloc: Global, set: &Set<'_>, county: &CanonCountyIn<'_>) {
+    let mut room = vec![in alloc; 0u8; set.text.len()].expect(rt, "there is memory");
+    let mut sink = SlowSink::new(&mut room, 4000);
+    let len = set.text.len() as u64;
+    same(rt, set.row, &write_in(county, &mut sink), &Ok(len));
+    same_items(rt, set.row, sink.held(), set.text);
+}
+
+pub(super) struct RecordsOfIn;
+
+impl Call for RecordsOfIn {
+    fn run(rt: &impl Abort, alloc: Global, set: &Set<'_>, asked: usize) -> Run {
+        let arena = Bump::new(alloc);
+        let admitted = admitted_in_of(rt, alloc, &arena, set);
+        let county = canonise_chart(alloc, admitted.into_chart()).expect(rt, set.row);
+        is_written_in(rt, alloc, set, &county);
+        refuse(alloc, asked);
+        let outcome = tl_write::records_of_in(alloc, &county);
+        let refused = has_refused(alloc);
+        drop(county);
+        ended(rt, alloc, refused, outcome.map_err(Fault::from))
+    }
+}

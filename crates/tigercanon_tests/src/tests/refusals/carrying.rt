@@ -1,0 +1,86 @@
+//! Renamings, and shapes, with growths refused as is asked for.
+
+use super::super::counties::county_of;
+use super::super::masks::BOTH;
+use super::super::sets::Set;
+use super::{Call, Run, ended, has_refused, refuse};
+use std::alloc::Global;
+use std::process::Abort;
+use tigercanon::{Fault, normalise_with_renaming};
+use tl_cert::{Renaming, check, check_masked};
+use tl_layout::Point;
+use tl_shape::Shape;
+
+/// The renaming of the set onto its text.
+fn renaming_of(rt: &impl Abort, alloc: Global, set: &Set<'_>) -> Renaming {
+    let told = normalise_with_renaming(alloc, &[set.bytes]).expect(rt, set.row);
+    told.1
+}
+
+pub(super) struct CheckRenaming;
+
+impl Call for CheckRenaming {
+    fn run(rt: &impl Abort, alloc: Global, set: &Set<'_>, asked: usize) -> Run {
+        let here = county_of(rt, alloc, set.row, set.bytes);
+        let there = county_of(rt, alloc, set.row, set.text);
+        let renaming = renaming_of(rt, alloc, set);
+        refuse(alloc, asked);
+        let outcome = check(alloc, &here, &there, &renaming);
+        let refused = has_refused(alloc);
+        drop(here);
+        drop(there);
+        ended(rt, alloc, refused, outcome.map_err(Fault::from))
+    }
+}
+
+pub(super) struct CheckMasked;
+
+impl Call for CheckMasked {
+    /// What carries the set onto its text carries it under the mask.
+    fn run(rt: &impl Abort, alloc: Global, set: &Set<'_>, asked: usize) -> Run {
+        let here = county_of(rt, alloc, set.row, set.bytes);
+        let there = county_of(rt, alloc, set.row, set.text);
+        let renaming = renaming_of(rt, alloc, set);
+        refuse(alloc, asked);
+        let outcome = check_masked(alloc, &here, &there, &renaming, BOTH);
+        let refused = has_refused(alloc);
+        drop(here);
+        drop(there);
+        ended(rt, alloc, refused, outcome.map_err(Fault::from))
+    }
+}
+
+pub(super) struct Inverse;
+
+impl Call for Inverse {
+    fn run(rt: &impl Abort, alloc: Global, set: &Set<'_>, asked: usize) -> Run {
+        let renaming = renaming_of(rt, alloc, set);
+        refuse(alloc, asked);
+        let outcome = renaming.inverse();
+        ended(rt, alloc, has_refused(alloc), outcome.map_err(Fault::from))
+    }
+}
+
+pub(super) struct Then;
+
+impl Call for Then {
+    fn run(rt: &impl Abort, alloc: Global, set: &Set<'_>, asked: usize) -> Run {
+        let renaming = renaming_of(rt, alloc, set);
+        let back = renaming.inverse().expect(rt, set.row);
+        refuse(alloc, asked);
+        let outcome = renaming.then(&back);
+        ended(rt, alloc, has_refused(alloc), outcome.map_err(Fault::from))
+    }
+}
+
+/// A shape with thirty inner points, whatever the set is.
+pub(super) struct NewShape;
+
+impl Call for NewShape {
+    fn run(rt: &impl Abort, alloc: Global, _set: &Set<'_>, asked: usize) -> Run {
+        let point = Point::new(-86468669, 32424914);
+        refuse(alloc, asked);
+        let outcome = Shape::new(alloc, point, &[point; 30], point);
+        ended(rt, alloc, has_refused(alloc), outcome.map_err(Fault::from))
+    }
+}

@@ -1,0 +1,110 @@
+//! Loaders with growths refused as is asked for.
+
+ghost use Rattle.tl_county.specs.Limits.{HoldsWithinLimits};
+
+use super::super::comparing::same;
+use super::super::sets::{Set, records_of};
+use super::{Call, Run, ended, has_refused, refuse};
+use std::alloc::Global;
+use std::process::Abort;
+use tigercanon::Fault;
+use tl_layout::Tables;
+use tl_load::{LoadFault, Loader, SlowSource, Source};
+
+/// After a fault a loader answers it to the reading of a source, of which nothing is read.
+fn reads_nothing(rt: &impl Abort, loader: &mut Loader, fault: LoadFault) {
+    assert!(rt; loader.parts() < 2, "one part was fed at most");
+    let mut source = SlowSource::new(b"8\n", 1, None);
+    same(rt, "read_part", &loader.read_part(&mut source), &Err(fault));
+    assert!(rt; source.failures() == 0, "no read failed");
+    let mut first = [0];
+    same(rt, "a read", &source.read(&mut first).is_ok(), &true);
+    same(rt, "its byte", &first, b"8");
+}
+
+/// After a fault a loader answers it to each call, and keeps its number of parts.
+fn stands(rt: &impl Abort, loader: &mut Loader, fault: LoadFault) {
+    let parts = loader.parts();
+    assert!(rt; parts < 2, "one part was fed at most");
+    same(rt, "feed", &loader.feed(b"8\n"), &Err(fault));
+    same(rt, "end_part", &loader.end_part(), &Err(fault));
+    reads_nothing(rt, loader, fault);
+    same(rt, "parts", &loader.parts(), &parts);
+}
+
+/// The run of a loader that came to this end before it was finished, or that is to be finished.
+fn finished(rt: &impl Abort, alloc: Global, loader: Loader, so_far: Result<(), LoadFault>) -> Run {
+    let mut loader = loader;
+    match so_far {
+        Ok(()) => {
+            let outcome = loader.finish().map_err(Fault::from);
+            let refused = has_refused(alloc);
+            ended(rt, alloc, refused, outcome)
+        }
+        Err(fault) => {
+            let refused = has_refused(alloc);
+            stands(rt, &mut loader, fault);
+            same(rt, "finish", &loader.finish().err(), &Some(fault));
+            ended::<()>(rt, alloc, refused, Err(Fault::Load(fault)))
+        }
+    }
+}
+
+pub(super) struct Feed;
+
+impl Call for Feed {
+    /// The last line is ended by the loader's end.
+    fn run(rt: &impl Abort, alloc: Global, set: &Set<'_>, asked: usize) -> Run {
+        let piece = set.bytes.strip_suffix(b"\n").unwrap_or(set.bytes);
+        let mut loader = Loader::new(alloc);
+        refuse(alloc, asked);
+        let so_far = loader.feed(piece);
+        finished(rt, alloc, loader, so_far)
+    }
+}
+
+pub(super) struct EndPart;
+
+impl Call for EndPart {
+    /// The last line is ended by the part's end.
+    fn run(rt: &impl Abort, alloc: Global, set: &Set<'_>, asked: usize) -> Run {
+        let piece = set.bytes.strip_suffix(b"\n").unwrap_or(set.bytes);
+        let mut loader = Loader::new(alloc);
+        refuse(alloc, asked);
+        let so_far = match loader.feed(piece) {
+            Ok(()) => loader.end_part(),
+            Err(fault) => Err(fault),
+        };
+        finished(rt, alloc, loader, so_far)
+    }
+}
+
+pub(super) struct ReadPart;
+
+impl Call for ReadPart {
+    fn run(rt: &impl Abort, alloc: Global, set: &Set<'_>, asked: usize) -> Run {
+        let mut source = SlowSource::new(set.bytes, 100, None);
+        let mut loader = Loader::new(alloc);
+        refuse(alloc, asked);
+        let so_far = loader.read_part(&mut source);
+        finished(rt, alloc, loader, so_far)
+    }
+}
+
+pub(super) struct TablesOf;
+
+impl Call for TablesOf {
+    fn run(rt: &impl Abort, alloc: Global, set: &Set<'_>, asked: usize) -> Run {
+        let records = records_of(rt, alloc, set.row, set.bytes);
+        refuse(alloc, asked);
+        let outcome = Tables::of(alloc, records);
+        ended(rt, alloc, has_refused(alloc), outcome.map_err(Fault::from))
+    }
+}
+
+/// The records of a set in tables.
+pub(super) fn tables_of(rt: &impl Abort, alloc: Global, set: &Set<'_>) -> Tables
+    ensures { HoldsWithinLimits result }
+{
+    Tables::of(alloc, records_of(rt, alloc, set.row, set.bytes)).expect(rt, set.row)
+}

@@ -1,0 +1,202 @@
+//! The whole calls with growths refused as is asked for, as they are and under a mask that leaves out all that masks leave out.
+
+ghost use Rattle.std.specs.Prelude.{◌<◌};
+
+use super::super::comparing::same;
+use super::super::masks::BOTH;
+use super::super::sets::{Set, lines_of};
+use super::super::worked_sets::street;
+use super::{Call, Run, ended, has_refused, is_memory, refuse};
+use std::alloc::Global;
+use std::process::Abort;
+use tigercanon::{CompareFault, Fault, Verdict};
+use tl_load::SlowSource;
+use tl_write::SlowSink;
+
+pub(super) struct Respell;
+
+impl Call for Respell {
+    fn run(rt: &impl Abort, alloc: Global, set: &Set<'_>, asked: usize) -> Run {
+        refuse(alloc, asked);
+        let outcome = tigercanon::respell(alloc, &[set.bytes]);
+        ended(rt, alloc, has_refused(alloc), outcome)
+    }
+}
+
+pub(super) struct Normalise;
+
+impl Call for Normalise {
+    fn run(rt: &impl Abort, alloc: Global, set: &Set<'_>, asked: usize) -> Run {
+        refuse(alloc, asked);
+        let outcome = tigercanon::normalise(alloc, &[set.bytes]);
+        ended(rt, alloc, has_refused(alloc), outcome)
+    }
+}
+
+pub(super) struct NormaliseWithRenaming;
+
+impl Call for NormaliseWithRenaming {
+    fn run(rt: &impl Abort, alloc: Global, set: &Set<'_>, asked: usize) -> Run {
+        refuse(alloc, asked);
+        let outcome = tigercanon::normalise_with_renaming(alloc, &[set.bytes]);
+        ended(rt, alloc, has_refused(alloc), outcome)
+    }
+}
+
+/// Reads a set and writes its text, a hundred bytes at most at a time.
+pub(crate) fn normalise_slowly(
+    alloc: Global,
+    set: &[u8],
+    sink: &mut SlowSink<'_>,
+) -> Result<u64, Fault>
+    requires { sink.old.failures < u64.MAX }
+{
+    let mut sources = [SlowSource::new(set, 100, None)];
+    tigercanon::normalise_to(alloc, &mut sources, sink)
+}
+
+/// The run that came to this end at a sink. The answer is what the sink holds, which is nothing where a growth was refused.
+fn written_by(
+    rt: &impl Abort,
+    alloc: Global,
+    set: &Set<'_>,
+    sink: &SlowSink<'_>,
+    outcome: Result<u64, Fault>,
+) -> Run {
+    let refused = has_refused(alloc);
+    let held = Vec::from_slice(alloc, sink.held()).expect(rt, "there is memory");
+    let outcome = match outcome {
+        Ok(count) => Ok((count, held)),
+        Err(fault) => {
+            same(rt, set.row, &held.len(), &0);
+            Err(fault)
+        }
+    };
+    ended(rt, alloc, refused, outcome)
+}
+
+pub(super) struct NormaliseTo;
+
+impl Call for NormaliseTo {
+    fn run(rt: &impl Abort, alloc: Global, set: &Set<'_>, asked: usize) -> Run {
+        let mut room = vec![in alloc; 0u8; set.text.len()].expect(rt, "there is memory");
+        let mut sink = SlowSink::new(&mut room, 100);
+        refuse(alloc, asked);
+        let outcome = normalise_slowly(alloc, set.bytes, &mut sink);
+        written_by(rt, alloc, set, &sink, outcome)
+    }
+}
+
+pub(super) struct Fingerprint;
+
+impl Call for Fingerprint {
+    fn run(rt: &impl Abort, alloc: Global, set: &Set<'_>, asked: usize) -> Run {
+        refuse(alloc, asked);
+        let outcome = tigercanon::fingerprint(alloc, &[set.bytes]);
+        ended(rt, alloc, has_refused(alloc), outcome)
+    }
+}
+
+pub(super) struct Check;
+
+impl Call for Check {
+    fn run(rt: &impl Abort, alloc: Global, set: &Set<'_>, asked: usize) -> Run {
+        refuse(alloc, asked);
+        let outcome = tigercanon::check(alloc, &[set.bytes]);
+        ended(rt, alloc, has_refused(alloc), outcome)
+    }
+}
+
+/// What comparing finds, apart from want of memory.
+type Comparison = Result<Verdict, CompareFault>;
+
+/// The answer of a comparison, with want of memory as other calls tell it.
+fn told(outcome: Comparison) -> Result<Comparison, Fault> {
+    match outcome {
+        Err(CompareFault::Memory) => Err(Fault::Memory),
+        Err(CompareFault::In { fault, .. }) if is_memory(fault) => Err(fault),
+        other => Ok(other),
+    }
+}
+
+pub(super) struct CompareWithItself;
+
+impl Call for CompareWithItself {
+    fn run(rt: &impl Abort, alloc: Global, set: &Set<'_>, asked: usize) -> Run {
+        refuse(alloc, asked);
+        let outcome = tigercanon::compare(alloc, &[set.bytes], &[set.bytes]);
+        ended(rt, alloc, has_refused(alloc), told(outcome))
+    }
+}
+
+pub(super) struct CompareWithStreet;
+
+impl Call for CompareWithStreet {
+    fn run(rt: &impl Abort, alloc: Global, set: &Set<'_>, asked: usize) -> Run {
+        let other = lines_of(rt, alloc, street());
+        refuse(alloc, asked);
+        let outcome = tigercanon::compare(alloc, &[set.bytes], &[&other]);
+        ended(rt, alloc, has_refused(alloc), told(outcome))
+    }
+}
+
+pub(super) struct NormaliseMasked;
+
+impl Call for NormaliseMasked {
+    fn run(rt: &impl Abort, alloc: Global, set: &Set<'_>, asked: usize) -> Run {
+        refuse(alloc, asked);
+        let outcome = tigercanon::normalise_masked(alloc, &[set.bytes], BOTH);
+        ended(rt, alloc, has_refused(alloc), outcome)
+    }
+}
+
+pub(super) struct NormaliseWithRenamingMasked;
+
+impl Call for NormaliseWithRenamingMasked {
+    fn run(rt: &impl Abort, alloc: Global, set: &Set<'_>, asked: usize) -> Run {
+        refuse(alloc, asked);
+        let outcome = tigercanon::normalise_with_renaming_masked(alloc, &[set.bytes], BOTH);
+        ended(rt, alloc, has_refused(alloc), outcome)
+    }
+}
+
+/// Reads a set and writes its text under the mask, a hundred bytes at most at a time.
+fn normalise_slowly_masked(alloc: Global, set: &[u8], sink: &mut SlowSink<'_>) -> Result<u64, Fault>
+    requires { sink.old.failures < u64.MAX }
+{
+    let mut sources = [SlowSource::new(set, 100, None)];
+    tigercanon::normalise_to_masked(alloc, &mut sources, sink, BOTH)
+}
+
+pub(super) struct NormaliseToMasked;
+
+impl Call for NormaliseToMasked {
+    /// The text under the mask is as long as the text.
+    fn run(rt: &impl Abort, alloc: Global, set: &Set<'_>, asked: usize) -> Run {
+        let mut room = vec![in alloc; 0u8; set.text.len()].expect(rt, "there is memory");
+        let mut sink = SlowSink::new(&mut room, 100);
+        refuse(alloc, asked);
+        let outcome = normalise_slowly_masked(alloc, set.bytes, &mut sink);
+        written_by(rt, alloc, set, &sink, outcome)
+    }
+}
+
+pub(super) struct FingerprintMasked;
+
+impl Call for FingerprintMasked {
+    fn run(rt: &impl Abort, alloc: Global, set: &Set<'_>, asked: usize) -> Run {
+        refuse(alloc, asked);
+        let outcome = tigercanon::fingerprint_masked(alloc, &[set.bytes], BOTH);
+        ended(rt, alloc, has_refused(alloc), outcome)
+    }
+}
+
+pub(super) struct CompareMasked;
+
+impl Call for CompareMasked {
+    fn run(rt: &impl Abort, alloc: Global, set: &Set<'_>, asked: usize) -> Run {
+        refuse(alloc, asked);
+        let outcome = tigercanon::compare_masked(alloc, &[set.bytes], &[set.bytes], BOTH);
+        ended(rt, alloc, has_refused(alloc), told(outcome))
+    }
+}
