@@ -9,8 +9,8 @@ use super::worked_sets::{LINK, MAIN_TEXT, street, street_turned};
 use std::alloc::Global;
 use std::process::Abort;
 use tigercanon::{
-    Verdict, compare_masked, fingerprint_masked, normalise_masked, normalise_to_masked,
-    normalise_with_renaming_masked,
+    Verdict, are_one_map_masked, compare_masked, fingerprint_masked, normalise_masked,
+    normalise_to_masked, normalise_with_renaming_masked,
 };
 use tl_cert::{Renaming, check_masked};
 use tl_layout::Mask;
@@ -120,6 +120,8 @@ fn are_one_map(rt: &impl Abort, alloc: Global, mask: Mask, set: &[u8], other: &[
         Verdict::Different => false,
     };
     drop(verdict);
+    let answered = are_one_map_masked(alloc, &[set], &[other], mask);
+    same(rt, "asked alone", &answered, &Ok(is_same));
     is_same
 }
 

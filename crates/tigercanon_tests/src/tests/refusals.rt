@@ -33,9 +33,9 @@ use tl_load::LoadFault;
 use tl_profile::ProfileFault;
 pub(super) use whole::normalise_slowly;
 use whole::{
-    Check, CompareMasked, CompareWithItself, CompareWithStreet, Fingerprint, FingerprintMasked,
-    Normalise, NormaliseMasked, NormaliseTo, NormaliseToMasked, NormaliseWithRenaming,
-    NormaliseWithRenamingMasked, Respell,
+    AreOneMap, AreOneMapMasked, Check, CompareMasked, CompareWithItself, CompareWithStreet,
+    Fingerprint, FingerprintMasked, Normalise, NormaliseMasked, NormaliseTo, NormaliseToMasked,
+    NormaliseWithRenaming, NormaliseWithRenamingMasked, Respell,
 };
 
 /// So much memory and n bytes asks that the n-th growth from here on is refused.
@@ -186,11 +186,13 @@ pub(super) fn sweep_whole_calls(rt: &(impl Abort + Print), alloc: Global, of: Sw
     sweep::<Check>(rt, alloc, "Check", of);
     sweep::<CompareWithItself>(rt, alloc, "CompareWithItself", of);
     sweep::<CompareWithStreet>(rt, alloc, "CompareWithStreet", of);
+    sweep::<AreOneMap>(rt, alloc, "AreOneMap", of);
     sweep::<NormaliseMasked>(rt, alloc, "NormaliseMasked", of);
     sweep::<NormaliseWithRenamingMasked>(rt, alloc, "NormaliseWithRenamingMasked", of);
     sweep::<NormaliseToMasked>(rt, alloc, "NormaliseToMasked", of);
     sweep::<FingerprintMasked>(rt, alloc, "FingerprintMasked", of);
     sweep::<CompareMasked>(rt, alloc, "CompareMasked", of);
+    sweep::<AreOneMapMasked>(rt, alloc, "AreOneMapMasked", of);
 }
 
 /// Sweeps the calls of a loader.

@@ -6,7 +6,7 @@ use super::sets::{Set, lines_of};
 use super::worked_sets::{street, street_respelt, street_text, street_turned, worked};
 use std::alloc::Global;
 use std::process::Abort;
-use tigercanon::{Fault, Verdict, compare, fingerprint, normalise_to, respell};
+use tigercanon::{Fault, Verdict, are_one_map, compare, fingerprint, normalise_to, respell};
 use tl_load::{LoadFault, SlowSource, Source};
 use tl_write::{SlowSink, WriteFault};
 
@@ -44,12 +44,11 @@ fn are_compared(rt: &impl Abort, alloc: Global, set: &Set<'_>, other: &Set<'_>) 
         Verdict::Different => None,
     };
     drop(verdict);
-    let wanted = if set.text == other.text {
-        Some(true)
-    } else {
-        None
-    };
+    let is_one_map = set.text == other.text;
+    let wanted = if is_one_map { Some(true) } else { None };
     same(rt, set.row, &(other.row, found), &(other.row, wanted));
+    let answered = are_one_map(alloc, &[set.bytes], &[other.bytes]);
+    same(rt, set.row, &answered, &Ok(is_one_map));
 }
 
 #[test]

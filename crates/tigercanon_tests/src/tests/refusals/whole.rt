@@ -9,7 +9,7 @@ use super::super::worked_sets::street;
 use super::{Call, Run, ended, has_refused, is_memory, refuse};
 use std::alloc::Global;
 use std::process::Abort;
-use tigercanon::{CompareFault, Fault, Verdict};
+use tigercanon::{CompareFault, Fault};
 use tl_load::SlowSource;
 use tl_write::SlowSink;
 
@@ -108,10 +108,10 @@ impl Call for Check {
 }
 
 /// What comparing finds, apart from want of memory.
-type Comparison = Result<Verdict, CompareFault>;
+type Comparison<V> = Result<V, CompareFault>;
 
 /// The answer of a comparison, with want of memory as other calls tell it.
-fn told(outcome: Comparison) -> Result<Comparison, Fault> {
+fn told<V: Drop>(outcome: Comparison<V>) -> Result<Comparison<V>, Fault> {
     match outcome {
         Err(CompareFault::Memory) => Err(Fault::Memory),
         Err(CompareFault::In { fault, .. }) if is_memory(fault) => Err(fault),
@@ -136,6 +136,16 @@ impl Call for CompareWithStreet {
         let other = lines_of(rt, alloc, street());
         refuse(alloc, asked);
         let outcome = tigercanon::compare(alloc, &[set.bytes], &[&other]);
+        ended(rt, alloc, has_refused(alloc), told(outcome))
+    }
+}
+
+pub(super) struct AreOneMap;
+
+impl Call for AreOneMap {
+    fn run(rt: &impl Abort, alloc: Global, set: &Set<'_>, asked: usize) -> Run {
+        refuse(alloc, asked);
+        let outcome = tigercanon::are_one_map(alloc, &[set.bytes], &[set.bytes]);
         ended(rt, alloc, has_refused(alloc), told(outcome))
     }
 }
@@ -197,6 +207,16 @@ impl Call for CompareMasked {
     fn run(rt: &impl Abort, alloc: Global, set: &Set<'_>, asked: usize) -> Run {
         refuse(alloc, asked);
         let outcome = tigercanon::compare_masked(alloc, &[set.bytes], &[set.bytes], BOTH);
+        ended(rt, alloc, has_refused(alloc), told(outcome))
+    }
+}
+
+pub(super) struct AreOneMapMasked;
+
+impl Call for AreOneMapMasked {
+    fn run(rt: &impl Abort, alloc: Global, set: &Set<'_>, asked: usize) -> Run {
+        refuse(alloc, asked);
+        let outcome = tigercanon::are_one_map_masked(alloc, &[set.bytes], &[set.bytes], BOTH);
         ended(rt, alloc, has_refused(alloc), told(outcome))
     }
 }
