@@ -7,8 +7,8 @@ use Rattle.tl_load.specs.declared.fault.LoadFault.{LoadFault}
 use Rattle.tl_load.specs.declared.fault.LoadFault.TheVariants.{Device}
 use Rattle.tl_cert.specs.MaskedCounty.{masked}
 use Rattle.tl_layout.specs.declared.mask.Mask.{Mask}
-use Rattle.tigercanon.specs.declared.program.command_line.Job.{Job}
-use Rattle.tigercanon.specs.declared.program.command_line.Job.TheVariants.{Normalise}
+use Rattle.command_line.specs.declared.plans.Job.{Job}
+use Rattle.command_line.specs.declared.plans.Job.TheVariants.{Normalise}
 use Rattle.tigercanon.specs.declared.fault.Fault.{Fault}
 use Rattle.tigercanon.specs.declared.fault.Fault.TheVariants.{Load, Link, Profile, Write, Memory}
 use Rattle.tigercanon.specs.Devices.{IsRefusalOfRead, StopsReading, set_of_sources, to_sink}

@@ -8,14 +8,11 @@ pub mod Linked
 pub mod Statuses
 pub mod Refusals
 pub mod Outcomes
-pub mod Words
 pub mod Lending
 pub mod Reading
 pub mod Normalising
 pub mod Comparing
 pub mod Fingerprints
-pub mod Grammar
-pub mod Names
 pub mod Stopping
 pub mod TwoSets
 pub mod Devices

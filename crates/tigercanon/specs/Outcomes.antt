@@ -10,8 +10,8 @@ use Rattle.tl_county.specs.declared.fault.LinkFault.TheVariants.{Memory as LinkM
 use Rattle.tl_profile.specs.declared.fault.ProfileFault.TheVariants.{Memory as ProfileMemory}
 use Rattle.tl_cert.specs.MaskedCounty.{masked}
 use Rattle.tl_layout.specs.declared.mask.Mask.{Mask}
-use Rattle.tigercanon.specs.declared.program.command_line.Job.{Job}
-use Rattle.tigercanon.specs.declared.program.command_line.Job.TheVariants.{Respell, Normalise, Check, Fingerprint, Compare}
+use Rattle.command_line.specs.declared.plans.Job.{Job}
+use Rattle.command_line.specs.declared.plans.Job.TheVariants.{Respell, Normalise, Check, Fingerprint, Compare}
 use Rattle.tigercanon.specs.declared.fault.Fault.{Fault}
 use Rattle.tigercanon.specs.declared.fault.Fault.TheVariants.{Load, Link, Profile, Write, Memory}
 use Rattle.tigercanon.specs.Fingerprints.{SaysFingerprintThrough}

@@ -14,9 +14,9 @@ use Rattle.tl_load.specs.declared.fault.LoadFault.TheVariants.{Memory as LoadMem
 use Rattle.tl_profile.specs.declared.fault.ProfileFault.{ProfileFault}
 use Rattle.tl_profile.specs.declared.fault.ProfileFault.TheVariants.{PolygonWithoutChain, TooSymmetric}
 use Rattle.tl_profile.specs.declared.fault.ProfileFault.TheVariants.{Memory as ProfileMemory}
-use Rattle.tigercanon.specs.declared.program.command_line.PlanFault.{PlanFault}
-use Rattle.tigercanon.specs.declared.program.command_line.PlanFault.TheVariants.{Usage}
-use Rattle.tigercanon.specs.declared.program.command_line.PlanFault.TheVariants.{Memory as PlanMemory}
+use Rattle.command_line.specs.declared.plans.PlanFault.{PlanFault}
+use Rattle.command_line.specs.declared.plans.PlanFault.TheVariants.{Usage}
+use Rattle.command_line.specs.declared.plans.PlanFault.TheVariants.{Memory as PlanMemory}
 use Rattle.tigercanon.specs.declared.fault.Fault.{Fault}
 use Rattle.tigercanon.specs.declared.fault.Fault.TheVariants.{Load, Link, Profile, Write, Memory}
 

@@ -1,8 +1,8 @@
 -- The exit status of a job that didn't end well, and of a command line that is no plan.
 use Rattle.std.specs.Prelude.{ℕ}
-use Rattle.tigercanon.specs.declared.program.command_line.PlanFault.{PlanFault}
-use Rattle.tigercanon.specs.declared.program.command_line.PlanFault.TheVariants.{Usage}
-use Rattle.tigercanon.specs.declared.program.command_line.PlanFault.TheVariants.{Memory as PlanMemory}
+use Rattle.command_line.specs.declared.plans.PlanFault.{PlanFault}
+use Rattle.command_line.specs.declared.plans.PlanFault.TheVariants.{Usage}
+use Rattle.command_line.specs.declared.plans.PlanFault.TheVariants.{Memory as PlanMemory}
 use Rattle.tigercanon.specs.declared.fault.Fault.{Fault}
 use Rattle.tigercanon.specs.declared.fault.Fault.TheVariants.{Load, Link, Profile, Write, Memory}
 use Rattle.tl_county.specs.declared.fault.LinkFault.TheVariants.{Memory as LinkMemory}

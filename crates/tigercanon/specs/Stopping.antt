@@ -1,7 +1,7 @@
 -- Why a job stopped, and the set that is named.
 use Rattle.std.specs.Prelude.{ℕ, Option, Some, None}
-use Rattle.tigercanon.specs.declared.program.command_line.Job.{Job}
-use Rattle.tigercanon.specs.declared.program.command_line.Job.TheVariants.{Compare}
+use Rattle.command_line.specs.declared.plans.Job.{Job}
+use Rattle.command_line.specs.declared.plans.Job.TheVariants.{Compare}
 use Rattle.tigercanon.specs.declared.library.comparing.CompareFault.{CompareFault}
 use Rattle.tigercanon.specs.declared.library.comparing.CompareFault.TheVariants.{In, Memory}
 use Rattle.tigercanon.specs.declared.program.ending.Stopped.{Stopped}

@@ -1,7 +1,7 @@
 -- What a job over the sets that it was given did, where a comparison has two of them.
 use Rattle.std.specs.Prelude.{ℕ, ◌≡◌, ◌++◌, ◌∷◌, [], List, Option, Some, None, ◌⊎◌, codes}
-use Rattle.tigercanon.specs.declared.program.command_line.Job.{Job}
-use Rattle.tigercanon.specs.declared.program.command_line.Job.TheVariants.{Compare}
+use Rattle.command_line.specs.declared.plans.Job.{Job}
+use Rattle.command_line.specs.declared.plans.Job.TheVariants.{Compare}
 use Rattle.tigercanon.specs.declared.program.ending.Ending.{Ending}
 use Rattle.tigercanon.specs.declared.program.ending.Ending.TheVariants.{Done, Different}
 use Rattle.tigercanon.specs.declared.fault.Fault.{Fault}

@@ -1,9 +1,7 @@
-//! Laws of what a set is, and of what words are a command line. The functions do nothing; their contracts are the laws.
+//! Laws of what a set is. The functions do nothing; their contracts are the laws.
 
 ghost use Rattle.std.specs.Prelude.{◌≡◌, ◌⊎◌, ◌↔◌, [], ◌∷◌, ℕ, List};
 ghost use Rattle.tigercanon.specs.declared.fault.Fault.{Fault};
-ghost use Rattle.tigercanon.specs.declared.program.command_line.Job.{Job};
-ghost use Rattle.tigercanon.specs.Names.{AreUsualWordsPlanned, TakesNoMask};
 ghost use Rattle.tigercanon.specs.Normalising.{IsOnlyTextThrough};
 ghost use Rattle.tigercanon.specs.Sets.{IsAcceptedSet, IsCanonicalText, IsCanonicalTextThrough, IsSetRefusal};
 ghost use Rattle.tl_cert.specs.MaskedCounty.{masked};
@@ -93,17 +91,4 @@ pub fn one_canonical_text_under_each_mask()
         IsCanonicalTextThrough (masked mask) parts text → IsCanonicalText (text ∷ []) text }
     ensures no_mask { (parts : List (List ℕ)) (text : List ℕ) →
         IsCanonicalTextThrough (masked no_mask) parts text ↔ IsCanonicalText parts text }
-{}
-
-/// The usual command lines, as the help has them, are understood, and a plan with the files of the sets that they name is theirs:
-/// the word of a job, `--stem` where sets are named by their stems, a flag for the fields that are left out, where the job tells or
-/// compares maps, and a name for each set that doesn't begin with a hyphen.
-pub fn usual_words_are_planned()
-    ensures { AreUsualWordsPlanned }
-{}
-
-/// Respelling and checking take no flag that leaves fields out: words with one aren't understood.
-pub fn masks_are_for_jobs_that_tell_maps()
-    ensures respell { TakesNoMask Job.Respell }
-    ensures check { TakesNoMask Job.Check }
 {}

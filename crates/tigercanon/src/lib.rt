@@ -14,12 +14,15 @@ mod laws;
 mod library;
 mod program;
 
+pub use command_line::{
+    Job, Plan, PlanFault, masks_are_for_jobs_that_tell_maps, plan, usual_words_are_planned,
+};
 pub use fault::Fault;
 pub use laws::{
     a_canonical_text_is_its_own, accepted_set_or_one_refusal,
-    an_accepted_set_has_one_canonical_text, masks_are_for_jobs_that_tell_maps,
+    an_accepted_set_has_one_canonical_text,
     one_canonical_text_exactly_for_one_map, one_canonical_text_through_each_sight,
-    one_canonical_text_under_each_mask, usual_words_are_planned,
+    one_canonical_text_under_each_mask,
 };
 pub use library::checking::check;
 pub use library::comparing::{
@@ -31,9 +34,7 @@ pub use library::normalising::{
     normalise_with_renaming_masked,
 };
 pub use library::respelling::respell;
-pub use program::command_line::{Job, Plan, PlanFault};
 pub use program::files::Opened;
-pub use program::planning::plan;
 pub use program::refusal::Refusal;
 pub use program::running::run;
 pub use program::telling::{exit_status, tell, words_fault};

@@ -1,12 +1,8 @@
-//! What the program does: words become a plan, files become sources, and a job ends in what is printed and told.
+//! What the program does: files become sources, and a job ends in what is printed and told.
 
-pub(crate) mod command;
-pub(crate) mod command_line;
 pub(crate) mod ending;
 pub(crate) mod files;
 pub(crate) mod jobs;
-pub(crate) mod names;
-pub(crate) mod planning;
 pub(crate) mod refusal;
 pub(crate) mod running;
 pub(crate) mod telling;

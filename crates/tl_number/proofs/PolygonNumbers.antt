@@ -1,6 +1,6 @@
 -- Polygons by first appearance are the polygons of the arranged county by number.
 use Rattle.std.proofs.Common.{◌≡◌, ℕ, List, [], ◌∷◌, map, length, Option, Some, sym, refl, ap, ◌∙◌, subst, nat_cmp}
-use Rattle.std.proofs.Common.{IsPermutation, zero, suc, slice_get, option_map, None, arith, ◌+◌}
+use Rattle.std.proofs.Common.{IsPermutation, IfSome, zero, suc, slice_get, option_map, None, arith, ◌+◌}
 use Rattle.tl_county.specs.Packing.{numbered_from}
 use Rattle.std.proofs.lemmas.Cmp.{nat_cmp_total, on_total}
 use Rattle.std.proofs.lemmas.Option.{slice_get-map}
@@ -13,7 +13,7 @@ use Rattle.tl_layout.specs.declared.type_p.BodyP.{BodyP}
 use Rattle.tl_county.specs.ChartWords.{polygon_under}
 use Rattle.tl_county.specs.County.{County}
 use Rattle.tl_county.specs.CountyRules.{IsCounty, AllKeysStandIn, polygon_keys, polygons_along}
-use Rattle.tl_county.specs.Entries.{entry_keys, value_under}
+use Rattle.tl_county.specs.Entries.{entry_keys, entry_values, value_under}
 use Rattle.tl_county.specs.Orders.{in_order}
 use Rattle.tl_county.specs.PolygonKeys.{PolygonKey, key_cmp}
 use Rattle.tl_county.specs.Renumbering.{image, carried_polygon}
@@ -23,6 +23,8 @@ use Rattle.tl_county.proofs.ByKey.Keys.{nat_keys, images-lefts, IsApart, rights,
 use Rattle.tl_county.proofs.Lists.Elements.{map-map}
 use Rattle.tl_county.proofs.Lists.EntryLists.{in_order-strict, value-at_place}
 use Rattle.tl_county.proofs.Lists.Permutations.{in_order-is_permutation}
+use Rattle.tl_cert.proofs.Places.{all_at}
+use Rattle.tl_profile.proofs.PlacedOrder.{all_permuted}
 use Rattle.tl_number.specs.Arrangement.{Arrangement, Arranges, polygons_in_order, placed, renaming_of, arranged, under_cenid}
 use Rattle.tl_number.specs.ByNumber.{entry_polyid, polygons_by_number, under_number}
 use Rattle.tl_number.specs.Growth.{numbered, up_to}
@@ -71,6 +73,19 @@ all_under es h = all_places (λ e. value_under key_cmp e.0 es ≡ Some e.1) es (
     sym (value-at_place key_keys e.0 es i h
     (slice_get-map (λ (d : PolygonKey × Option BodyP). d.0) es i ∙ ap (option_map (λ (d : PolygonKey × Option BodyP). d.0)) g))
     ∙ slice_get-map (λ (d : PolygonKey × Option BodyP). d.1) es i ∙ ap (option_map (λ (d : PolygonKey × Option BodyP). d.1)) g)
+
+-- where the key of a polygon is at the place of its number, in the order of keys its content is there too
+pub content_at_number : (county : County) → IsStrictlySortedBy key_cmp (polygon_keys county)
+    → (place : ℕ) (polygon : PolygonKey × Option BodyP) → slice_get (polygon_keys county) place ≡ Some polygon.0
+    → slice_get (polygons_by_number county) place ≡ Some polygon → slice_get (entry_values county.polygons) place ≡ Some polygon.1
+content_at_number county strict place polygon at_key at_number =
+    let Holds : PolygonKey × Option BodyP → Type 0 = λ e. value_under key_cmp e.0 county.polygons ≡ Some e.1 in
+    let all : AllByRecursion Holds (polygons_by_number county) =
+    all_permuted Holds county.polygons (polygons_by_number county)
+    (IsPermutation-sym (polygons_by_number county) county.polygons (in_order-is_permutation (on entry_polyid nat_cmp) county.polygons))
+    (all_under county.polygons strict) in
+    value-at_place key_keys polygon.0 county.polygons place strict at_key
+    ∙ subst (λ o. IfSome o Holds) at_number (all_at Holds (polygons_by_number county) all place)
 
 module _ (county : County) (steps : Arrangement) (is : IsCounty county) (arranges : Arranges steps county)
     (sides : AllKeysStandIn (polygons_along county.chains) (polygon_keys county)) where

@@ -1,9 +1,11 @@
 //! A county in an arrangement of its chains, read through the county that it comes from.
 
 ghost use Rattle.std.specs.Ordering.{nat_cmp};
+ghost use Rattle.std.specs.Option.{option_and_then};
 ghost use Rattle.std.specs.Prelude.{◌≡◌, ◌<◌, Some, length, option_map, slice_get};
-ghost use Rattle.tl_county.specs.ChartWords.{chain_at};
+ghost use Rattle.tl_county.specs.ChartWords.{chain_at, polygon_under};
 ghost use Rattle.tl_county.specs.CountyRules.{AllKeysStandIn, polygon_keys, polygons_along};
+ghost use Rattle.tl_county.specs.Entries.{entry_values};
 ghost use Rattle.tl_county.specs.Renumbering.{image};
 ghost use Rattle.tl_number.specs.Arrangement.{renaming_of};
 ghost use Rattle.tl_number.specs.ByNumber.{polygons_by_number};
@@ -13,6 +15,7 @@ ghost use Rattle.tl_number.specs.ViewFacts.{AreWhole, stepped, TellsNodes, Tells
 ghost use Rattle.tl_number.specs.ViewProps.{AreWhole-prop, StandOnSides-prop, TellsNodes-prop, TellsPolygons-prop, TellsNames-prop, TellsLandmarks-prop};
 
 use crate::arranged_tables::{Ends, LandmarkTables, NameTables, NodeTables, PolygonTables, Sides};
+use crate::numbers::stands_at;
 use crate::renumbering::new_feat;
 use std::marker::PhantomData;
 use tl_county::{Chart, PolygonKey};
@@ -104,6 +107,30 @@ impl<C: Chart, S: Standing> Arranged<C, S> {
         }
     }
 
+    /// The content of the type P record of the polygon at a place in the order of the new keys, or none past the last one.
+    pub(crate) fn polygon_body_at_key(&self, place: usize) -> Option<Option<BodyP>>
+        ensures { result ≡ slice_get (entry_values (stepped (C.county self.now.chart) self.now.steps.items).polygons) place }
+    {
+        match old_place(&self.polygons.places, place) {
+            Some(old) => self.chart.polygon_body_at(old),
+            None => None,
+        }
+    }
+
+    /// The content of the type P record of the polygon at a place in the order of the new numbers, if it has one. Where all polygons
+    /// have one CENID, it stands at that place in the order of the new keys too, and isn't looked up.
+    fn polygon_body_at_number(&self, place: usize, old: PolygonKey) -> Option<BodyP>
+        requires { slice_get self.now.polygons.numbers place ≡ Some old }
+        ensures { result ≡ option_and_then (λ body. body) (polygon_under (C.county self.now.chart) old) }
+    {
+        let cenid = old.0;
+        let new = (cenid, place as u64 + 1);
+        if !stands_at(&self.polygons.keys, place, new) {
+            return self.chart.polygon_body_of(old);
+        }
+        self.polygon_body_at_key(place).flatten()
+    }
+
     /// The polygon at a place in the order of the new numbers, or none past the last one: its new key, and the content of its
     /// type P record, if it has one.
     pub(crate) fn polygon_at_number(&self, place: usize) -> Option<(PolygonKey, Option<BodyP>)>
@@ -112,7 +139,7 @@ impl<C: Chart, S: Standing> Arranged<C, S> {
         match self.polygons.numbers.key_at(place) {
             Some(old) => {
                 let cenid = old.0;
-                let body = self.chart.polygon_body_of(old);
+                let body = self.polygon_body_at_number(place, old);
                 Some(((cenid, place as u64 + 1), body))
             }
             None => None,

@@ -209,10 +209,7 @@ impl<C: Chart, S: Standing> Chart for Arranged<C, S> {
     }
 
     fn polygon_body_at(&self, place: usize) -> Option<Option<BodyP>> {
-        match old_place(&self.polygons.places, place) {
-            Some(old) => self.chart.polygon_body_at(old),
-            None => None,
-        }
+        self.polygon_body_at_key(place)
     }
 
     fn body_count_at(&self, place: usize) -> usize {

@@ -97,7 +97,7 @@ fn mark_at(marks: &[u32], number: u64) -> u32
 
 /// Whether a key stands at a place.
 #[inline(always)]
-fn stands_at<K: Key>(keys: &[K], place: usize, key: K) -> bool
+pub(crate) fn stands_at<K: Key>(keys: &[K], place: usize, key: K) -> bool
     ensures { IsTrue result ↔ (slice_get keys.now place ≡ Some key) }
 {
     match keys.get(place) {

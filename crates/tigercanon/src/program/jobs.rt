@@ -24,7 +24,7 @@ use crate::library::fingerprinting::fingerprint_linked;
 use crate::library::linked::{judge_tables, link_records};
 use crate::library::normalising::normalise_to_masked;
 use crate::library::reading::load_to_ends;
-use crate::program::command_line::Job;
+use command_line::Job;
 use crate::program::ending::{Ending, Stopped, ending_of};
 use crate::program::two_sets::compare_sets;
 use crate::program::writing::write_text;

@@ -12,7 +12,7 @@ ghost use Rattle.tigercanon.specs.TwoSets.{IsDifferent, IsDone, IsToldWhy};
 
 use crate::fault::Fault;
 use crate::library::comparing::{FIRST, SECOND};
-use crate::program::command_line::Job;
+use command_line::Job;
 use crate::program::ending::{Ending, Stopped, tell_stopped};
 use crate::program::files::{OpenFile, Opened, is_missing_a_file, open_files};
 use crate::program::jobs::do_job;

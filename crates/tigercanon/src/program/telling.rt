@@ -7,7 +7,7 @@ ghost use Rattle.tigercanon.specs.Outcomes.{TellsLine, TellsLineTo};
 ghost use Rattle.tigercanon.specs.Refusals.{IsUsage, not_utf8, plan_text_of};
 ghost use Rattle.tigercanon.specs.Statuses.{plan_status_of};
 
-use crate::program::command_line::PlanFault;
+use command_line::PlanFault;
 use crate::program::ending::tell_line;
 use crate::program::writing::LentOut;
 use std::alloc::Global;

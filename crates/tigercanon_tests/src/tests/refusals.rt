@@ -147,17 +147,21 @@ pub(super) struct Swept<'a> {
     pub(super) sets: &'a [SetLines],
 }
 
-/// Each growth of a call on each set is refused, alone and then with all later ones. Tells how many there are: the call that fails a
-/// test is the one behind the last that was told.
+/// Each growth of a call on a set is refused, alone and then with all later ones. Answers how many there are.
+fn growths_on<C: Call>(rt: &impl Abort, alloc: Global, set: &Set<'_>) -> usize {
+    let ample = ample_answer::<C>(rt, alloc, set);
+    let found = growths::<C>(rt, alloc, set, &ample, ALONE);
+    let again = growths::<C>(rt, alloc, set, &ample, WITH_LATER_ONES);
+    same(rt, set.row, &again, &found);
+    found
+}
+
+/// Each growth of a call on each set is refused. Tells how many there are: the call that fails a test is the one behind the last that
+/// was told.
 fn sweep<C: Call>(rt: &(impl Abort + Print), alloc: Global, call: &str, of: Swept<'_>) {
     let mut count = 0usize;
     for lines in of.sets {
-        let set = lines.set();
-        let ample = ample_answer::<C>(rt, alloc, &set);
-        let found = growths::<C>(rt, alloc, &set, &ample, ALONE);
-        let again = growths::<C>(rt, alloc, &set, &ample, WITH_LATER_ONES);
-        same(rt, lines.row, &again, &found);
-        count = count.saturating_add(found);
+        count = count.saturating_add(growths_on::<C>(rt, alloc, &lines.set()));
     }
     println!(rt; "{call}{}: {count} growths refused", of.what).expect(rt, "a line goes out");
 }

@@ -10,27 +10,45 @@ use std::process::Abort;
 use tl_layout::Record;
 use tl_load::Loader;
 
+/// Appends so many blanks.
+fn put_blanks(rt: &impl Abort, bytes: &mut Vec<u8>, count: usize) {
+    let len = bytes.len().saturating_add(count);
+    bytes.resize(len, b' ').expect(rt, "there is memory");
+}
+
+/// Appends what a byte of a pattern stands for: behind `{` it is part of a number, which its `}` makes so many blanks.
+fn put_byte(rt: &impl Abort, bytes: &mut Vec<u8>, blanks: Option<usize>, byte: u8) -> Option<usize> {
+    match (byte, blanks) {
+        (b'{', _) => Some(0),
+        (b'}', Some(count)) => {
+            put_blanks(rt, bytes, count);
+            None
+        }
+        (digit, Some(count)) => {
+            let ones = usize::from(digit.saturating_sub(b'0'));
+            Some(count.saturating_mul(10).saturating_add(ones))
+        }
+        (byte, None) => {
+            bytes.push(byte).expect(rt, "there is memory");
+            None
+        }
+    }
+}
+
+/// Appends the line that a pattern stands for, ended by LF.
+fn put_line(rt: &impl Abort, bytes: &mut Vec<u8>, pattern: &str) {
+    let mut blanks = None;
+    for byte in pattern.bytes() {
+        blanks = put_byte(rt, bytes, blanks, byte);
+    }
+    bytes.push(b'\n').expect(rt, "there is memory");
+}
+
 /// The lines that the patterns stand for, each ended by LF.
 pub(super) fn lines_of(rt: &impl Abort, alloc: Global, patterns: &[&str]) -> Vec<u8> {
     let mut bytes = Vec::new(alloc);
     for pattern in patterns {
-        let mut blanks = None;
-        for byte in pattern.bytes() {
-            match (byte, blanks) {
-                (b'{', _) => blanks = Some(0usize),
-                (b'}', Some(count)) => {
-                    let len = bytes.len().saturating_add(count);
-                    bytes.resize(len, b' ').expect(rt, "there is memory");
-                    blanks = None;
-                }
-                (digit, Some(count)) => {
-                    let ones = usize::from(digit.saturating_sub(b'0'));
-                    blanks = Some(count.saturating_mul(10).saturating_add(ones));
-                }
-                (byte, None) => bytes.push(byte).expect(rt, "there is memory"),
-            }
-        }
-        bytes.push(b'\n').expect(rt, "there is memory");
+        put_line(rt, &mut bytes, pattern);
     }
     bytes
 }

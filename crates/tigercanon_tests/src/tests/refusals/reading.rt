@@ -22,12 +22,17 @@ fn reads_nothing(rt: &impl Abort, loader: &mut Loader, fault: LoadFault) {
     same(rt, "its byte", &first, b"8");
 }
 
+/// After a fault a loader answers it to what is fed, and to a part's end.
+fn takes_nothing(rt: &impl Abort, loader: &mut Loader, fault: LoadFault) {
+    assert!(rt; loader.parts() < 2, "one part was fed at most");
+    same(rt, "feed", &loader.feed(b"8\n"), &Err(fault));
+    same(rt, "end_part", &loader.end_part(), &Err(fault));
+}
+
 /// After a fault a loader answers it to each call, and keeps its number of parts.
 fn stands(rt: &impl Abort, loader: &mut Loader, fault: LoadFault) {
     let parts = loader.parts();
-    assert!(rt; parts < 2, "one part was fed at most");
-    same(rt, "feed", &loader.feed(b"8\n"), &Err(fault));
-    same(rt, "end_part", &loader.end_part(), &Err(fault));
+    takes_nothing(rt, loader, fault);
     reads_nothing(rt, loader, fault);
     same(rt, "parts", &loader.parts(), &parts);
 }

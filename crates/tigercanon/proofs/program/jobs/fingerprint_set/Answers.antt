@@ -6,7 +6,7 @@ use Rattle.tigercanon.specs.Devices.{set_of_sources, to_sink}
 use Rattle.tigercanon.specs.Fingerprints.{IsFingerprintThrough, SaysFingerprintThrough}
 use Rattle.tigercanon.specs.Normalising.{StopsShort, Took}
 use Rattle.tigercanon.specs.Outcomes.{GivenSet, IsAnswered}
-use Rattle.tigercanon.specs.declared.program.command_line.Job.TheVariants.{Fingerprint}
+use Rattle.command_line.specs.declared.plans.Job.TheVariants.{Fingerprint}
 use Rattle.tigercanon.proofs.SourceSets.{leaves_untouched, set_of_no_sink}
 use Rattle.tigercanon.proofs.program.jobs.fingerprint_set.Goals as goal
 

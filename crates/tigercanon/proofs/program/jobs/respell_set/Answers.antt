@@ -3,7 +3,7 @@ use Rattle.std.proofs.lemmas.Result.{err_from_is_err_and}
 use Rattle.tl_layout.specs.Masked.{no_mask}
 use Rattle.tigercanon.specs.Devices.{set_of_sources, to_sink}
 use Rattle.tigercanon.specs.Normalising.{StopsShort}
-use Rattle.tigercanon.specs.declared.program.command_line.Job.TheVariants.{Respell}
+use Rattle.command_line.specs.declared.plans.Job.TheVariants.{Respell}
 use Rattle.tigercanon.proofs.SourceSets.{leaves_untouched, lines_of_no_sink}
 use Rattle.tigercanon.proofs.program.jobs.respell_set.Goals as goal
 

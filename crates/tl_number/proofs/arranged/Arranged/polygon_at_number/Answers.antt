@@ -10,7 +10,7 @@ pub returns-in-Some : goal.returns-in-Some
 returns-in-Some g c =
     let county = g.C.Chart.county c.args.self.now.chart in
     let keys = c.args.self.now.polygons.numbers in
-    ap (λ body. Some ((c.in-Some.old.0, c.args.place + 1), body)) c.polygon_body_of-body.ensures
+    ap (λ body. Some ((c.in-Some.old.0, c.args.place + 1), body)) c.polygon_body_at_number-body.ensures
     ∙ ap (option_map (under_number county)) (ap (option_map (λ (key : PolygonKey). (key, c.args.place + 1)))
     (sym c.in-Some.is ∙ c.key_at.ensures)
     ∙ sym (key_numbered keys c.args.place))

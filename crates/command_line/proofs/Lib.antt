@@ -1,0 +1,3 @@
+pub mod PlannedSets
+pub mod MaskWords
+pub mod UsualWords

@@ -1,0 +1,99 @@
+-- What clap's getters answer, by the values that it found.
+use Rattle.std.proofs.Common.{◌≡◌, ◌∙◌, Bool, true, false, List, [], Option, Some, None, Result, Ok, Err}
+use Rattle.std.proofs.Common.{Bor, IfOk, ap, inl, inr, refl, sym, subst, codes, option_map}
+use Rattle.std.specs.Prelude.{Box, OnOk}
+use Rattle.std.specs.Box.{box_value}
+use Rattle.clap.specs.Words.{HasMatchesOf, Row, found_of, is_simple, subcommand_name_of, subcommand_of}
+use Rattle.clap.specs.Simple.{subcommand_rows, subcommand_rows_of}
+use Rattle.clap.specs.declared.parser.matches.ArgMatches.{ArgMatches}
+use Rattle.clap.specs.declared.parser.matches.ArgMatches.TheViews.{out-ArgMatches, out-SubCommand}
+use Rattle.clap.specs.declared.parser.matches.SubCommand.{SubCommand}
+use Rattle.clap.specs.Words.{App, HasKind, Text, fault_of, first_of, is_simple_and_free, kind_of, one_of, rows_of, first_value, one_text}
+use Rattle.clap.specs.declared.error.Error.{Error}
+use Rattle.clap.specs.declared.error.kind.ErrorKind.TheVariants.{OutOfMemory}
+use Rattle.clap.specs.declared.parser.matches.Found.{Found}
+use Rattle.clap.proofs.WalkLemmas.{first_value-rows, one_text-rows}
+use Rattle.command_line.specs.Grammar.{understood}
+use Rattle.command_line.specs.declared.plans.Job.{Job}
+use Rattle.command_line.specs.Names.{AreUnderstood, IsFlagGiven, IsPlanOf, NamesItsSets}
+use Rattle.command_line.specs.Words.{word_of}
+use Rattle.command_line.specs.declared.plans.Plan.{Plan}
+use Rattle.command_line.specs.declared.plans.PlanFault.{PlanFault}
+
+-- the value of an argument
+pub value_given : (found : Found) (id : Text) (r : Option (Bor Text)) (value : Bor Text)
+    → option_map (λ (s : Bor Text). s.now) r ≡ first_value found id → r ≡ Some value → first_of id (rows_of found) ≡ Some value.now
+value_given found id r value e is = sym (first_value-rows found id) ∙ sym e ∙ ap (option_map (λ (s : Bor Text). s.now)) is
+
+-- an argument that has none
+pub none_given : (found : Found) (id : Text) (r : Option (Bor Text)) (value : Text)
+    → option_map (λ (s : Bor Text). s.now) r ≡ first_value found id → r ≡ None → first_of id (rows_of found) ≡ Some value → ⊥
+none_given found id r value e is given =
+    let same : option_map (λ (s : Bor Text). s.now) r ≡ Some value = e ∙ first_value-rows found id ∙ given in
+    let none : None ≡ Some value = sym (ap (option_map (λ (s : Bor Text). s.now)) is) ∙ same in
+    absurd cc
+
+-- the grammar is one that clap reads exactly
+simple : is_simple_and_free understood ≡ true
+simple = refl
+
+-- a command line has no error but want of memory
+pub memory_alone : (app : App) (words : List Text) (e : Error) → app ≡ understood
+    → (is_simple_and_free app ≡ true → HasKind (fault_of app words) e) → AreUnderstood words → kind_of e ≡ OutOfMemory
+memory_alone app words e is kinds none =
+    go (subst (λ k. HasKind k e) (ap (λ a. fault_of a words) is ∙ none) (kinds (ap is_simple_and_free is ∙ simple)))
+  where
+    go : HasKind [] e → kind_of e ≡ OutOfMemory
+    go (inl h) = h
+    go (inr h) = absurd h
+
+-- words that were read well are a command line
+pub read_well : {T P : Type 0} (app : App) (words : List Text) (r : Result T P) → app ≡ understood
+    → (is_simple_and_free app ≡ true → fault_of app words ≡ []) → OnOk r (AreUnderstood words)
+read_well app words (Ok done) is kinds = sym (ap (λ a. fault_of a words) is) ∙ kinds (ap is_simple_and_free is ∙ simple)
+read_well app words (Err e) is kinds = tt
+
+pub one_job : (a b : Job) → Some a ≡ Some b → b ≡ a
+one_job a b e = cc
+
+-- a flag
+pub flag_given : (found : Found) (id : Text) (b : Bool) → (one_text found id ≡ None → b ≡ false)
+    → (one_text found id ≡ Some (codes "true") → b ≡ true) → (one_text found id ≡ Some (codes "false") → b ≡ false)
+    → IsFlagGiven (one_of id (rows_of found)) b
+flag_given found id b none on off =
+    subst (λ flag. IsFlagGiven flag b) (one_text-rows found id) (record { given = on; left_out = off; unknown = none })
+
+-- the subcommand that was met, told in two parts, is that of the words
+module _ {Z : Type 0} where
+  met_in : (sub : Option (Box SubCommand Z)) (name : Text) (rows : List Row)
+      → option_map (λ (b : Box SubCommand Z). (out-SubCommand (box_value b)).name.now) sub ≡ Some name
+      → option_map (λ (p : Text × List Row). p.1) (subcommand_rows sub) ≡ Some rows → subcommand_rows sub ≡ Some (name, rows)
+  met_in None name rows e f = absurd cc
+  met_in (Some b) name rows e f =
+      let same : (out-SubCommand (box_value b)).name.now ≡ name = cc in
+      let found : rows_of (found_of (out-SubCommand (box_value b)).matches) ≡ rows = cc in
+      λ i. Some (same i, found i)
+
+pub met_of : (app : App) (words : List Text) (m : ArgMatches) (name : Bor Text) (given : Bor ArgMatches)
+    (r : Option (Bor Text × Bor ArgMatches)) → app ≡ understood → HasMatchesOf app words m → r ≡ Some (name, given)
+    → option_map (λ (p : Bor Text × Bor ArgMatches). p.0.now) r ≡ subcommand_name_of m
+    → option_map (λ (p : Bor Text × Bor ArgMatches). rows_of (found_of p.1.now)) r
+    ≡ option_map (λ (p : Text × List Row). p.1) (subcommand_rows_of m)
+    → subcommand_of understood words ≡ Some (name.now, rows_of (found_of given.now))
+met_of app words m name given r is has found names rows =
+    let met = met_in (out-ArgMatches m).subcommand name.now (rows_of (found_of given.now))
+    (sym names ∙ ap (option_map (λ (p : Bor Text × Bor ArgMatches). p.0.now)) found)
+    (sym rows ∙ ap (option_map (λ (p : Bor Text × Bor ArgMatches). rows_of (found_of p.1.now))) found) in
+    subst (λ a. subcommand_of a words ≡ Some (name.now, rows_of (found_of given.now))) is
+    (sym (has (ap is_simple is ∙ refl)).1 ∙ met)
+
+-- the plan is that of the words where it does the job that they name, with the files that they name
+pub planned_of : (r : Result Plan PlanFault) (o : Option (Text × List Row)) (name : Text) (rows : List Row) (job : Job)
+    → o ≡ Some (name, rows) → name ≡ word_of job → IfOk r (λ p. p.job ≡ job) → IfOk r (NamesItsSets rows) → IfOk r (IsPlanOf o)
+planned_of (Ok p) o name rows job met named does has =
+    subst (λ (q : Option (Text × List Row)). IsPlanOf q p) (sym met) (named ∙ ap word_of (sym does), has)
+planned_of (Err f) o name rows job met named does has = tt
+
+-- a word that names no job is no job's word
+pub no_job : (o : Option Job) (job : Job) → o ≡ None → o ≡ Some job → ⊥
+no_job o job none known = let same : None ≡ Some job = sym none ∙ known in absurd cc

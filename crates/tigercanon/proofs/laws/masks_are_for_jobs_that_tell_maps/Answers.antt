@@ -1,8 +1,0 @@
-use Rattle.tigercanon.proofs.MaskWords.{respell_takes_no_mask, check_takes_no_mask}
-use Rattle.tigercanon.proofs.laws.masks_are_for_jobs_that_tell_maps.Goals as goal
-
-pub returns-clause-respell : goal.returns-clause-respell
-returns-clause-respell c = respell_takes_no_mask
-
-pub returns-clause-check : goal.returns-clause-check
-returns-clause-check c = check_takes_no_mask

@@ -1,5 +1,0 @@
-use Rattle.tigercanon.proofs.UsualWords.Planned.{usual_words_planned}
-use Rattle.tigercanon.proofs.laws.usual_words_are_planned.Goals as goal
-
-pub returns : goal.returns
-returns c = usual_words_planned
