@@ -16,10 +16,13 @@ use std::alloc::{AllocError, Global};
 use tl_layout::{Body5, Body7, Point, Ranges, Rec1, Rec2, Rec4, Rec5, Rec6, Rec7, Rec8};
 use tl_shape::ChainIn;
 
-/// Copies a list into the arena.
+/// Copies a list into the arena. An empty one takes no room there.
 fn keep<'a, T: Copy>(arena: &'a Bump, items: &[T]) -> Result<&'a [T], AllocError>
     ensures { IfOk result (λ kept. kept.now ≡ items.now) }
 {
+    if items.is_empty() {
+        return Ok(&[]);
+    }
     let kept = arena.try_alloc_slice_copy(items)?;
     Ok(kept)
 }
@@ -59,6 +62,9 @@ impl<'a> InArena<'a> {
     fn keep_points(&mut self, head: &Rec1, shape: &[Rec2]) -> Result<&'a [Point], AllocError>
         ensures { IfOk result (λ points. points.now ≡ head.now.start ∷ (flat_map (λ (r : Fields2). r.points) shape.now ++ (head.now.end ∷ []))) }
     {
+        if shape.is_empty() {
+            return keep(self.arena, &[head.start(), head.end()]);
+        }
         self.points.clear();
         self.points.push(head.start())?;
         join_points(&mut self.points, shape)?;
