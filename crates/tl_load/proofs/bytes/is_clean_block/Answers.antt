@@ -3,7 +3,7 @@ use Rattle.std.proofs.lemmas.Bool.{eqb-true}
 use Rattle.std.proofs.lemmas.Simd.{bitmask_splat, length-chunk, length-zip2, map-map, zip2_splat}
 use lib.Lanes.{chunk, mask_l, zip2}
 use Rattle.tl_load.proofs.Lanes.{clean_at}
-use Rattle.tl_load.proofs.bytes.is_latin_block.Goals as goal
+use Rattle.tl_load.proofs.bytes.is_clean_block.Goals as goal
 
 pub returns-then-controls-eq0 : goal.returns-then-controls-eq0
 returns-then-controls-eq0 c none_above k from below =
