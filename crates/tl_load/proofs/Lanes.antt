@@ -3,10 +3,10 @@ use Rattle.std.proofs.Common.{◌≡◌, ℕ, ◌+◌, ◌-◌, ◌%◌, ◌<◌
 use Rattle.std.proofs.Common.{map, refl, ap, subst, ◌∙◌, arith, ltb, leb, inl, inr}
 use Rattle.std.specs.Prelude.{◌&&◌, ◌||◌}
 use Rattle.std.proofs.lemmas.Bool.{ltb-true, ltb-false, lt-ltb, le-leb, cases_lt, cond_both}
-use Rattle.std.proofs.lemmas.List.{get_or-map, length-map}
+use Rattle.std.proofs.lemmas.List.{get_or_default, get_or-map, length-map}
 use Rattle.std.proofs.lemmas.Simd.{none_from_empty_mask, get_or-chunk, length-chunk, Each1-get_or}
 use lib.Lanes.{chunk, mask_l, Each1, sel_l, zip2}
-use Rattle.tl_layout.specs.Bytes.{is_allowed}
+use Rattle.tl_layout.specs.Bytes.{is_allowed, AreAllowed}
 
 or_true : (x : Bool) → (x || true) ≡ true
 or_true true = refl
@@ -27,12 +27,12 @@ allowed_of b byte low high = elim (cases_lt b 127) [
       ∙ or_true (leb 32 b && ltb b 127)
 ]
 
-pub clean_at : (bytes : List ℕ) (at : ℕ) → at + 32 ≤ length bytes → mask_l (map (λ b. ltb b 32) (chunk at 32 bytes)) ≡ 0
-    → mask_l (map (λ b. ltb ((b + (256 - 127)) % 256) 33) (chunk at 32 bytes)) ≡ 0
-    → (k : ℕ) → at ≤ k → k < at + 32 → get_or bytes k 0 < 256 → is_allowed (get_or bytes k 0) ≡ true
+pub clean_at : (bytes : List ℕ) (at : ℕ) → at + 16 ≤ length bytes → mask_l (map (λ b. ltb b 32) (chunk at 16 bytes)) ≡ 0
+    → mask_l (map (λ b. ltb ((b + (256 - 127)) % 256) 33) (chunk at 16 bytes)) ≡ 0
+    → (k : ℕ) → at ≤ k → k < at + 16 → get_or bytes k 0 < 256 → is_allowed (get_or bytes k 0) ≡ true
 clean_at bytes at room none none_above k from below byte =
-    allowed_of (get_or bytes k 0) byte (none_from_empty_mask (λ b. ltb b 32) bytes at 32 0 room none k from below)
-    (none_from_empty_mask (λ b. ltb ((b + (256 - 127)) % 256) 33) bytes at 32 0 room none_above k from below)
+    allowed_of (get_or bytes k 0) byte (none_from_empty_mask (λ b. ltb b 32) bytes at 16 0 room none k from below)
+    (none_from_empty_mask (λ b. ltb ((b + (256 - 127)) % 256) 33) bytes at 16 0 room none_above k from below)
 
 -- a byte of printable ASCII is allowed
 allowed_ascii : (b : ℕ) → b < 256 → 161 ≤ (b + (256 - 127)) % 256 → is_allowed b ≡ true
@@ -42,18 +42,18 @@ allowed_ascii b byte from =
     ap (λ (x : Bool). (x && ltb b 127) || (leb 160 b && ltb b 256)) printable ∙ ap (λ (x : Bool). x || (leb 160 b && ltb b 256)) before
 
 -- a block each of whose bytes is 0xA1 or more from delete on is allowed
-pub ascii_at : (bytes : List ℕ) (at : ℕ) → at + 32 ≤ length bytes
-    → Each1 (λ b. 161 ≤ b) (map (λ b. (b + (256 - 127)) % 256) (chunk at 32 bytes))
-    → (k : ℕ) → at ≤ k → k < at + 32 → get_or bytes k 0 < 256 → is_allowed (get_or bytes k 0) ≡ true
+pub ascii_at : (bytes : List ℕ) (at : ℕ) → at + 16 ≤ length bytes
+    → Each1 (λ b. 161 ≤ b) (map (λ b. (b + (256 - 127)) % 256) (chunk at 16 bytes))
+    → (k : ℕ) → at ≤ k → k < at + 16 → get_or bytes k 0 < 256 → is_allowed (get_or bytes k 0) ≡ true
 ascii_at bytes at room each k from below byte =
     let from_delete = λ (b : ℕ). (b + (256 - 127)) % 256 in
-    let block = chunk at 32 bytes in
-    let long : length block ≡ 32 = length-chunk at 32 bytes room in
+    let block = chunk at 16 bytes in
+    let long : length block ≡ 16 = length-chunk at 16 bytes room in
     let here : at + (k - at) ≡ k = omega arith in
-    let mapped : length (map from_delete block) ≡ 32 = length-map block from_delete ∙ long in
+    let mapped : length (map from_delete block) ≡ 16 = length-map block from_delete ∙ long in
     let lane : get_or (map from_delete block) (k - at) 0 ≡ from_delete (get_or bytes k 0) =
     get_or-map from_delete block (k - at) 0 0 (omega arith)
-    ∙ ap from_delete (get_or-chunk at 32 bytes (k - at) 0 (omega arith) ∙ ap (λ i. get_or bytes i 0) here) in
+    ∙ ap from_delete (get_or-chunk at 16 bytes (k - at) 0 (omega arith) ∙ ap (λ i. get_or bytes i 0) here) in
     allowed_ascii (get_or bytes k 0) byte
     (subst (λ x. 161 ≤ x) lane (Each1-get_or (λ x. 161 ≤ x) (map from_delete block) (k - at) 0 (omega arith) each))
 
@@ -84,3 +84,8 @@ each_of_empty_mask n (x ∷ xs) none = go (ltb x n) refl none (each_of_empty_mas
         → (mask_l (map (λ x. ltb x n) xs) ≡ 0 → Each1 (λ x. n ≤ x) xs) → Each1 (λ x. n ≤ x) (x ∷ xs)
     go true e none rest = absurd (omega arith)
     go false e none rest = (ltb-false x n e, rest (omega arith))
+
+-- bytes that are allowed at each place are allowed
+pub allowed_at_each : (bytes : List ℕ) → ((k : ℕ) → k < length bytes → is_allowed (get_or bytes k 0) ≡ true) → AreAllowed bytes
+unfolding AreAllowed
+allowed_at_each bytes h k d lt = subst (λ (b : ℕ). is_allowed b ≡ true) (get_or_default bytes k 0 d lt) (h k lt)

@@ -2,7 +2,7 @@ use Rattle.std.proofs.Common.{◌≡◌, ◌-◌, ◌≤◌, ◌^◌, ℕ, List,
 use Rattle.std.proofs.lemmas.Bool.{cases_lt, eqb-true}
 use Rattle.std.proofs.lemmas.Simd.{bitmask_splat, tops_compared}
 use lib.Lanes.{Each1, mask_l, sel_l, top, zip2}
-use Rattle.tl_load.proofs.Lanes.{each_of_least, each_of_empty_mask}
+use Rattle.tl_load.proofs.Lanes.{allowed_at_each, each_of_least, each_of_empty_mask}
 use Rattle.tl_load.proofs.bytes.is_ascii.Goals as goal
 
 -- the lanes of the lesser of two blocks
@@ -27,12 +27,12 @@ loop-at-preserved c =
 
 -- each byte stands before the last block, or in it
 pub returns : goal.returns
-returns c none_below k lt =
+returns c none_below =
     let least = c.loop-at.least in
     let none : mask_l (map (λ x. ltb x 161) least) ≡ 0 =
-    sym (bitmask_splat w8 ltb least 32 161 c.loop-at.auto.least.0 (lit≤ tt)) ∙ eqb-true _ _ none_below in
+    sym (bitmask_splat w8 ltb least 16 161 c.loop-at.auto.least.0 (lit≤ tt)) ∙ eqb-true _ _ none_below in
     let each = each_of_empty_mask 161 least none in
-    elim (cases_lt k c.loop-at.at) [
+    allowed_at_each c.args.bytes.now (λ k lt. elim (cases_lt k c.loop-at.at) [
       | inl below ↦ c.loop-at.invariant.clean each k below
       | inr above ↦ c.loop-at.invariant.ends_clean each k (omega arith) (omega arith)
-    ]
+    ])
