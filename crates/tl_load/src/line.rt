@@ -3,7 +3,7 @@
 ghost use Rattle.std.specs.Prelude.{◌≡◌, ◌≤◌, length, true, IfSome, MatchOption};
 ghost use Rattle.tl_load.specs.Lines.{without_return, IsLineEnd, IsWithoutLineFeed};
 
-use crate::bytes::is_clean;
+use crate::bytes::is_ascii;
 use memchr::memchr;
 use tl_layout::{Layout, Rec1, Rec2, Rec4, Rec5, Rec6, Rec7, Rec8, RecI, RecP};
 
@@ -16,17 +16,26 @@ pub(crate) struct LineEnd {
     pub(crate) is_clean: bool,
 }
 
-/// Where the first line of the bytes ends. A full line of clean bytes, as nearly all are, has its LF at the length of its
+/// Where the first line of the bytes ends. A full line of printable ASCII, as nearly all are, has its LF at the length of its
 /// type, and so none is searched for.
+#[inline(always)]
 pub(crate) fn line_end(bytes: &[u8]) -> Option<LineEnd>
     ensures { MatchOption result (IsWithoutLineFeed bytes.now) (λ end. IsLineEnd bytes.now end.place end.is_clean) }
 {
-    if let Some(place) = full_line_end(bytes) {
-        return Some(LineEnd {
+    match full_line_end(bytes) {
+        Some(place) => Some(LineEnd {
             place,
             is_clean: true,
-        });
+        }),
+        None => searched_line_end(bytes),
     }
+}
+
+/// Where the first line of the bytes ends, by a search for its LF. The bytes before it aren't tested.
+#[inline(never)]
+fn searched_line_end(bytes: &[u8]) -> Option<LineEnd>
+    ensures { MatchOption result (IsWithoutLineFeed bytes.now) (λ end. IsLineEnd bytes.now end.place end.is_clean) }
+{
     match memchr(b'\n', bytes) {
         Some(place) => Some(LineEnd {
             place,
@@ -36,7 +45,7 @@ pub(crate) fn line_end(bytes: &[u8]) -> Option<LineEnd>
     }
 }
 
-/// Where the first line ends, if it is a full one of its type and each of its bytes is one that a line may hold.
+/// Where the first line ends, if it is a full one of its type and each of its bytes is printable ASCII.
 #[inline(always)]
 fn full_line_end(bytes: &[u8]) -> Option<usize>
     ensures { IfSome result (λ place. IsLineEnd bytes.now place true) }
@@ -55,13 +64,13 @@ fn full_line_end(bytes: &[u8]) -> Option<usize>
     }
 }
 
-/// The length of this record type, if an LF stands there and a line may hold each byte before it.
+/// The length of this record type, if an LF stands there and each byte before it is printable ASCII.
 #[inline(always)]
 fn end_at_length<L: Layout>(bytes: &[u8]) -> Option<usize>
     ensures { IfSome result (λ place. IsLineEnd bytes.now place true) }
 {
     let len = L::LEN;
-    if bytes.len() > len && bytes[len] == b'\n' && is_clean(&bytes[..len]) {
+    if bytes.len() > len && bytes[len] == b'\n' && is_ascii(&bytes[..len]) {
         Some(len)
     } else {
         None

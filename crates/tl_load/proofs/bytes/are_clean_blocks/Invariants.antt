@@ -1,6 +1,6 @@
 use Rattle.std.proofs.Common.{◌≡◌, ℕ, ◌<◌, ◌≤◌, ◌-◌, true, get_or, length}
 use Rattle.tl_layout.specs.Bytes.{is_allowed}
-use Rattle.tl_load.proofs.bytes.is_clean.Given as goal
+use Rattle.tl_load.proofs.bytes.are_clean_blocks.Given as goal
 
 -- the bytes before this place are clean
 abbrev pub invariant-loop-at : goal.invariant-loop-at

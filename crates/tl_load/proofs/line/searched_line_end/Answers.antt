@@ -1,12 +1,12 @@
 use Rattle.std.proofs.Common.{arith}
 use Rattle.tl_load.proofs.Views.{cut_at, no_feed, no_feed_below}
-use Rattle.tl_load.proofs.line.line_end.Goals as goal
+use Rattle.tl_load.proofs.line.searched_line_end.Goals as goal
 
-pub returns-in-Some-memchr : goal.returns-in-Some-memchr
-returns-in-Some-memchr c =
-    let at = c.in-Some-memchr.ensures in
+pub returns-in-Some : goal.returns-in-Some
+returns-in-Some c =
+    let at = c.in-Some.ensures in
     let bytes = c.args.bytes.now in
-    let place = c.in-Some-memchr.place in
+    let place = c.in-Some.place in
     record {
       within = at.0.high;
       cut = cut_at bytes place at.0.high at.1;

@@ -1,0 +1,14 @@
+use Rattle.std.proofs.Common.{◌≡◌, ℕ, ◌+◌, ◌<◌, ◌≤◌, ◌-◌, true, get_or}
+use lib.Lanes.{Each1}
+use Rattle.tl_layout.specs.Bytes.{is_allowed}
+use Rattle.tl_load.proofs.bytes.is_ascii.Given as goal
+
+-- where no lane is below 0xA1, the bytes before this place are clean, and the last 16
+abbrev pub invariant-loop-at : goal.invariant-loop-at
+invariant-loop-at l = record {
+  clean : Each1 (λ x. 161 ≤ x) l.least → (k : ℕ) → k < l.at → is_allowed (get_or l.bytes k 0) ≡ true;
+  ends_clean : Each1 (λ x. 161 ≤ x) l.least → (k : ℕ) → l.last ≤ k → k < l.last + 16 → is_allowed (get_or l.bytes k 0) ≡ true;
+}
+
+abbrev pub decreases-loop-at : goal.decreases-loop-at
+decreases-loop-at l = l.last - l.at
