@@ -1,6 +1,7 @@
 pub mod ProfileFaults
 pub mod SameProfile
 pub mod OnSamples
+pub mod PointRanks
 pub mod PlacedOrder
 pub mod Walks
 pub mod Places

@@ -4,16 +4,17 @@ use Rattle.std.proofs.Common.{Greater, is_gt, refl, sym, ap, ap₂, ◌∙◌, s
 use Rattle.std.specs.Cmp.{IsTotalOrder}
 use Rattle.std.specs.List.{AllByRecursion}
 use Rattle.std.specs.Ordering.{ordering_then}
-use Rattle.std.proofs.lemmas.Cmp.{nat_cmp_total, then_total, on_total}
+use Rattle.std.proofs.lemmas.Cmp.{int_cmp_total, nat_cmp_total, then_total, on_total}
 use Rattle.std.proofs.lemmas.List.Sorted.{IsPermutation-map, IsPermutation-sym}
 use Rattle.tl_shape.specs.PointOrder.{point_cmp, points_cmp}
 use Rattle.tl_county.specs.County.{County}
 use Rattle.tl_county.specs.Orders.{IsInOrder}
-use Rattle.tl_county.proofs.ByKey.KeyOrders.{point_keys, points_keys}
+use Rattle.tl_county.proofs.ByKey.KeyOrders.{points_keys}
 use Rattle.tl_county.proofs.ByKey.Numbers.{all_themselves}
 use Rattle.tl_county.proofs.Lists.Elements.{all_weaker}
 use Rattle.tl_county.proofs.Lists.Members.{among-permutation}
 use Rattle.tl_county.proofs.Rules.FirstFault.{Among, all_among}
+use Rattle.tl_profile.proofs.PointRanks.{as_points}
 use Rattle.tl_profile.specs.ShapeOrder.{AreWalksInOrder, least_walks, walk_cmp}
 use Rattle.tl_profile.specs.PlacedShapes.{HasHead, placed_cmp, placed_key_cmp, placed_walk, whole_shape}
 use Rattle.tl_profile.specs.declared.shapes.PlacedShape.{PlacedShape}
@@ -26,8 +27,8 @@ all_permuted P xs ys p a =
 
 pub placed_key_total : (county : County) → IsTotalOrder (placed_key_cmp county)
 placed_key_total county =
-    then_total (then_total (on_total (λ (s : PlacedShape). s.first) point_keys.total)
-    (then_total (on_total (λ (s : PlacedShape). s.second) point_keys.total) (on_total (whole_shape county) points_keys.total)))
+    then_total (then_total (on_total (λ (s : PlacedShape). s.first) int_cmp_total)
+    (then_total (on_total (λ (s : PlacedShape). s.second) int_cmp_total) (on_total (whole_shape county) points_keys.total)))
     (on_total (λ (s : PlacedShape). s.place) nat_cmp_total)
 
 -- what decided once decides again
@@ -43,9 +44,12 @@ pub placed-whole : (county : County) (a b : PlacedShape) → HasHead county a �
     → placed_cmp county a b ≡ points_cmp (whole_shape county a) (whole_shape county b)
 placed-whole county a b h k =
     let same : points_cmp (whole_shape county a) (whole_shape county b)
-    ≡ points_cmp (a.first ∷ a.second ∷ h.rest) (b.first ∷ b.second ∷ k.rest) = ap₂ points_cmp h.is k.is in
-    ap (λ o. ordering_then (point_cmp a.first b.first) (ordering_then (point_cmp a.second b.second) o)) same
-    ∙ again (point_cmp a.first b.first) (point_cmp a.second b.second) (points_cmp h.rest k.rest)
+    ≡ points_cmp (h.first ∷ h.second ∷ h.rest) (k.first ∷ k.second ∷ k.rest) = ap₂ points_cmp h.is k.is in
+    ap₂ (λ o r. ordering_then o (ordering_then r (points_cmp (whole_shape county a) (whole_shape county b))))
+    (as_points h.first k.first a.first b.first h.first_rank k.first_rank)
+    (as_points h.second k.second a.second b.second h.second_rank k.second_rank)
+    ∙ ap (λ o. ordering_then (point_cmp h.first k.first) (ordering_then (point_cmp h.second k.second) o)) same
+    ∙ again (point_cmp h.first k.first) (point_cmp h.second k.second) (points_cmp h.rest k.rest)
     ∙ sym same
 
 -- so the walks of a list in their order are in order

@@ -15,6 +15,7 @@ mod chain_walk;
 mod fault;
 mod laws;
 mod open_places;
+mod point_rank;
 mod shape_order;
 mod shapes;
 mod sides;

@@ -1,28 +1,28 @@
 //! The shapes of chains, put in order.
 //!
-//! Most shapes differ in their first two points, so these stand beside a chain's place and direction while chains are put in order, and
-//! the county is asked only where both are equal. After that chains of one shape are neighbours.
+//! Most shapes differ in their first two points, so the ranks of these stand beside a chain's place and direction while chains are put
+//! in order, and the county is asked only where both are equal. After that chains of one shape are neighbours.
 
 ghost use Rattle.std.specs.List.{AllByRecursion};
 ghost use Rattle.std.specs.Prelude.{◌≡◌, ◌<◌, length, map, IfOk, IsPermutation};
 ghost use Rattle.tl_county.specs.Orders.{IsInOrder};
-ghost use Rattle.tl_profile.specs.PlacedShapes.{HasHead, placed_cmp, placed_key_cmp, placed_walk};
+ghost use Rattle.tl_profile.specs.PlacedShapes.{HasHead, beyond_first_cmp, placed_cmp, placed_key_cmp, placed_walk};
 ghost use Rattle.tl_profile.specs.ShapeOrder.{AreWalksInOrder, least_walk, least_walks};
 
 use crate::chain_walk::{ChainWalk, compare_reverse, compare_walks, point_along};
+use crate::point_rank::PointRank;
 use std::alloc::{AllocError, Global};
 use std::cmp::Ordering;
 use tl_county::Chart;
-use tl_layout::Point;
 
 /// A chain with the beginning of its shape, by which most shapes differ. Its shape is the lesser of its points and their
 /// reverse.
 #[derive(Clone, Copy)]
 pub(crate) struct PlacedShape {
-    /// The first point of the shape.
-    pub(crate) first: Point,
-    /// The second point of the shape.
-    pub(crate) second: Point,
+    /// The rank of the first point of the shape.
+    pub(crate) first: PointRank,
+    /// The rank of the second point of the shape.
+    pub(crate) second: PointRank,
     /// The chain's place.
     pub(crate) place: u32,
     /// Whether the chain's points are its shape from the end node on.
@@ -53,8 +53,8 @@ fn placed_shape<C: Chart>(chart: &C, place: u32) -> PlacedShape
     let turned = reversed.is_lt();
     let walk = ChainWalk { place, turned };
     PlacedShape {
-        first: point_along(chart, walk, 0).unwrap(),
-        second: point_along(chart, walk, 1).unwrap(),
+        first: PointRank::of(point_along(chart, walk, 0).unwrap()),
+        second: PointRank::of(point_along(chart, walk, 1).unwrap()),
         place,
         turned,
         either_way: reversed.is_eq(),
@@ -74,7 +74,19 @@ fn placed_shapes<C: Chart>(alloc: Global, chart: &C) -> Result<Vec<PlacedShape>,
     Ok(shapes)
 }
 
+/// How one chain's shape stands to another's where the first points are one.
+#[inline(never)]
+fn compare_beyond_first<C: Chart>(chart: &C, shape: &PlacedShape, other: &PlacedShape) -> Ordering
+    ensures { result ≡ beyond_first_cmp (C.county chart.now) shape.now other.now }
+{
+    match shape.second.cmp(&other.second) {
+        Ordering::Equal => compare_walks(chart, shape.walk(), other.walk()),
+        unequal => unequal,
+    }
+}
+
 /// How one chain's shape stands to another's.
+#[inline(always)]
 pub(crate) fn compare_shapes<C: Chart>(
     chart: &C,
     shape: &PlacedShape,
@@ -83,17 +95,13 @@ pub(crate) fn compare_shapes<C: Chart>(
     ensures { result ≡ placed_cmp (C.county chart.now) shape.now other.now }
 {
     match shape.first.cmp(&other.first) {
-        Ordering::Equal => {}
-        unequal => return unequal,
+        Ordering::Equal => compare_beyond_first(chart, shape, other),
+        unequal => unequal,
     }
-    match shape.second.cmp(&other.second) {
-        Ordering::Equal => {}
-        unequal => return unequal,
-    }
-    compare_walks(chart, shape.walk(), other.walk())
 }
 
 /// How two chains stand by their shapes, and by their places where the shapes are one.
+#[inline(always)]
 fn compare_placed<C: Chart>(chart: &C, shape: &PlacedShape, other: &PlacedShape) -> Ordering
     ensures { result ≡ placed_key_cmp (C.county chart.now) shape.now other.now }
 {

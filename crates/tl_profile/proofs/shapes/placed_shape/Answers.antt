@@ -31,8 +31,12 @@ returns-clause-head g c =
     let second = some-same c.point_along-2.result two.two c.unwrap-2.result
     (c.point_along-2.ensures ∙ ap (λ l. slice_get l 1) (along ∙ two.is)) c.unwrap-2.ensures in
     record {
+      first = c.unwrap.result;
+      second = c.unwrap-2.result;
       rest = two.rest;
       is = along ∙ two.is ∙ (λ i. first i ∷ second i ∷ two.rest);
+      first_rank = record { on_map = c.of.ensures.on_map; is = c.of.ensures.rank };
+      second_rank = record { on_map = c.of-2.ensures.on_map; is = c.of-2.ensures.rank };
       either_way = c.is_eq.ensures ∙ ap is_eq c.compare_reverse-reversed.ensures
           ∙ sym (either_way-from c.is_lt-turned.result points);
     }
