@@ -85,7 +85,9 @@ fn compare_beyond_first<C: Chart>(chart: &C, shape: &PlacedShape, other: &Placed
     }
 }
 
-/// How one chain's shape stands to another's.
+/// How one chain's shape stands to another's. Nearly all pairs differ in their first points: so this much stands in the sort's own
+/// loops, and what is seldom asked in a function apart. Equality is asked first, which leaves those loops no branch that is hard to
+/// foresee.
 #[inline(always)]
 pub(crate) fn compare_shapes<C: Chart>(
     chart: &C,
@@ -94,9 +96,12 @@ pub(crate) fn compare_shapes<C: Chart>(
 ) -> Ordering
     ensures { result ≡ placed_cmp (C.county chart.now) shape.now other.now }
 {
-    match shape.first.cmp(&other.first) {
-        Ordering::Equal => compare_beyond_first(chart, shape, other),
-        unequal => unequal,
+    if shape.first == other.first {
+        compare_beyond_first(chart, shape, other)
+    } else if shape.first < other.first {
+        Ordering::Less
+    } else {
+        Ordering::Greater
     }
 }
 
