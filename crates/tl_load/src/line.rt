@@ -31,7 +31,8 @@ pub(crate) fn line_end(bytes: &[u8]) -> Option<LineEnd>
     }
 }
 
-/// Where the first line of the bytes ends, by a search for its LF. The bytes before it aren't tested.
+/// Where the first line of the bytes ends, by a search for its LF. The bytes before it aren't tested. It isn't inlined, so that a
+/// full line, as nearly all are, costs no call.
 #[inline(never)]
 fn searched_line_end(bytes: &[u8]) -> Option<LineEnd>
     ensures { MatchOption result (IsWithoutLineFeed bytes.now) (λ end. IsLineEnd bytes.now end.place end.is_clean) }
