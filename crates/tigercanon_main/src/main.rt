@@ -24,26 +24,26 @@ fn open_all(rt: &HostRuntime, names: &[String]) -> Result<Vec<Opened<File>>, All
     Ok(files)
 }
 
-/// Does what the words ask for, and answers the exit status.
-fn status(rt: &HostRuntime) -> Result<u8, PlanFault> {
-    let words = words(rt)?;
-    let Plan {
-        job,
-        mask,
-        first,
-        second,
-    } = plan(rt.alloc(), &words)?;
-    let first = open_all(rt, &first)?;
-    let second = open_all(rt, &second)?;
+/// Does what is planned, and answers the exit status.
+fn done(rt: &HostRuntime, planned: &Plan) -> Result<u8, AllocError> {
+    let first = open_all(rt, &planned.first)?;
+    let second = open_all(rt, &planned.second)?;
     Ok(run(
         rt.alloc(),
-        job,
+        planned.job,
         first,
         second,
         &mut rt.stdout(),
         &mut rt.stderr(),
-        mask,
+        planned.mask,
     ))
+}
+
+/// Does what the words ask for, and answers the exit status.
+fn status(rt: &HostRuntime) -> Result<u8, PlanFault> {
+    let words = words(rt)?;
+    let planned = plan(rt.alloc(), &words)?;
+    Ok(done(rt, &planned)?)
 }
 
 fn main(rt: HostRuntime) -> ExitCode {

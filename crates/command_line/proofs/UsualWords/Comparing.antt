@@ -1,42 +1,12 @@
 -- The usual words of compare are read as what they say.
-use Rattle.std.proofs.Common.{◌≡◌, Bool, true, false, refl}
+use Rattle.std.proofs.Common.{Bool, true, false}
 use Rattle.clap.specs.Words.{Text}
-use Rattle.clap.proofs.OnLiterals.{clap_on_literals}
 use Rattle.command_line.specs.declared.plans.Job.TheVariants.{Compare}
+use Rattle.command_line.proofs.UsualWords.ComparingFiles.{compare_of_files_is_read}
+use Rattle.command_line.proofs.UsualWords.ComparingStems.{compare_of_stems_is_read}
 use Rattle.command_line.proofs.UsualWords.Words.{AreRead, IsNoFlag}
 
 pub compare_is_read : (is_stem sources reserved : Bool) (first second : Text) → IsNoFlag first → IsNoFlag second
     → AreRead Compare is_stem sources reserved first second
-unfolding clap_on_literals
-compare_is_read false false false first second f s =
-    let end = f.not_end in let long = f.not_long in let short = f.not_short in
-    let end' = s.not_end in let long' = s.not_long in let short' = s.not_short in
-    record { taken = rw end (rw long (rw short (rw end' (rw long' (rw short' refl))))); met = rw (end, long, short) (rw (end', long', short') refl) }
-compare_is_read false false true first second f s =
-    let end = f.not_end in let long = f.not_long in let short = f.not_short in
-    let end' = s.not_end in let long' = s.not_long in let short' = s.not_short in
-    record { taken = rw end (rw long (rw short (rw end' (rw long' (rw short' refl))))); met = rw (end, long, short) (rw (end', long', short') refl) }
-compare_is_read false true false first second f s =
-    let end = f.not_end in let long = f.not_long in let short = f.not_short in
-    let end' = s.not_end in let long' = s.not_long in let short' = s.not_short in
-    record { taken = rw end (rw long (rw short (rw end' (rw long' (rw short' refl))))); met = rw (end, long, short) (rw (end', long', short') refl) }
-compare_is_read false true true first second f s =
-    let end = f.not_end in let long = f.not_long in let short = f.not_short in
-    let end' = s.not_end in let long' = s.not_long in let short' = s.not_short in
-    record { taken = rw end (rw long (rw short (rw end' (rw long' (rw short' refl))))); met = rw (end, long, short) (rw (end', long', short') refl) }
-compare_is_read true false false first second f s =
-    let end = f.not_end in let long = f.not_long in let short = f.not_short in
-    let end' = s.not_end in let long' = s.not_long in let short' = s.not_short in
-    record { taken = rw end (rw long (rw short (rw end' (rw long' (rw short' refl))))); met = rw (end, long, short) (rw (end', long', short') refl) }
-compare_is_read true false true first second f s =
-    let end = f.not_end in let long = f.not_long in let short = f.not_short in
-    let end' = s.not_end in let long' = s.not_long in let short' = s.not_short in
-    record { taken = rw end (rw long (rw short (rw end' (rw long' (rw short' refl))))); met = rw (end, long, short) (rw (end', long', short') refl) }
-compare_is_read true true false first second f s =
-    let end = f.not_end in let long = f.not_long in let short = f.not_short in
-    let end' = s.not_end in let long' = s.not_long in let short' = s.not_short in
-    record { taken = rw end (rw long (rw short (rw end' (rw long' (rw short' refl))))); met = rw (end, long, short) (rw (end', long', short') refl) }
-compare_is_read true true true first second f s =
-    let end = f.not_end in let long = f.not_long in let short = f.not_short in
-    let end' = s.not_end in let long' = s.not_long in let short' = s.not_short in
-    record { taken = rw end (rw long (rw short (rw end' (rw long' (rw short' refl))))); met = rw (end, long, short) (rw (end', long', short') refl) }
+compare_is_read false = compare_of_files_is_read
+compare_is_read true = compare_of_stems_is_read

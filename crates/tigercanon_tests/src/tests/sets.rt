@@ -17,7 +17,12 @@ fn put_blanks(rt: &impl Abort, bytes: &mut Vec<u8>, count: usize) {
 }
 
 /// Appends what a byte of a pattern stands for: behind `{` it is part of a number, which its `}` makes so many blanks.
-fn put_byte(rt: &impl Abort, bytes: &mut Vec<u8>, blanks: Option<usize>, byte: u8) -> Option<usize> {
+fn put_byte(
+    rt: &impl Abort,
+    bytes: &mut Vec<u8>,
+    blanks: Option<usize>,
+    byte: u8,
+) -> Option<usize> {
     match (byte, blanks) {
         (b'{', _) => Some(0),
         (b'}', Some(count)) => {

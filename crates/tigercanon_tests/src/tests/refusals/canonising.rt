@@ -12,6 +12,7 @@ use tigercanon::{Fault, normalise_masked};
 use tl_cert::Renaming;
 use tl_county::Chart;
 use tl_number::{CanonCounty, CanonCountyIn, canonise_chart};
+use tl_profile::Admitted;
 use tl_write::{SlowSink, write_in, write_to};
 
 /// A canonical county and the renaming onto it.
@@ -108,17 +109,37 @@ impl Call for CanoniseInMasked {
     }
 }
 
+/// The canonical county of an admitted one.
+fn canonical_of<C: Chart + Drop>(
+    rt: &impl Abort,
+    alloc: Global,
+    row: &str,
+    admitted: Admitted<C>,
+) -> CanonCounty<C> {
+    canonise_chart(alloc, admitted.into_chart()).expect(rt, row)
+}
+
+/// The run that reads the records of a canonical county.
+fn records_read<C: Chart>(
+    rt: &impl Abort,
+    alloc: Global,
+    county: &CanonCounty<C>,
+    asked: usize,
+) -> Run {
+    refuse(alloc, asked);
+    let outcome = tl_write::records_of(alloc, county);
+    ended(rt, alloc, has_refused(alloc), outcome.map_err(Fault::from))
+}
+
 pub(super) struct RecordsOf;
 
 impl Call for RecordsOf {
     fn run(rt: &impl Abort, alloc: Global, set: &Set<'_>, asked: usize) -> Run {
         let admitted = admitted_of(rt, alloc, set);
-        let county = canonise_chart(alloc, admitted.into_chart()).expect(rt, set.row);
-        refuse(alloc, asked);
-        let outcome = tl_write::records_of(alloc, &county);
-        let refused = has_refused(alloc);
+        let county = canonical_of(rt, alloc, set.row, admitted);
+        let run = records_read(rt, alloc, &county, asked);
         drop(county);
-        ended(rt, alloc, refused, outcome.map_err(Fault::from))
+        run
     }
 }
 
@@ -131,18 +152,28 @@ fn is_written_in(rt: &impl Abort, alloc: Global, set: &Set<'_>, county: &CanonCo
     same_items(rt, set.row, sink.held(), set.text);
 }
 
+/// The run that reads the records of a canonical county in an arena.
+fn records_read_in(
+    rt: &impl Abort,
+    alloc: Global,
+    county: &CanonCountyIn<'_>,
+    asked: usize,
+) -> Run {
+    refuse(alloc, asked);
+    let outcome = tl_write::records_of_in(alloc, county);
+    ended(rt, alloc, has_refused(alloc), outcome.map_err(Fault::from))
+}
+
 pub(super) struct RecordsOfIn;
 
 impl Call for RecordsOfIn {
     fn run(rt: &impl Abort, alloc: Global, set: &Set<'_>, asked: usize) -> Run {
         let arena = Bump::new(alloc);
         let admitted = admitted_in_of(rt, alloc, &arena, set);
-        let county = canonise_chart(alloc, admitted.into_chart()).expect(rt, set.row);
+        let county = canonical_of(rt, alloc, set.row, admitted);
         is_written_in(rt, alloc, set, &county);
-        refuse(alloc, asked);
-        let outcome = tl_write::records_of_in(alloc, &county);
-        let refused = has_refused(alloc);
+        let run = records_read_in(rt, alloc, &county, asked);
         drop(county);
-        ended(rt, alloc, refused, outcome.map_err(Fault::from))
+        run
     }
 }

@@ -8,6 +8,7 @@ use std::alloc::Global;
 use std::process::Abort;
 use tigercanon::{Fault, normalise_with_renaming};
 use tl_cert::{Renaming, check, check_masked};
+use tl_county::Chart;
 use tl_layout::Point;
 use tl_shape::Shape;
 
@@ -17,6 +18,34 @@ fn renaming_of(rt: &impl Abort, alloc: Global, set: &Set<'_>) -> Renaming {
     told.1
 }
 
+/// The run that checks a renaming of one county onto another.
+fn checked<A: Chart, B: Chart>(
+    rt: &impl Abort,
+    alloc: Global,
+    here: &A,
+    there: &B,
+    renaming: &Renaming,
+    asked: usize,
+) -> Run {
+    refuse(alloc, asked);
+    let outcome = check(alloc, here, there, renaming);
+    ended(rt, alloc, has_refused(alloc), outcome.map_err(Fault::from))
+}
+
+/// The run that checks it under both masks.
+fn checked_masked<A: Chart, B: Chart>(
+    rt: &impl Abort,
+    alloc: Global,
+    here: &A,
+    there: &B,
+    renaming: &Renaming,
+    asked: usize,
+) -> Run {
+    refuse(alloc, asked);
+    let outcome = check_masked(alloc, here, there, renaming, BOTH);
+    ended(rt, alloc, has_refused(alloc), outcome.map_err(Fault::from))
+}
+
 pub(super) struct CheckRenaming;
 
 impl Call for CheckRenaming {
@@ -24,12 +53,10 @@ impl Call for CheckRenaming {
         let here = county_of(rt, alloc, set.row, set.bytes);
         let there = county_of(rt, alloc, set.row, set.text);
         let renaming = renaming_of(rt, alloc, set);
-        refuse(alloc, asked);
-        let outcome = check(alloc, &here, &there, &renaming);
-        let refused = has_refused(alloc);
+        let run = checked(rt, alloc, &here, &there, &renaming, asked);
         drop(here);
         drop(there);
-        ended(rt, alloc, refused, outcome.map_err(Fault::from))
+        run
     }
 }
 
@@ -41,12 +68,10 @@ impl Call for CheckMasked {
         let here = county_of(rt, alloc, set.row, set.bytes);
         let there = county_of(rt, alloc, set.row, set.text);
         let renaming = renaming_of(rt, alloc, set);
-        refuse(alloc, asked);
-        let outcome = check_masked(alloc, &here, &there, &renaming, BOTH);
-        let refused = has_refused(alloc);
+        let run = checked_masked(rt, alloc, &here, &there, &renaming, asked);
         drop(here);
         drop(there);
-        ended(rt, alloc, refused, outcome.map_err(Fault::from))
+        run
     }
 }
 
