@@ -20,9 +20,8 @@ pub use command_line::{
 pub use fault::Fault;
 pub use laws::{
     a_canonical_text_is_its_own, accepted_set_or_one_refusal,
-    an_accepted_set_has_one_canonical_text,
-    one_canonical_text_exactly_for_one_map, one_canonical_text_through_each_sight,
-    one_canonical_text_under_each_mask,
+    an_accepted_set_has_one_canonical_text, one_canonical_text_exactly_for_one_map,
+    one_canonical_text_through_each_sight, one_canonical_text_under_each_mask,
 };
 pub use library::checking::check;
 pub use library::comparing::{

@@ -36,6 +36,35 @@ pub(crate) fn load<K: Keeper>(alloc: Global, parts: &[&[u8]]) -> Result<K, LoadF
     loader.finish()
 }
 
+/// Room for the bytes that a source is asked for at a time.
+fn room(alloc: Global) -> Result<Vec<u8>, AllocError>
+    ensures { IfOk result (λ piece. 0 < vec_len piece) }
+{
+    vec![in alloc; 0u8; 65536]
+}
+
+/// What a keeper makes of the records of the parts that the sources give. Each is read to its end, in order, through this room, and no
+/// further than the read that brings a fault.
+fn load_through<K: Keeper, R: Source>(
+    alloc: Global,
+    sources: &mut [R],
+    room: &mut [u8],
+) -> Result<K, LoadFault>
+    requires some_room { 0 < length room.old }
+    requires failures { All (λ source. R.failed source < u64.MAX) sources.old }
+    ensures loaded { IfOk result (λ kept. (parts : List (List ℕ)) × AreRead R.remaining R.given sources.old sources.new parts
+        × (records : List Record) × K.holds kept records × SpellsWithin tiger record_limit parts records) }
+    ensures faulty { IfErr result (λ f. IsOfLines f → IsFaultOfRead R.remaining R.given sources.old sources.new f) }
+    ensures device { result ≡ Err LoadFault.Device → OneFailed R.failed sources.old sources.new }
+    ensures no_device { result ≢ Err LoadFault.Device → NoneFailed R.failed sources.old sources.new }
+{
+    let mut loader = LoaderInto::<K>::new(alloc);
+    for source in sources.iter_mut() {
+        loader.read_part_by(source, room)?;
+    }
+    loader.finish()
+}
+
 /// What a keeper makes of the records of the parts that the sources give. Each is read to its end, in order, and no further
 /// than the read that brings a fault.
 pub(crate) fn load_sources<K: Keeper, R: Source>(
@@ -49,18 +78,10 @@ pub(crate) fn load_sources<K: Keeper, R: Source>(
     ensures device { result ≡ Err LoadFault.Device → OneFailed R.failed sources.old sources.new }
     ensures no_device { result ≢ Err LoadFault.Device → NoneFailed R.failed sources.old sources.new }
 {
-    let mut loader = LoaderInto::<K>::new(alloc);
-    for source in sources.iter_mut() {
-        loader.read_part(source)?;
+    match room(alloc) {
+        Ok(mut room) => load_through(alloc, sources, &mut room),
+        Err(_) => Err(LoadFault::Memory),
     }
-    loader.finish()
-}
-
-/// Room for the bytes that a source is asked for at a time.
-fn room(alloc: Global) -> Result<Vec<u8>, AllocError>
-    ensures { IfOk result (λ piece. 0 < vec_len piece) }
-{
-    vec![in alloc; 0u8; 65536]
 }
 
 /// Reads a source to its end as the next part, whatever its lines say: what is wrong with them stands in the loader from then on.

@@ -12,11 +12,11 @@ ghost use Rattle.tigercanon.specs.TwoSets.{IsDifferent, IsDone, IsToldWhy};
 
 use crate::fault::Fault;
 use crate::library::comparing::{FIRST, SECOND};
-use command_line::Job;
 use crate::program::ending::{Ending, Stopped, tell_stopped};
 use crate::program::files::{OpenFile, Opened, is_missing_a_file, open_files};
 use crate::program::jobs::do_job;
 use crate::program::writing::LentOut;
+use command_line::Job;
 use std::alloc::Global;
 use std::io::{Read, Write};
 use tl_layout::Mask;

@@ -7,9 +7,9 @@ ghost use Rattle.tigercanon.specs.Outcomes.{TellsLine, TellsLineTo};
 ghost use Rattle.tigercanon.specs.Refusals.{IsUsage, not_utf8, plan_text_of};
 ghost use Rattle.tigercanon.specs.Statuses.{plan_status_of};
 
-use command_line::PlanFault;
 use crate::program::ending::tell_line;
 use crate::program::writing::LentOut;
+use command_line::PlanFault;
 use std::alloc::Global;
 use std::io::{Error, ErrorKind, Write};
 use tl_write::Sink;

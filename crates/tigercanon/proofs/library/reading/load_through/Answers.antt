@@ -8,7 +8,7 @@ use Rattle.tigercanon.specs.Respelling.{record_limit}
 use Rattle.tigercanon.proofs.CanonicalTexts.{if_ok_by, if_err_by}
 use Rattle.tigercanon.proofs.ReadParts.{all_read, nothing_more, none_more, one_failed, one_more_at, untouched_at, up_to_at}
 use Rattle.tigercanon.proofs.Standing.{counted_device, counted_none, none_standing, standing_fault}
-use Rattle.tigercanon.proofs.library.reading.load_sources.Goals as goal
+use Rattle.tigercanon.proofs.library.reading.load_through.Goals as goal
 
 pub loop-source-init : goal.loop-source-init
 loop-source-init g c = record {
@@ -18,68 +18,68 @@ loop-source-init g c = record {
   counted = c.new-loader.ensures.parts;
 }
 
-pub read_part-requires-clause-parts : goal.read_part-requires-clause-parts
-read_part-requires-clause-parts g c = omega arith
+pub read_part_by-requires-clause-parts : goal.read_part_by-requires-clause-parts
+read_part_by-requires-clause-parts g c = omega arith
 
-pub read_part-requires-clause-failures : goal.read_part-requires-clause-failures
-read_part-requires-clause-failures g c =
+pub read_part_by-requires-clause-failures : goal.read_part_by-requires-clause-failures
+read_part_by-requires-clause-failures g c =
     let i = c.loop-source.source-index in
     let d = c.source-item.result in
     let r = c.loop-source.invariant.read in
     let same = untouched_at g.R.Source.remaining g.R.Source.given _ _ r.0 i d d r.1 r.2 c.loop-source-test.true in
-    subst (λ s. g.R.Source.failed s < MAX) (sym same) (c.requires i d c.loop-source-test.true)
+    subst (λ s. g.R.Source.failed s < MAX) (sym same) (c.requires.failures i d c.loop-source-test.true)
 
-pub returns-in_err-read_part-clause-faulty : goal.returns-in_err-read_part-clause-faulty
-returns-in_err-read_part-clause-faulty g c =
+pub returns-in_err-read_part_by-clause-faulty : goal.returns-in_err-read_part_by-clause-faulty
+returns-in_err-read_part_by-clause-faulty g c =
     let p = err_from_is_err_and c.from_residual.result c.from_residual.ensures.1 in
     rw (p.1, p.2) (λ lines.
     let i = c.loop-source.source-index in
     let d = c.source-item.result in
-    let x = c.read_part.new.source in
+    let x = c.read_part_by.new.source in
     let r = c.loop-source.invariant.read in
-    let f = c.in_err-read_part.ensures.fed in
-    let fault = c.in_err-read_part.field-0.0 in
+    let f = c.in_err-read_part_by.ensures.fed in
+    let fault = c.in_err-read_part_by.field-0.0 in
     elim (f.3 record_limit r.0 [] r.3) [
       | inl (end, fed) ↦ (
         r.0 ++ f.0 ∷ [],
         [],
         nothing_more g.R.Source.remaining g.R.Source.given _ _ _
             (one_more_at g.R.Source.remaining g.R.Source.given _ _ r.0 i d x r.1 r.2 c.loop-source-test.true f.0 f.1 end),
-        standing_fault g.K.Keeper.holds c.read_part.new.self fault _ _ c.in_err-read_part.ensures.told fed lines,
+        standing_fault g.K.Keeper.holds c.read_part_by.new.self fault _ _ c.in_err-read_part_by.ensures.told fed lines,
       )
       | inr fed ↦ (
         r.0,
         f.0,
         up_to_at g.R.Source.remaining g.R.Source.given _ _ r.0 i d x r.1 r.2 c.loop-source-test.true f.0 f.1,
-        standing_fault g.K.Keeper.holds c.read_part.new.self fault _ _ c.in_err-read_part.ensures.told fed lines,
+        standing_fault g.K.Keeper.holds c.read_part_by.new.self fault _ _ c.in_err-read_part_by.ensures.told fed lines,
       )
     ])
 
-pub returns-in_err-read_part-clause-device : goal.returns-in_err-read_part-clause-device
-returns-in_err-read_part-clause-device g c = λ told.
+pub returns-in_err-read_part_by-clause-device : goal.returns-in_err-read_part_by-clause-device
+returns-in_err-read_part_by-clause-device g c = λ told.
     let p = err_from_is_err_and c.from_residual.result c.from_residual.ensures.1 in
-    let is : c.in_err-read_part.field-0.0 ≡ faults.Device = cc in
+    let is : c.in_err-read_part_by.field-0.0 ≡ faults.Device = cc in
     let i = c.loop-source.source-index in
     let d = c.source-item.result in
-    one_failed g.R.Source.failed _ _ i d c.read_part.new.source c.loop-source.invariant.none_failed c.loop-source-test.true
-    (counted_device c.in_err-read_part.field-0.0 _ _ (c.in_err-read_part.ensures.device c.loop-source.invariant.no_fault) is)
+    one_failed g.R.Source.failed _ _ i d c.read_part_by.new.source c.loop-source.invariant.none_failed c.loop-source-test.true
+    (counted_device c.in_err-read_part_by.field-0.0 _ _ (c.in_err-read_part_by.ensures.device c.loop-source.invariant.no_fault) is)
 
-pub returns-in_err-read_part-clause-no_device : goal.returns-in_err-read_part-clause-no_device
-returns-in_err-read_part-clause-no_device g c = λ other.
+pub returns-in_err-read_part_by-clause-no_device : goal.returns-in_err-read_part_by-clause-no_device
+returns-in_err-read_part_by-clause-no_device g c = λ other.
     let p = err_from_is_err_and c.from_residual.result c.from_residual.ensures.1 in
     let i = c.loop-source.source-index in
     let d = c.source-item.result in
-    none_more g.R.Source.failed _ _ i d c.read_part.new.source c.loop-source.invariant.none_failed
-    (counted_none c.in_err-read_part.field-0.0 _ _ (c.in_err-read_part.ensures.device c.loop-source.invariant.no_fault)
+    none_more g.R.Source.failed _ _ i d c.read_part_by.new.source c.loop-source.invariant.none_failed
+    (counted_none c.in_err-read_part_by.field-0.0 _ _ (c.in_err-read_part_by.ensures.device c.loop-source.invariant.no_fault)
     (λ is. other (p.1 ∙ ap Err (p.2 ∙ is))))
 
 pub loop-source-preserved : goal.loop-source-preserved
 loop-source-preserved g c =
     let i = c.loop-source.source-index in
     let d = c.source-item.result in
-    let x = c.read_part.new.source in
+    let x = c.read_part_by.new.source in
     let r = c.loop-source.invariant.read in
-    let f = c.in_ok-read_part.ensures.fed in
+    let f = c.in_ok-read_part_by.ensures.fed in
     let p = f.3 record_limit r.0 [] r.3 in
     record {
       read = (
@@ -89,9 +89,9 @@ loop-source-preserved g c =
         p.1,
       );
       none_failed = none_more g.R.Source.failed _ _ i d x c.loop-source.invariant.none_failed
-          (c.in_ok-read_part.ensures.device c.loop-source.invariant.no_fault);
-      no_fault = c.in_ok-read_part.ensures.ok;
-      counted = c.in_ok-read_part.ensures.parts ∙ ap (λ (n : ℕ). n + 1) c.loop-source.invariant.counted;
+          (c.in_ok-read_part_by.ensures.device c.loop-source.invariant.no_fault);
+      no_fault = c.in_ok-read_part_by.ensures.ok;
+      counted = c.in_ok-read_part_by.ensures.parts ∙ ap (λ (n : ℕ). n + 1) c.loop-source.invariant.counted;
     }
 
 pub returns-clause-loaded : goal.returns-clause-loaded

@@ -1,7 +1,7 @@
 use Rattle.std.proofs.Common.{◌≡◌, None}
 use Rattle.tigercanon.proofs.ReadParts.{HasRead}
 use Rattle.tigercanon.specs.Reading.{NoneFailed}
-use Rattle.tigercanon.proofs.library.reading.load_sources.Given as goal
+use Rattle.tigercanon.proofs.library.reading.load_through.Given as goal
 
 -- the sources so far were read to their ends, none has failed, and the loader was fed what they gave
 abbrev pub invariant-loop-source : goal.invariant-loop-source
