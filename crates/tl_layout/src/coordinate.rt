@@ -79,7 +79,7 @@ fn minus(magnitude: Option<u32>) -> Coordinate
 /// What a coordinate's field holds, whose magnitude may be up to the limit.
 #[inline(never)]
 #[tactic(auto, unfolding(crate::specs::CoordinateReading::coordinate_of, crate::specs::CoordinateReading::signed_of))]
-pub(crate) fn read_coordinate(field: &[u8], limit: u32) -> Coordinate
+fn read_coordinate(field: &[u8], limit: u32) -> Coordinate
     requires len { length field.now ≤ 19 }
     requires within { limit ≤ MOST_LONGITUDE }
     ensures { result ≡ coordinate_of limit field.now }
@@ -109,7 +109,7 @@ fn signed(sign: u8, magnitude: u64) -> Option<i32>
 
 /// The longitude in a field of a sign and nine digits.
 #[inline(always)]
-pub(crate) fn usual_longitude(field: &[u8]) -> Option<i32>
+fn usual_longitude(field: &[u8]) -> Option<i32>
     requires { length field.now ≡ 10 }
     ensures { IfSome result (λ value. coordinate_of MOST_LONGITUDE field.now ≡ Value value) }
 {
@@ -121,11 +121,35 @@ pub(crate) fn usual_longitude(field: &[u8]) -> Option<i32>
 
 /// The latitude in a field of a sign and eight digits.
 #[inline(always)]
-pub(crate) fn usual_latitude(field: &[u8]) -> Option<i32>
+fn usual_latitude(field: &[u8]) -> Option<i32>
     requires { length field.now ≡ 9 }
     ensures { IfSome result (λ value. coordinate_of MOST_LATITUDE field.now ≡ Value value) }
 {
     signed(field[0], eight_digits(u8x8::from_slice(&field[1..]))?)
+}
+
+/// The longitude that a field holds.
+#[inline(always)]
+pub fn read_longitude(field: &[u8]) -> Coordinate
+    requires { length field.now ≡ 10 }
+    ensures { result ≡ coordinate_of MOST_LONGITUDE field.now }
+{
+    match usual_longitude(field) {
+        Some(value) => Coordinate::Value(value),
+        None => read_coordinate(field, MOST_LONGITUDE),
+    }
+}
+
+/// The latitude that a field holds.
+#[inline(always)]
+pub fn read_latitude(field: &[u8]) -> Coordinate
+    requires { length field.now ≡ 9 }
+    ensures { result ≡ coordinate_of MOST_LATITUDE field.now }
+{
+    match usual_latitude(field) {
+        Some(value) => Coordinate::Value(value),
+        None => read_coordinate(field, MOST_LATITUDE),
+    }
 }
 
 /// Writes the last digits of a number, as many as there is room for.

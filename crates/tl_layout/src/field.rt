@@ -1,6 +1,6 @@
 //! Fields of a line by their columns, counted from 1 as in the column tables.
 
-ghost use Rattle.std.specs.Prelude.{◌≡◌, ◌+◌, ◌-◌, ◌≤◌, ◌<◌, ◌++◌, length, take, IfOk, IfSome, Ok};
+ghost use Rattle.std.specs.Prelude.{◌≡◌, ◌+◌, ◌-◌, ◌≤◌, ◌<◌, ◌++◌, length, take, IfOk};
 ghost use Rattle.tl_layout.specs.Bytes.{AreAllowed, IsText, columns};
 ghost use Rattle.tl_layout.specs.Columns.{joined};
 ghost use Rattle.tl_layout.specs.FieldFaults.{gap, bad_point};
@@ -8,9 +8,7 @@ ghost use Rattle.tl_layout.specs.FieldReading.{number_at, number_or_none_at, poi
 ghost use Rattle.tl_layout.specs.FieldTexts.{number_text, coordinate_text};
 ghost use Rattle.tl_layout.specs.Numbers.{IsNumber, IsNumberOrNone};
 
-use crate::coordinate::{
-    Coordinate, MOST_LATITUDE, MOST_LONGITUDE, read_coordinate, usual_latitude, usual_longitude,
-};
+use crate::coordinate::{Coordinate, read_latitude, read_longitude};
 use crate::fault::{FieldFault, FieldKind};
 use crate::layout::LONGEST_LINE;
 use crate::number::{number, put_number};
@@ -96,33 +94,16 @@ pub fn gap(column: usize) -> FieldFault
     }
 }
 
-/// The pair of coordinates that begins at this column, if both are in the form that most have: a sign, and a digit in each column
-/// behind it.
+/// The pair of coordinates that begins at this column, where there may be none.
 #[inline(always)]
 #[tactic(auto, using(crate::specs::CoordinateLaws::coordinate_read_within), unfolding(crate::specs::FieldReading::point_or_none_at, crate::specs::FieldReading::point_or_none))]
-fn usual_point_or_none(line: &[u8], column: usize) -> Option<Option<Point>>
-    requires from_one { 1 ≤ column }
-    requires within { (column + 18 ≤ length line.now) × (column + 18 ≤ LONGEST_LINE) }
-    ensures { IfSome result (λ point. point_or_none_at column line.now ≡ Ok point) }
-{
-    let long = usual_longitude(&line[column - 1..column + 9])?;
-    let lat = usual_latitude(&line[column + 9..column + 18])?;
-    if long == 0 && lat == 0 {
-        return Some(None);
-    }
-    Some(Some(Point::new(long, lat)))
-}
-
-/// The pair of coordinates that begins at this column, in any form, where there may be none.
-#[inline(never)]
-#[tactic(auto, using(crate::specs::CoordinateLaws::coordinate_read_within), unfolding(crate::specs::FieldReading::point_or_none_at, crate::specs::FieldReading::point_or_none))]
-fn any_point_or_none(line: &[u8], column: usize) -> Result<Option<Point>, FieldFault>
+pub fn read_point_or_none(line: &[u8], column: usize) -> Result<Option<Point>, FieldFault>
     requires from_one { 1 ≤ column }
     requires within { (column + 18 ≤ length line.now) × (column + 18 ≤ LONGEST_LINE) }
     ensures { result ≡ point_or_none_at column line.now }
 {
-    let long = read_coordinate(&line[column - 1..column + 9], MOST_LONGITUDE);
-    let lat = read_coordinate(&line[column + 9..column + 18], MOST_LATITUDE);
+    let long = read_longitude(&line[column - 1..column + 9]);
+    let lat = read_latitude(&line[column + 9..column + 18]);
     match (long, lat) {
         (Coordinate::Malformed, _) => Err(bad_point(column)),
         (_, Coordinate::Malformed) => Err(bad_point(column + 10)),
@@ -130,19 +111,6 @@ fn any_point_or_none(line: &[u8], column: usize) -> Result<Option<Point>, FieldF
         (Coordinate::Value(0), Coordinate::Value(0)) => Ok(None),
         (Coordinate::Value(long), Coordinate::Value(lat)) => Ok(Some(Point::new(long, lat))),
         _ => Err(bad_point(column)),
-    }
-}
-
-/// The pair of coordinates that begins at this column, where there may be none.
-#[inline(always)]
-pub fn read_point_or_none(line: &[u8], column: usize) -> Result<Option<Point>, FieldFault>
-    requires from_one { 1 ≤ column }
-    requires within { (column + 18 ≤ length line.now) × (column + 18 ≤ LONGEST_LINE) }
-    ensures { result ≡ point_or_none_at column line.now }
-{
-    match usual_point_or_none(line, column) {
-        Some(point) => Ok(point),
-        None => any_point_or_none(line, column),
     }
 }
 
