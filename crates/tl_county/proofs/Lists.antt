@@ -7,4 +7,5 @@ pub mod EntryLists
 pub mod Places
 pub mod Counted
 pub mod Permutations
+pub mod FreePlaces
 pub mod Groups

@@ -1,5 +1,6 @@
 //! Keys of records, in order, and sets of them.
 
+pub(crate) mod by_number;
 pub(crate) mod key_set;
 pub(crate) mod keyed;
 pub(crate) mod marks;

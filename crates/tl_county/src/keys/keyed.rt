@@ -1,11 +1,12 @@
 //! Lists of what has a key, in the order of their keys.
 
 ghost use Rattle.std.specs.declared.cmp.Ordering.TheVariants.{Equal};
-ghost use Rattle.std.specs.Ordering.{on, is_eq, is_gt, is_lt};
+ghost use Rattle.std.specs.Ordering.{nat_cmp, on, is_eq, is_gt, is_lt};
 ghost use Rattle.std.specs.Prelude.{◌≡◌, List, map, filter, not, false, true, Some, None, OnOk, IfOk, IfSome, IsPermutation, slice_get, is_some};
 ghost use Rattle.tl_county.specs.Keyed.{IsLeastPassing, is_repeated, is_unknown};
 ghost use Rattle.tl_county.specs.Orders.{IsInOrder, distinct, stands_in};
 
+use crate::keys::by_number::bring_by_number;
 use std::alloc::{AllocError, Global};
 use std::cmp::Ordering;
 
@@ -69,21 +70,26 @@ fn keys_in_order<K: Key, T: Keyed<K>>(
     Ok(Some(keys))
 }
 
-/// Puts the items in the order of their keys, and answers their keys in that order. Where the items are in order already each
-/// is read once; else they are moved as `put_in_order` moves them.
-pub(crate) fn put_in_order_with_keys<K: Key, T: Keyed<K>>(
+/// Puts the items in the order of their numbers, and answers these in that order. Where the items are in order already each is read
+/// once. Else each is brought to its place by one move, and only if they still don't stand in order they are put there as
+/// `put_in_order` does it.
+pub(crate) fn put_in_order_with_numbers<T: Keyed<u64> + Copy>(
     alloc: Global,
     items: &mut Vec<T>,
-) -> Result<Vec<K>, AllocError>
+) -> Result<Vec<u64>, AllocError>
     ensures permutation { IsPermutation items.old.items items.new.items }
-    ensures in_order { OnOk result (IsInOrder (on T.key_of K.cmp) items.new.items) }
-    ensures keys { IfOk result (λ keys. keys.items ≡ map T.key_of items.new.items) }
+    ensures in_order { OnOk result (IsInOrder (on T.key_of nat_cmp) items.new.items) }
+    ensures numbers { IfOk result (λ numbers. numbers.items ≡ map T.key_of items.new.items) }
 {
-    if let Some(keys) = keys_in_order::<K, T>(alloc, items)? {
-        return Ok(keys);
+    if let Some(numbers) = keys_in_order::<u64, T>(alloc, items)? {
+        return Ok(numbers);
     }
-    items.sort_by_cached_key(|item| item.key())?;
-    keys_of::<K, T>(alloc, items)
+    bring_by_number(items)?;
+    if let Some(numbers) = keys_in_order::<u64, T>(alloc, items)? {
+        return Ok(numbers);
+    }
+    put_in_order::<u64, T>(items)?;
+    keys_of::<u64, T>(alloc, items)
 }
 
 /// Puts keys in order. It takes no memory.
