@@ -9,7 +9,7 @@ use Rattle.std.proofs.lemmas.Option.{none-some, same_Some}
 use Rattle.std.specs.List.{list_any, position}
 use Rattle.tl_county.specs.Orders.{times, stands_in}
 use Rattle.tl_county.proofs.ByKey.KeySets.{any-stands_in}
-use Rattle.tl_county.proofs.ByKey.Keys.{IsKeyOrder, same-itself, same_or_not}
+use Rattle.tl_county.proofs.ByKey.Keys.{IsKeyOrder, same-itself}
 use Rattle.tl_county.proofs.ByKey.PlacesOfCenids.{known_at}
 use Rattle.tl_number.specs.PlacedKeys.{AreApart, ArePlaced}
 use Rattle.tl_number.proofs.SeenKeys.{place_found}
@@ -147,11 +147,3 @@ module _ {K : Type 0} {cmp : K → K → Ordering} (o : IsKeyOrder cmp) where
   added_first (Ok place) ks new k none added at =
       ap Some at ∙ added_last ks k none ∙ ap (position (λ other. is_eq (cmp k other))) (sym added)
   added_first (Err e) ks new k none added at = tt
-
-  -- another key isn't equal to it
-  pub unequal : (eq : K → K → Bool) → ((x y : K) → eq x y ≡ is_eq (cmp x y)) → (k j : K) → (j ≡ k → ⊥) → eq k j ≡ false
-  unequal eq same k j apart = go (same_or_not o k j)
-    where
-      go : (k ≡ j) ⊎ (is_eq (cmp k j) ≡ false) → eq k j ≡ false
-      go (inl e) = absurd (apart (sym e))
-      go (inr ne) = same k j ∙ ne

@@ -95,6 +95,18 @@ fn mark_at(marks: &[u32], number: u64) -> u32
     }
 }
 
+/// Whether there is a mark at a number, and none is set.
+#[inline(always)]
+fn is_free(marks: &[u32], number: usize) -> bool
+    ensures within { IsTrue result → number < length marks.now }
+    ensures free { IsTrue result → slice_index marks.now number ≡ 0 }
+{
+    match marks.get(number) {
+        Some(mark) => *mark == 0,
+        None => false,
+    }
+}
+
 /// Whether a key stands at a place.
 #[inline(always)]
 pub(crate) fn stands_at<K: Key>(keys: &[K], place: usize, key: K) -> bool
@@ -141,6 +153,28 @@ fn place_of<K: Key + Hash + Numbered>(
     place_among(keys, others, key)
 }
 
+/// Adds a key to the keys, and its place to those that are looked up by hash. Where memory is lacking for the second, the place may
+/// be there already.
+fn push_into_table<K: Key + Hash>(
+    keys: &mut Vec<K>,
+    others: &mut IndexMap<K, usize>,
+    key: K,
+    place: usize,
+) -> Result<(), AllocError>
+    ensures small { OnOk result (place + 1 < 2 ^ 63) }
+    ensures added { OnOk result (keys.new.items ≡ keys.old.items ++ key ∷ []) }
+    ensures placed { OnOk result (get K.eq others.new key ≡ Some place) }
+    ensures kept { OnErr result (keys.new.items ≡ keys.old.items) }
+    ensures apart { (other : K) → (other ≡ key → ⊥) → get K.eq others.new other ≡ get K.eq others.old other }
+{
+    if place >= MOST_KEYS {
+        return Err(AllocError);
+    }
+    others.insert(key, place)?;
+    keys.push(key)?;
+    Ok(())
+}
+
 impl<K: Key + Hash + Numbered> Numbers<K> {
     /// No keys, without memory.
     pub fn new(alloc: Global) -> Numbers<K>
@@ -179,16 +213,12 @@ impl<K: Key + Hash + Numbered> Numbers<K> {
         ensures kept { OnErr result (self.new ≡ self.old) }
     {
         let place = self.keys.len();
-        if place >= MOST_KEYS {
-            return Err(AllocError);
-        }
         let number = key.number() as usize;
-        if number < self.marks.len() && self.marks[number] == 0 && place < u32::MAX as usize {
+        if place < u32::MAX as usize && is_free(&self.marks, number) {
             self.keys.push(key)?;
             self.marks[number] = place as u32 + 1;
         } else {
-            self.others.insert(key, place)?;
-            self.keys.push(key)?;
+            push_into_table(&mut self.keys, &mut self.others, key, place)?;
         }
         Ok(place)
     }

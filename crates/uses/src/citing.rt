@@ -42,6 +42,25 @@ fn is_same_text(text: &[u8], other: &[u8]) -> bool
     text == other
 }
 
+/// The TLID in another file of the chain that has this TLID in a file, if both have one canonical text and the chain is there. Of each
+/// file that text is given, and the renaming onto it.
+fn tlid_through(
+    there: &(Vec<u8>, Renaming),
+    back: &(Vec<u8>, Renaming),
+    tlid: u64,
+) -> Result<Option<u64>, Fault>
+    ensures same { IfOk result (λ found. IfSome found (λ new. there.now.0.items ≡ back.now.0.items)) }
+    ensures renaming { IfOk result (λ found. IfSome found (λ new. (r : Renumbering)
+        × ((a b c : County) → IsCounty a → IsCounty b → IsCounty c → Carries there.now.1 a b → Carries back.now.1 c b → Carries r a c)
+        × (value_under nat_cmp tlid r.chains ≡ Some new))) }
+{
+    if !is_same_text(&there.0, &back.0) {
+        return Ok(None);
+    }
+    let onto = through(&there.1, &back.1)?;
+    Ok(new_number(onto.chains(), tlid))
+}
+
 /// The TLID that the other file gives to the chain that has this TLID in the file, if both files are one map and the chain is
 /// there.
 ///
@@ -56,9 +75,5 @@ pub fn cited_tlid(alloc: Global, file: &[u8], other: &[u8], tlid: u64) -> Result
     linked_records_have_a_well_formed_county();
     let cited = normalise_with_renaming(alloc, &[file])?;
     let kept = normalise_with_renaming(alloc, &[other])?;
-    if !is_same_text(&cited.0, &kept.0) {
-        return Ok(None);
-    }
-    let onto = through(&cited.1, &kept.1)?;
-    Ok(new_number(onto.chains(), tlid))
+    tlid_through(&cited, &kept, tlid)
 }

@@ -1,11 +1,10 @@
-use Rattle.std.proofs.Common.{◌≡◌, ◌∙◌, Result, IfErr, IsErrAnd, [], ◌∷◌, subst, arith}
+use Rattle.std.proofs.Common.{◌∙◌, [], ◌∷◌, subst, arith}
 use Rattle.std.proofs.lemmas.List.{take_all}
 use Rattle.tl_layout.proofs.Exits.{exit_with}
 use Rattle.tl_layout.specs.declared.record_type.TheConstants.{MOST_RECORDS}
 use Rattle.tl_load.specs.Choice.{tiger}
 use Rattle.tl_load.specs.Loaded.{IsOfLines, WasFed}
 use Rattle.tl_load.specs.Outcome.{FaultAt}
-use Rattle.tl_load.specs.declared.fault.LoadFault.{LoadFault}
 use Rattle.uses.proofs.WholeFile.{whole, whole_so_far, fault_of_whole}
 use Rattle.uses.proofs.pieces.load_pieces.Goals as goal
 

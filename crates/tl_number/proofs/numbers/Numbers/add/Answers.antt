@@ -1,14 +1,13 @@
-use Rattle.std.proofs.Common.{◌≡◌, ◌<◌, ◌^◌, ◌+◌, ◌∷◌, [], ◌++◌, Some, get_or, length, length-append, refl, set, ap, sym, subst, ◌∙◌, arith}
-use Rattle.std.proofs.lemmas.List.{get_or_read_under}
+use Rattle.std.proofs.Common.{◌≡◌, ◌<◌, ◌^◌, ◌+◌, ◌∷◌, [], ◌++◌, Some, get_or, length, length-append, set, ap, sym, subst, ◌∙◌, arith}
 use Rattle.indexmap.specs.IndexMap.{get}
 use Rattle.tl_county.specs.Orders.{stands_in}
 use Rattle.tl_county.proofs.ByKey.Keys.{IsKeyOrder}
 use Rattle.tl_number.specs.PlacedKeys.{AreApart, ArePlaced}
-use Rattle.tl_number.proofs.PlacedKeys.{apart_more, marked_more, nowhere, tabled_ahead, tabled_more, unequal}
+use Rattle.tl_number.proofs.PlacedKeys.{apart_more, marked_more, nowhere, tabled_ahead, tabled_more}
 use Rattle.tl_number.proofs.numbers.Numbers.add.Goals as goal
 
-pub invariant_of-self-then-place : goal.invariant_of-self-then-place
-invariant_of-self-then-place g c =
+pub invariant_of-self-then-is_free : goal.invariant_of-self-then-is_free
+invariant_of-self-then-is_free g c =
     let o : IsKeyOrder g.K.Ord.cmp = record { total = g.met.K.Ord.total; exact = g.met.K.Key.exact } in
     let keys = c.self.inside.keys.items in
     let marks = c.self.inside.marks.items in
@@ -17,50 +16,47 @@ invariant_of-self-then-place g c =
     let new = nowhere o keys key (ap (stands_in g.K.Ord.cmp key) c.self.view_is ∙ c.requires.new) in
     let more : c.push.new.self.items ≡ keys ++ key ∷ [] = c.in_ok-push.ensures.items in
     let count = length-append keys (key ∷ []) in
-    let within : n < length marks = omega (arith, c.if-number-len.true, c.len.ensures, c.self.inside.marks.ok.0) in
-    let free : get_or marks n 0 ≡ 0 =
-    sym (get_or_read_under marks n (length marks) c.index.result.now 0 c.index.ensures within refl) ∙ c.if-index-eq0.true in
+    let within : n < length marks = subst (λ l. n < length l) c.deref.ensures.value (c.is_free.ensures.within c.if-is_free.true) in
+    let free : get_or marks n 0 ≡ 0 = subst (λ l. get_or l n 0 ≡ 0) c.deref.ensures.value (c.is_free.ensures.free c.if-is_free.true) in
     let told : c.len-place.result + 1 ≡ length keys + 1 = omega (arith, c.len-place.ensures, c.self.inside.keys.ok.0) in (
       subst AreApart (sym more) (apart_more keys key c.self.invariant.0 new),
       subst (λ l. ArePlaced g.K.Numbered.number_of (get g.K.PartialEq.eq c.self.inside.others) (set marks n (c.len-place.result + 1)) l) (sym more)
           (marked_more g.K.Numbered.number_of (get g.K.PartialEq.eq c.self.inside.others) marks keys key n (c.len-place.result + 1)
           c.self.invariant.1 (sym c.number-number.ensures) within free told),
       (let all = ap length more in
-          omega (arith, all, count, c.if-place-ge-MOST_KEYS.false, c.len-place.ensures, c.self.inside.keys.ok.0)),
+          omega (arith, all, count, c.if-place.true, c.len-place.ensures, c.self.inside.keys.ok.0)),
     )
 
-pub invariant_of-self-in-Continue-branch-3 : goal.invariant_of-self-in-Continue-branch-3
-invariant_of-self-in-Continue-branch-3 g c =
+pub invariant_of-self-in-Continue-branch-2 : goal.invariant_of-self-in-Continue-branch-2
+invariant_of-self-in-Continue-branch-2 g c =
     let o : IsKeyOrder g.K.Ord.cmp = record { total = g.met.K.Ord.total; exact = g.met.K.Key.exact } in
     let keys = c.self.inside.keys.items in
     let marks = c.self.inside.marks.items in
     let key = c.args.key in
     let new = nowhere o keys key (ap (stands_in g.K.Ord.cmp key) c.self.view_is ∙ c.requires.new) in
-    let more : c.push-else-number-len.new.self.items ≡ keys ++ key ∷ [] = c.in_ok-push-2.ensures.items in
+    let more : c.push_into_table.new.keys.items ≡ keys ++ key ∷ [] = c.in_ok-push_into_table.ensures.added in
     let count = length-append keys (key ∷ []) in
-    let told : c.len-place.result ≡ length keys = omega (arith, c.len-place.ensures, c.self.inside.keys.ok.0) in
-    let updates = c.in_ok-insert.ensures.updates in (
+    let told : c.len-place.result ≡ length keys = omega (arith, c.len-place.ensures, c.self.inside.keys.ok.0) in (
       subst AreApart (sym more) (apart_more keys key c.self.invariant.0 new),
-      subst (λ l. ArePlaced g.K.Numbered.number_of (get g.K.PartialEq.eq c.insert.new.self) marks l) (sym more)
-          (tabled_more g.K.Numbered.number_of (get g.K.PartialEq.eq c.self.inside.others) (get g.K.PartialEq.eq c.insert.new.self) marks keys
-          key c.self.invariant.1 (updates.1 ∙ ap Some told)
-          (λ j apart. updates.2 j (unequal o g.K.PartialEq.eq g.met.K.Ord.matches_eq key j apart)) new),
+      subst (λ l. ArePlaced g.K.Numbered.number_of (get g.K.PartialEq.eq c.push_into_table.new.others) marks l) (sym more)
+          (tabled_more g.K.Numbered.number_of (get g.K.PartialEq.eq c.self.inside.others)
+          (get g.K.PartialEq.eq c.push_into_table.new.others) marks keys key c.self.invariant.1
+          (c.in_ok-push_into_table.ensures.placed ∙ ap Some told) c.push_into_table.ensures.apart new),
       (let all = ap length more in
-          omega (arith, all, count, c.if-place-ge-MOST_KEYS.false, c.len-place.ensures, c.self.inside.keys.ok.0)),
+          omega (arith, all, count, c.in_ok-push_into_table.ensures.small, c.len-place.ensures, c.self.inside.keys.ok.0)),
     )
 
-pub invariant_of-self-in_err-push-2 : goal.invariant_of-self-in_err-push-2
-invariant_of-self-in_err-push-2 g c =
+pub invariant_of-self-in_err-push_into_table : goal.invariant_of-self-in_err-push_into_table
+invariant_of-self-in_err-push_into_table g c =
     let o : IsKeyOrder g.K.Ord.cmp = record { total = g.met.K.Ord.total; exact = g.met.K.Key.exact } in
     let keys = c.self.inside.keys.items in
     let marks = c.self.inside.marks.items in
     let key = c.args.key in
     let new = nowhere o keys key (ap (stands_in g.K.Ord.cmp key) c.self.view_is ∙ c.requires.new) in
-    let kept : c.push-else-number-len.new.self.items ≡ keys = c.in_err-push-2.ensures.items in
-    let updates = c.in_ok-insert.ensures.updates in (
+    let kept : c.push_into_table.new.keys.items ≡ keys = c.in_err-push_into_table.ensures.kept in (
       subst AreApart (sym kept) c.self.invariant.0,
-      subst (λ l. ArePlaced g.K.Numbered.number_of (get g.K.PartialEq.eq c.insert.new.self) marks l) (sym kept)
-          (tabled_ahead g.K.Numbered.number_of (get g.K.PartialEq.eq c.self.inside.others) (get g.K.PartialEq.eq c.insert.new.self) marks keys
-          key c.self.invariant.1 (λ j apart. updates.2 j (unequal o g.K.PartialEq.eq g.met.K.Ord.matches_eq key j apart)) new),
+      subst (λ l. ArePlaced g.K.Numbered.number_of (get g.K.PartialEq.eq c.push_into_table.new.others) marks l) (sym kept)
+          (tabled_ahead g.K.Numbered.number_of (get g.K.PartialEq.eq c.self.inside.others)
+          (get g.K.PartialEq.eq c.push_into_table.new.others) marks keys key c.self.invariant.1 c.push_into_table.ensures.apart new),
       subst (λ l. length l < 2 ^ 63) (sym kept) c.self.invariant.2,
     )
