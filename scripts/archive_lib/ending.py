@@ -5,10 +5,13 @@ from __future__ import annotations
 import atexit
 import os
 import signal
+import sys
 from contextlib import contextmanager
-from typing import Iterator, Optional
+from typing import Any, Iterator, Optional
 
 SIGNALS = (signal.SIGINT, signal.SIGTERM, signal.SIGHUP)
+SOON = 0.05
+"""So many seconds after it was lost a stop comes once more."""
 
 
 class Stopped(BaseException):
@@ -44,6 +47,7 @@ class Ending:
         def stop(number: int, _: object) -> None:
             for each in SIGNALS:
                 signal.signal(each, signal.SIG_DFL)
+            sys.unraisablehook = pass_over
             raise Stopped(number)
 
         for number in SIGNALS:
@@ -67,3 +71,17 @@ class Ending:
             os.kill(os.getpid(), self.number)
         if self.status is not None:
             os._exit(self.status)
+
+
+def pass_over(what: Any) -> None:
+    """What Python can't pass on to anybody when a run is stopped: it comes of an object that was half made, and isn't told. The stop
+    itself can be lost so, where it came while an object was taken apart; then it comes once more."""
+    if not isinstance(what.exc_value, Stopped):
+        return
+    number = what.exc_value.number
+
+    def stop_again(_number: int, _: object) -> None:
+        raise Stopped(number)
+
+    signal.signal(signal.SIGALRM, stop_again)
+    signal.setitimer(signal.ITIMER_REAL, SOON)
