@@ -1,11 +1,12 @@
 -- What number fields spell and what they are read as is one and the same, and the canonical text is among the spellings.
 use Rattle.std.proofs.Common.{◌≡◌, ℕ, ◌+◌, ◌-◌, ◌*◌, ◌≤◌, List, [], ◌∷◌, ◌++◌, Bool, true, false, cond, Option, Some, None, refl}
-use Rattle.std.proofs.Common.{sym, ap, ◌∙◌, arith}
+use Rattle.std.proofs.Common.{sym, ap, ◌∙◌, arith, zero, suc, unwrap_or}
 use Rattle.std.specs.List.{list_all}
 use Rattle.std.proofs.lemmas.Bool.{and_parts, and_from, eqb-true, ne_eqb, leb-true}
 use Rattle.std.proofs.lemmas.List.{append-nil}
 use Rattle.tl_layout.specs.NumberField.{is_blank, is_digit, value_after, IsNumberField}
 use Rattle.tl_layout.specs.NumberReading.{drop_blanks, number_after, number_of}
+use Rattle.tl_layout.specs.Numbers.{none_if_zero}
 
 -- no digit is a blank
 pub digit_not_blank : (byte : ℕ) → is_digit byte ≡ true → is_blank byte ≡ false
@@ -132,3 +133,8 @@ number_only field n h =
     ap (λ l. number_after 0 (drop_blanks l)) h.spelled
     ∙ ap (number_after 0) (drop_blanks-append h.before (h.digits ++ h.after) h.blanks_before)
     ∙ behind_blanks h.digits h.after h.all_digits h.blanks_after ∙ ap Some (sym h.value)
+
+-- a number that is kept so is told again
+pub none_if_zero_again : (n : ℕ) → unwrap_or (none_if_zero n) 0 ≡ n
+none_if_zero_again zero = refl
+none_if_zero_again (suc n) = refl

@@ -1,5 +1,5 @@
 -- The numbers of the map: TLID, RTSQ, FEAT, LAND, POLYID and the numbers of nodes.
-use Rattle.std.specs.Prelude.{ℕ, ◌^◌, ◌<◌, Option, IfSome}
+use Rattle.std.specs.Prelude.{ℕ, zero, suc, ◌^◌, ◌<◌, Option, Some, None, IfSome}
 
 -- a number of at most width digits, and not 0
 abbrev pub IsNumber : ℕ → ℕ → Type 0
@@ -8,3 +8,8 @@ IsNumber width n = (0 < n) × (n < 10 ^ width)
 -- such a number, or none
 abbrev pub IsNumberOrNone : ℕ → Option ℕ → Type 0
 IsNumberOrNone width n = IfSome n (IsNumber width)
+
+-- the number that is kept or written so, where 0 stands for none
+abbrev pub none_if_zero : ℕ → Option ℕ
+none_if_zero zero = None
+none_if_zero (suc n) = Some (suc n)

@@ -17,6 +17,7 @@ mod layout;
 mod mask;
 mod name;
 mod number;
+mod number_or_none;
 mod pair;
 mod place;
 mod point;

@@ -5,6 +5,7 @@ ghost use Rattle.tl_layout.specs.Bytes.{AreAllowed, IsText};
 ghost use Rattle.tl_layout.specs.Numbers.{IsNumberOrNone};
 ghost use Rattle.tl_layout.specs.PolygonSide.{PolygonSide};
 
+use crate::number_or_none::NumberOrNone;
 use crate::text::Text;
 use std::marker::Model;
 
@@ -13,7 +14,7 @@ use std::marker::Model;
 #[derive(Clone, Copy, Debug, PartialEq, Eq)]
 pub struct Side {
     cenid: Text<5>,
-    polyid: Option<u64>,
+    polyid: NumberOrNone,
 }
 
 impl Model for Side {
@@ -41,7 +42,10 @@ impl Side {
         requires { IsNumberOrNone 10 polyid }
         ensures { result ≡ record { cenid = cenid; polyid = polyid } }
     {
-        Side { cenid, polyid }
+        Side {
+            cenid,
+            polyid: NumberOrNone::new(polyid),
+        }
     }
 
     /// The CENID (CENIDL or CENIDR).
@@ -64,7 +68,7 @@ impl Side {
         ensures value { result ≡ self.now.polyid }
         ensures in_range { IsNumberOrNone 10 result }
     {
-        self.polyid
+        self.polyid.get()
     }
 
     /// Does nothing: that both fields fit their columns is so by their types.

@@ -9,6 +9,7 @@ ghost use Rattle.tl_layout.specs.TypeI.{FitsTypeI, body_i_at, type_i_reading, ty
 use crate::fault::FieldFault;
 use crate::field::{read_number, read_number_or_none, text_at};
 use crate::layout::Layout;
+use crate::number_or_none::NumberOrNone;
 use crate::side::Side;
 use crate::text::Text;
 use crate::writing::{write_head, write_number, write_text};
@@ -36,8 +37,8 @@ pub struct BodyI {
 pub struct RecI {
     tlid: u64,
     body: BodyI,
-    start_node: Option<u64>,
-    end_node: Option<u64>,
+    start_node: NumberOrNone,
+    end_node: NumberOrNone,
     left: Side,
     right: Side,
 }
@@ -172,8 +173,8 @@ impl RecI {
         RecI {
             tlid,
             body,
-            start_node,
-            end_node,
+            start_node: NumberOrNone::new(start_node),
+            end_node: NumberOrNone::new(end_node),
             left,
             right,
         }
@@ -199,7 +200,7 @@ impl RecI {
         ensures value { result ≡ self.now.start_node }
         ensures in_range { IsNumberOrNone 10 result }
     {
-        self.start_node
+        self.start_node.get()
     }
 
     /// Number of the node where the chain ends (TZIDE), from 1 to 9,999,999,999, or none.
@@ -207,7 +208,7 @@ impl RecI {
         ensures value { result ≡ self.now.end_node }
         ensures in_range { IsNumberOrNone 10 result }
     {
-        self.end_node
+        self.end_node.get()
     }
 
     /// What stands on the left side (CENIDL, POLYIDL).
@@ -321,8 +322,8 @@ impl Layout for RecI {
         RecI::put_fields(
             self.tlid,
             &self.body,
-            self.start_node,
-            self.end_node,
+            self.start_node.get(),
+            self.end_node.get(),
             &self.left,
             &self.right,
             out,

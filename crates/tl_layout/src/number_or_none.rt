@@ -1,0 +1,58 @@
+//! Numbers that may be none, in eight bytes each.
+
+ghost use Rattle.std.specs.Prelude.{◌≡◌, ◌<◌, IfSome};
+
+use std::fmt;
+use std::marker::Model;
+
+/// A number from 1 on, or none, for which 0 is kept, as it is in a line: half of what an `Option` takes.
+#[derive(Clone, Copy, PartialEq, Eq)]
+pub(crate) struct NumberOrNone {
+    kept: u64,
+}
+
+impl Model for NumberOrNone {
+    ghost use Rattle.std.proofs.Common.{ap};
+    ghost use Rattle.std.specs.Prelude.{ℕ, Option, unwrap_or};
+    ghost use Rattle.tl_layout.specs.NumberLaws.{none_if_zero_again};
+    ghost use Rattle.tl_layout.specs.Numbers.{none_if_zero};
+
+    ghost Value = { Option ℕ };
+
+    ghost view = { λ number. none_if_zero number.kept };
+
+    ghost inverse = { λ number. record { kept = unwrap_or number 0 } };
+
+    ghost inverse_ok = { λ number _. ap (λ kept. record { kept = kept }) (none_if_zero_again number.kept) };
+}
+
+/// As the `Option` that it stands for.
+impl fmt::Debug for NumberOrNone {
+    fn fmt<W: fmt::Write>(&self, f: &mut fmt::Formatter<W>) -> fmt::Result {
+        fmt::Debug::fmt(&self.get(), f)
+    }
+}
+
+impl NumberOrNone {
+    /// This number, or none.
+    #[inline(always)]
+    pub(crate) fn new(number: Option<u64>) -> NumberOrNone
+        requires { IfSome number (λ n. 0 < n) }
+        ensures { result ≡ number }
+    {
+        NumberOrNone {
+            kept: number.unwrap_or(0),
+        }
+    }
+
+    /// The number, or none.
+    #[inline(always)]
+    pub(crate) fn get(&self) -> Option<u64>
+        ensures { result ≡ self.now }
+    {
+        match self.kept {
+            0 => None,
+            number => Some(number),
+        }
+    }
+}
