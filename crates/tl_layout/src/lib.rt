@@ -48,6 +48,7 @@ pub use laws::{
 pub use layout::{LONGEST_LINE, Layout};
 pub use mask::Mask;
 pub use name::FeatureName;
+pub use number_or_none::NumberOrNone;
 pub use pair::LeftRight;
 pub use point::Point;
 pub use ranges::Ranges;

@@ -6,8 +6,8 @@ use std::fmt;
 use std::marker::Model;
 
 /// A number from 1 on, or none, for which 0 is kept, as it is in a line: half of what an `Option` takes.
-#[derive(Clone, Copy, PartialEq, Eq)]
-pub(crate) struct NumberOrNone {
+#[derive(Clone, Copy)]
+pub struct NumberOrNone {
     kept: u64,
 }
 
@@ -26,7 +26,27 @@ impl Model for NumberOrNone {
     ghost inverse_ok = { λ number _. ap (λ kept. record { kept = kept }) (none_if_zero_again number.kept) };
 }
 
-/// As the `Option` that it stands for.
+/// Equal as the `Option`s that they stand for.
+impl PartialEq for NumberOrNone {
+    ghost use Rattle.std.specs.Cmp.Rules.{comparing};
+    ghost use Rattle.std.proofs.Common.{rules};
+
+    ghost eq = { ⟦<Option<u64> as PartialEq>⟧.eq };
+
+    ghost laws = { Prim.search (comparing, rules) };
+
+    fn eq(&self, other: &NumberOrNone) -> bool {
+        self.get() == other.get()
+    }
+}
+
+impl Eq for NumberOrNone {
+    ghost use Rattle.std.proofs.Common.{rules};
+
+    ghost laws = { Prim.search rules };
+}
+
+/// Told as the `Option` that it stands for.
 impl fmt::Debug for NumberOrNone {
     fn fmt<W: fmt::Write>(&self, f: &mut fmt::Formatter<W>) -> fmt::Result {
         fmt::Debug::fmt(&self.get(), f)
@@ -36,7 +56,7 @@ impl fmt::Debug for NumberOrNone {
 impl NumberOrNone {
     /// This number, or none.
     #[inline(always)]
-    pub(crate) fn new(number: Option<u64>) -> NumberOrNone
+    pub fn new(number: Option<u64>) -> NumberOrNone
         requires { IfSome number (λ n. 0 < n) }
         ensures { result ≡ number }
     {
@@ -47,8 +67,9 @@ impl NumberOrNone {
 
     /// The number, or none.
     #[inline(always)]
-    pub(crate) fn get(&self) -> Option<u64>
-        ensures { result ≡ self.now }
+    pub fn get(&self) -> Option<u64>
+        ensures value { result ≡ self.now }
+        ensures from_one { IfSome result (λ n. 0 < n) }
     {
         match self.kept {
             0 => None,

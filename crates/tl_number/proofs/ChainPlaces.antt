@@ -1,11 +1,11 @@
 -- The chain at a place of a county within its limits.
-use Rattle.std.proofs.Common.{◌≡◌, ◌+◌, ◌-◌, ◌<◌, ◌≤◌, ℕ, zero, suc, List, [], ◌∷◌, length, map, Some, option_map}
+use Rattle.std.proofs.Common.{◌≡◌, ◌+◌, ◌-◌, ◌<◌, ◌≤◌, ℕ, zero, suc, List, [], ◌∷◌, length, map, Option, Some, None, IfSome, option_map}
 use Rattle.std.proofs.Common.{slice_get, refl, ap, ◌∙◌, subst, arith}
 use Rattle.std.proofs.lemmas.List.{length-map}
 use Rattle.std.proofs.lemmas.Option.{slice_get-map}
 use Rattle.std.specs.List.{AllByRecursion}
 use Rattle.tl_layout.specs.Coordinates.{Coordinates}
-use Rattle.tl_layout.specs.Numbers.{IsNumber}
+use Rattle.tl_layout.specs.Numbers.{IsNumber, IsNumberOrNone}
 use Rattle.tl_shape.specs.Chain.{Chain}
 use Rattle.tl_county.specs.ChartWords.{chain_at}
 use Rattle.tl_county.specs.County.{County}
@@ -53,6 +53,11 @@ chain_there county is within place h =
 pub chain_of_group : {Y : Type 0} (f : ℕ × Chain → List Y) (county : County) → IsCounty county → IsWithinLimits most_records county
     → (place : ℕ) → place < length (map f county.chains) → ChainThere county place
 chain_of_group f county is within place h = chain_there county is within place (subst (λ n. place < n) (length-map county.chains f) h)
+
+-- a node is none, or counts from 1
+pub from_one : (node : Option ℕ) → IsNumberOrNone 10 node → IfSome node (λ number. 0 < number)
+from_one None h = tt
+from_one (Some number) h = h.0
 
 -- the ends of a chain, and what lies between
 pub first_at : (points : List Coordinates) → 1 ≤ length points → slice_get points 0 ≡ Some (first_point points)

@@ -175,14 +175,14 @@ impl<C: Chart, S: Standing> Chart for Arranged<C, S> {
 
     fn start_node_at(&self, place: usize) -> Option<Option<u64>> {
         match self.ends_at(place) {
-            Some(pair) => Some(pair.0),
+            Some(pair) => Some(pair.0.get()),
             None => None,
         }
     }
 
     fn end_node_at(&self, place: usize) -> Option<Option<u64>> {
         match self.ends_at(place) {
-            Some(pair) => Some(pair.1),
+            Some(pair) => Some(pair.1.get()),
             None => None,
         }
     }

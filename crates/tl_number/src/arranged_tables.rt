@@ -2,10 +2,10 @@
 
 use crate::numbers::Numbers;
 use tl_county::PolygonKey;
-use tl_layout::{Rec8, Side};
+use tl_layout::{NumberOrNone, Rec8, Side};
 
 /// The nodes where a chain starts and ends.
-pub(crate) type Ends = (Option<u64>, Option<u64>);
+pub(crate) type Ends = (NumberOrNone, NumberOrNone);
 
 /// What stands on the left and on the right side of a chain.
 pub(crate) type Sides = (Side, Side);

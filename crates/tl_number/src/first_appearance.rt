@@ -18,7 +18,7 @@ use crate::numbers::Numbers;
 use crate::step_readers::{ends_of_step, sides_of_step};
 use std::alloc::{AllocError, Global};
 use tl_county::{Chart, PolygonKey};
-use tl_layout::Side;
+use tl_layout::{NumberOrNone, Side};
 use tl_profile::ChainWalk;
 
 /// How many numbers of nodes have a mark for each chain, and how many POLYIDs: numbers that run on are hardly more than the chains.
@@ -45,16 +45,16 @@ fn links_along<C: Chart>(
 }
 
 /// Sees a node, if there is one, and answers its number, which stays whatever is seen later.
-fn number_node(nodes: &mut Numbers<u64>, node: Option<u64>) -> Result<Option<u64>, AllocError>
+fn number_node(nodes: &mut Numbers<u64>, node: NumberOrNone) -> Result<NumberOrNone, AllocError>
     ensures seen { OnOk result (nodes.new ≡ first_seen_after nat_cmp nodes.old (option_to_list node)) }
     ensures number { IfOk result (λ number. (later : List ℕ) → number ≡ node_among (first_seen_after nat_cmp nodes.new later) node) }
 {
-    match node {
+    match node.get() {
         Some(number) => {
             let place = nodes.see_place(number)?;
-            Ok(Some(place as u64 + 1))
+            Ok(NumberOrNone::new(Some(place as u64 + 1)))
         }
-        None => Ok(None),
+        None => Ok(node),
     }
 }
 

@@ -10,7 +10,7 @@ ghost use Rattle.tl_number.specs.Steps.{step_chain};
 
 use crate::arranged_tables::{Ends, Sides};
 use tl_county::Chart;
-use tl_layout::{Body1, BodyI, Ranges, Turn};
+use tl_layout::{Body1, BodyI, NumberOrNone, Ranges, Turn};
 use tl_profile::ChainWalk;
 
 /// The content of the type 1 record of the chain of a step.
@@ -98,8 +98,8 @@ pub(crate) fn ends_of_step<C: Chart>(chart: &C, step: ChainWalk) -> Ends
     ensures { Some result ≡ option_map ends_of (step_chain (C.county chart.now) step) }
 {
     let place = step.place as usize;
-    let start = chart.start_node_there(place);
-    let end = chart.end_node_there(place);
+    let start = NumberOrNone::new(chart.start_node_there(place));
+    let end = NumberOrNone::new(chart.end_node_there(place));
     if step.turned {
         (end, start)
     } else {

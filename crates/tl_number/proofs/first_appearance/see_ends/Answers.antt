@@ -1,4 +1,4 @@
-use Rattle.std.proofs.Common.{◌<◌, ℕ, List, Option, None, ◌∙◌, flat_map, get_or, length, nat_cmp, option_to_list, arith}
+use Rattle.std.proofs.Common.{◌<◌, ℕ, List, Option, ◌∙◌, flat_map, get_or, length, nat_cmp, option_to_list, arith}
 use Rattle.std.proofs.lemmas.List.{take_more_set}
 use Rattle.tl_county.proofs.ByKey.Keys.{nat_keys}
 use Rattle.tl_number.specs.ByStep.{node_among, nodes_at}
@@ -12,8 +12,8 @@ loop-pair-preserved c =
     let now : List (Option ℕ × Option ℕ) = c.loop-pair.ends in
     let i : ℕ = c.loop-pair.pair-index in
     let within : i < length now = omega (arith, c.loop-pair-test.true, c.loop-pair.auto.ends) in
-    let pair : Option ℕ × Option ℕ = get_or now i (None, None) in
-    let there = left_there now met i c.loop-pair.invariant.2 (None, None) within in
+    let pair : Option ℕ × Option ℕ = get_or now i c.pair-item.result in
+    let there = left_there now met i c.loop-pair.invariant.2 c.pair-item.result within in
     let whole : List ℕ = first_seen nat_cmp (flat_map nodes_at met) in (
       pair_seen nat_keys option_to_list node_among met i pair there c.loop-pair.numbers whole c.loop-pair.invariant.0
           c.number_node.new.nodes c.in_ok-new_start.ensures.seen c.number_node-in-loop-pair.new.nodes c.in_ok-new_end.ensures.seen,
