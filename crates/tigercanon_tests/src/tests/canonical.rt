@@ -1,49 +1,26 @@
-//! The canonical counties of sets and the renamings onto them.
+//! The canonical texts of sets and the renamings onto them.
 
 use super::comparing::{same, same_items};
 use super::counties::county_of;
-use super::renamings::{carries, has_lists, have_the_same_lists, onto_the_text};
-use super::sets::{Set, lines_of, spelled};
+use super::renamings::{carries, has_lists, onto_the_text};
+use super::sets::{Set, lines_of};
 use super::worked_sets::{street_turned, two_chains, worked};
 use std::alloc::Global;
 use std::process::Abort;
 use tigercanon::{check, normalise, normalise_with_renaming};
-use tl_cert::Renaming;
-use tl_county::{Chart, County};
-use tl_number::{CanonCounty, ascending_steps, canonise};
+use tl_county::Chart;
+use tl_number::ascending_steps;
 use tl_profile::{Admitted, admit, order_by_shape};
-use tl_write::{CountedOut, records_of, write_to};
 
-/// What is written and what is listed of the county is this text.
-fn has_text(rt: &impl Abort, alloc: Global, row: &str, county: &CanonCounty<County>, text: &[u8]) {
-    let mut out = CountedOut::new(Vec::new(alloc));
-    same(rt, row, &write_to(county, &mut out), &Ok(text.len() as u64));
-    same_items(rt, row, &out.into_inner(), text);
-    let records = records_of(alloc, county).expect(rt, row);
-    same_items(rt, row, &spelled(rt, alloc, &records), text);
-}
-
-/// The set is accepted, and its text is this one. The renaming carries the set onto it, and is the one that is told beside it.
-fn is_onto_the_text(rt: &impl Abort, alloc: Global, set: &Set<'_>, renaming: &Renaming) {
-    let Set { row, bytes, text } = *set;
-    same(rt, row, &check(alloc, &[bytes]), &Ok(()));
-    let found = normalise(alloc, &[bytes]).expect(rt, row);
-    same_items(rt, row, &found, text);
-    let carried = carries(rt, alloc, row, bytes, text, renaming);
-    same(rt, row, &carried, &true);
-    let told = normalise_with_renaming(alloc, &[bytes]).expect(rt, row);
-    same_items(rt, row, &told.0, text);
-    have_the_same_lists(rt, row, renaming, &told.1);
-}
-
-/// The set becomes what its text says.
+/// The set is accepted, its text is this one, and the renaming that is told beside it carries the set onto it.
 fn becomes(rt: &impl Abort, alloc: Global, set: &Set<'_>) {
-    let admitted = admit(alloc, county_of(rt, alloc, set.row, set.bytes)).expect(rt, set.row);
-    let found = canonise(alloc, admitted).expect(rt, set.row);
-    has_text(rt, alloc, set.row, &found.0, set.text);
-    is_onto_the_text(rt, alloc, set, &found.1);
-    // One call for the prover, where the end of the block would be a step for each field.
-    drop(found);
+    let accepted = check(alloc, &[set.bytes]);
+    let found = normalise(alloc, &[set.bytes]).expect(rt, set.row);
+    same_items(rt, set.row, &found, set.text);
+    let told = normalise_with_renaming(alloc, &[set.bytes]).expect(rt, set.row);
+    let carried = carries(rt, alloc, set.row, set.bytes, set.text, &told.1);
+    drop(told);
+    same(rt, set.row, &(accepted, carried), &(Ok(()), true));
 }
 
 /// How many chains an admitted county has, by its chart, by its list of TLIDs, by its order of shapes and by its arrangement.
@@ -69,7 +46,7 @@ fn an_admitted_county_has_its_chains(rt: HostRuntime) {
 }
 
 #[test]
-fn sets_become_their_canonical_counties(rt: HostRuntime) {
+fn sets_become_their_texts(rt: HostRuntime) {
     for lines in &worked(&rt, rt.alloc()) {
         becomes(&rt, rt.alloc(), &lines.set());
     }

@@ -41,28 +41,19 @@ fn has_the_numbers(rt: &impl Abort, county: &County) {
 
 /// The names and polygons of the county are those of its lines, and it has no others.
 fn has_the_names_and_polygons(rt: &impl Abort, county: &County) {
-    same(
-        rt,
-        "FEAT 9",
-        &county.name(9).expect(rt, "FEAT 9").fetype(),
-        b"Rd  ",
-    );
-    same(rt, "FEAT 7", &county.name(7), &None);
-    same(
-        rt,
-        "polygon 00001 12",
-        &county.polygon_body((*b"00001", 12)),
-        &None,
-    );
+    let name = county.name(9).expect(rt, "FEAT 9");
+    let found = (name.fetype(), county.name(7).is_some());
+    same(rt, "FEAT 9, FEAT 7", &found, &(*b"Rd  ", false));
     let body = county
         .polygon_body((*b"00002", 12))
         .expect(rt, "polygon 00002 12");
-    same(rt, "polygon 00002 12", &body.water(), b"1");
+    let other = county.polygon_body((*b"00001", 12));
+    let found = (body.water(), other.is_some());
+    same(rt, "polygons 00002 12, 00001 12", &found, &(*b"1", false));
 }
 
 /// The chain of the county is that of its lines.
 fn has_the_chain(rt: &impl Abort, county: &County) {
-    same(rt, "TLID 501", &county.chain(501).is_none(), &true);
     let chain = county.chain(500).expect(rt, "TLID 500");
     let points = [
         Point::new(-86468669, 32424914),
@@ -72,30 +63,40 @@ fn has_the_chain(rt: &impl Abort, county: &County) {
     ];
     same_items(rt, "points", chain.shape().points(), &points);
     same_items(rt, "further names", chain.feats(), &[9, 8]);
-    same(rt, "further address ranges", &chain.ranges().len(), &1);
-    same(rt, "start node", &chain.start_node(), &Some(11));
-    same(rt, "right CENID", &chain.right().cenid(), b"00002");
+    let found = (
+        (county.chain(501).is_some(), chain.ranges().len()),
+        (chain.start_node(), chain.right().cenid()),
+    );
+    let wanted = ((false, 1), (Some(11), *b"00002"));
+    let row = "TLID 501, further address ranges, start node, right CENID";
+    same(rt, row, &found, &wanted);
 }
 
 /// The landmarks of the county are those of its lines. LAND 40 has two contents, in order.
 fn has_the_landmarks(rt: &impl Abort, county: &County) {
     let bodies = county.landmark_bodies(40);
-    same(rt, "contents of LAND 40", &bodies.len(), &2);
     let first = bodies.first().expect(rt, "LAND 40");
+    let found = (bodies.len(), first.laname());
+    let wanted = (2, *b"Annex                         ");
     same(
         rt,
-        "the first of them",
-        &first.laname(),
-        b"Annex                         ",
+        "contents of LAND 40, the first of them",
+        &found,
+        &wanted,
+    );
+    let found = (
+        county.landmark_bodies(41).len(),
+        (
+            county.landmark_links(30).len(),
+            county.landmark_links(40).len(),
+        ),
     );
     same(
         rt,
-        "contents of LAND 41",
-        &county.landmark_bodies(41).len(),
-        &0,
+        "contents of LAND 41, links of LAND 30 and 40",
+        &found,
+        &(0, (1, 0)),
     );
-    same(rt, "links of LAND 30", &county.landmark_links(30).len(), &1);
-    same(rt, "links of LAND 40", &county.landmark_links(40).len(), &0);
 }
 
 #[test]

@@ -19,7 +19,7 @@ use tigercanon::{
     respell,
 };
 use tl_county::Chart;
-use tl_layout::{Layout, Point, Record, Turn};
+use tl_layout::{Layout, Point, Record, Side, Turn};
 use tl_load::{LoadFault, Loader, first_bad};
 use tl_number::{CanonCounty, canonise_chart};
 use tl_profile::{admit, admit_in};
@@ -166,9 +166,8 @@ fn shapes_are_compared_and_reversed(rt: HostRuntime) {
     let is_refused = Shape::new(rt.alloc(), first, &[second; 30], third).is_err();
     let found = shapes_answer(&mut shape, &other);
     drop(pieces);
-    same(&rt, "a new shape", &is_refused, &true);
     let wanted = (Ordering::Greater, false, true, 3, Ordering::Equal);
-    same(&rt, "shapes", &found, &wanted);
+    same(&rt, "shapes", &(is_refused, found), &(true, wanted));
 }
 
 /// A chain of its own, with what this one has.
@@ -200,6 +199,14 @@ fn chain_of(rt: &impl Abort, alloc: Global, lines: &[&str], tlid: u64) -> Chain 
     chain
 }
 
+/// What stands around a chain: the nodes where it starts and ends, and its left and its right side.
+fn around(chain: &Chain) -> ((Option<u64>, Option<u64>), (Side, Side)) {
+    (
+        (chain.start_node(), chain.end_node()),
+        (*chain.left(), *chain.right()),
+    )
+}
+
 /// The chains have the same of all that a chain has.
 fn are_alike(rt: &impl Abort, chain: &Chain, other: &Chain) {
     same(rt, "content", chain.body(), other.body());
@@ -207,10 +214,7 @@ fn are_alike(rt: &impl Abort, chain: &Chain, other: &Chain) {
     same_items(rt, "further names", chain.feats(), other.feats());
     same_items(rt, "further ranges", chain.ranges(), other.ranges());
     same(rt, "type I", chain.link_body(), other.link_body());
-    same(rt, "start", &chain.start_node(), &other.start_node());
-    same(rt, "end", &chain.end_node(), &other.end_node());
-    same(rt, "left", chain.left(), other.left());
-    same(rt, "right", chain.right(), other.right());
+    same(rt, "nodes and sides", &around(chain), &around(other));
 }
 
 /// A whole chain is turned.
@@ -244,8 +248,13 @@ fn loaders_are_made(rt: HostRuntime) {
     let limited = loader_answers(Loader::with_limit(rt.alloc(), 2));
     drop(pieces);
     let memory = Err(LoadFault::Memory);
-    same(&rt, "a loader", &found, &(0, memory, memory, 0));
-    same(&rt, "one with a limit", &limited, &(0, memory, memory, 0));
+    let told = (0, memory, memory, 0);
+    same(
+        &rt,
+        "a loader, and one with a limit",
+        &(found, limited),
+        &(told, told),
+    );
 }
 
 /// Whether a canonical county is written as this text.
@@ -276,12 +285,12 @@ fn is_written_anyhow<C: Chart>(
     let is_taken = is_all_taken(alloc);
     let found = (is_written(county, text), is_written_in(county, text));
     drop(pieces);
-    same(rt, "memory", &is_taken, &true);
+    let found = (before, is_taken, found);
     same(
         rt,
         "the street",
-        &(before, found),
-        &((true, true), (true, true)),
+        &found,
+        &((true, true), true, (true, true)),
     );
 }
 
@@ -351,6 +360,6 @@ fn whole_calls_tell_want_of_memory(rt: HostRuntime) {
     let pieces = all_memory(&rt, rt.alloc());
     let found = whole_calls_tell(rt.alloc(), &set);
     drop(pieces);
-    same(&rt, "ample memory", &before, &[false; 7]);
-    same(&rt, "no memory", &found, &[true; 7]);
+    let wanted = ([false; 7], [true; 7]);
+    same(&rt, "ample memory, and none", &(before, found), &wanted);
 }

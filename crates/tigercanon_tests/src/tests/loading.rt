@@ -16,8 +16,8 @@ use tl_load::{Counted, LoadFault, Loader, SlowSource, Source};
 fn gives_the_street<S: Source>(rt: &impl Abort, alloc: Global, row: &str, source: &mut S) {
     let mut loader = Loader::new(alloc);
     assert!(rt; source.failures() < u64::MAX);
-    same(rt, row, &loader.read_part(source), &Ok(()));
-    same(rt, row, &loader.parts(), &1);
+    let answer = loader.read_part(source);
+    same(rt, row, &(answer, loader.parts()), &(Ok(()), 1));
     let records = loader.finish().expect(rt, row);
     let text = spelled(rt, alloc, &records);
     same_items(rt, row, &text, &lines_of(rt, alloc, street_respelt()));
@@ -66,9 +66,9 @@ fn a_long_line_is_told_before_a_read_fails(rt: HostRuntime) {
     let mut loader = Loader::new(rt.alloc());
     let answer = loader.read_part(&mut source);
     let too_long = LoadFault::LineTooLong { part: 1, line: 1 };
-    same(&rt, "answer", &answer, &Err(too_long));
-    same(&rt, "failures", &source.failures(), &0);
-    same(&rt, "in the end", &loader.finish().err(), &Some(too_long));
+    let found = (answer, source.failures(), loader.finish().err());
+    let wanted = (Err(too_long), 0, Some(too_long));
+    same(&rt, "answer, failures, in the end", &found, &wanted);
 }
 
 /// The source gives this set by a hundred bytes a read, and fails at the read that is named: that is told, then and in the end, and
@@ -77,12 +77,16 @@ fn fails_at(rt: &impl Abort, alloc: Global, set: &[u8], read: u64) {
     let mut source = SlowSource::new(set, 100, Some(read));
     let mut loader = Loader::new(alloc);
     let answer = loader.read_part(&mut source);
-    let wanted = Err(LoadFault::Device);
-    same(rt, "answer", &(read, answer), &(read, wanted));
-    same(rt, "failures", &source.failures(), &1);
-    same(rt, "parts", &loader.parts(), &0);
+    let told = (read, answer, source.failures(), loader.parts());
+    let wanted = (read, Err(LoadFault::Device), 1, 0);
     let fault = loader.finish().err();
-    same(rt, "in the end", &fault, &Some(LoadFault::Device));
+    let device = Some(LoadFault::Device);
+    same(
+        rt,
+        "what is told, in the end",
+        &(told, fault),
+        &(wanted, device),
+    );
 }
 
 #[test]
@@ -100,10 +104,10 @@ fn fails_once(rt: &impl Abort, alloc: Global, kind: ErrorKind) {
     let set = lines_of(rt, alloc, street());
     let mut source = Counted::new(reader(set, 100, Some(2), kind, &count));
     let mut loader = Loader::new(alloc);
-    let wanted = Err(LoadFault::Device);
-    same(rt, "answer", &loader.read_part(&mut source), &wanted);
-    same(rt, "failures", &source.failures(), &1);
-    same(rt, "reads", &count.get(), &3);
+    let answer = loader.read_part(&mut source);
+    let found = (answer, source.failures(), count.get());
+    let wanted = (Err(LoadFault::Device), 1, 3);
+    same(rt, "answer, failures, reads", &found, &wanted);
 }
 
 #[test]

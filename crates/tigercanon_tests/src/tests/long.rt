@@ -3,20 +3,17 @@
 ghost use Rattle.std.specs.Prelude.{◌<◌};
 
 use super::comparing::{same, same_items};
-use super::counties::{county_in_of, county_of};
 use super::made::add;
-use super::sets::spelled;
-use bumpalo::Bump;
+use super::refusals::{
+    Canonise, CanoniseIn, NormaliseWithRenaming, RecordsOf, RecordsOfIn, answer_alike,
+};
+use super::renamings::carries;
+use super::sets::Set;
 use std::alloc::Global;
 use std::process::Abort;
-use tigercanon::{
-    Verdict, check, compare, fingerprint, normalise, normalise_with_renaming, respell,
-};
+use tigercanon::{Verdict, check, compare, fingerprint, normalise, respell};
 use tl_cert::Renaming;
-use tl_county::County;
-use tl_number::{canonise, canonise_in};
-use tl_profile::{admit, admit_in};
-use tl_write::{records_of, records_of_in};
+use tl_layout::Mask;
 
 /// How many chains there are.
 const CHAINS: u64 = 70_000;
@@ -92,83 +89,66 @@ fn canonical(rt: &impl Abort, alloc: Global) -> Vec<u8> {
 
 /// The text, the fingerprint and the verdict come, and the text is its own in each way.
 fn has_its_text(rt: &impl Abort, alloc: Global, set: &[u8], text: &[u8]) {
-    same(rt, "check", &check(alloc, &[set]), &Ok(()));
     let found = normalise(alloc, &[set]).expect(rt, "normalise");
     same_items(rt, "normalise", &found, text);
     let found = respell(alloc, &[text]).expect(rt, "respell");
     same_items(rt, "respell", &found, text);
-    let one = fingerprint(alloc, &[set]).expect(rt, "fingerprint");
-    let other = fingerprint(alloc, &[text]).expect(rt, "fingerprint of the text");
-    same(rt, "fingerprint", &one, &other);
+    let print = fingerprint(alloc, &[text]).expect(rt, "fingerprint of the text");
+    let answers = (check(alloc, &[set]), fingerprint(alloc, &[set]));
+    same(rt, "answers", &answers, &(Ok(()), Ok(print)));
 }
 
-/// The renaming of the street onto its text.
-fn renaming_of(rt: &impl Abort, alloc: Global, set: &[u8], text: &[u8]) -> Renaming {
-    let told = normalise_with_renaming(alloc, &[set]).expect(rt, "with a renaming");
-    same_items(rt, "with a renaming", &told.0, text);
-    same(rt, "chains", &(told.1.chains().len() as u64), &CHAINS);
-    same(rt, "turned", &(told.1.turned().len() as u64), &(CHAINS / 3));
-    told.1
-}
-
-/// The renaming carries the one county onto the other, and its inverse carries back.
-fn carries(rt: &impl Abort, alloc: Global, one: &County, other: &County, renaming: &Renaming) {
-    let there = tl_cert::check(alloc, one, other, renaming);
-    same(rt, "there", &there, &Ok(true));
+/// The renaming carries the street onto its text, its inverse carries back, and one behind the other leaves each number as it is.
+fn goes_there_and_back(
+    rt: &impl Abort,
+    alloc: Global,
+    set: &[u8],
+    text: &[u8],
+    renaming: &Renaming,
+) {
     let inverse = renaming.inverse().expect(rt, "inverse");
-    let back = tl_cert::check(alloc, other, one, &inverse);
-    same(rt, "back", &back, &Ok(true));
     let through = renaming.then(&inverse).expect(rt, "then");
-    let stays = tl_cert::check(alloc, one, one, &through);
-    same(rt, "there and back", &stays, &Ok(true));
+    let found = [
+        carries(rt, alloc, "there", set, text, renaming),
+        carries(rt, alloc, "back", text, set, &inverse),
+        carries(rt, alloc, "there and back", set, set, &through),
+    ];
+    same(rt, "there and back", &found, &[true; 3]);
+    let counts = (
+        renaming.chains().len() as u64,
+        renaming.turned().len() as u64,
+    );
+    same(
+        rt,
+        "chains, and turned ones",
+        &counts,
+        &(CHAINS, CHAINS / 3),
+    );
 }
 
-/// Both sets are one map, and the renaming that is answered is that of the one onto the other.
+/// Both sets are one map.
 fn are_one_map(rt: &impl Abort, alloc: Global, set: &[u8], text: &[u8]) {
     let verdict = compare(alloc, &[set], &[text]).expect(rt, "compare");
-    let one = county_of(rt, alloc, "the street", set);
-    let other = county_of(rt, alloc, "its text", text);
-    let renaming = renaming_of(rt, alloc, set, text);
-    carries(rt, alloc, &one, &other, &renaming);
-    let is_carried = match &verdict {
-        Verdict::Same(found) => tl_cert::check(alloc, &one, &other, found) == Ok(true),
-        Verdict::Different => false,
-    };
-    drop(one);
-    drop(other);
+    match &verdict {
+        Verdict::Same(renaming) => goes_there_and_back(rt, alloc, set, text, renaming),
+        Verdict::Different => assert!(rt; false, "they are one map"),
+    }
     drop(verdict);
-    same(rt, "one map", &is_carried, &true);
-}
-
-/// The text of the canonical records, by one call of each layer.
-fn text_by_layers(rt: &impl Abort, alloc: Global, set: &[u8]) -> Vec<u8> {
-    let county = county_of(rt, alloc, "the street", set);
-    let admitted = admit(alloc, county).expect(rt, "admitted");
-    let (canon, _) = canonise(alloc, admitted).expect(rt, "canonical");
-    let records = records_of(alloc, &canon).expect(rt, "records");
-    drop(canon);
-    spelled(rt, alloc, &records)
-}
-
-/// The same in an arena.
-fn text_in_an_arena(rt: &impl Abort, alloc: Global, set: &[u8]) -> Vec<u8> {
-    let arena = Bump::new(alloc);
-    let county = county_in_of(rt, alloc, &arena, "the street", set);
-    let admitted = admit_in(alloc, county).expect(rt, "admitted");
-    let (canon, _) = canonise_in(alloc, admitted).expect(rt, "canonical");
-    let records = records_of_in(alloc, &canon).expect(rt, "records");
-    drop(canon);
-    spelled(rt, alloc, &records)
 }
 
 #[test]
 fn a_street_of_very_many_chains_goes_through_the_calls(rt: HostRuntime) {
-    let set = street(&rt, rt.alloc());
+    let bytes = street(&rt, rt.alloc());
     let text = canonical(&rt, rt.alloc());
-    has_its_text(&rt, rt.alloc(), &set, &text);
-    are_one_map(&rt, rt.alloc(), &set, &text);
-    let found = text_by_layers(&rt, rt.alloc(), &set);
-    same_items(&rt, "by layers", &found, &text);
-    let found = text_in_an_arena(&rt, rt.alloc(), &set);
-    same_items(&rt, "in an arena", &found, &text);
+    has_its_text(&rt, rt.alloc(), &bytes, &text);
+    are_one_map(&rt, rt.alloc(), &bytes, &text);
+    let set = Set {
+        row: "very many chains",
+        bytes: &bytes,
+        text: &text,
+        mask: Mask::NONE,
+    };
+    answer_alike::<NormaliseWithRenaming, Canonise>(&rt, rt.alloc(), &set);
+    answer_alike::<Canonise, CanoniseIn>(&rt, rt.alloc(), &set);
+    answer_alike::<RecordsOf, RecordsOfIn>(&rt, rt.alloc(), &set);
 }

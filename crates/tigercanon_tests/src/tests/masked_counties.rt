@@ -1,19 +1,15 @@
 //! The canonical counties of sets under masks.
 
-use super::comparing::{same, same_items};
-use super::counties::{county_in_of, county_of};
+use super::comparing::same_items;
 use super::masks::{BOTH, RESERVED, SOURCES};
-use super::sets::{lines_of, spelled};
+use super::refusals::{CanoniseInMasked, CanoniseMasked, answer_alike};
+use super::sets::{Set, lines_of};
 use super::twin_sets::{OF_NO_SOURCES_TEXT, OF_TWO_SOURCES, OF_TWO_SOURCES_TEXT};
 use super::worked_sets::{CHAIN, LINK, MAIN, MAIN_TURNED};
-use bumpalo::Bump;
 use std::alloc::Global;
 use std::process::Abort;
-use tl_county::Chart;
+use tigercanon::normalise_masked;
 use tl_layout::Mask;
-use tl_number::{CanonCounty, canonise_in_masked, canonise_masked};
-use tl_profile::{admit, admit_in};
-use tl_write::{CountedOut, records_of, records_of_in, write_in, write_to};
 
 /// The canonical lines of Main St: as they are, and without SOURCE.
 const STREET: &str =
@@ -51,27 +47,6 @@ const ANNEX_FIRST: &[&str] = &[
 ];
 
 const NONE: Mask = Mask::NONE;
-
-/// What is written and what is listed of the county, by the calls for arenas too, is this text.
-fn has_text<C: Chart>(
-    rt: &impl Abort,
-    alloc: Global,
-    row: &str,
-    county: &CanonCounty<C>,
-    text: &[u8],
-) {
-    let wanted = Ok(text.len() as u64);
-    let mut out = CountedOut::new(Vec::new(alloc));
-    same(rt, row, &write_to(county, &mut out), &wanted);
-    same_items(rt, row, &out.into_inner(), text);
-    let mut out = CountedOut::new(Vec::new(alloc));
-    same(rt, row, &write_in(county, &mut out), &wanted);
-    same_items(rt, row, &out.into_inner(), text);
-    let records = records_of(alloc, county).expect(rt, row);
-    same_items(rt, row, &spelled(rt, alloc, &records), text);
-    let records = records_of_in(alloc, county).expect(rt, row);
-    same_items(rt, row, &spelled(rt, alloc, &records), text);
-}
 
 /// A set, a mask, and the lines of the set's text under it.
 type MaskedRow = (
@@ -120,26 +95,19 @@ fn in_order() -> &'static [MaskedRow] {
     IN_ORDER
 }
 
-/// The set of the row becomes its text under the mask.
+/// The set of the row becomes its text under the mask, by a whole call and as a county, which may be in an arena.
 fn becomes(rt: &impl Abort, alloc: Global, row: &MaskedRow) {
-    let set = lines_of(rt, alloc, row.1);
+    let bytes = lines_of(rt, alloc, row.1);
     let text = lines_of(rt, alloc, row.3);
-    let admitted = admit(alloc, county_of(rt, alloc, row.0, &set)).expect(rt, row.0);
-    let found = canonise_masked(alloc, admitted, row.2).expect(rt, row.0);
-    has_text(rt, alloc, row.0, &found.0, &text);
-    drop(found);
-}
-
-/// The same over an arena.
-fn becomes_in(rt: &impl Abort, alloc: Global, row: &MaskedRow) {
-    let arena = Bump::new(alloc);
-    let set = lines_of(rt, alloc, row.1);
-    let text = lines_of(rt, alloc, row.3);
-    let county = county_in_of(rt, alloc, &arena, row.0, &set);
-    let admitted = admit_in(alloc, county).expect(rt, row.0);
-    let found = canonise_in_masked(alloc, admitted, row.2).expect(rt, row.0);
-    has_text(rt, alloc, row.0, &found.0, &text);
-    drop(found);
+    let found = normalise_masked(alloc, &[&bytes], row.2).expect(rt, row.0);
+    same_items(rt, row.0, &found, &text);
+    let set = Set {
+        row: row.0,
+        bytes: &bytes,
+        text: &text,
+        mask: row.2,
+    };
+    answer_alike::<CanoniseMasked, CanoniseInMasked>(rt, alloc, &set);
 }
 
 #[test]
@@ -147,7 +115,6 @@ fn sets_become_their_canonical_counties_under_masks(rt: HostRuntime) {
     for rows in [of_main(), in_order()] {
         for row in rows {
             becomes(&rt, rt.alloc(), row);
-            becomes_in(&rt, rt.alloc(), row);
         }
     }
 }

@@ -29,24 +29,6 @@ pub(super) fn has_lists(rt: &impl Abort, row: &str, renaming: &Renaming, lists: 
     same_items(rt, row, renaming.turned(), lists.turned);
 }
 
-/// Two renamings have the same pairs in the same order, and turn the same chains.
-pub(super) fn have_the_same_lists(
-    rt: &impl Abort,
-    row: &str,
-    renaming: &Renaming,
-    other: &Renaming,
-) {
-    let lists = Lists {
-        chains: other.chains(),
-        names: other.names(),
-        polygons: other.polygons(),
-        lands: other.lands(),
-        nodes: other.nodes(),
-        turned: other.turned(),
-    };
-    has_lists(rt, row, renaming, &lists);
-}
-
 /// The renaming of these lists.
 fn renaming(rt: &impl Abort, alloc: Global, lists: &Lists<'_>) -> Renaming {
     Renaming::new(

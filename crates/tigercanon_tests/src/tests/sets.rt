@@ -5,9 +5,10 @@ ghost use Rattle.tl_county.specs.Limits.{most_records};
 ghost use Rattle.tl_layout.specs.Limits.{IsWithinLimit};
 ghost use Rattle.tl_layout.specs.RecordText.{FitsRecord};
 
+use super::masks::BOTH;
 use std::alloc::Global;
 use std::process::Abort;
-use tl_layout::Record;
+use tl_layout::{Mask, Record};
 use tl_load::Loader;
 
 /// Appends so many blanks.
@@ -65,12 +66,13 @@ pub(super) type Row = (
     &'static [&'static str],
 );
 
-/// A set, and its canonical text where it is accepted.
+/// A set, its canonical text where it is accepted, and what calls with a mask leave out.
 #[derive(Clone, Copy)]
 pub(super) struct Set<'a> {
     pub(super) row: &'a str,
     pub(super) bytes: &'a [u8],
     pub(super) text: &'a [u8],
+    pub(super) mask: Mask,
 }
 
 /// The bytes of a set and of its canonical text.
@@ -82,12 +84,13 @@ pub(super) struct SetLines {
 }
 
 impl SetLines {
-    /// The set with its text, lent.
+    /// The set with its text, lent, and a mask that leaves out all that masks leave out.
     pub(super) fn set(&self) -> Set<'_> {
         Set {
             row: self.row,
             bytes: &self.bytes,
             text: &self.text,
+            mask: BOTH,
         }
     }
 }

@@ -24,8 +24,13 @@ fn writes(rt: &impl Abort, text: &[u8], room: usize, most: usize) {
             written: room as u64,
         })
     };
-    same(rt, "answer", &(room, most, answer), &(room, most, wanted));
-    same(rt, "failures", &sink.failures(), &u64::from(!is_whole));
+    let found = (room, most, answer, sink.failures());
+    same(
+        rt,
+        "answer",
+        &found,
+        &(room, most, wanted, u64::from(!is_whole)),
+    );
     same_items(
         rt,
         "what is held",
@@ -73,20 +78,23 @@ fn a_write_of_nothing_is_a_failure(rt: HostRuntime) {
         );
     }
     let mut sink = CountedOut::new(writer(rt.alloc(), 0, 0));
-    same(&rt, "no bytes", &write_bytes(b"", &mut sink), &Ok(0));
-    same(&rt, "a write", &sink.write(b""), &Ok(0));
-    same(&rt, "failures", &sink.failures(), &0);
+    let found = (
+        write_bytes(b"", &mut sink),
+        sink.write(b""),
+        sink.failures(),
+    );
+    same(&rt, "no bytes", &found, &(Ok(0), Ok(0), 0));
 }
 
 /// A writer that takes 7 bytes at a time and fails once it holds 300 was asked 44 times, and then no more.
 fn fails_once(rt: &impl Abort, alloc: Global, text: &[u8], kind: ErrorKind) {
     let mut sink = CountedOut::new(failing_writer(alloc, 7, 300, kind));
-    let wanted = Err(WriteFault { written: 300 });
-    same(rt, "answer", &write_bytes(text, &mut sink), &wanted);
-    same(rt, "failures", &sink.failures(), &1);
+    let answer = write_bytes(text, &mut sink);
+    let failures = sink.failures();
     let writer = sink.into_inner();
-    same(rt, "writes", &writer.writes, &44);
-    same(rt, "what is held", &writer.held.len(), &300);
+    let found = (answer, failures, writer.writes, writer.held.len());
+    let wanted = (Err(WriteFault { written: 300 }), 1, 44, 300);
+    same(rt, "answer, failures, writes, bytes", &found, &wanted);
 }
 
 #[test]

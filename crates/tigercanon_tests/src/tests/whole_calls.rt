@@ -166,13 +166,8 @@ fn passes(rt: &impl Abort, alloc: Global, row: &Passing, set: &[u8], text: &[u8]
         SlowSource::new(b"", 100, failing[1]),
     ];
     let answer = normalise_to(alloc, &mut sources, &mut sink);
-    same(rt, name, &answer, &wanted);
-    same(
-        rt,
-        name,
-        &[sources[0].failures(), sources[1].failures()],
-        &failures,
-    );
+    let found = [sources[0].failures(), sources[1].failures()];
+    same(rt, name, &(answer, found), &(wanted, failures));
     let written = match answer {
         Ok(written) | Err(Fault::Write(WriteFault { written })) => written,
         Err(_) => 0,

@@ -1,8 +1,7 @@
 //! Canonical counties and their records, with growths refused as is asked for.
 
 use super::super::comparing::{same, same_items};
-use super::super::masks::BOTH;
-use super::super::sets::Set;
+use super::super::sets::{Set, spelled};
 use super::linking::{admitted_in_of, admitted_of};
 use super::{Call, Run, ended, has_refused, refuse};
 use bumpalo::Bump;
@@ -11,6 +10,7 @@ use std::process::Abort;
 use tigercanon::{Fault, normalise_masked};
 use tl_cert::Renaming;
 use tl_county::Chart;
+use tl_layout::Record;
 use tl_number::{CanonCounty, CanonCountyIn, canonise_chart};
 use tl_profile::Admitted;
 use tl_write::{SlowSink, write_in, write_to};
@@ -56,7 +56,7 @@ fn canonised<C: Chart + Drop>(
     }
 }
 
-pub(super) struct Canonise;
+pub(crate) struct Canonise;
 
 impl Call for Canonise {
     fn run(rt: &impl Abort, alloc: Global, set: &Set<'_>, asked: usize) -> Run {
@@ -67,7 +67,7 @@ impl Call for Canonise {
     }
 }
 
-pub(super) struct CanoniseIn;
+pub(crate) struct CanoniseIn;
 
 impl Call for CanoniseIn {
     fn run(rt: &impl Abort, alloc: Global, set: &Set<'_>, asked: usize) -> Run {
@@ -81,22 +81,22 @@ impl Call for CanoniseIn {
 
 /// The text of the set under the mask.
 fn text_of(rt: &impl Abort, alloc: Global, set: &Set<'_>) -> Vec<u8> {
-    normalise_masked(alloc, &[set.bytes], BOTH).expect(rt, set.row)
+    normalise_masked(alloc, &[set.bytes], set.mask).expect(rt, set.row)
 }
 
-pub(super) struct CanoniseMasked;
+pub(crate) struct CanoniseMasked;
 
 impl Call for CanoniseMasked {
     fn run(rt: &impl Abort, alloc: Global, set: &Set<'_>, asked: usize) -> Run {
         let text = text_of(rt, alloc, set);
         let admitted = admitted_of(rt, alloc, set);
         refuse(alloc, asked);
-        let outcome = tl_number::canonise_masked(alloc, admitted, BOTH);
+        let outcome = tl_number::canonise_masked(alloc, admitted, set.mask);
         canonised(rt, alloc, set.row, &text, outcome)
     }
 }
 
-pub(super) struct CanoniseInMasked;
+pub(crate) struct CanoniseInMasked;
 
 impl Call for CanoniseInMasked {
     fn run(rt: &impl Abort, alloc: Global, set: &Set<'_>, asked: usize) -> Run {
@@ -104,7 +104,7 @@ impl Call for CanoniseInMasked {
         let arena = Bump::new(alloc);
         let admitted = admitted_in_of(rt, alloc, &arena, set);
         refuse(alloc, asked);
-        let outcome = tl_number::canonise_in_masked(alloc, admitted, BOTH);
+        let outcome = tl_number::canonise_in_masked(alloc, admitted, set.mask);
         canonised(rt, alloc, set.row, &text, outcome)
     }
 }
@@ -119,25 +119,41 @@ fn canonical_of<C: Chart + Drop>(
     canonise_chart(alloc, admitted.into_chart()).expect(rt, row)
 }
 
+/// The run that came to the records of a canonical county, or to nothing. Their lines are the set's text.
+fn listed(
+    rt: &impl Abort,
+    alloc: Global,
+    set: &Set<'_>,
+    outcome: Result<Vec<Record>, AllocError>,
+) -> Run {
+    let refused = has_refused(alloc);
+    if let Ok(records) = &outcome {
+        same_items(rt, set.row, &spelled(rt, alloc, records), set.text);
+    }
+    let outcome = outcome.map(|_| ()).map_err(Fault::from);
+    ended(rt, alloc, refused, outcome)
+}
+
 /// The run that reads the records of a canonical county.
 fn records_read<C: Chart>(
     rt: &impl Abort,
     alloc: Global,
+    set: &Set<'_>,
     county: &CanonCounty<C>,
     asked: usize,
 ) -> Run {
     refuse(alloc, asked);
     let outcome = tl_write::records_of(alloc, county);
-    ended(rt, alloc, has_refused(alloc), outcome.map_err(Fault::from))
+    listed(rt, alloc, set, outcome)
 }
 
-pub(super) struct RecordsOf;
+pub(crate) struct RecordsOf;
 
 impl Call for RecordsOf {
     fn run(rt: &impl Abort, alloc: Global, set: &Set<'_>, asked: usize) -> Run {
         let admitted = admitted_of(rt, alloc, set);
         let county = canonical_of(rt, alloc, set.row, admitted);
-        let run = records_read(rt, alloc, &county, asked);
+        let run = records_read(rt, alloc, set, &county, asked);
         drop(county);
         run
     }
@@ -156,15 +172,16 @@ fn is_written_in(rt: &impl Abort, alloc: Global, set: &Set<'_>, county: &CanonCo
 fn records_read_in(
     rt: &impl Abort,
     alloc: Global,
+    set: &Set<'_>,
     county: &CanonCountyIn<'_>,
     asked: usize,
 ) -> Run {
     refuse(alloc, asked);
     let outcome = tl_write::records_of_in(alloc, county);
-    ended(rt, alloc, has_refused(alloc), outcome.map_err(Fault::from))
+    listed(rt, alloc, set, outcome)
 }
 
-pub(super) struct RecordsOfIn;
+pub(crate) struct RecordsOfIn;
 
 impl Call for RecordsOfIn {
     fn run(rt: &impl Abort, alloc: Global, set: &Set<'_>, asked: usize) -> Run {
@@ -172,7 +189,7 @@ impl Call for RecordsOfIn {
         let admitted = admitted_in_of(rt, alloc, &arena, set);
         let county = canonical_of(rt, alloc, set.row, admitted);
         is_written_in(rt, alloc, set, &county);
-        let run = records_read_in(rt, alloc, &county, asked);
+        let run = records_read_in(rt, alloc, set, &county, asked);
         drop(county);
         run
     }

@@ -15,18 +15,23 @@ use tl_load::{LoadFault, Loader, SlowSource, Source};
 fn reads_nothing(rt: &impl Abort, loader: &mut Loader, fault: LoadFault) {
     assert!(rt; loader.parts() < 2, "one part was fed at most");
     let mut source = SlowSource::new(b"8\n", 1, None);
-    same(rt, "read_part", &loader.read_part(&mut source), &Err(fault));
+    let answer = loader.read_part(&mut source);
     assert!(rt; source.failures() == 0, "no read failed");
     let mut first = [0];
-    same(rt, "a read", &source.read(&mut first).is_ok(), &true);
-    same(rt, "its byte", &first, b"8");
+    let is_read = source.read(&mut first).is_ok();
+    same(
+        rt,
+        "read_part",
+        &(answer, is_read, first),
+        &(Err(fault), true, *b"8"),
+    );
 }
 
 /// After a fault a loader answers it to what is fed, and to a part's end.
 fn takes_nothing(rt: &impl Abort, loader: &mut Loader, fault: LoadFault) {
     assert!(rt; loader.parts() < 2, "one part was fed at most");
-    same(rt, "feed", &loader.feed(b"8\n"), &Err(fault));
-    same(rt, "end_part", &loader.end_part(), &Err(fault));
+    let found = (loader.feed(b"8\n"), loader.end_part());
+    same(rt, "feed, end_part", &found, &(Err(fault), Err(fault)));
 }
 
 /// After a fault a loader answers it to each call, and keeps its number of parts.

@@ -2,7 +2,7 @@
 
 ghost use Rattle.std.specs.Prelude.{◌<◌};
 
-use super::super::comparing::same;
+use super::super::comparing::{same, same_items};
 use super::super::masks::BOTH;
 use super::super::sets::{Set, lines_of};
 use super::super::worked_sets::street;
@@ -33,13 +33,21 @@ impl Call for Normalise {
     }
 }
 
-pub(super) struct NormaliseWithRenaming;
+pub(crate) struct NormaliseWithRenaming;
 
 impl Call for NormaliseWithRenaming {
+    /// The answer is the renaming.
     fn run(rt: &impl Abort, alloc: Global, set: &Set<'_>, asked: usize) -> Run {
         refuse(alloc, asked);
         let outcome = tigercanon::normalise_with_renaming(alloc, &[set.bytes]);
-        ended(rt, alloc, has_refused(alloc), outcome)
+        let refused = has_refused(alloc);
+        match outcome {
+            Ok((text, renaming)) => {
+                same_items(rt, set.row, &text, set.text);
+                ended(rt, alloc, refused, Ok(renaming))
+            }
+            Err(fault) => ended::<()>(rt, alloc, refused, Err(fault)),
+        }
     }
 }
 
