@@ -5,7 +5,8 @@ ghost use Rattle.std.specs.Prelude.{◌≡◌, ◌<◌, IfSome};
 use std::fmt;
 use std::marker::Model;
 
-/// A number from 1 on, or none, for which 0 is kept, as it is in a line: half of what an `Option` takes.
+/// A number from 1 on, or none, for which 0 is kept, as it is in a line (record type I, TZIDS, TZIDE, POLYIDL and POLYIDR). It takes half
+/// of what an `Option` takes.
 #[derive(Clone, Copy)]
 pub struct NumberOrNone {
     kept: u64,
@@ -54,7 +55,7 @@ impl fmt::Debug for NumberOrNone {
 }
 
 impl NumberOrNone {
-    /// This number, or none.
+    /// This number, which is at least 1, or none.
     #[inline(always)]
     pub fn new(number: Option<u64>) -> NumberOrNone
         requires { IfSome number (λ n. 0 < n) }
@@ -65,7 +66,7 @@ impl NumberOrNone {
         }
     }
 
-    /// The number, or none.
+    /// The number, which is at least 1, or none.
     #[inline(always)]
     pub fn get(&self) -> Option<u64>
         ensures value { result ≡ self.now }
