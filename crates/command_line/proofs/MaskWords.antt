@@ -1,4 +1,4 @@
--- Words with a flag that leaves fields out, of a job that takes none.
+-- Arguments with a flag that leaves fields out, for a job that has no such flag.
 use Rattle.std.proofs.Common.{◌≡◌, Bool, true, false, [], ◌∷◌, ◌++◌, refl}
 use Rattle.clap.specs.Words.{Text}
 use Rattle.clap.proofs.OnLiterals.{clap_on_literals}

@@ -1,4 +1,4 @@
--- What clap's getters answer, by the values that it found.
+-- The results of clap's getters, by the values that clap found.
 use Rattle.std.proofs.Common.{◌≡◌, ◌∙◌, Bool, true, false, List, [], Option, Some, None, Result, Ok, Err}
 use Rattle.std.proofs.Common.{Bor, IfOk, ap, inl, inr, refl, sym, subst, codes, option_map}
 use Rattle.std.specs.Prelude.{Box, OnOk}
@@ -25,7 +25,7 @@ pub value_given : (found : Found) (id : Text) (r : Option (Bor Text)) (value : B
     → option_map (λ (s : Bor Text). s.now) r ≡ first_value found id → r ≡ Some value → first_of id (rows_of found) ≡ Some value.now
 value_given found id r value e is = sym (first_value-rows found id) ∙ sym e ∙ ap (option_map (λ (s : Bor Text). s.now)) is
 
--- an argument that has none
+-- an argument without a value
 pub none_given : (found : Found) (id : Text) (r : Option (Bor Text)) (value : Text)
     → option_map (λ (s : Bor Text). s.now) r ≡ first_value found id → r ≡ None → first_of id (rows_of found) ≡ Some value → ⊥
 none_given found id r value e is given =
@@ -33,11 +33,11 @@ none_given found id r value e is given =
     let none : None ≡ Some value = sym (ap (option_map (λ (s : Bor Text). s.now)) is) ∙ same in
     absurd cc
 
--- the grammar is one that clap reads exactly
+-- clap parses this grammar exactly
 simple : is_simple_and_free understood ≡ true
 simple = refl
 
--- a command line has no error but want of memory
+-- for a valid command line, running out of memory is the only error
 pub memory_alone : (app : App) (words : List Text) (e : Error) → app ≡ understood
     → (is_simple_and_free app ≡ true → HasKind (fault_of app words) e) → AreUnderstood words → kind_of e ≡ OutOfMemory
 memory_alone app words e is kinds none =
@@ -47,7 +47,7 @@ memory_alone app words e is kinds none =
     go (inl h) = h
     go (inr h) = absurd h
 
--- words that were read well are a command line
+-- arguments that were parsed without error are a valid command line
 pub read_well : {T P : Type 0} (app : App) (words : List Text) (r : Result T P) → app ≡ understood
     → (is_simple_and_free app ≡ true → fault_of app words ≡ []) → OnOk r (AreUnderstood words)
 read_well app words (Ok done) is kinds = sym (ap (λ a. fault_of a words) is) ∙ kinds (ap is_simple_and_free is ∙ simple)
@@ -63,7 +63,7 @@ pub flag_given : (found : Found) (id : Text) (b : Bool) → (one_text found id �
 flag_given found id b none on off =
     subst (λ flag. IsFlagGiven flag b) (one_text-rows found id) (record { given = on; left_out = off; unknown = none })
 
--- the subcommand that was met, told in two parts, is that of the words
+-- the subcommand that was found, in two parts, is the one in the arguments
 module _ {Z : Type 0} where
   met_in : (sub : Option (Box SubCommand Z)) (name : Text) (rows : List Row)
       → option_map (λ (b : Box SubCommand Z). (out-SubCommand (box_value b)).name.now) sub ≡ Some name
@@ -87,13 +87,13 @@ met_of app words m name given r is has found names rows =
     subst (λ a. subcommand_of a words ≡ Some (name.now, rows_of (found_of given.now))) is
     (sym (has (ap is_simple is ∙ refl)).1 ∙ met)
 
--- the plan is that of the words where it does the job that they name, with the files that they name
+-- a plan is planned by the arguments if it does the job that they name, with the files that they name
 pub planned_of : (r : Result Plan PlanFault) (o : Option (Text × List Row)) (name : Text) (rows : List Row) (job : Job)
     → o ≡ Some (name, rows) → name ≡ word_of job → IfOk r (λ p. p.job ≡ job) → IfOk r (NamesItsSets rows) → IfOk r (IsPlanOf o)
 planned_of (Ok p) o name rows job met named does has =
     subst (λ (q : Option (Text × List Row)). IsPlanOf q p) (sym met) (named ∙ ap word_of (sym does), has)
 planned_of (Err f) o name rows job met named does has = tt
 
--- a word that names no job is no job's word
+-- if a word names no job, it isn't the name of a job
 pub no_job : (o : Option Job) (job : Job) → o ≡ None → o ≡ Some job → ⊥
 no_job o job none known = let same : None ≡ Some job = sym none ∙ known in absurd cc

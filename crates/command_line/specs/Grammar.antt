@@ -1,13 +1,13 @@
--- What the command line may have: the subcommands and their arguments, as clap reads them.
+-- The command-line grammar: the subcommands and their arguments, as clap parses them.
 use Rattle.std.specs.Prelude.{[], true, Some, codes}
 use Rattle.clap.specs.Words.{App, Rule, Text, new_app, new_rule, with_rule, with_subcommand}
 use Rattle.clap.specs.declared.builder.action.ArgAction.TheVariants.{Set, SetTrue}
 
--- the flag by which sets are named by their stems
+-- the flag to name sets by their stems
 abbrev pub stem_flag : Rule
 stem_flag = record (new_rule (codes "stem")) { long = Some (codes "stem"); action = Some SetTrue }
 
--- an argument that names a set, and has to be there
+-- a required argument that names a set
 abbrev pub set_argument : Text → Rule
 set_argument id = record (new_rule id) { required = true; action = Some Set; value_names = 1 }
 
@@ -18,7 +18,7 @@ over_one_set name = with_rule (with_rule (new_app name) stem_flag) (set_argument
 abbrev pub over_two_sets : Text → App
 over_two_sets name = with_rule (over_one_set name) (set_argument (codes "SECOND"))
 
--- the flags by which fields are left out, for the subcommands that tell or compare maps
+-- the flags to leave fields out, for the subcommands that print or compare maps
 abbrev pub sources_flag : Rule
 sources_flag = record (new_rule (codes "no-sources")) { long = Some (codes "no-sources"); action = Some SetTrue }
 
@@ -28,7 +28,7 @@ reserved_flag = record (new_rule (codes "no-reserved")) { long = Some (codes "no
 abbrev pub with_mask : App → App
 with_mask app = with_rule (with_rule app sources_flag) reserved_flag
 
--- the program: its words begin with a subcommand, which has to be there
+-- the program: its arguments must begin with a subcommand
 abbrev pub program_alone : App
 program_alone = record {
   top = record (new_app (codes "tigercanon")).top { has_version = true; no_binary_name = true; subcommand_required = true };

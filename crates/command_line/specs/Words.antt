@@ -1,9 +1,9 @@
--- The words of a command line.
+-- The names of jobs on the command line.
 use Rattle.std.specs.Prelude.{ℕ, List, codes}
 use Rattle.command_line.specs.declared.plans.Job.{Job}
 use Rattle.command_line.specs.declared.plans.Job.TheVariants.{Respell, Normalise, Check, Fingerprint, Compare}
 
--- the word that names a job
+-- the argument that names a job
 abbrev pub word_of : Job → List ℕ
 word_of Respell = codes "respell"
 word_of Normalise = codes "normalise"

@@ -1,4 +1,4 @@
-//! The commands that the program understands, as its help tells them.
+//! The commands of the program, as in its help.
 
 ghost use Rattle.clap.specs.declared.builder.command.Command.TheViews.{out-Command};
 ghost use Rattle.clap.specs.Words.{app_of, rule_of, with_subcommand};
@@ -8,28 +8,28 @@ ghost use Rattle.command_line.specs.Grammar.{over_one_set, over_two_sets, progra
 use clap::{Arg, ArgAction, Command};
 use std::alloc::{AllocError, Global};
 
-/// The flag by which sets are named by their stems.
+/// The flag to name sets by their stems.
 pub(crate) const STEM: &str = "stem";
 
-/// The flag by which the fields are left out that say where data came from.
+/// The flag to leave out the fields that name the source of data.
 pub(crate) const NO_SOURCES: &str = "no-sources";
 
-/// The flag by which reserved fields are left out.
+/// The flag to leave out reserved fields.
 pub(crate) const NO_RESERVED: &str = "no-reserved";
 
-/// The argument that names the first set, or the only one.
+/// The argument that names the first or only set.
 pub(crate) const FIRST: &str = "FIRST";
 
 /// The argument that names the second set.
 pub(crate) const SECOND: &str = "SECOND";
 
-/// What the program is: its version, the canonical form that it gives, and the prover that it was proved with.
+/// The program's version, its canonical form, and the prover that it was proved with.
 const VERSION: &str = "\
 0.1.0
 canonical form: tigercanon form 1
-proved with: rattle-kit-13b logic dac8208d650f15bf";
+proved with: rattle-kit-13f logic dac8208d650f15bf";
 
-/// What stands at the end of the program's help.
+/// The end of the program's help.
 const EXAMPLES: &str = "\
 Examples:
   tigercanon normalise county.txt > canonical.txt
@@ -37,15 +37,15 @@ Examples:
   tigercanon compare --stem 2006/TGR06001 copy/TGR06001
 
 Exit status:
-  0  done; by compare: the sets are one map
-  1  by compare: the sets are different maps
-  2  the command line asks for help, or can't be understood
-  3  the set is refused; one line on standard error says why, and where
+  0  done; compare: the sets are the same map
+  1  compare: the sets are different maps
+  2  help was requested, or the command line is wrong
+  3  the set is refused; one line on standard error gives the reason and the place
   4  a file or standard output failed
   5  out of memory
 ";
 
-/// The flag by which sets are named by their stems.
+/// The flag to name sets by their stems.
 fn stem<'a>(alloc: Global) -> Arg<'a>
     ensures rule { rule_of result ≡ stem_flag }
     ensures local { result.global ≡ false }
@@ -58,7 +58,7 @@ fn stem<'a>(alloc: Global) -> Arg<'a>
         )
 }
 
-/// The flag by which the fields are left out that say where data came from.
+/// The flag to leave out the fields that name the source of data.
 fn no_sources<'a>(alloc: Global) -> Arg<'a>
     ensures rule { rule_of result ≡ sources_flag }
     ensures local { result.global ≡ false }
@@ -67,11 +67,11 @@ fn no_sources<'a>(alloc: Global) -> Arg<'a>
         .long("no-sources")
         .action(ArgAction::SetTrue)
         .help(
-            "Leave out the fields that say where data came from: SOURCE of record types 1, 7 and I",
+            "Leave out the fields that name the source of the data: SOURCE of record types 1, 7 and I",
         )
 }
 
-/// The flag by which reserved fields are left out.
+/// The flag to leave out reserved fields.
 fn no_reserved<'a>(alloc: Global) -> Arg<'a>
     ensures rule { rule_of result ≡ reserved_flag }
     ensures local { result.global ≡ false }
@@ -84,7 +84,7 @@ fn no_reserved<'a>(alloc: Global) -> Arg<'a>
         )
 }
 
-/// A subcommand that may leave fields out.
+/// Adds the flags that leave fields out to a subcommand.
 fn masked<'a>(alloc: Global, command: Command<'a>) -> Result<Command<'a>, AllocError>
     requires { (out-Command command).has_globals ≡ false }
     ensures app { IfOk result (λ c. app_of c ≡ with_mask (app_of command.entry)) }
@@ -93,7 +93,7 @@ fn masked<'a>(alloc: Global, command: Command<'a>) -> Result<Command<'a>, AllocE
     command.arg(no_sources(alloc))?.arg(no_reserved(alloc))
 }
 
-/// The name of a set.
+/// A required argument that names a set.
 fn set<'a>(alloc: Global, id: &'a str, shown: &'a str, help: &'a str) -> Arg<'a>
     ensures rule { rule_of result ≡ set_argument id.entry.now }
     ensures local { result.global ≡ false }
@@ -114,7 +114,7 @@ fn over_one_set<'a>(alloc: Global, name: &'a str, about: &'a str) -> Result<Comm
         alloc,
         FIRST,
         "SET",
-        "The file with all records of a county, or by --stem what the names of its files begin with",
+        "The file with all records of a county, or with --stem the beginning of its files' names",
     );
     Command::new(alloc, name)
         .about(about)
@@ -122,7 +122,7 @@ fn over_one_set<'a>(alloc: Global, name: &'a str, about: &'a str) -> Result<Comm
         .arg(only)
 }
 
-/// A subcommand that reads one set, and may leave fields out.
+/// A subcommand that reads one set and has the flags to leave fields out.
 fn over_one_map<'a>(alloc: Global, name: &'a str, about: &'a str) -> Result<Command<'a>, AllocError>
     ensures app { IfOk result (λ c. app_of c ≡ with_mask (over_one_set name.entry.now)) }
     ensures local { IfOk result (λ c. (out-Command c).has_globals ≡ false) }
@@ -130,19 +130,19 @@ fn over_one_map<'a>(alloc: Global, name: &'a str, about: &'a str) -> Result<Comm
     masked(alloc, over_one_set(alloc, name, about)?)
 }
 
-/// The subcommand that reads two sets, without the flags by which fields are left out.
+/// The subcommand that reads two sets, without the flags to leave fields out.
 fn of_two_sets<'a>(alloc: Global) -> Result<Command<'a>, AllocError>
     ensures app { IfOk result (λ c. app_of c ≡ over_two_sets (codes "compare")) }
     ensures local { IfOk result (λ c. (out-Command c).has_globals ≡ false) }
 {
     let of_stems = Command::new(alloc, "compare")
-        .about("Say whether two sets are one map: same or different")
+        .about("Compare two maps: same or different")
         .arg(stem(alloc))?;
     let of_one = of_stems.arg(set(
         alloc,
         FIRST,
         FIRST,
-        "The file with all records of a county, or by --stem what the names of its files begin with",
+        "The file with all records of a county, or with --stem the beginning of its files' names",
     ))?;
     of_one.arg(set(
         alloc,
@@ -177,7 +177,7 @@ fn program<'a>(alloc: Global) -> Result<Command<'a>, AllocError>
     )
 }
 
-/// The program with one more subcommand, which reads one set.
+/// Adds to the program a subcommand that reads one set.
 fn with_job<'a>(
     alloc: Global,
     program: Command<'a>,
@@ -189,7 +189,7 @@ fn with_job<'a>(
     program.subcommand(over_one_set(alloc, name, about)?)
 }
 
-/// The program with one more subcommand, which reads one set and may leave fields out.
+/// Adds to the program a subcommand that reads one set and has the flags to leave fields out.
 fn with_map_job<'a>(
     alloc: Global,
     program: Command<'a>,
@@ -201,7 +201,7 @@ fn with_map_job<'a>(
     program.subcommand(over_one_map(alloc, name, about)?)
 }
 
-/// The program with the two subcommands that print a set's records.
+/// Adds to the program the two subcommands that print a set's records.
 fn with_texts<'a>(alloc: Global, program: Command<'a>) -> Result<Command<'a>, AllocError>
     ensures { IfOk result (λ c. app_of c ≡
         with_subcommand (with_subcommand (app_of program.entry) (over_one_set (codes "respell")).top)
@@ -217,11 +217,11 @@ fn with_texts<'a>(alloc: Global, program: Command<'a>) -> Result<Command<'a>, Al
         alloc,
         program,
         "normalise",
-        "Print the canonical text of the map that the records say",
+        "Print the canonical text of the map that the records describe",
     )
 }
 
-/// What the program understands: its subcommands and their arguments.
+/// The grammar of the command line: the subcommands and their arguments.
 pub(crate) fn command<'a>(alloc: Global) -> Result<Command<'a>, AllocError>
     ensures { IfOk result (λ c. app_of c ≡ understood) }
 {
@@ -231,13 +231,13 @@ pub(crate) fn command<'a>(alloc: Global) -> Result<Command<'a>, AllocError>
         alloc,
         program,
         "check",
-        "Say whether the records fit together to a county that has a canonical text",
+        "Check whether the records fit together and have a canonical text",
     )?;
     let program = with_map_job(
         alloc,
         program,
         "fingerprint",
-        "Print the SHA-256 hash of the canonical text, by which the map can be cited",
+        "Print the SHA-256 hash of the canonical text, to cite the map by",
     )?;
     program.subcommand(compare(alloc)?)
 }

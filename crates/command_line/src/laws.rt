@@ -1,16 +1,16 @@
-//! Laws of what words are a command line. The functions do nothing; their contracts are the laws.
+//! Laws about which arguments are a valid command line. The functions do nothing; their contracts are the laws.
 
 ghost use Rattle.command_line.specs.declared.plans.Job.{Job};
 ghost use Rattle.command_line.specs.Names.{AreUsualWordsPlanned, TakesNoMask};
 
-/// The usual command lines, as the help has them, are understood, and a plan with the files of the sets that they name is theirs:
-/// the word of a job, `--stem` where sets are named by their stems, a flag for the fields that are left out, where the job tells or
-/// compares maps, and a name for each set that doesn't begin with a hyphen.
+/// The usual command lines, as in the help, are valid, and a plan with the files of the sets that they name is their plan. They
+/// have the name of a job, `--stem` if sets are named by their stems, a flag for each kind of field that is left out if the job
+/// prints or compares maps, and a name for each set that doesn't begin with a hyphen.
 pub fn usual_words_are_planned()
     ensures { AreUsualWordsPlanned }
 {}
 
-/// Respelling and checking take no flag that leaves fields out: words with one aren't understood.
+/// Respelling and checking have no flags that leave fields out: arguments with one of these flags aren't a valid command line.
 pub fn masks_are_for_jobs_that_tell_maps()
     ensures respell { TakesNoMask Job.Respell }
     ensures check { TakesNoMask Job.Check }

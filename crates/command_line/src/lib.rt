@@ -1,7 +1,8 @@
-//! The words of the program's command line, and what they ask for.
+//! The program's command line, and the plan that it asks for.
 //!
-//! [`plan`] reads the words as `clap` does, by the commands that the help tells, and gives a [`Plan`]: a [`Job`], the names of the
-//! files that it reads, and the fields that it leaves out. Where there is none, a [`PlanFault`] says what the user is told.
+//! [`plan`] parses the arguments as `clap` does, with the commands in the help, and returns a [`Plan`]: a [`Job`], the names of
+//! the files that it reads, and the fields that it leaves out. If there is no plan, a [`PlanFault`] has the message for the
+//! user.
 #![tactic(auto)]
 
 mod command;

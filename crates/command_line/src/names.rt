@@ -1,11 +1,11 @@
-//! The names of a set's files.
+//! The file names of a set.
 
 ghost use Rattle.std.specs.Prelude.{◌≡◌, ◌++◌, IfOk, map, string_bytes};
 ghost use Rattle.command_line.specs.Names.{files_named};
 
 use std::alloc::{AllocError, Global};
 
-/// What the names of a set's files end in, one for each record type, in the order of the parts.
+/// The suffixes of the file names of a set, one for each record type, in the order of the parts.
 const SUFFIXES: [&str; 9] = [
     ".RT1", ".RT2", ".RT4", ".RT5", ".RT6", ".RT7", ".RT8", ".RTI", ".RTP",
 ];
@@ -30,7 +30,7 @@ fn with_suffixes(alloc: Global, stem: &str, suffixes: &[&str]) -> Result<Vec<Str
     Ok(names)
 }
 
-/// The names of the files of a set, which is named by its one file, or by the stem of its files' names.
+/// The file names of a set, which is named by its only file, or by the stem of its file names.
 pub(crate) fn files_of(alloc: Global, name: &str, is_stem: bool) -> Result<Vec<String>, AllocError>
     ensures { IfOk result (λ names. map string_bytes names.items ≡ files_named is_stem name.now) }
 {

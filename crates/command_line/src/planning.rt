@@ -1,4 +1,4 @@
-//! Reading the words of a command line.
+//! Parsing the arguments of a command line.
 
 ghost use Rattle.clap.specs.declared.error.kind.ErrorKind.TheVariants.{OutOfMemory};
 ghost use Rattle.clap.specs.Words.{Text, first_of, found_of, kind_of, rows_of};
@@ -31,7 +31,7 @@ fn job_named(name: &str) -> Option<Job>
     }
 }
 
-/// The fault that the parser's error stands for.
+/// Converts an error of the parser.
 fn fault_of(alloc: Global, error: &clap::Error) -> PlanFault
     ensures { kind_of error.now ≡ OutOfMemory → result ≡ PlanFault.Memory }
 {
@@ -44,7 +44,7 @@ fn fault_of(alloc: Global, error: &clap::Error) -> PlanFault
     }
 }
 
-/// What tells the user how the program is called.
+/// The fault with the program's usage message.
 fn usage(alloc: Global) -> PlanFault {
     match command(alloc) {
         Ok(mut command) => match command.render_usage() {
@@ -55,7 +55,7 @@ fn usage(alloc: Global) -> PlanFault {
     }
 }
 
-/// The names of the files of a set, which the words name by this argument.
+/// The file names of the set that this argument names.
 fn files_given(
     alloc: Global,
     given: &ArgMatches<'_>,
@@ -72,7 +72,7 @@ fn files_given(
     }
 }
 
-/// The names of the files of a second set, where the job has one.
+/// The file names of a second set, if the job has one.
 fn second_files_given(
     alloc: Global,
     job: Job,
@@ -89,7 +89,7 @@ fn second_files_given(
     }
 }
 
-/// The fields that the words leave out.
+/// The fields that the arguments leave out.
 fn mask_given(given: &ArgMatches<'_>) -> Mask
     ensures { IsMaskGiven (rows_of (found_of given.now)) result }
 {
@@ -99,7 +99,7 @@ fn mask_given(given: &ArgMatches<'_>) -> Mask
     }
 }
 
-/// The plan to do a job over the sets that the words name.
+/// The plan to do a job for the sets that the arguments name.
 fn plan_of(alloc: Global, job: Job, given: &ArgMatches<'_>) -> Result<Plan, PlanFault>
     ensures job { IfOk result (λ p. p.job ≡ job) }
     ensures sets { IfOk result (NamesItsSets (rows_of (found_of given.now))) }
@@ -115,11 +115,16 @@ fn plan_of(alloc: Global, job: Job, given: &ArgMatches<'_>) -> Result<Plan, Plan
     })
 }
 
-/// Reads the words of a command line, the program's own name left out.
+/// Parses the arguments of a command line, without the program's own name.
+///
+/// # Errors
+///
+/// `Usage` with a message, or `Memory`.
 pub fn plan(alloc: Global, words: &[String]) -> Result<Plan, PlanFault>
     ensures planned { IfOk result (IsPlanned (map string_bytes words.now)) }
     ensures understood { OnOk result (AreUnderstood (map string_bytes words.now)) }
-    // Words of which there is a plan lead to it, but for want of memory; the usage is told of other words alone.
+    // If there is a plan for the arguments, only running out of memory prevents it. `Usage` is returned only for other
+    // arguments.
     ensures usage { (p : Plan) → AreUnderstood (map string_bytes words.now) → IsPlanned (map string_bytes words.now) p →
         IfErr result (λ fault. fault ≡ PlanFault.Memory) }
 {

@@ -1,4 +1,4 @@
-//! What a command line asks for.
+//! What a command line asks the program to do.
 
 ghost use Rattle.std.specs.Prelude.{◌≡◌};
 ghost use Rattle.command_line.specs.declared.plans.PlanFault.TheVariants.{Memory};
@@ -7,41 +7,42 @@ use std::alloc::{AllocError, AllocFailed};
 use thiserror::Error;
 use tl_layout::Mask;
 
-/// What the program is asked to do.
+/// A job of the program.
 #[derive(Clone, Copy, Debug, PartialEq, Eq)]
 pub enum Job {
-    /// Print a set's records in canonical spelling, in their order and with their numbers.
+    /// Print a set's records in canonical spelling, in the same order and with the same numbers.
     Respell,
-    /// Print the canonical text of a set that is accepted.
+    /// Print the canonical text of an accepted set.
     Normalise,
-    /// Say whether a set is accepted: its lines spell records, these fit together, and their county is in the profile.
+    /// Report whether a set is accepted: its lines spell records, the records fit together, and their county is in the
+    /// profile.
     Check,
-    /// Print the fingerprint of a set that is accepted.
+    /// Print the fingerprint of an accepted set.
     Fingerprint,
-    /// Say whether two sets that are accepted are one map.
+    /// Report whether two accepted sets are the same map.
     Compare,
 }
 
 /// A job, the names of the files that it reads, and the fields that it leaves out.
 #[derive(Debug, Drop)]
 pub struct Plan {
-    /// What is to be done.
+    /// The job to do.
     pub job: Job,
-    /// The fields that are left out where a map is told or compared. Respelling and checking leave out none.
+    /// The fields to leave out when a map is printed or compared. Respelling and checking leave none out.
     pub mask: Mask,
-    /// The files of the set, in order, or of the first of two.
+    /// The files of the set, in order, or of the first of two sets.
     pub first: Vec<String>,
-    /// The files of a second set, for a job that has two.
+    /// The files of the second set, if the job has two.
     pub second: Vec<String>,
 }
 
-/// Why a command line is no plan.
+/// Why a command line has no plan.
 #[derive(Debug, Drop, Error)]
 pub enum PlanFault {
-    /// The words ask for help or the version, or for nothing that the program does. The text says so to the user.
+    /// The arguments ask for help or the version, or aren't valid. This is the text for the user.
     #[error("{0}")]
     Usage(String),
-    /// There was no memory to read the words.
+    /// There wasn't enough memory to parse the arguments.
     #[error("refused 9 Memory")]
     Memory,
 }

@@ -1,10 +1,11 @@
-//! Checks the renaming between two files of one map, so that the time that it takes can be measured:
+//! Checks the renaming between two files of one map, so that its time can be measured:
 //!
 //!     renaming_bench check FILE OTHER
 //!     renaming_bench link FILE OTHER
 //!
-//! Both make the renaming and the counties of both files, and the first also checks that the renaming carries the one onto
-//! the other. Prints `carried` and ends with 0 if so, and else with 1. The difference of their times is that of the checker.
+//! Both commands make the renaming and the counties of both files. `check` also checks that the renaming carries the first county
+//! onto the second. If so, the program prints `carried` and exits with 0, otherwise with 1. The difference between the two times is
+//! the time of the checker.
 #![tactic(auto)]
 
 use std::alloc::{AllocError, Global};
@@ -16,12 +17,12 @@ use tl_cert::{Renaming, check};
 use tl_county::{County, LinkFault, link};
 use tl_load::{LoadFault, Loader};
 
-/// Why the bench can't say.
+/// Why the bench has no result.
 #[derive(Drop)]
 enum Trouble {
-    /// The words ask for nothing that it does, or the files are different maps.
+    /// The arguments name no job of this program, or the files are different maps.
     Words,
-    /// A file can't be read, or isn't accepted, or memory was lacking.
+    /// A file can't be read or is rejected, or an allocation failed.
     Input,
 }
 
@@ -64,7 +65,7 @@ fn county_of(alloc: Global, file: &[u8]) -> Result<County, Trouble> {
     Ok(link(alloc, records)?)
 }
 
-/// Whether the renaming between the files carries, by the checker if it is asked.
+/// Whether the renaming between the files carries; it is checked only if `is_checked`.
 fn carries(alloc: Global, file: &[u8], other: &[u8], is_checked: bool) -> Result<bool, Trouble> {
     let renaming = match compare(alloc, &[file], &[other])? {
         Verdict::Same(renaming) => renaming,
@@ -78,7 +79,7 @@ fn carries(alloc: Global, file: &[u8], other: &[u8], is_checked: bool) -> Result
     Ok(true)
 }
 
-/// What the words ask for.
+/// The result of the job that the command line asks for.
 fn outcome(rt: &HostRuntime) -> Result<bool, Trouble> {
     let mut words = env::args(rt)?.skip(1);
     let (Some(job), Some(file), Some(other)) = (words.next(), words.next(), words.next()) else {

@@ -1,5 +1,8 @@
 -- The canonical text of records that were read, and why there may be none.
 use Rattle.std.proofs.Common.{◌≡◌, ◌∙◌, ℕ, List, Result, Ok, Err, [], ◌∷◌, IfOk, IfErr, subst, sym}
+use Rattle.std.proofs.Common.{◌+◌, ◌++◌, ◌<◌, length, take}
+use Rattle.std.specs.Prelude.{MatchResult, OnOk, if◌then◌else◌, is_ok}
+use Rattle.tl_write.specs.declared.fault.WriteFault.{WriteFault}
 use Rattle.tl_layout.specs.RecordText.{text_of}
 use Rattle.tl_layout.specs.declared.record_type.Record.{Record}
 use Rattle.tl_load.specs.Choice.{tiger}
@@ -11,13 +14,10 @@ use Rattle.tl_county.specs.Renumbering.{Renumbering, Carries}
 use Rattle.tl_county.proofs.Packing.PackedCounty.{packed_county}
 use Rattle.tl_number.specs.Accepted.{IsCanonicalThrough}
 use Rattle.tl_number.specs.Sights.{IsSight}
-use Rattle.tigercanon.specs.Faults.{IsWantOfMemory, TellsRefusal}
-use Rattle.tigercanon.specs.Normalising.{IsOnlyTextThrough}
+use Rattle.tigercanon.specs.Normalising.{GoesOut, IsOnlyTextThrough, StopsShort}
 use Rattle.tigercanon.specs.Respelling.{record_limit}
 use Rattle.tigercanon.specs.Sets.{CarriesSetThrough, IsAcceptedSet, IsCanonSetThrough, IsCanonicalTextThrough}
 use Rattle.tigercanon.specs.Sets.{IsOneCanonicalTextThrough}
-use Rattle.tigercanon.specs.declared.fault.Fault.{Fault}
-use Rattle.tigercanon.specs.declared.fault.Fault.TheVariants.{Memory}
 use Rattle.tigercanon.proofs.Sets.{one_text, only_text, text_accepted, text_itself}
 
 pub if_ok_by : {T E : Type 0} {P Q : T → Type 0} (r : Result T E) → ((x : T) → P x → Q x) → IfOk r P → IfOk r Q
@@ -28,7 +28,7 @@ pub if_err_by : {T E : Type 0} {P Q : E → Type 0} (r : Result T E) → ((e : E
 if_err_by (Ok x) f h = tt
 if_err_by (Err e) f h = f e h
 
--- what is said of an answer, and of a fault, where it is known which it is
+-- properties of an answer or of a fault, if it is known which of them the result is
 pub ok_holds : {T E : Type 0} (P : T → Type 0) (r : Result T E) (x : T) → r ≡ Ok x → IfOk r P → P x
 ok_holds P r x e h = subst (λ s. IfOk s P) e h
 
@@ -39,14 +39,33 @@ pub if_ok_both : {T E : Type 0} {P Q R : T → Type 0} (r : Result T E) → ((x 
 if_ok_both (Ok x) f h k = f x h k
 if_ok_both (Err e) f h k = tt
 
--- where nothing but want of memory is told, that is no refusal of a set
-pub memory_refuses : {T : Type 0} (parts : List (List ℕ)) (r : Result T Fault) → IfErr r (λ f. f ≡ Memory) → IfErr r (TellsRefusal parts)
-memory_refuses parts r = if_err_by r (λ f memory. subst (TellsRefusal parts) (sym memory) tt)
+pub on_ok_by : {T E P Q : Type 0} (r : Result T E) → (P → Q) → OnOk r P → OnOk r Q
+on_ok_by (Ok x) f h = f h
+on_ok_by (Err e) f h = tt
 
-pub memory_is_wanted : {T : Type 0} (r : Result T Fault) → IfErr r (λ f. f ≡ Memory) → IfErr r IsWantOfMemory
-memory_is_wanted r = if_err_by r (λ f memory. subst IsWantOfMemory (sym memory) tt)
+-- properties of an answer and of a fault together
+pub match_of : {T E : Type 0} (P : T → Type 0) (Q : E → Type 0) (r : Result T E) → IfOk r P → IfErr r Q → MatchResult r P Q
+match_of P Q (Ok x) p q = p
+match_of P Q (Err e) p q = q
 
--- canonical texts through a sight
+pub match_ok : {T E : Type 0} (P : T → Type 0) (Q : E → Type 0) (r : Result T E) (x : T) → r ≡ Ok x → MatchResult r P Q → P x
+match_ok P Q r x e h = subst (λ s. MatchResult s P Q) e h
+
+pub match_err : {T E : Type 0} (P : T → Type 0) (Q : E → Type 0) (r : Result T E) (f : E) → r ≡ Err f → MatchResult r P Q → Q f
+match_err P Q r f e h = subst (λ s. MatchResult s P Q) e h
+
+-- the outcome of writing a text to a sink
+pub goes_out : {W : Type 0} (failed : W → ℕ) (holds : W → List ℕ → Type 0) (old new : W) (text : List ℕ) (r : Result ℕ WriteFault)
+    → IfOk r (λ n. n ≡ length text) → IfErr r (λ f. f.written < length text)
+    → failed new ≡ (if is_ok r then failed old else failed old + 1)
+    → ((held : List ℕ) → holds old held
+    → MatchResult r (λ _. holds new (held ++ text)) (λ f. holds new (held ++ take f.written text)))
+    → MatchResult r (λ count. GoesOut holds old new text count × (failed new ≡ failed old))
+    (λ fault. StopsShort holds old new text fault.written × (failed new ≡ failed old + 1))
+goes_out failed holds old new text (Ok n) long short failures bytes = ((long, bytes), failures)
+goes_out failed holds old new text (Err f) long short failures bytes = ((short, bytes), failures)
+
+-- canonical texts through a view
 module _ (seen : County → County) (sight : IsSight seen) where
   module _ (parts : List (List ℕ)) (records canonical : List Record) (spelled : SpellsWithin tiger record_limit parts records)
       (of : IsCanonicalThrough seen records canonical) where
@@ -69,7 +88,7 @@ module _ (seen : County → County) (sight : IsSight seen) where
       carries = subst (Carries renaming (seen (county_of records))) (sym (of.own ∙ new)) (subst (λ c. Carries renaming c b) old carries);
     }
 
-  -- a canonical text is answered again
+  -- a canonical text is its own canonical text
   pub again : (parts : List (List ℕ)) (answer : List ℕ) → IsCanonicalTextThrough seen parts answer → (text : List ℕ)
       → IsOneCanonicalTextThrough seen parts text → answer ≡ text
   again parts answer h text one =
@@ -85,7 +104,7 @@ module _ (seen : County → County) (sight : IsSight seen) where
         (text_accepted seen sight one.whole text one.canonical),
   )
 
-  -- what comes of a set's canonical county
+  -- products of a set's canonical county
   module _ (parts : List (List ℕ)) (a canon : County) (set : IsCanonSetThrough seen parts a canon) where
     pub text_of_set : (text : List ℕ) → text ≡ text_of (packed canon) → IsCanonicalTextThrough seen parts text
     text_of_set = is_text parts set.records (packed canon) set.accepted.spelled set.canonical

@@ -1,4 +1,4 @@
--- What was read of a source to its end, and the fault that then stands.
+-- The bytes of a source that was read to its end, and the fault that is then recorded.
 use Rattle.std.proofs.Common.{◌≡◌, ◌≢◌, ℕ, ◌+◌, ◌%◌, ◌^◌, List, ◌++◌, Option, Some, None, Result, Ok, Err, append-nil, add_assoc, refl, sym}
 use Rattle.std.proofs.Common.{ap, subst, ◌∙◌}
 use Rattle.std.proofs.Math.Nat.{mod-add-mod}
@@ -9,7 +9,7 @@ use Rattle.tl_load.specs.declared.fault.LoadFault.{LoadFault}
 use Rattle.tl_load.specs.declared.fault.LoadFault.TheVariants as faults
 use Rattle.tl_load.specs.Loaded.{IsNotDevice, is_device_fault}
 
--- what was taken to the end is all
+-- bytes taken to the end are all bytes
 pub taken_all : (known left : Option (List ℕ)) (taken : List ℕ) → Consumes known left taken → IsAtEnd left
     → IfSome known (λ bytes. taken ≡ bytes)
 taken_all None left taken c e = tt
@@ -33,7 +33,7 @@ pub none_device : (o : Option LoadFault) → o ≡ None → IfSome o IsNotDevice
 none_device None e = tt
 none_device (Some f) e = absurd cc
 
--- the fault that stands after a step is no device's: it stood before, or the step told it
+-- the fault recorded after a step is not a device's: it was recorded before, or the step reported it
 pub still_no_device : {L : Type 0} (fault_of : L → Option LoadFault) (before after : L) (r : Result (Unit {0}) LoadFault)
     → IfSome (fault_of before) IsNotDevice → OnOk r (fault_of after ≡ None) → IfErr r (λ f. fault_of after ≡ Some f)
     → (fault_of before ≡ None → IfErr r IsNotDevice) → IfSome (fault_of before) (λ f. (r ≡ Err f) × (after ≡ before))
@@ -47,7 +47,7 @@ still_no_device fault_of before after (Err f) was ok told device stood =
     go None e was stood = device e
     go (Some g) e was stood = let same : f ≡ g = cc in subst IsNotDevice (sym same) was
 
--- nor is what a loader answers in the end, where no fault of a device stands
+-- the result of a loader is not a device's fault if none is recorded
 pub no_device_answered : {K : Type 0} (fault : Option LoadFault) (r : Result K LoadFault) → IfSome fault IsNotDevice
     → (fault ≡ None → IfErr r IsNotDevice) → IfSome fault (λ f. r ≡ Err f) → IfErr r IsNotDevice
 no_device_answered None r was device stood = device refl

@@ -1,4 +1,4 @@
--- What was read of sources over files, the files hold.
+-- The bytes read from sources over files are in the files.
 use Rattle.std.proofs.Common.{◌≡◌, ◌<◌, ◌⊎◌, ℕ, List, [], ◌∷◌, ◌++◌, map, Option, Some, None, inl, inr, refl, sym, ap, ◌∙◌, arith, subst}
 use Rattle.std.proofs.lemmas.List.{map-append}
 use Rattle.std.proofs.lemmas.List.Elements.{All-push}
@@ -31,7 +31,7 @@ all_more P xs zs x e all one = subst (All P) (sym e) (All-push P xs x all one)
 pub all_none : {X : Type 0} (P : X → Type 0) (xs : List X) → xs ≡ [] → All P xs
 all_none P xs e = subst (All P) (sym e) (λ k d l. absurd (omega (arith, l)))
 
--- sources that have not failed may be read
+-- sources that haven't failed can be read
 pub below_most : {S : Type 0} (failed : S → ℕ) (xs ys : List S) → ys ≡ xs → All (λ s. failed s ≡ 0) xs → All (λ s. failed s < MAX) ys
 below_most failed xs ys e all =
     subst (All (λ s. failed s < MAX)) (sym e) (λ k d l. let z : failed (slice_index_or xs k d) ≡ 0 = all k d l in omega arith)
@@ -51,7 +51,7 @@ is_known : (known : Option (List ℕ)) → IfSome known (λ bytes. known_or_none
 is_known None = tt
 is_known (Some bytes) = refl
 
--- bytes that were taken, and what is left of those that are known
+-- bytes that were taken, and the known bytes that are left
 with_left : (known left : Option (List ℕ)) (taken : List ℕ) → Consumes known left taken
     → (more : List ℕ) × IfSome known (λ bytes. taken ++ more ≡ bytes)
 with_left None left taken c = ([], tt)
@@ -74,7 +74,7 @@ module _ {S R : Type 0} (left : S → Option (List ℕ)) (given : S → ℕ) (re
   read_held (f ∷ fs) (b ∷ bs) [] parts s r = absurd r
   read_held (f ∷ fs) (b ∷ bs) (n ∷ ns) [] s r = absurd r
 
-  -- some parts that files hold
+  -- some parts that the files contain
   some_parts : (files : List (Opened R)) → (parts : List (List ℕ)) × AreHeld remaining files parts
   some_parts [] = ([], tt)
   some_parts (f ∷ fs) = let rest = some_parts fs in (
@@ -82,7 +82,7 @@ module _ {S R : Type 0} (left : S → Option (List ℕ)) (given : S → ℕ) (re
     (is_known (bytes_of remaining f), rest.1),
   )
 
-  -- parts that go on from what was read
+  -- parts that continue the bytes that were read
   going_on : (files : List (Opened R)) (before after : List S) (closed : List (List ℕ)) (bytes : List ℕ)
       → AreSourcesOf left before remaining files → AreReadUpTo left given before after closed bytes
       → ((more : List ℕ) × (later : List (List ℕ)) × AreHeld remaining files (closed ++ (bytes ++ more) ∷ later))
@@ -110,7 +110,7 @@ module _ {S R : Type 0} (left : S → Option (List ℕ)) (given : S → ℕ) (re
   going_on (f ∷ fs) (b ∷ bs) [] closed bytes s r = absurd r
 
   module _ (files : List (Opened R)) (before after : List S) (sources : AreSourcesOf left before remaining files) where
-    -- a fault of what was read is what the files are refused for
+    -- the files are refused for a fault in the bytes that were read
     read_refused : (fault : LoadFault) → IsFaultOfRead left given before after fault → AreRefused remaining files (Load fault)
     read_refused fault h = go (going_on files before after h.0 h.1 sources h.2)
       where
@@ -133,7 +133,7 @@ module _ {S R : Type 0} (left : S → Option (List ℕ)) (given : S → ℕ) (re
     }
     refused_files fault (inr h) = subst (AreRefused remaining files) (sym h.1) (read_refused h.0 h.2)
 
-    -- what is known of the sources is known of the files
+    -- facts about the sources hold for the files
     pub known_of_files : (failed reads : S → ℕ)
         → IsKnownOf (set_of_sources left given failed reads before after) (set_of_files remaining files)
     known_of_files failed reads = record {

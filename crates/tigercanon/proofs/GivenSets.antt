@@ -1,4 +1,4 @@
--- What is said of a set, and of what was printed of it, is said of another where what is known of the one is known of the other.
+-- A statement about a set and its output holds for another set if every fact about the first is a fact about the second.
 use Rattle.std.proofs.Common.{◌⊎◌, inl, inr, ℕ, List, Option, take}
 use Rattle.tl_load.specs.declared.fault.LoadFault.{LoadFault}
 use Rattle.tl_layout.specs.declared.mask.Mask.{Mask}
@@ -12,13 +12,13 @@ use Rattle.tigercanon.specs.Outcomes.{Tells, TellsLines, TellsLoad, TellsSet}
 use Rattle.tigercanon.specs.TwoSets.{IsDifferent, IsDone, IsLineDifferent, IsLineOfVerdict, IsLineSame, IsToldWhy, LeavesComparison}
 use Rattle.tigercanon.specs.TwoSets.{LeavesStopped, TellsOne}
 
--- what is known of the one set is known of the other
+-- every fact about one set is a fact about the other
 pub record IsKnownOf (a b : GivenSet) : Type 0 where
   pub holds : (parts : List (List ℕ)) → a.holds parts → b.holds parts
   pub refused : (fault : Fault) → a.refused fault → b.refused fault
   pub unread : a.unread → b.unread
 
--- and of what is printed to
+-- and the same for the output
 pub record IsPrintedTo (x y : GivenOutput) : Type 0 where
   pub got : (bytes : List ℕ) → x.got bytes → y.got bytes
   pub kept : x.kept → y.kept

@@ -1,4 +1,4 @@
--- What a lent writer holds in the end.
+-- The final contents of a lent writer.
 use Rattle.std.proofs.Common.{◌≡◌, ◌⊎◌, ◌+◌, ◌∙◌, inl, inr, ℕ, List, ◌∷◌, ◌++◌, Option, Some, None, Result, Ok, Err, length, take}
 use Rattle.std.proofs.Common.{refl, sym, ap, subst}
 use Rattle.std.proofs.Math.Seq.{take-length}
@@ -16,7 +16,7 @@ pub kept : (known : Option (List ℕ)) → Keeps known known
 kept None = tt
 kept (Some bytes) = refl
 
--- a writer that was lent to a sink got what the sink took
+-- a writer that was lent to a sink got the bytes that the sink took
 module _ (name later : ℕ) (old new : Option (List ℕ)) (bytes : List ℕ)
     (took : (held : List ℕ) → HoldsUnderName name old held → HoldsUnderName later new (held ++ bytes)) where
   pub lent_appends : Appends old new bytes
@@ -32,14 +32,14 @@ module _ (name later : ℕ) (old new : Option (List ℕ)) (bytes : List ℕ)
       go None e = tt
       go (Some xs) e = let g = grown xs e in put xs g.0 g.1 g.2
 
-  -- and it is that writer still, if its bytes are known
+  -- and it is still that writer, if its bytes are known
   pub lent_same : (xs : List ℕ) → old ≡ Some xs → later ≡ name
   lent_same xs e = let g = took (name ∷ xs) (xs, refl, e) in same g.0 g.1
     where
       same : (more : List ℕ) → name ∷ (xs ++ bytes) ≡ later ∷ more → later ≡ name
       same more e = cc
 
--- so what the writer holds in the end is known where it is known to be the one that was lent
+-- so the final contents of a writer are known if it is known to be the one that was lent
 pub lent_out : {W : Type 0} (contents : W → Option (List ℕ)) (start first last final : W) (name later : ℕ) (bytes : List ℕ) → first ≡ start
     → ((held : List ℕ) → HoldsUnderName name (contents first) held → HoldsUnderName later (contents last) (held ++ bytes))
     → (later ≡ name → last ≡ final) → Appends (contents start) (contents final) bytes
@@ -53,7 +53,7 @@ lent_out contents start first last final name later bytes is took ends =
         (ends (lent_same name later (contents first) (contents last) bytes took xs e))
         (lent_appends name later (contents first) (contents last) bytes took)
 
--- what is known of the sink is known of the writer that was lent to it
+-- facts about the sink hold for the writer that was lent to it
 module _ {W X : Type 0} (contents : W → Option (List ℕ)) (failed name : X → ℕ) (writer : X → W) (start final : W) (first last : X)
     (lent : writer first ≡ start) (ends : name last ≡ name first → writer last ≡ final) where
   pub printed_to_writer : IsPrintedTo (to_sink failed (λ s. HoldsUnderName (name s) (contents (writer s))) first last)
@@ -65,7 +65,7 @@ module _ {W X : Type 0} (contents : W → Option (List ℕ)) (failed name : X �
     failed = λ rose. tt;
   }
 
--- a sink that was given a line has it, or it failed and has a beginning of it
+-- a sink that got a line has it, or it failed and has a beginning of it
 pub line_told : {E : Type 0} (failed : E → ℕ) (holds : E → List ℕ → Type 0) (old new : E) (line : List ℕ)
     (outcome : Result (Unit {0}) WriteFault)
     → OnOk outcome (Took holds old new line) → OnOk outcome (failed new ≡ failed old)
@@ -74,7 +74,7 @@ pub line_told : {E : Type 0} (failed : E → ℕ) (holds : E → List ℕ → Ty
 line_told failed holds old new line (Ok done) whole none stopped rose = inl (none, whole)
 line_told failed holds old new line (Err f) whole none stopped rose = inr (rose, f.written, stopped.1)
 
--- and so has the writer that was lent to the sink
+-- and the same for the writer that was lent to the sink
 pub line_by : {W : Type 0} (contents : W → Option (List ℕ)) (start first last final : W) (name later : ℕ) → first ≡ start
     → (later ≡ name → last ≡ final) → (was count : ℕ) (line : List ℕ)
     → ((count ≡ was) × ((held : List ℕ) → HoldsUnderName name (contents first) held → HoldsUnderName later (contents last) (held ++ line)))

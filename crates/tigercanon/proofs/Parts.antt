@@ -19,13 +19,13 @@ parts_around slices i d within =
     sym (map-append (λ p. p.now) (take i slices) (get_or slices i d ∷ drop (suc i) slices))
     ∙ ap parts_of (ap (λ rest. take i slices ++ rest) (sym (drop-cons slices i d within)) ∙ take-append-drop i slices)
 
--- the parts up to one more
+-- the parts up to the next one
 pub parts_so_far : (slices : List (Bor (List ℕ))) (i : ℕ) (d : Bor (List ℕ)) → i < length slices
     → parts_of (take i slices) ++ (get_or slices i d).now ∷ [] ≡ parts_of (take (i + 1) slices)
 parts_so_far slices i d within =
     sym (ap parts_of (take_more slices i d within) ∙ map-append (λ p. p.now) (take i slices) (get_or slices i d ∷ []))
 
--- a fault that stays however the open part and the set go on is that of the slices, of which the open part is one
+-- a fault of every continuation of the open part and the set is the fault of the slices, one of which is the open part
 pub fault_of_all : (slices : List (Bor (List ℕ))) (i : ℕ) (d : Bor (List ℕ)) (f : LoadFault) → i < length slices
     → IsFaultHowever record_limit (parts_of (take i slices)) (get_or slices i d).now f → IsFirstFault (parts_of slices) f
 fault_of_all slices i d f within however =
@@ -34,7 +34,7 @@ fault_of_all slices i d f within however =
     ∙ parts_around slices i d within in
     subst (λ ps. IsFirstFault ps f) all (however [] (parts_of (drop (suc i) slices)))
 
--- the same where that part is closed: the next one and those after it go on, or nothing does
+-- the same if that part is closed: the next ones continue it, or nothing does
 fault_of_rest : (closed rest : List (List ℕ)) (f : LoadFault) → IsFaultHowever record_limit closed [] f → IsFirstFault (closed ++ rest) f
 fault_of_rest closed [] f however = subst (λ ps. IsFirstFault ps f) (sym (append-nil closed)) ((empty_fault tiger record_limit closed f).0 (however [] []))
 fault_of_rest closed (part ∷ rest) f however = however part rest

@@ -1,4 +1,4 @@
--- Sources that were read one after the other.
+-- Sources that were read one after another.
 use Rattle.std.proofs.Common.{◌≡◌, ℕ, zero, suc, ◌+◌, ◌<◌, ◌%◌, ◌^◌, List, [], ◌∷◌, ◌++◌, length, get_or, Option, Some, None}
 use Rattle.std.proofs.Common.{inl, inr, refl, sym, ap, ◌∙◌, subst, arith, add-zero}
 use Rattle.std.proofs.Math.ListN.{set}
@@ -11,19 +11,19 @@ use Rattle.tigercanon.specs.Reading.{AreRead, AreReadUpTo, IsUnread, NoneFailed,
 use Rattle.tigercanon.specs.Respelling.{record_limit}
 
 module _ {R : Type 0} (remaining : R → Option (List ℕ)) (given : R → ℕ) where
-  -- the first sources were read to their ends and gave these parts, and the others are as they were
+  -- the first sources were read to their ends and returned these parts, and the others are unchanged
   abbrev pub GaveParts : List R → List R → List (List ℕ) → Type 0
   GaveParts before after [] = after ≡ before
   GaveParts (b ∷ bs) (n ∷ ns) (part ∷ parts) = Gave remaining given b n part × IsAtEnd (remaining n) × GaveParts bs ns parts
   GaveParts [] after (part ∷ parts) = ⊥
   GaveParts (b ∷ bs) [] (part ∷ parts) = ⊥
 
-  -- so many of the sources were read, and the loader was fed what they gave
+  -- this many of the sources were read, and the loader was fed their bytes
   abbrev pub HasRead : {K : Type 0} → (K → List Record → Type 0) → List R → List R → ℕ → LoadedInto K → Type 0
   HasRead holds before after count loader = (parts : List (List ℕ)) × GaveParts before after parts × (length parts ≡ count)
       × WasFedInto holds record_limit loader parts []
 
-  -- the next source is as it was
+  -- the next source is unchanged
   pub next_untouched : (bs ns : List R) (parts : List (List ℕ)) (d : R) → GaveParts bs ns parts
       → get_or ns (length parts) d ≡ get_or bs (length parts) d
   next_untouched bs ns [] d g = ap (λ (rs : List R). get_or rs 0 d) g
@@ -43,7 +43,7 @@ module _ {R : Type 0} (remaining : R → Option (List ℕ)) (given : R → ℕ) 
   one_more [] ns (p ∷ parts) d x part g l gave end = absurd g
   one_more (b ∷ bs) [] (p ∷ parts) d x part g l gave end = absurd g
 
-  -- or it gave these bytes, and reading stopped
+  -- or it returned these bytes, and reading stopped
   pub up_to_next : (bs ns : List R) (parts : List (List ℕ)) (d x : R) (bytes : List ℕ) → GaveParts bs ns parts
       → length parts < length bs → Gave remaining given (get_or bs (length parts) d) x bytes
       → AreReadUpTo remaining given bs (set ns (length parts) x) parts bytes
@@ -55,7 +55,7 @@ module _ {R : Type 0} (remaining : R → Option (List ℕ)) (given : R → ℕ) 
   up_to_next [] ns (p ∷ parts) d x bytes g l gave = absurd g
   up_to_next (b ∷ bs) [] (p ∷ parts) d x bytes g l gave = absurd g
 
-  -- a source that wasn't read gave nothing
+  -- a source that wasn't read returned nothing
   none_taken : (known : Option (List ℕ)) → Consumes known known []
   none_taken None = tt
   none_taken (Some bytes) = refl
@@ -63,7 +63,7 @@ module _ {R : Type 0} (remaining : R → Option (List ℕ)) (given : R → ℕ) 
   gave_nothing : (b : R) → Gave remaining given b b []
   gave_nothing b = record { bytes = none_taken (remaining b); counted = ap (λ (n : ℕ). n % 2 ^ 64) (sym (add-zero (given b))) }
 
-  -- the sources behind them gave nothing yet
+  -- the sources after them have returned nothing yet
   pub nothing_more : (bs ns : List R) (parts : List (List ℕ)) → GaveParts bs ns parts → AreReadUpTo remaining given bs ns parts []
   nothing_more [] ns [] g = subst (λ (rs : List R). AreReadUpTo remaining given [] rs [] []) (sym g) refl
   nothing_more (b ∷ bs) ns [] g =
@@ -81,7 +81,7 @@ module _ {R : Type 0} (remaining : R → Option (List ℕ)) (given : R → ℕ) 
   all_read [] ns (part ∷ parts) g e = absurd g
   all_read (b ∷ bs) [] (part ∷ parts) g e = absurd g
 
-  -- the same where the number of parts is that of a place
+  -- the same if the number of parts is a place
   module _ (bs ns : List R) (parts : List (List ℕ)) (i : ℕ) (d x : R) (g : GaveParts bs ns parts) (e : length parts ≡ i)
       (l : i < length bs) where
     pub untouched_at : get_or ns i d ≡ get_or bs i d

@@ -1,4 +1,4 @@
--- What the exit status says of why a job stopped.
+-- The exit status, and the reasons why a job stopped.
 use Rattle.std.proofs.Common.{◌≡◌, ◌≢◌, ◌⊎◌, ◌∷◌, [], Contains, inl, inr, refl, ℕ, Option, arith, lit<, subst}
 use Rattle.tl_county.specs.declared.fault.LinkFault.{LinkFault}
 use Rattle.tl_county.specs.declared.fault.LinkFault.TheVariants.{ChainTwice, NoChain, SequenceBroken, LinkMissing, LinkTwice}
@@ -73,7 +73,7 @@ not_profile_memory f s = λ e.
     let five : status_of (Profile ProfileMemory) ≡ 3 = subst (λ (g : ProfileFault). status_of (Profile g) ≡ 3) e s in
     absurd (omega (arith, five))
 
--- neither a device nor want of memory has it
+-- neither a device's fault nor out of memory has it
 not_refusal : (fault : Fault) → IsOfNoLines fault → status_of fault ≡ 3 → ⊥
 not_refusal (Load Device) h s = omega (arith, s)
 not_refusal (Load LoadMemory) h s = absurd h
@@ -96,7 +96,7 @@ set_refused set (Profile f) told s = (Profile f, told (not_profile_memory f s))
 set_refused set (Write f) told s = absurd told
 set_refused set Memory told s = absurd (omega (arith, s))
 
--- ---- the status of a device
+-- ---- the status of a device's fault
 
 is_device : (f : LoadFault) → status_of (Load f) ≡ 4 → f ≡ Device
 is_device Device s = refl
@@ -269,7 +269,7 @@ module _ (mask : Mask) (first second : GivenSet) (out : GivenOutput) where
   of_one (inl h) = inl h
   of_one (inr h) = inr (inr h)
 
-  -- a device is told only where a set couldn't be read, or it failed to be printed to
+  -- a device's fault is reported only if a set couldn't be read or the output failed
   pub left_unread : (job : Job) (fault : Fault) (set : Option ℕ) → LeavesStopped mask job first second out fault set → status_of fault ≡ 4
       → first.unread ⊎ second.unread ⊎ out.failed
   left_unread Respell fault set left s = of_one (one_unread Respell fault left.1 s)

@@ -16,6 +16,7 @@ use Rattle.tl_county.specs.County.{County, county_of}
 use Rattle.tl_county.specs.Renumbering.{AreSame}
 use Rattle.tl_number.specs.Accepted.{IsAccepted, RecordsRefusal, Unlinked, OutOfProfile, IsRefusal}
 use Rattle.tl_number.specs.Sights.{IsSight, plain}
+use Rattle.tl_number.specs.Strict.{IsStrictThrough}
 use Rattle.tigercanon.specs.Normalising.{IsOnlyText, IsOnlyTextThrough}
 use Rattle.tigercanon.specs.Respelling.{record_limit}
 use Rattle.tigercanon.specs.Sets.{IsAcceptedSet, IsSetRefusal, IsCanonicalText, IsCanonicalTextThrough}
@@ -25,10 +26,11 @@ use Rattle.tl_county.specs.LinkRules.{IsLinked, IsFirstBrokenRule}
 use Rattle.tl_county.proofs.Rules.LinkFaults.{linked_has_none, one_first_rule}
 use Rattle.tl_profile.specs.Profile.{IsFirstBrokenClause}
 use Rattle.tl_profile.proofs.ProfileFaults.{profile_has_none, one_first_clause}
-use Rattle.tl_number.proofs.Accepted.{accepted_or_refused, one_canonical_same, same_canonical_text}
-use Rattle.tl_number.proofs.Accepted.{canonical_accepted, canonical_as_it_is, canonical_of_itself}
-use Rattle.tl_number.proofs.Ascending.{canonical_exists}
-use Rattle.tl_number.proofs.ArrangedNumbers.{canonical_within}
+use Rattle.tl_number.proofs.CanonicalLists.Accepted.{accepted_or_refused, one_canonical_same, same_canonical_text}
+use Rattle.tl_number.proofs.CanonicalLists.Accepted.{canonical_accepted, canonical_as_it_is, canonical_of_itself}
+use Rattle.tl_number.proofs.CanonicalLists.Ascending.{canonical_exists}
+use Rattle.tl_number.proofs.Arrangements.ArrangedNumbers.{canonical_within}
+use Rattle.tl_number.proofs.CanonicalLists.StrictLists.{strict_through}
 use Rattle.tl_county.proofs.Sameness.Equivalence.{same-reflexive}
 
 pub set_accepted_or_refused : (parts : List (List ℕ))
@@ -106,9 +108,9 @@ one_set_refusal parts (Load f) Memory h k = absurd k
 one_set_refusal parts (Link f) Memory h k = absurd k
 one_set_refusal parts (Profile f) Memory h k = absurd k
 
--- canonical texts through a sight
+-- canonical texts through a view
 module _ (seen : County → County) (sight : IsSight seen) where
-  -- what is printed of a canonical list fits, and keeps the limit
+  -- the printed records of a canonical list fit their columns and keep the limit
   fitting : (parts : List (List ℕ)) (text : List ℕ) (h : IsCanonicalTextThrough seen parts text)
       → All FitsRecord h.canonical × IsWithinLimit record_limit h.canonical
   fitting parts text h =
@@ -152,7 +154,7 @@ module _ (seen : County → County) (sight : IsSight seen) where
       (subst (λ (rs : List Record). AreSame (seen (county_of h.records)) (seen (county_of rs)))
       (one_list parts h.records k.records h.spelled k.spelled) (same-reflexive (seen (county_of h.records))))
 
-  -- as one part it is accepted, of the same map, and its own canonical text, through the sight and as it is
+  -- as one part it is accepted, describes the same map, and is its own canonical text, through the view and without one
   module _ (parts : List (List ℕ)) (text : List ℕ) (h : IsCanonicalTextThrough seen parts text) where
     pub text_accepted : IsAcceptedSet (text ∷ []) h.canonical
     unfolding tiger
@@ -193,7 +195,22 @@ module _ (seen : County → County) (sight : IsSight seen) where
         text_is = refl;
       }) h
 
--- of a county as it is all is seen
+  -- the text of a strict list is the only one
+  module _ (parts : List (List ℕ)) (records answer : List Record) (spelled : SpellsWithin tiger record_limit parts records)
+      (h : IsStrictThrough seen records answer) where
+    pub strict_text : IsCanonicalTextThrough seen parts (text_of answer)
+    strict_text = record {
+      records = records;
+      canonical = answer;
+      spelled = spelled;
+      canonical_of = strict_through seen records answer h;
+      text_is = refl;
+    }
+
+    pub only_strict_text : (text : List ℕ) → IsCanonicalTextThrough seen parts text → text ≡ text_of answer
+    only_strict_text text k = one_text parts text (text_of answer) k strict_text
+
+-- the plain view shows all of a county
 module _ (parts : List (List ℕ)) (text : List ℕ) where
   pub only_as_it_is : IsOnlyTextThrough plain parts text → IsOnlyText parts text
   only_as_it_is only = λ records canonical accepted is same. only records canonical accepted is refl same

@@ -1,4 +1,4 @@
--- What is told of a set that sources gave.
+-- The fault that is reported for a set from sources.
 use Rattle.std.proofs.Common.{◌≡◌, ◌≢◌, ◌+◌, inl, inr, ℕ, List, [], ◌∷◌, Option, refl, sym, ap, subst}
 use Rattle.std.specs.Prelude.{true, false}
 use Rattle.tl_write.specs.declared.fault.WriteFault.{WriteFault}
@@ -27,7 +27,7 @@ unread_of_failed failed reads (b ∷ bs) (n ∷ ns) (inr h) = inr (unread_of_fai
 unread_of_failed failed reads [] ns h = absurd h
 unread_of_failed failed reads (b ∷ bs) [] h = absurd h
 
--- ---- what is told where reading stopped, or where it didn't
+-- ---- the reported fault if reading stopped, and if it didn't
 
 module _ (known : GivenSet) where
   pub set_stopped : (fault : Fault) → StopsReading known.unread fault → TellsSet known fault
@@ -41,13 +41,6 @@ module _ (known : GivenSet) where
   pub no_lines_stopped : (fault : Fault) → StopsReading known.unread fault → IsOfNoLines fault
   no_lines_stopped fault (inl h) = subst IsOfNoLines (sym h.0) tt
   no_lines_stopped fault (inr e) = subst IsOfNoLines (sym e) tt
-
-  pub lines_as_set : (fault : Fault) → TellsLines known fault → TellsSet known fault
-  lines_as_set (Load f) t = t
-  lines_as_set (Link f) t = absurd t
-  lines_as_set (Profile f) t = absurd t
-  lines_as_set (Write f) t = absurd t
-  lines_as_set Memory t = tt
 
   pub lines_of_no_sink : (fault : Fault) → TellsLines known fault → is_of_sink fault ≡ false
   lines_of_no_sink (Load f) t = refl
@@ -71,7 +64,7 @@ module _ (known : GivenSet) where
   leaves_untouched mask out job (Write f) e k t = absurd cc
   leaves_untouched mask out job Memory e k t = (k, t)
 
-  -- what parts that the set holds are refused for, behind the reading
+  -- the fault of parts of the set, after reading
   pub read_told : (parts : List (List ℕ)) → ((fault : Fault) → IsSetRefusal parts fault → known.refused fault) → (fault : Fault)
       → TellsRefusal parts fault → fault ≢ Load Device → TellsSet known fault
   read_told parts refuse (Load f) t ne = ((λ of. refuse (Load f) (t of)), (λ is. absurd (ne (ap Load is))))
@@ -80,7 +73,7 @@ module _ (known : GivenSet) where
   read_told parts refuse (Write f) t ne = absurd t
   read_told parts refuse Memory t ne = tt
 
--- what parts that were read to their ends are refused for, the set is refused for
+-- the set is refused for the fault of parts that were read to their ends
 pub refused_of_read : {R : Type 0} (remaining : R → Option (List ℕ)) (given : R → ℕ) (before after : List R) (parts : List (List ℕ))
     → AreRead remaining given before after parts → (fault : Fault) → IsSetRefusal parts fault
     → IsRefusalOfRead remaining given before after fault
@@ -93,7 +86,7 @@ module _ {R : Type 0} (remaining : R → Option (List ℕ)) (given failed reads 
   lines_of_read parts read f refused other =
       ((λ of. refused_of_read remaining given before after parts read (Load f) (refused of)), (λ is. absurd (not_device f other is)))
 
-  -- what reading no further than a fault tells
+  -- the report if reading stopped at a fault
   told_of_read : (fault : Fault) → is_of_sink fault ≡ false → TellsRead remaining given before after fault
       → (fault ≡ Load Device → OneFailed failed before after)
       → TellsSet (set_of_sources remaining given failed reads before after) fault
@@ -104,7 +97,7 @@ module _ {R : Type 0} (remaining : R → Option (List ℕ)) (given failed reads 
   told_of_read (Write f) e t device = absurd cc
   told_of_read Memory e t device = tt
 
-  -- what is left by normalising to a sink
+  -- the state after normalising to a sink
   module _ {W : Type 0} (sink_failed : W → ℕ) (holds : W → List ℕ → Type 0) (old new : W) where
     pub normalised_leave : (mask : Mask) (fault : Fault)
         → ((f : WriteFault) → fault ≡ Write f → IsCutOffThrough (masked mask) remaining given before after holds old new f.written)

@@ -1,4 +1,4 @@
--- What a loader that was fed closed parts says of faults.
+-- The faults of a loader that was fed closed parts.
 use Rattle.std.proofs.Common.{◌≡◌, ℕ, ◌+◌, List, [], ◌∷◌, ◌++◌, Option, Some, None, refl, ap, ◌∙◌, subst}
 use Rattle.std.specs.Prelude.{MatchOption, if◌then◌else◌}
 use Rattle.tl_layout.specs.declared.record_type.Record.{Record}
@@ -20,7 +20,7 @@ module _ {K : Type 0} (holds : K → List Record → Type 0) (l : LoadedInto K) 
       ((records : List Record) × AreKept holds l records × HasLoaded record_limit (seen l records) closed bytes)
       (λ f. IsOfLines f → IsFaultHowever record_limit closed bytes f)
 
-  -- a fault of lines that stands is that of every set that goes on
+  -- a recorded fault of a line is the fault of every set that continues
   pub standing_fault : (f : LoadFault) (closed : List (List ℕ)) (bytes : List ℕ) → l.fault ≡ Some f
       → WasFedInto holds record_limit l closed bytes → IsOfLines f → IsFaultHowever record_limit closed bytes f
   unfolding Comes
@@ -30,7 +30,7 @@ module _ {K : Type 0} (holds : K → List Record → Type 0) (l : LoadedInto K) 
   nothing_before [] ys e = refl
   nothing_before (x ∷ xs) ys e = absurd cc
 
-  -- where no fault stands, there is none at the closed parts
+  -- if no fault is recorded, the closed parts have none
   pub none_standing : (f : LoadFault) (closed : List (List ℕ)) → l.fault ≡ None → WasFedInto holds record_limit l closed []
       → IsFirstFault closed f → ⊥
   unfolding Comes
@@ -43,7 +43,7 @@ module _ {K : Type 0} (holds : K → List Record → Type 0) (l : LoadedInto K) 
           (subst (λ (last : List ℕ). SpellsWithin tiger record_limit (closed ++ last ∷ []) h.0) none h.2.accepts)
           ((empty_fault tiger record_limit closed f).1 at)
 
--- a device's fault is counted, and no other
+-- a device's fault is counted, and no other fault is
 pub counted_device : (f : LoadFault) (was now : ℕ) → now ≡ (if is_device_fault f then was + 1 else was) → f ≡ faults.Device
     → now ≡ was + 1
 counted_device f was now told e =

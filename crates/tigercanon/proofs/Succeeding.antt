@@ -1,4 +1,4 @@
--- Parts that spell records are refused for want of memory alone.
+-- Parts that spell records can only be refused for lack of memory.
 use Rattle.std.proofs.Common.{ℕ, List}
 use Rattle.tl_layout.specs.declared.record_type.Record.{Record}
 use Rattle.tl_load.proofs.RecordLines.{tiger_is_sound}

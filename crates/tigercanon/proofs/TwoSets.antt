@@ -1,7 +1,7 @@
--- What is told and printed of two sets.
-use Rattle.std.proofs.Common.{◌≡◌, ◌⊎◌, ℕ, List, Option, Some, None, Result, Ok, Err}
-use Rattle.std.proofs.Common.{inl, inr, refl}
-use Rattle.std.specs.Prelude.{MatchResult, OnOk}
+-- The reports and the output for two sets.
+use Rattle.std.proofs.Common.{◌≡◌, ℕ, Bool, true, false, List, Option, Some, None, Result, Ok, Err}
+use Rattle.std.proofs.Common.{ap, inl, inr, refl}
+use Rattle.std.specs.Prelude.{MatchResult, OnOk, if◌then◌else◌}
 use Rattle.tigercanon.specs.declared.program.ending.Ending.{Ending}
 use Rattle.tigercanon.specs.declared.program.ending.Ending.TheVariants.{Done, Different}
 use Rattle.tigercanon.specs.declared.program.ending.Stopped.{Stopped}
@@ -9,20 +9,20 @@ use Rattle.tigercanon.specs.declared.fault.Fault.{Fault}
 use Rattle.tigercanon.specs.declared.fault.Fault.TheVariants.{Load, Link, Profile, Write, Memory}
 use Rattle.tl_cert.specs.MaskedCounty.{masked}
 use Rattle.tl_layout.specs.declared.mask.Mask.{Mask}
-use Rattle.tigercanon.specs.Comparing.{AreDifferentThrough, AreOneMapThrough, IsAcceptable}
+use Rattle.tigercanon.specs.Comparing.{AreDifferentThrough, AreOneMapThrough, TellsRefusalOfOneRead}
 use Rattle.tigercanon.specs.Devices.{StopsReading}
-use Rattle.tigercanon.specs.Faults.{TellsRefusalOfRead}
+use Rattle.tigercanon.specs.Findings.{IsFound}
+use Rattle.tigercanon.specs.Findings.Finding.{OneMap, TwoMaps}
+use Rattle.tigercanon.specs.Stopping.{stopped_by}
+use Rattle.tigercanon.specs.declared.library.comparing.CompareFault.{CompareFault}
+use Rattle.tigercanon.specs.declared.library.comparing.CompareFault.TheVariants.{In, Memory as NoMemory}
 use Rattle.tigercanon.specs.Outcomes.{GivenOutput, GivenSet}
 use Rattle.tigercanon.specs.Sets.{IsSetRefusal}
 use Rattle.tigercanon.specs.TwoSets.{IsLineDifferent, IsLineOfVerdict, IsLineSame, LeavesComparison, OfTwoSets, TellsOne}
 use Rattle.tigercanon.specs.TwoSets.{line_of_ending, where_ended}
 use Rattle.tigercanon.proofs.SourceSets.{no_lines_stopped, read_told, set_stopped}
 
-pub ended_by : {P Q V W : Type 0} (ending : Ending) → (P → V) → (Q → W) → where_ended ending P Q → where_ended ending V W
-ended_by Done f g h = f h
-ended_by Different f g h = g h
-
--- what is true where a job over one set is done
+-- what holds when a job over one set is done
 pub done_of_one : {P : Type 0} (outcome : Result (Unit {0}) Fault) (result : Result Ending Stopped)
     → MatchResult outcome (λ _. result ≡ Ok Done) (λ fault. result ≡ Err (record { fault = fault; set = None })) → result ≡ Ok Done
     → OnOk outcome P → P
@@ -31,17 +31,17 @@ done_of_one (Err fault) result is told p = absurd cc
 
 module _ (mask : Mask) (first second : GivenSet) where
   pub one_told : (a b : List (List ℕ)) → first.holds a → ((f : Fault) → IsSetRefusal a f → first.refused f)
-      → ((f : Fault) → IsSetRefusal b f → second.refused f) → (fault : Fault) (set : Option ℕ)
-      → ((set ≡ Some 1) × TellsRefusalOfRead a fault) ⊎ ((set ≡ Some 2) × IsAcceptable a × TellsRefusalOfRead b fault)
-      → TellsOne first second fault set
-  one_told a b held refuse other fault set (inl told) = inl (told.0, read_told first a refuse fault told.1.0 told.1.1)
-  one_told a b held refuse other fault set (inr told) = inr (
-    told.0,
+      → ((f : Fault) → IsSetRefusal b f → second.refused f) → (told : CompareFault) → TellsRefusalOfOneRead a b told
+      → TellsOne first second (stopped_by told).fault (stopped_by told).set
+  one_told a b held refuse other (In set f) (inl told) = inl (ap Some told.0, read_told first a refuse f told.1.0 told.1.1)
+  one_told a b held refuse other (In set f) (inr told) = inr (
+    ap Some told.0,
     inl (record { parts = a; held = held; records = told.1.0; accepted = told.1.1 }),
-    read_told second b other fault told.2.0 told.2.1,
+    read_told second b other f told.2.0 told.2.1,
   )
+  one_told a b held refuse other NoMemory told = absurd told
 
-  -- what can't be read is told of either set, of the second one whatever the first is
+  -- a failed read is reported for either set, and for the second one whatever the first is
   pub unread_first : (fault : Fault) (set : Option ℕ) → StopsReading first.unread fault → set ≡ Some 1 → TellsOne first second fault set
   unread_first fault set h e = inl (e, set_stopped first fault h)
 
@@ -57,6 +57,13 @@ module _ (mask : Mask) (first second : GivenSet) where
   leaves_untouched out (Write f) set k (inl told) = absurd told.1
   leaves_untouched out (Write f) set k (inr told) = absurd told.2
   leaves_untouched out Memory set k told = (k, told)
+
+  -- the finding about the parts of both sets, by the ending of the comparison
+  pub ended_by_finding : (is_one_map : Bool) (a b : List (List ℕ)) → first.holds a → second.holds b
+      → IsFound (masked mask) a b (if is_one_map then OneMap else TwoMaps)
+      → where_ended (if is_one_map then Done else Different) (OfTwoSets (AreOneMapThrough (masked mask)) first second) (OfTwoSets (AreDifferentThrough (masked mask)) first second)
+  ended_by_finding true a b held others_held found = record { parts = a; others = b; held = held; others_held = others_held; fact = found }
+  ended_by_finding false a b held others_held found = record { parts = a; others = b; held = held; others_held = others_held; fact = found }
 
   pub said_same : OfTwoSets (AreOneMapThrough (masked mask)) first second → IsLineSame mask first second (line_of_ending Done)
   said_same h = record {

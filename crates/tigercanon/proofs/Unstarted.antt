@@ -1,4 +1,4 @@
--- Why a job stopped that has read nothing: a file was missing, or there was no memory for its sources.
+-- Why a job stopped before it read anything: a file was missing, or there was no memory for its sources.
 use Rattle.std.proofs.Common.{◌≡◌, ℕ, List, Option, inl, inr, refl, ap, subst, sym}
 use Rattle.tl_load.specs.declared.fault.LoadFault.TheVariants.{Device}
 use Rattle.tl_layout.specs.declared.mask.Mask.{Mask}
@@ -14,7 +14,7 @@ use Rattle.tigercanon.specs.Statuses.{status_of}
 use Rattle.tigercanon.specs.Stopping.{set_of_job}
 use Rattle.tigercanon.specs.TwoSets.{LeavesStopped}
 
--- the fault of the set that is named, and no memory
+-- the fault of the named set, and out of memory
 abbrev pub out_of_memory : Job → ℕ → Stopped
 out_of_memory job set = record { fault = Memory; set = set_of_job job set }
 

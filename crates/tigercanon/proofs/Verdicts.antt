@@ -6,22 +6,19 @@ use Rattle.tl_county.specs.CountyRules.{IsCounty}
 use Rattle.tl_county.specs.Packing.{packed}
 use Rattle.tl_county.specs.Renumbering.{AreSame, Carries, Renumbering}
 use Rattle.tl_county.proofs.Packing.PackedCounty.{packed_county}
-use Rattle.tl_number.specs.Sights.{IsSight, plain}
-use Rattle.tl_number.proofs.Accepted.{one_canonical_same, plain_sight}
-use Rattle.tigercanon.specs.Comparing.{AreDifferent, AreDifferentThrough, AreOneMap, AreOneMapThrough, IsAcceptable}
+use Rattle.tl_number.specs.Sights.{IsSight}
+use Rattle.tl_number.proofs.CanonicalLists.Accepted.{one_canonical_same}
+use Rattle.tigercanon.specs.Comparing.{AreDifferentThrough, AreOneMapThrough, IsAcceptable}
 use Rattle.tigercanon.specs.Findings.{Finding, IsFound, IsFoundOfCounties}
-use Rattle.tigercanon.specs.Findings.Finding.{Carried, OneMap, TwoMaps}
-use Rattle.tigercanon.specs.Sets.{CarriesSetThrough, IsCanonSet, IsCanonSetThrough, IsCanonicalTextThrough}
-use Rattle.tigercanon.specs.TwoSets.{where_ended}
-use Rattle.tigercanon.specs.declared.program.ending.Ending.{Ending}
-use Rattle.tigercanon.specs.declared.program.ending.Ending.TheVariants.{Done, Different}
+use Rattle.tigercanon.specs.Findings.Finding.{Carried, NoMemory, OneMap, TwoMaps}
+use Rattle.tigercanon.specs.Sets.{CarriesSetThrough, IsCanonSetThrough, IsCanonicalTextThrough}
 use Rattle.tigercanon.proofs.Sets.{one_text_one_list, same_one_text}
 
 -- counties with one packing are one county
 pub one_county : (a b : County) → IsCounty a → IsCounty b → packed a ≡ packed b → a ≡ b
 one_county a b h k e = sym (packed_county a h) ∙ ap county_of e ∙ packed_county b k
 
--- two sets through a sight
+-- two sets through a view
 module _ (seen : County → County) (sight : IsSight seen) (parts others : List (List ℕ)) (a a' b b' : County)
     (first : IsCanonSetThrough seen parts a a') (second : IsCanonSetThrough seen others b b') where
   pub sets_carried : (r : Renumbering) → Carries r a b → CarriesSetThrough seen r parts others
@@ -51,7 +48,7 @@ module _ (seen : County → County) (sight : IsSight seen) (parts others : List 
     text_is = refl;
   }
 
-  -- the canonical lists have one text, and so are one list, where the counties are the same
+  -- the canonical lists have one text, and are one list, if the counties are the same
   one_packing : AreSame (seen (county_of first.records)) (seen (county_of second.records)) → packed a' ≡ packed b'
   one_packing same =
       one_text_one_list seen sight parts others (text_of (packed a')) (text_of (packed b')) first_text second_text
@@ -79,23 +76,12 @@ module _ (seen : County → County) (sight : IsSight seen) (parts others : List 
         },
       )
 
-  -- what is found of the counties is found of the sets
+  -- a finding about the counties is a finding about the sets
   pub found_of_sets : (finding : Finding) → IsFoundOfCounties a b a' b' finding → IsFound seen parts others finding
   found_of_sets (Carried r) carries = sets_carried r carries
   found_of_sets OneMap same = sets_one_map same
   found_of_sets TwoMaps other = sets_different other
-
-  -- what an ending says of the packings it says of the sets
-  pub verdict_through : (ending : Ending) → where_ended ending (packed a' ≡ packed b') (packed a' ≢ packed b')
-      → where_ended ending (AreOneMapThrough seen parts others) (AreDifferentThrough seen parts others)
-  verdict_through Done same = sets_one_map same
-  verdict_through Different other = sets_different other
-
--- the same of sets as they are
-pub verdict_of_sets : (parts others : List (List ℕ)) (a a' b b' : County) → IsCanonSet parts a a' → IsCanonSet others b b'
-    → (ending : Ending) → where_ended ending (packed a' ≡ packed b') (packed a' ≢ packed b')
-    → where_ended ending (AreOneMap parts others) (AreDifferent parts others)
-verdict_of_sets = verdict_through plain plain_sight
+  found_of_sets NoMemory none = ((first.records, first.accepted), (second.records, second.accepted))
 
 pub acceptable : {seen : County → County} (parts : List (List ℕ)) (a a' : County) → IsCanonSetThrough seen parts a a' → IsAcceptable parts
 acceptable parts a a' set = (set.records, set.accepted)

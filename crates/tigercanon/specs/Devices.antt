@@ -1,4 +1,4 @@
--- What the program's jobs do with sources and with a sink, which count their failures.
+-- What the program's jobs do with sources and a sink that count their failures.
 use Rattle.std.specs.Prelude.{ℕ, ◌≡◌, ◌≢◌, ◌+◌, List, Option, Result, IfErr, ◌⊎◌}
 use Rattle.tigercanon.specs.declared.program.ending.Ending.{Ending}
 use Rattle.tigercanon.specs.declared.program.ending.Stopped.{Stopped}
@@ -10,13 +10,13 @@ use Rattle.tigercanon.specs.Normalising.{AreRefusedParts, Took}
 use Rattle.tigercanon.specs.Outcomes.{GivenOutput, GivenSet}
 use Rattle.tigercanon.specs.Reading.{AreRead, IsFaultOfRead, SomeUnread}
 
--- the sources were read to their ends, and the parts that they gave are refused for this; or it is the fault of the lines of every
--- set that goes on from what was read
+-- the sources were read to their ends, and the parts that they gave are refused for this fault; or it is a fault in the lines of
+-- every set that begins with what was read
 abbrev pub IsRefusalOfRead : {R : Type 0} → (R → Option (List ℕ)) → (R → ℕ) → List R → List R → Fault → Type 0
 IsRefusalOfRead remaining given before after fault = AreRefusedParts remaining given before after fault
     ⊎ ((of_lines : LoadFault) × (fault ≡ Load of_lines) × IsFaultOfRead remaining given before after of_lines)
 
--- a set of parts that sources give, as reading it left them: it can't be read only where one of them failed, or has no end
+-- a set of parts that sources give, as reading left it: it counts as unread only if one of the sources failed, or has no end
 abbrev pub set_of_sources : {R : Type 0} → (R → Option (List ℕ)) → (R → ℕ) → (R → ℕ) → (R → ℕ) → List R → List R → GivenSet
 set_of_sources remaining given failed reads before after = record {
   holds = AreRead remaining given before after;
@@ -32,10 +32,10 @@ to_sink failed holds old new = record {
   failed = failed new ≡ failed old + 1;
 }
 
--- what stops a set from being read: that of a device, where this means that it couldn't be, or want of memory
+-- what stops a set from being read: a device's fault, if the set couldn't be read, or a failed allocation
 abbrev pub StopsReading : Type 0 → Fault → Type 0
 StopsReading unread fault = ((fault ≡ Load Device) × unread) ⊎ (fault ≡ Memory)
 
--- a job that stopped told something else than a device
+-- a job that stopped reported another fault than a device's
 abbrev pub TellsNoDevice : Result Ending Stopped → Type 0
 TellsNoDevice result = IfErr result (λ stopped. stopped.fault ≢ Load Device)

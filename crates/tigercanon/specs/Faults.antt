@@ -1,4 +1,4 @@
--- What a call may tell of parts that it refuses, and of their records.
+-- Which faults a call may report for parts that it refuses, and for their records.
 use Rattle.std.specs.Prelude.{ℕ, ◌≢◌, List}
 use Rattle.tl_layout.specs.declared.record_type.Record.{Record}
 use Rattle.tl_load.specs.Loaded.{IsOfLines}
@@ -14,7 +14,7 @@ use Rattle.tigercanon.specs.Sets.{IsSetRefusal}
 use Rattle.tigercanon.specs.declared.fault.Fault.{Fault}
 use Rattle.tigercanon.specs.declared.fault.Fault.TheVariants.{Load, Link, Profile, Write, Memory}
 
--- where the fault is of the set's lines, it is that of the first faulty one; nothing else is told but want of memory and a device
+-- a fault in the set's lines is that of the first faulty line; the only other faults are a failed allocation and a device's
 abbrev pub TellsFirstFault : List (List ℕ) → Fault → Type 0
 TellsFirstFault parts (Load fault) = IsOfLines fault → IsFirstFault parts fault
 TellsFirstFault parts (Link _) = ⊥
@@ -22,7 +22,7 @@ TellsFirstFault parts (Profile _) = ⊥
 TellsFirstFault parts (Write _) = ⊥
 TellsFirstFault parts Memory = Unit {0}
 
--- but for want of memory and the fault of a device, it is what the set is refused for
+-- unless the fault is a failed allocation or a device's, the set is refused for it
 abbrev pub TellsRefusal : List (List ℕ) → Fault → Type 0
 TellsRefusal parts (Load fault) = IsOfLines fault → IsSetRefusal parts (Load fault)
 TellsRefusal parts (Link fault) = fault ≢ LinkMemory → IsSetRefusal parts (Link fault)
@@ -30,11 +30,11 @@ TellsRefusal parts (Profile fault) = fault ≢ ProfileMemory → IsSetRefusal pa
 TellsRefusal parts (Write _) = ⊥
 TellsRefusal parts Memory = Unit {0}
 
--- the same of parts that have been read: a device has no fault any more
+-- the same for parts that have been read, and the fault is not a device's
 abbrev pub TellsRefusalOfRead : List (List ℕ) → Fault → Type 0
 TellsRefusalOfRead parts fault = TellsRefusal parts fault × (fault ≢ Load Device)
 
--- but for want of memory, it is what these records are refused for; of lines nothing is told
+-- unless the fault is a failed allocation, these records are refused for it; it is never a fault of loading
 abbrev pub RefusesRecords : List Record → Fault → Type 0
 RefusesRecords records (Load _) = ⊥
 RefusesRecords records (Link fault) = fault ≢ LinkMemory → IsFirstBrokenRule records fault
@@ -42,7 +42,7 @@ RefusesRecords records (Profile fault) = fault ≢ ProfileMemory → IsLinked re
 RefusesRecords records (Write _) = ⊥
 RefusesRecords records Memory = Unit {0}
 
--- the fault is want of memory
+-- the fault is a failed allocation
 abbrev pub IsWantOfMemory : Fault → Type 0
 IsWantOfMemory (Load LoadMemory) = Unit {0}
 IsWantOfMemory (Load _) = ⊥
@@ -53,7 +53,7 @@ IsWantOfMemory (Profile _) = ⊥
 IsWantOfMemory (Write _) = ⊥
 IsWantOfMemory Memory = Unit {0}
 
--- the fault is that of a device, or want of memory to read at all
+-- the fault is a device's, or a failed allocation for the reading itself
 abbrev pub IsOfNoLines : Fault → Type 0
 IsOfNoLines (Load Device) = Unit {0}
 IsOfNoLines Memory = Unit {0}

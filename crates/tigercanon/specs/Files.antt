@@ -3,23 +3,23 @@ use Rattle.std.specs.Prelude.{◌≡◌, ℕ, List, [], ◌∷◌, Option, Some,
 use Rattle.tigercanon.specs.declared.program.files.Opened.{Opened}
 use Rattle.tigercanon.specs.declared.program.files.Opened.TheVariants.{Found, Absent, Failed}
 
--- a set lacks a file that it needs: the first isn't there, or one couldn't be opened
+-- a set lacks a file that it needs: the first is absent, or one couldn't be opened
 abbrev pub IsMissing : {R : Type 0} → List (Opened R) → Type 0
 IsMissing files = (slice_get files 0 ≡ Some Absent) ⊎ Contains files Failed
 
--- the bytes that a file holds, where they are known; an absent file is an empty part
+-- the bytes that a file holds, if they are known; an absent file is an empty part
 abbrev pub bytes_of : {R : Type 0} → (R → Option (List ℕ)) → Opened R → Option (List ℕ)
 bytes_of remaining (Found reader) = remaining reader
 bytes_of remaining Absent = Some []
 bytes_of remaining Failed = None
 
--- each part is what its file holds, where that is known
+-- each part is what its file holds, if that is known
 abbrev pub AreHeld : {R : Type 0} → (R → Option (List ℕ)) → List (Opened R) → List (List ℕ) → Type 0
 AreHeld remaining [] [] = Unit
 AreHeld remaining [] (part ∷ parts) = ⊥
 AreHeld remaining (file ∷ files) [] = ⊥
 AreHeld remaining (file ∷ files) (part ∷ parts) = IfSome (bytes_of remaining file) (λ bytes. part ≡ bytes) × AreHeld remaining files parts
 
--- each source gives what its file holds, where that is known
+-- each source gives what its file holds, if that is known
 abbrev pub AreSourcesOf : {S R : Type 0} → (S → Option (List ℕ)) → List S → (R → Option (List ℕ)) → List (Opened R) → Type 0
 AreSourcesOf left sources remaining files = map left sources ≡ map (bytes_of remaining) files

@@ -1,32 +1,37 @@
--- What is found of two sets, or of two counties and their canonical counties.
-use Rattle.std.specs.Prelude.{ℕ, ◌≡◌, ◌≢◌, List}
+-- What is found for two sets, or for two counties and their canonical counties.
+use Rattle.std.specs.Prelude.{ℕ, ◌≡◌, ◌≢◌, List, Result, Ok, Err}
 use Rattle.tl_county.specs.County.{County}
 use Rattle.tl_county.specs.Packing.{packed}
 use Rattle.tl_county.specs.Renumbering.{Carries, Renumbering}
-use Rattle.tigercanon.specs.Comparing.{AreDifferentThrough, AreOneMapThrough}
+use Rattle.tigercanon.specs.Comparing.{AreDifferentThrough, AreOneMapThrough, IsAcceptable}
 use Rattle.tigercanon.specs.Sets.{CarriesSetThrough}
 use Rattle.tigercanon.specs.declared.library.comparing.Verdict.{Verdict}
 use Rattle.tigercanon.specs.declared.library.comparing.Verdict.TheVariants.{Same, Different}
 
--- that this renaming carries the one onto the other, that some renaming does, or that none does
+-- that this renaming carries the first onto the second, that some renaming does, that none does, or nothing, because an allocation
+-- failed
 pub data Finding : Type 0 where
   Carried : Renumbering → Finding
   OneMap : Finding
   TwoMaps : Finding
+  NoMemory : Finding
 
--- it is so of what is seen of two sets
+-- the finding holds for what the view shows of two sets, both of which are accepted
 abbrev pub IsFound : (County → County) → List (List ℕ) → List (List ℕ) → Finding → Type 0
 IsFound seen a b (Carried r) = CarriesSetThrough seen r a b
 IsFound seen a b OneMap = AreOneMapThrough seen a b
 IsFound seen a b TwoMaps = AreDifferentThrough seen a b
+IsFound seen a b NoMemory = IsAcceptable a × IsAcceptable b
 
--- it is so of two counties, as far as their canonical counties tell: these have the same records exactly if they are one map
+-- the finding holds for two counties, by their canonical counties, which have the same records exactly if the two are one map
 abbrev pub IsFoundOfCounties : (a b canon other : County) → Finding → Type 0
 IsFoundOfCounties a b canon other (Carried r) = Carries r a b
 IsFoundOfCounties a b canon other OneMap = packed canon ≡ packed other
 IsFoundOfCounties a b canon other TwoMaps = packed canon ≢ packed other
+IsFoundOfCounties a b canon other NoMemory = Unit {0}
 
--- what a verdict says
-abbrev pub finding_of : Verdict → Finding
-finding_of (Same r) = Carried r
-finding_of Different = TwoMaps
+-- the finding of a verdict, or `NoMemory` if there is none
+abbrev pub finding_of : {E : Type 0} → Result Verdict E → Finding
+finding_of (Ok (Same r)) = Carried r
+finding_of (Ok Different) = TwoMaps
+finding_of (Err _) = NoMemory

@@ -7,8 +7,8 @@ use Rattle.tl_number.specs.Sights.{plain}
 use Rattle.tigercanon.specs.Normalising.{IsOnlyTextThrough}
 use Rattle.tigercanon.specs.Sets.{IsCanonicalTextThrough}
 
--- these bytes are the hash of the canonical text of the parts through this sight, and no other text is canonical for what is seen
--- of their map
+-- these bytes are the hash of the canonical text of the parts through this view, and no other text is canonical for what the view
+-- shows of their map
 pub record IsFingerprintThrough (seen : County → County) (parts : List (List ℕ)) (bytes : List ℕ) : Type 0 where
   pub text : List ℕ
   pub canonical : IsCanonicalTextThrough seen parts text
@@ -19,12 +19,12 @@ pub record IsFingerprintThrough (seen : County → County) (parts : List (List �
 abbrev pub IsFingerprint : List (List ℕ) → List ℕ → Type 0
 IsFingerprint = IsFingerprintThrough plain
 
--- the text is the line that has the fingerprint of the parts through this sight, in lower-case hexadecimal digits
+-- the text is the line of the fingerprint of the parts through this view, in lowercase hexadecimal digits
 pub record SaysFingerprintThrough (seen : County → County) (parts : List (List ℕ)) (text : List ℕ) : Type 0 where
   pub bytes : List ℕ
   pub fingerprint : IsFingerprintThrough seen parts bytes
   pub text_is : text ≡ encode_lower bytes ++ 10 ∷ []
 
--- the text is the line that has the fingerprint of the parts, in lower-case hexadecimal digits
+-- the text is the line of the fingerprint of the parts, in lowercase hexadecimal digits
 abbrev pub SaysFingerprint : List (List ℕ) → List ℕ → Type 0
 SaysFingerprint = SaysFingerprintThrough plain

@@ -1,6 +1,6 @@
 -- A sink over a lent writer.
 use Rattle.std.specs.Prelude.{◌≡◌, ℕ, List, ◌∷◌, Option, Some}
 
--- the bytes of the writer, behind the name of the loan, by which it stays known that no other writer took its place
+-- the bytes of the writer, after the name of the loan, which shows that no other writer took its place
 abbrev pub HoldsUnderName : ℕ → Option (List ℕ) → List ℕ → Type 0
 HoldsUnderName name contents held = (bytes : List ℕ) × (held ≡ name ∷ bytes) × (contents ≡ Some bytes)

@@ -1,4 +1,4 @@
--- Parts of a set that are lent as slices.
+-- The parts of a set, lent as slices.
 use Rattle.std.specs.Borrow.{Bor}
 use Rattle.std.specs.Prelude.{ℕ, List, map}
 

@@ -1,4 +1,4 @@
--- What tables of linked records say of a list of records, and of the parts that spell one.
+-- What tables of linked records hold of a list of records, and of the parts that spell one.
 use Rattle.std.specs.Prelude.{ℕ, ◌≡◌, List}
 use Rattle.tl_layout.specs.declared.record_type.Record.{Record}
 use Rattle.tl_load.specs.Choice.{tiger}

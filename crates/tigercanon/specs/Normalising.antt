@@ -1,5 +1,5 @@
--- What comes of normalising a set: its canonical text, in memory or at a sink, or why there is none.
-use Rattle.std.specs.Prelude.{◌≡◌, ◌≢◌, ℕ, ◌<◌, Bool, true, false, ◌++◌, List, length, take, Option, Result, Ok, Err}
+-- The outcome of normalising a set: its canonical text, in memory or on a sink, or why there is none.
+use Rattle.std.specs.Prelude.{◌≡◌, ◌≢◌, ℕ, ◌<◌, ◌+◌, Bool, true, false, ◌++◌, List, length, take, Option, Result, Ok, Err, MatchResult}
 use Rattle.tl_layout.specs.RecordText.{text_of}
 use Rattle.tl_layout.specs.declared.record_type.Record.{Record}
 use Rattle.tl_load.specs.Loaded.{IsOfLines}
@@ -11,6 +11,7 @@ use Rattle.tl_number.specs.Sights.{plain}
 use Rattle.tl_profile.specs.declared.fault.ProfileFault.TheVariants.{Memory as ProfileMemory}
 use Rattle.tigercanon.specs.Reading.{AreRead, IsFaultOfRead}
 use Rattle.tigercanon.specs.Sets.{IsAcceptedSet, IsCanonicalTextThrough, IsSetRefusal}
+use Rattle.tl_write.specs.declared.fault.WriteFault.{WriteFault}
 use Rattle.tigercanon.specs.declared.fault.Fault.{Fault}
 use Rattle.tigercanon.specs.declared.fault.Fault.TheVariants.{Load, Link, Profile, Write, Memory}
 
@@ -19,14 +20,15 @@ abbrev pub IsOnlyText : List (List ℕ) → List ℕ → Type 0
 IsOnlyText parts text = (records canonical : List Record) → IsAcceptedSet parts records → IsCanonical canonical
     → AreSame (county_of records) (county_of canonical) → text_of canonical ≡ text
 
--- each canonical list of which all is seen, and whose county is the same as what is seen of that of the accepted parts, has this text
+-- each canonical list that the view shows whole, and whose county is the same as what the view shows of the county of the accepted
+-- parts, has this text
 abbrev pub IsOnlyTextThrough : (County → County) → List (List ℕ) → List ℕ → Type 0
 IsOnlyTextThrough seen parts text = (records canonical : List Record) → IsAcceptedSet parts records → IsCanonical canonical
     → seen (county_of canonical) ≡ county_of canonical → AreSame (seen (county_of records)) (county_of canonical)
     → text_of canonical ≡ text
 
--- the sources were read to their ends, and this is the canonical text, through this sight, of the parts that they gave, and no
--- other is
+-- the sources were read to their ends, and this text, and no other, is the canonical text, through this view, of the parts that
+-- they gave
 pub record AreNormalisedThrough {R : Type 0} (seen : County → County) (remaining : R → Option (List ℕ)) (given : R → ℕ)
     (before after : List R) (text : List ℕ) : Type 0 where
   pub parts : List (List ℕ)
@@ -34,19 +36,19 @@ pub record AreNormalisedThrough {R : Type 0} (seen : County → County) (remaini
   pub canonical : IsCanonicalTextThrough seen parts text
   pub only : IsOnlyTextThrough seen parts text
 
--- the sources were read to their ends, and this is the canonical text of the parts that they gave, and no other is
+-- the sources were read to their ends, and this text, and no other, is the canonical text of the parts that they gave
 abbrev pub AreNormalised : {R : Type 0} → (R → Option (List ℕ)) → (R → ℕ) → List R → List R → List ℕ → Type 0
 AreNormalised remaining = AreNormalisedThrough plain remaining
 
--- the sources were read to their ends, and the parts that they gave are refused for this
+-- the sources were read to their ends, and the parts that they gave are refused for this fault
 pub record AreRefusedParts {R : Type 0} (remaining : R → Option (List ℕ)) (given : R → ℕ) (before after : List R) (fault : Fault)
     : Type 0 where
   pub parts : List (List ℕ)
   pub read : AreRead remaining given before after parts
   pub refused : IsSetRefusal parts fault
 
--- but for want of memory and the failure of a device, it is what the parts are refused for: a fault of lines is that of every
--- set that goes on from what was read, and any other is that of the parts as they were read to their ends
+-- unless it is a failed allocation or the failure of a device or a sink, the fault is what the parts are refused for: a fault in
+-- the lines holds for every set that begins with what was read, and any other holds for the parts as they were read to their ends
 abbrev pub TellsRead : {R : Type 0} → (R → Option (List ℕ)) → (R → ℕ) → List R → List R → Fault → Type 0
 TellsRead remaining given before after (Load fault) = IsOfLines fault → IsFaultOfRead remaining given before after fault
 TellsRead remaining given before after (Link fault) = fault ≢ LinkMemory → AreRefusedParts remaining given before after (Link fault)
@@ -55,19 +57,28 @@ TellsRead remaining given before after (Profile fault) =
 TellsRead remaining given before after (Write _) = Unit {0}
 TellsRead remaining given before after Memory = Unit {0}
 
--- a sink took these bytes, behind those that it held
+-- a sink took these bytes, after those that it held
 abbrev pub Took : {W : Type 0} → (W → List ℕ → Type 0) → W → W → List ℕ → Type 0
 Took holds before after bytes = (held : List ℕ) → holds before held → holds after (held ++ bytes)
 
--- the sink took the whole text, which has so many bytes
+-- the sink took the whole text, which has this number of bytes
 abbrev pub GoesOut : {W : Type 0} → (W → List ℕ → Type 0) → W → W → List ℕ → ℕ → Type 0
 GoesOut holds before after text count = (count ≡ length text) × Took holds before after text
 
--- the sink took so many bytes from the front of the text, and not all of it
+-- the sink took this number of bytes from the beginning of the text, and not all of it
 abbrev pub StopsShort : {W : Type 0} → (W → List ℕ → Type 0) → W → W → List ℕ → ℕ → Type 0
 StopsShort holds before after text written = (written < length text) × Took holds before after (take written text)
 
--- the sink failed, and took the first bytes of the canonical text through this sight, as many as are told, and not all of them
+-- the sink took the whole canonical text of the parts through this view, which has the returned number of bytes; or it failed,
+-- once, and took only the reported number of bytes from its beginning, not all of it
+pub record IsWrittenThrough {W : Type 0} (seen : County → County) (failed : W → ℕ) (holds : W → List ℕ → Type 0) (parts : List (List ℕ))
+    (old new : W) (written : Result ℕ WriteFault) : Type 0 where
+  pub text : List ℕ
+  pub canonical : IsCanonicalTextThrough seen parts text
+  pub out : MatchResult written (λ count. GoesOut holds old new text count × (failed new ≡ failed old))
+      (λ fault. StopsShort holds old new text fault.written × (failed new ≡ failed old + 1))
+
+-- the sink took only the first bytes of the canonical text through this view, this number of them, and not all of it
 pub record IsCutOffThrough {R W : Type 0} (seen : County → County) (remaining : R → Option (List ℕ)) (given : R → ℕ)
     (before after : List R) (holds : W → List ℕ → Type 0) (old new : W) (written : ℕ) : Type 0 where
   pub text : List ℕ
@@ -75,11 +86,11 @@ pub record IsCutOffThrough {R W : Type 0} (seen : County → County) (remaining 
   pub short : written < length text
   pub took : Took holds old new (take written text)
 
--- the sink failed, and took the first bytes of the canonical text, as many as are told, and not all of them
+-- the sink took only the first bytes of the canonical text, this number of them, and not all of it
 abbrev pub IsCutOff : {R W : Type 0} → (R → Option (List ℕ)) → (R → ℕ) → List R → List R → (W → List ℕ → Type 0) → W → W → ℕ → Type 0
 IsCutOff remaining given before after holds = IsCutOffThrough plain remaining given before after holds
 
--- the fault is a failure of the sink
+-- the fault is the sink's failure
 abbrev pub is_of_sink : Fault → Bool
 is_of_sink (Write _) = true
 is_of_sink _ = false

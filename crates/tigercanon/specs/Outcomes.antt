@@ -1,5 +1,5 @@
--- What a job over a set did: what it printed, or why it printed nothing. It is said of any set, and of anything that a job prints
--- to, by what is known of them.
+-- What a job over a set did: what it printed, or why it printed nothing. The definitions apply to any set and any output, by what
+-- is known about them.
 use Rattle.std.specs.Prelude.{ℕ, ◌≡◌, ◌<◌, ◌+◌, ◌≢◌, List, length, take, Option, ◌⊎◌}
 use Rattle.std.specs.Io.KnownBytes.{Appends}
 use Rattle.tl_layout.specs.declared.record_type.Record.{Record}
@@ -19,30 +19,30 @@ use Rattle.tigercanon.specs.Normalising.{Took}
 use Rattle.tigercanon.specs.Respelling.{IsRespelt}
 use Rattle.tigercanon.specs.Sets.{IsAcceptedSet, IsCanonicalTextThrough, SaysAccepted}
 
--- what is known of a set that a job was given: what it means that these are its parts, that it is refused for this, and that it
--- couldn't be read
+-- what is known about a set that a job was given: what it means that these are its parts, that it is refused for this fault, and
+-- that it couldn't be read
 pub record GivenSet : Type 1 where
   pub holds : List (List ℕ) → Type 0
   pub refused : Fault → Type 0
   pub unread : Type 0
 
--- what is known of what a job prints to: what it means that it got these bytes, that it got none, and that it failed
+-- what is known about a job's output: what it means that it got these bytes, that it got none, and that it failed
 pub record GivenOutput : Type 1 where
   pub got : List ℕ → Type 0
   pub kept : Type 0
   pub failed : Type 0
 
--- the text that a job prints of parts
+-- the text that a job prints for parts
 abbrev pub Answer : Type 1
 Answer = List (List ℕ) → List ℕ → Type 0
 
--- under a mask, which only jobs look at that tell or compare maps
+-- the answer of a job, under a mask, which only the jobs use that print or compare maps
 abbrev pub IsAnswer : Mask → Job → Answer
 IsAnswer mask Respell = IsRespelt
 IsAnswer mask Normalise = IsCanonicalTextThrough (masked mask)
 IsAnswer mask Check = SaysAccepted
 IsAnswer mask Fingerprint = SaysFingerprintThrough (masked mask)
--- a comparison answers two sets, and no one set
+-- a comparison prints an answer for two sets, not for one
 IsAnswer mask Compare = λ parts text. ⊥
 
 -- this text is the answer to what the set holds
@@ -51,13 +51,13 @@ pub record IsAnswered (answer : Answer) (set : GivenSet) (text : List ℕ) : Typ
   pub held : set.holds parts
   pub answered : answer parts text
 
--- a text of which this holds was printed
+-- a text for which this holds was printed
 pub record Prints (IsText : List ℕ → Type 0) (out : GivenOutput) : Type 0 where
   pub text : List ℕ
   pub answered : IsText text
   pub printed : out.got text
 
--- the first so many bytes of such a text were printed, and not all of them
+-- this number of bytes from the beginning of such a text were printed, and not all of it
 pub record PrintsFront (IsText : List ℕ → Type 0) (written : ℕ) (out : GivenOutput) : Type 0 where
   pub text : List ℕ
   pub answered : IsText text
@@ -78,11 +78,11 @@ pub record HoldsAccepted (set : GivenSet) : Type 0 where
   pub records : List Record
   pub accepted : IsAcceptedSet parts records
 
--- a fault of the set's lines is what it is refused for, and that of a device is told of a set that couldn't be read
+-- if the fault is one of the set's lines, the set is refused for it, and if it is a device's, the set couldn't be read
 abbrev pub TellsLoad : GivenSet → LoadFault → Type 0
 TellsLoad set fault = (IsOfLines fault → set.refused (Load fault)) × (fault ≡ Device → set.unread)
 
--- of a set whose lines alone are judged nothing else is told but want of memory
+-- for a set of which only the lines are judged, the only other fault is a failed allocation
 abbrev pub TellsLines : GivenSet → Fault → Type 0
 TellsLines set (Load fault) = TellsLoad set fault
 TellsLines set (Link _) = ⊥
@@ -90,7 +90,7 @@ TellsLines set (Profile _) = ⊥
 TellsLines set (Write _) = ⊥
 TellsLines set Memory = Unit {0}
 
--- but for want of memory, the set is refused for what is told, or it couldn't be read
+-- unless the fault is a failed allocation, the set is refused for it, or it couldn't be read
 abbrev pub TellsSet : GivenSet → Fault → Type 0
 TellsSet set (Load fault) = TellsLoad set fault
 TellsSet set (Link fault) = fault ≢ LinkMemory → set.refused (Link fault)
@@ -98,7 +98,7 @@ TellsSet set (Profile fault) = fault ≢ ProfileMemory → set.refused (Profile 
 TellsSet set (Write _) = ⊥
 TellsSet set Memory = Unit {0}
 
--- what a job tells of a set that it doesn't answer
+-- the faults that a job reports for a set without an answer
 abbrev pub Tells : Job → GivenSet → Fault → Type 0
 Tells Respell = TellsLines
 Tells Normalise = TellsSet
@@ -106,7 +106,7 @@ Tells Check = TellsSet
 Tells Fingerprint = TellsSet
 Tells Compare = λ set fault. ⊥
 
--- what a job that didn't end well leaves: of a set that isn't answered nothing, and where the output failed the beginning of the answer
+-- what a job that stopped leaves: nothing if the set has no answer, and the beginning of the answer if the output failed
 abbrev pub LeavesOf : Answer → (GivenSet → Fault → Type 0) → GivenSet → GivenOutput → Fault → Type 0
 LeavesOf answer tells set out (Write fault) = out.failed × PrintsBeginning answer set fault.written out
 LeavesOf answer tells set out fault = out.kept × tells set fault
@@ -114,7 +114,7 @@ LeavesOf answer tells set out fault = out.kept × tells set fault
 abbrev pub Leaves : Mask → Job → GivenSet → GivenOutput → Fault → Type 0
 Leaves mask job = LeavesOf (IsAnswer mask job) (Tells job)
 
--- whether a job can refuse a set for this: to respell it asks for lines alone
+-- whether a job can refuse a set for this fault: respelling checks only lines
 abbrev pub IsToldBy : Job → Fault → Type 0
 IsToldBy Respell (Load _) = Unit {0}
 IsToldBy Respell _ = ⊥
@@ -123,7 +123,7 @@ IsToldBy Check _ = Unit {0}
 IsToldBy Fingerprint _ = Unit {0}
 IsToldBy Compare _ = ⊥
 
--- the set is refused for something that the job asks for
+-- the set is refused for something that the job checks
 abbrev pub Refuses : Job → GivenSet → Type 0
 Refuses job set = (fault : Fault) × IsToldBy job fault × set.refused fault
 

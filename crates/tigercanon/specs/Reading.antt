@@ -1,4 +1,4 @@
--- What was read of the sources that give the parts of a set.
+-- What was read from the sources that give the parts of a set.
 use Rattle.std.specs.Prelude.{◌≡◌, ℕ, ◌+◌, ◌-◌, ◌^◌, List, [], ◌∷◌, ◌++◌, map, Option, ◌⊎◌}
 use Rattle.std.specs.Io.KnownBytes.{IsAtEnd}
 use Rattle.tl_layout.specs.declared.record_type.Record.{Record}
@@ -15,15 +15,15 @@ module _ {R : Type 0} (remaining : R → Option (List ℕ)) (given : R → ℕ) 
   AreRead (b ∷ bs) (n ∷ ns) (part ∷ parts) = Gave remaining given b n part × IsAtEnd (remaining n) × AreRead bs ns parts
   AreRead _ _ _ = ⊥
 
-  -- the first sources were read to their ends and gave these parts, the next one, if there is one, gave these bytes, and those
-  -- behind it are as they were
+  -- the first sources were read to their ends and gave these parts, the next one, if there is one, gave these bytes, and the
+  -- sources after it are unchanged
   abbrev pub AreReadUpTo : List R → List R → List (List ℕ) → List ℕ → Type 0
   AreReadUpTo (b ∷ bs) (n ∷ ns) (part ∷ parts) bytes = Gave remaining given b n part × IsAtEnd (remaining n) × AreReadUpTo bs ns parts bytes
   AreReadUpTo (b ∷ bs) (n ∷ ns) [] bytes = Gave remaining given b n bytes × (ns ≡ bs)
   AreReadUpTo [] [] [] bytes = bytes ≡ []
   AreReadUpTo _ _ _ _ = ⊥
 
-  -- this is the fault of every set that goes on from what was read
+  -- every set that begins with what was read has this fault
   abbrev pub IsFaultOfRead : List R → List R → LoadFault → Type 0
   IsFaultOfRead before after fault = (closed : List (List ℕ)) × (bytes : List ℕ) × AreReadUpTo before after closed bytes
       × IsFaultHowever record_limit closed bytes fault
@@ -38,7 +38,7 @@ OneFailed failed (b ∷ bs) (n ∷ ns) = ((failed n ≡ failed b + 1) × NoneFai
     ((failed n ≡ failed b) × OneFailed failed bs ns)
 OneFailed failed _ _ = ⊥
 
--- the source failed, once, or it has no end: none came of 2 ^ 64 - 1 reads
+-- the source failed, once, or it has no end: 2 ^ 64 - 1 reads reached none
 abbrev pub IsUnread : {R : Type 0} → (R → ℕ) → (R → ℕ) → R → R → Type 0
 IsUnread failed reads before after = (failed after ≡ failed before + 1) ⊎ RoseBy (2 ^ 64 - 1) (reads before) (reads after)
 
@@ -47,7 +47,7 @@ abbrev pub SomeUnread : {R : Type 0} → (R → ℕ) → (R → ℕ) → List R 
 SomeUnread failed reads (b ∷ bs) (n ∷ ns) = IsUnread failed reads b n ⊎ SomeUnread failed reads bs ns
 SomeUnread failed reads _ _ = ⊥
 
--- a loader that was fed closed parts was fed this one too
+-- if a loader had been fed closed parts, it has now been fed this part after them, closed too
 abbrev pub TakesPart : {K : Type 0} → (K → List Record → Type 0) → LoadedInto K → LoadedInto K → List ℕ → Type 0
 TakesPart holds before after part = (closed : List (List ℕ)) → WasFedInto holds record_limit before closed []
     → WasFedInto holds record_limit after (closed ++ part ∷ []) []

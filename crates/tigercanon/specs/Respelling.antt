@@ -1,4 +1,4 @@
--- What a set of parts is respelt as, and its first faulty line.
+-- The respelling of a set of parts, and its first faulty line.
 use Rattle.std.specs.Prelude.{◌≡◌, ℕ, List}
 use Rattle.tl_layout.specs.declared.record_type.Record.{Record}
 use Rattle.tl_layout.specs.declared.record_type.TheConstants.{MOST_RECORDS}

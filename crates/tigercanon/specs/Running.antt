@@ -1,5 +1,4 @@
--- What the program's jobs do with files and with writers: what is known of these is the bytes that they tell, and nothing of their
--- failures.
+-- What the program's jobs do with files and with writers. Only the bytes of these are known, and nothing about their failures.
 use Rattle.std.specs.Prelude.{ℕ, ◌≡◌, List, Option, Some, None, ◌⊎◌}
 use Rattle.std.specs.Io.KnownBytes.{Appends, Keeps}
 use Rattle.tl_load.specs.declared.fault.LoadFault.TheVariants.{Device}
@@ -15,13 +14,13 @@ use Rattle.tigercanon.specs.Refusals.{fault_line}
 use Rattle.tigercanon.specs.Sets.{IsSetRefusal}
 use Rattle.tigercanon.specs.TwoSets.{IsDifferent, IsDone, IsPartOnly, IsToldWhy, RefusesOne}
 
--- what the files hold is refused for this
+-- what the files hold is refused for this fault
 pub record AreRefused {R : Type 0} (remaining : R → Option (List ℕ)) (files : List (Opened R)) (fault : Fault) : Type 0 where
   pub parts : List (List ℕ)
   pub held : AreHeld remaining files parts
   pub refused : IsSetRefusal parts fault
 
--- a set of files, of which nothing is known but what they hold: a file may fail at any time
+-- a set of files, about which only what they hold is known: a file may fail at any time
 abbrev pub set_of_files : {R : Type 0} → (R → Option (List ℕ)) → List (Opened R) → GivenSet
 set_of_files remaining files = record {
   holds = AreHeld remaining files;
@@ -29,33 +28,33 @@ set_of_files remaining files = record {
   unread = Unit {0};
 }
 
--- a writer, of which nothing is known but the bytes that it holds: it may fail at any time
+-- a writer, about which only the bytes that it holds are known: it may fail at any time
 abbrev pub to_writer : Option (List ℕ) → Option (List ℕ) → GivenOutput
 to_writer old new = record { got = Appends old new; kept = Keeps old new; failed = Unit {0} }
 
--- what a job prints of files where it is done
+-- what a job over files prints if it is done
 abbrev pub PrintsDone : {R : Type 0} → Mask → Job → (R → Option (List ℕ)) → List (Opened R) → List (Opened R) → Option (List ℕ) → Option (List ℕ)
     → Type 0
 PrintsDone mask job remaining first second old new =
     IsDone mask job (set_of_files remaining first) (set_of_files remaining second) (to_writer old new)
 
--- what a comparison prints where its files are different maps
+-- what a comparison prints if its files are different maps
 abbrev pub PrintsDifferent : {R : Type 0} → Mask → Job → (R → Option (List ℕ)) → List (Opened R) → List (Opened R) → Option (List ℕ)
     → Option (List ℕ) → Type 0
 PrintsDifferent mask job remaining first second old new =
     IsDifferent mask job (set_of_files remaining first) (set_of_files remaining second) (to_writer old new)
 
--- a set of files is refused for something that the job asks for
+-- a set of files is refused for something that the job checks
 abbrev pub IsRefusedBy : {R : Type 0} → Job → (R → Option (List ℕ)) → List (Opened R) → List (Opened R) → Type 0
 IsRefusedBy job remaining first second = RefusesOne job (set_of_files remaining first) (set_of_files remaining second)
 
--- nothing was printed of the files, or a beginning of what was to be printed that isn't all of it
+-- nothing was printed for the files, or a beginning of the job's output that isn't all of it
 abbrev pub PrintsSome : {R : Type 0} → Mask → Job → (R → Option (List ℕ)) → List (Opened R) → List (Opened R) → Option (List ℕ) → Option (List ℕ)
     → Type 0
 PrintsSome mask job remaining first second old new =
     IsPartOnly mask job (set_of_files remaining first) (set_of_files remaining second) (to_writer old new)
 
--- why a job over files stopped, and that it is told
+-- why a job over files stopped, and that this is reported
 abbrev pub TellsWhy : {R : Type 0} → Mask → Job → (R → Option (List ℕ)) → List (Opened R) → List (Opened R) → Option (List ℕ) → Option (List ℕ)
     → (List ℕ → Type 0) → ℕ → Type 0
 TellsWhy mask job remaining first second old new told status =
@@ -66,12 +65,12 @@ abbrev pub IsMissingOne : {R : Type 0} → Job → List (Opened R) → List (Ope
 IsMissingOne Compare first second = IsMissing first ⊎ IsMissing second
 IsMissingOne job first second = IsMissing first
 
--- the set that is named lacks a file that it needs; of two that do the first is named, and where one set is read none is
+-- the named set lacks a file that it needs; if both sets do, the first is named, and a job that reads one set names none
 abbrev pub NamesMissing : {R : Type 0} → Job → List (Opened R) → List (Opened R) → Option ℕ → Type 0
 NamesMissing Compare first second set =
     ((set ≡ Some 1) × IsMissing first) ⊎ ((set ≡ Some 2) × ¬ IsMissing first × IsMissing second)
 NamesMissing job first second set = (set ≡ None) × IsMissing first
 
--- the line that is told says that a file is missing, and of two sets which one lacks it
+-- the reported line says that a file is missing, and which of two sets lacks it
 abbrev pub TellsMissing : {R : Type 0} → Job → List (Opened R) → List (Opened R) → (List ℕ → Type 0) → Type 0
 TellsMissing job first second told = (set : Option ℕ) × NamesMissing job first second set × told (fault_line (Load Device) set)

@@ -1,9 +1,10 @@
--- Sets of parts, each a list of bytes: which are accepted, what another is refused for, and the canonical text of one.
+-- Sets of parts, each a list of bytes: which sets are accepted, what the others are refused for, and the canonical text of a set.
 use Rattle.std.specs.Prelude.{ℕ, ◌≡◌, ◌++◌, ◌∷◌, [], List, codes}
 use Rattle.tl_layout.specs.RecordText.{text_of}
 use Rattle.tl_layout.specs.declared.record_type.Record.{Record}
 use Rattle.tl_load.specs.Choice.{tiger}
 use Rattle.tl_load.specs.Outcome.{SpellsWithin}
+use Rattle.tl_load.specs.Verdicts.{without_place}
 use Rattle.tl_county.specs.County.{County, county_of}
 use Rattle.tl_county.specs.Packing.{packed}
 use Rattle.tl_county.specs.Renumbering.{Renumbering, Carries}
@@ -20,9 +21,9 @@ pub record IsAcceptedSet (parts : List (List ℕ)) (records : List Record) : Typ
   pub spelled : SpellsWithin tiger record_limit parts records
   pub accepted : IsAccepted records
 
--- what a set is refused for: the fault of its first faulty line; of lines that spell records, the first rule that these break;
--- of records that fit together, the first clause of the profile that their county breaks. Neither a sink's failure nor want of
--- memory is such a thing.
+-- what a set is refused for: the fault of its first faulty line; if the lines spell records, the first rule that these break; if
+-- the records fit together, the first clause of the profile that their county breaks. A sink's failure and a failed allocation are
+-- no refusals of a set.
 abbrev pub IsSetRefusal : List (List ℕ) → Fault → Type 0
 IsSetRefusal parts (Load fault) = IsFirstFault parts fault
 IsSetRefusal parts (Link fault) = (records : List Record) × SpellsWithin tiger record_limit parts records × IsFirstBrokenRule records fault
@@ -31,13 +32,21 @@ IsSetRefusal parts (Profile fault) = (records : List Record) × SpellsWithin tig
 IsSetRefusal parts (Write _) = ⊥
 IsSetRefusal parts Memory = ⊥
 
+-- the refusal without the part and line of a faulty line
+abbrev pub refusal_without_place : Fault → Fault
+refusal_without_place (Load fault) = Load (without_place fault)
+refusal_without_place (Link fault) = Link fault
+refusal_without_place (Profile fault) = Profile fault
+refusal_without_place (Write fault) = Write fault
+refusal_without_place Memory = Memory
+
 -- the parts are accepted, and the text is the line that says so
 pub record SaysAccepted (parts : List (List ℕ)) (text : List ℕ) : Type 0 where
   pub records : List Record
   pub accepted : IsAcceptedSet parts records
   pub text_is : text ≡ codes "accepted" ++ 10 ∷ []
 
--- the text of a canonical list, through this sight, of the accepted records that the parts spell
+-- the text of a canonical list, through this view, of the accepted records that the parts spell
 pub record IsCanonicalTextThrough (seen : County → County) (parts : List (List ℕ)) (text : List ℕ) : Type 0 where
   pub records : List Record
   pub canonical : List Record
@@ -49,7 +58,7 @@ pub record IsCanonicalTextThrough (seen : County → County) (parts : List (List
 abbrev pub IsCanonicalText : List (List ℕ) → List ℕ → Type 0
 IsCanonicalText = IsCanonicalTextThrough plain
 
--- both sets are accepted, and the renaming carries what is seen of the county of the one onto what is seen of that of the other
+-- both sets are accepted, and the renaming carries what the view shows of the first set's county onto what it shows of the second's
 pub record CarriesSetThrough (seen : County → County) (renaming : Renumbering) (parts others : List (List ℕ)) : Type 0 where
   pub records : List Record
   pub other_records : List Record
@@ -57,33 +66,34 @@ pub record CarriesSetThrough (seen : County → County) (renaming : Renumbering)
   pub other_accepted : IsAcceptedSet others other_records
   pub carries : Carries renaming (seen (county_of records)) (seen (county_of other_records))
 
--- both sets are accepted, and the renaming carries the county of the one onto that of the other
+-- both sets are accepted, and the renaming carries the county of the first onto that of the second
 abbrev pub CarriesSet : Renumbering → List (List ℕ) → List (List ℕ) → Type 0
 CarriesSet = CarriesSetThrough plain
 
--- the one part is a canonical text through this sight
+-- the set is one part, which is a canonical text through this view
 pub record IsOneCanonicalTextThrough (seen : County → County) (parts : List (List ℕ)) (text : List ℕ) : Type 0 where
   pub whole : List (List ℕ)
   pub canonical : IsCanonicalTextThrough seen whole text
   pub parts_are : parts ≡ text ∷ []
 
--- the one part is a canonical text
+-- the set is one part, which is a canonical text
 abbrev pub IsOneCanonicalText : List (List ℕ) → List ℕ → Type 0
 IsOneCanonicalText = IsOneCanonicalTextThrough plain
 
--- the set is accepted, and the county is what is seen of that of its records
+-- the set is accepted, and the county is what the view shows of the county of its records
 pub record IsSeenSet (seen : County → County) (parts : List (List ℕ)) (county : County) : Type 0 where
   pub records : List Record
   pub accepted : IsAcceptedSet parts records
   pub county_is : county ≡ seen (county_of records)
 
--- the set is accepted, the one county is what is seen of that of its records, and the other one has their canonical records
+-- the set is accepted, the first county is what the view shows of the county of its records, and the second county has their
+-- canonical records
 pub record IsCanonSetThrough (seen : County → County) (parts : List (List ℕ)) (county canon : County) : Type 0 where
   pub records : List Record
   pub accepted : IsAcceptedSet parts records
   pub county_is : county ≡ seen (county_of records)
   pub canonical : IsCanonicalThrough seen records (packed canon)
 
--- the set is accepted, the one county is that of its records, and the other one has their canonical records
+-- the set is accepted, the first county is that of its records, and the second county has their canonical records
 abbrev pub IsCanonSet : List (List ℕ) → County → County → Type 0
 IsCanonSet = IsCanonSetThrough plain

@@ -1,4 +1,4 @@
--- The exit status of a job that didn't end well, and of a command line that is no plan.
+-- The exit status for a job that stopped, and for a command line that isn't a plan.
 use Rattle.std.specs.Prelude.{ℕ}
 use Rattle.command_line.specs.declared.plans.PlanFault.{PlanFault}
 use Rattle.command_line.specs.declared.plans.PlanFault.TheVariants.{Usage}
@@ -10,7 +10,7 @@ use Rattle.tl_load.specs.declared.fault.LoadFault.TheVariants.{Device}
 use Rattle.tl_load.specs.declared.fault.LoadFault.TheVariants.{Memory as LoadMemory}
 use Rattle.tl_profile.specs.declared.fault.ProfileFault.TheVariants.{Memory as ProfileMemory}
 
--- the status where a job told a fault: 4 for a device, 5 for want of memory, else 3
+-- the status for the fault of a job: 4 for a device, 5 for a failed allocation, and 3 for any other fault
 abbrev pub status_of : Fault → ℕ
 status_of (Load Device) = 4
 status_of (Load LoadMemory) = 5
@@ -22,7 +22,7 @@ status_of (Profile _) = 3
 status_of (Write _) = 4
 status_of Memory = 5
 
--- 2 for the usage, 5 for want of memory
+-- 2 for the usage, 5 for a failed allocation
 abbrev pub plan_status_of : PlanFault → ℕ
 plan_status_of (Usage _) = 2
 plan_status_of PlanMemory = 5

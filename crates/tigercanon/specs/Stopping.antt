@@ -1,4 +1,4 @@
--- Why a job stopped, and the set that is named.
+-- Why a job stopped, and the set that it names.
 use Rattle.std.specs.Prelude.{ℕ, Option, Some, None}
 use Rattle.command_line.specs.declared.plans.Job.{Job}
 use Rattle.command_line.specs.declared.plans.Job.TheVariants.{Compare}
@@ -7,12 +7,12 @@ use Rattle.tigercanon.specs.declared.library.comparing.CompareFault.TheVariants.
 use Rattle.tigercanon.specs.declared.program.ending.Stopped.{Stopped}
 use Rattle.tigercanon.specs.declared.fault.Fault.TheVariants.{Memory as NoMemory}
 
--- the fault of the set that is told with it; want of memory that is no set's is told without one
+-- the fault with the set that it names; a failed allocation that belongs to no set has none
 abbrev pub stopped_by : CompareFault → Stopped
 stopped_by (In set fault) = record { fault = fault; set = Some set }
 stopped_by Memory = record { fault = NoMemory; set = None }
 
--- the set that is named where this one of a job's sets is at fault; one that reads one set names none
+-- the set that is named if this one of a job's sets is at fault; a job that reads one set names none
 abbrev pub set_of_job : Job → ℕ → Option ℕ
 set_of_job Compare set = Some set
 set_of_job job set = None

@@ -1,4 +1,4 @@
--- What a job over the sets that it was given did, where a comparison has two of them.
+-- What a job did with the sets that it was given; a comparison has two.
 use Rattle.std.specs.Prelude.{ℕ, ◌≡◌, ◌++◌, ◌∷◌, [], List, Option, Some, None, ◌⊎◌, codes}
 use Rattle.command_line.specs.declared.plans.Job.{Job}
 use Rattle.command_line.specs.declared.plans.Job.TheVariants.{Compare}
@@ -15,7 +15,7 @@ use Rattle.tigercanon.specs.Outcomes.{Prints, PrintsFront, PrintsPart, PrintsWho
 use Rattle.tigercanon.specs.Refusals.{fault_line}
 use Rattle.tigercanon.specs.Statuses.{status_of}
 
--- this holds of what two sets hold
+-- this holds for what two sets hold
 pub record OfTwoSets (holds : List (List ℕ) → List (List ℕ) → Type 0) (first second : GivenSet) : Type 0 where
   pub parts : List (List ℕ)
   pub others : List (List ℕ)
@@ -33,7 +33,8 @@ IsLineDifferent mask first second text = OfTwoSets (λ a b. SaysDifferentThrough
 abbrev pub IsLineOfVerdict : Mask → GivenSet → GivenSet → List ℕ → Type 0
 IsLineOfVerdict mask first second text = IsLineSame mask first second text ⊎ IsLineDifferent mask first second text
 
--- the first fact where what was asked for was printed, and the second where it was printed that two sets are different maps
+-- the first fact if the job's result was printed, or, for a comparison, that the sets are one map; the second if it was printed
+-- that two sets are different maps
 abbrev pub where_ended : Ending → Type 0 → Type 0 → Type 0
 where_ended Done same different = same
 where_ended Different same different = different
@@ -43,7 +44,8 @@ abbrev pub line_of_ending : Ending → List ℕ
 line_of_ending Done = codes "same" ++ 10 ∷ []
 line_of_ending Different = codes "different" ++ 10 ∷ []
 
--- what is told of the set that is named; what the second set is refused for is told only where the first is accepted
+-- the fault is the named set's; the second set's is reported only if the first set is accepted, or if it concerns no line: a failed
+-- read, or no memory for reading
 abbrev pub TellsOne : GivenSet → GivenSet → Fault → Option ℕ → Type 0
 TellsOne first second fault set = ((set ≡ Some 1) × TellsSet first fault)
     ⊎ ((set ≡ Some 2) × (HoldsAccepted first ⊎ IsOfNoLines fault) × TellsSet second fault)
@@ -52,41 +54,41 @@ TellsOne first second fault set = ((set ≡ Some 1) × TellsSet first fault)
 abbrev pub IsOneRefused : GivenSet → GivenSet → Type 0
 IsOneRefused first second = (fault : Fault) × (first.refused fault ⊎ (HoldsAccepted first × second.refused fault))
 
--- what a job did that is done: a comparison printed the line that its sets are one map
+-- what a completed job did: a comparison printed the line that its sets are one map
 abbrev pub IsDone : Mask → Job → GivenSet → GivenSet → GivenOutput → Type 0
 IsDone mask Compare first second = Prints (IsLineSame mask first second)
 IsDone mask job first second = PrintsWhole (IsAnswer mask job) first
 
--- what a comparison did that found its sets to be different maps; no other job comes to that
+-- what a comparison did that found its sets to be different maps; no other job ends like this
 abbrev pub IsDifferent : Mask → Job → GivenSet → GivenSet → GivenOutput → Type 0
 IsDifferent mask Compare first second = Prints (IsLineDifferent mask first second)
 IsDifferent mask job first second = λ out. ⊥
 
--- what a comparison that stopped leaves, and the set that it names: where one is refused or couldn't be read nothing, and where the
--- output failed, which is no set's fault, the beginning of what was to be printed
+-- what a comparison that stopped leaves, and the set that it names: nothing if a set is refused or couldn't be read, and, if the
+-- output failed, the beginning of the line and no named set
 abbrev pub LeavesComparison : Mask → GivenSet → GivenSet → GivenOutput → Fault → Option ℕ → Type 0
 LeavesComparison mask first second out (Write fault) set =
     (set ≡ None) × out.failed × PrintsFront (IsLineOfVerdict mask first second) fault.written out
 LeavesComparison mask first second out fault set = out.kept × TellsOne first second fault set
 
--- the same of any job; one that reads one set names none
+-- the same for any job; a job that reads one set names none
 abbrev pub LeavesStopped : Mask → Job → GivenSet → GivenSet → GivenOutput → Fault → Option ℕ → Type 0
 LeavesStopped mask Compare first second out fault set = LeavesComparison mask first second out fault set
 LeavesStopped mask job first second out fault set = (set ≡ None) × Leaves mask job first out fault
 
--- a set is refused for something that the job asks for
+-- a set is refused for something that the job checks
 abbrev pub RefusesOne : Job → GivenSet → GivenSet → Type 0
 RefusesOne Compare first second = IsOneRefused first second
 RefusesOne job first second = Refuses job first
 
--- nothing was printed, or a beginning of what was to be printed that isn't all of it
+-- nothing was printed, or a beginning of the job's output that isn't all of it
 abbrev pub IsPartOnly : Mask → Job → GivenSet → GivenSet → GivenOutput → Type 0
 IsPartOnly mask Compare first second out =
     out.kept ⊎ ((written : ℕ) × PrintsFront (IsLineOfVerdict mask first second) written out)
 IsPartOnly mask job first second out = PrintsPart (IsAnswer mask job) first out
 
--- Why a job stopped: a fault, which has the exit status, and of two sets the one that is at fault. The sets and what was printed
--- of them are as these say, and so is the line that is told.
+-- Why a job stopped: a fault, which determines the exit status, and which of two sets is at fault; the sets and what was printed
+-- for them are as the fault says, and the reported line has both.
 pub record IsToldWhy (mask : Mask) (job : Job) (first second : GivenSet) (out : GivenOutput) (told : List ℕ → Type 0) (status : ℕ) : Type 0 where
   pub fault : Fault
   pub set : Option ℕ

@@ -1,33 +1,56 @@
-//! What a whole call can answer in place of its result.
+//! Why a call of the library returns no result.
 
-ghost use Rattle.std.specs.Prelude.{◌≡◌};
+ghost use Rattle.std.specs.Prelude.{◌≡◌, Some};
+ghost use Rattle.fault_report.specs.Reports.{report_line};
+ghost use Rattle.tigercanon.specs.Refusals.{report_of};
 ghost use Rattle.tigercanon.specs.declared.fault.Fault.TheVariants.{Load, Link, Profile, Write, Memory};
 
+use fault_report::{FaultKind, FaultReport};
 use std::alloc::{AllocError, AllocFailed};
+use std::fmt;
 use thiserror::Error;
 use tl_county::LinkFault;
 use tl_load::LoadFault;
 use tl_profile::ProfileFault;
 use tl_write::WriteFault;
 
-/// Why a whole call gave no answer, or not all of it.
+/// Why a call returned no result, or wrote only part of it.
 #[derive(Clone, Copy, Debug, PartialEq, Eq, Error)]
 pub enum Fault {
-    /// Loading refused it: the first faulty line, or what kept the parts from being read.
-    #[error(transparent)]
+    /// Loading refused the set: the first faulty line, or what kept the parts from being read.
     Load(LoadFault),
-    /// Linking refused it: the first rule that its records break.
-    #[error(transparent)]
+    /// Linking refused the set: the first rule that its records break, or a failed allocation.
     Link(LinkFault),
-    /// Admission refused it: the first clause of the profile that its county breaks.
-    #[error(transparent)]
+    /// Admission refused the set: the first clause of the profile that its county breaks, or a failed allocation.
     Profile(ProfileFault),
-    /// The set is accepted, and the sink failed before all of the answer was out.
-    #[error(transparent)]
+    /// The set is accepted, and the sink failed before the whole result was written.
     Write(WriteFault),
-    /// There was no memory for the answer.
-    #[error("out of memory")]
+    /// An allocation failed for the result.
     Memory,
+}
+
+impl Fault {
+    /// The fault as every interface reports it: its number, its name and its places.
+    pub fn report(&self) -> FaultReport
+        ensures { result ≡ report_of self.now }
+    {
+        match self {
+            Fault::Load(fault) => fault.report(),
+            Fault::Link(fault) => fault.report(),
+            Fault::Profile(fault) => fault.report(),
+            Fault::Write(fault) => fault.report(),
+            Fault::Memory => FaultReport::bare(FaultKind::Memory),
+        }
+    }
+}
+
+/// The line of the fault's report.
+impl fmt::Display for Fault {
+    ghost output = { λ fault. Some (report_line (report_of fault)) };
+
+    fn fmt<W: fmt::Write>(&self, f: &mut fmt::Formatter<W>) -> fmt::Result {
+        self.report().fmt(f)
+    }
 }
 
 impl From<LoadFault> for Fault {

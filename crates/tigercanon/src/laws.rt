@@ -1,18 +1,24 @@
-//! Laws of what a set is. The functions do nothing; their contracts are the laws.
+//! Laws of sets. The functions do nothing; their contracts are the laws.
 
 ghost use Rattle.std.specs.Prelude.{◌≡◌, ◌⊎◌, ◌↔◌, [], ◌∷◌, ℕ, List};
 ghost use Rattle.tigercanon.specs.declared.fault.Fault.{Fault};
 ghost use Rattle.tigercanon.specs.Normalising.{IsOnlyTextThrough};
-ghost use Rattle.tigercanon.specs.Sets.{IsAcceptedSet, IsCanonicalText, IsCanonicalTextThrough, IsSetRefusal};
+ghost use Rattle.tigercanon.specs.Respelling.{record_limit};
+ghost use Rattle.tigercanon.specs.Sets.{IsAcceptedSet, IsCanonicalText, IsCanonicalTextThrough, IsSetRefusal, refusal_without_place};
 ghost use Rattle.tl_cert.specs.MaskedCounty.{masked};
 ghost use Rattle.tl_county.specs.County.{County, county_of};
 ghost use Rattle.tl_county.specs.Renumbering.{AreSame};
 ghost use Rattle.tl_layout.specs.declared.mask.Mask.{Mask};
 ghost use Rattle.tl_layout.specs.declared.record_type.Record.{Record};
 ghost use Rattle.tl_layout.specs.Masked.{no_mask};
+ghost use Rattle.tl_layout.specs.RecordText.{text_of};
+ghost use Rattle.tl_load.specs.Choice.{tiger};
+ghost use Rattle.tl_load.specs.Lines.{HaveSameLines};
+ghost use Rattle.tl_load.specs.Outcome.{SpellsWithin};
 ghost use Rattle.tl_number.specs.Sights.{IsSight};
+ghost use Rattle.tl_number.specs.Strict.{IsStrictThrough};
 
-/// A set of parts is accepted or has a refusal, never both, and never two.
+/// A set of parts is accepted or has a refusal, never both, and never two refusals.
 #[tactic(auto, using(crate::proofs::Sets::accepted_set_not_refused, crate::proofs::Sets::one_set_refusal))]
 pub fn accepted_set_or_one_refusal()
     ensures either { (parts : List (List ℕ)) →
@@ -21,6 +27,19 @@ pub fn accepted_set_or_one_refusal()
         IsAcceptedSet parts records → IsSetRefusal parts refusal → ⊥ }
     ensures only_one { (parts : List (List ℕ)) (refusal other : Fault) →
         IsSetRefusal parts refusal → IsSetRefusal parts other → refusal ≡ other }
+{}
+
+/// If sets have the same lines, one after the other, all or none are accepted, and they have the same canonical texts. If one is
+/// refused, so is each other, for the same rule at the same place, except for the part and line of a faulty line. So it makes no
+/// difference at which line boundaries a set is cut into parts.
+pub fn sets_of_the_same_lines_are_alike()
+    ensures accepted { (parts others : List (List ℕ)) (records : List Record) →
+        HaveSameLines parts others → IsAcceptedSet parts records → IsAcceptedSet others records }
+    ensures texts { (seen : County → County) (parts others : List (List ℕ)) (text : List ℕ) →
+        HaveSameLines parts others → IsCanonicalTextThrough seen parts text → IsCanonicalTextThrough seen others text }
+    ensures refused { (parts others : List (List ℕ)) (refusal : Fault) →
+        HaveSameLines parts others → IsSetRefusal parts refusal →
+        (told : Fault) × IsSetRefusal others told × (refusal_without_place told ≡ refusal_without_place refusal) }
 {}
 
 /// Two sets that have canonical texts have equal ones exactly if their counties are the same.
@@ -39,8 +58,19 @@ pub fn an_accepted_set_has_one_canonical_text()
         IsCanonicalText parts text → IsCanonicalText parts other → text ≡ other }
 {}
 
-/// A canonical text, as one part, is an accepted set whose county is the same as that of the set that it is the text of,
-/// and it is its own canonical text.
+/// A set that the older, stricter rules accept keeps its text: the text of its strict list is its canonical text, and no other text
+/// is.
+pub fn strict_sets_keep_their_texts()
+    ensures text { (seen : County → County) (parts : List (List ℕ)) (records answer : List Record) →
+        IsSight seen → SpellsWithin tiger record_limit parts records → IsStrictThrough seen records answer →
+        IsCanonicalTextThrough seen parts (text_of answer) }
+    ensures only { (seen : County → County) (parts : List (List ℕ)) (records answer : List Record) (text : List ℕ) →
+        IsSight seen → SpellsWithin tiger record_limit parts records → IsStrictThrough seen records answer →
+        IsCanonicalTextThrough seen parts text → text ≡ text_of answer }
+{}
+
+/// A canonical text, as one part, is an accepted set whose county is the same as that of the set that the text was made from, and
+/// it is its own canonical text.
 pub fn a_canonical_text_is_its_own()
     ensures accepted { (parts : List (List ℕ)) (text : List ℕ) (h : IsCanonicalText parts text) →
         IsAcceptedSet (text ∷ []) h.canonical }
@@ -50,9 +80,9 @@ pub fn a_canonical_text_is_its_own()
         IsCanonicalText parts text → IsCanonicalText (text ∷ []) text }
 {}
 
-/// Through each sight, which shows all of a county or less, an accepted set has exactly one canonical text, and no canonical list
-/// of what is seen of its map has another. Those of two sets are equal exactly if what is seen of their counties is the same. And a
-/// canonical text, as one part, is an accepted set, and its own canonical text through the sight, and as it is.
+/// Through each view, which shows all of a county or less, an accepted set has exactly one canonical text, and no canonical list of
+/// what the view shows of its map has another. The texts of two sets are equal exactly if what the view shows of their counties is
+/// the same. And a canonical text, as one part, is an accepted set, and its own canonical text through the view and without it.
 pub fn one_canonical_text_through_each_sight()
     ensures exists { (seen : County → County) (parts : List (List ℕ)) (records : List Record) →
         IsSight seen → IsAcceptedSet parts records → (text : List ℕ) × IsCanonicalTextThrough seen parts text }
@@ -71,9 +101,9 @@ pub fn one_canonical_text_through_each_sight()
         IsCanonicalTextThrough seen (text ∷ []) text × IsCanonicalText (text ∷ []) text }
 {}
 
-/// Under each mask an accepted set has exactly one canonical text. Those of two sets are equal exactly if their counties are the same
-/// under the mask. And a text that is canonical under the mask is, as one part, its own canonical text under the mask, and under
-/// none. A mask that leaves nothing out makes no difference.
+/// Under each mask an accepted set has exactly one canonical text. The texts of two sets are equal exactly if their counties are
+/// the same under the mask. And a text that is canonical under the mask is, as one part, its own canonical text under the mask and
+/// without one. A mask that leaves nothing out makes no difference.
 pub fn one_canonical_text_under_each_mask()
     ensures exists { (mask : Mask) (parts : List (List ℕ)) (records : List Record) →
         IsAcceptedSet parts records → (text : List ℕ) × IsCanonicalTextThrough (masked mask) parts text }

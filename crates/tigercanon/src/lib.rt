@@ -1,12 +1,12 @@
 //! Whole calls over a county's record files, and the command line that makes them.
 //!
-//! [`normalise`] gives the canonical text of the map that a set of record files says, and [`normalise_to`] writes it while it
-//! reads the set from its sources; [`fingerprint`] is the hash of that text, and [`compare`] says whether two sets are one map. Each of
-//! them has a form that sees maps under a mask, without the fields that say where data came from, or without reserved ones:
-//! [`normalise_masked`] and its like. [`respell`] gives records in canonical spelling, and [`check`] says whether a set is accepted.
-//! [`plan`] reads a command line, and [`run`] does what was planned, over files that somebody else opened; the crate
-//! `tigercanon_main` is the program around the two.
-//! Proved callers stand in `alike.rt` and `citing.rt` of the crate `uses`.
+//! [`normalise`] returns the canonical text of the map that a set of record files describes, and [`normalise_to`] reads the set
+//! from sources and writes the text to a sink. [`fingerprint`] returns the hash of that text, and [`compare`] returns whether two
+//! sets are one map. Each of them has a form for maps under a mask, without the fields that name the sources of the data, or
+//! without the reserved ones: [`normalise_masked`] and the like. [`respell`] returns records in canonical spelling, and [`check`]
+//! returns whether a set is accepted. [`plan`] reads a command line, and [`run`] does the planned job, over files that its caller
+//! opened; the crate `tigercanon_main` is the program around the two. `alike.rt` and `citing.rt` of the crate `uses` are proved
+//! callers.
 #![tactic(auto)]
 
 mod fault;
@@ -22,6 +22,7 @@ pub use laws::{
     a_canonical_text_is_its_own, accepted_set_or_one_refusal,
     an_accepted_set_has_one_canonical_text, one_canonical_text_exactly_for_one_map,
     one_canonical_text_through_each_sight, one_canonical_text_under_each_mask,
+    sets_of_the_same_lines_are_alike, strict_sets_keep_their_texts,
 };
 pub use library::checking::check;
 pub use library::comparing::{
@@ -36,4 +37,4 @@ pub use library::respelling::respell;
 pub use program::files::Opened;
 pub use program::refusal::Refusal;
 pub use program::running::run;
-pub use program::telling::{exit_status, tell, words_fault};
+pub use program::telling::{args_error, exit_status, tell};

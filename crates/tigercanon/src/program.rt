@@ -1,4 +1,4 @@
-//! What the program does: files become sources, and a job ends in what is printed and told.
+//! What the program does: it turns files into sources, does a job, prints the result and reports why a job stopped.
 
 pub(crate) mod ending;
 pub(crate) mod files;

@@ -1,31 +1,22 @@
--- A fault in numbers: which number has it, and where its places stand.
+-- A fault as numbers: the number of each fault, and the fields that hold its places.
 use Rattle.std.specs.Prelude.{ℕ, List, [], ◌∷◌}
-use Rattle.tl_county.specs.LinkedTypes.{linked_type}
-use Rattle.tl_county.specs.declared.fault.LinkFault.{LinkFault}
-use Rattle.tl_county.specs.declared.fault.LinkFault.TheVariants.{ChainTwice, NoChain, SequenceBroken, LinkMissing, LinkTwice}
-use Rattle.tl_county.specs.declared.fault.LinkFault.TheVariants.{NameTwice, NameUnknown, PolygonTwice, LandUnknown, PolygonUnknown}
-use Rattle.tl_county.specs.declared.fault.LinkFault.TheVariants.{Memory as LinkMemory}
-use Rattle.tl_county.specs.declared.fault.LinkedType.{LinkedType}
-use Rattle.tl_county.specs.declared.fault.LinkedType.TheVariants.{Two, Four, Six, I}
-use Rattle.tl_load.specs.declared.fault.LoadFault.{LoadFault}
-use Rattle.tl_load.specs.declared.fault.LoadFault.TheVariants.{UnknownType, LineTooLong, BadByte, BadNumber, BadPoint}
-use Rattle.tl_load.specs.declared.fault.LoadFault.TheVariants.{GapInRecord, TooManyRecords, Device}
-use Rattle.tl_load.specs.declared.fault.LoadFault.TheVariants.{Memory as LoadMemory}
-use Rattle.tl_profile.specs.declared.fault.ProfileFault.{ProfileFault}
-use Rattle.tl_profile.specs.declared.fault.ProfileFault.TheVariants.{PolygonWithoutChain, TooSymmetric}
-use Rattle.tl_profile.specs.declared.fault.ProfileFault.TheVariants.{Memory as ProfileMemory}
+use Rattle.fault_report.specs.Reports.{refusal_number}
+use Rattle.fault_report.specs.declared.report.FaultPlace.{FaultPlace}
+use Rattle.fault_report.specs.declared.report.FaultPlace.TheVariants.{Nowhere, Number, RecordType, Cenid}
+use Rattle.fault_report.specs.declared.report.FaultReport.{FaultReport}
+use Rattle.tigercanon.specs.Refusals.{report_of}
 use Rattle.tigercanon.specs.declared.library.comparing.CompareFault.{CompareFault}
 use Rattle.tigercanon.specs.declared.library.comparing.CompareFault.TheVariants.{In, Memory as NoVerdict}
 use Rattle.tigercanon.specs.declared.fault.Fault.{Fault}
-use Rattle.tigercanon.specs.declared.fault.Fault.TheVariants.{Load, Link, Profile, Write, Memory}
-use Rattle.tigercanon_c.specs.declared.edge.ToldFault.{ToldFault}
+use Rattle.tigercanon.specs.declared.fault.Fault.TheVariants.{Memory}
+use Rattle.tigercanon_c.specs.declared.edge.FaultNumbers.{FaultNumbers}
 
--- five bytes of 0, where a fault has no CENID
+-- five zero bytes, for a fault without a CENID
 abbrev pub no_cenid : List ℕ
 no_cenid = 0 ∷ 0 ∷ 0 ∷ 0 ∷ 0 ∷ []
 
--- the fault of a set, by its number and up to three numbers that are its places
-abbrev pub with_numbers : ℕ → ℕ → ℕ → ℕ → ℕ → ToldFault
+-- the fault of a set as its number, with up to three numbers as its places
+abbrev pub with_numbers : ℕ → ℕ → ℕ → ℕ → ℕ → FaultNumbers
 with_numbers set number first second third = record {
   number = number;
   set = set;
@@ -36,8 +27,8 @@ with_numbers set number first second third = record {
   third = third;
 }
 
--- the fault of a set, by its number, a record type and a TLID, which is 0 where it names none
-abbrev pub with_type : ℕ → ℕ → ℕ → ℕ → ToldFault
+-- the fault of a set as its number, with a record type and a TLID, which is 0 if the fault names none
+abbrev pub with_type : ℕ → ℕ → ℕ → ℕ → FaultNumbers
 with_type set number rtype tlid = record {
   number = number;
   set = set;
@@ -48,8 +39,8 @@ with_type set number rtype tlid = record {
   third = 0;
 }
 
--- the fault of a set, by its number and a polygon
-abbrev pub with_polygon : ℕ → ℕ → List ℕ → ℕ → ToldFault
+-- the fault of a set as its number, with a polygon
+abbrev pub with_polygon : ℕ → ℕ → List ℕ → ℕ → FaultNumbers
 with_polygon set number cenid polyid = record {
   number = number;
   set = set;
@@ -60,58 +51,38 @@ with_polygon set number cenid polyid = record {
   third = 0;
 }
 
--- no fault is told
-abbrev pub no_fault : ToldFault
+-- no fault is reported
+abbrev pub no_fault : FaultNumbers
 no_fault = with_numbers 0 0 0 0 0
 
--- the byte of a record type, as it stands in column 1
-abbrev pub byte_of : LinkedType → ℕ
-byte_of Two = 50
-byte_of Four = 52
-byte_of Six = 54
-byte_of I = 73
+-- The number at a place, or 0 if there is none.
+abbrev pub number_at : FaultPlace → ℕ
+number_at Nowhere = 0
+number_at (Number number) = number
+number_at (RecordType byte) = 0
+number_at (Cenid bytes) = 0
 
--- a fault of loading in numbers: the part, the line and the column
-abbrev pub load_told : ℕ → LoadFault → ToldFault
-load_told set (UnknownType part line) = with_numbers set 1 part line 0
-load_told set (LineTooLong part line) = with_numbers set 2 part line 0
-load_told set (BadByte part line column) = with_numbers set 3 part line column
-load_told set (BadNumber part line column) = with_numbers set 4 part line column
-load_told set (BadPoint part line column) = with_numbers set 5 part line column
-load_told set (GapInRecord part line column) = with_numbers set 6 part line column
-load_told set (TooManyRecords rtype) = with_type set 7 rtype 0
-load_told set Device = with_numbers set 8 0 0 0
-load_told set LoadMemory = with_numbers set 9 0 0 0
+-- A fault by its number and its places. A record type or a CENID has a field of its own, and the number after it is the first.
+abbrev pub with_places : ℕ → ℕ → FaultPlace → ℕ → ℕ → FaultNumbers
+with_places set number Nowhere second third = with_numbers set number 0 second third
+with_places set number (Number first) second third = with_numbers set number first second third
+with_places set number (RecordType byte) second third = with_type set number byte second
+with_places set number (Cenid bytes) second third = with_polygon set number bytes second
 
--- records that don't fit together, in numbers
-abbrev pub link_told : ℕ → LinkFault → ToldFault
-link_told set (ChainTwice tlid) = with_numbers set 11 tlid 0 0
-link_told set (NoChain rtype tlid) = with_type set 12 (byte_of rtype) tlid
-link_told set (SequenceBroken rtype tlid) = with_type set 13 (byte_of (linked_type rtype)) tlid
-link_told set (LinkMissing tlid) = with_numbers set 14 tlid 0 0
-link_told set (LinkTwice tlid) = with_numbers set 15 tlid 0 0
-link_told set (NameTwice feat) = with_numbers set 16 feat 0 0
-link_told set (NameUnknown tlid feat) = with_numbers set 17 tlid feat 0
-link_told set (PolygonTwice cenid polyid) = with_polygon set 18 cenid polyid
-link_told set (LandUnknown land) = with_numbers set 19 land 0 0
-link_told set (PolygonUnknown cenid polyid) = with_polygon set 20 cenid polyid
-link_told set LinkMemory = with_numbers set 9 0 0 0
+-- The same for a list of places. A report has three.
+abbrev pub at_places : ℕ → ℕ → List FaultPlace → FaultNumbers
+at_places set number (first ∷ second ∷ third ∷ more) = with_places set number first (number_at second) (number_at third)
+at_places set number places = with_numbers set number 0 0 0
 
--- a county outside the profile, in numbers
-abbrev pub profile_told : ℕ → ProfileFault → ToldFault
-profile_told set (PolygonWithoutChain cenid polyid) = with_polygon set 23 cenid polyid
-profile_told set TooSymmetric = with_numbers set 24 0 0 0
-profile_told set ProfileMemory = with_numbers set 9 0 0 0
+-- The report of a fault of a set in numbers.
+abbrev pub in_numbers : ℕ → FaultReport → FaultNumbers
+in_numbers set report = at_places set (refusal_number report.kind) report.places
 
--- the fault of a set in numbers; the set is 0 where one alone is read
-abbrev pub fault_told : ℕ → Fault → ToldFault
-fault_told set (Load fault) = load_told set fault
-fault_told set (Link fault) = link_told set fault
-fault_told set (Profile fault) = profile_told set fault
-fault_told set (Write fault) = with_numbers set 10 fault.written 0 0
-fault_told set Memory = with_numbers set 9 0 0 0
+-- A fault of a set in numbers. The set is 0 if only one is read.
+abbrev pub fault_told : ℕ → Fault → FaultNumbers
+fault_told set fault = in_numbers set (report_of fault)
 
--- the fault of one of two sets in numbers; want of memory that is no set's is told without one
-abbrev pub fault_told_of_two : CompareFault → ToldFault
+-- the fault of one of two sets as numbers; if memory ran out for neither set in particular, it names no set
+abbrev pub fault_told_of_two : CompareFault → FaultNumbers
 fault_told_of_two (In set fault) = fault_told set fault
-fault_told_of_two NoVerdict = with_numbers 0 9 0 0 0
+fault_told_of_two NoVerdict = fault_told 0 Memory

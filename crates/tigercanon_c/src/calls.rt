@@ -1,4 +1,4 @@
-//! The calls over parts as C lends them. Each restates the contract of the library's call, which it makes.
+//! The calls over parts as C lends them. Each makes the library's call and restates its contract.
 
 ghost use Rattle.std.specs.Prelude.{◌≡◌, ◌≢◌, Ok, Err, ℕ, List, ◌∷◌, [], IfErr, IfOk, OnOk, map, true, false};
 ghost use Rattle.tigercanon.specs.Comparing.{AreDifferentThrough, AreOneMapThrough, TellsMemoryOfAccepted, TellsRefusalOfOne};
@@ -33,7 +33,8 @@ fn beside<'a>(alloc: Global, parts: &[Part<'a>]) -> Result<Vec<&'a [u8]>, AllocE
     Ok(slices)
 }
 
-/// The parts of one of two sets as slices. Want of memory for them is told of the first set, with which work would have begun.
+/// The parts of one of two sets as slices. If there is no memory for the slices, the fault is reported for the first set, because
+/// its work would have been first.
 fn beside_of_two<'a>(alloc: Global, parts: &[Part<'a>]) -> Result<Vec<&'a [u8]>, CompareFault>
     ensures slices { IfOk result (λ slices. bytes_of_parts slices.items ≡ bytes_of_lent parts.now) }
     ensures memory { IfErr result (λ fault. fault ≡ CompareFault.In 1 Fault.Memory) }
@@ -47,7 +48,7 @@ fn beside_of_two<'a>(alloc: Global, parts: &[Part<'a>]) -> Result<Vec<&'a [u8]>,
     }
 }
 
-/// The bytes of a text as a block of memory that its caller frees, or none where there are no bytes.
+/// The bytes of a text as a block of memory that the caller frees, or no block if there are no bytes.
 fn handed_out<'t>(text: Vec<u8>) -> &'t [u8]
     ensures { result.now ≡ text.items }
 {

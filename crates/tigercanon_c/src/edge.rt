@@ -1,7 +1,7 @@
-//! The edge to C: what crosses it, and the five calls.
+//! The interface to C: the types that cross it, and the five calls.
 //!
-//! Everything here is safe code. What isn't checked is the caller: a [`Part`] has to be what it says, an address that isn't null
-//! and as many bytes behind it as its length, which nothing writes to during the call.
+//! Everything here is safe code. The caller isn't checked: each [`Part`] must be what it claims, an address that isn't null and as
+//! many bytes from there as its length, and nothing may write to them during the call.
 
 ghost use Rattle.std.specs.Prelude.{◌≡◌, ◌≢◌, ◌<◌, ◌⊎◌, ◌∷◌, [], ℕ, List};
 ghost use Rattle.tigercanon.specs.Comparing.{AreDifferentThrough, AreOneMapThrough, TellsMemoryOfAccepted, TellsRefusalOfOne};
@@ -30,7 +30,7 @@ pub struct Part<'a> {
     pub bytes: &'a [u8],
 }
 
-/// A text that a call answers: in C, an address and a length. Where it isn't empty its owner frees it by `free`.
+/// A text that a call returns: in C, an address and a length. If it isn't empty, its owner frees it with `free`.
 #[repr(C)]
 #[derive(Clone, Copy)]
 pub struct Text<'t> {
@@ -42,30 +42,30 @@ pub struct Text<'t> {
 #[repr(C)]
 #[derive(Clone, Copy)]
 pub struct Hash {
-    /// Its 32 bytes, as SHA-256 gives them.
+    /// Its 32 bytes, in the order of SHA-256.
     pub bytes: [u8; 32],
 }
 
-/// A fault in numbers. What a fault doesn't have is 0.
+/// A fault as numbers. Fields that a fault doesn't use are 0.
 #[repr(C)]
 #[derive(Clone, Copy)]
-pub struct ToldFault {
-    /// The number of the refusal, from 1 to 24, or 0 where no fault is told.
+pub struct FaultNumbers {
+    /// The number of the refusal, from 1 to 24, or 0 if no fault is reported.
     pub number: u8,
     /// Which of two sets is at fault, 1 or 2.
     pub set: u8,
-    /// The record type, by the byte in column 1 of its lines.
+    /// The record type, as the byte in column 1 of its lines.
     pub record_type: u8,
     /// The bytes of the CENID.
     pub cenid: [u8; 5],
-    /// The numbers among the places, in the order in which the refusal's line has them: parts, lines and columns, which count
-    /// from 1, or TLIDs, FEATs, LANDs and POLYIDs.
+    /// The numbers among the places, in the order of the refusal line: parts, lines and columns, which count from 1, or TLIDs,
+    /// FEATs, LANDs and POLYIDs.
     pub first: u64,
     pub second: u64,
     pub third: u64,
 }
 
-/// The mask that leaves out what the two flags say.
+/// The mask that the two flags ask for.
 fn mask_of(no_sources: bool, no_reserved: bool) -> Mask
     ensures { result ≡ mask_of no_sources no_reserved }
 {
@@ -75,8 +75,8 @@ fn mask_of(no_sources: bool, no_reserved: bool) -> Mask
     }
 }
 
-/// Answers a text, and tells no fault.
-fn answer_text<'t>(bytes: &'t [u8], text: &mut Text<'t>, fault: &mut ToldFault) -> u8
+/// Returns a text, and reports no fault.
+fn answer_text<'t>(bytes: &'t [u8], text: &mut Text<'t>, fault: &mut FaultNumbers) -> u8
     ensures text { text.new.bytes.now ≡ bytes.now }
     ensures status { result ≡ 0 }
     ensures untold { fault.new ≡ no_fault }
@@ -85,15 +85,15 @@ fn answer_text<'t>(bytes: &'t [u8], text: &mut Text<'t>, fault: &mut ToldFault) 
     tell_none(fault)
 }
 
-/// Whether the parts are accepted, as [`tigercanon::check`] answers it: 0 if they are, and else the status of the fault that is
-/// told.
+/// Checks whether the parts are accepted, like [`tigercanon::check`]. Returns 0 if they are, and otherwise the status of the
+/// reported fault.
 #[unsafe(no_mangle)]
-pub extern "C" fn tigercanon_check(alloc: Global, parts: &[Part], fault: &mut ToldFault) -> u8
+pub extern "C" fn tigercanon_check(alloc: Global, parts: &[Part], fault: &mut FaultNumbers) -> u8
     ensures accepted { result ≡ 0 → (records : List Record) × IsAcceptedSet (bytes_of_lent parts.now) records }
     ensures refused { result ≢ 0 → TellsOne (TellsRefusalOfRead (bytes_of_lent parts.now)) result fault.new }
     ensures statuses { (result ≡ 0) ⊎ (result ≡ 3) ⊎ (result ≡ 5) }
     ensures untold { result ≡ 0 → fault.new ≡ no_fault }
-    // Of accepted parts nothing but want of memory is told.
+    // If the parts are accepted, the only possible fault is out of memory.
     ensures succeeds { (records : List Record) → IsAcceptedSet (bytes_of_lent parts.now) records → (result ≡ 0) ⊎ (result ≡ 5) }
 {
     match check_parts(alloc, parts) {
@@ -102,21 +102,21 @@ pub extern "C" fn tigercanon_check(alloc: Global, parts: &[Part], fault: &mut To
     }
 }
 
-/// The records of the parts in canonical spelling, as [`tigercanon::respell`] answers them: 0 if the parts spell records, and else
-/// the status of the fault that is told.
+/// Makes the records of the parts in canonical spelling, like [`tigercanon::respell`]. Returns 0 if the parts spell records, and
+/// otherwise the status of the reported fault.
 #[unsafe(no_mangle)]
 pub extern "C" fn tigercanon_respell<'t>(
     alloc: Global,
     parts: &[Part],
     text: &mut Text<'t>,
-    fault: &mut ToldFault,
+    fault: &mut FaultNumbers,
 ) -> u8
     ensures respelt { result ≡ 0 → IsRespelt (bytes_of_lent parts.now) text.new.bytes.now }
     ensures faulty { result ≢ 0 → TellsOne (TellsFirstFaultOfRead (bytes_of_lent parts.now)) result fault.new }
     ensures statuses { (result ≡ 0) ⊎ (result ≡ 3) ⊎ (result ≡ 5) }
     ensures empty { result ≢ 0 → text.new.bytes.now ≡ [] }
     ensures untold { result ≡ 0 → fault.new ≡ no_fault }
-    // Where the parts spell records, nothing but want of memory is told.
+    // If the parts spell records, the only possible fault is out of memory.
     ensures succeeds { (records : List Record) →
         SpellsWithin tiger record_limit (bytes_of_lent parts.now) records → (result ≡ 0) ⊎ (result ≡ 5) }
 {
@@ -129,8 +129,8 @@ pub extern "C" fn tigercanon_respell<'t>(
     }
 }
 
-/// The canonical text of the parts under a mask, as [`tigercanon::normalise_masked`] answers it: 0 if they are accepted, and else
-/// the status of the fault that is told.
+/// Makes the canonical text of the parts under a mask, like [`tigercanon::normalise_masked`]. Returns 0 if they are accepted, and
+/// otherwise the status of the reported fault.
 #[unsafe(no_mangle)]
 pub extern "C" fn tigercanon_normalise<'t>(
     alloc: Global,
@@ -138,14 +138,14 @@ pub extern "C" fn tigercanon_normalise<'t>(
     no_sources: bool,
     no_reserved: bool,
     text: &mut Text<'t>,
-    fault: &mut ToldFault,
+    fault: &mut FaultNumbers,
 ) -> u8
     ensures canonical { result ≡ 0 →
         IsCanonicalTextThrough (masked (mask_of no_sources no_reserved)) (bytes_of_lent parts.now) text.new.bytes.now }
     // No canonical list of the same map under the mask has another text.
     ensures only { result ≡ 0 →
         IsOnlyTextThrough (masked (mask_of no_sources no_reserved)) (bytes_of_lent parts.now) text.new.bytes.now }
-    // A text that is canonical under the mask is answered again,
+    // A text that is canonical under the mask is returned unchanged,
     ensures again { (bytes : List ℕ) → IsOneCanonicalTextThrough (masked (mask_of no_sources no_reserved)) (bytes_of_lent parts.now) bytes
         → result ≡ 0 → text.new.bytes.now ≡ bytes }
     ensures again_succeeds { (bytes : List ℕ)
@@ -157,7 +157,7 @@ pub extern "C" fn tigercanon_normalise<'t>(
     ensures statuses { (result ≡ 0) ⊎ (result ≡ 3) ⊎ (result ≡ 5) }
     ensures empty { result ≢ 0 → text.new.bytes.now ≡ [] }
     ensures untold { result ≡ 0 → fault.new ≡ no_fault }
-    // Of accepted parts nothing but want of memory is told.
+    // If the parts are accepted, the only possible fault is out of memory.
     ensures succeeds { (records : List Record) → IsAcceptedSet (bytes_of_lent parts.now) records → (result ≡ 0) ⊎ (result ≡ 5) }
 {
     let mask = mask_of(no_sources, no_reserved);
@@ -170,8 +170,8 @@ pub extern "C" fn tigercanon_normalise<'t>(
     }
 }
 
-/// The fingerprint of the parts under a mask, as [`tigercanon::fingerprint_masked`] answers it: 0 if they are accepted, and else the
-/// status of the fault that is told.
+/// Makes the fingerprint of the parts under a mask, like [`tigercanon::fingerprint_masked`]. Returns 0 if they are accepted, and
+/// otherwise the status of the reported fault.
 #[unsafe(no_mangle)]
 pub extern "C" fn tigercanon_fingerprint(
     alloc: Global,
@@ -179,7 +179,7 @@ pub extern "C" fn tigercanon_fingerprint(
     no_sources: bool,
     no_reserved: bool,
     hash: &mut Hash,
-    fault: &mut ToldFault,
+    fault: &mut FaultNumbers,
 ) -> u8
     ensures fingerprint { result ≡ 0 →
         IsFingerprintThrough (masked (mask_of no_sources no_reserved)) (bytes_of_lent parts.now) hash.new.bytes }
@@ -187,7 +187,7 @@ pub extern "C" fn tigercanon_fingerprint(
     ensures statuses { (result ≡ 0) ⊎ (result ≡ 3) ⊎ (result ≡ 5) }
     ensures kept { result ≢ 0 → hash.new ≡ hash.old }
     ensures untold { result ≡ 0 → fault.new ≡ no_fault }
-    // Of accepted parts nothing but want of memory is told.
+    // If the parts are accepted, the only possible fault is out of memory.
     ensures succeeds { (records : List Record) → IsAcceptedSet (bytes_of_lent parts.now) records → (result ≡ 0) ⊎ (result ≡ 5) }
 {
     let mask = mask_of(no_sources, no_reserved);
@@ -200,8 +200,8 @@ pub extern "C" fn tigercanon_fingerprint(
     }
 }
 
-/// Whether two sets of parts are one map under a mask, as [`tigercanon::compare_masked`] answers it: 0 if they are, 1 if they are
-/// different maps, and else the status of the fault that is told.
+/// Checks whether two sets of parts are one map under a mask, like [`tigercanon::compare_masked`]. Returns 0 if they are, 1 if they
+/// are different maps, and otherwise the status of the reported fault.
 #[unsafe(no_mangle)]
 pub extern "C" fn tigercanon_compare(
     alloc: Global,
@@ -209,20 +209,20 @@ pub extern "C" fn tigercanon_compare(
     second: &[Part],
     no_sources: bool,
     no_reserved: bool,
-    fault: &mut ToldFault,
+    fault: &mut FaultNumbers,
 ) -> u8
-    // The sets are one map only where both are accepted and some renaming carries the one onto the other under the mask,
+    // The sets are one map only if both are accepted and some renaming carries one onto the other under the mask,
     ensures same { result ≡ 0 →
         AreOneMapThrough (masked (mask_of no_sources no_reserved)) (bytes_of_lent first.now) (bytes_of_lent second.now) }
-    // and different only where both are accepted and no renaming does.
+    // and different only if both are accepted and no renaming does.
     ensures different { result ≡ 1 →
         AreDifferentThrough (masked (mask_of no_sources no_reserved)) (bytes_of_lent first.now) (bytes_of_lent second.now) }
-    // Else one of them is refused, the second only where the first is accepted.
+    // Otherwise, unless memory ran out, one of them is refused, the second only if the first is accepted.
     ensures refused { 1 < result →
         TellsOneOfTwo (TellsRefusalOfOne (bytes_of_lent first.now) (bytes_of_lent second.now)) result fault.new }
     ensures statuses { (result ≡ 0) ⊎ (result ≡ 1) ⊎ (result ≡ 3) ⊎ (result ≡ 5) }
     ensures untold { result < 2 → fault.new ≡ no_fault }
-    // Of an accepted set nothing but want of memory is told.
+    // For a set that is accepted, the only possible fault is out of memory.
     ensures succeeds { 1 < result →
         TellsOneOfTwo (TellsMemoryOfAccepted (bytes_of_lent first.now) (bytes_of_lent second.now)) result fault.new }
 {

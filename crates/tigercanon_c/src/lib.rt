@@ -1,9 +1,9 @@
 //! The calls of the crate `tigercanon` for C, and so for each language that can call C.
 //!
-//! [`tigercanon_check`], [`tigercanon_respell`], [`tigercanon_normalise`], [`tigercanon_fingerprint`] and [`tigercanon_compare`] take
-//! the parts of a set by address and length, answer the program's exit status, and tell a fault in a struct of numbers
-//! ([`ToldFault`]). Each has the contract of the call that it makes. `include/tigercanon.h` declares them for C, and says what a
-//! caller owes.
+//! [`tigercanon_check`], [`tigercanon_respell`], [`tigercanon_normalise`], [`tigercanon_fingerprint`] and [`tigercanon_compare`]
+//! take the parts of a set by address and length, return the program's exit status, and report a fault in a struct of numbers
+//! ([`FaultNumbers`]). Each has the contract of the library call that it makes. `include/tigercanon.h` declares them for C, and lists
+//! the duties of a caller.
 #![tactic(auto)]
 
 mod calls;
@@ -11,6 +11,6 @@ mod edge;
 mod telling;
 
 pub use edge::{
-    Hash, Part, Text, ToldFault, tigercanon_check, tigercanon_compare, tigercanon_fingerprint,
+    FaultNumbers, Hash, Part, Text, tigercanon_check, tigercanon_compare, tigercanon_fingerprint,
     tigercanon_normalise, tigercanon_respell,
 };

@@ -1,21 +1,22 @@
-//! The program `tigercanon`: reads its words, opens the files that they name, and does the job.
+//! The program `tigercanon`: reads the command line, opens the files that it names, and does the job.
 #![tactic(auto)]
 
 use std::alloc::AllocError;
 use std::env;
 use std::fs::{self, File};
 use std::process::ExitCode;
-use tigercanon::{Opened, Plan, PlanFault, exit_status, plan, run, words_fault};
+use tigercanon::{Opened, Plan, PlanFault, args_error, exit_status, plan, run};
+use tl_write::CountedOut;
 
-/// The words of the command line, without the program's own name.
+/// The command-line arguments, without the program's own name.
 fn words(rt: &HostRuntime) -> Result<Vec<String>, PlanFault> {
     match env::args(rt) {
         Ok(args) => Ok(args.skip(1).collect(rt.alloc())?),
-        Err(error) => Err(words_fault(rt.alloc(), &error)),
+        Err(error) => Err(args_error(rt.alloc(), &error)),
     }
 }
 
-/// Opens the files with these names, each as it goes.
+/// Opens the files with these names, in order, and keeps the outcome of each.
 fn open_all(rt: &HostRuntime, names: &[String]) -> Result<Vec<Opened<File>>, AllocError> {
     let mut files = Vec::with_capacity(rt.alloc(), names.len())?;
     for name in names {
@@ -24,7 +25,7 @@ fn open_all(rt: &HostRuntime, names: &[String]) -> Result<Vec<Opened<File>>, All
     Ok(files)
 }
 
-/// Does what is planned, and answers the exit status.
+/// Carries out the plan, and returns the exit status.
 fn done(rt: &HostRuntime, planned: &Plan) -> Result<u8, AllocError> {
     let first = open_all(rt, &planned.first)?;
     let second = open_all(rt, &planned.second)?;
@@ -39,7 +40,7 @@ fn done(rt: &HostRuntime, planned: &Plan) -> Result<u8, AllocError> {
     ))
 }
 
-/// Does what the words ask for, and answers the exit status.
+/// Does what the command line asks for, and returns the exit status.
 fn status(rt: &HostRuntime) -> Result<u8, PlanFault> {
     let words = words(rt)?;
     let planned = plan(rt.alloc(), &words)?;
@@ -47,5 +48,6 @@ fn status(rt: &HostRuntime) -> Result<u8, PlanFault> {
 }
 
 fn main(rt: HostRuntime) -> ExitCode {
-    ExitCode::from(exit_status(status(&rt), &mut rt.stderr()))
+    let mut err = CountedOut::new(rt.stderr());
+    ExitCode::from(exit_status(status(&rt), &mut err))
 }

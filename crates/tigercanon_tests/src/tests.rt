@@ -1,4 +1,4 @@
-//! What only a call shows: getters, counties and renamings as values, and devices that give little and fail.
+//! Tests that need a running call: getters, counties and renamings as values, and devices that transfer little and fail.
 
 mod callers;
 mod canonical;

@@ -1,4 +1,4 @@
--- The links of landmarks, gathered landmark by landmark, and compared by their fields.
+-- The links of landmarks, collected landmark by landmark and compared by their fields.
 use Rattle.std.proofs.Common.{◌≡◌, ◌+◌, ℕ, zero, suc, List, [], ◌∷◌, ◌++◌, map, flat_map, take, Bool, IsTrue, slice_get, refl, sym}
 use Rattle.std.proofs.Common.{ap, ◌∙◌, subst, add-one, append_assoc, append-nil, IsPermutation, nat_cmp}
 use Rattle.std.proofs.lemmas.Bool.{ltb-true}
@@ -16,7 +16,7 @@ use Rattle.tl_county.proofs.Lists.Permutations.{groups-permutation}
 use Rattle.tl_cert.specs.LinkFields.{LinkFields, link_fields}
 use Rattle.tl_cert.proofs.Places.{decides_same}
 
--- the links of lands, land after land
+-- the links of the landmarks with these LANDs, landmark by landmark
 abbrev pub under_lands : List Fields8 → List ℕ → List Fields8
 under_lands links ks = flat_map (λ land. of_number eight_land land links) ks
 
@@ -33,14 +33,14 @@ pub next_land : (links : List Fields8) (ks : List ℕ) (i : ℕ)
     → under_lands links (take i ks) ++ links_with links (slice_get ks i) ≡ under_lands links (take (i + 1) ks)
 next_land links ks i = rw add-one (next_at links ks i)
 
--- all lands together have all links of a county
+-- the landmarks of a county have all of its links
 pub all_lands : (county : County) → IsCounty county → IsPermutation (under_lands county.links (lands county)) county.links
 all_lands county is = groups-permutation eight_land (lands county) county.links
     (apart_from_sorted nat_keys (lands county) is.ascending.landmarks)
     (all_weaker (λ l. IsTrue (stands_in nat_cmp l.land (lands county))) (λ l. Known nat_cmp (lands county) l.land)
     (λ l h. ltb-true 0 (times nat_cmp l.land (lands county)) h) county.links is.closed.link_lands)
 
--- the link of its fields
+-- the link with these fields
 fields_link : LinkFields → Fields8
 fields_link f = record { file = f.1.1.1; cenid = f.1.1.0; polyid = f.1.0; land = f.0 }
 

@@ -1,9 +1,10 @@
--- Counties under a mask: with no mask the county itself; twice is once; and what is its own county under a mask is carried onto what is.
+-- Counties under a mask: a mask that leaves nothing out changes nothing, masking twice is masking once, and a county that a mask
+-- doesn't change is carried onto one that it doesn't change.
 use Rattle.std.proofs.Common.{◌≡◌, ℕ, List, [], ◌∷◌, map, Bool, true, false, cond, refl, ap, ◌∙◌}
 use Rattle.std.proofs.lemmas.List.Sorted.{IsPermutation-sym}
 use Rattle.std.specs.List.{AllByRecursion}
 use Rattle.tl_layout.specs.Masked.{no_mask, masked_body_7}
-use Rattle.tl_layout.specs.MaskLaws.{masked_twice_1, masked_twice_7, masked_twice_i}
+use Rattle.tl_layout.specs.Laws.MaskLaws.{masked_twice_1, masked_twice_7, masked_twice_i}
 use Rattle.tl_layout.specs.declared.mask.Mask.{Mask}
 use Rattle.tl_layout.specs.declared.type7.Body7.{Body7}
 use Rattle.tl_shape.specs.Chain.{Chain}
@@ -22,7 +23,7 @@ use Rattle.tl_county.proofs.Lists.Members.{among-permutation}
 use Rattle.tl_county.proofs.Rules.FirstFault.{all_among}
 use Rattle.tl_county.proofs.Rules.LinkedCounty.{each_from}
 
--- a mask that leaves nothing out shows the county itself
+-- a mask that leaves nothing out changes nothing
 pub masked_by_none : (county : County) → masked no_mask county ≡ county
 masked_by_none county = λ i. record {
   chains = map_itself (λ (entry : ℕ × Chain). (entry.0, masked_chain no_mask entry.1)) (λ entry. refl) county.chains i;
@@ -35,7 +36,7 @@ masked_by_none county = λ i. record {
 pub no_mask_is_plain : masked no_mask ≡ (λ county. county)
 no_mask_is_plain = λ i county. masked_by_none county i
 
--- elements that a map leaves as they are
+-- elements that a map doesn't change
 fixed_map : {X : Type 0} (f : X → X) (xs : List X) → AllByRecursion (λ x. f x ≡ x) xs → map f xs ≡ xs
 fixed_map f [] a = refl
 fixed_map f (x ∷ xs) a = λ i. a.0 i ∷ fixed_map f xs a.1 i
@@ -54,14 +55,14 @@ module _ (mask : Mask) where
     points = c.points;
     feats = c.feats;
     ranges = c.ranges;
-    link_body = masked_twice_i mask c.link_body i;
+    topology = masked_twice_i mask c.topology i;
     start_node = c.start_node;
     end_node = c.end_node;
     left = c.left;
     right = c.right;
   }
 
-  -- what was put in order under the mask stays as it is
+  -- contents that were masked and sorted don't change again
   hidden_twice : (hidden : Bool) (bodies : List Body7) → let once = cond hidden
       (in_order landmark_body_cmp (map (masked_body_7 mask) bodies)) bodies in
       cond hidden (in_order landmark_body_cmp (map (masked_body_7 mask) once)) once ≡ once
@@ -78,7 +79,7 @@ module _ (mask : Mask) where
   bodies_twice : (bodies : List Body7) → masked_bodies mask (masked_bodies mask bodies) ≡ masked_bodies mask bodies
   bodies_twice bodies = hidden_twice mask.sources bodies
 
-  -- twice is once
+  -- masking twice is masking once
   pub masked_twice : (county : County) → masked mask (masked mask county) ≡ masked mask county
   masked_twice county = λ i. record {
     chains = entries_twice (masked_chain mask) chain_twice county.chains i;
@@ -93,13 +94,13 @@ module _ (mask : Mask) where
       entries_twice f h [] = refl
       entries_twice f h (entry ∷ entries) = λ i. (entry.0, h entry.1 i) ∷ entries_twice f h entries i
 
-  -- a chain is turned and renumbered under the mask as it is without one
+  -- masking a turned and renumbered chain is turning and renumbering the masked one
   chain_carried : (r : Renumbering) (t : Bool) (c : Chain)
       → masked_chain mask (renumbered r (turned_if t c)) ≡ renumbered r (turned_if t (masked_chain mask c))
   chain_carried r true c = refl
   chain_carried r false c = refl
 
-  -- what is its own county under the mask is carried onto what is
+  -- a county that the mask doesn't change is carried onto one that it doesn't change
   module _ (r : Renumbering) (a b : County) (h : Carries r a b) (own : masked mask a ≡ a) where
     abbrev mask_chain : ℕ × Chain → ℕ × Chain
     mask_chain entry = (entry.0, masked_chain mask entry.1)

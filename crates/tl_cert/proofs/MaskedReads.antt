@@ -1,4 +1,4 @@
--- What each call of a chart reads of a county under a mask.
+-- The values that a chart reads of a county under a mask.
 use Rattle.std.proofs.Common.{◌≡◌, ◌<◌, ℕ, List, [], map, length, Bool, true, false, cond, Option, Some, None, option_map}
 use Rattle.std.proofs.Common.{slice_get, unwrap_or, refl, sym, ap, ◌∙◌, arith}
 use Rattle.std.proofs.lemmas.List.{length-map}
@@ -16,7 +16,7 @@ use Rattle.tl_cert.specs.MaskedCounty.{masked_chain, masked_bodies, masked}
 use Rattle.tl_cert.specs.MaskedLaws.{lands_masked, length_masked_bodies}
 use Rattle.tl_county.proofs.Lists.EntryLists.{values-map_values}
 
--- the value at a place of entries whose values are turned into others
+-- the value at a place after all values are mapped
 value_at_place : {K V W : Type 0} (f : V → W) (entries : List (K × V)) (place : ℕ)
     → slice_get (entry_values (map_values f entries)) place ≡ option_map f (slice_get (entry_values entries) place)
 value_at_place f entries place =
@@ -33,7 +33,7 @@ pub chain_at_masked : (mask : Mask) (county : County) (place : ℕ)
     → chain_at (masked mask county) place ≡ option_map (masked_chain mask) (chain_at county place)
 chain_at_masked mask county place = value_at_place (masked_chain mask) county.chains place
 
--- what is read of a chain under the mask
+-- a field of a chain under the mask
 module _ (mask : Mask) where
   read_masked : {X : Type 0} (read : Chain → X) (o : Option Chain)
       → option_map read (option_map (masked_chain mask) o) ≡ option_map (λ c. read (masked_chain mask c)) o
@@ -54,12 +54,12 @@ module _ (mask : Mask) where
         go None = refl
         go (Some c) = refl
 
-    pub link_body_masked : option_map (λ c. c.link_body) (chain_at (masked mask county) place) ≡ option_map (masked_body_i mask)
-        (option_map (λ c. c.link_body) (chain_at county place))
-    link_body_masked = ap (option_map (λ (c : Chain). c.link_body)) (chain_at_masked mask county place) ∙ go (chain_at county place)
+    pub link_body_masked : option_map (λ c. c.topology) (chain_at (masked mask county) place) ≡ option_map (masked_body_i mask)
+        (option_map (λ c. c.topology) (chain_at county place))
+    link_body_masked = ap (option_map (λ (c : Chain). c.topology)) (chain_at_masked mask county place) ∙ go (chain_at county place)
       where
-        go : (o : Option Chain) → option_map (λ (c : Chain). c.link_body) (option_map (masked_chain mask) o) ≡ option_map
-            (masked_body_i mask) (option_map (λ (c : Chain). c.link_body) o)
+        go : (o : Option Chain) → option_map (λ (c : Chain). c.topology) (option_map (masked_chain mask) o) ≡ option_map
+            (masked_body_i mask) (option_map (λ (c : Chain). c.topology) o)
         go None = refl
         go (Some c) = refl
 
@@ -106,7 +106,7 @@ module _ (mask : Mask) where
     pub body_count_masked : length (bodies_at (masked mask county) place) ≡ length (bodies_at county place)
     body_count_masked = ap length bodies_masked ∙ length_masked_bodies mask (bodies_at county place)
 
--- where SOURCE stays, the contents of a landmark stay
+-- if the mask keeps SOURCE, it keeps the contents of a landmark
 pub bodies_unmasked : (mask : Mask) (county : County) (place : ℕ) → mask.sources ≡ false
     → bodies_at (masked mask county) place ≡ bodies_at county place
 bodies_unmasked mask county place e =
@@ -114,7 +114,7 @@ bodies_unmasked mask county place e =
     bodies_masked mask county place
     ∙ ap (λ hidden. cond hidden (in_order landmark_body_cmp (map (masked_body_7 mask) bodies)) bodies) e
 
--- the contents of the landmark at a place that is there, among those of all landmarks
+-- the contents of the landmark at a place are at the same place among those of all landmarks
 pub masked_values_count : (mask : Mask) (county : County) → length (entry_values (masked mask county).landmarks) ≡ length county.landmarks
 masked_values_count mask county =
     length-map (masked mask county).landmarks (λ entry. entry.1) ∙ landmark_count_masked mask county

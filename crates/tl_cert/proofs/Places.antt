@@ -1,9 +1,9 @@
--- Lists that are gone through place by place, and tests that decide.
+-- Lists that are read place by place, and tests that decide a property.
 use Rattle.std.proofs.Common.{◌≡◌, ◌<◌, ◌≤◌, ◌+◌, ℕ, zero, suc, List, [], ◌∷◌, length, take, get_or, Bool, true, false, Ordering}
 use Rattle.std.proofs.Common.{is_eq, Option, Some, IfSome, slice_get, refl, sym, ap, ◌∙◌, subst, add-one, arith}
 use Rattle.std.proofs.Common.{IsPermutation, nat_cmp, is_gt, ◌||◌}
 use Rattle.std.proofs.lemmas.Bool.{false≢true, le-ltb}
-use Rattle.std.proofs.lemmas.List.{take_all, take_more}
+use Rattle.std.proofs.lemmas.List.{take_all}
 use Rattle.std.proofs.lemmas.List.Sorted.{IsPermutation-sym, IsPermutation-trans}
 use Rattle.std.specs.Bool.{Decides}
 use Rattle.std.specs.Cmp.Lexicographic.{slice_cmp}
@@ -28,9 +28,8 @@ use Rattle.tl_county.proofs.ByKey.Keys.{
   apart-permutation,
 }
 use Rattle.tl_county.proofs.Lists.Distinct.{has_repeat-apart, apart_from_no_repeat}
-use Rattle.tl_county.proofs.Lists.Elements.{all_append}
 
--- a test whose fact would follow from another's
+-- if a test fails, so does a property that implies the tested one
 pub decides_no : {P Q : Type 0} (b : Bool) → b ≡ false → Decides b P → (Q → P) → Decides false Q
 decides_no b e d f = (λ t. absurd (false≢true t), λ q. absurd (false≢true (sym e ∙ d.1 (f q))))
 
@@ -41,11 +40,11 @@ decides_same b d f g = (λ e. f (d.0 e), λ q. d.1 (g q))
 pub decides_over : {X : Type 0} (b : Bool) (x x' y y' : X) → x ≡ x' → y ≡ y' → Decides b (x ≡ y) → Decides b (x' ≡ y')
 decides_over b x x' y y' p q d = (λ t. sym p ∙ d.0 t ∙ q, λ e. d.1 (p ∙ e ∙ sym q))
 
--- all elements, or as many as a place leaves before it
+-- the elements before a place that is past the last one are all elements
 pub taken_all : {X : Type 0} (xs ys : List X) (i n : ℕ) → ys ≡ take i xs → length xs ≡ n → n ≤ i → ys ≡ xs
 taken_all xs ys i n e l h = e ∙ take_all i xs (omega (arith, l, h))
 
--- what holds of the elements so far and of the next one
+-- a property of the elements so far and of the next one
 module _ {X : Type 0} (P : X → Type 0) where
   all_next_at : (xs : List X) (i : ℕ) → AllByRecursion P (take i xs) → IfSome (slice_get xs i) P → AllByRecursion P (take (suc i) xs)
   all_next_at [] i a p = tt
@@ -60,20 +59,10 @@ module _ {X : Type 0} (P : X → Type 0) where
   all_at (x ∷ xs) a zero = a.0
   all_at (x ∷ xs) a (suc i) = all_at xs a.1 i
 
-  -- the same for the elements that an index reads
-  pub all_next_read : (xs : List X) (i : ℕ) (d : X) → i < length xs → AllByRecursion P (take i xs) → P (get_or xs i d)
-      → AllByRecursion P (take (i + 1) xs)
-  all_next_read xs i d l a p = subst (AllByRecursion P) (sym (take_more xs i d l)) (all_append P (take i xs) (get_or xs i d ∷ []) a (p, tt))
-
-  pub all_read : (xs : List X) (i : ℕ) (d : X) → i < length xs → AllByRecursion P xs → P (get_or xs i d)
-  all_read [] i d l a = absurd (omega (arith, l))
-  all_read (x ∷ xs) zero d l a = a.0
-  all_read (x ∷ xs) (suc i) d l a = all_read xs i d (omega (arith, l)) a.1
-
   pub all_seen : (xs : List X) (i n : ℕ) → AllByRecursion P (take i xs) → length xs ≡ n → n ≤ i → AllByRecursion P xs
   all_seen xs i n a l h = subst (AllByRecursion P) (take_all i xs (omega (arith, l, h))) a
 
--- two lists agree so far and at the next place
+-- two lists are equal so far and at the next place
 module _ {X : Type 0} where
   same_next_at : (xs ys : List X) (i : ℕ) → take i xs ≡ take i ys → slice_get xs i ≡ slice_get ys i → take (suc i) xs ≡ take (suc i) ys
   same_next_at [] [] i e f = refl
@@ -94,7 +83,14 @@ module _ {X : Type 0} where
   same_seen xs ys i n e l m h =
       sym (take_all i xs (omega (arith, l, h))) ∙ e ∙ take_all i ys (omega (arith, m, h))
 
--- an entry has its key and its value at one place
+-- a test of the element that an index reads
+pub decides_read : {X : Type 0} (P : X → Type 0) (xs : List X) (i : ℕ) (d : X) → i < length xs → (b : Bool) → Decides b (P (get_or xs i d))
+    → Decides b (IfSome (slice_get xs i) P)
+decides_read P [] i d l b e = absurd (omega (arith, l))
+decides_read P (x ∷ xs) zero d l b e = e
+decides_read P (x ∷ xs) (suc i) d l b e = decides_read P xs i d (omega (arith, l)) b e
+
+-- the key and the value of an entry are at the same place
 module _ {K V : Type 0} where
   pub decides_entry : (es : List (K × V)) (i : ℕ) (k : K) → Some k ≡ slice_get (entry_keys es) i → (Q : K → Option V → Type 0) (b : Bool)
       → Decides b (Q k (slice_get (entry_values es) i)) → Decides b (IfSome (slice_get es i) (λ e. Q e.0 (Some e.1)))
@@ -128,7 +124,7 @@ pub decides_paired : {K : Type 0} (pairs : List (K × K)) (olds news : List K) �
     → Decides b (IsPermutation (rights pairs) news) → Decides b (ArePaired pairs olds news)
 decides_paired pairs olds news l b d = decides_same b d (λ r. record { left = l; right = r }) (λ h. h.right)
 
--- a list in order whose first two differ has a repetition exactly if the list after its first has one
+-- if a list is in order and its first two elements differ, it has a repetition exactly if the rest after the first has one
 pub repeat_later : (x y : ℕ) (ys : List ℕ) → IsInOrder nat_cmp (x ∷ y ∷ ys) → (x ≡ y → ⊥) → has_repeat nat_cmp (y ∷ ys) ≡ has_repeat nat_cmp
     (x ∷ y ∷ ys)
 repeat_later x y ys h ne = sym (ap (λ b. b || has_repeat nat_cmp (y ∷ ys))

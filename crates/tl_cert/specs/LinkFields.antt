@@ -1,4 +1,4 @@
--- The fields of a landmark's link in their order.
+-- The fields of a landmark's link in the order in which links are compared.
 use Rattle.std.specs.Prelude.{ℕ, List}
 use Rattle.tl_layout.specs.Fields.{Fields8}
 

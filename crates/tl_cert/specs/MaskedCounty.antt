@@ -16,14 +16,14 @@ masked_chain mask c = record {
   points = c.points;
   feats = c.feats;
   ranges = c.ranges;
-  link_body = masked_body_i mask c.link_body;
+  topology = masked_body_i mask c.topology;
   start_node = c.start_node;
   end_node = c.end_node;
   left = c.left;
   right = c.right;
 }
 
--- a landmark's contents under the mask; SOURCE is one of the fields that order them, so where it is left out they are put in order again
+-- a landmark's contents under the mask; SOURCE is one of the fields that they are sorted by, so if it is left out they are sorted again
 abbrev pub masked_bodies : Mask → List Body7 → List Body7
 masked_bodies mask bodies = cond mask.sources (in_order landmark_body_cmp (map (masked_body_7 mask) bodies)) bodies
 

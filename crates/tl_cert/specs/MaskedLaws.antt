@@ -1,9 +1,9 @@
--- What a county keeps under a mask: its numbers, nodes and polygons, and that it is a county as linking makes it.
+-- Under a mask a county has the same numbers, nodes and polygons, and is well formed.
 --
--- Where the laws of masked counties stand:
+-- The laws of masked counties are in these files:
 --   here                      tlids_masked, lands_masked, nodes_masked, sides_masked, masked_is_county
 --   specs/MaskedLimits        masked_within_limits
---   proofs/MaskedReads        what each call of a chart reads: chain_at_masked, body_masked, bodies_masked and the like
+--   proofs/MaskedReads        the values that a chart reads: chain_at_masked, body_masked, bodies_masked and so on
 --   proofs/MaskedCounties     masked_by_none, no_mask_is_plain, masked_twice, carried_masked
 use Rattle.std.proofs.Common.{◌≡◌, ◌≤◌, ◌||◌, ℕ, List, map, length, Bool, true, false, cond, IsTrue, is_some, refl, sym, ap, ◌∙◌, subst}
 use Rattle.std.proofs.Common.{nat_cmp}
@@ -28,14 +28,14 @@ use Rattle.tl_county.proofs.Lists.EntryLists.{keys-map_values}
 use Rattle.tl_county.proofs.Lists.InOrder.{in_order-in_order}
 use Rattle.tl_county.proofs.Rules.LinkedCounty.{length-in_order}
 
--- the numbers stay
+-- the numbers are the same
 pub tlids_masked : (mask : Mask) (county : County) → tlids (masked mask county) ≡ tlids county
 tlids_masked mask county = keys-map_values (masked_chain mask) county.chains
 
 pub lands_masked : (mask : Mask) (county : County) → lands (masked mask county) ≡ lands county
 lands_masked mask county = keys-map_values (masked_bodies mask) county.landmarks
 
--- and so do the ends and the sides of chains
+-- and so are the ends and the sides of chains
 pub nodes_masked : (mask : Mask) (county : County) → nodes (masked mask county) ≡ nodes county
 nodes_masked mask county =
     ap (distinct nat_cmp)
@@ -45,7 +45,7 @@ pub sides_masked : (mask : Mask) (county : County) → polygons_along (masked ma
 sides_masked mask county =
     flat_map-map (λ (entry : ℕ × Chain). chain_polygons entry.1) (λ (entry : ℕ × Chain). (entry.0, masked_chain mask entry.1)) county.chains
 
--- contents under a mask are in order where they were, and as many
+-- if contents are in order, they are under a mask; there are as many of them
 hidden_in_order : (hidden : Bool) (f : Body7 → Body7) (bodies : List Body7) → IsInOrder landmark_body_cmp bodies
     → IsInOrder landmark_body_cmp (cond hidden (in_order landmark_body_cmp (map f bodies)) bodies)
 hidden_in_order true f bodies h = in_order-in_order landmark_body_keys.total (map f bodies)
@@ -64,7 +64,7 @@ pub length_masked_bodies : (mask : Mask) (bodies : List Body7) → length (maske
 length_masked_bodies mask bodies = hidden_length mask.sources (masked_body_7 mask) bodies
 
 module _ (mask : Mask) where
-  -- what holds of each chain or landmark under the mask holds of those of the masked county
+  -- a property of each chain or landmark under the mask is one of each of the masked county
   pub all_chains_masked : (P : ℕ × Chain → Type 0) (chains : List (ℕ × Chain))
       → AllByRecursion (λ entry. P (entry.0, masked_chain mask entry.1)) chains
       → AllByRecursion P (map (λ entry. (entry.0, masked_chain mask entry.1)) chains)
@@ -78,7 +78,7 @@ module _ (mask : Mask) where
       all_map Q (λ entry. (entry.0, masked_bodies mask entry.1)) landmarks
       (all_weaker P (λ entry. Q (entry.0, masked_bodies mask entry.1)) h landmarks a)
 
-  -- a county under a mask is one
+  -- a well formed county is well formed under a mask
   pub masked_is_county : (county : County) → IsCounty county → IsCounty (masked mask county)
   masked_is_county county h = record {
     ascending = record {

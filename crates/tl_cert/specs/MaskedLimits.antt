@@ -1,10 +1,10 @@
--- A county under a mask is within the limits of the county: blanks fit as texts do, and it takes as many records of each type.
+-- Under a mask a county is within the same limits: blanks fit wherever a text does, and there are as many records of each type.
 use Rattle.std.proofs.Common.{◌≡◌, ◌+◌, ◌≤◌, ℕ, List, [], ◌∷◌, map, flat_map, length, Bool, true, false, cond}
 use Rattle.std.proofs.Common.{refl, sym, ap₂, ◌∙◌, subst, length-append}
 use Rattle.std.proofs.lemmas.List.{length-map}
 use Rattle.std.specs.List.{AllByRecursion}
 use Rattle.tl_layout.specs.Bytes.{IsText, blanks_if}
-use Rattle.tl_layout.specs.ByteLaws.{blanks_are_text}
+use Rattle.tl_layout.specs.Laws.ByteLaws.{blanks_are_text}
 use Rattle.tl_layout.specs.Masked.{masked_body_1, masked_body_7, masked_body_i}
 use Rattle.tl_layout.specs.Numbers.{IsNumber}
 use Rattle.tl_layout.specs.Type1Groups.{FitsBody1}
@@ -26,9 +26,9 @@ use Rattle.tl_county.proofs.ByKey.Numbers.{all-in_order}
 use Rattle.tl_county.proofs.Limits.FitsCounty.{flat_map-map}
 use Rattle.tl_county.proofs.Lists.Elements.{all_map, all_weaker}
 use Rattle.tl_county.proofs.Packing.PackedTypes.{by_type_of}
-use Rattle.tl_county.proofs.Packing.TypeCounts.{HasAtMost, by_type_within, packed_within}
+use Rattle.tl_county.proofs.Packing.TypeCounts.{HasAtMost, HasWithin, by_type_within, packed_within}
 
--- blanks fit where a text does
+-- blanks fit wherever a text does
 hidden_fits : (hidden : Bool) (width : ℕ) (text : List ℕ) → IsText width text → IsText width (blanks_if hidden width text)
 hidden_fits true width text t = blanks_are_text width
 hidden_fits false width text t = t
@@ -92,7 +92,7 @@ module _ (mask : Mask) where
     body = body_1_fits c.body f.body;
     points = f.points;
     ranges = f.ranges;
-    link = body_i_fits c.link_body c.left.cenid c.right.cenid f.link;
+    link = body_i_fits c.topology c.left.cenid c.right.cenid f.link;
   }
 
   hidden_landmark_fits : (hidden : Bool) (bodies : List Body7) → AllByRecursion FitsLandmark bodies
@@ -139,7 +139,7 @@ module _ (mask : Mask) where
   abbrev mask_entry : ℕ × Chain → ℕ × Chain
   mask_entry entry = (entry.0, masked_chain mask entry.1)
 
-  -- as many contents of landmarks
+  -- there are as many contents of landmarks
   sevens_masked : (landmarks : List (ℕ × List Body7))
       → length (flat_map packed_sevens (map (λ entry. (entry.0, masked_bodies mask entry.1)) landmarks)) ≡ length
       (flat_map packed_sevens landmarks)
@@ -152,21 +152,21 @@ module _ (mask : Mask) where
       ∙ sym (length-map entry.1 (λ body. record { land = entry.0; body = body }))) (sevens_masked entries)
       ∙ sym (length-append (packed_sevens entry) (flat_map packed_sevens entries))
 
-  -- as many records of each type
-  counts_masked : (limit : ℕ) (county : County) → HasAtMost limit (packed_by_type county)
-      → HasAtMost limit (packed_by_type (masked mask county))
-  counts_masked limit county few =
+  -- there are no more records of any type
+  pub counts_masked : (limits : ℕ → ℕ) (county : County) → HasWithin limits (packed_by_type county)
+      → HasWithin limits (packed_by_type (masked mask county))
+  counts_masked limits county few =
       let as_many : length (map mask_entry county.chains) ≡ length county.chains = length-map county.chains mask_entry in
       record {
-        of_type_1 = subst (λ n. n ≤ limit) (sym (length-map (map mask_entry county.chains) packed_one ∙ as_many
+        of_type_1 = subst (λ n. n ≤ limits 49) (sym (length-map (map mask_entry county.chains) packed_one ∙ as_many
             ∙ sym (length-map county.chains packed_one))) few.of_type_1;
-        of_type_2 = subst (λ rs. length rs ≤ limit) (sym (flat_map-map packed_twos mask_entry county.chains)) few.of_type_2;
-        of_type_4 = subst (λ rs. length rs ≤ limit) (sym (flat_map-map packed_fours mask_entry county.chains)) few.of_type_4;
+        of_type_2 = subst (λ rs. length rs ≤ limits 50) (sym (flat_map-map packed_twos mask_entry county.chains)) few.of_type_2;
+        of_type_4 = subst (λ rs. length rs ≤ limits 52) (sym (flat_map-map packed_fours mask_entry county.chains)) few.of_type_4;
         of_type_5 = few.of_type_5;
-        of_type_6 = subst (λ rs. length rs ≤ limit) (sym (flat_map-map packed_sixes mask_entry county.chains)) few.of_type_6;
-        of_type_7 = subst (λ n. n ≤ limit) (sym (sevens_masked county.landmarks)) few.of_type_7;
+        of_type_6 = subst (λ rs. length rs ≤ limits 54) (sym (flat_map-map packed_sixes mask_entry county.chains)) few.of_type_6;
+        of_type_7 = subst (λ n. n ≤ limits 55) (sym (sevens_masked county.landmarks)) few.of_type_7;
         of_type_8 = few.of_type_8;
-        of_type_i = subst (λ n. n ≤ limit) (sym (length-map (map mask_entry county.chains) packed_i ∙ as_many
+        of_type_i = subst (λ n. n ≤ limits 73) (sym (length-map (map mask_entry county.chains) packed_i ∙ as_many
             ∙ sym (length-map county.chains packed_i))) few.of_type_i;
         of_type_p = few.of_type_p;
       }
@@ -180,6 +180,6 @@ module _ (mask : Mask) where
         (all_weaker (λ entry. HasRoom entry.1) (λ entry. HasRoom (masked_chain mask entry.1))
         (λ entry r. record { points = r.points; feats = r.feats; ranges = r.ranges }) county.chains w.room);
     counts = packed_within limit (masked mask county)
-        (counts_masked limit county
+        (counts_masked (λ _. limit) county
         (subst (HasAtMost limit) (by_type_of (packed_by_type county)) (by_type_within limit (packed county) w.counts)));
   }

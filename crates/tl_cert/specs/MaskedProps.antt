@@ -1,4 +1,4 @@
--- The fact of a county under a mask has at most one proof.
+-- The ghost field of a masked county has at most one proof.
 use Rattle.std.specs.Prelude.{List}
 use Rattle.std.proofs.Props.{props}
 use Rattle.tl_layout.specs.declared.mask.Mask.{Mask}

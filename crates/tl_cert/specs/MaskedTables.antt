@@ -1,4 +1,4 @@
--- What a county under a mask keeps of the county behind it.
+-- The copied contents of a masked county.
 use Rattle.std.specs.Prelude.{◌≡◌, List, true}
 use Rattle.tl_layout.specs.declared.mask.Mask.{Mask}
 use Rattle.tl_layout.specs.declared.type7.Body7.{Body7}
@@ -6,6 +6,6 @@ use Rattle.tl_county.specs.County.{County}
 use Rattle.tl_county.specs.Entries.{entry_values}
 use Rattle.tl_cert.specs.MaskedCounty.{masked}
 
--- where SOURCE is left out, these are the contents of each landmark under the mask
+-- if the mask leaves out SOURCE, these are the contents of each landmark under the mask
 abbrev pub TellsBodies : Mask → County → List (List Body7) → Type 0
 TellsBodies mask county bodies = mask.sources ≡ true → bodies ≡ entry_values (masked mask county).landmarks

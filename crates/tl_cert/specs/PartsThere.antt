@@ -1,6 +1,10 @@
--- What it means that a county has the parts of another under their new numbers.
-use Rattle.std.specs.Prelude.{◌≡◌, ℕ, List, Bool, Option, Some, option_map}
+-- The conditions under which a county has the parts of another under their new numbers.
+use Rattle.std.specs.Prelude.{◌≡◌, ℕ, List, Bool, Option, Some, option_map, map, reverse, cond}
+use Rattle.std.specs.List.{AllByRecursion}
 use Rattle.std.specs.Ordering.{nat_cmp}
+use Rattle.tl_layout.specs.Coordinates.{Coordinates}
+use Rattle.tl_layout.specs.Turned.{turned_ranges}
+use Rattle.tl_layout.specs.declared.ranges.Ranges.{Ranges}
 use Rattle.tl_layout.specs.declared.type5.Body5.{Body5}
 use Rattle.tl_layout.specs.declared.type7.Body7.{Body7}
 use Rattle.tl_layout.specs.declared.type_p.BodyP.{BodyP}
@@ -11,7 +15,7 @@ use Rattle.tl_county.specs.County.{County}
 use Rattle.tl_county.specs.PolygonKeys.{PolygonKey, key_cmp}
 use Rattle.tl_county.specs.Renumbering.{Renumbering, image, turns, renumbered}
 
--- the chain at a place, turned or as it is
+-- the chain at a place, which may be turned
 abbrev pub chain_towards : County → ℕ → Bool → Option Chain
 chain_towards county place turned = option_map (turned_if turned) (chain_at county place)
 
@@ -19,7 +23,14 @@ chain_towards county place turned = option_map (turned_if turned) (chain_at coun
 abbrev pub chain_carried : Renumbering → County → ℕ → Bool → Option Chain
 chain_carried r county place turned = option_map (renumbered r) (chain_towards county place turned)
 
--- b has the chain, turned as the renaming says, under its new TLID
+-- the points and the address ranges of a chain, which may be turned
+abbrev pub points_towards : Bool → List Coordinates → List Coordinates
+points_towards turned points = cond turned (reverse points) points
+
+abbrev pub ranges_towards : Bool → List Ranges → List Ranges
+ranges_towards turned ranges = cond turned (map turned_ranges ranges) ranges
+
+-- b has the chain under its new TLID, turned if the renaming turns it
 abbrev pub IsChainThere : Renumbering → County → ℕ × Chain → Type 0
 IsChainThere r b entry = chain_under b (image nat_cmp r.chains entry.0) ≡ Some (renumbered r (turned_if (turns r entry.0) entry.1))
 
@@ -35,19 +46,24 @@ IsPolygonThere r b entry = polygon_under b (image key_cmp r.polygons entry.0) �
 abbrev pub IsLandmarkThere : Renumbering → County → ℕ × List Body7 → Type 0
 IsLandmarkThere r b entry = bodies_under b (image nat_cmp r.lands entry.0) ≡ entry.1
 
--- two chains, or none, with the same content of their records of types 1 and I
+-- b has each part of a that has a number
+abbrev pub ArePartsThere : Renumbering → County → County → Type 0
+ArePartsThere r a b = AllByRecursion (IsChainThere r b) a.chains × AllByRecursion (IsNameThere r b) a.names
+    × AllByRecursion (IsPolygonThere r b) a.polygons × AllByRecursion (IsLandmarkThere r b) a.landmarks
+
+-- two chains, or none, have the same content in their records of types 1 and I
 pub record HaveSameContent (o p : Option Chain) : Type 0 where
   pub body : option_map (λ c. c.body) o ≡ option_map (λ c. c.body) p
-  pub link_body : option_map (λ c. c.link_body) o ≡ option_map (λ c. c.link_body) p
+  pub topology : option_map (λ c. c.topology) o ≡ option_map (λ c. c.topology) p
 
--- with the same nodes and the same sides
+-- they have the same nodes and the same sides
 pub record HaveSameEnds (o p : Option Chain) : Type 0 where
   pub start_node : option_map (λ c. c.start_node) o ≡ option_map (λ c. c.start_node) p
   pub end_node : option_map (λ c. c.end_node) o ≡ option_map (λ c. c.end_node) p
   pub left : option_map (λ c. c.left) o ≡ option_map (λ c. c.left) p
   pub right : option_map (λ c. c.right) o ≡ option_map (λ c. c.right) p
 
--- with the same points, names and address ranges
+-- they have the same points, names and address ranges
 pub record HaveSameLists (o p : Option Chain) : Type 0 where
   pub points : points_of o ≡ points_of p
   pub feats : feats_of o ≡ feats_of p

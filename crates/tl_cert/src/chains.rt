@@ -1,18 +1,18 @@
-//! Whether a county has the chains of another, turned where a renaming says so, under their new numbers.
+//! Whether a county has the chains of another under their new numbers, turned where the renaming turns them.
 
 ghost use Rattle.std.specs.Bool.{Decides};
-ghost use Rattle.std.specs.List.{AllByRecursion};
 ghost use Rattle.std.specs.Ordering.{nat_cmp};
-ghost use Rattle.std.specs.Prelude.{◌≡◌, ◌<◌, IfSome, length, map, option_map, slice_get};
-ghost use Rattle.tl_cert.specs.PartsThere.{HaveSameContent, HaveSameEnds, HaveSameLists, IsChainThere, chain_carried, chain_towards};
+ghost use Rattle.std.specs.Prelude.{◌≡◌, map, option_map};
+ghost use Rattle.tl_cert.specs.PartsThere.{HaveSameContent, HaveSameEnds, HaveSameLists, chain_carried, chain_towards};
 ghost use Rattle.tl_county.specs.ChartWords.{chain_at, feats_of, points_of, ranges_of};
 ghost use Rattle.tl_county.specs.Renumbering.{image, renumbered_side};
 
+use crate::listed::{Listed, Same, Tested, are_same};
 use crate::renaming_tables::RenamingTables;
 use tl_county::Chart;
-use tl_layout::{Body1, BodyI, Point, Ranges, Side, Turn};
+use tl_layout::{Body1, Point, Ranges, Side, Turn};
 
-/// The content of the type 1 record of the chain at a place, turned if told.
+/// The content of the type 1 record of the chain at a place, which may be turned.
 fn body_towards<C: Chart>(chart: &C, place: usize, turned: bool) -> Option<Body1>
     ensures { result ≡ option_map (λ c. c.body) (chain_towards (C.county chart.now) place turned) }
 {
@@ -23,37 +23,6 @@ fn body_towards<C: Chart>(chart: &C, place: usize, turned: bool) -> Option<Body1
                 body.turn();
             }
             Some(body)
-        }
-        None => None,
-    }
-}
-
-/// A point of the chain at a place, counted from its end if the chain is turned.
-fn point_towards<C: Chart>(chart: &C, place: usize, turned: bool, point: usize) -> Option<Point>
-    ensures { result ≡ slice_get (points_of (chain_towards (C.county chart.now) place turned)) point }
-{
-    if !turned {
-        return chart.point_at(place, point);
-    }
-    let count = chart.point_count_at(place);
-    if point < count {
-        chart.point_at(place, count - 1 - point)
-    } else {
-        None
-    }
-}
-
-/// An address range of the chain at a place, turned if told.
-fn range_towards<C: Chart>(chart: &C, place: usize, turned: bool, range: usize) -> Option<Ranges>
-    ensures { result ≡ slice_get (ranges_of (chain_towards (C.county chart.now) place turned)) range }
-{
-    match chart.range_at(place, range) {
-        Some(ranges) => {
-            let mut ranges = ranges;
-            if turned {
-                ranges.turn();
-            }
-            Some(ranges)
         }
         None => None,
     }
@@ -103,17 +72,7 @@ fn right_towards<C: Chart>(chart: &C, place: usize, turned: bool) -> Option<Side
     }
 }
 
-/// The new FEAT of a further name, if there is one.
-fn new_feat(tables: &RenamingTables, feat: Option<u32>) -> Option<u32>
-    ensures { result ≡ option_map (image nat_cmp tables.now.names) feat }
-{
-    match feat {
-        Some(feat) => Some(tables.feat(feat)),
-        None => None,
-    }
-}
-
-/// The new number of a node, if there is one; none stays none.
+/// The new number of a node, if there is one.
 fn new_node(tables: &RenamingTables, node: Option<u64>) -> Option<u64>
     ensures { result ≡ option_map (image nat_cmp tables.now.nodes) node }
 {
@@ -123,7 +82,7 @@ fn new_node(tables: &RenamingTables, node: Option<u64>) -> Option<u64>
     }
 }
 
-/// Whether a node of a chain has become another's.
+/// Whether the node of a chain, if there is such a chain, is the other under its new number.
 fn is_node_there(
     tables: &RenamingTables,
     old: Option<Option<u64>>,
@@ -137,7 +96,7 @@ fn is_node_there(
     }
 }
 
-/// Whether a side has become another, with its polygon under its new key.
+/// Whether a side is another with its polygon under its new key.
 fn is_side_renumbered(tables: &RenamingTables, old: Side, new: Side) -> bool
     ensures { Decides result (new ≡ renumbered_side tables.now old) }
 {
@@ -150,7 +109,7 @@ fn is_side_renumbered(tables: &RenamingTables, old: Side, new: Side) -> bool
     }
 }
 
-/// Whether a side of a chain has become another's.
+/// Whether the side of a chain, if there is such a chain, is the other with its polygon under its new key.
 fn is_side_there(tables: &RenamingTables, old: Option<Side>, new: Option<Side>) -> bool
     ensures { Decides result (new ≡ option_map (renumbered_side tables.now) old) }
 {
@@ -163,115 +122,114 @@ fn is_side_there(tables: &RenamingTables, old: Option<Side>, new: Option<Side>) 
     }
 }
 
-/// Whether two points are the same, or none is there.
-fn is_same_point(a: Option<Point>, b: Option<Point>) -> bool
-    ensures { Decides result (a ≡ b) }
-{
-    a == b
-}
-
-/// Whether two FEATs are the same, or none is there.
-fn is_same_feat(a: Option<u32>, b: Option<u32>) -> bool
-    ensures { Decides result (a ≡ b) }
-{
-    a == b
-}
-
-/// Whether two address ranges are the same, or none is there.
-fn is_same_range(a: Option<Ranges>, b: Option<Ranges>) -> bool
-    ensures { Decides result (a ≡ b) }
-{
-    a == b
-}
-
-/// Whether two contents of type 1 records are the same, or none is there.
-fn is_same_body(a: Option<Body1>, b: Option<Body1>) -> bool
-    ensures { Decides result (a ≡ b) }
-{
-    a == b
-}
-
-/// Whether two contents of type I records are the same, or none is there.
-fn is_same_link_body(a: Option<BodyI>, b: Option<BodyI>) -> bool
-    ensures { Decides result (a ≡ b) }
-{
-    a == b
-}
-
-/// Whether the points of a chain of `b` are those of a chain of `a`, seen from its end if that is turned.
-fn have_same_points<A: Chart, B: Chart>(
-    a: &A,
+/// The points of the chain at a place, from its end if it is turned.
+#[derive(Drop)]
+struct Points<'a, C> {
+    chart: &'a C,
     place: usize,
     turned: bool,
-    b: &B,
-    other: usize,
-) -> bool
-    ensures { Decides result (points_of (chain_at (B.county b.now) other) ≡ points_of (chain_towards (A.county a.now) place turned)) }
-{
-    let count = a.point_count_at(place);
-    if b.point_count_at(other) != count {
-        return false;
-    }
-    for point in 0..count {
-        let old = point_towards(a, place, turned, point);
-        let same = is_same_point(b.point_at(other, point), old);
-        if !same {
-            return false;
-        }
-    }
-    true
 }
 
-/// Whether the further names of a chain of `b` are those of a chain of `a` under their new FEATs.
-fn have_same_feats<A: Chart, B: Chart>(
-    a: &A,
-    place: usize,
-    b: &B,
-    other: usize,
-    tables: &RenamingTables,
-) -> bool
-    ensures { Decides result (feats_of (chain_at (B.county b.now) other) ≡
-        map (image nat_cmp tables.now.names) (feats_of (chain_at (A.county a.now) place))) }
-{
-    let count = a.feat_count_at(place);
-    if b.feat_count_at(other) != count {
-        return false;
+impl<'a, C: Chart> Listed for Points<'a, C> {
+    ghost use Rattle.tl_cert.specs.PartsThere.{points_towards};
+    ghost use Rattle.tl_county.specs.ChartWords.{chain_at, points_of};
+
+    type Item = Point;
+
+    ghost items = { λ l. points_towards l.turned (points_of (chain_at (C.county l.chart.now) l.place)) };
+
+    fn count(&self) -> usize {
+        self.chart.point_count_at(self.place)
     }
-    for name in 0..count {
-        let new = new_feat(tables, a.chain_feat_at(place, name));
-        let same = is_same_feat(b.chain_feat_at(other, name), new);
-        if !same {
-            return false;
+
+    fn item(&self, place: usize) -> Point {
+        if !self.turned {
+            return self.chart.point_there(self.place, place);
         }
+        let count = self.chart.point_count_at(self.place);
+        self.chart.point_there(self.place, count - 1 - place)
     }
-    true
 }
 
-/// Whether the address ranges of a chain of `b` are those of a chain of `a`, each turned if the chain is.
-fn have_same_ranges<A: Chart, B: Chart>(
-    a: &A,
+/// The further address ranges of the chain at a place, each turned if the chain is.
+#[derive(Drop)]
+struct ChainRanges<'a, C> {
+    chart: &'a C,
     place: usize,
     turned: bool,
-    b: &B,
-    other: usize,
-) -> bool
-    ensures { Decides result (ranges_of (chain_at (B.county b.now) other) ≡ ranges_of (chain_towards (A.county a.now) place turned)) }
-{
-    let count = a.range_count_at(place);
-    if b.range_count_at(other) != count {
-        return false;
-    }
-    for range in 0..count {
-        let old = range_towards(a, place, turned, range);
-        let same = is_same_range(b.range_at(other, range), old);
-        if !same {
-            return false;
-        }
-    }
-    true
 }
 
-/// Whether a chain of `b` has the content of a chain of `a`, turned if told, in its records of types 1 and I.
+impl<'a, C: Chart> Listed for ChainRanges<'a, C> {
+    ghost use Rattle.tl_cert.specs.PartsThere.{ranges_towards};
+    ghost use Rattle.tl_county.specs.ChartWords.{chain_at, ranges_of};
+
+    type Item = Ranges;
+
+    ghost items = { λ l. ranges_towards l.turned (ranges_of (chain_at (C.county l.chart.now) l.place)) };
+
+    fn count(&self) -> usize {
+        self.chart.range_count_at(self.place)
+    }
+
+    fn item(&self, place: usize) -> Ranges {
+        let mut ranges = self.chart.range_there(self.place, place);
+        if self.turned {
+            ranges.turn();
+        }
+        ranges
+    }
+}
+
+/// The FEATs of the further names of the chain at a place.
+#[derive(Drop)]
+struct ChainFeats<'a, C> {
+    chart: &'a C,
+    place: usize,
+}
+
+impl<'a, C: Chart> Listed for ChainFeats<'a, C> {
+    ghost use Rattle.tl_county.specs.ChartWords.{chain_at, feats_of};
+
+    type Item = u32;
+
+    ghost items = { λ l. feats_of (chain_at (C.county l.chart.now) l.place) };
+
+    fn count(&self) -> usize {
+        self.chart.feat_count_at(self.place)
+    }
+
+    fn item(&self, place: usize) -> u32 {
+        self.chart.chain_feat_there(self.place, place)
+    }
+}
+
+/// The new FEATs of the further names of a chain.
+#[derive(Drop)]
+struct NewFeats<'a, C> {
+    feats: ChainFeats<'a, C>,
+    tables: &'a RenamingTables<'a>,
+}
+
+impl<'a, C: Chart> Listed for NewFeats<'a, C> {
+    ghost use Rattle.std.specs.Ordering.{nat_cmp};
+    ghost use Rattle.std.specs.Prelude.{map};
+    ghost use Rattle.tl_county.specs.ChartWords.{chain_at, feats_of};
+    ghost use Rattle.tl_county.specs.Renumbering.{image};
+
+    type Item = u32;
+
+    ghost items = { λ l. map (image nat_cmp l.tables.now.names) (feats_of (chain_at (C.county l.feats.chart.now) l.feats.place)) };
+
+    fn count(&self) -> usize {
+        self.feats.count()
+    }
+
+    fn item(&self, place: usize) -> u32 {
+        self.tables.feat(self.feats.item(place))
+    }
+}
+
+/// Whether a chain of `b` has the content of a chain of `a` in its records of types 1 and I; that chain of `a` may be turned.
 fn have_same_content<A: Chart, B: Chart>(
     a: &A,
     place: usize,
@@ -282,14 +240,16 @@ fn have_same_content<A: Chart, B: Chart>(
 ) -> bool
     ensures { Decides result (HaveSameContent (chain_at (B.county b.now) other) (chain_carried tables.now (A.county a.now) place turned)) }
 {
-    let body = is_same_body(b.chain_body_at(other), body_towards(a, place, turned));
+    let body = b
+        .chain_body_at(other)
+        .is_same(body_towards(a, place, turned));
     if !body {
         return false;
     }
-    is_same_link_body(b.link_body_at(other), a.link_body_at(place))
+    b.link_body_at(other).is_same(a.link_body_at(place))
 }
 
-/// Whether a chain of `b` has the nodes and the sides of a chain of `a`, turned if told, under their new numbers.
+/// Whether a chain of `b` has the nodes and the sides of a chain of `a` under their new numbers; that chain of `a` may be turned.
 fn have_same_ends<A: Chart, B: Chart>(
     a: &A,
     place: usize,
@@ -319,8 +279,76 @@ fn have_same_ends<A: Chart, B: Chart>(
     is_side_there(tables, right_towards(a, place, turned), b.right_at(other))
 }
 
-/// Whether a chain of `b` has the points, the names and the address ranges of a chain of `a`, turned if told, under
-/// their new numbers.
+/// Whether a chain of `b` has the points of a chain of `a`, which may be turned.
+fn have_same_points<A: Chart, B: Chart>(
+    a: &A,
+    place: usize,
+    turned: bool,
+    b: &B,
+    other: usize,
+) -> bool
+    ensures { Decides result (points_of (chain_at (B.county b.now) other) ≡ points_of (chain_towards (A.county a.now) place turned)) }
+{
+    let points = Points {
+        chart: a,
+        place,
+        turned,
+    };
+    let others = Points {
+        chart: b,
+        place: other,
+        turned: false,
+    };
+    are_same(&points, &others)
+}
+
+/// Whether a chain of `b` has the further address ranges of a chain of `a`, which may be turned.
+fn have_same_ranges<A: Chart, B: Chart>(
+    a: &A,
+    place: usize,
+    turned: bool,
+    b: &B,
+    other: usize,
+) -> bool
+    ensures { Decides result (ranges_of (chain_at (B.county b.now) other) ≡ ranges_of (chain_towards (A.county a.now) place turned)) }
+{
+    let ranges = ChainRanges {
+        chart: a,
+        place,
+        turned,
+    };
+    let others = ChainRanges {
+        chart: b,
+        place: other,
+        turned: false,
+    };
+    are_same(&ranges, &others)
+}
+
+/// Whether a chain of `b` has the further names of a chain of `a` under their new FEATs.
+fn have_same_feats<A: Chart, B: Chart>(
+    a: &A,
+    place: usize,
+    b: &B,
+    other: usize,
+    tables: &RenamingTables,
+) -> bool
+    ensures { Decides result (feats_of (chain_at (B.county b.now) other) ≡
+        map (image nat_cmp tables.now.names) (feats_of (chain_at (A.county a.now) place))) }
+{
+    let feats = NewFeats {
+        feats: ChainFeats { chart: a, place },
+        tables,
+    };
+    let others = ChainFeats {
+        chart: b,
+        place: other,
+    };
+    are_same(&feats, &others)
+}
+
+/// Whether a chain of `b` has the points, the further names and the further address ranges of a chain of `a` under their new
+/// numbers; that chain of `a` may be turned.
 fn have_same_lists<A: Chart, B: Chart>(
     a: &A,
     place: usize,
@@ -342,7 +370,7 @@ fn have_same_lists<A: Chart, B: Chart>(
     have_same_ranges(a, place, turned, b, other)
 }
 
-/// Whether the chain at a place of `a`, turned if told and under its new numbers, is the chain at another place of `b`.
+/// Whether the chain at a place of `b` is that at a place of `a` under its new numbers; that chain of `a` may be turned.
 fn is_same_chain<A: Chart, B: Chart>(
     a: &A,
     place: usize,
@@ -364,25 +392,33 @@ fn is_same_chain<A: Chart, B: Chart>(
     have_same_lists(a, place, turned, b, other, tables)
 }
 
-/// Whether `b` has the chain at a place of `a`, turned if the renaming says so, under its new TLID.
-fn is_chain_there<A: Chart, B: Chart>(a: &A, b: &B, tables: &RenamingTables, place: usize) -> bool
-    requires { place < length (A.county a.now).chains }
-    ensures { Decides result (IfSome (slice_get (A.county a.now).chains place) (IsChainThere tables.now (B.county b.now))) }
-{
-    let tlid = a.tlid_there(place);
-    let other = b.chain_place_or_end(tables.tlid(tlid));
-    is_same_chain(a, place, tables.is_turned(tlid), b, other, tables)
+/// The chains of `a`, each looked for in `b` under its new TLID, turned if the renaming turns it.
+#[derive(Drop)]
+pub(crate) struct Chains<'a, A, B> {
+    pub(crate) a: &'a A,
+    pub(crate) b: &'a B,
+    pub(crate) tables: &'a RenamingTables<'a>,
 }
 
-/// Whether `b` has each chain of `a`, turned if the renaming says so, under its new TLID.
-pub(crate) fn are_chains_there<A: Chart, B: Chart>(a: &A, b: &B, tables: &RenamingTables) -> bool
-    ensures { Decides result (AllByRecursion (IsChainThere tables.now (B.county b.now)) (A.county a.now).chains) }
-{
-    for place in 0..a.chain_count() {
-        let there = is_chain_there(a, b, tables, place);
-        if !there {
-            return false;
-        }
+impl<'a, A: Chart, B: Chart> Tested for Chains<'a, A, B> {
+    ghost use Rattle.std.specs.Prelude.{ℕ};
+    ghost use Rattle.tl_cert.specs.PartsThere.{IsChainThere};
+    ghost use Rattle.tl_shape.specs.Chain.{Chain};
+
+    ghost Entry = { ℕ × Chain };
+
+    ghost entries = { λ t. (A.county t.a.now).chains };
+
+    ghost Holds = { λ t. IsChainThere t.tables.now (B.county t.b.now) };
+
+    fn count(&self) -> usize {
+        self.a.chain_count()
     }
-    true
+
+    fn holds(&self, place: usize) -> bool {
+        let tlid = self.a.tlid_there(place);
+        let other = self.b.chain_place_or_end(self.tables.tlid(tlid));
+        let turned = self.tables.is_turned(tlid);
+        is_same_chain(self.a, place, turned, self.b, other, self.tables)
+    }
 }

@@ -11,8 +11,8 @@ use crate::turning::{turned_back, turned_once};
 use std::alloc::AllocError;
 
 impl Renaming {
-    /// The renaming back. It turns the new chains of those that this one turns; a turned TLID that `chains` doesn't
-    /// name is left out.
+    /// The renaming back. It turns the new chains of those that this one turns. A turned TLID that `chains` doesn't name is
+    /// left out.
     pub fn inverse(&self) -> Result<Renaming, AllocError>
         ensures value { IfOk result (λ back. back ≡ inverse self.now) }
         ensures carries_back { IfOk result (λ back. (a b : County) →
@@ -28,8 +28,8 @@ impl Renaming {
         Ok(Renaming::new(chains, names, polygons, lands, nodes, turned))
     }
 
-    /// This renaming and then the next one. A number whose new number `next` doesn't name is left out; a chain is
-    /// turned if one of the two turns it and the other doesn't.
+    /// This renaming and then the next one. A number whose new number `next` doesn't name is left out. A chain is turned if
+    /// exactly one of the two renamings turns it.
     pub fn then(&self, next: &Renaming) -> Result<Renaming, AllocError>
         ensures value { IfOk result (λ both. both ≡ then self.now next.now) }
         ensures carries_on { IfOk result (λ both. (a b c : County) →

@@ -1,21 +1,28 @@
-//! The numbers of a county, kind by kind, ascending.
+//! The numbers of a county by kind, each kind in ascending order.
 
 ghost use Rattle.std.specs.Prelude.{◌≡◌, ◌<◌, IfOk, Some, length, slice_get};
 
+use crate::listed::{Listed, push_all};
+use crate::renaming::Renaming;
 use std::alloc::{AllocError, Global};
+use std::marker::PhantomData;
 use tl_county::{Chart, Key, PolygonKey};
 
-/// A kind of numbers of a county.
+/// A kind of numbers of a county, such as TLIDs.
 pub(crate) trait NumberKind<K: Key> {
     ghost use Rattle.std.specs.Prelude.{List};
     ghost use Rattle.tl_county.specs.County.{County};
     ghost use Rattle.tl_county.specs.CountyRules.{IsCounty};
     ghost use Rattle.tl_county.specs.Orders.{IsInOrder};
+    ghost use Rattle.tl_county.specs.Renumbering.{Renumbering};
 
     /// The numbers of this kind.
     ghost numbers: { County → List K };
 
-    /// How many there are.
+    /// The pairs of this kind in a renaming.
+    ghost pairs: { Renumbering → List (K × K) };
+
+    /// The number of them.
     fn count<C: Chart>(chart: &C) -> usize
         ensures { result ≡ length (numbers (C.county chart.now)) };
 
@@ -24,7 +31,11 @@ pub(crate) trait NumberKind<K: Key> {
         requires { place < length (numbers (C.county chart.now)) }
         ensures { Some result ≡ slice_get (numbers (C.county chart.now)) place };
 
-    /// They stand in order.
+    /// The pairs of this kind in a renaming.
+    fn pairs_in(renaming: &Renaming) -> &[(K, K)]
+        ensures { result.now ≡ pairs renaming.now };
+
+    /// The numbers are in order.
     ghost in_order: { (county : County) → IsCounty county → IsInOrder K.cmp (numbers county) };
 }
 
@@ -38,12 +49,18 @@ impl NumberKind<u64> for Tlids {
 
     ghost numbers = { tlids };
 
+    ghost pairs = { λ r. r.chains };
+
     fn count<C: Chart>(chart: &C) -> usize {
         chart.chain_count()
     }
 
     fn number<C: Chart>(chart: &C, place: usize) -> u64 {
         chart.tlid_there(place)
+    }
+
+    fn pairs_in(renaming: &Renaming) -> &[(u64, u64)] {
+        renaming.chains()
     }
 
     ghost in_order = { λ county is. in_order-strict nat_cmp (tlids county) is.ascending.chains };
@@ -59,12 +76,18 @@ impl NumberKind<u32> for Feats {
 
     ghost numbers = { feats };
 
+    ghost pairs = { λ r. r.names };
+
     fn count<C: Chart>(chart: &C) -> usize {
         chart.name_count()
     }
 
     fn number<C: Chart>(chart: &C, place: usize) -> u32 {
         chart.feat_there(place)
+    }
+
+    fn pairs_in(renaming: &Renaming) -> &[(u32, u32)] {
+        renaming.names()
     }
 
     ghost in_order = { λ county is. in_order-strict nat_cmp (feats county) is.ascending.names };
@@ -80,12 +103,18 @@ impl NumberKind<PolygonKey> for PolygonKeys {
 
     ghost numbers = { polygon_keys };
 
+    ghost pairs = { λ r. r.polygons };
+
     fn count<C: Chart>(chart: &C) -> usize {
         chart.polygon_count()
     }
 
     fn number<C: Chart>(chart: &C, place: usize) -> PolygonKey {
         chart.polygon_key_there(place)
+    }
+
+    fn pairs_in(renaming: &Renaming) -> &[(PolygonKey, PolygonKey)] {
+        renaming.polygons()
     }
 
     ghost in_order = { λ county is. in_order-strict key_cmp (polygon_keys county) is.ascending.polygons };
@@ -101,12 +130,18 @@ impl NumberKind<u64> for Lands {
 
     ghost numbers = { lands };
 
+    ghost pairs = { λ r. r.lands };
+
     fn count<C: Chart>(chart: &C) -> usize {
         chart.landmark_count()
     }
 
     fn number<C: Chart>(chart: &C, place: usize) -> u64 {
         chart.land_there(place)
+    }
+
+    fn pairs_in(renaming: &Renaming) -> &[(u64, u64)] {
+        renaming.lands()
     }
 
     ghost in_order = { λ county is. in_order-strict nat_cmp (lands county) is.ascending.landmarks };
@@ -124,6 +159,8 @@ impl NumberKind<u64> for Nodes {
 
     ghost numbers = { nodes };
 
+    ghost pairs = { λ r. r.nodes };
+
     fn count<C: Chart>(chart: &C) -> usize {
         chart.node_count()
     }
@@ -132,7 +169,32 @@ impl NumberKind<u64> for Nodes {
         chart.node_there(place)
     }
 
+    fn pairs_in(renaming: &Renaming) -> &[(u64, u64)] {
+        renaming.nodes()
+    }
+
     ghost in_order = { λ county _. in_order-strict nat_cmp (nodes county) (distinct-strict nat_keys (nodes_along county.chains)) };
+}
+
+/// The numbers of one kind of a chart's county, as a list that is read by place.
+#[derive(Drop)]
+struct NumbersOf<'a, K, N, C> {
+    chart: &'a C,
+    kind: PhantomData<(K, N)>,
+}
+
+impl<'a, K: Key, N: NumberKind<K>, C: Chart> Listed for NumbersOf<'a, K, N, C> {
+    type Item = K;
+
+    ghost items = { λ numbers. N.numbers (C.county numbers.chart.now) };
+
+    fn count(&self) -> usize {
+        N::count(self.chart)
+    }
+
+    fn item(&self, place: usize) -> K {
+        N::number(self.chart, place)
+    }
 }
 
 /// The numbers of a kind.
@@ -142,10 +204,11 @@ pub(crate) fn numbers_of<K: Key, N: NumberKind<K>, C: Chart>(
 ) -> Result<Vec<K>, AllocError>
     ensures { IfOk result (λ numbers. numbers.items ≡ N.numbers (C.county chart.now)) }
 {
-    let count = N::count(chart);
-    let mut numbers = Vec::with_capacity(alloc, count)?;
-    for place in 0..count {
-        numbers.push(N::number(chart, place))?;
-    }
+    let list = NumbersOf::<K, N, C> {
+        chart,
+        kind: PhantomData,
+    };
+    let mut numbers = Vec::with_capacity(alloc, list.count())?;
+    push_all(&mut numbers, &list)?;
     Ok(numbers)
 }

@@ -1,7 +1,6 @@
-//! The new numbers of old ones.
+//! The new numbers that pairs of an old and a new number give.
 
 ghost use Rattle.std.specs.Prelude.{◌≡◌, IfOk};
-ghost use Rattle.tl_cert.specs.Images.{AnswersAs};
 ghost use Rattle.tl_county.specs.Entries.{value_under};
 ghost use Rattle.tl_county.specs.Renumbering.{image};
 
@@ -11,24 +10,30 @@ use std::hash::Hash;
 use std::marker::Model;
 use tl_county::Key;
 
-/// The new number of each old one that some pair names; of several pairs with one old number the first counts.
+/// Pairs of an old and a new number, with a table of the new number of each old one. If several pairs have the same old number, the
+/// first counts.
 #[derive(Drop)]
-pub(crate) struct Images<K: Key + Hash> {
+pub(crate) struct Images<'a, K: Key + Hash> {
     table: IndexMap<K, K>,
+    pairs: &'a [(K, K)],
 }
 
-impl<K: Key + Hash> Model for Images<K> {
-    ghost use Rattle.std.specs.Prelude.{List};
+impl<'a, K: Key + Hash> Model for Images<'a, K> {
+    ghost use Rattle.std.specs.Prelude.{◌≡◌, List};
+    ghost use Rattle.indexmap.specs.IndexMap.{get};
+    ghost use Rattle.tl_county.specs.Entries.{value_under};
 
     ghost Value = { List (K × K) };
 
-    ghost view = { λ i. i.table.entries };
+    ghost view = { λ i. i.pairs.now };
+
+    ghost invariant = { λ i. (old : K) → get K.eq i.table old ≡ value_under K.cmp old i.pairs.now };
 }
 
-impl<K: Key + Hash> Images<K> {
-    /// The new numbers that these pairs give.
-    pub(crate) fn new(alloc: Global, pairs: &[(K, K)]) -> Result<Images<K>, AllocError>
-        ensures { IfOk result (λ images. AnswersAs K.cmp images pairs.now) }
+impl<'a, K: Key + Hash> Images<'a, K> {
+    /// The pairs with their table.
+    pub(crate) fn new(alloc: Global, pairs: &'a [(K, K)]) -> Result<Images<'a, K>, AllocError>
+        ensures { IfOk result (λ images. images ≡ pairs.now) }
     {
         let mut table = IndexMap::with_capacity(alloc, pairs.len())?;
         let mut rest = pairs;
@@ -36,17 +41,17 @@ impl<K: Key + Hash> Images<K> {
             table.insert(last.0, last.1)?;
             rest = before;
         }
-        Ok(Images { table })
+        Ok(Images { table, pairs })
     }
 
-    /// The new number of an old one, or none where no pair names it.
+    /// The new number of an old one, or `None` if no pair names it.
     pub(crate) fn of(&self, old: K) -> Option<K>
         ensures { result ≡ value_under K.cmp old self.now }
     {
         self.table.get(&old).copied()
     }
 
-    /// The new number of an old one, and the old number itself if no pair names it.
+    /// The new number of an old one, or the old number itself if no pair names it.
     pub(crate) fn image(&self, old: K) -> K
         ensures { result ≡ image K.cmp self.now old }
     {

@@ -1,11 +1,11 @@
-//! Lists that stand one after the other in one vector.
+//! Lists that are stored one after the other in one vector.
 
 ghost use Rattle.std.specs.Prelude.{◌≡◌, ◌++◌, [], ◌∷◌, OnOk, slice_get, unwrap_or};
 
 use std::alloc::{AllocError, Global};
 use std::marker::Model;
 
-/// Lists, one after the other in one vector.
+/// Lists that are stored one after the other in one vector.
 #[derive(Drop)]
 pub(crate) struct JoinedLists<T: Copy> {
     items: Vec<T>,
@@ -24,7 +24,7 @@ impl<T: Copy> Model for JoinedLists<T> {
 }
 
 impl<T: Copy> JoinedLists<T> {
-    /// No lists. It takes no memory.
+    /// No lists. It allocates nothing.
     pub(crate) fn new(alloc: Global) -> JoinedLists<T>
         ensures { result ≡ [] }
     {
@@ -34,7 +34,7 @@ impl<T: Copy> JoinedLists<T> {
         }
     }
 
-    /// Adds a list behind the others.
+    /// Appends a list.
     pub(crate) fn push(&mut self, list: &[T]) -> Result<(), AllocError>
         ensures { OnOk result (self.new ≡ self.old ++ (list.now ∷ [])) }
     {

@@ -1,18 +1,18 @@
-//! A county that is lent, as a chart.
+//! A reference to a chart, as a chart.
 
 ghost use Rattle.std.specs.Prelude.{◌≡◌};
 
 use tl_county::{Chart, PolygonKey};
 use tl_layout::{Body1, Body5, Body7, BodyI, BodyP, Point, Ranges, Rec8, Side};
 
-/// A chart that is lent, and answers as its owner does.
+/// A reference to a chart, which is a chart of the same county.
 #[derive(Drop)]
 pub struct Lent<'a, C: Chart> {
     chart: &'a C,
 }
 
 impl<'a, C: Chart> Lent<'a, C> {
-    /// The chart, lent.
+    /// The reference as a chart.
     pub fn new(chart: &'a C) -> Lent<'a, C>
         ensures { ⟦<Lent<'a, C> as Chart>⟧.county result ≡ C.county chart.now }
     {
@@ -20,7 +20,7 @@ impl<'a, C: Chart> Lent<'a, C> {
     }
 }
 
-/// The county of the chart that is lent.
+/// The county of the chart that is referred to.
 impl<'a, C: Chart> Chart for Lent<'a, C> {
     ghost county = { λ lent. C.county lent.chart.now };
 

@@ -1,12 +1,12 @@
 //! Renamings: which old number became which new one, and which chains were turned.
 //!
-//! A caller makes one of six lists by `Renaming::of_parts`, reads them by its getters, goes back by `inverse` and on by `then`, and asks
-//! `check` whether it carries one county onto another. No county and no renaming is asked to be good for that: what doesn't pair the
-//! numbers of the two is answered by `false`. Numbers are looked up and sorted, and never searched along a list.
-//! A proved caller stands in `citing.rt` of the crate `uses`.
+//! `Renaming::of_parts` makes a renaming from its six lists, and its getters return them. `inverse` is the renaming back, `then` is one
+//! renaming after another, and `check` decides whether a renaming carries one county onto another. `check` accepts any counties and any
+//! renaming: it returns `false` if the renaming doesn't pair their numbers. Numbers are sorted and looked up in tables, never searched
+//! along a list. `citing.rt` of the crate `uses` has a proved caller.
 //!
-//! A `Masked` county is a chart under which the fields that a mask leaves out are blank; `check_masked` compares two counties so. A `Lent`
-//! chart is for callers who read a county through something that owns its chart.
+//! A `Masked` county is a chart in which the fields that a mask leaves out are blank. `check_masked` compares two counties under a mask. A
+//! `Lent` chart reads a county through a reference to its chart.
 #![tactic(auto)]
 
 mod carrying;
@@ -17,8 +17,10 @@ mod images;
 mod joined_lists;
 mod lent;
 mod links;
+mod listed;
 mod masked;
 mod masked_bodies;
+mod number_set;
 mod numbers_paired;
 mod pairing;
 mod pairs;

@@ -1,29 +1,41 @@
 //! Whether a county has the links of another's landmarks under their new numbers.
 
 ghost use Rattle.std.specs.Bool.{Decides};
-ghost use Rattle.std.specs.Prelude.{◌≡◌, ◌++◌, IfOk, IsPermutation, OnOk, map};
+ghost use Rattle.std.specs.Prelude.{◌≡◌, IfOk, IsPermutation, map};
 ghost use Rattle.tl_cert.specs.LinkFields.{link_fields};
-ghost use Rattle.tl_county.specs.ChartWords.{links_at};
 ghost use Rattle.tl_county.specs.Renumbering.{carried_link};
 
+use crate::listed::{Listed, push_all};
 use crate::pairing::are_reordered;
 use crate::renaming_tables::RenamingTables;
 use std::alloc::{AllocError, Global};
 use tl_county::Chart;
 use tl_layout::Rec8;
 
-/// The fields of a link in their order: LAND, POLYID, CENID, FILE.
+/// The fields of a link in the order in which links are compared: LAND, POLYID, CENID, FILE.
 type LinkFields = (u64, (u64, ([u8; 5], [u8; 5])));
 
-/// Adds the links of the landmark at a place.
-fn push_links<C: Chart>(links: &mut Vec<Rec8>, chart: &C, place: usize) -> Result<(), AllocError>
-    ensures { OnOk result (links.new.items ≡ links.old.items ++ links_at (C.county chart.now) place) }
-{
-    let count = chart.link_count_at(place);
-    for link in 0..count {
-        links.push(chart.landmark_link_there(place, link))?;
+/// The links of the landmark at a place, as a list that is read by place.
+#[derive(Drop)]
+struct LandmarkLinks<'a, C> {
+    chart: &'a C,
+    place: usize,
+}
+
+impl<'a, C: Chart> Listed for LandmarkLinks<'a, C> {
+    ghost use Rattle.tl_county.specs.ChartWords.{links_at};
+
+    type Item = Rec8;
+
+    ghost items = { λ l. links_at (C.county l.chart.now) l.place };
+
+    fn count(&self) -> usize {
+        self.chart.link_count_at(self.place)
     }
-    Ok(())
+
+    fn item(&self, place: usize) -> Rec8 {
+        self.chart.landmark_link_there(self.place, place)
+    }
 }
 
 /// The links of a county, landmark by landmark.
@@ -33,7 +45,7 @@ fn links_of<C: Chart>(alloc: Global, chart: &C) -> Result<Vec<Rec8>, AllocError>
     let count = chart.landmark_count();
     let mut links = Vec::new(alloc);
     for place in 0..count {
-        push_links(&mut links, chart, place)?;
+        push_all(&mut links, &LandmarkLinks { chart, place })?;
     }
     Ok(links)
 }
@@ -59,11 +71,7 @@ fn new_fields_of(tables: &RenamingTables, link: &Rec8) -> LinkFields
 fn all_fields(alloc: Global, links: &[Rec8]) -> Result<Vec<LinkFields>, AllocError>
     ensures { IfOk result (λ fields. fields.items ≡ map link_fields links.now) }
 {
-    let mut fields = Vec::with_capacity(alloc, links.len())?;
-    for link in links {
-        fields.push(fields_of(link))?;
-    }
-    Ok(fields)
+    links.iter().map(|link| fields_of(link)).collect(alloc)
 }
 
 /// The fields of links under their new numbers.
@@ -74,11 +82,10 @@ fn all_new_fields(
 ) -> Result<Vec<LinkFields>, AllocError>
     ensures { IfOk result (λ fields. fields.items ≡ map (λ link. link_fields (carried_link tables.now link)) links.now) }
 {
-    let mut fields = Vec::with_capacity(alloc, links.len())?;
-    for link in links {
-        fields.push(new_fields_of(tables, link))?;
-    }
-    Ok(fields)
+    links
+        .iter()
+        .map(|link| new_fields_of(tables, link))
+        .collect(alloc)
 }
 
 /// The fields of a county's links.
@@ -104,7 +111,7 @@ fn renumbered_links<C: Chart>(
     Ok(fields)
 }
 
-/// Whether the links of `b` are those of `a` under their new numbers, each as often.
+/// Whether the links of `b` are those of `a` under their new numbers, each the same number of times.
 pub(crate) fn are_links_there<A: Chart, B: Chart>(
     alloc: Global,
     a: &A,

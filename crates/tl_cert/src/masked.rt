@@ -1,7 +1,7 @@
 //! A county under a mask as a chart.
 //!
-//! What a mask leaves out is blanked as it is read, and the county behind it stays as it is. Only the contents of landmarks are kept
-//! apart, and only where SOURCE is left out, since they stand in an order that SOURCE is part of.
+//! The fields that a mask leaves out are blanked as they are read, and the county itself isn't changed. Only the contents of landmarks
+//! are copied, and only if SOURCE is left out, because SOURCE is one of the fields that they are sorted by.
 
 ghost use Rattle.std.specs.Prelude.{◌≡◌, IfErr, IfOk, true};
 ghost use Rattle.tl_cert.specs.MaskedCounty.{masked};
@@ -18,8 +18,8 @@ use std::alloc::{AllocError, Global};
 use tl_county::{Chart, PolygonKey};
 use tl_layout::{Blank, Body1, Body5, Body7, BodyI, BodyP, Mask, Point, Ranges, Rec8, Side};
 
-/// A county under a mask: a chart in which the fields that the mask leaves out are blank, and each landmark's contents stand in the
-/// order that they have then. All else is as the chart behind it answers.
+/// A county under a mask: a chart in which the fields that the mask leaves out are blank, and each landmark's contents are in the
+/// order that they have then. Everything else is as in the chart that it was made from.
 #[derive(Drop)]
 pub struct Masked<C: Chart> {
     chart: C,
@@ -38,12 +38,12 @@ fn under_mask<B: Blank + Copy>(content: B, mask: Mask) -> B
 }
 
 impl<C: Chart + Drop> Masked<C> {
-    /// The county of a chart under a mask. Where the mask leaves out SOURCE, the contents of landmarks are copied, blanked and put in
-    /// order; else it takes no memory and doesn't fail.
+    /// The county of a chart under a mask. If the mask leaves out SOURCE, the contents of landmarks are copied, blanked and sorted.
+    /// Otherwise the call allocates nothing and doesn't fail.
     ///
     /// # Errors
     ///
-    /// Want of memory.
+    /// `AllocError` if an allocation failed.
     pub fn new(alloc: Global, chart: C, mask: Mask) -> Result<Masked<C>, AllocError>
         ensures county { IfOk result (λ m. ⟦<Masked<C> as Chart>⟧.county m ≡ masked mask (C.county chart)) }
         ensures memory { IfErr result (λ error. mask.sources ≡ true) }
@@ -62,7 +62,7 @@ impl<C: Chart + Drop> Masked<C> {
 }
 
 impl<C: Chart> Masked<C> {
-    /// The contents of the landmark at a place, empty past the last one, where the mask leaves out SOURCE.
+    /// The contents of the landmark at a place, for a mask that leaves out SOURCE. They are empty past the last landmark.
     fn bodies_of_place(&self, place: usize) -> &[Body7]
         requires { self.now.mask.sources ≡ true }
         ensures { result.now ≡ bodies_at (⟦<Masked<C> as Chart>⟧.county self.now) place }
@@ -71,7 +71,7 @@ impl<C: Chart> Masked<C> {
     }
 }
 
-/// The county of the chart behind it, under the mask.
+/// The county of the chart that it was made from, under the mask.
 impl<C: Chart> Chart for Masked<C> {
     ghost county = { λ m. masked m.mask (C.county m.chart) };
 

@@ -1,6 +1,6 @@
 //! The contents of landmarks under a mask, in order again.
 
-ghost use Rattle.std.specs.Prelude.{◌≡◌, ◌++◌, IfOk, OnOk, map, true};
+ghost use Rattle.std.specs.Prelude.{◌≡◌, IfOk, OnOk, map, true};
 ghost use Rattle.tl_cert.specs.MaskedCounty.{masked, masked_bodies};
 ghost use Rattle.tl_county.specs.BodyOrder.{landmark_body_cmp};
 ghost use Rattle.tl_county.specs.ChartWords.{bodies_at};
@@ -9,18 +9,20 @@ ghost use Rattle.tl_county.specs.Orders.{in_order};
 ghost use Rattle.tl_layout.specs.Masked.{masked_body_7};
 
 use crate::joined_lists::JoinedLists;
+use crate::listed::push_all;
+use crate::parts::LandmarkBodies;
 use std::alloc::{AllocError, Global};
 use tl_county::{Chart, cmp_landmark_bodies};
 use tl_layout::{Blank, Body7, Mask};
 
-/// Puts contents in order. It takes no memory.
+/// Sorts contents. It allocates nothing.
 fn sort_bodies(bodies: &mut [Body7])
     ensures { bodies.new ≡ in_order landmark_body_cmp bodies.old }
 {
     bodies.sort_unstable_by(|a, b| cmp_landmark_bodies(a, b));
 }
 
-/// Puts each content under a mask.
+/// Blanks the fields of each content that a mask leaves out.
 fn blank_bodies(bodies: &mut [Body7], mask: Mask)
     ensures { bodies.new ≡ map (masked_body_7 mask) bodies.old }
 {
@@ -29,19 +31,8 @@ fn blank_bodies(bodies: &mut [Body7], mask: Mask)
     }
 }
 
-/// Adds the contents of the landmark at a place.
-fn push_bodies<C: Chart>(bodies: &mut Vec<Body7>, chart: &C, place: usize) -> Result<(), AllocError>
-    ensures { OnOk result (bodies.new.items ≡ bodies.old.items ++ bodies_at (C.county chart.now) place) }
-{
-    let count = chart.body_count_at(place);
-    for body in 0..count {
-        bodies.push(chart.landmark_body_there(place, body))?;
-    }
-    Ok(())
-}
-
-/// Fills the list with the contents of the landmark at a place under a mask that leaves out SOURCE. They are put in order after they
-/// are blanked, since SOURCE is one of the fields that order them.
+/// Replaces the list by the contents of the landmark at a place under a mask that leaves out SOURCE. They are sorted after they are
+/// blanked, since SOURCE is one of the fields that they are sorted by.
 fn fill_masked<C: Chart>(
     list: &mut Vec<Body7>,
     chart: &C,
@@ -52,7 +43,7 @@ fn fill_masked<C: Chart>(
     ensures { OnOk result (list.new.items ≡ masked_bodies mask (bodies_at (C.county chart.now) place)) }
 {
     list.clear();
-    push_bodies(list, chart, place)?;
+    push_all(list, &LandmarkBodies { chart, place })?;
     blank_bodies(list, mask);
     sort_bodies(list);
     Ok(())

@@ -1,131 +1,97 @@
-//! Whether the lists of a renaming are those of the numbers of two counties.
+//! Whether the lists of a renaming pair the numbers of two counties.
 
 ghost use Rattle.std.specs.Bool.{Decides};
 ghost use Rattle.std.specs.List.{AllByRecursion};
 ghost use Rattle.std.specs.Ordering.{nat_cmp};
-ghost use Rattle.std.specs.Prelude.{◌≡◌, IfOk, IsTrue, false};
+ghost use Rattle.std.specs.Prelude.{◌≡◌, IfOk, IsPermutation, IsTrue, false};
 ghost use Rattle.tl_county.specs.CountyRules.{feats, lands, nodes, polygon_keys, tlids};
-ghost use Rattle.tl_county.specs.Orders.{IsInOrder, has_repeat, stands_in};
+ghost use Rattle.tl_county.specs.Orders.{has_repeat, stands_in};
 ghost use Rattle.tl_county.specs.Renumbering.{ArePaired, NumbersArePaired};
 
 use crate::county_numbers::{Feats, Lands, Nodes, NumberKind, PolygonKeys, Tlids, numbers_of};
-use crate::pairing::are_paired;
+use crate::listed::{Tested, all_hold};
+use crate::number_set::NumberSet;
+use crate::pairing::{are_known, new_numbers, old_numbers};
 use crate::renaming::Renaming;
-use crate::turning::sorted;
 use std::alloc::{AllocError, Global};
 use tl_county::{Chart, Key, PolygonKey};
 
-/// Whether the pairs are of the numbers of one kind of two counties: the old ones are these, which are in order.
-fn are_paired_with<K: Key, N: NumberKind<K>, B: Chart>(
+/// Whether the numbers are a permutation of those of one kind of a county.
+fn are_numbers_of<K: Key, N: NumberKind<K>, C: Chart>(
     alloc: Global,
-    b: &B,
-    pairs: &[(K, K)],
-    olds: &[K],
+    numbers: Vec<K>,
+    chart: &C,
 ) -> Result<bool, AllocError>
-    requires { IsInOrder K.cmp olds.now }
-    ensures { IfOk result (λ yes. Decides yes (ArePaired pairs.now olds.now (N.numbers (B.county b.now)))) }
+    ensures { IfOk result (λ yes. Decides yes (IsPermutation numbers.items (N.numbers (C.county chart.now)))) }
 {
-    let news = numbers_of::<K, N, B>(alloc, b)?;
-    let paired = are_paired(alloc, pairs, olds, &news)?;
-    Ok(paired)
+    let known = numbers_of::<K, N, C>(alloc, chart)?;
+    let yes = are_known(numbers, &known)?;
+    Ok(yes)
 }
 
-/// Whether the pairs are of the numbers of one kind of two counties.
+/// Whether the pairs of one kind have each number of `a` once on the left, each number of `b` once on the right, and no other.
 fn is_kind_paired<K: Key, N: NumberKind<K>, A: Chart, B: Chart>(
     alloc: Global,
     a: &A,
     b: &B,
-    pairs: &[(K, K)],
+    renaming: &Renaming,
 ) -> Result<bool, AllocError>
-    ensures { IfOk result (λ yes. Decides yes (ArePaired pairs.now (N.numbers (A.county a.now)) (N.numbers (B.county b.now)))) }
+    ensures { IfOk result (λ yes. Decides yes
+        (ArePaired (N.pairs renaming.now) (N.numbers (A.county a.now)) (N.numbers (B.county b.now)))) }
 {
-    let olds = numbers_of::<K, N, A>(alloc, a)?;
-    let paired = are_paired_with::<K, N, B>(alloc, b, pairs, &olds)?;
-    Ok(paired)
+    let pairs = N::pairs_in(renaming);
+    let olds = old_numbers(alloc, pairs)?;
+    let left = are_numbers_of::<K, N, A>(alloc, olds, a)?;
+    if !left {
+        return Ok(false);
+    }
+    let news = new_numbers(alloc, pairs)?;
+    let right = are_numbers_of::<K, N, B>(alloc, news, b)?;
+    Ok(right)
 }
 
-/// Whether two polygons have one CENID.
+/// Whether two polygons have the same CENID.
 fn have_one_cenid(old: PolygonKey, new: PolygonKey) -> bool
     ensures { Decides result (old.0 ≡ new.0) }
 {
     old.0 == new.0
 }
 
-/// Whether both polygons of each pair have one CENID.
-fn keep_cenids(pairs: &[(PolygonKey, PolygonKey)]) -> bool
-    ensures { Decides result (AllByRecursion (λ pair. pair.0.0 ≡ pair.1.0) pairs.now) }
-{
-    for pair in pairs {
-        let same = have_one_cenid(pair.0, pair.1);
-        if !same {
-            return false;
-        }
+/// Pairs of polygons, tested for keeping the CENID.
+#[derive(Drop)]
+struct PolygonPairs<'a> {
+    pairs: &'a [(PolygonKey, PolygonKey)],
+}
+
+impl<'a> Tested for PolygonPairs<'a> {
+    ghost use Rattle.tl_county.specs.PolygonKeys.{PolygonKey};
+
+    ghost Entry = { PolygonKey × PolygonKey };
+
+    ghost entries = { λ p. p.pairs.now };
+
+    ghost Holds = { λ p pair. pair.0.0 ≡ pair.1.0 };
+
+    fn count(&self) -> usize {
+        self.pairs.len()
     }
-    true
-}
 
-/// Whether the pairs are of the polygons of the two counties, and keep their CENIDs.
-fn polygons_are_paired<A: Chart, B: Chart>(
-    alloc: Global,
-    a: &A,
-    b: &B,
-    pairs: &[(PolygonKey, PolygonKey)],
-) -> Result<bool, AllocError>
-    ensures { IfOk result (λ yes. Decides yes (ArePaired pairs.now (polygon_keys (A.county a.now)) (polygon_keys (B.county b.now))
-        × AllByRecursion (λ pair. pair.0.0 ≡ pair.1.0) pairs.now)) }
-{
-    let paired = is_kind_paired::<PolygonKey, PolygonKeys, A, B>(alloc, a, b, pairs)?;
-    Ok(paired && keep_cenids(pairs))
-}
-
-/// Whether each of these is a TLID of the county.
-fn are_tlids<C: Chart>(chart: &C, turned: &[u64]) -> bool
-    ensures { Decides result (AllByRecursion (λ tlid. IsTrue (stands_in nat_cmp tlid (tlids (C.county chart.now)))) turned.now) }
-{
-    for tlid in turned {
-        if chart.chain_place(*tlid).is_none() {
-            return false;
-        }
+    fn holds(&self, place: usize) -> bool {
+        let pair = self.pairs[place];
+        have_one_cenid(pair.0, pair.1)
     }
-    true
 }
 
-/// Whether none of the numbers, which are in order, stands twice.
-fn ascend(numbers: &[u64]) -> bool
-    requires { IsInOrder nat_cmp numbers.now }
-    ensures { Decides result (has_repeat nat_cmp numbers.now ≡ false) }
+/// Whether the two polygons of each pair have the same CENID.
+fn keep_cenids(renaming: &Renaming) -> bool
+    ensures { Decides result (AllByRecursion (λ pair. pair.0.0 ≡ pair.1.0) renaming.now.polygons) }
 {
-    let mut rest = numbers;
-    while let Some((first, later)) = rest.split_first() {
-        if let Some((second, _)) = later.split_first() {
-            if *first == *second {
-                return false;
-            }
-        }
-        rest = later;
-    }
-    true
+    let pairs = renaming.polygons();
+    all_hold(&PolygonPairs { pairs })
 }
 
-/// Whether none of the numbers stands twice.
-fn stand_once(alloc: Global, numbers: &[u64]) -> Result<bool, AllocError>
-    ensures { IfOk result (λ yes. Decides yes (has_repeat nat_cmp numbers.now ≡ false)) }
-{
-    let sorted = sorted(alloc, numbers)?;
-    Ok(ascend(&sorted))
-}
-
-/// Whether each of these is a TLID of the county, and none stands twice.
-fn turned_are_told<C: Chart>(alloc: Global, chart: &C, turned: &[u64]) -> Result<bool, AllocError>
-    ensures { IfOk result (λ yes. Decides yes (AllByRecursion (λ tlid. IsTrue (stands_in nat_cmp tlid (tlids (C.county chart.now)))) turned.now
-        × (has_repeat nat_cmp turned.now ≡ false))) }
-{
-    let once = stand_once(alloc, turned)?;
-    Ok(once && are_tlids(chart, turned))
-}
-
-/// Whether the pairs of chains, names and nodes are of the numbers of the two counties.
-fn lines_are_paired<A: Chart, B: Chart>(
+/// Whether the pairs of all five kinds are those of the two counties' numbers, and polygons keep their CENIDs.
+fn lists_are_paired<A: Chart, B: Chart>(
     alloc: Global,
     a: &A,
     b: &B,
@@ -133,22 +99,75 @@ fn lines_are_paired<A: Chart, B: Chart>(
 ) -> Result<bool, AllocError>
     ensures { IfOk result (λ yes. Decides yes (ArePaired renaming.now.chains (tlids (A.county a.now)) (tlids (B.county b.now))
         × ArePaired renaming.now.names (feats (A.county a.now)) (feats (B.county b.now))
-        × ArePaired renaming.now.nodes (nodes (A.county a.now)) (nodes (B.county b.now)))) }
+        × ArePaired renaming.now.polygons (polygon_keys (A.county a.now)) (polygon_keys (B.county b.now))
+        × ArePaired renaming.now.lands (lands (A.county a.now)) (lands (B.county b.now))
+        × ArePaired renaming.now.nodes (nodes (A.county a.now)) (nodes (B.county b.now))
+        × AllByRecursion (λ pair. pair.0.0 ≡ pair.1.0) renaming.now.polygons)) }
 {
-    let chains = is_kind_paired::<u64, Tlids, A, B>(alloc, a, b, renaming.chains())?;
+    let chains = is_kind_paired::<u64, Tlids, A, B>(alloc, a, b, renaming)?;
     if !chains {
         return Ok(false);
     }
-    let names = is_kind_paired::<u32, Feats, A, B>(alloc, a, b, renaming.names())?;
+    let names = is_kind_paired::<u32, Feats, A, B>(alloc, a, b, renaming)?;
     if !names {
         return Ok(false);
     }
-    let nodes = is_kind_paired::<u64, Nodes, A, B>(alloc, a, b, renaming.nodes())?;
-    Ok(nodes)
+    let polygons = is_kind_paired::<PolygonKey, PolygonKeys, A, B>(alloc, a, b, renaming)?;
+    if !polygons {
+        return Ok(false);
+    }
+    let lands = is_kind_paired::<u64, Lands, A, B>(alloc, a, b, renaming)?;
+    if !lands {
+        return Ok(false);
+    }
+    let nodes = is_kind_paired::<u64, Nodes, A, B>(alloc, a, b, renaming)?;
+    if !nodes {
+        return Ok(false);
+    }
+    Ok(keep_cenids(renaming))
 }
 
-/// Whether the renaming's lists are those of the numbers of the two counties: each old number stands once on the left
-/// and each new one once on the right, and no other, polygons keep their CENIDs, and each turned TLID is told once.
+/// TLIDs of turned chains, tested for being those of a county's chains.
+#[derive(Drop)]
+struct TurnedTlids<'a, C> {
+    chart: &'a C,
+    turned: &'a [u64],
+}
+
+impl<'a, C: Chart> Tested for TurnedTlids<'a, C> {
+    ghost use Rattle.std.specs.Prelude.{ℕ};
+
+    ghost Entry = { ℕ };
+
+    ghost entries = { λ t. t.turned.now };
+
+    ghost Holds = { λ t tlid. IsTrue (stands_in nat_cmp tlid (tlids (C.county t.chart.now))) };
+
+    fn count(&self) -> usize {
+        self.turned.len()
+    }
+
+    fn holds(&self, place: usize) -> bool {
+        self.chart.chain_place(self.turned[place]).is_some()
+    }
+}
+
+/// Whether each turned TLID is one of the county and is listed once.
+fn are_turned_once<C: Chart>(
+    alloc: Global,
+    chart: &C,
+    renaming: &Renaming,
+) -> Result<bool, AllocError>
+    ensures { IfOk result (λ yes. Decides yes ((has_repeat nat_cmp renaming.now.turned ≡ false)
+        × AllByRecursion (λ tlid. IsTrue (stands_in nat_cmp tlid (tlids (C.county chart.now)))) renaming.now.turned)) }
+{
+    let turned = renaming.turned();
+    let set = NumberSet::new(alloc, turned)?;
+    Ok(set.has_no_repeat() && all_hold(&TurnedTlids { chart, turned }))
+}
+
+/// Whether the renaming pairs the numbers of the two counties: each old number is once on the left, each new one once on the right,
+/// and no other number is there; polygons keep their CENIDs; and each turned TLID is one of `a` and is listed once.
 pub(crate) fn numbers_are_paired<A: Chart, B: Chart>(
     alloc: Global,
     a: &A,
@@ -157,18 +176,10 @@ pub(crate) fn numbers_are_paired<A: Chart, B: Chart>(
 ) -> Result<bool, AllocError>
     ensures { IfOk result (λ yes. Decides yes (NumbersArePaired renaming.now (A.county a.now) (B.county b.now))) }
 {
-    let lines = lines_are_paired(alloc, a, b, renaming)?;
-    if !lines {
+    let lists = lists_are_paired(alloc, a, b, renaming)?;
+    if !lists {
         return Ok(false);
     }
-    let polygons = polygons_are_paired(alloc, a, b, renaming.polygons())?;
-    if !polygons {
-        return Ok(false);
-    }
-    let lands = is_kind_paired::<u64, Lands, A, B>(alloc, a, b, renaming.lands())?;
-    if !lands {
-        return Ok(false);
-    }
-    let turned = turned_are_told(alloc, a, renaming.turned())?;
+    let turned = are_turned_once(alloc, a, renaming)?;
     Ok(turned)
 }

@@ -1,136 +1,133 @@
 //! Whether a county has the names, the polygons and the landmarks of another under their new numbers.
 
-ghost use Rattle.std.specs.Bool.{Decides};
-ghost use Rattle.std.specs.List.{AllByRecursion};
-ghost use Rattle.std.specs.Prelude.{◌≡◌, ◌<◌, IfSome, length, slice_get};
-ghost use Rattle.tl_cert.specs.PartsThere.{IsLandmarkThere, IsNameThere, IsPolygonThere};
-ghost use Rattle.tl_county.specs.ChartWords.{bodies_at};
+ghost use Rattle.std.specs.Prelude.{◌≡◌};
 
+use crate::listed::{Listed, Same, Tested, are_same};
 use crate::renaming_tables::RenamingTables;
 use tl_county::Chart;
-use tl_layout::{Body5, Body7, BodyP};
+use tl_layout::Body7;
 
-/// Whether two names are the same, or none is there.
-fn is_same_name(a: Option<Body5>, b: Option<Body5>) -> bool
-    ensures { Decides result (a ≡ b) }
-{
-    a == b
+/// The names of `a`, each looked for in `b` under its new FEAT.
+#[derive(Drop)]
+pub(crate) struct Names<'a, A, B> {
+    pub(crate) a: &'a A,
+    pub(crate) b: &'a B,
+    pub(crate) tables: &'a RenamingTables<'a>,
 }
 
-/// Whether two polygons' contents are the same, or none is there.
-fn is_same_polygon(a: Option<Option<BodyP>>, b: Option<Option<BodyP>>) -> bool
-    ensures { Decides result (a ≡ b) }
-{
-    a == b
-}
+impl<'a, A: Chart, B: Chart> Tested for Names<'a, A, B> {
+    ghost use Rattle.std.specs.Prelude.{ℕ};
+    ghost use Rattle.tl_cert.specs.PartsThere.{IsNameThere};
+    ghost use Rattle.tl_layout.specs.declared.type5.Body5.{Body5};
 
-/// Whether two contents of type 7 records are the same.
-fn is_same_content(a: &Body7, b: &Body7) -> bool
-    ensures { Decides result (a.now ≡ b.now) }
-{
-    a == b
-}
+    ghost Entry = { ℕ × Body5 };
 
-/// Whether two contents of type 7 records are the same, or none is there.
-fn is_same_body(a: Option<Body7>, b: Option<Body7>) -> bool
-    ensures { Decides result (a ≡ b) }
-{
-    match a {
-        Some(a) => match b {
-            Some(b) => is_same_content(&a, &b),
-            None => false,
-        },
-        None => b.is_none(),
+    ghost entries = { λ t. (A.county t.a.now).names };
+
+    ghost Holds = { λ t. IsNameThere t.tables.now (B.county t.b.now) };
+
+    fn count(&self) -> usize {
+        self.a.name_count()
+    }
+
+    fn holds(&self, place: usize) -> bool {
+        let feat = self.tables.feat(self.a.feat_there(place));
+        let other = self.b.name_place_or_end(feat);
+        self.b
+            .name_body_at(other)
+            .is_same(self.a.name_body_at(place))
     }
 }
 
-/// Whether `b` has the name at a place of `a` under its new FEAT.
-fn is_name_there<A: Chart, B: Chart>(a: &A, b: &B, tables: &RenamingTables, place: usize) -> bool
-    requires { place < length (A.county a.now).names }
-    ensures { Decides result (IfSome (slice_get (A.county a.now).names place) (IsNameThere tables.now (B.county b.now))) }
-{
-    let other = b.name_place_or_end(tables.feat(a.feat_there(place)));
-    is_same_name(b.name_body_at(other), a.name_body_at(place))
+/// The polygons of `a`, each looked for in `b` under its new key.
+#[derive(Drop)]
+pub(crate) struct Polygons<'a, A, B> {
+    pub(crate) a: &'a A,
+    pub(crate) b: &'a B,
+    pub(crate) tables: &'a RenamingTables<'a>,
 }
 
-/// Whether `b` has each name of `a` under its new FEAT.
-pub(crate) fn are_names_there<A: Chart, B: Chart>(a: &A, b: &B, tables: &RenamingTables) -> bool
-    ensures { Decides result (AllByRecursion (IsNameThere tables.now (B.county b.now)) (A.county a.now).names) }
-{
-    for place in 0..a.name_count() {
-        let there = is_name_there(a, b, tables, place);
-        if !there {
-            return false;
-        }
+impl<'a, A: Chart, B: Chart> Tested for Polygons<'a, A, B> {
+    ghost use Rattle.std.specs.Prelude.{Option};
+    ghost use Rattle.tl_cert.specs.PartsThere.{IsPolygonThere};
+    ghost use Rattle.tl_county.specs.PolygonKeys.{PolygonKey};
+    ghost use Rattle.tl_layout.specs.declared.type_p.BodyP.{BodyP};
+
+    ghost Entry = { PolygonKey × Option BodyP };
+
+    ghost entries = { λ t. (A.county t.a.now).polygons };
+
+    ghost Holds = { λ t. IsPolygonThere t.tables.now (B.county t.b.now) };
+
+    fn count(&self) -> usize {
+        self.a.polygon_count()
     }
-    true
-}
 
-/// Whether `b` has the polygon at a place of `a` under its new key.
-fn is_polygon_there<A: Chart, B: Chart>(a: &A, b: &B, tables: &RenamingTables, place: usize) -> bool
-    requires { place < length (A.county a.now).polygons }
-    ensures { Decides result (IfSome (slice_get (A.county a.now).polygons place) (IsPolygonThere tables.now (B.county b.now))) }
-{
-    let other = b.polygon_place_or_end(tables.polygon(a.polygon_key_there(place)));
-    is_same_polygon(b.polygon_body_at(other), a.polygon_body_at(place))
-}
-
-/// Whether `b` has each polygon of `a` under its new key.
-pub(crate) fn are_polygons_there<A: Chart, B: Chart>(a: &A, b: &B, tables: &RenamingTables) -> bool
-    ensures { Decides result (AllByRecursion (IsPolygonThere tables.now (B.county b.now)) (A.county a.now).polygons) }
-{
-    for place in 0..a.polygon_count() {
-        let there = is_polygon_there(a, b, tables, place);
-        if !there {
-            return false;
-        }
+    fn holds(&self, place: usize) -> bool {
+        let key = self.tables.polygon(self.a.polygon_key_there(place));
+        let other = self.b.polygon_place_or_end(key);
+        self.b
+            .polygon_body_at(other)
+            .is_same(self.a.polygon_body_at(place))
     }
-    true
 }
 
-/// Whether a landmark of `a` and one of `b` have the same content, record by record.
-fn have_same_bodies<A: Chart, B: Chart>(a: &A, place: usize, b: &B, other: usize) -> bool
-    ensures { Decides result (bodies_at (B.county b.now) other ≡ bodies_at (A.county a.now) place) }
-{
-    let count = a.body_count_at(place);
-    if b.body_count_at(other) != count {
-        return false;
-    }
-    for body in 0..count {
-        let same = is_same_body(
-            b.landmark_body_at(other, body),
-            a.landmark_body_at(place, body),
-        );
-        if !same {
-            return false;
-        }
-    }
-    true
+/// The contents of the landmark at a place, as a list that is read by place.
+#[derive(Drop)]
+pub(crate) struct LandmarkBodies<'a, C> {
+    pub(crate) chart: &'a C,
+    pub(crate) place: usize,
 }
 
-/// Whether `b` has the landmark at a place of `a` under its new LAND.
-fn is_landmark_there<A: Chart, B: Chart>(
-    a: &A,
-    b: &B,
-    tables: &RenamingTables,
-    place: usize,
-) -> bool
-    requires { place < length (A.county a.now).landmarks }
-    ensures { Decides result (IfSome (slice_get (A.county a.now).landmarks place) (IsLandmarkThere tables.now (B.county b.now))) }
-{
-    let other = b.landmark_place_or_end(tables.land(a.land_there(place)));
-    have_same_bodies(a, place, b, other)
+impl<'a, C: Chart> Listed for LandmarkBodies<'a, C> {
+    ghost use Rattle.tl_county.specs.ChartWords.{bodies_at};
+
+    type Item = Body7;
+
+    ghost items = { λ l. bodies_at (C.county l.chart.now) l.place };
+
+    fn count(&self) -> usize {
+        self.chart.body_count_at(self.place)
+    }
+
+    fn item(&self, place: usize) -> Body7 {
+        self.chart.landmark_body_there(self.place, place)
+    }
 }
 
-/// Whether `b` has each landmark of `a` under its new LAND.
-pub(crate) fn are_landmarks_there<A: Chart, B: Chart>(a: &A, b: &B, tables: &RenamingTables) -> bool
-    ensures { Decides result (AllByRecursion (IsLandmarkThere tables.now (B.county b.now)) (A.county a.now).landmarks) }
-{
-    for place in 0..a.landmark_count() {
-        let there = is_landmark_there(a, b, tables, place);
-        if !there {
-            return false;
-        }
+/// The landmarks of `a`, each looked for in `b` under its new LAND.
+#[derive(Drop)]
+pub(crate) struct Landmarks<'a, A, B> {
+    pub(crate) a: &'a A,
+    pub(crate) b: &'a B,
+    pub(crate) tables: &'a RenamingTables<'a>,
+}
+
+impl<'a, A: Chart, B: Chart> Tested for Landmarks<'a, A, B> {
+    ghost use Rattle.std.specs.Prelude.{List, ℕ};
+    ghost use Rattle.tl_cert.specs.PartsThere.{IsLandmarkThere};
+    ghost use Rattle.tl_layout.specs.declared.type7.Body7.{Body7};
+
+    ghost Entry = { ℕ × List Body7 };
+
+    ghost entries = { λ t. (A.county t.a.now).landmarks };
+
+    ghost Holds = { λ t. IsLandmarkThere t.tables.now (B.county t.b.now) };
+
+    fn count(&self) -> usize {
+        self.a.landmark_count()
     }
-    true
+
+    fn holds(&self, place: usize) -> bool {
+        let land = self.tables.land(self.a.land_there(place));
+        let bodies = LandmarkBodies {
+            chart: self.a,
+            place,
+        };
+        let others = LandmarkBodies {
+            chart: self.b,
+            place: self.b.landmark_place_or_end(land),
+        };
+        are_same(&bodies, &others)
+    }
 }

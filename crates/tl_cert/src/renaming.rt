@@ -8,15 +8,15 @@ use std::marker::Model;
 /// A polygon: its CENID and its POLYID.
 pub type PolygonKey = ([u8; 5], u64);
 
-/// The parts of a renaming by their names: pairs of an old and a new number, kind by kind, and the old TLIDs of the
-/// chains that are turned.
+/// The named parts of a renaming: pairs of an old and a new number for each kind of number, and the old TLIDs of the chains
+/// that are turned.
 #[derive(Debug, Drop)]
 pub struct RenamingParts {
     /// TLIDs.
     pub chains: Vec<(u64, u64)>,
     /// FEATs.
     pub names: Vec<(u32, u32)>,
-    /// Polygons; both of a pair have one CENID.
+    /// Polygons; the two of a pair have the same CENID.
     pub polygons: Vec<(PolygonKey, PolygonKey)>,
     /// LANDs.
     pub lands: Vec<(u64, u64)>,
@@ -26,8 +26,8 @@ pub struct RenamingParts {
     pub turned: Vec<u64>,
 }
 
-/// Which old number became which new one, kind by kind, and the old TLIDs of the chains that were turned. The order of
-/// pairs is free.
+/// Which old number became which new one, for each kind of number, and the old TLIDs of the chains that were turned. The
+/// pairs are in any order.
 #[derive(Debug, Drop)]
 pub struct Renaming {
     parts: RenamingParts,
@@ -105,7 +105,7 @@ impl Renaming {
         &self.parts.names
     }
 
-    /// Each old polygon with its new one; both have one CENID.
+    /// Each old polygon with its new one; the two have the same CENID.
     pub fn polygons(&self) -> &[(PolygonKey, PolygonKey)]
         ensures { result.now ≡ self.now.polygons }
     {

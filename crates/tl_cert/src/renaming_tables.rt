@@ -1,39 +1,35 @@
-//! A renaming in tables, which answer without a search along its lists.
+//! A renaming with tables, so that no number is searched along its lists.
 
 ghost use Rattle.std.specs.Ordering.{nat_cmp};
-ghost use Rattle.std.specs.Prelude.{◌≡◌, ℕ, IfOk};
-ghost use Rattle.tl_cert.specs.Images.{AnswersAs};
-ghost use Rattle.tl_cert.specs.RenamingTables.{RenumbersAs};
-ghost use Rattle.tl_county.specs.Orders.{IsInOrder, stands_in};
+ghost use Rattle.std.specs.Prelude.{◌≡◌, IfOk};
 ghost use Rattle.tl_county.specs.PolygonKeys.{key_cmp};
 ghost use Rattle.tl_county.specs.Renumbering.{image, turns};
 
 use crate::images::Images;
+use crate::number_set::NumberSet;
 use crate::renaming::Renaming;
-use crate::turning::sorted;
 use std::alloc::{AllocError, Global};
 use std::marker::Model;
-use tl_county::{PolygonKey, place_of};
+use tl_county::PolygonKey;
 
-/// The new TLIDs and FEATs of old ones, and the turned chains' TLIDs in order.
+/// The pairs of TLIDs and of FEATs, and the TLIDs of the turned chains.
 #[derive(Drop)]
-struct ChainTables {
-    tlids: Images<u64>,
-    feats: Images<u32>,
-    turned: Vec<u64>,
+struct ChainTables<'a> {
+    tlids: Images<'a, u64>,
+    feats: Images<'a, u32>,
+    turned: NumberSet<'a>,
 }
 
-impl ChainTables {
+impl<'a> ChainTables<'a> {
     /// The tables of a renaming.
-    fn new(alloc: Global, renaming: &Renaming) -> Result<ChainTables, AllocError>
-        ensures tlids { IfOk result (λ tables. AnswersAs nat_cmp tables.tlids renaming.now.chains) }
-        ensures feats { IfOk result (λ tables. AnswersAs nat_cmp tables.feats renaming.now.names) }
-        ensures in_order { IfOk result (λ tables. IsInOrder nat_cmp tables.turned.items) }
-        ensures turned { IfOk result (λ tables. (n : ℕ) → stands_in nat_cmp n tables.turned.items ≡ stands_in nat_cmp n renaming.now.turned) }
+    fn new(alloc: Global, renaming: &'a Renaming) -> Result<ChainTables<'a>, AllocError>
+        ensures tlids { IfOk result (λ tables. tables.tlids ≡ renaming.now.chains) }
+        ensures feats { IfOk result (λ tables. tables.feats ≡ renaming.now.names) }
+        ensures turned { IfOk result (λ tables. tables.turned ≡ renaming.now.turned) }
     {
         let tlids = Images::new(alloc, renaming.chains())?;
         let feats = Images::new(alloc, renaming.names())?;
-        let turned = sorted(alloc, renaming.turned())?;
+        let turned = NumberSet::new(alloc, renaming.turned())?;
         Ok(ChainTables {
             tlids,
             feats,
@@ -42,20 +38,20 @@ impl ChainTables {
     }
 }
 
-/// The new keys of polygons, LANDs and nodes of old ones.
+/// The pairs of polygons, of LANDs and of nodes.
 #[derive(Drop)]
-struct PlaceTables {
-    polygons: Images<PolygonKey>,
-    lands: Images<u64>,
-    nodes: Images<u64>,
+struct PlaceTables<'a> {
+    polygons: Images<'a, PolygonKey>,
+    lands: Images<'a, u64>,
+    nodes: Images<'a, u64>,
 }
 
-impl PlaceTables {
+impl<'a> PlaceTables<'a> {
     /// The tables of a renaming.
-    fn new(alloc: Global, renaming: &Renaming) -> Result<PlaceTables, AllocError>
-        ensures polygons { IfOk result (λ tables. AnswersAs key_cmp tables.polygons renaming.now.polygons) }
-        ensures lands { IfOk result (λ tables. AnswersAs nat_cmp tables.lands renaming.now.lands) }
-        ensures nodes { IfOk result (λ tables. AnswersAs nat_cmp tables.nodes renaming.now.nodes) }
+    fn new(alloc: Global, renaming: &'a Renaming) -> Result<PlaceTables<'a>, AllocError>
+        ensures polygons { IfOk result (λ tables. tables.polygons ≡ renaming.now.polygons) }
+        ensures lands { IfOk result (λ tables. tables.lands ≡ renaming.now.lands) }
+        ensures nodes { IfOk result (λ tables. tables.nodes ≡ renaming.now.nodes) }
     {
         let polygons = Images::new(alloc, renaming.polygons())?;
         let lands = Images::new(alloc, renaming.lands())?;
@@ -68,16 +64,14 @@ impl PlaceTables {
     }
 }
 
-/// The new number of each old one, kind by kind, and the turned chains' TLIDs in order.
+/// A renaming with the tables of its lists.
 #[derive(Drop)]
-pub(crate) struct RenamingTables {
-    chains: ChainTables,
-    places: PlaceTables,
+pub(crate) struct RenamingTables<'a> {
+    chains: ChainTables<'a>,
+    places: PlaceTables<'a>,
 }
 
-impl Model for RenamingTables {
-    ghost use Rattle.std.specs.Ordering.{nat_cmp};
-    ghost use Rattle.tl_county.specs.Orders.{IsInOrder};
+impl<'a> Model for RenamingTables<'a> {
     ghost use Rattle.tl_county.specs.Renumbering.{Renumbering};
 
     ghost Value = { Renumbering };
@@ -88,16 +82,17 @@ impl Model for RenamingTables {
       polygons = t.places.polygons;
       lands = t.places.lands;
       nodes = t.places.nodes;
-      turned = t.chains.turned.items;
+      turned = t.chains.turned;
     } };
-
-    ghost invariant = { λ t. IsInOrder nat_cmp t.chains.turned.items };
 }
 
-impl RenamingTables {
+impl<'a> RenamingTables<'a> {
     /// The tables of a renaming.
-    pub(crate) fn new(alloc: Global, renaming: &Renaming) -> Result<RenamingTables, AllocError>
-        ensures { IfOk result (λ tables. RenumbersAs tables renaming.now) }
+    pub(crate) fn new(
+        alloc: Global,
+        renaming: &'a Renaming,
+    ) -> Result<RenamingTables<'a>, AllocError>
+        ensures { IfOk result (λ tables. tables ≡ renaming.now) }
     {
         let chains = ChainTables::new(alloc, renaming)?;
         let places = PlaceTables::new(alloc, renaming)?;
@@ -143,6 +138,6 @@ impl RenamingTables {
     pub(crate) fn is_turned(&self, tlid: u64) -> bool
         ensures { result ≡ turns self.now tlid }
     {
-        place_of(&self.chains.turned, tlid).is_some()
+        self.chains.turned.contains(tlid)
     }
 }

@@ -10,7 +10,7 @@ use Rattle.tl_layout.specs.declared.type5.Body5.{Body5}
 use Rattle.tl_layout.specs.declared.type7.Body7.{Body7}
 use Rattle.tl_shape.specs.PointOrder.{points_cmp}
 
--- bytes: the first that differ decide, and what goes on comes later
+-- bytes: the first difference decides, and a list that ends first comes first
 abbrev pub bytes_cmp : List ℕ → List ℕ → Ordering
 bytes_cmp = slice_cmp nat_cmp
 
@@ -20,22 +20,22 @@ feature_name_cmp a b =
     ordering_then (bytes_cmp a.fedirp b.fedirp)
     (ordering_then (bytes_cmp a.fename b.fename) (ordering_then (bytes_cmp a.fetype b.fetype) (bytes_cmp a.fedirs b.fedirs)))
 
--- FILE, then the name: the 43 bytes of a type 5 body
+-- FILE, then the name: the 43 bytes of a type 5 record's content
 abbrev pub name_body_cmp : Body5 → Body5 → Ordering
 name_body_cmp a b = ordering_then (bytes_cmp a.file b.file) (feature_name_cmp a.name b.name)
 
--- a point or none as a list of one point or none, so none comes first
+-- an optional point as a list of at most one point, so no point comes first
 abbrev pub optional_point_cmp : Option Coordinates → Option Coordinates → Ordering
 optional_point_cmp o p = points_cmp (option_to_list o) (option_to_list p)
 
--- field by field, as the columns of type 7 stand; where there is no point, that comes before any
+-- field by field, in the order of the type 7 columns; no point comes before any point
 abbrev pub landmark_body_cmp : Body7 → Body7 → Ordering
 landmark_body_cmp a b =
     ordering_then (bytes_cmp a.file b.file)
     (ordering_then (bytes_cmp a.source b.source)
     (ordering_then (bytes_cmp a.cfcc b.cfcc) (ordering_then (bytes_cmp a.laname b.laname) (optional_point_cmp a.point b.point))))
 
--- a link of a landmark without its LAND: POLYID, CENID, FILE
+-- a landmark's link without its LAND: POLYID, CENID, FILE
 abbrev pub LinkPart : Type 0
 LinkPart = ℕ × List ℕ × List ℕ
 

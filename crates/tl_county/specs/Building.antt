@@ -1,4 +1,4 @@
--- The parts of a county, of the groups of records that have one number.
+-- The parts of a county, made from the groups of records that share a number.
 use Rattle.std.specs.Prelude.{ℕ, List, [], ◌∷◌, ◌++◌, map, flat_map, filter, Option, option_to_list}
 use Rattle.std.specs.List.{zip}
 use Rattle.std.specs.Ordering.{is_eq, nat_cmp}
@@ -13,25 +13,25 @@ use Rattle.tl_county.specs.Packing.{Typed}
 use Rattle.tl_county.specs.LandmarkParts.{LandmarkParts}
 use Rattle.tl_county.specs.PolygonKeys.{PolygonKey, key_cmp}
 
--- the chain of its records, those of types 2, 4 and 6 in the order of their RTSQs
+-- the chain made from its records, with those of types 2, 4 and 6 in the order of their RTSQs
 abbrev pub chain_with : Fields1 → FieldsI → List Fields2 → List Fields4 → List Fields6 → Chain
 chain_with r link twos fours sixes = record {
   body = r.body;
   points = r.start ∷ (flat_map (λ q. q.points) twos ++ (r.end ∷ []));
   feats = flat_map (λ q. q.feats) fours;
   ranges = map (λ q. q.ranges) sixes;
-  link_body = link.body;
+  topology = link.body;
   start_node = link.start_node;
   end_node = link.end_node;
   left = link.left;
   right = link.right;
 }
 
--- the nodes of a record of type I, start before end, missing ones left out
+-- the nodes of a type I record, start before end, without missing ones
 abbrev pub link_nodes : FieldsI → List ℕ
 link_nodes link = option_to_list link.start_node ++ option_to_list link.end_node
 
--- the chains of records of type 1 and I side by side, with the records of types 2, 4 and 6 of their TLIDs
+-- the chains of type 1 and type I records paired by place, with the records of types 2, 4 and 6 that have the chain's TLID
 abbrev pub chains_along : List Fields2 → List Fields4 → List Fields6 → List Fields1 → List FieldsI → List Chain
 chains_along twos fours sixes [] links = []
 chains_along twos fours sixes (r ∷ rs) [] = []
@@ -39,11 +39,11 @@ chains_along twos fours sixes (r ∷ rs) (link ∷ links) =
     chain_with r link (of_number two_tlid r.tlid twos) (of_number four_tlid r.tlid fours)
     (of_number six_tlid r.tlid sixes) ∷ chains_along twos fours sixes rs links
 
--- the content of a polygon's record of type P, if there is one
+-- the content of a polygon's type P record, if it has one
 abbrev pub polygon_body_of : List FieldsP → PolygonKey → Option BodyP
 polygon_body_of points key = first (map (λ r. r.body) (filter (λ r. is_eq (key_cmp key (p_key r))) points))
 
--- the landmark of a LAND: the contents of its records of type 7, and its records of type 8
+-- the landmark with this LAND: the contents of its type 7 records, and its type 8 records
 abbrev pub landmark_of : List Fields7 → List Fields8 → ℕ → LandmarkParts
 landmark_of landmarks links land =
     record { bodies = map (λ r. r.body) (of_number seven_land land landmarks); links = of_number eight_land land links }
@@ -52,7 +52,7 @@ landmark_of landmarks links land =
 abbrev pub landmarks_along : Typed → List (ℕ × LandmarkParts)
 landmarks_along t = map (λ land. (land, landmark_of t.of_type_7 t.of_type_8 land)) (distinct nat_cmp (map seven_land t.of_type_7))
 
--- the county of records by type, in the order of their numbers
+-- the county of records by type that are in the order of their numbers
 abbrev pub county_along : Typed → County
 county_along t = county_with
     (zip (map one_tlid t.of_type_1) (chains_along t.of_type_2 t.of_type_4 t.of_type_6 t.of_type_1 t.of_type_i))

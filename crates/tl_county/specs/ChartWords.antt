@@ -1,4 +1,4 @@
--- Words for what stands at a place of a county's ascending lists, and under a number.
+-- The part of a county at a place of its ascending lists, or under a number.
 use Rattle.std.specs.Prelude.{ℕ, List, [], Option, Some, None, slice_get, unwrap_or}
 use Rattle.tl_layout.specs.Coordinates.{Coordinates}
 use Rattle.tl_layout.specs.Fields.{Fields8}
@@ -18,7 +18,7 @@ use Rattle.std.specs.Ordering.{nat_cmp}
 abbrev pub chain_at : County → ℕ → Option Chain
 chain_at county place = slice_get (entry_values county.chains) place
 
--- its points, FEATs and address ranges, or the empty list past the last chain
+-- its points, FEATs and address ranges, or an empty list after the last chain
 abbrev pub points_of : Option Chain → List Coordinates
 points_of None = []
 points_of (Some chain) = chain.points
@@ -35,15 +35,15 @@ ranges_of (Some chain) = chain.ranges
 abbrev pub name_at : County → ℕ → Option Body5
 name_at county place = slice_get (entry_values county.names) place
 
--- the polygon at a place: the content of its type P record, if there is one
+-- the polygon at a place: the content of its type P record, if it has one
 abbrev pub polygon_at : County → ℕ → Option (Option BodyP)
 polygon_at county place = slice_get (entry_values county.polygons) place
 
--- the contents of the landmark at a place, or the empty list past the last landmark
+-- the contents of the landmark at a place, or an empty list after the last landmark
 abbrev pub bodies_at : County → ℕ → List Body7
 bodies_at county place = unwrap_or (slice_get (entry_values county.landmarks) place) []
 
--- its links, those with its LAND
+-- its links: those with its LAND
 abbrev pub links_with : List Fields8 → Option ℕ → List Fields8
 links_with links None = []
 links_with links (Some land) = of_number eight_land land links
@@ -51,7 +51,7 @@ links_with links (Some land) = of_number eight_land land links
 abbrev pub links_at : County → ℕ → List Fields8
 links_at county place = links_with county.links (slice_get (lands county) place)
 
--- the chain of a TLID, the name of a FEAT, the polygon of a key
+-- the chain with this TLID, the name with this FEAT, the polygon with this key
 abbrev pub chain_under : County → ℕ → Option Chain
 chain_under county tlid = value_under nat_cmp tlid county.chains
 
@@ -61,7 +61,7 @@ name_under county feat = value_under nat_cmp feat county.names
 abbrev pub polygon_under : County → PolygonKey → Option (Option BodyP)
 polygon_under county key = value_under key_cmp key county.polygons
 
--- the contents of the landmark of a LAND, or the empty list where there is no such landmark, and its links
+-- the contents of the landmark with this LAND, or an empty list if there is no such landmark, and its links
 abbrev pub bodies_under : County → ℕ → List Body7
 bodies_under county land = unwrap_or (value_under nat_cmp land county.landmarks) []
 

@@ -1,4 +1,4 @@
--- The county: what a list of records says of the map, apart from the order and the packing of the records.
+-- The county: the map that a list of records describes, whatever the order and the packing of the records.
 use Rattle.std.specs.Prelude.{ℕ, List, [], ◌∷◌, ◌++◌, map, flat_map, filter, Option, Some, None}
 use Rattle.std.specs.Ordering.{is_eq, nat_cmp, on}
 use Rattle.tl_layout.specs.Coordinates.{Coordinates}
@@ -15,17 +15,17 @@ use Rattle.tl_shape.specs.Chain.{Chain}
 use Rattle.tl_county.specs.Orders.{in_order, distinct}
 use Rattle.tl_county.specs.PolygonKeys.{PolygonKey, key_cmp, key_on}
 
--- A county. Each of its lists is in the order of its numbers; two counties are equal exactly if their lists are.
+-- A county. Each of its lists is in the order of its numbers. Two counties are equal exactly if their lists are.
 pub record County : Type 0 where
   -- each TLID with its chain
   pub chains : List (ℕ × Chain)
   -- each FEAT with its name
   pub names : List (ℕ × Body5)
-  -- each polygon that is on a chain's side or has a type P record, with the content of that record, if there is one
+  -- each polygon that is on a chain's side or has a type P record, with the content of that record, if it has one
   pub polygons : List (PolygonKey × Option BodyP)
-  -- each LAND with the content of its records of type 7, in order, as often as it stands there
+  -- each LAND with the contents of its type 7 records, in order, repeated as often as in the records
   pub landmarks : List (ℕ × List Body7)
-  -- the polygons of landmarks, in order, each as often as it stands there
+  -- the links of landmarks (type 8 records), in order, repeated as often as in the records
   pub links : List Fields8
 
 -- a record's number, as a function
@@ -81,21 +81,21 @@ further_names records tlid = flat_map (λ r. r.feats) (in_order (on four_rtsq na
 abbrev pub further_ranges : List Record → ℕ → List Ranges
 further_ranges records tlid = map (λ r. r.ranges) (in_order (on six_rtsq nat_cmp) (of_number six_tlid tlid (of_type_6 records)))
 
--- the chain of a type 1 record and the type I record of the same TLID
+-- the chain of a type 1 record and the type I record with the same TLID
 abbrev pub chain_of : List Record → Fields1 → FieldsI → Chain
 chain_of records r link = record {
   body = r.body;
   points = r.start ∷ (shape_points records r.tlid ++ (r.end ∷ []));
   feats = further_names records r.tlid;
   ranges = further_ranges records r.tlid;
-  link_body = link.body;
+  topology = link.body;
   start_node = link.start_node;
   end_node = link.end_node;
   left = link.left;
   right = link.right;
 }
 
--- each type 1 record, in the order of TLIDs, with the type I record of its TLID
+-- each type 1 record, in the order of TLIDs, with the type I record that has its TLID
 abbrev pub chains_of : List Record → List (ℕ × Chain)
 chains_of records = flat_map (λ r. map (λ link. (r.tlid, chain_of records r link)) (of_number i_tlid r.tlid (of_type_i records)))
     (in_order (on one_tlid nat_cmp) (of_type_1 records))
@@ -113,11 +113,11 @@ abbrev pub first : {X : Type 0} → List X → Option X
 first [] = None
 first (x ∷ xs) = Some x
 
--- the content of a polygon's type P record, if there is one
+-- the content of a polygon's type P record, if it has one
 abbrev pub polygon_body : List Record → PolygonKey → Option BodyP
 polygon_body records key = first (map (λ r. r.body) (filter (λ r. is_eq (key_cmp key (p_key r))) (of_type_p records)))
 
--- each polygon on a side or of type P, in the order of keys
+-- each polygon on a side or of a type P record, in the order of keys
 abbrev pub polygons_of : List Record → List (PolygonKey × Option BodyP)
 polygons_of records =
     map (λ key. (key, polygon_body records key))

@@ -1,4 +1,4 @@
--- That a county is one is a fact with at most one proof.
+-- The fact that a county is well-formed has at most one proof.
 use Rattle.std.specs.Prelude.{ℕ, List, [], ◌∷◌}
 use Rattle.std.specs.declared.cmp.Ordering.{Ordering}
 use Rattle.std.proofs.Props.{props}

@@ -1,4 +1,4 @@
--- What holds of the county of each linked list of records: its numbers ascend, and each number that it names is there.
+-- The rules that hold for the county of each linked list of records: its numbers ascend, and each number that it names exists.
 use Rattle.std.specs.Prelude.{ℕ, List, ◌++◌, ◌≤◌, ◌||◌, ◌&&◌, map, flat_map, length, Bool, not, IsTrue, is_some, option_to_list}
 use Rattle.std.specs.List.{AllByRecursion, list_any}
 use Rattle.std.specs.List.Sorted.{IsStrictlySortedBy}
@@ -22,11 +22,11 @@ polygon_keys county = map (λ entry. entry.0) county.polygons
 abbrev pub lands : County → List ℕ
 lands county = map (λ entry. entry.0) county.landmarks
 
--- the nodes at the ends of a chain, start before end, missing ones left out
+-- the nodes at the ends of a chain, start before end, without missing ones
 abbrev pub chain_nodes : Chain → List ℕ
 chain_nodes chain = option_to_list chain.start_node ++ option_to_list chain.end_node
 
--- the polygons on its sides, left before right, missing ones left out
+-- the polygons on its sides, left before right, without missing ones
 abbrev pub chain_polygons : Chain → List PolygonKey
 chain_polygons chain = key_on chain.left ++ key_on chain.right
 
@@ -50,14 +50,14 @@ is_without_chain county key = has_body county key && not (stands_in key_cmp key 
 abbrev pub nodes : County → List ℕ
 nodes county = distinct nat_cmp (nodes_along county.chains)
 
--- each of these numbers stands among those
+-- each of these numbers is in that list
 abbrev pub AllStandIn : List ℕ → List ℕ → Type 0
 AllStandIn known named = AllByRecursion (λ n. IsTrue (stands_in nat_cmp n known)) named
 
 abbrev pub AllKeysStandIn : List PolygonKey → List PolygonKey → Type 0
 AllKeysStandIn known named = AllByRecursion (λ k. IsTrue (stands_in key_cmp k known)) named
 
--- each list ascends by its numbers, none of which stands twice
+-- the numbers of each list ascend, and none occurs twice
 pub record IsAscending (county : County) : Type 0 where
   pub chains : IsStrictlySortedBy nat_cmp (tlids county)
   pub names : IsStrictlySortedBy nat_cmp (feats county)
@@ -73,7 +73,7 @@ pub record IsClosed (county : County) : Type 0 where
   pub link_lands : AllByRecursion (λ link. IsTrue (stands_in nat_cmp link.land (lands county))) county.links
   pub link_polygons : AllByRecursion (λ link. IsTrue (stands_in key_cmp (link_key link) (polygon_keys county))) county.links
 
--- a chain has a start and an end, a landmark has content, and a polygon has content or stands on a side
+-- a chain has a start and an end, a landmark has content, and a polygon has content or is on a side
 pub record IsWhole (county : County) : Type 0 where
   pub points : AllByRecursion (λ entry. 2 ≤ length entry.1.points) county.chains
   pub bodies : AllByRecursion (λ entry. 1 ≤ length entry.1) county.landmarks

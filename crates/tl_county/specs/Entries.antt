@@ -14,7 +14,7 @@ entry_values = map (λ entry. entry.1)
 abbrev pub map_values : {K V W : Type 0} → (V → W) → List (K × V) → List (K × W)
 map_values f = map (λ entry. (entry.0, f entry.1))
 
--- the value under a key, or none where the key doesn't stand there
+-- the value under a key, or none if no entry has the key
 abbrev pub value_under : {K V : Type 0} → (K → K → Ordering) → K → List (K × V) → Option V
 value_under cmp key [] = None
 value_under cmp key (entry ∷ entries) = cond (is_eq (cmp key entry.0)) (Some entry.1) (value_under cmp key entries)

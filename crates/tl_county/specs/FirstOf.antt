@@ -1,14 +1,14 @@
--- The first of the faults that a value has, by the order of their places.
+-- The first of the faults of a value, in the order of their places.
 use Rattle.std.specs.Prelude.{ℕ, ◌≡◌, List, Bool, true, false}
 use Rattle.std.specs.declared.cmp.Ordering.{Ordering}
 use Rattle.std.specs.Ordering.{nat_cmp, is_gt}
 use Rattle.std.specs.Cmp.Lexicographic.{slice_cmp}
 
--- places by their first difference
+-- places, compared by their first difference
 abbrev pub place_cmp : List (List ℕ) → List (List ℕ) → Ordering
 place_cmp = slice_cmp (slice_cmp nat_cmp)
 
--- the fault is there, and none that is there has a lesser place
+-- the fault is present, and no fault that is present has a lesser place
 pub record IsFirst {F : Type 0} (is_there : F → Bool) (place : F → List (List ℕ)) (fault : F) : Type 0 where
   pub there : is_there fault ≡ true
   pub least : (other : F) → is_there other ≡ true → is_gt (place_cmp (place fault) (place other)) ≡ false

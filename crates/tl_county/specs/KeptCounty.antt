@@ -1,4 +1,4 @@
--- The county that its tables keep.
+-- The county that stored tables hold.
 use Rattle.std.specs.Prelude.{◌≡◌, ℕ, List, map, flat_map, Option}
 use Rattle.std.specs.List.{AllByRecursion}
 use Rattle.tl_layout.specs.declared.type5.Body5.{Body5}
@@ -13,7 +13,7 @@ use Rattle.tl_county.specs.LandmarkParts.{LandmarkParts}
 abbrev pub landmark_entry : ℕ × LandmarkParts → ℕ × List Body7
 landmark_entry entry = (entry.0, entry.1.bodies)
 
--- the county of these tables; the links stand landmark by landmark
+-- the county of these tables; its links are listed landmark by landmark
 abbrev pub county_with : List (ℕ × Chain) → List (ℕ × Body5) → List (PolygonKey × Option BodyP) → List (ℕ × LandmarkParts) → County
 county_with chains names polygons landmarks = record {
   chains = chains;
@@ -23,6 +23,6 @@ county_with chains names polygons landmarks = record {
   links = flat_map (λ entry. entry.1.links) landmarks;
 }
 
--- each link stands under its LAND
+-- each link is stored under its LAND
 abbrev pub LinksUnderLands : List (ℕ × LandmarkParts) → Type 0
 LinksUnderLands landmarks = AllByRecursion (λ entry. AllByRecursion (λ link. link.land ≡ entry.0) entry.1.links) landmarks

@@ -26,3 +26,4 @@ pub mod Repacked
 pub mod Packing
 pub mod Limits
 pub mod LimitsProps
+pub mod Reports

@@ -1,4 +1,4 @@
--- The limits of a county: what its contents and its numbers may be, and how many records it takes.
+-- The limits of a county: its contents and its numbers fit their fields, and it takes a limited number of records.
 use Rattle.std.specs.Prelude.{ℕ, ◌≤◌, List, All, length, None, IfSome}
 use Rattle.std.specs.List.{AllByRecursion}
 use Rattle.tl_layout.specs.AddressRanges.{FitsRanges}
@@ -25,22 +25,22 @@ use Rattle.tl_shape.specs.Chain.{Chain}
 use Rattle.tl_county.specs.County.{County}
 use Rattle.tl_county.specs.Packing.{inner_points, packed}
 
--- so many records of one type a set has at most
+-- the most records of one type in a set
 abbrev pub most_records : ℕ
 most_records = MOST_RECORDS
 
--- the greatest RTSQ; so a chain has no more records of type 2, 4 or 6
+-- the greatest RTSQ, so also the most records of each of the types 2, 4 and 6 that a chain can have
 abbrev pub greatest_rtsq : ℕ
 greatest_rtsq = 999
 
--- so many shape points stand in records of type 2, so many names in records of type 4
+-- the most shape points that a chain's type 2 records can hold, and the most names for its type 4 records
 abbrev pub most_shape_points : ℕ
 most_shape_points = 9990
 
 abbrev pub most_names : ℕ
 most_names = 4995
 
--- A content fits if a record of it does; the number, which is no content, is here 1.
+-- A content fits if a record with it fits; the number isn't part of the content, so it is 1 here.
 abbrev pub FitsNameBody : Body5 → Type 0
 FitsNameBody body = FitsType5 (record { feat = 1; body = body })
 
@@ -50,7 +50,7 @@ FitsLandmark body = FitsType7 (record { land = 1; body = body })
 abbrev pub FitsPolygon : List ℕ → BodyP → Type 0
 FitsPolygon cenid body = FitsTypeP (record { cenid = cenid; polyid = 1; body = body })
 
--- the content of a record of type I, with the CENIDs of both sides
+-- the content of a type I record, with the CENIDs of both sides
 abbrev pub FitsLinkContent : BodyI → List ℕ → List ℕ → Type 0
 FitsLinkContent body left right = FitsTypeI (record {
   tlid = 1;
@@ -61,25 +61,25 @@ FitsLinkContent body left right = FitsTypeI (record {
   right = record { cenid = right; polyid = None };
 })
 
--- what a chain may hold, apart from its numbers
+-- the contents of a chain fit their fields; its numbers aren't looked at
 pub record FitsChain (chain : Chain) : Type 0 where
   pub body : FitsBody1 chain.body
   pub points : AllByRecursion IsOnMap chain.points
   pub ranges : AllByRecursion FitsRanges chain.ranges
-  pub link : FitsLinkContent chain.link_body chain.left.cenid chain.right.cenid
+  pub link : FitsLinkContent chain.topology chain.left.cenid chain.right.cenid
 
--- its lists are no longer than records with an RTSQ of their own can hold
+-- its lists fit into records that each have an RTSQ of their own
 pub record HasRoom (chain : Chain) : Type 0 where
   pub points : length (inner_points chain.points) ≤ most_shape_points
   pub feats : length chain.feats ≤ most_names
   pub ranges : length chain.ranges ≤ greatest_rtsq
 
--- what a link may hold, apart from its numbers
+-- the contents of a link fit their fields; its numbers aren't looked at
 pub record FitsLink (link : Fields8) : Type 0 where
   pub file : IsText 5 link.file
   pub cenid : IsText 5 link.cenid
 
--- all of a county but its numbers fits the fields of its records
+-- everything in a county except its numbers fits the fields of its records
 pub record ContentsFit (county : County) : Type 0 where
   pub chains : AllByRecursion (λ entry. FitsChain entry.1) county.chains
   pub names : AllByRecursion (λ entry. FitsNameBody entry.1) county.names
@@ -106,15 +106,15 @@ pub record NumbersFit (county : County) : Type 0 where
   pub link_polygons : AllByRecursion (λ link. IsNumber 10 link.polyid) county.links
   pub link_lands : AllByRecursion (λ link. IsNumber 10 link.land) county.links
 
--- A county that comes of records within their limits: its contents and numbers fit, its chains' lists have room, and its
--- canonical packing has at most limit records of each type.
+-- A county made from records within their limits: its contents and numbers fit, its chains' lists fit into their records, and its
+-- canonical packing has at most `limit` records of each type.
 pub record IsWithinLimits (limit : ℕ) (county : County) : Type 0 where
   pub contents : ContentsFit county
   pub numbers : NumbersFit county
   pub room : AllByRecursion (λ entry. HasRoom entry.1) county.chains
   pub counts : IsWithinLimit limit (packed county)
 
--- Tables hold records that fit, of no type too many.
+-- The tables hold records that fit, and at most `most_records` of each type.
 pub record HoldsWithinLimits (tables : Tables) : Type 0 where
   pub records : List Record
   pub holds : HoldsByType tables records

@@ -1,4 +1,4 @@
--- That a county is within its limits is a fact with at most one proof.
+-- The fact that a county is within its limits has at most one proof.
 use Rattle.std.specs.Prelude.{ℕ, List}
 use Rattle.std.proofs.Props.{props}
 use Rattle.tl_layout.specs.Bytes.{AreAllowed}

@@ -1,4 +1,5 @@
--- The ten rules by which records fit together. Each says where it is broken, by counts over the whole list.
+-- The ten rules for records that fit together. The definition of each, by counts over the whole list, gives the places that break
+-- it.
 use Rattle.std.specs.Prelude.{ℕ, ◌≡◌, List, [], ◌∷◌, ◌++◌, map, flat_map, Bool, false, not, ◌&&◌, nat_lt}
 use Rattle.std.specs.Ordering.{nat_cmp}
 use Rattle.tl_layout.specs.declared.record_type.Record.{Record}
@@ -85,6 +86,6 @@ link_fault_place Memory = (9 ∷ []) ∷ []
 abbrev pub IsLinked : List Record → Type 0
 IsLinked records = (fault : LinkFault) → is_rule_broken records fault ≡ false
 
--- this rule is broken at this place, no rule of a lesser number is broken, and this one at no lesser place
+-- this rule is broken at this place, no rule with a lesser number is broken, and this rule at no lesser place
 abbrev pub IsFirstBrokenRule : List Record → LinkFault → Type 0
 IsFirstBrokenRule records = IsFirst (is_rule_broken records) link_fault_place

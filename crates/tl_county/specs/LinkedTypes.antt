@@ -1,18 +1,18 @@
 -- The record types that belong to a chain.
-use Rattle.std.specs.Prelude.{ℕ, List, codes}
+use Rattle.std.specs.Prelude.{ℕ}
 use Rattle.tl_county.specs.declared.fault.LinkedType.{LinkedType}
 use Rattle.tl_county.specs.declared.fault.LinkedType.TheVariants.{Two, Four, Six, I}
 use Rattle.tl_county.specs.declared.fault.SequencedType.{SequencedType}
 use Rattle.tl_county.specs.declared.fault.SequencedType.TheVariants as sequenced
 
--- the character of a record type, as it stands in column 1
-abbrev pub character_of : LinkedType → List ℕ
-character_of Two = codes "2"
-character_of Four = codes "4"
-character_of Six = codes "6"
-character_of I = codes "I"
+-- The byte in column 1 of a record type's lines: the character 2, 4, 6 or I.
+abbrev pub byte_of : LinkedType → ℕ
+byte_of Two = 50
+byte_of Four = 52
+byte_of Six = 54
+byte_of I = 73
 
--- a record type whose records have RTSQs, among all that belong to a chain
+-- a record type whose records have RTSQs, as one of the types that belong to a chain
 abbrev pub linked_type : SequencedType → LinkedType
 linked_type sequenced.Two = Two
 linked_type sequenced.Four = Four

@@ -1,11 +1,11 @@
--- Marks by number, and records of type 4 of which each FEAT has a name.
+-- Marks by number, and type 4 records whose FEATs all have names.
 use Rattle.std.specs.Prelude.{◌≡◌, ◌<◌, ℕ, Bool, true, List, length, Some, slice_get}
 use Rattle.std.specs.List.{AllByRecursion}
 use Rattle.std.specs.Ordering.{nat_cmp}
 use Rattle.tl_layout.specs.Fields.{Fields4}
 use Rattle.tl_county.specs.Orders.{stands_in}
 
--- each number that has a place is marked there exactly if it stands in the list
+-- each number that has a place in the marks is marked exactly if it is in the list
 abbrev pub AreMarksOf : List ℕ → List Bool → Type 0
 AreMarksOf numbers marks = (number : ℕ) → number < length marks → slice_get marks number ≡ Some (stands_in nat_cmp number numbers)
 

@@ -42,7 +42,7 @@ pub record AreInOrder (t : Typed) : Type 0 where
   pub type_i : IsInOrder (on i_tlid nat_cmp) t.of_type_i
   pub type_p : IsInOrder (on p_key key_cmp) t.of_type_p
 
--- each table has the records that it had, perhaps in another order
+-- each table has the same records as before, perhaps in another order
 pub record ArePermuted (before after : Typed) : Type 0 where
   pub type_1 : IsPermutation before.of_type_1 after.of_type_1
   pub type_2 : IsPermutation before.of_type_2 after.of_type_2

@@ -14,17 +14,17 @@ use Rattle.tl_county.specs.County.{County}
 use Rattle.tl_county.specs.Orders.{in_order}
 use Rattle.tl_county.specs.PolygonKeys.{PolygonKey}
 
--- the list in pieces of n, the last one with what is left; there is room for so many pieces
+-- the list in pieces of n, the last one with the rest; at most `room` pieces are made
 abbrev pub pieces : {X : Type 0} → ℕ → ℕ → List X → List (List X)
 pieces n zero xs = []
 pieces n (suc room) [] = []
 pieces n (suc room) (x ∷ xs) = take n (x ∷ xs) ∷ pieces n room (drop n (x ∷ xs))
 
--- the list in pieces of n, the last one with what is left
+-- the list in pieces of n, the last one with the rest
 abbrev pub in_pieces : {X : Type 0} → ℕ → List X → List (List X)
 in_pieces n xs = pieces n (length xs) xs
 
--- the elements numbered one after another, from this number on
+-- the elements numbered in turn from this number
 abbrev pub numbered_from : {X : Type 0} → ℕ → List X → List (ℕ × X)
 numbered_from n [] = []
 numbered_from n (x ∷ xs) = (n, x) ∷ numbered_from (suc n) xs
@@ -68,7 +68,7 @@ packed_sixes entry = map (λ piece. record { tlid = entry.0; rtsq = piece.0; ran
 abbrev pub packed_i : ℕ × Chain → FieldsI
 packed_i entry = record {
   tlid = entry.0;
-  body = entry.1.link_body;
+  body = entry.1.topology;
   start_node = entry.1.start_node;
   end_node = entry.1.end_node;
   left = entry.1.left;

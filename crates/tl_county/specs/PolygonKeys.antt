@@ -18,6 +18,6 @@ abbrev pub key_under : List ℕ → Option ℕ → List PolygonKey
 key_under cenid None = []
 key_under cenid (Some polyid) = (cenid, polyid) ∷ []
 
--- the polygon on a side; a CENID without a POLYID is no polygon
+-- the polygon on a side; a CENID without a POLYID names no polygon
 abbrev pub key_on : PolygonSide → List PolygonKey
 key_on side = key_under side.cenid side.polyid

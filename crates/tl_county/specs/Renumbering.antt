@@ -1,4 +1,4 @@
--- Renamings of a county's numbers, and which county one of them carries onto which.
+-- Renamings of a county's numbers, and the county that each carries a county onto.
 use Rattle.std.specs.Prelude.{ℕ, ◌≡◌, List, [], ◌∷◌, map, filter, Bool, cond, not, false, Option, Some, None, option_map, IsTrue}
 use Rattle.std.specs.Prelude.{IsPermutation}
 use Rattle.std.specs.List.{AllByRecursion}
@@ -25,7 +25,7 @@ pub record Renumbering : Type 0 where
   pub nodes : List (ℕ × ℕ)
   pub turned : List ℕ
 
--- the new number of an old one, and itself if no pair names it
+-- the new number of an old one, or the old one itself if no pair names it
 abbrev pub image : {K : Type 0} → (K → K → Ordering) → List (K × K) → K → K
 image cmp [] x = x
 image cmp (pair ∷ pairs) x = cond (is_eq (cmp x pair.0)) pair.1 (image cmp pairs x)
@@ -38,7 +38,7 @@ turns r tlid = stands_in nat_cmp tlid r.turned
 abbrev pub side_of : PolygonKey → PolygonSide
 side_of key = record { cenid = key.0; polyid = Some key.1 }
 
--- the side under its new number; a side without a polygon stays as it is
+-- the side with its polygon renamed; a side without a polygon stays as it is
 abbrev pub renumbered_polygon : Renumbering → List ℕ → Option ℕ → PolygonSide
 renumbered_polygon r cenid None = record { cenid = cenid; polyid = None }
 renumbered_polygon r cenid (Some polyid) = side_of (image key_cmp r.polygons (cenid, polyid))
@@ -46,21 +46,21 @@ renumbered_polygon r cenid (Some polyid) = side_of (image key_cmp r.polygons (ce
 abbrev pub renumbered_side : Renumbering → PolygonSide → PolygonSide
 renumbered_side r side = renumbered_polygon r side.cenid side.polyid
 
--- the chain with its names, nodes and polygons under their new numbers
+-- the chain with its names, nodes and polygons renamed
 abbrev pub renumbered : Renumbering → Chain → Chain
 renumbered r c = record {
   body = c.body;
   points = c.points;
   feats = map (image nat_cmp r.names) c.feats;
   ranges = c.ranges;
-  link_body = c.link_body;
+  topology = c.topology;
   start_node = option_map (image nat_cmp r.nodes) c.start_node;
   end_node = option_map (image nat_cmp r.nodes) c.end_node;
   left = renumbered_side r c.left;
   right = renumbered_side r c.right;
 }
 
--- each part of a county under its new number
+-- each part of a county, renamed
 abbrev pub carried_chain : Renumbering → ℕ × Chain → ℕ × Chain
 carried_chain r entry = (image nat_cmp r.chains entry.0, renumbered r (turned_if (turns r entry.0) entry.1))
 
@@ -86,7 +86,7 @@ pub record ArePaired {K : Type 0} (pairs : List (K × K)) (olds news : List K) :
   pub left : IsPermutation (map (λ pair. pair.0) pairs) olds
   pub right : IsPermutation (map (λ pair. pair.1) pairs) news
 
--- each number of the one county has its number in the other; a polygon keeps its CENID; each turned TLID is told once
+-- each number of one county is paired with its number in the other; a polygon keeps its CENID; each turned TLID is listed once
 pub record NumbersArePaired (r : Renumbering) (a b : County) : Type 0 where
   pub chains : ArePaired r.chains (tlids a) (tlids b)
   pub names : ArePaired r.names (feats a) (feats b)
@@ -97,7 +97,7 @@ pub record NumbersArePaired (r : Renumbering) (a b : County) : Type 0 where
   pub turned_known : AllByRecursion (λ tlid. IsTrue (stands_in nat_cmp tlid (tlids a))) r.turned
   pub turned_once : has_repeat nat_cmp r.turned ≡ false
 
--- under its new numbers each part of a is a part of b, and b has no other
+-- each part of a, renamed, is a part of b, and b has no others
 pub record Carries (r : Renumbering) (a b : County) : Type 0 where
   pub numbers : NumbersArePaired r a b
   pub chains : IsPermutation (map (carried_chain r) a.chains) b.chains
@@ -125,7 +125,7 @@ identity a = record {
   turned = [];
 }
 
--- each pair the other way round
+-- each pair reversed
 abbrev pub swapped : {K : Type 0} → List (K × K) → List (K × K)
 swapped = map (λ pair. (pair.1, pair.0))
 
@@ -133,7 +133,8 @@ swapped = map (λ pair. (pair.1, pair.0))
 abbrev pub is_named : {K : Type 0} → (K → K → Ordering) → List (K × K) → K → Bool
 is_named cmp pairs x = stands_in cmp x (map (λ pair. pair.0) pairs)
 
--- back from the new numbers to the old ones; it turns the images of the chains that were turned, and of no TLID that has none
+-- back from the new numbers to the old ones; it turns the images of the chains that were turned, and leaves out a turned TLID
+-- without an image
 abbrev pub inverse : Renumbering → Renumbering
 inverse r = record {
   chains = swapped r.chains;
@@ -148,11 +149,11 @@ inverse r = record {
 abbrev pub composed : {K : Type 0} → (K → K → Ordering) → List (K × K) → List (K × K) → List (K × K)
 composed cmp firsts nexts = map (λ pair. (pair.0, image cmp nexts pair.1)) (filter (λ pair. is_named cmp nexts pair.1) firsts)
 
--- one of two, and not both
+-- one of the two, and not both
 abbrev pub exactly_one : Bool → Bool → Bool
 exactly_one a b = cond a (not b) b
 
--- first one renaming and then the next; a chain is turned if one of them does and the other doesn't
+-- first one renaming and then the next; a chain is turned if exactly one of them turns it
 abbrev pub then : Renumbering → Renumbering → Renumbering
 then r next = record {
   chains = composed nat_cmp r.chains next.chains;

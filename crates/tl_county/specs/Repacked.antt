@@ -1,4 +1,4 @@
--- Lists of records that differ only in what isn't part of the map: the packing of types 2 and 4, and the RTSQs.
+-- Lists of records that differ only in things that aren't part of the map: the packing of types 2 and 4, and the RTSQs.
 use Rattle.std.specs.Prelude.{ℕ, ◌≡◌, ◌<◌, ◌⊎◌, List, [], ◌∷◌, ◌++◌, IsTrue, IsPermutation}
 use Rattle.std.specs.List.{AllByRecursion}
 use Rattle.std.specs.Ordering.{nat_cmp}
@@ -12,8 +12,8 @@ use Rattle.tl_county.specs.County.{two_tlid, two_rtsq, four_tlid, four_rtsq}
 use Rattle.tl_county.specs.LinkRules.{rtsqs}
 use Rattle.tl_county.specs.Orders.{stands_in}
 
--- A record of a chain is cut into two: what it holds is what the first and then the second hold, the first keeps its RTSQ, the
--- second has a later one, and no other record of the chain has an RTSQ from the one to the other.
+-- A record of a chain is cut into two: it holds the items of the first and then those of the second, the first keeps its RTSQ, the
+-- second has a later one, and no other record of the chain has an RTSQ from the first to the second.
 pub record IsCut {X Y : Type 0} (tlid rtsq : X → ℕ) (held : X → List Y) (others : List X) (whole first second : X) : Type 0 where
   pub first_chain : tlid first ≡ tlid whole
   pub second_chain : tlid second ≡ tlid whole
@@ -22,7 +22,7 @@ pub record IsCut {X Y : Type 0} (tlid rtsq : X → ℕ) (held : X → List Y) (o
   pub joined : held whole ≡ held first ++ held second
   pub free : AllByRecursion (λ other. (rtsq other < rtsq first) ⊎ (rtsq second < rtsq other)) (of_number tlid (tlid whole) others)
 
--- a record of type 2 is cut into two of type 2, or one of type 4 into two of type 4, beside these others
+-- a type 2 record is cut into two of type 2, or a type 4 record into two of type 4, among these other records
 abbrev pub AreCut : List Record → Record → Record → Record → Type 0
 AreCut others (Two whole) first second = (a : Fields2) × (b : Fields2) × (first ≡ Two a) × (second ≡ Two b)
     × IsCut two_tlid two_rtsq (λ r. r.points) (of_type_2 others) whole a b
@@ -30,7 +30,7 @@ AreCut others (Four whole) first second = (a : Fields4) × (b : Fields4) × (fir
     × IsCut four_tlid four_rtsq (λ r. r.feats) (of_type_4 others) whole a b
 AreCut others _ first second = ⊥
 
--- One record of type 2 or 4 gives way to the two that it is cut into. The order of records has no meaning.
+-- One record of type 2 or 4 is replaced by the two that it is cut into. The order of records has no meaning.
 pub record IsSplit (records split : List Record) : Type 0 where
   pub others : List Record
   pub whole : Record
@@ -68,7 +68,7 @@ resequenced sequence (Eight r) = Eight r
 resequenced sequence (I r) = I r
 resequenced sequence (P r) = P r
 
--- the new RTSQs of a chain's records of a type stand in the order of the old ones
+-- the new RTSQs of a chain's records of a type have the order of the old ones
 abbrev pub KeepsSequence : Sequence → List Record → Type 0
 KeepsSequence sequence records = (rtype : SequencedType) (tlid old later : ℕ)
     → IsTrue (stands_in nat_cmp old (rtsqs rtype tlid records)) → IsTrue (stands_in nat_cmp later (rtsqs rtype tlid records))

@@ -1,4 +1,4 @@
--- The keys that two records of a type have.
+-- The keys that two records of a type share.
 use Rattle.std.specs.Prelude.{map}
 use Rattle.tl_county.specs.declared.linking.table_order.Repeated.{Repeated}
 use Rattle.tl_county.specs.County.{p_key}
@@ -7,7 +7,7 @@ use Rattle.tl_county.specs.Packing.{Typed}
 use Rattle.tl_county.specs.PolygonKeys.{key_cmp}
 use Rattle.tl_county.specs.SequenceKeys.{sequence_cmp, two_sequence, four_sequence, six_sequence}
 
--- of each of these types, the least key that two records have, or none where no two have one
+-- for each of these types, the least key that two records share, or none
 pub record AreLeastRepeated (r : Repeated) (t : Typed) : Type 0 where
   pub type_2 : IsLeastPassing sequence_cmp (is_repeated sequence_cmp (map two_sequence t.of_type_2)) r.type_2
   pub type_4 : IsLeastPassing sequence_cmp (is_repeated sequence_cmp (map four_sequence t.of_type_4)) r.type_4

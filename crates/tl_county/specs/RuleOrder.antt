@@ -1,4 +1,4 @@
--- The rules one after the other: which hold, and which is the first that is broken.
+-- The rules in turn: those that hold, and the first one that is broken.
 use Rattle.std.specs.Prelude.{ℕ, ◌≡◌, ◌<◌, ◌≤◌, List, true, false, Option, MatchOption}
 use Rattle.std.specs.Ordering.{is_gt}
 use Rattle.tl_layout.specs.declared.record_type.Record.{Record}
@@ -11,7 +11,7 @@ use Rattle.tl_county.specs.declared.fault.SequencedType.TheVariants as sequenced
 use Rattle.tl_county.specs.FirstOf.{place_cmp}
 use Rattle.tl_county.specs.LinkRules.{is_rule_broken, link_fault_place}
 
--- the place of a fault's rule among the rules as they are told; rules 12 and 13 count once for each record type
+-- the place of a fault's rule among the rules as they are checked; rules 12 and 13 count once for each record type
 abbrev pub rule_place : LinkFault → ℕ
 rule_place (ChainTwice tlid) = 0
 rule_place (NoChain Two tlid) = 1
@@ -30,17 +30,17 @@ rule_place (LandUnknown land) = 13
 rule_place (PolygonUnknown cenid polyid) = 14
 rule_place Memory = 15
 
--- of the rules from this place on, none before the other place is broken
+-- no rule from the first place up to, but not including, the second is broken
 abbrev pub RulesHold : List Record → ℕ → ℕ → Type 0
 RulesHold records low high = (fault : LinkFault) → low ≤ rule_place fault → rule_place fault < high → is_rule_broken records fault ≡ false
 
--- of the rules from this place on, this is the first that is broken, at its least place
+-- among the rules from this place, this is the first that is broken, at its least place
 pub record IsFirstFrom (records : List Record) (low : ℕ) (fault : LinkFault) : Type 0 where
   pub from : low ≤ rule_place fault
   pub broken : is_rule_broken records fault ≡ true
   pub least : (other : LinkFault) → low ≤ rule_place other → is_rule_broken records other ≡ true
       → is_gt (place_cmp (link_fault_place fault) (link_fault_place other)) ≡ false
 
--- what was found of the rules from the one place to the other: the first that is broken, or that they hold
+-- the finding about the rules from the first place up to the second: the first that is broken, or that none is
 abbrev pub Settles : List Record → ℕ → ℕ → Option LinkFault → Type 0
 Settles records low high found = MatchOption found (RulesHold records low high) (IsFirstFrom records low)

@@ -1,4 +1,4 @@
--- The keys by which records of one type are put in order.
+-- The keys that put records of one type in order.
 use Rattle.std.specs.Prelude.{ℕ, List, Option, map, Bool, not, ◌&&◌}
 use Rattle.std.specs.declared.cmp.Ordering.{Ordering}
 use Rattle.std.specs.Ordering.{nat_cmp, ordering_then}
@@ -32,6 +32,6 @@ uses_of r = map (λ feat. (r.tlid, feat)) r.feats
 abbrev pub sequence_cmp : ℕ × ℕ → ℕ × ℕ → Ordering
 sequence_cmp a b = ordering_then (nat_cmp a.0 b.0) (nat_cmp a.1 b.1)
 
--- whether a chain's FEAT is one of these uses and none of the names
+-- whether a chain's FEAT is one of these uses and isn't one of the names
 abbrev pub is_unnamed : List (ℕ × ℕ) → List ℕ → ℕ × ℕ → Bool
 is_unnamed uses names pair = stands_in sequence_cmp pair uses && not (stands_in nat_cmp pair.1 names)

@@ -1,4 +1,4 @@
-//! The order of landmarks' contents.
+//! The order of landmark contents.
 
 ghost use Rattle.std.specs.Prelude.{◌≡◌};
 ghost use Rattle.tl_county.specs.BodyOrder.{landmark_body_cmp};
@@ -6,10 +6,10 @@ ghost use Rattle.tl_county.specs.BodyOrder.{landmark_body_cmp};
 use std::cmp::Ordering;
 use tl_layout::{Body7, Point};
 
-/// The fields of a landmark's content in their order: FILE, SOURCE, CFCC, LANAME, the point.
+/// The fields of a landmark's content in the order of comparison: FILE, SOURCE, CFCC, LANAME, the point.
 type LandmarkFields = ([u8; 5], ([u8; 1], ([u8; 3], ([u8; 30], Option<Point>))));
 
-/// The fields of a landmark's content in their order.
+/// The fields of a landmark's content, in the order of comparison.
 fn fields_of(body: &Body7) -> LandmarkFields
     ensures { result ≡ (body.now.file, (body.now.source, (body.now.cfcc, (body.now.laname, body.now.point)))) }
 {
@@ -20,8 +20,8 @@ fn fields_of(body: &Body7) -> LandmarkFields
     (file, (source, (cfcc, (laname, body.point()))))
 }
 
-/// How one landmark's content (record type 7) stands to another: by FILE, SOURCE, CFCC and LANAME as bytes, then by the point, none
-/// before any.
+/// Compares the contents of two landmarks (record type 7): by FILE, SOURCE, CFCC and LANAME as bytes, then by the point. No point
+/// comes before any point.
 pub fn cmp_landmark_bodies(a: &Body7, b: &Body7) -> Ordering
     ensures { result ≡ landmark_body_cmp a.now b.now }
 {

@@ -1,4 +1,4 @@
-//! A county however it is kept.
+//! Read access to a county, whatever its storage.
 
 ghost use Rattle.std.specs.Option.{option_and_then};
 ghost use Rattle.std.specs.Ordering.{nat_cmp};
@@ -16,14 +16,14 @@ ghost use Rattle.tl_layout.specs.Type1Groups.{body_1_texts};
 use crate::keys::record_keys::PolygonKey;
 use tl_layout::{Body1, Body5, Body7, BodyI, BodyP, Point, Ranges, Rec8, Side};
 
-/// A county, however it is kept. Places count from 0 along the ascending lists of TLIDs, FEATs, polygons, LANDs and nodes;
-/// a place or a number that isn't there is answered by `None`, and how much stands there by 0. Calls whose names end in `_there`
-/// ask for a place that is there, and answer without an `Option`. No call takes memory.
+/// A county, whatever its storage. Places count from 0 along the ascending lists of TLIDs, FEATs, polygons, LANDs and nodes. If a
+/// place or a number isn't in the county, a call returns `None`, and a count is 0. Calls whose names end in `_there` require a
+/// place that exists, and return no `Option`. A coordinate is in millionths of a degree. No call allocates memory.
 pub trait Chart {
     /// The county.
     ghost county: { Self → County };
 
-    /// How many chains there are.
+    /// The number of chains.
     fn chain_count(&self) -> usize
         ensures { result ≡ length (county self.now).chains };
 
@@ -31,12 +31,12 @@ pub trait Chart {
     fn tlid_at(&self, place: usize) -> Option<u64>
         ensures { result ≡ slice_get (tlids (county self.now)) place };
 
-    /// The place of the chain of a TLID.
+    /// The place of the chain with this TLID, or `None` if no chain has it.
     fn chain_place(&self, tlid: u64) -> Option<usize>
         ensures found { IfSome result (λ place. slice_get (tlids (county self.now)) place ≡ Some tlid) }
         ensures known { is_some result ≡ stands_in nat_cmp tlid (tlids (county self.now)) };
 
-    /// How many names there are.
+    /// The number of names.
     fn name_count(&self) -> usize
         ensures { result ≡ length (county self.now).names };
 
@@ -44,12 +44,12 @@ pub trait Chart {
     fn feat_at(&self, place: usize) -> Option<u32>
         ensures { result ≡ slice_get (feats (county self.now)) place };
 
-    /// The place of the name of a FEAT.
+    /// The place of the name with this FEAT, or `None` if no name has it.
     fn name_place(&self, feat: u32) -> Option<usize>
         ensures found { IfSome result (λ place. slice_get (feats (county self.now)) place ≡ Some feat) }
         ensures known { is_some result ≡ stands_in nat_cmp feat (feats (county self.now)) };
 
-    /// How many polygons there are.
+    /// The number of polygons.
     fn polygon_count(&self) -> usize
         ensures { result ≡ length (county self.now).polygons };
 
@@ -57,12 +57,12 @@ pub trait Chart {
     fn polygon_key_at(&self, place: usize) -> Option<PolygonKey>
         ensures { result ≡ slice_get (polygon_keys (county self.now)) place };
 
-    /// The place of the polygon of a key.
+    /// The place of the polygon with this key, or `None` if no polygon has it.
     fn polygon_place(&self, key: PolygonKey) -> Option<usize>
         ensures found { IfSome result (λ place. slice_get (polygon_keys (county self.now)) place ≡ Some key) }
         ensures known { is_some result ≡ stands_in key_cmp key (polygon_keys (county self.now)) };
 
-    /// How many landmarks there are.
+    /// The number of landmarks.
     fn landmark_count(&self) -> usize
         ensures { result ≡ length (county self.now).landmarks };
 
@@ -70,12 +70,12 @@ pub trait Chart {
     fn land_at(&self, place: usize) -> Option<u64>
         ensures { result ≡ slice_get (lands (county self.now)) place };
 
-    /// The place of the landmark of a LAND.
+    /// The place of the landmark with this LAND, or `None` if no landmark has it.
     fn landmark_place(&self, land: u64) -> Option<usize>
         ensures found { IfSome result (λ place. slice_get (lands (county self.now)) place ≡ Some land) }
         ensures known { is_some result ≡ stands_in nat_cmp land (lands (county self.now)) };
 
-    /// How many nodes there are.
+    /// The number of nodes.
     fn node_count(&self) -> usize
         ensures { result ≡ length (nodes (county self.now)) };
 
@@ -83,7 +83,7 @@ pub trait Chart {
     fn node_at(&self, place: usize) -> Option<u64>
         ensures { result ≡ slice_get (nodes (county self.now)) place };
 
-    /// The place of a node.
+    /// The place of a node, or `None` if no chain starts or ends there.
     fn node_place(&self, node: u64) -> Option<usize>
         ensures found { IfSome result (λ place. slice_get (nodes (county self.now)) place ≡ Some node) }
         ensures known { is_some result ≡ stands_in nat_cmp node (nodes (county self.now)) };
@@ -92,8 +92,9 @@ pub trait Chart {
     fn chain_body_at(&self, place: usize) -> Option<Body1>
         ensures { result ≡ option_map (λ c. c.body) (chain_at (county self.now) place) };
 
-    /// Writes the content of the type 1 record of the chain at a place, which is below the count of chains, into columns 16 to 190
-    /// of a line, as it is seen from the chain's other end if told.
+    /// Writes the content of the type 1 record of the chain at a place into columns 16 to 190 of `out`, a line of at least 190
+    /// bytes; columns 1 to 15 stay. If `turned`, the content is written as seen from the chain's other end. `place` must be less
+    /// than the number of chains.
     fn put_chain_body(&self, place: usize, turned: bool, out: &mut [u8])
         requires place { place < length (county self.now).chains }
         requires room { 190 ≤ length out.old }
@@ -104,59 +105,59 @@ pub trait Chart {
         body.put_towards(turned, out);
     }
 
-    /// How many points the chain at a place has.
+    /// The number of points of the chain at a place.
     fn point_count_at(&self, place: usize) -> usize
         ensures { result ≡ length (points_of (chain_at (county self.now) place)) };
 
-    /// A point of the chain at a place, from its start node on.
+    /// A point of the chain at a place. Point 0 is at the start node.
     fn point_at(&self, place: usize, point: usize) -> Option<Point>
         ensures { result ≡ slice_get (points_of (chain_at (county self.now) place)) point };
 
-    /// How many further names the chain at a place has.
+    /// The number of further names (record type 4) of the chain at a place.
     fn feat_count_at(&self, place: usize) -> usize
         ensures { result ≡ length (feats_of (chain_at (county self.now) place)) };
 
-    /// The FEAT of a further name of the chain at a place.
+    /// The FEAT of a further name (record type 4) of the chain at a place.
     fn chain_feat_at(&self, place: usize, name: usize) -> Option<u32>
         ensures { result ≡ slice_get (feats_of (chain_at (county self.now) place)) name };
 
-    /// How many further address ranges the chain at a place has.
+    /// The number of further address ranges (record type 6) of the chain at a place.
     fn range_count_at(&self, place: usize) -> usize
         ensures { result ≡ length (ranges_of (chain_at (county self.now) place)) };
 
-    /// A further address range of the chain at a place.
+    /// A further address range (record type 6) of the chain at a place.
     fn range_at(&self, place: usize, range: usize) -> Option<Ranges>
         ensures { result ≡ slice_get (ranges_of (chain_at (county self.now) place)) range };
 
     /// The content of the type I record of the chain at a place.
     fn link_body_at(&self, place: usize) -> Option<BodyI>
-        ensures { result ≡ option_map (λ c. c.link_body) (chain_at (county self.now) place) };
+        ensures { result ≡ option_map (λ c. c.topology) (chain_at (county self.now) place) };
 
-    /// The node where the chain at a place starts, or none.
+    /// The node where the chain at a place starts (record type I, TZIDS), or none.
     fn start_node_at(&self, place: usize) -> Option<Option<u64>>
         ensures { result ≡ option_map (λ c. c.start_node) (chain_at (county self.now) place) };
 
-    /// The node where the chain at a place ends, or none.
+    /// The node where the chain at a place ends (record type I, TZIDE), or none.
     fn end_node_at(&self, place: usize) -> Option<Option<u64>>
         ensures { result ≡ option_map (λ c. c.end_node) (chain_at (county self.now) place) };
 
-    /// The left side of the chain at a place.
+    /// The left side of the chain at a place (record type I, CENIDL and POLYIDL).
     fn left_at(&self, place: usize) -> Option<Side>
         ensures { result ≡ option_map (λ c. c.left) (chain_at (county self.now) place) };
 
-    /// The right side of the chain at a place.
+    /// The right side of the chain at a place (record type I, CENIDR and POLYIDR).
     fn right_at(&self, place: usize) -> Option<Side>
         ensures { result ≡ option_map (λ c. c.right) (chain_at (county self.now) place) };
 
-    /// The name at a place.
+    /// The content of the name at a place (record type 5).
     fn name_body_at(&self, place: usize) -> Option<Body5>
         ensures { result ≡ name_at (county self.now) place };
 
-    /// The content of the type P record of the polygon at a place, or none where it has no such record.
+    /// The content of the type P record of the polygon at a place, or none if the polygon has no such record.
     fn polygon_body_at(&self, place: usize) -> Option<Option<BodyP>>
         ensures { result ≡ polygon_at (county self.now) place };
 
-    /// How many type 7 records the landmark at a place has.
+    /// The number of type 7 records of the landmark at a place.
     fn body_count_at(&self, place: usize) -> usize
         ensures { result ≡ length (bodies_at (county self.now) place) };
 
@@ -164,7 +165,7 @@ pub trait Chart {
     fn landmark_body_at(&self, place: usize, body: usize) -> Option<Body7>
         ensures { result ≡ slice_get (bodies_at (county self.now) place) body };
 
-    /// How many type 8 records the landmark at a place has.
+    /// The number of type 8 records of the landmark at a place.
     fn link_count_at(&self, place: usize) -> usize
         ensures { result ≡ length (links_at (county self.now) place) };
 
@@ -172,13 +173,13 @@ pub trait Chart {
     fn landmark_link_at(&self, place: usize, link: usize) -> Option<Rec8>
         ensures { result ≡ slice_get (links_at (county self.now) place) link };
 
-    /// The county is one as linking makes it.
+    /// The county is well-formed, as linking makes it.
     ghost is_county: { (chart : Self) → IsCounty (county chart) };
 
-    /// The county is within its limits, as one of records within theirs is.
+    /// The county is within its limits, as one made from records within theirs is.
     ghost within_limits: { (chart : Self) → IsWithinLimits most_records (county chart) };
 
-    /// The TLID of the chain at a place, which is below the count of chains.
+    /// The TLID of the chain at a place, which must be less than the number of chains.
     final fn tlid_there(&self, place: usize) -> u64
         requires { place < length (county self.now).chains }
         ensures { Some result ≡ slice_get (tlids (county self.now)) place }
@@ -186,7 +187,7 @@ pub trait Chart {
         self.tlid_at(place).unwrap()
     }
 
-    /// The FEAT of the name at a place, which is below the count of names.
+    /// The FEAT of the name at a place, which must be less than the number of names.
     final fn feat_there(&self, place: usize) -> u32
         requires { place < length (county self.now).names }
         ensures { Some result ≡ slice_get (feats (county self.now)) place }
@@ -194,7 +195,7 @@ pub trait Chart {
         self.feat_at(place).unwrap()
     }
 
-    /// The key of the polygon at a place, which is below the count of polygons.
+    /// The key of the polygon at a place, which must be less than the number of polygons.
     final fn polygon_key_there(&self, place: usize) -> PolygonKey
         requires { place < length (county self.now).polygons }
         ensures { Some result ≡ slice_get (polygon_keys (county self.now)) place }
@@ -202,7 +203,7 @@ pub trait Chart {
         self.polygon_key_at(place).unwrap()
     }
 
-    /// The LAND of the landmark at a place, which is below the count of landmarks.
+    /// The LAND of the landmark at a place, which must be less than the number of landmarks.
     final fn land_there(&self, place: usize) -> u64
         requires { place < length (county self.now).landmarks }
         ensures { Some result ≡ slice_get (lands (county self.now)) place }
@@ -210,7 +211,7 @@ pub trait Chart {
         self.land_at(place).unwrap()
     }
 
-    /// The number of the node at a place, which is below the count of nodes.
+    /// The number of the node at a place, which must be less than the number of nodes.
     final fn node_there(&self, place: usize) -> u64
         requires { place < length (nodes (county self.now)) }
         ensures { Some result ≡ slice_get (nodes (county self.now)) place }
@@ -218,7 +219,7 @@ pub trait Chart {
         self.node_at(place).unwrap()
     }
 
-    /// The content of the type 1 record of the chain at a place, which is below the count of chains.
+    /// The content of the type 1 record of the chain at a place, which must be less than the number of chains.
     final fn chain_body_there(&self, place: usize) -> Body1
         requires { place < length (county self.now).chains }
         ensures { Some result ≡ option_map (λ c. c.body) (chain_at (county self.now) place) }
@@ -226,15 +227,16 @@ pub trait Chart {
         self.chain_body_at(place).unwrap()
     }
 
-    /// The content of the type I record of the chain at a place, which is below the count of chains.
+    /// The content of the type I record of the chain at a place, which must be less than the number of chains.
     final fn link_body_there(&self, place: usize) -> BodyI
         requires { place < length (county self.now).chains }
-        ensures { Some result ≡ option_map (λ c. c.link_body) (chain_at (county self.now) place) }
+        ensures { Some result ≡ option_map (λ c. c.topology) (chain_at (county self.now) place) }
     {
         self.link_body_at(place).unwrap()
     }
 
-    /// The node where the chain at a place starts, or none; the place is below the count of chains.
+    /// The node where the chain at a place starts (record type I, TZIDS), or none. The place must be less than the number of
+    /// chains.
     final fn start_node_there(&self, place: usize) -> Option<u64>
         requires { place < length (county self.now).chains }
         ensures { Some result ≡ option_map (λ c. c.start_node) (chain_at (county self.now) place) }
@@ -242,7 +244,7 @@ pub trait Chart {
         self.start_node_at(place).unwrap()
     }
 
-    /// The node where the chain at a place ends, or none; the place is below the count of chains.
+    /// The node where the chain at a place ends (record type I, TZIDE), or none. The place must be less than the number of chains.
     final fn end_node_there(&self, place: usize) -> Option<u64>
         requires { place < length (county self.now).chains }
         ensures { Some result ≡ option_map (λ c. c.end_node) (chain_at (county self.now) place) }
@@ -250,7 +252,7 @@ pub trait Chart {
         self.end_node_at(place).unwrap()
     }
 
-    /// The left side of the chain at a place, which is below the count of chains.
+    /// The left side of the chain at a place, which must be less than the number of chains.
     final fn left_there(&self, place: usize) -> Side
         requires { place < length (county self.now).chains }
         ensures { Some result ≡ option_map (λ c. c.left) (chain_at (county self.now) place) }
@@ -258,7 +260,7 @@ pub trait Chart {
         self.left_at(place).unwrap()
     }
 
-    /// The right side of the chain at a place, which is below the count of chains.
+    /// The right side of the chain at a place, which must be less than the number of chains.
     final fn right_there(&self, place: usize) -> Side
         requires { place < length (county self.now).chains }
         ensures { Some result ≡ option_map (λ c. c.right) (chain_at (county self.now) place) }
@@ -266,7 +268,7 @@ pub trait Chart {
         self.right_at(place).unwrap()
     }
 
-    /// A point of the chain at a place, from its start node on; the point is below the count of its points.
+    /// A point of the chain at a place. Point 0 is at the start node; `point` must be less than the number of the chain's points.
     final fn point_there(&self, place: usize, point: usize) -> Point
         requires { point < length (points_of (chain_at (county self.now) place)) }
         ensures { Some result ≡ slice_get (points_of (chain_at (county self.now) place)) point }
@@ -274,7 +276,8 @@ pub trait Chart {
         self.point_at(place, point).unwrap()
     }
 
-    /// The FEAT of a further name of the chain at a place; the name is below the count of its names.
+    /// The FEAT of a further name (record type 4) of the chain at a place. `name` must be less than the number of its further
+    /// names.
     final fn chain_feat_there(&self, place: usize, name: usize) -> u32
         requires { name < length (feats_of (chain_at (county self.now) place)) }
         ensures { Some result ≡ slice_get (feats_of (chain_at (county self.now) place)) name }
@@ -282,7 +285,7 @@ pub trait Chart {
         self.chain_feat_at(place, name).unwrap()
     }
 
-    /// A further address range of the chain at a place; the range is below the count of its ranges.
+    /// A further address range (record type 6) of the chain at a place. `range` must be less than the number of its further ranges.
     final fn range_there(&self, place: usize, range: usize) -> Ranges
         requires { range < length (ranges_of (chain_at (county self.now) place)) }
         ensures { Some result ≡ slice_get (ranges_of (chain_at (county self.now) place)) range }
@@ -290,7 +293,7 @@ pub trait Chart {
         self.range_at(place, range).unwrap()
     }
 
-    /// The name at a place, which is below the count of names.
+    /// The content of the name at a place (record type 5), which must be less than the number of names.
     final fn name_body_there(&self, place: usize) -> Body5
         requires { place < length (county self.now).names }
         ensures { Some result ≡ name_at (county self.now) place }
@@ -298,8 +301,8 @@ pub trait Chart {
         self.name_body_at(place).unwrap()
     }
 
-    /// The content of the type P record of the polygon at a place, or none where it has no such record; the place is below the
-    /// count of polygons.
+    /// The content of the type P record of the polygon at a place, or none if the polygon has no such record. The place must be
+    /// less than the number of polygons.
     final fn polygon_body_there(&self, place: usize) -> Option<BodyP>
         requires { place < length (county self.now).polygons }
         ensures { Some result ≡ polygon_at (county self.now) place }
@@ -307,7 +310,7 @@ pub trait Chart {
         self.polygon_body_at(place).unwrap()
     }
 
-    /// The content of a type 7 record of the landmark at a place; the body is below the count of its bodies.
+    /// The content of a type 7 record of the landmark at a place. `body` must be less than the number of its type 7 records.
     final fn landmark_body_there(&self, place: usize, body: usize) -> Body7
         requires { body < length (bodies_at (county self.now) place) }
         ensures { Some result ≡ slice_get (bodies_at (county self.now) place) body }
@@ -315,7 +318,7 @@ pub trait Chart {
         self.landmark_body_at(place, body).unwrap()
     }
 
-    /// A type 8 record of the landmark at a place; the link is below the count of its links.
+    /// A type 8 record of the landmark at a place. `link` must be less than the number of its type 8 records.
     final fn landmark_link_there(&self, place: usize, link: usize) -> Rec8
         requires { link < length (links_at (county self.now) place) }
         ensures { Some result ≡ slice_get (links_at (county self.now) place) link }
@@ -323,28 +326,28 @@ pub trait Chart {
         self.landmark_link_at(place, link).unwrap()
     }
 
-    /// The place of the chain of a TLID, or the count of chains where no chain has it.
+    /// The place of the chain with this TLID, or the number of chains if no chain has it.
     final fn chain_place_or_end(&self, tlid: u64) -> usize
         ensures { chain_at (county self.now) result ≡ chain_under (county self.now) tlid }
     {
         self.chain_place(tlid).unwrap_or(self.chain_count())
     }
 
-    /// The place of the name of a FEAT, or the count of names where no name has it.
+    /// The place of the name with this FEAT, or the number of names if no name has it.
     final fn name_place_or_end(&self, feat: u32) -> usize
         ensures { name_at (county self.now) result ≡ name_under (county self.now) feat }
     {
         self.name_place(feat).unwrap_or(self.name_count())
     }
 
-    /// The place of the polygon of a key, or the count of polygons where no polygon has it.
+    /// The place of the polygon with this key, or the number of polygons if no polygon has it.
     final fn polygon_place_or_end(&self, key: PolygonKey) -> usize
         ensures { polygon_at (county self.now) result ≡ polygon_under (county self.now) key }
     {
         self.polygon_place(key).unwrap_or(self.polygon_count())
     }
 
-    /// The place of the landmark of a LAND, or the count of landmarks where no landmark has it.
+    /// The place of the landmark with this LAND, or the number of landmarks if no landmark has it.
     final fn landmark_place_or_end(&self, land: u64) -> usize
         ensures bodies { bodies_at (county self.now) result ≡ bodies_under (county self.now) land }
         ensures links { links_at (county self.now) result ≡ links_under (county self.now) land }
@@ -352,98 +355,98 @@ pub trait Chart {
         self.landmark_place(land).unwrap_or(self.landmark_count())
     }
 
-    /// The content of the type 1 record of the chain of a TLID.
+    /// The content of the type 1 record of the chain with this TLID.
     final fn chain_body_of(&self, tlid: u64) -> Option<Body1>
         ensures { result ≡ option_map (λ c. c.body) (chain_under (county self.now) tlid) }
     {
         self.chain_body_at(self.chain_place_or_end(tlid))
     }
 
-    /// The content of the type I record of the chain of a TLID.
+    /// The content of the type I record of the chain with this TLID.
     final fn link_body_of(&self, tlid: u64) -> Option<BodyI>
-        ensures { result ≡ option_map (λ c. c.link_body) (chain_under (county self.now) tlid) }
+        ensures { result ≡ option_map (λ c. c.topology) (chain_under (county self.now) tlid) }
     {
         self.link_body_at(self.chain_place_or_end(tlid))
     }
 
-    /// The node where the chain of a TLID starts, or none.
+    /// The node where the chain with this TLID starts (record type I, TZIDS), or none.
     final fn start_node_of(&self, tlid: u64) -> Option<Option<u64>>
         ensures { result ≡ option_map (λ c. c.start_node) (chain_under (county self.now) tlid) }
     {
         self.start_node_at(self.chain_place_or_end(tlid))
     }
 
-    /// The node where the chain of a TLID ends, or none.
+    /// The node where the chain with this TLID ends (record type I, TZIDE), or none.
     final fn end_node_of(&self, tlid: u64) -> Option<Option<u64>>
         ensures { result ≡ option_map (λ c. c.end_node) (chain_under (county self.now) tlid) }
     {
         self.end_node_at(self.chain_place_or_end(tlid))
     }
 
-    /// The left side of the chain of a TLID.
+    /// The left side of the chain with this TLID.
     final fn left_of(&self, tlid: u64) -> Option<Side>
         ensures { result ≡ option_map (λ c. c.left) (chain_under (county self.now) tlid) }
     {
         self.left_at(self.chain_place_or_end(tlid))
     }
 
-    /// The right side of the chain of a TLID.
+    /// The right side of the chain with this TLID.
     final fn right_of(&self, tlid: u64) -> Option<Side>
         ensures { result ≡ option_map (λ c. c.right) (chain_under (county self.now) tlid) }
     {
         self.right_at(self.chain_place_or_end(tlid))
     }
 
-    /// How many points the chain of a TLID has, 0 where no chain has it.
+    /// The number of points of the chain with this TLID, or 0 if no chain has it.
     final fn point_count_of(&self, tlid: u64) -> usize
         ensures { result ≡ length (points_of (chain_under (county self.now) tlid)) }
     {
         self.point_count_at(self.chain_place_or_end(tlid))
     }
 
-    /// A point of the chain of a TLID, from its start node on.
+    /// A point of the chain with this TLID. Point 0 is at the start node.
     final fn point_of(&self, tlid: u64, point: usize) -> Option<Point>
         ensures { result ≡ slice_get (points_of (chain_under (county self.now) tlid)) point }
     {
         self.point_at(self.chain_place_or_end(tlid), point)
     }
 
-    /// How many further names the chain of a TLID has, 0 where no chain has it.
+    /// The number of further names (record type 4) of the chain with this TLID, or 0 if no chain has it.
     final fn feat_count_of(&self, tlid: u64) -> usize
         ensures { result ≡ length (feats_of (chain_under (county self.now) tlid)) }
     {
         self.feat_count_at(self.chain_place_or_end(tlid))
     }
 
-    /// The FEAT of a further name of the chain of a TLID.
+    /// The FEAT of a further name (record type 4) of the chain with this TLID.
     final fn chain_feat_of(&self, tlid: u64, name: usize) -> Option<u32>
         ensures { result ≡ slice_get (feats_of (chain_under (county self.now) tlid)) name }
     {
         self.chain_feat_at(self.chain_place_or_end(tlid), name)
     }
 
-    /// How many further address ranges the chain of a TLID has, 0 where no chain has it.
+    /// The number of further address ranges (record type 6) of the chain with this TLID, or 0 if no chain has it.
     final fn range_count_of(&self, tlid: u64) -> usize
         ensures { result ≡ length (ranges_of (chain_under (county self.now) tlid)) }
     {
         self.range_count_at(self.chain_place_or_end(tlid))
     }
 
-    /// A further address range of the chain of a TLID.
+    /// A further address range (record type 6) of the chain with this TLID.
     final fn range_of(&self, tlid: u64, range: usize) -> Option<Ranges>
         ensures { result ≡ slice_get (ranges_of (chain_under (county self.now) tlid)) range }
     {
         self.range_at(self.chain_place_or_end(tlid), range)
     }
 
-    /// The name of a FEAT.
+    /// The content of the name with this FEAT (record type 5).
     final fn name_body_of(&self, feat: u32) -> Option<Body5>
         ensures { result ≡ name_under (county self.now) feat }
     {
         self.name_body_at(self.name_place_or_end(feat))
     }
 
-    /// The content of the type P record of a polygon, or none where the polygon isn't there or has no such record.
+    /// The content of the type P record of a polygon, or none if the county doesn't have the polygon or it has no such record.
     final fn polygon_body_of(&self, key: PolygonKey) -> Option<BodyP>
         ensures { result ≡ option_and_then (λ body. body) (polygon_under (county self.now) key) }
     {
@@ -453,28 +456,28 @@ pub trait Chart {
         }
     }
 
-    /// How many type 7 records the landmark of a LAND has, 0 where no landmark has it.
+    /// The number of type 7 records of the landmark with this LAND, or 0 if no landmark has it.
     final fn body_count_of(&self, land: u64) -> usize
         ensures { result ≡ length (bodies_under (county self.now) land) }
     {
         self.body_count_at(self.landmark_place_or_end(land))
     }
 
-    /// The content of a type 7 record of the landmark of a LAND.
+    /// The content of a type 7 record of the landmark with this LAND.
     final fn landmark_body_of(&self, land: u64, body: usize) -> Option<Body7>
         ensures { result ≡ slice_get (bodies_under (county self.now) land) body }
     {
         self.landmark_body_at(self.landmark_place_or_end(land), body)
     }
 
-    /// How many type 8 records the landmark of a LAND has, 0 where no landmark has it.
+    /// The number of type 8 records of the landmark with this LAND, or 0 if no landmark has it.
     final fn link_count_of(&self, land: u64) -> usize
         ensures { result ≡ length (links_under (county self.now) land) }
     {
         self.link_count_at(self.landmark_place_or_end(land))
     }
 
-    /// A type 8 record of the landmark of a LAND.
+    /// A type 8 record of the landmark with this LAND.
     final fn landmark_link_of(&self, land: u64, link: usize) -> Option<Rec8>
         ensures { result ≡ slice_get (links_under (county self.now) land) link }
     {

@@ -1,5 +1,12 @@
-//! How records can fail to fit together.
+//! The ways in which records can fail to fit together.
 
+ghost use Rattle.std.specs.Prelude.{◌≡◌};
+ghost use Rattle.fault_report.specs.Reports.{at};
+ghost use Rattle.fault_report.specs.declared.report.FaultPlace.TheVariants.{Number};
+ghost use Rattle.tl_county.specs.LinkedTypes.{byte_of, linked_type};
+ghost use Rattle.tl_county.specs.Reports.{at_polygon, at_type};
+
+use fault_report::{FaultKind, FaultPlace, FaultReport};
 use std::alloc::{AllocError, AllocFailed};
 use std::fmt;
 use thiserror::Error;
@@ -17,7 +24,7 @@ pub enum LinkedType {
     I,
 }
 
-/// A record type whose records of a chain stand in the order of their RTSQs.
+/// A record type whose records of one chain are ordered by RTSQ.
 #[derive(Clone, Copy, Debug, PartialEq, Eq)]
 pub enum SequencedType {
     /// Shape points (record type 2).
@@ -28,78 +35,61 @@ pub enum SequencedType {
     Six,
 }
 
-/// The character of the record type, as it stands in column 1.
-impl fmt::Display for LinkedType {
-    ghost use Rattle.std.specs.Prelude.{Some};
-    ghost use Rattle.tl_county.specs.LinkedTypes.{character_of};
-
-    ghost output = { λ rtype. Some (character_of rtype) };
-
-    fn fmt<W: fmt::Write>(&self, f: &mut fmt::Formatter<W>) -> fmt::Result {
+impl LinkedType {
+    /// The byte in column 1 of the record type's lines.
+    pub fn byte(self) -> u8
+        ensures { result ≡ byte_of self }
+    {
         match self {
-            LinkedType::Two => write!(f, "2"),
-            LinkedType::Four => write!(f, "4"),
-            LinkedType::Six => write!(f, "6"),
-            LinkedType::I => write!(f, "I"),
+            LinkedType::Two => b'2',
+            LinkedType::Four => b'4',
+            LinkedType::Six => b'6',
+            LinkedType::I => b'I',
         }
     }
 }
 
-/// The character of the record type, as it stands in column 1.
-impl fmt::Display for SequencedType {
-    ghost use Rattle.std.specs.Prelude.{Some};
-    ghost use Rattle.tl_county.specs.LinkedTypes.{character_of, linked_type};
-
-    ghost output = { λ rtype. Some (character_of (linked_type rtype)) };
-
-    fn fmt<W: fmt::Write>(&self, f: &mut fmt::Formatter<W>) -> fmt::Result {
+impl SequencedType {
+    /// The record type, among all whose records belong to a chain.
+    pub fn linked(self) -> LinkedType
+        ensures { result ≡ linked_type self }
+    {
         match self {
-            SequencedType::Two => write!(f, "2"),
-            SequencedType::Four => write!(f, "4"),
-            SequencedType::Six => write!(f, "6"),
+            SequencedType::Two => LinkedType::Two,
+            SequencedType::Four => LinkedType::Four,
+            SequencedType::Six => LinkedType::Six,
         }
     }
 }
 
-/// The first rule that a list of records breaks, with the least place at which it is broken.
+/// The first rule that a list of records breaks, with the least place that breaks it. The number in brackets is the rule's.
 #[derive(Clone, Copy, PartialEq, Eq, Error)]
 pub enum LinkFault {
-    /// Two records of type 1 have one TLID (11).
-    #[error(fmt = tell_chain_twice)]
+    /// Two records of type 1 have the same TLID (11).
     ChainTwice { tlid: u64 },
-    /// A record of type 2, 4, 6 or I has the TLID of no record of type 1 (12).
-    #[error(fmt = tell_no_chain)]
+    /// A record of type 2, 4, 6 or I has a TLID that no record of type 1 has (12).
     NoChain { rtype: LinkedType, tlid: u64 },
-    /// An RTSQ stands twice for a chain in one record type (13).
-    #[error(fmt = tell_sequence_broken)]
+    /// An RTSQ occurs twice for a chain in one record type (13).
     SequenceBroken { rtype: SequencedType, tlid: u64 },
     /// A record of type 1 has no record of type I (14).
-    #[error(fmt = tell_link_missing)]
     LinkMissing { tlid: u64 },
-    /// Two records of type I have one TLID (15).
-    #[error(fmt = tell_link_twice)]
+    /// Two records of type I have the same TLID (15).
     LinkTwice { tlid: u64 },
-    /// Two records of type 5 have one FEAT (16).
-    #[error(fmt = tell_name_twice)]
+    /// Two records of type 5 have the same FEAT (16).
     NameTwice { feat: u32 },
     /// A record of type 4 names a FEAT that no record of type 5 has (17).
-    #[error(fmt = tell_name_unknown)]
     NameUnknown { tlid: u64, feat: u32 },
-    /// Two records of type P are of one polygon (18).
-    #[error(fmt = tell_polygon_twice)]
+    /// Two records of type P describe the same polygon (18).
     PolygonTwice { cenid: [u8; 5], polyid: u64 },
     /// A record of type 8 has a LAND that no record of type 7 has (19).
-    #[error(fmt = tell_land_unknown)]
     LandUnknown { land: u64 },
     /// The polygon of a record of type 8 is on no side and has no record of type P (20).
-    #[error(fmt = tell_polygon_unknown)]
     PolygonUnknown { cenid: [u8; 5], polyid: u64 },
-    /// There was no memory (9).
-    #[error("there is not enough memory")]
+    /// An allocation failed (9).
     Memory,
 }
 
-/// The fault as a derive would show it, which all in one is large for the prover.
+/// Prints the fault as a derived `Debug` would. One derived function for all variants is too large for the prover.
 impl fmt::Debug for LinkFault {
     fn fmt<W: fmt::Write>(&self, f: &mut fmt::Formatter<W>) -> fmt::Result {
         match self {
@@ -124,7 +114,7 @@ impl fmt::Debug for LinkFault {
     }
 }
 
-/// Shows a fault of one number.
+/// Prints a fault that has one number.
 fn show_number<T: fmt::Debug, W: fmt::Write>(
     f: &mut fmt::Formatter<W>,
     fault: &str,
@@ -134,7 +124,7 @@ fn show_number<T: fmt::Debug, W: fmt::Write>(
     f.debug_struct(fault).field(field, number).finish()
 }
 
-/// Shows a fault of the records of a chain in one type.
+/// Prints a fault of a chain's records of one type.
 fn show_record<T: fmt::Debug, W: fmt::Write>(
     f: &mut fmt::Formatter<W>,
     fault: &str,
@@ -147,7 +137,7 @@ fn show_record<T: fmt::Debug, W: fmt::Write>(
         .finish()
 }
 
-/// Shows that a chain names a FEAT without a name.
+/// Prints that a chain names a FEAT without a name.
 fn show_name_unknown<W: fmt::Write>(
     f: &mut fmt::Formatter<W>,
     tlid: &u64,
@@ -159,7 +149,7 @@ fn show_name_unknown<W: fmt::Write>(
         .finish()
 }
 
-/// Shows a fault of a polygon.
+/// Prints a fault of a polygon.
 fn show_polygon<W: fmt::Write>(
     f: &mut fmt::Formatter<W>,
     fault: &str,
@@ -172,92 +162,76 @@ fn show_polygon<W: fmt::Write>(
         .finish()
 }
 
-/// Tells that a TLID stands twice in type 1.
-fn tell_chain_twice<W: fmt::Write>(tlid: &u64, f: &mut fmt::Formatter<W>) -> fmt::Result {
-    write!(f, "two records of type 1 have the TLID {tlid}")
+impl LinkFault {
+    ghost use Rattle.std.specs.Prelude.{◌≡◌};
+    ghost use Rattle.tl_county.specs.Reports.{link_report};
+
+    /// The fault as every interface reports it: its number, its name and its places.
+    pub fn report(&self) -> FaultReport
+        ensures { result ≡ link_report self.now }
+    {
+        match self {
+            LinkFault::ChainTwice { tlid } => at_number(FaultKind::ChainTwice, *tlid),
+            LinkFault::NoChain { rtype, tlid } => at_type(FaultKind::NoChain, *rtype, *tlid),
+            LinkFault::SequenceBroken { rtype, tlid } => {
+                at_type(FaultKind::SequenceBroken, rtype.linked(), *tlid)
+            }
+            LinkFault::LinkMissing { tlid } => at_number(FaultKind::LinkMissing, *tlid),
+            LinkFault::LinkTwice { tlid } => at_number(FaultKind::LinkTwice, *tlid),
+            LinkFault::NameTwice { feat } => at_number(FaultKind::NameTwice, *feat as u64),
+            LinkFault::NameUnknown { tlid, feat } => FaultReport::at_two(
+                FaultKind::NameUnknown,
+                FaultPlace::Number(*tlid),
+                FaultPlace::Number(*feat as u64),
+            ),
+            LinkFault::PolygonTwice { cenid, polyid } => {
+                at_polygon(FaultKind::PolygonTwice, *cenid, *polyid)
+            }
+            LinkFault::LandUnknown { land } => at_number(FaultKind::LandUnknown, *land),
+            LinkFault::PolygonUnknown { cenid, polyid } => {
+                at_polygon(FaultKind::PolygonUnknown, *cenid, *polyid)
+            }
+            LinkFault::Memory => FaultReport::bare(FaultKind::Memory),
+        }
+    }
 }
 
-/// Tells that a record belongs to no chain.
-fn tell_no_chain<W: fmt::Write>(
-    rtype: &LinkedType,
-    tlid: &u64,
-    f: &mut fmt::Formatter<W>,
-) -> fmt::Result {
-    write!(
-        f,
-        "a record of type {rtype} has the TLID {tlid}, which no record of type 1 has"
+/// The line of the fault's report.
+impl fmt::Display for LinkFault {
+    ghost use Rattle.std.specs.Prelude.{Some};
+    ghost use Rattle.fault_report.specs.Reports.{report_line};
+    ghost use Rattle.tl_county.specs.Reports.{link_report};
+
+    ghost output = { λ fault. Some (report_line (link_report fault)) };
+
+    fn fmt<W: fmt::Write>(&self, f: &mut fmt::Formatter<W>) -> fmt::Result {
+        self.report().fmt(f)
+    }
+}
+
+/// A fault with one number as its place.
+fn at_number(kind: FaultKind, number: u64) -> FaultReport
+    ensures { result ≡ at kind (Number number) }
+{
+    FaultReport::at(kind, FaultPlace::Number(number))
+}
+
+/// A fault with a record type and a TLID as its places.
+fn at_type(kind: FaultKind, rtype: LinkedType, tlid: u64) -> FaultReport
+    ensures { result ≡ at_type kind rtype tlid }
+{
+    FaultReport::at_two(
+        kind,
+        FaultPlace::RecordType(rtype.byte()),
+        FaultPlace::Number(tlid),
     )
 }
 
-/// Tells that an RTSQ stands twice for a chain.
-fn tell_sequence_broken<W: fmt::Write>(
-    rtype: &SequencedType,
-    tlid: &u64,
-    f: &mut fmt::Formatter<W>,
-) -> fmt::Result {
-    write!(
-        f,
-        "an RTSQ stands twice among the records of type {rtype} of the TLID {tlid}"
-    )
-}
-
-/// Tells that a chain has no record of type I.
-fn tell_link_missing<W: fmt::Write>(tlid: &u64, f: &mut fmt::Formatter<W>) -> fmt::Result {
-    write!(f, "the TLID {tlid} has no record of type I")
-}
-
-/// Tells that a TLID stands twice in type I.
-fn tell_link_twice<W: fmt::Write>(tlid: &u64, f: &mut fmt::Formatter<W>) -> fmt::Result {
-    write!(f, "two records of type I have the TLID {tlid}")
-}
-
-/// Tells that a FEAT stands twice in type 5.
-fn tell_name_twice<W: fmt::Write>(feat: &u32, f: &mut fmt::Formatter<W>) -> fmt::Result {
-    write!(f, "two records of type 5 have the FEAT {feat}")
-}
-
-/// Tells that a chain names a FEAT without a name.
-fn tell_name_unknown<W: fmt::Write>(
-    tlid: &u64,
-    feat: &u32,
-    f: &mut fmt::Formatter<W>,
-) -> fmt::Result {
-    write!(
-        f,
-        "the chain with the TLID {tlid} names the FEAT {feat}, which no record of type 5 has"
-    )
-}
-
-/// Tells that a polygon has two records of type P.
-fn tell_polygon_twice<W: fmt::Write>(
-    cenid: &[u8; 5],
-    polyid: &u64,
-    f: &mut fmt::Formatter<W>,
-) -> fmt::Result {
-    write!(
-        f,
-        "two records of type P have the POLYID {polyid} under the CENID {cenid:?}"
-    )
-}
-
-/// Tells that a record of type 8 belongs to no landmark.
-fn tell_land_unknown<W: fmt::Write>(land: &u64, f: &mut fmt::Formatter<W>) -> fmt::Result {
-    write!(
-        f,
-        "a record of type 8 has the LAND {land}, which no record of type 7 has"
-    )
-}
-
-/// Tells that the polygon of a record of type 8 stands nowhere else.
-fn tell_polygon_unknown<W: fmt::Write>(
-    cenid: &[u8; 5],
-    polyid: &u64,
-    f: &mut fmt::Formatter<W>,
-) -> fmt::Result {
-    write!(
-        f,
-        "a record of type 8 has the POLYID {polyid} under the CENID {cenid:?}, which stands on no side and has no record of type P"
-    )
+/// A fault with a polygon as its places.
+fn at_polygon(kind: FaultKind, cenid: [u8; 5], polyid: u64) -> FaultReport
+    ensures { result ≡ at_polygon kind cenid polyid }
+{
+    FaultReport::at_two(kind, FaultPlace::Cenid(cenid), FaultPlace::Number(polyid))
 }
 
 impl From<AllocError> for LinkFault {

@@ -1,4 +1,4 @@
-//! A county: chains, names, polygons and landmarks under their numbers, in each of the ways to keep them.
+//! A county: chains, names, polygons and landmarks under their numbers, in each of the ways to store them.
 
 ghost use Rattle.std.specs.Option.{option_copied, option_and_then};
 ghost use Rattle.std.specs.Ordering.{nat_cmp};
@@ -23,7 +23,7 @@ pub(crate) mod table;
 
 use crate::chart::Chart;
 use crate::kept::chain_over::ChainOver;
-use crate::kept::keeping::{KeptChain, KeptLandmark, KeptName};
+use crate::kept::keeping::{StoredChain, StoredLandmark, StoredName};
 use crate::kept::landmark::Landmark;
 use crate::kept::lent::{LandmarkIn, NameIn};
 use crate::kept::table::Table;
@@ -31,10 +31,10 @@ use crate::keys::record_keys::PolygonKey;
 use tl_layout::{Body5, Body7, BodyP, Rec8};
 use tl_shape::{Chain, ChainIn};
 
-/// What a set of records says of one county's map, as linking makes it, whichever way its chains, names and landmarks are
-/// kept. Its getters lend what linking made and put in order, and take no memory.
+/// The map of one county that a set of records describes, as linking makes it. The types of its chains, names and landmarks choose
+/// how these are stored. The getters lend what linking made and put in order, and allocate no memory.
 #[derive(Debug, Drop)]
-pub struct Kept<C: KeptChain, N: KeptName, L: KeptLandmark> {
+pub struct StoredCounty<C: StoredChain, N: StoredName, L: StoredLandmark> {
     pub(crate) chains: Table<u64, C>,
     pub(crate) names: Table<u32, N>,
     pub(crate) polygons: Table<PolygonKey, Option<BodyP>>,
@@ -46,24 +46,23 @@ pub struct Kept<C: KeptChain, N: KeptName, L: KeptLandmark> {
     ghost nodes_stand: { nodes.items ≡ nodes_in_order (county_with (map_values C.chain chains) (map_values N.name names) polygons (map_values L.landmark landmarks)) },
 }
 
-/// What a set of records says of one county's map, as linking makes it, with lists of its own. Its getters lend what linking
-/// made and put in order, and take no memory.
-pub type County = Kept<Chain, Body5, Landmark>;
+/// The map of one county that a set of records describes, as linking makes it, with lists of its own. The getters lend what linking
+/// made and put in order, and allocate no memory.
+pub type County = StoredCounty<Chain, Body5, Landmark>;
 
-/// What a set of records says of one county's map, as [`County`] is, over an arena that outlives it. Its points, FEATs, address
-/// ranges and the contents of its names and landmarks are slices of the arena; its tables stand in ordinary memory. Its
-/// getters take no memory.
-pub type CountyIn<'a> = Kept<ChainIn<'a>, NameIn<'a>, LandmarkIn<'a>>;
+/// The map of one county that a set of records describes, as [`County`], over an arena that outlives it. Its points, FEATs, address
+/// ranges and the contents of its names and landmarks are slices of the arena; its tables are in ordinary memory. The getters
+/// allocate no memory.
+pub type CountyIn<'a> = StoredCounty<ChainIn<'a>, NameIn<'a>, LandmarkIn<'a>>;
 
-/// What a set of records says of one county's map, as [`County`] is, over the records themselves: the contents of chains and
-/// names are read where they stand in tables that outlive it, and only lists that were joined lie in an arena. It is read as a
-/// [`Chart`].
-pub type CountyOver<'a> = Kept<ChainOver<'a>, NameIn<'a>, LandmarkIn<'a>>;
+/// The map of one county that a set of records describes, as [`County`], over the records themselves. The contents of chains and
+/// names are read in place, in tables that outlive it; only lists that were joined are in an arena. Read it as a [`Chart`].
+pub type CountyOver<'a> = StoredCounty<ChainOver<'a>, NameIn<'a>, LandmarkIn<'a>>;
 
-impl<C: KeptChain, N: KeptName, L: KeptLandmark> Kept<C, N, L> {
-    /// The content of a polygon's record of type P, or none where the polygon isn't there or has no such record.
+impl<C: StoredChain, N: StoredName, L: StoredLandmark> StoredCounty<C, N, L> {
+    /// The content of a polygon's record of type P, or none if the county doesn't have the polygon or it has no such record.
     pub fn polygon_body(&self, key: PolygonKey) -> Option<BodyP>
-        ensures { result ≡ option_and_then (λ body. body) (value_under key_cmp key (⟦<Kept<C, N, L> as Chart>⟧.county self.now).polygons) }
+        ensures { result ≡ option_and_then (λ body. body) (value_under key_cmp key (⟦<StoredCounty<C, N, L> as Chart>⟧.county self.now).polygons) }
     {
         match self.polygons.get(key) {
             Some(body) => *body,
@@ -73,49 +72,49 @@ impl<C: KeptChain, N: KeptName, L: KeptLandmark> Kept<C, N, L> {
 
     /// The TLIDs of the chains, ascending.
     pub fn tlids(&self) -> &[u64]
-        ensures { result.now ≡ tlids (⟦<Kept<C, N, L> as Chart>⟧.county self.now) }
+        ensures { result.now ≡ tlids (⟦<StoredCounty<C, N, L> as Chart>⟧.county self.now) }
     {
         self.chains.keys()
     }
 
     /// The FEATs of the names, ascending.
     pub fn feats(&self) -> &[u32]
-        ensures { result.now ≡ feats (⟦<Kept<C, N, L> as Chart>⟧.county self.now) }
+        ensures { result.now ≡ feats (⟦<StoredCounty<C, N, L> as Chart>⟧.county self.now) }
     {
         self.names.keys()
     }
 
     /// The keys of the polygons, ascending by the bytes of the CENID and then by POLYID.
     pub fn polygons(&self) -> &[PolygonKey]
-        ensures { result.now ≡ polygon_keys (⟦<Kept<C, N, L> as Chart>⟧.county self.now) }
+        ensures { result.now ≡ polygon_keys (⟦<StoredCounty<C, N, L> as Chart>⟧.county self.now) }
     {
         self.polygons.keys()
     }
 
     /// The LANDs of the landmarks, ascending.
     pub fn lands(&self) -> &[u64]
-        ensures { result.now ≡ lands (⟦<Kept<C, N, L> as Chart>⟧.county self.now) }
+        ensures { result.now ≡ lands (⟦<StoredCounty<C, N, L> as Chart>⟧.county self.now) }
     {
         self.landmarks.keys()
     }
 
     /// The nodes at the ends of chains, ascending and each once.
     pub fn nodes(&self) -> &[u64]
-        ensures { result.now ≡ nodes_in_order (⟦<Kept<C, N, L> as Chart>⟧.county self.now) }
+        ensures { result.now ≡ nodes_in_order (⟦<StoredCounty<C, N, L> as Chart>⟧.county self.now) }
     {
         self.nodes.as_slice()
     }
 
-    /// The chain at a place, or none past the last one.
+    /// The chain at a place, or none after the last one.
     pub(crate) fn chain_of_place(&self, place: usize) -> Option<&C>
-        ensures { option_map C.chain (option_copied result) ≡ chain_at (⟦<Kept<C, N, L> as Chart>⟧.county self.now) place }
+        ensures { option_map C.chain (option_copied result) ≡ chain_at (⟦<StoredCounty<C, N, L> as Chart>⟧.county self.now) place }
     {
         self.chains.value_at(place)
     }
 
-    /// The contents of the landmark at a place, empty past the last one.
+    /// The contents of the landmark at a place, or an empty list after the last one.
     pub(crate) fn bodies_of_place(&self, place: usize) -> &[Body7]
-        ensures { result.now ≡ bodies_at (⟦<Kept<C, N, L> as Chart>⟧.county self.now) place }
+        ensures { result.now ≡ bodies_at (⟦<StoredCounty<C, N, L> as Chart>⟧.county self.now) place }
     {
         match self.landmarks.value_at(place) {
             Some(landmark) => landmark.bodies(),
@@ -123,9 +122,9 @@ impl<C: KeptChain, N: KeptName, L: KeptLandmark> Kept<C, N, L> {
         }
     }
 
-    /// The links of the landmark at a place, empty past the last one.
+    /// The links of the landmark at a place, or an empty list after the last one.
     pub(crate) fn links_of_place(&self, place: usize) -> &[Rec8]
-        ensures { result.now ≡ links_at (⟦<Kept<C, N, L> as Chart>⟧.county self.now) place }
+        ensures { result.now ≡ links_at (⟦<StoredCounty<C, N, L> as Chart>⟧.county self.now) place }
     {
         match self.landmarks.value_at(place) {
             Some(landmark) => landmark.links(),
@@ -135,22 +134,22 @@ impl<C: KeptChain, N: KeptName, L: KeptLandmark> Kept<C, N, L> {
 }
 
 impl County {
-    /// The chain of a TLID, or none where no chain has it.
+    /// The chain with this TLID, or none if no chain has it.
     pub fn chain(&self, tlid: u64) -> Option<&Chain>
         ensures { option_copied result ≡ value_under nat_cmp tlid (⟦<County as Chart>⟧.county self.now).chains }
     {
         self.chains.get(tlid)
     }
 
-    /// The name of a FEAT, or none where no name has it.
+    /// The content of the name with this FEAT (record type 5), or none if no name has it.
     pub fn name(&self, feat: u32) -> Option<&Body5>
         ensures { option_copied result ≡ value_under nat_cmp feat (⟦<County as Chart>⟧.county self.now).names }
     {
         self.names.get(feat)
     }
 
-    /// The contents of the records of type 7 of a LAND, by FILE, SOURCE, CFCC, LANAME and the point, none first; empty
-    /// where no landmark has it.
+    /// The contents of the type 7 records with this LAND, ordered by FILE, SOURCE, CFCC, LANAME and the point, with no point first.
+    /// The list is empty if no landmark has the LAND.
     pub fn landmark_bodies(&self, land: u64) -> &[Body7]
         ensures { result.now ≡ unwrap_or (value_under nat_cmp land (⟦<County as Chart>⟧.county self.now).landmarks) [] }
     {
@@ -160,7 +159,7 @@ impl County {
         }
     }
 
-    /// The records of type 8 of a LAND, by POLYID, CENID and FILE; empty where no landmark has it.
+    /// The type 8 records with this LAND, ordered by POLYID, CENID and FILE. The list is empty if no landmark has the LAND.
     pub fn landmark_links(&self, land: u64) -> &[Rec8]
         ensures { result.now ≡ of_number eight_land land (⟦<County as Chart>⟧.county self.now).links }
     {
@@ -172,14 +171,14 @@ impl County {
 }
 
 impl<'a> CountyIn<'a> {
-    /// The chain of a TLID, or none where no chain has it.
+    /// The chain with this TLID, or none if no chain has it.
     pub fn chain(&self, tlid: u64) -> Option<&ChainIn<'a>>
         ensures { option_copied result ≡ value_under nat_cmp tlid (⟦<CountyIn<'a> as Chart>⟧.county self.now).chains }
     {
         self.chains.get(tlid)
     }
 
-    /// The name of a FEAT, or none where no name has it.
+    /// The content of the name with this FEAT (record type 5), or none if no name has it.
     pub fn name(&self, feat: u32) -> Option<&'a Body5>
         ensures { option_copied result ≡ value_under nat_cmp feat (⟦<CountyIn<'a> as Chart>⟧.county self.now).names }
     {
@@ -189,8 +188,8 @@ impl<'a> CountyIn<'a> {
         }
     }
 
-    /// The contents of the records of type 7 of a LAND, by FILE, SOURCE, CFCC, LANAME and the point, none first; empty
-    /// where no landmark has it.
+    /// The contents of the type 7 records with this LAND, ordered by FILE, SOURCE, CFCC, LANAME and the point, with no point first.
+    /// The list is empty if no landmark has the LAND.
     pub fn landmark_bodies(&self, land: u64) -> &'a [Body7]
         ensures { result.now ≡ unwrap_or (value_under nat_cmp land (⟦<CountyIn<'a> as Chart>⟧.county self.now).landmarks) [] }
     {
@@ -200,7 +199,7 @@ impl<'a> CountyIn<'a> {
         }
     }
 
-    /// The records of type 8 of a LAND, by POLYID, CENID and FILE; empty where no landmark has it.
+    /// The type 8 records with this LAND, ordered by POLYID, CENID and FILE. The list is empty if no landmark has the LAND.
     pub fn landmark_links(&self, land: u64) -> &'a [Rec8]
         ensures { result.now ≡ of_number eight_land land (⟦<CountyIn<'a> as Chart>⟧.county self.now).links }
     {

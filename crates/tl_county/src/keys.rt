@@ -1,4 +1,4 @@
-//! Keys of records, in order, and sets of them.
+//! Record keys, in order, and sets of them.
 
 pub(crate) mod by_number;
 pub(crate) mod key_set;

@@ -14,15 +14,15 @@ ghost use Rattle.tl_layout.specs.declared.record_type.Record.{Record};
 ghost use Rattle.tl_layout.specs.Limits.{IsWithinLimit};
 ghost use Rattle.tl_layout.specs.RecordText.{FitsRecord};
 
-/// Being the same is an equivalence of counties.
+/// `AreSame` is an equivalence of counties.
 pub fn sameness_is_an_equivalence()
     ensures reflexive { (a : County) → AreSame a a }
     ensures symmetric { (a b : County) → IsCounty a → IsCounty b → AreSame a b → AreSame b a }
     ensures transitive { (a b c : County) → IsCounty a → IsCounty b → AreSame a b → AreSame b c → AreSame a c }
 {}
 
-/// The identity carries a county onto itself, the inverse of a renaming carries back, and two renamings in a row carry
-/// on.
+/// The identity carries a county onto itself. The inverse of a renaming carries back. Two renamings, one after the other, carry as
+/// one.
 pub fn renamings_compose()
     ensures identity { (a : County) → Carries (identity a) a a }
     ensures inverse { (r : Renumbering) (a b : County) → IsCounty a → IsCounty b → Carries r a b → Carries (inverse r) b a }
@@ -30,7 +30,7 @@ pub fn renamings_compose()
         IsCounty a → IsCounty b → Carries r a b → Carries next b c → Carries (then r next) a c }
 {}
 
-/// A list of records is linked or has a first broken rule, never both, and never two.
+/// A list of records either is linked or has exactly one first broken rule.
 #[tactic(auto, using(crate::proofs::Rules::LinkFaults::linked_has_none, crate::proofs::Rules::LinkFaults::one_first_rule))]
 pub fn linked_or_one_first_broken_rule()
     ensures either { (records : List Record) →
@@ -41,12 +41,12 @@ pub fn linked_or_one_first_broken_rule()
         IsFirstBrokenRule records fault → IsFirstBrokenRule records other → fault ≡ other }
 {}
 
-/// In the county of a linked list of records the numbers ascend, and each number that a part names is there.
+/// In the county of a linked list of records the numbers ascend, and each number that a part names exists.
 pub fn linked_records_have_a_well_formed_county()
     ensures { (records : List Record) → IsLinked records → IsCounty (county_of records) }
 {}
 
-/// Linked records that fit, and of no type more than `limit`, have a county within its limits.
+/// If linked records fit, and there are at most `limit` of each type, their county is within its limits.
 pub fn linked_records_have_a_county_within_limits()
     ensures { (limit : ℕ) (records : List Record) →
         IsLinked records → AllByRecursion FitsRecord records → IsWithinLimit limit records →
@@ -59,9 +59,8 @@ pub fn counties_within_limits_are_packed_into_records_that_fit()
         IsCounty county → IsWithinLimits limit county → AllByRecursion FitsRecord (packed county) }
 {}
 
-/// Records that are linked stay so, and their county stays the same, where they are reordered, where a record of type 2 or 4
-/// is split or two are joined again, where one that holds nothing is left out, and where other RTSQs keep the order of each
-/// chain's records.
+/// Linked records stay linked, and their county stays the same, if they are reordered, if a record of type 2 or 4 is split or two
+/// are joined again, if one that holds nothing is left out, and if other RTSQs keep the order of each chain's records.
 pub fn the_county_is_what_the_records_say()
     ensures reordered { (records others : List Record) →
         IsPermutation records others → IsLinked records → IsLinked others × (county_of others ≡ county_of records) }

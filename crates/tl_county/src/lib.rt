@@ -1,10 +1,9 @@
-//! One county: what a list of records says of the map, when the records fit together, and when two counties are the same map.
+//! One county: the map that a list of records describes, when the records fit together, and when two counties are the same map.
 //!
-//! A caller starts with `link`, or with `link_in` for a county in an arena; whoever has tables by type calls `link_tables`. A whole
-//! call goes by `link_in_order` and then `LinkedRecords::county`, which leaves the records where they are. A county is read by its
-//! getters, and in whatever way it is kept by the calls of `Chart`, which answer by place (`tlid_at`), by number (`chain_body_of`),
-//! and at a place that is known to be there (`tlid_there`). Another way to keep a county is another `impl Chart`.
-//! A proved caller stands in `layers.rt` of the crate `uses`.
+//! Start with `link`, or with `link_in` for a county in an arena. The program itself calls `link_in_order` and then `LinkedRecords::county`, which leaves the records in place. A county is read by its
+//! getters. Whatever its storage, it is also read by the calls of `Chart`: by place (`tlid_at`), by number (`chain_body_of`), and
+//! at a place that is known to exist (`tlid_there`). To store a county another way, implement `Chart`. There is a proved caller in
+//! `layers.rt` of the crate `uses`.
 #![tactic(auto)]
 
 mod body_order;
@@ -20,9 +19,7 @@ pub use chart::Chart;
 pub use fault::{LinkFault, LinkedType, SequencedType};
 pub use kept::{County, CountyIn, CountyOver};
 pub use keys::key_set::KeySet;
-pub use keys::keyed::{
-    Key, Keyed, least_repeated, least_unknown, place_of, put_in_order, sort_keys, split_group,
-};
+pub use keys::keyed::{Key, Keyed, least_unknown, place_of, put_in_order, sort_keys, split_group};
 pub use keys::record_keys::PolygonKey;
 pub use laws::{
     counties_within_limits_are_packed_into_records_that_fit, linked_or_one_first_broken_rule,
@@ -30,4 +27,4 @@ pub use laws::{
     renamings_compose, sameness_is_an_equivalence, the_county_is_what_the_records_say,
 };
 pub use linking::linked_records::{LinkedRecords, link_in_order};
-pub use linking::{link, link_in, link_tables, link_tables_in};
+pub use linking::{link, link_in};

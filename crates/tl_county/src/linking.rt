@@ -1,8 +1,8 @@
-//! Linking: records become a county, or the first rule that they break is told.
+//! Linking: turns records into a county, or reports the first rule that they break.
 //!
-//! Each table is put in order once; then tables in order are walked side by side, for the rules and for the county alike. Only names
-//! are looked up, once for each use by a chain, and uses are put in order only where some FEAT has no record of type 5. A county is built
-//! the same way whichever way it is kept: a builder makes its chains and landmarks.
+//! Each table is put in order once. Then the tables are walked side by side, both to check the rules and to build the county. Only
+//! names are looked up, once for each use by a chain; uses are sorted only if some FEAT has no record of type 5. Every kind of
+//! county is built the same way: a builder makes its chains and landmarks.
 
 ghost use Rattle.std.specs.Ordering.{nat_cmp};
 ghost use Rattle.std.specs.Prelude.{◌≡◌, ◌≢◌, ◌++◌, List, map, flat_map, OnOk, IfOk, IfErr, IsPermutation};
@@ -34,9 +34,9 @@ mod table_order;
 
 use crate::chart::Chart;
 use crate::fault::LinkFault;
-use crate::kept::keeping::{KeptChain, KeptLandmark, KeptName};
+use crate::kept::keeping::{StoredChain, StoredLandmark, StoredName};
 use crate::kept::table::Table;
-use crate::kept::{County, CountyIn, Kept};
+use crate::kept::{County, CountyIn, StoredCounty};
 use crate::keys::keyed::keys_of;
 use crate::keys::record_keys::PolygonKey;
 use crate::linking::building::{
@@ -53,15 +53,15 @@ use bumpalo::Bump;
 use std::alloc::{AllocError, Global};
 use tl_layout::{BodyP, Rec5, Record, Tables};
 
-/// What records refer to: the least use of a FEAT that has no record of type 5, as TLID and FEAT, and the polygons of the records
-/// of type 8, in order.
+/// What records refer to: the least use of a FEAT that has no record of type 5, as TLID and FEAT, and the polygons of the type 8
+/// records, in order.
 #[derive(Drop)]
 struct References {
     unnamed: Option<(u64, u32)>,
     polygons: Vec<PolygonKey>,
 }
 
-/// What the records of tables in order refer to, whose FEATs are these.
+/// What the records of tables in order refer to. `feats` are the FEATs of the tables' names.
 fn gather_references(
     alloc: Global,
     tables: &Tables,
@@ -79,7 +79,7 @@ fn gather_references(
     Ok(References { unnamed, polygons })
 }
 
-/// The ten rules, over tables in order, with what that told, with what they refer to, and their polygons in order.
+/// Checks the ten rules over tables in order, given what the sorting found, what the records refer to, and the polygons in order.
 fn check_rules(
     tables: &Tables,
     ordered: &Ordered,
@@ -111,7 +111,7 @@ fn check_rules(
 }
 
 /// The chains of tables in order, under their TLIDs.
-fn build_chains<'t, C: KeptChain, B: ChainBuilder<'t, C>>(
+fn build_chains<'t, C: StoredChain, B: ChainBuilder<'t, C>>(
     alloc: Global,
     builder: &mut B,
     tables: &'t Tables,
@@ -149,7 +149,7 @@ fn build_polygons(
 }
 
 /// The landmarks of tables in order, under their LANDs.
-fn build_landmarks<L: KeptLandmark, B: LandmarkBuilder<L>>(
+fn build_landmarks<L: StoredLandmark, B: LandmarkBuilder<L>>(
     alloc: Global,
     builder: &mut B,
     tables: &Tables,
@@ -178,7 +178,7 @@ fn build_nodes_and_polygons(
     Ok((nodes, polygons))
 }
 
-/// The chains, nodes, polygons and landmarks of a county, which are all of it but its names.
+/// The chains, nodes, polygons and landmarks of a county: all of it except the names.
 #[derive(Drop)]
 struct CountyParts<C: Drop, L: Drop> {
     chains: Table<u64, C>,
@@ -187,8 +187,8 @@ struct CountyParts<C: Drop, L: Drop> {
     landmarks: Table<u64, L>,
 }
 
-/// The parts of the county of linked tables in order, all but the names.
-fn build_parts<'t, C: KeptChain, L: KeptLandmark, B: ChainBuilder<'t, C> + LandmarkBuilder<L>>(
+/// The parts of the county of linked tables in order, all except the names.
+fn build_parts<'t, C: StoredChain, L: StoredLandmark, B: ChainBuilder<'t, C> + LandmarkBuilder<L>>(
     alloc: Global,
     builder: &mut B,
     tables: &'t Tables,
@@ -215,12 +215,12 @@ fn build_parts<'t, C: KeptChain, L: KeptLandmark, B: ChainBuilder<'t, C> + Landm
     })
 }
 
-/// The county of linked tables in order, with these names of its records of type 5, in their order.
+/// The county of linked tables in order. `names` are the names of its type 5 records, in their order.
 pub(crate) fn build_county<
     't,
-    C: KeptChain,
-    N: KeptName,
-    L: KeptLandmark,
+    C: StoredChain,
+    N: StoredName,
+    L: StoredLandmark,
     B: ChainBuilder<'t, C> + LandmarkBuilder<L>,
 >(
     alloc: Global,
@@ -230,7 +230,7 @@ pub(crate) fn build_county<
     feats: Vec<u32>,
     names: Vec<N>,
     polygons: Vec<PolygonKey>,
-) -> Result<Kept<C, N, L>, AllocError>
+) -> Result<StoredCounty<C, N, L>, AllocError>
     requires tables { AreInOrder (typed_of tables.now) }
     requires linked { IsLinked (type_after_type (typed_of tables.now)) }
     requires tlids { tlids.items ≡ map one_tlid tables.now.type_1.items }
@@ -238,10 +238,10 @@ pub(crate) fn build_county<
     requires names { map N.name names.items ≡ map (λ (r : Fields5). r.body) tables.now.type_5.items }
     requires polygons { polygons.items ≡ distinct key_cmp (flat_map side_keys tables.now.type_i.items ++ map p_key tables.now.type_p.items) }
     requires limits { IsWithinLimits most_records (county_of (type_after_type (typed_of tables.now))) }
-    ensures { IfOk result (λ county. ⟦<Kept<C, N, L> as Chart>⟧.county county ≡ county_of (type_after_type (typed_of tables.now))) }
+    ensures { IfOk result (λ county. ⟦<StoredCounty<C, N, L> as Chart>⟧.county county ≡ county_of (type_after_type (typed_of tables.now))) }
 {
     let parts = build_parts::<C, L, B>(alloc, builder, tables, tlids, polygons)?;
-    Ok(Kept {
+    Ok(StoredCounty {
         chains: parts.chains,
         names: Table::new(feats, names),
         polygons: parts.polygons,
@@ -250,7 +250,7 @@ pub(crate) fn build_county<
     })
 }
 
-/// What was gathered of tables in order: the TLIDs of chains and the FEATs of names, both in order, and the polygons.
+/// What was gathered from tables in order: the TLIDs of chains and the FEATs of names, both in order, and the polygons.
 #[derive(Drop)]
 pub(crate) struct Gathered {
     pub(crate) tlids: Vec<u64>,
@@ -258,8 +258,8 @@ pub(crate) struct Gathered {
     pub(crate) polygons: Polygons,
 }
 
-/// Puts the tables in order and checks the ten rules, or tells the first one that the records break.
-pub(crate) fn settle(alloc: Global, tables: &mut Tables) -> Result<Gathered, LinkFault>
+/// Puts the tables in order and checks the ten rules. Returns the first rule that the records break, if any.
+pub(crate) fn sort_and_check(alloc: Global, tables: &mut Tables) -> Result<Gathered, LinkFault>
     ensures in_order { OnOk result (AreInOrder (typed_of tables.new)) }
     ensures same { OnOk result (ArePermuted (typed_of tables.old) (typed_of tables.new)) }
     ensures linked { OnOk result (IsLinked (type_after_type (typed_of tables.new))) }
@@ -284,9 +284,12 @@ pub(crate) fn settle(alloc: Global, tables: &mut Tables) -> Result<Gathered, Lin
     })
 }
 
-/// The county of tables of records, or the first rule that the records break. The tables' order has no meaning. They hold
-/// 10,000,000 records of a type at most.
-pub fn link_tables(alloc: Global, tables: Tables) -> Result<County, LinkFault>
+/// The county of tables of records. The order within a table has no meaning. A table may hold at most 10,000,000 records.
+///
+/// # Errors
+///
+/// The first rule that the records break, or `LinkFault::Memory` if an allocation failed.
+fn link_tables(alloc: Global, tables: Tables) -> Result<County, LinkFault>
     requires { HoldsWithinLimits tables }
     ensures linked { IfOk result (λ county. (records : List Record) →
         HoldsByType tables records → IsLinked records × (⟦<County as Chart>⟧.county county ≡ county_of records)) }
@@ -297,9 +300,13 @@ pub fn link_tables(alloc: Global, tables: Tables) -> Result<County, LinkFault>
     Ok(linked.into_county(alloc)?)
 }
 
-/// The county of tables of records in an arena, which outlives it, or the first rule that the records break. The tables' order
-/// has no meaning. They hold 10,000,000 records of a type at most.
-pub fn link_tables_in<'a>(
+/// The county of tables of records, in an arena that outlives it. The order within a table has no meaning. A table may hold at most
+/// 10,000,000 records.
+///
+/// # Errors
+///
+/// The first rule that the records break, or `LinkFault::Memory` if an allocation failed.
+fn link_tables_in<'a>(
     alloc: Global,
     arena: &'a Bump,
     tables: Tables,
@@ -314,8 +321,11 @@ pub fn link_tables_in<'a>(
     Ok(linked.into_county_in(alloc, arena)?)
 }
 
-/// The county of a list of records, or the first rule that the records break. The list's order has no meaning. It has
-/// 10,000,000 records of a type at most.
+/// The county of a list of records. The list's order has no meaning. It may hold at most 10,000,000 records of each type.
+///
+/// # Errors
+///
+/// The first rule that the records break, or `LinkFault::Memory` if an allocation failed.
 pub fn link(alloc: Global, records: Vec<Record>) -> Result<County, LinkFault>
     requires few { IsWithinLimit most_records records.items }
     ensures linked { IfOk result (λ county. IsLinked records.items × (⟦<County as Chart>⟧.county county ≡ county_of records.items)) }
@@ -325,8 +335,12 @@ pub fn link(alloc: Global, records: Vec<Record>) -> Result<County, LinkFault>
     link_tables(alloc, tables)
 }
 
-/// The county of a list of records in an arena, which outlives it, or the first rule that the records break. The list's order
-/// has no meaning. It has 10,000,000 records of a type at most.
+/// The county of a list of records, in an arena that outlives it. The list's order has no meaning. It may hold at most 10,000,000
+/// records of each type.
+///
+/// # Errors
+///
+/// The first rule that the records break, or `LinkFault::Memory` if an allocation failed.
 pub fn link_in<'a>(
     alloc: Global,
     arena: &'a Bump,

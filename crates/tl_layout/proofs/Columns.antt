@@ -7,7 +7,7 @@ use borrow.Rule.Slice.PartMut.{put_mid}
 use Rattle.std.proofs.lemmas.Bool.{cases_lt, eqb-true, ne_eqb}
 use Rattle.tl_layout.specs.FieldTexts.{digits_text, number_text, text_behind}
 
--- eight digits written side by side
+-- eight digits side by side
 pub eight_digits_text : (n : ℕ) → n < 100000000
     → (48 + n / 10000000) ∷ (48 + n / 1000000 % 10) ∷ (48 + n / 100000 % 10) ∷ (48 + n / 10000 % 10) ∷ (48 + n / 1000 % 10) ∷ (48 + n / 100 % 10) ∷ (48 + n / 10 % 10) ∷ (48 + n % 10) ∷ []
     ≡ digits_text 8 n
@@ -23,7 +23,7 @@ eight_digits_text n low =
     let h : 48 + n % 10 ≡ 48 + n % 10 = omega arith in
     λ i. a i ∷ b i ∷ c i ∷ d i ∷ e i ∷ f i ∷ g i ∷ h i ∷ []
 
--- A column is blank where the digits up to it make 0, and otherwise has the last of them.
+-- A column is blank if the digits up to it add up to 0, and has the last of them otherwise.
 column_by : (sum digit left : ℕ) → (left < 1) ⊎ (1 ≤ left) → sum < 129 → (sum ≡ 0 → left ≡ 0) → (left ≡ 0 → sum ≡ 0) → digit ≡ left % 10
     → digit + (sum + 127) / 128 * 16 + 32 ≡ (if left == 0 then 32 else 48 + left % 10)
 column_by sum digit left (inl none) few f g d =
@@ -41,7 +41,7 @@ column : (sum digit left : ℕ) → sum < 129 → (sum ≡ 0 → left ≡ 0) →
     → digit + (sum + 127) / 128 * 16 + 32 ≡ (if left == 0 then 32 else 48 + left % 10)
 column sum digit left = column_by sum digit left (cases_lt left 1)
 
--- the columns of a number of eight digits, of which none but zeros stand in front
+-- the columns of a number with at most eight digits
 columns_of : (n a b c d e f g h : ℕ) → n ≡ ((((((a * 10 + b) * 10 + c) * 10 + d) * 10 + e) * 10 + f) * 10 + g) * 10 + h
     → a < 10 → b < 10 → c < 10 → d < 10 → e < 10 → f < 10 → g < 10 → h < 10
     → (a + (a + 127) / 128 * 16 + 32) ∷ (b + (a + b + 127) / 128 * 16 + 32) ∷ (c + (a + b + c + 127) / 128 * 16 + 32) ∷ (d + (a + b + c + d + 127) / 128 * 16 + 32) ∷ (e + (a + b + c + d + e + 127) / 128 * 16 + 32) ∷ (f + (a + b + c + d + e + f + 127) / 128 * 16 + 32) ∷ (g + (a + b + c + d + e + f + g + 127) / 128 * 16 + 32) ∷ (h + (a + b + c + d + e + f + g + h + 127) / 128 * 16 + 32) ∷ [] ≡ number_text 8 n
@@ -82,13 +82,13 @@ nothing_or_digit : (filler n : ℕ) (b : Bool) → nat_eq n 0 ≡ b → filler �
 nothing_or_digit filler n true e f = f ∙ (let z = eqb-true n 0 e in omega arith)
 nothing_or_digit filler n false e f = refl
 
--- blanks in front of the digits
+-- leading blanks before the digits
 pub behind_blanks : (width n : ℕ) → text_behind 32 width n ≡ number_text width n
 unfolding text_behind number_text
 behind_blanks zero n = refl
 behind_blanks (suc width) n = ap (λ (l : List ℕ). l ++ (if n == 0 then 32 else 48 + n % 10) ∷ []) (behind_blanks width (n / 10))
 
--- zeros in front of the digits
+-- leading zeros before the digits
 pub behind_zeros : (width n : ℕ) → text_behind 48 width n ≡ digits_text width n
 unfolding text_behind digits_text
 behind_zeros zero n = refl
@@ -96,7 +96,7 @@ behind_zeros (suc width) n =
     ap (λ (l : List ℕ). l ++ (if n == 0 then 48 else 48 + n % 10) ∷ []) (behind_zeros width (n / 10))
     ∙ ap (λ (d : ℕ). digits_text width (n / 10) ++ d ∷ []) (nothing_or_digit 48 n (nat_eq n 0) refl refl)
 
--- the last eight digits are those of the number's last eight
+-- a number and its last eight digits have the same last eight digits
 pub last_eight_digits : (n : ℕ) → digits_text 8 (n % 100000000) ≡ digits_text 8 n
 unfolding digits_text
 last_eight_digits n =
@@ -117,7 +117,7 @@ first_of_nine n =
     let a : 48 + n / 100000000 % 10 ≡ 48 + n / 10 / 10 / 10 / 10 / 10 / 10 / 10 / 10 % 10 = omega arith in
     ap (λ (d : ℕ). d ∷ digits_text 8 n) a
 
--- nine digits are one before eight
+-- nine digits are one digit and eight more
 pub nine_digits_text : (n : ℕ) → (48 + n / 100000000 % 10) ∷ digits_text 8 (n % 100000000) ≡ digits_text 9 n
 nine_digits_text n = ap (λ (l : List ℕ). (48 + n / 100000000 % 10) ∷ l) (last_eight_digits n) ∙ first_of_nine n
 
@@ -127,18 +127,13 @@ blank_column left z = rw z refl
 digit_column : (left digit : ℕ) → 0 < left → digit ≡ 48 + left % 10 → digit ≡ (if left == 0 then 32 else 48 + left % 10)
 digit_column left digit more d = rw (ne_eqb left 0 (λ z. omega arith)) d
 
-two_blanks : (n : ℕ) → n / 100000000 ≡ 0 → 32 ∷ 32 ∷ number_text 8 n ≡ number_text 10 n
+-- ten columns of a number of eight digits at most
+pub ten_columns_low : (n : ℕ) → n < 100000000 → 32 ∷ 32 ∷ number_text 8 n ≡ number_text 10 n
 unfolding number_text
-two_blanks n low =
+ten_columns_low n low =
     let a = blank_column (n / 10 / 10 / 10 / 10 / 10 / 10 / 10 / 10 / 10) (omega arith) in
     let b = blank_column (n / 10 / 10 / 10 / 10 / 10 / 10 / 10 / 10) (omega arith) in
     λ i. a i ∷ b i ∷ number_text 8 n
-
--- ten columns of a number of eight digits at most
-pub ten_columns_low : (n : ℕ) → n / 100000000 ≡ 0 → 32 ∷ 32 ∷ number_text 8 (n % 100000000) ≡ number_text 10 n
-ten_columns_low n low =
-    let same : n % 100000000 ≡ n = omega arith in
-    ap (λ (m : ℕ). 32 ∷ 32 ∷ number_text 8 m) same ∙ two_blanks n low
 
 all_digits : (n first : ℕ) → 0 < n / 100000000
     → first ≡ (if n / 10 / 10 / 10 / 10 / 10 / 10 / 10 / 10 / 10 == 0 then 32 else 48 + n / 10 / 10 / 10 / 10 / 10 / 10 / 10 / 10 / 10 % 10)
@@ -156,7 +151,7 @@ all_digits n first high is =
     let h = digit_column n _ (omega arith) refl in
     λ i. is i ∷ z i ∷ a i ∷ b i ∷ c i ∷ d i ∷ e i ∷ f i ∷ g i ∷ h i ∷ []
 
--- ten columns of a number of more than eight digits, whose first column is given
+-- ten columns with a number of more than eight digits, whose first column is given
 pub ten_columns_high : (n first : ℕ) → 0 < n / 100000000
     → first ≡ (if n / 10 / 10 / 10 / 10 / 10 / 10 / 10 / 10 / 10 == 0 then 32 else 48 + n / 10 / 10 / 10 / 10 / 10 / 10 / 10 / 10 / 10 % 10)
     → first ∷ (48 + n / 100000000 % 10) ∷ digits_text 8 (n % 100000000) ≡ number_text 10 n
@@ -171,7 +166,7 @@ first_of_ten n first most (inl lt) f g = f lt ∙ blank_column (n / 10 / 10 / 10
 first_of_ten n first most (inr ge) f g =
     g ge ∙ digit_column (n / 10 / 10 / 10 / 10 / 10 / 10 / 10 / 10 / 10) (48 + n / 100000000 / 10) (omega arith) (omega arith)
 
--- the first two places were written, and then all others
+-- the first two positions were written, and then all others
 pub two_then_rest : (out : List ℕ) (first second k : ℕ) (rest : List ℕ) → 2 ≤ length out → k ≡ length out - 2
     → put_mid 2 k (slice_set (slice_set out 0 first) 1 second) rest ≡ first ∷ second ∷ rest
 two_then_rest [] first second k rest h e = absurd (omega arith)

@@ -1,4 +1,4 @@
--- A coordinate of a sign and digits alone.
+-- A coordinate that is only a sign and digits.
 use Rattle.std.proofs.Common.{◌≡◌, ℕ, ◌≤◌, ◌⊎◌, inl, inr, true, List, [], ◌∷◌, length, get_or, ℤ, Option, Some, None, IfSome}
 use Rattle.std.proofs.Common.{refl, sym, ap, ◌∙◌, arith}
 use Rattle.std.proofs.lemmas.Bool.{le-leb}
@@ -24,7 +24,7 @@ unfolding coordinate_of signed_of
 signed_is limit m sign text value d n h plus minus (inl e) = rw e (ap plus_of (magnitude_is limit m text d n h) ∙ sym (plus e))
 signed_is limit m sign text value d n h plus minus (inr e) = rw e (ap minus_of (magnitude_is limit m text d n h) ∙ sym (minus e))
 
--- the same of what was found, if anything was
+-- the same for the coordinate that was found, if one was
 pub found_is : (limit m sign : ℕ) (text field : List ℕ) (found : Option ℤ) → field ≡ sign ∷ text → is_digit (get_or text 0 0) ≡ true
     → number_after 0 text ≡ Some m → m ≤ limit → IfSome found (λ value. sign ≡ 43 → Value value ≡ plus_of (Some m))
     → IfSome found (λ value. sign ≡ 45 → Value value ≡ minus_of (Some m)) → IfSome found (λ _. (sign ≡ 43) ⊎ (sign ≡ 45))
@@ -33,7 +33,7 @@ found_is limit m sign text field None is d n h plus minus told = tt
 found_is limit m sign text field (Some value) is d n h plus minus told =
     ap (coordinate_of limit) is ∙ signed_is limit m sign text value d n h plus minus told
 
--- a field is its first byte and those behind it
+-- a field is its first byte and the bytes after it
 pub first_and_eight : (field : List ℕ) → length field ≡ 9 → field ≡ get_or field 0 0 ∷ chunk 1 8 field
 first_and_eight [] l = absurd (omega arith)
 first_and_eight (x ∷ xs) l = ap (λ (rest : List ℕ). x ∷ rest) (sym (take_all 8 xs (omega arith)))

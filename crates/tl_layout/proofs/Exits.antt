@@ -1,7 +1,7 @@
--- The exits of `?`.
+-- Exits by `?`.
 use Rattle.std.proofs.Common.{◌≡◌, Result, IfErr, IsErrAnd}
 use Rattle.std.proofs.lemmas.Result.{err_from_is_err_and}
 
--- what holds of the callee's error holds of the answer
+-- a property of the callee's error is a property of the returned error
 pub exit_with : {T E : Type 0} (r : Result T E) (f : E) (P : E → Type 0) → IsErrAnd r (λ e. e ≡ f) → P f → IfErr r P
 exit_with r f P is holds = let p = err_from_is_err_and r is in rw (p.1, p.2) holds

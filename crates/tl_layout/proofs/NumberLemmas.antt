@@ -2,11 +2,11 @@
 use Rattle.std.proofs.Common.{◌<◌, ◌+◌, ◌*◌, ◌^◌, ℕ, arith, add-one, lit<}
 use Rattle.std.proofs.Math.Nat.{pow-succ', pow-le-pow_right}
 
--- one more digit keeps below one more power of ten
+-- a number with one more digit is below a power of ten one higher
 pub digit_more : (v d i : ℕ) → v < 10 ^ i → d < 10 → 10 * v + d < 10 ^ (i + 1)
 digit_more v d i h g = rw (add-one, pow-succ' 10 i) (omega arith)
 
--- nineteen digits fit 64 bits, with a digit more as well while there are fewer
+-- nineteen digits fit into 64 bits, so a digit more fits while there are fewer
 pub digit_fits : (v d i : ℕ) → v < 10 ^ i → d < 10 → i < 19 → 10 * v + d < 2 ^ 64
 digit_fits v d i h g k =
     let below = digit_more v d i h g in

@@ -1,4 +1,4 @@
--- Reading places one after another: what was read so far stands in front of what is read of the rest.
+-- Reading places one after another: the items that were read, followed by those of the remaining places.
 use Rattle.std.proofs.Common.{◌≡◌, ℕ, suc, ◌+◌, List, [], ◌∷◌, ◌++◌, Bool, true, false, Option, Some, None, Result, Ok, Err, refl}
 use Rattle.std.proofs.Common.{sym, ap, ◌∙◌, subst, append_assoc}
 use Rattle.std.proofs.Common.{◌≤◌, ◌*◌, arith}
@@ -14,13 +14,13 @@ use lib.Pointwise.{pointwise}
 use Rattle.std.proofs.Math.Nat.{suc-mul}
 use Rattle.std.proofs.lemmas.List.{append-nil}
 use Rattle.tl_layout.specs.FieldReading.{and_then}
-use Rattle.tl_layout.specs.FieldLaws.{reads_on}
+use Rattle.tl_layout.specs.Laws.FieldLaws.{reads_on}
 use Rattle.tl_layout.specs.FieldFaults.{gap}
 use Rattle.tl_layout.specs.FieldReading.{places_reading}
 use Rattle.tl_layout.specs.declared.fault.FieldFault.{FieldFault}
 use Rattle.tl_layout.specs.declared.coordinate.TheConstants.{MOST_LONGITUDE, MOST_LATITUDE}
 
--- the items so far in front of those that are read
+-- the items so far, followed by those that are read
 abbrev pub with_front : {A : Type 0} → List A → Result (List A) FieldFault → Result (List A) FieldFault
 with_front front reading = and_then reading (λ xs. Ok (front ++ xs))
 
@@ -69,11 +69,11 @@ unfolding and_then
 at_start (Ok xs) = refl
 at_start (Err e) = refl
 
--- the columns of the places that are left, after one of them
+-- the columns of the remaining places, after the first of them
 pub next_column : (n column width all : ℕ) → column + suc n * width ≡ all → column + width + n * width ≡ all
 next_column n column width all h = let one = suc-mul n width in omega arith
 
--- the columns of one of them are among those of all
+-- the columns of one place are within those of all places
 pub column_within : (n column width count wide many : ℕ) → column + suc n * width ≡ 19 + count * width → width ≡ wide → count ≡ many
     → column + wide ≤ 19 + many * wide
 column_within n column width count wide many h w c =
@@ -92,13 +92,13 @@ same_bytes (x ∷ xs) (y ∷ ys) h =
     let rest = same_bytes xs ys parts.1 in
     λ i. first i ∷ rest i
 
--- a pair of zeros is no point
+-- a pair of zeros isn't a point
 zeros_read : (long lat : List ℕ) → long ≡ take 10 ZEROS → lat ≡ drop 10 ZEROS → (column : ℕ)
     → pair_of column (coordinate_of MOST_LONGITUDE long) (coordinate_of MOST_LATITUDE lat) ≡ Ok None
 unfolding coordinate_of signed_of magnitude_of number_after point_or_none
 zeros_read long lat e f column = rw (e, f) refl
 
--- where a pair of zeros stands there is no point
+-- a place that holds a pair of zeros has no point
 pub zeros_are_none : (column : ℕ) (line : List ℕ) → 1 ≤ column → pointwise eqb (columns column (column + 18) line) ZEROS ≡ true
     → point_or_none_at column line ≡ Ok None
 unfolding point_or_none_at

@@ -5,7 +5,7 @@ use Rattle.std.specs.List.{AllByRecursion}
 use Rattle.std.proofs.lemmas.List.{append-nil}
 use Rattle.tl_layout.specs.FieldTexts.{places_text}
 
--- the text of the places from one on is that place's text, and the text of those behind it
+-- the text of the places from one on is that place's text and the text of the places after it
 pub one_place : {A : Type 0} (text : Option A → List ℕ) (n place : ℕ) (xs : List A)
     → places_text text (suc n) (drop place xs) ≡ text (slice_get xs place) ++ places_text text n (drop (suc place) xs)
 unfolding places_text
@@ -14,7 +14,7 @@ one_place text n zero (x ∷ xs) = refl
 one_place text n (suc place) [] = refl
 one_place text n (suc place) (x ∷ xs) = one_place text n place xs
 
--- a place was written behind those before it
+-- a place was written after the places before it
 pub place_written : {A : Type 0} (text : Option A → List ℕ) (n place next : ℕ) (xs : List A) (before after all : List ℕ)
     → before ++ places_text text (suc n) (drop place xs) ≡ all → after ≡ before ++ text (slice_get xs place) → next ≡ suc place
     → after ++ places_text text n (drop next xs) ≡ all
@@ -30,14 +30,14 @@ pub all_written : {A : Type 0} (text : Option A → List ℕ) (xs : List A) (aft
 unfolding places_text
 all_written text xs after all h = sym (append-nil after) ∙ h
 
--- what holds at each of the first places holds of each item, if there are no more items
+-- if each of the first places has a property, so does each item, provided that there are no more items
 pub each_from_places : {A : Type 0} (P : A → Type 0) (n : ℕ) (xs : List A) → length xs ≤ n → ((k : ℕ) → k < n → IfSome (slice_get xs k) P)
     → AllByRecursion P xs
 each_from_places P n [] l h = tt
 each_from_places P zero (x ∷ xs) l h = absurd (omega arith)
 each_from_places P (suc n) (x ∷ xs) l h = (h 0 (omega arith), each_from_places P n xs (omega arith) (λ k b. h (suc k) (omega arith)))
 
--- the same columns, and the same text
+-- equal columns and equal texts
 pub at_columns : (last last' first first' : ℕ) (new old text text' : List ℕ) → take last new ≡ take first old ++ text → last ≡ last'
     → first ≡ first' → text ≡ text' → take last' new ≡ take first' old ++ text'
 at_columns last last' first first' new old text text' h a b c = (cc)

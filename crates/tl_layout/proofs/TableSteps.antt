@@ -1,4 +1,4 @@
--- Tables that hold a list hold a longer one after a record was added.
+-- If tables hold a list, they hold the longer list after a record was added.
 use Rattle.std.proofs.Common.{◌≡◌, List, [], ◌∷◌, ◌++◌, Option, Some, None, refl, sym, ap, ◌∙◌, append-nil}
 use Rattle.std.specs.List.{filter_map, cons_option}
 use Rattle.std.proofs.lemmas.List.Elements.{filter_map-append}

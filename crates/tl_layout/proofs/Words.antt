@@ -11,13 +11,13 @@ use Rattle.tl_layout.specs.NumberField.{is_blank, is_digit}
 use Rattle.tl_layout.specs.NumberReading.{drop_blanks, number_after}
 use lib.Lanes.{mask_l, sel_l}
 
--- of two bytes in front of a word the first one is kept
+-- masking a word with two bytes before it keeps the first of the two
 first_of_two : (x y a b : ℕ) → a < 256 → b < 256 → bit_and (x * 65536 + (b * 256 + a)) (y * 65536 + 255) ≡ bit_and x y * 65536 + a
 first_of_two x y a b la lb =
     let low : bit_and (b * 256 + a) 255 ≡ a = and_mask (b * 256 + a) 8 ∙ omega arith in
     and_block 16 x y (b * 256 + a) 255 (omega arith) (lit< tt) ∙ ap (λ (n : ℕ). bit_and x y * 65536 + n) low
 
--- of the bytes of a word those at even places are kept
+-- masking the bytes of a word keeps those at even positions
 pub pairs_kept : (a b c d e f g h : ℕ) → a < 256 → b < 256 → c < 256 → d < 256 → e < 256 → f < 256 → g < 256 → h < 256
     → bit_and (((((h * 256 + g) * 65536 + (f * 256 + e)) * 65536 + (d * 256 + c)) * 65536) + (b * 256 + a)) 71777214294589695
     ≡ ((g * 65536 + e) * 65536 + c) * 65536 + a
@@ -28,7 +28,7 @@ pairs_kept a b c d e f g h la lb lc ld le lf lg lh =
     first_of_two (((h * 256 + g) * 65536 + (f * 256 + e)) * 65536 + (d * 256 + c)) 1095233372415 a b la lb
     ∙ ap (λ (n : ℕ). n * 65536 + a) second
 
--- of four numbers in a word those at even places are kept
+-- masking four numbers in a word keeps those at even positions
 pub fours_kept : (a b c d : ℕ) → a < 65536 → b < 65536 → c < 65536 → d < 65536
     → bit_and ((d * 65536 + c) * 4294967296 + (b * 65536 + a)) 281470681808895 ≡ c * 4294967296 + a
 fours_kept a b c d la lb lc ld =
@@ -46,19 +46,19 @@ one_lane p x xs zero d true t e lt more = t
 one_lane p x xs (suc i) d true t e lt more = more i (omega arith) (omega arith)
 one_lane p x xs i d false t e lt more = absurd (omega arith)
 
--- where the mask of a test has a bit for each lane, each lane passes
+-- if the mask of a test has a bit for each lane, each lane passes
 pub full_mask : (p : ℕ → Bool) (xs : List ℕ) (i d : ℕ) → mask_l (map p xs) + 1 ≡ 2 ^ length xs → i < length xs → p (get_or xs i d) ≡ true
 full_mask p [] i d e lt = absurd (omega arith)
 full_mask p (x ∷ xs) i d e lt =
     one_lane p x xs i d (p x) refl (e ∙ pow-succ' 2 (length xs)) lt (λ j h k. full_mask p xs j d h k)
 
--- a byte is a digit if it is below ten from the byte of 0 on
+-- a byte is a digit if it is less than ten above the byte of 0
 pub digit_from : (b : ℕ) → b < 256 → ltb ((b + (256 - 48)) % 256) 10 ≡ true → is_digit b ≡ true
 digit_from b byte t =
     let lt = ltb-true ((b + (256 - 48)) % 256) 10 t in
     and_from _ _ (le-leb 48 b (omega arith)) (le-leb b 57 (omega arith))
 
--- the byte is that of this digit
+-- the byte is the character of this digit
 pub record IsDigitOf (b digit : ℕ) : Type 0 where
   pub is : b ≡ 48 + digit
   pub below : digit < 10
@@ -71,7 +71,7 @@ digit_of b h =
     let high : b ≤ 57 = leb-true b 57 p.1 in
     record { is = omega arith; below = omega arith; passes = h }
 
--- eight bytes in a word, the first in its lowest byte, less as many times that of 0
+-- the bytes of eight digits in a word, the first in its lowest byte, minus the byte of 0 in each
 pub digits_in_word : (w a b c d e f g h : ℕ) → a < 10 → b < 10 → c < 10 → d < 10 → e < 10 → f < 10 → g < 10 → h < 10
     → w ≡ ((((((((48 + h) * 256 + (48 + g)) * 256 + (48 + f)) * 256 + (48 + e)) * 256 + (48 + d)) * 256 + (48 + c)) * 256 + (48
     + b)) * 256 + (48 + a))
@@ -95,7 +95,7 @@ four_in_word a b c d la lb lc ld pairs fours p q =
     ∙ fours_kept (100 * a + b) (100 * b + c) (100 * c + d) (100 * d) (omega arith) (omega arith) (omega arith) (omega arith) in
     and_mask (10000 * fours + fours / 4294967296) 32 ∙ omega arith
 
--- the number of the eight digits in a word, the first digit in its lowest byte
+-- the number that the eight digits in a word make, with the first digit in the lowest byte
 pub eight_in_word : (a b c d e f g h : ℕ) → a < 10 → b < 10 → c < 10 → d < 10 → e < 10 → f < 10 → g < 10 → h < 10 → (ones pairs fours : ℕ)
     → ones ≡ ((((((h * 256 + g) * 256 + f) * 256 + e) * 256 + d) * 256 + c) * 256 + b) * 256 + a
     → pairs ≡ bit_and (10 * ones + ones / 256) 71777214294589695
@@ -115,7 +115,7 @@ eight_in_word a b c d e f g h la lb lc ld le lf lg lh ones pairs fours o p q =
     (omega arith) pairs fours two q
     ∙ omega arith
 
--- one digit more was read
+-- one more digit was read
 number_step : (n i next digit more : ℕ) (bytes : List ℕ) → i < length bytes → next ≡ i + 1 → IsDigitOf (get_or bytes i 0) digit
     → more ≡ 10 * n + digit → number_after n (drop i bytes) ≡ number_after more (drop next bytes)
 unfolding number_after
@@ -123,7 +123,7 @@ number_step n i next digit more bytes lt e h m =
     let same : 10 * n + (get_or bytes i 0 - 48) ≡ more = (let is = h.is in omega arith) in
     rw (drop_more bytes i 0 lt, h.passes, e, same) refl
 
--- what eight digits make behind others, and nothing behind them
+-- the number that eight digits make after others, if nothing follows them
 pub number_of_eight : (before : ℕ) (bytes : List ℕ) (a b c d e f g h : ℕ) → length bytes ≡ 8 → IsDigitOf (get_or bytes 0 0) a
     → IsDigitOf (get_or bytes 1 0) b
     → IsDigitOf (get_or bytes 2 0) c → IsDigitOf (get_or bytes 3 0) d → IsDigitOf (get_or bytes 4 0) e → IsDigitOf (get_or bytes 5 0) f
@@ -138,7 +138,7 @@ number_of_eight before bytes a b c d e f g h l ia ib ic id ie i_f ig ih number i
     ∙ number_step _ 6 7 g _ bytes (omega arith) refl ig refl ∙ number_step _ 7 8 h number bytes (omega arith) refl ih (omega arith)
     ∙ ap (number_after _) (drop_all 8 bytes (omega arith))
 
--- the byte of 0 in place of a blank
+-- the byte of 0 instead of a blank
 abbrev pub filled : ℕ → ℕ
 filled b = cond (is_blank b) 48 b
 
@@ -151,7 +151,7 @@ no_blanks : (xs : List ℕ) → mask_l (map is_blank xs) ≡ 0 → map filled xs
 no_blanks [] h = refl
 no_blanks (x ∷ xs) h = no_blank_here x xs (is_blank x) refl h (λ e. no_blanks xs e)
 
--- a number whose lowest bit is set has no bit in common with the next number, if that is so of the other bits
+-- a number whose lowest bit is set has no bit in common with the next number, if this holds for the other bits
 odd_with_next : (m : ℕ) → bit_and (1 + 2 * m) (1 + 2 * m + 1) ≡ 2 * bit_and m (m + 1)
 odd_with_next m =
     let a : 1 + 2 * m ≡ m * 2 + 1 = omega arith in
@@ -182,13 +182,13 @@ blank_or_not x xs false e h more =
     let same = and_self (mask_l (map is_blank xs)) in omega arith) in
     rw (e, no_blanks xs none) refl
 
--- Blanks stand in front alone if no bit of their mask is set in the next number. Then the field's number is that of the
--- digits with zeros in place of the blanks.
+-- If no bit of the blanks' mask is set in the next number, there are only leading blanks. The field's number is then the one
+-- with zeros instead of the blanks.
 pub gives_number : (xs : List ℕ) → GivesNumber xs
 gives_number [] h = refl
 gives_number (x ∷ xs) h = blank_or_not x xs (is_blank x) refl h (gives_number xs)
 
--- lanes that pass a test were given one value
+-- the lanes that pass a test were set to one value
 pub selected : (p : ℕ → Bool) (n value : ℕ) (xs : List ℕ) → length xs ≡ n → sel_l (map p xs) (replicate n value) xs ≡ map (λ b. cond
     (p b) value b) xs
 selected p zero value [] l = refl
@@ -196,7 +196,7 @@ selected p (suc n) value [] l = absurd (omega arith)
 selected p zero value (x ∷ xs) l = absurd (omega arith)
 selected p (suc n) value (x ∷ xs) l = ap (λ (ys : List ℕ). cond (p x) value x ∷ ys) (selected p n value xs (omega arith))
 
--- blanks in front don't count
+-- leading blanks don't count
 pub behind_two_blanks : (field : List ℕ) → 2 ≤ length field → get_or field 0 0 ≡ 32 → get_or field 1 0 ≡ 32
     → drop_blanks field ≡ drop_blanks (drop 2 field)
 behind_two_blanks [] l a b = absurd (omega arith)

@@ -1,11 +1,11 @@
--- What a buffer holds after a part of it was written.
+-- The contents of a buffer after a part of it was written.
 use Rattle.std.proofs.Common.{◌≡◌, ◌≤◌, ◌-◌, ◌+◌, ℕ, List, [], ◌∷◌, ◌++◌, length, take, drop, slice_set, codes, arith, ap, sym, ◌∙◌}
 use Rattle.std.proofs.lemmas.List.{drop_all, append-nil, take_all}
 use Rattle.std.proofs.lemmas.Slice.{take-put_mid}
 use Rattle.tl_layout.specs.Columns.{joined}
 use borrow.Rule.Slice.PartMut.{put_mid}
 
--- the first place was written, and then all others
+-- the first position was written, and then all others
 pub first_then_rest : (out : List ℕ) (first : ℕ) (rest : List ℕ) → 1 ≤ length out
     → put_mid 1 (length out - 1) (slice_set out 0 first) rest ≡ first ∷ rest
 first_then_rest [] first rest h = absurd (omega arith)
@@ -13,12 +13,12 @@ first_then_rest (x ∷ xs) first rest h =
     let none : drop (length (x ∷ xs) - 1) xs ≡ [] = drop_all (length (x ∷ xs) - 1) xs (omega arith) in
     ap (λ (left : List ℕ). first ∷ (rest ++ left)) none ∙ ap (λ (l : List ℕ). first ∷ l) (append-nil rest)
 
--- What stands up to the last column, after columns were written behind what stood before them.
+-- The buffer up to the last written column: the old contents before the first one, and the text.
 pub columns_written : (first last k : ℕ) (old text : List ℕ) → first - 1 ≤ length old → last ≡ (first - 1) + length text
     → take last (put_mid (first - 1) k old text) ≡ take (first - 1) old ++ text
 columns_written first last k old text f l = take-put_mid (first - 1) k old text last l f
 
--- the record type was written, and then the four bytes behind it
+-- the record type was written, and then the four bytes after it
 pub head_written : (out : List ℕ) (rtype : ℕ) (version : List ℕ) → 5 ≤ length out → version ≡ codes "2006"
     → take 5 (put_mid 1 4 (slice_set out 0 rtype) version) ≡ rtype ∷ codes "2006"
 head_written [] rtype version h e = absurd (omega arith)
@@ -26,11 +26,11 @@ head_written (x ∷ xs) rtype version h e =
     let five : 5 ≡ 1 + length (codes "2006") = omega arith in
     rw e (take-put_mid 1 4 (rtype ∷ xs) (codes "2006") 5 five (omega arith))
 
--- A text was written behind what stood there.
+-- A text was written after the contents so far.
 pub behind : {new rest before text text' : List ℕ} → new ≡ rest ++ text → rest ≡ before → text ≡ text' → new ≡ before ++ text'
 behind w h e = (cc)
 
--- The same for column after column, from the left: how each was written, and what its text is.
+-- The same for columns from left to right: how each was written, and what its text is.
 infixl 10 ◌▸◌
 pub ◌▸◌ : {new rest before text text' : List ℕ} → rest ≡ before → (new ≡ rest ++ text) × (text ≡ text') → new ≡ before ++ text'
 stood ▸ column = behind column.0 stood column.1
@@ -39,6 +39,6 @@ stood ▸ column = behind column.0 stood column.1
 pub whole : (last : ℕ) (out text : List ℕ) → length out ≡ last → take last out ≡ text → out ≡ text
 whole last out text l h = sym (take_all last out (omega arith)) ∙ h
 
--- The texts of a group were written behind what stood there.
+-- The texts of a group were written after the contents so far.
 pub group_behind : {new rest before : List ℕ} (texts : List (List ℕ)) → new ≡ joined rest texts → rest ≡ before → new ≡ joined before texts
 group_behind texts w h = w ∙ ap (λ l. joined l texts) h

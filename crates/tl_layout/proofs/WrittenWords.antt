@@ -3,7 +3,7 @@ use Rattle.std.proofs.Common.{◌≡◌, ℕ, suc, zero, ◌+◌, ◌-◌, ◌*�
 use Rattle.std.proofs.lemmas.Nat.{and_block, and_mask, le_bytes_8}
 use Rattle.std.specs.Int.{w64, to_le_bytes}
 
--- of two numbers in a word, behind nineteen bits, the lowest seven bits of each
+-- the lowest seven bits of each of two numbers in a word, nineteen bits up
 two_low_bits : (a b : ℕ) → a < 67108864 → b < 67108864 → bit_and ((b * 4294967296 + a) / 524288) 545460846719
     ≡ b / 524288 % 128 * 4294967296 + a / 524288 % 128
 two_low_bits a b la lb =
@@ -14,7 +14,7 @@ two_low_bits a b la lb =
     ∙ and_block 32 (b / 524288) 127 (b % 524288 * 8192 + a / 524288) 127 (omega arith) (lit< tt)
     ∙ (λ i. high i * 4294967296 + low i)
 
--- of two numbers in a word a hundredth of each
+-- a hundredth of each of two numbers in a word
 pub hundreds_in_word : (high low halves : ℕ) → high < 10000 → low < 10000 → halves ≡ low * 4294967296 + high
     → bit_and (5243 * halves / 524288) 545460846719 ≡ low / 100 * 4294967296 + high / 100
 hundreds_in_word high low halves lh ll is =
@@ -24,7 +24,7 @@ hundreds_in_word high low halves lh ll is =
     ap (λ (n : ℕ). bit_and (n / 524288) 545460846719) side_by_side
     ∙ two_low_bits (5243 * high) (5243 * low) (omega arith) (omega arith) ∙ (λ i. b i * 4294967296 + a i)
 
--- of four numbers in a word the lowest four bits of each
+-- the lowest four bits of each of four numbers in a word
 four_low_bits : (a b c d : ℕ) → a < 65536 → b < 65536 → c < 65536
     → bit_and (((d * 65536 + c) * 65536 + b) * 65536 + a) 4222189076152335
     ≡ ((d % 16 * 65536 + c % 16) * 65536 + b % 16) * 65536 + a % 16
@@ -39,7 +39,7 @@ four_low_bits a b c d la lb lc =
     and_block 16 (d * 65536 + c) 983055 b 15 (omega arith) (lit< tt) ∙ (λ i. two i * 65536 + third i) in
     and_block 16 ((d * 65536 + c) * 65536 + b) 64425492495 a 15 (omega arith) (lit< tt) ∙ (λ i. three i * 65536 + fourth i)
 
--- of four numbers in a word a tenth of each
+-- a tenth of each of four numbers in a word
 pub tens_in_word : (a b c d pairs : ℕ) → a < 100 → b < 100 → c < 100 → d < 100 → pairs ≡ ((d * 65536 + c) * 65536 + b) * 65536 + a
     → bit_and (103 * pairs / 1024) 4222189076152335 ≡ ((d / 10 * 65536 + c / 10) * 65536 + b / 10) * 65536 + a / 10
 tens_in_word a b c d pairs la lb lc ld is =
@@ -64,14 +64,14 @@ top_bit a la =
     ap (λ (n : ℕ). bit_and n 128) parted ∙ and_block 7 (a / 128) 1 (a % 128) 0 (omega arith) (lit< tt)
     ∙ (λ i. bit i * 128 + none i) ∙ omega arith
 
--- of the last byte its highest bit, and of those in front of it what is kept of them
+-- the highest bit of the last byte, and the masked bytes before it
 last_top_bit : (front mask kept a : ℕ) → a < 256 → bit_and front mask ≡ kept
     → bit_and (front * 256 + a) (mask * 256 + 128) ≡ kept * 256 + a / 128 * 128
 last_top_bit front mask kept a la e =
     let last = top_bit a la in
     and_block 8 front mask a 128 (omega arith) (lit< tt) ∙ (λ i. e i * 256 + last i)
 
--- of eight bytes in a word the highest bit of each
+-- the highest bit of each of eight bytes in a word
 pub eight_top_bits : (a b c d e f g h : ℕ) → a < 256 → b < 256 → c < 256 → d < 256 → e < 256 → f < 256 → g < 256 → h < 256
     → bit_and (((((((h * 256 + g) * 256 + f) * 256 + e) * 256 + d) * 256 + c) * 256 + b) * 256 + a) 9259542123273814144
     ≡ ((((((h / 128 * 128 * 256 + g / 128 * 128) * 256 + f / 128 * 128) * 256 + e / 128 * 128) * 256 + d / 128 * 128) * 256
@@ -114,7 +114,7 @@ digits_shown a b c d e f g h word la lb lc ld le lf lg lh is =
     bytes_of_word (48 + a) (48 + b) (48 + c) (48 + d) (48 + e) (48 + f) (48 + g) (48 + h) (word + 3472328296227680304)
     (omega arith) (omega arith) (omega arith) (omega arith) (omega arith) (omega arith) (omega arith) (omega arith) (omega arith)
 
--- of each digit in a word the sum of those up to it
+-- for each digit in a word, the sum of the digits up to it
 sums_in_word : (a b c d e f g h word : ℕ) → a < 10 → b < 10 → c < 10 → d < 10 → e < 10 → f < 10 → g < 10 → h < 10
     → word ≡ ((((((h * 256 + g) * 256 + f) * 256 + e) * 256 + d) * 256 + c) * 256 + b) * 256 + a
     → word * 72340172838076673 % 18446744073709551616
@@ -126,7 +126,7 @@ eighth_of_bits : (a b c d e f g h : ℕ) → (((((((h * 128 * 256 + g * 128) * 2
     ≡ ((((((h * 16 * 256 + g * 16) * 256 + f * 16) * 256 + e * 16) * 256 + d * 16) * 256 + c * 16) * 256 + b * 16) * 256 + a * 16
 eighth_of_bits a b c d e f g h = omega arith
 
--- The bytes of eight columns: 16 more than a blank where the sum of the digits up to a column isn't 0, and so the digit.
+-- The bytes of eight columns: a blank, or 16 more and so the digit if the sum of the digits up to the column isn't 0.
 pub columns_shown : (a b c d e f g h word : ℕ) → a < 10 → b < 10 → c < 10 → d < 10 → e < 10 → f < 10 → g < 10 → h < 10
     → word ≡ ((((((h * 256 + g) * 256 + f) * 256 + e) * 256 + d) * 256 + c) * 256 + b) * 256 + a
     → to_le_bytes w64 (word + bit_and (word * 72340172838076673 % 18446744073709551616 + 9187201950435737471) 9259542123273814144 / 8
@@ -143,7 +143,7 @@ columns_shown a b c d e f g h word la lb lc ld le lf lg lh is =
     bytes_of_word (a + (a + 127) / 128 * 16 + 32) (b + (a + b + 127) / 128 * 16 + 32) (c + (a + b + c + 127) / 128 * 16 + 32) (d + (a + b + c + d + 127) / 128 * 16 + 32) (e + (a + b + c + d + e + 127) / 128 * 16 + 32) (f + (a + b + c + d + e + f + 127) / 128 * 16 + 32) (g + (a + b + c + d + e + f + g + 127) / 128 * 16 + 32) (h + (a + b + c + d + e + f + g + h + 127) / 128 * 16 + 32) _
     (omega arith) (omega arith) (omega arith) (omega arith) (omega arith) (omega arith) (omega arith) (omega arith) (omega (arith, is, bits))
 
--- what becomes of two halves of a number in a word
+-- how the two halves of a number in a word are split
 pub record AreParted (high low hundreds pairs tens : ℕ) : Type 0 where
   pub hundredfold : 100 * hundreds ≤ low * 4294967296 + high
   pub room_for_tens : 103 * pairs < 2 ^ 64
@@ -154,7 +154,7 @@ pub record AreParted (high low hundreds pairs tens : ℕ) : Type 0 where
       ≡ ((((((low % 10 * 256 + low / 10 % 10) * 256 + low / 100 % 10) * 256 + low / 1000) * 256 + high % 10) * 256 + high / 10 % 10) * 256
       + high / 100 % 10) * 256 + high / 1000
 
--- four pairs of digits in a word are eight digits in it
+-- four pairs of digits in a word, split into eight digits
 pairs_parted : (a b c d pairs tens : ℕ) → a < 100 → b < 100 → c < 100 → d < 100 → pairs ≡ ((d * 65536 + c) * 65536 + b) * 65536 + a
     → tens ≡ ((d / 10 * 65536 + c / 10) * 65536 + b / 10) * 65536 + a / 10
     → (103 * pairs < 2 ^ 64) × (10 * tens ≤ pairs) × ((pairs - 10 * tens) * 256 < 2 ^ 64) × (tens + (pairs - 10 * tens) * 256 < 2 ^ 64)

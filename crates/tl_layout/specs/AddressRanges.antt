@@ -4,7 +4,7 @@ use Rattle.tl_layout.specs.Bytes.{IsText, columns}
 use Rattle.tl_layout.specs.Pairs.{FitsPair, pair_at, pair_texts}
 use Rattle.tl_layout.specs.declared.ranges.Ranges.{Ranges}
 
--- the ranges have fields of their widths
+-- each field of the ranges has its width
 pub record FitsRanges (ranges : Ranges) : Type 0 where
   pub fraddl : IsText 11 ranges.fraddl
   pub toaddl : IsText 11 ranges.toaddl
@@ -16,7 +16,7 @@ pub record FitsRanges (ranges : Ranges) : Type 0 where
   pub toiaddr : IsText 1 ranges.toiaddr
   pub zip : FitsPair 5 ranges.zip
 
--- the ranges of these fields
+-- the ranges made from these fields
 abbrev pub ranges_of : (fraddl toaddl fraddr toaddr friaddl toiaddl friaddr toiaddr zipl zipr : List ℕ) → Ranges
 ranges_of fraddl toaddl fraddr toaddr friaddl toiaddl friaddr toiaddr zipl zipr =
     record {
@@ -31,7 +31,7 @@ ranges_of fraddl toaddl fraddr toaddr friaddl toiaddl friaddr toiaddr zipl zipr 
       zip = record { left = zipl; right = zipr };
     }
 
--- the ranges that begin in this column of a line
+-- the ranges that begin at this column of a line
 abbrev pub ranges_at : ℕ → List ℕ → Ranges
 ranges_at first line =
     record {

@@ -1,4 +1,4 @@
--- The records of one type of a list of records, in their order.
+-- The records of one type in a list of records, in their order.
 use Rattle.std.specs.Prelude.{ℕ, List, Option, Some, None, filter_map, ◌==◌, filter}
 use Rattle.tl_layout.specs.Fields.{Fields1, Fields2, Fields4, Fields5, Fields6, Fields7, Fields8, FieldsI, FieldsP}
 use Rattle.tl_layout.specs.declared.record_type.Record.{Record}
@@ -67,6 +67,6 @@ of_type_i = filter_map as_type_i
 abbrev pub of_type_p : List Record → List FieldsP
 of_type_p = filter_map as_type_p
 
--- the elements that have this number
+-- the elements with this number
 abbrev pub of_number : {X : Type 0} → (X → ℕ) → ℕ → List X → List X
 of_number number n xs = filter (λ x. number x == n) xs

@@ -1,11 +1,11 @@
--- What bytes a line may hold, and the bytes of a column.
+-- The bytes that are allowed in a line, and the bytes in given columns.
 use Rattle.std.specs.Prelude.{◌≡◌, ℕ, ◌-◌, List, [], ◌∷◌, length, replicate, Bool, cond, nat_le, nat_lt, ◌&&◌, ◌||◌, IsTrue, slice_range, All}
 
--- a byte that a line may hold: printable ASCII, or the upper half of Latin-1 from its no-break space on
+-- a byte that is allowed in a line: printable ASCII, or the upper half of Latin-1 from the no-break space on
 abbrev pub is_allowed : ℕ → Bool
 is_allowed b = (nat_le 32 b && nat_lt b 127) || (nat_le 160 b && nat_lt b 256)
 
--- bytes that a line may hold, and no others
+-- every byte is allowed in a line
 unfoldable pub AreAllowed : List ℕ → Type 0
 AreAllowed bytes = All (λ b. IsTrue (is_allowed b)) bytes
 
@@ -18,7 +18,7 @@ pub record IsText (width : ℕ) (bytes : List ℕ) : Type 0 where
 abbrev pub blanks : ℕ → List ℕ
 blanks width = replicate width 32
 
--- the text of that many bytes, or as many blanks where it is hidden
+-- the text, or if it is hidden, that many blanks
 abbrev pub blanks_if : Bool → ℕ → List ℕ → List ℕ
 blanks_if is_hidden width text = cond is_hidden (blanks width) text
 

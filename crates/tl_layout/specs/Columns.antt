@@ -1,7 +1,8 @@
--- Lines as columns: texts that stand one after another.
+-- Lines as sequences of texts.
 use Rattle.std.specs.Prelude.{ℕ, List, [], ◌∷◌, ◌++◌}
 
--- the texts, one after another, behind what stands before them
+-- the texts one after another, following what was written
+-- before
 abbrev pub joined : List ℕ → List (List ℕ) → List ℕ
 joined before [] = before
 joined before (text ∷ texts) = joined (before ++ text) texts

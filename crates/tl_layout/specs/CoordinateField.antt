@@ -8,14 +8,14 @@ abbrev pub negated : ℕ → ℤ
 negated zero = pos 0
 negated (suc n) = negsuc n
 
--- what a sign, or none, makes of a magnitude
+-- the coordinate that a sign, or no sign, makes from a magnitude
 pub data IsSigned : List ℕ → ℕ → ℤ → Type 0 where
   unsigned : (n : ℕ) → IsSigned [] n (pos n)
   plus : (n : ℕ) → IsSigned (43 ∷ []) n (pos n)
   minus : (n : ℕ) → IsSigned (45 ∷ []) n (negated n)
 
--- The field spells the coordinate: at most one sign and one digit at least stand between blanks, and the magnitude is
--- within the limit.
+-- The field spells the coordinate: blanks, at most one sign, one or more digits that make a magnitude within the
+-- limit, blanks.
 pub record IsCoordinateField (limit : ℕ) (field : List ℕ) (value : ℤ) : Type 0 where
   pub before : List ℕ
   pub sign : List ℕ
@@ -29,6 +29,6 @@ pub record IsCoordinateField (limit : ℕ) (field : List ℕ) (value : ℤ) : Ty
   pub signed : IsSigned sign (value_after 0 (first ∷ digits)) value
   pub within : value_after 0 (first ∷ digits) ≤ limit
 
--- a field of blanks alone
+-- a field of only blanks
 abbrev pub IsBlankField : List ℕ → Type 0
 IsBlankField field = list_all is_blank field ≡ true

@@ -11,7 +11,7 @@ abbrev pub within : ℕ → Option ℕ → Option ℕ
 within limit None = None
 within limit (Some n) = if nat_le n limit then Some n else None
 
--- the magnitude that one digit or more spell, in front of nothing but blanks
+-- the magnitude that one or more digits spell, if only blanks follow them
 unfoldable pub magnitude_of : ℕ → List ℕ → Option ℕ
 magnitude_of limit [] = None
 magnitude_of limit (byte ∷ bytes) = if is_digit byte then within limit (number_after 0 (byte ∷ bytes)) else None
@@ -24,13 +24,13 @@ abbrev pub minus_of : Option ℕ → Coordinate
 minus_of None = Malformed
 minus_of (Some n) = Value (negated n)
 
--- the coordinate of a sign, or none, and a magnitude
+-- the coordinate made from a sign, or no sign, and a magnitude
 unfoldable pub signed_of : ℕ → List ℕ → Coordinate
 signed_of limit [] = Blank
 signed_of limit (byte ∷ bytes) =
     if byte == 43 then plus_of (magnitude_of limit bytes) else
     (if byte == 45 then minus_of (magnitude_of limit bytes) else plus_of (magnitude_of limit (byte ∷ bytes)))
 
--- what a coordinate's field is read as
+-- how a coordinate's field is read
 unfoldable pub coordinate_of : ℕ → List ℕ → Coordinate
 coordinate_of limit field = signed_of limit (drop_blanks field)

@@ -7,7 +7,8 @@ pub record Coordinates : Type 0 where
   pub long : ℤ
   pub lat : ℤ
 
--- a point of the map: both values are within nine and eight digits, and they aren't both 0, which means none
+-- a point of the map: the values have at most nine and eight digits, and they aren't both 0, which means
+-- none
 pub record IsOnMap (point : Coordinates) : Type 0 where
   pub long : unsigned_abs point.long ≤ MOST_LONGITUDE
   pub lat : unsigned_abs point.lat ≤ MOST_LATITUDE

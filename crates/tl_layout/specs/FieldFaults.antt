@@ -1,5 +1,5 @@
--- What is wrong with a line: which field is at fault, and what is told of it. Nothing here reads a line: a field is at fault
--- where no value is spelled in its columns.
+-- The faults of a line: which field is at fault, and what is reported. These definitions read no line: a field is at fault if
+-- its columns spell no value.
 use Rattle.std.specs.Prelude.{◌≡◌, ℕ, ◌+◌, ◌*◌, ◌<◌, List, ◌∷◌, ◌++◌, length, Option, Some, ◌⊎◌, ℤ}
 use Rattle.std.specs.List.{AllByRecursion}
 use Rattle.tl_layout.specs.Bytes.{columns}
@@ -12,19 +12,19 @@ use Rattle.tl_layout.specs.declared.fault.FieldKind.TheVariants.{BadPoint, BadNu
 use Rattle.tl_layout.specs.declared.fault.FieldFault.{FieldFault}
 use Rattle.tl_layout.specs.declared.coordinate.TheConstants.{MOST_LONGITUDE, MOST_LATITUDE}
 
--- a bad number, told at this column
+-- a bad number, reported at this column
 abbrev pub bad_number : ℕ → FieldFault
 bad_number column = record { kind = BadNumber; column = column }
 
--- a bad point, told at this column
+-- a bad point, reported at this column
 abbrev pub bad_point : ℕ → FieldFault
 bad_point column = record { kind = BadPoint; column = column }
 
--- an unused place stands to the left of a used one, which begins in this column
+-- an unused place to the left of a used one, which begins at this column
 abbrev pub gap : ℕ → FieldFault
 gap column = record { kind = GapInRecord; column = column }
 
--- neither blanks alone nor a coordinate within the limit
+-- neither all blanks nor a coordinate within the limit
 pub record IsMalformed (limit : ℕ) (field : List ℕ) : Type 0 where
   pub not_blank : IsBlankField field → ⊥
   pub no_value : (value : ℤ) → IsCoordinateField limit field value → ⊥
@@ -35,43 +35,43 @@ HasMalformedLongitude line first = IsMalformed MOST_LONGITUDE (columns first (fi
 abbrev pub HasMalformedLatitude : List ℕ → ℕ → Type 0
 HasMalformedLatitude line first = IsMalformed MOST_LATITUDE (columns (first + 10) (first + 18) line)
 
--- The column that is told of a pair that begins at this one: the latitude's if the latitude alone is malformed, and otherwise
--- the first.
+-- The fault reported for a pair that begins at this column: at the latitude's column if only the latitude is malformed, and at
+-- the first column otherwise.
 pub record IsToldOfPair (line : List ℕ) (first : ℕ) (fault : FieldFault) : Type 0 where
   pub kind : fault.kind ≡ BadPoint
   pub longitude : HasMalformedLongitude line first → fault.column ≡ first
   pub latitude : ¬ HasMalformedLongitude line first → HasMalformedLatitude line first → fault.column ≡ first + 10
   pub pair : ¬ HasMalformedLongitude line first → ¬ HasMalformedLatitude line first → fault.column ≡ first
 
--- no number is spelled where one is demanded
+-- the field spells no number, but must have one
 pub record IsNumberFault (line : List ℕ) (first last : ℕ) (fault : FieldFault) : Type 0 where
   pub none_spelled : (n : ℕ) → ¬ SpellsNumber (columns first last line) n
   pub told : fault ≡ bad_number first
 
--- neither a number is spelled nor none
+-- the field spells neither a number nor none
 pub record IsNumberOrNoneFault (line : List ℕ) (first last : ℕ) (fault : FieldFault) : Type 0 where
   pub none_spelled : (n : Option ℕ) → ¬ SpellsNumberOrNone (columns first last line) n
   pub told : fault ≡ bad_number first
 
--- no point is spelled where one is demanded
+-- the pair spells no point, but must have one
 pub record IsPairFault (line : List ℕ) (first : ℕ) (fault : FieldFault) : Type 0 where
   pub none_spelled : (point : _) → ¬ SpellsPoint (columns first (first + 9) line) (columns (first + 10) (first + 18) line) point
   pub told : IsToldOfPair line first fault
 
--- neither a point is spelled nor none
+-- the pair spells neither a point nor none
 pub record IsPairOrNoneFault (line : List ℕ) (first : ℕ) (fault : FieldFault) : Type 0 where
   pub none_spelled : (point : _) → ¬ SpellsPointOrNone (columns first (first + 9) line) (columns (first + 10) (first + 18) line) point
   pub told : IsToldOfPair line first fault
 
--- the place that begins at this column is used, though one of the places before it, which spell these items, is unused
+-- the place that begins at this column is used, but one of the places before it, which spell these items, is unused
 pub record IsGap {A : Type 0} (Spells : ℕ → Option A → Type 0) (column before : ℕ) (items : List A) (fault : FieldFault) : Type 0 where
   pub item : A
   pub used : Spells column (Some item)
   pub fewer : length items < before
   pub told : fault ≡ gap column
 
--- The leftmost faulty place of so many from this column on: the places before it spell items, and it is malformed itself, or
--- it is used after an unused one.
+-- The leftmost faulty place of that many, from this column on: the places before it spell items, and either it is malformed or
+-- it is used after an unused place.
 pub record IsPlaceFault {A : Type 0} (Spells : ℕ → Option A → Type 0) (IsFormFault : ℕ → FieldFault → Type 0) (width count first : ℕ)
     (fault : FieldFault) : Type 0 where
   pub before : ℕ
@@ -80,7 +80,7 @@ pub record IsPlaceFault {A : Type 0} (Spells : ℕ → Option A → Type 0) (IsF
   pub spelled : SpellsPlaces Spells width before first items
   pub at_fault : IsFormFault (first + width * before) fault ⊎ IsGap Spells (first + width * before) before items fault
 
--- the field in these columns is at fault, and this is told of it
+-- the field in these columns is at fault, and this fault is reported
 abbrev pub IsValueFault : List ℕ → ℕ → ℕ → Kind → FieldFault → Type 0
 IsValueFault line first last Number fault = IsNumberFault line first last fault
 IsValueFault line first last NumberOrNone fault = IsNumberOrNoneFault line first last fault
@@ -92,7 +92,7 @@ IsValueFault line first last PointPlaces fault = IsPlaceFault (SpellsPointPlace 
 IsValueFault line first last Opaque fault = ⊥
 IsValueFault line first last Filler fault = ⊥
 
--- the row's field is at fault, and this is told of it
+-- the row's field is at fault, and this fault is reported
 abbrev pub IsFieldFault : {R : Type 0} → List ℕ → Row R → FieldFault → Type 0
 IsFieldFault line row fault = IsValueFault line row.first row.last row.kind fault
 
@@ -100,7 +100,7 @@ IsFieldFault line row fault = IsValueFault line row.first row.last row.kind faul
 abbrev pub IsWellFormed : {R : Type 0} → List ℕ → Row R → Type 0
 IsWellFormed line row = (value : ValueOf row.kind) × SpellsField line row value
 
--- what is told of a full line: the fault of one row, and each row before it is well formed
+-- the reported fault of a full line: one row is at fault, and each row before it is well formed
 pub record IsLeftmostFault {R : Type 0} (table : List (Row R)) (line : List ℕ) (fault : FieldFault) : Type 0 where
   pub before : List (Row R)
   pub row : Row R

@@ -1,4 +1,4 @@
--- What the fields of a line spell: numbers, points, and places that stand side by side.
+-- What the fields of a line spell: numbers, points, and places side by side.
 use Rattle.std.specs.Prelude.{ℕ, zero, suc, ◌+◌, ◌<◌, ◌⊎◌, List, Option, Some, None, pos, unsigned_abs, [], ◌∷◌}
 use Rattle.tl_layout.specs.Bytes.{columns}
 use Rattle.tl_layout.specs.Coordinates.{Coordinates}
@@ -27,16 +27,16 @@ SpellsPointOrNone long lat None =
     (IsBlankField long × IsBlankField lat) ⊎ (IsCoordinateField MOST_LONGITUDE long (pos 0) × IsCoordinateField MOST_LATITUDE lat (pos 0))
 SpellsPointOrNone long lat (Some point) = SpellsPoint long lat point
 
--- the place for a point that begins in this column of a line
+-- the place for a point that begins at this column of a line
 abbrev pub SpellsPointPlace : List ℕ → ℕ → Option Coordinates → Type 0
 SpellsPointPlace line column place = SpellsPointOrNone (columns column (column + 9) line) (columns (column + 10) (column + 18) line) place
 
--- the place for a number that begins in this column of a line and is eight columns wide
+-- the place for a number, eight columns wide, that begins at this column of a line
 abbrev pub SpellsNumberPlace : List ℕ → ℕ → Option ℕ → Type 0
 SpellsNumberPlace line column place = SpellsNumberOrNone (columns column (column + 7) line) place
 
--- So many places from this column on, each of that width, spell the list: the first places spell its items, and all others
--- are unused. Spells says what one place spells that begins in a column.
+-- That many places of that width, from this column on, spell the list: the first places spell its items, and all others are
+-- unused. Spells defines what a place that begins at a column spells.
 abbrev pub SpellsPlaces : {A : Type 0} → (ℕ → Option A → Type 0) → ℕ → ℕ → ℕ → List A → Type 0
 SpellsPlaces Spells width zero column [] = Unit {0}
 SpellsPlaces Spells width zero column (x ∷ xs) = ⊥

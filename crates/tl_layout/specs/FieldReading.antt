@@ -1,4 +1,4 @@
--- Number fields and pairs of coordinates in the columns of a line: what they spell, and what they are read as.
+-- Number fields and pairs of coordinates in the columns of a line, and how they are read.
 use Rattle.std.specs.Prelude.{◌≡◌, ℕ, zero, suc, ◌+◌, ◌==◌, List, Option, Some, None, Result, Ok, Err, if◌then◌else◌, ℤ}
 use Rattle.std.specs.Prelude.{unsigned_abs, [], ◌∷◌, Bool, true, false}
 use Rattle.tl_layout.specs.Bytes.{columns}
@@ -11,7 +11,7 @@ use Rattle.tl_layout.specs.declared.fault.FieldFault.{FieldFault}
 use Rattle.tl_layout.specs.FieldFaults.{bad_number, bad_point, gap}
 use Rattle.tl_layout.specs.declared.coordinate.TheConstants.{MOST_LONGITUDE, MOST_LATITUDE}
 
--- reading goes on behind what was read, and stops at the first fault
+-- reading continues after a value, and stops at the first fault
 unfoldable pub and_then : {A B : Type 0} → Result A FieldFault → (A → Result B FieldFault) → Result B FieldFault
 and_then (Ok x) more = more x
 and_then (Err e) more = Err e
@@ -20,7 +20,7 @@ infixl 10 ◌>>=◌
 abbrev pub ◌>>=◌ : {A B : Type 0} → Result A FieldFault → (A → Result B FieldFault) → Result B FieldFault
 x >>= more = and_then x more
 
--- a number, where one is demanded
+-- a number that is required
 abbrev pub demanded_number : ℕ → Option ℕ → Result ℕ FieldFault
 demanded_number column None = Err (bad_number column)
 demanded_number column (Some zero) = Err (bad_number column)
@@ -32,19 +32,19 @@ possible_number column None = Err (bad_number column)
 possible_number column (Some zero) = Ok None
 possible_number column (Some (suc n)) = Ok (Some (suc n))
 
--- what is read in these columns of a line, where a number is demanded
+-- how these columns of a line are read if they must have a number
 unfoldable pub number_at : ℕ → ℕ → List ℕ → Result ℕ FieldFault
 number_at first last line = demanded_number first (number_of (columns first last line))
 
--- what is read in these columns of a line, where there may be none
+-- how these columns of a line are read if they may have no number
 unfoldable pub number_or_none_at : ℕ → ℕ → List ℕ → Result (Option ℕ) FieldFault
 number_or_none_at first last line = possible_number first (number_of (columns first last line))
 
--- the point at these coordinates; none where both are 0
+-- the point with these coordinates, or none if both are 0
 unfoldable pub point_or_none : ℤ → ℤ → Option Coordinates
 point_or_none long lat = if unsigned_abs long + unsigned_abs lat == 0 then None else Some (record { long = long; lat = lat })
 
--- A pair that begins at this column: a malformed longitude is told there, a malformed latitude at its own column, and
+-- The pair that begins at this column: a malformed longitude is reported there, a malformed latitude at its own column, and
 -- half a point at the longitude's.
 abbrev pub pair_of : ℕ → Coordinate → Coordinate → Result (Option Coordinates) FieldFault
 pair_of column Malformed lat = Err (bad_point column)
@@ -55,7 +55,7 @@ pair_of column Blank (Value lat) = Err (bad_point column)
 pair_of column (Value long) Blank = Err (bad_point column)
 pair_of column (Value long) (Value lat) = Ok (point_or_none long lat)
 
--- what the pair that begins at this column is read as, where there may be none
+-- how the pair that begins at this column is read if it may be no point
 unfoldable pub point_or_none_at : ℕ → List ℕ → Result (Option Coordinates) FieldFault
 point_or_none_at column line =
     pair_of column (coordinate_of MOST_LONGITUDE (columns column (column + 9) line))
@@ -65,22 +65,22 @@ abbrev pub demanded_point : ℕ → Option Coordinates → Result Coordinates Fi
 demanded_point column None = Err (bad_point column)
 demanded_point column (Some point) = Ok point
 
--- what the pair that begins at this column is read as, where a point is demanded
+-- how the pair that begins at this column is read if it must be a point
 unfoldable pub point_at : ℕ → List ℕ → Result Coordinates FieldFault
 point_at column line = point_or_none_at column line >>= demanded_point column
 
--- A function of the code answered what reading gives, seen by view.
+-- A function of the code returned the result of the reading, converted by view.
 abbrev pub Gives : {X Y : Type 0} → (X → Y) → Result X FieldFault → Result Y FieldFault → Type 0
 Gives view (Ok x) reading = reading ≡ Ok (view x)
 Gives view (Err e) reading = reading ≡ Err e
 
--- one way for an unused place, another for a used one
+-- one result for an unused place, another for a used one
 abbrev pub at_place : {A B : Type 0} → Option A → B → (A → B) → B
 at_place None unused used = unused
 at_place (Some x) unused used = used x
 
--- What so many places from this column on are read as, the form of each before the gap; after_unused says whether an unused
--- place stands before them.
+-- How that many places from this column on are read, each place's form before its gap; if after_unused is true, there is an
+-- unused place before them.
 unfoldable pub places_reading : {A : Type 0} → (ℕ → Result (Option A) FieldFault) → ℕ → Bool → ℕ → ℕ → Result (List A) FieldFault
 places_reading reading width after_unused zero column = Ok []
 places_reading reading width after_unused (suc count) column = do

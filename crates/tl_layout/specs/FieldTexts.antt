@@ -1,4 +1,4 @@
--- The canonical texts of values, and of the columns of a record.
+-- The canonical texts of values and of the columns of a record.
 use Rattle.std.specs.Prelude.{ℕ, zero, suc, ◌+◌, ◌/◌, ◌%◌, ◌==◌, List, [], ◌∷◌, ◌++◌, Option, Some, None, if◌then◌else◌, ℤ, pos}
 use Rattle.std.specs.Prelude.{negsuc, unsigned_abs, replicate, unwrap_or, codes}
 use Rattle.std.specs.List.{flat_map}
@@ -7,12 +7,12 @@ use Rattle.tl_layout.specs.Columns.{joined}
 use Rattle.tl_layout.specs.ColumnTable.{Kind, Number, NumberOrNone, Pair, PairOrNone, NumberPlaces, PointPlaces, Opaque, Filler}
 use Rattle.tl_layout.specs.ColumnTable.{ValueOf, Row, width_of}
 
--- a number right justified in that many columns: its digits end at the last one, and blanks stand before them
+-- a number right justified in that many columns: leading blanks, and digits up to the last column
 unfoldable pub number_text : ℕ → ℕ → List ℕ
 number_text zero n = []
 number_text (suc width) n = number_text width (n / 10) ++ (if n == 0 then 32 else 48 + n % 10) ∷ []
 
--- a number right justified in that many columns, and this byte in each column in front of its digits
+-- a number right justified in that many columns, with this byte in each column before its digits
 unfoldable pub text_behind : ℕ → ℕ → ℕ → List ℕ
 text_behind filler zero n = []
 text_behind filler (suc width) n = text_behind filler width (n / 10) ++ (if n == 0 then filler else 48 + n % 10) ∷ []
@@ -31,26 +31,26 @@ sign_of (negsuc n) = 45
 unfoldable pub coordinate_text : ℕ → ℤ → List ℕ
 coordinate_text width value = sign_of value ∷ digits_text width (unsigned_abs value)
 
--- the canonical text of a longitude: a sign and nine digits, or blanks where there is no point
+-- the canonical text of a longitude: a sign and nine digits, or blanks if there is no point
 abbrev pub long_text : Option Coordinates → List ℕ
 long_text None = replicate 10 32
 long_text (Some point) = coordinate_text 9 point.long
 
--- the canonical text of a latitude: a sign and eight digits, or blanks where there is no point
+-- the canonical text of a latitude: a sign and eight digits, or blanks if there is no point
 abbrev pub lat_text : Option Coordinates → List ℕ
 lat_text None = replicate 9 32
 lat_text (Some point) = coordinate_text 8 point.lat
 
--- the canonical text of a place for a point: the point, or two zeros where it is unused
+-- the canonical text of a place for a point: the point, or two zeros if the place is unused
 abbrev pub point_place_text : Option Coordinates → List ℕ
 point_place_text None = coordinate_text 9 (pos 0) ++ coordinate_text 8 (pos 0)
 point_place_text (Some point) = coordinate_text 9 point.long ++ coordinate_text 8 point.lat
 
--- the canonical text of such a place
+-- the canonical text of a place for a number
 abbrev pub number_place_text : Option ℕ → List ℕ
 number_place_text place = number_text 8 (unwrap_or place 0)
 
--- the text of so many places, the first of which hold the items
+-- the text of that many places; the first ones hold the items
 unfoldable pub places_text : {A : Type 0} → (Option A → List ℕ) → ℕ → List A → List ℕ
 places_text text zero xs = []
 places_text text (suc count) [] = text None ++ places_text text count []

@@ -1,4 +1,4 @@
--- The records as contracts see them: the fields that each record type holds.
+-- The records in contracts: the fields that each record type has.
 use Rattle.std.specs.Prelude.{ℕ, List, Option}
 use Rattle.tl_layout.specs.Coordinates.{Coordinates}
 use Rattle.tl_layout.specs.PolygonSide.{PolygonSide}
@@ -22,7 +22,7 @@ pub record Fields2 : Type 0 where
   pub rtsq : ℕ
   pub points : List Coordinates
 
--- record type 4: up to five features whose names a chain bears
+-- record type 4: up to five features whose names a chain has besides its own
 pub record Fields4 : Type 0 where
   pub tlid : ℕ
   pub rtsq : ℕ

@@ -1,4 +1,5 @@
--- What the contents of records are under a mask: fields that it leaves out are blank, and every other stays.
+-- What a mask makes of the contents of records: fields that it leaves out are blank, and every other keeps its
+-- value.
 use Rattle.std.specs.Prelude.{false}
 use Rattle.tl_layout.specs.Bytes.{blanks_if}
 use Rattle.tl_layout.specs.Fields.{Fields1, Fields7, FieldsI}
@@ -11,7 +12,7 @@ use Rattle.tl_layout.specs.declared.type_i.BodyI.{BodyI}
 abbrev pub no_mask : Mask
 no_mask = record { sources = false; reserved = false }
 
--- SOURCE tells of sources; CENSUS1 and CENSUS2 are reserved
+-- SOURCE names a source; CENSUS1 and CENSUS2 are reserved
 abbrev pub masked_body_1 : Mask → Body1Fields → Body1Fields
 masked_body_1 mask body =
     record {
@@ -26,7 +27,7 @@ masked_body_1 mask body =
       entities = body.entities;
     }
 
--- SOURCE tells of sources
+-- SOURCE names a source
 abbrev pub masked_body_7 : Mask → Body7 → Body7
 masked_body_7 mask body =
     record {
@@ -37,7 +38,7 @@ masked_body_7 mask body =
       point = body.point;
     }
 
--- SOURCE tells of sources; RS_I1, RS_I2 and RS_I3 are reserved
+-- SOURCE names a source; RS_I1, RS_I2 and RS_I3 are reserved
 abbrev pub masked_body_i : Mask → BodyI → BodyI
 masked_body_i mask body =
     record {
@@ -49,7 +50,7 @@ masked_body_i mask body =
       rs_i3 = blanks_if mask.reserved 10 body.rs_i3;
     }
 
--- the records with these contents; their numbers and points stay
+-- the records with these contents and with the same numbers and points
 abbrev pub masked_type_1 : Mask → Fields1 → Fields1
 masked_type_1 mask r = record { tlid = r.tlid; body = masked_body_1 mask r.body; start = r.start; end = r.end }
 

@@ -3,14 +3,14 @@ use Rattle.std.specs.Prelude.{ℕ, ◌+◌, List, [], ◌∷◌}
 use Rattle.tl_layout.specs.Bytes.{IsText, columns}
 use Rattle.tl_layout.specs.declared.name.FeatureName.{FeatureName}
 
--- the name has fields of their widths
+-- each field of the name has its width
 pub record FitsName (name : FeatureName) : Type 0 where
   pub fedirp : IsText 2 name.fedirp
   pub fename : IsText 30 name.fename
   pub fetype : IsText 4 name.fetype
   pub fedirs : IsText 2 name.fedirs
 
--- the name that begins in this column of a line
+-- the name that begins at this column of a line
 abbrev pub feature_name_at : ℕ → List ℕ → FeatureName
 feature_name_at first line =
     record {

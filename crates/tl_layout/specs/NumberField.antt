@@ -1,4 +1,4 @@
--- Number fields: blanks, digits, blanks, each of them possibly empty.
+-- Number fields: blanks, digits, blanks. Each of the three can be empty.
 use Rattle.std.specs.Prelude.{◌≡◌, ℕ, ◌+◌, ◌-◌, ◌*◌, ◌==◌, true, List, [], ◌∷◌, ◌++◌, Bool, nat_le, ◌&&◌}
 use Rattle.std.specs.List.{list_all}
 
@@ -10,12 +10,12 @@ is_blank byte = byte == 32
 abbrev pub is_digit : ℕ → Bool
 is_digit byte = nat_le 48 byte && nat_le byte 57
 
--- the number that digits make when they follow those of n; of no digits at all, from 0 on, that is 0
+-- the number that digits make when they follow the digits of n: for no digits at all, from 0 on, that is 0
 abbrev pub value_after : ℕ → List ℕ → ℕ
 value_after n [] = n
 value_after n (digit ∷ digits) = value_after (10 * n + (digit - 48)) digits
 
--- The field spells the number, which is 0 where the field says none: digits that make it stand between blanks.
+-- The field spells the number, or 0 if it has none: blanks, the digits that make the number, blanks.
 pub record IsNumberField (field : List ℕ) (n : ℕ) : Type 0 where
   pub before : List ℕ
   pub digits : List ℕ

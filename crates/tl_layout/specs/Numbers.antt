@@ -1,7 +1,7 @@
 -- The numbers of the map: TLID, RTSQ, FEAT, LAND, POLYID and the numbers of nodes.
 use Rattle.std.specs.Prelude.{ℕ, zero, suc, ◌^◌, ◌<◌, Option, Some, None, IfSome}
 
--- a number of at most width digits, and not 0
+-- a number with at most width digits, and not 0
 abbrev pub IsNumber : ℕ → ℕ → Type 0
 IsNumber width n = (0 < n) × (n < 10 ^ width)
 
@@ -9,7 +9,7 @@ IsNumber width n = (0 < n) × (n < 10 ^ width)
 abbrev pub IsNumberOrNone : ℕ → Option ℕ → Type 0
 IsNumberOrNone width n = IfSome n (IsNumber width)
 
--- the number that is kept or written so, where 0 stands for none
+-- the number stored or written as this one, with 0 for none
 abbrev pub none_if_zero : ℕ → Option ℕ
 none_if_zero zero = None
 none_if_zero (suc n) = Some (suc n)

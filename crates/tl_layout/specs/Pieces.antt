@@ -1,12 +1,12 @@
--- A text in pieces, one behind the other.
+-- A text cut into consecutive pieces.
 use Rattle.std.specs.Prelude.{ℕ, ◌+◌, List, [], ◌∷◌, take, drop}
 
--- the pieces of these widths, from so many bytes into the text on
+-- the pieces of these widths, starting that many bytes into the text
 abbrev pub pieces_from : ℕ → List ℕ → List ℕ → List (List ℕ)
 pieces_from at [] text = []
 pieces_from at (width ∷ widths) text = take width (drop at text) ∷ pieces_from (at + width) widths text
 
--- how wide they are together
+-- their width together
 abbrev pub total_width : List ℕ → ℕ
 total_width [] = 0
 total_width (width ∷ widths) = width + total_width widths

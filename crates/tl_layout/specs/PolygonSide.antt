@@ -1,7 +1,7 @@
--- What stands on one side of a chain.
+-- The polygon on one side of a chain.
 use Rattle.std.specs.Prelude.{ℕ, List, Option}
 
--- a CENID, and with it the POLYID of the polygon, if there is one
+-- a CENID, and the POLYID of the polygon, if there is one
 pub record PolygonSide : Type 0 where
   pub cenid : List ℕ
   pub polyid : Option ℕ

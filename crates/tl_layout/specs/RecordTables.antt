@@ -1,7 +1,7 @@
--- The column tables of the nine record types of TIGER/Line 2006, a row a field, as the technical documentation has them.
--- Columns 1 to 5, the record type and the version, are alike in all and left out of the tables; a longitude and
--- the latitude behind it are one row. Where a turn of the chain exchanges a field with another one, the other's value follows.
--- Fields that tell of sources, and those that are reserved, say so: a mask can leave them out.
+-- The column tables of the nine record types of TIGER/Line 2006, with one row for each field, as in the technical
+-- documentation. Columns 1 to 5, the record type and the version, are the same in all and not in the tables. A longitude and
+-- the latitude after it are one row. If a turn of the chain exchanges a field with another one, the row has the other field's
+-- value last. Rows for fields that name a source and for reserved fields are marked: a mask can leave them out.
 use Rattle.std.specs.Prelude.{ℕ, List, [], ◌∷◌}
 use Rattle.tl_layout.specs.ColumnTable.{Number, NumberOrNone, Pair, PairOrNone, NumberPlaces, PointPlaces, Opaque, Filler, Row}
 use Rattle.tl_layout.specs.ColumnTable.{Sources, Reserved, row, row_with_partner, row_of}
@@ -72,7 +72,7 @@ table_2 =
     ∷ row 19 208 PointPlaces (λ r. r.points)
     ∷ []
 
--- Record type 4, 58 bytes: up to five features whose names a chain bears.
+-- Record type 4, 58 bytes: up to five features whose names a chain has besides its own.
 abbrev pub rtype_4 : ℕ
 rtype_4 = 52
 

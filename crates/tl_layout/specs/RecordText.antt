@@ -39,7 +39,7 @@ len_of (Eight _) = len_8
 len_of (I _) = len_i
 len_of (P _) = len_p
 
--- what a record may hold
+-- a record fits the columns of its type
 unfoldable pub FitsRecord : Record → Type 0
 FitsRecord (One r) = FitsType1 r
 FitsRecord (Two r) = FitsType2 r

@@ -1,4 +1,4 @@
--- What a line is read as by a column table, from the left up to the first fault, and the canonical texts of the columns.
+-- How a line is read by a column table, from the left up to the first fault.
 use Rattle.std.specs.Prelude.{ℕ, ◌+◌, List, [], ◌∷◌, false, Result, Ok}
 use Rattle.tl_layout.specs.Bytes.{columns}
 use Rattle.tl_layout.specs.FieldReading.{◌>>=◌, number_at, number_or_none_at, point_at, point_or_none_at, places_reading}
@@ -6,12 +6,12 @@ use Rattle.tl_layout.specs.ColumnTable.{Kind, Number, NumberOrNone, Pair, PairOr
 use Rattle.tl_layout.specs.ColumnTable.{ValueOf, Row}
 use Rattle.tl_layout.specs.declared.fault.FieldFault.{FieldFault}
 
--- what makes a record of the values of rows, from the left
+-- a function that makes a record from the values of rows, from the left
 abbrev pub Makes : {R : Type 0} → List (Row R) → Type 0 → Type 0
 Makes [] A = A
 Makes (row ∷ rows) A = ValueOf row.kind → Makes rows A
 
--- the value in the columns of a field is read, and reading goes on with it
+-- reads the value in the columns of a field and continues with it
 abbrev pub reading_on : {A : Type 0} → List ℕ → ℕ → ℕ → (kind : Kind) → (ValueOf kind → Result A FieldFault) → Result A FieldFault
 reading_on line first last Number more = number_at first last line >>= more
 reading_on line first last NumberOrNone more = number_or_none_at first last line >>= more
@@ -23,7 +23,7 @@ reading_on line first last PointPlaces more = places_reading (λ column. point_o
 reading_on line first last Opaque more = more (columns first last line)
 reading_on line first last Filler more = more tt
 
--- what a line is read as: what is made of the values of the rows, or the first fault from the left
+-- how a line is read: what is made from the values of the rows, or the first fault from the left
 abbrev pub rows_reading : {R A : Type 0} → (rows : List (Row R)) → Makes rows A → List ℕ → Result A FieldFault
 rows_reading [] made line = Ok made
 rows_reading (row ∷ rows) make line = reading_on line row.first row.last row.kind (λ value. rows_reading rows (make value) line)

@@ -1,11 +1,11 @@
--- The records of a set by their types, beside the list of them all.
+-- The records of a set by type, compared with the list of all its records.
 use Rattle.std.specs.Prelude.{◌≡◌, List, [], ◌∷◌, ◌++◌, Option, Some, None}
 use Rattle.tl_layout.specs.ByType.{as_type_1, as_type_2, as_type_4, as_type_5, as_type_6, as_type_7, as_type_8, as_type_i, as_type_p}
 use Rattle.tl_layout.specs.ByType.{of_type_1, of_type_2, of_type_4, of_type_5, of_type_6, of_type_7, of_type_8, of_type_i, of_type_p}
 use Rattle.tl_layout.specs.declared.record_type.Record.{Record}
 use Rattle.tl_layout.specs.declared.tables.Tables.{Tables}
 
--- for each type the table has those records of the list that are of it, in their order
+-- the table of each type has the records of that type in the list, in their order
 pub record HoldsByType (tables : Tables) (records : List Record) : Type 0 where
   pub type_1 : tables.type_1.items ≡ of_type_1 records
   pub type_2 : tables.type_2.items ≡ of_type_2 records
@@ -17,12 +17,12 @@ pub record HoldsByType (tables : Tables) (records : List Record) : Type 0 where
   pub type_i : tables.type_i.items ≡ of_type_i records
   pub type_p : tables.type_p.items ≡ of_type_p records
 
--- the list with one more at its end, if there is one
+-- the list, with one more element at its end if there is one
 abbrev pub and_then_one : {X : Type 0} → List X → Option X → List X
 and_then_one xs None = xs
 and_then_one xs (Some x) = xs ++ x ∷ []
 
--- the record was added behind those of its type, and the other tables are as they were
+-- the record was appended to the table of its type, and the other tables are unchanged
 pub record AddsRecord (before : Tables) (added : Record) (after : Tables) : Type 0 where
   pub type_1 : after.type_1.items ≡ and_then_one before.type_1.items (as_type_1 added)
   pub type_2 : after.type_2.items ≡ and_then_one before.type_2.items (as_type_2 added)
@@ -34,7 +34,7 @@ pub record AddsRecord (before : Tables) (added : Record) (after : Tables) : Type
   pub type_i : after.type_i.items ≡ and_then_one before.type_i.items (as_type_i added)
   pub type_p : after.type_p.items ≡ and_then_one before.type_p.items (as_type_p added)
 
--- each table has the records that it had
+-- each table has the same records as before
 pub record AreSameTables (before after : Tables) : Type 0 where
   pub type_1 : after.type_1.items ≡ before.type_1.items
   pub type_2 : after.type_2.items ≡ before.type_2.items

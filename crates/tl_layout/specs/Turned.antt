@@ -1,4 +1,4 @@
--- What a chain's fields are when it is seen from its other end: what was left is right, and what was the start is the end.
+-- The fields of a chain seen from its other end: left becomes right, and the start becomes the end.
 use Rattle.std.specs.Prelude.{ℕ, Bool, cond}
 use Rattle.tl_layout.specs.Fields.{Fields1, Fields6, FieldsI}
 use Rattle.tl_layout.specs.declared.pair.LeftRight.{LeftRight}
@@ -7,11 +7,12 @@ use Rattle.tl_layout.specs.declared.type1.Body1Fields.{Body1Fields}
 use Rattle.tl_layout.specs.declared.type1.NativeAreas.{NativeAreas}
 use Rattle.tl_layout.specs.declared.type1.GeographicEntities.{GeographicEntities}
 
--- the left field is exchanged with the right one
+-- the left and the right field exchanged
 abbrev pub exchanged : {N : ℕ} → LeftRight N → LeftRight N
 exchanged pair = record { left = pair.right; right = pair.left }
 
--- The address at the left start is that at the right end, and so on: each field takes the value of its partner.
+-- The address at the left start is the one at the right end before the turn, and so on: each field takes its partner's
+-- value.
 abbrev pub turned_ranges : Ranges → Ranges
 turned_ranges ranges =
     record {
@@ -56,11 +57,11 @@ turned_body body =
       entities = turned_entities body.entities;
     }
 
--- the content as it is seen from the chain's other end if told
+-- the content, seen from the chain's other end if turned
 abbrev pub body_towards : Bool → Body1Fields → Body1Fields
 body_towards turned body = cond turned (turned_body body) body
 
--- the records of a chain that is seen from its other end: the points and the nodes are exchanged, and the sides
+-- the records of a chain seen from its other end: the points, the nodes and the sides are exchanged
 abbrev pub turned_type_1 : Fields1 → Fields1
 turned_type_1 r = record { tlid = r.tlid; body = turned_body r.body; start = r.end; end = r.start }
 

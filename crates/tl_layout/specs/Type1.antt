@@ -10,7 +10,7 @@ use Rattle.tl_layout.specs.TableReading.{Makes, rows_reading}
 use Rattle.tl_layout.specs.FieldTexts.{rows_spelling}
 use Rattle.tl_layout.specs.declared.fault.FieldFault.{FieldFault}
 
--- what a record of type 1 may hold: each value fits its columns
+-- a record of type 1 fits: each value fits its columns
 unfoldable pub FitsType1 : Fields1 → Type 0
 FitsType1 r = FitsRows table_1 r
 
@@ -18,7 +18,7 @@ FitsType1 r = FitsRows table_1 r
 unfoldable pub SpellsType1 : List ℕ → Fields1 → Type 0
 SpellsType1 line r = SpellsRows table_1 line r
 
--- the record of the values of the rows
+-- the record made from the values of the rows
 abbrev pub make_1 : Makes table_1 Fields1
 make_1 tlid side1 source fedirp fename fetype fedirs cfcc
     fraddl toaddl fraddr toaddr friaddl toiaddl friaddr toiaddr zipl zipr
@@ -52,7 +52,7 @@ make_1 tlid side1 source fedirp fename fetype fedirs cfcc
       end = end;
     }
 
--- what a line is read as: its fields from the left, up to the first fault
+-- how a line is read: its fields from the left, up to the first fault
 unfoldable pub type_1_reading : List ℕ → Result Fields1 FieldFault
 type_1_reading line = rows_reading table_1 make_1 line
 

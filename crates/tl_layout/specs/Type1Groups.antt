@@ -1,5 +1,5 @@
--- The groups of columns inside the content of record type 1: the widths of their fields, where they stand in a line, and the
--- texts that they are written as.
+-- The groups of columns in the content of record type 1: the widths of their fields, their columns in a line, and the texts
+-- that they are written as.
 use Rattle.std.specs.Prelude.{ℕ, List, [], ◌∷◌, ◌++◌}
 use Rattle.tl_layout.specs.Bytes.{IsText, columns}
 use Rattle.tl_layout.specs.Coordinates.{Coordinates}
@@ -24,7 +24,7 @@ pub record FitsEntities (entities : GeographicEntities) : Type 0 where
   pub tract : FitsPair 6 entities.tract
   pub block : FitsPair 4 entities.block
 
--- the content has fields of their widths
+-- each field of the content has its width
 pub record FitsBody1 (body : Body1Fields) : Type 0 where
   pub side1 : IsText 1 body.side1
   pub source : IsText 1 body.source

@@ -7,7 +7,7 @@ use Rattle.tl_layout.specs.TableReading.{Makes, rows_reading}
 use Rattle.tl_layout.specs.FieldTexts.{rows_spelling}
 use Rattle.tl_layout.specs.declared.fault.FieldFault.{FieldFault}
 
--- what a record of type 2 may hold: each value fits its columns
+-- a record of type 2 fits: each value fits its columns
 unfoldable pub FitsType2 : Fields2 → Type 0
 FitsType2 r = FitsRows table_2 r
 
@@ -15,12 +15,12 @@ FitsType2 r = FitsRows table_2 r
 unfoldable pub SpellsType2 : List ℕ → Fields2 → Type 0
 SpellsType2 line r = SpellsRows table_2 line r
 
--- the record of the values of the rows
+-- the record made from the values of the rows
 abbrev pub make_2 : Makes table_2 Fields2
 make_2 tlid rtsq points =
     record { tlid = tlid; rtsq = rtsq; points = points }
 
--- what a line is read as: its fields from the left, up to the first fault
+-- how a line is read: its fields from the left, up to the first fault
 unfoldable pub type_2_reading : List ℕ → Result Fields2 FieldFault
 type_2_reading line = rows_reading table_2 make_2 line
 

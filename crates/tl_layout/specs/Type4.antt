@@ -1,4 +1,5 @@
--- Record type 4, 58 bytes: up to five features whose names a chain bears.
+-- Record type 4, 58 bytes: up to five features whose names a chain has
+-- besides its own.
 use Rattle.std.specs.Prelude.{ℕ, List, Result}
 use Rattle.tl_layout.specs.Fields.{Fields4}
 use Rattle.tl_layout.specs.ColumnTable.{SpellsRows, FitsRows}
@@ -7,7 +8,7 @@ use Rattle.tl_layout.specs.TableReading.{Makes, rows_reading}
 use Rattle.tl_layout.specs.FieldTexts.{rows_spelling}
 use Rattle.tl_layout.specs.declared.fault.FieldFault.{FieldFault}
 
--- what a record of type 4 may hold: each value fits its columns
+-- a record of type 4 fits: each value fits its columns
 unfoldable pub FitsType4 : Fields4 → Type 0
 FitsType4 r = FitsRows table_4 r
 
@@ -15,12 +16,12 @@ FitsType4 r = FitsRows table_4 r
 unfoldable pub SpellsType4 : List ℕ → Fields4 → Type 0
 SpellsType4 line r = SpellsRows table_4 line r
 
--- the record of the values of the rows
+-- the record made from the values of the rows
 abbrev pub make_4 : Makes table_4 Fields4
 make_4 tlid rtsq feats =
     record { tlid = tlid; rtsq = rtsq; feats = feats }
 
--- what a line is read as: its fields from the left, up to the first fault
+-- how a line is read: its fields from the left, up to the first fault
 unfoldable pub type_4_reading : List ℕ → Result Fields4 FieldFault
 type_4_reading line = rows_reading table_4 make_4 line
 

@@ -7,7 +7,7 @@ use Rattle.tl_layout.specs.TableReading.{Makes, rows_reading}
 use Rattle.tl_layout.specs.FieldTexts.{rows_spelling}
 use Rattle.tl_layout.specs.declared.fault.FieldFault.{FieldFault}
 
--- what a record of type 5 may hold: each value fits its columns
+-- a record of type 5 fits: each value fits its columns
 unfoldable pub FitsType5 : Fields5 → Type 0
 FitsType5 r = FitsRows table_5 r
 
@@ -15,7 +15,7 @@ FitsType5 r = FitsRows table_5 r
 unfoldable pub SpellsType5 : List ℕ → Fields5 → Type 0
 SpellsType5 line r = SpellsRows table_5 line r
 
--- the record of the values of the rows
+-- the record made from the values of the rows
 abbrev pub make_5 : Makes table_5 Fields5
 make_5 file feat fedirp fename fetype fedirs =
     record {
@@ -23,7 +23,7 @@ make_5 file feat fedirp fename fetype fedirs =
       body = record { file = file; name = record { fedirp = fedirp; fename = fename; fetype = fetype; fedirs = fedirs } };
     }
 
--- what a line is read as: its fields from the left, up to the first fault
+-- how a line is read: its fields from the left, up to the first fault
 unfoldable pub type_5_reading : List ℕ → Result Fields5 FieldFault
 type_5_reading line = rows_reading table_5 make_5 line
 

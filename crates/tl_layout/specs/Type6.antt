@@ -8,7 +8,7 @@ use Rattle.tl_layout.specs.TableReading.{Makes, rows_reading}
 use Rattle.tl_layout.specs.FieldTexts.{rows_spelling}
 use Rattle.tl_layout.specs.declared.fault.FieldFault.{FieldFault}
 
--- what a record of type 6 may hold: each value fits its columns
+-- a record of type 6 fits: each value fits its columns
 unfoldable pub FitsType6 : Fields6 → Type 0
 FitsType6 r = FitsRows table_6 r
 
@@ -16,7 +16,7 @@ FitsType6 r = FitsRows table_6 r
 unfoldable pub SpellsType6 : List ℕ → Fields6 → Type 0
 SpellsType6 line r = SpellsRows table_6 line r
 
--- the record of the values of the rows
+-- the record made from the values of the rows
 abbrev pub make_6 : Makes table_6 Fields6
 make_6 tlid rtsq fraddl toaddl fraddr toaddr friaddl toiaddl friaddr toiaddr zipl zipr =
     record {
@@ -25,7 +25,7 @@ make_6 tlid rtsq fraddl toaddl fraddr toaddr friaddl toiaddl friaddr toiaddr zip
       ranges = ranges_of fraddl toaddl fraddr toaddr friaddl toiaddl friaddr toiaddr zipl zipr;
     }
 
--- what a line is read as: its fields from the left, up to the first fault
+-- how a line is read: its fields from the left, up to the first fault
 unfoldable pub type_6_reading : List ℕ → Result Fields6 FieldFault
 type_6_reading line = rows_reading table_6 make_6 line
 

@@ -7,7 +7,7 @@ use Rattle.tl_layout.specs.TableReading.{Makes, rows_reading}
 use Rattle.tl_layout.specs.FieldTexts.{rows_spelling}
 use Rattle.tl_layout.specs.declared.fault.FieldFault.{FieldFault}
 
--- what a record of type 7 may hold: each value fits its columns
+-- a record of type 7 fits: each value fits its columns
 unfoldable pub FitsType7 : Fields7 → Type 0
 FitsType7 r = FitsRows table_7 r
 
@@ -15,7 +15,7 @@ FitsType7 r = FitsRows table_7 r
 unfoldable pub SpellsType7 : List ℕ → Fields7 → Type 0
 SpellsType7 line r = SpellsRows table_7 line r
 
--- the record of the values of the rows
+-- the record made from the values of the rows
 abbrev pub make_7 : Makes table_7 Fields7
 make_7 file land source cfcc laname point _ =
     record {
@@ -23,7 +23,7 @@ make_7 file land source cfcc laname point _ =
       body = record { file = file; source = source; cfcc = cfcc; laname = laname; point = point };
     }
 
--- what a line is read as: its fields from the left, up to the first fault
+-- how a line is read: its fields from the left, up to the first fault
 unfoldable pub type_7_reading : List ℕ → Result Fields7 FieldFault
 type_7_reading line = rows_reading table_7 make_7 line
 

@@ -7,7 +7,7 @@ use Rattle.tl_layout.specs.TableReading.{Makes, rows_reading}
 use Rattle.tl_layout.specs.FieldTexts.{rows_spelling}
 use Rattle.tl_layout.specs.declared.fault.FieldFault.{FieldFault}
 
--- what a record of type 8 may hold: each value fits its columns
+-- a record of type 8 fits: each value fits its columns
 unfoldable pub FitsType8 : Fields8 → Type 0
 FitsType8 r = FitsRows table_8 r
 
@@ -15,12 +15,12 @@ FitsType8 r = FitsRows table_8 r
 unfoldable pub SpellsType8 : List ℕ → Fields8 → Type 0
 SpellsType8 line r = SpellsRows table_8 line r
 
--- the record of the values of the rows
+-- the record made from the values of the rows
 abbrev pub make_8 : Makes table_8 Fields8
 make_8 file cenid polyid land _ =
     record { file = file; cenid = cenid; polyid = polyid; land = land }
 
--- what a line is read as: its fields from the left, up to the first fault
+-- how a line is read: its fields from the left, up to the first fault
 unfoldable pub type_8_reading : List ℕ → Result Fields8 FieldFault
 type_8_reading line = rows_reading table_8 make_8 line
 

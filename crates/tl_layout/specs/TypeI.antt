@@ -9,7 +9,7 @@ use Rattle.tl_layout.specs.FieldTexts.{rows_spelling}
 use Rattle.tl_layout.specs.declared.type_i.BodyI.{BodyI}
 use Rattle.tl_layout.specs.declared.fault.FieldFault.{FieldFault}
 
--- what a record of type I may hold: each value fits its columns
+-- a record of type I fits: each value fits its columns
 unfoldable pub FitsTypeI : FieldsI → Type 0
 FitsTypeI r = FitsRows table_i r
 
@@ -17,7 +17,7 @@ FitsTypeI r = FitsRows table_i r
 unfoldable pub SpellsTypeI : List ℕ → FieldsI → Type 0
 SpellsTypeI line r = SpellsRows table_i line r
 
--- the record of the values of the rows
+-- the record made from the values of the rows
 abbrev pub make_i : Makes table_i FieldsI
 make_i file tlid start_node end_node cenidl polyidl cenidr polyidr source ftseg rs_i1 rs_i2 rs_i3 =
     record {
@@ -29,7 +29,7 @@ make_i file tlid start_node end_node cenidl polyidl cenidr polyidr source ftseg 
       right = record { cenid = cenidr; polyid = polyidr };
     }
 
--- what a line is read as: its fields from the left, up to the first fault
+-- how a line is read: its fields from the left, up to the first fault
 unfoldable pub type_i_reading : List ℕ → Result FieldsI FieldFault
 type_i_reading line = rows_reading table_i make_i line
 

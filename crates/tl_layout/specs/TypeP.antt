@@ -7,7 +7,7 @@ use Rattle.tl_layout.specs.TableReading.{Makes, rows_reading}
 use Rattle.tl_layout.specs.FieldTexts.{rows_spelling}
 use Rattle.tl_layout.specs.declared.fault.FieldFault.{FieldFault}
 
--- what a record of type P may hold: each value fits its columns
+-- a record of type P fits: each value fits its columns
 unfoldable pub FitsTypeP : FieldsP → Type 0
 FitsTypeP r = FitsRows table_p r
 
@@ -15,12 +15,12 @@ FitsTypeP r = FitsRows table_p r
 unfoldable pub SpellsTypeP : List ℕ → FieldsP → Type 0
 SpellsTypeP line r = SpellsRows table_p line r
 
--- the record of the values of the rows
+-- the record made from the values of the rows
 abbrev pub make_p : Makes table_p FieldsP
 make_p file cenid polyid point water =
     record { cenid = cenid; polyid = polyid; body = record { file = file; point = point; water = water } }
 
--- what a line is read as: its fields from the left, up to the first fault
+-- how a line is read: its fields from the left, up to the first fault
 unfoldable pub type_p_reading : List ℕ → Result FieldsP FieldFault
 type_p_reading line = rows_reading table_p make_p line
 

@@ -1,32 +1,33 @@
-//! Blanking: what the contents of records are under a mask.
+//! Blanking: what a mask makes of the contents of records.
 
 ghost use Rattle.std.specs.Prelude.{◌≡◌, refl};
 ghost use Rattle.tl_layout.specs.declared.mask.Mask.{Mask};
 ghost use Rattle.tl_layout.specs.Masked.{no_mask, masked_body_1, masked_body_7, masked_body_i};
-ghost use Rattle.tl_layout.specs.MaskLaws.{masked_twice_1, masked_twice_7, masked_twice_i};
+ghost use Rattle.tl_layout.specs.Laws.MaskLaws.{masked_twice_1, masked_twice_7, masked_twice_i};
 
 use crate::mask::Mask;
 use crate::type_i::BodyI;
 use crate::type1::Body1;
 use crate::type7::Body7;
 
-/// What has fields that a mask may leave out.
+/// A content with fields that a mask can leave out.
 pub trait Blank {
     /// The value under the mask.
     ghost masked: { Mask → Self → Self };
 
-    /// Puts blanks in the place of each field that the mask leaves out. Every other field stays.
+    /// Replaces each field that the mask leaves out with blanks. Every other field keeps its
+    /// value.
     fn blank(&mut self, mask: Mask)
         ensures { self.new ≡ masked mask self.old };
 
-    /// Blanking twice under one mask is blanking once.
+    /// Blanking twice under the same mask is the same as blanking once.
     ghost blanks_once: { (mask : Mask) (x : Self) → masked mask (masked mask x) ≡ masked mask x };
 
     /// A mask that leaves nothing out changes nothing.
     ghost keeps_all: { (x : Self) → masked no_mask x ≡ x };
 }
 
-/// SOURCE, and the reserved CENSUS1 and CENSUS2.
+/// The mask can blank SOURCE and the reserved CENSUS1 and CENSUS2.
 impl Blank for Body1 {
     ghost masked = { masked_body_1 };
 
@@ -43,7 +44,7 @@ impl Blank for Body1 {
     ghost keeps_all = { λ _. refl };
 }
 
-/// SOURCE. No field of a landmark is reserved.
+/// The mask can blank SOURCE. No field of a landmark is reserved.
 impl Blank for Body7 {
     ghost masked = { masked_body_7 };
 
@@ -56,7 +57,7 @@ impl Blank for Body7 {
     ghost keeps_all = { λ _. refl };
 }
 
-/// SOURCE, and the reserved RS_I1, RS_I2 and RS_I3.
+/// The mask can blank SOURCE and the reserved RS_I1, RS_I2 and RS_I3.
 impl Blank for BodyI {
     ghost masked = { masked_body_i };
 

@@ -10,24 +10,24 @@ use crate::digits::{put_behind, put_eight_digits};
 use crate::number::{digits, eight_digits, nine_digits, trim_start};
 use std::simd::prelude::*;
 
-/// The greatest magnitude of a longitude, in millionths of a degree: nine digits.
+/// The greatest magnitude of a longitude, in millionths of a degree (nine digits).
 pub(crate) const MOST_LONGITUDE: u32 = 999_999_999;
 
-/// The greatest magnitude of a latitude, in millionths of a degree: eight digits.
+/// The greatest magnitude of a latitude, in millionths of a degree (eight digits).
 pub(crate) const MOST_LATITUDE: u32 = 99_999_999;
 
-/// What a coordinate's field holds.
+/// What the field of a coordinate holds.
 #[derive(Clone, Copy, Debug, PartialEq, Eq)]
 pub enum Coordinate {
-    /// Neither blanks alone nor a coordinate within its limit.
+    /// Neither all blanks nor a coordinate within the limit.
     Malformed,
-    /// Blanks alone.
+    /// All blanks.
     Blank,
     /// A coordinate, in millionths of a degree.
     Value(i32),
 }
 
-/// The magnitude that one digit or more spell.
+/// Returns the magnitude if `text` is at least one digit, then only blanks, and the number is at most `limit`.
 #[tactic(auto, unfolding(crate::specs::CoordinateReading::magnitude_of))]
 fn magnitude(text: &[u8], limit: u32) -> Option<u32>
     requires { length text.now ≤ 19 }
@@ -54,7 +54,7 @@ fn magnitude(text: &[u8], limit: u32) -> Option<u32>
     }
 }
 
-/// The coordinate of this magnitude, with a plus.
+/// The coordinate with a plus sign and this magnitude, or `Malformed` if there is none.
 fn plus(magnitude: Option<u32>) -> Coordinate
     requires { IfSome magnitude (λ magnitude. magnitude ≤ MOST_LONGITUDE) }
     ensures { result ≡ plus_of magnitude }
@@ -65,7 +65,7 @@ fn plus(magnitude: Option<u32>) -> Coordinate
     }
 }
 
-/// The coordinate of this magnitude, with a minus.
+/// The coordinate with a minus sign and this magnitude, or `Malformed` if there is none.
 fn minus(magnitude: Option<u32>) -> Coordinate
     requires { IfSome magnitude (λ magnitude. magnitude ≤ MOST_LONGITUDE) }
     ensures { result ≡ minus_of magnitude }
@@ -76,7 +76,7 @@ fn minus(magnitude: Option<u32>) -> Coordinate
     }
 }
 
-/// What a coordinate's field holds, whose magnitude may be up to the limit.
+/// Reads a coordinate's field. The magnitude may be at most `limit`.
 #[inline(never)]
 #[tactic(auto, unfolding(crate::specs::CoordinateReading::coordinate_of, crate::specs::CoordinateReading::signed_of))]
 fn read_coordinate(field: &[u8], limit: u32) -> Coordinate
@@ -92,7 +92,7 @@ fn read_coordinate(field: &[u8], limit: u32) -> Coordinate
     }
 }
 
-/// The coordinate of this sign, which is told, and of this magnitude.
+/// The coordinate with this magnitude and this sign, which must be a plus or a minus: any other byte yields `None`.
 #[inline(always)]
 fn signed(sign: u8, magnitude: u64) -> Option<i32>
     requires { magnitude < 1000000000 }
@@ -107,7 +107,7 @@ fn signed(sign: u8, magnitude: u64) -> Option<i32>
     }
 }
 
-/// The longitude in a field of a sign and nine digits.
+/// Reads a longitude in the usual form, a sign and nine digits. Any other form yields `None`.
 #[inline(always)]
 fn usual_longitude(field: &[u8]) -> Option<i32>
     requires { length field.now ≡ 10 }
@@ -119,7 +119,7 @@ fn usual_longitude(field: &[u8]) -> Option<i32>
     )
 }
 
-/// The latitude in a field of a sign and eight digits.
+/// Reads a latitude in the usual form, a sign and eight digits. Any other form yields `None`.
 #[inline(always)]
 fn usual_latitude(field: &[u8]) -> Option<i32>
     requires { length field.now ≡ 9 }
@@ -128,7 +128,7 @@ fn usual_latitude(field: &[u8]) -> Option<i32>
     signed(field[0], eight_digits(u8x8::from_slice(&field[1..]))?)
 }
 
-/// The longitude that a field holds.
+/// Reads the field of a longitude.
 #[inline(always)]
 pub fn read_longitude(field: &[u8]) -> Coordinate
     requires { length field.now ≡ 10 }
@@ -140,7 +140,7 @@ pub fn read_longitude(field: &[u8]) -> Coordinate
     }
 }
 
-/// The latitude that a field holds.
+/// Reads the field of a latitude.
 #[inline(always)]
 pub fn read_latitude(field: &[u8]) -> Coordinate
     requires { length field.now ≡ 9 }
@@ -152,7 +152,7 @@ pub fn read_latitude(field: &[u8]) -> Coordinate
     }
 }
 
-/// Writes the last digits of a number, as many as there is room for.
+/// Writes the last digits of a number, as many as `out` is long.
 #[inline(always)]
 #[tactic(auto, using(crate::proofs::Columns::behind_zeros))]
 fn put_digits(out: &mut [u8], number: u32)
@@ -168,14 +168,14 @@ fn put_digits(out: &mut [u8], number: u32)
     }
 }
 
-/// The sign of a coordinate, a plus for 0.
+/// The sign of a coordinate: a plus for 0.
 fn sign(value: i32) -> u8
     ensures { result ≡ sign_of value }
 {
     if value < 0 { b'-' } else { b'+' }
 }
 
-/// Writes a coordinate: its sign, and digits in all columns but the first.
+/// Writes a coordinate: its sign in the first column and digits in all others.
 #[inline(always)]
 #[tactic(auto, using(crate::proofs::Writes::first_then_rest), unfolding(crate::specs::FieldTexts::coordinate_text))]
 pub fn put_coordinate(out: &mut [u8], value: i32)

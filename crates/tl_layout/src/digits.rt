@@ -4,8 +4,8 @@ ghost use Rattle.std.specs.Int.{w64, from_le_bytes};
 ghost use Rattle.std.specs.Prelude.{◌≡◌, ◌+◌, ◌-◌, ◌/◌, ◌%◌, ◌<◌, ℕ, [], ◌∷◌, length};
 ghost use Rattle.tl_layout.specs.FieldTexts.{digits_text, number_text, text_behind};
 
-/// The word that has the eight digits of a number in its bytes, the first one in the lowest. The number is parted into two halves,
-/// these into pairs of digits and the pairs into digits, all that stand in one word at once.
+/// Puts the eight digits of a number into the bytes of a word, the first digit in the lowest byte. It splits the number into
+/// two halves, the halves into pairs of digits, and the pairs into digits. Each step splits all parts of the word at once.
 #[inline(always)]
 fn digits_in_word(number: u32) -> u64
     requires { number < 100000000 }
@@ -16,14 +16,14 @@ fn digits_in_word(number: u32) -> u64
     let high = u64::from(number / 10_000);
     let low = u64::from(number % 10_000);
     let halves = low * 0x1_0000_0000 + high;
-    // A hundredth of each number below 10,000 is so many parts of 2 ^ 19, and a tenth of each below 100 so many of 2 ^ 10.
+    // For n below 10,000, `n / 100` is `5_243 * n >> 19`. For n below 100, `n / 10` is `103 * n >> 10`.
     let hundreds = (5_243 * halves >> 19) & 0x7f_0000_007f;
     let pairs = hundreds + (halves - 100 * hundreds) * 0x1_0000;
     let tens = (103 * pairs >> 10) & 0x000f_000f_000f_000f;
     tens + (pairs - 10 * tens) * 0x100
 }
 
-/// Writes eight digits, zeros in front.
+/// Writes eight digits, with leading zeros.
 #[inline(always)]
 #[tactic(auto, unfolding(crate::specs::FieldTexts::digits_text))]
 pub fn put_eight_digits(out: &mut [u8], number: u32)
@@ -35,7 +35,7 @@ pub fn put_eight_digits(out: &mut [u8], number: u32)
     out.copy_from_slice(&text.to_le_bytes());
 }
 
-/// Writes a number into eight columns, right justified, blanks in front, and blanks alone for 0.
+/// Writes a number right justified into eight columns: leading blanks, and only blanks for 0.
 #[inline(always)]
 #[tactic(auto, unfolding(crate::specs::FieldTexts::number_text))]
 pub fn put_eight_columns(out: &mut [u8], number: u32)
@@ -44,14 +44,15 @@ pub fn put_eight_columns(out: &mut [u8], number: u32)
     ensures { out.new ≡ number_text 8 number }
 {
     let digits = digits_in_word(number);
-    // Of each digit the sum of those up to it. Where it is 0 the column is blank, and else a digit, whose byte is 16 more.
+    // Each byte of `sums` is the sum of the digits up to it. If it is 0, the column is blank (0x20). If not, the column has the
+    // digit, and its byte is 16 more.
     let sums = digits.wrapping_mul(0x0101_0101_0101_0101);
     let shown = (sums + 0x7f7f_7f7f_7f7f_7f7f) & 0x8080_8080_8080_8080;
     let text = digits + shown / 8 + 0x2020_2020_2020_2020;
     out.copy_from_slice(&text.to_le_bytes());
 }
 
-/// Writes a number right justified, and this byte in each column in front of its digits.
+/// Writes a number right justified, with `filler` in each column before its digits.
 #[tactic(auto, unfolding(crate::specs::FieldTexts::text_behind))]
 pub fn put_behind(out: &mut [u8], filler: u8, number: u64)
     ensures { out.new ≡ text_behind filler (length out.old) number }

@@ -1,17 +1,18 @@
-//! What can be wrong with a field, and that a device failed.
+//! Faults of fields, and the failure of a device.
 
 use thiserror::Error;
 
 /// How a field breaks its rule.
 #[derive(Clone, Copy, Debug, PartialEq, Eq, Error)]
 pub enum FieldKind {
-    /// A number field is malformed, or none where a number is demanded.
+    /// A malformed number field, or no number in a field that requires one.
     #[error("this is not a number of the field")]
     BadNumber,
-    /// A coordinate is malformed or out of range, one half of a pair is blank, or a demanded point is none.
+    /// A malformed or out-of-range coordinate, a pair with one half blank, or no point in a field that
+    /// requires one.
     #[error("this is not a point")]
     BadPoint,
-    /// A used place stands after an unused one.
+    /// A used place after an unused one.
     #[error("a used place follows an unused one")]
     GapInRecord,
 }
@@ -22,7 +23,7 @@ pub enum FieldKind {
 pub struct FieldFault {
     /// How the field breaks its rule.
     pub kind: FieldKind,
-    /// The field's first column, from 1.
+    /// The field's first column, counted from 1.
     pub column: u16,
 }
 

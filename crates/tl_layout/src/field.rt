@@ -1,4 +1,4 @@
-//! Fields of a line by their columns, counted from 1 as in the column tables.
+//! Reading fields by their columns, which are counted from 1 as in the column tables.
 
 ghost use Rattle.std.specs.Prelude.{◌≡◌, ◌+◌, ◌-◌, ◌≤◌, ◌<◌, ◌++◌, length, take, IfOk};
 ghost use Rattle.tl_layout.specs.Bytes.{AreAllowed, IsText, columns};
@@ -15,7 +15,7 @@ use crate::number::{number, put_number};
 use crate::point::Point;
 use crate::text::Text;
 
-/// The opaque bytes of these columns.
+/// Returns the bytes in these columns as they are.
 #[inline(always)]
 pub fn text_at<const N: usize>(line: &[u8], first: usize, last: usize) -> Text<N>
     requires allowed { AreAllowed line.now }
@@ -27,7 +27,11 @@ pub fn text_at<const N: usize>(line: &[u8], first: usize, last: usize) -> Text<N
     Text::from_slice(&line[first - 1..last])
 }
 
-/// The number in these columns, where one is demanded.
+/// Reads the number in these columns. The field must have one.
+///
+/// # Errors
+///
+/// `BadNumber` at column `first`.
 #[inline(always)]
 #[tactic(auto, unfolding(crate::specs::FieldReading::number_at))]
 pub fn read_number(line: &[u8], first: usize, last: usize) -> Result<u64, FieldFault>
@@ -47,7 +51,11 @@ pub fn read_number(line: &[u8], first: usize, last: usize) -> Result<u64, FieldF
     }
 }
 
-/// The number in these columns, where there may be none.
+/// Reads the number in these columns, which may have none.
+///
+/// # Errors
+///
+/// `BadNumber` at column `first`.
 #[inline(always)]
 #[tactic(auto, unfolding(crate::specs::FieldReading::number_or_none_at))]
 pub fn read_number_or_none(
@@ -72,7 +80,7 @@ pub fn read_number_or_none(
     }
 }
 
-/// That a point is bad, told at this column.
+/// The fault of a bad point, reported at this column.
 fn bad_point(column: usize) -> FieldFault
     requires { column ≤ LONGEST_LINE }
     ensures { result ≡ bad_point column }
@@ -83,7 +91,7 @@ fn bad_point(column: usize) -> FieldFault
     }
 }
 
-/// That a used place stands after an unused one, told at this column.
+/// The fault of a used place after an unused one, reported at this column.
 pub fn gap(column: usize) -> FieldFault
     requires { column ≤ LONGEST_LINE }
     ensures { result ≡ gap column }
@@ -94,9 +102,9 @@ pub fn gap(column: usize) -> FieldFault
     }
 }
 
-/// The pair of coordinates that begins at this column, where there may be none.
+/// Reads the pair of coordinates that begins at this column. It may hold no point.
 #[inline(always)]
-#[tactic(auto, using(crate::specs::CoordinateLaws::coordinate_read_within), unfolding(crate::specs::FieldReading::point_or_none_at, crate::specs::FieldReading::point_or_none))]
+#[tactic(auto, using(crate::specs::Laws::CoordinateLaws::coordinate_read_within), unfolding(crate::specs::FieldReading::point_or_none_at, crate::specs::FieldReading::point_or_none))]
 pub fn read_point_or_none(line: &[u8], column: usize) -> Result<Option<Point>, FieldFault>
     requires from_one { 1 ≤ column }
     requires within { (column + 18 ≤ length line.now) × (column + 18 ≤ LONGEST_LINE) }
@@ -114,7 +122,7 @@ pub fn read_point_or_none(line: &[u8], column: usize) -> Result<Option<Point>, F
     }
 }
 
-/// The point in the pair of coordinates that begins at this column, where one is demanded.
+/// Reads the pair of coordinates that begins at this column. It must hold a point.
 #[inline(always)]
 #[tactic(auto, unfolding(crate::specs::FieldReading::point_at, crate::specs::FieldReading::and_then))]
 pub fn read_point(line: &[u8], column: usize) -> Result<Point, FieldFault>

@@ -4,16 +4,16 @@ ghost use Rattle.std.specs.Prelude.{◌≡◌, [], ◌∷◌, ◌++◌, OnOk, On
 
 use std::alloc::AllocError;
 
-/// So many items are many.
+/// From this many items on, a list reserves ahead.
 const MANY_ITEMS: usize = 64;
 
-/// Makes room ahead of some more items, where there are many and the room is full. Nothing tells whether it was found.
+/// Reserves capacity ahead if `items` is long and has too little for `more` items. It doesn't report whether it succeeded.
 ///
-/// A list that grows by doubling moves what it holds each time, and what was moved stands in large pages no more. Room that
-/// nothing was written to takes no memory, so for 15 times as many items as there are it is asked for at once. Where that isn't
-/// found, the list grows as any other.
+/// A list that grows by doubling moves its contents each time, and moved memory is no longer in huge pages. Capacity that was
+/// never written takes no memory, so this asks at once for 15 times as many items as the list has. If that fails, the list
+/// grows like any other.
 #[inline(always)]
-pub fn make_room_ahead<T>(items: &mut Vec<T>, more: usize)
+pub fn reserve_ahead<T>(items: &mut Vec<T>, more: usize)
     ensures { items.new.items ≡ items.old.items }
 {
     let len = items.len();
@@ -22,12 +22,12 @@ pub fn make_room_ahead<T>(items: &mut Vec<T>, more: usize)
     }
 }
 
-/// Adds an item behind those that are there, with room made ahead.
+/// Appends an item, with capacity reserved ahead.
 #[inline(always)]
-pub(crate) fn push_ahead<T: Drop>(items: &mut Vec<T>, item: T) -> Result<(), AllocError>
+pub(crate) fn push_reserving<T: Drop>(items: &mut Vec<T>, item: T) -> Result<(), AllocError>
     ensures ok { OnOk result (items.new.items ≡ items.old.items ++ item ∷ []) }
     ensures err { OnErr result (items.new.items ≡ items.old.items) }
 {
-    make_room_ahead(items, 1);
+    reserve_ahead(items, 1);
     Ok(items.push(item)?)
 }

@@ -1,4 +1,4 @@
-//! Laws of the definitions, each the contract of a function that does nothing.
+//! Laws of the definitions. Each is the contract of a function that does nothing.
 
 ghost use Rattle.std.specs.Prelude.{◌≡◌};
 ghost use Rattle.tl_layout.specs.ColumnTable.{MasksRows, TurnsRows};
@@ -9,15 +9,15 @@ ghost use Rattle.tl_layout.specs.Masked.{masked_body_1, masked_type_1, masked_ty
 ghost use Rattle.tl_layout.specs.RecordTables.{table_1, table_2, table_4, table_5, table_6, table_7, table_8, table_i, table_p};
 ghost use Rattle.tl_layout.specs.Turned.{turned_body, turned_type_1, turned_type_6, turned_type_i};
 
-/// A turn gives each field the value of its partner in the column table of its record type, and leaves every other field.
+/// A turn gives each field the value of its partner in the column table of its record type, and keeps every other field.
 pub fn a_turn_exchanges_partners()
     ensures type_1 { (r : Fields1) → TurnsRows table_1 r (turned_type_1 r) }
     ensures type_6 { (r : Fields6) → TurnsRows table_6 r (turned_type_6 r) }
     ensures type_i { (r : FieldsI) → TurnsRows table_i r (turned_type_i r) }
 {}
 
-/// A mask makes blanks of just the fields that the column tables name for it, and leaves every other field. Types 2, 4, 5, 6, 8
-/// and P have no such field.
+/// A mask blanks exactly the fields that the column tables assign to it, and keeps every other field. Types 2, 4, 5, 6, 8 and P
+/// have no such field.
 pub fn a_mask_blanks_its_fields()
     ensures type_1 { (mask : Mask) (r : Fields1) → MasksRows mask table_1 r (masked_type_1 mask r) }
     ensures type_7 { (mask : Mask) (r : Fields7) → MasksRows mask table_7 r (masked_type_7 mask r) }
@@ -30,7 +30,7 @@ pub fn a_mask_blanks_its_fields()
     ensures type_p { (mask : Mask) (r : FieldsP) → MasksRows mask table_p r r }
 {}
 
-/// Blanking the content of a record of type 1 and turning it may change places.
+/// Blanking and turning the content of a record of type 1 commute.
 pub fn blanking_and_turning_change_places()
     ensures { (mask : Mask) (body : Body1Fields) → turned_body (masked_body_1 mask body) ≡ masked_body_1 mask (turned_body body) }
 {}

@@ -1,4 +1,4 @@
-//! What every record type offers.
+//! What every record type provides.
 
 ghost use Rattle.std.specs.Prelude.{◌≡◌, ◌↔◌, ◌≤◌, ◌<◌, ℕ, List, Result, Ok, Err, length, IfOk, IfErr, IsOk};
 ghost use Rattle.tl_layout.specs.Bytes.{IsLine};
@@ -7,42 +7,46 @@ ghost use Rattle.tl_layout.specs.declared.layout.TheConstants.{LONGEST_LINE};
 
 use crate::fault::FieldFault;
 
-/// Length of the longest full line, in bytes: that of record type 1.
+/// The length of the longest full line, in bytes: record type 1 has it.
 pub const LONGEST_LINE: usize = 228;
 
-/// A record type: how a line spells its records, and the one canonical spelling of each.
+/// A record type: which lines spell a record, and its one canonical spelling.
 pub trait Layout: Sized {
-    /// Length of a full line, in bytes.
+    /// The length of a full line, in bytes.
     const LEN: usize;
 
     ghost LEN: { ℕ };
 
-    /// The record type, the byte in column 1.
+    /// The record type: the byte in column 1.
     const RTYPE: u8;
 
     ghost RTYPE: { ℕ };
 
-    /// The values that a record of this type may hold.
+    /// The values that a record of this type can hold.
     ghost Fits: { Self → Type 0 };
 
-    /// A full line spells the record: a relation, since a record has many spellings.
+    /// The full line spells the record. This is a relation because a record has many spellings.
     ghost Spells: { List ℕ → Self → Type 0 };
 
-    /// What is told of a full line: its leftmost field at fault, of which no value is spelled, and how it breaks its rule.
+    /// The fault of a full line: its leftmost field that spells no value, and how that field breaks its rule.
     ghost IsFault: { List ℕ → FieldFault → Type 0 };
 
-    /// What a full line is read as: the record, or the fault.
+    /// How a full line is read: as a record, or as a fault.
     ghost reading: { List ℕ → Result Self FieldFault };
 
     /// The canonical spelling of the record.
     ghost spelling: { Self → List ℕ };
 
-    /// What a full line is read as, by the column table of its type. [`Layout::take`] says what that means.
+    /// Reads a full line by the column table of its type. The contract of [`Layout::take`] explains what that means.
     fn read(line: &[u8]) -> Result<Self, FieldFault>
         requires { IsLine RTYPE LEN line.now }
         ensures exact { result ≡ reading line.now };
 
-    /// Reads a line whose bytes are allowed and `LEN` in number, the record type first.
+    /// Reads a full line: `LEN` allowed bytes, the first of them `RTYPE`.
+    ///
+    /// # Errors
+    ///
+    /// The leftmost fault of the line.
     fn take(line: &[u8]) -> Result<Self, FieldFault>
         requires { IsLine RTYPE LEN line.now }
         ensures found { IfOk result (λ r. Fits r × Spells line.now r) }
@@ -53,27 +57,27 @@ pub trait Layout: Sized {
         Self::read(line)
     }
 
-    /// Writes the canonical spelling.
+    /// Writes the canonical spelling. `out` must be `LEN` bytes long.
     fn put(&self, out: &mut [u8])
         requires { length out.old ≡ LEN }
         ensures spelling { out.new ≡ spelling self.now }
         ensures fits { Fits self.now };
 
-    /// No line is longer than the longest one, and none is empty.
+    /// No line is empty or longer than the longest one.
     ghost bounded: { (1 ≤ LEN) × (LEN ≤ LONGEST_LINE) };
 
     /// The canonical spelling is a full line.
     ghost spelling_is_line: { (r : Self) → Fits r → IsLine RTYPE LEN (spelling r) };
 
-    /// What is read of the canonical spelling is the record.
+    /// Reading the canonical spelling yields the record.
     ghost reads_spelling: { (r : Self) → Fits r → reading (spelling r) ≡ Ok r };
 
-    /// What is read is spelled so.
+    /// If a line is read as a record, the line spells it, and the record fits.
     ghost reads_spelled: { (line : List ℕ) (r : Self) → IsLine RTYPE LEN line → reading line ≡ Ok r → Fits r × Spells line r };
 
-    /// What is spelled so is read.
+    /// If a line spells a record, it is read as that record.
     ghost spelled_is_read: { (line : List ℕ) (r : Self) → IsLine RTYPE LEN line → Spells line r → reading line ≡ Ok r };
 
-    /// What a full line fails with is its leftmost fault.
+    /// Reading a full line fails exactly with its leftmost fault.
     ghost tells_leftmost: { (line : List ℕ) (fault : FieldFault) → IsLine RTYPE LEN line → (reading line ≡ Err fault ↔ IsFault line fault) };
 }

@@ -1,9 +1,10 @@
 //! The record layouts of TIGER/Line 2006: each record type as a value, read from a line and written canonically.
 //!
-//! Where to start: [`Layout::take`] of a record's type, as `Rec1::take(line)`, reads a full line, and [`Layout::put`] writes
-//! one. A [`Record`] is of any type, and [`Tables`] hold records by their types. A record is made of its numbers and its
-//! content, as `Rec5::new(feat, body)`; a content such as [`Body7`] is a literal of [`Text`]s under their names, and `new`
-//! takes the same as arrays in a row. [`Body1`] is made of such a literal, of [`Body1Fields`]. Files are read by the crate `tl_load`.
+//! Start with [`Layout::take`] of a record's type, such as `Rec1::take(line)`: it reads a full line, and [`Layout::put`] writes
+//! one. A [`Record`] is of any type, and [`Tables`] hold records by type. A record consists of its numbers and its content, as
+//! in `Rec5::new(feat, body)`. A content such as [`Body7`] is a literal with named fields of type [`Text`], and its `new` takes
+//! the same fields as arrays in that order. [`Body1`] is made from such a literal, a [`Body1Fields`]. The crate `tl_load` reads
+//! files.
 #![tactic(auto)]
 
 mod blank;
@@ -41,7 +42,7 @@ mod writing;
 
 pub use blank::Blank;
 pub use fault::{DeviceFault, FieldFault, FieldKind};
-pub use growing::make_room_ahead;
+pub use growing::reserve_ahead;
 pub use laws::{
     a_mask_blanks_its_fields, a_turn_exchanges_partners, blanking_and_turning_change_places,
 };

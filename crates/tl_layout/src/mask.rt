@@ -1,14 +1,14 @@
-//! Masks: which fields are left out where maps are compared.
+//! Masks: which fields are left out when maps are compared.
 
 ghost use Rattle.std.specs.Prelude.{◌≡◌, Bool, true};
 ghost use Rattle.tl_layout.specs.Masked.{no_mask};
 
-/// The fields that are left out where a map is seen under a mask.
+/// The fields that are left out when a map is viewed under a mask.
 #[derive(Clone, Copy, Debug, PartialEq, Eq)]
 pub struct Mask {
-    /// Leaves out the fields that say where data came from: SOURCE of types 1, 7 and I.
+    /// Leaves out the fields that name the source of data: SOURCE of types 1, 7 and I.
     pub sources: bool,
-    /// Leaves out the reserved fields: CENSUS1 and CENSUS2 of type 1, RS_I1, RS_I2 and RS_I3 of type I.
+    /// Leaves out the reserved fields: CENSUS1 and CENSUS2 of type 1; RS_I1, RS_I2 and RS_I3 of type I.
     pub reserved: bool,
 }
 

@@ -1,4 +1,4 @@
-//! The name of a feature, as record types 1 and 5 hold it.
+//! The name of a feature, as in record types 1 and 5.
 
 ghost use Rattle.std.specs.Prelude.{◌≡◌, ◌+◌, ◌-◌, ◌≤◌, length, take};
 ghost use Rattle.tl_layout.specs.Bytes.{AreAllowed};
@@ -16,7 +16,7 @@ pub struct FeatureName {
     pub fedirp: Text<2>,
     /// The name itself (FENAME).
     pub fename: Text<30>,
-    /// Type of the feature, as `St` (FETYPE).
+    /// Type of the feature, such as `St` (FETYPE).
     pub fetype: Text<4>,
     /// Direction after the name (FEDIRS).
     pub fedirs: Text<2>,
@@ -25,7 +25,7 @@ pub struct FeatureName {
 impl FeatureName {
     ghost use Rattle.tl_layout.specs.Names.{FitsName, feature_name_at, name_texts};
 
-    /// The name of these fields, each of bytes that a line may hold.
+    /// Makes a name from these fields. Each of their bytes must be allowed in a line.
     pub(crate) fn new(
         fedirp: [u8; 2],
         fename: [u8; 30],
@@ -46,7 +46,7 @@ impl FeatureName {
         }
     }
 
-    /// The name that begins in this column of a line.
+    /// The name that begins at this column of a line.
     pub(crate) fn at(line: &[u8], first: usize) -> FeatureName
         requires allowed { AreAllowed line.now }
         requires from_one { 1 ≤ first }
@@ -73,7 +73,7 @@ impl FeatureName {
         write_text(out, first + 36, first + 37, &self.fedirs);
     }
 
-    /// Does nothing: that each field fits its columns is so by its type.
+    /// Proves that each field fits its columns, which its type guarantees. Does nothing at run time.
     pub(crate) fn show_fit(&self)
         ensures { FitsName self.now }
     {

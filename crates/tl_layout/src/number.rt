@@ -1,7 +1,7 @@
 //! Number fields.
 
 ghost use Rattle.std.specs.List.{list_all};
-ghost use Rattle.std.specs.Prelude.{◌≡◌, ◌≤◌, ◌<◌, ◌+◌, ◌*◌, ◌∷◌, ℕ, length, slice_index, true, IsTrue, Some, IfSome};
+ghost use Rattle.std.specs.Prelude.{◌≡◌, ◌≤◌, ◌<◌, ◌+◌, ◌*◌, ◌%◌, ◌==◌, ◌∷◌, ℕ, if◌then◌else◌, length, slice_index, true, IsTrue, Some, IfSome};
 ghost use Rattle.tl_layout.specs.FieldTexts.{number_text};
 ghost use Rattle.tl_layout.specs.NumberField.{is_blank, is_digit};
 ghost use Rattle.tl_layout.specs.NumberReading.{drop_blanks, number_after, number_of};
@@ -9,7 +9,7 @@ ghost use Rattle.tl_layout.specs.NumberReading.{drop_blanks, number_after, numbe
 use crate::digits::{put_behind, put_eight_columns, put_eight_digits};
 use std::simd::prelude::*;
 
-/// What is left of a field behind the blanks in front.
+/// The field without its leading blanks.
 #[inline(never)]
 pub fn trim_start(field: &[u8]) -> &[u8]
     ensures value { result.now ≡ drop_blanks field.now }
@@ -22,7 +22,7 @@ pub fn trim_start(field: &[u8]) -> &[u8]
     rest
 }
 
-/// Whether there are blanks alone.
+/// Whether the field has only blanks.
 pub fn is_blank(field: &[u8]) -> bool
     ensures { result ≡ list_all is_blank field.now }
 {
@@ -38,12 +38,12 @@ fn are_digits(bytes: u8x8) -> bool
     values.simd_lt(u8x8::splat(10)).to_bitmask() == 0xff
 }
 
-/// The number of eight bytes, if each of them is a digit. Of neighbouring digits in a word pairs are made, of these fours,
-/// and of the fours the number.
+/// The number that eight bytes spell, if each of them is a digit. Within one word, it joins neighbouring digits into pairs,
+/// the pairs into fours, and the fours into the number.
 #[inline(always)]
 pub fn eight_digits(bytes: u8x8) -> Option<u64>
     ensures value { IfSome result (λ number. number_after 0 bytes ≡ Some number) }
-    // Behind other digits they go on from the number of those.
+    // After other digits, the eight digits continue their number.
     ensures behind { IfSome result (λ number. (before : ℕ) → number_after before bytes ≡ Some (before * 100000000 + number)) }
     ensures below { IfSome result (λ number. number < 100000000) }
     ensures begins { IfSome result (λ _. is_digit (slice_index bytes 0) ≡ true) }
@@ -57,7 +57,7 @@ pub fn eight_digits(bytes: u8x8) -> Option<u64>
     Some((10_000 * fours + (fours >> 32)) & 0xffff_ffff)
 }
 
-/// The number of nine bytes, if each of them is a digit.
+/// The number that nine bytes spell, if each of them is a digit.
 #[inline(always)]
 pub fn nine_digits(first: u8, rest: u8x8) -> Option<u64>
     ensures value { IfSome result (λ number. number_after 0 (first ∷ rest) ≡ Some number) }
@@ -73,7 +73,7 @@ pub fn nine_digits(first: u8, rest: u8x8) -> Option<u64>
     }
 }
 
-/// The number of eight columns with blanks in front and digits up to the last of them, or with blanks alone.
+/// The number in eight columns that are blanks and then digits up to the last column, or blanks only.
 #[inline(always)]
 fn right_justified(bytes: u8x8) -> Option<u64>
     ensures { IfSome result (λ number. number_of bytes ≡ Some number) }
@@ -86,7 +86,7 @@ fn right_justified(bytes: u8x8) -> Option<u64>
     eight_digits(blanks.select(u8x8::splat(b'0'), bytes))
 }
 
-/// The number that a field spells, tried in the form and at the widths that most fields have.
+/// Reads a number field in the form and at the widths that are usual. Any other field yields `None`.
 #[inline(always)]
 fn usual_number(field: &[u8]) -> Option<u64>
     ensures { IfSome result (λ number. number_of field.now ≡ Some number) }
@@ -105,7 +105,7 @@ fn usual_number(field: &[u8]) -> Option<u64>
     }
 }
 
-/// The number of digits that nothing but blanks may follow.
+/// The number that digits spell, with only blanks after them.
 #[inline(never)]
 #[tactic(auto, using(crate::proofs::NumberLemmas::stepping), unfolding(crate::specs::NumberReading::number_after))]
 pub fn digits(field: &[u8]) -> Option<u64>
@@ -126,7 +126,7 @@ pub fn digits(field: &[u8]) -> Option<u64>
     Some(value)
 }
 
-/// The number that a field spells, 0 where it spells none.
+/// The number that a field spells: 0 if it is blank, `None` if it is malformed.
 #[inline(always)]
 #[tactic(auto, unfolding(crate::specs::NumberReading::number_of))]
 pub fn number(field: &[u8]) -> Option<u64>
@@ -139,35 +139,59 @@ pub fn number(field: &[u8]) -> Option<u64>
     }
 }
 
-/// Writes a number right justified, blanks for 0.
+/// Writes a number right justified. 0 is written as blanks.
 #[inline(always)]
 #[tactic(auto, using(crate::proofs::Columns::behind_blanks))]
 pub fn put_number(out: &mut [u8], number: u64)
     ensures { out.new ≡ number_text (length out.old) number }
 {
     match out.len() {
+        3 if number < 1_000 => put_three_columns(out, number as u16),
         8 if number < 100_000_000 => put_eight_columns(out, number as u32),
         10 if number < 10_000_000_000 => put_ten_columns(out, number),
         _ => put_behind(out, b' ', number),
     }
 }
 
-/// Writes a number into ten columns, right justified, blanks for 0.
+/// Writes a number right justified into ten columns. 0 is written as blanks.
 #[inline(always)]
 fn put_ten_columns(out: &mut [u8], number: u64)
     requires len { length out.old ≡ 10 }
     requires below { number < 10000000000 }
     ensures { out.new ≡ number_text 10 number }
 {
-    let high = (number / 100_000_000) as u8;
-    let low = (number % 100_000_000) as u32;
-    if high == 0 {
+    if number < 100_000_000 {
         out[0] = b' ';
         out[1] = b' ';
-        put_eight_columns(&mut out[2..], low);
+        put_eight_columns(&mut out[2..], number as u32);
     } else {
+        let high = (number / 100_000_000) as u8;
+        let low = (number % 100_000_000) as u32;
         out[0] = if high < 10 { b' ' } else { b'0' + high / 10 };
         out[1] = b'0' + high % 10;
         put_eight_digits(&mut out[2..], low);
     }
+}
+
+/// The byte of the column in which the last digit of a number is shown, a blank for 0.
+#[inline(always)]
+fn column(left: u16) -> u8
+    ensures { result ≡ (if left == 0 then 32 else 48 + left % 10) }
+{
+    if left == 0 {
+        b' '
+    } else {
+        b'0' + (left % 10) as u8
+    }
+}
+
+/// Writes a number into three columns, right justified, blanks for 0.
+#[inline(always)]
+#[tactic(auto, unfolding(crate::specs::FieldTexts::number_text))]
+fn put_three_columns(out: &mut [u8], number: u16)
+    requires len { length out.old ≡ 3 }
+    ensures { out.new ≡ number_text 3 number }
+{
+    let tens = number / 10;
+    out.copy_from_slice(&[column(tens / 10), column(tens), column(number)]);
 }

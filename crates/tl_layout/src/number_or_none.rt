@@ -1,12 +1,12 @@
-//! Numbers that may be none, in eight bytes each.
+//! Numbers that can be none, in eight bytes each.
 
 ghost use Rattle.std.specs.Prelude.{◌≡◌, ◌<◌, IfSome};
 
 use std::fmt;
 use std::marker::Model;
 
-/// A number from 1 on, or none, for which 0 is kept, as it is in a line (record type I, TZIDS, TZIDE, POLYIDL and POLYIDR). It takes half
-/// of what an `Option` takes.
+/// A number from 1 on, or none. None is stored as 0, as in a line (record type I: TZIDS, TZIDE, POLYIDL and POLYIDR). It takes
+/// half as much memory as an `Option`.
 #[derive(Clone, Copy)]
 pub struct NumberOrNone {
     kept: u64,
@@ -15,7 +15,7 @@ pub struct NumberOrNone {
 impl Model for NumberOrNone {
     ghost use Rattle.std.proofs.Common.{ap};
     ghost use Rattle.std.specs.Prelude.{ℕ, Option, unwrap_or};
-    ghost use Rattle.tl_layout.specs.NumberLaws.{none_if_zero_again};
+    ghost use Rattle.tl_layout.specs.Laws.NumberLaws.{none_if_zero_again};
     ghost use Rattle.tl_layout.specs.Numbers.{none_if_zero};
 
     ghost Value = { Option ℕ };
@@ -27,7 +27,7 @@ impl Model for NumberOrNone {
     ghost inverse_ok = { λ number _. ap (λ kept. record { kept = kept }) (none_if_zero_again number.kept) };
 }
 
-/// Equal as the `Option`s that they stand for.
+/// Two values are equal if their `Option`s are.
 impl PartialEq for NumberOrNone {
     ghost use Rattle.std.specs.Cmp.Rules.{comparing};
     ghost use Rattle.std.proofs.Common.{rules};
@@ -47,7 +47,7 @@ impl Eq for NumberOrNone {
     ghost laws = { Prim.search rules };
 }
 
-/// Told as the `Option` that it stands for.
+/// Printed like the `Option` it represents.
 impl fmt::Debug for NumberOrNone {
     fn fmt<W: fmt::Write>(&self, f: &mut fmt::Formatter<W>) -> fmt::Result {
         fmt::Debug::fmt(&self.get(), f)
@@ -55,7 +55,7 @@ impl fmt::Debug for NumberOrNone {
 }
 
 impl NumberOrNone {
-    /// This number, which is at least 1, or none.
+    /// Stores this number, which must be at least 1, or none.
     #[inline(always)]
     pub fn new(number: Option<u64>) -> NumberOrNone
         requires { IfSome number (λ n. 0 < n) }
@@ -66,7 +66,7 @@ impl NumberOrNone {
         }
     }
 
-    /// The number, which is at least 1, or none.
+    /// Returns the number, which is at least 1, or none.
     #[inline(always)]
     pub fn get(&self) -> Option<u64>
         ensures value { result ≡ self.now }

@@ -1,4 +1,4 @@
-//! A field that stands once for the left and once for the right side of a chain.
+//! A field that a record has twice: for the left and for the right side of a chain.
 
 ghost use Rattle.std.specs.Prelude.{◌≡◌, ◌+◌, ◌-◌, ◌*◌, ◌≤◌, length, take};
 ghost use Rattle.tl_layout.specs.Bytes.{AreAllowed};
@@ -9,7 +9,7 @@ use crate::layout::LONGEST_LINE;
 use crate::text::Text;
 use crate::writing::write_text;
 
-/// The left and the right field of one name, as seen by someone who walks the chain from its start.
+/// The left and the right field of one name. Left and right are as you walk the chain from its start.
 #[derive(Clone, Copy, Debug, PartialEq, Eq)]
 pub struct LeftRight<const N: usize> {
     pub left: Text<N>,
@@ -19,7 +19,7 @@ pub struct LeftRight<const N: usize> {
 impl<const N: usize> LeftRight<N> {
     ghost use Rattle.tl_layout.specs.Pairs.{FitsPair, pair_at, pair_texts};
 
-    /// The pair of these fields, both of bytes that a line may hold.
+    /// Makes a pair from these fields. Each of their bytes must be allowed in a line.
     pub(crate) fn new(left: [u8; N], right: [u8; N]) -> LeftRight<N>
         requires left { AreAllowed left }
         requires right { AreAllowed right }
@@ -31,7 +31,7 @@ impl<const N: usize> LeftRight<N> {
         }
     }
 
-    /// The pair that begins in this column of a line.
+    /// The pair that begins at this column of a line.
     pub(crate) fn at(line: &[u8], first: usize) -> LeftRight<N>
         requires allowed { AreAllowed line.now }
         requires from_one { 1 ≤ first }
@@ -54,7 +54,7 @@ impl<const N: usize> LeftRight<N> {
         write_text(out, first + N, first + 2 * N - 1, &self.right);
     }
 
-    /// Does nothing: that each field fits its columns is so by its type.
+    /// Proves that each field fits its columns, which its type guarantees. Does nothing at run time.
     pub(crate) fn show_fit(&self)
         ensures { FitsPair N self.now }
     {

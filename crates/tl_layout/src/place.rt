@@ -1,4 +1,4 @@
-//! Places of one kind that stand side by side in a line.
+//! Places of one kind, side by side in a line.
 
 ghost use Rattle.std.specs.List.{AllByRecursion};
 ghost use Rattle.std.specs.Prelude.{◌≡◌, ◌+◌, ◌-◌, ◌*◌, ◌≤◌, ◌<◌, ℕ, false, List, [], ◌∷◌, ◌++◌, length, take, slice_get, Option, Result, IfSome};
@@ -13,19 +13,19 @@ use crate::point::Point;
 use crate::writing::{ZEROS, write_number, write_point, write_zeros};
 use arrayvec::ArrayVec;
 
-/// A list whose items stand in places side by side in a line, from column 19 on.
+/// A list whose items are in places side by side in a line, from column 19 on.
 pub trait Places: Sized {
     ghost use Rattle.tl_layout.specs.declared.fault.FieldFault.{FieldFault};
 
-    /// What stands in a place.
+    /// The content of a used place.
     type Item: Copy;
 
-    /// How many places there are.
+    /// The number of places.
     const COUNT: usize;
 
     ghost COUNT: { ℕ };
 
-    /// How many columns a place has.
+    /// The width of a place, in columns.
     const WIDTH: usize;
 
     ghost WIDTH: { ℕ };
@@ -33,26 +33,26 @@ pub trait Places: Sized {
     /// The items of the list.
     ghost items: { Self → List Self.Item };
 
-    /// What the place of a line that begins in this column is read as.
+    /// How the place that begins at this column of a line is read.
     ghost reading: { List ℕ → ℕ → Result (Option Self.Item) FieldFault };
 
-    /// A list without items.
+    /// The empty list.
     fn empty() -> Self
         ensures { items result ≡ [] };
 
-    /// The item in the place that begins in this column, if it is used.
+    /// Reads the place that begins at this column. An unused place yields `None`.
     fn read(line: &[u8], column: usize) -> Result<Option<Self::Item>, FieldFault>
         requires from_one { 1 ≤ column }
         requires within { (column + WIDTH ≤ length line.now + 1) × (column + WIDTH ≤ LONGEST_LINE + 1) }
         ensures { result ≡ reading line.now column };
 
-    /// Adds an item behind those that are there.
+    /// Appends an item.
     fn add(&mut self, item: Self::Item)
         requires { length (items self.old) < COUNT }
         ensures { items self.new ≡ items self.old ++ item ∷ [] };
 }
 
-/// Ten places for points, a pair of zeros where they are unused.
+/// Ten places for points. An unused place is a pair of zeros.
 impl Places for ArrayVec<Point, 10> {
     ghost use Rattle.tl_layout.specs.FieldReading.{point_or_none_at};
 
@@ -75,7 +75,7 @@ impl Places for ArrayVec<Point, 10> {
     }
 
     fn read(line: &[u8], column: usize) -> Result<Option<Point>, FieldFault> {
-        // Most points lie west of Greenwich: a minus tells a used place at once.
+        // Most points are west of Greenwich, so a minus sign shows at once that the place is used.
         if line[column - 1] == b'+' && line[column - 1..column + 18] == ZEROS[..] {
             return Ok(None);
         }
@@ -123,7 +123,7 @@ impl Places for ArrayVec<u32, 5> {
     }
 }
 
-/// The items in the places of a full line, of which the used ones stand first.
+/// Reads the places of a full line. The used places must come first.
 pub fn read_places<P: Places + Drop>(line: &[u8]) -> Result<P, FieldFault>
     requires wide { 1 ≤ P.WIDTH }
     requires within { (18 + P.COUNT * P.WIDTH ≤ length line.now) × (18 + P.COUNT * P.WIDTH ≤ LONGEST_LINE) }
@@ -153,14 +153,14 @@ pub fn read_places<P: Places + Drop>(line: &[u8]) -> Result<P, FieldFault>
     Ok(items)
 }
 
-/// The item at this place, if the list is that long.
+/// The item at this index, or `None` past the end of the list.
 fn item_at<T: Copy>(items: &[T], place: usize) -> Option<T>
     ensures { result ≡ slice_get items.now place }
 {
     items.get(place).copied()
 }
 
-/// Does nothing: that each of the points is on the map is so by its type.
+/// Proves that each point is on the map, which its type guarantees. Does nothing at run time.
 pub(crate) fn show_points_fit(points: &[Point])
     ensures { AllByRecursion IsOnMap points.now }
 {
@@ -169,7 +169,7 @@ pub(crate) fn show_points_fit(points: &[Point])
     }
 }
 
-/// Writes a place for a point, a pair of zeros where it is unused.
+/// Writes a place for a point. An unused place is written as a pair of zeros.
 fn write_point_place(out: &mut [u8], column: usize, place: &Option<Point>)
     requires from_one { 1 ≤ column }
     requires within { column + 18 ≤ length out.old }

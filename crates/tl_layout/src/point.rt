@@ -5,8 +5,8 @@ ghost use Rattle.tl_layout.specs.Coordinates.{Coordinates, IsOnMap};
 
 use std::marker::Model;
 
-/// A point of the map, in millionths of a degree: a longitude of magnitude at most 999,999,999 and a latitude of
-/// magnitude at most 99,999,999, not both 0. Points are ordered by longitude, then by latitude, as numbers.
+/// A point of the map, in millionths of a degree. Its longitude is of magnitude at most 999,999,999, its latitude of
+/// magnitude at most 99,999,999, and they aren't both 0. Points are ordered by longitude, then by latitude, as numbers.
 #[derive(Clone, Copy, Debug, PartialEq, Eq, PartialOrd, Ord)]
 pub struct Point {
     long: i32,
@@ -24,7 +24,8 @@ impl Model for Point {
 }
 
 impl Point {
-    /// The point at this longitude and latitude, in millionths of a degree.
+    /// Makes the point at this longitude and latitude, in millionths of a degree. It must be on the map: within the
+    /// limits, and not both 0.
     pub fn new(long: i32, lat: i32) -> Point
         requires { IsOnMap (record { long = long; lat = lat }) }
         ensures { result ≡ record { long = long; lat = lat } }
@@ -48,7 +49,7 @@ impl Point {
         self.lat
     }
 
-    /// Does nothing: that the point is on the map is so by its type.
+    /// Proves that the point is on the map, which its type guarantees. Does nothing at run time.
     pub(crate) fn show_fit(&self)
         ensures { IsOnMap self.now }
     {
@@ -56,7 +57,7 @@ impl Point {
     }
 }
 
-/// Does nothing: that a point is on the map, where there is one, is so by its type.
+/// Proves that the point, if there is one, is on the map, which its type guarantees. Does nothing at run time.
 pub(crate) fn show_point_fits(point: &Option<Point>)
     ensures { IfSome point.now IsOnMap }
 {
@@ -65,7 +66,7 @@ pub(crate) fn show_point_fits(point: &Option<Point>)
     }
 }
 
-/// The point at longitude 0 and one millionth of a degree north: it only fills arrays, and stands for no place of a map.
+/// The point at longitude 0 and one millionth of a degree north. It only fills arrays and is never a point of a map.
 impl Default for Point {
     ghost use Rattle.std.specs.Prelude.{◌≡◌, pos};
 

@@ -1,4 +1,4 @@
-//! Address ranges and ZIP codes, as record types 1 and 6 hold them.
+//! Address ranges and ZIP codes, as in record types 1 and 6.
 
 ghost use Rattle.std.specs.Prelude.{◌≡◌, ◌+◌, ◌-◌, ◌≤◌, length, take};
 ghost use Rattle.tl_layout.specs.Bytes.{AreAllowed, IsText};
@@ -36,7 +36,7 @@ pub struct Ranges {
 impl Ranges {
     ghost use Rattle.tl_layout.specs.AddressRanges.{FitsRanges, ranges_at, ranges_texts};
 
-    /// The ranges of these fields, each of bytes that a line may hold.
+    /// Makes ranges from these fields. Each of their bytes must be allowed in a line.
     pub fn new(
         fraddl: [u8; 11],
         toaddl: [u8; 11],
@@ -165,7 +165,7 @@ impl Ranges {
         self.zip.right.bytes()
     }
 
-    /// The ranges that begin in this column of a line.
+    /// The ranges that begin at this column of a line.
     pub(crate) fn at(line: &[u8], first: usize) -> Ranges
         requires allowed { AreAllowed line.now }
         requires from_one { 1 ≤ first }
@@ -202,7 +202,7 @@ impl Ranges {
         self.zip.put(out, first + 48);
     }
 
-    /// Does nothing: that each field fits its columns is so by its type.
+    /// Proves that each field fits its columns, which its type guarantees. Does nothing at run time.
     pub(crate) fn show_fit(&self)
         ensures { FitsRanges self.now }
     {

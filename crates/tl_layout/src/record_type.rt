@@ -13,7 +13,7 @@ use crate::type6::Rec6;
 use crate::type7::Rec7;
 use crate::type8::Rec8;
 
-/// The most records of one type that a set may have.
+/// The greatest number of records of one type in a set.
 pub const MOST_RECORDS: u64 = 10_000_000;
 
 /// A record of one of the nine record types.
@@ -42,7 +42,7 @@ pub enum Record {
 impl Record {
     ghost use Rattle.tl_layout.specs.RecordText.{type_of, len_of, spelling_of, FitsRecord};
 
-    /// The record type, the byte in column 1.
+    /// The record type: the byte in column 1.
     #[tactic(auto, unfolding(crate::specs::RecordText::type_of))]
     pub fn record_type(&self) -> u8
         ensures value { result ≡ type_of self.now }
@@ -61,7 +61,7 @@ impl Record {
         }
     }
 
-    /// The length of the record's full line, in bytes, without a line end.
+    /// The length of the record's full line, in bytes, without a line ending.
     #[tactic(auto, unfolding(crate::specs::RecordText::len_of))]
     pub fn line_len(&self) -> usize
         ensures value { result ≡ len_of self.now }
@@ -80,7 +80,7 @@ impl Record {
         }
     }
 
-    /// Does nothing: that what the record holds fits its columns is so by the record's type.
+    /// Proves that the record fits its columns, which its type guarantees. Does nothing at run time.
     #[tactic(auto, unfolding(crate::specs::RecordText::FitsRecord))]
     pub(crate) fn show_fit(&self)
         ensures { FitsRecord self.now }
@@ -98,7 +98,7 @@ impl Record {
         }
     }
 
-    /// Writes the canonical spelling, without a line end.
+    /// Writes the canonical spelling, without a line ending. `out` must be as long as the record's line.
     #[tactic(auto, unfolding(crate::specs::RecordText::len_of, crate::specs::RecordText::spelling_of, crate::specs::RecordText::FitsRecord))]
     pub fn put(&self, out: &mut [u8])
         requires { length out.old ≡ len_of self.now }

@@ -10,7 +10,7 @@ use crate::text::Text;
 use std::marker::Model;
 
 /// The polygon on one side of a chain (record type I, CENIDL with POLYIDL, CENIDR with POLYIDR): the CENID, which is
-/// always there and may be blank, and the POLYID, from 1 to 9,999,999,999, or none.
+/// always present and can be blank, and the POLYID, from 1 to 9,999,999,999, or none.
 #[derive(Clone, Copy, Debug, PartialEq, Eq)]
 pub struct Side {
     cenid: Text<5>,
@@ -28,7 +28,7 @@ impl Model for Side {
 }
 
 impl Side {
-    /// The side with this CENID, of bytes that a line may hold, and with the polygon of this POLYID or none.
+    /// Makes a side from this CENID, whose bytes must be allowed in a line, and this POLYID, or none.
     pub fn new(cenid: [u8; 5], polyid: Option<u64>) -> Side
         requires cenid { AreAllowed cenid }
         requires polyid { IsNumberOrNone 10 polyid }
@@ -37,7 +37,7 @@ impl Side {
         Side::of(Text::new(cenid), polyid)
     }
 
-    /// The side with this CENID, and with the polygon of this POLYID or none.
+    /// Makes a side from this CENID and this POLYID, or none.
     pub(crate) fn of(cenid: Text<5>, polyid: Option<u64>) -> Side
         requires { IsNumberOrNone 10 polyid }
         ensures { result ≡ record { cenid = cenid; polyid = polyid } }
@@ -56,7 +56,7 @@ impl Side {
         self.cenid.bytes()
     }
 
-    /// The CENID, where it stands.
+    /// The CENID, by reference.
     pub(crate) fn cenid_text(&self) -> &Text<5>
         ensures { result.now ≡ self.now.cenid }
     {
@@ -71,7 +71,7 @@ impl Side {
         self.polyid.get()
     }
 
-    /// Does nothing: that both fields fit their columns is so by their types.
+    /// Proves that both fields fit their columns, which their types guarantee. Does nothing at run time.
     pub(crate) fn show_fit(&self)
         ensures cenid { IsText 5 self.now.cenid }
         ensures polyid { IsNumberOrNone 10 self.now.polyid }

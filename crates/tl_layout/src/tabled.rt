@@ -5,7 +5,7 @@ ghost use Rattle.tl_layout.specs.declared.record_type.Record.{Record};
 ghost use Rattle.tl_layout.specs.RecordText.{type_of, spelling_of};
 ghost use Rattle.tl_layout.specs.Tables.{AddsRecord, AreSameTables};
 
-use crate::growing::push_ahead;
+use crate::growing::push_reserving;
 use crate::layout::Layout;
 use crate::record_type::Record;
 use crate::tables::Tables;
@@ -20,31 +20,36 @@ use crate::type7::Rec7;
 use crate::type8::Rec8;
 use std::alloc::AllocError;
 
-/// A record type among the nine: its records as records of any type, and the table that they belong into.
+/// One of the nine record types: it converts its records to records of any type, and adds them to the
+/// table of their type.
 pub trait Tabled: Layout + Drop {
-    /// The record as one of any type.
+    /// The record as a record of any type.
     ghost as_record: { Self → Record };
 
-    /// The record as one of any type.
+    /// Converts the record to a record of any type.
     fn into_record(self) -> Record
         ensures { result ≡ as_record self };
 
-    /// Adds the record to the table of its type, behind those that are there.
+    /// Appends the record to the table of its type.
+    ///
+    /// # Errors
+    ///
+    /// `AllocError` if an allocation failed.
     fn push_into(self, tables: &mut Tables) -> Result<(), AllocError>
         ensures ok { OnOk result (AddsRecord tables.old (as_record self) tables.new) }
-        // Where memory is refused the tables keep what they had.
+        // If an allocation fails, the tables keep what they had.
         ensures err { OnErr result (AreSameTables tables.old tables.new) };
 
-    /// Its type is the one of the layout.
+    /// Its type is the layout's.
     ghost type_is: { (r : Self) → type_of (as_record r) ≡ Self.RTYPE };
 
-    /// Its canonical spelling is the one of the layout.
+    /// Its canonical spelling is the layout's.
     ghost spelling_is: { (r : Self) → spelling_of (as_record r) ≡ Self.spelling r };
 }
 
 impl Tabled for Rec1 {
     ghost use Rattle.tl_layout.specs.declared.record_type.Record.TheVariants.{One};
-    ghost use Rattle.tl_layout.specs.TabledLaws.{type_1_type, type_1_spelling_is};
+    ghost use Rattle.tl_layout.specs.Laws.TabledLaws.{type_1_type, type_1_spelling_is};
 
     ghost as_record = { One };
 
@@ -53,7 +58,7 @@ impl Tabled for Rec1 {
     }
 
     fn push_into(self, tables: &mut Tables) -> Result<(), AllocError> {
-        push_ahead(&mut tables.type_1, self)
+        push_reserving(&mut tables.type_1, self)
     }
 
     ghost type_is = { type_1_type };
@@ -63,7 +68,7 @@ impl Tabled for Rec1 {
 
 impl Tabled for Rec2 {
     ghost use Rattle.tl_layout.specs.declared.record_type.Record.TheVariants.{Two};
-    ghost use Rattle.tl_layout.specs.TabledLaws.{type_2_type, type_2_spelling_is};
+    ghost use Rattle.tl_layout.specs.Laws.TabledLaws.{type_2_type, type_2_spelling_is};
 
     ghost as_record = { Two };
 
@@ -72,7 +77,7 @@ impl Tabled for Rec2 {
     }
 
     fn push_into(self, tables: &mut Tables) -> Result<(), AllocError> {
-        push_ahead(&mut tables.type_2, self)
+        push_reserving(&mut tables.type_2, self)
     }
 
     ghost type_is = { type_2_type };
@@ -82,7 +87,7 @@ impl Tabled for Rec2 {
 
 impl Tabled for Rec4 {
     ghost use Rattle.tl_layout.specs.declared.record_type.Record.TheVariants.{Four};
-    ghost use Rattle.tl_layout.specs.TabledLaws.{type_4_type, type_4_spelling_is};
+    ghost use Rattle.tl_layout.specs.Laws.TabledLaws.{type_4_type, type_4_spelling_is};
 
     ghost as_record = { Four };
 
@@ -91,7 +96,7 @@ impl Tabled for Rec4 {
     }
 
     fn push_into(self, tables: &mut Tables) -> Result<(), AllocError> {
-        push_ahead(&mut tables.type_4, self)
+        push_reserving(&mut tables.type_4, self)
     }
 
     ghost type_is = { type_4_type };
@@ -101,7 +106,7 @@ impl Tabled for Rec4 {
 
 impl Tabled for Rec5 {
     ghost use Rattle.tl_layout.specs.declared.record_type.Record.TheVariants.{Five};
-    ghost use Rattle.tl_layout.specs.TabledLaws.{type_5_type, type_5_spelling_is};
+    ghost use Rattle.tl_layout.specs.Laws.TabledLaws.{type_5_type, type_5_spelling_is};
 
     ghost as_record = { Five };
 
@@ -110,7 +115,7 @@ impl Tabled for Rec5 {
     }
 
     fn push_into(self, tables: &mut Tables) -> Result<(), AllocError> {
-        push_ahead(&mut tables.type_5, self)
+        push_reserving(&mut tables.type_5, self)
     }
 
     ghost type_is = { type_5_type };
@@ -120,7 +125,7 @@ impl Tabled for Rec5 {
 
 impl Tabled for Rec6 {
     ghost use Rattle.tl_layout.specs.declared.record_type.Record.TheVariants.{Six};
-    ghost use Rattle.tl_layout.specs.TabledLaws.{type_6_type, type_6_spelling_is};
+    ghost use Rattle.tl_layout.specs.Laws.TabledLaws.{type_6_type, type_6_spelling_is};
 
     ghost as_record = { Six };
 
@@ -129,7 +134,7 @@ impl Tabled for Rec6 {
     }
 
     fn push_into(self, tables: &mut Tables) -> Result<(), AllocError> {
-        push_ahead(&mut tables.type_6, self)
+        push_reserving(&mut tables.type_6, self)
     }
 
     ghost type_is = { type_6_type };
@@ -139,7 +144,7 @@ impl Tabled for Rec6 {
 
 impl Tabled for Rec7 {
     ghost use Rattle.tl_layout.specs.declared.record_type.Record.TheVariants.{Seven};
-    ghost use Rattle.tl_layout.specs.TabledLaws.{type_7_type, type_7_spelling_is};
+    ghost use Rattle.tl_layout.specs.Laws.TabledLaws.{type_7_type, type_7_spelling_is};
 
     ghost as_record = { Seven };
 
@@ -148,7 +153,7 @@ impl Tabled for Rec7 {
     }
 
     fn push_into(self, tables: &mut Tables) -> Result<(), AllocError> {
-        push_ahead(&mut tables.type_7, self)
+        push_reserving(&mut tables.type_7, self)
     }
 
     ghost type_is = { type_7_type };
@@ -158,7 +163,7 @@ impl Tabled for Rec7 {
 
 impl Tabled for Rec8 {
     ghost use Rattle.tl_layout.specs.declared.record_type.Record.TheVariants.{Eight};
-    ghost use Rattle.tl_layout.specs.TabledLaws.{type_8_type, type_8_spelling_is};
+    ghost use Rattle.tl_layout.specs.Laws.TabledLaws.{type_8_type, type_8_spelling_is};
 
     ghost as_record = { Eight };
 
@@ -167,7 +172,7 @@ impl Tabled for Rec8 {
     }
 
     fn push_into(self, tables: &mut Tables) -> Result<(), AllocError> {
-        push_ahead(&mut tables.type_8, self)
+        push_reserving(&mut tables.type_8, self)
     }
 
     ghost type_is = { type_8_type };
@@ -177,7 +182,7 @@ impl Tabled for Rec8 {
 
 impl Tabled for RecI {
     ghost use Rattle.tl_layout.specs.declared.record_type.Record.TheVariants.{I};
-    ghost use Rattle.tl_layout.specs.TabledLaws.{type_i_type, type_i_spelling_is};
+    ghost use Rattle.tl_layout.specs.Laws.TabledLaws.{type_i_type, type_i_spelling_is};
 
     ghost as_record = { I };
 
@@ -186,7 +191,7 @@ impl Tabled for RecI {
     }
 
     fn push_into(self, tables: &mut Tables) -> Result<(), AllocError> {
-        push_ahead(&mut tables.type_i, self)
+        push_reserving(&mut tables.type_i, self)
     }
 
     ghost type_is = { type_i_type };
@@ -196,7 +201,7 @@ impl Tabled for RecI {
 
 impl Tabled for RecP {
     ghost use Rattle.tl_layout.specs.declared.record_type.Record.TheVariants.{P};
-    ghost use Rattle.tl_layout.specs.TabledLaws.{type_p_type, type_p_spelling_is};
+    ghost use Rattle.tl_layout.specs.Laws.TabledLaws.{type_p_type, type_p_spelling_is};
 
     ghost as_record = { P };
 
@@ -205,7 +210,7 @@ impl Tabled for RecP {
     }
 
     fn push_into(self, tables: &mut Tables) -> Result<(), AllocError> {
-        push_ahead(&mut tables.type_p, self)
+        push_reserving(&mut tables.type_p, self)
     }
 
     ghost type_is = { type_p_type };

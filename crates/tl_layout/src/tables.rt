@@ -1,4 +1,4 @@
-//! The records of a set by their types.
+//! The records of a set, by type.
 
 ghost use Rattle.std.specs.Prelude.{◌≡◌, [], All, IfOk, OnOk, OnErr};
 ghost use Rattle.tl_layout.specs.RecordText.{FitsRecord};
@@ -17,7 +17,7 @@ use crate::type7::Rec7;
 use crate::type8::Rec8;
 use std::alloc::{AllocError, Global};
 
-/// The records of a set by their types: a vector for each record type, with its records in the order in which they came.
+/// The records of a set, by type: a vector for each record type, with its records in their order in the set.
 #[derive(Debug, Drop)]
 pub struct Tables {
     /// Chains with their two end points (record type 1).
@@ -41,7 +41,7 @@ pub struct Tables {
 }
 
 impl Tables {
-    /// Tables without records. It takes no memory.
+    /// Tables without records. Takes no memory.
     pub fn new(alloc: Global) -> Tables
         ensures { HoldsByType result [] }
     {
@@ -58,10 +58,14 @@ impl Tables {
         }
     }
 
-    /// The records of a list by their types.
+    /// Sorts the records of a list by type.
+    ///
+    /// # Errors
+    ///
+    /// `AllocError` if an allocation failed.
     pub fn of(alloc: Global, records: Vec<Record>) -> Result<Tables, AllocError>
         ensures held { IfOk result (λ tables. HoldsByType tables records.items) }
-        // What a record holds fits by the types of its fields.
+        // Each record fits, which the types of its fields guarantee.
         ensures fits { OnOk result (All FitsRecord records.items) }
     {
         let mut tables = Tables::new(alloc);
@@ -72,10 +76,14 @@ impl Tables {
         Ok(tables)
     }
 
-    /// Adds a record to the table of its type, behind those that are there.
+    /// Appends a record to the table of its type.
+    ///
+    /// # Errors
+    ///
+    /// `AllocError` if an allocation failed.
     pub fn add(&mut self, added: Record) -> Result<(), AllocError>
         ensures ok { OnOk result (AddsRecord self.old added self.new) }
-        // Where memory is refused the tables keep what they had.
+        // If an allocation fails, the tables keep what they had.
         ensures err { OnErr result (AreSameTables self.old self.new) }
     {
         match added {

@@ -1,4 +1,4 @@
-//! Opaque fields: text of a fixed width, of bytes that a line may hold.
+//! Opaque fields: text of a fixed width, in bytes that are allowed in a line.
 
 ghost use Rattle.std.specs.Prelude.{◌≡◌, ℕ, length, List};
 ghost use Rattle.tl_layout.specs.Bytes.{IsText, AreAllowed, blanks_if};
@@ -22,7 +22,7 @@ impl<const N: usize> Model for Text<N> {
 }
 
 impl<const N: usize> Text<N> {
-    /// A field of these bytes.
+    /// A field with these bytes.
     pub fn new(bytes: [u8; N]) -> Text<N>
         requires { AreAllowed bytes }
         ensures { result ≡ bytes.entry }
@@ -30,7 +30,7 @@ impl<const N: usize> Text<N> {
         Text { bytes }
     }
 
-    /// A field of these bytes, of which there are just `N`.
+    /// A field with these bytes. There must be exactly `N` of them.
     #[inline(always)]
     pub fn from_slice(bytes: &[u8]) -> Text<N>
         requires { IsText N bytes.now }
@@ -49,7 +49,7 @@ impl<const N: usize> Text<N> {
         self.bytes
     }
 
-    /// The bytes of the field, where they stand.
+    /// The bytes of the field, by reference.
     #[inline(always)]
     pub fn as_bytes(&self) -> &[u8; N]
         ensures value { result.now ≡ self.now }
@@ -58,8 +58,8 @@ impl<const N: usize> Text<N> {
         &self.bytes
     }
 
-    /// Puts a blank in the place of each byte, if the field is hidden.
-    #[tactic(auto, using(crate::specs::ByteLaws::blanks_are_text))]
+    /// Replaces each byte with a blank if the field is hidden.
+    #[tactic(auto, using(crate::specs::Laws::ByteLaws::blanks_are_text))]
     pub(crate) fn blank_if(&mut self, is_hidden: bool)
         ensures { self.new ≡ blanks_if is_hidden N self.old }
     {
@@ -68,7 +68,8 @@ impl<const N: usize> Text<N> {
         }
     }
 
-    /// Does nothing: that the field has its width and bytes that a line may hold is so by its type.
+    /// Proves that the field has its width and only bytes that are allowed in a line, which its
+    /// type guarantees. Does nothing at run time.
     pub(crate) fn show_fit(&self)
         ensures { IsText N self.now }
     {

@@ -1,4 +1,4 @@
-//! Turning: what a chain's fields are when it is seen from its other end.
+//! Turning: what the fields of a chain are when it is seen from its other end.
 
 ghost use Rattle.std.specs.Prelude.{◌≡◌, ◌+◌, ◌-◌, ◌*◌, ◌≤◌, length, refl, take};
 ghost use Rattle.tl_layout.specs.Columns.{joined};
@@ -11,16 +11,16 @@ use crate::type1::{Body1, GeographicEntities};
 use crate::writing::write_text;
 use std::mem::swap;
 
-/// What can be seen from the other end of its chain.
+/// A value that can be seen from the other end of its chain.
 pub trait Turn {
-    /// The value as it is seen from the other end.
+    /// The value seen from the other end.
     ghost turned: { Self → Self };
 
-    /// Turns the value: each field that has a partner takes its partner's value, and every other field stays.
+    /// Turns the value: each field with a partner takes its partner's value, and every other field keeps its own.
     fn turn(&mut self)
         ensures { self.new ≡ turned self.old };
 
-    /// Turning twice gives the value back.
+    /// Turning twice restores the value.
     ghost turns_back: { (x : Self) → turned (turned x) ≡ x };
 }
 
@@ -33,10 +33,10 @@ impl<const N: usize> LeftRight<N> {
     }
 }
 
-// What turns isn't inlined: the room that it needs is cleared when a function begins, and most values aren't turned.
+// Turning isn't inlined: a function clears the memory for it on entry, and most values aren't turned.
 
-/// The address at the left start changes places with the one at the right end, and the one at the left end with the one at
-/// the right start; so do their flags. The two postal codes change places.
+/// Exchanges the address at the left start with the one at the right end, and the address at the left end with the one at
+/// the right start; likewise their flags. Exchanges the two postal codes.
 impl Turn for Ranges {
     ghost turned = { turned_ranges };
 
@@ -55,7 +55,7 @@ impl Turn for Ranges {
 impl<const N: usize> LeftRight<N> {
     ghost use Rattle.tl_layout.specs.Pairs.{pair_texts};
 
-    /// Writes the pair from this column on, left and right exchanged.
+    /// Writes the pair from this column on, with left and right exchanged.
     fn put_exchanged(&self, out: &mut [u8], first: usize)
         requires from_one { 1 ≤ first }
         requires within { (first + 2 * N ≤ length out.old + 1) × (first + 2 * N ≤ LONGEST_LINE + 1) }
@@ -69,7 +69,7 @@ impl<const N: usize> LeftRight<N> {
 impl Ranges {
     ghost use Rattle.tl_layout.specs.AddressRanges.{ranges_texts};
 
-    /// Writes the ranges into columns 59 to 116, as they are seen from the other end.
+    /// Writes the ranges, seen from the other end, into columns 59 to 116.
     fn put_turned(&self, out: &mut [u8])
         requires { 116 ≤ length out.old }
         ensures { take 116 out.new ≡ joined (take 58 out.old) (ranges_texts (turned_ranges self.now)) }
@@ -89,7 +89,7 @@ impl Ranges {
 impl GeographicEntities {
     ghost use Rattle.tl_layout.specs.Type1Groups.{entities_texts};
 
-    /// Writes the geographic entities into columns 131 to 190, left and right exchanged.
+    /// Writes the geographic entities into columns 131 to 190, with left and right exchanged.
     fn put_exchanged(&self, out: &mut [u8])
         requires { 190 ≤ length out.old }
         ensures { take 190 out.new ≡ joined (take 130 out.old) (entities_texts (turned_entities self.now)) }
@@ -107,7 +107,7 @@ impl GeographicEntities {
 impl Body1 {
     ghost use Rattle.tl_layout.specs.Type1Groups.{body_1_texts};
 
-    /// Writes the content into columns 16 to 190 of a line, as it is seen from the chain's other end.
+    /// Writes the content, seen from the chain's other end, into columns 16 to 190 of a line.
     #[inline(never)]
     fn put_turned(&self, out: &mut [u8])
         requires { 190 ≤ length out.old }
@@ -126,7 +126,7 @@ impl Body1 {
         fields.entities.put_exchanged(out);
     }
 
-    /// Writes the content into columns 16 to 190 of a line, as it is seen from the chain's other end if told.
+    /// Writes the content into columns 16 to 190 of a line. If `turned`, it is written as seen from the chain's other end.
     pub fn put_towards(&self, turned: bool, out: &mut [u8])
         requires { 190 ≤ length out.old }
         ensures { take 190 out.new ≡ joined (take 15 out.old) (body_1_texts (body_towards turned self.now)) }
@@ -139,8 +139,8 @@ impl Body1 {
     }
 }
 
-/// The address ranges are turned, and each field of the left is exchanged with that of the right. SIDE1, SOURCE, the
-/// name, CFCC, CENSUS1 and CENSUS2 stay.
+/// Turns the address ranges and exchanges each left field with its right one. SIDE1, SOURCE, the name, CFCC, CENSUS1 and
+/// CENSUS2 stay.
 impl Turn for Body1 {
     ghost turned = { turned_body };
 

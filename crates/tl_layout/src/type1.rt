@@ -48,7 +48,7 @@ pub struct GeographicEntities {
 
 /// The content of a record of type 1, field by field.
 ///
-/// Of so many fields in a row two are soon exchanged, so a literal names them:
+/// With this many fields, two are easily swapped, so a literal names them:
 ///
 /// ```
 /// Body1Fields {
@@ -64,7 +64,7 @@ pub struct GeographicEntities {
 /// }
 /// ```
 ///
-/// where `state` is `LeftRight { left: Text::new(*b"06"), right: Text::new(*b"06") }`, and the others likewise.
+/// Here `state` is `LeftRight { left: Text::new(*b"06"), right: Text::new(*b"06") }`, and likewise for the others.
 #[derive(Clone, Copy, Debug, PartialEq, Eq)]
 pub struct Body1Fields {
     /// One-sided chain indicator (SIDE1).
@@ -87,10 +87,10 @@ pub struct Body1Fields {
     pub entities: GeographicEntities,
 }
 
-/// The content of a record of type 1: all but its TLID and its two points.
+/// The content of a record of type 1: all except its TLID and its two points.
 ///
-/// It is kept as it stands in a line, in columns 16 to 190, since a content is read, written and compared far more often than
-/// one of its fields is asked for.
+/// It is stored as columns 16 to 190 of a line, because a content is read, written and compared far more often than one of its
+/// fields is needed.
 #[derive(Clone, Copy)]
 pub struct Body1 {
     columns: Text<175>,
@@ -109,7 +109,7 @@ impl Model for Body1 {
     ghost use Rattle.std.proofs.Common.{ap};
     ghost use Rattle.tl_layout.specs.Bytes.{IsText};
     ghost use Rattle.tl_layout.specs.Type1Columns.{body_1_of, body_1_text};
-    ghost use Rattle.tl_layout.specs.Type1ColumnLaws.{text_of_columns};
+    ghost use Rattle.tl_layout.specs.Laws.Type1ColumnLaws.{text_of_columns};
     ghost use Rattle.tl_layout.specs.declared.type1.Body1Fields.{Body1Fields};
 
     ghost Value = { Body1Fields };
@@ -123,7 +123,7 @@ impl Model for Body1 {
     ghost inverse_ok = { λ content is_text. ap (λ text. record { columns = text }) (text_of_columns content.columns is_text) };
 }
 
-/// Contents are equal where all of their fields are.
+/// Contents are equal if all their fields are.
 impl PartialEq for Body1 {
     ghost use Rattle.tl_layout.specs.contracts.type1.Body1FieldsPartialEq.TheImpl.Laws as fields;
 
@@ -142,7 +142,7 @@ impl Eq for Body1 {
     ghost laws = { fields.laws-law };
 }
 
-/// The fields, by their names.
+/// Prints the fields by name.
 impl fmt::Debug for Body1 {
     fn fmt<W: fmt::Write>(&self, f: &mut fmt::Formatter<W>) -> fmt::Result {
         self.fields().fmt(f)
@@ -152,8 +152,8 @@ impl fmt::Debug for Body1 {
 impl Body1 {
     ghost use Rattle.tl_layout.specs.Type1Groups.{FitsBody1, body_1_at, body_1_texts};
 
-    /// The content of these fields.
-    #[tactic(auto, using(crate::specs::Type1ColumnLaws::columns_are_text, crate::specs::Type1ColumnLaws::fields_again))]
+    /// Makes a content from these fields.
+    #[tactic(auto, using(crate::specs::Laws::Type1ColumnLaws::columns_are_text, crate::specs::Laws::Type1ColumnLaws::fields_again))]
     pub fn of(fields: &Body1Fields) -> Body1
         ensures { result ≡ fields.now }
     {
@@ -165,7 +165,7 @@ impl Body1 {
         }
     }
 
-    /// The fields, by their names.
+    /// Returns the fields by name.
     pub fn fields(&self) -> Body1Fields
         ensures { result ≡ self.now }
     {
@@ -193,15 +193,15 @@ impl Body1 {
         write_text(out, 16, 190, &self.columns);
     }
 
-    /// Does nothing: that each field fits its columns is so by its type.
+    /// Proves that each field fits its columns, which its type guarantees. Does nothing at run time.
     pub(crate) fn show_fit(&self)
         ensures { FitsBody1 self.now }
     {
         self.columns.show_fit();
     }
 
-    /// The content of these fields, each of bytes that a line may hold, with the address ranges and ZIP codes. A literal of
-    /// [`Body1Fields`] names what stands here in a row.
+    /// Makes a content from these fields, with the address ranges and ZIP codes. Each of their bytes must be allowed in a
+    /// line. With a literal of [`Body1Fields`] you can name the fields instead of passing them in this order.
     pub fn new(
         side1: [u8; 1],
         source: [u8; 1],
@@ -339,7 +339,7 @@ impl Body1 {
         self.fields().name.fename.bytes()
     }
 
-    /// Type of the feature, as `St` (FETYPE).
+    /// Type of the feature, such as `St` (FETYPE).
     pub fn fetype(&self) -> [u8; 4]
         ensures value { result ≡ self.now.name.fetype }
         ensures text { IsText 4 result }
@@ -578,7 +578,7 @@ impl GeographicEntities {
         self.block.put(out, 183);
     }
 
-    /// Does nothing: that each field fits its columns is so by its type.
+    /// Proves that each field fits its columns, which its type guarantees. Does nothing at run time.
     fn show_fit(&self)
         ensures { FitsEntities self.now }
     {
@@ -634,7 +634,7 @@ impl Body1Fields {
         self.entities.put(out);
     }
 
-    /// Does nothing: that each field fits its columns is so by its type.
+    /// Proves that each field fits its columns, which its type guarantees. Does nothing at run time.
     fn show_fit(&self)
         ensures { FitsBody1 self.now }
     {
@@ -657,7 +657,7 @@ impl Rec1 {
     ghost use Rattle.tl_layout.specs.Type1.{FitsType1, type_1_short_reading};
     ghost use Rattle.tl_layout.specs.Type1Groups.{point_texts};
 
-    /// The record of these fields. The TLID is from 1 to 9,999,999,999.
+    /// Makes a record from these fields. The TLID must be from 1 to 9,999,999,999.
     pub fn new(tlid: u64, body: Body1, start: Point, end: Point) -> Rec1
         requires { IsNumber 10 tlid }
         ensures { result ≡ record { tlid = tlid; body = body; start = start; end = end } }
@@ -678,7 +678,7 @@ impl Rec1 {
         self.tlid
     }
 
-    /// All but the TLID and the two points.
+    /// The content: all except the TLID and the two points.
     pub fn body(&self) -> &Body1
         ensures { result.now ≡ self.now.body }
     {
@@ -699,7 +699,7 @@ impl Rec1 {
         self.end
     }
 
-    /// Does nothing: that each field fits its columns is so by its type.
+    /// Proves that each field fits its columns, which its type guarantees. Does nothing at run time.
     pub(crate) fn show_fit(&self)
         ensures { FitsType1 self.now }
     {
@@ -709,7 +709,7 @@ impl Rec1 {
         self.end.show_fit();
     }
 
-    /// Writes columns 1 to 15 of the record of this number: the record type, the version and the TLID.
+    /// Writes columns 1 to 15 of the record with this number: the record type, the version and the TLID.
     pub fn put_number(tlid: u64, out: &mut [u8])
         requires { 15 ≤ length out.old }
         ensures { take 15 out.new ≡ (rtype_1 ∷ codes "2006") ++ number_text 10 tlid }
@@ -718,7 +718,7 @@ impl Rec1 {
         write_number(out, 6, 15, tlid);
     }
 
-    /// Writes columns 191 to 228 of the record of these points, behind what stands before them.
+    /// Writes columns 191 to 228 of a record with these points, after the columns already written.
     pub fn put_points(start: &Point, end: &Point, out: &mut [u8])
         requires { length out.old ≡ 228 }
         ensures { out.new ≡ joined (joined (take 190 out.old) (point_texts start.now)) (point_texts end.now) }
@@ -727,7 +727,7 @@ impl Rec1 {
         write_point(out, 210, end);
     }
 
-    /// What a full line is read as, group by group.
+    /// Reads a full line, group by group.
     #[tactic(auto, unfolding(crate::specs::Type1::type_1_short_reading, crate::specs::FieldReading::and_then))]
     fn read_groups(line: &[u8]) -> Result<Rec1, FieldFault>
         requires { IsText len_1 line.now }
@@ -746,7 +746,7 @@ impl Layout for Rec1 {
     ghost use Rattle.tl_layout.specs.FieldFaults.{IsLeftmostFault};
     ghost use Rattle.tl_layout.specs.RecordTables.{rtype_1, table_1};
     ghost use Rattle.tl_layout.specs.Type1.{FitsType1, SpellsType1, type_1_reading, type_1_spelling};
-    ghost use Rattle.tl_layout.specs.TypeLaws.{type_1_laws};
+    ghost use Rattle.tl_layout.specs.Laws.TypeLaws.{type_1_laws};
 
     const LEN: usize = 228;
 

@@ -40,7 +40,8 @@ impl Model for Rec2 {
 impl Rec2 {
     ghost use Rattle.tl_layout.specs.Type2.{FitsType2, type_2_reading};
 
-    /// The record of these fields.
+    /// Makes a record from these fields. The TLID must be from 1 to 9,999,999,999, the RTSQ from 1 to
+    /// 999.
     pub fn new(tlid: u64, rtsq: u16, points: ArrayVec<Point, 10>) -> Rec2
         requires tlid { IsNumber 10 tlid }
         requires rtsq { IsNumber 3 rtsq }
@@ -57,7 +58,7 @@ impl Rec2 {
         self.tlid
     }
 
-    /// Place of the record among those of its chain (RTSQ), from 1 to 999.
+    /// Position of the record among the chain's (RTSQ), from 1 to 999.
     pub fn rtsq(&self) -> u16
         ensures value { result ≡ self.now.rtsq }
         ensures in_range { IsNumber 3 result }
@@ -73,7 +74,7 @@ impl Rec2 {
         self.points.as_slice()
     }
 
-    /// Does nothing: that each field fits its columns is so by its type.
+    /// Proves that each field fits its columns, which its type guarantees. Does nothing at run time.
     pub(crate) fn show_fit(&self)
         ensures { FitsType2 self.now }
     {
@@ -87,7 +88,7 @@ impl Layout for Rec2 {
     ghost use Rattle.tl_layout.specs.FieldFaults.{IsLeftmostFault};
     ghost use Rattle.tl_layout.specs.RecordTables.{rtype_2, table_2};
     ghost use Rattle.tl_layout.specs.Type2.{FitsType2, SpellsType2, type_2_reading, type_2_spelling};
-    ghost use Rattle.tl_layout.specs.TypeLaws.{type_2_laws};
+    ghost use Rattle.tl_layout.specs.Laws.TypeLaws.{type_2_laws};
 
     const LEN: usize = 208;
 

@@ -15,7 +15,7 @@ use crate::writing::{write_head, write_number};
 use arrayvec::ArrayVec;
 use std::marker::Model;
 
-/// Up to five features whose names a chain bears beside its own (record type 4, 58 bytes).
+/// Up to five features whose names a chain has besides its own (record type 4, 58 bytes).
 #[derive(Debug, Drop)]
 pub struct Rec4 {
     tlid: u64,
@@ -38,7 +38,8 @@ impl Model for Rec4 {
 impl Rec4 {
     ghost use Rattle.tl_layout.specs.Type4.{FitsType4, type_4_reading};
 
-    /// The record of these fields.
+    /// Makes a record from these fields. The TLID must be from 1 to 9,999,999,999, the RTSQ from 1 to 999, each
+    /// FEAT from 1 to 99,999,999.
     pub fn new(tlid: u64, rtsq: u16, feats: ArrayVec<u32, 5>) -> Rec4
         requires tlid { IsNumber 10 tlid }
         requires rtsq { IsNumber 3 rtsq }
@@ -56,7 +57,7 @@ impl Rec4 {
         self.tlid
     }
 
-    /// Place of the record among those of its chain (RTSQ), from 1 to 999.
+    /// Position of the record among the chain's (RTSQ), from 1 to 999.
     pub fn rtsq(&self) -> u16
         ensures value { result ≡ self.now.rtsq }
         ensures in_range { IsNumber 3 result }
@@ -73,7 +74,7 @@ impl Rec4 {
         self.feats.as_slice()
     }
 
-    /// Does nothing: that each field fits its columns is so by its type.
+    /// Proves that each field fits its columns, which its type guarantees. Does nothing at run time.
     pub(crate) fn show_fit(&self)
         ensures { FitsType4 self.now }
     {
@@ -87,7 +88,7 @@ impl Layout for Rec4 {
     ghost use Rattle.tl_layout.specs.FieldFaults.{IsLeftmostFault};
     ghost use Rattle.tl_layout.specs.RecordTables.{rtype_4, table_4};
     ghost use Rattle.tl_layout.specs.Type4.{FitsType4, SpellsType4, type_4_reading, type_4_spelling};
-    ghost use Rattle.tl_layout.specs.TypeLaws.{type_4_laws};
+    ghost use Rattle.tl_layout.specs.Laws.TypeLaws.{type_4_laws};
 
     const LEN: usize = 58;
 

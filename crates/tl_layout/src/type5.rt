@@ -13,7 +13,7 @@ use crate::text::Text;
 use crate::writing::{write_head, write_number, write_text};
 use std::marker::Model;
 
-/// The content of a record of type 5: all but its FEAT, 43 bytes.
+/// The content of a record of type 5: all except its FEAT, 43 bytes.
 #[derive(Clone, Copy, Debug, PartialEq, Eq)]
 pub struct Body5 {
     /// State and county of the file (FILE).
@@ -30,7 +30,7 @@ pub struct Rec5 {
 }
 
 impl Body5 {
-    /// The content of these fields, each of bytes that a line may hold.
+    /// Makes a content from these fields. Each of their bytes must be allowed in a line.
     pub fn new(
         file: [u8; 5],
         fedirp: [u8; 2],
@@ -79,7 +79,7 @@ impl Body5 {
         self.name.fename.bytes()
     }
 
-    /// Type of the feature, as `St` (FETYPE).
+    /// Type of the feature, such as `St` (FETYPE).
     pub fn fetype(&self) -> [u8; 4]
         ensures value { result ≡ self.now.name.fetype }
         ensures text { IsText 4 result }
@@ -112,7 +112,7 @@ impl Model for Rec5 {
 impl Rec5 {
     ghost use Rattle.tl_layout.specs.Type5.{FitsType5, type_5_reading};
 
-    /// The record of these fields.
+    /// Makes a record from these fields. The FEAT must be from 1 to 99,999,999.
     pub fn new(feat: u32, body: Body5) -> Rec5
         requires { IsNumber 8 feat }
         ensures { result ≡ record { feat = feat; body = body } }
@@ -128,14 +128,14 @@ impl Rec5 {
         self.feat
     }
 
-    /// All but the FEAT.
+    /// The content: all except the FEAT.
     pub fn body(&self) -> &Body5
         ensures { result.now ≡ self.now.body }
     {
         &self.body
     }
 
-    /// Does nothing: that each field fits its columns is so by its type.
+    /// Proves that each field fits its columns, which its type guarantees. Does nothing at run time.
     pub(crate) fn show_fit(&self)
         ensures { FitsType5 self.now }
     {
@@ -151,7 +151,7 @@ impl Layout for Rec5 {
     ghost use Rattle.tl_layout.specs.FieldFaults.{IsLeftmostFault};
     ghost use Rattle.tl_layout.specs.RecordTables.{rtype_5, table_5};
     ghost use Rattle.tl_layout.specs.Type5.{FitsType5, SpellsType5, type_5_reading, type_5_spelling};
-    ghost use Rattle.tl_layout.specs.TypeLaws.{type_5_laws};
+    ghost use Rattle.tl_layout.specs.Laws.TypeLaws.{type_5_laws};
 
     const LEN: usize = 56;
 

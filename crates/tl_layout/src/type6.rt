@@ -36,7 +36,8 @@ impl Model for Rec6 {
 impl Rec6 {
     ghost use Rattle.tl_layout.specs.Type6.{FitsType6, type_6_reading};
 
-    /// The record of these fields.
+    /// Makes a record from these fields. The TLID must be from 1 to 9,999,999,999, the RTSQ from 1 to
+    /// 999.
     pub fn new(tlid: u64, rtsq: u16, ranges: Ranges) -> Rec6
         requires tlid { IsNumber 10 tlid }
         requires rtsq { IsNumber 3 rtsq }
@@ -53,7 +54,7 @@ impl Rec6 {
         self.tlid
     }
 
-    /// Place of the record among those of its chain (RTSQ), from 1 to 999.
+    /// Position of the record among the chain's (RTSQ), from 1 to 999.
     pub fn rtsq(&self) -> u16
         ensures value { result ≡ self.now.rtsq }
         ensures in_range { IsNumber 3 result }
@@ -68,7 +69,7 @@ impl Rec6 {
         &self.ranges
     }
 
-    /// Does nothing: that each field fits its columns is so by its type.
+    /// Proves that each field fits its columns, which its type guarantees. Does nothing at run time.
     pub(crate) fn show_fit(&self)
         ensures { FitsType6 self.now }
     {
@@ -82,7 +83,7 @@ impl Layout for Rec6 {
     ghost use Rattle.tl_layout.specs.FieldFaults.{IsLeftmostFault};
     ghost use Rattle.tl_layout.specs.RecordTables.{rtype_6, table_6};
     ghost use Rattle.tl_layout.specs.Type6.{FitsType6, SpellsType6, type_6_reading, type_6_spelling};
-    ghost use Rattle.tl_layout.specs.TypeLaws.{type_6_laws};
+    ghost use Rattle.tl_layout.specs.Laws.TypeLaws.{type_6_laws};
 
     const LEN: usize = 76;
 

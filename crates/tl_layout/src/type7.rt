@@ -13,7 +13,7 @@ use crate::text::Text;
 use crate::writing::{write_blanks, write_head, write_number, write_point_or_blanks, write_text};
 use std::marker::Model;
 
-/// The content of a record of type 7: all but its LAND.
+/// The content of a record of type 7: all except its LAND.
 #[derive(Clone, Copy, Debug, PartialEq, Eq)]
 pub struct Body7 {
     /// State and county of the file (FILE).
@@ -24,7 +24,7 @@ pub struct Body7 {
     pub cfcc: Text<3>,
     /// Name of the landmark (LANAME).
     pub laname: Text<30>,
-    /// Where a landmark that is a point lies (LALONG, LALAT).
+    /// The location of a landmark that is a point (LALONG, LALAT).
     pub point: Option<Point>,
 }
 
@@ -36,7 +36,8 @@ pub struct Rec7 {
 }
 
 impl Body7 {
-    /// The content of these fields, each of bytes that a line may hold, with the landmark's point or none.
+    /// Makes a content from these fields and the landmark's point, or none. Each byte must be allowed in a
+    /// line.
     pub fn new(
         file: [u8; 5],
         source: [u8; 1],
@@ -92,7 +93,7 @@ impl Body7 {
         self.laname.bytes()
     }
 
-    /// Where the landmark is, if that is told (LALONG, LALAT).
+    /// The location of the landmark, if the record has one (LALONG, LALAT).
     pub fn point(&self) -> Option<Point>
         ensures { result ≡ self.now.point }
     {
@@ -116,7 +117,7 @@ impl Model for Rec7 {
 impl Rec7 {
     ghost use Rattle.tl_layout.specs.Type7.{FitsType7, type_7_reading};
 
-    /// The record of these fields.
+    /// Makes a record from these fields. The LAND must be from 1 to 9,999,999,999.
     pub fn new(land: u64, body: Body7) -> Rec7
         requires { IsNumber 10 land }
         ensures { result ≡ record { land = land; body = body } }
@@ -132,14 +133,14 @@ impl Rec7 {
         self.land
     }
 
-    /// All but the LAND.
+    /// The content: all except the LAND.
     pub fn body(&self) -> &Body7
         ensures { result.now ≡ self.now.body }
     {
         &self.body
     }
 
-    /// Does nothing: that each field fits its columns is so by its type.
+    /// Proves that each field fits its columns, which its type guarantees. Does nothing at run time.
     pub(crate) fn show_fit(&self)
         ensures { FitsType7 self.now }
     {
@@ -158,7 +159,7 @@ impl Layout for Rec7 {
     ghost use Rattle.tl_layout.specs.FieldFaults.{IsLeftmostFault};
     ghost use Rattle.tl_layout.specs.RecordTables.{rtype_7, table_7};
     ghost use Rattle.tl_layout.specs.Type7.{FitsType7, SpellsType7, type_7_reading, type_7_spelling};
-    ghost use Rattle.tl_layout.specs.TypeLaws.{type_7_laws};
+    ghost use Rattle.tl_layout.specs.Laws.TypeLaws.{type_7_laws};
 
     const LEN: usize = 74;
 

@@ -37,7 +37,8 @@ impl Model for Rec8 {
 impl Rec8 {
     ghost use Rattle.tl_layout.specs.Type8.{FitsType8, type_8_reading};
 
-    /// The record of these fields.
+    /// Makes a record from these fields. Each byte must be allowed in a line; the POLYID and the LAND
+    /// must be from 1 to 9,999,999,999.
     pub fn new(file: [u8; 5], cenid: [u8; 5], polyid: u64, land: u64) -> Rec8
         requires file { AreAllowed file }
         requires cenid { AreAllowed cenid }
@@ -85,7 +86,7 @@ impl Rec8 {
         self.land
     }
 
-    /// Does nothing: that each field fits its columns is so by its type.
+    /// Proves that each field fits its columns, which its type guarantees. Does nothing at run time.
     pub(crate) fn show_fit(&self)
         ensures { FitsType8 self.now }
     {
@@ -100,7 +101,7 @@ impl Layout for Rec8 {
     ghost use Rattle.tl_layout.specs.FieldFaults.{IsLeftmostFault};
     ghost use Rattle.tl_layout.specs.RecordTables.{rtype_8, table_8};
     ghost use Rattle.tl_layout.specs.Type8.{FitsType8, SpellsType8, type_8_reading, type_8_spelling};
-    ghost use Rattle.tl_layout.specs.TypeLaws.{type_8_laws};
+    ghost use Rattle.tl_layout.specs.Laws.TypeLaws.{type_8_laws};
 
     const LEN: usize = 36;
 

@@ -1,4 +1,4 @@
-//! Record type I: the nodes of a chain and the polygons beside it.
+//! Record type I: the nodes of a chain and the polygons on its sides.
 
 ghost use Rattle.std.specs.Prelude.{◌≡◌, ◌≤◌, ◌<◌, ℕ, List, Option, Result, Ok, Err, length};
 ghost use Rattle.tl_layout.specs.Bytes.{IsLine, AreAllowed, IsText};
@@ -15,7 +15,7 @@ use crate::text::Text;
 use crate::writing::{write_head, write_number, write_text};
 use std::marker::Model;
 
-/// The content of a record of type I: all but its TLID, its nodes and its sides.
+/// The content of a record of type I: all except its TLID, its nodes and its sides.
 #[derive(Clone, Copy, Debug, PartialEq, Eq)]
 pub struct BodyI {
     /// State and county of the file (FILE).
@@ -57,7 +57,7 @@ impl Model for RecI {
 }
 
 impl BodyI {
-    /// The content of these fields, each of bytes that a line may hold.
+    /// Makes a content from these fields. Each of their bytes must be allowed in a line.
     pub fn new(
         file: [u8; 5],
         source: [u8; 10],
@@ -140,7 +140,7 @@ impl BodyI {
         self.rs_i3.bytes()
     }
 
-    /// The content in the columns of a full line.
+    /// The content of a full line.
     fn at(line: &[u8]) -> BodyI
         requires { IsText len_i line.now }
         ensures { result ≡ body_i_at line.now }
@@ -157,7 +157,7 @@ impl BodyI {
 }
 
 impl RecI {
-    /// The record of these fields: numbers from 1 to 9,999,999,999, or none where there is no node.
+    /// Makes a record from these fields. The numbers must be from 1 to 9,999,999,999; a node can be none.
     pub fn new(
         tlid: u64,
         body: BodyI,
@@ -188,14 +188,14 @@ impl RecI {
         self.tlid
     }
 
-    /// All but the TLID, the nodes and the sides.
+    /// The content: all except the TLID, the nodes and the sides.
     pub fn body(&self) -> &BodyI
         ensures { result.now ≡ self.now.body }
     {
         &self.body
     }
 
-    /// Number of the node where the chain starts (TZIDS), from 1 to 9,999,999,999, or none.
+    /// Number of the node at the chain's start (TZIDS), from 1 to 9,999,999,999, or none.
     pub fn start_node(&self) -> Option<u64>
         ensures value { result ≡ self.now.start_node }
         ensures in_range { IsNumberOrNone 10 result }
@@ -203,7 +203,7 @@ impl RecI {
         self.start_node.get()
     }
 
-    /// Number of the node where the chain ends (TZIDE), from 1 to 9,999,999,999, or none.
+    /// Number of the node at the chain's end (TZIDE), from 1 to 9,999,999,999, or none.
     pub fn end_node(&self) -> Option<u64>
         ensures value { result ≡ self.now.end_node }
         ensures in_range { IsNumberOrNone 10 result }
@@ -211,21 +211,21 @@ impl RecI {
         self.end_node.get()
     }
 
-    /// What stands on the left side (CENIDL, POLYIDL).
+    /// The polygon on the left side (CENIDL, POLYIDL).
     pub fn left(&self) -> &Side
         ensures { result.now ≡ self.now.left }
     {
         &self.left
     }
 
-    /// What stands on the right side (CENIDR, POLYIDR).
+    /// The polygon on the right side (CENIDR, POLYIDR).
     pub fn right(&self) -> &Side
         ensures { result.now ≡ self.now.right }
     {
         &self.right
     }
 
-    /// Writes the canonical spelling of the record of these fields.
+    /// Writes the canonical spelling of the record with these fields.
     #[tactic(auto, unfolding(crate::specs::TypeI::type_i_spelling))]
     pub fn put_fields(
         tlid: u64,
@@ -263,7 +263,7 @@ impl RecI {
         write_text(out, 118, 127, &body.rs_i3);
     }
 
-    /// Does nothing: that each field fits its columns is so by its type.
+    /// Proves that each field fits its columns, which its type guarantees. Does nothing at run time.
     pub(crate) fn show_fit(&self)
         ensures { FitsTypeI self.now }
     {
@@ -285,7 +285,7 @@ impl Layout for RecI {
     ghost use Rattle.tl_layout.specs.FieldFaults.{IsLeftmostFault};
     ghost use Rattle.tl_layout.specs.RecordTables.{rtype_i, table_i};
     ghost use Rattle.tl_layout.specs.TypeI.{FitsTypeI, SpellsTypeI, type_i_reading, type_i_spelling};
-    ghost use Rattle.tl_layout.specs.TypeLaws.{type_i_laws};
+    ghost use Rattle.tl_layout.specs.Laws.TypeLaws.{type_i_laws};
 
     const LEN: usize = 127;
 

@@ -13,7 +13,7 @@ use crate::text::Text;
 use crate::writing::{write_head, write_number, write_point_or_blanks, write_text};
 use std::marker::Model;
 
-/// The content of a record of type P: all but the polygon's key.
+/// The content of a record of type P: all except the polygon's key.
 #[derive(Clone, Copy, Debug, PartialEq, Eq)]
 pub struct BodyP {
     /// State and county of the file (FILE).
@@ -33,7 +33,8 @@ pub struct RecP {
 }
 
 impl BodyP {
-    /// The content of these fields, each of bytes that a line may hold, with the polygon's inner point or none.
+    /// Makes a content from these fields and the polygon's inner point, or none. Each byte must be allowed in a
+    /// line.
     pub fn new(file: [u8; 5], point: Option<Point>, water: [u8; 1]) -> BodyP
         requires file { AreAllowed file }
         requires water { AreAllowed water }
@@ -54,7 +55,7 @@ impl BodyP {
         self.file.bytes()
     }
 
-    /// A point inside the polygon, if one is told (POLYLONG, POLYLAT).
+    /// A point inside the polygon, if the record has one (POLYLONG, POLYLAT).
     pub fn point(&self) -> Option<Point>
         ensures { result ≡ self.now.point }
     {
@@ -86,7 +87,8 @@ impl Model for RecP {
 impl RecP {
     ghost use Rattle.tl_layout.specs.TypeP.{FitsTypeP, type_p_reading};
 
-    /// The record of these fields.
+    /// Makes a record from these fields. The CENID's bytes must be allowed in a line; the POLYID must be from 1
+    /// to 9,999,999,999.
     pub fn new(cenid: [u8; 5], polyid: u64, body: BodyP) -> RecP
         requires cenid { AreAllowed cenid }
         requires polyid { IsNumber 10 polyid }
@@ -115,14 +117,14 @@ impl RecP {
         self.polyid
     }
 
-    /// All but the polygon's key.
+    /// The content: all except the polygon's key.
     pub fn body(&self) -> &BodyP
         ensures { result.now ≡ self.now.body }
     {
         &self.body
     }
 
-    /// Does nothing: that each field fits its columns is so by its type.
+    /// Proves that each field fits its columns, which its type guarantees. Does nothing at run time.
     pub(crate) fn show_fit(&self)
         ensures { FitsTypeP self.now }
     {
@@ -139,7 +141,7 @@ impl Layout for RecP {
     ghost use Rattle.std.specs.Prelude.{ℕ, List};
     ghost use Rattle.tl_layout.specs.FieldFaults.{IsLeftmostFault};
     ghost use Rattle.tl_layout.specs.RecordTables.{rtype_p, table_p};
-    ghost use Rattle.tl_layout.specs.TypeLaws.{type_p_laws};
+    ghost use Rattle.tl_layout.specs.Laws.TypeLaws.{type_p_laws};
     ghost use Rattle.tl_layout.specs.TypeP.{FitsTypeP, SpellsTypeP, type_p_reading, type_p_spelling};
 
     const LEN: usize = 45;

@@ -1,4 +1,4 @@
-//! Writing fields into the columns of a line, counted from 1 as in the column tables, from left to right.
+//! Writing fields into the columns of a line, from left to right. Columns are counted from 1, as in the column tables.
 
 ghost use Rattle.std.specs.Prelude.{◌≡◌, ◌+◌, ◌-◌, ◌≤◌, ◌<◌, [], ◌∷◌, ◌++◌, length, take, replicate, codes, pos};
 ghost use Rattle.tl_layout.specs.Columns.{joined};
@@ -11,7 +11,7 @@ use crate::number::put_number;
 use crate::point::Point;
 use crate::text::Text;
 
-/// Writes the record type and the version, which is 2006.
+/// Writes the record type and the version, 2006.
 #[inline(always)]
 #[tactic(auto, using(crate::proofs::Writes::head_written))]
 pub fn write_head(out: &mut [u8], rtype: u8)
@@ -22,7 +22,7 @@ pub fn write_head(out: &mut [u8], rtype: u8)
     out[1..5].copy_from_slice(b"2006");
 }
 
-/// Writes opaque bytes into these columns.
+/// Writes bytes as they are into these columns.
 #[inline(always)]
 #[tactic(auto, using(crate::proofs::Writes::columns_written))]
 pub fn write_text<const N: usize>(out: &mut [u8], first: usize, last: usize, text: &Text<N>)
@@ -34,7 +34,7 @@ pub fn write_text<const N: usize>(out: &mut [u8], first: usize, last: usize, tex
     out[first - 1..last].copy_from_slice(text.as_bytes());
 }
 
-/// Writes a number right justified into these columns, blanks for 0.
+/// Writes a number right justified into these columns. 0 is written as blanks.
 #[inline(always)]
 #[tactic(auto, using(crate::proofs::Writes::columns_written))]
 pub fn write_number(out: &mut [u8], first: usize, last: usize, number: u64)
@@ -58,7 +58,7 @@ pub fn write_blanks(out: &mut [u8], first: usize, last: usize)
     out[first - 1..last].fill(b' ');
 }
 
-/// Writes a coordinate of a sign and digits into these columns.
+/// Writes a coordinate, a sign and digits, into these columns.
 #[inline(always)]
 #[tactic(auto, using(crate::proofs::Writes::columns_written))]
 fn write_coordinate(out: &mut [u8], first: usize, last: usize, value: i32)
@@ -70,7 +70,7 @@ fn write_coordinate(out: &mut [u8], first: usize, last: usize, value: i32)
     put_coordinate(&mut out[first - 1..last], value);
 }
 
-/// Writes the pair of coordinates of a point into the 19 columns from this one on.
+/// Writes the pair of coordinates of a point into 19 columns, from this one on.
 #[inline(always)]
 pub fn write_point(out: &mut [u8], column: usize, point: &Point)
     requires from_one { 1 ≤ column }
@@ -83,10 +83,10 @@ pub fn write_point(out: &mut [u8], column: usize, point: &Point)
     write_coordinate(out, column + 10, column + 18, point.lat());
 }
 
-/// The pair of zeros that stands in an unused place for a point.
+/// The pair of zeros in an unused place for a point.
 pub const ZEROS: [u8; 19] = *b"+000000000+00000000";
 
-/// Writes a pair of zeros into the 19 columns from this one on.
+/// Writes a pair of zeros into 19 columns, from this one on.
 #[inline(always)]
 pub fn write_zeros(out: &mut [u8], column: usize)
     requires from_one { 1 ≤ column }
@@ -97,7 +97,7 @@ pub fn write_zeros(out: &mut [u8], column: usize)
     out[column - 1..column + 18].copy_from_slice(&ZEROS);
 }
 
-/// Writes the pair of coordinates of a point into the 19 columns from this one on, blanks where there is none.
+/// Writes the pair of coordinates of a point into 19 columns, from this one on, or blanks if there is no point.
 pub fn write_point_or_blanks(out: &mut [u8], column: usize, point: &Option<Point>)
     requires from_one { 1 ≤ column }
     requires within { column + 18 ≤ length out.old }
@@ -113,7 +113,7 @@ pub fn write_point_or_blanks(out: &mut [u8], column: usize, point: &Option<Point
     }
 }
 
-/// Writes the line of a record, its canonical spelling and LF, into room of its length.
+/// Writes a record's line, which is its canonical spelling and LF, into a buffer of that length.
 pub fn put_line<L: Layout>(found: &L, room: &mut [u8])
     requires { length room.old ≡ L.LEN + 1 }
     ensures { room.new ≡ L.spelling found.now ++ 10 ∷ [] }

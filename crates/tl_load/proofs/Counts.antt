@@ -79,7 +79,7 @@ counted_more counts records added rtype len counted is t low =
     ap (λ (k : ℕ). cond {A = ℕ} (eqb k t) 1 0) (tiger_rtype added ∙ is) in
     omega (arith, here, was, e, same)
 
--- exactly one of the nine types is this one
+-- 1 if this is one of the nine types, and 0 otherwise
 abbrev pub of_nine : ℕ → ℕ
 of_nine t = cond (eqb t 49) 1 0 + cond (eqb t 50) 1 0 + cond (eqb t 52) 1 0 + cond (eqb t 53) 1 0 + cond (eqb t 54) 1 0 + cond
     (eqb t 55) 1 0 + cond (eqb t 56) 1 0 + cond (eqb t 73) 1 0 + cond (eqb t 80) 1 0
@@ -100,7 +100,7 @@ all_nine counts t low one =
       one_up counts t 80 low,
     )
 
--- the record is of one of the nine types
+-- counting one more record raises the total by one, since its type is one of the nine
 total_more : (counts : List ℕ) (added : Record) → length counts ≡ 128
     → total (set counts (type_of added) (get_or counts (type_of added) 0 + 1)) ≡ total counts + 1
 unfolding type_of
@@ -160,7 +160,7 @@ empty_loader limit low = record {
   begun = λ lt. absurd (omega arith);
 }
 
--- ---- how many records there may be
+-- ---- the number of records is bounded
 
 pub most_records : (counts : List ℕ) (unfinished : List ℕ) (parts judged limit : ℕ) → IsLoader counts unfinished parts judged limit
     → total counts ≤ 90000000

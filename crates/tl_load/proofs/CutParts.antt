@@ -1,4 +1,4 @@
--- Where a set is cut into parts: an empty part has no lines, and what stands behind the end of a line has the lines that it had.
+-- Cutting a set into parts: an empty part has no lines, and the bytes after the end of a line keep their lines.
 use Rattle.std.proofs.Common.{◌≡◌, ◌↔◌, ℕ, ◌+◌, Bool, true, false, List, [], ◌∷◌, ◌++◌, map, refl, sym, ap, subst, ◌∙◌}
 use Rattle.std.proofs.Common.{append_assoc, eqb}
 use Rattle.std.proofs.lemmas.List.{map-append}
@@ -6,10 +6,14 @@ use Rattle.std.specs.List.{flat_map}
 use Rattle.std.proofs.lemmas.Bool.{eqb-true}
 use Rattle.std.proofs.lemmas.Grind.{flat_map-append}
 use Rattle.std.proofs.lemmas.List.Elements.{All-append, All-nil, All-cons}
-use Rattle.tl_load.specs.Lines.{is_line_feed, IsWithoutLineFeed, without_return, lines}
+use Rattle.tl_layout.specs.declared.fault.FieldKind.{FieldKind}
+use Rattle.tl_layout.specs.declared.fault.FieldKind.TheVariants as kinds
+use Rattle.tl_load.specs.Lines.{is_line_feed, IsWithoutLineFeed, without_return, lines, HaveSameLines}
 use Rattle.tl_load.specs.Places.{PlacedLine, numbered_lines, lines_from_part, placed_lines}
-use Rattle.tl_load.specs.Verdicts.{Judge}
-use Rattle.tl_load.specs.Outcome.{AreLinesSpelled, Spells, FaultAt}
+use Rattle.tl_load.specs.Verdicts.{Judge, field_fault_at, fault_at, without_place}
+use Rattle.tl_load.specs.Outcome.{AreLinesSpelled, Spells, IsFaultOf, of_line, of_limit, FaultAt}
+use Rattle.tl_load.specs.declared.fault.LineFault.{LineFault}
+use Rattle.tl_load.specs.declared.fault.LineFault.TheVariants as line_faults
 use Rattle.tl_load.specs.declared.fault.LoadFault.{LoadFault}
 use Rattle.tl_load.proofs.LineLemmas.{lines_line, lines_none}
 
@@ -43,18 +47,97 @@ spelled_as judge (x ∷ xs) (y ∷ ys) (r ∷ records) e h =
     let rest : bytes_of xs ≡ bytes_of ys = cc in
     (subst (λ (bytes : List ℕ). judge.Has bytes r) first h.0, spelled_as judge xs ys records rest h.1)
 
--- parts of the same lines spell the same
-spells_as : {R : Type 0} (judge : Judge R) (parts others : List (List ℕ)) (records : List R) → flat_map lines parts ≡ flat_map lines others
+same_bytes : (parts others : List (List ℕ)) → HaveSameLines parts others → bytes_of (placed_lines parts) ≡ bytes_of (placed_lines others)
+same_bytes parts others same = bytes_of_parts 1 parts ∙ same ∙ sym (bytes_of_parts 1 others)
+
+-- parts with the same lines spell the same
+pub spells_as : {R : Type 0} (judge : Judge R) (parts others : List (List ℕ)) (records : List R) → HaveSameLines parts others
     → Spells judge parts records → Spells judge others records
 spells_as judge parts others records same =
-    spelled_as judge (placed_lines parts) (placed_lines others) records (bytes_of_parts 1 parts ∙ same ∙ sym (bytes_of_parts 1 others))
+    spelled_as judge (placed_lines parts) (placed_lines others) records (same_bytes parts others same)
 
-spells_alike : {R : Type 0} (judge : Judge R) (parts others : List (List ℕ)) (records : List R) → flat_map lines parts ≡ flat_map lines others
+pub spells_alike : {R : Type 0} (judge : Judge R) (parts others : List (List ℕ)) (records : List R) → HaveSameLines parts others
     → (Spells judge parts records ↔ Spells judge others records)
 spells_alike judge parts others records same =
     (spells_as judge parts others records same, spells_as judge others parts records (sym same))
 
--- ---- cutting behind the end of a line
+-- ---- the first fault doesn't depend on places either, except for its own place
+
+-- the lines split into lines with the same bytes as those before a line, one with the bytes of that line, and the rest
+record SplitAlike (before : List PlacedLine) (line : PlacedLine) (all : List PlacedLine) : Type 0 where
+  front : List PlacedLine
+  here : PlacedLine
+  rest : List PlacedLine
+  split : all ≡ front ++ here ∷ rest
+  same_front : bytes_of before ≡ bytes_of front
+  same_here : line.bytes ≡ here.bytes
+
+split_alike : (before : List PlacedLine) (line : PlacedLine) (after all : List PlacedLine)
+    → bytes_of (before ++ line ∷ after) ≡ bytes_of all → SplitAlike before line all
+split_alike [] line after [] e = absurd cc
+split_alike [] line after (l ∷ all) e = record { front = []; here = l; rest = all; split = refl; same_front = refl; same_here = cc }
+split_alike (b ∷ before) line after [] e = absurd cc
+split_alike (b ∷ before) line after (l ∷ all) e =
+    let first : b.bytes ≡ l.bytes = cc in
+    let found = split_alike before line after all cc in
+    record {
+      front = l ∷ found.front;
+      here = found.here;
+      rest = found.rest;
+      split = λ i. l ∷ found.split i;
+      same_front = λ i. first i ∷ found.same_front i;
+      same_here = found.same_here;
+    }
+
+field_fault_unplaced : (part line other_part other_line column : ℕ) (kind : FieldKind)
+    → without_place (field_fault_at part line column kind) ≡ without_place (field_fault_at other_part other_line column kind)
+field_fault_unplaced part line other_part other_line column kinds.BadNumber = refl
+field_fault_unplaced part line other_part other_line column kinds.BadPoint = refl
+field_fault_unplaced part line other_part other_line column kinds.GapInRecord = refl
+
+fault_unplaced : (part line other_part other_line : ℕ) (own : LineFault)
+    → without_place (fault_at part line own) ≡ without_place (fault_at other_part other_line own)
+unfolding fault_at
+fault_unplaced part line other_part other_line line_faults.UnknownType = refl
+fault_unplaced part line other_part other_line line_faults.LineTooLong = refl
+fault_unplaced part line other_part other_line (line_faults.BadByte column) = refl
+fault_unplaced part line other_part other_line (line_faults.Field f) = field_fault_unplaced part line other_part other_line f.column f.kind
+
+-- the fault of a line with the same bytes
+fault_of_same : {R : Type 0} (judge : Judge R) (limit : ℕ) (records : List R) (line other : PlacedLine) (fault : LoadFault)
+    → line.bytes ≡ other.bytes → IsFaultOf judge limit records line fault
+    → (told : LoadFault) × IsFaultOf judge limit records other told × (without_place told ≡ without_place fault)
+fault_of_same judge limit records line other fault same (of_line own h e) = (
+  fault_at other.part other.line own,
+  of_line own (subst (λ (bytes : List ℕ). judge.IsFault bytes own) same h) refl,
+  fault_unplaced other.part other.line line.part line.line own ∙ sym (ap without_place e),
+)
+fault_of_same judge limit records line other fault same (of_limit r has full e) =
+    (fault, of_limit r (subst (λ (bytes : List ℕ). judge.Has bytes r) same has) full e, refl)
+
+-- the first fault of parts with the same lines
+pub fault_elsewhere : {R : Type 0} (judge : Judge R) (limit : ℕ) (parts others : List (List ℕ)) (fault : LoadFault)
+    → HaveSameLines parts others → FaultAt judge limit parts fault
+    → (told : LoadFault) × FaultAt judge limit others told × (without_place told ≡ without_place fault)
+fault_elsewhere judge limit parts others fault same at =
+    let found = split_alike at.before at.line at.after (placed_lines others)
+    (ap bytes_of (sym at.split) ∙ same_bytes parts others same) in
+    let told = fault_of_same judge limit at.records at.line found.here fault found.same_here at.fault_is in (
+      told.0,
+      record {
+        before = found.front;
+        line = found.here;
+        after = found.rest;
+        records = at.records;
+        split = found.split;
+        well = spelled_as judge at.before found.front at.records found.same_front at.well;
+        within = at.within;
+        fault_is = told.1;
+      },
+      told.2,
+    )
+
+-- ---- cutting after the end of a line
 
 lines_of_cut : (a text rest : List ℕ) → IsWithoutLineFeed a → lines (a ++ (text ++ 10 ∷ rest)) ≡ lines (a ++ (text ++ 10 ∷ [])) ++ lines rest
 lines_of_cut a [] rest h =
@@ -68,7 +151,7 @@ lines_of_cut a (c ∷ text) rest h =
     longer n = All-append (λ b. is_line_feed b ≡ false) a (c ∷ []) h
         (All-cons (λ b. is_line_feed b ≡ false) c [] n (All-nil (λ b. is_line_feed b ≡ false)))
 
-    -- the line ends here, or it goes on with this byte
+    -- either the line ends here, or it continues with this byte
     go : (t : Bool) → eqb c 10 ≡ t → lines (text ++ 10 ∷ rest) ≡ lines (text ++ 10 ∷ []) ++ lines rest
         → (is_line_feed c ≡ false
         → lines ((a ++ c ∷ []) ++ (text ++ 10 ∷ rest)) ≡ lines ((a ++ c ∷ []) ++ (text ++ 10 ∷ [])) ++ lines rest)
@@ -85,27 +168,35 @@ lines_of_cut a (c ∷ text) rest h =
         ∙ longer_line e
         ∙ ap (λ (bytes : List ℕ). lines bytes ++ lines rest) (append_assoc a (c ∷ []) (text ++ 10 ∷ []))
 
+pub cut_lines : (before later : List (List ℕ)) (text rest : List ℕ)
+    → HaveSameLines (before ++ (text ++ 10 ∷ rest) ∷ later) (before ++ (text ++ 10 ∷ []) ∷ rest ∷ later)
+cut_lines before later text rest =
+    flat_map-append lines before ((text ++ 10 ∷ rest) ∷ later)
+    ∙ ap (λ (ls : List (List ℕ)). flat_map lines before ++ ls)
+    (ap (λ (ls : List (List ℕ)). ls ++ flat_map lines later) (lines_of_cut [] text rest (All-nil (λ b. is_line_feed b ≡ false)))
+    ∙ append_assoc (lines (text ++ 10 ∷ [])) (lines rest) (flat_map lines later))
+    ∙ sym (flat_map-append lines before ((text ++ 10 ∷ []) ∷ rest ∷ later))
+
 pub cut_spells : {R : Type 0} (judge : Judge R) (before later : List (List ℕ)) (text rest : List ℕ) (records : List R)
     → (Spells judge (before ++ (text ++ 10 ∷ rest) ∷ later) records ↔ Spells judge (before ++ (text ++ 10 ∷ []) ∷ rest ∷ later) records)
 cut_spells judge before later text rest records =
     spells_alike judge (before ++ (text ++ 10 ∷ rest) ∷ later) (before ++ (text ++ 10 ∷ []) ∷ rest ∷ later) records
-    (flat_map-append lines before ((text ++ 10 ∷ rest) ∷ later)
-    ∙ ap (λ (ls : List (List ℕ)). flat_map lines before ++ ls)
-    (ap (λ (ls : List (List ℕ)). ls ++ flat_map lines later) (lines_of_cut [] text rest (All-nil (λ b. is_line_feed b ≡ false)))
-    ∙ append_assoc (lines (text ++ 10 ∷ [])) (lines rest) (flat_map lines later))
-    ∙ sym (flat_map-append lines before ((text ++ 10 ∷ []) ∷ rest ∷ later)))
+    (cut_lines before later text rest)
 
 -- ---- empty parts
+
+pub empty_lines : (before later : List (List ℕ)) → HaveSameLines (before ++ [] ∷ later) (before ++ later)
+empty_lines before later =
+    flat_map-append lines before ([] ∷ later)
+    ∙ ap (λ (ls : List (List ℕ)). flat_map lines before ++ (ls ++ flat_map lines later)) lines_none
+    ∙ sym (flat_map-append lines before later)
 
 pub empty_spells : {R : Type 0} (judge : Judge R) (before later : List (List ℕ)) (records : List R)
     → (Spells judge (before ++ [] ∷ later) records ↔ Spells judge (before ++ later) records)
 empty_spells judge before later records =
-    spells_alike judge (before ++ [] ∷ later) (before ++ later) records
-    (flat_map-append lines before ([] ∷ later)
-    ∙ ap (λ (ls : List (List ℕ)). flat_map lines before ++ (ls ++ flat_map lines later)) lines_none
-    ∙ sym (flat_map-append lines before later))
+    spells_alike judge (before ++ [] ∷ later) (before ++ later) records (empty_lines before later)
 
--- an empty part at the end changes no place
+-- an empty part at the end doesn't change the place of any line
 lines_with_empty_part : (n : ℕ) (parts : List (List ℕ)) → lines_from_part n (parts ++ [] ∷ []) ≡ lines_from_part n parts
 unfolding lines_from_part numbered_lines
 lines_with_empty_part n [] = ap (λ (ls : List (List ℕ)). numbered_lines n 1 ls ++ []) lines_none
@@ -125,7 +216,7 @@ fault_as judge limit parts others fault same at = record {
   fault_is = at.fault_is;
 }
 
--- nor a fault
+-- an empty part at the end doesn't change the fault
 pub empty_fault : {R : Type 0} (judge : Judge R) (limit : ℕ) (parts : List (List ℕ)) (fault : LoadFault)
     → (FaultAt judge limit (parts ++ [] ∷ []) fault ↔ FaultAt judge limit parts fault)
 empty_fault judge limit parts fault =

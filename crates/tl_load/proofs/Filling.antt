@@ -1,4 +1,4 @@
--- A line that is filled with blanks.
+-- A line padded with blanks.
 use Rattle.std.proofs.Common.{◌≡◌, ℕ, ◌+◌, ◌-◌, ◌≤◌, Bool, true, false, cond, List, [], ◌∷◌, ◌++◌, length, get_or, take}
 use Rattle.std.proofs.Common.{replicate, Option, Some, None, refl, ap, ◌∙◌, append-nil, arith, ltb}
 use Rattle.std.specs.Prelude.{not, position}
@@ -35,7 +35,7 @@ none_from n m e = go (ltb n m) e
     go true h = absurd cc
     go false h = refl
 
--- where no byte is bad, each is allowed
+-- if no byte is bad, each is allowed
 pub allowed_by : (line : List ℕ) → None ≡ position (λ b. not (is_allowed b)) line → AreAllowed line
 unfolding AreAllowed
 allowed_by line e k d lt =

@@ -1,4 +1,4 @@
--- What a loader was fed, after each call.
+-- What a loader was fed after each call.
 use Rattle.std.proofs.Common.{◌≡◌, ℕ, ◌+◌, ◌≤◌, false, List, [], ◌∷◌, ◌++◌, length, map, replicate, Option, Some, None}
 use Rattle.std.proofs.Common.{Result, Ok, Err, refl, sym, ap, subst, ◌∙◌, append_assoc, append-nil, arith, inl, inr, ◌⊎◌}
 use Rattle.std.specs.Prelude.{MatchOption, MatchResult, IfErr, OnOk, All}
@@ -22,7 +22,7 @@ use Rattle.tl_load.proofs.LineLemmas.{lines_none}
 use Rattle.tl_load.proofs.Counts.{none_counted}
 use Rattle.tl_load.proofs.Runs.{lines_after, numbered_lines-append, parts-append}
 use Rattle.tl_load.proofs.Steps.{comes_at_end}
-use Rattle.tl_load.specs.declared.loader_into.TheConstants.{LINE_BYTES}
+use Rattle.tl_load.specs.declared.loader_for.TheConstants.{LINE_BYTES}
 
 pub at_none : {A : Type 0} (P : Type 0) (Q : A → Type 0) (o : Option A) → o ≡ None → MatchOption o P Q → P
 at_none P Q None e h = h
@@ -47,7 +47,7 @@ no_lines : (n : ℕ) → lines_from_part n ([] ∷ []) ≡ []
 unfolding lines_from_part numbered_lines
 no_lines n = ap (λ (l : List (List ℕ)). numbered_lines n 1 l ++ []) lines_none
 
--- the lines of closed parts and of lines that have ended in the next one, and then what follows
+-- the lines of closed parts and of lines that have ended in the next part, followed by others
 ended_then : (closed : List (List ℕ)) (ended : List (List ℕ)) (rest : List ℕ) (later : List (List ℕ)) → All IsWithoutLineFeed ended
     → placed_lines (closed ++ (with_line_feeds ended ++ rest) ∷ later)
     ≡ placed_lines (closed ++ with_line_feeds ended ∷ []) ++
@@ -76,7 +76,7 @@ ended_then closed ended rest later apart =
     later))
     ∙ ap (λ (l : List PlacedLine). l ++ (numbered_lines n (1 + length ended) (lines rest) ++ lines_from_part (n + 1) later)) (sym before)
 
--- what comes of parts whose beginning was loaded
+-- the result for parts whose beginning was loaded
 comes_after : (limit : ℕ) (l : Loaded) (closed : List (List ℕ)) (open_part rest : List ℕ) (later : List (List ℕ)) → l.limit ≡ limit
     → (h : HasLoaded limit l closed open_part)
     → outcome tiger limit (closed ++ (with_line_feeds h.ended ++ rest) ∷ later) ≡ outcome_after tiger l.limit l.records
@@ -111,7 +111,7 @@ none_follow : (n k : ℕ) → numbered_lines n k (lines []) ++ lines_from_part (
 unfolding numbered_lines lines_from_part
 none_follow n k = ap (λ (l : List (List ℕ)). numbered_lines n k l ++ []) lines_none
 
--- lines that end are loaded
+-- further lines that end are loaded
 loaded_more : (limit : ℕ) (before after : Loaded) (closed : List (List ℕ)) (open_part bytes : List ℕ) → before.limit ≡ limit
     → HasLoaded limit before closed open_part → TakesLines before bytes after → HasLoaded limit after closed (open_part ++ bytes)
 unfolding lines_from_part
@@ -182,7 +182,7 @@ pub well_of : (limit : ℕ) (l : Loaded) (closed : List (List ℕ)) (open_part :
 well_of limit l closed open_part h short =
     record { ended = h.ended; unfinished = l.unfinished; lines_are = h.lines_are; records = l.records; accepts = h.accepts; short = short }
 
--- the fault that comes is the one of the parts
+-- the fault of the step is the fault of the parts
 fault_more : (limit : ℕ) (l : Loaded) (closed : List (List ℕ)) (open_part bytes : List ℕ) (f : LoadFault) → l.limit ≡ limit
     → HasLoaded limit l closed open_part → ((more : List ℕ) (later : List (List ℕ)) → to_come l (bytes ++ more) later ≡ Err f)
     → IsFaultHowever limit closed (open_part ++ bytes) f
@@ -202,7 +202,7 @@ fault_closed limit l closed open_part bytes f same h comes more later =
     fault_from_outcome tiger tiger_is_sound limit _ f (ap (outcome tiger limit) (one_more closed (open_part ++ bytes) more later)
     ∙ comes_of limit l closed open_part bytes (more ∷ later) same h ∙ comes (more ∷ later))
 
--- ---- a loader over a keeper
+-- ---- a loader over a collector
 
 pub with_fault_told : {K T : Type 0} (result : Result T LoadFault) (l : LoadedInto K)
     → IfErr result (λ f. (with_fault result l).fault ≡ Some f)
@@ -243,7 +243,7 @@ fed_nothing holds limit kept counts unfinished empty none open_is = record {
   );
 }
 
--- a standing fault of the lines is the one of the parts, however they go on
+-- a recorded fault of the lines is the fault of the parts, however they continue
 pub stands_at : {K : Type 0} (holds : K → List Record → Type 0) (limit : ℕ) (l : LoadedInto K) (closed : List (List ℕ)) (open_part : List ℕ)
     (f : LoadFault) → l.fault ≡ Some f → WasFedInto holds limit l closed open_part → IsOfLines f → IsFaultHowever limit closed open_part f
 stands_at holds limit l closed open_part f e w = at_some _ _ l.fault f e w.comes
@@ -254,7 +254,7 @@ pub told_at : {K T : Type 0} (holds : K → List Record → Type 0) (limit : ℕ
 told_at holds limit l closed open_part (Ok x) e w = tt
 told_at holds limit l closed open_part (Err f) e w = stands_at holds limit l closed open_part f e w
 
--- the records that were kept, where no fault stands
+-- the records that were kept, if there is no recorded fault
 pub record Has {K : Type 0} (holds : K → List Record → Type 0) (limit : ℕ) (l : LoadedInto K) (closed : List (List ℕ))
     (open_part : List ℕ) : Type 0 where
   pub records : List Record
@@ -314,7 +314,7 @@ well_after holds x limit before after piece closed open_part none takes short w 
     well_of limit (seen after t.0) closed (open_part ++ piece)
     (loaded_more limit (seen before h.records) (seen after t.0) closed open_part piece w.limit_is h.loaded t.2) short
 
--- what a step says of an answer, where it was `Ok`
+-- what a step guarantees if it was `Ok`
 pub well_of_step : {K T : Type 0} (holds : K → List Record → Type 0) (before after : LoadedInto K) (piece : List ℕ)
     (result : Result T LoadFault) → before.fault ≡ None → Lifts holds (Takes piece) before result after
     → OnOk result (length after.unfinished ≤ LINE_BYTES)
@@ -323,7 +323,7 @@ well_of_step holds before after piece (Ok x) none takes short =
     λ limit closed open_part w. well_after holds x limit before after piece closed open_part none takes short w
 well_of_step holds before after piece (Err f) none takes short = tt
 
--- where a list was kept, one is kept after a step that was `Ok`
+-- if a list was kept, one is kept after a step that was `Ok`
 pub some_after : {K T : Type 0} (holds : K → List Record → Type 0) (Step : Loaded → Result T LoadFault → Loaded → Type 0)
     (before after : LoadedInto K) (result : Result T LoadFault) → Lifts holds Step before result after → HasSome holds before
     → OnOk result (HasSome holds (with_fault result after))
@@ -369,7 +369,7 @@ fed_closed_standing holds limit l f closed open_part e w = record {
       (stands_at holds limit l closed open_part f e w is [] (more ∷ later)));
 }
 
--- ---- all parts
+-- ---- all parts together
 
 -- an open part into which nothing was fed has no line
 pub placed_all : (closed : List (List ℕ)) (open_part : List ℕ)

@@ -1,71 +1,73 @@
--- Bytes that are tested in the lanes of a load.
+-- Bytes that are tested in vector lanes.
 use Rattle.std.proofs.Common.{◌≡◌, ℕ, ◌+◌, ◌-◌, ◌%◌, ◌<◌, ◌≤◌, ◌*◌, Bool, true, false, cond, List, [], ◌∷◌, length, get_or}
-use Rattle.std.proofs.Common.{map, refl, ap, subst, ◌∙◌, arith, ltb, leb, inl, inr}
+use Rattle.std.proofs.Common.{map, refl, ap, subst, ◌∙◌, ◌^◌, arith, ltb, leb, inl, inr, w8}
 use Rattle.std.specs.Prelude.{◌&&◌, ◌||◌}
 use Rattle.std.proofs.lemmas.Bool.{ltb-true, ltb-false, lt-ltb, le-leb, cases_lt, cond_both}
 use Rattle.std.proofs.lemmas.List.{get_or_default, get_or-map, length-map}
-use Rattle.std.proofs.lemmas.Simd.{none_from_empty_mask, get_or-chunk, length-chunk, Each1-get_or}
-use lib.Lanes.{chunk, mask_l, Each1, sel_l, zip2}
+use Rattle.std.proofs.lemmas.Simd.{get_or-chunk, length-chunk, Each1-get_or, tops_compared}
+use lib.Lanes.{chunk, mask_l, Each1, sel_l, top, zip2}
 use Rattle.tl_layout.specs.Bytes.{is_allowed, AreAllowed}
 
 or_true : (x : Bool) → (x || true) ≡ true
 or_true true = refl
 or_true false = refl
 
--- a byte that is no control, neither before the blank nor from delete on, is allowed
-allowed_of : (b : ℕ) → b < 256 → ltb b 32 ≡ false → ltb ((b + (256 - 127)) % 256) 33 ≡ false → is_allowed b ≡ true
-allowed_of b byte low high = elim (cases_lt b 127) [
-  | inl ascii ↦
-      let printable : leb 32 b ≡ true = le-leb 32 b (ltb-false b 32 low) in
-      let before : ltb b 127 ≡ true = lt-ltb b 127 ascii in
-      ap (λ (x : Bool). (x && ltb b 127) || (leb 160 b && ltb b 256)) printable ∙ ap (λ (x : Bool). x || (leb 160 b && ltb b 256)) before
-  | inr after ↦
-      let above : 33 ≤ (b + (256 - 127)) % 256 = ltb-false ((b + (256 - 127)) % 256) 33 high in
+-- printable ASCII is allowed
+allowed_ascii : (b : ℕ) → 32 ≤ b → b < 127 → is_allowed b ≡ true
+allowed_ascii b from below =
+    let printable : leb 32 b ≡ true = le-leb 32 b from in
+    let before : ltb b 127 ≡ true = lt-ltb b 127 below in
+    ap (λ (x : Bool). (x && ltb b 127) || (leb 160 b && ltb b 256)) printable ∙ ap (λ (x : Bool). x || (leb 160 b && ltb b 256)) before
+
+-- a byte minus 0x7F that is at least 0xA1 is printable ASCII
+allowed_from_delete : (b : ℕ) → b < 256 → 161 ≤ (b + (256 - 127)) % 256 → is_allowed b ≡ true
+allowed_from_delete b byte from = allowed_ascii b (omega arith) (omega arith)
+
+-- a byte is allowed if twice its successor is at least 0x42
+allowed_past_controls : (b : ℕ) → b < 256 → 66 ≤ ((b + 1) % 256 + (b + 1) % 256) % 256 → is_allowed b ≡ true
+allowed_past_controls b byte from = elim (cases_lt b 127) [
+  | inl below ↦ allowed_ascii b (omega arith) below
+  | inr above ↦
       let latin : leb 160 b ≡ true = le-leb 160 b (omega arith) in
       let whole : ltb b 256 ≡ true = lt-ltb b 256 byte in
       ap (λ (x : Bool). (leb 32 b && ltb b 127) || (x && ltb b 256)) latin ∙ ap (λ (x : Bool). (leb 32 b && ltb b 127) || x) whole
       ∙ or_true (leb 32 b && ltb b 127)
 ]
 
-pub clean_at : (bytes : List ℕ) (at : ℕ) → at + 16 ≤ length bytes → mask_l (map (λ b. ltb b 32) (chunk at 16 bytes)) ≡ 0
-    → mask_l (map (λ b. ltb ((b + (256 - 127)) % 256) 33) (chunk at 16 bytes)) ≡ 0
-    → (k : ℕ) → at ≤ k → k < at + 16 → get_or bytes k 0 < 256 → is_allowed (get_or bytes k 0) ≡ true
-clean_at bytes at room none none_above k from below byte =
-    allowed_of (get_or bytes k 0) byte (none_from_empty_mask (λ b. ltb b 32) bytes at 16 0 room none k from below)
-    (none_from_empty_mask (λ b. ltb ((b + (256 - 127)) % 256) 33) bytes at 16 0 room none_above k from below)
-
--- a byte of printable ASCII is allowed
-allowed_ascii : (b : ℕ) → b < 256 → 161 ≤ (b + (256 - 127)) % 256 → is_allowed b ≡ true
-allowed_ascii b byte from =
-    let printable : leb 32 b ≡ true = le-leb 32 b (omega arith) in
-    let before : ltb b 127 ≡ true = lt-ltb b 127 (omega arith) in
-    ap (λ (x : Bool). (x && ltb b 127) || (leb 160 b && ltb b 256)) printable ∙ ap (λ (x : Bool). x || (leb 160 b && ltb b 256)) before
-
--- a block each of whose bytes is 0xA1 or more from delete on is allowed
-pub ascii_at : (bytes : List ℕ) (at : ℕ) → at + 16 ≤ length bytes
-    → Each1 (λ b. 161 ≤ b) (map (λ b. (b + (256 - 127)) % 256) (chunk at 16 bytes))
-    → (k : ℕ) → at ≤ k → k < at + 16 → get_or bytes k 0 < 256 → is_allowed (get_or bytes k 0) ≡ true
-ascii_at bytes at room each k from below byte =
-    let from_delete = λ (b : ℕ). (b + (256 - 127)) % 256 in
-    let block = chunk at 16 bytes in
-    let long : length block ≡ 16 = length-chunk at 16 bytes room in
+-- a block of n bytes is allowed if each lane computed from a byte is at least low, provided that such bytes are allowed
+block_at : (n low : ℕ) (lane : ℕ → ℕ) → ((b : ℕ) → b < 256 → low ≤ lane b → is_allowed b ≡ true) → (bytes : List ℕ) (at : ℕ)
+    → at + n ≤ length bytes → Each1 (λ x. low ≤ x) (map lane (chunk at n bytes))
+    → (k : ℕ) → at ≤ k → k < at + n → get_or bytes k 0 < 256 → is_allowed (get_or bytes k 0) ≡ true
+block_at n low lane allowed bytes at room each k from below byte =
+    let block = chunk at n bytes in
+    let long : length block ≡ n = length-chunk at n bytes room in
     let here : at + (k - at) ≡ k = omega arith in
-    let mapped : length (map from_delete block) ≡ 16 = length-map block from_delete ∙ long in
-    let lane : get_or (map from_delete block) (k - at) 0 ≡ from_delete (get_or bytes k 0) =
-    get_or-map from_delete block (k - at) 0 0 (omega arith)
-    ∙ ap from_delete (get_or-chunk at 16 bytes (k - at) 0 (omega arith) ∙ ap (λ i. get_or bytes i 0) here) in
-    allowed_ascii (get_or bytes k 0) byte
-    (subst (λ x. 161 ≤ x) lane (Each1-get_or (λ x. 161 ≤ x) (map from_delete block) (k - at) 0 (omega arith) each))
+    let mapped : length (map lane block) ≡ n = length-map block lane ∙ long in
+    let at_lane : get_or (map lane block) (k - at) 0 ≡ lane (get_or bytes k 0) =
+    get_or-map lane block (k - at) 0 0 (omega arith)
+    ∙ ap lane (get_or-chunk at n bytes (k - at) 0 (omega arith) ∙ ap (λ i. get_or bytes i 0) here) in
+    allowed (get_or bytes k 0) byte
+    (subst (λ x. low ≤ x) at_lane (Each1-get_or (λ x. low ≤ x) (map lane block) (k - at) 0 (omega arith) each))
 
--- the lesser of each two lanes is at most either
+pub ascii_at : (bytes : List ℕ) (at : ℕ) → at + 16 ≤ length bytes
+    → Each1 (λ x. 161 ≤ x) (map (λ b. (b + (256 - 127)) % 256) (chunk at 16 bytes))
+    → (k : ℕ) → at ≤ k → k < at + 16 → get_or bytes k 0 < 256 → is_allowed (get_or bytes k 0) ≡ true
+ascii_at = block_at 16 161 (λ b. (b + (256 - 127)) % 256) allowed_from_delete
+
+pub clean_at : (bytes : List ℕ) (at : ℕ) → at + 32 ≤ length bytes
+    → Each1 (λ x. 66 ≤ x) (map (λ b. ((b + 1) % 256 + (b + 1) % 256) % 256) (chunk at 32 bytes))
+    → (k : ℕ) → at ≤ k → k < at + 32 → get_or bytes k 0 < 256 → is_allowed (get_or bytes k 0) ≡ true
+clean_at = block_at 32 66 (λ b. ((b + 1) % 256 + (b + 1) % 256) % 256) allowed_past_controls
+
+-- the minimum of two lanes is at most either
 least_at_most : (a b : ℕ) → (cond (ltb a b) a b ≤ a) × (cond (ltb a b) a b ≤ b)
 least_at_most a b = (
   cond_both (ltb a b) a b (λ x. x ≤ a) (λ e. omega arith) (λ e. omega (arith, ltb-false a b e)),
   cond_both (ltb a b) a b (λ x. x ≤ b) (λ e. omega (arith, ltb-true a b e)) (λ e. omega arith),
 )
 
--- where the lesser of each two lanes is that much, so is each of them
-pub each_of_least : (n : ℕ) (xs ys : List ℕ) → length xs ≡ length ys → Each1 (λ x. n ≤ x) (sel_l (zip2 ltb xs ys) xs ys)
+-- if each lane's minimum is at least n, so are both lanes
+each_of_least : (n : ℕ) (xs ys : List ℕ) → length xs ≡ length ys → Each1 (λ x. n ≤ x) (sel_l (zip2 ltb xs ys) xs ys)
     → Each1 (λ x. n ≤ x) xs × Each1 (λ x. n ≤ x) ys
 each_of_least n [] [] long each = (tt, tt)
 each_of_least n [] (y ∷ ys) long each = absurd (omega arith)
@@ -75,7 +77,14 @@ each_of_least n (x ∷ xs) (y ∷ ys) long each =
     let least = least_at_most x y in
     ((omega (arith, each.0, least.0), both.0), (omega (arith, each.0, least.1), both.1))
 
--- where no lane is below that, each is at least that
+-- the same for minima selected by the top bits of a comparison
+pub each_of_selected : (n : ℕ) (xs ys : List ℕ) → length xs ≡ length ys
+    → Each1 (λ x. n ≤ x) (sel_l (map (top 7) (zip2 (λ a b. cond (ltb a b) (2 ^ 8 - 1) 0) xs ys)) xs ys)
+    → Each1 (λ x. n ≤ x) xs × Each1 (λ x. n ≤ x) ys
+each_of_selected n xs ys long each = each_of_least n xs ys long
+    (subst (λ ms. Each1 (λ x. n ≤ x) (sel_l ms xs ys)) (tops_compared w8 ltb xs ys) each)
+
+-- if no lane is below the bound, each is at least the bound
 pub each_of_empty_mask : (n : ℕ) (xs : List ℕ) → mask_l (map (λ x. ltb x n) xs) ≡ 0 → Each1 (λ x. n ≤ x) xs
 each_of_empty_mask n [] none = tt
 each_of_empty_mask n (x ∷ xs) none = go (ltb x n) refl none (each_of_empty_mask n xs)
@@ -85,7 +94,7 @@ each_of_empty_mask n (x ∷ xs) none = go (ltb x n) refl none (each_of_empty_mas
     go true e none rest = absurd (omega arith)
     go false e none rest = (ltb-false x n e, rest (omega arith))
 
--- bytes that are allowed at each place are allowed
+-- bytes are allowed if the byte at each position is
 pub allowed_at_each : (bytes : List ℕ) → ((k : ℕ) → k < length bytes → is_allowed (get_or bytes k 0) ≡ true) → AreAllowed bytes
 unfolding AreAllowed
 allowed_at_each bytes h k d lt = subst (λ (b : ℕ). is_allowed b ≡ true) (get_or_default bytes k 0 d lt) (h k lt)

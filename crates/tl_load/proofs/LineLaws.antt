@@ -1,4 +1,4 @@
--- What a line is judged as, and the record that it spells, are one.
+-- A line is judged as the record that it spells.
 use Rattle.std.proofs.Common.{◌≡◌, ℕ, ◌+◌, ◌≤◌, Bool, true, false, cond, List, [], ◌∷◌, length, get_or, take, Result, Ok, Err}
 use Rattle.std.proofs.Common.{refl, ap, ◌∙◌, arith, ltb}
 use Rattle.std.specs.Prelude.{not}
@@ -12,12 +12,12 @@ use Rattle.tl_load.specs.declared.fault.LineFault.TheVariants as line_faults
 use Rattle.tl_load.specs.LineOf.{filled, first_bad, IsLineOf, IsLeftmostBadByte, IsFaultIn, of_reading, judged_full, judged_as}
 use Rattle.tl_load.proofs.Filling.{begins_filled, length_filled}
 
--- what a layout promises of its reading and of what spells its records
+-- what a layout promises about its reading and the lines that spell its records
 pub record Reading {R : Type 0} (rtype len : ℕ) (reading : List ℕ → Result R FieldFault) (Spells : List ℕ → R → Type 0) : Type 0 where
   pub found : (line : List ℕ) (r : R) → IsLine rtype len line → reading line ≡ Ok r → Spells line r
   pub only : (line : List ℕ) (r : R) → IsLine rtype len line → Spells line r → reading line ≡ Ok r
 
--- what a layout promises of its reading and of what is told of a faulty line
+-- what a layout promises about its reading and the faults of lines
 abbrev pub TellsFaults : {R : Type 0} → ℕ → ℕ → (List ℕ → Result R FieldFault) → (List ℕ → FieldFault → Type 0) → Type 0
 TellsFaults rtype len reading IsFault = (line : List ℕ) (fault : FieldFault) → IsLine rtype len line
     → (reading line ≡ Err fault ↔ IsFault line fault)
@@ -76,7 +76,7 @@ line_is_judged rtype len reading Spells laws line r h =
     (bad_none (filled len line) h.allowed)
     ∙ ap of_reading read
 
--- a line spells only what fits
+-- a line spells only records that fit
 pub line_fits : {R : Type 0} (rtype len : ℕ) (Spells : List ℕ → R → Type 0) (Fits : R → Type 0)
     → ((line : List ℕ) (r : R) → IsLine rtype len line → Spells line r → Fits r) → (line : List ℕ) (r : R)
     → IsLineOf rtype len Spells line r → Fits r
@@ -114,7 +114,7 @@ read_fails len IsFault line (Ok r) fault short allowed found e = absurd cc
 read_fails {R} len IsFault line (Err f) fault short allowed found e =
     subst (IsFaultIn len IsFault line) (line_err {A = R} (line_faults.Field f) fault e) (short, allowed, found f refl)
 
--- the fault that a line of a layout is judged to have is told of it
+-- the fault that a line of a layout is judged to have is its fault
 pub judged_fault_found : {R : Type 0} (rtype len : ℕ) (reading : List ℕ → Result R FieldFault) (IsFault : List ℕ → FieldFault → Type 0)
     → TellsFaults rtype len reading IsFault → (line : List ℕ) (fault : LineFault) → take 1 line ≡ rtype ∷ []
     → judged_as len reading line ≡ Err fault → IsFaultIn len IsFault line fault
@@ -136,7 +136,7 @@ judged_fault_found {R} rtype len reading IsFault tells line fault begins = go (l
     go true t e = subst (IsFaultIn len IsFault line) (line_err {A = R} _ fault e) (ltb-true _ _ t)
     go false t e = full (ltb (first_bad (filled len line)) (length (filled len line))) refl (ltb-false _ _ t) e
 
--- the fault that is told of a line of a layout is the one that it is judged to have
+-- a line of a layout is judged to have the fault that it has
 pub judged_fault_only : {R : Type 0} (rtype len : ℕ) (reading : List ℕ → Result R FieldFault) (IsFault : List ℕ → FieldFault → Type 0)
     → TellsFaults rtype len reading IsFault → (line : List ℕ) (fault : LineFault) → take 1 line ≡ rtype ∷ []
     → IsFaultIn len IsFault line fault → judged_as len reading line ≡ Err fault

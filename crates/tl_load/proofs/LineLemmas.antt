@@ -1,4 +1,4 @@
--- The lines of bytes that come one after the other.
+-- The lines of consecutive bytes.
 use Rattle.std.proofs.Common.{◌≡◌, ℕ, suc, ◌+◌, ◌-◌, ◌<◌, ◌≤◌, Bool, true, false, cond, List, [], ◌∷◌, ◌++◌, length, take, get_or}
 use Rattle.std.proofs.Common.{refl, sym, ap, ◌∙◌, append_assoc, append-nil, arith, eqb}
 use Rattle.std.specs.Prelude.{All, IsTrue}
@@ -10,7 +10,7 @@ use Rattle.std.proofs.lemmas.Bool.{eqb-true}
 use Rattle.tl_layout.specs.Bytes.{is_allowed, AreAllowed}
 use Rattle.tl_load.specs.Lines.{is_line_feed, IsWithoutLineFeed, without_return, last_line, lines_of_pieces, lines}
 
--- there is a first piece
+-- a nonempty list has a first piece
 cons_of : (pieces : List (List ℕ)) → 0 < length pieces → (first : List ℕ) × (rest : List (List ℕ)) × (pieces ≡ first ∷ rest)
 cons_of [] h = absurd (omega arith)
 cons_of (x ∷ xs) h = (x, xs, refl)
@@ -31,7 +31,7 @@ lines_line a more h =
     let p = first_piece more in
     ap lines_of_pieces (slice_split_at is_line_feed a 10 more h refl) ∙ line_then a (slice_split is_line_feed more) p.0 p.1 p.2
 
--- what no LF ends is the last line
+-- bytes without LF are the last line
 pub lines_rest : (a : List ℕ) → IsWithoutLineFeed a → lines a ≡ last_line a
 unfolding lines lines_of_pieces
 lines_rest a h = ap lines_of_pieces (slice_split_none is_line_feed a h)
@@ -46,7 +46,7 @@ take_past (x ∷ a) b n =
     let e : length (x ∷ a) + n ≡ suc (length a + n) = omega arith in
     ap (λ (k : ℕ). take k (x ∷ (a ++ b))) e ∙ ap (λ (l : List ℕ). x ∷ l) (take_past a b n)
 
--- what stands before the last byte stays, CR or not
+-- the bytes before the last one are kept, whether or not that is a CR
 pub without_return_front : (a : List ℕ) (c : ℕ) (z : List ℕ) → (y : List ℕ) × (without_return (a ++ c ∷ z) ≡ a ++ y)
 unfolding without_return
 without_return_front a c z = go (eqb (get_or (a ++ c ∷ z) (length (a ++ c ∷ z) - 1) 0) 13)
@@ -67,7 +67,7 @@ without_return_length a = go (eqb (get_or a (length a - 1) 0) 13)
     go true = omega (arith, length-take (length a - 1) a)
     go false = omega arith
 
--- what is left of clean bytes is clean
+-- clean bytes stay clean
 pub clean_without_return : (a : List ℕ) → AreAllowed a → AreAllowed (without_return a)
 unfolding without_return AreAllowed
 clean_without_return a clean = go (eqb (get_or a (length a - 1) 0) 13)
@@ -81,7 +81,7 @@ without_feed_cons a c h n =
     All-append (λ b. is_line_feed b ≡ false) a (c ∷ []) h
     (All-cons (λ b. is_line_feed b ≡ false) c [] n (All-nil (λ b. is_line_feed b ≡ false)))
 
--- whatever follows, the first line begins so
+-- whatever follows, the first line begins with these bytes
 pub record BeginsWith (a bytes : List ℕ) : Type 0 where
   pub more : List ℕ
   pub rest : List (List ℕ)

@@ -1,4 +1,4 @@
--- A loader of a list of records is a loader over a keeper that holds this list.
+-- A loader of a list of records is a loader over a collector that holds that list.
 use Rattle.std.proofs.Common.{◌≡◌, ℕ, List, Option, Some, None, Result, Ok, Err, refl, sym, subst}
 use Rattle.std.proofs.Common.{Vec, Global}
 use Rattle.std.specs.Prelude.{MatchOption, IfOk, IfSome, IfErr, OnOk}
@@ -17,7 +17,7 @@ holds_list kept records = kept.items ≡ records
 abbrev pub listed : LoadedInto Records → Loaded
 listed l = seen l l.kept.items
 
--- where no fault stands, the list is counted
+-- if there is no recorded fault, the list is counted
 abbrev pub IsListed : LoadedInto Records → Type 0
 IsListed l = l.fault ≡ None → AreCounted l.counts l.kept.items
 
@@ -48,7 +48,7 @@ some_of l counted = (l.kept.items, record { held = refl; counted = counted })
 counted_of : (l : LoadedInto Records) → HasSome holds_list l → AreCounted l.counts l.kept.items
 counted_of l h = subst (AreCounted l.counts) (sym h.1.held) h.1.counted
 
--- a call leaves the list counted
+-- after a call the list is still counted
 pub listed_after : {T : Type 0} (before after : LoadedInto Records) (result : Result T LoadFault) → IsListed before
     → (HasSome holds_list before → OnOk result (HasSome holds_list after)) → IfErr result (λ f. after.fault ≡ Some f)
     → ((f : LoadFault) → before.fault ≡ Some f → result ≡ Err f) → IsListed after
@@ -63,7 +63,7 @@ pub at_fault : {A : Type 0} (P : A → Type 0) (o : Option A) (x : A) → o ≡ 
 at_fault P None x e h = absurd cc
 at_fault P (Some y) x e h = let same : y ≡ x = cc in subst P same h
 
--- ---- what a whole call answers
+-- ---- the results of whole calls
 
 pub found_list : (P : List Record → Type 0) (r : Result Records LoadFault)
     → IfOk r (λ kept. (records : List Record) × holds_list kept records × P records) → IfOk r (λ kept. P kept.items)

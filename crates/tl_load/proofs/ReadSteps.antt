@@ -1,4 +1,4 @@
--- What a source gives, and how it is counted.
+-- The bytes that a source returns, and its counts.
 use Rattle.std.proofs.Common.{ℕ, ◌+◌, ◌%◌, ◌^◌, ◌≤◌, Ok, List, [], ◌++◌, length, Option, Some, None, refl, sym, ap}
 use Rattle.std.proofs.Common.{subst, ◌∙◌, append_assoc, append-nil, add_assoc, arith}
 use Rattle.std.specs.Io.KnownBytes.{Consumes, Keeps}
@@ -8,7 +8,7 @@ use Rattle.tl_layout.specs.declared.record_type.Record.{Record}
 use Rattle.tl_load.specs.Keeping.{LoadedInto, Lifts}
 use Rattle.tl_load.specs.Sources.{RoseBy, Gave, StopsThere}
 use Rattle.tl_load.specs.Steps.{Takes, TakesWell}
-use Rattle.tl_load.specs.declared.loader_into.TheConstants.{LINE_BYTES}
+use Rattle.tl_load.specs.declared.loader_for.TheConstants.{LINE_BYTES}
 
 consumes_nil : (a : Option (List ℕ)) → Consumes a a []
 consumes_nil None = tt
@@ -55,7 +55,7 @@ module _ {R : Type 0} (remaining : R → Option (List ℕ)) (given : R → ℕ) 
         (rose_then (given a) (given b) (given c) (length taken) 0 p.counted r);
   }
 
--- what a loader took without a fault is what was given before the last read
+-- reading stops as it should if the loader took all bytes before the last read without a fault
 pub stopped : {R K : Type 0} (remaining : R → Option (List ℕ)) (given reads : R → ℕ) (holds : K → List Record → Type 0)
     (start now : LoadedInto K) (before last after : R) (taken : List ℕ) → Gave remaining given before last taken
     → Lifts {T = Unit {0}} holds (Takes taken) start (Ok tt) now → length now.unfinished ≤ LINE_BYTES → RoseBy 1 (reads last) (reads after)

@@ -1,4 +1,4 @@
--- Going over the lines finds the records that they spell, or the first fault.
+-- Processing the lines one after another yields the records that they spell, or the first fault.
 use Rattle.std.proofs.Common.{◌≡◌, ℕ, ◌+◌, ◌<◌, ◌≤◌, Bool, true, false, cond, List, [], ◌∷◌, ◌++◌, map, Result, Ok, Err, refl}
 use Rattle.std.proofs.Common.{sym, ap, subst, ◌∙◌, append_assoc, append-nil, arith, inl, inr, eqb, leb, ◌⊎◌, ◌+◌}
 use Rattle.std.specs.Prelude.{MatchResult}
@@ -14,18 +14,18 @@ use Rattle.tl_load.specs.Outcome.{IsSpelled, IsFaulty, ◌then_with◌, after_ve
 
 -- ---- verdicts
 
--- the verdict on a line is the record that it has, or what is told of it
+-- the verdict on a line is exactly its record or its fault
 pub record IsSound {R : Type 0} (judge : Judge R) : Type 0 where
   pub has_found : (line : List ℕ) (r : R) → judge.verdict line ≡ Ok r → judge.Has line r
   pub has_only : (line : List ℕ) (r : R) → judge.Has line r → judge.verdict line ≡ Ok r
   pub fault_found : (line : List ℕ) (fault : LineFault) → judge.verdict line ≡ Err fault → judge.IsFault line fault
   pub fault_only : (line : List ℕ) (fault : LineFault) → judge.IsFault line fault → judge.verdict line ≡ Err fault
 
--- the lines are as many as the records, and each is judged as its record
+-- there are as many lines as records, and each line is judged as its record
 abbrev pub AreJudged : {R : Type 0} → Judge R → List PlacedLine → List R → Type 0
 AreJudged {R} judge lines records = map (λ (l : PlacedLine). judge.verdict l.bytes) lines ≡ map (λ (r : R). Ok r) records
 
--- what the verdict on a line that comes after these records is told as
+-- how the verdict on a line after these records is reported as a fault
 abbrev pub IsVerdictOf : {R : Type 0} → Judge R → ℕ → List R → PlacedLine → LoadFault → Type 0
 IsVerdictOf judge limit records line fault = MatchResult (judge.verdict line.bytes)
     (λ r. (limit ≤ count_of judge (judge.rtype r) records) × (fault ≡ faults.TooManyRecords (judge.rtype r)))
@@ -90,7 +90,7 @@ bind_err : {A B : Type 0} (r : Result A LoadFault) (f : A → Result B LoadFault
 bind_err (Ok x) f y e = inr (x, refl, e)
 bind_err {A} {B} (Err d) f y e = let same : d ≡ y = cc in inl (ap (λ (z : LoadFault). Err z) same)
 
--- lines after lines
+-- processing lines and then more lines
 pub outcome_after-append : {R : Type 0} (judge : Judge R) (limit : ℕ) (records : List R) (a b : List PlacedLine)
     → outcome_after judge limit records (a ++ b) ≡ (outcome_after judge limit records a then_with λ more. outcome_after judge limit more b)
 unfolding outcome_after
@@ -179,7 +179,7 @@ within_push judge limit records r h room t = elim (cases_eq (judge.rtype r) t) [
   | inr other ↦ let e = count_push judge records r t in let b = ne_eqb (judge.rtype r) t other in let le = h t in rw (e, b) (omega arith)
 ]
 
--- a list within the limit has room for its next record
+-- if a list with one more record is within the limit, it has fewer than limit records of that record's type
 pub room_before : {R : Type 0} (judge : Judge R) (limit : ℕ) (records : List R) (r : R) (more : List R)
     → IsWithinLimitBy judge limit (records ++ r ∷ more) → count_of judge (judge.rtype r) records < limit
 room_before judge limit records r more h =
@@ -198,7 +198,7 @@ within_front judge limit a b h t =
 
 -- ---- many lines
 
--- what the lines were judged as, after these records
+-- the records that the lines were judged as, appended to these records
 pub record ReadsOn {R : Type 0} (judge : Judge R) (limit : ℕ) (records : List R) (lines : List PlacedLine) (all : List R) : Type 0 where
   pub found : List R
   pub judged : AreJudged judge lines found
@@ -340,7 +340,7 @@ outcome_from_fault {R} judge sound limit parts fault f =
     ∙ ap (λ (z : Result (List R) LoadFault). z then_with λ more. outcome_after judge limit more f.after)
     (next_faulty judge limit f.records f.line fault (fault_verdict judge sound limit f.records f.line fault f.fault_is))
 
--- the same line is judged one way
+-- a line has only one verdict
 pub verdicts_same : {R : Type 0} (a b : List R) → ◌≡◌ {A = List (Result R LineFault)} (map (λ (r : R). Ok r) a) (map (λ (r : R). Ok r) b)
     → a ≡ b
 verdicts_same [] [] e = refl
@@ -357,13 +357,13 @@ err_is x y e = cc
 never_both : {R : Type 0} (r : Result R LoadFault) (x : R) (y : LoadFault) → r ≡ Ok x → r ≡ Err y → ⊥
 never_both r x y p q = cc
 
--- parts spell one list
+-- parts spell only one list
 pub spelled_once : {R : Type 0} (judge : Judge R) → IsSound judge → (parts : List (List ℕ)) (a b : List R) → Spells judge parts a
     → Spells judge parts b → a ≡ b
 spelled_once judge sound parts a b p q =
     verdicts_same a b (sym (spelled_judged judge sound (placed_lines parts) a p) ∙ spelled_judged judge sound (placed_lines parts) b q)
 
--- parts spell a list within the limit, or have one fault and no second
+-- parts either spell a list within the limit or have exactly one fault
 pub one_verdict : {R : Type 0} (judge : Judge R) → IsSound judge → (limit : ℕ) (parts : List (List ℕ))
     → IsSpelled judge limit parts ⊎ IsFaulty judge limit parts
 one_verdict {R} judge sound limit parts = go (outcome judge limit parts) refl

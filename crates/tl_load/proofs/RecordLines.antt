@@ -19,7 +19,7 @@ use Rattle.tl_layout.specs.Type7.{type_7_reading, SpellsType7}
 use Rattle.tl_layout.specs.Type8.{type_8_reading, SpellsType8}
 use Rattle.tl_layout.specs.TypeI.{type_i_reading, SpellsTypeI}
 use Rattle.tl_layout.specs.TypeP.{type_p_reading, SpellsTypeP}
-use Rattle.tl_layout.specs.TypeLaws.{type_1_laws, type_2_laws, type_4_laws, type_5_laws, type_6_laws, type_7_laws, type_8_laws, type_i_laws, type_p_laws}
+use Rattle.tl_layout.specs.Laws.TypeLaws.{type_1_laws, type_2_laws, type_4_laws, type_5_laws, type_6_laws, type_7_laws, type_8_laws, type_i_laws, type_p_laws}
 use Rattle.tl_load.specs.declared.fault.LineFault.{LineFault}
 use Rattle.tl_load.specs.declared.fault.LineFault.TheVariants as line_faults
 use Rattle.tl_load.specs.LineOf.{judged_as}
@@ -67,7 +67,7 @@ by_first rtype (b ∷ line) e = let same : b ≡ rtype = cc in ap (λ (t : ℕ).
 
 -- ---- the choice
 
--- what one layout answers is of its type
+-- the record that a layout returns has its type
 typed_record : {R : Type 0} (rtype t : ℕ) (wrap : R → Record) → ((x : R) → type_of (wrap x) ≡ t)
     → (v : Result R LineFault) (rest : Result Record LineFault) (r : Record)
     → cond (eqb rtype t) (as_record wrap v) rest ≡ Ok r → (rest ≡ Ok r → type_of r ≡ rtype) → type_of r ≡ rtype
@@ -103,7 +103,7 @@ unwrapped wrap apart (Err f) r e = absurd cc
 first_byte : (b : ℕ) (line : List ℕ) → take 1 (b ∷ line) ≡ b ∷ []
 first_byte b line = refl
 
--- a line that begins with the type of its record
+-- a line that begins with the type of its record has that record
 has_record : (line : List ℕ) (r : Record) → take 1 line ≡ type_of r ∷ [] → judged_by (type_of r) line ≡ Ok r → HasRecord line r
 unfolding judged_by type_of HasRecord
 has_record line (One r) begins e =
@@ -172,7 +172,7 @@ begins_otherwise b t line e h = let same : b ≡ t = cc in eqb-false b t e same
 not_so : (b t : ℕ) (line : List ℕ) → ¬ BeginsWith t (b ∷ line) → eqb b t ≡ false
 not_so b t line h = ne_eqb b t (λ e. h (ap (λ (x : ℕ). x ∷ []) e))
 
--- what a line fails with that begins with one type, or with another
+-- the fault of a line that begins with one type or with another
 fails_by : {R : Type 0} (b t : ℕ) (line : List ℕ) (wrap : R → Record) (v : Result R LineFault) (rest : Result Record LineFault)
     (fault : LineFault) → cond (eqb b t) (as_record wrap v) rest ≡ Err fault
     → (BeginsWith t (b ∷ line) → v ≡ Err fault → IsFaultOfLine (b ∷ line) fault)
@@ -222,7 +222,7 @@ fault_by_first b line fault e =
 empty_has_no_type : AllByRecursion (λ (rtype : ℕ). ¬ BeginsWith rtype []) record_types
 empty_has_no_type = ((λ e. cc), ((λ e. cc), ((λ e. cc), ((λ e. cc), ((λ e. cc), ((λ e. cc), ((λ e. cc), ((λ e. cc), ((λ e. cc), tt)))))))))
 
--- the fault that a line is judged to have is told of it
+-- the fault that a line is judged to have is its fault
 pub fault_of_judged : (line : List ℕ) (fault : LineFault) → judged line ≡ Err fault → IsFaultOfLine line fault
 unfolding judged
 fault_of_judged [] fault e = of_no_type empty_has_no_type (no_type_told fault e)
@@ -245,7 +245,7 @@ unknown_judged (b ∷ line) h =
       not_so b rtype_p line h.1.1.1.1.1.1.1.1.0,
     ) refl
 
--- the fault that is told of a line is the one that it is judged to have
+-- a line is judged to have the fault that it has
 pub judged_of_fault : (line : List ℕ) (fault : LineFault) → IsFaultOfLine line fault → judged line ≡ Err fault
 unfolding judged_by
 judged_of_fault line fault (of_no_type h e) = unknown_judged line h ∙ ap (λ (z : LineFault). Err z) (sym e)
@@ -268,7 +268,7 @@ judged_of_fault line fault (of_type_i begins h) = by_first rtype_i line begins
 judged_of_fault line fault (of_type_p begins h) = by_first rtype_p line begins
     ∙ wrapped_err P _ fault (judged_fault_only rtype_p len_p type_p_reading _ type_p_laws.tells_leftmost line fault begins h)
 
--- the judge of TIGER/Line 2006 finds just the records that lines have, and just what is told of faulty ones
+-- the judge of TIGER/Line 2006 finds exactly the records and the faults of lines
 pub tiger_is_sound : IsSound tiger
 unfolding tiger
 tiger_is_sound = record {
@@ -279,7 +279,7 @@ tiger_is_sound = record {
       judged_of_fault;
 }
 
--- ---- what is spelled fits
+-- ---- spelled records fit
 
 -- a line has only records that fit
 pub record_fits : (line : List ℕ) (r : Record) → HasRecord line r → FitsRecord r
@@ -303,7 +303,7 @@ record_fits line (I r) h =
 record_fits line (P r) h =
     line_fits rtype_p len_p SpellsTypeP _ (λ l x is s. (type_p_laws.reads_spelled l x is (type_p_laws.spelled_is_read l x is s)).0) line r h
 
--- lines that have records have records that fit
+-- if lines have records, these fit
 lines_fit : (lines : List PlacedLine) (records : List Record) → AreLinesSpelled tiger lines records → All FitsRecord records
 unfolding tiger
 lines_fit [] [] h = All-nil FitsRecord
@@ -315,7 +315,7 @@ lines_fit (line ∷ lines) (r ∷ records) h = All-cons FitsRecord r records (re
 pub spelled_fit : (parts : List (List ℕ)) (records : List Record) → Spells tiger parts records → All FitsRecord records
 spelled_fit parts records h = lines_fit (placed_lines parts) records h
 
--- of records that are accepted within a limit no type has more than that
+-- a set accepted within a limit has at most that many records of each type
 pub accepted_within : (limit : ℕ) (parts : List (List ℕ)) (records : List Record) → SpellsWithin tiger limit parts records
     → IsWithinLimit limit records
 unfolding tiger

@@ -1,4 +1,4 @@
--- Lines that have ended, and the numbers of lines and parts that come one after the other.
+-- Lines that have ended, and the consecutive numbers of lines and parts.
 use Rattle.std.proofs.Common.{◌≡◌, ℕ, suc, ◌+◌, List, [], ◌∷◌, ◌++◌, length, map, refl, sym, ap, ◌∙◌, append_assoc, arith}
 use Rattle.std.specs.Prelude.{All}
 use Rattle.tl_load.specs.Lines.{IsWithoutLineFeed, without_return, lines}
@@ -12,7 +12,7 @@ first_of P x xs h = h 0 x (omega arith)
 pub rest_of : {A : Type 0} (P : A → Type 0) (x : A) (xs : List A) → All P (x ∷ xs) → All P xs
 rest_of P x xs h k d lt = h (suc k) d (omega arith)
 
--- lines that have ended are lines, whatever follows them
+-- lines that have ended stay the same, whatever follows them
 pub lines_after : (ended : List (List ℕ)) (rest : List ℕ) → All IsWithoutLineFeed ended
     → lines (with_line_feeds ended ++ rest) ≡ map without_return ended ++ lines rest
 lines_after [] rest h = refl

@@ -1,4 +1,4 @@
--- A line of more than 228 bytes is refused, whatever follows them.
+-- A line of more than 228 bytes is rejected, whatever follows these bytes.
 use Rattle.std.proofs.Common.{◌≡◌, ℕ, ◌<◌, ◌≤◌, Bool, true, false, cond, List, [], ◌∷◌, ◌++◌, length, Result, Err, refl, sym, ap}
 use Rattle.std.proofs.Common.{◌∙◌, arith, eqb, lit≤}
 use Rattle.std.specs.Result.{IsErr}
@@ -29,7 +29,7 @@ too_long len reading wrap line low long =
     ap (λ (b : Bool). as_record wrap (cond b (Err line_faults.LineTooLong) (judged_full reading (filled len line))))
     (lt-ltb len (length line) (omega arith))
 
--- what a line of more than 228 bytes is refused as, by its first byte and these types
+-- the fault of a line of more than 228 bytes, by its first byte and these types
 abbrev long_among : List ℕ → ℕ → Result Record LineFault
 long_among [] rtype = Err line_faults.UnknownType
 long_among (t ∷ types) rtype = cond (eqb rtype t) (Err line_faults.LineTooLong) (long_among types rtype)

@@ -28,7 +28,7 @@ use Rattle.tl_layout.specs.declared.layout.TheConstants.{LONGEST_LINE}
 
 -- ---- bytes that were taken
 
--- what comes stays the same where bytes are taken
+-- taking bytes doesn't change the final result
 pub takes_comes : (before after : Loaded) (bytes more : List ℕ) (later : List (List ℕ)) → TakesLines before bytes after
     → to_come before (bytes ++ more) later ≡ to_come after more later
 unfolding to_come
@@ -72,7 +72,7 @@ takes_none l none = record {
   limit_is = refl;
 }
 
--- bytes of a line that hasn't ended
+-- further bytes of an unfinished line
 pub holds_more : (before after : Loaded) (bytes : List ℕ) → after.records ≡ before.records → after.parts ≡ before.parts
     → after.judged ≡ before.judged → after.limit ≡ before.limit → after.unfinished ≡ before.unfinished ++ bytes
     → IsWithoutLineFeed before.unfinished → IsWithoutLineFeed bytes → TakesLines before bytes after
@@ -152,14 +152,14 @@ at_place part line (line_faults.Field fault) = field_place part line fault.colum
 pub place_not_device : (part line : ℕ) (fault : LineFault) (told : LoadFault) → told ≡ fault_at part line fault → IsNotDevice told
 place_not_device part line fault told is = subst IsNotDevice (sym is) (at_place part line fault)
 
--- what a step that judges one line leaves as it was
+-- fields that a step hasn't changed before it judges a line
 pub record IsBefore (mid before : Loaded) : Type 0 where
   pub records : mid.records ≡ before.records
   pub parts : mid.parts ≡ before.parts
   pub judged : mid.judged ≡ before.judged
   pub limit : mid.limit ≡ before.limit
 
--- the next line is judged, and then what follows it
+-- the next line is judged, and then the lines after it
 reading_line : (l : Loaded) (line : List ℕ) (more : List (List ℕ)) (tail : List PlacedLine)
     → outcome_after tiger l.limit l.records (numbered_lines (l.parts + 1) (l.judged + 1) (line ∷ more) ++ tail)
     ≡ (after_verdict tiger l.limit l.records (next_place l line) (judged line) then_with λ records. outcome_after tiger l.limit records
@@ -177,7 +177,7 @@ one_line : (l : Loaded) (line : List ℕ) → outcome_after tiger l.limit l.reco
 unfolding numbered_lines outcome_after next tiger
 one_line l line = refl
 
--- bytes up to an LF, with what was kept before them, are a line
+-- the bytes before an LF make a line, together with the bytes kept before them
 pub ends_line : {T : Type 0} (before mid after : Loaded) (bytes line : List ℕ) (result : Result T LoadFault) → IsBefore mid before
     → line ≡ without_return (before.unfinished ++ bytes) → IsWithoutLineFeed (before.unfinished ++ bytes)
     → Judges line mid result after → OnOk result (after.judged ≡ mid.judged + 1) → after.unfinished ≡ [] → after.parts ≡ mid.parts
@@ -222,7 +222,7 @@ err_of : (r : Result Record LineFault) → IsErr r → (fault : LineFault) × (r
 err_of (Ok x) h = absurd cc
 err_of (Err f) h = (f, refl)
 
--- what comes is the fault of the first line, if its beginning settles it
+-- the final result is the fault of the first line, if the line's beginning determines it
 long_line : (before : Loaded) (bytes line : List ℕ) (c : ℕ) (z : List ℕ) (fault : LineFault) → before.unfinished ++ bytes ≡ line ++ c ∷ z
     → LONGEST_LINE < length line → IsWithoutLineFeed (before.unfinished ++ bytes)
     → judged line ≡ Err fault → (more : List ℕ) (later : List (List ℕ))
@@ -292,7 +292,7 @@ leaves_fault T before mid after bytes rest line left f p split q =
 
 -- ---- the end of a part
 
--- nothing was kept: the part has no more line
+-- no bytes were kept, so the part has no more lines
 pub ends_empty : (before after : Loaded) → before.unfinished ≡ [] → after.records ≡ before.records → to_end before ≡ Ok after.records
 unfolding numbered_lines outcome_after
 ends_empty before after none same =
@@ -324,7 +324,7 @@ ends_part {T} before mid after line result same some none is judges = go result 
     go (Ok x) j = first ∙ ap (λ (r : Result (List Record) LoadFault). r then_with λ records. Ok records) j
     go (Err f) j = λ is_of. first ∙ ap (λ (r : Result (List Record) LoadFault). r then_with λ records. Ok records) (j is_of)
 
--- what comes where the open part ends
+-- the final result if the open part ends here
 pub comes_at_end : (l : Loaded) (later : List (List ℕ))
     → to_come l [] later ≡ (to_end l then_with λ records. outcome_after tiger l.limit records (lines_from_part (l.parts + 1 + 1) later))
 unfolding to_come

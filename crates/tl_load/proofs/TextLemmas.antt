@@ -1,4 +1,4 @@
--- The canonical text of records is read as these records.
+-- The canonical text of records is loaded as these records.
 use Rattle.std.proofs.Common.{◌≡◌, ℕ, suc, ◌+◌, ◌-◌, ◌<◌, Bool, true, false, cond, List, [], ◌∷◌, ◌++◌, length, get_or, take, map}
 use Rattle.std.proofs.Common.{Result, Ok, Err, refl, sym, ap, subst, ◌∙◌, append_assoc, append-nil, arith, eqb}
 use Rattle.std.specs.Prelude.{All}
@@ -6,7 +6,7 @@ use Rattle.std.proofs.lemmas.Grind.{flat_map-append}
 use Rattle.std.proofs.lemmas.Bool.{le-ltb, false_from_ne_true, eqb-true}
 use Rattle.tl_layout.specs.Bytes.{is_allowed, AreAllowed, IsLine}
 use Rattle.tl_layout.specs.RecordText.{type_of, len_of, spelling_of, FitsRecord, text_of}
-use Rattle.tl_layout.specs.RecordLaws.{spelling_is_line}
+use Rattle.tl_layout.specs.Laws.RecordLaws.{spelling_is_line}
 use Rattle.tl_layout.specs.declared.fault.FieldFault.{FieldFault}
 use Rattle.tl_layout.specs.declared.record_type.Record.{Record}
 use Rattle.tl_layout.specs.declared.record_type.Record.TheVariants.{One, Two, Four, Five, Six, Seven, Eight, I, P}
@@ -19,7 +19,7 @@ use Rattle.tl_layout.specs.Type7.{type_7_reading}
 use Rattle.tl_layout.specs.Type8.{type_8_reading}
 use Rattle.tl_layout.specs.TypeI.{type_i_reading}
 use Rattle.tl_layout.specs.TypeP.{type_p_reading}
-use Rattle.tl_layout.specs.TypeLaws.{type_1_laws, type_2_laws, type_4_laws, type_5_laws, type_6_laws, type_7_laws, type_8_laws, type_i_laws, type_p_laws}
+use Rattle.tl_layout.specs.Laws.TypeLaws.{type_1_laws, type_2_laws, type_4_laws, type_5_laws, type_6_laws, type_7_laws, type_8_laws, type_i_laws, type_p_laws}
 use Rattle.tl_load.specs.declared.fault.LineFault.{LineFault}
 use Rattle.tl_load.specs.declared.fault.LineFault.TheVariants as line_faults
 use Rattle.tl_load.specs.Lines.{IsWithoutLineFeed, without_return, lines}
@@ -35,7 +35,7 @@ use Rattle.tl_load.proofs.Reading.{AreJudged, judged_spelled, spelled_once}
 
 -- ---- a canonical line
 
--- a full line is judged as what it is read as
+-- a full line is judged as the record that it is read as
 judged_full_line : {R : Type 0} (rtype len : ℕ) (reading : List ℕ → Result R FieldFault) (line : List ℕ) (r : R) → IsLine rtype len line
     → reading line ≡ Ok r → judged_as len reading line ≡ Ok r
 unfolding judged_as judged_full
@@ -69,7 +69,7 @@ judged_spelling (P r) f = let is = spelling_is_line (P r) f in by_first 80 _ is.
 
 -- ---- its bytes
 
--- a byte that isn't allowed is none of a line's
+-- a byte that isn't allowed doesn't occur in a line
 is_not : (c b : ℕ) → is_allowed c ≡ false → is_allowed b ≡ true → eqb b c ≡ false
 is_not c b bad good =
     false_from_ne_true (eqb b c) (λ e. let same : b ≡ c = eqb-true b c e in let again : is_allowed c ≡ true =
@@ -132,7 +132,7 @@ text_spells records h =
 pub text_spells_only : (records others : List Record) → AllFit records → Spells tiger (text_of records ∷ []) others → others ≡ records
 text_spells_only records others h s = spelled_once tiger tiger_is_sound (text_of records ∷ []) others records s (text_spells records h)
 
--- the text of records and one more
+-- the text of records and one more record
 pub text_of-snoc : (records : List Record) (added : Record)
     → text_of (records ++ added ∷ []) ≡ text_of records ++ (spelling_of added ++ 10 ∷ [])
 text_of-snoc records added = flat_map-append (λ x. spelling_of x ++ 10 ∷ []) records (added ∷ [])

@@ -1,4 +1,4 @@
--- Small facts for the loader's answers.
+-- Small facts for proofs about the loader.
 use Rattle.std.proofs.Common.{◌≡◌, ℕ, ◌+◌, ◌-◌, ◌<◌, ◌≤◌, Bool, true, false, List, [], ◌∷◌, ◌++◌, length, get_or, take, drop, Result}
 use Rattle.std.proofs.Common.{Ok, Err, Option, Some, None, refl, sym, ap, subst, ◌∙◌, arith, eqb}
 use Rattle.std.specs.Prelude.{OnOk, IsOk, IsTrue}
@@ -9,7 +9,7 @@ use Rattle.tl_layout.specs.Bytes.{is_allowed, AreAllowed}
 use Rattle.tl_layout.specs.declared.record_type.Record.{Record}
 use Rattle.tl_load.specs.Lines.{is_line_feed, IsWithoutLineFeed, IsLineEnd}
 use Rattle.tl_load.specs.Loaded.{Loaded}
-use Rattle.tl_load.specs.declared.loader_into.LoaderInto.TheInside.{Inside}
+use Rattle.tl_load.specs.declared.loader_for.LoaderFor.TheInside.{Inside}
 
 pub empty_is : (l : List ℕ) → eqb (length l) 0 ≡ true → l ≡ []
 empty_is [] h = refl
@@ -27,12 +27,12 @@ pub on_ok_of : {T E P : Type 0} (r : Result T E) → IsOk r → OnOk r P → P
 on_ok_of (Ok x) h p = p
 on_ok_of (Err e) h p = absurd cc
 
--- the loader that has these fields, if these records were kept
+-- the loader with these fields, if these records were kept
 abbrev pub opened : {K : Type 0} → Inside K → List Record → Loaded
 opened l records =
     record { records = records; parts = l.parts; judged = l.judged; unfinished = l.line.items; limit = l.limit; fault = l.fault }
 
--- where no place has an LF, no byte is one
+-- if no position has an LF, no byte is an LF
 pub no_feed_below : (bytes : List ℕ) (n : ℕ) → n ≤ length bytes → Nowhere (Passes (is_byte 10) bytes) 0 n → IsWithoutLineFeed (take n bytes)
 no_feed_below bytes n le none k d lt =
     let low : k < n = omega (arith, length-take n bytes, lt) in
@@ -53,7 +53,7 @@ cut_at bytes n lt h =
     sym (take-append-drop n bytes) ∙ ap (λ (l : List ℕ). take n bytes ++ l) (e ∙ ap (λ (b : ℕ). b ∷ drop (n + 1) bytes) (eqb-true _ _ h)
     ∙ ap (λ (l : List ℕ). 10 ∷ l) (sym rest))
 
--- a byte that a line may hold ends none
+-- a byte that is allowed in a line isn't an LF
 not_feed : (b : ℕ) → IsTrue (is_allowed b) → is_line_feed b ≡ false
 not_feed b allowed = go (eqb b 10) refl
   where
@@ -65,7 +65,7 @@ clean_no_feed : (bytes : List ℕ) → AreAllowed bytes → IsWithoutLineFeed by
 unfolding AreAllowed
 clean_no_feed bytes allowed k d lt = not_feed (get_or bytes k d) (allowed k d lt)
 
--- an LF behind clean bytes ends the first line
+-- an LF after clean bytes ends the first line
 pub ends_clean : (bytes : List ℕ) (n : ℕ) → n < length bytes → get_or bytes n 0 ≡ 10 → AreAllowed (take n bytes)
     → IsLineEnd bytes n true
 ends_clean bytes n lt feed allowed = record {
@@ -75,7 +75,7 @@ ends_clean bytes n lt feed allowed = record {
   clean = λ _. allowed;
 }
 
--- what `&bytes[1..]` is
+-- the slice `&bytes[1..]`
 pub rest_of : (bytes : List ℕ) → take (length bytes - 1) (drop 1 bytes) ≡ drop 1 bytes
 rest_of bytes = take_rest bytes 1
 

@@ -1,4 +1,4 @@
--- The choice of the layout by a line's first byte.
+-- Choosing the layout by a line's first byte.
 use Rattle.std.specs.Prelude.{ℕ, List, [], ◌∷◌, ◌==◌, Result, Ok, Err, if◌then◌else◌}
 use Rattle.tl_layout.specs.RecordText.{type_of}
 use Rattle.tl_layout.specs.RecordTables.{rtype_1, rtype_2, rtype_4, rtype_5, rtype_6, rtype_7, rtype_8, rtype_i, rtype_p}
@@ -25,7 +25,7 @@ abbrev pub as_record : {R : Type 0} → (R → Record) → Result R LineFault �
 as_record wrap (Ok r) = Ok (wrap r)
 as_record wrap (Err fault) = Err fault
 
--- what a line is judged as by its first byte, the record type
+-- how a line is judged by its first byte, the record type
 unfoldable pub judged_by : ℕ → List ℕ → Result Record LineFault
 judged_by rtype line =
     if rtype == rtype_1 then as_record One (judged_as len_1 type_1_reading line)
@@ -39,7 +39,7 @@ judged_by rtype line =
     else if rtype == rtype_p then as_record P (judged_as len_p type_p_reading line)
     else Err line_faults.UnknownType
 
--- what a line is judged as
+-- how a line is judged
 unfoldable pub judged : List ℕ → Result Record LineFault
 judged [] = Err line_faults.UnknownType
 judged (b ∷ bytes) = judged_by b (b ∷ bytes)

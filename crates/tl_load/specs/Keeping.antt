@@ -1,4 +1,4 @@
--- A loader over a keeper: what it keeps, seen together with the list of records that the keeper holds.
+-- A loader over a collector: its fields, viewed together with the list of records that the collector holds.
 use Rattle.std.specs.Prelude.{◌≡◌, ℕ, ◌+◌, ◌*◌, ◌^◌, ◌-◌, ◌<◌, ◌≤◌, List, length, slice_index, Option, MatchOption, Result, OnOk}
 use Rattle.tl_layout.specs.declared.record_type.Record.{Record}
 use Rattle.tl_load.specs.declared.fault.LoadFault.{LoadFault}
@@ -6,12 +6,13 @@ use Rattle.tl_load.specs.Lines.{IsWithoutLineFeed}
 use Rattle.tl_load.specs.Outcome.{count_of}
 use Rattle.tl_load.specs.Choice.{tiger}
 use Rattle.tl_load.specs.Loaded.{Loaded, IsOfLines, HasLoaded, IsFaultHowever}
-use Rattle.tl_load.specs.declared.loader_into.TheConstants.{LINE_BYTES}
+use Rattle.tl_load.specs.declared.loader_for.TheConstants.{LINE_BYTES}
 use Rattle.tl_layout.specs.declared.record_type.TheConstants.{MOST_RECORDS}
 use Rattle.tl_layout.specs.RecordTables.{rtype_1, rtype_2, rtype_4, rtype_5, rtype_6, rtype_7, rtype_8, rtype_i, rtype_p}
 
--- what was kept so far, how many records of each type, by the byte in column 1, the number of closed parts, the lines of the
--- open part that were judged, the bytes of its unfinished line, the limit of records of one type, and the standing fault
+-- what was kept so far, how many records of each type (by the byte in column 1), the number of closed parts, the number of
+-- judged lines in the open part, the bytes of its unfinished line, the limit of records of one type, and the recorded fault, if
+-- any
 pub record LoadedInto (K : Type 0) : Type 0 where
   pub kept : K
   pub counts : List ℕ
@@ -33,11 +34,11 @@ seen l records = record {
       l.fault;
 }
 
--- so many records of each type there are
+-- the counts are the number of records of each type
 abbrev pub AreCounted : List ℕ → List Record → Type 0
 AreCounted counts records = (t : ℕ) → t < 128 → slice_index counts t ≡ count_of tiger t records
 
--- these records were kept, and counted
+-- these records were kept and counted
 pub record AreKept {K : Type 0} (holds : K → List Record → Type 0) (l : LoadedInto K) (records : List Record) : Type 0 where
   pub held : holds l.kept records
   pub counted : AreCounted l.counts records
@@ -54,17 +55,17 @@ pub record WasFedInto {K : Type 0} (holds : K → List Record → Type 0) (limit
 abbrev pub HasSome : {K : Type 0} → (K → List Record → Type 0) → LoadedInto K → Type 0
 HasSome holds l = (records : List Record) × AreKept holds l records
 
--- the records of all nine types
+-- the number of records of all nine types
 abbrev pub total : List ℕ → ℕ
 total counts = slice_index counts rtype_1 + slice_index counts rtype_2 + slice_index counts rtype_4 + slice_index counts rtype_5 +
     slice_index counts rtype_6
     + slice_index counts rtype_7 + slice_index counts rtype_8 + slice_index counts rtype_i + slice_index counts rtype_p
 
--- the most bytes that were fed, if each line that was judged had 230 with its end
+-- an upper bound of the bytes that were fed, counting 230 for each judged line with its line ending
 abbrev pub bytes_used : {K : Type 0} → LoadedInto K → ℕ
 bytes_used l = 230 * total l.counts + length l.unfinished
 
--- the fields of a loader fit one another
+-- the fields of a loader are consistent
 pub record IsLoader (counts : List ℕ) (unfinished : List ℕ) (parts judged limit : ℕ) : Type 0 where
   pub counts_len : length counts ≡ 128
   pub within : (t : ℕ) → t < 128 → slice_index counts t ≤ limit
@@ -74,13 +75,14 @@ pub record IsLoader (counts : List ℕ) (unfinished : List ℕ) (parts judged li
   pub short : length unfinished ≤ LINE_BYTES
   pub begun : 0 < length unfinished → parts < 2 ^ 64 - 1
 
--- what only the end of a part and a fault change
+-- fields that change only when a part ends or a fault is recorded
 pub record IsSamePart {K : Type 0} (before after : LoadedInto K) : Type 0 where
   pub parts : after.parts ≡ before.parts
   pub limit : after.limit ≡ before.limit
   pub fault : after.fault ≡ before.fault
 
--- a step of loaders, whatever list was kept before it: where it was `Ok`, a list is kept after it
+-- A step of loaders, for any list that was kept before it: there is a list after it for which the step holds, and if the step
+-- was `Ok`, that list is kept.
 abbrev pub Lifts : {K T : Type 0} → (K → List Record → Type 0) → (Loaded → Result T LoadFault → Loaded → Type 0) → LoadedInto K
     → Result T LoadFault → LoadedInto K → Type 0
 Lifts holds Step before result after = (records : List Record) → AreKept holds before records

@@ -9,3 +9,4 @@ pub mod Keeping
 pub mod Sources
 pub mod Steps
 pub mod RecordLine
+pub mod Reports

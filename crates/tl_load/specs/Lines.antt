@@ -1,29 +1,29 @@
--- The lines of a part: the pieces that LF ends, and what stands after the last LF.
+-- The lines of a part: the pieces that end with LF, and the bytes after the last LF.
 use Rattle.std.specs.Prelude.{◌≡◌, ◌<◌, ℕ, ◌-◌, List, [], ◌∷◌, ◌++◌, length, take, drop, slice_index, Bool, false, IsTrue, ◌==◌, if◌then◌else◌, All}
-use Rattle.std.specs.List.{slice_split}
+use Rattle.std.specs.List.{flat_map, slice_split}
 use Rattle.tl_layout.specs.Bytes.{AreAllowed}
 
--- the byte that ends a line, LF
+-- LF, the byte that ends a line
 abbrev pub is_line_feed : ℕ → Bool
 is_line_feed b = b == 10
 
--- no byte ends a line
+-- no byte is an LF
 abbrev pub IsWithoutLineFeed : List ℕ → Type 0
 IsWithoutLineFeed bytes = All (λ b. is_line_feed b ≡ false) bytes
 
--- The first line of the bytes ends at this place, counted from 0: an LF stands there and none before it. Where it is said to be
--- clean, each byte before that is one that a line may hold.
+-- The first line of the bytes ends at this position, counted from 0: an LF is there and none before it. If is_clean is true,
+-- each byte before it is allowed in a line.
 pub record IsLineEnd (bytes : List ℕ) (place : ℕ) (is_clean : Bool) : Type 0 where
   pub within : place < length bytes
   pub cut : bytes ≡ take place bytes ++ 10 ∷ drop 1 (drop place bytes)
   pub first : IsWithoutLineFeed (take place bytes)
   pub clean : IsTrue is_clean → AreAllowed (take place bytes)
 
--- the bytes without one CR at their very end
+-- the bytes without one CR at their end, if there is one
 unfoldable pub without_return : List ℕ → List ℕ
 without_return bytes = if slice_index bytes (length bytes - 1) == 13 then take (length bytes - 1) bytes else bytes
 
--- what stands after the last LF is a line, unless it is empty
+-- the bytes after the last LF are a line, unless there are none
 unfoldable pub last_line : List ℕ → List (List ℕ)
 last_line [] = []
 last_line (b ∷ bytes) = without_return (b ∷ bytes) ∷ []
@@ -34,6 +34,10 @@ lines_of_pieces [] = []
 lines_of_pieces (piece ∷ []) = last_line piece
 lines_of_pieces (piece ∷ next ∷ pieces) = without_return piece ∷ lines_of_pieces (next ∷ pieces)
 
--- the lines of a part, each without the LF that ends it and then without one CR at its end
+-- the lines of a part, each without its LF and then without one CR at its end
 unfoldable pub lines : List ℕ → List (List ℕ)
 lines part = lines_of_pieces (slice_split is_line_feed part)
+
+-- the parts have the same lines in the same order, however they are cut into parts and whatever their line endings are
+abbrev pub HaveSameLines : List (List ℕ) → List (List ℕ) → Type 0
+HaveSameLines parts others = flat_map lines parts ≡ flat_map lines others

@@ -1,4 +1,4 @@
--- A loader as contracts see it, and what it was fed.
+-- A loader in contracts, and what it was fed.
 use Rattle.std.specs.Prelude.{◌≤◌, ◌≡◌, ℕ, Bool, true, false, List, [], ◌∷◌, ◌++◌, length, All, Option, MatchOption, Result, Ok}
 use Rattle.std.specs.Prelude.{Err, MatchResult, ◌⊎◌}
 use Rattle.std.specs.List.{flat_map}
@@ -8,10 +8,10 @@ use Rattle.tl_load.specs.declared.fault.LoadFault.TheVariants as faults
 use Rattle.tl_load.specs.Lines.{IsWithoutLineFeed}
 use Rattle.tl_load.specs.Outcome.{SpellsWithin, FaultAt}
 use Rattle.tl_load.specs.Choice.{tiger}
-use Rattle.tl_load.specs.declared.loader_into.TheConstants.{LINE_BYTES}
+use Rattle.tl_load.specs.declared.loader_for.TheConstants.{LINE_BYTES}
 
--- the records so far, the number of closed parts, the lines of the open part that were judged,
--- the bytes of its unfinished line, the limit of records of one type, and the standing fault
+-- the records so far, the number of closed parts, the number of judged lines in the open part, the bytes of its unfinished
+-- line, the limit of records of one type, and the recorded fault, if any
 pub record Loaded : Type 0 where
   pub records : List Record
   pub parts : ℕ
@@ -20,29 +20,29 @@ pub record Loaded : Type 0 where
   pub limit : ℕ
   pub fault : Option LoadFault
 
--- a fault of the lines, and not of the device or for want of memory
+-- a fault of the lines, not of the device or of memory
 abbrev pub IsOfLines : LoadFault → Type 0
 IsOfLines faults.Device = ⊥
 IsOfLines faults.Memory = ⊥
 IsOfLines _ = Unit {0}
 
--- the fault at these closed parts and this open part, however it goes on
+-- the fault of these closed parts and this open part, however the input continues
 abbrev pub IsFaultHowever : ℕ → List (List ℕ) → List ℕ → LoadFault → Type 0
 IsFaultHowever limit closed open_part fault = (more : List ℕ) (later : List (List ℕ))
     → FaultAt tiger limit (closed ++ (open_part ++ more) ∷ later) fault
 
--- lines, each with the LF that ends it
+-- the lines, each with LF at its end
 abbrev pub with_line_feeds : List (List ℕ) → List ℕ
 with_line_feeds lines = flat_map (λ line. line ++ 10 ∷ []) lines
 
--- the bytes are lines that LF has ended, and then bytes that none has
+-- the bytes are lines that ended with LF, and then bytes without one
 pub record AreLines (bytes : List ℕ) (ended : List (List ℕ)) (unfinished : List ℕ) : Type 0 where
   pub bytes_are : bytes ≡ with_line_feeds ended ++ unfinished
   pub each_ended : All IsWithoutLineFeed ended
   pub not_ended : IsWithoutLineFeed unfinished
 
--- the loader, in which no fault stands, was fed these closed parts and these bytes of the open part: its records are
--- those of all lines that have ended, and it keeps the bytes of the one that hasn't
+-- the loader has no recorded fault and was fed these closed parts and these bytes of the open part: it has the records of all
+-- lines that have ended, and keeps the bytes of the unfinished line
 pub record HasLoaded (limit : ℕ) (l : Loaded) (closed : List (List ℕ)) (open_part : List ℕ) : Type 0 where
   pub ended : List (List ℕ)
   pub lines_are : AreLines open_part ended l.unfinished
@@ -50,13 +50,13 @@ pub record HasLoaded (limit : ℕ) (l : Loaded) (closed : List (List ℕ)) (open
   pub judged_are : l.judged ≡ length ended
   pub accepts : SpellsWithin tiger limit (closed ++ with_line_feeds ended ∷ []) l.records
 
--- the loader was fed these closed parts and these bytes of the open part; a standing fault of the lines is that of them all,
--- however they go on
+-- the loader was fed these closed parts and these bytes of the open part; if its recorded fault is one of the lines, it is the
+-- fault of all of these, however they continue
 pub record WasFed (limit : ℕ) (l : Loaded) (closed : List (List ℕ)) (open_part : List ℕ) : Type 0 where
   pub limit_is : l.limit ≡ limit
   pub comes : MatchOption l.fault (HasLoaded limit l closed open_part) (λ f. IsOfLines f → IsFaultHowever limit closed open_part f)
 
--- no line that has ended is faulty, and the one that hasn't has fewer than 230 bytes
+-- no line that has ended is faulty, and the unfinished one has fewer than 230 bytes
 pub record IsWellSoFar (limit : ℕ) (closed : List (List ℕ)) (open_part : List ℕ) : Type 0 where
   pub ended : List (List ℕ)
   pub unfinished : List ℕ
@@ -65,22 +65,22 @@ pub record IsWellSoFar (limit : ℕ) (closed : List (List ℕ)) (open_part : Lis
   pub accepts : SpellsWithin tiger limit (closed ++ with_line_feeds ended ∷ []) records
   pub short : length unfinished ≤ LINE_BYTES
 
--- after these bytes too no line that has ended is faulty, and the open one is short
+-- after these bytes too, no line that has ended is faulty, and the unfinished one is short
 abbrev pub IsWellAfter : {L : Type 0} → (ℕ → L → List (List ℕ) → List ℕ → Type 0) → L → List ℕ → Type 0
 IsWellAfter Fed l bytes = (limit : ℕ) (closed : List (List ℕ)) (open_part : List ℕ) → Fed limit l closed open_part
     → IsWellSoFar limit closed (open_part ++ bytes)
 
--- all parts, where the open one is one if bytes were fed into it
+-- all parts; the open part counts if bytes were fed into it
 abbrev pub all_parts : List (List ℕ) → List ℕ → List (List ℕ)
 all_parts closed [] = closed
 all_parts closed (b ∷ bytes) = closed ++ (b ∷ bytes) ∷ []
 
--- not the fault of a device
+-- not a fault of a device
 abbrev pub IsNotDevice : LoadFault → Type 0
 IsNotDevice faults.Device = ⊥
 IsNotDevice _ = Unit {0}
 
--- a step was stopped by the fault of a device
+-- a step was stopped by a fault of a device
 abbrev pub is_device_fault : LoadFault → Bool
 is_device_fault faults.Device = true
 is_device_fault _ = false
@@ -89,7 +89,7 @@ abbrev pub is_device : {T : Type 0} → Result T LoadFault → Bool
 is_device (Ok _) = false
 is_device (Err f) = is_device_fault f
 
--- the loader was fed the bytes into its open part, which was closed at their end, or in which a fault came
+-- the bytes were fed into the loader's open part, which was closed after them or in which a fault occurred
 abbrev pub FedPart : {L T : Type 0} → (ℕ → L → List (List ℕ) → List ℕ → Type 0) → L → List ℕ → Type 0 → Result T LoadFault → L → Type 0
 FedPart Fed before taken at_end result after = (limit : ℕ) (closed : List (List ℕ)) (open_part : List ℕ) → Fed limit before closed open_part
     → MatchResult result

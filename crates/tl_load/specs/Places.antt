@@ -1,4 +1,4 @@
--- Where a line stands: the number of its part, and its own number in it, both from 1.
+-- The place of a line: the number of its part and its own number in the part, both counted from 1.
 use Rattle.std.specs.Prelude.{ℕ, ◌+◌, List, [], ◌∷◌, ◌++◌}
 use Rattle.tl_load.specs.Lines.{lines}
 
@@ -7,12 +7,12 @@ pub record PlacedLine : Type 0 where
   pub line : ℕ
   pub bytes : List ℕ
 
--- lines of a part, the first of which has this number
+-- the lines of a part, numbered from this number on
 unfoldable pub numbered_lines : ℕ → ℕ → List (List ℕ) → List PlacedLine
 numbered_lines part line [] = []
 numbered_lines part line (bytes ∷ more) = record { part = part; line = line; bytes = bytes } ∷ numbered_lines part (line + 1) more
 
--- the lines of parts, the first of which has this number
+-- the lines of parts, which are numbered from this number on
 unfoldable pub lines_from_part : ℕ → List (List ℕ) → List PlacedLine
 lines_from_part part [] = []
 lines_from_part part (bytes ∷ more) = numbered_lines part 1 (lines bytes) ++ lines_from_part (part + 1) more

@@ -1,4 +1,4 @@
--- What a line spells, and what is told of a faulty one: by the column tables, and with no reading of it.
+-- What a line spells, and which fault a faulty line has, defined by the column tables without reading the line.
 use Rattle.std.specs.Prelude.{◌≡◌, ℕ, List, [], ◌∷◌, take}
 use Rattle.std.specs.List.{AllByRecursion}
 use Rattle.tl_layout.specs.FieldFaults.{IsLeftmostFault}
@@ -20,8 +20,8 @@ use Rattle.tl_load.specs.LineOf.{IsLineOf, IsFaultIn}
 use Rattle.tl_load.specs.declared.fault.LineFault.{LineFault}
 use Rattle.tl_load.specs.declared.fault.LineFault.TheVariants as line_faults
 
--- the line has this record: its first byte is the record's type, and it is no longer than the layout; with blanks added up
--- to that length all its bytes are allowed, and each column spells the record's field
+-- the line has this record: its first byte is the record's type, and it isn't longer than the layout; padded with blanks to
+-- that length, all its bytes are allowed, and each column spells the record's field
 unfoldable pub HasRecord : List ℕ → Record → Type 0
 HasRecord line (One r) = IsLineOf rtype_1 len_1 SpellsType1 line r
 HasRecord line (Two r) = IsLineOf rtype_2 len_2 SpellsType2 line r
@@ -41,8 +41,8 @@ record_types = rtype_1 ∷ rtype_2 ∷ rtype_4 ∷ rtype_5 ∷ rtype_6 ∷ rtype
 abbrev pub BeginsWith : ℕ → List ℕ → Type 0
 BeginsWith rtype line = take 1 line ≡ rtype ∷ []
 
--- The fault of a line: it begins with no record type, in which case that is told; or it begins with one, and is at fault as a
--- line of that type.
+-- The fault of a line: if it begins with no record type, that is its fault; if it begins with one, it has the fault of a line
+-- of that type.
 pub data IsFaultOfLine (line : List ℕ) (fault : LineFault) : Type 0 where
   of_no_type : AllByRecursion (λ rtype. ¬ BeginsWith rtype line) record_types → fault ≡ line_faults.UnknownType → IsFaultOfLine line fault
   of_type_1 : BeginsWith rtype_1 line → IsFaultIn len_1 (IsLeftmostFault table_1) line fault → IsFaultOfLine line fault

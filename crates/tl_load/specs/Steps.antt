@@ -1,4 +1,4 @@
--- What the loader's own steps do to its value.
+-- What the loader's internal steps do to its value.
 use Rattle.std.specs.Prelude.{◌≤◌, ◌≡◌, ℕ, ◌+◌, List, [], ◌++◌, length, map, Some, Result, Ok, Err, MatchResult, ◌⊎◌}
 use Rattle.tl_layout.specs.declared.record_type.Record.{Record}
 use Rattle.tl_load.specs.declared.fault.LineFault.{LineFault}
@@ -9,15 +9,15 @@ use Rattle.tl_load.specs.Outcome.{with_record, after_verdict, outcome_after}
 use Rattle.tl_load.specs.Choice.{tiger, judged}
 use Rattle.tl_load.specs.Loaded.{Loaded, IsOfLines, AreLines}
 use Rattle.tl_load.specs.Keeping.{LoadedInto, Lifts}
-use Rattle.tl_load.specs.declared.loader_into.TheConstants.{LINE_BYTES}
+use Rattle.tl_load.specs.declared.loader_for.TheConstants.{LINE_BYTES}
 
--- what comes of the loader's value, if these bytes follow in its open part, and then these parts
+-- the final result for the loader's value if these bytes follow in its open part, and then these parts
 unfoldable pub to_come : Loaded → List ℕ → List (List ℕ) → Result (List Record) LoadFault
 to_come l more later =
     outcome_after tiger l.limit l.records (numbered_lines (l.parts + 1) (l.judged + 1) (lines (l.unfinished ++ more)) ++ lines_from_part
     (l.parts + 1 + 1) later)
 
--- the bytes were taken: the lines that they ended are judged, and what no LF has ended is kept
+-- the bytes were taken: the lines that they ended are judged, and the bytes after the last LF are kept
 pub record TakesLines (before : Loaded) (bytes : List ℕ) (after : Loaded) : Type 0 where
   pub ended : List (List ℕ)
   pub lines_are : AreLines (before.unfinished ++ bytes) ended after.unfinished
@@ -27,13 +27,13 @@ pub record TakesLines (before : Loaded) (bytes : List ℕ) (after : Loaded) : Ty
   pub parts_are : after.parts ≡ before.parts
   pub limit_is : after.limit ≡ before.limit
 
--- a step took the bytes, or what comes is the fault, whatever follows them
+-- a step took the bytes, or its fault is the final result whatever follows the bytes
 abbrev pub Takes : {T : Type 0} → List ℕ → Loaded → Result T LoadFault → Loaded → Type 0
 Takes bytes before result after = MatchResult result
     (λ _. TakesLines before bytes after)
     (λ f. IsOfLines f → (more : List ℕ) (later : List (List ℕ)) → to_come before (bytes ++ more) later ≡ Err f)
 
--- bytes were taken of these, and the rest is left
+-- a prefix of the bytes was taken, and the rest is left
 pub record LeavesRest (before : Loaded) (bytes rest : List ℕ) (after : Loaded) : Type 0 where
   pub taken : List ℕ
   pub bytes_are : bytes ≡ taken ++ rest
@@ -43,11 +43,11 @@ pub record LeavesRest (before : Loaded) (bytes rest : List ℕ) (after : Loaded)
 abbrev pub LeavesRestOnOk : {T : Type 0} → List ℕ → List ℕ → Loaded → Result T LoadFault → Loaded → Type 0
 LeavesRestOnOk bytes rest before _ after = LeavesRest before bytes rest after
 
--- the line that is judged next, if it has these bytes
+-- the place of the line that is judged next, if it has these bytes
 abbrev pub next_place : Loaded → List ℕ → PlacedLine
 next_place l bytes = record { part = l.parts + 1; line = l.judged + 1; bytes = bytes }
 
--- a step judged a line so: the records after it, or its fault
+-- a step judged a line with this verdict: the records after it, or its fault
 abbrev pub JudgesAs : {T : Type 0} → List ℕ → Result Record LineFault → Loaded → Result T LoadFault → Loaded → Type 0
 JudgesAs line verdict before result after = MatchResult result
     (λ _. after_verdict tiger before.limit before.records (next_place before line) verdict ≡ Ok after.records)
@@ -57,17 +57,17 @@ JudgesAs line verdict before result after = MatchResult result
 abbrev pub Judges : {T : Type 0} → List ℕ → Loaded → Result T LoadFault → Loaded → Type 0
 Judges line before result after = JudgesAs line (judged line) before result after
 
--- a step judged the record: it is the last one now, or there are too many
+-- a step added the record: it is now the last one, or there are too many
 abbrev pub Adds : {T : Type 0} → Record → Loaded → Result T LoadFault → Loaded → Type 0
 Adds added before result after = MatchResult result
     (λ _. with_record tiger before.limit before.records added ≡ Ok after.records)
     (λ f. IsOfLines f → with_record tiger before.limit before.records added ≡ Err f)
 
--- the records after what is left of the open part, or the fault of its last line
+-- the records after the remaining bytes of the open part, or the fault of its last line
 abbrev pub to_end : Loaded → Result (List Record) LoadFault
 to_end l = outcome_after tiger l.limit l.records (numbered_lines (l.parts + 1) (l.judged + 1) (lines l.unfinished))
 
--- the open part ended: its last line is judged
+-- the open part ended, and its last line was judged
 abbrev pub Ends : {T : Type 0} → Loaded → Result T LoadFault → Loaded → Type 0
 Ends before result after = MatchResult result (λ _. to_end before ≡ Ok after.records) (λ f. IsOfLines f → to_end before ≡ Err f)
 
@@ -82,26 +82,26 @@ pub record IsPartClosed (before after : Loaded) : Type 0 where
 abbrev pub Closes : {T : Type 0} → Loaded → Result T LoadFault → Loaded → Type 0
 Closes before result after = MatchResult result (λ _. IsPartClosed before after) (λ f. IsOfLines f → to_end before ≡ Err f)
 
--- bytes went into the open part, and it was closed
+-- bytes were fed into the open part, and it was closed
 pub record ReadsAll (before : Loaded) (taken : List ℕ) (after : Loaded) : Type 0 where
   pub at_end : Loaded
   pub takes : TakesLines before taken at_end
   pub closes : IsPartClosed at_end after
 
--- bytes went into the open part: it was read to its end and is closed now, or a fault came
+-- bytes were fed into the open part: it was read to its end and is closed, or a fault occurred
 abbrev pub ReadsPart : {T : Type 0} → List ℕ → Type 0 → Loaded → Result T LoadFault → Loaded → Type 0
 ReadsPart taken at_end before result after = MatchResult result
     (λ _. at_end × ReadsAll before taken after)
     (λ f. IsOfLines f → (at_end × ((later : List (List ℕ)) → to_come before taken later ≡ Err f))
     ⊎ ((more : List ℕ) (later : List (List ℕ)) → to_come before (taken ++ more) later ≡ Err f))
 
--- a loader takes these bytes without a fault, and then has fewer than 230 bytes of a line that hasn't ended
+-- a loader takes these bytes without a fault, and then has fewer than 230 bytes of an unfinished line
 pub record TakesWell {K : Type 0} (holds : K → List Record → Type 0) (before : LoadedInto K) (taken : List ℕ) : Type 0 where
   pub after : LoadedInto K
   pub takes : Lifts {T = Unit {0}} holds (Takes taken) before (Ok tt) after
   pub short : length after.unfinished ≤ LINE_BYTES
 
--- the loader with the fault that a step answered, if any, which stands from then on
+-- the loader, with the fault of a step, if any, recorded from then on
 abbrev pub with_fault : {K T : Type 0} → Result T LoadFault → LoadedInto K → LoadedInto K
 with_fault (Ok _) l = l
 with_fault (Err f) l = record l { fault = Some f }

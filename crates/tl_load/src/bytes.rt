@@ -1,4 +1,4 @@
-//! The bytes that a line may hold.
+//! The bytes that are allowed in a line.
 
 ghost use Rattle.std.specs.Prelude.{◌≡◌, ◌≤◌, ◌<◌, ◌+◌, ℕ, length, slice_index, position, not, true, IsTrue};
 ghost use Rattle.std.specs.Simd.Lanes.{Each1};
@@ -6,11 +6,14 @@ ghost use Rattle.tl_layout.specs.Bytes.{is_allowed, AreAllowed};
 
 use std::simd::prelude::*;
 
-/// How many bytes are tested at a time.
-const LANES: usize = 16;
+/// How many bytes `first_bad` tests at a time.
+const LANES: usize = 32;
 
-/// The least place, from 0, of a byte that no line may hold: one outside printable ASCII and the upper half of Latin-1
-/// from 0xA0 on. It takes no memory.
+/// How many bytes `is_ascii` tests at a time.
+const ASCII_LANES: usize = 16;
+
+/// Returns the position, counted from 0, of the first byte that isn't allowed in a line: one outside printable ASCII and the
+/// upper half of Latin-1 from 0xA0 on. It takes no memory.
 pub fn first_bad(bytes: &[u8]) -> Option<usize>
     ensures { result ≡ position (λ b. not (is_allowed b)) bytes.now }
 {
@@ -20,24 +23,10 @@ pub fn first_bad(bytes: &[u8]) -> Option<usize>
     bytes.iter().position(|byte| !is_allowed_byte(*byte))
 }
 
-/// A line may hold each of the bytes. Nearly all lines are printable ASCII, which is told sooner, and fewer than 16 bytes are
-/// tested one by one.
+/// If this returns true, there are at least 32 bytes and all of them are allowed in a line. It may return false for clean bytes
+/// if one of them is 0xFF. It reads 32 bytes at a time, the last of them together with the bytes before them. It keeps the
+/// minimum of each lane and tests only that.
 fn is_clean(bytes: &[u8]) -> bool
-    ensures { IsTrue result → AreAllowed bytes.now }
-{
-    if is_ascii(bytes) {
-        return true;
-    }
-    if bytes.len() < LANES {
-        return are_clean(bytes);
-    }
-    are_clean_blocks(bytes)
-}
-
-/// Each of the bytes is printable ASCII, and there are 16 or more. They are read 16 at a time, the last of them with those
-/// before them, and of all that stand in one lane the least is kept, which alone is tested.
-#[inline(always)]
-pub(crate) fn is_ascii(bytes: &[u8]) -> bool
     ensures { IsTrue result → AreAllowed bytes.now }
 {
     let len = bytes.len();
@@ -45,17 +34,49 @@ pub(crate) fn is_ascii(bytes: &[u8]) -> bool
         return false;
     }
     let last = len - LANES;
+    let mut least = past_controls(bytes, last);
+    let mut at = 0;
+    while at < last {
+        least = least.simd_min(past_controls(bytes, at));
+        at += LANES;
+    }
+    least.simd_lt(u8x32::splat(0x42)).to_bitmask() == 0
+}
+
+/// Twice the successor of each of the 32 bytes from `at` on, modulo 256. It is at least 0x42 if the byte is allowed in a line
+/// and isn't 0xFF, and less otherwise. Doubling drops the top bit, which maps the control characters of both halves of Latin-1
+/// below the blank.
+#[inline(always)]
+fn past_controls(bytes: &[u8], at: usize) -> u8x32
+    requires { at + 32 ≤ length bytes.now }
+    ensures long { length result ≡ 32 }
+    ensures clean { Each1 (λ x. 66 ≤ x) result → (k : ℕ) → at ≤ k → k < at + 32 → is_allowed (slice_index bytes.now k) ≡ true }
+{
+    let next = u8x32::from_slice(&bytes[at..]) + u8x32::splat(1);
+    next + next
+}
+
+/// If this returns true, there are at least 16 bytes and all of them are printable ASCII. It reads 16 bytes at a time, the last
+/// of them together with the bytes before them. It keeps the minimum of each lane and tests only that.
+#[inline(always)]
+pub(crate) fn is_ascii(bytes: &[u8]) -> bool
+    ensures { IsTrue result → AreAllowed bytes.now }
+{
+    let len = bytes.len();
+    if len < ASCII_LANES {
+        return false;
+    }
+    let last = len - ASCII_LANES;
     let mut least = from_delete(bytes, last);
     let mut at = 0;
     while at < last {
         least = least.simd_min(from_delete(bytes, at));
-        at += LANES;
+        at += ASCII_LANES;
     }
     least.simd_lt(u8x16::splat(0xa1)).to_bitmask() == 0
 }
 
-/// How far each of the 16 bytes from this place on is from 0x7F, where 0x00 follows 0xFF: at least 0xA1 where it is printable
-/// ASCII, and less where it isn't.
+/// Each of the 16 bytes from `at` on, minus 0x7F, modulo 256: at least 0xA1 if the byte is printable ASCII, and less otherwise.
 #[inline(always)]
 fn from_delete(bytes: &[u8], at: usize) -> u8x16
     requires { at + 16 ≤ length bytes.now }
@@ -65,49 +86,7 @@ fn from_delete(bytes: &[u8], at: usize) -> u8x16
     u8x16::from_slice(&bytes[at..]) - u8x16::splat(0x7f)
 }
 
-/// A line may hold each of the bytes: they are tested 16 at a time, the last of them with those before them.
-#[inline(never)]
-fn are_clean_blocks(bytes: &[u8]) -> bool
-    requires { 16 ≤ length bytes.now }
-    ensures { IsTrue result → (k : ℕ) → k < length bytes.now → is_allowed (slice_index bytes.now k) ≡ true }
-{
-    let len = bytes.len();
-    let mut at = 0;
-    while len - at >= LANES {
-        if !is_clean_block(bytes, at) {
-            return false;
-        }
-        at += LANES;
-    }
-    is_clean_block(bytes, len - LANES)
-}
-
-/// A line may hold the 16 bytes from this place on. Nothing is said where one is bad.
-#[inline(always)]
-fn is_clean_block(bytes: &[u8], at: usize) -> bool
-    requires { at + 16 ≤ length bytes.now }
-    ensures { IsTrue result → (k : ℕ) → at ≤ k → k < at + 16 → is_allowed (slice_index bytes.now k) ≡ true }
-{
-    let block = u8x16::from_slice(&bytes[at..]);
-    let controls = block.simd_lt(u8x16::splat(0x20));
-    // Of the bytes from 0x7F on, 0x21 are none that a line may hold.
-    let upper_controls = (block - u8x16::splat(0x7f)).simd_lt(u8x16::splat(0x21));
-    controls.to_bitmask() == 0 && upper_controls.to_bitmask() == 0
-}
-
-/// A line may hold each of the bytes: they are tested one by one.
-fn are_clean(bytes: &[u8]) -> bool
-    ensures { IsTrue result → (k : ℕ) → k < length bytes.now → is_allowed (slice_index bytes.now k) ≡ true }
-{
-    for i in 0..bytes.len() {
-        if !is_allowed_byte(bytes[i]) {
-            return false;
-        }
-    }
-    true
-}
-
-/// A line may hold this byte.
+/// Whether this byte is allowed in a line.
 #[inline(always)]
 pub(crate) fn is_allowed_byte(byte: u8) -> bool
     ensures { result ≡ is_allowed byte }

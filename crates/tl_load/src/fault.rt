@@ -1,16 +1,19 @@
-//! What can be wrong with what is loaded.
+//! The faults of loading.
 
-ghost use Rattle.std.specs.Prelude.{◌≡◌};
+ghost use Rattle.std.specs.Prelude.{◌≡◌, Some};
+ghost use Rattle.fault_report.specs.Reports.{report_line};
+ghost use Rattle.tl_load.specs.Reports.{at_column, at_line, load_report};
 ghost use Rattle.tl_load.specs.Verdicts.{fault_at};
 
-use std::fmt::{self, Formatter, Write};
+use fault_report::{FaultKind, FaultPlace, FaultReport};
+use std::fmt;
 use thiserror::Error;
 use tl_layout::{FieldFault, FieldKind};
 
-/// The fault of one line, wherever it stands.
+/// The fault of one line, without its place.
 #[derive(Clone, Copy, Debug, PartialEq, Eq, Error)]
 pub enum LineFault {
-    /// The line has no first byte, or one that is no record type.
+    /// The line is empty, or its first byte isn't a record type.
     #[error("the first byte is no known record type")]
     UnknownType,
     /// The line is longer than the layout of its record type.
@@ -24,123 +27,88 @@ pub enum LineFault {
     Field(FieldFault),
 }
 
-/// Why nothing was loaded. Parts, lines and columns are counted from 1.
+/// Why loading failed. Parts, lines and columns are counted from 1.
 #[derive(Clone, Copy, Debug, PartialEq, Eq, Error)]
 pub enum LoadFault {
-    /// The line has no first byte, or one that is no record type.
-    #[error(fmt = tell_unknown_type)]
+    /// The line is empty, or its first byte isn't a record type.
     UnknownType { part: u64, line: u64 },
     /// The line is longer than the layout of its record type.
-    #[error(fmt = tell_line_too_long)]
     LineTooLong { part: u64, line: u64 },
-    /// A byte of the line isn't allowed; the leftmost is told.
-    #[error(fmt = tell_bad_byte)]
+    /// A byte of the line isn't allowed. The leftmost one is reported.
     BadByte { part: u64, line: u64, column: u16 },
-    /// A number field is malformed, or none where a number is demanded.
-    #[error(fmt = tell_bad_number)]
+    /// A malformed number field, or no number in a field that requires one.
     BadNumber { part: u64, line: u64, column: u16 },
-    /// A coordinate is malformed or out of range, one half of a pair is blank, or a demanded point is none.
-    #[error(fmt = tell_bad_point)]
+    /// A malformed or out-of-range coordinate, a pair with one half blank, or no point in a field that requires one.
     BadPoint { part: u64, line: u64, column: u16 },
-    /// A used place stands after an unused one.
-    #[error(fmt = tell_gap)]
+    /// A used place after an unused one.
     GapInRecord { part: u64, line: u64, column: u16 },
     /// There are more records of this type, the byte in column 1, than a set may have.
-    #[error(fmt = tell_too_many_records)]
     TooManyRecords { rtype: u8 },
-    /// The source failed while it was read.
-    #[error("the source could not be read")]
+    /// A read from the source failed.
     Device,
-    /// A growth of memory was refused.
-    #[error("there is not enough memory")]
+    /// An allocation failed.
     Memory,
 }
 
-/// Tells the fault of a whole line behind its place.
-fn tell_of_line<W: Write>(
-    part: u64,
-    line: u64,
-    fault: LineFault,
-    f: &mut Formatter<W>,
-) -> fmt::Result {
-    write!(f, "part {part}, line {line}: {fault}")
+impl LoadFault {
+    /// The fault as every interface reports it: its number, its name and its places.
+    pub fn report(&self) -> FaultReport
+        ensures { result ≡ load_report self.now }
+    {
+        match self {
+            LoadFault::UnknownType { part, line } => at_line(FaultKind::UnknownType, *part, *line),
+            LoadFault::LineTooLong { part, line } => at_line(FaultKind::LineTooLong, *part, *line),
+            LoadFault::BadByte { part, line, column } => {
+                at_column(FaultKind::BadByte, *part, *line, *column)
+            }
+            LoadFault::BadNumber { part, line, column } => {
+                at_column(FaultKind::BadNumber, *part, *line, *column)
+            }
+            LoadFault::BadPoint { part, line, column } => {
+                at_column(FaultKind::BadPoint, *part, *line, *column)
+            }
+            LoadFault::GapInRecord { part, line, column } => {
+                at_column(FaultKind::GapInRecord, *part, *line, *column)
+            }
+            LoadFault::TooManyRecords { rtype } => {
+                FaultReport::at(FaultKind::TooManyRecords, FaultPlace::RecordType(*rtype))
+            }
+            LoadFault::Device => FaultReport::bare(FaultKind::Device),
+            LoadFault::Memory => FaultReport::bare(FaultKind::Memory),
+        }
+    }
 }
 
-/// Tells a fault that stands at a column behind its part and line.
-fn tell_at_column<W: Write>(
-    part: u64,
-    line: u64,
-    fault: LineFault,
-    f: &mut Formatter<W>,
-) -> fmt::Result {
-    write!(f, "part {part}, line {line}, {fault}")
+/// The line of the fault's report.
+impl fmt::Display for LoadFault {
+    ghost output = { λ fault. Some (report_line (load_report fault)) };
+
+    fn fmt<W: fmt::Write>(&self, f: &mut fmt::Formatter<W>) -> fmt::Result {
+        self.report().fmt(f)
+    }
 }
 
-/// Tells that a line is of no record type.
-fn tell_unknown_type<W: Write>(part: &u64, line: &u64, f: &mut Formatter<W>) -> fmt::Result {
-    tell_of_line(*part, *line, LineFault::UnknownType, f)
+/// A fault at a line.
+fn at_line(kind: FaultKind, part: u64, line: u64) -> FaultReport
+    ensures { result ≡ at_line kind part line }
+{
+    FaultReport::at_two(kind, FaultPlace::Number(part), FaultPlace::Number(line))
 }
 
-/// Tells that a line is longer than its layout.
-fn tell_line_too_long<W: Write>(part: &u64, line: &u64, f: &mut Formatter<W>) -> fmt::Result {
-    tell_of_line(*part, *line, LineFault::LineTooLong, f)
-}
-
-/// Tells that a byte isn't allowed.
-fn tell_bad_byte<W: Write>(
-    part: &u64,
-    line: &u64,
-    column: &u16,
-    f: &mut Formatter<W>,
-) -> fmt::Result {
-    tell_at_column(*part, *line, LineFault::BadByte(*column), f)
-}
-
-/// Tells that a number field is malformed.
-fn tell_bad_number<W: Write>(
-    part: &u64,
-    line: &u64,
-    column: &u16,
-    f: &mut Formatter<W>,
-) -> fmt::Result {
-    tell_at_column(*part, *line, field_fault(FieldKind::BadNumber, *column), f)
-}
-
-/// Tells that a pair of coordinates is no point.
-fn tell_bad_point<W: Write>(
-    part: &u64,
-    line: &u64,
-    column: &u16,
-    f: &mut Formatter<W>,
-) -> fmt::Result {
-    tell_at_column(*part, *line, field_fault(FieldKind::BadPoint, *column), f)
-}
-
-/// Tells that a used place stands after an unused one.
-fn tell_gap<W: Write>(part: &u64, line: &u64, column: &u16, f: &mut Formatter<W>) -> fmt::Result {
-    tell_at_column(
-        *part,
-        *line,
-        field_fault(FieldKind::GapInRecord, *column),
-        f,
+/// A fault at a column of a line.
+fn at_column(kind: FaultKind, part: u64, line: u64, column: u16) -> FaultReport
+    ensures { result ≡ at_column kind part line column }
+{
+    FaultReport::at_three(
+        kind,
+        FaultPlace::Number(part),
+        FaultPlace::Number(line),
+        FaultPlace::Number(column as u64),
     )
 }
 
-/// Tells that there are too many records of a type.
-fn tell_too_many_records<W: Write>(rtype: &u8, f: &mut Formatter<W>) -> fmt::Result {
-    let rtype = char::from(*rtype);
-    write!(f, "there are too many records of type {rtype}")
-}
-
-/// The fault of the field at this column.
-fn field_fault(kind: FieldKind, column: u16) -> LineFault
-    ensures { result ≡ LineFault.Field (record { kind = kind; column = column }) }
-{
-    LineFault::Field(FieldFault { kind, column })
-}
-
 impl LineFault {
-    /// The fault with its place: the numbers of its part and of its line.
+    /// Adds the place: the numbers of the part and the line.
     #[tactic(auto, unfolding(crate::specs::Verdicts::fault_at))]
     pub(crate) fn at(self, part: u64, line: u64) -> LoadFault
         ensures { result ≡ fault_at part line self }

@@ -1,4 +1,4 @@
-//! What a line is judged as.
+//! Judging a line: its record, or its fault.
 
 ghost use Rattle.std.specs.Prelude.{◌≡◌, ◌≤◌, ◌<◌, [], ◌∷◌, take, length, replicate, not, position, IsTrue};
 ghost use Rattle.tl_layout.specs.Bytes.{AreAllowed, IsLine, is_allowed};
@@ -8,7 +8,8 @@ use crate::bytes::first_bad;
 use crate::fault::LineFault;
 use tl_layout::{LONGEST_LINE, Layout};
 
-/// The record of a line that begins with the layout's type, or its fault. The line has neither LF nor the CR before it. Its bytes are tested, unless each is known to be one that a line may hold.
+/// Judges a line that begins with the layout's type: returns its record or its fault. The line has neither its LF nor the CR
+/// before it. If `is_clean`, its bytes are known to be allowed in a line and aren't tested.
 #[tactic(auto, unfolding(crate::specs::LineOf::judged_as))]
 pub(crate) fn judge_line<L: Layout>(line: &[u8], is_clean: bool) -> Result<L, LineFault>
     requires begins { take 1 line.now ≡ L.RTYPE ∷ [] }
@@ -25,8 +26,8 @@ pub(crate) fn judge_line<L: Layout>(line: &[u8], is_clean: bool) -> Result<L, Li
     judge_short::<L>(line)
 }
 
-/// The record of a line that is shorter than its layout and begins with its type, or its fault: it is filled with blanks. It isn't
-/// inlined, since the room for the filled line is cleared when a function begins, and most lines are full.
+/// Judges a line that begins with the layout's type and is shorter than the layout, after padding it with blanks. Not inlined:
+/// a function clears the memory for the padded line on entry, and most lines are full.
 #[inline(never)]
 #[tactic(auto, unfolding(crate::specs::LineOf::judged_as))]
 fn judge_short<L: Layout>(line: &[u8]) -> Result<L, LineFault>
@@ -45,7 +46,7 @@ fn blanks() -> [u8; LONGEST_LINE]
     [b' '; LONGEST_LINE]
 }
 
-/// The line, filled with blanks to the length of the longest one.
+/// The line, padded with blanks to the length of the longest line.
 fn fill(line: &[u8]) -> [u8; LONGEST_LINE]
     requires { length line.now ≤ LONGEST_LINE }
     ensures { result ≡ filled LONGEST_LINE line.now }
@@ -56,7 +57,7 @@ fn fill(line: &[u8]) -> [u8; LONGEST_LINE]
     filled
 }
 
-/// The place of the leftmost byte that no line may hold. Bytes that are known to be clean aren't tested.
+/// The position of the leftmost byte that isn't allowed in a line. If `is_clean`, the bytes aren't tested.
 fn bad_place(line: &[u8], is_clean: bool) -> Option<usize>
     requires { IsTrue is_clean → AreAllowed line.now }
     ensures { result ≡ position (λ b. not (is_allowed b)) line.now }
@@ -64,8 +65,7 @@ fn bad_place(line: &[u8], is_clean: bool) -> Option<usize>
     if is_clean { None } else { first_bad(line) }
 }
 
-/// The record of a full line that begins with the layout's type, or its fault. Its bytes are tested, unless they are known to be
-/// clean.
+/// Judges a full line that begins with the layout's type. If `is_clean`, its bytes are known to be allowed and aren't tested.
 #[tactic(auto, unfolding(crate::specs::LineOf::judged_full))]
 fn judge_full<L: Layout>(line: &[u8], is_clean: bool) -> Result<L, LineFault>
     requires begins { take 1 line.now ≡ L.RTYPE ∷ [] }

@@ -1,4 +1,4 @@
-//! Where a line ends, and what ends it.
+//! Finding the end of a line, and removing its line ending.
 
 ghost use Rattle.std.specs.Prelude.{◌≡◌, ◌≤◌, length, true, IfSome, MatchOption};
 ghost use Rattle.tl_load.specs.Lines.{without_return, IsLineEnd, IsWithoutLineFeed};
@@ -7,17 +7,17 @@ use crate::bytes::is_ascii;
 use memchr::memchr;
 use tl_layout::{Layout, Rec1, Rec2, Rec4, Rec5, Rec6, Rec7, Rec8, RecI, RecP};
 
-/// Where the first line of some bytes ends.
+/// The end of the first line of some bytes.
 #[derive(Clone, Copy)]
 pub(crate) struct LineEnd {
-    /// The place of its LF, from 0.
+    /// The position of its LF, counted from 0.
     pub(crate) place: usize,
-    /// A line may hold each byte before it. Where this isn't said, they weren't tested.
+    /// If true, each byte before the LF is allowed in a line. If false, they weren't tested.
     pub(crate) is_clean: bool,
 }
 
-/// Where the first line of the bytes ends. A full line of printable ASCII, as nearly all are, has its LF at the length of its
-/// type, and so none is searched for.
+/// Finds the end of the first line. A full line of printable ASCII, as nearly all are, has its LF at the length of its type, so
+/// that no search is needed.
 #[inline(always)]
 pub(crate) fn line_end(bytes: &[u8]) -> Option<LineEnd>
     ensures { MatchOption result (IsWithoutLineFeed bytes.now) (λ end. IsLineEnd bytes.now end.place end.is_clean) }
@@ -31,8 +31,8 @@ pub(crate) fn line_end(bytes: &[u8]) -> Option<LineEnd>
     }
 }
 
-/// Where the first line of the bytes ends, by a search for its LF. The bytes before it aren't tested. It isn't inlined, so that a
-/// full line, as nearly all are, costs no call.
+/// Searches for the LF of the first line. Doesn't test the bytes before it. Not inlined, so that a full line, as nearly all
+/// are, costs no call.
 #[inline(never)]
 fn searched_line_end(bytes: &[u8]) -> Option<LineEnd>
     ensures { MatchOption result (IsWithoutLineFeed bytes.now) (λ end. IsLineEnd bytes.now end.place end.is_clean) }
@@ -46,7 +46,7 @@ fn searched_line_end(bytes: &[u8]) -> Option<LineEnd>
     }
 }
 
-/// Where the first line ends, if it is a full one of its type and each of its bytes is printable ASCII.
+/// Finds the end of the first line if it is a full line of its type and printable ASCII.
 #[inline(always)]
 fn full_line_end(bytes: &[u8]) -> Option<usize>
     ensures { IfSome result (λ place. IsLineEnd bytes.now place true) }
@@ -65,7 +65,7 @@ fn full_line_end(bytes: &[u8]) -> Option<usize>
     }
 }
 
-/// The length of this record type, if an LF stands there and each byte before it is printable ASCII.
+/// Returns the length of this record type if there is an LF at that position and each byte before it is printable ASCII.
 #[inline(always)]
 fn end_at_length<L: Layout>(bytes: &[u8]) -> Option<usize>
     ensures { IfSome result (λ place. IsLineEnd bytes.now place true) }
@@ -78,7 +78,7 @@ fn end_at_length<L: Layout>(bytes: &[u8]) -> Option<usize>
     }
 }
 
-/// The line without one CR at its very end.
+/// The line without one CR at its end, if there is one.
 #[tactic(auto, unfolding(crate::specs::Lines::without_return))]
 #[inline(always)]
 pub(crate) fn without_carriage_return(line: &[u8]) -> &[u8]

@@ -10,17 +10,17 @@ ghost use Rattle.tl_load.specs.Outcome.{SpellsWithin, FaultAt};
 ghost use Rattle.tl_load.specs.Sources.{Gave, StopsThere};
 
 use crate::fault::LoadFault;
-use crate::loader_into::{LoaderInto, MOST_BYTES, READ_BYTES};
+use crate::loader_for::{LoaderFor, MOST_BYTES, READ_BYTES};
 use crate::source::Source;
 use std::alloc::Global;
 use std::marker::Model;
 use tl_layout::{MOST_RECORDS, Record};
 
-/// Takes the bytes of a set of parts, one part after the other and each in any pieces, and judges each line when it
-/// ends. What is kept is the records and the unfinished line. After a fault every call answers that fault.
+/// Takes the bytes of a set of parts, one part after another and each in any pieces, and judges each line when it ends. It
+/// stores the records and the unfinished line. After a fault every call returns that fault.
 #[derive(Drop)]
 pub struct Loader {
-    inner: LoaderInto<Vec<Record>>,
+    inner: LoaderFor<Vec<Record>>,
 }
 
 impl Model for Loader {
@@ -36,7 +36,7 @@ impl Model for Loader {
 }
 
 impl Loader {
-    /// A loader that was fed nothing. It takes 10,000,000 records of one type, and no more; making it takes no memory.
+    /// Makes a loader without input. It accepts at most 10,000,000 records of each type. This takes no memory.
     pub fn new(alloc: Global) -> Loader
         ensures fed { WasFed MOST_RECORDS result [] [] }
         ensures parts { result.parts ≡ 0 }
@@ -45,7 +45,8 @@ impl Loader {
         Loader::with_limit(alloc, MOST_RECORDS)
     }
 
-    /// A loader that was fed nothing, for at most `limit` records of each type, from 1 to 10,000,000. It takes no memory.
+    /// Makes a loader without input that accepts at most `limit` records of each type, from 1 to 10,000,000. This takes no
+    /// memory.
     pub fn with_limit(alloc: Global, limit: u64) -> Loader
         requires some { 1 ≤ limit }
         requires most { limit ≤ MOST_RECORDS }
@@ -54,7 +55,7 @@ impl Loader {
         ensures fault { result.fault ≡ None }
     {
         Loader {
-            inner: LoaderInto::with_limit(alloc, limit),
+            inner: LoaderFor::with_limit(alloc, limit),
         }
     }
 
@@ -65,15 +66,19 @@ impl Loader {
         self.inner.parts()
     }
 
-    /// Takes a piece of the open part. A fault is the one of every set that goes on like this.
+    /// Takes a piece of the open part.
+    ///
+    /// # Errors
+    ///
+    /// `Memory`, or a fault of the lines, which then holds for every continuation of the input.
     pub fn feed(&mut self, piece: &[u8]) -> Result<(), LoadFault>
         requires { self.old.parts < u64.MAX }
-        // What was fed before is followed by the piece.
+        // The piece follows the bytes fed before.
         ensures fed { (limit : ℕ) (closed : List (List ℕ)) (open_part : List ℕ) → WasFed limit self.old closed open_part → WasFed limit self.new closed (open_part ++ piece.now) }
-        // A fault of the lines is the fault of the parts, however they go on.
+        // A fault of the lines is the fault of the parts, however they continue.
         ensures fault { (limit : ℕ) (closed : List (List ℕ)) (open_part : List ℕ) → WasFed limit self.old closed open_part
             → IfErr result (λ f. IsOfLines f → IsFaultHowever limit closed (open_part ++ piece.now) f) }
-        // Each line is judged when it ends, or when its 230th byte comes.
+        // Each line is judged when it ends, or at its 230th byte.
         ensures well { OnOk result (IsWellAfter WasFed self.old piece.now) }
         ensures ok { OnOk result (self.new.fault ≡ None) }
         ensures told { IfErr result (λ f. self.new.fault ≡ Some f) }
@@ -86,6 +91,10 @@ impl Loader {
     }
 
     /// Ends the open part.
+    ///
+    /// # Errors
+    ///
+    /// As for [`Loader::feed`].
     pub fn end_part(&mut self) -> Result<(), LoadFault>
         requires { self.old.parts < u64.MAX }
         // The open part is closed, and nothing was fed since.
@@ -103,15 +112,20 @@ impl Loader {
         self.inner.end_part()
     }
 
-    /// Reads a source to its end into the open part, and ends the part. The source is read by 4,096 bytes at most,
-    /// and no further than the read that brought a fault.
+    /// Reads a source to its end into the open part, and ends the part. Each read is of at most 4,096 bytes, and a read that
+    /// causes a fault is the last.
+    ///
+    /// # Errors
+    ///
+    /// `Device`, or as for [`Loader::feed`].
     pub fn read_part<R: Source>(&mut self, source: &mut R) -> Result<(), LoadFault>
         requires parts { self.old.parts < u64.MAX }
         requires failures { R.failed source.old < u64.MAX }
-        // What the source gave went into the open part, and no endless source keeps the call from its return.
+        // The source's bytes were fed into the open part. There is a bound on them, so even an endless source can't keep the
+        // call from returning.
         ensures fed { (taken : List ℕ) × Gave R.remaining R.given source.old source.new taken × (length taken ≤ MOST_BYTES + READ_BYTES)
             × FedPart WasFed self.old taken (IsAtEnd (R.remaining source.new)) result self.new }
-        // Nothing is read past the read that brought a fault.
+        // Nothing is read after the read that causes a fault.
         ensures stops { self.old.fault ≡ None
             → StopsThere R.remaining R.given R.reads source.old source.new (IsWellAfter WasFed self.old) }
         ensures ok { OnOk result (self.new.fault ≡ None) }
@@ -119,13 +133,17 @@ impl Loader {
         // After a fault nothing changes, and nothing is read.
         ensures stood { IfSome self.old.fault (λ f. (result ≡ Err f) × (self.new ≡ self.old) × (source.new ≡ source.old)) }
         ensures parts { self.new.parts ≡ (if is_ok result then self.old.parts + 1 else self.old.parts) }
-        // The device is at fault exactly where the source failed in this call.
+        // The fault is `Device` exactly if the source failed in this call.
         ensures device { self.old.fault ≡ None → R.failed source.new ≡ (if is_device result then R.failed source.old + 1 else R.failed source.old) }
     {
         self.inner.read_part(source)
     }
 
-    /// Ends the open part, if bytes were fed into it, and answers the records of all parts, in the order of their lines.
+    /// Ends the open part, if bytes were fed into it, and returns the records of all parts in the order of their lines.
+    ///
+    /// # Errors
+    ///
+    /// The recorded fault, or the fault of the parts, or `Memory`.
     pub fn finish(self) -> Result<Vec<Record>, LoadFault>
         // The parts spell these records, with at most limit of each type.
         ensures loaded { (limit : ℕ) (closed : List (List ℕ)) (open_part : List ℕ) → WasFed limit self closed open_part
@@ -133,10 +151,10 @@ impl Loader {
         // Each of them is in range.
         ensures fits { (limit : ℕ) (closed : List (List ℕ)) (open_part : List ℕ) → WasFed limit self closed open_part
             → IfOk result (λ records. All FitsRecord records.items) }
-        // Where they spell records, these are the ones, and no fault of the lines comes.
+        // If they spell records, these are the ones, and there is no fault of the lines.
         ensures only { (limit : ℕ) (closed : List (List ℕ)) (open_part : List ℕ) (records : List Record) → WasFed limit self closed open_part
             → SpellsWithin tiger limit (all_parts closed open_part) records → MatchResult result (λ found. found.items ≡ records) (λ f. IsOfLines f → ⊥) }
-        // Or this fault is at them.
+        // Otherwise this is their fault.
         ensures fault { (limit : ℕ) (closed : List (List ℕ)) (open_part : List ℕ) → WasFed limit self closed open_part
             → IfErr result (λ f. IsOfLines f → FaultAt tiger limit (all_parts closed open_part) f) }
         ensures stood { IfSome self.fault (λ f. result ≡ Err f) }

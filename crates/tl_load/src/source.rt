@@ -1,6 +1,6 @@
-//! Where bytes come from.
+//! Sources of bytes.
 //!
-//! A source counts its failures, so that a device is told exactly where one failed, and a read that failed isn't tried again.
+//! A source counts its failures, so that a device fault is reported exactly if a read failed. A failed read isn't retried.
 
 ghost use Rattle.std.specs.Io.KnownBytes.{ReadConsumes};
 ghost use Rattle.std.specs.Prelude.{◌≡◌, ◌≤◌, ◌<◌, ◌+◌, ℕ, List, Option, Some, length, IfOk, MatchResult, is_ok, IsTrue, ◌↔◌, if◌then◌else◌, min};
@@ -11,25 +11,26 @@ use std::io::Read;
 use std::marker::Model;
 use tl_layout::DeviceFault;
 
-/// A device that bytes are read from, and that may fail.
+/// A device that bytes are read from. Reading can fail.
 pub trait Source {
-    /// How many reads have failed.
+    /// How many reads failed.
     ghost failed: { Self → ℕ };
 
     /// How many reads were made, modulo 2^64.
     ghost reads: { Self → ℕ };
 
-    /// How many bytes they gave, modulo 2^64.
+    /// How many bytes they returned, modulo 2^64.
     ghost given: { Self → ℕ };
 
-    /// The bytes that reads will give from here on, where they are known.
+    /// The bytes that reads will return from here on, if they are known.
     ghost remaining: { Self → Option (List ℕ) };
 
-    /// How many reads have failed.
+    /// Returns how many reads failed.
     fn failures(&self) -> u64
         ensures { result ≡ failed self.now };
 
-    /// Reads into the front of the buffer, and answers how many bytes: 0 only at the end, or if the buffer is empty.
+    /// Reads into the start of the buffer and returns the number of bytes, which is 0 only at the end or if the buffer is
+    /// empty.
     fn read(&mut self, buf: &mut [u8]) -> Result<usize, DeviceFault>
         requires { failed self.old < u64.MAX }
         ensures failures { failed self.new ≡ (if is_ok result then failed self.old else failed self.old + 1) }
@@ -39,7 +40,7 @@ pub trait Source {
         ensures bytes { ReadConsumes (remaining self.old) (remaining self.new) result buf.new };
 }
 
-/// A source over a reader. Every error of the reader is a failure, and none is tried again.
+/// A source over a reader. Every error of the reader counts as a failure, and no read is retried.
 #[derive(Drop)]
 pub struct Counted<T> {
     inner: T,
@@ -49,7 +50,7 @@ pub struct Counted<T> {
 }
 
 impl<T: Read> Counted<T> {
-    /// A source that has not failed yet.
+    /// Makes a source without failures.
     pub fn new(inner: T) -> Self
         ensures failures { ⟦<Counted<T> as Source>⟧.failed result ≡ 0 }
         ensures bytes { ⟦<Counted<T> as Source>⟧.remaining result ≡ T.remaining inner }
@@ -91,7 +92,7 @@ impl<T: Read> Source for Counted<T> {
     }
 }
 
-/// A source over lent bytes, for trying out what reads a source: it gives few bytes a read, and may fail.
+/// A source over borrowed bytes, for testing code that reads a source: it returns few bytes per read, and can fail.
 #[derive(Drop)]
 pub struct SlowSource<'a> {
     bytes: &'a [u8],
@@ -114,8 +115,8 @@ impl<'a> Model for SlowSource<'a> {
 }
 
 impl<'a> SlowSource<'a> {
-    /// A source that gives at most `most` bytes a read. For `failing` of `Some(k)` its k-th read fails, counted from 1, and no
-    /// other; for `None` none does.
+    /// Makes a source that returns at most `most` bytes per read; `most` must not be 0. If `failing` is `Some(k)`, exactly its
+    /// k-th read fails, counted from 1. If it is `None`, no read fails.
     pub fn new(bytes: &'a [u8], most: usize, failing: Option<u64>) -> Self
         requires { 0 < most }
         ensures { result ≡ record { left = bytes.now; most = most; failing = failing; reads = 0; given = 0; failures = 0 } }
@@ -131,7 +132,7 @@ impl<'a> SlowSource<'a> {
     }
 }
 
-/// Counts a read down, and says whether it is the one that fails.
+/// Counts down by one read, and returns whether this read fails.
 fn is_failing_read(reads_to_failure: &mut Option<u64>) -> bool
     ensures fails { IsTrue result ↔ (reads_to_failure.old ≡ Some 1) }
     ensures counted { reads_to_failure.new ≡ counted_down reads_to_failure.old }
@@ -169,9 +170,9 @@ impl Source for SlowSource<'_> {
         ensures given { MatchResult result (λ n. RoseBy n self.old.given self.new.given) (λ _. RoseBy 0 self.old.given self.new.given) }
         ensures bound { IfOk result (λ n. n ≤ length buf.new) }
         ensures bytes { ReadConsumes (Some self.old.left) (Some self.new.left) result buf.new }
-        // As many as a read gives, as the buffer takes, or as are left, whichever is least.
+        // The minimum of the most that one read returns, the length of the buffer, and the number of bytes left.
         ensures count { IfOk result (λ n. n ≡ min self.old.most (min (length buf.old) (length self.old.left))) }
-        // The read that is to fail does, and no other.
+        // Exactly the chosen read fails.
         ensures fails { IsErr result ↔ (self.old.failing ≡ Some 1) }
         ensures counted { self.new.failing ≡ counted_down self.old.failing }
         ensures most { self.new.most ≡ self.old.most }

@@ -1,4 +1,4 @@
--- A county whose numbers are those of the canonical form.
+-- A county with the numbers of the canonical form.
 use Rattle.std.specs.Prelude.{ℕ, ◌≡◌, List, map, length, reverse, false}
 use Rattle.std.specs.List.{AllByRecursion}
 use Rattle.std.specs.Ordering.{is_gt, on}
@@ -12,11 +12,11 @@ use Rattle.tl_county.specs.PolygonKeys.{PolygonKey}
 use Rattle.tl_number.specs.Growth.{Grows, up_to}
 use Rattle.tl_number.specs.Uses.{all_uses, name_key, name_key_cmp, landmark_key, landmark_key_cmp}
 
--- no POLYID stands under two CENIDs
+-- each POLYID has only one CENID
 abbrev pub HasOneCenidEach : List PolygonKey → Type 0
 HasOneCenidEach keys = AllByRecursion (λ key. AllByRecursion (λ other. key.1 ≡ other.1 → key ≡ other) keys) keys
 
--- All numbers but the choice of TLIDs and directions, which these follow.
+-- All numbers are canonical, given the choice of TLIDs and directions, which is left open here.
 pub record IsArranged (county : County) : Type 0 where
   -- TLIDs, FEATs and LANDs count from 1
   pub tlids : tlids county ≡ up_to (length county.chains)
@@ -24,7 +24,7 @@ pub record IsArranged (county : County) : Type 0 where
   pub lands : lands county ≡ up_to (length county.landmarks)
   -- nodes are numbered by first appearance along the chains, start before end
   pub nodes : Grows (nodes_along county.chains)
-  -- so are polygons, left before right, in one numbering over all CENIDs
+  -- polygons are numbered likewise, left before right, in one numbering over all CENIDs
   pub polygons : Grows (map (λ key. key.1) (polygons_along county.chains))
   pub one_cenid : HasOneCenidEach (polygons_along county.chains)
   -- each polygon is on a side
@@ -38,7 +38,8 @@ pub record IsArranged (county : County) : Type 0 where
 abbrev pub entry_points : ℕ × Chain → List Coordinates
 entry_points entry = entry.1.points
 
--- TLIDs and directions as far as points tell them: no chain's points come after their reverse, and none after those of a later chain.
+-- TLIDs and directions, where points determine them: no chain's points come after their reverse, or after those of a later
+-- chain.
 pub record IsTidy (county : County) : Type 0 where
   pub directions : AllByRecursion (λ entry. is_gt (points_cmp (entry_points entry) (reverse (entry_points entry))) ≡ false) county.chains
   pub ascending : IsInOrder (on entry_points points_cmp) county.chains

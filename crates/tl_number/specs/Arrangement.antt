@@ -1,4 +1,4 @@
--- Arrangements: an order and a direction for each chain of a county, and the renaming and the county that follow from them.
+-- Arrangements: an order and a direction for each chain of a county, and the renaming and the county that result from them.
 use Rattle.std.specs.Prelude.{ℕ, List, map, filter, flat_map, reverse, Bool, IsPermutation}
 use Rattle.std.specs.Ordering.{is_gt, on}
 use Rattle.tl_layout.specs.ByType.{of_number}
@@ -21,7 +21,7 @@ use Rattle.tl_profile.specs.Shapes.{least_points}
 use Rattle.tl_number.specs.Growth.{first_seen, numbered}
 use Rattle.tl_number.specs.Uses.{all_uses, name_key, name_key_cmp, landmark_key, landmark_key_cmp}
 
--- TLIDs in their new order, each with whether its chain is turned
+-- TLIDs in their new order, each with a flag that its chain is turned
 abbrev pub Arrangement : Type 0
 Arrangement = List (ℕ × Bool)
 
@@ -29,11 +29,11 @@ Arrangement = List (ℕ × Bool)
 abbrev pub arranged_tlids : Arrangement → List ℕ
 arranged_tlids steps = map (λ step. step.0) steps
 
--- it names each TLID of the county once
+-- the arrangement names each TLID of the county once
 abbrev pub Arranges : Arrangement → County → Type 0
 Arranges steps county = IsPermutation (arranged_tlids steps) (tlids county)
 
--- the chain of this TLID, as it stands in the list
+-- the list's entries with this TLID
 abbrev pub entries_of : List (ℕ × Chain) → ℕ → List (ℕ × Chain)
 entries_of chains tlid = of_number (λ entry. entry.0) tlid chains
 
@@ -41,7 +41,7 @@ entries_of chains tlid = of_number (λ entry. entry.0) tlid chains
 abbrev pub chains_in_order : County → Arrangement → List (ℕ × Chain)
 chains_in_order county steps = flat_map (λ step. entries_of county.chains step.0) steps
 
--- the chains in their new order and direction, under the TLIDs 1, 2, 3, ..; all other numbers are the old ones
+-- the chains in their new order and direction, with the TLIDs 1, 2, 3, ..; all other numbers are the old ones
 abbrev pub placed : County → Arrangement → List (ℕ × Chain)
 placed county steps = numbered_from 1 (flat_map (λ step. map (λ entry. turned_if step.1 entry.1) (entries_of county.chains step.0)) steps)
 
@@ -53,11 +53,11 @@ nodes_in_order county steps = first_seen nat_cmp (nodes_along (placed county ste
 abbrev pub polygons_in_order : County → Arrangement → List PolygonKey
 polygons_in_order county steps = first_seen key_cmp (polygons_along (placed county steps))
 
--- a polygon's key with its new one: the CENID stays
+-- a polygon's old key and its new one, which has the same CENID
 abbrev pub under_cenid : PolygonKey × ℕ → PolygonKey × PolygonKey
 under_cenid pair = (pair.0, (pair.0.0, pair.1))
 
--- the keys of polygons with their new ones, in one numbering over all CENIDs
+-- the old and the new keys of polygons, in one numbering over all CENIDs
 abbrev pub new_keys : County → Arrangement → List (PolygonKey × PolygonKey)
 new_keys county steps = map under_cenid (numbered (polygons_in_order county steps))
 
@@ -65,7 +65,7 @@ new_keys county steps = map under_cenid (numbered (polygons_in_order county step
 abbrev pub names_in_order : County → Arrangement → List (ℕ × Body5)
 names_in_order county steps = in_order (on (name_key (all_uses (placed county steps))) name_key_cmp) county.names
 
--- a link with its polygon under the new number
+-- a link with the new key of its polygon
 abbrev pub relinked : List (PolygonKey × PolygonKey) → Fields8 → Fields8
 relinked keys link = record {
   file = link.file;
@@ -74,19 +74,19 @@ relinked keys link = record {
   land = link.land;
 }
 
--- the links with their polygons under the new numbers, in order; LANDs are the old ones
+-- the links with the new keys of their polygons, in order; LANDs are the old ones
 abbrev pub links_relinked : County → Arrangement → List Fields8
 links_relinked county steps = in_order link_cmp (map (relinked (new_keys county steps)) county.links)
 
--- landmarks in the order of their bodies and then of their links under the new POLYIDs
+-- landmarks in the order of their bodies and then of their links with the new POLYIDs
 abbrev pub landmarks_in_order : County → Arrangement → List (ℕ × List Body7)
 landmarks_in_order county steps = in_order (on (landmark_key (links_relinked county steps)) landmark_key_cmp) county.landmarks
 
--- the old TLIDs of the chains that are turned
+-- the old TLIDs of the turned chains
 abbrev pub turned_tlids : Arrangement → List ℕ
 turned_tlids steps = arranged_tlids (filter (λ step. step.1) steps)
 
--- the new numbers of an arrangement
+-- the renaming that results from an arrangement
 unfoldable pub renaming_of : County → Arrangement → Renumbering
 renaming_of county steps = record {
   chains = numbered (arranged_tlids steps);
@@ -97,7 +97,7 @@ renaming_of county steps = record {
   turned = turned_tlids steps;
 }
 
--- the county under its new numbers
+-- the county with its new numbers
 unfoldable pub arranged : County → Arrangement → County
 arranged county steps = record {
   chains = map (carried_chain (renaming_of county steps)) (chains_in_order county steps);
@@ -115,6 +115,6 @@ comes_turned chain = is_gt (points_cmp chain.points (reverse chain.points))
 abbrev pub entry_shape : ℕ × Chain → List Coordinates
 entry_shape entry = least_points entry.1.points
 
--- the arrangement in which each chain has its least points and the chains ascend by them
+-- the arrangement that gives each chain the lesser of its points and their reverse, and orders the chains by these
 abbrev pub ascending : County → Arrangement
 ascending county = map (λ entry. (entry.0, comes_turned entry.1)) (in_order (on entry_shape points_cmp) county.chains)

@@ -16,6 +16,6 @@ entry_polyid entry = entry.0.1
 abbrev pub polygons_by_number : County → List (PolygonKey × Option BodyP)
 polygons_by_number county = in_order (on entry_polyid nat_cmp) county.polygons
 
--- a polygon under a new number: its CENID and the content of its type P record stay
+-- a polygon with a new number, and with the same CENID and content of its type P record
 abbrev pub under_number : County → PolygonKey × ℕ → PolygonKey × Option BodyP
 under_number county pair = ((pair.0.0, pair.1), option_and_then (λ body. body) (polygon_under county pair.0))

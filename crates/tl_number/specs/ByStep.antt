@@ -8,30 +8,30 @@ use Rattle.tl_county.specs.Renumbering.{image, side_of}
 use Rattle.tl_number.specs.Arrangement.{under_cenid}
 use Rattle.tl_number.specs.Growth.{numbered}
 
--- the nodes where a chain starts and ends
+-- the start node and the end node of a chain
 abbrev pub ends_of : Chain → Option ℕ × Option ℕ
 ends_of chain = (chain.start_node, chain.end_node)
 
--- what stands on its left side and on its right
+-- its left side and its right side
 abbrev pub sides_of : Chain → PolygonSide × PolygonSide
 sides_of chain = (chain.left, chain.right)
 
--- the nodes at two ends, start before end, missing ones left out
+-- the nodes at two ends, start before end, without missing ones
 abbrev pub nodes_at : Option ℕ × Option ℕ → List ℕ
 nodes_at ends = option_to_list ends.0 ++ option_to_list ends.1
 
--- the polygons on two sides, left before right, missing ones left out
+-- the polygons on two sides, left before right, without missing ones
 abbrev pub polygons_at : PolygonSide × PolygonSide → List PolygonKey
 polygons_at sides = key_on sides.0 ++ key_on sides.1
 
--- a node, if there is one, under its number among these
+-- a node, if there is one, numbered by its position in this list
 abbrev pub node_among : List ℕ → Option ℕ → Option ℕ
 node_among nodes = option_map (image nat_cmp (numbered nodes))
 
 abbrev pub ends_among : List ℕ → Option ℕ × Option ℕ → Option ℕ × Option ℕ
 ends_among nodes ends = (node_among nodes ends.0, node_among nodes ends.1)
 
--- a side with its polygon, if there is one, under its number among these
+-- a side whose polygon, if there is one, is numbered by its position in this list
 abbrev pub polygon_among : List PolygonKey → List ℕ → Option ℕ → PolygonSide
 polygon_among polygons cenid None = record { cenid = cenid; polyid = None }
 polygon_among polygons cenid (Some polyid) = side_of (image key_cmp (map under_cenid (numbered polygons)) (cenid, polyid))

@@ -1,4 +1,4 @@
--- A canonical county: its numbers, directions and order are those of the canonical form.
+-- A canonical county: it has the numbers, directions and order of the canonical form.
 use Rattle.std.specs.Prelude.{ℕ, max, List, [], ◌∷◌}
 use Rattle.std.proofs.Props.{props}
 use Rattle.tl_county.specs.County.{County}
@@ -10,7 +10,7 @@ use Rattle.tl_number.specs.Growth.{GrowsFrom}
 use Rattle.tl_number.specs.ArrangedCounty.{IsArranged, IsTidy}
 use Rattle.tl_number.specs.Canonical.{IsNotAfter}
 
--- all numbers are those of the canonical form, the county is tidy, and its text comes after that of no other such county of the same map
+-- all numbers are canonical, the county is tidy, and its text doesn't come after that of any other such county of the same map
 pub record IsCanonCounty (county : County) : Type 0 where
   pub in_form : IsArranged county
   pub tidy : IsTidy county

@@ -20,12 +20,12 @@ use Rattle.tl_number.specs.Growth.{up_to}
 use Rattle.tl_county.specs.Packing.{by_type, type_after_type, p_polyid}
 use Rattle.tl_number.specs.ArrangedCounty.{IsArranged, IsTidy}
 
--- by LAND, then by the body
+-- in the order of LAND, then of the body
 abbrev pub seven_cmp : Fields7 → Fields7 → Ordering
 seven_cmp a b = ordering_then (nat_cmp a.land b.land) (landmark_body_cmp a.body b.body)
 
--- Type after type. Within a type the records ascend: those of chains by TLID and, where they have one, RTSQ; names by FEAT;
--- landmarks by LAND and content; links by LAND, POLYID, CENID and FILE; polygons by POLYID.
+-- The records are sorted by type. Within a type they ascend: records of chains by TLID and, if they have one, RTSQ; names by
+-- FEAT; landmarks by LAND and content; links by LAND, POLYID, CENID and FILE; polygons by POLYID.
 pub record StandsInOrder (records : List Record) : Type 0 where
   pub types : records ≡ type_after_type (by_type records)
   pub of_type_1 : IsInOrder (on one_tlid nat_cmp) (of_type_1 records)
@@ -38,13 +38,14 @@ pub record StandsInOrder (records : List Record) : Type 0 where
   pub of_type_i : IsInOrder (on i_tlid nat_cmp) (of_type_i records)
   pub of_type_p : IsInOrder (on p_polyid nat_cmp) (of_type_p records)
 
--- each list has n elements but for the last, which has at least one and at most n
+-- each list has n elements, except that the last has between one and n
 abbrev pub AreFull : {X : Type 0} → ℕ → List (List X) → Type 0
 AreFull n [] = ⊤
 AreFull n (xs ∷ []) = (1 ≤ length xs) × (length xs ≤ n)
 AreFull n (xs ∷ ys ∷ rest) = (length xs ≡ n) × AreFull n (ys ∷ rest)
 
--- Of each chain the records of types 2 and 4 are full but for the last, and those of types 2, 4 and 6 have the RTSQs 1, 2, 3, ..
+-- The records of types 2 and 4 of each chain are full, except for the last one, and the records of types 2, 4 and 6 of each
+-- chain have the RTSQs 1, 2, 3, ..
 pub record IsPacked (records : List Record) : Type 0 where
   pub points : (tlid : ℕ) → AreFull 10 (map (λ r. r.points) (of_number two_tlid tlid (of_type_2 records)))
   pub feats : (tlid : ℕ) → AreFull 5 (map (λ r. r.feats) (of_number four_tlid tlid (of_type_4 records)))
@@ -55,24 +56,24 @@ pub record IsPacked (records : List Record) : Type 0 where
   pub six_rtsqs : (tlid : ℕ) → map six_rtsq (of_number six_tlid tlid (of_type_6 records)) ≡ up_to
       (length (of_number six_tlid tlid (of_type_6 records)))
 
--- A list of records in the canonical order, packing and numbering, but for the choice of TLIDs and directions.
+-- A list of records in the canonical order, packing and numbering; the choice of TLIDs and directions is left open.
 pub record IsArrangedList (records : List Record) : Type 0 where
   pub linked : IsLinked records
   pub order : StandsInOrder records
   pub packed : IsPacked records
   pub numbers : IsArranged (county_of records)
 
--- such a list whose county is tidy
+-- such a list with a tidy county
 pub record IsTidyList (records : List Record) : Type 0 where
   pub in_form : IsArrangedList records
   pub tidy : IsTidy (county_of records)
 
--- the text of these records doesn't come after that of the others
+-- the text of these records doesn't come after the text of the others
 abbrev pub IsNotAfter : List Record → List Record → Type 0
 IsNotAfter records other = is_gt (slice_cmp nat_cmp (text_of records) (text_of other)) ≡ false
 
--- A canonical list of records: a tidy one whose text comes after that of no tidy list of the same map. `in_form` leaves it open which
--- chain has which TLID and direction, `tidy` says it as far as points tell, and `least` says the rest.
+-- A canonical list of records: a tidy one whose text comes after that of no tidy list of the same map. `in_form` doesn't
+-- determine the TLIDs and directions of chains, `tidy` determines them where points do, and `least` determines the rest.
 pub record IsCanonical (records : List Record) : Type 0 where
   pub in_form : IsArrangedList records
   pub tidy : IsTidy (county_of records)

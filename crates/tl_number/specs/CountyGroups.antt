@@ -1,4 +1,4 @@
--- The records of a county in groups: those of a chain, of a landmark, of a polygon.
+-- The records of a county in groups: by chain, by landmark, by polygon.
 use Rattle.std.specs.Prelude.{◌≡◌, ℕ, List, [], ◌∷◌, ◌++◌, map, Option, Some, option_map, option_to_list, slice_get}
 use Rattle.tl_layout.specs.Coordinates.{Coordinates}
 use Rattle.tl_layout.specs.Fields.{Fields1, Fields2, Fields4, Fields5, Fields6, Fields7, Fields8, FieldsI, FieldsP}
@@ -14,11 +14,11 @@ use Rattle.tl_county.specs.PolygonKeys.{PolygonKey}
 use Rattle.tl_number.specs.ByNumber.{polygons_by_number}
 use Rattle.tl_number.specs.Groups.{grouped}
 
--- the record of type 1 of each chain
+-- the type 1 record of each chain
 abbrev pub type_1_by_chain : County → List (List Fields1)
 type_1_by_chain county = map (λ entry. packed_one entry ∷ []) county.chains
 
--- these are the ends of the chain at a place
+-- the end points of the chain at a place
 abbrev pub AreEndsAt : County → ℕ → Coordinates × Coordinates → Type 0
 AreEndsAt county place ends = Some ends ≡ option_map (λ chain. (first_point chain.points, last_point chain.points)) (chain_at county place)
 
@@ -32,19 +32,19 @@ type_4_by_chain county = map packed_fours county.chains
 abbrev pub type_6_by_chain : County → List (List Fields6)
 type_6_by_chain county = map packed_sixes county.chains
 
--- this is the content of the record of type I of the chain at a place
+-- the content of the record of type I of the chain at a place
 abbrev pub IsLinkBodyAt : County → ℕ → Option BodyI → Type 0
-IsLinkBodyAt county place body = body ≡ option_map (λ chain. chain.link_body) (chain_at county place)
+IsLinkBodyAt county place body = body ≡ option_map (λ chain. chain.topology) (chain_at county place)
 
--- the record of type I of each chain
+-- the type I record of each chain
 abbrev pub type_i_by_chain : County → List (List FieldsI)
 type_i_by_chain county = map (λ entry. packed_i entry ∷ []) county.chains
 
--- the record of type 5 of each name
+-- the type 5 record of each name
 abbrev pub type_5_by_name : County → List (List Fields5)
 type_5_by_name county = map (λ entry. packed_five entry ∷ []) county.names
 
--- the records of type 7 of each landmark
+-- the type 7 records of each landmark
 abbrev pub type_7_by_landmark : County → List (List Fields7)
 type_7_by_landmark county = map packed_sevens county.landmarks
 
@@ -52,25 +52,25 @@ type_7_by_landmark county = map packed_sevens county.landmarks
 abbrev pub type_8_together : County → List (List Fields8)
 type_8_together county = county.links ∷ []
 
--- this is the polygon at a place by POLYID: its key, and the content of its record of type P, if it has one
+-- the polygon at a place by POLYID: its key, and the content of its record of type P, if it has one
 abbrev pub IsPolygonAt : County → ℕ → PolygonKey × Option BodyP → Type 0
 IsPolygonAt county place polygon = Some polygon ≡ slice_get (polygons_by_number county) place
 
--- the record of type P of each polygon that has one, by POLYID
+-- the type P record of each polygon that has one, by POLYID
 abbrev pub type_p_by_number : County → List (List FieldsP)
 type_p_by_number county = map (λ entry. option_to_list (packed_p entry)) (polygons_by_number county)
 
--- the records of types 1, 2 and 4, type after type
+-- the records of types 1, 2 and 4, one type after another
 abbrev pub types_1_to_4 : County → List Record
 types_1_to_4 county = map One (grouped (type_1_by_chain county))
     ++ (map Two (grouped (type_2_by_chain county)) ++ map Four (grouped (type_4_by_chain county)))
 
--- the records of types 5, 6 and 7, type after type
+-- the records of types 5, 6 and 7, one type after another
 abbrev pub types_5_to_7 : County → List Record
 types_5_to_7 county = map Five (grouped (type_5_by_name county))
     ++ (map Six (grouped (type_6_by_chain county)) ++ map Seven (grouped (type_7_by_landmark county)))
 
--- the records of types 8, I and P, type after type
+-- the records of types 8, I and P, one type after another
 abbrev pub types_8_to_p : County → List Record
 types_8_to_p county = map Eight (grouped (type_8_together county))
     ++ (map I (grouped (type_i_by_chain county)) ++ map P (grouped (type_p_by_number county)))

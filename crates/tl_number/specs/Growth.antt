@@ -5,12 +5,12 @@ use Rattle.std.specs.declared.cmp.Ordering.{Ordering}
 use Rattle.tl_county.specs.Orders.{stands_in}
 use Rattle.tl_county.specs.Packing.{numbered_from}
 
--- with the numbers up to greatest met, each further one is met before or is the next
+-- the numbers up to greatest have occurred; each further number has occurred before or is the next one
 abbrev pub GrowsFrom : ℕ → List ℕ → Type 0
 GrowsFrom greatest [] = ⊤
 GrowsFrom greatest (n ∷ ns) = (1 ≤ n) × (n ≤ greatest + 1) × GrowsFrom (max greatest n) ns
 
--- numbers by first appearance: 1 is met first, and none before the one below it
+-- numbers by first appearance: 1 occurs first, and each number only after the one below it
 abbrev pub Grows : List ℕ → Type 0
 Grows = GrowsFrom 0
 
@@ -18,16 +18,16 @@ Grows = GrowsFrom 0
 abbrev pub up_to : ℕ → List ℕ
 up_to n = range_with_len 1 n
 
--- the keys seen so far, and then the others in the order in which they are first seen
+-- the keys seen so far, and then the others in the order of their first occurrence
 abbrev pub first_seen_after : {K : Type 0} → (K → K → Ordering) → List K → List K → List K
 first_seen_after cmp seen [] = seen
 first_seen_after cmp seen (key ∷ keys) =
     cond (stands_in cmp key seen) (first_seen_after cmp seen keys) (first_seen_after cmp (seen ++ (key ∷ [])) keys)
 
--- the keys in the order in which they are first seen, each once
+-- the keys in the order of their first occurrence, without repetition
 abbrev pub first_seen : {K : Type 0} → (K → K → Ordering) → List K → List K
 first_seen cmp keys = first_seen_after cmp [] keys
 
--- each with its number, counted from 1
+-- each key with its number, counted from 1
 abbrev pub numbered : {K : Type 0} → List K → List (K × ℕ)
 numbered keys = map (λ pair. (pair.1, pair.0)) (numbered_from 1 keys)

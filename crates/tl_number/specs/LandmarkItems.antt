@@ -1,4 +1,4 @@
--- The links of landmarks under new numbers, and how landmarks stand to each other.
+-- The links of landmarks with new numbers, and the order of landmarks.
 use Rattle.std.specs.Prelude.{ℕ, List, filter_map, length, map, slice_get}
 use Rattle.std.specs.declared.cmp.Ordering.{Ordering}
 use Rattle.std.specs.Cmp.Lexicographic.{slice_cmp}
@@ -14,7 +14,7 @@ use Rattle.tl_county.specs.Renumbering.{image}
 use Rattle.tl_number.specs.Arrangement.{under_cenid}
 use Rattle.tl_number.specs.Growth.{numbered, up_to}
 
--- a link with its polygon and its landmark under their places in these lists, counted from 1
+-- a link with its polygon and its landmark numbered by their positions in these lists, from 1
 abbrev pub link_under : List PolygonKey → List ℕ → Fields8 → Fields8
 link_under polygons lands link = record {
   file = link.file;
@@ -27,21 +27,21 @@ link_under polygons lands link = record {
 abbrev pub lands_at : County → List ℕ → List ℕ
 lands_at county places = filter_map (slice_get (lands county)) places
 
--- the links with their polygons and landmarks under their places in these lists, in order
+-- the links with their polygons and landmarks numbered by their positions in these lists, in order
 abbrev pub numbered_links : County → List PolygonKey → List ℕ → List Fields8
 numbered_links county polygons numbers = in_order link_cmp (map (link_under polygons numbers) county.links)
 
--- the links of the landmark at a place, LANDs counted from 1
+-- the links of the landmark at a place, for LANDs counted from 1
 abbrev pub own_links : List Fields8 → ℕ → ℕ → List Fields8
 own_links links count place = links_with links (slice_get (up_to count) place)
 
--- by the bodies, the links, the places
+-- in the order of the bodies, the links, the places
 abbrev pub landmark_place_cmp : County → List Fields8 → ℕ → ℕ → ℕ → Ordering
 landmark_place_cmp county links count a b =
     ordering_then (slice_cmp landmark_body_cmp (bodies_at county a) (bodies_at county b))
     (ordering_then (slice_cmp link_part_cmp (map link_part (own_links links count a)) (map link_part (own_links links count b)))
     (nat_cmp a b))
 
--- the same with these polygons, and with the landmarks as they stand in the county
+-- the same with these polygons, and with the landmarks in the county's order
 abbrev pub place_cmp_under : County → List PolygonKey → ℕ → ℕ → Ordering
 place_cmp_under county polygons = landmark_place_cmp county (numbered_links county polygons (lands county)) (length county.landmarks)

@@ -1,14 +1,14 @@
--- Choices by their numbers, and the one of least text.
+-- Choices by their numbers, and the one with the least text.
 use Rattle.std.specs.Prelude.{ℕ, ◌<◌, List}
 use Rattle.tl_layout.specs.declared.record_type.Record.{Record}
 use Rattle.tl_county.specs.County.{County}
 use Rattle.tl_number.specs.Canonical.{IsNotAfter}
 use Rattle.tl_number.specs.Tidy.{arranged_list, numbered_choice}
 
--- the list of records of the choice of a number
+-- the list of records of the choice with this number
 abbrev pub choice_list : County → ℕ → List Record
 choice_list county n = arranged_list county (numbered_choice county n)
 
--- its text doesn't come after that of the choice of any number below the bound
+-- its text doesn't come after that of the choice with any number below the bound
 abbrev pub IsLeastBelow : County → ℕ → ℕ → Type 0
 IsLeastBelow county bound n = (m : ℕ) → m < bound → IsNotAfter (choice_list county n) (choice_list county m)

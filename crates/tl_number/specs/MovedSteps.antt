@@ -1,40 +1,40 @@
--- Steps that are moved at the open places of the order of shapes, and the places at which none of them moves.
+-- Moving steps at the open places of the order of shapes, and the places at which no step moves.
 use Rattle.std.specs.Prelude.{ℕ, ◌≡◌, ◌+◌, ◌<◌, ◌≤◌, List, [], ◌∷◌, length, map, not, slice_get, ⊤}
 use Rattle.std.specs.List.{AllByRecursion}
 use Rattle.tl_county.specs.County.{County}
-use Rattle.tl_profile.specs.declared.chain_walk.ChainWalk.{ChainWalk}
+use Rattle.tl_profile.specs.declared.directed_chain.DirectedChain.{DirectedChain}
 use Rattle.tl_profile.specs.declared.open_places.OpenPlace.{OpenPlace}
 use Rattle.tl_number.specs.Steps.{step_chain}
 use Rattle.tl_number.specs.ViewFacts.{AreWhole}
 
 -- the step in the other direction
-abbrev pub other_way : ChainWalk → ChainWalk
+abbrev pub other_way : DirectedChain → DirectedChain
 other_way step = record { place = step.place; turned = not step.turned }
 
--- at the place stands a step, and with it as many as have its shape
+-- there is a step at the place, and as many from it on as the place counts
 pub record IsWithin (count : ℕ) (at : OpenPlace) : Type 0 where
   pub some : 0 < at.alike
   pub there : at.place + at.alike ≤ count
 
--- so at each of these places
+-- the same for each of these places
 abbrev pub AreWithin : ℕ → List OpenPlace → Type 0
 AreWithin count places = AllByRecursion (IsWithin count) places
 
--- an open place moves no step to the place or from it
+-- an open place moves no step to or from the place
 abbrev pub IsApart : ℕ → OpenPlace → Type 0
 IsApart place at = at.place ≤ place → at.place + at.alike ≤ place
 
--- two lists agree at each place that is apart from all open ones
+-- two lists agree at each place that no open place moves
 abbrev pub AgreeApart : {X : Type 0} → List OpenPlace → List X → List X → Type 0
 AgreeApart places xs ys = (place : ℕ) → AllByRecursion (IsApart place) places → slice_get xs place ≡ slice_get ys place
 
--- no open place stands in front of an earlier one
+-- the open places ascend
 abbrev pub StandInOrder : List OpenPlace → Type 0
 StandInOrder [] = ⊤
 StandInOrder (at ∷ places) = AllByRecursion (λ later. at.place ≤ later.place) places × StandInOrder places
 
--- the steps of two arrangements of a county, which agree but for what moves at open places
-pub record AgreeButOpen (county : County) (places : List OpenPlace) (one other : List ChainWalk) : Type 0 where
+-- the steps of two arrangements of a county, which agree except for what open places move
+pub record AgreeButOpen (county : County) (places : List OpenPlace) (one other : List DirectedChain) : Type 0 where
   pub whole : AreWhole county one
   pub other_whole : AreWhole county other
   pub count : length one ≡ length other
@@ -42,10 +42,10 @@ pub record AgreeButOpen (county : County) (places : List OpenPlace) (one other :
   pub in_order : StandInOrder places
   pub apart : AgreeApart places one other
 
--- at a place two lists of steps have the same chain, or none
-abbrev pub HaveSameChainAt : County → List ChainWalk → List ChainWalk → ℕ → Type 0
+-- two lists of steps have the same chain at a place, or both have none
+abbrev pub HaveSameChainAt : County → List DirectedChain → List DirectedChain → ℕ → Type 0
 HaveSameChainAt county one other place = slice_get (map (step_chain county) one) place ≡ slice_get (map (step_chain county) other) place
 
--- so at each place below this one
-abbrev pub HaveSameChainsBelow : County → ℕ → List ChainWalk → List ChainWalk → Type 0
+-- the same for each place below this one
+abbrev pub HaveSameChainsBelow : County → ℕ → List DirectedChain → List DirectedChain → Type 0
 HaveSameChainsBelow county end one other = (place : ℕ) → place < end → HaveSameChainAt county one other place

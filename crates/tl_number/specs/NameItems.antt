@@ -1,4 +1,4 @@
--- Names with the ranks of their first uses, and how they stand to each other.
+-- Names with the ranks of their first uses, and the order of names.
 use Rattle.std.specs.Prelude.{ℕ, ◌+◌, List, flat_map, Option, Some, None, slice_get}
 use Rattle.std.specs.declared.cmp.Ordering.{Ordering}
 use Rattle.std.specs.List.{position}
@@ -9,11 +9,11 @@ use Rattle.tl_county.specs.ChartWords.{feats_of, name_at}
 use Rattle.tl_county.specs.County.{County}
 use Rattle.tl_county.specs.CountyRules.{feats}
 use Rattle.tl_number.specs.Steps.{step_chain}
-use Rattle.tl_profile.specs.declared.chain_walk.ChainWalk.{ChainWalk}
+use Rattle.tl_profile.specs.declared.directed_chain.DirectedChain.{DirectedChain}
 use Rattle.tl_number.specs.declared.name_order.RankedName.{RankedName}
 
--- the FEATs that chains name, along steps
-abbrev pub feats_along_steps : County → List ChainWalk → List ℕ
+-- the FEATs that chains list, along steps
+abbrev pub feats_along_steps : County → List DirectedChain → List ℕ
 feats_along_steps county steps = flat_map (λ step. feats_of (step_chain county step)) steps
 
 -- a place counted from 1, and 0 for none
@@ -21,7 +21,7 @@ abbrev pub from_one : Option ℕ → ℕ
 from_one None = 0
 from_one (Some place) = place + 1
 
--- the number of a FEAT among those first seen, from 1, or 0
+-- the number of a FEAT by its first use, from 1, or 0 without a use
 abbrev pub rank_of : List ℕ → Option ℕ → ℕ
 rank_of seen None = 0
 rank_of seen (Some feat) = from_one (position (λ other. is_eq (nat_cmp feat other)) seen)
@@ -33,7 +33,7 @@ ranked_at county seen place = record { rank = rank_of seen (slice_get (feats cou
 abbrev pub ranked_place : RankedName → ℕ
 ranked_place name = name.place
 
--- by the bytes, the rank, the place
+-- in the order of the bytes, the rank, the place
 abbrev pub ranked_cmp : County → RankedName → RankedName → Ordering
 ranked_cmp county a b =
     ordering_then (option_cmp name_body_cmp (name_at county a.place) (name_at county b.place))

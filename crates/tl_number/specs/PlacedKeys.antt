@@ -1,11 +1,16 @@
--- How keys in a list are found: by marks at their numbers, or by a table of the others.
+-- How keys in a list are found: by marks in slots, or by a table of the other keys.
+use Rattle.std.specs.Option.{option_or}
 use Rattle.std.specs.Prelude.{◌≡◌, ◌+◌, ◌⊎◌, ℕ, List, Option, Some, slice_get, slice_index}
 
--- no key stands at two places
+-- no key is at two places
 abbrev pub AreApart : {K : Type 0} → List K → Type 0
 AreApart {K} keys = (first second : ℕ) (key : K) → slice_get keys first ≡ Some key → slice_get keys second ≡ Some key → first ≡ second
 
--- where each key stands is told by the mark at its number, counted from 1, or by what is known of the others
+-- the place of each key is in the mark in its slot, counted from 1, or in the table of the other keys
 abbrev pub ArePlaced : {K : Type 0} → (K → ℕ) → (K → Option ℕ) → List ℕ → List K → Type 0
-ArePlaced {K} number_of others marks keys =
-    (place : ℕ) (key : K) → slice_get keys place ≡ Some key → (slice_index marks (number_of key) ≡ place + 1) ⊎ (others key ≡ Some place)
+ArePlaced {K} slot others marks keys =
+    (place : ℕ) (key : K) → slice_get keys place ≡ Some key → (slice_index marks (slot key) ≡ place + 1) ⊎ (others key ≡ Some place)
+
+-- the first table's place of a key, or the second table's if the first has none
+abbrev pub told_by : {K : Type 0} → (K → Option ℕ) → (K → Option ℕ) → K → Option ℕ
+told_by first second key = option_or (first key) (second key)

@@ -1,4 +1,4 @@
--- The numbers by which records name things.
+-- The numbers that records use as names.
 use Rattle.std.specs.Prelude.{ℕ, List, [], ◌∷◌, ◌++◌, option_to_list}
 use Rattle.tl_layout.specs.declared.record_type.Record.{Record}
 use Rattle.tl_layout.specs.declared.record_type.Record.TheVariants.{One, Two, Four, Five, Six, Seven, Eight, I, P}
@@ -17,7 +17,7 @@ numbers_of (I r) =
     ++ (option_to_list r.left.polyid ++ option_to_list r.right.polyid))
 numbers_of (P r) = r.polyid ∷ []
 
--- The greatest number of a canonical list. A chain has two ends and two sides, so there are at most twice as many nodes, and
--- polygons, as there are chains.
+-- The greatest number in a canonical list. A chain has two ends and two sides, so there are at most twice as many nodes, and
+-- polygons, as chains.
 abbrev pub greatest_number : ℕ
 greatest_number = 20000000

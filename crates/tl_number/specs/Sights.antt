@@ -1,4 +1,4 @@
--- Ways to see a county: as it is, or without some of what it tells. Canonical lists are told through one of them.
+-- Views of a county: the county itself, or the county without some of its content. Each canonical list belongs to one view.
 use Rattle.std.specs.Prelude.{ℕ, ◌≡◌}
 use Rattle.tl_county.specs.County.{County}
 use Rattle.tl_county.specs.CountyRules.{IsCounty}
@@ -6,13 +6,13 @@ use Rattle.tl_county.specs.Limits.{IsWithinLimits}
 use Rattle.tl_county.specs.Renumbering.{Renumbering, Carries}
 use Rattle.tl_profile.specs.Profile.{IsInProfile}
 
--- the county as it is
+-- the county itself
 abbrev pub plain : County → County
 plain county = county
 
--- A way to see counties, each of them whole or without some of what it tells. What is seen of a county is a county again; it is in the
--- profile and within the limits where that one is; seen once more it stays the same; and a county of which nothing is hidden is
--- carried onto such counties alone.
+-- A view of counties: it shows each county whole or without some of its content. The view of a county is again a county; it is
+-- in the profile and within the limits if the county is. Viewing twice is the same as viewing once. If the view hides nothing
+-- of a county, it hides nothing of any renaming of it.
 pub record IsSight (seen : County → County) : Type 0 where
   pub is_county : (county : County) → IsCounty county → IsCounty (seen county)
   pub profile : (county : County) → IsInProfile county → IsInProfile (seen county)

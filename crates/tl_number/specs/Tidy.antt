@@ -1,4 +1,4 @@
--- The choices by which a county gets tidy: which there are, and which of them has the least text.
+-- The choices that make a county tidy: which there are, and which has the least text.
 use Rattle.std.specs.Prelude.{ℕ, ◌≡◌, List, flat_map, Bool, not, false}
 use Rattle.std.specs.List.{AllByRecursion}
 use Rattle.tl_layout.specs.Coordinates.{Coordinates}
@@ -13,7 +13,7 @@ use Rattle.tl_number.specs.Arrangement.{Arrangement, Arranges, entries_of, entry
 use Rattle.tl_number.specs.Canonical.{IsNotAfter}
 use Rattle.tl_number.specs.NumberedChoices.{chosen}
 
--- a choice: an arrangement of the county under which it is tidy
+-- a choice: an arrangement that makes the county tidy
 pub record IsChoice (county : County) (steps : Arrangement) : Type 0 where
   pub arranges : Arranges steps county
   pub tidy : IsTidy (arranged county steps)
@@ -27,7 +27,7 @@ pub record IsLeastChoice (county : County) (steps : Arrangement) : Type 0 where
   pub choice : IsChoice county steps
   pub least : (other : Arrangement) → IsChoice county other → IsNotAfter (arranged_list county steps) (arranged_list county other)
 
--- no two chains have one shape, and no shape is the same from both ends
+-- no two chains have the same shape, and no shape is the same from both ends
 pub record HasShapesApart (county : County) : Type 0 where
   pub apart : has_repeat points_cmp (shapes county) ≡ false
   pub one_way : AllByRecursion (λ points. is_either_way points ≡ false) (shapes county)
@@ -40,7 +40,7 @@ step_shape county step = flat_map entry_shape (entries_of county.chains step.0)
 abbrev pub turned_step : ℕ × Bool → ℕ × Bool
 turned_step step = (step.0, not step.1)
 
--- The choice of a number. That of 0 is the ascending arrangement; others have chains of one shape in another order, or turn chains that are
--- their own reverse.
+-- The choice with this number. Number 0 is the ascending arrangement; others have chains with the same shape in another order, or
+-- turn chains that are their own reverse.
 unfoldable pub numbered_choice : County → ℕ → Arrangement
 numbered_choice county n = (chosen points_cmp is_either_way (step_shape county) turned_step (ascending county) n).0

@@ -6,7 +6,7 @@ use Rattle.tl_layout.specs.declared.record_type.Record.{Record}
 use Rattle.tl_layout.specs.declared.record_type.Record.TheVariants.{One}
 use Rattle.tl_county.specs.County.{County}
 use Rattle.tl_county.specs.Packing.{packed_one}
-use Rattle.tl_profile.specs.declared.chain_walk.ChainWalk.{ChainWalk}
+use Rattle.tl_profile.specs.declared.directed_chain.DirectedChain.{DirectedChain}
 use Rattle.tl_number.specs.Arrangement.{arranged}
 use Rattle.tl_number.specs.CountyGroups.{type_1_by_chain}
 use Rattle.tl_number.specs.Groups.{grouped}
@@ -16,23 +16,24 @@ use Rattle.tl_number.specs.Steps.{step_chain}
 use Rattle.tl_number.specs.Canonical.{IsNotAfter}
 use Rattle.tl_number.specs.Tidy.{numbered_choice}
 
--- the record of type 1 of a step's chain, where the step stands at a place
-abbrev pub one_at : County → ChainWalk → ℕ → Option Record
+-- the record of type 1 of a step's chain if the step is at a place
+abbrev pub one_at : County → DirectedChain → ℕ → Option Record
 one_at county step place = option_map (λ chain. One (packed_one (place + 1, chain))) (step_chain county step)
 
--- the records of type 1 of a county
+-- the type 1 records of a county
 abbrev pub ones_of : County → List Record
 ones_of county = map One (grouped (type_1_by_chain county))
 
--- the choices of two numbers by their records of type 1
+-- the order of two choices by their records of type 1
 abbrev pub ones_cmp : County → ℕ → ℕ → Ordering
 ones_cmp county n m = groups_cmp One (type_1_by_chain (arranged county (numbered_choice county n)))
     (type_1_by_chain (arranged county (numbered_choice county m)))
 
--- the records of type 1 of the choice of a number don't come after those of the choice of any number below the bound
+-- the records of type 1 of the choice with this number don't come after those of the choice with any number below the bound
 abbrev pub IsLeastOne : County → ℕ → ℕ → Type 0
 IsLeastOne county bound n = (m : ℕ) → m < bound → is_gt (ones_cmp county n m) ≡ false
 
--- the text of the choice of a number doesn't come after that of the choice of any number from one to below another
+-- the text of the choice with this number doesn't come after that of the choice with any number from first to below the
+-- bound
 abbrev pub IsLeastFrom : County → ℕ → ℕ → ℕ → Type 0
 IsLeastFrom county first bound n = (m : ℕ) → first ≤ m → m < bound → IsNotAfter (choice_list county n) (choice_list county m)

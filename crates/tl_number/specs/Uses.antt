@@ -1,4 +1,5 @@
--- What tells names and landmarks apart beside their content: where chains use a name, and the polygons of a landmark.
+-- What distinguishes names and landmarks besides their content: where chains use a name, and the polygons of a
+-- landmark.
 use Rattle.std.specs.Prelude.{ℕ, suc, ◌==◌, List, [], ◌∷◌, map, flat_map, filter}
 use Rattle.std.specs.declared.cmp.Ordering.{Ordering}
 use Rattle.std.specs.Ordering.{nat_cmp, ordering_then}
@@ -9,15 +10,15 @@ use Rattle.tl_layout.specs.declared.type7.Body7.{Body7}
 use Rattle.tl_county.specs.BodyOrder.{name_body_cmp, landmark_body_cmp, LinkPart, link_part, link_part_cmp}
 use Rattle.tl_shape.specs.Chain.{Chain}
 
--- a use of a name: a TLID, and the place in the chain's list of names, from 1
+-- a use of a name: a TLID, and the place in the chain's list of names, counted from 1
 abbrev pub Use : Type 0
 Use = ℕ × ℕ
 
--- by TLID, then by place
+-- in the order of TLIDs, then of places
 abbrev pub use_cmp : Use → Use → Ordering
 use_cmp u v = ordering_then (nat_cmp u.0 v.0) (nat_cmp u.1 v.1)
 
--- a chain's names with their uses, from this place on
+-- a chain's names with their uses, from this place
 abbrev pub uses_from : ℕ → ℕ → List ℕ → List (Use × ℕ)
 uses_from tlid place [] = []
 uses_from tlid place (feat ∷ feats) = ((tlid, place), feat) ∷ uses_from tlid (suc place) feats
@@ -30,7 +31,7 @@ all_uses chains = flat_map (λ entry. uses_from entry.0 1 entry.1.feats) chains
 abbrev pub uses_of_name : List (Use × ℕ) → ℕ → List Use
 uses_of_name uses feat = map (λ u. u.0) (filter (λ u. u.1 == feat) uses)
 
--- what orders a name: its 43 bytes, then its uses
+-- the sort key of a name: its 43 bytes, then its uses
 abbrev pub NameKey : Type 0
 NameKey = Body5 × List Use
 
@@ -44,7 +45,7 @@ name_key_cmp k j = ordering_then (name_body_cmp k.0 j.0) (slice_cmp use_cmp k.1 
 abbrev pub links_of : List Fields8 → ℕ → List LinkPart
 links_of links land = map link_part (filter (λ link. link.land == land) links)
 
--- what orders a landmark: its bodies, then its polygons
+-- the sort key of a landmark: its bodies, then its polygons
 abbrev pub LandmarkKey : Type 0
 LandmarkKey = List Body7 × List LinkPart
 

@@ -1,4 +1,4 @@
--- What is true of the tables of a county in an arrangement.
+-- Facts about the tables of a county in an arrangement.
 use Rattle.std.specs.Prelude.{ℕ, ◌≡◌, ◌+◌, ◌<◌, ◌^◌, List, map, filter, length, Some, slice_get, nat_le}
 use Rattle.std.specs.List.{range_with_len}
 use Rattle.std.specs.Ordering.{nat_cmp}
@@ -14,13 +14,13 @@ use Rattle.tl_number.specs.ByStep.{ends_of, sides_of}
 use Rattle.tl_number.specs.ByNumber.{polygons_by_number, under_number}
 use Rattle.tl_number.specs.Growth.{numbered}
 use Rattle.tl_number.specs.Steps.{AreSteps, arrangement_of}
-use Rattle.tl_profile.specs.declared.chain_walk.ChainWalk.{ChainWalk}
+use Rattle.tl_profile.specs.declared.directed_chain.DirectedChain.{DirectedChain}
 use Rattle.tl_number.specs.declared.arranged_tables.LandmarkTables.{LandmarkTables}
 use Rattle.tl_number.specs.declared.arranged_tables.NameTables.{NameTables}
 use Rattle.tl_number.specs.declared.arranged_tables.NodeTables.{NodeTables}
 use Rattle.tl_number.specs.declared.arranged_tables.PolygonTables.{PolygonTables}
 
--- these elements stand in the list at these places
+-- the list has these elements at these places
 abbrev pub AreReadAt : {X : Type 0} → List X → List ℕ → List X → Type 0
 AreReadAt xs places ys = map (slice_get xs) places ≡ map Some ys
 
@@ -28,33 +28,33 @@ AreReadAt xs places ys = map (slice_get xs) places ≡ map Some ys
 abbrev pub NamesEachOnce : County → Arrangement → Type 0
 NamesEachOnce county steps = (tlid : ℕ) → times nat_cmp tlid (arranged_tlids steps) ≡ times nat_cmp tlid (tlids county)
 
--- how many of the links have a LAND up to this one
+-- how many links have a LAND up to this one
 abbrev pub links_up_to : List Fields8 → ℕ → ℕ
 links_up_to links land = length (filter (λ link. nat_le link.land land) links)
 
--- the same for each of 0, 1, 2, .., one more than count, so that the links of each LAND lie between two of these
+-- the same for each of 0, 1, 2, .., up to count; the links of each LAND are between two consecutive bounds
 abbrev pub link_bounds : List Fields8 → ℕ → List ℕ
 link_bounds links count = map (links_up_to links) (range_with_len 0 (count + 1))
 
--- the county under the arrangement of these steps
-abbrev pub stepped : County → List ChainWalk → County
+-- the county in the arrangement of these steps
+abbrev pub stepped : County → List DirectedChain → County
 stepped county steps = arranged county (arrangement_of county steps)
 
--- the steps are those of an arrangement, each chain once, and what they make is a county within its limits
-pub record AreWhole (county : County) (steps : List ChainWalk) : Type 0 where
+-- the steps make an arrangement, with each chain once, and the arranged county is a county within its limits
+pub record AreWhole (county : County) (steps : List DirectedChain) : Type 0 where
   pub there : AreSteps county steps
   pub once : NamesEachOnce county (arrangement_of county steps)
   pub few : length county.chains < 2 ^ 32
   pub is_county : IsCounty (stepped county steps)
   pub within_limits : IsWithinLimits most_records (stepped county steps)
 
--- nodes by first appearance, and the ends of each chain
-pub record TellsNodes (county : County) (steps : List ChainWalk) (tables : NodeTables) : Type 0 where
+-- the nodes by first appearance, and the ends of each chain
+pub record TellsNodes (county : County) (steps : List DirectedChain) (tables : NodeTables) : Type 0 where
   pub numbers : tables.numbers ≡ nodes_in_order county (arrangement_of county steps)
   pub ends : tables.ends.items ≡ map ends_of (entry_values (stepped county steps).chains)
 
--- polygons by first appearance, the sides of each chain, the new keys in order, and where the contents stand
-pub record TellsPolygons (county : County) (steps : List ChainWalk) (tables : PolygonTables) : Type 0 where
+-- the polygons by first appearance, the sides of each chain, the new keys in order, and the places of the contents
+pub record TellsPolygons (county : County) (steps : List DirectedChain) (tables : PolygonTables) : Type 0 where
   pub numbers : tables.numbers ≡ polygons_in_order county (arrangement_of county steps)
   pub few : length tables.numbers < 10 ^ 10
   pub sides : tables.sides.items ≡ map sides_of (entry_values (stepped county steps).chains)
@@ -62,14 +62,14 @@ pub record TellsPolygons (county : County) (steps : List ChainWalk) (tables : Po
   pub bodies : AreReadAt (entry_values county.polygons) tables.places.items (entry_values (stepped county steps).polygons)
   pub by_number : map (under_number county) (numbered tables.numbers) ≡ polygons_by_number (stepped county steps)
 
--- names in their new order
-pub record TellsNames (county : County) (steps : List ChainWalk) (tables : NameTables) : Type 0 where
+-- the names in their new order
+pub record TellsNames (county : County) (steps : List DirectedChain) (tables : NameTables) : Type 0 where
   pub feats : tables.feats ≡ entry_keys (names_in_order county (arrangement_of county steps))
   pub names : AreReadAt county.names tables.places.items (names_in_order county (arrangement_of county steps))
   pub few : length tables.feats < 2 ^ 32
 
--- landmarks in their new order, their links, and between which bounds each one's links lie
-pub record TellsLandmarks (county : County) (steps : List ChainWalk) (tables : LandmarkTables) : Type 0 where
+-- the landmarks in their new order, their links, and the bounds between which the links of each are
+pub record TellsLandmarks (county : County) (steps : List DirectedChain) (tables : LandmarkTables) : Type 0 where
   pub landmarks : AreReadAt county.landmarks tables.places.items (landmarks_in_order county (arrangement_of county steps))
   pub links : tables.links.items ≡ (stepped county steps).links
   pub bounds : tables.bounds.items ≡ link_bounds (stepped county steps).links (length tables.places.items)

@@ -1,4 +1,4 @@
-//! A county in an arrangement of its chains, read through the county that it comes from.
+//! A county in an arrangement of its chains, read through its source county.
 
 ghost use Rattle.std.specs.Ordering.{nat_cmp};
 ghost use Rattle.std.specs.Option.{option_and_then};
@@ -20,30 +20,30 @@ use crate::renumbering::new_feat;
 use std::marker::PhantomData;
 use tl_county::{Chart, PolygonKey};
 use tl_layout::{BodyP, Rec8};
-use tl_profile::ChainWalk;
+use tl_profile::DirectedChain;
 
-/// What is known of an arranged county beyond that it is one, in terms of the county that it comes from and of itself.
-pub trait Standing {
+/// A fact about an arranged county, in terms of its source county and of itself.
+pub trait Evidence {
     ghost use Rattle.tl_county.specs.County.{County};
 
     ghost holds: { County → County → Type 0 };
 }
 
-/// Nothing more is known.
+/// No further fact is known.
 #[derive(Drop)]
-pub struct AnyArrangement;
+pub struct Unknown;
 
-impl Standing for AnyArrangement {
+impl Evidence for Unknown {
     ghost holds = { λ source county. Unit {0} };
 }
 
-/// A county whose chains stand in the order and in the directions of an arrangement, with all numbers that follow from
-/// it. Only the new numbers of nodes and sides are kept chain by chain: all other answers are those of the county that it comes
-/// from, turned and renumbered as they are read.
+/// A county whose chains have the order and the directions of an arrangement, and all numbers that follow from these. It stores
+/// only the new numbers of nodes and sides for each chain. Everything else is read from the source county, and turned and
+/// renumbered as it is read.
 #[derive(Drop)]
-pub struct Arranged<C: Chart, S: Standing = AnyArrangement> {
+pub struct Arranged<C: Chart, S: Evidence = Unknown> {
     pub(crate) chart: C,
-    pub(crate) steps: Vec<ChainWalk>,
+    pub(crate) steps: Vec<DirectedChain>,
     pub(crate) nodes: NodeTables,
     pub(crate) polygons: PolygonTables,
     pub(crate) names: NameTables,
@@ -58,7 +58,7 @@ pub struct Arranged<C: Chart, S: Standing = AnyArrangement> {
     ghost stands: { ∥ S.holds (C.county chart) (stepped (C.county chart) steps.items) ∥₁ },
 }
 
-/// The old place at a new one, or none past the last one.
+/// The old place for a new one, or `None` past the last one.
 pub(crate) fn old_place(places: &[u32], place: usize) -> Option<usize>
     ensures { result ≡ slice_get places.now place }
 {
@@ -68,36 +68,36 @@ pub(crate) fn old_place(places: &[u32], place: usize) -> Option<usize>
     }
 }
 
-/// The sides at a place, or none past the last one.
+/// The sides at a place, or `None` past the last one.
 fn sides_there(sides: &[Sides], place: usize) -> Option<Sides>
     ensures { result ≡ slice_get sides.now place }
 {
     sides.get(place).copied()
 }
 
-impl<C: Chart, S: Standing> Arranged<C, S> {
-    /// The step of the chain at a place in the new order, or none past the last one.
-    pub(crate) fn step_at(&self, place: usize) -> Option<ChainWalk>
+impl<C: Chart, S: Evidence> Arranged<C, S> {
+    /// The step of the chain at a place in the new order, or `None` past the last one.
+    pub(crate) fn step_at(&self, place: usize) -> Option<DirectedChain>
         ensures { result ≡ slice_get self.now.steps.items place }
     {
         self.steps.as_slice().get(place).copied()
     }
 
-    /// The nodes where the chain at a place starts and ends, or none past the last chain.
+    /// The start node and the end node of the chain at a place, or `None` past the last chain.
     pub(crate) fn ends_at(&self, place: usize) -> Option<Ends>
         ensures { result ≡ option_map ends_of (chain_at (stepped (C.county self.now.chart) self.now.steps.items) place) }
     {
         self.nodes.ends.as_slice().get(place).copied()
     }
 
-    /// What stands on the left and on the right side of the chain at a place, or none past the last chain.
+    /// The left and the right side of the chain at a place, or `None` past the last chain.
     pub(crate) fn sides_at(&self, place: usize) -> Option<Sides>
         ensures { result ≡ option_map sides_of (chain_at (stepped (C.county self.now.chart) self.now.steps.items) place) }
     {
         sides_there(&self.polygons.sides, place)
     }
 
-    /// A further name under its new FEAT, if there is one.
+    /// A further name with its new FEAT, if there is one.
     pub(crate) fn renumbered_feat(&self, feat: Option<u32>) -> Option<u32>
         ensures { result ≡ option_map (image nat_cmp (renaming_of (C.county self.now.chart) (arrangement_of (C.county self.now.chart) self.now.steps.items)).names) feat }
     {
@@ -107,7 +107,7 @@ impl<C: Chart, S: Standing> Arranged<C, S> {
         }
     }
 
-    /// The content of the type P record of the polygon at a place in the order of the new keys, or none past the last one.
+    /// The content of the type P record of the polygon at a place in the order of the new keys, or `None` past the last one.
     pub(crate) fn polygon_body_at_key(&self, place: usize) -> Option<Option<BodyP>>
         ensures { result ≡ slice_get (entry_values (stepped (C.county self.now.chart) self.now.steps.items).polygons) place }
     {
@@ -117,8 +117,8 @@ impl<C: Chart, S: Standing> Arranged<C, S> {
         }
     }
 
-    /// The content of the type P record of the polygon at a place in the order of the new numbers, if it has one. Where all polygons
-    /// have one CENID, it stands at that place in the order of the new keys too, and isn't looked up.
+    /// The content of the type P record of the polygon at a place in the order of the new numbers, if it has one. If all
+    /// polygons have the same CENID, it is at that place in the order of the new keys too, and isn't searched.
     fn polygon_body_at_number(&self, place: usize, old: PolygonKey) -> Option<BodyP>
         requires { slice_get self.now.polygons.numbers place ≡ Some old }
         ensures { result ≡ option_and_then (λ body. body) (polygon_under (C.county self.now.chart) old) }
@@ -131,7 +131,7 @@ impl<C: Chart, S: Standing> Arranged<C, S> {
         self.polygon_body_at_key(place).flatten()
     }
 
-    /// The polygon at a place in the order of the new numbers, or none past the last one: its new key, and the content of its
+    /// The polygon at a place in the order of the new numbers, or `None` past the last one: its new key, and the content of its
     /// type P record, if it has one.
     pub(crate) fn polygon_at_number(&self, place: usize) -> Option<(PolygonKey, Option<BodyP>)>
         ensures { result ≡ slice_get (polygons_by_number (stepped (C.county self.now.chart) self.now.steps.items)) place }
@@ -147,11 +147,11 @@ impl<C: Chart, S: Standing> Arranged<C, S> {
     }
 }
 
-impl<C: Chart, S: Standing> Arranged<C, S> {
+impl<C: Chart, S: Evidence> Arranged<C, S> {
     ghost use Rattle.tl_number.specs.Views.{arranged_county};
 
-    /// The polygon of the number (POLYID) that is one above the place, which is below the count of polygons: its key, and the
-    /// content of its type P record, if it has one.
+    /// The polygon with the POLYID `place + 1`: its key, and the content of its type P record, if it has one. `place` must be
+    /// below the number of polygons.
     pub fn polygon_by_number(&self, place: usize) -> (PolygonKey, Option<BodyP>)
         requires { place < length (arranged_county self.now).polygons }
         ensures { Some result ≡ slice_get (polygons_by_number (arranged_county self.now)) place }
@@ -159,7 +159,7 @@ impl<C: Chart, S: Standing> Arranged<C, S> {
         self.polygon_at_number(place).unwrap()
     }
 
-    /// The links of all landmarks with their polygons (type 8 records), in order.
+    /// The links of all landmarks and their polygons (type 8 records), in order.
     pub fn links(&self) -> &[Rec8]
         ensures { result.now ≡ (arranged_county self.now).links }
     {

@@ -1,14 +1,14 @@
-//! A county in an arrangement as a chart.
+//! A county in an arrangement, as a chart.
 //!
-//! Numbers of chains, names, landmarks and nodes count from 1, so that the place of a number is at hand. Old numbers and points stay
-//! where they are: chains are read through the county that this one comes from, turned and renumbered as they are asked for.
+//! Chains, names, landmarks and nodes are numbered from 1, so the place of a number follows from it. Old numbers and points
+//! aren't copied: chains are read through the source county, and turned and renumbered as they are read.
 
 ghost use Rattle.std.specs.Ordering.{nat_cmp};
 ghost use Rattle.std.specs.Prelude.{◌≡◌, IfSome, Some, is_some, slice_get};
 ghost use Rattle.tl_county.specs.Orders.{stands_in};
 ghost use Rattle.tl_number.specs.Growth.{up_to};
 
-use crate::arranged::{Arranged, Standing, old_place};
+use crate::arranged::{Arranged, Evidence, old_place};
 use crate::landmark_links::{link_at, links_of_landmark};
 use crate::step_readers::{
     body_of_step, feat_count_of_step, feat_of_step, link_body_of_step, point_count_of_step,
@@ -18,7 +18,7 @@ use tl_county::{Chart, PolygonKey, place_of};
 use tl_layout::{Body1, Body5, Body7, BodyI, BodyP, Point, Ranges, Rec8, Side};
 use tl_profile::point_along;
 
-/// The number at a place, from 0, or none past the last one.
+/// The number at a place, counted from 0, or `None` past the last one.
 pub(crate) fn number_at(count: usize, place: usize) -> Option<u64>
     ensures { result ≡ slice_get (up_to count) place }
 {
@@ -29,7 +29,7 @@ pub(crate) fn number_at(count: usize, place: usize) -> Option<u64>
     }
 }
 
-/// The place of a number, from 0, or none where it isn't one of them.
+/// The place of a number, counted from 0, or `None` if it isn't one of them.
 pub(crate) fn place_of_number(count: usize, number: u64) -> Option<usize>
     ensures found { IfSome result (λ place. slice_get (up_to count) place ≡ Some number) }
     ensures known { is_some result ≡ stands_in nat_cmp number (up_to count) }
@@ -41,8 +41,8 @@ pub(crate) fn place_of_number(count: usize, number: u64) -> Option<usize>
     if place < count { Some(place) } else { None }
 }
 
-/// The county that the arrangement makes of the county behind it.
-impl<C: Chart, S: Standing> Chart for Arranged<C, S> {
+/// The county that the arrangement makes from the source county.
+impl<C: Chart, S: Evidence> Chart for Arranged<C, S> {
     ghost use Rattle.tl_number.specs.ViewFacts.{stepped};
 
     ghost county = { λ view. stepped (C.county view.chart) view.steps.items };

@@ -1,21 +1,21 @@
-//! What a county in an arrangement keeps of its nodes, its polygons, its names and its landmarks.
+//! What a county in an arrangement stores about its nodes, polygons, names and landmarks.
 
-use crate::numbers::Numbers;
+use crate::numbers::Interner;
 use tl_county::PolygonKey;
 use tl_layout::{NumberOrNone, Rec8, Side};
 
-/// The nodes where a chain starts and ends.
+/// The start node and the end node of a chain.
 pub(crate) type Ends = (NumberOrNone, NumberOrNone);
 
-/// What stands on the left and on the right side of a chain.
+/// The left and the right side of a chain.
 pub(crate) type Sides = (Side, Side);
 
 /// The nodes of a county in an arrangement.
 #[derive(Drop)]
 pub struct NodeTables {
     /// The old nodes in the order of the new numbers.
-    pub(crate) numbers: Numbers<u64>,
-    /// The ends of each chain under the new numbers, in the order of the chains.
+    pub(crate) numbers: Interner<u64>,
+    /// The ends of each chain with the new numbers, in the order of the chains.
     pub(crate) ends: Vec<Ends>,
 }
 
@@ -23,8 +23,8 @@ pub struct NodeTables {
 #[derive(Drop)]
 pub struct PolygonTables {
     /// The old keys in the order of the new numbers.
-    pub(crate) numbers: Numbers<PolygonKey>,
-    /// The sides of each chain under the new keys, in the order of the chains.
+    pub(crate) numbers: Interner<PolygonKey>,
+    /// The sides of each chain with the new keys, in the order of the chains.
     pub(crate) sides: Vec<Sides>,
     /// The new keys, ascending.
     pub(crate) keys: Vec<PolygonKey>,
@@ -36,7 +36,7 @@ pub struct PolygonTables {
 #[derive(Drop)]
 pub struct NameTables {
     /// The old FEATs in their new order.
-    pub(crate) feats: Numbers<u32>,
+    pub(crate) feats: Interner<u32>,
     /// The old place of each name in the new order.
     pub(crate) places: Vec<u32>,
 }
@@ -46,8 +46,9 @@ pub struct NameTables {
 pub struct LandmarkTables {
     /// The old place of each landmark in the new order.
     pub(crate) places: Vec<u32>,
-    /// The links under their new numbers, in order.
+    /// The links with their new numbers, in order.
     pub(crate) links: Vec<Rec8>,
-    /// How many links have a LAND up to 0, 1, 2, .., so that those of a landmark lie between two of these.
+    /// How many links have a LAND up to 0, 1, 2, ..; the links of a landmark are between two consecutive
+    /// bounds.
     pub(crate) bounds: Vec<usize>,
 }

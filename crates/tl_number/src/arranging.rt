@@ -1,4 +1,4 @@
-//! The county of an arrangement, and the canonical county.
+//! Making the county of an arrangement, and the canonical county.
 
 ghost use Rattle.std.specs.Prelude.{◌≡◌, ◌<◌, ◌^◌, Err, IfOk, MatchResult, Ok, length};
 ghost use Rattle.tl_county.specs.CountyRules.{AllKeysStandIn, polygon_keys, polygons_along};
@@ -18,23 +18,23 @@ use crate::canon_county::{CanonCounty, CanonCountyIn};
 use crate::landmark_order::arrange_landmarks;
 use crate::least_choice::least_steps;
 use crate::name_order::arrange_names;
-use crate::numbers::Numbers;
+use crate::numbers::Interner;
 use crate::polygon_order::arrange_nodes_and_polygons;
 use std::alloc::{AllocError, Global};
 use std::marker::PhantomData;
 use tl_cert::Renaming;
 use tl_county::{Chart, CountyIn, PolygonKey};
-use tl_profile::{Admitted, AdmittedIn, ChainWalk, ShapeOrder, order_by_shape};
+use tl_profile::{Admitted, AdmittedIn, DirectedChain, ShapeOrder};
 
-/// The tables of a county in an arrangement: of its nodes, its polygons, its names and its landmarks.
+/// The tables of a county in an arrangement, for its nodes, polygons, names and landmarks.
 type Tables = (NodeTables, PolygonTables, NameTables, LandmarkTables);
 
 /// The names and the landmarks of a county in the arrangement of these steps, with its polygons by first appearance.
 fn arrange_names_and_landmarks<C: Chart>(
     alloc: Global,
     chart: &C,
-    steps: &[ChainWalk],
-    polygons: &Numbers<PolygonKey>,
+    steps: &[DirectedChain],
+    polygons: &Interner<PolygonKey>,
 ) -> Result<(NameTables, LandmarkTables), AllocError>
     requires whole { AreWhole (C.county chart.now) steps.now }
     requires polygons { polygons.now ≡ polygons_in_order (C.county chart.now) (arrangement_of (C.county chart.now) steps.now) }
@@ -49,11 +49,11 @@ fn arrange_names_and_landmarks<C: Chart>(
     Ok((names, landmarks))
 }
 
-/// All that a county in the arrangement of these steps keeps.
+/// All tables of a county in the arrangement of these steps.
 fn arrange_tables<C: Chart>(
     alloc: Global,
     chart: &C,
-    steps: &[ChainWalk],
+    steps: &[DirectedChain],
 ) -> Result<Tables, AllocError>
     requires whole { AreWhole (C.county chart.now) steps.now }
     requires sides { AllKeysStandIn (polygons_along (C.county chart.now).chains) (polygon_keys (C.county chart.now)) }
@@ -70,12 +70,16 @@ fn arrange_tables<C: Chart>(
     Ok((nodes, polygons, names, landmarks))
 }
 
-/// A county whose polygons stand on sides, in the arrangement of these steps, each of which is another chain and which are
-/// all of its chains.
+/// A county in the arrangement of these steps. Its polygons on sides must be in the county, and the steps must name each of its
+/// chains once.
+///
+/// # Errors
+///
+/// `AllocError` if an allocation failed.
 pub fn arrange<C: Chart + Drop>(
     alloc: Global,
     chart: C,
-    steps: Vec<ChainWalk>,
+    steps: Vec<DirectedChain>,
 ) -> Result<Arranged<C>, AllocError>
     requires there { AreSteps (C.county chart) steps.items }
     requires once { NamesEachOnce (C.county chart) (arrangement_of (C.county chart) steps.items) }
@@ -97,7 +101,7 @@ pub fn arrange<C: Chart + Drop>(
     })
 }
 
-/// An arranged county that is canonical and the same map as the county that it comes from, known as such.
+/// Marks an arranged county as canonical. It must be canonical and the same map as its source county.
 fn known_as_canonical<C: Chart + Drop>(view: Arranged<C>) -> CanonCounty<C>
     requires canonical { IsCanonCounty (stepped (C.county view.chart) view.steps.items) }
     requires same { AreSame (C.county view.chart) (stepped (C.county view.chart) view.steps.items) }
@@ -115,13 +119,8 @@ fn known_as_canonical<C: Chart + Drop>(view: Arranged<C>) -> CanonCounty<C>
     }
 }
 
-/// The canonical county of a county in the profile, from the order of its chains by their shapes: its chains run and stand as their
-/// points tell, where these leave a choice by the least text, all other numbers follow from that, and it is the same map.
-///
-/// # Errors
-///
-/// Only that memory was lacking.
-pub fn canonise_in_order<C: Chart + Drop>(
+/// The canonical county of a county in the profile, from the order of its chains by their shapes.
+fn canonise_in_order<C: Chart + Drop>(
     alloc: Global,
     chart: C,
     order: &ShapeOrder,
@@ -142,26 +141,30 @@ pub fn canonise_in_order<C: Chart + Drop>(
     Ok(known_as_canonical(view))
 }
 
-/// The canonical county of a county in the profile, however it is kept: its chains run and stand as their points tell, where these
-/// leave a choice by the least text, all other numbers follow from that, and it is the same map.
-pub fn canonise_chart<C: Chart + Drop>(
+/// The canonical county of an admitted county, without the renaming onto it. Its chains have the order and the directions that their
+/// points decide; what the points leave open is decided by the least text. All other numbers follow, and it is the same map.
+///
+/// # Errors
+///
+/// `AllocError` if an allocation failed.
+pub fn canonise_alone<C: Chart + Drop>(
     alloc: Global,
-    chart: C,
+    admitted: Admitted<C>,
 ) -> Result<CanonCounty<C>, AllocError>
-    requires profile { IsInProfile (C.county chart) }
-    ensures source { IfOk result (λ canon. source_of canon ≡ chart) }
-    ensures county { IfOk result (λ canon. arranged_county canon ≡ arranged (C.county chart) (arrangement_in canon)) }
-    ensures choice { IfOk result (λ canon. IsLeastChoice (C.county chart) (arrangement_in canon)) }
+    ensures source { IfOk result (λ canon. source_of canon ≡ admitted) }
+    ensures source_county { IfOk result (λ canon. C.county (source_of canon) ≡ C.county admitted) }
+    ensures county { IfOk result (λ canon. arranged_county canon ≡ arranged (C.county admitted) (arrangement_in canon)) }
+    ensures choice { IfOk result (λ canon. IsLeastChoice (C.county admitted) (arrangement_in canon)) }
     ensures carried { IfOk result
-        (λ canon. Carries (renaming_of (C.county chart) (arrangement_in canon)) (C.county chart)
+        (λ canon. Carries (renaming_of (C.county admitted) (arrangement_in canon)) (C.county admitted)
         (arranged_county canon)) }
     ensures canonical { IfOk result (λ canon. IsCanonCounty (arranged_county canon)) }
 {
-    let order = order_by_shape(alloc, &chart)?;
+    let (chart, order) = admitted.into_parts();
     canonise_in_order(alloc, chart, &order)
 }
 
-/// A value beside another one, if there is the other; else why there is none.
+/// Pairs a value with another one, or passes on the error of the other.
 pub(crate) fn paired<A: Drop, B: Drop>(
     first: A,
     second: Result<B, AllocError>,
@@ -171,11 +174,11 @@ pub(crate) fn paired<A: Drop, B: Drop>(
     Ok((first, second?))
 }
 
-/// The canonical county of an admitted county, and the renaming that carries the one onto the other.
+/// Makes the canonical county of an admitted county, and the renaming that carries the admitted county onto it.
 ///
 /// # Errors
 ///
-/// Only that memory was lacking.
+/// `AllocError` if an allocation failed.
 pub fn canonise<C: Chart + Drop>(
     alloc: Global,
     admitted: Admitted<C>,
@@ -186,16 +189,16 @@ pub fn canonise<C: Chart + Drop>(
     ensures carried { IfOk result (λ pair. Carries pair.1 (C.county admitted) (arranged_county pair.0)) }
     ensures canonical { IfOk result (λ pair. IsCanonCounty (arranged_county pair.0)) }
 {
-    let canon = canonise_chart(alloc, admitted.into_chart())?;
+    let canon = canonise_alone(alloc, admitted)?;
     let renaming = canon.renaming(alloc);
     paired(canon, renaming)
 }
 
-/// The canonical county of an admitted county in an arena, and the renaming that carries the one onto the other.
+/// Makes the canonical county of an admitted county in an arena, and the renaming that carries the admitted county onto it.
 ///
 /// # Errors
 ///
-/// Only that memory was lacking.
+/// `AllocError` if an allocation failed.
 pub fn canonise_in<'a>(
     alloc: Global,
     admitted: AdmittedIn<'a>,

@@ -1,21 +1,22 @@
 //! The canonical county.
 
-use crate::arranged::{Arranged, Standing};
+use crate::arranged::{Arranged, Evidence};
 use tl_county::{County, CountyIn};
 
-/// What is known of a county in canonical form: its chains run and stand as their points tell, where these leave a choice by the least
-/// text, all numbers follow from that, and it is the same map as the county that it comes from.
+/// The fact that a county is in canonical form: the points of its chains determine their directions and order; if these leave a
+/// choice, it is the one with the least text; all numbers follow from these, and the county is the same map as its source
+/// county.
 #[derive(Drop)]
 pub struct Canonical;
 
-impl Standing for Canonical {
+impl Evidence for Canonical {
     ghost use Rattle.tl_county.specs.Renumbering.{AreSame};
     ghost use Rattle.tl_number.specs.CanonCounties.{IsCanonCounty};
 
     ghost holds = { λ source county. IsCanonCounty county × AreSame source county };
 }
 
-/// A county in canonical form, read through the county that it comes from, which is the same map.
+/// A county in canonical form, read through its source county, which is the same map.
 pub type CanonCounty<C = County> = Arranged<C, Canonical>;
 
 /// A canonical county, read through a county in an arena.

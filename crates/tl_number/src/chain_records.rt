@@ -9,13 +9,13 @@ use arrayvec::ArrayVec;
 use tl_county::Chart;
 use tl_layout::{BodyI, Point, Rec1, Rec2, Rec4, Rec6, RecI};
 
-/// How many shape points a record of type 2 has room for.
+/// The number of shape points in a full record of type 2.
 const POINTS_A_RECORD: usize = 10;
 
-/// How many further names a record of type 4 has room for.
+/// The number of further names in a full record of type 4.
 const NAMES_A_RECORD: usize = 5;
 
-/// The number of a record among those of one type of its chain (RTSQ), which are numbered from 1.
+/// The number of a record among the chain's records of the same type (RTSQ), counted from 1.
 fn sequence_number(place: usize) -> u16
     requires { place < 999 }
     ensures { result ≡ place + 1 }
@@ -23,7 +23,7 @@ fn sequence_number(place: usize) -> u16
     place as u16 + 1
 }
 
-/// How many shape points the chain at a place has between its ends.
+/// The number of shape points of the chain at a place, between its ends.
 fn shape_point_count<C: Chart>(chart: &C, place: usize) -> usize
     requires { place < length (C.county chart.now).chains }
     ensures { result ≡ length (inner_points (points_of (chain_at (C.county chart.now) place))) }
@@ -31,7 +31,7 @@ fn shape_point_count<C: Chart>(chart: &C, place: usize) -> usize
     chart.point_count_at(place) - 2
 }
 
-/// Shape points of the chain at a place, as many as a record of type 2 has room for, from one of them on.
+/// The shape points of the chain at a place from one of them on, at most as many as a record of type 2 has.
 fn shape_points_from<C: Chart>(chart: &C, place: usize, first: usize) -> ArrayVec<Point, 10>
     requires place { place < length (C.county chart.now).chains }
     requires first { first < length (inner_points (points_of (chain_at (C.county chart.now) place))) }
@@ -45,7 +45,7 @@ fn shape_points_from<C: Chart>(chart: &C, place: usize, first: usize) -> ArrayVe
     points
 }
 
-/// Further names of the chain at a place, as many as a record of type 4 has room for, from one of them on.
+/// The further names of the chain at a place from one of them on, at most as many as a record of type 4 has.
 fn names_from<C: Chart>(chart: &C, place: usize, first: usize) -> ArrayVec<u32, 5>
     requires place { place < length (C.county chart.now).chains }
     requires first { first < length (feats_of (chain_at (C.county chart.now) place)) }
@@ -59,7 +59,7 @@ fn names_from<C: Chart>(chart: &C, place: usize, first: usize) -> ArrayVec<u32, 
     names
 }
 
-/// The record of type 1 of each chain.
+/// The type 1 record of each chain.
 #[derive(Drop)]
 pub struct ChainRecords<'a, C: Chart> {
     pub chart: &'a C,
@@ -109,7 +109,7 @@ impl<C: Chart> RecordGroups for ChainRecords<'_, C> {
     }
 }
 
-/// The records of type 2 of each chain: its shape points.
+/// The type 2 records of each chain: its shape points.
 #[derive(Drop)]
 pub struct ShapePointRecords<'a, C: Chart> {
     pub chart: &'a C,
@@ -145,7 +145,7 @@ impl<C: Chart> RecordGroups for ShapePointRecords<'_, C> {
     }
 }
 
-/// The records of type 4 of each chain: its further names.
+/// The type 4 records of each chain: its further names.
 #[derive(Drop)]
 pub struct FurtherNameRecords<'a, C: Chart> {
     pub chart: &'a C,
@@ -181,7 +181,7 @@ impl<C: Chart> RecordGroups for FurtherNameRecords<'_, C> {
     }
 }
 
-/// The records of type 6 of each chain: its further address ranges.
+/// The type 6 records of each chain: its further address ranges.
 #[derive(Drop)]
 pub struct RangeRecords<'a, C: Chart> {
     pub chart: &'a C,
@@ -217,13 +217,13 @@ impl<C: Chart> RecordGroups for RangeRecords<'_, C> {
     }
 }
 
-/// The record of type I of each chain: its nodes and what stands on its sides.
+/// The record of type I of each chain: its nodes and the polygons on its sides.
 #[derive(Drop)]
-pub struct LinkRecords<'a, C: Chart> {
+pub struct TopologyRecords<'a, C: Chart> {
     pub chart: &'a C,
 }
 
-impl<C: Chart> RecordGroups for LinkRecords<'_, C> {
+impl<C: Chart> RecordGroups for TopologyRecords<'_, C> {
     ghost use Rattle.tl_number.specs.CountyGroups.{IsLinkBodyAt, type_i_by_chain};
 
     type Item = RecI;

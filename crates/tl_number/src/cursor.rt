@@ -1,11 +1,11 @@
-//! Records in groups, read one after the other.
+//! Records in groups, read one after another.
 
 ghost use Rattle.std.specs.Prelude.{◌≡◌, ◌<◌, ◌+◌, ◌∷◌, [], MatchOption, nat_lt, if◌then◌else◌};
 ghost use Rattle.tl_number.specs.Groups.{rest_of};
 
 use crate::groups::RecordGroups;
 
-/// A place among records in groups: before a record, or behind the last one.
+/// A position among records in groups: before a record, or after the last one.
 #[derive(Drop)]
 pub(crate) struct Cursor {
     group: usize,
@@ -13,7 +13,7 @@ pub(crate) struct Cursor {
 }
 
 impl Cursor {
-    /// The place before the first record.
+    /// The position before the first record.
     pub(crate) fn new() -> Cursor
         ensures group { result.group ≡ 0 }
         ensures place { result.place ≡ 0 }
@@ -21,8 +21,8 @@ impl Cursor {
         Cursor { group: 0, place: 0 }
     }
 
-    /// Goes on behind the record at this place of a group of so many, and to the next group behind the last one, so that no head is
-    /// read a second time to find that nothing is left.
+    /// Moves past the record at this place of a group with this many records, and after the last one to the next group. This
+    /// way no head is read a second time only to find that no record is left.
     fn pass(&mut self, records: usize)
         requires group { self.old.group < usize.MAX }
         requires place { self.old.place < records }
@@ -38,7 +38,7 @@ impl Cursor {
     }
 }
 
-/// The record behind the cursor, which goes on behind it; or none behind the last one.
+/// Returns the record after the cursor and moves past it, or returns `None` after the last record.
 pub(crate) fn next<G: RecordGroups>(groups: &G, cursor: &mut Cursor) -> Option<G::Item>
     ensures { MatchOption result (rest_of (G.groups groups.now) cursor.old.group cursor.old.place ≡ [])
         (λ found. rest_of (G.groups groups.now) cursor.old.group cursor.old.place

@@ -1,7 +1,8 @@
-//! Nodes and polygons in the order in which they are first met along an arrangement, and the chains under these numbers.
+//! Nodes and polygons in the order of their first appearance along an arrangement, and the chains with these numbers.
 //!
-//! The ends and the sides of all chains are copied along the arrangement first and numbered from there, so that reading one chain need
-//! not wait until another's number is found. They are kept under their new numbers, and no number is looked up again.
+//! First the ends and the sides of all chains are copied along the arrangement. They are numbered from the copy, so reading one
+//! chain doesn't wait until another's number is found. They are stored with their new numbers, and no number is looked up
+//! again.
 
 ghost use Rattle.std.specs.Ordering.{nat_cmp};
 ghost use Rattle.std.specs.Prelude.{◌≡◌, [], ◌<◌, ◌^◌, ℕ, List, Some, IfOk, OnOk, flat_map, length, map, option_map, option_to_list};
@@ -14,22 +15,19 @@ ghost use Rattle.tl_number.specs.Steps.{AreSteps, arrangement_of, step_chain};
 ghost use Rattle.tl_number.specs.ViewFacts.{AreWhole, TellsNodes, stepped};
 
 use crate::arranged_tables::{Ends, NodeTables, Sides};
-use crate::numbers::Numbers;
+use crate::numbers::{Interner, marks_for};
 use crate::step_readers::{ends_of_step, sides_of_step};
 use std::alloc::{AllocError, Global};
 use tl_county::{Chart, PolygonKey};
 use tl_layout::{NumberOrNone, Side};
-use tl_profile::ChainWalk;
-
-/// How many numbers of nodes have a mark for each chain, and how many POLYIDs: numbers that run on are hardly more than the chains.
-const MARKS_A_CHAIN: usize = 2;
+use tl_profile::DirectedChain;
 
 /// The ends and the sides of the chains of these steps, each one after the other. They are read before any node or polygon is numbered, so
 /// that reading one chain need not wait for another, and in one walk, since a chain may lie anywhere in memory.
 fn links_along<C: Chart>(
     alloc: Global,
     chart: &C,
-    steps: &[ChainWalk],
+    steps: &[DirectedChain],
 ) -> Result<(Vec<Ends>, Vec<Sides>), AllocError>
     requires { AreSteps (C.county chart.now) steps.now }
     ensures ends { IfOk result (λ met. map Some met.0.items ≡ map (λ step. option_map ends_of (step_chain (C.county chart.now) step)) steps.now) }
@@ -44,8 +42,8 @@ fn links_along<C: Chart>(
     Ok((ends, sides))
 }
 
-/// Sees a node, if there is one, and answers its number, which stays whatever is seen later.
-fn number_node(nodes: &mut Numbers<u64>, node: NumberOrNone) -> Result<NumberOrNone, AllocError>
+/// Sees a node, if there is one, and returns its number, which stays whatever is seen later.
+fn number_node(nodes: &mut Interner<u64>, node: NumberOrNone) -> Result<NumberOrNone, AllocError>
     ensures seen { OnOk result (nodes.new ≡ first_seen_after nat_cmp nodes.old (option_to_list node)) }
     ensures number { IfOk result (λ number. (later : List ℕ) → number ≡ node_among (first_seen_after nat_cmp nodes.new later) node) }
 {
@@ -58,8 +56,8 @@ fn number_node(nodes: &mut Numbers<u64>, node: NumberOrNone) -> Result<NumberOrN
     }
 }
 
-/// Sees the polygon on a side, if there is one, and answers the side with its number, which stays whatever is seen later.
-fn number_side(polygons: &mut Numbers<PolygonKey>, side: Side) -> Result<Side, AllocError>
+/// Sees the polygon on a side, if there is one, and returns the side with its number, which stays whatever is seen later.
+fn number_side(polygons: &mut Interner<PolygonKey>, side: Side) -> Result<Side, AllocError>
     requires few { length (first_seen_after key_cmp polygons.old (key_on side)) < 10 ^ 10 }
     ensures seen { OnOk result (polygons.new ≡ first_seen_after key_cmp polygons.old (key_on side)) }
     ensures number { IfOk result (λ new. (later : List PolygonKey) → new ≡ side_among (first_seen_after key_cmp polygons.new later) side) }
@@ -74,8 +72,8 @@ fn number_side(polygons: &mut Numbers<PolygonKey>, side: Side) -> Result<Side, A
     }
 }
 
-/// Sees the nodes of these ends, and puts the ends under their numbers.
-fn see_ends(numbers: &mut Numbers<u64>, ends: &mut [Ends]) -> Result<(), AllocError>
+/// Sees the nodes of these ends, and replaces them with their numbers.
+fn see_ends(numbers: &mut Interner<u64>, ends: &mut [Ends]) -> Result<(), AllocError>
     requires first { numbers.old ≡ [] }
     ensures numbers { OnOk result (numbers.new ≡ first_seen nat_cmp (flat_map nodes_at ends.old)) }
     ensures ends { OnOk result (ends.new ≡ map (ends_among (first_seen nat_cmp (flat_map nodes_at ends.old))) ends.old) }
@@ -89,19 +87,19 @@ fn see_ends(numbers: &mut Numbers<u64>, ends: &mut [Ends]) -> Result<(), AllocEr
     Ok(())
 }
 
-/// The nodes of these ends in the order in which they are first met, and the ends under these numbers.
+/// The nodes of these ends in the order of their first appearance, and the ends with these numbers.
 fn number_ends(alloc: Global, ends: Vec<Ends>) -> Result<NodeTables, AllocError>
     ensures numbers { IfOk result (λ tables. tables.numbers ≡ first_seen nat_cmp (flat_map nodes_at ends.items)) }
     ensures ends { IfOk result (λ tables. tables.ends.items ≡ map (ends_among (first_seen nat_cmp (flat_map nodes_at ends.items))) ends.items) }
 {
     let mut ends = ends;
-    let mut numbers = Numbers::with_marks(alloc, MARKS_A_CHAIN * ends.len())?;
+    let mut numbers = Interner::with_marks(alloc, marks_for(ends.len()))?;
     see_ends(&mut numbers, &mut ends)?;
     Ok(NodeTables { numbers, ends })
 }
 
-/// Sees the polygons on these sides, and puts the sides under their numbers.
-fn see_sides(numbers: &mut Numbers<PolygonKey>, sides: &mut [Sides]) -> Result<(), AllocError>
+/// Sees the polygons on these sides, and replaces their POLYIDs with their numbers.
+fn see_sides(numbers: &mut Interner<PolygonKey>, sides: &mut [Sides]) -> Result<(), AllocError>
     requires first { numbers.old ≡ [] }
     requires few { length (first_seen key_cmp (flat_map polygons_at sides.old)) < 10 ^ 10 }
     ensures numbers { OnOk result (numbers.new ≡ first_seen key_cmp (flat_map polygons_at sides.old)) }
@@ -116,28 +114,28 @@ fn see_sides(numbers: &mut Numbers<PolygonKey>, sides: &mut [Sides]) -> Result<(
     Ok(())
 }
 
-/// The polygons on these sides in the order in which they are first met, and the sides under these numbers.
+/// The polygons on these sides in the order of their first appearance, and the sides with these numbers.
 fn number_sides(
     alloc: Global,
     sides: Vec<Sides>,
-) -> Result<(Numbers<PolygonKey>, Vec<Sides>), AllocError>
+) -> Result<(Interner<PolygonKey>, Vec<Sides>), AllocError>
     requires few { length (first_seen key_cmp (flat_map polygons_at sides.items)) < 10 ^ 10 }
     ensures numbers { IfOk result (λ tables. tables.0 ≡ first_seen key_cmp (flat_map polygons_at sides.items)) }
     ensures sides { IfOk result (λ tables. tables.1.items ≡ map (sides_among (first_seen key_cmp (flat_map polygons_at sides.items))) sides.items) }
 {
     let mut sides = sides;
-    let mut numbers = Numbers::with_marks(alloc, MARKS_A_CHAIN * sides.len())?;
+    let mut numbers = Interner::with_marks(alloc, marks_for(sides.len()))?;
     see_sides(&mut numbers, &mut sides)?;
     Ok((numbers, sides))
 }
 
-/// The nodes and the polygons of a county in the order in which the chains of these steps first meet them, start before end and left
-/// before right, and the ends and the sides of these chains under the new numbers and keys.
+/// The nodes and the polygons of a county in the order of their first appearance along the chains of these steps, start before
+/// end and left before right, and the ends and the sides of these chains with the new numbers and keys.
 pub(crate) fn number_links<C: Chart>(
     alloc: Global,
     chart: &C,
-    steps: &[ChainWalk],
-) -> Result<(NodeTables, Numbers<PolygonKey>, Vec<Sides>), AllocError>
+    steps: &[DirectedChain],
+) -> Result<(NodeTables, Interner<PolygonKey>, Vec<Sides>), AllocError>
     requires { AreWhole (C.county chart.now) steps.now }
     ensures nodes { IfOk result (λ tables. TellsNodes (C.county chart.now) steps.now tables.0) }
     ensures polygons { IfOk result (λ tables. tables.1 ≡ polygons_in_order (C.county chart.now) (arrangement_of (C.county chart.now) steps.now)) }

@@ -1,8 +1,8 @@
-//! Records in groups, compared one after the other.
+//! Comparing records in groups, one after another.
 //!
-//! No text is made: lines are made of two records at a time, and the first records that differ decide. Groups of two arrangements
-//! needn't line up, since a chain may have more records of a type than the one that stands in its place in the other. So each side
-//! is read by a cursor of its own.
+//! No text is made: lines are made for two records at a time, and the first records that differ decide. The groups of two
+//! arrangements needn't line up, because a chain can have more records of a type than the chain at its place in the other
+//! arrangement. Each side is therefore read with its own cursor.
 
 ghost use Rattle.std.specs.Cmp.Lexicographic.{slice_cmp};
 ghost use Rattle.std.specs.declared.cmp.Ordering.TheVariants.{Greater};
@@ -28,7 +28,7 @@ fn compare_lines<L: Layout>(a: &L, b: &L) -> Ordering
     line[..len].cmp(&other[..len])
 }
 
-/// Compares two records of one type by their canonical spellings. Only where they differ are lines made of them.
+/// Compares two records of one type by their canonical spellings. Their lines are only made if the records differ.
 pub(crate) fn compare_records<L: RecordEq>(a: &L, b: &L) -> Ordering
     ensures { result ≡ spelling_cmp (L.as_record a.now) (L.as_record b.now) }
 {
@@ -38,7 +38,7 @@ pub(crate) fn compare_records<L: RecordEq>(a: &L, b: &L) -> Ordering
     compare_lines(a, b)
 }
 
-/// Compares a record with the one that stands in its place, if there is one.
+/// Compares a record with the other one at its place, if there is one.
 fn compare_with<L: RecordEq>(a: &L, b: &Option<L>) -> Ordering
     ensures { MatchOption b.now (result ≡ Greater) (λ found. result ≡ spelling_cmp (L.as_record a.now) (L.as_record found)) }
 {

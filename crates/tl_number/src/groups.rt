@@ -1,52 +1,52 @@
-//! Records in groups, and how they are handed on.
+//! Records in groups, and passing them to a visitor.
 //!
-//! The records of a type stand in groups: those of each chain, each landmark, each polygon. A group is read by place, and nothing is
-//! made but the record that is handed on, so that one loop walks all nine types. What a type reads ahead of a group's records is the
-//! group's head. Heads are read one after the other before any of their records, since each may have to wait for memory.
+//! The records of a type are in groups: those of each chain, each landmark, each polygon. A group is read by place, and only
+//! the current record is made, so one loop serves all nine types. The head of a group is what a type reads before the group's
+//! records. Heads are read one after another before any of their records, because each may have to wait for memory.
 
 ghost use Rattle.std.specs.Prelude.{◌≡◌, ◌<◌, ◌≤◌, ◌+◌, ◌-◌, ℕ, List, Some, length, drop, map, min, take, flat_map, slice_get, option_map, OnOk};
 ghost use Rattle.tl_number.specs.Groups.{AreHeads, group_at, grouped};
 
-use crate::taker::RecordTaker;
+use crate::visitor::RecordVisitor;
 use tl_layout::{Layout, Tabled};
 
-/// Records of one type in groups, such as those of each chain. Groups count from 0, and so do the records of a group.
+/// Records of one type in groups, such as those of each chain. Groups are counted from 0, and so are the records of a group.
 pub trait RecordGroups {
-    /// The records.
+    /// The type of the records.
     type Item: Tabled;
 
-    /// What is read of a group ahead of its records, such as how many they are.
+    /// The data that is read before the records of a group, such as their number.
     type Head: Copy;
 
     /// The groups.
     ghost groups: { Self → List (List Self.Item) };
 
-    /// This is the head of the group at a place.
+    /// The head of the group at a place.
     ghost IsHead: { Self → ℕ → Self.Head → Type 0 };
 
-    /// How many groups there are.
+    /// Returns the number of groups.
     fn count(&self) -> usize
         ensures { result ≡ length (groups self.now) };
 
-    /// The head of a group.
+    /// Reads the head of a group.
     fn head(&self, group: usize) -> Self::Head
         requires { group < length (groups self.now) }
         ensures { IsHead self.now group result };
 
-    /// How many records a group has.
+    /// Returns the number of records in a group.
     fn count_in(&self, group: usize, head: Self::Head) -> usize
         requires group { group < length (groups self.now) }
         requires head { IsHead self.now group head }
         ensures { result ≡ length (group_at (groups self.now) group) };
 
-    /// A record of a group.
+    /// Makes a record of a group.
     fn record(&self, group: usize, head: Self::Head, place: usize) -> Self::Item
         requires group { group < length (groups self.now) }
         requires head { IsHead self.now group head }
         requires place { place < length (group_at (groups self.now) group) }
         ensures { Some result ≡ slice_get (group_at (groups self.now) group) place };
 
-    /// Writes the canonical spelling of a record of a group into room of its length.
+    /// Writes the canonical spelling of a record of a group into a buffer of that length.
     fn put(&self, group: usize, head: Self::Head, place: usize, out: &mut [u8])
         requires group { group < length (groups self.now) }
         requires head { IsHead self.now group head }
@@ -58,7 +58,8 @@ pub trait RecordGroups {
     }
 }
 
-/// Reads the heads of groups, from one of them on, as many as there is room for, or up to the last; answers how many they are.
+/// Reads the heads of groups from one of them on, until the buffer is full or there are no more groups, and returns their
+/// number.
 pub fn read_heads<G: RecordGroups>(groups: &G, first: usize, room: &mut [G::Head]) -> usize
     requires { first < length (G.groups groups.now) }
     ensures count { result ≡ min (length (G.groups groups.now) - first) (length room.old) }
@@ -72,65 +73,65 @@ pub fn read_heads<G: RecordGroups>(groups: &G, first: usize, room: &mut [G::Head
     count
 }
 
-/// Hands on the records of one group, in their order.
-fn give_group<D, G: RecordGroups, T: RecordTaker<D>>(
+/// Passes on the records of one group, in their order.
+fn give_group<D, G: RecordGroups, T: RecordVisitor<D>>(
     groups: &G,
     group: usize,
     head: G::Head,
-    taker: &mut T,
+    visitor: &mut T,
     device: &mut D,
 ) -> Result<(), T::Fault>
     requires group { group < length (G.groups groups.now) }
     requires head { G.IsHead groups.now group head }
-    requires ready { T.IsReady taker.old device.old }
-    ensures given { T.Takes (map G.Item.as_record (group_at (G.groups groups.now) group)) taker.old device.old result taker.new device.new }
-    ensures ready { OnOk result (T.IsReady taker.new device.new) }
+    requires ready { T.IsReady visitor.old device.old }
+    ensures given { T.Takes (map G.Item.as_record (group_at (G.groups groups.now) group)) visitor.old device.old result visitor.new device.new }
+    ensures ready { OnOk result (T.IsReady visitor.new device.new) }
 {
     for place in 0..groups.count_in(group, head) {
-        taker.take_from(groups, group, head, place, device)?;
+        visitor.visit_group(groups, group, head, place, device)?;
     }
     Ok(())
 }
 
-/// Hands on the records of the groups that these heads are of, from one group on, group after group.
-fn give_headed<D, G: RecordGroups, T: RecordTaker<D>>(
+/// Passes on the records of the groups with these heads, from one group on, group after group.
+fn give_headed<D, G: RecordGroups, T: RecordVisitor<D>>(
     groups: &G,
     first: usize,
     heads: &[G::Head],
-    taker: &mut T,
+    visitor: &mut T,
     device: &mut D,
 ) -> Result<(), T::Fault>
     requires fits { first + length heads.now ≤ usize.MAX }
     requires within { first + length heads.now ≤ length (G.groups groups.now) }
     requires heads { AreHeads (G.IsHead groups.now) first heads.now }
-    requires ready { T.IsReady taker.old device.old }
+    requires ready { T.IsReady visitor.old device.old }
     ensures given { T.Takes (map G.Item.as_record (grouped (take (length heads.now) (drop first (G.groups groups.now)))))
-        taker.old device.old result taker.new device.new }
-    ensures ready { OnOk result (T.IsReady taker.new device.new) }
+        visitor.old device.old result visitor.new device.new }
+    ensures ready { OnOk result (T.IsReady visitor.new device.new) }
 {
     for ahead in 0..heads.len() {
-        give_group(groups, first + ahead, heads[ahead], taker, device)?;
+        give_group(groups, first + ahead, heads[ahead], visitor, device)?;
     }
     Ok(())
 }
 
-/// Hands on the records of all groups, group after group. The heads are read into the room.
-pub(crate) fn give_groups<D, G: RecordGroups, T: RecordTaker<D>>(
+/// Passes on the records of all groups, group after group. `room` is the buffer for heads.
+pub(crate) fn give_groups<D, G: RecordGroups, T: RecordVisitor<D>>(
     groups: &G,
     room: &mut [G::Head],
-    taker: &mut T,
+    visitor: &mut T,
     device: &mut D,
 ) -> Result<(), T::Fault>
     requires room { 0 < length room.old }
-    requires ready { T.IsReady taker.old device.old }
-    ensures given { T.Takes (map G.Item.as_record (grouped (G.groups groups.now))) taker.old device.old result taker.new device.new }
-    ensures ready { OnOk result (T.IsReady taker.new device.new) }
+    requires ready { T.IsReady visitor.old device.old }
+    ensures given { T.Takes (map G.Item.as_record (grouped (G.groups groups.now))) visitor.old device.old result visitor.new device.new }
+    ensures ready { OnOk result (T.IsReady visitor.new device.new) }
 {
     let count = groups.count();
     let mut first = 0;
     while first < count {
         let heads = read_heads(groups, first, room);
-        give_headed(groups, first, &room[..heads], taker, device)?;
+        give_headed(groups, first, &room[..heads], visitor, device)?;
         first += heads;
     }
     Ok(())

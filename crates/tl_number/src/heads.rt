@@ -1,16 +1,15 @@
-//! Room for the heads of groups.
+//! Buffers for the heads of groups.
 
 use tl_county::PolygonKey;
 use tl_layout::{BodyI, BodyP, Point};
 
-/// How many heads are read one after the other. What groups are read from lies anywhere in memory, so that no head has to wait
-/// for the one before it.
+/// How many heads are read together, so that no head waits for the one before it: the data of groups may be anywhere in memory.
 const HEADS_TOGETHER: usize = 64;
 
-/// Room for the heads of groups of each kind.
+/// Buffers for the heads of each kind of group.
 #[derive(Drop)]
-pub struct HeadRoom {
-    /// How many records groups have.
+pub struct HeadBuffers {
+    /// The numbers of records of groups.
     pub counts: [usize; HEADS_TOGETHER],
     /// The ends of chains.
     pub ends: [(Point, Point); HEADS_TOGETHER],
@@ -20,10 +19,10 @@ pub struct HeadRoom {
     pub polygons: [(PolygonKey, Option<BodyP>); HEADS_TOGETHER],
 }
 
-impl HeadRoom {
-    /// Room for heads of groups, with nothing that matters in it.
-    pub fn new() -> HeadRoom {
-        HeadRoom {
+impl HeadBuffers {
+    /// Makes the buffers. Their contents have no meaning yet.
+    pub fn new() -> HeadBuffers {
+        HeadBuffers {
             counts: [0; HEADS_TOGETHER],
             ends: [Default::default(); HEADS_TOGETHER],
             link_bodies: [None; HEADS_TOGETHER],

@@ -1,4 +1,4 @@
-//! The links of a county's landmarks under new numbers, in order, and those of one landmark among them.
+//! The links of a county's landmarks with new numbers, in order, and the links of one landmark among them.
 
 ghost use Rattle.std.specs.List.{range_with_len};
 ghost use Rattle.std.specs.Ordering.{nat_cmp, on};
@@ -11,17 +11,17 @@ ghost use Rattle.tl_number.specs.Growth.{up_to};
 ghost use Rattle.tl_number.specs.LandmarkItems.{link_under};
 ghost use Rattle.tl_number.specs.ViewFacts.{link_bounds};
 
-use crate::numbers::Numbers;
+use crate::numbers::Interner;
 use crate::renumbering::{new_key, new_land};
 use std::alloc::{AllocError, Global};
 use tl_county::{Chart, PolygonKey, put_in_order, split_group};
 use tl_layout::Rec8;
 
-/// The fields of a link in their order: LAND, POLYID, CENID, FILE.
+/// The fields of a link in the order of comparison: LAND, POLYID, CENID, FILE.
 type LinkKey = (u64, (u64, ([u8; 5], [u8; 5])));
 
-/// A link with its polygon and its landmark under their new numbers.
-fn renumbered_link(polygons: &Numbers<PolygonKey>, lands: &Numbers<u64>, link: &Rec8) -> Rec8
+/// A link with the new numbers of its polygon and its landmark.
+fn renumbered_link(polygons: &Interner<PolygonKey>, lands: &Interner<u64>, link: &Rec8) -> Rec8
     requires few_polygons { length polygons.now < 10 ^ 10 }
     requires few_lands { length lands.now < 10 ^ 10 }
     ensures { result ≡ link_under polygons.now lands.now link.now }
@@ -32,11 +32,11 @@ fn renumbered_link(polygons: &Numbers<PolygonKey>, lands: &Numbers<u64>, link: &
     Rec8::new(link.file(), cenid, key.1, land)
 }
 
-/// Adds a link under its new numbers, if there is one.
+/// Appends a link with its new numbers, if there is one.
 fn push_link(
     links: &mut Vec<Rec8>,
-    polygons: &Numbers<PolygonKey>,
-    lands: &Numbers<u64>,
+    polygons: &Interner<PolygonKey>,
+    lands: &Interner<u64>,
     link: Option<Rec8>,
 ) -> Result<(), AllocError>
     requires few_polygons { length polygons.now < 10 ^ 10 }
@@ -49,12 +49,12 @@ fn push_link(
     Ok(())
 }
 
-/// Adds the links of the landmark at a place under their new numbers.
+/// Appends the links of the landmark at a place with their new numbers.
 fn push_links<C: Chart>(
     links: &mut Vec<Rec8>,
     chart: &C,
-    polygons: &Numbers<PolygonKey>,
-    lands: &Numbers<u64>,
+    polygons: &Interner<PolygonKey>,
+    lands: &Interner<u64>,
     place: usize,
 ) -> Result<(), AllocError>
     requires few_polygons { length polygons.now < 10 ^ 10 }
@@ -67,12 +67,12 @@ fn push_links<C: Chart>(
     Ok(())
 }
 
-/// The links of all landmarks under their new numbers, landmark after landmark.
+/// The links of all landmarks with their new numbers, landmark after landmark.
 fn gather_links<C: Chart>(
     alloc: Global,
     chart: &C,
-    polygons: &Numbers<PolygonKey>,
-    lands: &Numbers<u64>,
+    polygons: &Interner<PolygonKey>,
+    lands: &Interner<u64>,
 ) -> Result<Vec<Rec8>, AllocError>
     requires few_polygons { length polygons.now < 10 ^ 10 }
     requires few_lands { length lands.now < 10 ^ 10 }
@@ -85,12 +85,12 @@ fn gather_links<C: Chart>(
     Ok(links)
 }
 
-/// The links of a county with their polygons and landmarks under their places in these tables, in order.
+/// The links of a county in order, with their polygons and landmarks numbered by their places in these tables.
 pub(crate) fn links_under<C: Chart>(
     alloc: Global,
     chart: &C,
-    polygons: &Numbers<PolygonKey>,
-    lands: &Numbers<u64>,
+    polygons: &Interner<PolygonKey>,
+    lands: &Interner<u64>,
 ) -> Result<Vec<Rec8>, AllocError>
     requires few_polygons { length polygons.now < 10 ^ 10 }
     requires few_lands { length lands.now < 10 ^ 10 }
@@ -101,7 +101,7 @@ pub(crate) fn links_under<C: Chart>(
     Ok(links)
 }
 
-/// How many links have a LAND up to 0, 1, 2, .. and so on up to a count.
+/// For each of 0, 1, 2, .., up to `count`, how many links have a LAND up to it.
 pub(crate) fn bounds_of(
     alloc: Global,
     links: &[Rec8],
@@ -121,7 +121,7 @@ pub(crate) fn bounds_of(
     Ok(bounds)
 }
 
-/// The links of the landmark at a place, where LANDs count from 1; `bounds` says how many links have a LAND up to 0, 1, 2, ..
+/// The links of the landmark at a place, for LANDs counted from 1. `bounds` are how many links have a LAND up to 0, 1, 2, ..
 pub(crate) fn links_of_landmark<'a>(links: &'a [Rec8], bounds: &[usize], place: usize) -> &'a [Rec8]
     requires in_order { IsInOrder (on eight_land nat_cmp) links.now }
     requires some { 0 < length bounds.now }
@@ -138,7 +138,7 @@ pub(crate) fn links_of_landmark<'a>(links: &'a [Rec8], bounds: &[usize], place: 
     own
 }
 
-/// A link of a list, or none past the last one.
+/// A link of a list, or `None` past the last one.
 pub(crate) fn link_at(links: &[Rec8], link: usize) -> Option<Rec8>
     ensures { result ≡ slice_get links.now link }
 {

@@ -1,4 +1,4 @@
-//! The landmarks of a county in their new order: by their bodies, and then by their links under the new numbers.
+//! The landmarks of a county in their new order: by their bodies, and then by their links with the new numbers.
 
 ghost use Rattle.std.specs.Cmp.Lexicographic.{slice_cmp};
 ghost use Rattle.std.specs.List.{range_with_len};
@@ -19,17 +19,17 @@ ghost use Rattle.tl_number.specs.ViewFacts.{AreWhole, TellsLandmarks, link_bound
 
 use crate::arranged_tables::LandmarkTables;
 use crate::landmark_links::{bounds_of, link_at, links_of_landmark, links_under};
-use crate::numbers::Numbers;
+use crate::numbers::{Interner, marks_for};
 use std::alloc::{AllocError, Global};
 use std::cmp::Ordering;
 use tl_county::{Chart, PolygonKey, cmp_landmark_bodies};
 use tl_layout::{Body7, Rec8};
-use tl_profile::ChainWalk;
+use tl_profile::DirectedChain;
 
-/// The fields of a link without its LAND in their order: POLYID, CENID, FILE.
+/// The fields of a link without its LAND in the order of comparison: POLYID, CENID, FILE.
 type LinkBytes = (u64, ([u8; 5], [u8; 5]));
 
-/// The fields of a link in their order.
+/// The fields of a link in the order of comparison.
 fn bytes_of_link(link: &Rec8) -> LinkBytes
     ensures { result ≡ (link.now.polyid, (link.now.cenid, link.now.file)) }
 {
@@ -38,14 +38,14 @@ fn bytes_of_link(link: &Rec8) -> LinkBytes
     (link.polyid(), (cenid, file))
 }
 
-/// How one link without its LAND stands to another.
+/// Compares two links without their LANDs.
 fn cmp_link(a: &Rec8, b: &Rec8) -> Ordering
     ensures { result ≡ link_part_cmp (link_part a.now) (link_part b.now) }
 {
     bytes_of_link(a).cmp(&bytes_of_link(b))
 }
 
-/// How one body stands to another; where there is none it comes first.
+/// Compares two bodies; a missing one comes first.
 fn cmp_optional_body(a: Option<Body7>, b: Option<Body7>) -> Ordering
     ensures { result ≡ option_cmp landmark_body_cmp a b }
 {
@@ -61,7 +61,7 @@ fn cmp_optional_body(a: Option<Body7>, b: Option<Body7>) -> Ordering
     }
 }
 
-/// How one link stands to another; where there is none it comes first.
+/// Compares two links without their LANDs; a missing one comes first.
 fn cmp_optional_link(a: Option<Rec8>, b: Option<Rec8>) -> Ordering
     ensures { result ≡ option_cmp (on link_part link_part_cmp) a b }
 {
@@ -77,7 +77,7 @@ fn cmp_optional_link(a: Option<Rec8>, b: Option<Rec8>) -> Ordering
     }
 }
 
-/// How the bodies of the landmark at one place stand to those of another.
+/// Compares the bodies of the landmarks at two places.
 fn cmp_bodies<C: Chart>(chart: &C, a: usize, b: usize) -> Ordering
     ensures { result ≡ slice_cmp landmark_body_cmp (bodies_at (C.county chart.now) a) (bodies_at (C.county chart.now) b) }
 {
@@ -98,7 +98,7 @@ fn cmp_bodies<C: Chart>(chart: &C, a: usize, b: usize) -> Ordering
     }
 }
 
-/// How one list of links stands to another, their LANDs left out.
+/// Compares two lists of links without their LANDs.
 fn cmp_links(a: &[Rec8], b: &[Rec8]) -> Ordering
     ensures { result ≡ slice_cmp link_part_cmp (map link_part a.now) (map link_part b.now) }
 {
@@ -116,7 +116,7 @@ fn cmp_links(a: &[Rec8], b: &[Rec8]) -> Ordering
     }
 }
 
-/// Links under LANDs that count from 1, with how many have a LAND up to 0, 1, 2, ..
+/// Links with LANDs counted from 1, and how many have a LAND up to 0, 1, 2, ..
 #[derive(Clone, Copy)]
 struct LinkLists<'a> {
     links: &'a [Rec8],
@@ -126,7 +126,7 @@ struct LinkLists<'a> {
     ghost bounded: { bounds.now ≡ link_bounds links.now (length bounds.now - 1) },
 }
 
-/// How the landmark at one place stands to that at another: by the bodies, the links, the places.
+/// Compares the landmarks at two places: by their bodies, their links, their places.
 fn cmp_landmarks<C: Chart>(chart: &C, lists: &LinkLists<'_>, a: u32, b: u32) -> Ordering
     ensures { result ≡ landmark_place_cmp (C.county chart.now) lists.now.links.now (length lists.now.bounds.now - 1) a b }
 {
@@ -157,7 +157,7 @@ fn all_places<C: Chart>(alloc: Global, chart: &C) -> Result<Vec<u32>, AllocError
 }
 
 /// Sees a LAND, if there is one.
-fn see_land(lands: &mut Numbers<u64>, land: Option<u64>) -> Result<(), AllocError>
+fn see_land(lands: &mut Interner<u64>, land: Option<u64>) -> Result<(), AllocError>
     ensures { OnOk result (lands.new ≡ first_seen_after nat_cmp lands.old (option_to_list land)) }
 {
     match land {
@@ -166,12 +166,12 @@ fn see_land(lands: &mut Numbers<u64>, land: Option<u64>) -> Result<(), AllocErro
     }
 }
 
-/// The LANDs at places, one after the other.
-fn lands_at<C: Chart>(alloc: Global, chart: &C, places: &[u32]) -> Result<Numbers<u64>, AllocError>
+/// The LANDs at places, one after another.
+fn lands_at<C: Chart>(alloc: Global, chart: &C, places: &[u32]) -> Result<Interner<u64>, AllocError>
     requires { has_repeat nat_cmp (filter_map (slice_get (lands (C.county chart.now))) places.now) ≡ false }
     ensures { IfOk result (λ numbers. numbers ≡ filter_map (slice_get (lands (C.county chart.now))) places.now) }
 {
-    let mut numbers = Numbers::new(alloc);
+    let mut numbers = Interner::with_marks(alloc, marks_for(places.len()))?;
     let mut rest = places;
     while let Some((place, later)) = rest.split_first() {
         see_land(&mut numbers, chart.land_at(*place as usize))?;
@@ -180,7 +180,7 @@ fn lands_at<C: Chart>(alloc: Global, chart: &C, places: &[u32]) -> Result<Number
     Ok(numbers)
 }
 
-/// The places of the landmarks of a county in their new order.
+/// Sorts the places of the landmarks of a county into their new order.
 fn sort_places<C: Chart>(
     alloc: Global,
     chart: &C,
@@ -195,11 +195,11 @@ fn sort_places<C: Chart>(
     Ok(places)
 }
 
-/// The links of a county with its landmarks in the order of these places, and how many have a LAND up to 0, 1, 2, ..
+/// The links of a county with its landmarks in the order of these places, and how many have a LAND up to each of 0, 1, 2, ..
 fn links_by_land<C: Chart>(
     alloc: Global,
     chart: &C,
-    polygons: &Numbers<PolygonKey>,
+    polygons: &Interner<PolygonKey>,
     places: &[u32],
 ) -> Result<(Vec<Rec8>, Vec<usize>), AllocError>
     requires few_polygons { length polygons.now < 10 ^ 10 }
@@ -219,7 +219,7 @@ fn links_by_land<C: Chart>(
 fn places_in_order<C: Chart>(
     alloc: Global,
     chart: &C,
-    polygons: &Numbers<PolygonKey>,
+    polygons: &Interner<PolygonKey>,
 ) -> Result<Vec<u32>, AllocError>
     requires few_polygons { length polygons.now < 10 ^ 10 }
     requires few { length (C.county chart.now).landmarks < 2 ^ 32 }
@@ -239,8 +239,8 @@ fn places_in_order<C: Chart>(
 pub(crate) fn arrange_landmarks<C: Chart>(
     alloc: Global,
     chart: &C,
-    steps: &[ChainWalk],
-    polygons: &Numbers<PolygonKey>,
+    steps: &[DirectedChain],
+    polygons: &Interner<PolygonKey>,
 ) -> Result<LandmarkTables, AllocError>
     requires whole { AreWhole (C.county chart.now) steps.now }
     requires polygons { polygons.now ≡ polygons_in_order (C.county chart.now) (arrangement_of (C.county chart.now) steps.now) }

@@ -18,31 +18,32 @@ ghost use Rattle.tl_number.specs.ArrangedCounty.{IsArranged};
 ghost use Rattle.tl_number.specs.Arrangement.{Arrangement, Arranges, arranged, ascending, renaming_of};
 ghost use Rattle.tl_number.specs.Canonical.{IsCanonical, IsArrangedList, IsTidyList, KeepsChainNumbers};
 ghost use Rattle.tl_number.specs.RecordNumbers.{greatest_number, numbers_of};
+ghost use Rattle.tl_number.specs.SeenRecords.{ShowsNoMore};
 ghost use Rattle.tl_number.specs.Sights.{IsSight, plain};
+ghost use Rattle.tl_number.specs.Strict.{IsStrictlyAccepted, IsStrictOf, IsStrictThrough};
 ghost use Rattle.tl_number.specs.Tidy.{HasShapesApart, IsChoice, IsLeastChoice, arranged_list, numbered_choice};
 ghost use Rattle.tl_profile.specs.Choices.{choices};
 
-/// A list in the canonical order, packing and numbering is the packing of its county, whatever the choice of TLIDs and
-/// directions.
+/// A list in the canonical order, packing and numbering is the packing of its county, for any choice of TLIDs and directions.
 pub fn arranged_lists_are_the_packing_of_their_county()
     ensures { (records : List Record) → IsArrangedList records → records ≡ packed (county_of records) }
 {}
 
-/// Two such lists are equal if a renaming that keeps each TLID and turns no chain carries the county of the one onto that
-/// of the other.
+/// Two such lists are equal if a renaming that keeps each TLID and turns no chain carries the county of one onto the county of
+/// the other.
 pub fn arranged_lists_with_one_choice_are_equal()
     ensures { (r : Renumbering) (xs ys : List Record) →
         IsArrangedList xs → IsArrangedList ys → Carries r (county_of xs) (county_of ys) → KeepsChainNumbers r (county_of xs) → xs ≡ ys }
 {}
 
-/// All canonical lists of a map have one text: two of them have it if their counties are the same.
+/// All canonical lists of a map have the same text: if the counties of two canonical lists are the same, so are their texts.
 pub fn canonical_lists_of_one_county_have_one_text()
     ensures { (xs ys : List Record) →
         IsCanonical xs → IsCanonical ys → AreSame (county_of xs) (county_of ys) → text_of xs ≡ text_of ys }
 {}
 
-/// Any arrangement of a county whose polygons stand on sides gives a county that is the same, in canonical numbers for the
-/// arrangement's order and directions, and a list of records that is arranged.
+/// Any arrangement of a county whose polygons are all on sides makes a county that is the same map, with canonical numbers for
+/// the arrangement's order and directions, and an arranged list of records.
 pub fn an_arrangement_gives_an_arranged_list()
     ensures carries { (county : County) (steps : Arrangement) →
         IsCounty county → Arranges steps county → AllKeysStandIn (polygons_along county.chains) (polygon_keys county) →
@@ -58,9 +59,9 @@ pub fn a_packed_county_is_read_back()
     ensures { (county : County) → IsCounty county → county_of (packed county) ≡ county }
 {}
 
-/// Each accepted list of records has a canonical list, and the packing of its county under any choice of least text is one. All
-/// its canonical lists have one text. Where no two chains have one shape, and none is its own reverse, there is one canonical list:
-/// the packing of the county under the ascending arrangement.
+/// Each accepted list of records has a canonical list: the packing of its county in any choice with the least text is one. All
+/// its canonical lists have the same text. If no two chains have the same shape, and none is its own reverse, there is only one
+/// canonical list: the packing of the county in the ascending arrangement.
 pub fn each_accepted_list_has_one_canonical_text()
     ensures exists { (records : List Record) → IsAccepted records → (answer : List Record) × IsCanonicalOf records answer }
     ensures choice { (records : List Record) (steps : Arrangement) →
@@ -71,8 +72,9 @@ pub fn each_accepted_list_has_one_canonical_text()
         answer ≡ arranged_list (county_of records) (ascending (county_of records)) }
 {}
 
-/// A canonical list has no more records of any type than the list of records that fit, of which it is one. If there are at
-/// most limit of each type there, all records of the canonical list fit too, and no number in them is above 20,000,000.
+/// A canonical list has at most as many records of each type as the list of fitting records that it belongs to. If that list
+/// has at most limit records of each type, all records of the canonical list fit too, and no number in them is above
+/// 20,000,000.
 pub fn canonical_lists_keep_the_limits()
     ensures counts { (records canonical : List Record) →
         AllByRecursion FitsRecord records → IsCanonicalOf records canonical →
@@ -85,7 +87,38 @@ pub fn canonical_lists_keep_the_limits()
         IsCanonicalOf records canonical → AllByRecursion (λ r. AllByRecursion (λ n. n ≤ greatest_number) (numbers_of r)) canonical }
 {}
 
-/// A list of records is accepted or has a refusal, never both, and never two.
+/// Through each view that shows at most as many records of a county as the county has, a canonical list keeps the same limits
+/// relative to its list.
+pub fn canonical_lists_keep_the_limits_through_each_sight()
+    ensures counts { (seen : County → County) (records canonical : List Record) →
+        IsSight seen → ShowsNoMore seen → AllByRecursion FitsRecord records → IsCanonicalThrough seen records canonical →
+        (rtype : ℕ) → count_of_type rtype canonical ≤ count_of_type rtype records }
+    ensures limits { (seen : County → County) (limit : ℕ) (records canonical : List Record) →
+        IsSight seen → limit ≤ most_records → AllByRecursion FitsRecord records → IsWithinLimit limit records →
+        IsCanonicalThrough seen records canonical → AllByRecursion FitsRecord canonical × IsWithinLimit limit canonical }
+    ensures numbers { (seen : County → County) (records canonical : List Record) →
+        IsSight seen → AllByRecursion FitsRecord records → IsWithinLimit most_records records →
+        IsCanonicalThrough seen records canonical →
+        AllByRecursion (λ r. AllByRecursion (λ n. n ≤ greatest_number) (numbers_of r)) canonical }
+{}
+
+/// A county has at most as many records under a mask as without it. Under each mask, a canonical list therefore keeps the same
+/// limits relative to its list.
+pub fn canonical_lists_keep_the_limits_under_each_mask()
+    ensures no_more { (mask : Mask) → ShowsNoMore (masked mask) }
+    ensures counts { (mask : Mask) (records canonical : List Record) →
+        AllByRecursion FitsRecord records → IsCanonicalThrough (masked mask) records canonical →
+        (rtype : ℕ) → count_of_type rtype canonical ≤ count_of_type rtype records }
+    ensures limits { (mask : Mask) (limit : ℕ) (records canonical : List Record) →
+        limit ≤ most_records → AllByRecursion FitsRecord records → IsWithinLimit limit records →
+        IsCanonicalThrough (masked mask) records canonical → AllByRecursion FitsRecord canonical × IsWithinLimit limit canonical }
+    ensures numbers { (mask : Mask) (records canonical : List Record) →
+        AllByRecursion FitsRecord records → IsWithinLimit most_records records →
+        IsCanonicalThrough (masked mask) records canonical →
+        AllByRecursion (λ r. AllByRecursion (λ n. n ≤ greatest_number) (numbers_of r)) canonical }
+{}
+
+/// A list of records is accepted or has exactly one refusal, never both.
 pub fn accepted_or_one_refusal()
     ensures either { (records : List Record) → IsAccepted records ⊎ ((refusal : RecordsRefusal) × IsRefusal records refusal) }
     ensures not_both { (records : List Record) (refusal : RecordsRefusal) → IsAccepted records → IsRefusal records refusal → ⊥ }
@@ -93,8 +126,8 @@ pub fn accepted_or_one_refusal()
         IsRefusal records refusal → IsRefusal records other → refusal ≡ other }
 {}
 
-/// Canonical lists of two accepted lists have one text if the counties of these are the same, and are equal only then; and a
-/// canonical list is accepted and its own canonical list.
+/// Canonical lists of two accepted lists have the same text if the counties of the two lists are the same, and are equal only
+/// then. A canonical list is accepted and is its own canonical list.
 pub fn one_canonical_text_for_one_map()
     ensures same { (xs ys c d : List Record) →
         IsCanonicalOf xs c → IsCanonicalOf ys d → AreSame (county_of xs) (county_of ys) → text_of c ≡ text_of d }
@@ -103,9 +136,9 @@ pub fn one_canonical_text_for_one_map()
     ensures itself { (xs c : List Record) → IsCanonicalOf xs c → IsCanonicalOf c c }
 {}
 
-/// Through each sight, which shows all of a county or less, an accepted list has canonical lists, all of one text. Those of two
-/// accepted lists have one text if what is seen of their counties is the same, and are equal only then. And a canonical list is its own
-/// through the sight, and as it is.
+/// Through each view, an accepted list has canonical lists, all with the same text. Canonical lists of two accepted lists have
+/// the same text if the views of their counties are the same, and are equal only then. A canonical list is its own canonical
+/// list, both through the view and without it.
 pub fn one_canonical_text_through_each_sight()
     ensures exists { (seen : County → County) (records : List Record) →
         IsSight seen → IsAccepted records → (answer : List Record) × IsCanonicalThrough seen records answer }
@@ -121,9 +154,10 @@ pub fn one_canonical_text_through_each_sight()
         IsSight seen → IsCanonicalThrough seen xs c → IsCanonicalThrough seen c c × IsCanonicalOf c c }
 {}
 
-/// To see counties under a mask is a sight, and under the mask that leaves nothing out it is the county as it is. So under each mask
-/// an accepted list has canonical lists, all of one text. Those of two accepted lists have one text if their counties are the same
-/// under the mask, and are equal only then. And a canonical list is its own under the mask, and as it is.
+/// Viewing counties under a mask is a view, and under the mask that leaves nothing out it shows the county itself. Under each
+/// mask, an accepted list therefore has canonical lists, all with the same text. Canonical lists of two accepted lists have the
+/// same text if their counties are the same under the mask, and are equal only then. A canonical list is its own canonical
+/// list, both under the mask and without it.
 pub fn one_canonical_text_under_each_mask()
     ensures sight { (mask : Mask) → IsSight (masked mask) }
     ensures no_mask { masked no_mask ≡ plain }
@@ -141,8 +175,23 @@ pub fn one_canonical_text_under_each_mask()
         IsCanonicalThrough (masked mask) xs c → IsCanonicalThrough (masked mask) c c × IsCanonicalOf c c }
 {}
 
-/// Each number tells a choice of a county: an arrangement under which no chain's points come after their reverse, and none after those
-/// of a later chain. Each choice has a number below the count of choices, and number 0 is the ascending arrangement.
+/// Before chains with the same shape and chains that are their own reverse were accepted, canonical lists were those in which
+/// points determine every TLID and direction. Every list accepted then is accepted, and has such a list, both without a mask
+/// and under each mask. Through each view that list is a canonical one, and there is no other. A set that had a text then
+/// therefore has the same text now.
+pub fn strict_lists_are_canonical()
+    ensures accepted { (records : List Record) → IsStrictlyAccepted records → IsAccepted records }
+    ensures exists { (records : List Record) → IsStrictlyAccepted records → (answer : List Record) × IsStrictOf records answer }
+    ensures exists_masked { (mask : Mask) (records : List Record) →
+        IsStrictlyAccepted records → (answer : List Record) × IsStrictThrough (masked mask) records answer }
+    ensures canonical { (seen : County → County) (records answer : List Record) →
+        IsStrictThrough seen records answer → IsCanonicalThrough seen records answer }
+    ensures only { (seen : County → County) (records answer canonical : List Record) →
+        IsSight seen → IsStrictThrough seen records answer → IsCanonicalThrough seen records canonical → canonical ≡ answer }
+{}
+
+/// Each number selects a choice of a county: an arrangement in which no chain's points come after their reverse, or after those
+/// of a later chain. Each choice has a number below the number of choices, and number 0 is the ascending arrangement.
 pub fn choices_are_numbered()
     ensures told { (county : County) (number : ℕ) → IsCounty county → IsChoice county (numbered_choice county number) }
     ensures each { (county : County) (steps : Arrangement) →
@@ -151,15 +200,16 @@ pub fn choices_are_numbered()
     ensures first { (county : County) → IsCounty county → numbered_choice county 0 ≡ ascending county }
 {}
 
-/// A county in which no two chains have one shape, and none is its own reverse, leaves one choice: the ascending arrangement.
+/// A county in which no two chains have the same shape, and none is its own reverse, has only one choice: the ascending
+/// arrangement.
 pub fn one_choice_where_shapes_are_apart()
     ensures count { (county : County) → HasShapesApart county → choices county ≡ 1 }
     ensures only { (county : County) (steps : Arrangement) →
         IsCounty county → HasShapesApart county → IsChoice county steps → steps ≡ ascending county }
 {}
 
-/// Of a county whose polygons stand on sides, each choice gives a tidy list of the same map, and each tidy list of the same map is that of
-/// a choice.
+/// For a county whose polygons are all on sides, each choice makes a tidy list of the same map, and each tidy list of the same
+/// map is made by a choice.
 pub fn tidy_lists_are_those_of_choices()
     ensures list { (county : County) (steps : Arrangement) →
         IsCounty county → AllKeysStandIn (polygons_along county.chains) (polygon_keys county) → IsChoice county steps →
@@ -170,8 +220,8 @@ pub fn tidy_lists_are_those_of_choices()
         (steps : Arrangement) × IsChoice county steps × (records ≡ arranged_list county steps) }
 {}
 
-/// Of a county whose polygons stand on sides, some choice has the least text. The list of such a choice is a canonical list of the same
-/// map, and each canonical list of the same map is that of such a choice.
+/// For a county whose polygons are all on sides, some choice has the least text. The list of such a choice is a canonical list
+/// of the same map, and each canonical list of the same map is the list of such a choice.
 pub fn canonical_lists_are_those_of_least_choices()
     ensures exists { (county : County) →
         IsCounty county → AllKeysStandIn (polygons_along county.chains) (polygon_keys county) →

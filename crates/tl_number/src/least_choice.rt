@@ -1,10 +1,10 @@
-//! The steps of the choice of least text.
+//! The steps of the choice with the least text.
 //!
-//! Records of type 1 stand before all others in a text, and those of a choice are told by its steps alone. So the choices are gone
-//! through for the one with the least of these first, and from one to the next no more is looked at than what moves at open places. Only
-//! others that have the same are arranged and compared with it as texts, of which there are few: chains of one shape mostly differ in an
-//! address, a name or a code. Nor are those arranged that have the same chains as it, place by place: chains that were entered twice with
-//! all they say make one county in whatever order they stand.
+//! Records of type 1 come first in a text, and a choice's steps alone determine them. So this first searches all choices for
+//! the one whose records of type 1 are least; from one choice to the next it only reads what moves at open places. Only other
+//! choices with the same records of type 1 are arranged and compared as texts. There are few of these: chains with the same
+//! shape mostly differ in an address, a name or a code. Choices with the same chains at every place aren't arranged either: if
+//! chains were entered twice with all their data, every order of them makes the same county.
 
 ghost use Rattle.std.specs.declared.cmp.Ordering.TheVariants.{Equal};
 ghost use Rattle.std.specs.Ordering.{is_gt};
@@ -35,14 +35,14 @@ use std::cmp::Ordering;
 use std::mem::swap;
 use tl_cert::Lent;
 use tl_county::Chart;
-use tl_profile::{ChainWalk, ShapeOrder};
+use tl_profile::{DirectedChain, ShapeOrder};
 
-/// The steps of the choice of a number.
+/// The steps of the choice with this number.
 fn steps_of_number(
     alloc: Global,
     order: &ShapeOrder,
     number: u64,
-) -> Result<Vec<ChainWalk>, AllocError>
+) -> Result<Vec<DirectedChain>, AllocError>
     requires { AreWithin (length order.now.walks) order.now.places }
     ensures { IfOk result (λ steps. steps.items ≡ (moved other_way order.now.places (order.now.walks, number)).0) }
 {
@@ -51,7 +51,7 @@ fn steps_of_number(
     Ok(steps)
 }
 
-/// The choice of a number, arranged.
+/// Arranges the choice with this number.
 fn arrange_choice<'a, C: Chart>(
     alloc: Global,
     chart: &'a C,
@@ -68,14 +68,14 @@ fn arrange_choice<'a, C: Chart>(
     arrange(alloc, Lent::new(chart), steps)
 }
 
-/// The choice of a number, in whatever form.
+/// A choice in some form, and its number.
 #[derive(Drop)]
 struct Numbered<V> {
     number: u64,
     choice: V,
 }
 
-/// One of two choices: the other one, if the one comes after it.
+/// The lesser of two choices: `other` if `one` comes after it.
 fn lesser<V: Drop>(ordering: Ordering, one: Numbered<V>, other: Numbered<V>) -> Numbered<V>
     ensures { result ≡ cond (is_gt ordering) other one }
 {
@@ -89,7 +89,8 @@ fn number_of<V: Drop>(numbered: Numbered<V>) -> u64
     numbered.number
 }
 
-/// The lesser of the least choice so far and that of another number with the same records of type 1, which is arranged.
+/// The lesser of the least choice so far and the choice with another number that has the same records of type 1. Arranges the
+/// latter.
 fn next_least<'a, C: Chart>(
     alloc: Global,
     chart: &'a C,
@@ -118,20 +119,20 @@ fn next_least<'a, C: Chart>(
             Ok(lesser(ordering, least, Numbered { number, choice }))
         }
         Err(error) => {
-            // One call for the prover, which else reads the drop of each table.
+            // One call for the prover, which otherwise reads the drop of each table.
             drop(least);
             Err(error)
         }
     }
 }
 
-/// Compares the least choice so far and that of another number by their records of type 1. The steps, those of any number, become those
-/// of this one.
+/// Compares the least choice so far and the choice with another number by their records of type 1. `steps` may be those of any
+/// choice and become those of the latter.
 fn compare_number<C: Chart>(
     chart: &C,
     order: &ShapeOrder,
-    least: &Numbered<Vec<ChainWalk>>,
-    steps: &mut [ChainWalk],
+    least: &Numbered<Vec<DirectedChain>>,
+    steps: &mut [DirectedChain],
     number: u64,
 ) -> Ordering
     requires order { IsShapeOrder (C.county chart.now) order.now }
@@ -155,8 +156,8 @@ fn compare_number<C: Chart>(
 fn compare_next<C: Chart>(
     chart: &C,
     order: &ShapeOrder,
-    least: &Numbered<Vec<ChainWalk>>,
-    steps: &mut Vec<ChainWalk>,
+    least: &Numbered<Vec<DirectedChain>>,
+    steps: &mut Vec<DirectedChain>,
     number: u64,
 ) -> Ordering
     requires order { IsShapeOrder (C.county chart.now) order.now }
@@ -173,12 +174,12 @@ fn compare_next<C: Chart>(
     compare_number(chart, order, least, steps, number)
 }
 
-/// The steps of the choice whose records of type 1 come first, and its number.
+/// The steps of the choice with the least records of type 1, and its number.
 fn least_of_type_1<C: Chart>(
     alloc: Global,
     chart: &C,
     order: &ShapeOrder,
-) -> Result<Numbered<Vec<ChainWalk>>, AllocError>
+) -> Result<Numbered<Vec<DirectedChain>>, AllocError>
     requires order { IsShapeOrder (C.county chart.now) order.now }
     requires few { choices (C.county chart.now) ≤ most_choices }
     requires sides { AllKeysStandIn (polygons_along (C.county chart.now).chains) (polygon_keys (C.county chart.now)) }
@@ -199,13 +200,13 @@ fn least_of_type_1<C: Chart>(
     Ok(least)
 }
 
-/// Whether the choice of a number has the same records of type 1 as the one with the least of them, but not the same chains: if it has, it
-/// is the same county. The steps, those of any number, become those of this one.
+/// Whether the choice with a number has the same records of type 1 as the one with the least of them, but not the same chains.
+/// If it has the same chains, it is the same county. `steps` may be those of any choice and become those of this one.
 fn is_other_tie<C: Chart>(
     chart: &C,
     order: &ShapeOrder,
-    least: &Numbered<Vec<ChainWalk>>,
-    steps: &mut [ChainWalk],
+    least: &Numbered<Vec<DirectedChain>>,
+    steps: &mut [DirectedChain],
     number: u64,
 ) -> bool
     requires order { IsShapeOrder (C.county chart.now) order.now }
@@ -228,12 +229,13 @@ fn is_other_tie<C: Chart>(
     false
 }
 
-/// The next number, from one on, whose choice has the same records of type 1 as the one with the least of them, but not the same chains.
+/// The next number, from one on, whose choice has the same records of type 1 as the one with the least of them, but not the
+/// same chains.
 fn next_tie<C: Chart>(
     chart: &C,
     order: &ShapeOrder,
-    least: &Numbered<Vec<ChainWalk>>,
-    steps: &mut [ChainWalk],
+    least: &Numbered<Vec<DirectedChain>>,
+    steps: &mut [DirectedChain],
     first: u64,
 ) -> Option<u64>
     requires order { IsShapeOrder (C.county chart.now) order.now }
@@ -259,13 +261,13 @@ fn next_tie<C: Chart>(
     None
 }
 
-/// The number of the choice of least text among those that have the least records of type 1, from the first two of these on.
+/// The number of the choice with the least text among those with the least records of type 1, given the first two of these.
 fn least_of_ties<C: Chart>(
     alloc: Global,
     chart: &C,
     order: &ShapeOrder,
-    first: &Numbered<Vec<ChainWalk>>,
-    steps: &mut [ChainWalk],
+    first: &Numbered<Vec<DirectedChain>>,
+    steps: &mut [DirectedChain],
     tie: u64,
 ) -> Result<u64, AllocError>
     requires order { IsShapeOrder (C.county chart.now) order.now }
@@ -291,7 +293,7 @@ fn least_of_ties<C: Chart>(
     Ok(number_of(least))
 }
 
-/// The number of the choice of least text.
+/// The number of the choice with the least text.
 fn least_number<C: Chart>(alloc: Global, chart: &C, order: &ShapeOrder) -> Result<u64, AllocError>
     requires order { IsShapeOrder (C.county chart.now) order.now }
     requires few { choices (C.county chart.now) ≤ most_choices }
@@ -306,7 +308,7 @@ fn least_number<C: Chart>(alloc: Global, chart: &C, order: &ShapeOrder) -> Resul
     }
 }
 
-/// The same, with nothing compared where the county leaves no choice.
+/// The same, but without comparing anything if the county leaves no choice.
 fn number_of_least<C: Chart>(
     alloc: Global,
     chart: &C,
@@ -323,12 +325,12 @@ fn number_of_least<C: Chart>(
     least_number(alloc, chart, order)
 }
 
-/// The steps of a choice of least text, from the order of the chains by their shapes.
+/// The steps of a choice with the least text, given the order of the chains by their shapes.
 pub(crate) fn least_steps<C: Chart>(
     alloc: Global,
     chart: &C,
     order: &ShapeOrder,
-) -> Result<Vec<ChainWalk>, AllocError>
+) -> Result<Vec<DirectedChain>, AllocError>
     requires order { IsShapeOrder (C.county chart.now) order.now }
     requires few { choices (C.county chart.now) ≤ most_choices }
     requires sides { AllKeysStandIn (polygons_along (C.county chart.now).chains) (polygon_keys (C.county chart.now)) }

@@ -1,13 +1,12 @@
 //! The canonical form of a county: one numbering, one order and one packing for all counties that are the same map.
 //!
-//! A caller starts with `canonise` for an admitted county and its renaming, or with `canonise_masked` where fields that a mask leaves
-//! out don't count; whoever needs no renaming, or has the order of the chains by their shapes from admission, calls `canonise_chart`
-//! or `canonise_in_order`. What they answer is a `CanonCounty`, which is a `Chart`, and tells `polygon_by_number`, `links` and
-//! `renaming` beside. `arrange` makes a county in an arrangement of one's own, and `Numbers` are numbers by first appearance.
-//! A proved caller stands in `layers.rt` of the crate `uses`.
+//! Start with `canonise`, which returns the canonical county of an admitted county and the renaming onto it; `canonise_alone` makes no
+//! renaming. `under_mask` puts an admitted county under a mask, and `canonise_masked` canonises it there. A `CanonCounty` is a
+//! `Chart` and also has `polygon_by_number`, `links` and `renaming`. `arrange` makes a county in an arrangement of your choice, and
+//! an `Interner` numbers keys by first appearance. The crate `uses` has a proved caller, in `layers.rt`.
 //!
-//! Whoever wants the records of an arranged county in their order is a `RecordTaker`, to whom `give_records` hands them on one after
-//! the other; or reads those of one type from a `RecordGroups`, group by group.
+//! To get the records of an arranged county in their order, implement `RecordVisitor`, to which `visit_records` passes them one
+//! after another; or read the records of one type from a `RecordGroups`, group by group.
 #![tactic(auto)]
 
 mod arranged;
@@ -33,39 +32,42 @@ mod name_records;
 mod number_pairs;
 mod numbered_steps;
 mod numbers;
+mod other_places;
 mod polygon_order;
 mod polygon_records;
 mod record_eq;
 mod renumbering;
 mod same_chains;
 mod step_readers;
-mod taker;
 mod text_order;
 mod type_1_order;
 mod type_i_and_p_order;
+mod visitor;
 
-pub use arranged::{AnyArrangement, Arranged, Standing};
-pub use arranging::{arrange, canonise, canonise_chart, canonise_in, canonise_in_order};
+pub use arranged::{Arranged, Evidence, Unknown};
+pub use arranging::{arrange, canonise, canonise_alone, canonise_in};
 pub use ascending_order::ascending_steps;
 pub use canon_county::{CanonCounty, CanonCountyIn, Canonical};
 pub use chain_records::{
-    ChainRecords, FurtherNameRecords, LinkRecords, RangeRecords, ShapePointRecords,
+    ChainRecords, FurtherNameRecords, RangeRecords, ShapePointRecords, TopologyRecords,
 };
-pub use giving::give_records;
+pub use giving::visit_records;
 pub use groups::{RecordGroups, read_heads};
-pub use heads::HeadRoom;
+pub use heads::HeadBuffers;
 pub use laws::{
     a_packed_county_is_read_back, accepted_or_one_refusal, an_arrangement_gives_an_arranged_list,
     arranged_lists_are_the_packing_of_their_county, arranged_lists_with_one_choice_are_equal,
     canonical_lists_are_those_of_least_choices, canonical_lists_keep_the_limits,
-    canonical_lists_of_one_county_have_one_text, choices_are_numbered,
-    each_accepted_list_has_one_canonical_text, one_canonical_text_for_one_map,
-    one_canonical_text_through_each_sight, one_canonical_text_under_each_mask,
-    one_choice_where_shapes_are_apart, tidy_lists_are_those_of_choices,
+    canonical_lists_keep_the_limits_through_each_sight,
+    canonical_lists_keep_the_limits_under_each_mask, canonical_lists_of_one_county_have_one_text,
+    choices_are_numbered, each_accepted_list_has_one_canonical_text,
+    one_canonical_text_for_one_map, one_canonical_text_through_each_sight,
+    one_canonical_text_under_each_mask, one_choice_where_shapes_are_apart,
+    strict_lists_are_canonical, tidy_lists_are_those_of_choices,
 };
-pub use masking::{canonise_in_masked, canonise_masked};
+pub use masking::{canonise_in_masked, canonise_masked, under_mask};
 pub use name_records::{LandmarkLinkRecords, LandmarkRecords, NameRecords};
-pub use numbers::{Numbered, Numbers};
+pub use numbers::{Interner, NumericKey};
 pub use polygon_records::PolygonRecords;
 pub use record_eq::RecordEq;
-pub use taker::RecordTaker;
+pub use visitor::RecordVisitor;

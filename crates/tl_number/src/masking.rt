@@ -1,6 +1,6 @@
-//! The canonical county of a county under a mask.
+//! Admitted counties under a mask, and their canonical counties.
 
-ghost use Rattle.std.specs.Prelude.{◌≡◌, IfOk};
+ghost use Rattle.std.specs.Prelude.{◌≡◌, IfErr, IfOk, true};
 ghost use Rattle.tl_cert.specs.MaskedCounty.{masked};
 ghost use Rattle.tl_county.specs.Renumbering.{Carries};
 ghost use Rattle.tl_number.specs.Arrangement.{arranged, renaming_of};
@@ -8,7 +8,7 @@ ghost use Rattle.tl_number.specs.CanonCounties.{IsCanonCounty};
 ghost use Rattle.tl_number.specs.Tidy.{IsLeastChoice};
 ghost use Rattle.tl_number.specs.Views.{arranged_county, arrangement_in};
 
-use crate::arranging::{canonise_chart, paired};
+use crate::arranging::canonise;
 use crate::canon_county::CanonCounty;
 use std::alloc::{AllocError, Global};
 use tl_cert::{Masked, Renaming};
@@ -16,12 +16,31 @@ use tl_county::{Chart, CountyIn};
 use tl_layout::Mask;
 use tl_profile::{Admitted, AdmittedIn};
 
+/// An admitted county under a mask. It is in the profile too, and the order of its chains by their shapes is the same: neither depends
+/// on a field that a mask leaves out.
+///
+/// # Errors
+///
+/// `AllocError` if an allocation failed, and only if the mask leaves out SOURCE.
+pub fn under_mask<C: Chart + Drop>(
+    alloc: Global,
+    admitted: Admitted<C>,
+    mask: Mask,
+) -> Result<Admitted<Masked<C>>, AllocError>
+    ensures county { IfOk result (λ shown. ⟦<Masked<C> as Chart>⟧.county shown ≡ masked mask (C.county admitted)) }
+    ensures memory { IfErr result (λ error. mask.sources ≡ true) }
+{
+    let (chart, order) = admitted.into_parts();
+    let shown = Masked::new(alloc, chart, mask)?;
+    Ok(Admitted::known(shown, order))
+}
+
 /// The canonical county of an admitted county under a mask, and the renaming that carries the county under the mask onto it. All
 /// fields that the mask leaves out are blank in it, and all counties that are the same map under the mask have the same one.
 ///
 /// # Errors
 ///
-/// Only that memory was lacking.
+/// `AllocError` if an allocation failed.
 pub fn canonise_masked<C: Chart + Drop>(
     alloc: Global,
     admitted: Admitted<C>,
@@ -33,21 +52,18 @@ pub fn canonise_masked<C: Chart + Drop>(
     ensures renaming { IfOk result (λ pair. pair.1 ≡ renaming_of (masked mask (C.county admitted)) (arrangement_in pair.0)) }
     ensures carried { IfOk result (λ pair. Carries pair.1 (masked mask (C.county admitted)) (arranged_county pair.0)) }
     ensures canonical { IfOk result (λ pair. IsCanonCounty (arranged_county pair.0)) }
-    // Nothing more is left out of it under the mask.
+    // The mask leaves nothing more out of it.
     ensures own { IfOk result (λ pair. masked mask (arranged_county pair.0) ≡ arranged_county pair.0) }
 {
-    let chart = Masked::new(alloc, admitted.into_chart(), mask)?;
-    let canon = canonise_chart(alloc, chart)?;
-    let renaming = canon.renaming(alloc);
-    paired(canon, renaming)
+    canonise(alloc, under_mask(alloc, admitted, mask)?)
 }
 
-/// The canonical county of an admitted county in an arena under a mask, and the renaming that carries the county under the mask onto
-/// it, as [`canonise_masked`] answers them.
+/// Makes the canonical county of an admitted county in an arena under a mask, and the renaming that carries the county under
+/// the mask onto it, like [`canonise_masked`].
 ///
 /// # Errors
 ///
-/// Only that memory was lacking.
+/// `AllocError` if an allocation failed.
 pub fn canonise_in_masked<'a>(
     alloc: Global,
     admitted: AdmittedIn<'a>,
@@ -63,7 +79,7 @@ pub fn canonise_in_masked<'a>(
     ensures carried { IfOk result
         (λ pair. Carries pair.1 (masked mask (⟦<CountyIn<'a> as Chart>⟧.county admitted.entry)) (arranged_county pair.0)) }
     ensures canonical { IfOk result (λ pair. IsCanonCounty (arranged_county pair.0)) }
-    // Nothing more is left out of it under the mask.
+    // The mask leaves nothing more out of it.
     ensures own { IfOk result (λ pair. masked mask (arranged_county pair.0) ≡ arranged_county pair.0) }
 {
     canonise_masked(alloc, admitted, mask)

@@ -1,7 +1,7 @@
 //! The names of a county in their new order: by their 43 bytes, and then by where chains first use them.
 //!
-//! A use belongs to one name, so of two names with one content the one that is met first along the chains comes first, and one that is
-//! never met comes before both: a name has a rank, and no list of uses is made.
+//! Each use belongs to one name. If two names have the same content, the one that chains use first comes first, and one that no
+//! chain uses comes before both. A rank for each name is therefore enough, and no list of uses is made.
 
 ghost use Rattle.std.specs.List.{range_with_len};
 ghost use Rattle.std.specs.Option.{option_cmp};
@@ -18,27 +18,27 @@ ghost use Rattle.tl_number.specs.Steps.{arrangement_of, step_chain};
 ghost use Rattle.tl_number.specs.ViewFacts.{AreReadAt, AreWhole, TellsNames};
 
 use crate::arranged_tables::NameTables;
-use crate::numbers::Numbers;
+use crate::numbers::{Interner, marks_for};
 use crate::step_readers::{feat_count_of_step, feat_of_step};
 use std::alloc::{AllocError, Global};
 use std::cmp::Ordering;
 use tl_county::Chart;
 use tl_layout::Body5;
-use tl_profile::ChainWalk;
+use tl_profile::DirectedChain;
 
-/// A name by its place, with the rank of its first use.
+/// A name, given by its place, with the rank of its first use.
 #[derive(Clone, Copy, Debug, PartialEq, Eq)]
 pub(crate) struct RankedName {
-    /// The number of the name by its first use along the chains, from 1, or 0 if no chain uses it.
+    /// The number of the name by its first use along the chains, counted from 1, or 0 if no chain uses it.
     pub(crate) rank: usize,
-    /// Its place in the ascending list of FEATs, from 0.
+    /// Its place in the ascending list of FEATs, counted from 0.
     pub(crate) place: u32,
 }
 
 /// The 43 bytes of a name, field by field: FILE, FEDIRP, FENAME, FETYPE, FEDIRS.
 type NameBytes = ([u8; 5], ([u8; 2], ([u8; 30], ([u8; 4], [u8; 2]))));
 
-/// The fields of a name in their order.
+/// The fields of a name in the order of comparison.
 fn bytes_of(body: &Body5) -> NameBytes
     ensures { result ≡ (body.now.file, (body.now.name.fedirp, (body.now.name.fename, (body.now.name.fetype, body.now.name.fedirs)))) }
 {
@@ -50,7 +50,7 @@ fn bytes_of(body: &Body5) -> NameBytes
     (file, (fedirp, (fename, (fetype, fedirs))))
 }
 
-/// How one name stands to another by their bytes; where there is none it comes first.
+/// Compares two names by their bytes; a missing one comes first.
 fn cmp_bodies(a: Option<Body5>, b: Option<Body5>) -> Ordering
     ensures { result ≡ option_cmp name_body_cmp a b }
 {
@@ -67,7 +67,7 @@ fn cmp_bodies(a: Option<Body5>, b: Option<Body5>) -> Ordering
 }
 
 /// Sees a further name, if there is one.
-fn see_feat(feats: &mut Numbers<u32>, feat: Option<u32>) -> Result<(), AllocError>
+fn see_feat(feats: &mut Interner<u32>, feat: Option<u32>) -> Result<(), AllocError>
     ensures { OnOk result (feats.new ≡ first_seen_after nat_cmp feats.old (option_to_list feat)) }
 {
     match feat {
@@ -76,11 +76,11 @@ fn see_feat(feats: &mut Numbers<u32>, feat: Option<u32>) -> Result<(), AllocErro
     }
 }
 
-/// Sees the further names of the chain of a step, one after the other.
+/// Sees the further names of the chain of a step, one after another.
 fn see_feats<C: Chart>(
-    feats: &mut Numbers<u32>,
+    feats: &mut Interner<u32>,
     chart: &C,
-    step: ChainWalk,
+    step: DirectedChain,
 ) -> Result<(), AllocError>
     ensures { OnOk result (feats.new ≡ first_seen_after nat_cmp feats.old (feats_of (step_chain (C.county chart.now) step))) }
 {
@@ -90,15 +90,15 @@ fn see_feats<C: Chart>(
     Ok(())
 }
 
-/// The FEATs that chains name, in the order in which they are first met along these steps.
+/// The FEATs that chains list, in the order of their first appearance along these steps.
 fn number_uses<C: Chart>(
     alloc: Global,
     chart: &C,
-    steps: &[ChainWalk],
-) -> Result<Numbers<u32>, AllocError>
+    steps: &[DirectedChain],
+) -> Result<Interner<u32>, AllocError>
     ensures { IfOk result (λ feats. feats ≡ first_seen nat_cmp (feats_along_steps (C.county chart.now) steps.now)) }
 {
-    let mut feats = Numbers::new(alloc);
+    let mut feats = Interner::with_marks(alloc, marks_for(chart.name_count()))?;
     let mut rest = steps;
     while let Some((step, later)) = rest.split_first() {
         see_feats(&mut feats, chart, *step)?;
@@ -107,8 +107,8 @@ fn number_uses<C: Chart>(
     Ok(feats)
 }
 
-/// The number of a name by its first use, from 1, or 0 if no chain uses it.
-fn rank(uses: &Numbers<u32>, feat: Option<u32>) -> usize
+/// The number of a name by its first use, counted from 1, or 0 if no chain uses it.
+fn rank(uses: &Interner<u32>, feat: Option<u32>) -> usize
     ensures { result ≡ rank_of uses.now feat }
 {
     match feat {
@@ -124,7 +124,7 @@ fn rank(uses: &Numbers<u32>, feat: Option<u32>) -> usize
 fn ranked_names<C: Chart>(
     alloc: Global,
     chart: &C,
-    uses: &Numbers<u32>,
+    uses: &Interner<u32>,
 ) -> Result<Vec<RankedName>, AllocError>
     requires { length (C.county chart.now).names < 2 ^ 32 }
     ensures { IfOk result (λ names. names.items ≡ map (ranked_at (C.county chart.now) uses.now) (range_with_len 0 (length (C.county chart.now).names))) }
@@ -141,7 +141,7 @@ fn ranked_names<C: Chart>(
     Ok(names)
 }
 
-/// How one name stands to another: by its bytes, its rank, its place.
+/// Compares two names: by their bytes, their ranks, their places.
 fn cmp_names<C: Chart>(chart: &C, a: &RankedName, b: &RankedName) -> Ordering
     ensures { result ≡ ranked_cmp (C.county chart.now) a.now b.now }
 {
@@ -159,7 +159,7 @@ fn cmp_names<C: Chart>(chart: &C, a: &RankedName, b: &RankedName) -> Ordering
     a.place.cmp(&b.place)
 }
 
-/// The places of names, one after the other.
+/// The places of names, one after another.
 fn places_of(alloc: Global, names: &[RankedName]) -> Result<Vec<u32>, AllocError>
     ensures { IfOk result (λ places. places.items ≡ map ranked_place names.now) }
 {
@@ -170,12 +170,12 @@ fn places_of(alloc: Global, names: &[RankedName]) -> Result<Vec<u32>, AllocError
     Ok(places)
 }
 
-/// The FEATs at places, one after the other.
-fn feats_at<C: Chart>(alloc: Global, chart: &C, places: &[u32]) -> Result<Numbers<u32>, AllocError>
+/// The FEATs at places, one after another.
+fn feats_at<C: Chart>(alloc: Global, chart: &C, places: &[u32]) -> Result<Interner<u32>, AllocError>
     requires { has_repeat nat_cmp (filter_map (slice_get (feats (C.county chart.now))) places.now) ≡ false }
     ensures { IfOk result (λ numbers. numbers ≡ filter_map (slice_get (feats (C.county chart.now))) places.now) }
 {
-    let mut numbers = Numbers::new(alloc);
+    let mut numbers = Interner::with_marks(alloc, marks_for(places.len()))?;
     let mut rest = places;
     while let Some((place, later)) = rest.split_first() {
         see_feat(&mut numbers, chart.feat_at(*place as usize))?;
@@ -184,11 +184,11 @@ fn feats_at<C: Chart>(alloc: Global, chart: &C, places: &[u32]) -> Result<Number
     Ok(numbers)
 }
 
-/// The places of the names of a county in their new order.
+/// Sorts the places of the names of a county into their new order.
 fn places_in_order<C: Chart>(
     alloc: Global,
     chart: &C,
-    steps: &[ChainWalk],
+    steps: &[DirectedChain],
 ) -> Result<Vec<u32>, AllocError>
     requires whole { AreWhole (C.county chart.now) steps.now }
     requires few { length (C.county chart.now).names < 2 ^ 32 }
@@ -205,7 +205,7 @@ fn places_in_order<C: Chart>(
 pub(crate) fn arrange_names<C: Chart>(
     alloc: Global,
     chart: &C,
-    steps: &[ChainWalk],
+    steps: &[DirectedChain],
 ) -> Result<NameTables, AllocError>
     requires whole { AreWhole (C.county chart.now) steps.now }
     requires few { length (C.county chart.now).names < 2 ^ 32 }

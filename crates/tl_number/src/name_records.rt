@@ -1,11 +1,11 @@
 //! The records of a county's names and landmarks.
 
-use crate::arranged::{Arranged, Standing};
+use crate::arranged::{Arranged, Evidence};
 use crate::groups::RecordGroups;
 use tl_county::Chart;
 use tl_layout::{Rec5, Rec7, Rec8};
 
-/// The record of type 5 of each name.
+/// The type 5 record of each name.
 #[derive(Drop)]
 pub struct NameRecords<'a, C: Chart> {
     pub chart: &'a C,
@@ -43,7 +43,7 @@ impl<C: Chart> RecordGroups for NameRecords<'_, C> {
     }
 }
 
-/// The records of type 7 of each landmark.
+/// The type 7 records of each landmark.
 #[derive(Drop)]
 pub struct LandmarkRecords<'a, C: Chart> {
     pub chart: &'a C,
@@ -81,13 +81,13 @@ impl<C: Chart> RecordGroups for LandmarkRecords<'_, C> {
     }
 }
 
-/// The records of type 8 of all landmarks: the polygons that they cover.
+/// The records of type 8 of all landmarks: the polygons that belong to them.
 #[derive(Drop)]
-pub struct LandmarkLinkRecords<'a, C: Chart, S: Standing> {
+pub struct LandmarkLinkRecords<'a, C: Chart, S: Evidence> {
     pub county: &'a Arranged<C, S>,
 }
 
-impl<C: Chart, S: Standing> RecordGroups for LandmarkLinkRecords<'_, C, S> {
+impl<C: Chart, S: Evidence> RecordGroups for LandmarkLinkRecords<'_, C, S> {
     ghost use Rattle.tl_number.specs.CountyGroups.{type_8_together};
     ghost use Rattle.tl_number.specs.Groups.{HasRecords};
     ghost use Rattle.tl_number.specs.Views.{arranged_county};

@@ -1,4 +1,4 @@
-//! The renaming by which a county becomes its arrangement.
+//! The renaming that carries a county onto its arrangement.
 
 ghost use Rattle.std.specs.Prelude.{◌≡◌, ◌<◌, ◌^◌, ℕ, List, IfOk, length, map};
 ghost use Rattle.tl_county.specs.Entries.{entry_keys};
@@ -10,18 +10,18 @@ ghost use Rattle.tl_number.specs.Steps.{AreSteps, arrangement_of};
 ghost use Rattle.tl_number.specs.ViewFacts.{AreReadAt};
 ghost use Rattle.tl_number.specs.Views.{arranged_county, arrangement_in, source_of};
 
-use crate::arranged::{Arranged, Standing, old_place};
-use crate::numbers::Numbers;
+use crate::arranged::{Arranged, Evidence, old_place};
+use crate::numbers::Interner;
 use std::alloc::{AllocError, Global};
 use tl_cert::Renaming;
 use tl_county::{Chart, PolygonKey};
-use tl_profile::ChainWalk;
+use tl_profile::DirectedChain;
 
-/// The TLIDs of the chains of these steps, each with its new one.
+/// The TLIDs of the chains of these steps, each with the new one.
 fn chain_pairs<C: Chart>(
     alloc: Global,
     chart: &C,
-    steps: &[ChainWalk],
+    steps: &[DirectedChain],
 ) -> Result<Vec<(u64, u64)>, AllocError>
     requires { AreSteps (C.county chart.now) steps.now }
     ensures { IfOk result (λ pairs. pairs.items ≡ numbered (arranged_tlids (arrangement_of (C.county chart.now) steps.now))) }
@@ -38,7 +38,7 @@ fn chain_pairs<C: Chart>(
 fn turned_chains<C: Chart>(
     alloc: Global,
     chart: &C,
-    steps: &[ChainWalk],
+    steps: &[DirectedChain],
 ) -> Result<Vec<u64>, AllocError>
     requires { AreSteps (C.county chart.now) steps.now }
     ensures { IfOk result (λ tlids. tlids.items ≡ turned_tlids (arrangement_of (C.county chart.now) steps.now)) }
@@ -52,8 +52,8 @@ fn turned_chains<C: Chart>(
     Ok(tlids)
 }
 
-/// FEATs in their new order, each with its new one.
-fn name_pairs(alloc: Global, feats: &Numbers<u32>) -> Result<Vec<(u32, u32)>, AllocError>
+/// FEATs in their new order, each with the new one.
+fn name_pairs(alloc: Global, feats: &Interner<u32>) -> Result<Vec<(u32, u32)>, AllocError>
     requires { length feats.now < 2 ^ 32 }
     ensures { IfOk result (λ pairs. pairs.items ≡ numbered feats.now) }
 {
@@ -70,7 +70,7 @@ fn name_pairs(alloc: Global, feats: &Numbers<u32>) -> Result<Vec<(u32, u32)>, Al
 /// Polygons in the order of their new numbers, each with its new key, which has the same CENID.
 fn polygon_pairs(
     alloc: Global,
-    polygons: &Numbers<PolygonKey>,
+    polygons: &Interner<PolygonKey>,
 ) -> Result<Vec<(PolygonKey, PolygonKey)>, AllocError>
     ensures { IfOk result (λ pairs. pairs.items ≡ map under_cenid (numbered polygons.now)) }
 {
@@ -85,7 +85,7 @@ fn polygon_pairs(
     Ok(pairs)
 }
 
-/// The LANDs of the landmarks at these places, each with its new one.
+/// The LANDs of the landmarks at these places, each with the new one.
 fn land_pairs<C: Chart>(
     alloc: Global,
     chart: &C,
@@ -102,8 +102,8 @@ fn land_pairs<C: Chart>(
     Ok(pairs)
 }
 
-/// Nodes in the order of their new numbers, each with its new one.
-fn node_pairs(alloc: Global, nodes: &Numbers<u64>) -> Result<Vec<(u64, u64)>, AllocError>
+/// Nodes in the order of their new numbers, each with the new one.
+fn node_pairs(alloc: Global, nodes: &Interner<u64>) -> Result<Vec<(u64, u64)>, AllocError>
     ensures { IfOk result (λ pairs. pairs.items ≡ numbered nodes.now) }
 {
     let count = nodes.len();
@@ -116,8 +116,8 @@ fn node_pairs(alloc: Global, nodes: &Numbers<u64>) -> Result<Vec<(u64, u64)>, Al
     Ok(pairs)
 }
 
-impl<C: Chart, S: Standing> Arranged<C, S> {
-    /// The pairs of polygons and the pairs of landmarks: each old number with its new one, in the order of the new ones.
+impl<C: Chart, S: Evidence> Arranged<C, S> {
+    /// The pairs of polygons and the pairs of landmarks: each old number with the new one, in the order of the new ones.
     fn place_pairs(
         &self,
         alloc: Global,
@@ -132,7 +132,8 @@ impl<C: Chart, S: Standing> Arranged<C, S> {
         Ok((polygons, lands))
     }
 
-    /// The pairs of chains: each old TLID with its new one, in the order of the new ones; and the old TLIDs of those that are turned.
+    /// The pairs of chains: each old TLID with the new one, in the order of the new ones. Also the old TLIDs of the turned
+    /// chains.
     fn tlid_pairs(&self, alloc: Global) -> Result<(Vec<(u64, u64)>, Vec<u64>), AllocError>
         ensures chains { IfOk result (λ told. told.0.items ≡
             (renaming_of (C.county self.now.chart) (arrangement_of (C.county self.now.chart) self.now.steps.items)).chains) }
@@ -144,12 +145,12 @@ impl<C: Chart, S: Standing> Arranged<C, S> {
         Ok((chains, turned))
     }
 
-    /// The renaming of the county that this one comes from onto this one: each old number with its new one, in the order
-    /// of the new ones, and the old TLIDs of the chains that are turned.
+    /// Makes the renaming that carries the source county onto this one: each old number with the new one, in the order of the
+    /// new ones, and the old TLIDs of the turned chains.
     ///
     /// # Errors
     ///
-    /// Only that memory was lacking.
+    /// `AllocError` if an allocation failed.
     pub fn renaming(&self, alloc: Global) -> Result<Renaming, AllocError>
         ensures value { IfOk result (λ r. r ≡ renaming_of (C.county (source_of self.now)) (arrangement_in self.now)) }
         ensures carries { IfOk result (λ r. Carries r (C.county (source_of self.now)) (arranged_county self.now)) }

@@ -1,16 +1,17 @@
-//! The steps of the choice of a number. In the order of shapes a number tells, open place by open place, behind how many of the same
-//! shape a step comes, and whether it is turned; steps at other places stay. So from one number to another no more is put back and moved
-//! than the few steps at open places.
+//! The steps of the choice with a given number. For each open place in the order of shapes, the number determines how many
+//! steps of the same shape come before the step, and whether it is turned. Steps at other places stay. From one number to the
+//! next, only the few steps at open places are put back and moved.
 
 ghost use Rattle.std.specs.Prelude.{◌≡◌, ◌++◌, drop, length, take};
 ghost use Rattle.tl_number.specs.MovedSteps.{AgreeApart, AreWithin, IsWithin, other_way};
 ghost use Rattle.tl_number.specs.NumberedChoices.{moved, moved_at};
 
-use tl_profile::{ChainWalk, OpenPlace};
+use tl_profile::{DirectedChain, OpenPlace};
 
-/// Puts the step at an open place among those of its shape that come after it, as the last two digits of a number say: the last one,
-/// behind how many of these; the next one, whether in the other direction. What is left of the number is answered.
-fn stand(steps: &mut [ChainWalk], at: OpenPlace, number: u64) -> u64
+/// Inserts the step at an open place among those of its shape that come after it, by the last two digits of a number. The last
+/// digit is how many of these come before it, and the next one whether it takes the other direction. Returns the rest of the
+/// number.
+fn stand(steps: &mut [DirectedChain], at: OpenPlace, number: u64) -> u64
     requires { IsWithin (length steps.old) at }
     ensures steps { steps.new ≡ (moved_at other_way at (steps.old, number)).0 }
     ensures left { result ≡ (moved_at other_way at (steps.old, number)).1 }
@@ -26,8 +27,8 @@ fn stand(steps: &mut [ChainWalk], at: OpenPlace, number: u64) -> u64
     left / at.ways()
 }
 
-/// Moves the steps in the order of shapes to those of the choice of a number: from the last open place to the first.
-pub(crate) fn choose(steps: &mut [ChainWalk], places: &[OpenPlace], number: u64)
+/// Moves the steps from the order of shapes to the choice with this number, from the last open place to the first.
+pub(crate) fn choose(steps: &mut [DirectedChain], places: &[OpenPlace], number: u64)
     requires { AreWithin (length steps.old) places.now }
     ensures steps { steps.new ≡ (moved other_way places.now (steps.old, number)).0 }
     ensures count { length steps.new ≡ length steps.old }
@@ -40,8 +41,8 @@ pub(crate) fn choose(steps: &mut [ChainWalk], places: &[OpenPlace], number: u64)
     }
 }
 
-/// Puts back the steps among which an open place moves one.
-fn put_back_at(steps: &mut [ChainWalk], walks: &[ChainWalk], at: OpenPlace)
+/// Puts back the steps among which an open place moves its step.
+fn put_back_at(steps: &mut [DirectedChain], walks: &[DirectedChain], at: OpenPlace)
     requires within { IsWithin (length steps.old) at }
     requires count { length steps.old ≡ length walks.now }
     ensures steps { steps.new ≡ take at.place steps.old ++ (take at.alike (drop at.place walks.now) ++ drop at.alike (drop at.place steps.old)) }
@@ -52,8 +53,8 @@ fn put_back_at(steps: &mut [ChainWalk], walks: &[ChainWalk], at: OpenPlace)
     steps[first..end].copy_from_slice(&walks[first..end]);
 }
 
-/// Puts steps that were moved at open places back to where they stand in the order of shapes.
-pub(crate) fn put_back(steps: &mut [ChainWalk], walks: &[ChainWalk], places: &[OpenPlace])
+/// Puts steps that were moved at open places back to their places in the order of shapes.
+pub(crate) fn put_back(steps: &mut [DirectedChain], walks: &[DirectedChain], places: &[OpenPlace])
     requires within { AreWithin (length steps.old) places.now }
     requires count { length steps.old ≡ length walks.now }
     requires apart { AgreeApart places.now steps.old walks.now }

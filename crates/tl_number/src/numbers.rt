@@ -1,27 +1,40 @@
 //! Numbers by first appearance.
 //!
-//! The numbers that keys have in the county they come from mostly run on with few gaps, so a key is found by its number: in a table there
-//! is told which key was seen under that number, and the key itself is compared. What finds no place in the table is looked up by hash.
+//! The numbers that keys have in the county they come from mostly run on with few gaps, so a key is found by its number: a table of marks
+//! has a slot for each number up to its length, and then begins again, so numbers that are far apart share a slot. The mark in a slot
+//! is the place of one key, and the key itself is compared. A key whose slot was taken is looked up among the other keys.
 
-ghost use Rattle.indexmap.specs.IndexMap.{get};
+ghost use Rattle.indexmap.specs.IndexMap.{get as found_by_hash};
+ghost use Rattle.std.specs.BTreeMap.{get as found_in_order};
 ghost use Rattle.std.specs.List.{position};
 ghost use Rattle.std.specs.Ordering.{is_eq};
-ghost use Rattle.std.specs.Prelude.{◌≡◌, ◌∷◌, [], ◌++◌, ◌+◌, ◌<◌, ◌^◌, ◌↔◌, ℕ, false, length, is_some, IfSome, Some, IfOk, IsTrue, OnOk, OnErr, slice_get, slice_index};
+ghost use Rattle.std.specs.Prelude.{◌≡◌, ◌∷◌, [], ◌++◌, ◌+◌, ◌%◌, ◌<◌, ◌^◌, ◌↔◌, ℕ, false, length, is_some, IfSome, Some, IfOk, IsTrue, OnOk, OnErr, slice_get, slice_index};
 ghost use Rattle.tl_county.specs.Orders.{stands_in};
 ghost use Rattle.tl_number.specs.Growth.{first_seen_after};
-ghost use Rattle.tl_number.specs.PlacedKeys.{AreApart, ArePlaced};
+ghost use Rattle.tl_number.specs.PlacedKeys.{AreApart, ArePlaced, told_by};
 
-use indexmap::IndexMap;
+use crate::other_places::OtherPlaces;
 use std::alloc::{AllocError, Global};
 use std::hash::Hash;
 use std::marker::Model;
 use tl_county::{Key, PolygonKey};
 
-/// As many keys as a list can hold: each takes a byte at least.
+/// The most keys that a list can hold: each takes at least a byte.
 const MOST_KEYS: usize = isize::MAX as usize;
 
-/// What has a number, by which it is found in a table. Others may have the same number.
-pub trait Numbered {
+/// How many slots there are for each item that may have a key: numbers that run on are hardly more than the items.
+const MARKS_AN_ITEM: usize = 2;
+
+/// The most items that slots are counted for.
+const MOST_ITEMS: usize = 1 << 40;
+
+/// The number of slots for marks for this many items.
+pub(crate) fn marks_for(items: usize) -> usize {
+    MARKS_AN_ITEM * items.min(MOST_ITEMS)
+}
+
+/// A key with a number that finds it in a table. Other keys may have the same number.
+pub trait NumericKey {
     ghost use Rattle.std.specs.Prelude.{ℕ};
 
     /// The number.
@@ -32,8 +45,8 @@ pub trait Numbered {
         ensures { result ≡ number_of self.now };
 }
 
-/// A number is its own.
-impl Numbered for u64 {
+/// A number is its own number.
+impl NumericKey for u64 {
     ghost number_of = { λ number. number };
 
     fn number(&self) -> u64 {
@@ -41,8 +54,8 @@ impl Numbered for u64 {
     }
 }
 
-/// A number is its own.
-impl Numbered for u32 {
+/// A number is its own number.
+impl NumericKey for u32 {
     ghost number_of = { λ number. number };
 
     fn number(&self) -> u64 {
@@ -50,8 +63,8 @@ impl Numbered for u32 {
     }
 }
 
-/// A polygon's number is its POLYID. Mostly a county has one CENID, or few.
-impl Numbered for PolygonKey {
+/// The number of a polygon is its POLYID. Most counties have only one CENID, or few.
+impl NumericKey for PolygonKey {
     ghost number_of = { λ key. key.1 };
 
     fn number(&self) -> u64 {
@@ -59,55 +72,70 @@ impl Numbered for PolygonKey {
     }
 }
 
-/// Keys in the order in which they were first seen, each once. Its place in this order, counted from 1, is a key's new
-/// number.
+/// Keys in the order in which they were first seen, without repetition. The new number of a key is its place in this order,
+/// counted from 1.
 #[derive(Drop)]
-pub struct Numbers<K: Key + Hash + Numbered> {
+pub struct Interner<K: Key + Hash + NumericKey> {
     /// The keys.
     keys: Vec<K>,
-    /// For each number below a limit, the place of one key that has it, counted from 1, or 0.
+    /// In each slot the place of one key, counted from 1, or 0.
     marks: Vec<u32>,
-    /// The places of keys that have no mark: their numbers are above the limit, or another key has the mark.
-    others: IndexMap<K, usize>,
+    /// The places of keys that have no mark: another key has the mark in their slot, or there are no slots.
+    others: OtherPlaces<K>,
 }
 
-impl<K: Key + Hash + Numbered> Model for Numbers<K> {
-    ghost use Rattle.indexmap.specs.IndexMap.{get};
-    ghost use Rattle.std.specs.Prelude.{◌<◌, ◌^◌, List, length};
-    ghost use Rattle.tl_number.specs.PlacedKeys.{AreApart, ArePlaced};
+impl<K: Key + Hash + NumericKey> Model for Interner<K> {
+    ghost use Rattle.indexmap.specs.IndexMap.{get as found_by_hash};
+    ghost use Rattle.std.specs.BTreeMap.{get as found_in_order};
+    ghost use Rattle.std.specs.Prelude.{◌<◌, ◌^◌, ◌%◌, List, length};
+    ghost use Rattle.tl_number.specs.PlacedKeys.{AreApart, ArePlaced, told_by};
 
     ghost Value = { List K };
 
     ghost view = { λ n. n.keys.items };
 
-    ghost invariant = { λ n. AreApart n.keys.items × ArePlaced K.number_of (get K.eq n.others) n.marks.items n.keys.items
+    ghost invariant = { λ n. AreApart n.keys.items × ArePlaced (λ key. K.number_of key % length n.marks.items)
+        (told_by (found_in_order K.cmp n.others.many) (found_by_hash K.eq n.others.few)) n.marks.items n.keys.items
         × (length n.keys.items < 2 ^ 63) };
 }
 
-/// The mark at a number, 0 where there is none.
+/// The slot of a number in a table of marks of this length, or the number itself if there is no slot.
 #[inline(always)]
-fn mark_at(marks: &[u32], number: u64) -> u32
-    ensures { result ≡ slice_index marks.now number }
+fn slot_of(len: usize, number: u64) -> usize
+    ensures { result ≡ number % len }
 {
-    match marks.get(number as usize) {
+    let len = len as u64;
+    if number < len || len == 0 {
+        number as usize
+    } else {
+        (number % len) as usize
+    }
+}
+
+/// The mark in a slot, or 0 if it has none.
+#[inline(always)]
+fn mark_at(marks: &[u32], slot: usize) -> u32
+    ensures { result ≡ slice_index marks.now slot }
+{
+    match marks.get(slot) {
         Some(mark) => *mark,
         None => 0,
     }
 }
 
-/// Whether there is a mark at a number, and none is set.
+/// Whether a slot is there, and has no mark.
 #[inline(always)]
-fn is_free(marks: &[u32], number: usize) -> bool
-    ensures within { IsTrue result → number < length marks.now }
-    ensures free { IsTrue result → slice_index marks.now number ≡ 0 }
+fn is_free(marks: &[u32], slot: usize) -> bool
+    ensures within { IsTrue result → slot < length marks.now }
+    ensures free { IsTrue result → slice_index marks.now slot ≡ 0 }
 {
-    match marks.get(number) {
+    match marks.get(slot) {
         Some(mark) => *mark == 0,
         None => false,
     }
 }
 
-/// Whether a key stands at a place.
+/// Whether this key is at a place.
 #[inline(always)]
 pub(crate) fn stands_at<K: Key>(keys: &[K], place: usize, key: K) -> bool
     ensures { IsTrue result ↔ (slice_get keys.now place ≡ Some key) }
@@ -118,54 +146,55 @@ pub(crate) fn stands_at<K: Key>(keys: &[K], place: usize, key: K) -> bool
     }
 }
 
-/// The place of a key that has no mark, from 0, or none where it isn't told. It isn't inlined, since nearly all keys have one.
+/// The place of a key without a mark, counted from 0, or `None` if there is none. Not inlined, because nearly all keys have a
+/// mark.
 #[inline(never)]
-fn place_among<K: Key + Hash>(keys: &[K], others: &IndexMap<K, usize>, key: K) -> Option<usize>
+fn place_among<K: Key + Hash>(keys: &[K], others: &OtherPlaces<K>, key: K) -> Option<usize>
     ensures found { IfSome result (λ place. slice_get keys.now place ≡ Some key) }
-    ensures told { (place : ℕ) → get K.eq others.now key ≡ Some place → slice_get keys.now place ≡ Some key → result ≡ Some place }
+    ensures told { (place : ℕ) → told_by (found_in_order K.cmp others.now.many) (found_by_hash K.eq others.now.few) key ≡ Some place → slice_get keys.now place ≡ Some key → result ≡ Some place }
 {
-    if others.is_empty() {
-        return None;
-    }
-    match others.get(&key) {
-        Some(place) if stands_at(keys, *place, key) => Some(*place),
+    match others.get(key) {
+        Some(place) if stands_at(keys, place, key) => Some(place),
         _ => None,
     }
 }
 
-/// The place of a key, from 0, or none where it doesn't stand among the keys.
+/// The place of a key, counted from 0, or `None` if it isn't one of the keys.
 #[inline(always)]
-fn place_of<K: Key + Hash + Numbered>(
+fn place_of<K: Key + Hash + NumericKey>(
     keys: &[K],
     marks: &[u32],
-    others: &IndexMap<K, usize>,
+    others: &OtherPlaces<K>,
     key: K,
 ) -> Option<usize>
     requires apart { AreApart keys.now }
-    requires placed { ArePlaced K.number_of (get K.eq others.now) marks.now keys.now }
+    requires placed { ArePlaced (λ key. K.number_of key % length marks.now)
+        (told_by (found_in_order K.cmp others.now.many) (found_by_hash K.eq others.now.few)) marks.now keys.now }
     ensures found { IfSome result (λ place. slice_get keys.now place ≡ Some key) }
     ensures told { (place : ℕ) → slice_get keys.now place ≡ Some key → result ≡ Some place }
 {
-    let mark = mark_at(marks, key.number()) as usize;
+    let mark = mark_at(marks, slot_of(marks.len(), key.number())) as usize;
     if mark > 0 && stands_at(keys, mark - 1, key) {
         return Some(mark - 1);
     }
     place_among(keys, others, key)
 }
 
-/// Adds a key to the keys, and its place to those that are looked up by hash. Where memory is lacking for the second, the place may
+/// Adds a key to the keys, and its place to the others. Where memory is lacking for the second, the place may
 /// be there already.
 fn push_into_table<K: Key + Hash>(
     keys: &mut Vec<K>,
-    others: &mut IndexMap<K, usize>,
+    others: &mut OtherPlaces<K>,
     key: K,
     place: usize,
 ) -> Result<(), AllocError>
     ensures small { OnOk result (place + 1 < 2 ^ 63) }
     ensures added { OnOk result (keys.new.items ≡ keys.old.items ++ key ∷ []) }
-    ensures placed { OnOk result (get K.eq others.new key ≡ Some place) }
+    ensures placed { OnOk result (told_by (found_in_order K.cmp others.new.many) (found_by_hash K.eq others.new.few) key ≡ Some place) }
     ensures kept { OnErr result (keys.new.items ≡ keys.old.items) }
-    ensures apart { (other : K) → (other ≡ key → ⊥) → get K.eq others.new other ≡ get K.eq others.old other }
+    ensures apart { (other : K) → (other ≡ key → ⊥)
+        → told_by (found_in_order K.cmp others.new.many) (found_by_hash K.eq others.new.few) other
+        ≡ told_by (found_in_order K.cmp others.old.many) (found_by_hash K.eq others.old.few) other }
 {
     if place >= MOST_KEYS {
         return Err(AllocError);
@@ -175,36 +204,36 @@ fn push_into_table<K: Key + Hash>(
     Ok(())
 }
 
-impl<K: Key + Hash + Numbered> Numbers<K> {
-    /// No keys, without memory.
-    pub fn new(alloc: Global) -> Numbers<K>
+impl<K: Key + Hash + NumericKey> Interner<K> {
+    /// No keys. Takes no memory.
+    pub fn new(alloc: Global) -> Interner<K>
         ensures { result ≡ [] }
     {
-        Numbers {
+        Interner {
             keys: Vec::new(alloc),
             marks: Vec::new(alloc),
-            others: IndexMap::new(alloc),
+            others: OtherPlaces::new(alloc),
         }
     }
 
-    /// No keys, with a mark for each number below the limit. What is seen is the same with any limit; it takes less time with one that is
-    /// above nearly all numbers.
+    /// No keys, with this many slots for marks. The numbers are the same with any number of slots; numbering is faster with a few more
+    /// slots than keys.
     ///
     /// # Errors
     ///
-    /// Only that memory was lacking.
-    pub fn with_marks(alloc: Global, limit: usize) -> Result<Numbers<K>, AllocError>
+    /// `AllocError` if an allocation failed.
+    pub fn with_marks(alloc: Global, limit: usize) -> Result<Interner<K>, AllocError>
         ensures { IfOk result (λ numbers. numbers ≡ []) }
     {
         let marks = Vec::from_elem(alloc, 0, limit)?;
-        Ok(Numbers {
+        Ok(Interner {
             keys: Vec::new(alloc),
             marks,
-            others: IndexMap::new(alloc),
+            others: OtherPlaces::new(alloc),
         })
     }
 
-    /// Adds a key that wasn't seen, and answers its place, from 0.
+    /// Adds a key that wasn't seen before, and returns its place, counted from 0.
     fn add(&mut self, key: K) -> Result<usize, AllocError>
         requires new { stands_in K.cmp key self.old ≡ false }
         ensures added { OnOk result (self.new ≡ self.old ++ key ∷ []) }
@@ -213,10 +242,12 @@ impl<K: Key + Hash + Numbered> Numbers<K> {
         ensures kept { OnErr result (self.new ≡ self.old) }
     {
         let place = self.keys.len();
-        let number = key.number() as usize;
-        if place < u32::MAX as usize && is_free(&self.marks, number) {
+        let number = key.number();
+        let slots = self.marks.len();
+        let slot = slot_of(slots, number);
+        if place < u32::MAX as usize && is_free(&self.marks, slot) {
             self.keys.push(key)?;
-            self.marks[number] = place as u32 + 1;
+            self.marks[slot] = place as u32 + 1;
         } else {
             push_into_table(&mut self.keys, &mut self.others, key, place)?;
         }
@@ -224,6 +255,10 @@ impl<K: Key + Hash + Numbered> Numbers<K> {
     }
 
     /// Sees a key: unless it was seen before, it gets the next number.
+    ///
+    /// # Errors
+    ///
+    /// `AllocError` if an allocation failed. The keys are then the same as before.
     pub fn see(&mut self, key: K) -> Result<(), AllocError>
         ensures seen { OnOk result (self.new ≡ first_seen_after K.cmp self.old (key ∷ [])) }
         ensures kept { OnErr result (self.new ≡ self.old) }
@@ -232,7 +267,11 @@ impl<K: Key + Hash + Numbered> Numbers<K> {
         Ok(())
     }
 
-    /// Sees a key as `see` does, and answers its place, from 0.
+    /// Sees a key as `see` does, and returns its place, counted from 0.
+    ///
+    /// # Errors
+    ///
+    /// `AllocError` if an allocation failed. The keys are then the same as before.
     pub fn see_place(&mut self, key: K) -> Result<usize, AllocError>
         ensures seen { OnOk result (self.new ≡ first_seen_after K.cmp self.old (key ∷ [])) }
         ensures first { IfOk result (λ place. Some place ≡ position (λ other. is_eq (K.cmp key other)) self.new) }
@@ -245,7 +284,7 @@ impl<K: Key + Hash + Numbered> Numbers<K> {
         }
     }
 
-    /// How many keys were seen.
+    /// Returns how many keys were seen.
     pub fn len(&self) -> usize
         ensures len { result ≡ length self.now }
         ensures small { result < 2 ^ 63 }
@@ -253,14 +292,14 @@ impl<K: Key + Hash + Numbered> Numbers<K> {
         self.keys.len()
     }
 
-    /// The key at a place, from 0, or none past the end.
+    /// The key at a place, counted from 0, or `None` past the end.
     pub fn key_at(&self, place: usize) -> Option<K>
         ensures { result ≡ slice_get self.now place }
     {
         self.keys.get(place).copied()
     }
 
-    /// The place of a key, from 0, or none where it wasn't seen.
+    /// The place of a key, counted from 0, or `None` if it wasn't seen.
     pub fn place(&self, key: K) -> Option<usize>
         ensures found { IfSome result (λ place. slice_get self.now place ≡ Some key) }
         ensures known { is_some result ≡ stands_in K.cmp key self.now }

@@ -1,17 +1,17 @@
 //! The records of a county's polygons.
 
-use crate::arranged::{Arranged, Standing};
+use crate::arranged::{Arranged, Evidence};
 use crate::groups::RecordGroups;
 use tl_county::{Chart, PolygonKey};
 use tl_layout::{BodyP, RecP};
 
-/// The record of type P of each polygon that has one, by the numbers of the polygons.
+/// The type P record of each polygon that has one, in the order of the polygons' numbers.
 #[derive(Drop)]
-pub struct PolygonRecords<'a, C: Chart, S: Standing> {
+pub struct PolygonRecords<'a, C: Chart, S: Evidence> {
     pub county: &'a Arranged<C, S>,
 }
 
-impl<C: Chart, S: Standing> RecordGroups for PolygonRecords<'_, C, S> {
+impl<C: Chart, S: Evidence> RecordGroups for PolygonRecords<'_, C, S> {
     ghost use Rattle.tl_number.specs.CountyGroups.{IsPolygonAt, type_p_by_number};
     ghost use Rattle.tl_number.specs.Views.{arranged_county};
 

@@ -7,9 +7,9 @@ use tl_layout::{
     Body1, BodyI, Point, Rec1, Rec2, Rec4, Rec5, Rec6, Rec7, Rec8, RecI, RecP, Side, Tabled,
 };
 
-/// Records that are the same where all of their fields are.
+/// Records that are the same if all their fields are.
 pub trait RecordEq: Tabled {
-    /// Whether it is the same record.
+    /// Whether the other record is the same.
     fn is_same(&self, other: &Self) -> bool
         ensures { Decides result (self.now ≡ other.now) };
 }

@@ -1,4 +1,4 @@
-//! New numbers of old ones, by first appearance. What wasn't seen keeps its number.
+//! New numbers for old ones, by first appearance. A number that wasn't seen stays the same.
 
 ghost use Rattle.std.specs.Ordering.{nat_cmp};
 ghost use Rattle.std.specs.Prelude.{◌≡◌, ◌<◌, ◌^◌, length, map};
@@ -8,11 +8,11 @@ ghost use Rattle.tl_layout.specs.Numbers.{IsNumber};
 ghost use Rattle.tl_number.specs.Arrangement.{under_cenid};
 ghost use Rattle.tl_number.specs.Growth.{numbered};
 
-use crate::numbers::Numbers;
+use crate::numbers::Interner;
 use tl_county::PolygonKey;
 
 /// The new LAND of a landmark.
-pub(crate) fn new_land(lands: &Numbers<u64>, land: u64) -> u64
+pub(crate) fn new_land(lands: &Interner<u64>, land: u64) -> u64
     ensures image { result ≡ image nat_cmp (numbered lands.now) land }
     ensures in_range { IsNumber 10 land → length lands.now < 10 ^ 10 → IsNumber 10 result }
 {
@@ -23,7 +23,7 @@ pub(crate) fn new_land(lands: &Numbers<u64>, land: u64) -> u64
 }
 
 /// The new FEAT of a name.
-pub(crate) fn new_feat(feats: &Numbers<u32>, feat: u32) -> u32
+pub(crate) fn new_feat(feats: &Interner<u32>, feat: u32) -> u32
     requires { length feats.now < 2 ^ 32 }
     ensures { result ≡ image nat_cmp (numbered feats.now) feat }
 {
@@ -34,7 +34,7 @@ pub(crate) fn new_feat(feats: &Numbers<u32>, feat: u32) -> u32
 }
 
 /// The new key of a polygon: its CENID with its new POLYID.
-pub(crate) fn new_key(polygons: &Numbers<PolygonKey>, key: PolygonKey) -> PolygonKey
+pub(crate) fn new_key(polygons: &Interner<PolygonKey>, key: PolygonKey) -> PolygonKey
     ensures image { result ≡ image key_cmp (map under_cenid (numbered polygons.now)) key }
     ensures cenid { result.0 ≡ key.0 }
     ensures in_range { IsNumber 10 key.1 → length polygons.now < 10 ^ 10 → IsNumber 10 result.1 }

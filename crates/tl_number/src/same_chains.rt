@@ -1,5 +1,5 @@
-//! Whether steps lead along the same chains. Chains that were entered twice are the same in all but their TLIDs, and two arrangements that
-//! differ in no more than the order of such chains make one county.
+//! Whether steps lead along the same chains. Chains that were entered twice are the same except for their TLIDs. Two
+//! arrangements that only differ in the order of such chains make the same county.
 
 ghost use Rattle.std.specs.Bool.{Decides};
 ghost use Rattle.std.specs.Prelude.{◌≡◌, ◌<◌, ◌+◌, length, map};
@@ -16,37 +16,37 @@ use crate::step_readers::{
 };
 use tl_county::Chart;
 use tl_layout::{Body1, BodyI, Point, Ranges};
-use tl_profile::{ChainWalk, OpenPlace, point_along};
+use tl_profile::{DirectedChain, OpenPlace, point_along};
 
-/// Whether two points are the same, or none is there.
+/// Whether two points are the same, or both are missing.
 fn is_same_point(a: Option<Point>, b: Option<Point>) -> bool
     ensures { Decides result (a ≡ b) }
 {
     a == b
 }
 
-/// Whether two FEATs are the same, or none is there.
+/// Whether two FEATs are the same, or both are missing.
 fn is_same_feat(a: Option<u32>, b: Option<u32>) -> bool
     ensures { Decides result (a ≡ b) }
 {
     a == b
 }
 
-/// Whether two address ranges are the same, or none is there.
+/// Whether two address ranges are the same, or both are missing.
 fn is_same_range(a: Option<Ranges>, b: Option<Ranges>) -> bool
     ensures { Decides result (a ≡ b) }
 {
     a == b
 }
 
-/// Whether two contents of type 1 records are the same, or none is there.
+/// Whether two contents of type 1 records are the same, or both are missing.
 fn is_same_body(a: Option<Body1>, b: Option<Body1>) -> bool
     ensures { Decides result (a ≡ b) }
 {
     a == b
 }
 
-/// Whether two contents of type I records are the same, or none is there.
+/// Whether two contents of type I records are the same, or both are missing.
 fn is_same_link_body(a: Option<BodyI>, b: Option<BodyI>) -> bool
     ensures { Decides result (a ≡ b) }
 {
@@ -54,7 +54,7 @@ fn is_same_link_body(a: Option<BodyI>, b: Option<BodyI>) -> bool
 }
 
 /// Whether two steps are the same.
-fn is_same_step(one: ChainWalk, other: ChainWalk) -> bool
+fn is_same_step(one: DirectedChain, other: DirectedChain) -> bool
     ensures { Decides result (one ≡ other) }
 {
     one == other
@@ -75,7 +75,7 @@ fn are_same_sides(a: Sides, b: Sides) -> bool
 }
 
 /// Whether the chains of two steps have the same points.
-fn have_same_points<C: Chart>(chart: &C, one: ChainWalk, other: ChainWalk) -> bool
+fn have_same_points<C: Chart>(chart: &C, one: DirectedChain, other: DirectedChain) -> bool
     ensures { Decides result (points_of (step_chain (C.county chart.now) one) ≡ points_of (step_chain (C.county chart.now) other)) }
 {
     let count = point_count_of_step(chart, one);
@@ -92,8 +92,8 @@ fn have_same_points<C: Chart>(chart: &C, one: ChainWalk, other: ChainWalk) -> bo
     true
 }
 
-/// Whether they have the same further names.
-fn have_same_feats<C: Chart>(chart: &C, one: ChainWalk, other: ChainWalk) -> bool
+/// Whether the chains of two steps have the same further names.
+fn have_same_feats<C: Chart>(chart: &C, one: DirectedChain, other: DirectedChain) -> bool
     ensures { Decides result (feats_of (step_chain (C.county chart.now) one) ≡ feats_of (step_chain (C.county chart.now) other)) }
 {
     let count = feat_count_of_step(chart, one);
@@ -110,8 +110,8 @@ fn have_same_feats<C: Chart>(chart: &C, one: ChainWalk, other: ChainWalk) -> boo
     true
 }
 
-/// Whether they have the same further address ranges.
-fn have_same_ranges<C: Chart>(chart: &C, one: ChainWalk, other: ChainWalk) -> bool
+/// Whether the chains of two steps have the same further address ranges.
+fn have_same_ranges<C: Chart>(chart: &C, one: DirectedChain, other: DirectedChain) -> bool
     ensures { Decides result (ranges_of (step_chain (C.county chart.now) one) ≡ ranges_of (step_chain (C.county chart.now) other)) }
 {
     let count = range_count_of_step(chart, one);
@@ -128,8 +128,8 @@ fn have_same_ranges<C: Chart>(chart: &C, one: ChainWalk, other: ChainWalk) -> bo
     true
 }
 
-/// The same, with nothing read where the steps are the same.
-fn have_same_feats_at<C: Chart>(chart: &C, one: ChainWalk, other: ChainWalk) -> bool
+/// The same as [`have_same_feats`], without reading anything if the steps are the same.
+fn have_same_feats_at<C: Chart>(chart: &C, one: DirectedChain, other: DirectedChain) -> bool
     ensures { Decides result (feats_of (step_chain (C.county chart.now) one) ≡ feats_of (step_chain (C.county chart.now) other)) }
 {
     let same = is_same_step(one, other);
@@ -139,8 +139,8 @@ fn have_same_feats_at<C: Chart>(chart: &C, one: ChainWalk, other: ChainWalk) -> 
     have_same_feats(chart, one, other)
 }
 
-/// The same of their further address ranges.
-fn have_same_ranges_at<C: Chart>(chart: &C, one: ChainWalk, other: ChainWalk) -> bool
+/// The same as [`have_same_ranges`], without reading anything if the steps are the same.
+fn have_same_ranges_at<C: Chart>(chart: &C, one: DirectedChain, other: DirectedChain) -> bool
     ensures { Decides result (ranges_of (step_chain (C.county chart.now) one) ≡ ranges_of (step_chain (C.county chart.now) other)) }
 {
     let same = is_same_step(one, other);
@@ -151,7 +151,7 @@ fn have_same_ranges_at<C: Chart>(chart: &C, one: ChainWalk, other: ChainWalk) ->
 }
 
 /// Whether the chains of two steps have the same content in their records of types 1 and I.
-fn have_same_content<C: Chart>(chart: &C, one: ChainWalk, other: ChainWalk) -> bool
+fn have_same_content<C: Chart>(chart: &C, one: DirectedChain, other: DirectedChain) -> bool
     ensures { Decides result (HaveSameContent (step_chain (C.county chart.now) one) (step_chain (C.county chart.now) other)) }
 {
     let body = is_same_body(body_of_step(chart, one), body_of_step(chart, other));
@@ -164,8 +164,8 @@ fn have_same_content<C: Chart>(chart: &C, one: ChainWalk, other: ChainWalk) -> b
     )
 }
 
-/// Whether they have the same nodes and the same sides.
-fn have_same_ends<C: Chart>(chart: &C, one: ChainWalk, other: ChainWalk) -> bool
+/// Whether the chains of two steps have the same nodes and the same sides.
+fn have_same_ends<C: Chart>(chart: &C, one: DirectedChain, other: DirectedChain) -> bool
     requires one { one.place < length (C.county chart.now).chains }
     requires other { other.place < length (C.county chart.now).chains }
     ensures { Decides result (HaveSameEnds (step_chain (C.county chart.now) one) (step_chain (C.county chart.now) other)) }
@@ -177,8 +177,8 @@ fn have_same_ends<C: Chart>(chart: &C, one: ChainWalk, other: ChainWalk) -> bool
     are_same_sides(sides_of_step(chart, one), sides_of_step(chart, other))
 }
 
-/// Whether they have the same points, further names and further address ranges.
-fn have_same_lists<C: Chart>(chart: &C, one: ChainWalk, other: ChainWalk) -> bool
+/// Whether the chains of two steps have the same points, further names and further address ranges.
+fn have_same_lists<C: Chart>(chart: &C, one: DirectedChain, other: DirectedChain) -> bool
     ensures { Decides result (HaveSameLists (step_chain (C.county chart.now) one) (step_chain (C.county chart.now) other)) }
 {
     let points = have_same_points(chart, one, other);
@@ -192,8 +192,8 @@ fn have_same_lists<C: Chart>(chart: &C, one: ChainWalk, other: ChainWalk) -> boo
     have_same_ranges(chart, one, other)
 }
 
-/// Whether the chains of two steps are the same in all but their TLIDs.
-fn is_same_chain<C: Chart>(chart: &C, one: ChainWalk, other: ChainWalk) -> bool
+/// Whether the chains of two steps are the same except for their TLIDs.
+fn is_same_chain<C: Chart>(chart: &C, one: DirectedChain, other: DirectedChain) -> bool
     requires one { one.place < length (C.county chart.now).chains }
     requires other { other.place < length (C.county chart.now).chains }
     ensures { Decides result (step_chain (C.county chart.now) one ≡ step_chain (C.county chart.now) other) }
@@ -209,12 +209,13 @@ fn is_same_chain<C: Chart>(chart: &C, one: ChainWalk, other: ChainWalk) -> bool
     have_same_lists(chart, one, other)
 }
 
-/// Whether two arrangements have the same chains up to the last among which an open place puts its step. In front of them they have.
+/// Whether two arrangements have the same chains up to the last of those among which an open place inserts its step. They must
+/// have the same chains before them.
 fn have_same_chains_at<C: Chart>(
     chart: &C,
     at: OpenPlace,
-    one: &[ChainWalk],
-    other: &[ChainWalk],
+    one: &[DirectedChain],
+    other: &[DirectedChain],
 ) -> bool
     requires one { AreWhole (C.county chart.now) one.now }
     requires other { AreWhole (C.county chart.now) other.now }
@@ -233,12 +234,12 @@ fn have_same_chains_at<C: Chart>(
     true
 }
 
-/// Whether two arrangements that agree but for what moves at open places have the same chains, place by place.
+/// Whether two arrangements that agree except at open places have the same chains, place by place.
 pub(crate) fn have_same_chains<C: Chart>(
     chart: &C,
     places: &[OpenPlace],
-    one: &[ChainWalk],
-    other: &[ChainWalk],
+    one: &[DirectedChain],
+    other: &[DirectedChain],
 ) -> bool
     requires { AgreeButOpen (C.county chart.now) places.now one.now other.now }
     ensures { Decides result (map (step_chain (C.county chart.now)) one.now ≡ map (step_chain (C.county chart.now)) other.now) }
@@ -254,11 +255,11 @@ pub(crate) fn have_same_chains<C: Chart>(
     true
 }
 
-/// Whether two arrangements of as many steps have the same further names, place by place.
+/// Whether two arrangements with equally many steps have the same further names, place by place.
 pub(crate) fn have_same_feats_along<C: Chart>(
     chart: &C,
-    one: &[ChainWalk],
-    other: &[ChainWalk],
+    one: &[DirectedChain],
+    other: &[DirectedChain],
 ) -> bool
     requires { length one.now ≡ length other.now }
     ensures { Decides result (feats_along (C.county chart.now) one.now ≡ feats_along (C.county chart.now) other.now) }
@@ -272,11 +273,11 @@ pub(crate) fn have_same_feats_along<C: Chart>(
     true
 }
 
-/// Whether they have the same further address ranges.
+/// Whether two arrangements with equally many steps have the same further address ranges, place by place.
 pub(crate) fn have_same_ranges_along<C: Chart>(
     chart: &C,
-    one: &[ChainWalk],
-    other: &[ChainWalk],
+    one: &[DirectedChain],
+    other: &[DirectedChain],
 ) -> bool
     requires { length one.now ≡ length other.now }
     ensures { Decides result (ranges_along (C.county chart.now) one.now ≡ ranges_along (C.county chart.now) other.now) }

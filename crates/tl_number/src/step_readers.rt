@@ -1,4 +1,4 @@
-//! The chain of a step, read through a county's chart in the direction of the step.
+//! Reading the chain of a step through a county's chart, in the direction of the step.
 
 ghost use Rattle.std.specs.Prelude.{◌≡◌, ◌<◌, ◌≤◌, Some, length, option_map, slice_get, take};
 ghost use Rattle.tl_county.specs.ChartWords.{feats_of, points_of, ranges_of};
@@ -11,10 +11,10 @@ ghost use Rattle.tl_number.specs.Steps.{step_chain};
 use crate::arranged_tables::{Ends, Sides};
 use tl_county::Chart;
 use tl_layout::{Body1, BodyI, NumberOrNone, Ranges, Turn};
-use tl_profile::ChainWalk;
+use tl_profile::DirectedChain;
 
 /// The content of the type 1 record of the chain of a step.
-pub(crate) fn body_of_step<C: Chart>(chart: &C, step: ChainWalk) -> Option<Body1>
+pub(crate) fn body_of_step<C: Chart>(chart: &C, step: DirectedChain) -> Option<Body1>
     ensures { result ≡ option_map (λ chain. chain.body) (step_chain (C.county chart.now) step) }
 {
     match chart.chain_body_at(step.place as usize) {
@@ -29,9 +29,14 @@ pub(crate) fn body_of_step<C: Chart>(chart: &C, step: ChainWalk) -> Option<Body1
     }
 }
 
-/// Writes the content of the type 1 record of the chain of a step into columns 16 to 190 of a line, as it is seen from the other end of
-/// the step if told.
-pub(crate) fn put_body_of_step<C: Chart>(chart: &C, step: ChainWalk, turned: bool, out: &mut [u8])
+/// Writes the content of the type 1 record of the chain of a step into columns 16 to 190 of a line. If `turned`, it is written
+/// as seen from the other end of the step.
+pub(crate) fn put_body_of_step<C: Chart>(
+    chart: &C,
+    step: DirectedChain,
+    turned: bool,
+    out: &mut [u8],
+)
     requires place { step.place < length (C.county chart.now).chains }
     requires room { 190 ≤ length out.old }
     ensures { Some (take 190 out.new)
@@ -41,36 +46,40 @@ pub(crate) fn put_body_of_step<C: Chart>(chart: &C, step: ChainWalk, turned: boo
     chart.put_chain_body(step.place as usize, seen_from_end, out);
 }
 
-/// How many points the chain of a step has.
-pub(crate) fn point_count_of_step<C: Chart>(chart: &C, step: ChainWalk) -> usize
+/// The number of points of the chain of a step.
+pub(crate) fn point_count_of_step<C: Chart>(chart: &C, step: DirectedChain) -> usize
     ensures { result ≡ length (points_of (step_chain (C.county chart.now) step)) }
 {
     chart.point_count_at(step.place as usize)
 }
 
-/// How many further names the chain of a step has.
-pub(crate) fn feat_count_of_step<C: Chart>(chart: &C, step: ChainWalk) -> usize
+/// The number of further names of the chain of a step.
+pub(crate) fn feat_count_of_step<C: Chart>(chart: &C, step: DirectedChain) -> usize
     ensures { result ≡ length (feats_of (step_chain (C.county chart.now) step)) }
 {
     chart.feat_count_at(step.place as usize)
 }
 
 /// The FEAT of a further name of the chain of a step.
-pub(crate) fn feat_of_step<C: Chart>(chart: &C, step: ChainWalk, name: usize) -> Option<u32>
+pub(crate) fn feat_of_step<C: Chart>(chart: &C, step: DirectedChain, name: usize) -> Option<u32>
     ensures { result ≡ slice_get (feats_of (step_chain (C.county chart.now) step)) name }
 {
     chart.chain_feat_at(step.place as usize, name)
 }
 
-/// How many further address ranges the chain of a step has.
-pub(crate) fn range_count_of_step<C: Chart>(chart: &C, step: ChainWalk) -> usize
+/// The number of further address ranges of the chain of a step.
+pub(crate) fn range_count_of_step<C: Chart>(chart: &C, step: DirectedChain) -> usize
     ensures { result ≡ length (ranges_of (step_chain (C.county chart.now) step)) }
 {
     chart.range_count_at(step.place as usize)
 }
 
 /// A further address range of the chain of a step.
-pub(crate) fn range_of_step<C: Chart>(chart: &C, step: ChainWalk, range: usize) -> Option<Ranges>
+pub(crate) fn range_of_step<C: Chart>(
+    chart: &C,
+    step: DirectedChain,
+    range: usize,
+) -> Option<Ranges>
     ensures { result ≡ slice_get (ranges_of (step_chain (C.county chart.now) step)) range }
 {
     match chart.range_at(step.place as usize, range) {
@@ -86,14 +95,14 @@ pub(crate) fn range_of_step<C: Chart>(chart: &C, step: ChainWalk, range: usize) 
 }
 
 /// The content of the type I record of the chain of a step.
-pub(crate) fn link_body_of_step<C: Chart>(chart: &C, step: ChainWalk) -> Option<BodyI>
-    ensures { result ≡ option_map (λ chain. chain.link_body) (step_chain (C.county chart.now) step) }
+pub(crate) fn link_body_of_step<C: Chart>(chart: &C, step: DirectedChain) -> Option<BodyI>
+    ensures { result ≡ option_map (λ chain. chain.topology) (step_chain (C.county chart.now) step) }
 {
     chart.link_body_at(step.place as usize)
 }
 
-/// The nodes where the chain of a step starts and ends.
-pub(crate) fn ends_of_step<C: Chart>(chart: &C, step: ChainWalk) -> Ends
+/// The nodes at the start and the end of the chain of a step.
+pub(crate) fn ends_of_step<C: Chart>(chart: &C, step: DirectedChain) -> Ends
     requires { step.place < length (C.county chart.now).chains }
     ensures { Some result ≡ option_map ends_of (step_chain (C.county chart.now) step) }
 {
@@ -107,8 +116,8 @@ pub(crate) fn ends_of_step<C: Chart>(chart: &C, step: ChainWalk) -> Ends
     }
 }
 
-/// What stands on the left and on the right side of the chain of a step.
-pub(crate) fn sides_of_step<C: Chart>(chart: &C, step: ChainWalk) -> Sides
+/// The left and the right side of the chain of a step.
+pub(crate) fn sides_of_step<C: Chart>(chart: &C, step: DirectedChain) -> Sides
     requires { step.place < length (C.county chart.now).chains }
     ensures { Some result ≡ option_map sides_of (step_chain (C.county chart.now) step) }
 {

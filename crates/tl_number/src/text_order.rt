@@ -1,7 +1,12 @@
-//! Which of two arrangements of a county that have the same records of types 1 and 2 has the lesser text.
+//! Which of two arrangements of a county with the same records of types 1 and 2 has the lesser text.
 //!
-//! Mostly the same chain stands at a place in both arrangements, or another with the same further names and address ranges. Where that is
-//! so of all further names, the records of types 4 and 5 are the same and aren't made, and where it is of all ranges, those of type 6.
+//! A record's spelling begins with its type and is as long as the type requires, so the first records that differ decide between
+//! two texts. Both arrangements are the same map, so they have equally many records of each type, and each type can be compared
+//! separately.
+//!
+//! Usually a place has the same chain in both arrangements, or a chain with the same further names and address ranges. If that
+//! holds for all further names, the records of types 4 and 5 are the same and aren't built, because the numbers of names depend on
+//! nothing else. If it holds for all ranges, the type 6 records are the same.
 
 ghost use Rattle.std.specs.Cmp.Lexicographic.{slice_cmp};
 ghost use Rattle.std.specs.declared.cmp.Ordering.TheVariants.{Equal};
@@ -15,7 +20,7 @@ ghost use Rattle.tl_number.specs.CountyGroups.{type_1_by_chain, type_2_by_chain,
 ghost use Rattle.tl_number.specs.RecordOrder.{groups_cmp, types_5_to_7_cmp, types_8_to_p_cmp};
 ghost use Rattle.tl_number.specs.Views.{arranged_county};
 
-use crate::arranged::{Arranged, Standing};
+use crate::arranged::{Arranged, Evidence};
 use crate::chain_records::{FurtherNameRecords, RangeRecords};
 use crate::group_order::compare_groups;
 use crate::name_records::{LandmarkLinkRecords, LandmarkRecords, NameRecords};
@@ -25,7 +30,7 @@ use std::cmp::Ordering;
 use tl_county::Chart;
 
 /// Compares two arrangements of a county by their records of type 4.
-fn compare_further_names<A: Chart, R: Standing, B: Chart, S: Standing>(
+fn compare_further_names<A: Chart, R: Evidence, B: Chart, S: Evidence>(
     a: &Arranged<A, R>,
     b: &Arranged<B, S>,
 ) -> Ordering
@@ -41,8 +46,8 @@ fn compare_further_names<A: Chart, R: Standing, B: Chart, S: Standing>(
     )
 }
 
-/// Compares them by their records of type 5.
-fn compare_names<A: Chart, R: Standing, B: Chart, S: Standing>(
+/// Compares two arrangements of a county by their records of type 5.
+fn compare_names<A: Chart, R: Evidence, B: Chart, S: Evidence>(
     a: &Arranged<A, R>,
     b: &Arranged<B, S>,
 ) -> Ordering
@@ -55,8 +60,8 @@ fn compare_names<A: Chart, R: Standing, B: Chart, S: Standing>(
     compare_groups(&NameRecords { chart: a }, &NameRecords { chart: b })
 }
 
-/// Compares them by their records of type 6.
-fn compare_ranges<A: Chart, R: Standing, B: Chart, S: Standing>(
+/// Compares two arrangements of a county by their records of type 6.
+fn compare_ranges<A: Chart, R: Evidence, B: Chart, S: Evidence>(
     a: &Arranged<A, R>,
     b: &Arranged<B, S>,
 ) -> Ordering
@@ -69,8 +74,8 @@ fn compare_ranges<A: Chart, R: Standing, B: Chart, S: Standing>(
     compare_groups(&RangeRecords { chart: a }, &RangeRecords { chart: b })
 }
 
-/// Compares them by their records of types 5, 6 and 7.
-fn compare_types_5_to_7<A: Chart, R: Standing, B: Chart, S: Standing>(
+/// Compares two arrangements of a county by their records of types 5, 6 and 7.
+fn compare_types_5_to_7<A: Chart, R: Evidence, B: Chart, S: Evidence>(
     a: &Arranged<A, R>,
     b: &Arranged<B, S>,
 ) -> Ordering
@@ -89,7 +94,7 @@ fn compare_types_5_to_7<A: Chart, R: Standing, B: Chart, S: Standing>(
 }
 
 /// Compares two arrangements of a county by their records of types 8, I and P.
-fn compare_types_8_to_p<A: Chart, R: Standing, B: Chart, S: Standing>(
+fn compare_types_8_to_p<A: Chart, R: Evidence, B: Chart, S: Evidence>(
     a: &Arranged<A, R>,
     b: &Arranged<B, S>,
 ) -> Ordering
@@ -110,9 +115,9 @@ fn compare_types_8_to_p<A: Chart, R: Standing, B: Chart, S: Standing>(
     compare_polygons(a, b)
 }
 
-/// Which of two arrangements of a county has the lesser text, where their records of type 1 are spelt alike and those of type 2 are the
-/// same. No text is made, and no memory is taken.
-pub(crate) fn compare_texts<A: Chart, R: Standing, B: Chart, S: Standing>(
+/// Compares the texts of two arrangements of a county, whose records of type 1 have the same spelling and whose records of type
+/// 2 are the same. Makes no text and takes no memory.
+pub(crate) fn compare_texts<A: Chart, R: Evidence, B: Chart, S: Evidence>(
     a: &Arranged<A, R>,
     b: &Arranged<B, S>,
 ) -> Ordering

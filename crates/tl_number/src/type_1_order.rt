@@ -1,5 +1,5 @@
-//! Choices by their records of type 1, which stand before all others in a text. Those of a choice are told by its steps alone, so that
-//! nothing has to be arranged; and but for those among which an open place puts its step, all choices have the same.
+//! Comparing choices by their records of type 1, which come first in a text. A choice's steps alone determine them, so nothing
+//! needs to be arranged. All choices have the same records of type 1, except those among which an open place inserts its step.
 
 ghost use Rattle.std.specs.declared.cmp.Ordering.TheVariants.{Equal};
 ghost use Rattle.std.specs.Option.{option_cmp};
@@ -18,10 +18,10 @@ use crate::step_readers::{body_of_step, point_count_of_step};
 use std::cmp::Ordering;
 use tl_county::Chart;
 use tl_layout::Rec1;
-use tl_profile::{ChainWalk, OpenPlace, point_along};
+use tl_profile::{DirectedChain, OpenPlace, point_along};
 
-/// The record of type 1 of a step's chain, where the step stands at a place.
-fn record_of_step<C: Chart>(chart: &C, step: ChainWalk, place: usize) -> Rec1
+/// The record of type 1 of a step's chain if the step is at a place.
+fn record_of_step<C: Chart>(chart: &C, step: DirectedChain, place: usize) -> Rec1
     requires step { step.place < length (C.county chart.now).chains }
     requires place { place < length (C.county chart.now).chains }
     ensures { Some result ≡ option_map (λ chain. packed_one (place + 1, chain)) (step_chain (C.county chart.now) step) }
@@ -33,8 +33,13 @@ fn record_of_step<C: Chart>(chart: &C, step: ChainWalk, place: usize) -> Rec1
     Rec1::new(place as u64 + 1, body, start, end)
 }
 
-/// Compares the records of type 1 of two steps' chains, where these stand at one place.
-fn compare_at<C: Chart>(chart: &C, one: ChainWalk, other: ChainWalk, place: usize) -> Ordering
+/// Compares the records of type 1 of two steps' chains if both steps are at the same place.
+fn compare_at<C: Chart>(
+    chart: &C,
+    one: DirectedChain,
+    other: DirectedChain,
+    place: usize,
+) -> Ordering
     requires one { one.place < length (C.county chart.now).chains }
     requires other { other.place < length (C.county chart.now).chains }
     requires place { place < length (C.county chart.now).chains }
@@ -48,13 +53,13 @@ fn compare_at<C: Chart>(chart: &C, one: ChainWalk, other: ChainWalk, place: usiz
     compare_records(&first, &second)
 }
 
-/// Compares a county in two arrangements by the records of type 1 among which an open place puts its step. Those in front of them are
-/// tied.
+/// Compares two arrangements of a county by the records of type 1 among which an open place inserts its step. The records
+/// before these must be tied.
 fn compare_at_open<C: Chart>(
     chart: &C,
     at: OpenPlace,
-    one: &[ChainWalk],
-    other: &[ChainWalk],
+    one: &[DirectedChain],
+    other: &[DirectedChain],
 ) -> Ordering
     requires one { AreWhole (C.county chart.now) one.now }
     requires other { AreWhole (C.county chart.now) other.now }
@@ -76,12 +81,12 @@ fn compare_at_open<C: Chart>(
     Ordering::Equal
 }
 
-/// Compares a county by the records of type 1 in two arrangements that agree but for what moves at open places.
+/// Compares two arrangements of a county that agree except at open places, by their records of type 1.
 pub(crate) fn compare_ones<C: Chart>(
     chart: &C,
     places: &[OpenPlace],
-    one: &[ChainWalk],
-    other: &[ChainWalk],
+    one: &[DirectedChain],
+    other: &[DirectedChain],
 ) -> Ordering
     requires { AgreeButOpen (C.county chart.now) places.now one.now other.now }
     ensures { result ≡ groups_cmp One (type_1_by_chain (stepped (C.county chart.now) one.now)) (type_1_by_chain (stepped (C.county chart.now) other.now)) }

@@ -1,7 +1,8 @@
-//! Two arrangements of a county by their records of types I and P.
+//! Comparing two arrangements of a county by their records of types I and P.
 //!
-//! Mostly one chain stands at a place in both arrangements, in one direction, and with the same new numbers at its ends and on its
-//! sides: then its record of type I is the same, and isn't made. Where polygons have the same new numbers, so are all records of type P.
+//! Mostly both arrangements have the same chain at a place, in the same direction and with the same new numbers at its ends and
+//! on its sides. Its record of type I is then the same and isn't made. If polygons have the same new numbers, all records of
+//! type P are the same.
 
 ghost use Rattle.std.specs.Bool.{Decides};
 ghost use Rattle.std.specs.Option.{option_cmp};
@@ -11,20 +12,20 @@ ghost use Rattle.tl_number.specs.CountyGroups.{type_i_by_chain, type_p_by_number
 ghost use Rattle.tl_number.specs.RecordOrder.{groups_cmp, links_of, spelling_cmp};
 ghost use Rattle.tl_number.specs.Views.{arranged_county};
 
-use crate::arranged::{Arranged, Standing};
+use crate::arranged::{Arranged, Evidence};
 use crate::arranged_tables::{Ends, Sides};
-use crate::chain_records::LinkRecords;
+use crate::chain_records::TopologyRecords;
 use crate::group_order::{compare_groups, compare_records};
 use crate::groups::RecordGroups;
-use crate::numbers::Numbers;
+use crate::numbers::Interner;
 use crate::polygon_records::PolygonRecords;
 use std::cmp::Ordering;
 use tl_county::{Chart, PolygonKey};
 use tl_layout::RecI;
-use tl_profile::ChainWalk;
+use tl_profile::DirectedChain;
 
 /// Whether two steps are the same.
-fn is_same_step(a: Option<ChainWalk>, b: Option<ChainWalk>) -> bool
+fn is_same_step(a: Option<DirectedChain>, b: Option<DirectedChain>) -> bool
     ensures { Decides result (a ≡ b) }
 {
     a == b
@@ -44,9 +45,9 @@ fn has_same_sides(a: Option<Sides>, b: Option<Sides>) -> bool
     a == b
 }
 
-/// Whether the same chain stands at a place in two arrangements of a county, in the same direction, with the same nodes at its ends and
-/// the same polygons on its sides.
-fn is_same_link<A: Chart, R: Standing, B: Chart, S: Standing>(
+/// Whether two arrangements of a county have the same chain at a place, in the same direction, with the same nodes at its ends
+/// and the same polygons on its sides.
+fn is_same_link<A: Chart, R: Evidence, B: Chart, S: Evidence>(
     a: &Arranged<A, R>,
     b: &Arranged<B, S>,
     place: usize,
@@ -64,17 +65,17 @@ fn is_same_link<A: Chart, R: Standing, B: Chart, S: Standing>(
 }
 
 /// The record of type I of the chain at a place.
-fn link_record<C: Chart, S: Standing>(county: &Arranged<C, S>, place: usize) -> RecI
+fn link_record<C: Chart, S: Evidence>(county: &Arranged<C, S>, place: usize) -> RecI
     requires { place < length (arranged_county county.now).chains }
     ensures { Some (I result) ≡ slice_get (links_of (arranged_county county.now)) place }
 {
-    let records = LinkRecords { chart: county };
+    let records = TopologyRecords { chart: county };
     let head = records.head(place);
     records.record(place, head, 0)
 }
 
 /// Compares two arrangements of a county by their records of type I at a place.
-fn compare_link<A: Chart, R: Standing, B: Chart, S: Standing>(
+fn compare_link<A: Chart, R: Evidence, B: Chart, S: Evidence>(
     a: &Arranged<A, R>,
     b: &Arranged<B, S>,
     place: usize,
@@ -91,7 +92,7 @@ fn compare_link<A: Chart, R: Standing, B: Chart, S: Standing>(
 }
 
 /// Compares two arrangements of a county by their records of type I.
-pub(crate) fn compare_links<A: Chart, R: Standing, B: Chart, S: Standing>(
+pub(crate) fn compare_links<A: Chart, R: Evidence, B: Chart, S: Evidence>(
     a: &Arranged<A, R>,
     b: &Arranged<B, S>,
 ) -> Ordering
@@ -115,7 +116,7 @@ fn is_same_key(a: Option<PolygonKey>, b: Option<PolygonKey>) -> bool
 }
 
 /// Whether polygons have the same new numbers.
-fn have_same_numbers(a: &Numbers<PolygonKey>, b: &Numbers<PolygonKey>) -> bool
+fn have_same_numbers(a: &Interner<PolygonKey>, b: &Interner<PolygonKey>) -> bool
     ensures { result ≡ true → a.now ≡ b.now }
 {
     let count = a.len();
@@ -131,7 +132,7 @@ fn have_same_numbers(a: &Numbers<PolygonKey>, b: &Numbers<PolygonKey>) -> bool
 }
 
 /// Compares two arrangements of a county by their records of type P.
-pub(crate) fn compare_polygons<A: Chart, R: Standing, B: Chart, S: Standing>(
+pub(crate) fn compare_polygons<A: Chart, R: Evidence, B: Chart, S: Evidence>(
     a: &Arranged<A, R>,
     b: &Arranged<B, S>,
 ) -> Ordering

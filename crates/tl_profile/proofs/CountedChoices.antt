@@ -1,4 +1,4 @@
--- What a pass over keys in order, from the last to the first, knows of their running product and of the places with a choice.
+-- A pass over ordered keys, from the last to the first: the running product, and the places with a choice.
 use Rattle.std.proofs.Common.{◌≡◌, ◌⊎◌, ◌<◌, ◌≤◌, ◌+◌, ◌*◌, ℕ, suc, List, [], ◌∷◌, ◌++◌, length, reverse, Bool, true, false, cond}
 use Rattle.std.proofs.Common.{Ordering, is_eq, refl, ap, ◌∙◌, inl, inr, arith}
 use Rattle.std.proofs.lemmas.List.{reverse-append}
@@ -10,7 +10,7 @@ use Rattle.tl_profile.specs.Choices.{alike_first, is_first, is_settled, open_pla
 use Rattle.tl_profile.specs.declared.open_places.OpenPlace.{OpenPlace}
 
 module _ {K : Type 0} {cmp : K → K → Ordering} (o : IsKeyOrder cmp) where
-  -- in order, a key stands behind itself once more often than the next one does if they are the same, and else not at all
+  -- in order, a key occurs after itself one time more than the next key does if they are the same, and never if they aren't
   pub run_on : (k j : K) (js : List K) → IsInOrder cmp (k ∷ j ∷ js)
       → times cmp k (j ∷ js) ≡ cond (is_eq (cmp k j)) (suc (times cmp j js)) 0
   run_on k j js h = go (is_eq (cmp k j)) refl
@@ -21,7 +21,7 @@ module _ {K : Type 0} {cmp : K → K → Ordering} (o : IsKeyOrder cmp) where
           times-yes o k j js same ∙ ap (λ i. suc (times cmp i js)) same
       go false e = before_all o k j js h.1 (less_from o (cmp k j) h.0.0 e)
 
-  -- so how often it stands there is known from the next one
+  -- the count of a key therefore follows from that of the next one
   pub alike-next : (k : K) (ks : List K) → IsInOrder cmp (k ∷ ks) → cond (is_first cmp k ks) (alike_first cmp ks + 1) 1 ≡ suc (times cmp k ks)
   alike-next k [] h = refl
   alike-next k (j ∷ js) h = go (is_eq (cmp k j)) (run_on k j js h)
@@ -44,7 +44,7 @@ module _ {K : Type 0} {cmp : K → K → Ordering} (o : IsKeyOrder cmp) where
   alike_few (k ∷ ks) = omega (arith, times_few k ks)
 
 module _ {K : Type 0} (cmp : K → K → Ordering) (either : K → Bool) where
-  -- one more key leaves no fewer choices
+  -- one more key leaves at least as many choices
   pub more_choices : (k : K) (ks : List K) → running cmp either ks ≤ running cmp either (k ∷ ks)
   more_choices k ks = go (either k)
     where
@@ -58,7 +58,7 @@ module _ {K : Type 0} (cmp : K → K → Ordering) (either : K → Bool) where
       go true = doubled (times cmp k ks) (running cmp either ks)
       go false = (let g = grown (times cmp k ks) (running cmp either ks) in omega arith)
 
-  -- nor do more than one
+  -- so do several more
   pub more_choices-append : (js ks : List K) → running cmp either ks ≤ running cmp either (js ++ ks)
   more_choices-append [] ks = omega arith
   more_choices-append (j ∷ js) ks =
@@ -66,14 +66,14 @@ module _ {K : Type 0} (cmp : K → K → Ordering) (either : K → Bool) where
       let more : running cmp either (js ++ ks) ≤ running cmp either (j ∷ (js ++ ks)) = more_choices j (js ++ ks) in
       omega arith
 
-  -- What a pass knows that has come, from the last key, to a place: the count and the open places of the keys from there on, and how many
-  -- of these are the same as the first. The places stand the last one first.
+  -- The state of a pass that has come from the last key to a place: the count and the open places of the keys from there on,
+  -- and how many of these are the same as the first. The last place comes first.
   pub record IsCounted (place : ℕ) (keys : List K) (count alike : ℕ) (places : List OpenPlace) : Type 0 where
     pub count_is : count ≡ running cmp either keys
     pub alike_is : alike ≡ alike_first cmp keys
     pub places_are : reverse places ≡ open_places cmp either place keys
 
-  -- one more key in front
+  -- one more key before the others
   pub counted_next : (place : ℕ) (k : K) (ks : List K) (count alike : ℕ) (places : List OpenPlace) → IsCounted (suc place) ks count alike places
       → (at : OpenPlace) → at ≡ place_of cmp either place k ks → (counted alike_now : ℕ) (now : List OpenPlace)
       → counted ≡ at.alike * (ways_at at * count) → alike_now ≡ at.alike → now ≡ cond (is_settled at) places (places ++ (at ∷ []))
@@ -94,7 +94,7 @@ module _ {K : Type 0} (cmp : K → K → Ordering) (either : K → Bool) where
       go true = was.places_are
       go false = reverse-append places (here ∷ []) ∙ ap (λ l. here ∷ l) was.places_are
 
--- open places have so many of their key from there on
+-- the keys that an open place counts are all in the list
 module _ {K : Type 0} {cmp : K → K → Ordering} (o : IsKeyOrder cmp) (either : K → Bool) where
   pub open_places_within : (P : OpenPlace → Type 0) (place : ℕ) (keys : List K)
       → ((at : OpenPlace) → 0 < at.alike → at.place + at.alike ≤ place + length keys → P at)

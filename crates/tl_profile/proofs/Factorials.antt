@@ -1,5 +1,5 @@
--- The running product of keys is the product of the factorials of how often each of them stands there, and of twos. So it is the same in
--- whatever order the keys stand.
+-- The running product of keys is the product of the factorials of how often each key occurs, and of twos. It is therefore the
+-- same for every order of the keys.
 use Rattle.std.proofs.Common.{◌≡◌, ◌⊎◌, ◌<◌, ◌≤◌, ◌*◌, ◌^◌, ℕ, suc, nat_lt, List, [], ◌∷◌, map, filter, length, Bool, true, false, cond}
 use Rattle.std.proofs.Common.{Ordering, is_eq, is_gt, sym, refl, ap, ◌∙◌, subst, inl, inr, arith}
 use Rattle.std.proofs.lemmas.Bool.{ltb-true, ltb-false}
@@ -23,7 +23,7 @@ module _ {K : Type 0} {cmp : K → K → Ordering} (o : IsKeyOrder cmp) where
       go true ih = ap (λ n. f d * n) ih ∙ exchanged (f d) (f k) (product (map f ds))
       go false ih = refl
 
-  -- where one key counts for more and each other one for the same
+  -- if f is n times g for one key and equal to g for all others, its product is n times that of g
   product-more : (f g : K → ℕ) (n : ℕ) (k : K) → f k ≡ n * g k → ((j : K) → (j ≡ k → ⊥) → f j ≡ g j) → (ds : List K) → IsApart cmp ds
       → Known cmp ds k → product (map f ds) ≡ n * product (map g ds)
   product-more f g n k here other [] a m = absurd (omega (arith, m))
@@ -49,7 +49,7 @@ module _ {K : Type 0} {cmp : K → K → Ordering} (o : IsKeyOrder cmp) where
           let first : f d ≡ g d = other d (λ same. apart k r.0 same) in
           (λ i. first i * ih r.0 i) ∙ exchanged (g d) n (product (map g ds))
 
-  -- in how many orders those of one key can stand
+  -- the number of orders of the keys that are the same as this one
   abbrev pub orders : List K → K → ℕ
   orders ks k = factorial (times cmp k ks)
 
@@ -90,7 +90,7 @@ module _ {K : Type 0} {cmp : K → K → Ordering} (o : IsKeyOrder cmp) where
         go true = pow-succ' 2 (length (filter either ks))
         go false = omega arith
 
-    -- the running product, in words that know no order
+    -- the running product, written without the order of the keys
     pub running_is : (ks : List K) → running cmp either ks ≡ factorials ks * 2 ^ length (filter either ks)
     running_is [] = refl
     running_is (k ∷ ks) =
@@ -102,7 +102,7 @@ module _ {K : Type 0} {cmp : K → K → Ordering} (o : IsKeyOrder cmp) where
         regrouped : (m w f t : ℕ) → m * (w * (f * t)) ≡ (m * f) * (w * t)
         regrouped m w f t = grind arith
 
-    -- so lists with the same keys have the same one
+    -- lists with the same keys therefore have the same running product
     pub running-same : (ks js : List K) → SameElements ks js → running cmp either ks ≡ running cmp either js
     running-same ks js s =
         let often : (k : K) → times cmp k ks ≡ times cmp k js = times-same cmp ks js s in

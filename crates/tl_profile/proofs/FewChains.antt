@@ -1,4 +1,4 @@
--- The chains of a county within its limits are few enough for places of 32 bits.
+-- A county within its limits has few enough chains for 32-bit places.
 use Rattle.std.proofs.Common.{◌^◌, ◌<◌, ◌≤◌, map, length, subst, arith}
 use Rattle.std.proofs.lemmas.List.{length-map}
 use Rattle.tl_county.specs.County.{County}

@@ -1,4 +1,4 @@
--- A polygon without a chain, the least one, is the first broken clause.
+-- The least polygon without a chain is the first broken clause.
 use Rattle.std.proofs.Common.{◌≡◌, true, false, Some, is_gt, refl, nat_cmp}
 use Rattle.std.specs.Cmp.Lexicographic.{slice_cmp}
 use Rattle.std.proofs.lemmas.Bool.{false≢true}

@@ -15,7 +15,7 @@ use Rattle.tl_county.proofs.Lists.Elements.{map-map}
 use Rattle.tl_profile.specs.Choices.{choices, counted_choices, is_either_way, is_settled, most_choices, open_places, place_of, running, ways_at}
 use Rattle.tl_profile.specs.PlacedShapes.{placed_walk, whole_shape}
 use Rattle.tl_profile.specs.ShapeOrder.{AreWalksInOrder, least_walk, least_walks, points_along, walk_cmp}
-use Rattle.tl_profile.specs.declared.chain_walk.ChainWalk.{ChainWalk}
+use Rattle.tl_profile.specs.declared.directed_chain.DirectedChain.{DirectedChain}
 use Rattle.tl_profile.specs.declared.open_places.OpenPlace.{OpenPlace}
 use Rattle.tl_profile.specs.declared.shapes.PlacedShape.{PlacedShape}
 use Rattle.tl_profile.proofs.CountedChoices.{IsCounted, counted_next, more_choices-append}
@@ -27,7 +27,7 @@ first_not_greater Less b e = refl
 first_not_greater Equal b e = refl
 first_not_greater Greater b e = e
 
--- a list behind another one, as a slice
+-- a list after another one, as a slice
 pub behind : {X : Type 0} (all rest done : List X) → all ≡ rest ++ done → take (length all - length rest) (drop (length rest) all) ≡ done
 behind {X} all rest done cut =
     ap (λ l. take (length all - length rest) (drop (length rest) l)) cut
@@ -42,16 +42,16 @@ in_order-behind : {X : Type 0} (by : X → X → Ordering) (xs ys : List X) → 
 in_order-behind by [] ys h = h
 in_order-behind by (x ∷ xs) ys h = in_order-behind by xs ys h.1
 
--- more than the most is told as one more than that
+-- more than the most is counted as one more than that
 capped : (m n : ℕ) → most_choices < m → m ≤ n → min m (suc most_choices) ≡ min n (suc most_choices)
 capped m n h k = omega (arith, h, k)
 
 module _ (county : County) where
-  pub walks_in_order : (walks : List ChainWalk) → IsInOrder (walk_cmp county) walks → IsInOrder points_cmp (map (points_along county) walks)
+  pub walks_in_order : (walks : List DirectedChain) → IsInOrder (walk_cmp county) walks → IsInOrder points_cmp (map (points_along county) walks)
   walks_in_order [] h = tt
   walks_in_order (w ∷ ws) h = (each ws h.0, walks_in_order ws h.1)
     where
-      each : (vs : List ChainWalk) → AllByRecursion (λ v. is_gt (walk_cmp county w v) ≡ false) vs
+      each : (vs : List DirectedChain) → AllByRecursion (λ v. is_gt (walk_cmp county w v) ≡ false) vs
           → AllByRecursion (λ k. is_gt (points_cmp (points_along county w) k) ≡ false) (map (points_along county) vs)
       each [] a = tt
       each (v ∷ vs) a = (first_not_greater (points_cmp (points_along county w) (points_along county v)) (nat_cmp w.place v.place) a.0, each vs a.1)
@@ -74,7 +74,7 @@ module _ (county : County) where
         let all = length-map-range_with_len (least_walk county) 0 (length county.chains) in
         omega (arith, few, walks, same, all)
 
-    -- a shape and those behind it are in order
+    -- a shape and those after it are in order
     pub rest_in_order : (rest before done : List PlacedShape) (shape : PlacedShape) → shapes ≡ rest ++ done → rest ≡ before ++ (shape ∷ [])
         → IsInOrder points_cmp (map (whole_shape county) (shape ∷ done))
     rest_in_order rest before done shape cut split =
@@ -84,7 +84,7 @@ module _ (county : County) where
         (subst (IsInOrder points_cmp) (ap (map (whole_shape county)) parts ∙ map-append (whole_shape county) before (shape ∷ done))
         shapes_in_order)
 
-    -- one more shape in front of those that are counted
+    -- one more shape before those that are counted
     pub counted_place : (rest before done : List PlacedShape) (shape : PlacedShape) → shapes ≡ rest ++ done
         → length before + 1 ≡ length rest → (count alike : ℕ) (places : List OpenPlace)
         → IsCounted points_cmp is_either_way (length rest) (map (whole_shape county) done) count alike places → (at : OpenPlace)
@@ -99,13 +99,13 @@ module _ (county : County) where
         at (is ∙ ap (λ l. place_of points_cmp is_either_way (length before) (whole_shape county shape) (map (whole_shape county) l))
         (behind shapes rest done cut))
 
-    -- what the pass answers: the count, told up to one more than the most, and the places, the last one first
+    -- the result of the pass: the count, up to one more than the most, and the places, the last one first
     pub record IsFound (count : ℕ) (places : List OpenPlace) : Type 0 where
       pub count_is : min count (suc most_choices) ≡ counted_choices county
       pub places_are : choices county ≤ most_choices
           → reverse places ≡ open_places points_cmp is_either_way 0 (map (whole_shape county) shapes)
 
-    -- where a part leaves more than the most, so does the whole
+    -- if a part leaves more than the most, so does the whole
     pub found_many : (before done : List PlacedShape) → shapes ≡ before ++ done → (place count alike : ℕ) (places : List OpenPlace)
         → IsCounted points_cmp is_either_way place (map (whole_shape county) done) count alike places → most_choices < count
         → IsFound count places
@@ -122,7 +122,7 @@ module _ (county : County) where
           places_are = λ few. absurd (omega (arith, few, within, many));
         }
 
-    -- and where nothing is left, all are counted
+    -- if no shapes are left, all are counted
     pub found_all : (done : List PlacedShape) → shapes ≡ done → (count alike : ℕ) (places : List OpenPlace)
         → IsCounted points_cmp is_either_way 0 (map (whole_shape county) done) count alike places → IsFound count places
     found_all done cut count alike places is = record {

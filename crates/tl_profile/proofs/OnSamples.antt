@@ -1,4 +1,4 @@
--- What the profile says of the samples.
+-- The profile of the samples.
 use Rattle.std.proofs.Common.{List, [], ◌∷◌, flat_map, Some, refl}
 use Rattle.tl_layout.specs.declared.record_type.Record.{Record}
 use Rattle.tl_county.specs.County.{county_of}
@@ -35,11 +35,11 @@ meeting_in_profile = profile_computed (county_of meeting) refl
 pub bare_loop_in_profile : IsInProfile (county_of bare_loop)
 bare_loop_in_profile = profile_computed (county_of bare_loop) refl
 
--- two chains of one shape: two choices
+-- two chains of the same shape: two choices
 pub doubled_in_profile : IsInProfile (county_of doubled)
 doubled_in_profile = profile_computed (county_of doubled) refl
 
--- a polygon of type P on no side
+-- a polygon with a type P record on no side
 pub polygon_refused : IsFirstBrokenClause (county_of (polygon 12 ∷ landmark 30 (codes "Lee School") ∷ in_polygon 12 30 ∷ there))
     (PolygonWithoutChain cenid_1 12)
 polygon_refused = first_clause_computed (county_of (polygon 12 ∷ landmark 30 (codes "Lee School") ∷ in_polygon 12 30 ∷ there))

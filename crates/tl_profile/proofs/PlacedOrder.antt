@@ -19,7 +19,7 @@ use Rattle.tl_profile.specs.ShapeOrder.{AreWalksInOrder, least_walks, walk_cmp}
 use Rattle.tl_profile.specs.PlacedShapes.{HasHead, placed_cmp, placed_key_cmp, placed_walk, whole_shape}
 use Rattle.tl_profile.specs.declared.shapes.PlacedShape.{PlacedShape}
 
--- what holds of each element holds of each of a permutation
+-- a property of all elements of a list is one of all elements of a permutation
 pub all_permuted : {X : Type 0} (P : X → Type 0) (xs ys : List X) → IsPermutation xs ys → AllByRecursion P xs → AllByRecursion P ys
 all_permuted P xs ys p a =
     all_weaker (λ y. Among y ys) P (λ y m. all_among P y xs a (among-permutation y ys xs (IsPermutation-sym xs ys p) m)) ys
@@ -31,7 +31,7 @@ placed_key_total county =
     (then_total (on_total (λ (s : PlacedShape). s.second) int_cmp_total) (on_total (whole_shape county) points_keys.total)))
     (on_total (λ (s : PlacedShape). s.place) nat_cmp_total)
 
--- what decided once decides again
+-- a comparison that was made once decides nothing when made again
 again : (a b c : Ordering) → ordering_then a (ordering_then b (ordering_then a (ordering_then b c))) ≡ ordering_then a (ordering_then b c)
 again Less b c = refl
 again Greater b c = refl
@@ -39,7 +39,7 @@ again Equal Less c = refl
 again Equal Equal c = refl
 again Equal Greater c = refl
 
--- with their own first two points, placed shapes stand as their shapes
+-- with their own first two points, placed shapes compare as their shapes do
 pub placed-whole : (county : County) (a b : PlacedShape) → HasHead county a → HasHead county b
     → placed_cmp county a b ≡ points_cmp (whole_shape county a) (whole_shape county b)
 placed-whole county a b h k =
@@ -52,7 +52,7 @@ placed-whole county a b h k =
     ∙ again (point_cmp h.first k.first) (point_cmp h.second k.second) (points_cmp h.rest k.rest)
     ∙ sym same
 
--- so the walks of a list in their order are in order
+-- the walks of a list in this order are therefore in order
 pub walks_in_order : (county : County) (shapes : List PlacedShape) → AllByRecursion (HasHead county) shapes
     → IsInOrder (placed_key_cmp county) shapes → IsInOrder (walk_cmp county) (map placed_walk shapes)
 walks_in_order county [] a h = tt

@@ -1,4 +1,4 @@
--- What stands at a place of a county's chains.
+-- The chain at a place of a county.
 use Rattle.std.proofs.Common.{◌≡◌, ℕ, zero, suc, ◌<◌, ◌≤◌, List, [], ◌∷◌, ◌++◌, length, take, drop, slice_get, reverse}
 use Rattle.std.proofs.Common.{Bool, true, false, Option, Some, option_map, refl, sym, ap, ◌∙◌, subst, inl, inr, arith}
 use Rattle.std.proofs.Common.{IsSome}
@@ -15,7 +15,7 @@ use Rattle.tl_county.specs.CountyRules.{IsCounty}
 use Rattle.tl_county.proofs.Rules.FirstFault.{Among, all_among}
 use Rattle.tl_profile.specs.Shapes.{least_points, points_at, points_from}
 
--- an item, and the list before and behind it
+-- an item, and the lists before and after it
 pub record StandsAt {X : Type 0} (xs : List X) (place : ℕ) : Type 0 where
   pub item : X
   pub get : slice_get xs place ≡ Some item

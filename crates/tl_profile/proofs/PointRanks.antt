@@ -1,4 +1,4 @@
--- Ranks stand to one another as the points of the map do.
+-- Ranks compare as the points of the map do.
 use Rattle.std.proofs.Common.{◌≡◌, Ordering, Less, Equal, Greater, sym, ap₂, ◌∙◌, int_cmp, ℤ, ◌<ℤ◌, ◌≤ℤ◌, ◌≤◌, pos, neg_ℤ, arith}
 use Rattle.std.proofs.lemmas.Int.{ints}
 use Rattle.std.specs.Cmp.{int_cmp_is, int_ranks}
@@ -12,7 +12,7 @@ use Rattle.tl_profile.specs.PointRanks.{IsRankOf, point_rank}
 between : (z : ℤ) → unsigned_abs z ≤ 99999999 → (neg_ℤ (pos 99999999) ≤ℤ z) × (z ≤ℤ pos 99999999)
 between z h = (omega (arith, ints, h), omega (arith, ints, h))
 
--- what the order of points says of the ranks
+-- how the order of two points determines that of their ranks
 ranked : (p q : Coordinates) → IsOnMap p → IsOnMap q
     → MatchOrdering (point_cmp p q) (point_rank p <ℤ point_rank q) (point_rank p ≡ point_rank q) (point_rank q <ℤ point_rank p)
 ranked p q a b = go (int_cmp p.long q.long) (int_ranks p.long q.long) (int_cmp p.lat q.lat) (int_ranks p.lat q.lat)

@@ -1,4 +1,4 @@
--- A county lies in the profile, or some clause is broken first and no other is.
+-- A county is in the profile, or exactly one clause is broken first.
 use Rattle.std.proofs.Common.{◌≡◌, ◌⊎◌, ℕ, zero, suc, ◌==◌, List, [], ◌∷◌, map, true, cond, not, ◌&&◌}
 use Rattle.std.proofs.Common.{is_eq, is_some, inl, inr, sym, refl, subst, Option}
 use Rattle.std.proofs.lemmas.Bool.{false≢true, and_parts}
@@ -40,14 +40,14 @@ fault_at-place (PolygonWithoutChain cenid polyid) = refl
 fault_at-place TooSymmetric = refl
 fault_at-place Memory = refl
 
--- Among these each broken clause stands with its place.
+-- These include each broken clause with its place.
 abbrev pub polygon_faults : County → List ProfileFault
 polygon_faults county = map (λ e. PolygonWithoutChain e.0.0 e.0.1) county.polygons
 
 abbrev pub all_faults : County → List ProfileFault
 all_faults county = TooSymmetric ∷ polygon_faults county
 
--- a polygon of type P
+-- a polygon with a type P record
 pub body_entry : (county : County) (key : PolygonKey) → has_body county key ≡ true
     → (e : PolygonKey × Option BodyP) × Among e county.polygons × (key ≡ e.0) × (is_some e.1 ≡ true)
 body_entry county key h =
@@ -76,7 +76,7 @@ profile_has_none county fault within h = not_first (is_clause_broken county) pro
 pub one_first_clause : (county : County) (f g : ProfileFault) → IsFirstBrokenClause county f → IsFirstBrokenClause county g → f ≡ g
 one_first_clause county = one_first (is_clause_broken county) profile_fault_place fault_at fault_at-place
 
--- by computing, for a given county
+-- computed for a given county
 pub profile_computed : (county : County) → none_there (is_clause_broken county) profile_fault_place (all_faults county) ≡ true → IsInProfile
     county
 profile_computed county e = none_computed (is_clause_broken county) profile_fault_place (all_faults county) (broken_among county) e

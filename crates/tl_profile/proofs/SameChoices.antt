@@ -1,4 +1,4 @@
--- Same counties leave equally many choices, and the shapes of a county in order tell how many.
+-- Counties that are the same leave equally many choices, and the shapes of a county in order determine how many.
 use Rattle.std.proofs.Common.{◌≡◌, ℕ, List, map, Bool, true, false, refl, sym, ◌∙◌, subst, IsPermutation}
 use Rattle.std.proofs.lemmas.List.Sorted.{IsPermutation-sym}
 use Rattle.tl_layout.specs.Coordinates.{Coordinates}
@@ -13,12 +13,12 @@ use Rattle.tl_county.proofs.Lists.Reordered.{SameElements, from_permutation, sam
 use Rattle.tl_profile.specs.Choices.{choices, is_either_way, running, shapes}
 use Rattle.tl_profile.specs.Shapes.{least_points}
 use Rattle.tl_profile.specs.ShapeOrder.{AreWalksInOrder, least_walks, points_along}
-use Rattle.tl_profile.specs.declared.chain_walk.ChainWalk.{ChainWalk}
+use Rattle.tl_profile.specs.declared.directed_chain.DirectedChain.{DirectedChain}
 use Rattle.tl_profile.proofs.Factorials.{running_is, running-same}
 use Rattle.tl_profile.proofs.ShapePoints.{least_reverse}
 use Rattle.tl_profile.proofs.ShapesOfCounty.{shapes_along}
 
--- the choices by the shapes alone
+-- the number of choices depends only on the shapes
 pub choices_of_shapes : (county : County) → running points_cmp is_either_way (shapes county) ≡ choices county
 choices_of_shapes county = running_is points_keys is_either_way (shapes county)
 
@@ -42,8 +42,8 @@ same_choices a b s =
     ∙ running-same points_keys is_either_way (shapes a) (shapes b) (shapes_carried s.by a b s.carries)
     ∙ choices_of_shapes b
 
--- the points along the walks, in whatever order these stand, are the shapes
-pub shapes_of_walks : (county : County) (walks : List ChainWalk) → IsPermutation (least_walks county) walks
+-- the points along the walks, in any order of these, are the shapes
+pub shapes_of_walks : (county : County) (walks : List DirectedChain) → IsPermutation (least_walks county) walks
     → SameElements (map (points_along county) walks) (shapes county)
 shapes_of_walks county walks p =
     let along : SameElements (map (points_along county) walks) (map (points_along county) (least_walks county)) =
@@ -51,7 +51,7 @@ shapes_of_walks county walks p =
     (from_permutation walks (least_walks county) (IsPermutation-sym (least_walks county) walks p)) in
     subst (SameElements (map (points_along county) walks)) (shapes_along county) along
 
-pub choices_told : (county : County) (walks : List ChainWalk) → AreWalksInOrder county walks
+pub choices_told : (county : County) (walks : List DirectedChain) → AreWalksInOrder county walks
     → running points_cmp is_either_way (map (points_along county) walks) ≡ choices county
 choices_told county walks order =
     running-same points_keys is_either_way (map (points_along county) walks) (shapes county) (shapes_of_walks county walks order.all)

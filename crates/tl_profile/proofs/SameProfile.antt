@@ -1,4 +1,4 @@
--- Of two counties that are the same map, both are in the profile or neither is.
+-- If two counties are the same map, both are in the profile or neither is.
 use Rattle.std.proofs.Common.{◌≡◌, nat_lt, map, Bool, true, false, not, ◌&&◌, is_eq, is_some}
 use Rattle.std.proofs.Common.{sym, refl, ap, ◌∙◌, subst, Option}
 use Rattle.std.proofs.lemmas.Bool.{false≢true, and_parts, and_from, ltb-true, lt-ltb, false_from_ne_true}
@@ -32,7 +32,7 @@ and-second : (a b : Bool) → a ≡ true → (a && b) ≡ false → b ≡ false
 and-second true b t e = e
 and-second false b t e = absurd (false≢true t)
 
--- its polygons of type P are on sides
+-- the county's polygons with a type P record are on sides
 pub body_on_side : (a : County) → IsInProfile a → (e : PolygonKey × Option BodyP) → Among e a.polygons → is_some e.1 ≡ true
     → Known key_cmp (polygons_along a.chains) e.0
 body_on_side a h e m s =

@@ -1,4 +1,4 @@
--- A chain's shape: it is the same from either end of the chain, and where the chain is its own reverse so is its shape.
+-- A chain's shape is the same from either end of the chain. If the chain is its own reverse, so is its shape.
 use Rattle.std.proofs.Common.{◌≡◌, List, Bool, true, false, Ordering, Less, Equal, Greater, is_eq, is_lt, reverse, refl, sym, ap, ◌∙◌}
 use Rattle.std.specs.Ordering.{ordering_reverse}
 use Rattle.std.proofs.lemmas.List.{reverse-reverse}
@@ -8,7 +8,7 @@ use Rattle.tl_county.proofs.ByKey.KeyOrders.{points_keys}
 use Rattle.tl_profile.specs.Choices.{is_either_way}
 use Rattle.tl_profile.specs.Shapes.{least_points, points_from}
 
--- the lesser of two lists is the same from either of them
+-- the lesser of a list and its reverse is the same for both
 pub least_reverse : (ps : List Coordinates) → least_points (reverse ps) ≡ least_points ps
 least_reverse ps = go (points_cmp (reverse ps) ps) refl
   where
@@ -31,7 +31,7 @@ least_reverse ps = go (points_cmp (reverse ps) ps) refl
         ∙ reverse-reverse ps
         ∙ sym (ap (λ r. points_from (is_lt r) ps) e)
 
--- whether points are the same from both ends is seen from either of them
+-- whether points are the same from both ends can be seen from either end
 pub either_way-from : (turned : Bool) (ps : List Coordinates) → is_either_way (points_from turned ps) ≡ is_eq (points_cmp (reverse ps) ps)
 either_way-from true ps = ap (λ qs. is_eq (points_cmp (reverse ps) qs)) (reverse-reverse ps)
 either_way-from false ps =

@@ -11,7 +11,7 @@ use Rattle.tl_profile.specs.Choices.{shapes}
 use Rattle.tl_profile.specs.Shapes.{least_points}
 use Rattle.tl_profile.specs.ShapeOrder.{least_walk, least_walks, points_along}
 
--- what is told of each place is told of what stands there
+-- a function of each place that agrees with a function of the item there has the same values
 map_places : {X Y : Type 0} (f : ℕ → Y) (g : X → Y) (a : ℕ) (xs : List X)
     → ((i : ℕ) (x : X) → slice_get xs i ≡ Some x → f (a + i) ≡ g x) → map f (range_with_len a (length xs)) ≡ map g xs
 map_places f g a [] h = refl

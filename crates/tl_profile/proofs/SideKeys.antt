@@ -1,4 +1,4 @@
--- The keys on sides and those with a type P record, gathered place by place, and what the profile says of them.
+-- The keys on sides and those with a type P record, gathered place by place, and how the profile judges them.
 use Rattle.std.proofs.Common.{◌≡◌, ℕ, suc, ◌<◌, nat_lt, List, [], ◌∷◌, ◌++◌, map, filter, length, take, slice_get, Bool, true, false}
 use Rattle.std.proofs.Common.{cond, not, ◌&&◌, ◌||◌, Option, Some, None, is_some, option_map, option_to_list, is_eq, refl, sym, ap, ◌∙◌}
 use Rattle.std.proofs.Common.{append_assoc, append-nil, map-id, arith}
@@ -26,7 +26,7 @@ use Rattle.tl_county.proofs.ByKey.KeySets.{stands_in-distinct}
 use Rattle.tl_profile.specs.Sides.{key_if_bodied, keys_on, keys_with_body}
 use Rattle.tl_profile.proofs.Places.{StandsAt, stands_at, ChainStands, chain_stands}
 
--- one more chain's sides
+-- the sides of one more chain
 pub sides_next : (county : County) (place : ℕ) → place < length county.chains → (before left_too both : List PolygonKey)
     (left right : Option PolygonSide) → before ≡ polygons_along (take place county.chains)
     → left ≡ option_map (λ c. c.left) (chain_at county place) → left_too ≡ before ++ keys_on left
@@ -64,14 +64,14 @@ bodies_next polygons place h before after key b k a =
     ∙ ap (map (λ e. e.0)) (sym (filter-append (λ e. is_some e.1) done (stands.item ∷ [])))
     ∙ ap keys_with_body (sym stands.upto)
 
--- they are in order
+-- the keys are in order
 pub bodies_in_order : (county : County) → IsCounty county → IsInOrder key_cmp (keys_with_body county.polygons)
 bodies_in_order county is =
     in_order-map key_cmp (λ e. e.0) (filter (λ e. is_some e.1) county.polygons)
     (in_order-filter (on (λ e. e.0) key_cmp) (λ e. is_some e.1) county.polygons
     (in_order-strict (on (λ e. e.0) key_cmp) county.polygons (strict-map key_cmp (λ e. e.0) county.polygons is.ascending.polygons)))
 
--- a key stands among them exactly if the county has a type P record of its polygon
+-- a key is among them exactly if the county has a type P record of its polygon
 bodied : (key : PolygonKey) (polygons : List (PolygonKey × Option BodyP))
     → stands_in key_cmp key (keys_with_body polygons) ≡ list_any (λ e. is_eq (key_cmp key e.0) && is_some e.1) polygons
 bodied key [] = refl
@@ -99,7 +99,7 @@ bodied key (entry ∷ polygons) = go (is_some entry.1) (bodied key polygons)
     go false ih = ih ∙ without (is_eq (key_cmp key entry.0))
 
 module _ (county : County) (sides : List PolygonKey) (met : sides ≡ distinct key_cmp (polygons_along county.chains)) where
-  -- the polygons that the search finds are those that the profile refuses
+  -- the search finds exactly the polygons that the profile rejects
   pub same_unknown : (bodies : List PolygonKey) → bodies ≡ keys_with_body county.polygons → (key : PolygonKey)
       → is_unknown key_cmp (map (λ k. k) bodies) (map (λ k. k) sides) key
       ≡ (has_body county key && not (stands_in key_cmp key (polygons_along county.chains)))

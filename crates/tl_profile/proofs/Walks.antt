@@ -14,7 +14,7 @@ decided Equal rest h = absurd (h refl)
 decided Greater rest h = refl
 
 module _ {X : Type 0} (cmp : X → X → Ordering) (xs ys : List X) (i : ℕ) (d : X) where
-  -- what decides from an index on is what stands there, and then what follows
+  -- from an index on, the items there decide, and then the items after them
   pub from_index : i < length xs → slice_cmp cmp (drop i xs) (drop i ys)
       ≡ ordering_then (option_cmp cmp (slice_get xs i) (slice_get ys i)) (slice_cmp cmp (drop (i + 1) xs) (drop (i + 1) ys))
   from_index h = go (nat_lt i (length ys)) refl
@@ -39,14 +39,14 @@ module _ {X : Type 0} (cmp : X → X → Ordering) (xs ys : List X) (i : ℕ) (d
         let rest : Ordering = slice_cmp cmp (drop (i + 1) xs) (drop (i + 1) ys) in
         sym (decided r rest unequal) ∙ ap (λ o. ordering_then o rest) told_here ∙ sym (from_index h) ∙ was
 
-    -- equal points leave the decision to the rest
+    -- equal points leave the decision to the points after them
     pub after_equal : i < length xs → slice_cmp cmp (drop i xs) (drop i ys) ≡ all → r ≡ Equal
         → slice_cmp cmp (drop (i + 1) xs) (drop (i + 1) ys) ≡ all
     after_equal h was equal =
         let rest : Ordering = slice_cmp cmp (drop (i + 1) xs) (drop (i + 1) ys) in
         ap (λ o. ordering_then o rest) (sym equal ∙ told_here) ∙ sym (from_index h) ∙ was
 
-  -- past the end of the one, the other goes on or ends too
+  -- after the end of one list, the other continues or ends too
   pub at_more : length xs ≤ i → slice_get ys i ≡ Some d → slice_cmp cmp (drop i xs) (drop i ys) ≡ Less
   at_more h some = go (nat_lt i (length ys)) refl
     where

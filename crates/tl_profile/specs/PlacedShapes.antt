@@ -1,4 +1,4 @@
--- What stands for a chain while shapes are put in order.
+-- The values that represent chains while shapes are sorted.
 use Rattle.std.specs.Prelude.{◌≡◌, List, ◌∷◌}
 use Rattle.std.specs.declared.cmp.Ordering.{Ordering}
 use Rattle.std.specs.Ordering.{int_cmp, nat_cmp, ordering_then}
@@ -8,18 +8,19 @@ use Rattle.tl_county.specs.County.{County}
 use Rattle.tl_profile.specs.Choices.{is_either_way}
 use Rattle.tl_profile.specs.PointRanks.{IsRankOf}
 use Rattle.tl_profile.specs.ShapeOrder.{points_along}
-use Rattle.tl_profile.specs.declared.chain_walk.ChainWalk.{ChainWalk}
+use Rattle.tl_profile.specs.declared.directed_chain.DirectedChain.{DirectedChain}
 use Rattle.tl_profile.specs.declared.shapes.PlacedShape.{PlacedShape}
 
 -- the walk along the chain
-abbrev pub placed_walk : PlacedShape → ChainWalk
+abbrev pub placed_walk : PlacedShape → DirectedChain
 placed_walk shape = record { place = shape.place; turned = shape.turned }
 
 -- the whole shape of the chain
 abbrev pub whole_shape : County → PlacedShape → List Coordinates
 whole_shape county shape = points_along county (placed_walk shape)
 
--- the ranks are those of the shape's first two points, and it is told whether the shape is the same from both ends
+-- the shape's first two points have these ranks, and either_way states whether the shape is the same from both
+-- ends
 pub record HasHead (county : County) (shape : PlacedShape) : Type 0 where
   pub first : Coordinates
   pub second : Coordinates
@@ -29,15 +30,15 @@ pub record HasHead (county : County) (shape : PlacedShape) : Type 0 where
   pub second_rank : IsRankOf second shape.second
   pub either_way : shape.either_way ≡ is_either_way (whole_shape county shape)
 
--- by the ranks of the second points, and then by the whole shape
+-- in the order of the ranks of the second points, and then of the whole shape
 abbrev pub beyond_first_cmp : County → PlacedShape → PlacedShape → Ordering
 beyond_first_cmp county a b =
     ordering_then (int_cmp a.second b.second) (points_cmp (whole_shape county a) (whole_shape county b))
 
--- by the ranks of the first points, and then by what stands behind them
+-- in the order of the ranks of the first points, and then as above
 abbrev pub placed_cmp : County → PlacedShape → PlacedShape → Ordering
 placed_cmp county a b = ordering_then (int_cmp a.first b.first) (beyond_first_cmp county a b)
 
--- the same, and then by the place
+-- in the same order, and then in that of the places
 abbrev pub placed_key_cmp : County → PlacedShape → PlacedShape → Ordering
 placed_key_cmp county a b = ordering_then (placed_cmp county a b) (nat_cmp a.place b.place)

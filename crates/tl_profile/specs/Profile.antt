@@ -1,4 +1,4 @@
--- The profile of a county, and where a county falls outside it.
+-- The profile of a county, and which clause of it a county breaks.
 use Rattle.std.specs.Prelude.{ℕ, ◌≡◌, List, [], ◌∷◌, Bool, false, nat_lt}
 use Rattle.tl_county.specs.County.{County}
 use Rattle.tl_county.specs.CountyRules.{is_without_chain}
@@ -20,14 +20,16 @@ profile_fault_place (PolygonWithoutChain cenid polyid) = (23 ∷ []) ∷ cenid �
 profile_fault_place TooSymmetric = (24 ∷ []) ∷ []
 profile_fault_place Memory = (9 ∷ []) ∷ []
 
--- no clause is broken anywhere: each polygon of type P is on a side, and no more choices are open than are tried
+-- no clause is broken anywhere: each polygon with a type P record is on a side, and at most as many choices are
+-- open as are tried
 abbrev pub IsInProfile : County → Type 0
 IsInProfile county = (fault : ProfileFault) → is_clause_broken county fault ≡ false
 
--- this clause is broken at this place, no clause of a lesser number is broken, and this one at no lesser place
+-- this clause is broken at this place, no clause with a lower number is broken, and this one is broken at no lower
+-- place
 abbrev pub IsFirstBrokenClause : County → ProfileFault → Type 0
 IsFirstBrokenClause county = IsFirst (is_clause_broken county) profile_fault_place
 
--- the clause of polygons holds: each polygon of type P is on a side
+-- the clause on polygons holds: each polygon with a type P record is on a side
 abbrev pub AreAllOnSides : County → Type 0
 AreAllOnSides county = (key : PolygonKey) → is_without_chain county key ≡ false

@@ -1,4 +1,4 @@
--- The shapes of chains: a chain's points, from whichever end they are less.
+-- The shapes of chains: a chain's points or their reverse, whichever is less.
 use Rattle.std.specs.Prelude.{ℕ, List, reverse, Bool, cond}
 use Rattle.std.specs.Ordering.{is_lt}
 use Rattle.tl_layout.specs.Coordinates.{Coordinates}
@@ -6,7 +6,7 @@ use Rattle.tl_shape.specs.PointOrder.{points_cmp}
 use Rattle.tl_county.specs.ChartWords.{chain_at, points_of}
 use Rattle.tl_county.specs.County.{County}
 
--- points as they stand, or from the other end
+-- the points in their own direction, or from the other end
 abbrev pub points_from : Bool → List Coordinates → List Coordinates
 points_from turned points = cond turned (reverse points) points
 

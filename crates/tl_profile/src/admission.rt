@@ -1,4 +1,4 @@
-//! Admission: a county in the profile is kept as such, or the first clause that it breaks is told.
+//! Admission: a county in the profile is kept as such. For any other county, the first clause that it breaks is reported.
 
 ghost use Rattle.std.specs.Prelude.{◌≡◌, ◌≢◌, IfOk, IfErr};
 ghost use Rattle.tl_county.specs.CountyRules.{is_without_chain};
@@ -16,24 +16,37 @@ use std::alloc::Global;
 use std::marker::Model;
 use tl_county::{Chart, County, CountyIn, PolygonKey};
 
-/// A county in the profile, however it is kept: each polygon with a record of type P is on a side of a chain, and the shapes of the
-/// chains leave at most 5,040 choices open.
+/// A county in the profile, however it is stored: each polygon with a record of type P is on a side of a chain, and the shapes
+/// of the chains leave at most 5,040 choices open. It keeps the order of its chains by their shapes, which the choices are
+/// counted by.
 #[derive(Drop)]
 pub struct Admitted<C: Chart = County> {
-    pub(crate) chart: C,
+    chart: C,
+    order: ShapeOrder,
 }
 
 impl<C: Chart> Model for Admitted<C> {
     ghost use Rattle.tl_profile.specs.Profile.{IsInProfile};
+    ghost use Rattle.tl_profile.specs.ShapeOrder.{IsShapeOrder};
 
     ghost Value = { C };
 
     ghost view = { λ a. a.chart };
 
-    ghost invariant = { λ a. IsInProfile (C.county a.chart) };
+    ghost invariant = { λ a. IsInProfile (C.county a.chart) × IsShapeOrder (C.county a.chart) a.order };
 }
 
 impl<C: Chart> Admitted<C> {
+    /// Makes an admitted county from a county that is known to be in the profile, and the order of its chains by their shapes.
+    pub fn known(chart: C, order: ShapeOrder) -> Admitted<C>
+        requires profile { IsInProfile (C.county chart) }
+        requires shapes { IsShapeOrder (C.county chart) order }
+        ensures value { result ≡ chart }
+        ensures same { C.county result ≡ C.county chart }
+    {
+        Admitted { chart, order }
+    }
+
     /// The county's chart.
     pub fn chart(&self) -> &C
         ensures value { result.now ≡ self.now }
@@ -42,13 +55,30 @@ impl<C: Chart> Admitted<C> {
         &self.chart
     }
 
-    /// The county's chart, handed back.
+    /// The chains in the order of their shapes.
+    pub fn order(&self) -> &ShapeOrder
+        ensures { IsShapeOrder (C.county self.now) result.now }
+    {
+        &self.order
+    }
+
+    /// Returns the county's chart.
     pub fn into_chart(self) -> C
         ensures value { result ≡ self }
         ensures same { C.county result ≡ C.county self }
         ensures in_profile { IsInProfile (C.county result) }
     {
         self.chart
+    }
+
+    /// Returns the county's chart and the order of its chains by their shapes.
+    pub fn into_parts(self) -> (C, ShapeOrder)
+        ensures value { result.0 ≡ self }
+        ensures same { C.county result.0 ≡ C.county self }
+        ensures in_profile { IsInProfile (C.county result.0) }
+        ensures shapes { IsShapeOrder (C.county result.0) result.1 }
+    {
+        (self.chart, self.order)
     }
 }
 
@@ -75,8 +105,8 @@ impl<'a> Admitted<CountyIn<'a>> {
     }
 }
 
-/// The clause of choices, of a county that keeps that of polygons: no more choices are open than are tried. The order of the shapes,
-/// by which these are counted, is handed on.
+/// Checks the clause on choices, for a county that keeps the clause on polygons: at most as many choices are open as are tried.
+/// Returns the order of the chains by their shapes, which it needs to count the choices.
 fn check_choices<C: Chart>(alloc: Global, chart: &C) -> Result<ShapeOrder, ProfileFault>
     requires { AreAllOnSides (C.county chart.now) }
     ensures order { IfOk result (IsShapeOrder (C.county chart.now)) }
@@ -90,94 +120,68 @@ fn check_choices<C: Chart>(alloc: Global, chart: &C) -> Result<ShapeOrder, Profi
     Ok(order)
 }
 
-/// Admits a county, however it is kept, if it is in the profile, and hands on the order of its chains by their shapes, which
-/// is found on the way.
-///
-/// # Errors
-///
-/// The first clause that the county breaks, at its least place, or [`ProfileFault::Memory`] where memory was lacking.
-pub fn admit_with_order<C: Chart + Drop>(
-    alloc: Global,
-    chart: C,
-) -> Result<(Admitted<C>, ShapeOrder), ProfileFault>
-    ensures same { IfOk result (λ pair. pair.0 ≡ chart) }
-    ensures within { IfOk result (λ pair. IsInProfile (C.county pair.0)) }
-    ensures order { IfOk result (λ pair. IsShapeOrder (C.county pair.0) pair.1) }
+/// Admits a county, however it is stored, if it is in the profile.
+fn admit_kept<C: Chart + Drop>(alloc: Global, chart: C) -> Result<Admitted<C>, ProfileFault>
+    ensures same { IfOk result (λ admitted. admitted ≡ chart) }
+    ensures within { IfOk result (λ admitted. IsInProfile (C.county admitted)) }
     ensures broken { IfErr result (λ fault. fault ≢ Memory → IsFirstBrokenClause (C.county chart) fault) }
-    // Of a county in the profile nothing but want of memory is told.
+    // For a county in the profile, `Memory` is the only possible fault.
     ensures succeeds { IsInProfile (C.county chart) → IfErr result (λ fault. fault ≡ Memory) }
 {
     check_polygons(alloc, &chart)?;
     let order = check_choices(alloc, &chart)?;
-    Ok((Admitted { chart }, order))
+    Ok(Admitted { chart, order })
 }
 
-/// Admits a county, as [`admit_with_order`] does, of which linking has told the least polygon that has a record of type P and is
-/// on no side of a chain, if there is one: the sides aren't searched again.
+/// Admits a county if it is in the profile, but doesn't search the sides: `without_chain` is the least polygon that has a
+/// record of type P and is on no side of a chain, or `None`, as linking found it.
 ///
 /// # Errors
 ///
-/// The first clause that the county breaks, at its least place, or [`ProfileFault::Memory`] where memory was lacking.
+/// The first clause that the county breaks, at its lowest place, or [`ProfileFault::Memory`] if an allocation failed.
 pub fn admit_linked<C: Chart + Drop>(
     alloc: Global,
     chart: C,
     without_chain: Option<PolygonKey>,
-) -> Result<(Admitted<C>, ShapeOrder), ProfileFault>
+) -> Result<Admitted<C>, ProfileFault>
     requires { IsLeastPassing key_cmp (is_without_chain (C.county chart)) without_chain }
-    ensures same { IfOk result (λ pair. pair.0 ≡ chart) }
-    ensures within { IfOk result (λ pair. IsInProfile (C.county pair.0)) }
-    ensures order { IfOk result (λ pair. IsShapeOrder (C.county pair.0) pair.1) }
+    ensures same { IfOk result (λ admitted. admitted ≡ chart) }
+    ensures within { IfOk result (λ admitted. IsInProfile (C.county admitted)) }
     ensures broken { IfErr result (λ fault. fault ≢ Memory → IsFirstBrokenClause (C.county chart) fault) }
-    // Of a county in the profile nothing but want of memory is told.
+    // For a county in the profile, `Memory` is the only possible fault.
     ensures succeeds { IsInProfile (C.county chart) → IfErr result (λ fault. fault ≡ Memory) }
 {
     refuse_without_chain(without_chain)?;
     let order = check_choices(alloc, &chart)?;
-    Ok((Admitted { chart }, order))
-}
-
-/// Admits a county, however it is kept, if it is in the profile.
-///
-/// # Errors
-///
-/// The first clause that the county breaks, at its least place, or [`ProfileFault::Memory`] where memory was lacking.
-pub fn admit_chart<C: Chart + Drop>(alloc: Global, chart: C) -> Result<Admitted<C>, ProfileFault>
-    ensures same { IfOk result (λ admitted. admitted ≡ chart) }
-    ensures within { IfOk result (λ admitted. IsInProfile (C.county admitted)) }
-    ensures broken { IfErr result (λ fault. fault ≢ Memory → IsFirstBrokenClause (C.county chart) fault) }
-    // Of a county in the profile nothing but want of memory is told.
-    ensures succeeds { IsInProfile (C.county chart) → IfErr result (λ fault. fault ≡ Memory) }
-{
-    let (admitted, _) = admit_with_order(alloc, chart)?;
-    Ok(admitted)
+    Ok(Admitted { chart, order })
 }
 
 /// Admits a county if it is in the profile.
 ///
 /// # Errors
 ///
-/// The first clause that the county breaks, at its least place, or [`ProfileFault::Memory`] where memory was lacking.
+/// The first clause that the county breaks, at its lowest place, or [`ProfileFault::Memory`] if an allocation failed.
 pub fn admit(alloc: Global, county: County) -> Result<Admitted, ProfileFault>
     ensures same { IfOk result (λ admitted. admitted ≡ county) }
     ensures within { IfOk result (λ admitted. IsInProfile (⟦<County as Chart>⟧.county admitted)) }
     ensures broken { IfErr result (λ fault. fault ≢ Memory → IsFirstBrokenClause (⟦<County as Chart>⟧.county county) fault) }
-    // Of a county in the profile nothing but want of memory is told.
+    // For a county in the profile, `Memory` is the only possible fault.
     ensures succeeds { IsInProfile (⟦<County as Chart>⟧.county county) → IfErr result (λ fault. fault ≡ Memory) }
 {
-    admit_chart(alloc, county)
+    admit_kept(alloc, county)
 }
 
 /// Admits a county in an arena if it is in the profile.
 ///
 /// # Errors
 ///
-/// The first clause that the county breaks, at its least place, or [`ProfileFault::Memory`] where memory was lacking.
+/// The first clause that the county breaks, at its lowest place, or [`ProfileFault::Memory`] if an allocation failed.
 pub fn admit_in<'a>(alloc: Global, county: CountyIn<'a>) -> Result<AdmittedIn<'a>, ProfileFault>
     ensures same { IfOk result (λ admitted. admitted ≡ county.entry) }
     ensures within { IfOk result (λ admitted. IsInProfile (⟦<CountyIn<'a> as Chart>⟧.county admitted)) }
     ensures broken { IfErr result (λ fault. fault ≢ Memory → IsFirstBrokenClause (⟦<CountyIn<'a> as Chart>⟧.county county.entry) fault) }
-    // Of a county in the profile nothing but want of memory is told.
+    // For a county in the profile, `Memory` is the only possible fault.
     ensures succeeds { IsInProfile (⟦<CountyIn<'a> as Chart>⟧.county county.entry) → IfErr result (λ fault. fault ≡ Memory) }
 {
-    admit_chart(alloc, county)
+    admit_kept(alloc, county)
 }

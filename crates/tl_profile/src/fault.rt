@@ -1,24 +1,52 @@
-//! How a county can fall outside the profile.
+//! How a county can be outside the profile.
 
+ghost use Rattle.std.specs.Prelude.{◌≡◌, Some};
+ghost use Rattle.fault_report.specs.Reports.{report_line};
+ghost use Rattle.tl_profile.specs.Reports.{profile_report};
+
+use fault_report::{FaultKind, FaultPlace, FaultReport};
 use std::alloc::AllocError;
+use std::fmt;
 use thiserror::Error;
 
-/// The first clause of the profile that a county breaks, with the least place at which it is broken.
+/// The first clause of the profile that a county breaks, and the lowest place at which it breaks it.
 #[derive(Clone, Copy, Debug, PartialEq, Eq, Error)]
 pub enum ProfileFault {
     /// A polygon with a record of type P is on no side of a chain (23).
-    #[error("the POLYID {polyid} under the CENID {cenid:?} has a record of type P and is on no side of a chain")]
     PolygonWithoutChain { cenid: [u8; 5], polyid: u64 },
-    /// Chains of the same points, or whose points are the same from both ends, leave more than 5,040 choices open (24).
-    #[error("too many chains have the same points, or points that are the same from both ends")]
+    /// Chains with the same points, or with points that are the same from both ends, leave more than 5,040 choices open (24).
     TooSymmetric,
-    /// There was no memory (9).
-    #[error("there is not enough memory")]
+    /// An allocation failed (9).
     Memory,
 }
 
+impl ProfileFault {
+    /// The fault as every interface reports it: its number, its name and its places.
+    pub fn report(&self) -> FaultReport
+        ensures { result ≡ profile_report self.now }
+    {
+        match self {
+            ProfileFault::PolygonWithoutChain { cenid, polyid } => FaultReport::at_two(
+                FaultKind::PolygonWithoutChain,
+                FaultPlace::Cenid(*cenid),
+                FaultPlace::Number(*polyid),
+            ),
+            ProfileFault::TooSymmetric => FaultReport::bare(FaultKind::TooSymmetric),
+            ProfileFault::Memory => FaultReport::bare(FaultKind::Memory),
+        }
+    }
+}
+
+/// The line of the fault's report.
+impl fmt::Display for ProfileFault {
+    ghost output = { λ fault. Some (report_line (profile_report fault)) };
+
+    fn fmt<W: fmt::Write>(&self, f: &mut fmt::Formatter<W>) -> fmt::Result {
+        self.report().fmt(f)
+    }
+}
+
 impl From<AllocError> for ProfileFault {
-    ghost use Rattle.std.specs.Prelude.{◌≡◌};
     ghost use Rattle.tl_profile.specs.declared.fault.ProfileFault.TheVariants.{Memory};
 
     ghost from_gives = { λ _ fault. fault ≡ Memory };

@@ -8,7 +8,7 @@ ghost use Rattle.tl_profile.specs.Choices.{choices};
 ghost use Rattle.tl_profile.specs.declared.fault.ProfileFault.{ProfileFault};
 ghost use Rattle.tl_profile.specs.Profile.{IsFirstBrokenClause, IsInProfile};
 
-/// A county lies in the profile, or one clause that it breaks is the first: not both, and not two.
+/// A county is in the profile, or exactly one clause is the first that it breaks, never both.
 #[tactic(auto, using(crate::proofs::ProfileFaults::profile_has_none, crate::proofs::ProfileFaults::one_first_clause))]
 pub fn in_profile_or_one_first_broken_clause()
     ensures either { (county : County) →
@@ -19,7 +19,7 @@ pub fn in_profile_or_one_first_broken_clause()
         IsFirstBrokenClause county fault → IsFirstBrokenClause county other → fault ≡ other }
 {}
 
-/// Of two counties that are the same both are in the profile or neither.
+/// If two counties are the same, both are in the profile or neither is.
 pub fn same_counties_agree_on_the_profile()
     ensures forth { (a b : County) → AreSame a b → IsInProfile a → IsInProfile b }
     ensures back { (a b : County) → IsCounty a → IsCounty b → AreSame a b → IsInProfile b → IsInProfile a }

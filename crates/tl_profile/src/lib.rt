@@ -1,17 +1,17 @@
 //! The profile: the counties whose polygons are all on sides of chains, and whose chains leave at most 5,040 choices open.
 //!
-//! The points of most chains are their own alone, and differ from one end and from the other. Such chains stand in one order, each in one
-//! direction. Chains of the same points can stand in any order among themselves, and a chain whose points are the same from both ends in
-//! either direction: these are the choices.
+//! Most chains share their points with no other chain, and their points differ when read from the other end. Such chains have
+//! only one order, and each has only one direction. Chains with the same points can be in any order among themselves, and a
+//! chain whose points are the same from both ends can have either direction: these are the choices.
 //!
-//! A caller starts with `admit`, or with `admit_in` for a county in an arena; `admit_chart` takes a county that is kept otherwise. A
-//! whole call goes by `admit_linked`, which is told by linking which polygon is on no side, and takes the order of the chains by their
-//! shapes along as a `ShapeOrder`. Whoever holds an `Admitted` need not ask again. `point_along` reads a chain along a `ChainWalk`.
-//! A proved caller stands in `layers.rt` of the crate `uses`.
+//! Start with `admit`, or with `admit_in` for a county in an arena. The whole calls use `admit_linked`, which takes what
+//! linking found: the least polygon that is on no side. An `Admitted` county is in the profile and keeps the order of its
+//! chains by their shapes, a `ShapeOrder`, so neither is computed again. `point_along` reads a chain along a `DirectedChain`. The
+//! crate `uses` has a proved caller, in `layers.rt`.
 #![tactic(auto)]
 
 mod admission;
-mod chain_walk;
+mod directed_chain;
 mod fault;
 mod laws;
 mod open_places;
@@ -20,10 +20,8 @@ mod shape_order;
 mod shapes;
 mod sides;
 
-pub use admission::{
-    Admitted, AdmittedIn, admit, admit_chart, admit_in, admit_linked, admit_with_order,
-};
-pub use chain_walk::{ChainWalk, point_along};
+pub use admission::{Admitted, AdmittedIn, admit, admit_in, admit_linked};
+pub use directed_chain::{DirectedChain, point_along};
 pub use fault::ProfileFault;
 pub use laws::{
     in_profile_or_one_first_broken_clause, same_counties_agree_on_the_profile,

@@ -1,7 +1,7 @@
-//! Places in the order of shapes at which more than one chain, or more than one direction, can stand, and how many choices they leave.
+//! The places in the order of shapes that leave a choice of chain or direction, and how many choices they leave.
 //!
-//! Chains of one shape are neighbours in that order. So one pass from the last shape to the first, which compares each with the next
-//! one, knows how many of the same are still to come.
+//! Chains of the same shape are neighbours in that order. One pass from the last shape to the first, comparing each with the
+//! next one, therefore knows how many of the same shape are still to come.
 
 ghost use Rattle.std.specs.List.{AllByRecursion};
 ghost use Rattle.std.specs.Prelude.{◌≡◌, ◌<◌, ◌≤◌, ◌+◌, ◌*◌, ◌^◌, [], ◌∷◌, ◌++◌, cond, length, map, min, reverse, suc, IfOk, OnOk};
@@ -15,29 +15,29 @@ use crate::shapes::{PlacedShape, compare_shapes};
 use std::alloc::{AllocError, Global};
 use tl_county::Chart;
 
-/// The most choices that are tried.
+/// The greatest number of choices that are tried.
 pub(crate) const MOST_CHOICES: u64 = 5040;
 
-/// A place in the order of shapes that is open: several chains have the shape that stands there, or it is the same from both ends.
+/// An open place in the order of shapes: several chains have its shape, or the shape is the same from both ends.
 #[derive(Clone, Copy, Debug, PartialEq, Eq)]
 pub struct OpenPlace {
-    /// Place in the order of shapes, from 0.
+    /// The place in the order of shapes, counted from 0.
     pub place: u32,
-    /// How many chains from this place on have the shape that stands there, the one at the place counted.
+    /// How many chains from this place on have its shape, including the one at the place.
     pub alike: u32,
-    /// Whether the shape is the same from both ends, so that each of these chains can stand in either direction.
+    /// Whether the shape is the same from both ends, so that each of these chains can have either direction.
     pub either_way: bool,
 }
 
 impl OpenPlace {
-    /// In how many directions a chain can stand at the place.
+    /// The number of directions of a chain at the place: 1 or 2.
     pub fn ways(&self) -> u64
         ensures { result ≡ ways_at self.now }
     {
         if self.either_way { 2 } else { 1 }
     }
 
-    /// Whether there is no choice at the place.
+    /// Whether the place leaves no choice.
     fn is_settled(&self) -> bool
         ensures { result ≡ is_settled self.now }
     {
@@ -45,19 +45,19 @@ impl OpenPlace {
     }
 }
 
-/// The choices that shapes in order leave open, from some place on.
+/// The choices that ordered shapes leave open from some place on.
 #[derive(Drop)]
 pub(crate) struct OpenChoices {
     /// The open places, the last of them first.
     pub(crate) places: Vec<OpenPlace>,
-    /// How many choices they leave.
+    /// The number of choices that they leave.
     pub(crate) count: u64,
-    /// How many of the shapes are the same as the first of them, that one counted.
+    /// How many of the shapes are the same as the first, including it.
     alike: u32,
 }
 
 impl OpenChoices {
-    /// Those of no shapes.
+    /// The choices of no shapes.
     fn none(alloc: Global) -> OpenChoices
         ensures places { result.places.items ≡ [] }
         ensures count { result.count ≡ 1 }
@@ -70,7 +70,7 @@ impl OpenChoices {
         }
     }
 
-    /// Puts a place in front.
+    /// Adds the place before the others.
     fn put_in_front(&mut self, at: OpenPlace) -> Result<(), AllocError>
         requires { self.old.count ≤ most_choices }
         ensures places { OnOk result (self.new.places.items ≡ cond (is_settled at) self.old.places.items (self.old.places.items ++ (at ∷ []))) }
@@ -85,7 +85,7 @@ impl OpenChoices {
         Ok(())
     }
 
-    /// The places in order, and no more than one choice above the most.
+    /// The places in order, and the count limited to one more than the most.
     fn in_order(self) -> OpenChoices
         ensures places { result.places.items ≡ reverse self.places.items }
         ensures count { result.count ≡ min self.count (suc most_choices) }
@@ -100,7 +100,7 @@ impl OpenChoices {
     }
 }
 
-/// Whether a shape is the same as the first of those behind it.
+/// Whether a shape is the same as the first of those after it.
 fn is_twin<C: Chart>(chart: &C, shape: &PlacedShape, later: &[PlacedShape]) -> bool
     requires shape { HasHead (C.county chart.now) shape.now }
     requires later { AllByRecursion (HasHead (C.county chart.now)) later.now }
@@ -112,7 +112,7 @@ fn is_twin<C: Chart>(chart: &C, shape: &PlacedShape, later: &[PlacedShape]) -> b
     }
 }
 
-/// What there is at the place of a shape. Told are the shapes behind it, and how many of them are the same as the first of these.
+/// The place of a shape. `later` are the shapes after it, and `alike` is how many of them are the same as the first of these.
 fn place_in_order<C: Chart>(
     chart: &C,
     shape: &PlacedShape,
@@ -136,7 +136,8 @@ fn place_in_order<C: Chart>(
     }
 }
 
-/// The choices that the shapes of a county's chains leave open, these being in order. It stops where there are more than are tried.
+/// Finds the choices that the shapes of a county's chains, given in order, leave open. It stops when there are more than are
+/// tried.
 pub(crate) fn find_choices<C: Chart>(
     alloc: Global,
     chart: &C,

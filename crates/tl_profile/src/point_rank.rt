@@ -7,10 +7,11 @@ ghost use Rattle.tl_profile.specs.PointRanks.{point_rank};
 use std::marker::Model;
 use tl_layout::Point;
 
-/// More than there are latitudes, which go from -99,999,999 to 99,999,999 millionths of a degree.
+/// More than the number of latitudes, which go from -99,999,999 to 99,999,999 millionths of a degree.
 const LATITUDES: i64 = 200_000_000;
 
-/// Where a point stands among all points of the map, as one number: two ranks are compared at once, and stand as their points do.
+/// The position of a point among all points of the map, as one number. Ranks are compared in one step, and compare as their
+/// points do.
 #[derive(Clone, Copy, PartialEq, Eq, PartialOrd, Ord)]
 pub(crate) struct PointRank {
     number: i64,

@@ -5,19 +5,19 @@ ghost use Rattle.std.specs.Prelude.{◌≡◌, map, IfOk};
 ghost use Rattle.tl_profile.specs.PlacedShapes.{HasHead, placed_walk};
 ghost use Rattle.tl_profile.specs.ShapeOrder.{AreWalksInOrder, IsShapeOrder};
 
-use crate::chain_walk::ChainWalk;
+use crate::directed_chain::DirectedChain;
 use crate::open_places::{OpenPlace, find_choices};
 use crate::shapes::{PlacedShape, ordered_shapes};
 use std::alloc::{AllocError, Global};
 use std::marker::Model;
 use tl_county::Chart;
 
-/// The chains of a county in the order of their shapes, each with the direction in which its points are its shape: the lesser
-/// of the points and their reverse. Beside them stand the places at which several chains have one shape, or at which a shape is the
-/// same from both ends.
+/// The chains of a county in the order of their shapes, each with the direction in which its points are its shape, which is the
+/// lesser of the points and their reverse. It also has the places at which several chains have the same shape, or at which a
+/// shape is the same from both ends.
 #[derive(Drop)]
 pub struct ShapeOrder {
-    walks: Vec<ChainWalk>,
+    walks: Vec<DirectedChain>,
     open_places: Vec<OpenPlace>,
     choices: u64,
 }
@@ -31,14 +31,14 @@ impl Model for ShapeOrder {
 }
 
 /// The walks along shapes, one after another.
-fn walks_of(alloc: Global, shapes: &[PlacedShape]) -> Result<Vec<ChainWalk>, AllocError>
+fn walks_of(alloc: Global, shapes: &[PlacedShape]) -> Result<Vec<DirectedChain>, AllocError>
     ensures { IfOk result (λ walks. walks.items ≡ map placed_walk shapes.now) }
 {
     shapes.iter().map(|shape| shape.walk()).collect(alloc)
 }
 
 impl ShapeOrder {
-    /// The order of chains that are already in it.
+    /// Makes the order from chains that are already sorted.
     pub(crate) fn of_shapes<C: Chart>(
         alloc: Global,
         chart: &C,
@@ -58,20 +58,20 @@ impl ShapeOrder {
     }
 
     /// The walks along the shapes of the chains, in order.
-    pub fn walks(&self) -> &[ChainWalk]
+    pub fn walks(&self) -> &[DirectedChain]
         ensures { result.now ≡ self.now.walks }
     {
         &self.walks
     }
 
-    /// The places in this order at which there is a choice, if the county has no more than 5,040 choices.
+    /// The places in this order that leave a choice, provided that the county leaves at most 5,040 choices.
     pub fn open_places(&self) -> &[OpenPlace]
         ensures { result.now ≡ self.now.places }
     {
         &self.open_places
     }
 
-    /// How many choices the county leaves open, 1 where there is none; 5,041 if there are more than 5,040.
+    /// The number of choices that the county leaves open: 1 if there is no choice, and 5,041 for more than 5,040.
     pub fn choices(&self) -> u64
         ensures { result ≡ self.now.choices }
     {
@@ -79,11 +79,11 @@ impl ShapeOrder {
     }
 }
 
-/// The chains of a county in the order of their shapes. Chains of one shape stay in the order of their TLIDs.
+/// Sorts the chains of a county by their shapes. Chains of the same shape stay in the order of their TLIDs.
 ///
 /// # Errors
 ///
-/// Only that memory was lacking.
+/// `AllocError` if an allocation failed.
 pub fn order_by_shape<C: Chart>(alloc: Global, chart: &C) -> Result<ShapeOrder, AllocError>
     ensures { IfOk result (IsShapeOrder (C.county chart.now)) }
 {

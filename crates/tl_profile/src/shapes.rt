@@ -1,7 +1,7 @@
-//! The shapes of chains, put in order.
+//! The shapes of chains, and sorting them.
 //!
-//! Most shapes differ in their first two points, so the ranks of these stand beside a chain's place and direction while chains are put
-//! in order, and the county is asked only where both are equal. After that chains of one shape are neighbours.
+//! Most shapes differ in their first two points. The ranks of these are therefore stored with a chain's place and direction
+//! while chains are sorted, and the county is read only if both are equal. Afterwards chains of the same shape are neighbours.
 
 ghost use Rattle.std.specs.List.{AllByRecursion};
 ghost use Rattle.std.specs.Prelude.{◌≡◌, ◌<◌, length, map, IfOk, IsPermutation};
@@ -9,13 +9,13 @@ ghost use Rattle.tl_county.specs.Orders.{IsInOrder};
 ghost use Rattle.tl_profile.specs.PlacedShapes.{HasHead, beyond_first_cmp, placed_cmp, placed_key_cmp, placed_walk};
 ghost use Rattle.tl_profile.specs.ShapeOrder.{AreWalksInOrder, least_walk, least_walks};
 
-use crate::chain_walk::{ChainWalk, compare_reverse, compare_walks, point_along};
+use crate::directed_chain::{DirectedChain, compare_reverse, compare_walks, point_along};
 use crate::point_rank::PointRank;
 use std::alloc::{AllocError, Global};
 use std::cmp::Ordering;
 use tl_county::Chart;
 
-/// A chain with the beginning of its shape, by which most shapes differ. Its shape is the lesser of its points and their
+/// A chain with the beginning of its shape, in which most shapes differ. Its shape is the lesser of its points and their
 /// reverse.
 #[derive(Clone, Copy)]
 pub(crate) struct PlacedShape {
@@ -25,7 +25,7 @@ pub(crate) struct PlacedShape {
     pub(crate) second: PointRank,
     /// The chain's place.
     pub(crate) place: u32,
-    /// Whether the chain's points are its shape from the end node on.
+    /// Whether the shape has the chain's points from the end node on.
     pub(crate) turned: bool,
     /// Whether the shape is the same from both ends.
     pub(crate) either_way: bool,
@@ -33,17 +33,17 @@ pub(crate) struct PlacedShape {
 
 impl PlacedShape {
     /// The walk along the chain on which its points are the shape.
-    pub(crate) fn walk(&self) -> ChainWalk
+    pub(crate) fn walk(&self) -> DirectedChain
         ensures { result ≡ placed_walk self.now }
     {
-        ChainWalk {
+        DirectedChain {
             place: self.place,
             turned: self.turned,
         }
     }
 }
 
-/// The chain at a place with the beginning of its shape.
+/// The chain at a place, with the beginning of its shape.
 fn placed_shape<C: Chart>(chart: &C, place: u32) -> PlacedShape
     requires { place < length (C.county chart.now).chains }
     ensures walk { placed_walk result ≡ least_walk (C.county chart.now) place }
@@ -51,7 +51,7 @@ fn placed_shape<C: Chart>(chart: &C, place: u32) -> PlacedShape
 {
     let reversed = compare_reverse(chart, place);
     let turned = reversed.is_lt();
-    let walk = ChainWalk { place, turned };
+    let walk = DirectedChain { place, turned };
     PlacedShape {
         first: PointRank::of(point_along(chart, walk, 0).unwrap()),
         second: PointRank::of(point_along(chart, walk, 1).unwrap()),
@@ -61,7 +61,7 @@ fn placed_shape<C: Chart>(chart: &C, place: u32) -> PlacedShape
     }
 }
 
-/// The chains with the beginnings of their shapes, by their places.
+/// The chains with the beginnings of their shapes, in the order of their places.
 fn placed_shapes<C: Chart>(alloc: Global, chart: &C) -> Result<Vec<PlacedShape>, AllocError>
     ensures walks { IfOk result (λ shapes. map placed_walk shapes.items ≡ least_walks (C.county chart.now)) }
     ensures heads { IfOk result (λ shapes. AllByRecursion (HasHead (C.county chart.now)) shapes.items) }
@@ -74,7 +74,7 @@ fn placed_shapes<C: Chart>(alloc: Global, chart: &C) -> Result<Vec<PlacedShape>,
     Ok(shapes)
 }
 
-/// How one chain's shape stands to another's where the first points are one.
+/// Compares the shapes of two chains whose first points are the same.
 #[inline(never)]
 fn compare_beyond_first<C: Chart>(chart: &C, shape: &PlacedShape, other: &PlacedShape) -> Ordering
     ensures { result ≡ beyond_first_cmp (C.county chart.now) shape.now other.now }
@@ -85,9 +85,9 @@ fn compare_beyond_first<C: Chart>(chart: &C, shape: &PlacedShape, other: &Placed
     }
 }
 
-/// How one chain's shape stands to another's. Nearly all pairs differ in their first points: so this much stands in the sort's own
-/// loops, and what is seldom asked in a function apart. Equality is asked first, which leaves those loops no branch that is hard to
-/// foresee.
+/// Compares the shapes of two chains. Nearly all pairs differ in their first points, so only this comparison is inlined into
+/// the loops of the sort, and the rest is a separate function. Testing for equality first leaves those loops no branch that is
+/// hard to predict.
 #[inline(always)]
 pub(crate) fn compare_shapes<C: Chart>(
     chart: &C,
@@ -105,7 +105,7 @@ pub(crate) fn compare_shapes<C: Chart>(
     }
 }
 
-/// How two chains stand by their shapes, and by their places where the shapes are one.
+/// Compares two chains by their shapes, and if these are the same, by their places.
 #[inline(always)]
 fn compare_placed<C: Chart>(chart: &C, shape: &PlacedShape, other: &PlacedShape) -> Ordering
     ensures { result ≡ placed_key_cmp (C.county chart.now) shape.now other.now }
@@ -116,7 +116,7 @@ fn compare_placed<C: Chart>(chart: &C, shape: &PlacedShape, other: &PlacedShape)
     }
 }
 
-/// Puts chains in the order of their shapes, and of their places where shapes are the same.
+/// Sorts chains by their shapes, and chains of the same shape by their places.
 fn order_shapes<C: Chart>(chart: &C, shapes: &mut Vec<PlacedShape>)
     ensures permutation { IsPermutation shapes.old.items shapes.new.items }
     ensures in_order { IsInOrder (placed_key_cmp (C.county chart.now)) shapes.new.items }
@@ -124,7 +124,7 @@ fn order_shapes<C: Chart>(chart: &C, shapes: &mut Vec<PlacedShape>)
     shapes.sort_unstable_by(|shape, other| compare_placed(chart, shape, other));
 }
 
-/// The chains of a county with the beginnings of their shapes, in the order of the shapes.
+/// The chains of a county with the beginnings of their shapes, sorted by shape.
 pub(crate) fn ordered_shapes<C: Chart>(
     alloc: Global,
     chart: &C,

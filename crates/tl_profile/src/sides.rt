@@ -15,7 +15,7 @@ use std::alloc::{AllocError, Global};
 use tl_county::{Chart, KeySet, PolygonKey, least_unknown};
 use tl_layout::Side;
 
-/// Puts the polygon on a side into a set, if there is one.
+/// Inserts the polygon on a side into a set, if there is a polygon.
 fn insert_side(polygons: &mut KeySet<PolygonKey>, side: Option<Side>) -> Result<(), AllocError>
     ensures { OnOk result (distinct key_cmp polygons.new ≡ distinct key_cmp (polygons.old ++ keys_on side)) }
 {
@@ -37,7 +37,7 @@ fn polygons_on_sides<C: Chart>(alloc: Global, chart: &C) -> Result<KeySet<Polygo
     Ok(polygons)
 }
 
-/// The polygons on the sides of chains, in order and each once.
+/// The polygons on the sides of chains, in order and without repetition.
 fn sides_in_order<C: Chart>(alloc: Global, chart: &C) -> Result<Vec<PolygonKey>, AllocError>
     ensures { IfOk result (λ keys. keys.items ≡ distinct key_cmp (polygons_along (C.county chart.now).chains)) }
 {
@@ -85,8 +85,8 @@ fn least_without_chain<C: Chart>(alloc: Global, chart: &C) -> Result<Option<Poly
     Ok(least_unknown::<PolygonKey, PolygonKey, PolygonKey>(&bodies, &sides))
 }
 
-/// The clause of polygons: each polygon with a record of type P is on a side of a chain. Given is the least polygon that isn't, if
-/// there is one.
+/// Checks the clause on polygons: each polygon with a record of type P is on a side of a chain. `least` is the least polygon
+/// that isn't, if there is one.
 pub(crate) fn refuse_without_chain(least: Option<PolygonKey>) -> Result<(), ProfileFault>
     ensures all { OnOk result ((county : County) → IsLeastPassing key_cmp (is_without_chain county) least → AreAllOnSides county) }
     ensures broken { IfErr result (λ fault. (county : County) → IsLeastPassing key_cmp (is_without_chain county) least
@@ -100,7 +100,7 @@ pub(crate) fn refuse_without_chain(least: Option<PolygonKey>) -> Result<(), Prof
     Ok(())
 }
 
-/// The clause of polygons.
+/// Checks the clause on polygons.
 pub(crate) fn check_polygons<C: Chart>(alloc: Global, chart: &C) -> Result<(), ProfileFault>
     ensures all { OnOk result (AreAllOnSides (C.county chart.now)) }
     ensures broken { IfErr result (λ fault. fault ≢ Memory → IsFirstBrokenClause (C.county chart.now) fault) }

@@ -1,4 +1,4 @@
--- The orders of points and of point lists are total, and what they call equal is equal.
+-- The orders of points and of point lists are total, and items that compare as equal are equal.
 use Rattle.std.proofs.Common.{◌≡◌, List, [], ◌∷◌, refl, ap, sym, ◌∙◌, true}
 use Rattle.std.specs.declared.cmp.Ordering.{Ordering}
 use Rattle.std.specs.declared.cmp.Ordering.TheVariants.{Less, Equal, Greater}
@@ -12,7 +12,7 @@ use Rattle.tl_shape.specs.PointOrder.{point_cmp, points_cmp}
 pub point_total : IsTotalOrder point_cmp
 point_total = then_total (on_total (λ (p : Coordinates). p.long) int_cmp_total) (on_total (λ (p : Coordinates). p.lat) int_cmp_total)
 
--- point lists are in a total order
+-- point lists are totally ordered
 pub points_total : IsTotalOrder points_cmp
 points_total = lists_total point_total
 

@@ -1,4 +1,4 @@
--- A list beside its reverse, item by item.
+-- Comparing a list with its reverse, item by item.
 use Rattle.std.proofs.Common.{◌≡◌, ℕ, ◌+◌, ◌-◌, ◌<◌, ◌≤◌, List, length, drop, reverse, get_or, refl, sym, ap, ◌∙◌, arith}
 use Rattle.std.specs.declared.cmp.Ordering.{Ordering}
 use Rattle.std.specs.declared.cmp.Ordering.TheVariants.{Less, Equal, Greater}
@@ -6,7 +6,7 @@ use Rattle.std.specs.Ordering.{ordering_then}
 use Rattle.std.specs.Cmp.Lexicographic.{slice_cmp}
 use Rattle.std.proofs.lemmas.List.{drop_more, drop_all, get_or-reverse, length-reverse, get_or_read}
 
--- what decides from an item on is that item's pair, and then what follows
+-- from an item on, that item's pair decides, and then the pairs after it
 pub from_item : {X : Type 0} (cmp : X → X → Ordering) (xs : List X) (i : ℕ) (d : X) → i < length xs
     → slice_cmp cmp (drop i (reverse xs)) (drop i xs) ≡ ordering_then (cmp (get_or xs (length xs - 1 - i) d) (get_or xs i d))
     (slice_cmp cmp (drop (i + 1) (reverse xs)) (drop (i + 1) xs))
@@ -14,7 +14,7 @@ from_item cmp xs i d h =
     let long : i < length (reverse xs) = (let e = length-reverse xs in omega arith) in
     rw (drop_more (reverse xs) i d long, drop_more xs i d h, get_or-reverse xs i d h) refl
 
--- behind the last item nothing decides
+-- after the last item nothing decides
 pub behind_all : {X : Type 0} (cmp : X → X → Ordering) (xs : List X) (i : ℕ) → length xs ≤ i
     → slice_cmp cmp (drop i (reverse xs)) (drop i xs) ≡ Equal
 behind_all cmp xs i h =
@@ -32,7 +32,7 @@ from_read cmp xs i there here h t e =
     (slice_cmp cmp (drop (i + 1) (reverse xs)) (drop (i + 1) xs))) (sym there_is)
     ∙ ap (λ x. ordering_then (cmp there x) (slice_cmp cmp (drop (i + 1) (reverse xs)) (drop (i + 1) xs))) (sym e)
 
--- an equal pair leaves the decision to the rest
+-- an equal pair leaves the decision to the pairs after it
 pub after_equal : {X : Type 0} (cmp : X → X → Ordering) (xs : List X) (i : ℕ) (there here : X) (all : Ordering) → i < length xs
     → there ≡ get_or xs (length xs - 1 - i) there → here ≡ get_or xs i here → slice_cmp cmp (drop i (reverse xs)) (drop i xs) ≡ all
     → cmp there here ≡ Equal → slice_cmp cmp (drop (i + 1) (reverse xs)) (drop (i + 1) xs) ≡ all

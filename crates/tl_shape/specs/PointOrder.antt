@@ -6,14 +6,15 @@ use Rattle.std.specs.Ordering.{int_cmp, ordering_then}
 use Rattle.std.specs.Cmp.Lexicographic.{slice_cmp}
 use Rattle.tl_layout.specs.Coordinates.{Coordinates}
 
--- by longitude, then by latitude, as numbers
+-- points in the order of longitude, then of latitude, as numbers
 abbrev pub point_cmp : Coordinates → Coordinates → Ordering
 point_cmp p q = ordering_then (int_cmp p.long q.long) (int_cmp p.lat q.lat)
 
--- by the first difference, a beginning first
+-- point lists in the order of the first point that differs; a list comes
+-- after each of its beginnings
 abbrev pub points_cmp : List Coordinates → List Coordinates → Ordering
 points_cmp = slice_cmp point_cmp
 
--- the points come after their reverse
+-- the points come after their reverse in the order
 abbrev pub ComeAfterReverse : List Coordinates → Type 0
 ComeAfterReverse points = points_cmp (reverse points) points ≡ Less

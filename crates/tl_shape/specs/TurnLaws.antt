@@ -1,4 +1,4 @@
--- Turning a chain twice gives it back, and one chain alone is a chain turned.
+-- Turning a chain twice restores it, and each chain has exactly one turned chain.
 use Rattle.std.proofs.Common.{◌≡◌, List, [], ◌∷◌, map, refl, ap}
 use Rattle.std.proofs.lemmas.List.{reverse-reverse}
 use Rattle.tl_layout.specs.Turned.{turned_ranges}
@@ -19,14 +19,14 @@ turned-turned c =
       points = points i;
       feats = c.feats;
       ranges = ranges i;
-      link_body = c.link_body;
+      topology = c.topology;
       start_node = c.start_node;
       end_node = c.end_node;
       left = c.left;
       right = c.right;
     }
 
--- a chain is c turned exactly if it is turned c
+-- by the relation, d is c turned exactly if it is the chain turned c
 pub turned_from_relation : (c d : Chain) → IsTurned c d → d ≡ turned c
 turned_from_relation c d t =
     λ i. record {
@@ -34,7 +34,7 @@ turned_from_relation c d t =
       points = t.points i;
       feats = t.feats i;
       ranges = t.ranges i;
-      link_body = t.link_body i;
+      topology = t.topology i;
       start_node = t.start_node i;
       end_node = t.end_node i;
       left = t.left i;
@@ -48,7 +48,7 @@ relation_of_turned c =
       points = refl;
       feats = refl;
       ranges = refl;
-      link_body = refl;
+      topology = refl;
       start_node = refl;
       end_node = refl;
       left =

@@ -3,14 +3,14 @@ use Rattle.std.specs.Prelude.{◌≡◌, map, reverse, Bool, cond}
 use Rattle.tl_layout.specs.Turned.{turned_ranges, turned_body}
 use Rattle.tl_shape.specs.Chain.{Chain}
 
--- d is c turned: its points are in reverse, its nodes and its sides are exchanged, its content and each of its address
--- ranges are turned; its names, the order of its ranges and the content of its type I record stay.
+-- d is c turned: its points are reversed, its nodes and its sides are exchanged, and its content and each of its
+-- address ranges are turned; its names, the order of its ranges and the content of its type I record stay.
 pub record IsTurned (c d : Chain) : Type 0 where
   pub body : d.body ≡ turned_body c.body
   pub points : d.points ≡ reverse c.points
   pub feats : d.feats ≡ c.feats
   pub ranges : d.ranges ≡ map turned_ranges c.ranges
-  pub link_body : d.link_body ≡ c.link_body
+  pub topology : d.topology ≡ c.topology
   pub start_node : d.start_node ≡ c.end_node
   pub end_node : d.end_node ≡ c.start_node
   pub left : d.left ≡ c.right
@@ -24,13 +24,13 @@ turned c =
       points = reverse c.points;
       feats = c.feats;
       ranges = map turned_ranges c.ranges;
-      link_body = c.link_body;
+      topology = c.topology;
       start_node = c.end_node;
       end_node = c.start_node;
       left = c.right;
       right = c.left;
     }
 
--- turned, or as it is
+-- the chain, turned if turns
 abbrev pub turned_if : Bool → Chain → Chain
 turned_if turns c = cond turns (turned c) c

@@ -1,4 +1,4 @@
-//! Chains: a record of type 1 with all records of its TLID.
+//! Chains: a record of type 1 together with all other records of its TLID.
 
 ghost use Rattle.std.specs.List.{AllByRecursion};
 ghost use Rattle.std.specs.Prelude.{◌≡◌, map};
@@ -11,28 +11,28 @@ use std::marker::Model;
 use std::mem::swap;
 use tl_layout::{Body1, BodyI, Ranges, Side, Turn};
 
-/// What a chain's record of type I says of its surroundings.
+/// The nodes and polygons around a chain, from its record of type I.
 #[derive(Clone, Copy, Debug, PartialEq, Eq)]
 pub struct Surroundings {
-    /// Number of the node where the chain starts (TZIDS), or none.
+    /// Number of the node at the chain's start (TZIDS), from 1 to 9,999,999,999, or none.
     pub start_node: Option<u64>,
-    /// Number of the node where the chain ends (TZIDE), or none.
+    /// Number of the node at the chain's end (TZIDE), from 1 to 9,999,999,999, or none.
     pub end_node: Option<u64>,
-    /// What stands on the left side (CENIDL, POLYIDL).
+    /// The polygon on the left side (CENIDL, POLYIDL).
     pub left: Side,
-    /// What stands on the right side (CENIDR, POLYIDR).
+    /// The polygon on the right side (CENIDR, POLYIDR).
     pub right: Side,
 }
 
-/// A chain without its TLID: the content of its type 1 record, its points, the FEATs of its further names, its further
-/// address ranges, and what its type I record holds.
+/// A chain without its TLID: the content of its type 1 record, its points, the FEATs of its further names, its further address
+/// ranges, and all that its type I record holds besides the TLID.
 #[derive(Debug, Drop)]
 pub struct Chain {
     body: Body1,
     shape: Shape,
     feats: Vec<u32>,
     ranges: Vec<Ranges>,
-    link_body: BodyI,
+    topology: BodyI,
     surroundings: Surroundings,
 }
 
@@ -49,7 +49,7 @@ impl Model for Chain {
       points = c.shape;
       feats = c.feats.items;
       ranges = c.ranges.items;
-      link_body = c.link_body;
+      topology = c.topology;
       start_node = c.surroundings.start_node;
       end_node = c.surroundings.end_node;
       left = c.surroundings.left;
@@ -60,13 +60,16 @@ impl Model for Chain {
 }
 
 impl Chain {
-    /// The chain of these members. FEATs are from 1 to 99,999,999, and numbers of nodes from 1 to 9,999,999,999.
+    /// Makes a chain from its members. FEATs must be from 1 to 99,999,999, and node numbers from 1 to 9,999,999,999.
+    ///
+    /// Nothing else is required, so every chain that records can describe can be made. What the records must agree on is a rule
+    /// of the county.
     pub fn new(
         body: Body1,
         shape: Shape,
         feats: Vec<u32>,
         ranges: Vec<Ranges>,
-        link_body: BodyI,
+        topology: BodyI,
         surroundings: Surroundings,
     ) -> Chain
         requires feats { AllByRecursion (IsNumber 8) feats.items }
@@ -75,7 +78,7 @@ impl Chain {
         ensures points { result.points ≡ shape }
         ensures feats { result.feats ≡ feats.items }
         ensures ranges { result.ranges ≡ ranges.items }
-        ensures link_body { result.link_body ≡ link_body }
+        ensures topology { result.topology ≡ topology }
         ensures nodes { (result.start_node ≡ surroundings.start_node) × (result.end_node ≡ surroundings.end_node) }
         ensures sides { (result.left ≡ surroundings.left) × (result.right ≡ surroundings.right) }
     {
@@ -84,26 +87,26 @@ impl Chain {
             shape,
             feats,
             ranges,
-            link_body,
+            topology,
             surroundings,
         }
     }
 
-    /// The content of its record of type 1.
+    /// The content of the chain's record of type 1.
     pub fn body(&self) -> &Body1
         ensures { result.now ≡ self.now.body }
     {
         &self.body
     }
 
-    /// Its points, in the direction in which it runs.
+    /// The chain's points, from its start to its end.
     pub fn shape(&self) -> &Shape
         ensures { result.now ≡ self.now.points }
     {
         &self.shape
     }
 
-    /// The FEATs of its further names, in order.
+    /// The FEATs of the chain's further names, in order, each from 1 to 99,999,999.
     pub fn feats(&self) -> &[u32]
         ensures value { result.now ≡ self.now.feats }
         ensures in_range { AllByRecursion (IsNumber 8) result.now }
@@ -111,21 +114,21 @@ impl Chain {
         self.feats.as_slice()
     }
 
-    /// Its further address ranges, in order.
+    /// The chain's further address ranges, in order.
     pub fn ranges(&self) -> &[Ranges]
         ensures { result.now ≡ self.now.ranges }
     {
         self.ranges.as_slice()
     }
 
-    /// The content of its record of type I.
-    pub fn link_body(&self) -> &BodyI
-        ensures { result.now ≡ self.now.link_body }
+    /// The content of the chain's record of type I.
+    pub fn topology(&self) -> &BodyI
+        ensures { result.now ≡ self.now.topology }
     {
-        &self.link_body
+        &self.topology
     }
 
-    /// Number of the node where it starts (TZIDS), or none.
+    /// Number of the node at the chain's start (TZIDS), from 1 to 9,999,999,999, or none.
     pub fn start_node(&self) -> Option<u64>
         ensures value { result ≡ self.now.start_node }
         ensures in_range { IsNumberOrNone 10 result }
@@ -133,7 +136,7 @@ impl Chain {
         self.surroundings.start_node
     }
 
-    /// Number of the node where it ends (TZIDE), or none.
+    /// Number of the node at the chain's end (TZIDE), from 1 to 9,999,999,999, or none.
     pub fn end_node(&self) -> Option<u64>
         ensures value { result ≡ self.now.end_node }
         ensures in_range { IsNumberOrNone 10 result }
@@ -141,14 +144,14 @@ impl Chain {
         self.surroundings.end_node
     }
 
-    /// What stands on its left side.
+    /// The polygon on the chain's left side (CENIDL, POLYIDL).
     pub fn left(&self) -> &Side
         ensures { result.now ≡ self.now.left }
     {
         &self.surroundings.left
     }
 
-    /// What stands on its right side.
+    /// The polygon on the chain's right side (CENIDR, POLYIDR).
     pub fn right(&self) -> &Side
         ensures { result.now ≡ self.now.right }
     {
@@ -165,8 +168,8 @@ fn turn_all(ranges: &mut [Ranges])
     }
 }
 
-/// The points are reversed, the nodes and the sides exchanged, the content and each of the address ranges turned. The
-/// names, the order of the ranges and the content of the record of type I stay.
+/// Reverses the points, exchanges the nodes and the sides, and turns the content and each of the address ranges. The names, the
+/// order of the ranges and the content of the record of type I stay.
 impl Turn for Chain {
     ghost use Rattle.tl_shape.specs.Turned.{turned};
     ghost use Rattle.tl_shape.specs.TurnLaws.{turned-turned};

@@ -1,4 +1,4 @@
-//! Chains whose lists are lent.
+//! Chains with borrowed lists.
 
 ghost use Rattle.std.specs.List.{AllByRecursion};
 ghost use Rattle.std.specs.Prelude.{◌≡◌, ◌≤◌, length};
@@ -8,15 +8,15 @@ use crate::chain::Surroundings;
 use std::marker::Model;
 use tl_layout::{Body1, BodyI, Point, Ranges, Side};
 
-/// A chain without its TLID, as [`Chain`](crate::Chain) is one, whose points, FEATs and further address ranges are lent, as
-/// from an arena.
+/// A chain without its TLID, like [`Chain`](crate::Chain), with borrowed points, FEATs and further address ranges, as in an
+/// arena.
 #[derive(Debug, Drop)]
 pub struct ChainIn<'a> {
     body: Body1,
     points: &'a [Point],
     feats: &'a [u32],
     ranges: &'a [Ranges],
-    link_body: BodyI,
+    topology: BodyI,
     surroundings: Surroundings,
 }
 
@@ -33,7 +33,7 @@ impl<'a> Model for ChainIn<'a> {
       points = c.points.now;
       feats = c.feats.now;
       ranges = c.ranges.now;
-      link_body = c.link_body;
+      topology = c.topology;
       start_node = c.surroundings.start_node;
       end_node = c.surroundings.end_node;
       left = c.surroundings.left;
@@ -45,14 +45,14 @@ impl<'a> Model for ChainIn<'a> {
 }
 
 impl<'a> ChainIn<'a> {
-    /// The chain of these members. There are two points at least; FEATs are from 1 to 99,999,999, and numbers of nodes from 1
-    /// to 9,999,999,999.
+    /// Makes a chain from its members. There must be at least two points; FEATs must be from 1 to 99,999,999, and node
+    /// numbers from 1 to 9,999,999,999.
     pub fn new(
         body: Body1,
         points: &'a [Point],
         feats: &'a [u32],
         ranges: &'a [Ranges],
-        link_body: BodyI,
+        topology: BodyI,
         surroundings: Surroundings,
     ) -> ChainIn<'a>
         requires points { 2 ≤ length points.now }
@@ -62,7 +62,7 @@ impl<'a> ChainIn<'a> {
         ensures points { result.points ≡ points.now }
         ensures feats { result.feats ≡ feats.now }
         ensures ranges { result.ranges ≡ ranges.now }
-        ensures link_body { result.link_body ≡ link_body }
+        ensures topology { result.topology ≡ topology }
         ensures nodes { (result.start_node ≡ surroundings.start_node) × (result.end_node ≡ surroundings.end_node) }
         ensures sides { (result.left ≡ surroundings.left) × (result.right ≡ surroundings.right) }
     {
@@ -71,19 +71,19 @@ impl<'a> ChainIn<'a> {
             points,
             feats,
             ranges,
-            link_body,
+            topology,
             surroundings,
         }
     }
 
-    /// The content of its record of type 1.
+    /// The content of the chain's record of type 1.
     pub fn body(&self) -> &Body1
         ensures { result.now ≡ self.now.body }
     {
         &self.body
     }
 
-    /// Its points, in the direction in which it runs.
+    /// The chain's points, from its start to its end, at least two.
     pub fn points(&self) -> &'a [Point]
         ensures value { result.now ≡ self.now.points }
         ensures two { 2 ≤ length self.now.points }
@@ -91,7 +91,7 @@ impl<'a> ChainIn<'a> {
         self.points
     }
 
-    /// The FEATs of its further names, in order.
+    /// The FEATs of the chain's further names, in order, each from 1 to 99,999,999.
     pub fn feats(&self) -> &'a [u32]
         ensures value { result.now ≡ self.now.feats }
         ensures in_range { AllByRecursion (IsNumber 8) result.now }
@@ -99,21 +99,21 @@ impl<'a> ChainIn<'a> {
         self.feats
     }
 
-    /// Its further address ranges, in order.
+    /// The chain's further address ranges, in order.
     pub fn ranges(&self) -> &'a [Ranges]
         ensures { result.now ≡ self.now.ranges }
     {
         self.ranges
     }
 
-    /// The content of its record of type I.
-    pub fn link_body(&self) -> &BodyI
-        ensures { result.now ≡ self.now.link_body }
+    /// The content of the chain's record of type I.
+    pub fn topology(&self) -> &BodyI
+        ensures { result.now ≡ self.now.topology }
     {
-        &self.link_body
+        &self.topology
     }
 
-    /// Number of the node where it starts (TZIDS), or none.
+    /// Number of the node at the chain's start (TZIDS), from 1 to 9,999,999,999, or none.
     pub fn start_node(&self) -> Option<u64>
         ensures value { result ≡ self.now.start_node }
         ensures in_range { IsNumberOrNone 10 result }
@@ -121,7 +121,7 @@ impl<'a> ChainIn<'a> {
         self.surroundings.start_node
     }
 
-    /// Number of the node where it ends (TZIDE), or none.
+    /// Number of the node at the chain's end (TZIDE), from 1 to 9,999,999,999, or none.
     pub fn end_node(&self) -> Option<u64>
         ensures value { result ≡ self.now.end_node }
         ensures in_range { IsNumberOrNone 10 result }
@@ -129,14 +129,14 @@ impl<'a> ChainIn<'a> {
         self.surroundings.end_node
     }
 
-    /// What stands on its left side.
+    /// The polygon on the chain's left side (CENIDL, POLYIDL).
     pub fn left(&self) -> &Side
         ensures { result.now ≡ self.now.left }
     {
         &self.surroundings.left
     }
 
-    /// What stands on its right side.
+    /// The polygon on the chain's right side (CENIDR, POLYIDR).
     pub fn right(&self) -> &Side
         ensures { result.now ≡ self.now.right }
     {

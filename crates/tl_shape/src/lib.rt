@@ -1,8 +1,9 @@
 //! Point lists, their order, and chains with their turn.
 //!
-//! A caller makes a `Shape` of two points or more by `Shape::new`, and a `Chain` of all that the records of one TLID say by
-//! `Chain::new`, or a `ChainIn` of lists that are lent. Shapes compare by `cmp`, `is_own_reverse` and `needs_turn`; a chain is turned in
-//! place by `turn`. What a turned chain is, is a relation of two chains, `IsTurned`, and each chain has exactly one.
+//! Make a `Shape` of two or more points with `Shape::new`. Make a `Chain` of all that the records of one TLID describe with
+//! `Chain::new`, or a `ChainIn` with borrowed lists. Shapes are compared with `cmp`, `is_own_reverse` and `needs_turn`; `turn`
+//! turns a chain in place. `IsTurned` defines a turned chain as a relation of two chains, and each chain has exactly one turned
+//! chain.
 #![tactic(auto)]
 
 mod chain;

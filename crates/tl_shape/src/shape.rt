@@ -9,7 +9,7 @@ use std::cmp::Ordering;
 use std::marker::Model;
 use tl_layout::Point;
 
-/// The points of a chain from its start node to its end node, two at least (record type 1, FRLONG to TOLAT, and the shape
+/// The points of a chain from its start node to its end node, at least two (record type 1, FRLONG to TOLAT, and the shape
 /// points of record type 2 between them).
 #[derive(Debug, Drop)]
 pub struct Shape {
@@ -28,7 +28,11 @@ impl Model for Shape {
 }
 
 impl Shape {
-    /// The shape from `start` by the shape points `inner` to `end`.
+    /// Makes the shape from `start` through the shape points `inner` to `end`.
+    ///
+    /// # Errors
+    ///
+    /// `AllocError` if an allocation failed.
     pub fn new(
         alloc: Global,
         start: Point,
@@ -44,7 +48,7 @@ impl Shape {
         Ok(Shape { points })
     }
 
-    /// The points, in the direction in which the chain runs.
+    /// The points, from the chain's start to its end.
     pub fn points(&self) -> &[Point]
         ensures value { result.now ≡ self.now }
         ensures two { 2 ≤ length self.now }
@@ -52,15 +56,15 @@ impl Shape {
         self.points.as_slice()
     }
 
-    /// How the points stand to those of another shape: the first point that differs decides, by longitude and then by
-    /// latitude as numbers, and a beginning comes first.
+    /// Compares the points with those of another shape. The first point that differs decides, by longitude and then by
+    /// latitude as numbers; a shape comes after each of its beginnings.
     pub fn cmp(&self, other: &Shape) -> Ordering
         ensures { result ≡ points_cmp self.now other.now }
     {
         self.points.as_slice().cmp(other.points.as_slice())
     }
 
-    /// How the reverse of the points stands to the points.
+    /// Compares the reverse of the points with the points.
     fn cmp_reverse(&self) -> Ordering
         ensures { result ≡ points_cmp (reverse self.now) self.now }
     {
@@ -82,7 +86,7 @@ impl Shape {
         self.cmp_reverse().is_eq()
     }
 
-    /// Whether the points come after their reverse, so that the chain is turned in the canonical form.
+    /// Whether the points come after their reverse. If so, the canonical form has the chain turned.
     pub fn needs_turn(&self) -> bool
         ensures { IsTrue result ↔ ComeAfterReverse self.now }
     {

@@ -1,4 +1,4 @@
--- A text that went out whole, or a beginning of it, where nothing was on its way before.
+-- A text that was written completely, or a beginning of it, with nothing in the buffer before.
 use Rattle.std.proofs.Common.{◌≡◌, ◌+◌, ◌-◌, ◌^◌, ◌<◌, ◌++◌, ◌∷◌, ℕ, List, [], length, take, Result, Ok, Err, refl, sym, ap, ◌∙◌, subst}
 use Rattle.std.proofs.Common.{append-nil, length-append, arith}
 use Rattle.std.specs.Result.{IfOk, IfErr, MatchResult}
@@ -24,7 +24,7 @@ module _ {W : Type 0} (holds : W → List ℕ → Type 0) where
   pub none_counted : HasCounted 0 nothing_yet
   none_counted = record { sent = 0; count = omega arith; all = refl }
 
-  -- what was written is counted where it isn't too much to count
+  -- the written bytes are counted, if they aren't too many to count
   pub begun : (held text : List ℕ) (written : ℕ) (sink : W) → length text < 2 ^ 64 - 1 → HoldsBeginning holds held text written sink
       → holds sink (held ++ take written text)
   begun held text written sink few h =
@@ -34,7 +34,7 @@ module _ {W : Type 0} (holds : W → List ℕ → Type 0) where
       in
       subst (λ t. holds sink (held ++ t)) (sym front) h.arrived
 
-  -- of a finished text
+  -- for a finished text
   pub whole_length : (text : List ℕ) → length text < 2 ^ 64 - 1 → (result : Result ℕ WriteFault)
       → MatchResult result (λ n. n ≡ up_to_most (length text)) (λ f. f.written < length text) → IfOk result (λ n. n ≡ length text)
   whole_length text few (Ok n) h = omega (arith, h, few)

@@ -13,13 +13,13 @@ use Rattle.tl_number.specs.CountyGroups.{type_1_by_chain, type_2_by_chain, type_
 use Rattle.tl_write.specs.SharedGroups.{HaveSameCounts, HaveSameChains, HaveSameEntries}
 use Rattle.tl_number.specs.CountyGroups.{type_7_by_landmark, type_8_together, type_i_by_chain, type_p_by_number}
 use Rattle.tl_number.specs.Groups.{group_at, grouped}
-use Rattle.tl_number.proofs.PackedGroups.{all_groups}
+use Rattle.tl_number.proofs.Records.PackedGroups.{all_groups}
 
--- a fact without which another fails
+-- if a necessary condition fails, so does what it is necessary for
 pub decides_no : {P Q : Type 0} (b : Bool) → b ≡ false → Decides b P → (Q → P) → Decides false Q
 decides_no b fails d f = (λ t. absurd (false≢true t), λ q. absurd (false≢true (sym fails ∙ d.1 (f q))))
 
--- one test, and then another only where the first one passes
+-- one test, and then another one only if the first passes
 pub also : {P Q : Type 0} (v w r : Bool) → v ≡ true → w ≡ r → Decides v P → Decides r Q → Decides w (P × Q)
 also v w r passes is d e = (λ t. (d.0 passes, e.0 (sym is ∙ t)), λ h. is ∙ e.1 h.1)
 
@@ -41,12 +41,12 @@ module _ {X : Type 0} where
       let rest : take place xs ≡ take place ys = cc in
       λ i. first i ∷ one_more xs ys place rest f i
 
-  -- lists that are the same up to a place and at it
+  -- lists that agree up to a place, and at it
   pub same_next : (xs ys : List X) (place : ℕ) → take place xs ≡ take place ys → slice_get xs place ≡ slice_get ys place
       → take (place + 1) xs ≡ take (place + 1) ys
   same_next xs ys place e f = rw add-one (one_more xs ys place e f)
 
-  -- lists that are the same up to the end of both
+  -- lists that agree up to the end of both
   pub same_whole : (xs ys : List X) (place : ℕ) → take place xs ≡ take place ys → length xs ≤ place → length ys ≤ place → xs ≡ ys
   same_whole xs ys place e h k = sym (take_all place xs h) ∙ e ∙ take_all place ys k
 
@@ -59,7 +59,7 @@ same_group (x ∷ xs) (y ∷ ys) zero h k e = ap (λ z. Some z) e
 same_group (x ∷ xs) (y ∷ ys) (suc place) h k e = same_group xs ys place (omega (arith, h)) (omega (arith, k)) e
 
 module _ (a b : County) where
-  -- with the same groups of all types their packing is the same
+  -- if the groups of all types are the same, so is the packing
   same_packing : HaveSameChains a b → HaveSameEntries a b → packed a ≡ packed b
   same_packing chains entries = sym (all_groups a)
       ∙ (λ k. (map One (grouped (chains.heads.chains k)) ++ (map Two (grouped (chains.lists.shape_points k))
@@ -68,7 +68,7 @@ module _ (a b : County) where
       ++ (map Eight (grouped (entries.landmarks.landmark_links k)) ++ (map I (grouped (chains.heads.links k)) ++ map P (grouped (entries.polygons k))))))
       ∙ all_groups b
 
-  -- and with the same packing they are one county, which has all the same groups
+  -- if the packing is the same, the counties are the same, and so are all their groups
   same_county : IsCounty a → IsCounty b → packed a ≡ packed b → a ≡ b
   same_county h k e = sym (packed_county a h) ∙ ap county_of e ∙ packed_county b k
 
@@ -97,7 +97,7 @@ module _ (a b : County) where
     polygons = ap type_p_by_number e;
   }
 
-  -- So what decides that they have the same groups of all types decides that their packing is the same.
+  -- A test for the same groups of all types is therefore a test for the same packing.
   pub decides_packing : IsCounty a → IsCounty b → (test : Bool)
       → Decides test ((HaveSameCounts a b × HaveSameChains a b) × HaveSameEntries a b) → Decides test (packed a ≡ packed b)
   decides_packing h k test d = (

@@ -1,9 +1,9 @@
--- How long the text of a county can be.
+-- The length of a county's text.
 use Rattle.std.proofs.Common.{◌≡◌, ◌*◌, ◌-◌, ◌^◌, ◌<◌, ◌≤◌, ℕ, List, [], ◌∷◌, ◌++◌, map, length, length-append, subst, arith}
 use Rattle.std.proofs.lemmas.List.{length-map}
 use Rattle.std.specs.List.{AllByRecursion}
 use Rattle.tl_layout.specs.RecordText.{FitsRecord, len_of, spelling_of, text_of}
-use Rattle.tl_layout.specs.RecordLaws.{spelling_is_line}
+use Rattle.tl_layout.specs.Laws.RecordLaws.{spelling_is_line}
 use Rattle.tl_layout.specs.declared.record_type.Record.{Record}
 use Rattle.tl_layout.specs.declared.record_type.Record.TheVariants.{One, Two, Four, Five, Six, Seven, Eight, I, P}
 use Rattle.tl_county.specs.County.{County}
@@ -26,7 +26,7 @@ line_length (Eight r) = omega arith
 line_length (I r) = omega arith
 line_length (P r) = omega arith
 
--- a line and its end have at most 229 bytes
+-- a line with its line ending has at most 229 bytes
 text_length : (records : List Record) → AllByRecursion FitsRecord records → length (text_of records) ≤ length records * 229
 text_length [] a = omega arith
 text_length (r ∷ records) a =
@@ -89,7 +89,7 @@ type_lengths t limit h =
       h.of_type_p,
     )
 
--- The text of a county within its limits has fewer bytes than 64 bits count.
+-- The text of a county within its limits has fewer bytes than 64 bits can count.
 pub few_bytes : (county : County) → IsCounty county → IsWithinLimits most_records county → length (text_of (packed county)) < 2 ^ 64 - 1
 few_bytes county is within =
     let records : length (packed county) ≤ 9 * most_records =

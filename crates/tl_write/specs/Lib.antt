@@ -3,3 +3,4 @@ pub mod GoingOut
 pub mod SharedGroups
 pub mod Taking
 pub mod TakingLaws
+pub mod Reports

@@ -1,7 +1,7 @@
--- A sink into lent room as contracts see it.
+-- A sink into a borrowed buffer, in contracts.
 use Rattle.std.specs.Prelude.{ℕ, List}
 
--- the bytes that were taken, how many the room has in all, the most that a write takes, and how many writes failed
+-- the bytes that were taken, the size of the buffer, the most that one write takes, and how many writes failed
 pub record LentRoom : Type 0 where
   pub held : List ℕ
   pub room : ℕ

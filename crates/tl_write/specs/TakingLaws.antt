@@ -1,4 +1,4 @@
--- Records that are handed on one after the other are handed on together.
+-- Taking records one after another is taking them together.
 use Rattle.std.proofs.Common.{
   ◌≡◌,
   ◌∙◌,
@@ -36,7 +36,7 @@ text_of-append [] ys = refl
 text_of-append (x ∷ xs) ys = ap (λ t. (spelling_of x ++ 10 ∷ []) ++ t) (text_of-append xs ys)
     ∙ sym (append_assoc (spelling_of x ++ 10 ∷ []) (text_of xs) (text_of ys))
 
--- what holds the beginning of a text holds that of any that goes on from it
+-- a sink that holds the beginning of a text holds the beginning of any continuation
 longer : {W : Type 0} (holds : W → List ℕ → Type 0) (held text more : List ℕ) (written : ℕ) (sink : W)
     → HoldsBeginning holds held text written sink → HoldsBeginning holds held (text ++ more) written sink
 longer holds held text more written sink h = record {
@@ -53,7 +53,7 @@ longer holds held text more written sink h = record {
     more_left (x ∷ xs) l = omega arith
 
 module _ {W : Type 0} (failed : W → ℕ) (holds : W → List ℕ → Type 0) where
-  -- what is on its way, behind two texts or behind both together
+  -- appending two texts one after another is appending both together
   behind_both : (xs ys : List Record) (text : List ℕ) → (text ++ text_of xs) ++ text_of ys ≡ text ++ text_of (xs ++ ys)
   behind_both xs ys text = append_assoc text (text_of xs) (text_of ys) ∙ ap (λ t. text ++ t) (sym (text_of-append xs ys))
 

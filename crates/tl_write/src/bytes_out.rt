@@ -5,8 +5,11 @@ ghost use Rattle.std.specs.Prelude.{◌≡◌, ◌<◌, ◌+◌, ◌++◌, ℕ, 
 use crate::fault::WriteFault;
 use crate::sink::Sink;
 
-/// Writes the bytes, by as many writes as the sink needs, and answers how many they are. Nothing is tried again: the first
-/// failure is told, and then exactly the first `written` bytes went out. It takes no memory.
+/// Writes the bytes, in as many writes as the sink needs, and returns their number. No write is retried. Takes no memory.
+///
+/// # Errors
+///
+/// The first failure of the sink: exactly the first `written` bytes were written before it.
 pub fn write_bytes<W: Sink>(bytes: &[u8], w: &mut W) -> Result<u64, WriteFault>
     requires { W.failed w.old < u64.MAX }
     ensures length { IfOk result (λ n. n ≡ length bytes.now) }

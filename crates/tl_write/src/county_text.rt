@@ -8,18 +8,18 @@ ghost use Rattle.tl_number.specs.Views.{arranged_county};
 
 use crate::fault::WriteFault;
 use crate::sink::Sink;
-use crate::taker::NoDevice;
 use crate::text_buffer::TextBuffer;
+use crate::visitor::NoDevice;
 use std::alloc::{AllocError, Global};
 use tl_county::Chart;
 use tl_layout::Record;
-use tl_number::{CanonCounty, give_records};
+use tl_number::{CanonCounty, visit_records};
 
-/// The records of a canonical county: a canonical list, and the packing of the county.
+/// Returns the records of a canonical county: a canonical list, and the packing of the county.
 ///
 /// # Errors
 ///
-/// Only that memory was lacking.
+/// `AllocError` if an allocation failed.
 pub fn records_of<C: Chart>(
     alloc: Global,
     county: &CanonCounty<C>,
@@ -28,16 +28,16 @@ pub fn records_of<C: Chart>(
     ensures canonical { IfOk result (λ records. IsCanonical records.items) }
 {
     let mut records = Vec::new(alloc);
-    give_records(county, &mut records, &mut NoDevice)?;
+    visit_records(county, &mut records, &mut NoDevice)?;
     Ok(records)
 }
 
-/// Writes the text of a canonical county, its records in canonical spelling each with a line end, and answers how many bytes
-/// it has. Nothing is tried again, and no memory is taken.
+/// Writes the text of a canonical county, which is its records in canonical spelling, each with a line ending, and returns the
+/// number of bytes. No write is retried, and no memory is taken.
 ///
 /// # Errors
 ///
-/// The sink failed: exactly the first `written` bytes of the text went out before.
+/// The first failure of the sink: exactly the first `written` bytes of the text were written before it.
 pub fn write_to<C: Chart, W: Sink>(county: &CanonCounty<C>, w: &mut W) -> Result<u64, WriteFault>
     requires { W.failed w.old < u64.MAX }
     ensures length { IfOk result (λ n. n ≡ length (text_of (packed (arranged_county county.now)))) }
@@ -48,15 +48,15 @@ pub fn write_to<C: Chart, W: Sink>(county: &CanonCounty<C>, w: &mut W) -> Result
         (λ f. W.holds w.new (held ++ take f.written (text_of (packed (arranged_county county.now))))) }
 {
     let mut buffer = TextBuffer::new();
-    give_records(county, &mut buffer, w)?;
+    visit_records(county, &mut buffer, w)?;
     buffer.finish(w)
 }
 
-/// The records of a canonical county that is read through a county in an arena, as it is or under a mask.
+/// Returns the records of a canonical county that is read through a county in an arena, with or without a mask.
 ///
 /// # Errors
 ///
-/// Only that memory was lacking.
+/// `AllocError` if an allocation failed.
 pub fn records_of_in<C: Chart>(
     alloc: Global,
     county: &CanonCounty<C>,
@@ -67,12 +67,12 @@ pub fn records_of_in<C: Chart>(
     records_of(alloc, county)
 }
 
-/// Writes the text of a canonical county that is read through a county in an arena, as it is or under a mask, and answers how many
-/// bytes it has. Nothing is tried again, and no memory is taken.
+/// Writes the text of a canonical county that is read through a county in an arena, with or without a mask, and returns the
+/// number of bytes. No write is retried, and no memory is taken.
 ///
 /// # Errors
 ///
-/// The sink failed: exactly the first `written` bytes of the text went out before.
+/// The first failure of the sink: exactly the first `written` bytes of the text were written before it.
 pub fn write_in<C: Chart, W: Sink>(county: &CanonCounty<C>, w: &mut W) -> Result<u64, WriteFault>
     requires { W.failed w.old < u64.MAX }
     ensures length { IfOk result (λ n. n ≡ length (text_of (packed (arranged_county county.now)))) }

@@ -9,12 +9,12 @@ ghost use Rattle.tl_write.specs.SharedGroups.{HaveSameChains, HaveSameCounts, Ha
 
 use tl_county::Chart;
 use tl_number::{
-    CanonCounty, ChainRecords, FurtherNameRecords, HeadRoom, LandmarkLinkRecords, LandmarkRecords,
-    LinkRecords, NameRecords, PolygonRecords, RangeRecords, RecordEq, RecordGroups,
-    ShapePointRecords, read_heads,
+    CanonCounty, ChainRecords, FurtherNameRecords, HeadBuffers, LandmarkLinkRecords,
+    LandmarkRecords, NameRecords, PolygonRecords, RangeRecords, RecordEq, RecordGroups,
+    ShapePointRecords, TopologyRecords, read_heads,
 };
 
-/// Whether a group that both have is the same in both, record by record.
+/// Whether a group that both counties have is the same in both, record by record.
 fn is_same_group<L: RecordEq, G: RecordGroups<Item = L>, H: RecordGroups<Item = L>>(
     a: &G,
     b: &H,
@@ -43,7 +43,7 @@ fn is_same_group<L: RecordEq, G: RecordGroups<Item = L>, H: RecordGroups<Item = 
     true
 }
 
-/// Whether the groups that these heads are of, from one group on, are the same in both.
+/// Whether the groups with these heads, from one group on, are the same in both counties.
 fn are_same_headed<L: RecordEq, G: RecordGroups<Item = L>, H: RecordGroups<Item = L>>(
     a: &G,
     b: &H,
@@ -69,7 +69,7 @@ fn are_same_headed<L: RecordEq, G: RecordGroups<Item = L>, H: RecordGroups<Item 
     true
 }
 
-/// Whether both have the same groups, group by group. The heads are read into rooms of one size.
+/// Whether both counties have the same groups, group by group. The heads are read into buffers of the same size.
 fn are_same_groups<L: RecordEq, G: RecordGroups<Item = L>, H: RecordGroups<Item = L>>(
     a: &G,
     b: &H,
@@ -97,7 +97,7 @@ fn are_same_groups<L: RecordEq, G: RecordGroups<Item = L>, H: RecordGroups<Item 
     true
 }
 
-/// Whether two counties have as many chains, names, polygons and landmarks, which is the quickest told.
+/// Whether two counties have equally many chains, names, polygons and landmarks. This is the quickest test.
 fn have_same_counts<A: Chart, B: Chart>(a: &A, b: &B) -> bool
     ensures { Decides result (HaveSameCounts (A.county a.now) (B.county b.now)) }
 {
@@ -111,8 +111,8 @@ fn have_same_counts<A: Chart, B: Chart>(a: &A, b: &B) -> bool
 fn have_same_heads<A: Chart, B: Chart>(
     a: &A,
     b: &B,
-    room: &mut HeadRoom,
-    other: &mut HeadRoom,
+    room: &mut HeadBuffers,
+    other: &mut HeadBuffers,
 ) -> bool
     ensures { Decides result (HaveSameHeads (A.county a.now) (B.county b.now)) }
 {
@@ -122,8 +122,8 @@ fn have_same_heads<A: Chart, B: Chart>(
         &mut room.ends,
         &mut other.ends,
     ) && are_same_groups(
-        &LinkRecords { chart: a },
-        &LinkRecords { chart: b },
+        &TopologyRecords { chart: a },
+        &TopologyRecords { chart: b },
         &mut room.link_bodies,
         &mut other.link_bodies,
     )
@@ -133,8 +133,8 @@ fn have_same_heads<A: Chart, B: Chart>(
 fn have_same_lists<A: Chart, B: Chart>(
     a: &A,
     b: &B,
-    room: &mut HeadRoom,
-    other: &mut HeadRoom,
+    room: &mut HeadBuffers,
+    other: &mut HeadBuffers,
 ) -> bool
     ensures { Decides result (HaveSameLists (A.county a.now) (B.county b.now)) }
 {
@@ -156,12 +156,13 @@ fn have_same_lists<A: Chart, B: Chart>(
     )
 }
 
-/// Whether two counties have as many of each, and the same records of each chain. The heads are read into rooms that are lent.
+/// Whether two counties have equally many chains, names, polygons and landmarks, and the same records for each chain. The heads
+/// are read into the caller's buffers.
 fn have_same_chains<A: Chart, B: Chart>(
     a: &A,
     b: &B,
-    room: &mut HeadRoom,
-    other: &mut HeadRoom,
+    room: &mut HeadBuffers,
+    other: &mut HeadBuffers,
 ) -> bool
     ensures { Decides result (HaveSameCounts (A.county a.now) (B.county b.now) × HaveSameChains (A.county a.now) (B.county b.now)) }
 {
@@ -174,8 +175,8 @@ fn have_same_chains<A: Chart, B: Chart>(
 fn have_same_landmarks<A: Chart, B: Chart>(
     a: &CanonCounty<A>,
     b: &CanonCounty<B>,
-    room: &mut HeadRoom,
-    other: &mut HeadRoom,
+    room: &mut HeadBuffers,
+    other: &mut HeadBuffers,
 ) -> bool
     ensures { Decides result (HaveSameLandmarks (arranged_county a.now) (arranged_county b.now)) }
 {
@@ -192,13 +193,13 @@ fn have_same_landmarks<A: Chart, B: Chart>(
     )
 }
 
-/// Whether two counties have the same records of each name, each landmark and each polygon. The heads are read into rooms
-/// that are lent.
+/// Whether two counties have the same records for each name, each landmark and each polygon. The heads are read into the
+/// caller's buffers.
 fn have_same_entries<A: Chart, B: Chart>(
     a: &CanonCounty<A>,
     b: &CanonCounty<B>,
-    room: &mut HeadRoom,
-    other: &mut HeadRoom,
+    room: &mut HeadBuffers,
+    other: &mut HeadBuffers,
 ) -> bool
     ensures { Decides result (HaveSameEntries (arranged_county a.now) (arranged_county b.now)) }
 {
@@ -216,12 +217,12 @@ fn have_same_entries<A: Chart, B: Chart>(
         )
 }
 
-/// Whether two canonical counties have the same records, and so are one map. It stops at the first record that differs, makes
-/// no text, and takes no memory.
+/// Whether two canonical counties have the same records and are therefore the same map. It stops at the first record that
+/// differs, makes no text and takes no memory.
 pub fn same_records<A: Chart, B: Chart>(a: &CanonCounty<A>, b: &CanonCounty<B>) -> bool
     ensures { Decides result (packed (arranged_county a.now) ≡ packed (arranged_county b.now)) }
 {
-    let mut room = HeadRoom::new();
-    let mut other = HeadRoom::new();
+    let mut room = HeadBuffers::new();
+    let mut other = HeadBuffers::new();
     have_same_chains(a, b, &mut room, &mut other) && have_same_entries(a, b, &mut room, &mut other)
 }

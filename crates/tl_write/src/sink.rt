@@ -1,23 +1,23 @@
-//! Where bytes go to.
+//! Sinks for bytes.
 
 ghost use Rattle.std.specs.Prelude.{◌≡◌, ◌≤◌, ◌<◌, ◌+◌, ◌++◌, ℕ, List, Some, length, take, IfOk, MatchResult, is_ok, if◌then◌else◌};
 
 use std::io::Write;
 use tl_layout::DeviceFault;
 
-/// A device that bytes are written to, and that may fail.
+/// A device that bytes are written to. Writing can fail.
 pub trait Sink {
-    /// How many writes have failed.
+    /// How many writes failed.
     ghost failed: { Self → ℕ };
 
-    /// These are the bytes that it took. A sink that doesn't tell them holds none.
+    /// The bytes that the sink took. A sink that doesn't know them holds none.
     ghost holds: { Self → List ℕ → Type 0 };
 
-    /// How many writes have failed.
+    /// Returns how many writes failed.
     fn failures(&self) -> u64
         ensures { result ≡ failed self.now };
 
-    /// Takes bytes from the front of the buffer, and answers how many: one at least, unless the buffer is empty.
+    /// Takes bytes from the start of the buffer and returns their number, which is at least 1 unless the buffer is empty.
     fn write(&mut self, buf: &[u8]) -> Result<usize, DeviceFault>
         requires { failed self.old < u64.MAX }
         ensures failures { failed self.new ≡ (if is_ok result then failed self.old else failed self.old + 1) }
@@ -27,8 +27,8 @@ pub trait Sink {
             → MatchResult result (λ n. holds self.new (held ++ take n buf.now)) (λ _. holds self.new held) };
 }
 
-/// A sink over a writer. Every error of the writer is a failure, and so is a write that takes nothing of some bytes; none is
-/// tried again.
+/// A sink over a writer. Every error of the writer counts as a failure, and so does a write that takes none of some bytes. No
+/// write is retried.
 #[derive(Drop)]
 pub struct CountedOut<T> {
     inner: T,
@@ -36,7 +36,7 @@ pub struct CountedOut<T> {
 }
 
 impl<T: Write> CountedOut<T> {
-    /// A sink that has not failed yet.
+    /// Makes a sink without failures.
     pub fn new(inner: T) -> Self
         ensures failures { ⟦<CountedOut<T> as Sink>⟧.failed result ≡ 0 }
         ensures bytes { (held : List ℕ) → T.contents inner ≡ Some held → ⟦<CountedOut<T> as Sink>⟧.holds result held }
@@ -44,7 +44,7 @@ impl<T: Write> CountedOut<T> {
         CountedOut { inner, failures: 0 }
     }
 
-    /// The writer, handed back.
+    /// Returns the writer.
     pub fn into_inner(self) -> T
         ensures { (held : List ℕ) → ⟦<CountedOut<T> as Sink>⟧.holds self held → T.contents result ≡ Some held }
     {

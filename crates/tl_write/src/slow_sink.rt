@@ -1,4 +1,4 @@
-//! A sink for trying out what writes to a sink.
+//! A sink for testing code that writes to a sink.
 
 ghost use Rattle.std.specs.Prelude.{◌≡◌, ◌≤◌, ◌<◌, ◌+◌, ◌-◌, ◌++◌, ℕ, List, [], length, take, min, IfOk, MatchResult, is_ok, if◌then◌else◌, ◌↔◌};
 ghost use Rattle.std.specs.Result.{IsErr};
@@ -7,7 +7,7 @@ use crate::sink::Sink;
 use std::marker::Model;
 use tl_layout::DeviceFault;
 
-/// A sink into lent room: it takes few bytes a write, and fails once its room is full.
+/// A sink into a borrowed buffer. It takes few bytes per write, and fails once the buffer is full.
 #[derive(Drop)]
 pub struct SlowSink<'a> {
     room: &'a mut [u8],
@@ -28,7 +28,7 @@ impl<'a> Model for SlowSink<'a> {
 }
 
 impl<'a> SlowSink<'a> {
-    /// A sink that takes at most `most` bytes a write, and holds as many as the room has.
+    /// Makes a sink that takes at most `most` bytes per write and as many bytes in all as the buffer has; `most` must not be 0.
     pub fn new(room: &'a mut [u8], most: usize) -> Self
         requires { 0 < most }
         ensures { result ≡ record { held = []; room = length room.old; most = most; failures = 0 } }
@@ -65,9 +65,9 @@ impl Sink for SlowSink<'_> {
         ensures some { 0 < length buf.now → IfOk result (λ n. 1 ≤ n) }
         ensures bytes { (held : List ℕ) → self.old.held ≡ held
             → MatchResult result (λ n. self.new.held ≡ held ++ take n buf.now) (λ _. self.new.held ≡ held) }
-        // As many as a write takes, as the buffer has, or as there is room for, whichever is least.
+        // The minimum of the most that one write takes, the number of bytes given, and the free space.
         ensures count { IfOk result (λ n. n ≡ min self.old.most (min (length buf.now) (self.old.room - length self.old.held))) }
-        // It fails where there are bytes and no room.
+        // It fails exactly if bytes are given and there is no free space.
         ensures fails { IsErr result ↔ ((0 < length buf.now) × (length self.old.held ≡ self.old.room)) }
         ensures room { self.new.room ≡ self.old.room }
         ensures most { self.new.most ≡ self.old.most }

@@ -1,4 +1,4 @@
-//! A buffer between the lines of a text and the sink that it goes out to.
+//! A buffer between the lines of a text and the sink that it is written to.
 
 ghost use Rattle.std.specs.Prelude.{◌≡◌, ◌<◌, ◌≤◌, ◌+◌, ◌++◌, ◌∷◌, ℕ, List, [], length, MatchResult, OnOk, Some, is_ok, slice_get, if◌then◌else◌};
 ghost use Rattle.tl_number.specs.Groups.{group_at};
@@ -11,10 +11,10 @@ use std::marker::Model;
 use tl_layout::{Layout, put_line};
 use tl_number::RecordGroups;
 
-/// How many bytes the buffer has room for: some hundred lines.
+/// The size of the buffer in bytes: some hundred lines.
 const BUFFER_BYTES: usize = 65_536;
 
-/// The lines that wait to be sent, and how many bytes were sent before them.
+/// The lines that are waiting to be sent, and how many bytes were sent before them.
 #[derive(Drop)]
 pub(crate) struct TextBuffer {
     bytes: [u8; BUFFER_BYTES],
@@ -33,7 +33,7 @@ impl Model for TextBuffer {
     ghost invariant = { λ b. b.filled ≤ length b.bytes };
 }
 
-/// Writes the line of a record of a group, its canonical spelling and LF, into room of its length.
+/// Writes the line of a record of a group, which is its canonical spelling and LF, into a buffer of its length.
 fn put_line_of<G: RecordGroups>(
     groups: &G,
     group: usize,
@@ -54,7 +54,7 @@ fn put_line_of<G: RecordGroups>(
 }
 
 impl TextBuffer {
-    /// A buffer of nothing.
+    /// An empty buffer.
     pub(crate) fn new() -> TextBuffer
         ensures { result ≡ record { waiting = []; sent = 0 } }
     {
@@ -65,7 +65,7 @@ impl TextBuffer {
         }
     }
 
-    /// Sends what waits.
+    /// Sends the waiting bytes.
     pub(crate) fn send<W: Sink>(&mut self, w: &mut W) -> Result<(), WriteFault>
         requires { W.failed w.old < u64.MAX }
         ensures failures { W.failed w.new ≡ (if is_ok result then W.failed w.old else W.failed w.old + 1) }
@@ -87,7 +87,7 @@ impl TextBuffer {
         }
     }
 
-    /// Sends what waits if there isn't room for so many bytes more.
+    /// Sends the waiting bytes if there isn't enough space for `count` more.
     fn make_room<W: Sink>(&mut self, count: usize, w: &mut W) -> Result<(), WriteFault>
         requires failures { W.failed w.old < u64.MAX }
         requires count { count ≤ BUFFER_BYTES }
@@ -104,7 +104,7 @@ impl TextBuffer {
         self.send(w)
     }
 
-    /// Adds the line of a record: its canonical spelling and LF.
+    /// Appends the line of a record: its canonical spelling and LF.
     fn append<L: Layout>(&mut self, found: &L)
         requires { length self.old.waiting + L.LEN < BUFFER_BYTES }
         ensures { self.new ≡ record { waiting = self.old.waiting ++ (L.spelling found.now ++ 10 ∷ []); sent = self.old.sent } }
@@ -114,7 +114,7 @@ impl TextBuffer {
         self.filled = end;
     }
 
-    /// Adds the line of a record. What waits is sent before, where there is no room for the line.
+    /// Appends the line of a record. If there isn't enough space for it, the waiting bytes are sent first.
     pub(crate) fn put_line<L: Layout, W: Sink>(
         &mut self,
         found: &L,
@@ -133,7 +133,7 @@ impl TextBuffer {
         Ok(())
     }
 
-    /// Adds the line of a record of a group, for which there is room.
+    /// Appends the line of a record of a group. There must be enough space for it.
     fn append_from<G: RecordGroups>(
         &mut self,
         groups: &G,
@@ -154,7 +154,7 @@ impl TextBuffer {
         self.filled = end;
     }
 
-    /// Adds the line of a record of a group. What waits is sent before, where there is no room for the line.
+    /// Appends the line of a record of a group. If there isn't enough space for it, the waiting bytes are sent first.
     pub(crate) fn put_line_from<G: RecordGroups, W: Sink>(
         &mut self,
         groups: &G,
@@ -181,7 +181,7 @@ impl TextBuffer {
         Ok(())
     }
 
-    /// Sends what waits, and answers how many bytes the whole text has.
+    /// Sends the waiting bytes, and returns the number of bytes of the whole text.
     pub(crate) fn finish<W: Sink>(mut self, w: &mut W) -> Result<u64, WriteFault>
         requires { W.failed w.old < u64.MAX }
         ensures failures { W.failed w.new ≡ (if is_ok result then W.failed w.old else W.failed w.old + 1) }

@@ -1,4 +1,4 @@
--- Two sets with one canonical text, and the renaming of the one onto the other through it.
+-- Two sets with the same canonical text, and the renaming from the first set to the second through it.
 use Rattle.std.proofs.Common.{◌≡◌, ◌∙◌, ◌⊎◌, inl, inr, ℕ, List, [], ◌∷◌, subst, sym}
 use Rattle.tl_layout.specs.declared.record_type.Record.{Record}
 use Rattle.tl_county.specs.County.{County, county_of}
@@ -10,7 +10,7 @@ use Rattle.tl_load.specs.Outcome.{SpellsWithin, IsSpelled, IsFaulty}
 use Rattle.tigercanon.specs.Respelling.{record_limit}
 use Rattle.tigercanon.specs.Sets.{CarriesSet, IsAcceptedSet}
 
--- what the laws of the libraries say of sets and of linked records
+-- the laws of the libraries about sets and linked records
 module _ (spelled_or_one_fault : (limit : ℕ) (parts : List (List ℕ)) → IsSpelled tiger limit parts ⊎ IsFaulty tiger limit parts)
     (well_formed : (records : List Record) → IsLinked records → IsCounty (county_of records)) where
   one_list : (parts : List (List ℕ)) (records others : List Record) → SpellsWithin tiger record_limit parts records
@@ -21,7 +21,8 @@ module _ (spelled_or_one_fault : (limit : ℕ) (parts : List (List ℕ)) → IsS
       go (inl s) = s.only records a.spells ∙ sym (s.only others b.spells)
       go (inr f) = absurd (f.none records a)
 
-  -- what goes from the first county to the canonical one, and from there back to the second, goes from the first to the second
+  -- a renaming from the first county to the canonical one, followed by one from there back to the second, carries the first county
+  -- onto the second
   pub carried_through : (parts others : List (List ℕ)) (text other_text : List ℕ) → text ≡ other_text → (there back through : Renumbering)
       → CarriesSet there parts (text ∷ []) → CarriesSet back others (other_text ∷ [])
       → ((a b c : County) → IsCounty a → IsCounty b → IsCounty c → Carries there a b → Carries back c b → Carries through a c)

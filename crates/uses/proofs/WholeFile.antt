@@ -22,7 +22,7 @@ whole_of_two : (pieces more : List (Bor (List ℕ))) → whole pieces ++ whole m
 whole_of_two pieces more =
     sym (ap concat (map-append (λ p. p.now) pieces more) ∙ concat-append (bytes_of pieces) (bytes_of more))
 
--- one piece more
+-- with one more piece
 pub whole_so_far : (pieces : List (Bor (List ℕ))) (i : ℕ) (d : Bor (List ℕ)) → i < length pieces
     → whole (take i pieces) ++ (get_or pieces i d).now ≡ whole (take (i + 1) pieces)
 whole_so_far pieces i d within =
@@ -30,7 +30,7 @@ whole_so_far pieces i d within =
     ∙ whole_of_two (take i pieces) (get_or pieces i d ∷ [])
     ∙ ap whole (sym (take_more pieces i d within))
 
--- the fault after some pieces is the fault of the whole
+-- the fault after some pieces is the fault of the whole file
 pub fault_of_whole : (pieces : List (Bor (List ℕ))) (i : ℕ) (d : Bor (List ℕ)) (f : LoadFault) → i < length pieces
     → IsFaultHowever MOST_RECORDS [] (whole (take i pieces) ++ (get_or pieces i d).now) f → FaultAt tiger MOST_RECORDS (whole pieces ∷ []) f
 fault_of_whole pieces i d f within however =

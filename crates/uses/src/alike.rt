@@ -1,4 +1,4 @@
-//! Two files that say the same, record by record.
+//! Two files with the same records, compared record by record.
 
 ghost use Rattle.std.specs.Prelude.{◌≡◌, ◌↔◌, ◌∷◌, [], ℕ, List, IfOk, IsTrue};
 ghost use Rattle.tigercanon.specs.Respelling.{IsRespelt};
@@ -6,7 +6,11 @@ ghost use Rattle.tigercanon.specs.Respelling.{IsRespelt};
 use std::alloc::Global;
 use tigercanon::{Fault, respell};
 
-/// Whether two files have the same records in the same order, whatever their blanks, zeros, signs and ends of lines.
+/// Whether two files have the same records in the same order, whatever their blanks, zeros, signs and line endings.
+///
+/// # Errors
+///
+/// The first fault of one of the files, or out of memory.
 pub fn spell_alike(alloc: Global, file: &[u8], other: &[u8]) -> Result<bool, Fault>
     ensures { IfOk result (λ alike. (text other_text : List ℕ) × IsRespelt (file.now ∷ []) text × IsRespelt (other.now ∷ []) other_text
         × (IsTrue alike ↔ (text ≡ other_text))) }

@@ -15,7 +15,7 @@ use tl_cert::Renaming;
 use tl_county::linked_records_have_a_well_formed_county;
 use tl_load::spelled_or_one_fault;
 
-/// The new number of an old one, if a pair names it; of several pairs the first counts.
+/// The new number of an old one, if a pair names it. If several pairs do, the first counts.
 fn new_number(pairs: &[(u64, u64)], old: u64) -> Option<u64>
     ensures { result ≡ value_under nat_cmp old pairs.now }
 {
@@ -27,7 +27,7 @@ fn new_number(pairs: &[(u64, u64)], old: u64) -> Option<u64>
     None
 }
 
-/// The renaming of one county onto another, by those of both onto a third.
+/// The renaming of one county onto another, made from the renamings of both onto a third.
 fn through(there: &Renaming, back: &Renaming) -> Result<Renaming, AllocError>
     ensures { IfOk result (λ r. (a b c : County) → IsCounty a → IsCounty b → IsCounty c
         → Carries there.now a b → Carries back.now c b → Carries r a c) }
@@ -42,8 +42,8 @@ fn is_same_text(text: &[u8], other: &[u8]) -> bool
     text == other
 }
 
-/// The TLID in another file of the chain that has this TLID in a file, if both have one canonical text and the chain is there. Of each
-/// file that text is given, and the renaming onto it.
+/// The TLID in another file of the chain with this TLID in a file, if both files have the same canonical text and the chain exists.
+/// Each file is given as its text and the renaming onto it.
 fn tlid_through(
     there: &(Vec<u8>, Renaming),
     back: &(Vec<u8>, Renaming),
@@ -61,12 +61,12 @@ fn tlid_through(
     Ok(new_number(onto.chains(), tlid))
 }
 
-/// The TLID that the other file gives to the chain that has this TLID in the file, if both files are one map and the chain is
-/// there.
+/// The TLID in `other` of the chain with TLID `tlid` in `file`, or none. It is found only if both files are the same map and the
+/// chain exists.
 ///
 /// # Errors
 ///
-/// What one of the files is refused for, or that memory was lacking.
+/// The refusal of one of the files, or out of memory.
 pub fn cited_tlid(alloc: Global, file: &[u8], other: &[u8], tlid: u64) -> Result<Option<u64>, Fault>
     ensures { IfOk result (λ found. IfSome found (λ new.
         (r : Renumbering) × CarriesSet r (file.now ∷ []) (other.now ∷ []) × (value_under nat_cmp tlid r.chains ≡ Some new))) }

@@ -1,4 +1,4 @@
-//! A canonical text by the layers themselves, one call each, for a program that wants what lies between.
+//! A canonical text made by calling the layers directly, one call each, for a program that wants the results in between.
 
 ghost use Rattle.std.specs.Prelude.{◌≡◌, ◌∷◌, [], List, ℕ, IfOk};
 ghost use Rattle.tigercanon.specs.Sets.{IsCanonicalText};
@@ -17,7 +17,7 @@ use tl_number::{CanonCounty, canonise, each_accepted_list_has_one_canonical_text
 use tl_profile::admit;
 use tl_write::{CountedOut, write_to};
 
-/// The canonical county of records: they are linked, their county is admitted, and it is numbered anew.
+/// The canonical county of records: they are linked, their county is admitted, and it is renumbered.
 fn canonical_county(alloc: Global, records: Vec<Record>) -> Result<CanonCounty, Fault>
     requires { IsWithinLimit most_records records.items }
     ensures { IfOk result (λ canon. IsCanonicalOf records.items (packed (⟦<CanonCounty as Chart>⟧.county canon))) }
@@ -40,11 +40,11 @@ fn text_in_memory(alloc: Global, canon: &CanonCounty) -> Result<Vec<u8>, Fault>
     }
 }
 
-/// The canonical text of a file's records: they are loaded, linked, admitted, numbered and written.
+/// The canonical text of a file's records: they are loaded, linked, admitted, renumbered and written.
 ///
 /// # Errors
 ///
-/// What the file is refused for, or that memory was lacking.
+/// The refusal of the file, or out of memory.
 pub fn canonical_text(alloc: Global, file: &[u8]) -> Result<Vec<u8>, Fault>
     ensures { IfOk result (λ text. IsCanonicalText (file.now ∷ []) text.items) }
 {

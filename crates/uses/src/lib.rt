@@ -1,4 +1,4 @@
-//! The libraries at work: small callers, proved against the contracts of what they call. Copy what serves.
+//! The libraries at work: small callers, proved against the contracts of the calls that they make. Copy the parts you need.
 #![tactic(auto)]
 
 mod alike;

@@ -1,4 +1,4 @@
-//! A file that comes in pieces, as off a network.
+//! A file that comes in pieces, for example from a network.
 
 ghost use Rattle.std.specs.List.{concat};
 ghost use Rattle.std.specs.Prelude.{◌∷◌, [], map, IfErr, IfOk};
@@ -10,7 +10,11 @@ use std::alloc::Global;
 use tl_layout::{MOST_RECORDS, Record};
 use tl_load::{LoadFault, Loader, parts_may_be_cut_between_lines};
 
-/// The records of one file, whose bytes come in pieces. How it was cut doesn't matter.
+/// The records of one file whose bytes come in pieces. The cuts between the pieces don't matter.
+///
+/// # Errors
+///
+/// The first fault of the file, or out of memory.
 pub fn load_pieces(alloc: Global, pieces: &[&[u8]]) -> Result<Vec<Record>, LoadFault>
     ensures loaded { IfOk result (λ records. SpellsWithin tiger MOST_RECORDS (concat (map (λ p. p.now) pieces.now) ∷ []) records.items) }
     ensures fault { IfErr result (λ f. IsOfLines f → FaultAt tiger MOST_RECORDS (concat (map (λ p. p.now) pieces.now) ∷ []) f) }

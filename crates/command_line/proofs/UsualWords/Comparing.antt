@@ -1,4 +1,4 @@
--- The usual words of compare are read as what they say.
+-- The usual arguments of compare are parsed as intended.
 use Rattle.std.proofs.Common.{Bool, true, false}
 use Rattle.clap.specs.Words.{Text}
 use Rattle.command_line.specs.declared.plans.Job.TheVariants.{Compare}

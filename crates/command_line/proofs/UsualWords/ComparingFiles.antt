@@ -1,4 +1,4 @@
--- The usual words of compare are read as what they say, where sets are named by their files.
+-- The usual arguments of compare are parsed as intended if sets are named by their files.
 use Rattle.std.proofs.Common.{◌≡◌, Bool, true, false, refl}
 use Rattle.clap.specs.Words.{Text}
 use Rattle.clap.proofs.OnLiterals.{clap_on_literals}

@@ -1,4 +1,4 @@
--- The usual words of fingerprint are read as what they say.
+-- The usual arguments of fingerprint are parsed as intended.
 use Rattle.std.proofs.Common.{◌≡◌, Bool, true, false, refl}
 use Rattle.clap.specs.Words.{Text}
 use Rattle.clap.proofs.OnLiterals.{clap_on_literals}

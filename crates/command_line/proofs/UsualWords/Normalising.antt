@@ -1,4 +1,4 @@
--- The usual words of normalise are read as what they say.
+-- The usual arguments of normalise are parsed as intended.
 use Rattle.std.proofs.Common.{◌≡◌, Bool, true, false, refl}
 use Rattle.clap.specs.Words.{Text}
 use Rattle.clap.proofs.OnLiterals.{clap_on_literals}

@@ -1,4 +1,4 @@
--- The usual words that respell and check are read as what they say.
+-- The usual arguments of respell and check are parsed as intended.
 use Rattle.std.proofs.Common.{◌≡◌, Bool, true, false, refl}
 use Rattle.clap.specs.Words.{Text}
 use Rattle.clap.proofs.OnLiterals.{clap_on_literals}

@@ -1,4 +1,4 @@
--- The usual command lines are understood, and their plans are those of their words.
+-- The usual command lines are valid, and their plans are the ones that they describe.
 use Rattle.std.proofs.Common.{◌≡◌, ◌==◌, ◌∙◌, Bool, true, false, List, [], ◌∷◌, Option, Some, None}
 use Rattle.std.proofs.Common.{arith, refl, ap, sym, subst, codes, map, option_map, string_bytes, ne_eqb}
 use Rattle.std.specs.Prelude.{slice_index, unwrap_or}
@@ -64,11 +64,11 @@ second_read rows Normalise is_stem second names given named = named
 second_read rows Check is_stem second names given named = named
 second_read rows Fingerprint is_stem second names given named = named
 
--- a part of what was read
+-- one component of what was parsed
 part : {X : Type 0} (f : Read → X) (a b : Read) → Some a ≡ Some b → f a ≡ f b
 part f a b e = ap (λ (r : Option Read). f (unwrap_or r a)) e
 
--- what a plan and its words are read as
+-- the parsed form of the arguments for a plan
 abbrev told : Plan → Bool → Text → Text → Read
 told plan is_stem first second = (
   word_of plan.job,

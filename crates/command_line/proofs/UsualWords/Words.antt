@@ -1,4 +1,4 @@
--- What is read of a usual command line.
+-- The parsed form of a usual command line.
 use Rattle.std.proofs.Common.{◌≡◌, ◌==◌, Bool, true, false, [], ◌∷◌, List, Option, Some, None}
 use Rattle.std.proofs.Common.{refl, codes, option_map, ne_eqb}
 use Rattle.std.specs.Str.{bytes_eq}
@@ -11,7 +11,7 @@ use Rattle.command_line.specs.declared.plans.Job.{Job}
 use Rattle.command_line.specs.declared.plans.Job.TheVariants.{Respell, Check, Compare}
 use Rattle.tl_layout.specs.declared.mask.Mask.{Mask}
 
--- a text that is no flag, as clap tests it
+-- a text that isn't a flag, as clap tests it
 pub record IsNoFlag (text : Text) : Type 0 where
   pub not_end : bytes_eq text (45 ∷ 45 ∷ []) ≡ false
   pub not_long : long_of text ≡ None
@@ -23,7 +23,7 @@ no_flag (x ∷ xs) plain =
     let e : (x == 45) ≡ false = ne_eqb x 45 plain in
     record { not_end = rw e refl; not_long = rw e refl; not_short = rw e refl }
 
--- what is read of the subcommand: its name, the names of the sets, and the flags
+-- the parsed form of a subcommand: its name, the names of the sets, and the flags
 abbrev pub Read : Type 0
 Read = Text × Option Text × Option Text × Option Text × Option Text × Option Text
 
@@ -45,7 +45,7 @@ abbrev pub second_of : Job → Text → Option Text
 second_of Compare second = Some second
 second_of job second = None
 
--- what is found of a flag that some jobs alone have
+-- the parsed form of a flag that only some jobs have
 abbrev pub mask_flag : Job → Bool → Option Text
 mask_flag Respell given = None
 mask_flag Check given = None
@@ -54,7 +54,7 @@ mask_flag job given = Some (flag given)
 abbrev pub mask_of : Bool → Bool → Mask
 mask_of sources reserved = record { sources = sources; reserved = reserved }
 
--- the words are taken, and what is read of them is what they say
+-- the arguments are valid, and are parsed as intended
 pub record AreRead (job : Job) (is_stem sources reserved : Bool) (first second : Text) : Type 0 where
   pub taken : AreUnderstood (usual_words job is_stem (mask_of sources reserved) first second)
   pub met : read (subcommand_of understood (usual_words job is_stem (mask_of sources reserved) first second))

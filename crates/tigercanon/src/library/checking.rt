@@ -7,27 +7,22 @@ ghost use Rattle.tigercanon.specs.Sets.{IsAcceptedSet};
 ghost use Rattle.tl_layout.specs.declared.record_type.Record.{Record};
 
 use crate::fault::Fault;
-use crate::library::linked::judge_tables;
-use crate::library::reading::load;
+use crate::library::linked::judge;
 use std::alloc::Global;
-use tl_layout::Tables;
 use tl_load::LoadFault;
 
 /// Whether the parts are accepted: their lines spell records, these fit together, and their county is in the profile.
 ///
 /// # Errors
 ///
-/// What the set is refused for: [`Fault::Load`] tells the first faulty line, [`Fault::Link`] the first rule that the records
-/// break, and [`Fault::Profile`] the first clause of the profile that the county breaks. Each may also tell that memory was
-/// lacking.
+/// What the set is refused for: [`Fault::Load`] has the first faulty line, [`Fault::Link`] the first rule that the records break,
+/// and [`Fault::Profile`] the first clause of the profile that the county breaks. Each of them can also report a failed allocation.
 pub fn check(alloc: Global, parts: &[&[u8]]) -> Result<(), Fault>
     ensures accepted { OnOk result ((records : List Record) × IsAcceptedSet (bytes_of_parts parts.now) records) }
     ensures refused { IfErr result (TellsRefusal (bytes_of_parts parts.now)) }
     ensures no_device { result ≢ Err (Fault.Load LoadFault.Device) }
-    // Of accepted parts nothing but want of memory is told.
+    // For accepted parts the only fault is a failed allocation.
     ensures succeeds { (records : List Record) → IsAcceptedSet (bytes_of_parts parts.now) records → IfErr result IsWantOfMemory }
 {
-    let tables: Tables = load(alloc, parts)?;
-    judge_tables(alloc, tables)?;
-    Ok(())
+    judge(alloc, parts)
 }

@@ -1,63 +1,59 @@
 //! Whether two sets are one map, as they are or under a mask.
 
-ghost use Rattle.std.specs.Prelude.{◌≡◌, ◌≢◌, ◌⊎◌, Ok, Err, ℕ, List, map, IfOk, IfErr, true, false};
+ghost use Rattle.std.specs.Prelude.{◌≡◌, ◌≢◌, Ok, Err, ℕ, List, IfOk, IfErr, MatchResult, true, false};
 ghost use Rattle.tigercanon.specs.Comparing.{AreDifferent, AreDifferentThrough, AreOneMap, AreOneMapThrough, IsAcceptable};
-ghost use Rattle.tigercanon.specs.Comparing.{TellsMemoryOfAccepted, TellsRefusalOfOne};
+ghost use Rattle.tigercanon.specs.Comparing.{TellsMemoryOfAccepted, TellsRefusalOfOne, TellsRefusalOfOneRead};
 ghost use Rattle.tigercanon.specs.declared.fault.Fault.{Fault};
 ghost use Rattle.tigercanon.specs.declared.library.comparing.CompareFault.TheVariants.{Memory};
-ghost use Rattle.tigercanon.specs.Faults.{IsWantOfMemory, TellsRefusal};
+ghost use Rattle.tigercanon.specs.Faults.{TellsRefusalOfRead};
 ghost use Rattle.tigercanon.specs.Findings.{IsFound};
 ghost use Rattle.tigercanon.specs.LentParts.{bytes_of_parts};
-ghost use Rattle.tigercanon.specs.Linked.{IsLinkedSet};
-ghost use Rattle.tigercanon.specs.Sets.{CarriesSet, CarriesSetThrough, IsCanonSetThrough, IsSeenSet};
+ghost use Rattle.tigercanon.specs.Sets.{CarriesSet, CarriesSetThrough, IsCanonSetThrough};
 ghost use Rattle.tl_cert.specs.MaskedCounty.{masked};
 ghost use Rattle.tl_county.specs.Renumbering.{Renumbering};
-ghost use Rattle.tl_layout.specs.declared.record_type.Record.{Record};
-ghost use Rattle.tl_number.specs.Sights.{plain};
 ghost use Rattle.tl_number.specs.Views.{arranged_county, source_of};
 
 use crate::fault::Fault;
-use crate::library::canonising::{canonise_admitted, under_mask};
 use crate::library::concluding::Conclusion;
-use crate::library::judged::Judged;
-use crate::library::linked::{admitted_county, link_parts};
-use bumpalo::Bump;
+use crate::library::making::{Product, make_of};
+use crate::library::unlinked::UnlinkedSet;
 use std::alloc::{AllocError, Global};
+use std::marker::PhantomData;
 use thiserror::Error;
 use tl_cert::Renaming;
-use tl_county::{Chart, LinkedRecords};
+use tl_county::Chart;
 use tl_layout::Mask;
 use tl_load::LoadFault;
 use tl_number::CanonCounty;
 
-/// How a fault tells the first set.
+/// The number of the first set in a fault.
 pub(crate) const FIRST: u8 = 1;
 
-/// How a fault tells the second set.
+/// The number of the second set in a fault.
 pub(crate) const SECOND: u8 = 2;
 
-/// What comparing two sets finds.
+/// The result of comparing two sets.
 #[derive(Debug, Drop)]
 pub enum Verdict {
-    /// They are one map: the renaming carries the county of the first set onto that of the second.
+    /// The sets are one map: the renaming carries the county of the first set onto that of the second.
     Same(Renaming),
-    /// They are different maps: no renaming carries the county of the one onto that of the other.
+    /// The sets are different maps: no renaming carries the county of one onto that of the other.
     Different,
 }
 
-/// Why comparing two sets finds nothing.
+/// Why comparing two sets has no result.
 #[derive(Clone, Copy, Debug, PartialEq, Eq, Error)]
 pub enum CompareFault {
-    /// One of the sets is refused, or there was no memory to judge it or to put it into canonical form.
+    /// One of the sets is refused, or an allocation failed while it was judged or put into canonical form.
     #[error("{fault} in set {set}")]
     In {
-        /// Which set: 1 or 2.
+        /// The set: 1 or 2.
         set: u8,
-        /// What it is refused for.
+        /// What the set is refused for, or a failed allocation.
         fault: Fault,
     },
-    /// Both sets are accepted, and there was no memory for the verdict.
-    #[error("out of memory")]
+    /// Both sets are accepted, and an allocation failed for the verdict.
+    #[error("{memory}", memory = Fault::Memory)]
     Memory,
 }
 
@@ -69,8 +65,8 @@ impl From<AllocError> for CompareFault {
     }
 }
 
-/// The outcome of a step on one of two sets: its fault is told with the set that it is of.
-pub(crate) fn of_set<T: Drop>(set: u8, outcome: Result<T, Fault>) -> Result<T, CompareFault>
+/// The outcome of a step on one of two sets. A fault gets the number of that set.
+pub(crate) fn tag_set<T: Drop>(set: u8, outcome: Result<T, Fault>) -> Result<T, CompareFault>
     ensures ok { IfOk result (λ value. outcome ≡ Ok value) }
     ensures err { IfErr result (λ told. (fault : Fault) × (outcome ≡ Err fault) × (told ≡ CompareFault.In set fault)) }
 {
@@ -80,249 +76,173 @@ pub(crate) fn of_set<T: Drop>(set: u8, outcome: Result<T, Fault>) -> Result<T, C
     }
 }
 
-/// The conclusion on a set in canonical form and the admitted county of another, from the order of its chains by their shapes.
-fn verdict_with<V: Conclusion, A: Chart, B: Chart + Drop>(
-    alloc: Global,
-    first: &CanonCounty<A>,
-    second: Judged<B>,
-) -> Result<V, CompareFault>
-    ensures found { (mask : Mask) (a b : List (List ℕ))
-        → IsCanonSetThrough (masked mask) a (A.county (source_of first.now)) (arranged_county first.now)
-        → IsSeenSet (masked mask) b (B.county second.0)
-        → IfOk result (λ conclusion. IsFound (masked mask) a b (V.finding conclusion)) }
-    ensures memory { IfErr result (λ fault. (fault ≡ CompareFault.Memory) ⊎ (fault ≡ CompareFault.In 2 Fault.Memory)) }
-{
-    let second = of_set(SECOND, canonise_admitted(alloc, second))?;
-    let conclusion = V::of(alloc, first, &second);
-    drop(second);
-    conclusion
+/// Makes the conclusion on two canonical counties: `first`, and the county of the product's set.
+#[derive(Drop)]
+struct Compared<'a, A: Chart, V> {
+    first: &'a CanonCounty<A>,
+    conclusion: PhantomData<V>,
 }
 
-/// The conclusion on a set in canonical form under a mask and the admitted county of another. The order of its chains stays under the
-/// mask.
-fn verdict_under<V: Conclusion, A: Chart, B: Chart + Drop>(
-    alloc: Global,
-    first: &CanonCounty<A>,
-    second: Judged<B>,
-    mask: Mask,
-) -> Result<V, CompareFault>
-    ensures found { (a b : List (List ℕ))
-        → IsCanonSetThrough (masked mask) a (A.county (source_of first.now)) (arranged_county first.now)
-        → IsSeenSet plain b (B.county second.0)
-        → IfOk result (λ conclusion. IsFound (masked mask) a b (V.finding conclusion)) }
-    ensures memory { IfErr result (λ fault. (fault ≡ CompareFault.Memory) ⊎ (fault ≡ CompareFault.In 2 Fault.Memory)) }
-{
-    if mask.is_none() {
-        verdict_with(alloc, first, second)
-    } else {
-        let shown = of_set(SECOND, under_mask(alloc, second, mask))?;
-        verdict_with(alloc, first, shown)
+impl<'a, A: Chart, V: Conclusion> Product<()> for Compared<'a, A, V> {
+    type Out = V;
+
+    ghost IsReady = { λ _ _. Unit {0} };
+
+    ghost Answers = { λ mask b self _ conclusion _. (a : List (List ℕ))
+        → IsCanonSetThrough (masked mask) a (A.county (source_of self.first.now)) (arranged_county self.first.now)
+        → IsFound (masked mask) a b (V.finding conclusion) };
+
+    fn of<B: Chart>(
+        self,
+        alloc: Global,
+        county: &CanonCounty<B>,
+        _device: &mut (),
+        _mask: Mask,
+    ) -> V {
+        V::of(alloc, self.first, county)
     }
 }
 
-/// The conclusion on a set in canonical form under a mask and the linked records of another.
-fn verdict_of_linked<'b, V: Conclusion, A: Chart>(
-    alloc: Global,
-    arena: &'b Bump,
-    first: &CanonCounty<A>,
-    second: &'b LinkedRecords,
-    mask: Mask,
-) -> Result<V, CompareFault>
-    ensures found { (a b : List (List ℕ))
-        → IsCanonSetThrough (masked mask) a (A.county (source_of first.now)) (arranged_county first.now)
-        → IsLinkedSet b second.now → IfOk result (λ conclusion. IsFound (masked mask) a b (V.finding conclusion)) }
-    ensures refused { (a b : List (List ℕ)) → IsAcceptable a → IsLinkedSet b second.now → IfErr result (TellsRefusalOfOne a b) }
-    ensures no_device { (b : List (List ℕ)) (set : ℕ) → IsLinkedSet b second.now
-        → result ≢ Err (CompareFault.In set (Fault.Load LoadFault.Device)) }
-    ensures succeeds { (a b : List (List ℕ)) → IsLinkedSet b second.now → IfErr result (TellsMemoryOfAccepted a b) }
-{
-    let second = of_set(SECOND, admitted_county(alloc, arena, second))?;
-    verdict_under(alloc, first, second, mask)
+/// Makes the conclusion on the canonical county of the product's set and on `second`, a set that isn't linked yet.
+#[derive(Drop)]
+struct Against<S, V> {
+    second: S,
+    conclusion: PhantomData<V>,
 }
 
-/// The conclusion on a set in canonical form under a mask and one that is still to be judged.
-fn compare_with<V: Conclusion, A: Chart>(
-    alloc: Global,
-    first: &CanonCounty<A>,
-    b: &[&[u8]],
-    mask: Mask,
-) -> Result<V, CompareFault>
-    ensures found { (a : List (List ℕ))
-        → IsCanonSetThrough (masked mask) a (A.county (source_of first.now)) (arranged_county first.now)
-        → IfOk result (λ conclusion. IsFound (masked mask) a (bytes_of_parts b.now) (V.finding conclusion)) }
-    ensures refused { (a : List (List ℕ)) → IsAcceptable a → IfErr result (TellsRefusalOfOne a (bytes_of_parts b.now)) }
-    ensures no_device { (set : ℕ) → result ≢ Err (CompareFault.In set (Fault.Load LoadFault.Device)) }
-    ensures succeeds { (a : List (List ℕ)) → IfErr result (TellsMemoryOfAccepted a (bytes_of_parts b.now)) }
-{
-    let linked = of_set(SECOND, link_parts(alloc, b))?;
-    let arena = Bump::new(alloc);
-    verdict_of_linked(alloc, &arena, first, &linked, mask)
-}
+impl<S: UnlinkedSet, V: Conclusion> Product<()> for Against<S, V> {
+    type Out = Result<V, Fault>;
 
-/// The conclusion on the admitted county of one set, which is put into canonical form from the order of its chains, and another set
-/// that is still to be judged and is seen under a mask.
-fn compare_chart<V: Conclusion, A: Chart + Drop>(
-    alloc: Global,
-    first: Judged<A>,
-    b: &[&[u8]],
-    mask: Mask,
-) -> Result<V, CompareFault>
-    ensures found { (a : List (List ℕ)) → IsSeenSet (masked mask) a (A.county first.0)
-        → IfOk result (λ conclusion. IsFound (masked mask) a (bytes_of_parts b.now) (V.finding conclusion)) }
-    ensures refused { (a : List (List ℕ)) → IsAcceptable a → IfErr result (TellsRefusalOfOne a (bytes_of_parts b.now)) }
-    ensures no_device { (set : ℕ) → result ≢ Err (CompareFault.In set (Fault.Load LoadFault.Device)) }
-    ensures succeeds { (a : List (List ℕ)) → IfErr result (TellsMemoryOfAccepted a (bytes_of_parts b.now)) }
-{
-    let first = of_set(FIRST, canonise_admitted(alloc, first))?;
-    let conclusion = compare_with(alloc, &first, b, mask);
-    drop(first);
-    conclusion
-}
+    ghost IsReady = { λ self _. S.IsReady self.second };
 
-/// The conclusion under a mask on the admitted county of one set, whose chains stay in their order under it, and another set that is
-/// still to be judged.
-fn compare_under<V: Conclusion, A: Chart + Drop>(
-    alloc: Global,
-    first: Judged<A>,
-    b: &[&[u8]],
-    mask: Mask,
-) -> Result<V, CompareFault>
-    ensures found { (a : List (List ℕ)) → IsSeenSet plain a (A.county first.0)
-        → IfOk result (λ conclusion. IsFound (masked mask) a (bytes_of_parts b.now) (V.finding conclusion)) }
-    ensures refused { (a : List (List ℕ)) → IsAcceptable a → IfErr result (TellsRefusalOfOne a (bytes_of_parts b.now)) }
-    ensures no_device { (set : ℕ) → result ≢ Err (CompareFault.In set (Fault.Load LoadFault.Device)) }
-    ensures succeeds { (a : List (List ℕ)) → IfErr result (TellsMemoryOfAccepted a (bytes_of_parts b.now)) }
-{
-    if mask.is_none() {
-        compare_chart(alloc, first, b, mask)
-    } else {
-        let shown = of_set(FIRST, under_mask(alloc, first, mask))?;
-        compare_chart(alloc, shown, b, mask)
+    ghost Answers = { λ mask a self _ made _. (b : List (List ℕ)) → S.Says self.second b
+        → MatchResult made (λ conclusion. IsFound (masked mask) a b (V.finding conclusion))
+        (λ fault. IsAcceptable a × TellsRefusalOfRead b fault) };
+
+    fn of<A: Chart>(
+        self,
+        alloc: Global,
+        county: &CanonCounty<A>,
+        device: &mut (),
+        mask: Mask,
+    ) -> Result<V, Fault> {
+        let compared = Compared {
+            first: county,
+            conclusion: PhantomData,
+        };
+        make_of(alloc, self.second, compared, device, mask)
     }
 }
 
-/// The conclusion under a mask on the linked records of one set and another that is still to be judged.
-fn compare_first<'a, V: Conclusion>(
+/// The conclusion under a mask on two sets that aren't linked yet. The first set is judged completely before the second is linked.
+pub(crate) fn compare_unlinked<A: UnlinkedSet, B: UnlinkedSet, V: Conclusion>(
     alloc: Global,
-    arena: &'a Bump,
-    first: &'a LinkedRecords,
-    b: &[&[u8]],
+    first: A,
+    second: B,
     mask: Mask,
 ) -> Result<V, CompareFault>
-    ensures found { (a : List (List ℕ)) → IsLinkedSet a first.now
-        → IfOk result (λ conclusion. IsFound (masked mask) a (bytes_of_parts b.now) (V.finding conclusion)) }
-    ensures refused { (a : List (List ℕ)) → IsLinkedSet a first.now → IfErr result (TellsRefusalOfOne a (bytes_of_parts b.now)) }
-    ensures no_device { (a : List (List ℕ)) (set : ℕ) → IsLinkedSet a first.now
-        → result ≢ Err (CompareFault.In set (Fault.Load LoadFault.Device)) }
-    ensures succeeds { (a : List (List ℕ)) → IsLinkedSet a first.now → IfErr result (TellsMemoryOfAccepted a (bytes_of_parts b.now)) }
+    requires first { A.IsReady first }
+    requires second { B.IsReady second }
+    ensures found { (a b : List (List ℕ)) → A.Says first a → B.Says second b
+        → IfOk result (λ conclusion. IsFound (masked mask) a b (V.finding conclusion)) }
+    ensures refused { (a b : List (List ℕ)) → A.Says first a → B.Says second b → IfErr result (TellsRefusalOfOneRead a b) }
 {
-    let first = of_set(FIRST, admitted_county(alloc, arena, first))?;
-    compare_under(alloc, first, b, mask)
+    let against = Against {
+        second,
+        conclusion: PhantomData,
+    };
+    let made = tag_set(FIRST, make_of(alloc, first, against, &mut (), mask))?;
+    tag_set(SECOND, made)
 }
 
-/// The conclusion under a mask on two sets of parts, of which the first is judged wholly before the second is looked at.
-fn compare_parts<V: Conclusion>(
-    alloc: Global,
-    a: &[&[u8]],
-    b: &[&[u8]],
-    mask: Mask,
-) -> Result<V, CompareFault>
-    ensures found { IfOk result (λ conclusion. IsFound (masked mask) (bytes_of_parts a.now) (bytes_of_parts b.now) (V.finding conclusion)) }
-    ensures refused { IfErr result (TellsRefusalOfOne (bytes_of_parts a.now) (bytes_of_parts b.now)) }
-    ensures no_device { (set : ℕ) → result ≢ Err (CompareFault.In set (Fault.Load LoadFault.Device)) }
-    ensures succeeds { IfErr result (TellsMemoryOfAccepted (bytes_of_parts a.now) (bytes_of_parts b.now)) }
-{
-    let linked = of_set(FIRST, link_parts(alloc, a))?;
-    let arena = Bump::new(alloc);
-    compare_first(alloc, &arena, &linked, b, mask)
-}
-
-/// Whether two sets of parts are one map: some renumbering and turning of chains carries the county of the first set onto that
-/// of the second, and then such a renaming is given. The first set is judged wholly before the second is looked at.
+/// Whether two sets of parts are one map: some renumbering and turning of chains carries the county of the first set onto that of
+/// the second. If so, returns such a renaming. The first set is judged completely before the second is looked at.
 ///
 /// # Errors
 ///
-/// [`CompareFault::In`] tells what a set is refused for, as [`crate::check`] tells it, or that memory was lacking for it.
-/// [`CompareFault::Memory`] tells that memory was lacking for the verdict.
+/// [`CompareFault::In`] with what a set is refused for, as [`crate::check`] reports it, or with a memory fault if an allocation
+/// failed for that set. [`CompareFault::Memory`] if an allocation failed for the verdict.
 pub fn compare(alloc: Global, a: &[&[u8]], b: &[&[u8]]) -> Result<Verdict, CompareFault>
-    // The sets are one map only where both are accepted and this renaming carries the one onto the other,
+    // The sets are one map only if both are accepted and this renaming carries the first onto the second,
     ensures same { (r : Renumbering) → result ≡ Ok (Verdict.Same r) → CarriesSet r (bytes_of_parts a.now) (bytes_of_parts b.now) }
-    // and different only where both are accepted and no renaming does.
+    // and different only if both are accepted and no renaming does.
     ensures different { result ≡ Ok Verdict.Different → AreDifferent (bytes_of_parts a.now) (bytes_of_parts b.now) }
-    // Else one of them is refused, the second only where the first is accepted.
+    // Otherwise one of them is refused, the second only if the first is accepted.
     ensures refused { IfErr result (TellsRefusalOfOne (bytes_of_parts a.now) (bytes_of_parts b.now)) }
     ensures no_device { (set : ℕ) → result ≢ Err (CompareFault.In set (Fault.Load LoadFault.Device)) }
-    // Of an accepted set nothing but want of memory is told.
+    // For an accepted set the only fault is a failed allocation.
     ensures succeeds { IfErr result (TellsMemoryOfAccepted (bytes_of_parts a.now) (bytes_of_parts b.now)) }
 {
     compare_masked(alloc, a, b, Mask::NONE)
 }
 
-/// Whether two sets of parts are one map under a mask, as [`compare`] answers it of all that they say: the renaming carries the
-/// county of the first set under the mask onto that of the second.
+/// Whether two sets of parts are one map under a mask, as [`compare`] does without a mask: the renaming carries the county of the
+/// first set under the mask onto that of the second under it.
 ///
 /// # Errors
 ///
-/// As [`compare`] tells them, whatever the mask is.
+/// As for [`compare`], whatever the mask is.
 pub fn compare_masked(
     alloc: Global,
     a: &[&[u8]],
     b: &[&[u8]],
     mask: Mask,
 ) -> Result<Verdict, CompareFault>
-    // The sets are one map only where both are accepted and this renaming carries the one onto the other under the mask,
+    // The sets are one map only if both are accepted and this renaming carries the first onto the second under the mask,
     ensures same { (r : Renumbering) → result ≡ Ok (Verdict.Same r) →
         CarriesSetThrough (masked mask) r (bytes_of_parts a.now) (bytes_of_parts b.now) }
-    // and different only where both are accepted and no renaming does.
+    // and different only if both are accepted and no renaming does.
     ensures different { result ≡ Ok Verdict.Different → AreDifferentThrough (masked mask) (bytes_of_parts a.now) (bytes_of_parts b.now) }
-    // Else one of them is refused, the second only where the first is accepted.
+    // Otherwise one of them is refused, the second only if the first is accepted.
     ensures refused { IfErr result (TellsRefusalOfOne (bytes_of_parts a.now) (bytes_of_parts b.now)) }
     ensures no_device { (set : ℕ) → result ≢ Err (CompareFault.In set (Fault.Load LoadFault.Device)) }
-    // Of an accepted set nothing but want of memory is told.
+    // For an accepted set the only fault is a failed allocation.
     ensures succeeds { IfErr result (TellsMemoryOfAccepted (bytes_of_parts a.now) (bytes_of_parts b.now)) }
 {
-    compare_parts(alloc, a, b, mask)
+    let found: Result<Verdict, AllocError> = compare_unlinked(alloc, a, b, mask)?;
+    let verdict = found?;
+    Ok(verdict)
 }
 
-/// Whether two sets of parts are one map, as [`compare`] finds it, for who doesn't want the renaming: none is made.
+/// Whether two sets of parts are one map, as for [`compare`], but without making the renaming.
 ///
 /// # Errors
 ///
-/// As [`compare`] tells them.
+/// As for [`compare`].
 pub fn are_one_map(alloc: Global, a: &[&[u8]], b: &[&[u8]]) -> Result<bool, CompareFault>
-    // The sets are one map only where both are accepted and some renaming carries the one onto the other,
+    // The sets are one map only if both are accepted and some renaming carries the first onto the second,
     ensures same { result ≡ Ok true → AreOneMap (bytes_of_parts a.now) (bytes_of_parts b.now) }
-    // and different only where both are accepted and no renaming does.
+    // and different only if both are accepted and no renaming does.
     ensures different { result ≡ Ok false → AreDifferent (bytes_of_parts a.now) (bytes_of_parts b.now) }
-    // Else one of them is refused, the second only where the first is accepted.
+    // Otherwise one of them is refused, the second only if the first is accepted.
     ensures refused { IfErr result (TellsRefusalOfOne (bytes_of_parts a.now) (bytes_of_parts b.now)) }
     ensures no_device { (set : ℕ) → result ≢ Err (CompareFault.In set (Fault.Load LoadFault.Device)) }
-    // Of an accepted set nothing but want of memory is told.
+    // For an accepted set the only fault is a failed allocation.
     ensures succeeds { IfErr result (TellsMemoryOfAccepted (bytes_of_parts a.now) (bytes_of_parts b.now)) }
 {
     are_one_map_masked(alloc, a, b, Mask::NONE)
 }
 
-/// Whether two sets of parts are one map under a mask, as [`compare_masked`] finds it.
+/// Whether two sets of parts are one map under a mask, as for [`compare_masked`], but without making the renaming.
 ///
 /// # Errors
 ///
-/// As [`compare`] tells them, whatever the mask is.
+/// As for [`compare`], whatever the mask is.
 pub fn are_one_map_masked(
     alloc: Global,
     a: &[&[u8]],
     b: &[&[u8]],
     mask: Mask,
 ) -> Result<bool, CompareFault>
-    // The sets are one map only where both are accepted and some renaming carries the one onto the other under the mask,
+    // The sets are one map only if both are accepted and some renaming carries the first onto the second under the mask,
     ensures same { result ≡ Ok true → AreOneMapThrough (masked mask) (bytes_of_parts a.now) (bytes_of_parts b.now) }
-    // and different only where both are accepted and no renaming does.
+    // and different only if both are accepted and no renaming does.
     ensures different { result ≡ Ok false → AreDifferentThrough (masked mask) (bytes_of_parts a.now) (bytes_of_parts b.now) }
-    // Else one of them is refused, the second only where the first is accepted.
+    // Otherwise one of them is refused, the second only if the first is accepted.
     ensures refused { IfErr result (TellsRefusalOfOne (bytes_of_parts a.now) (bytes_of_parts b.now)) }
     ensures no_device { (set : ℕ) → result ≢ Err (CompareFault.In set (Fault.Load LoadFault.Device)) }
-    // Of an accepted set nothing but want of memory is told.
+    // For an accepted set the only fault is a failed allocation.
     ensures succeeds { IfErr result (TellsMemoryOfAccepted (bytes_of_parts a.now) (bytes_of_parts b.now)) }
 {
-    compare_parts(alloc, a, b, mask)
+    compare_unlinked(alloc, a, b, mask)
 }

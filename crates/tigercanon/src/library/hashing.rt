@@ -1,4 +1,4 @@
-//! A sink that hashes what it takes.
+//! A sink that hashes what is written to it.
 
 ghost use Rattle.sha2.specs.Sha256.{sha256};
 ghost use Rattle.std.specs.Prelude.{◌≡◌, List, ℕ, []};
@@ -7,14 +7,14 @@ use sha2::{Digest, Sha256};
 use tl_layout::DeviceFault;
 use tl_write::Sink;
 
-/// A sink that takes all that it is given, and keeps the SHA-256 hash of it alone. It never fails.
+/// A sink that takes everything written to it and keeps only the SHA-256 hash. It never fails.
 #[derive(Drop)]
 pub(crate) struct Hashing {
     hasher: Sha256,
 }
 
 impl Hashing {
-    /// A sink that took nothing yet.
+    /// A sink that has taken nothing yet.
     pub(crate) fn new() -> Hashing
         ensures { ⟦<Hashing as Sink>⟧.holds result [] }
     {
@@ -23,7 +23,7 @@ impl Hashing {
         }
     }
 
-    /// The hash of all that was taken.
+    /// The hash of everything taken.
     pub(crate) fn hash(self) -> [u8; 32]
         ensures { (held : List ℕ) → ⟦<Hashing as Sink>⟧.holds self held → result ≡ sha256 held }
     {

@@ -1,7 +1,7 @@
 //! Reading the parts of a set, from memory or from sources.
 //!
-//! Sources are read in two ways. What streams a set reads no further than the read that brings a fault ([`load_sources`]). The
-//! program reads each file to its end ([`read_to_ends`]), since what can't be read is told before what is wrong.
+//! Sources are read in two ways. Calls that stream a set stop at the read that brings a fault ([`load_sources`]). The program reads
+//! each file to its end ([`read_to_ends`]), because it reports a file that can't be read before a fault in the lines.
 
 ghost use Rattle.std.specs.Io.KnownBytes.{IsAtEnd};
 ghost use Rattle.std.specs.Prelude.{◌≡◌, ◌≢◌, ◌<◌, ◌≤◌, ◌+◌, Err, ℕ, List, [], length, vec_len, All, OnOk, IfOk, IfErr, IfSome};
@@ -19,16 +19,16 @@ ghost use Rattle.tl_load.specs.Sources.{Gave};
 
 use crate::fault::Fault;
 use std::alloc::{AllocError, Global};
-use tl_load::{Keeper, LoadFault, LoaderInto, Source};
+use tl_load::{Collector, LoadFault, LoaderFor, Source};
 
-/// What a keeper makes of the records that the parts spell, in the order of their lines.
-pub(crate) fn load<K: Keeper>(alloc: Global, parts: &[&[u8]]) -> Result<K, LoadFault>
+/// Collects the records that the parts spell, in the order of their lines.
+pub(crate) fn load<K: Collector>(alloc: Global, parts: &[&[u8]]) -> Result<K, LoadFault>
     ensures spelled { IfOk result (λ kept. (records : List Record) × K.holds kept records
         × SpellsWithin tiger record_limit (bytes_of_parts parts.now) records) }
     ensures faulty { IfErr result (λ f. IsOfLines f → IsFirstFault (bytes_of_parts parts.now) f) }
     ensures no_device { IfErr result IsNotDevice }
 {
-    let mut loader = LoaderInto::<K>::new(alloc);
+    let mut loader = LoaderFor::<K>::new(alloc);
     for part in parts {
         loader.feed(part)?;
         loader.end_part()?;
@@ -36,16 +36,16 @@ pub(crate) fn load<K: Keeper>(alloc: Global, parts: &[&[u8]]) -> Result<K, LoadF
     loader.finish()
 }
 
-/// Room for the bytes that a source is asked for at a time.
+/// A buffer for the bytes of one read.
 fn room(alloc: Global) -> Result<Vec<u8>, AllocError>
     ensures { IfOk result (λ piece. 0 < vec_len piece) }
 {
     vec![in alloc; 0u8; 65536]
 }
 
-/// What a keeper makes of the records of the parts that the sources give. Each is read to its end, in order, through this room, and no
+/// Collects the records of the parts that the sources give. Reads each source to its end, in order, through this buffer, but no
 /// further than the read that brings a fault.
-fn load_through<K: Keeper, R: Source>(
+fn load_through<K: Collector, R: Source>(
     alloc: Global,
     sources: &mut [R],
     room: &mut [u8],
@@ -58,16 +58,16 @@ fn load_through<K: Keeper, R: Source>(
     ensures device { result ≡ Err LoadFault.Device → OneFailed R.failed sources.old sources.new }
     ensures no_device { result ≢ Err LoadFault.Device → NoneFailed R.failed sources.old sources.new }
 {
-    let mut loader = LoaderInto::<K>::new(alloc);
+    let mut loader = LoaderFor::<K>::new(alloc);
     for source in sources.iter_mut() {
         loader.read_part_by(source, room)?;
     }
     loader.finish()
 }
 
-/// What a keeper makes of the records of the parts that the sources give. Each is read to its end, in order, and no further
-/// than the read that brings a fault.
-pub(crate) fn load_sources<K: Keeper, R: Source>(
+/// Collects the records of the parts that the sources give. Reads each source to its end, in order, but no further than the read
+/// that brings a fault.
+pub(crate) fn load_sources<K: Collector, R: Source>(
     alloc: Global,
     sources: &mut [R],
 ) -> Result<K, LoadFault>
@@ -84,10 +84,10 @@ pub(crate) fn load_sources<K: Keeper, R: Source>(
     }
 }
 
-/// Reads a source to its end as the next part, whatever its lines say: what is wrong with them stands in the loader from then on.
-/// A source that has no end is one that can't be read.
-fn read_to_end<K: Keeper, R: Source>(
-    loader: &mut LoaderInto<K>,
+/// Reads a source to its end as the next part, even if its lines are faulty: the loader then keeps the fault. A source that has no
+/// end counts as one that can't be read.
+fn read_to_end<K: Collector, R: Source>(
+    loader: &mut LoaderFor<K>,
     source: &mut R,
     room: &mut [u8],
 ) -> Result<(), LoadFault>
@@ -95,7 +95,7 @@ fn read_to_end<K: Keeper, R: Source>(
     requires some_room { 0 < length room.old }
     requires failures { R.failed source.old < u64.MAX }
     requires no_device { IfSome loader.old.fault IsNotDevice }
-    // All of it was read, and no read has failed.
+    // The whole source was read, and no read failed.
     ensures fed { OnOk result ((part : List ℕ) × Gave R.remaining R.given source.old source.new part × IsAtEnd (R.remaining source.new)
         × TakesPart K.holds loader.old loader.new part) }
     ensures none_failed { OnOk result (R.failed source.new ≡ R.failed source.old) }
@@ -119,8 +119,8 @@ fn read_to_end<K: Keeper, R: Source>(
 }
 
 /// Reads sources to their ends, in order.
-fn read_each<K: Keeper, R: Source>(
-    loader: &mut LoaderInto<K>,
+fn read_each<K: Collector, R: Source>(
+    loader: &mut LoaderFor<K>,
     sources: &mut [R],
     room: &mut [u8],
 ) -> Result<(), LoadFault>
@@ -141,12 +141,12 @@ fn read_each<K: Keeper, R: Source>(
     Ok(())
 }
 
-/// A loader that was fed what the sources give, each read to its end, in order. What is wrong with their lines is left to it to
-/// tell.
-pub(crate) fn read_to_ends<K: Keeper, R: Source>(
+/// A loader that was fed what the sources give, each read to its end, in order. The loader reports faults in the lines when it
+/// finishes.
+pub(crate) fn read_to_ends<K: Collector, R: Source>(
     alloc: Global,
     sources: &mut [R],
-) -> Result<LoaderInto<K>, Fault>
+) -> Result<LoaderFor<K>, Fault>
     requires { All (λ source. R.failed source < u64.MAX) sources.old }
     ensures fed { IfOk result (λ loader. (parts : List (List ℕ)) × AreRead R.remaining R.given sources.old sources.new parts
         × WasFedInto K.holds record_limit loader parts []) }
@@ -155,14 +155,14 @@ pub(crate) fn read_to_ends<K: Keeper, R: Source>(
     ensures stopped { IfErr result (StopsReading (SomeUnread R.failed R.reads sources.old sources.new)) }
 {
     let mut room = room(alloc)?;
-    let mut loader = LoaderInto::<K>::new(alloc);
+    let mut loader = LoaderFor::<K>::new(alloc);
     read_each(&mut loader, sources, &mut room)?;
     Ok(loader)
 }
 
-/// What a keeper makes of the records of the parts that the sources give, each read to its end, in order. What can't be read is
-/// told before what is wrong.
-pub(crate) fn load_to_ends<K: Keeper, R: Source>(
+/// Collects the records of the parts that the sources give, each read to its end, in order. Reports a source that can't be read
+/// before a fault in the lines.
+pub(crate) fn load_to_ends<K: Collector, R: Source>(
     alloc: Global,
     sources: &mut [R],
 ) -> Result<K, Fault>

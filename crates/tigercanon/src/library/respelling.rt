@@ -13,17 +13,17 @@ use crate::library::reading::load;
 use std::alloc::Global;
 use tl_load::{CanonicalText, LoadFault};
 
-/// The records of the parts in canonical spelling, each line ended by LF, in the order of their lines, with their
-/// numbers kept and nothing joined.
+/// The records of the parts in canonical spelling, each line ended by LF, in the order of their lines. Numbers are kept, and no
+/// records are joined.
 ///
 /// # Errors
 ///
-/// [`Fault::Load`] tells the first faulty line, or that memory was lacking for the text.
+/// [`Fault::Load`] with the first faulty line, or a failed allocation.
 pub fn respell(alloc: Global, parts: &[&[u8]]) -> Result<Vec<u8>, Fault>
     ensures respelt { IfOk result (λ text. IsRespelt (bytes_of_parts parts.now) text.items) }
     ensures faulty { IfErr result (TellsFirstFault (bytes_of_parts parts.now)) }
     ensures no_device { result ≢ Err (Fault.Load LoadFault.Device) }
-    // Where the parts spell records, nothing but want of memory is told.
+    // If the parts spell records, the only fault is a failed allocation.
     ensures succeeds { (records : List Record) →
         SpellsWithin tiger record_limit (bytes_of_parts parts.now) records → IfErr result IsWantOfMemory }
 {

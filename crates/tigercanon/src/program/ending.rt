@@ -1,4 +1,4 @@
-//! How jobs end, and how that is told.
+//! How jobs end, and how the program reports it.
 
 ghost use Rattle.std.specs.Prelude.{◌≡◌, ◌<◌, Ok, Err, MatchResult, None};
 ghost use Rattle.tigercanon.specs.Outcomes.{TellsLineTo};
@@ -8,20 +8,21 @@ ghost use Rattle.tigercanon.specs.Stopping.{stopped_by};
 
 use crate::fault::Fault;
 use crate::library::comparing::CompareFault;
-use crate::program::refusal::{Line, Refusal, push, push_digits};
+use crate::program::refusal::Refusal;
 use crate::program::writing::write_text;
+use fault_report::{Line, push, push_digits};
 use tl_write::Sink;
 
-/// How a job ended that was done.
+/// How a completed job ended.
 #[derive(Clone, Copy, Debug, PartialEq, Eq)]
 pub(crate) enum Ending {
-    /// What was asked for was printed; of two sets, that they are one map.
+    /// The result was printed; for two sets, that they are one map.
     Done,
-    /// Of two sets it was printed that they are different maps.
+    /// It was printed that two sets are different maps.
     Different,
 }
 
-/// Why a job stopped, and which of two sets is at fault, 1 or 2, where one of them is.
+/// Why a job stopped, and, if one of two sets is at fault, which one: 1 or 2.
 #[derive(Clone, Copy, Debug)]
 pub(crate) struct Stopped {
     pub(crate) fault: Fault,
@@ -55,11 +56,11 @@ pub(crate) fn ending_of(outcome: Result<(), Fault>) -> Result<Ending, Stopped>
     }
 }
 
-/// The line that tells why a job stopped: the refusal, and which of two sets it is of.
+/// The line that reports why a job stopped: the refusal, and which of two sets it belongs to.
 fn line_of(stopped: Stopped) -> Line
     ensures { result.items ≡ fault_line stopped.fault stopped.set }
 {
-    let mut line = Refusal(stopped.fault).line();
+    let mut line = stopped.fault.report().line();
     match stopped.set {
         Some(set) => {
             push(&mut line, b" in set ");
@@ -71,7 +72,7 @@ fn line_of(stopped: Stopped) -> Line
     line
 }
 
-/// Writes a line to a sink, or a beginning of it where the sink fails.
+/// Writes a line to a sink, or a beginning of it if the sink fails.
 pub(crate) fn tell_line<E: Sink>(line: &[u8], err: &mut E)
     requires { E.failed err.old < u64.MAX }
     ensures { TellsLineTo E.failed E.holds err.old err.new line.now }
@@ -79,7 +80,7 @@ pub(crate) fn tell_line<E: Sink>(line: &[u8], err: &mut E)
     let _ = write_text(line, err);
 }
 
-/// Tells on a sink why a job stopped, in one line, and answers the exit status.
+/// Writes to a sink, in one line, why a job stopped, and returns the exit status.
 pub(crate) fn tell_stopped<E: Sink>(stopped: Stopped, err: &mut E) -> u8
     requires { E.failed err.old < u64.MAX }
     ensures status { result ≡ status_of stopped.fault }

@@ -1,4 +1,4 @@
-//! The files of a set, as opening them went, and as sources.
+//! The files of a set: the outcomes of opening them, and the files as sources.
 
 ghost use Rattle.std.specs.IoError.{error_kind};
 ghost use Rattle.std.specs.Prelude.{◌≡◌, ◌≢◌, IfOk, IfErr, All, IsTrue, ◌↔◌};
@@ -8,10 +8,10 @@ use std::alloc::{AllocError, Global};
 use std::io::{self, Error, ErrorKind, Read};
 use tl_load::{Counted, Source};
 
-/// A file as opening it went.
+/// A file, or the reason why it isn't open.
 #[derive(Drop)]
 pub enum Opened<R> {
-    /// It is open.
+    /// The file is open.
     Found(R),
     /// There is no such file.
     Absent,
@@ -20,7 +20,8 @@ pub enum Opened<R> {
 }
 
 impl<R> Opened<R> {
-    /// A file as opening it went: one that isn't found is absent, and one that meets any other error is none that can be read.
+    /// Sorts the outcome of opening a file: an error of kind `NotFound` means an absent file, and any other error a file that can't
+    /// be read.
     pub fn of(outcome: io::Result<R>) -> Opened<R>
         ensures found { IfOk outcome (λ file. result ≡ Opened.Found file) }
         ensures absent { IfErr outcome (λ error. error_kind error ≡ ErrorKind.NotFound → result ≡ Opened.Absent) }
@@ -34,7 +35,7 @@ impl<R> Opened<R> {
     }
 }
 
-/// A file as it was opened is a reader: one that isn't there is empty, and one that couldn't be opened fails whenever it is read.
+/// Reads the file: an absent one is empty, and one that couldn't be opened fails at every read.
 impl<R: Read> Read for Opened<R> {
     ghost remaining = { bytes_of R.remaining };
 
@@ -47,7 +48,7 @@ impl<R: Read> Read for Opened<R> {
     }
 }
 
-/// Whether a set lacks a file that it needs: one couldn't be opened, or the first isn't there.
+/// Whether a set lacks a file that it needs: one couldn't be opened, or the first is absent.
 pub(crate) fn is_missing_a_file<R>(files: &[Opened<R>]) -> bool
     ensures { IsTrue result ↔ IsMissing files.now }
 {
@@ -55,10 +56,10 @@ pub(crate) fn is_missing_a_file<R>(files: &[Opened<R>]) -> bool
         || files.iter().any(|file| matches!(file, Opened::Failed))
 }
 
-/// A file as a source, which counts its failures.
+/// A file as a source that counts its failures.
 pub(crate) type OpenFile<R> = Counted<Opened<R>>;
 
-/// The files of a set as sources, one each, none of which has failed.
+/// The files of a set as sources, one each, that haven't failed.
 pub(crate) fn open_files<R: Read + Drop>(
     alloc: Global,
     files: Vec<Opened<R>>,

@@ -1,7 +1,7 @@
 //! What the program's jobs do with the sources of their sets and a sink.
 //!
-//! Sources and sinks count their failures. So it is known of each job that a device is told only where one has failed, and that
-//! all of the answer is there where the sink hasn't.
+//! Sources and sinks count their failures. So the contract of each job can state that it reports a device only if one failed, and
+//! that the whole result was written if the sink didn't fail.
 
 ghost use Rattle.hex.specs.Hex.{encode_lower};
 ghost use Rattle.std.specs.Prelude.{◌≡◌, ◌≢◌, ◌<◌, ◌++◌, ◌∷◌, [], All, Err, IfErr, IfOk, List, Ok, OnOk, string_bytes, ℕ};
@@ -20,14 +20,14 @@ ghost use Rattle.tl_load.specs.Choice.{tiger};
 ghost use Rattle.tl_load.specs.Outcome.{SpellsWithin};
 
 use crate::fault::Fault;
-use crate::library::fingerprinting::fingerprint_linked;
-use crate::library::linked::{judge_tables, link_records};
+use crate::library::linked::judge;
+use crate::library::making::make_of;
 use crate::library::normalising::normalise_to_masked;
-use crate::library::reading::load_to_ends;
+use crate::library::products::Hash;
+use crate::library::reading::{load_to_ends, read_to_ends};
 use crate::program::ending::{Ending, Stopped, ending_of};
 use crate::program::two_sets::compare_sets;
 use crate::program::writing::write_text;
-use bumpalo::Bump;
 use command_line::Job;
 use std::alloc::{AllocError, Global};
 use tl_layout::{Mask, Tables};
@@ -42,7 +42,7 @@ fn respell_set<R: Source, W: Sink>(alloc: Global, set: &mut [R], out: &mut W) ->
         (to_sink W.failed W.holds out.old out.new)) }
     ensures stopped { IfErr result (Leaves no_mask Job.Respell (set_of_sources R.remaining R.given R.failed R.reads set.old set.new)
         (to_sink W.failed W.holds out.old out.new)) }
-    // Where no device is told none has failed.
+    // If the fault isn't a device's, no source has failed.
     ensures no_device { result ≢ Err (Fault.Load LoadFault.Device) → NoneFailed R.failed set.old set.new }
 {
     let text: CanonicalText = load_to_ends(alloc, set)?;
@@ -50,7 +50,7 @@ fn respell_set<R: Source, W: Sink>(alloc: Global, set: &mut [R], out: &mut W) ->
     Ok(())
 }
 
-/// Prints the canonical text of a set under a mask, whose parts are read as far as they are needed, once it is accepted.
+/// Prints the canonical text of a set under a mask, once it is accepted. Reads no further than the read that brings a fault.
 fn normalise_set<R: Source, W: Sink>(
     alloc: Global,
     set: &mut [R],
@@ -64,23 +64,11 @@ fn normalise_set<R: Source, W: Sink>(
         (to_sink W.failed W.holds out.old out.new)) }
     ensures stopped { IfErr result (Leaves mask Job.Normalise (set_of_sources R.remaining R.given R.failed R.reads set.old set.new)
         (to_sink W.failed W.holds out.old out.new)) }
-    // Where no device is told none has failed.
+    // If the fault isn't a device's, no source has failed.
     ensures no_device { result ≢ Err (Fault.Load LoadFault.Device) → NoneFailed R.failed set.old set.new }
 {
     normalise_to_masked(alloc, set, out, mask)?;
     Ok(())
-}
-
-/// The tables of a set, all of which is read.
-fn read_tables<R: Source>(alloc: Global, set: &mut [R]) -> Result<Tables, Fault>
-    requires { All (λ part. R.failed part < u64.MAX) set.old }
-    ensures loaded { IfOk result (λ tables. (parts : List (List ℕ)) × AreRead R.remaining R.given set.old set.new parts
-        × (records : List Record) × HoldsByType tables records × SpellsWithin tiger record_limit parts records) }
-    ensures refused { IfErr result (TellsSet (set_of_sources R.remaining R.given R.failed R.reads set.old set.new)) }
-    // Where no device is told none has failed.
-    ensures no_device { result ≢ Err (Fault.Load LoadFault.Device) → NoneFailed R.failed set.old set.new }
-{
-    load_to_ends(alloc, set)
 }
 
 /// Reads a set, and judges it.
@@ -88,12 +76,11 @@ fn judge_set<R: Source>(alloc: Global, set: &mut [R]) -> Result<(), Fault>
     requires { All (λ part. R.failed part < u64.MAX) set.old }
     ensures accepted { OnOk result (HoldsAccepted (set_of_sources R.remaining R.given R.failed R.reads set.old set.new)) }
     ensures refused { IfErr result (TellsSet (set_of_sources R.remaining R.given R.failed R.reads set.old set.new)) }
-    // Where no device is told none has failed.
+    // If the fault isn't a device's, no source has failed.
     ensures no_device { result ≢ Err (Fault.Load LoadFault.Device) → NoneFailed R.failed set.old set.new }
 {
-    let tables = read_tables(alloc, set)?;
-    judge_tables(alloc, tables)?;
-    Ok(())
+    let loader = read_to_ends::<Tables, R>(alloc, set)?;
+    judge(alloc, loader)
 }
 
 /// Prints that a set is accepted, once all of it is read and judged.
@@ -104,7 +91,7 @@ fn check_set<R: Source, W: Sink>(alloc: Global, set: &mut [R], out: &mut W) -> R
         (to_sink W.failed W.holds out.old out.new)) }
     ensures stopped { IfErr result (Leaves no_mask Job.Check (set_of_sources R.remaining R.given R.failed R.reads set.old set.new)
         (to_sink W.failed W.holds out.old out.new)) }
-    // Where no device is told none has failed.
+    // If the fault isn't a device's, no source has failed.
     ensures no_device { result ≢ Err (Fault.Load LoadFault.Device) → NoneFailed R.failed set.old set.new }
 {
     judge_set(alloc, set)?;
@@ -118,16 +105,14 @@ fn hash_set<R: Source>(alloc: Global, set: &mut [R], mask: Mask) -> Result<[u8; 
     ensures accepted { IfOk result (IsAnswered (IsFingerprintThrough (masked mask))
         (set_of_sources R.remaining R.given R.failed R.reads set.old set.new)) }
     ensures refused { IfErr result (TellsSet (set_of_sources R.remaining R.given R.failed R.reads set.old set.new)) }
-    // Where no device is told none has failed.
+    // If the fault isn't a device's, no source has failed.
     ensures no_device { result ≢ Err (Fault.Load LoadFault.Device) → NoneFailed R.failed set.old set.new }
 {
-    let tables = read_tables(alloc, set)?;
-    let linked = link_records(alloc, tables)?;
-    let arena = Bump::new(alloc);
-    fingerprint_linked(alloc, &arena, &linked, mask)
+    let loader = read_to_ends::<Tables, R>(alloc, set)?;
+    make_of(alloc, loader, Hash, &mut (), mask)
 }
 
-/// The line of these bytes: two lower-case hexadecimal digits a byte, and LF.
+/// The line of these bytes: two lowercase hexadecimal digits per byte, and LF.
 fn line_of_digits(alloc: Global, bytes: &[u8]) -> Result<String, AllocError>
     ensures { IfOk result (λ line. string_bytes line ≡ encode_lower bytes.now ++ 10 ∷ []) }
 {
@@ -150,7 +135,7 @@ fn fingerprint_set<R: Source, W: Sink>(
         (to_sink W.failed W.holds out.old out.new)) }
     ensures stopped { IfErr result (Leaves mask Job.Fingerprint (set_of_sources R.remaining R.given R.failed R.reads set.old set.new)
         (to_sink W.failed W.holds out.old out.new)) }
-    // Where no device is told none has failed.
+    // If the fault isn't a device's, no source has failed.
     ensures no_device { result ≢ Err (Fault.Load LoadFault.Device) → NoneFailed R.failed set.old set.new }
 {
     let bytes = hash_set(alloc, set, mask)?;
@@ -159,7 +144,8 @@ fn fingerprint_set<R: Source, W: Sink>(
     Ok(())
 }
 
-/// Does a job over the sources of its sets. Under the mask a map is told or compared; to respell and to check ask for all.
+/// Does a job over the sources of its sets. The mask applies to the jobs that print or compare maps; respelling and checking read
+/// everything.
 pub(crate) fn do_job<R: Source, W: Sink>(
     alloc: Global,
     job: Job,
@@ -180,7 +166,7 @@ pub(crate) fn do_job<R: Source, W: Sink>(
         (set_of_sources R.remaining R.given R.failed R.reads first.old first.new)
         (set_of_sources R.remaining R.given R.failed R.reads second.old second.new)
         (to_sink W.failed W.holds out.old out.new) stopped.fault stopped.set) }
-    // Where no device is told none has failed.
+    // If the fault isn't a device's, no source has failed.
     ensures no_device { TellsNoDevice result → NoneFailed R.failed first.old first.new × NoneFailed R.failed second.old second.new }
 {
     match job {

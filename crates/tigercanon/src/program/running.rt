@@ -1,4 +1,4 @@
-//! What the program does, over files that are open already.
+//! What the program does, over files that are already open.
 
 ghost use Rattle.std.specs.Io.KnownBytes.{Keeps};
 ghost use Rattle.std.specs.Prelude.{◌≡◌, ◌≢◌, ◌<◌, ◌≤◌, ◌+◌, ◌⊎◌, ◌∷◌, [], All, Contains, IfErr, IfOk, List, OnOk, Option, ℕ};
@@ -23,7 +23,7 @@ use tl_layout::Mask;
 use tl_load::{LoadFault, Source};
 use tl_write::Sink;
 
-/// The set that is named where one of a job's sets is at fault: where it has one set alone, none is.
+/// The set to name if this one of a job's sets is at fault: none if the job reads only one set.
 fn named_set(job: Job, set: u8) -> Option<u8>
     ensures { result ≡ set_of_job job set }
 {
@@ -48,7 +48,7 @@ fn refuse_missing<R>(job: Job, set: u8, files: &[Opened<R>]) -> Result<(), Stopp
     Ok(())
 }
 
-/// Refuses sets of which one that the job reads lacks a file that it needs. A file of the first set is told before one of the
+/// Refuses the sets if one that the job reads lacks a file that it needs. A file of the first set is reported before one of the
 /// second.
 fn refuse_missing_sets<R>(
     job: Job,
@@ -66,7 +66,7 @@ fn refuse_missing_sets<R>(
     }
 }
 
-/// The files of one of a job's sets as sources, none of which has failed.
+/// The files of one of a job's sets as sources that haven't failed.
 fn open_set<R: Read + Drop>(
     alloc: Global,
     job: Job,
@@ -86,8 +86,8 @@ fn open_set<R: Read + Drop>(
     }
 }
 
-/// Does a job over the sources of its sets, and answers the exit status. What is told goes to a sink, which counts its failures: the
-/// whole line is there where it counts none.
+/// Does a job over the sources of its sets, and returns the exit status. The fault is written to a sink that counts its failures:
+/// the whole line is written if it counts none.
 fn run_to<R: Source, W: Sink, E: Sink>(
     alloc: Global,
     job: Job,
@@ -104,19 +104,19 @@ fn run_to<R: Source, W: Sink, E: Sink>(
     ensures statuses { Contains (0 ∷ 1 ∷ 3 ∷ 4 ∷ 5 ∷ []) result }
     ensures done { result ≡ 0 → IsDone mask job (set_of_sources R.remaining R.given R.failed R.reads first.old first.new)
         (set_of_sources R.remaining R.given R.failed R.reads second.old second.new) (to_sink W.failed W.holds out.old out.new) }
-    // Only a comparison comes to this.
+    // Only a comparison returns this.
     ensures different { result ≡ 1 → IsDifferent mask job
         (set_of_sources R.remaining R.given R.failed R.reads first.old first.new)
         (set_of_sources R.remaining R.given R.failed R.reads second.old second.new) (to_sink W.failed W.holds out.old out.new) }
-    // What is told is a line that says which fault it was, and of two sets which one is at fault; nothing where the job is done.
+    // The line on `err` reports the fault, and which of two sets is at fault. Nothing is written there if the job is done.
     ensures told { 1 < result → IsToldWhy mask job (set_of_sources R.remaining R.given R.failed R.reads first.old first.new)
         (set_of_sources R.remaining R.given R.failed R.reads second.old second.new) (to_sink W.failed W.holds out.old out.new)
         (TellsLineTo E.failed E.holds err.old err.new) result }
     ensures untold { result ≤ 1 → err.new ≡ err.old }
-    // It comes to this only where a source failed or has no end, or the sink failed.
+    // Only if a source failed or has no end, or the sink failed.
     ensures device { result ≡ 4 → SomeUnread R.failed R.reads first.old first.new ⊎ SomeUnread R.failed R.reads second.old second.new
         ⊎ (W.failed out.new ≡ W.failed out.old + 1) }
-    // And where a source failed it does.
+    // And always if a source failed.
     ensures no_device { result ≢ 4 → NoneFailed R.failed first.old first.new × NoneFailed R.failed second.old second.new }
 {
     match do_job(alloc, job, first, second, out, mask) {
@@ -126,8 +126,8 @@ fn run_to<R: Source, W: Sink, E: Sink>(
     }
 }
 
-/// Does a job over the files of its sets, none of which is missing, as over sources that have not failed, and answers the exit
-/// status.
+/// Does a job over the files of its sets, as over sources that haven't failed, and returns the exit status. No file that the job
+/// needs is missing.
 fn run_found<R: Read + Drop, W: Sink, E: Sink>(
     alloc: Global,
     job: Job,
@@ -159,7 +159,7 @@ fn run_found<R: Read + Drop, W: Sink, E: Sink>(
     run_to(alloc, job, &mut first, &mut second, out, err, mask)
 }
 
-/// Does a job over the files of its sets, and answers the exit status.
+/// Does a job over the files of its sets, and returns the exit status.
 fn run_files<R: Read + Drop, W: Sink, E: Sink>(
     alloc: Global,
     job: Job,
@@ -190,12 +190,12 @@ fn run_files<R: Read + Drop, W: Sink, E: Sink>(
     }
 }
 
-/// Does a job over the files of its sets, and answers the exit status: 0 where it is done, 1 where two sets are different maps,
-/// 3 where a set is refused, 4 where a device failed, 5 where memory was lacking. `second` is looked at by a comparison alone, and
-/// the mask by the jobs that tell or compare maps: the fields that it leaves out are blank in what these see.
+/// Does a job over the files of its sets, and returns the exit status: 0 if it is done, 1 if two sets are different maps, 3 if a
+/// set is refused, 4 if a device failed, 5 if an allocation failed. Only a comparison looks at `second`. Only the jobs that print
+/// or compare maps look at the mask: they see the fields that it leaves out as blank.
 ///
-/// What is asked for goes to `out`, and nothing goes there before the sets are accepted. Why a job isn't done is one line on `err`:
-/// the refusal, and of two sets which one is at fault. A failure of `err` changes nothing.
+/// The result is written to `out`, and nothing is written there before the sets are accepted. If the job isn't done, one line on
+/// `err` reports why: the refusal, and which of two sets is at fault. A failure of `err` changes nothing.
 pub fn run<R: Read + Drop, W: Write, E: Write>(
     alloc: Global,
     job: Job,
@@ -207,10 +207,10 @@ pub fn run<R: Read + Drop, W: Write, E: Write>(
 ) -> u8
     ensures statuses { Contains (0 ∷ 1 ∷ 3 ∷ 4 ∷ 5 ∷ []) result }
     ensures done { result ≡ 0 → PrintsDone mask job R.remaining first.items second.items (W.contents out.old) (W.contents out.new) }
-    // Only a comparison comes to this.
+    // Only a comparison returns this.
     ensures different { result ≡ 1 → PrintsDifferent mask job R.remaining first.items second.items (W.contents out.old) (W.contents out.new) }
 
-    // A set that isn't accepted leaves nothing behind.
+    // If a set is refused, nothing is written to `out`.
     ensures refused { result ≡ 3 → IsRefusedBy job R.remaining first.items second.items }
     ensures silent { result ≡ 3 → Keeps (W.contents out.old) (W.contents out.new) }
     ensures memory { result ≡ 5 → Keeps (W.contents out.old) (W.contents out.new) }
@@ -219,7 +219,7 @@ pub fn run<R: Read + Drop, W: Write, E: Write>(
     ensures missing { IsMissingOne job first.items second.items → result ≡ 4 }
     ensures missing_silent { IsMissingOne job first.items second.items → Keeps (W.contents out.old) (W.contents out.new) }
 
-    // What `err` gets is a line that says which fault it was, and of two sets which one is at fault; nothing where the job is done.
+    // The line on `err` reports the fault, and which of two sets is at fault. Nothing is written there if the job is done.
     ensures told { 1 < result → TellsWhy mask job R.remaining first.items second.items (W.contents out.old) (W.contents out.new)
         (TellsLine (E.contents err.old) (E.contents err.new)) result }
     ensures missing_told { IsMissingOne job first.items second.items →

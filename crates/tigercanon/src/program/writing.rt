@@ -1,4 +1,4 @@
-//! Writing a text to a sink, and to a writer that is lent as to a sink.
+//! Writes texts to a sink, and lends a writer as a sink.
 
 ghost use Rattle.std.specs.Prelude.{◌≡◌, ◌<◌, ◌+◌, OnOk, IfErr};
 ghost use Rattle.tigercanon.specs.Normalising.{StopsShort, Took};
@@ -7,8 +7,8 @@ use std::io::Write;
 use tl_layout::DeviceFault;
 use tl_write::{Sink, WriteFault, write_bytes};
 
-/// A sink over a writer that is lent. Every error of the writer is a failure, and so is a write that takes nothing of some
-/// bytes; none is tried again.
+/// A sink over a lent writer. Every error of the writer counts as a failure, and so does a write that takes none of a nonempty
+/// buffer. No failed write is tried again.
 #[derive(Drop)]
 pub(crate) struct LentOut<'a, W> {
     writer: &'a mut W,
@@ -16,7 +16,7 @@ pub(crate) struct LentOut<'a, W> {
 }
 
 impl<'a, W: Write> LentOut<'a, W> {
-    /// A sink that has not failed yet.
+    /// A sink that hasn't failed yet.
     pub(crate) fn new(writer: &'a mut W) -> LentOut<'a, W>
         ensures same { result.writer.ghost_name ≡ writer.entry.ghost_name }
         ensures now { result.writer.now ≡ writer.old }
@@ -28,7 +28,7 @@ impl<'a, W: Write> LentOut<'a, W> {
         }
     }
 
-    /// The writer, handed back.
+    /// Returns the writer.
     pub(crate) fn give_back(self) -> &'a mut W
         ensures same { result.ghost_name ≡ self.entry.writer.ghost_name }
         ensures now { result.now ≡ self.entry.writer.now }
@@ -59,7 +59,7 @@ impl<W: Write> Sink for LentOut<'_, W> {
     }
 }
 
-/// Writes the text to a sink, or a beginning of it where the sink fails. No write that failed is tried again.
+/// Writes the text to a sink, or a beginning of it if the sink fails. No failed write is tried again.
 pub(crate) fn write_text<W: Sink>(text: &[u8], out: &mut W) -> Result<(), WriteFault>
     requires { W.failed out.old < u64.MAX }
     ensures whole { OnOk result (Took W.holds out.old out.new text.now) }

@@ -7,7 +7,7 @@ use std::process::Abort;
 use tl_load::LoadFault;
 use uses::{cited_tlid, load_pieces, spell_alike};
 
-/// A landmark's polygon, and the same record by another hand.
+/// A landmark's polygon, and the same record in another spelling.
 const LINK: &[u8] = b"8    0100100001        12        30 ";
 
 const LINK_BY_ANOTHER_HAND: &[u8] = b"803060100100001000000001230\r\n";
@@ -39,8 +39,7 @@ fn zeros_and_ends_of_lines_make_no_difference(rt: HostRuntime) {
     }
 }
 
-/// A chain without content but its two points, and another with another TLID that runs back between these points, or between
-/// others.
+/// A chain with no content except its two points, and one with another TLID that runs back between these points or between others.
 const CHAIN: &[&str] = &[
     "1{11}500{175}+000000001+00000001+000000002+00000001",
     "I{16}500",
@@ -56,7 +55,7 @@ const OTHER: &[&str] = &[
     "I{17}77",
 ];
 
-/// Another file, a TLID of the first one, and what the other one has in its place.
+/// Another file, a TLID of the first file, and the TLID of the same chain in the other file.
 const CITED: &[(&'static [&'static str], u64, Option<u64>)] = &[
     (BACK, 500, Some(77)),
     (BACK, 77, None),
@@ -68,7 +67,7 @@ fn cited() -> &'static [(&'static [&'static str], u64, Option<u64>)] {
     CITED
 }
 
-/// The chain is cited as the row says.
+/// The chain is cited as in the row.
 fn is_cited(rt: &impl Abort, alloc: Global, lines: &[&str], tlid: u64, wanted: Option<u64>) {
     let file = lines_of(rt, alloc, CHAIN);
     let other = lines_of(rt, alloc, lines);

@@ -12,7 +12,7 @@ use tl_county::Chart;
 use tl_number::ascending_steps;
 use tl_profile::{Admitted, admit, order_by_shape};
 
-/// The set is accepted, its text is this one, and the renaming that is told beside it carries the set onto it.
+/// The set is accepted, its text is this one, and the renaming returned with it carries the set onto it.
 fn becomes(rt: &impl Abort, alloc: Global, set: &Set<'_>) {
     let accepted = check(alloc, &[set.bytes]);
     let found = normalise(alloc, &[set.bytes]).expect(rt, set.row);
@@ -23,7 +23,7 @@ fn becomes(rt: &impl Abort, alloc: Global, set: &Set<'_>) {
     same(rt, set.row, &(accepted, carried), &(Ok(()), true));
 }
 
-/// How many chains an admitted county has, by its chart, by its list of TLIDs, by its order of shapes and by its arrangement.
+/// The number of chains of an admitted county, by its chart, by its list of TLIDs, by its order of shapes and by its arrangement.
 fn has_chains(rt: &impl Abort, alloc: Global, row: &str, admitted: &Admitted, chains: usize) {
     let shapes = order_by_shape(alloc, admitted.county()).expect(rt, row);
     let steps = ascending_steps(alloc, admitted.county()).expect(rt, row);
@@ -52,7 +52,7 @@ fn sets_become_their_texts(rt: HostRuntime) {
     }
 }
 
-/// The renaming onto the text is told by old numbers, those of the set.
+/// The renaming onto the text names old numbers, those of the set.
 #[test]
 fn a_turned_chain_is_told_by_its_old_number(rt: HostRuntime) {
     let set = lines_of(&rt, rt.alloc(), street_turned());

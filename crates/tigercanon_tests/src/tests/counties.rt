@@ -1,4 +1,4 @@
-//! Counties in memory of their own and in an arena, and what their getters answer.
+//! Counties in memory of their own and in an arena, and the results of their getters.
 
 use super::comparing::{same, same_items};
 use super::sets::{lines_of, records_of};
@@ -25,7 +25,7 @@ pub(super) fn county_in_of<'a>(
     link_in(alloc, arena, records_of(rt, alloc, row, set)).expect(rt, row)
 }
 
-/// The numbers of the county are those of its lines.
+/// The county has the numbers of its lines.
 fn has_the_numbers(rt: &impl Abort, county: &County) {
     same_items(rt, "TLIDs", county.tlids(), &[500]);
     same_items(rt, "FEATs", county.feats(), &[8, 9]);
@@ -39,7 +39,7 @@ fn has_the_numbers(rt: &impl Abort, county: &County) {
     );
 }
 
-/// The names and polygons of the county are those of its lines, and it has no others.
+/// The county has the names and polygons of its lines, and no others.
 fn has_the_names_and_polygons(rt: &impl Abort, county: &County) {
     let name = county.name(9).expect(rt, "FEAT 9");
     let found = (name.fetype(), county.name(7).is_some());
@@ -52,7 +52,7 @@ fn has_the_names_and_polygons(rt: &impl Abort, county: &County) {
     same(rt, "polygons 00002 12, 00001 12", &found, &(*b"1", false));
 }
 
-/// The chain of the county is that of its lines.
+/// The county has the chain of its lines.
 fn has_the_chain(rt: &impl Abort, county: &County) {
     let chain = county.chain(500).expect(rt, "TLID 500");
     let points = [
@@ -72,7 +72,7 @@ fn has_the_chain(rt: &impl Abort, county: &County) {
     same(rt, row, &found, &wanted);
 }
 
-/// The landmarks of the county are those of its lines. LAND 40 has two contents, in order.
+/// The county has the landmarks of its lines. LAND 40 has two contents, in order.
 fn has_the_landmarks(rt: &impl Abort, county: &County) {
     let bodies = county.landmark_bodies(40);
     let first = bodies.first().expect(rt, "LAND 40");
@@ -125,7 +125,7 @@ fn set_of(rt: &impl Abort, alloc: Global, polygons: &[PolygonKey]) -> KeySet<Pol
     set
 }
 
-/// Each polygon stands in the set once, however often it is met. In order the CENID's bytes come first, and then the POLYID as a
+/// Each polygon is in the set once, however often it is inserted. The order is by the CENID's bytes, and then by the POLYID as a
 /// number.
 #[test]
 fn polygons_of_a_set_stand_once_and_in_order(rt: HostRuntime) {

@@ -1,20 +1,62 @@
-//! Readers and writers that give and take a few bytes at a time, and fail once.
+//! Readers and writers that transfer a few bytes at a time, and fail once.
 
 use std::alloc::Global;
 use std::cell::Cell;
 use std::io::{self, Error, ErrorKind, Read, Write};
 use tigercanon::Opened;
 
-/// The kinds of failures that devices fail with.
-pub(super) const KINDS: [ErrorKind; 5] = [
-    ErrorKind::Interrupted,
+/// All kinds of failures.
+const KINDS: &[ErrorKind] = &[
+    ErrorKind::NotFound,
+    ErrorKind::PermissionDenied,
+    ErrorKind::ConnectionRefused,
+    ErrorKind::ConnectionReset,
+    ErrorKind::HostUnreachable,
+    ErrorKind::NetworkUnreachable,
+    ErrorKind::ConnectionAborted,
+    ErrorKind::NotConnected,
+    ErrorKind::AddrInUse,
+    ErrorKind::AddrNotAvailable,
+    ErrorKind::NetworkDown,
+    ErrorKind::BrokenPipe,
+    ErrorKind::AlreadyExists,
     ErrorKind::WouldBlock,
+    ErrorKind::NotADirectory,
+    ErrorKind::IsADirectory,
+    ErrorKind::DirectoryNotEmpty,
+    ErrorKind::ReadOnlyFilesystem,
+    ErrorKind::FilesystemLoop,
+    ErrorKind::StaleNetworkFileHandle,
+    ErrorKind::InvalidInput,
+    ErrorKind::InvalidData,
     ErrorKind::TimedOut,
+    ErrorKind::WriteZero,
     ErrorKind::StorageFull,
+    ErrorKind::NotSeekable,
+    ErrorKind::QuotaExceeded,
+    ErrorKind::FileTooLarge,
+    ErrorKind::ResourceBusy,
+    ErrorKind::ExecutableFileBusy,
+    ErrorKind::Deadlock,
+    ErrorKind::CrossesDevices,
+    ErrorKind::TooManyLinks,
+    ErrorKind::InvalidFilename,
+    ErrorKind::ArgumentListTooLong,
+    ErrorKind::Interrupted,
+    ErrorKind::Unsupported,
+    ErrorKind::UnexpectedEof,
+    ErrorKind::OutOfMemory,
+    ErrorKind::InProgress,
     ErrorKind::Other,
+    ErrorKind::Uncategorized,
 ];
 
-/// Gives its bytes at most `step` at a time, and counts its reads. The read after `reads` of them fails, and no other.
+/// Those kinds.
+pub(super) fn kinds() -> &'static [ErrorKind] {
+    KINDS
+}
+
+/// Returns its bytes at most `step` at a time, and counts its reads. Only the read after `reads` of them fails.
 #[derive(Drop)]
 pub(super) struct SlowReader<'a> {
     bytes: Vec<u8>,
@@ -44,7 +86,7 @@ impl Read for SlowReader<'_> {
     }
 }
 
-/// Takes at most `step` bytes at a time, and counts its writes. The write after it holds `room` bytes fails, and no other.
+/// Takes at most `step` bytes at a time, and counts its writes. Only the write after it holds `room` bytes fails.
 #[derive(Drop)]
 pub(super) struct SlowWriter {
     pub(super) held: Vec<u8>,
@@ -75,7 +117,7 @@ impl Write for SlowWriter {
     }
 }
 
-/// An open file of these bytes, of which a read gives at most `step`, and the read after `reads` fails.
+/// An open file with these bytes. A read returns at most `step` of them, and the read after `reads` fails.
 pub(super) fn reader(
     bytes: Vec<u8>,
     step: usize,
@@ -93,7 +135,7 @@ pub(super) fn reader(
     })
 }
 
-/// A writer that holds nothing yet, and fails in this way.
+/// A writer that holds nothing yet, and fails with this kind of error.
 pub(super) fn failing_writer(
     alloc: Global,
     step: usize,

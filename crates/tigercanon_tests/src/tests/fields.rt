@@ -1,4 +1,4 @@
-//! What the fields of a loaded record are, each by its name.
+//! The fields of a loaded record, each by its name.
 
 use super::comparing::{same, same_items};
 use super::sets::{lines_of, records_of};
@@ -7,7 +7,7 @@ use tl_layout::{
     Body1, Body5, Body7, Point, Ranges, Rec1, Rec2, Rec4, Rec6, Rec8, RecI, RecP, Record,
 };
 
-/// Tells what a chain is, and the name of its feature.
+/// Checks the kind of a chain, and the name of its feature.
 fn tells_feature(rt: &impl Abort, body: &Body1) {
     let found = (
         (body.side1(), body.source(), body.cfcc()),
@@ -23,7 +23,7 @@ fn tells_feature(rt: &impl Abort, body: &Body1) {
     same(rt, "the content of its fields", &again, body);
 }
 
-/// Tells the native areas beside a chain, what is reserved, and the states and counties with their parts.
+/// Checks the native areas beside a chain, the reserved fields, and the states and counties with their parts.
 fn tells_entities(rt: &impl Abort, body: &Body1) {
     let found = (
         (body.aianhhfpl(), body.aianhhfpr()),
@@ -43,7 +43,7 @@ fn tells_entities(rt: &impl Abort, body: &Body1) {
     same(rt, row, &found, &wanted);
 }
 
-/// Tells the subdivisions, places, census tracts and census blocks beside a chain.
+/// Checks the subdivisions, places, census tracts and census blocks beside a chain.
 fn tells_blocks(rt: &impl Abort, body: &Body1) {
     let found = (
         (body.cousubl(), body.cousubr()),
@@ -63,7 +63,7 @@ fn tells_blocks(rt: &impl Abort, body: &Body1) {
     same(rt, row, &found, &wanted);
 }
 
-/// Tells address ranges and ZIP codes.
+/// Checks address ranges and ZIP codes.
 fn tells_ranges(rt: &impl Abort, ranges: &Ranges) {
     let found = (
         (ranges.fraddl(), ranges.toaddl()),
@@ -83,7 +83,7 @@ fn tells_ranges(rt: &impl Abort, ranges: &Ranges) {
     same(rt, row, &found, &wanted);
 }
 
-/// Tells the number, the ends and the content of a chain.
+/// Checks the number, the ends and the content of a chain.
 fn tells_1(rt: &impl Abort, record: &Rec1) {
     let found = (record.tlid(), record.start(), record.end());
     let start = Point::new(-86468669, 32424914);
@@ -95,20 +95,20 @@ fn tells_1(rt: &impl Abort, record: &Rec1) {
     tells_ranges(rt, &record.body().ranges());
 }
 
-/// Tells shape points.
+/// Checks shape points.
 fn tells_2(rt: &impl Abort, record: &Rec2) {
     same(rt, "TLID, RTSQ", &(record.tlid(), record.rtsq()), &(500, 2));
     let points = [Point::new(-86468650, 32424920)];
     same_items(rt, "points", record.points(), &points);
 }
 
-/// Tells the further names of a chain.
+/// Checks the further names of a chain.
 fn tells_4(rt: &impl Abort, record: &Rec4) {
     same(rt, "TLID, RTSQ", &(record.tlid(), record.rtsq()), &(500, 1));
     same_items(rt, "FEATs", record.feats(), &[9, 8]);
 }
 
-/// Tells a name.
+/// Checks a name.
 fn tells_5(rt: &impl Abort, body: &Body5) {
     let found = (
         body.file(),
@@ -122,13 +122,13 @@ fn tells_5(rt: &impl Abort, body: &Body5) {
     same(rt, row, &found, &wanted);
 }
 
-/// Tells further address ranges of a chain.
+/// Checks further address ranges of a chain.
 fn tells_6(rt: &impl Abort, record: &Rec6) {
     same(rt, "TLID, RTSQ", &(record.tlid(), record.rtsq()), &(500, 3));
     tells_ranges(rt, record.ranges());
 }
 
-/// Tells the content of a landmark.
+/// Checks the content of a landmark.
 fn tells_7(rt: &impl Abort, body: &Body7) {
     let found = (
         (body.file(), body.source(), body.cfcc()),
@@ -144,7 +144,7 @@ fn tells_7(rt: &impl Abort, body: &Body7) {
     same(rt, "FILE, SOURCE, CFCC, LANAME, point", &found, &wanted);
 }
 
-/// Tells the polygon of a landmark.
+/// Checks the polygon of a landmark.
 fn tells_8(rt: &impl Abort, record: &Rec8) {
     let found = (
         (record.file(), record.cenid()),
@@ -154,7 +154,7 @@ fn tells_8(rt: &impl Abort, record: &Rec8) {
     same(rt, "FILE, CENID, POLYID, LAND", &found, &wanted);
 }
 
-/// Tells what a chain runs between.
+/// Checks the nodes and the polygons of a chain.
 fn tells_between(rt: &impl Abort, record: &RecI) {
     let found = (
         (record.start_node(), record.end_node()),
@@ -170,7 +170,7 @@ fn tells_between(rt: &impl Abort, record: &RecI) {
     same(rt, row, &found, &wanted);
 }
 
-/// Tells what else stands beside it.
+/// Checks the other fields of a type I record.
 fn tells_i(rt: &impl Abort, record: &RecI) {
     tells_between(rt, record);
     let body = record.body();
@@ -185,7 +185,7 @@ fn tells_i(rt: &impl Abort, record: &RecI) {
     same(rt, "FILE, SOURCE, FTSEG, RS_I1 to 3", &found, &wanted);
 }
 
-/// Tells a polygon.
+/// Checks a polygon.
 fn tells_p(rt: &impl Abort, record: &RecP) {
     let body = record.body();
     let found = (
@@ -199,7 +199,7 @@ fn tells_p(rt: &impl Abort, record: &RecP) {
     same(rt, "CENID, POLYID, FILE, WATER, point", &found, &wanted);
 }
 
-/// Tells the fields of one record.
+/// Checks the fields of one record.
 fn tells_record(rt: &impl Abort, record: &Record) {
     match record {
         Record::One(record) => tells_1(rt, record),
@@ -214,7 +214,7 @@ fn tells_record(rt: &impl Abort, record: &Record) {
     }
 }
 
-/// A record of each type, in which no two fields of one width hold the same.
+/// A record of each type, in which no two fields of the same width have the same value.
 const LINES: &[&str] = &[
     "12006{7}5001AN Main{26}St{2}SWA41{8}101{8}199{8}100{8}198678936003360067000170002LR45012800105190001900028000180002600016000202020002030010012002-086468669+32424914-086468545+32424948",
     "22006{7}500{2}2-086468650+32424920",

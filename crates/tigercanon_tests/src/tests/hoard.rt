@@ -1,6 +1,6 @@
-//! What is done where no memory is left. A test takes all that there is first, so that every growth is refused; what a call works
-//! on is made before, and what it answered is compared behind it. The stack can't grow either then: a call that needs much of it
-//! is made once before, with ample memory, and has to answer there too.
+//! Calls with no memory left. A test takes all memory first, so that every growth is refused. The input of a call is made before,
+//! and its result is compared afterwards. The stack can't grow then either: a call that needs much stack is made once before, with
+//! ample memory, and must return there too.
 
 ghost use Rattle.std.specs.Prelude.{◌≡◌};
 
@@ -21,18 +21,18 @@ use tigercanon::{
 use tl_county::Chart;
 use tl_layout::{Layout, Point, Record, Side, Turn};
 use tl_load::{LoadFault, Loader, first_bad};
-use tl_number::{CanonCounty, canonise_chart};
+use tl_number::{CanonCounty, canonise_alone};
 use tl_profile::{admit, admit_in};
 use tl_shape::{Chain, Shape, Surroundings};
 use tl_write::{SlowSink, write_in, write_to};
 
-/// The largest piece that is asked for: half of what a process can address.
+/// The largest piece that is requested: half of the memory that a process can address.
 const LARGEST: usize = 70_368_744_177_664;
 
-/// The largest of the small pieces. Below it they are asked for in all sizes.
+/// The largest of the small pieces. Up to this size, pieces of all sizes are requested.
 const SMALL: usize = 2048;
 
-/// More pieces than are found.
+/// More pieces than can be found.
 const MANY: usize = 100_000;
 
 /// Takes pieces of this size until none is left.
@@ -49,7 +49,7 @@ fn take_all(alloc: Global, pieces: &mut Vec<Vec<u8>>, size: usize) {
     }
 }
 
-/// All memory that is left, in pieces of which nothing is used.
+/// All memory that is left, in pieces that are never used.
 fn all_memory(rt: &impl Abort, alloc: Global) -> Vec<Vec<u8>> {
     let mut pieces = Vec::with_capacity(alloc, MANY).expect(rt, "there is memory");
     for halved in 0..36u32 {
@@ -66,7 +66,7 @@ fn is_all_taken(alloc: Global) -> bool {
     Vec::<u8>::with_capacity(alloc, 1).is_err()
 }
 
-/// Whether what is read from the line that a record is put into has that line too.
+/// Whether writing a record to a line, reading it and writing it again produces the same line.
 fn is_read_again<L: Layout + Drop>(record: &L) -> bool {
     let mut line = [0; 228];
     let mut again = [0; 228];
@@ -80,7 +80,7 @@ fn is_read_again<L: Layout + Drop>(record: &L) -> bool {
     }
 }
 
-/// Whether a record of any type is.
+/// Whether this holds for a record of any type.
 fn is_record_read_again(record: &Record) -> bool {
     match record {
         Record::One(record) => is_read_again(record),
@@ -95,7 +95,7 @@ fn is_record_read_again(record: &Record) -> bool {
     }
 }
 
-/// Whether a second turn, and no single one, gives the value back.
+/// Whether a second turn restores the value, and a single turn doesn't.
 fn is_turned_back<T: Turn + PartialEq + Copy>(value: &T) -> bool {
     let mut other = *value;
     other.turn();
@@ -104,7 +104,7 @@ fn is_turned_back<T: Turn + PartialEq + Copy>(value: &T) -> bool {
     is_turned && other == *value
 }
 
-/// Whether what the record has of a turn is turned back.
+/// Whether this holds for the parts of a record that can be turned.
 fn is_record_turned_back(record: &Record) -> bool {
     match record {
         Record::One(record) => is_turned_back(record.body()),
@@ -144,7 +144,7 @@ fn contents_are_blanked(rt: HostRuntime) {
     same(&rt, "contents", &found, &(true, true));
 }
 
-/// What the calls of a shape answer of this one, beside another.
+/// The results of the calls on a shape, with another shape.
 fn shapes_answer(shape: &mut Shape, other: &Shape) -> (Ordering, bool, bool, usize, Ordering) {
     let order = shape.cmp(other);
     let is_own_reverse = shape.is_own_reverse();
@@ -170,7 +170,7 @@ fn shapes_are_compared_and_reversed(rt: HostRuntime) {
     same(&rt, "shapes", &(is_refused, found), &(true, wanted));
 }
 
-/// A chain of its own, with what this one has.
+/// A chain of its own with the same parts.
 fn copy_of(rt: &impl Abort, alloc: Global, chain: &Chain) -> Chain {
     let points = chain.shape().points();
     let last = points.len() - 1;
@@ -186,7 +186,7 @@ fn copy_of(rt: &impl Abort, alloc: Global, chain: &Chain) -> Chain {
         shape.expect(rt, "there is memory"),
         Vec::from_slice(alloc, chain.feats()).expect(rt, "there is memory"),
         Vec::from_slice(alloc, chain.ranges()).expect(rt, "there is memory"),
-        *chain.link_body(),
+        *chain.topology(),
         surroundings,
     )
 }
@@ -199,7 +199,7 @@ fn chain_of(rt: &impl Abort, alloc: Global, lines: &[&str], tlid: u64) -> Chain 
     chain
 }
 
-/// What stands around a chain: the nodes where it starts and ends, and its left and its right side.
+/// The surroundings of a chain: the nodes where it starts and ends, and its left and its right side.
 fn around(chain: &Chain) -> ((Option<u64>, Option<u64>), (Side, Side)) {
     (
         (chain.start_node(), chain.end_node()),
@@ -207,13 +207,13 @@ fn around(chain: &Chain) -> ((Option<u64>, Option<u64>), (Side, Side)) {
     )
 }
 
-/// The chains have the same of all that a chain has.
+/// The chains have the same parts.
 fn are_alike(rt: &impl Abort, chain: &Chain, other: &Chain) {
     same(rt, "content", chain.body(), other.body());
     same_items(rt, "points", chain.shape().points(), other.shape().points());
     same_items(rt, "further names", chain.feats(), other.feats());
     same_items(rt, "further ranges", chain.ranges(), other.ranges());
-    same(rt, "type I", chain.link_body(), other.link_body());
+    same(rt, "type I", chain.topology(), other.topology());
     same(rt, "nodes and sides", &around(chain), &around(other));
 }
 
@@ -230,7 +230,7 @@ fn chains_are_turned(rt: HostRuntime) {
     same(&rt, "memory", &is_taken, &true);
 }
 
-/// What a loader answers to a line that is a record, and to one behind it.
+/// The results of a loader for a line that is a record, and for the line after it.
 fn loader_answers(mut loader: Loader) -> (u64, Result<(), LoadFault>, Result<(), LoadFault>, u64)
     requires { loader.parts ≡ 0 }
 {
@@ -240,7 +240,7 @@ fn loader_answers(mut loader: Loader) -> (u64, Result<(), LoadFault>, Result<(),
     (before, first, second, loader.parts())
 }
 
-/// A loader is made, and tells want of memory of the first record and ever after.
+/// A loader is made, and reports out of memory at the first record and ever after.
 #[test]
 fn loaders_are_made(rt: HostRuntime) {
     let pieces = all_memory(&rt, rt.alloc());
@@ -265,7 +265,7 @@ fn is_written<C: Chart>(county: &CanonCounty<C>, text: &[u8]) -> bool {
     answer == Ok(text.len() as u64) && sink.held() == text
 }
 
-/// Whether it is by the call for counties in an arena.
+/// The same by the call for counties in an arena.
 fn is_written_in<C: Chart>(county: &CanonCounty<C>, text: &[u8]) -> bool {
     let mut room = [0; 400];
     let mut sink = SlowSink::new(&mut room, 100);
@@ -273,7 +273,7 @@ fn is_written_in<C: Chart>(county: &CanonCounty<C>, text: &[u8]) -> bool {
     answer == Ok(text.len() as u64) && sink.held() == text
 }
 
-/// A canonical county is written as this text by both calls, where memory is ample and where none is left.
+/// A canonical county is written as this text by both calls, with ample memory and with none left.
 fn is_written_anyhow<C: Chart>(
     rt: &impl Abort,
     alloc: Global,
@@ -301,12 +301,12 @@ fn counties_are_written(rt: HostRuntime) {
     let text = lines_of(&rt, rt.alloc(), street_text());
     let county = county_of(&rt, rt.alloc(), "the street", &set);
     let admitted = admit(rt.alloc(), county).expect(&rt, "the street");
-    let county = canonise_chart(rt.alloc(), admitted.into_chart()).expect(&rt, "the street");
+    let county = canonise_alone(rt.alloc(), admitted).expect(&rt, "the street");
     is_written_anyhow(&rt, rt.alloc(), &county, &text);
     drop(county);
 }
 
-/// One in an arena is written too.
+/// A county in an arena is written too.
 #[test]
 fn counties_in_an_arena_are_written(rt: HostRuntime) {
     let arena = Bump::new(rt.alloc());
@@ -314,12 +314,12 @@ fn counties_in_an_arena_are_written(rt: HostRuntime) {
     let text = lines_of(&rt, rt.alloc(), street_text());
     let county = county_in_of(&rt, rt.alloc(), &arena, "the street", &set);
     let admitted = admit_in(rt.alloc(), county).expect(&rt, "the street");
-    let county = canonise_chart(rt.alloc(), admitted.into_chart()).expect(&rt, "the street");
+    let county = canonise_alone(rt.alloc(), admitted).expect(&rt, "the street");
     is_written_anyhow(&rt, rt.alloc(), &county, &text);
     drop(county);
 }
 
-/// Whether a whole call told want of memory.
+/// Whether a whole call reported out of memory.
 fn tells<T: Drop>(outcome: Result<T, Fault>) -> bool {
     match outcome {
         Ok(_) => false,
@@ -336,7 +336,7 @@ fn comparison_tells(outcome: Result<Verdict, CompareFault>) -> bool {
     }
 }
 
-/// Which of the whole calls tell want of memory.
+/// The whole calls that report out of memory.
 fn whole_calls_tell(alloc: Global, set: &[u8]) -> [bool; 7] {
     let mut room = [0; 400];
     let mut sink = SlowSink::new(&mut room, 100);
@@ -352,7 +352,7 @@ fn whole_calls_tell(alloc: Global, set: &[u8]) -> [bool; 7] {
     ]
 }
 
-/// The whole calls tell want of memory, and write nothing. Where memory is ample none tells it.
+/// The whole calls report out of memory, and write nothing. With ample memory, none reports it.
 #[test]
 fn whole_calls_tell_want_of_memory(rt: HostRuntime) {
     let set = lines_of(&rt, rt.alloc(), street());

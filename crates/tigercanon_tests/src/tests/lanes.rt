@@ -1,10 +1,11 @@
-//! Where the first byte of a text stands that no line may hold, in texts of each length around that of the lanes.
+//! The place of the first byte that no line may hold, in texts of every length around that of the lanes.
 
 use super::comparing::same;
 use std::process::Abort;
 use tl_load::first_bad;
 
-/// The first and the last bytes of the ranges that no line may hold, and of those that a line may, and whether it may not.
+/// The first and the last bytes of the ranges that no line may hold, and of the ranges that a line may hold, each with whether it
+/// is forbidden.
 const BYTES: [(u8, bool); 9] = [
     (0x00, true),
     (0x1f, true),
@@ -20,7 +21,8 @@ const BYTES: [(u8, bool); 9] = [
 /// The longest text.
 const MOST: usize = 100;
 
-/// A text of so many letters has its first bad byte where this one stands, or, if it is none, where the other one does.
+/// In a text of `len` letters with `byte` at `place`, the first bad byte is at `place` if `byte` is forbidden, and otherwise at
+/// `other`.
 fn is_found(rt: &impl Abort, len: usize, place: usize, byte: (u8, bool), other: Option<usize>) {
     let mut text = [b'A'; MOST];
     assert!(rt; len <= MOST && place < len, "the place is in the text");
@@ -35,14 +37,14 @@ fn is_found(rt: &impl Abort, len: usize, place: usize, byte: (u8, bool), other: 
     same(rt, row, &(byte, place, found), &(byte, place, wanted));
 }
 
-/// Each byte is told apart at this place, and before a bad one.
+/// Each byte is classified correctly at this place, with a bad byte at `other` if there is one.
 fn are_told_apart(rt: &impl Abort, len: usize, place: usize, other: Option<usize>) {
     for byte in BYTES {
         is_found(rt, len, place, byte, other);
     }
 }
 
-/// At each place of a text of this length.
+/// The same at each place of a text of this length.
 fn are_told_apart_everywhere(rt: &impl Abort, len: usize) {
     let none = first_bad(&[b'A'; MOST][..len.min(MOST)]);
     same(rt, "no bad byte", &none, &None);

@@ -1,9 +1,9 @@
-//! Sources that a loader reads, and how many records of a type it takes.
+//! Sources that a loader reads, and the number of records of a type that it takes.
 
 ghost use Rattle.std.specs.Prelude.{◌<◌};
 
 use super::comparing::{same, same_items};
-use super::devices::{KINDS, reader};
+use super::devices::{kinds, reader};
 use super::sets::{lines_of, spelled};
 use super::worked_sets::{street, street_respelt};
 use std::alloc::Global;
@@ -12,7 +12,7 @@ use std::io::ErrorKind;
 use std::process::Abort;
 use tl_load::{Counted, LoadFault, Loader, SlowSource, Source};
 
-/// The source gives Main St.
+/// The source has Main St.
 fn gives_the_street<S: Source>(rt: &impl Abort, alloc: Global, row: &str, source: &mut S) {
     let mut loader = Loader::new(alloc);
     assert!(rt; source.failures() < u64::MAX);
@@ -41,7 +41,7 @@ fn feed_pieces(rt: &impl Abort, loader: &mut Loader, set: &[u8], size: usize) {
     }
 }
 
-/// Main St in pieces of this size is Main St, though no part was ended.
+/// Main St in pieces of this size is Main St, although no part was ended.
 fn is_fed_in_pieces(rt: &impl Abort, alloc: Global, set: &[u8], size: usize) {
     let mut loader = Loader::new(alloc);
     feed_pieces(rt, &mut loader, set, size);
@@ -59,7 +59,7 @@ fn pieces_of_any_size_give_the_same_records(rt: HostRuntime) {
     }
 }
 
-/// A line that is too long is told by its first 230 bytes, and the source isn't asked again.
+/// A line that is too long is reported by its first 230 bytes, and the source isn't read again.
 #[test]
 fn a_long_line_is_told_before_a_read_fails(rt: HostRuntime) {
     let mut source = SlowSource::new(&[b'1'; 1000], 230, Some(2));
@@ -71,8 +71,8 @@ fn a_long_line_is_told_before_a_read_fails(rt: HostRuntime) {
     same(&rt, "answer, failures, in the end", &found, &wanted);
 }
 
-/// The source gives this set by a hundred bytes a read, and fails at the read that is named: that is told, then and in the end, and
-/// no part is closed.
+/// The source returns this set by a hundred bytes a read, and fails at the named read. The failure is reported, then and at the
+/// end, and no part is closed.
 fn fails_at(rt: &impl Abort, alloc: Global, set: &[u8], read: u64) {
     let mut source = SlowSource::new(set, 100, Some(read));
     let mut loader = Loader::new(alloc);
@@ -98,7 +98,7 @@ fn a_failed_read_is_told_wherever_it_comes(rt: HostRuntime) {
     }
 }
 
-/// A reader that fails at its third read was asked three times, and then no more.
+/// A reader that fails at its third read was called three times, and not again.
 fn fails_once(rt: &impl Abort, alloc: Global, kind: ErrorKind) {
     let count = Cell::new(0);
     let set = lines_of(rt, alloc, street());
@@ -112,8 +112,8 @@ fn fails_once(rt: &impl Abort, alloc: Global, kind: ErrorKind) {
 
 #[test]
 fn no_read_is_tried_again(rt: HostRuntime) {
-    for kind in KINDS {
-        fails_once(&rt, rt.alloc(), kind);
+    for kind in kinds() {
+        fails_once(&rt, rt.alloc(), *kind);
     }
 }
 
@@ -121,7 +121,7 @@ const POLYGON: &str = "8{4}0100100001{8}12{8}30";
 
 const LANDMARK: &str = "7{4}01001{8}30 D43";
 
-/// A loader that takes two records of a type answers so many records of these lines, or this fault.
+/// A loader that takes two records of a type returns this number of records for these lines, or this fault.
 fn takes(
     rt: &impl Abort,
     alloc: Global,

@@ -1,4 +1,4 @@
-//! A street of more chains than 16 bits count, through the calls of the libraries that the program doesn't make, or makes otherwise.
+//! A street of more chains than 16 bits can count, through the library calls that the program doesn't make, or makes differently.
 
 ghost use Rattle.std.specs.Prelude.{◌<◌};
 
@@ -18,10 +18,10 @@ use tl_layout::Mask;
 /// How many chains there are.
 const CHAINS: u64 = 70_000;
 
-/// A chain of which nothing is told but its ends.
+/// A chain with nothing except its ends.
 const CHAIN: &str = "12006{185}+000000000+00000000+000000000+00000000";
 
-/// Adds the line of record type 1 of a chain, which runs from its left end or, turned, from its right one.
+/// Appends the line of record type 1 of a chain, which runs from its left end or, if turned, from its right one.
 fn add_chain(
     rt: &impl Abort,
     alloc: Global,
@@ -45,7 +45,7 @@ fn add_chain(
     add(rt, alloc, text, CHAIN, &fields);
 }
 
-/// Adds the line of record type I of a chain.
+/// Appends the line of record type I of a chain.
 fn add_link(rt: &impl Abort, alloc: Global, text: &mut Vec<u8>, tlid: u64, chain: u64, turned: bool)
     requires { chain < 100_000 }
 {
@@ -75,7 +75,7 @@ fn street(rt: &impl Abort, alloc: Global) -> Vec<u8> {
     text
 }
 
-/// Its canonical text: the chains from left to right, each to the right.
+/// Its canonical text: the chains from left to right, each running to the right.
 fn canonical(rt: &impl Abort, alloc: Global) -> Vec<u8> {
     let mut text = Vec::new(alloc);
     for n in 0..CHAINS {
@@ -87,7 +87,7 @@ fn canonical(rt: &impl Abort, alloc: Global) -> Vec<u8> {
     text
 }
 
-/// The text, the fingerprint and the verdict come, and the text is its own in each way.
+/// The calls return the text, the fingerprint and the verdict, and the text is its own in each way.
 fn has_its_text(rt: &impl Abort, alloc: Global, set: &[u8], text: &[u8]) {
     let found = normalise(alloc, &[set]).expect(rt, "normalise");
     same_items(rt, "normalise", &found, text);
@@ -98,7 +98,7 @@ fn has_its_text(rt: &impl Abort, alloc: Global, set: &[u8], text: &[u8]) {
     same(rt, "answers", &answers, &(Ok(()), Ok(print)));
 }
 
-/// The renaming carries the street onto its text, its inverse carries back, and one behind the other leaves each number as it is.
+/// The renaming carries the street onto its text, its inverse carries back, and both in turn leave each number as it is.
 fn goes_there_and_back(
     rt: &impl Abort,
     alloc: Global,

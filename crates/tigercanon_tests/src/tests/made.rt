@@ -1,6 +1,6 @@
-//! A made map of 2,000 chains in the spellings of two hands, which number it, order its records and turn its chains each in a way
-//! of its own. It has chains of many points and of many names, names that no chain bears, landmarks with several contents and
-//! links, hundreds of CENIDs, and numbers of ten digits.
+//! A made map of 2,000 chains in two spellings. Each numbers it, orders its records and turns its chains in its own way. The map
+//! has chains with many points and with many names, names that no chain uses, landmarks with several contents and links, hundreds
+//! of CENIDs, and numbers of ten digits.
 
 ghost use Rattle.std.specs.Prelude.{◌<◌};
 
@@ -11,13 +11,13 @@ use std::process::Abort;
 /// How many chains there are.
 const CHAINS: u64 = 2000;
 
-/// How many names there are, of which chains bear the first 450.
+/// How many names there are. Chains use the first 450.
 const NAMES: u64 = 500;
 
 /// How many landmarks there are.
 const LANDMARKS: u64 = 60;
 
-/// A number below the bound that looks like chance, and is the same each time.
+/// A number below the bound that looks random, and is the same each time.
 fn chance(of: u64, bound: u64) -> u64
     requires { 0 < bound }
     ensures { result < bound }
@@ -28,7 +28,7 @@ fn chance(of: u64, bound: u64) -> u64
     (mixed >> 33) % bound
 }
 
-/// The number that one hand or the other gives to what is the n-th of its kind.
+/// The number that a spelling uses for the n-th object of a kind.
 fn number(other: bool, n: u64, most: u64) -> u64 {
     if other { most.saturating_sub(n) } else { n }
 }
@@ -40,7 +40,7 @@ fn tlid(other: bool, chain: u64) -> u64
     number(other, 9_000_000_000 + chain, 18_999_999_998)
 }
 
-/// Whether the hand has the chain turned.
+/// Whether the chain is turned in this spelling.
 fn is_turned(other: bool, chain: u64) -> bool {
     (chance(chain, 3) == 0) != other
 }
@@ -53,7 +53,7 @@ fn inner(chain: u64) -> u64
     chance(7 * chain + 1, if chain % 8 == 0 { 25 } else { 3 })
 }
 
-/// How many names a chain bears beside its own.
+/// How many names a chain has besides its own.
 fn names(chain: u64) -> u64
     requires { chain < 5000 }
 {
@@ -78,7 +78,7 @@ fn polygon(other: bool, n: u64) -> (u64, u64)
     (n % 400, number(other, n + 1, 5_000_000_000))
 }
 
-/// The polygon on the left of a chain. Every fourth chain is the only one beside it.
+/// The polygon on the left of a chain. Each fourth chain has one of its own there.
 fn left(chain: u64) -> u64
     requires { chain < 5000 }
     ensures { result < 10_000 }
@@ -112,7 +112,7 @@ fn put(line: &mut [u8], last: usize, number: u64) {
     }
 }
 
-/// Adds the line of this pattern, with numbers in the columns that end with these.
+/// Appends the line of this pattern, with numbers in the columns that end with these.
 pub(super) fn add(
     rt: &impl Abort,
     alloc: Global,
@@ -132,7 +132,7 @@ const CHAIN: &str = "12006{125}0102{56}+000000000+00000000+000000000+00000000";
 
 const TURNED: &str = "12006{125}0201{56}+000000000+00000000+000000000+00000000";
 
-/// Adds the ends of a chain.
+/// Appends the ends of a chain.
 fn add_ends(rt: &impl Abort, alloc: Global, text: &mut Vec<u8>, other: bool, chain: u64)
     requires { chain < 5000 }
 {
@@ -154,18 +154,18 @@ fn add_ends(rt: &impl Abort, alloc: Global, text: &mut Vec<u8>, other: bool, cha
     add(rt, alloc, text, line, &fields);
 }
 
-/// Ten places for points, none of which is used.
+/// Ten places for points, all unused.
 const SHAPE: &str =
     "22006{13}+000000000+00000000+000000000+00000000+000000000+00000000+000000000+00000000+000000000+00000000+000000000+00000000+000000000+00000000+000000000+00000000+000000000+00000000+000000000+00000000";
 
-/// What stands along a chain behind its first so many points or names.
+/// The rest of a chain's points or names, after the first `first`.
 #[derive(Clone, Copy)]
 struct Rest {
     chain: u64,
     first: u64,
 }
 
-/// Adds points of a chain, ten at most, as the hand sees them.
+/// Appends points of a chain, at most ten, in the direction of this spelling.
 fn add_points(rt: &impl Abort, alloc: Global, text: &mut Vec<u8>, other: bool, rest: Rest)
     requires { (rest.chain < 5000) × (rest.first < 30) }
 {
@@ -192,7 +192,7 @@ fn add_points(rt: &impl Abort, alloc: Global, text: &mut Vec<u8>, other: bool, r
     text.extend_from_slice(&line).expect(rt, "there is memory");
 }
 
-/// Adds names of a chain, five at most.
+/// Appends names of a chain, at most five.
 fn add_names(rt: &impl Abort, alloc: Global, text: &mut Vec<u8>, other: bool, rest: Rest)
     requires { (rest.chain < 5000) × (rest.first < 30) }
 {
@@ -216,7 +216,7 @@ fn add_names(rt: &impl Abort, alloc: Global, text: &mut Vec<u8>, other: bool, re
 /// A line of record type I.
 const LINK: &str = "I200601001{30}00000{10}00000{67}";
 
-/// Adds the nodes of a chain and what is beside it.
+/// Appends the nodes and the polygons of a chain.
 fn add_link(rt: &impl Abort, alloc: Global, text: &mut Vec<u8>, other: bool, chain: u64)
     requires { chain < 5000 }
 {
@@ -241,7 +241,7 @@ fn add_link(rt: &impl Abort, alloc: Global, text: &mut Vec<u8>, other: bool, cha
     add(rt, alloc, text, LINK, &fields);
 }
 
-/// Adds further addresses of a chain.
+/// Appends further addresses of a chain.
 fn add_addresses(rt: &impl Abort, alloc: Global, text: &mut Vec<u8>, other: bool, chain: u64)
     requires { chain < 5000 }
 {
@@ -259,7 +259,7 @@ fn add_addresses(rt: &impl Abort, alloc: Global, text: &mut Vec<u8>, other: bool
     add(rt, alloc, text, "62006{71}", &fields);
 }
 
-/// Adds the inside of the polygon that is on the left of a chain.
+/// Appends the inner point of the polygon on the left of a chain.
 fn add_polygon(rt: &impl Abort, alloc: Global, text: &mut Vec<u8>, other: bool, chain: u64)
     requires { chain < 5000 }
 {
@@ -273,7 +273,7 @@ fn add_polygon(rt: &impl Abort, alloc: Global, text: &mut Vec<u8>, other: bool, 
     );
 }
 
-/// Adds all records of a chain.
+/// Appends all records of a chain.
 fn add_chain(rt: &impl Abort, alloc: Global, text: &mut Vec<u8>, other: bool, chain: u64)
     requires { chain < 5000 }
 {
@@ -296,7 +296,7 @@ fn add_chain(rt: &impl Abort, alloc: Global, text: &mut Vec<u8>, other: bool, ch
     }
 }
 
-/// Adds a landmark: up to three contents, and up to six polygons, which are beside chains.
+/// Appends a landmark: up to three contents, and up to six polygons that are beside chains.
 fn add_landmark(rt: &impl Abort, alloc: Global, text: &mut Vec<u8>, other: bool, landmark: u64)
     requires { landmark < 100 }
 {
@@ -322,7 +322,7 @@ fn add_landmark(rt: &impl Abort, alloc: Global, text: &mut Vec<u8>, other: bool,
     }
 }
 
-/// The map as one hand or the other spells it.
+/// The map in one spelling or the other.
 pub(super) fn made(rt: &impl Abort, alloc: Global, other: bool) -> Vec<u8> {
     let mut text = Vec::new(alloc);
     for n in 0..CHAINS {

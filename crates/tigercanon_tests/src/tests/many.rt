@@ -3,7 +3,7 @@
 use super::comparing::{same, same_items};
 use super::made::made;
 use super::refusals::{
-    Swept, sweep_admitting, sweep_linking, sweep_others, sweep_reading, sweep_whole_calls,
+    on_sets, sweep_admitting, sweep_linking, sweep_others, sweep_reading, sweep_whole_calls,
 };
 use super::sets::SetLines;
 use std::alloc::Global;
@@ -12,7 +12,7 @@ use tigercanon::{Verdict, compare, normalise};
 use tl_load::{Counted, Loader};
 use tl_write::{CountedOut, write_bytes};
 
-/// Both hands' spellings are one map, and have one text, which is its own and longer than the buffer of a writer.
+/// Both spellings are one map, and have the same text. It is its own text, and is longer than the buffer of a writer.
 fn has_one_text(rt: &impl Abort, alloc: Global, set: &[u8], other: &[u8]) -> Vec<u8> {
     let text = normalise(alloc, &[set]).expect(rt, "one hand");
     assert!(rt; text.len() > 1_000_000, "the text is long");
@@ -52,10 +52,7 @@ fn a_map_of_many_chains_goes_through_each_call(rt: HostRuntime) {
     goes_through_devices(&rt, alloc, &text);
     let row = "many chains";
     let sets = [SetLines { row, bytes, text }];
-    let of = Swept {
-        what: " of many chains",
-        sets: &sets,
-    };
+    let of = on_sets(" of many chains", &sets);
     sweep_whole_calls(&rt, alloc, of);
     sweep_reading(&rt, alloc, of);
     sweep_linking(&rt, alloc, of);

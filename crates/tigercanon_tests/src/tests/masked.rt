@@ -1,4 +1,4 @@
-//! Whole calls under masks, and the calls of the layers that have one.
+//! Whole calls under masks, and the calls of the layers that take one.
 
 use super::comparing::{same, same_items};
 use super::counties::county_of;
@@ -32,7 +32,7 @@ const LINK_1: &str = "I200601001{9}1{9}1{9}2{87}";
 /// The text of Main St without SOURCE.
 const TEXT_OF_NONE: &[&str] = &[CHAIN_1_OF_NONE, LINK_1];
 
-/// Its fingerprint as it is, and without SOURCE, by another program.
+/// Its fingerprint as it is, and without SOURCE, made by another program.
 const PRINT: [u8; 32] = [
     0x06, 0x44, 0x2d, 0x8d, 0x2f, 0x1e, 0x29, 0xf7, 0xc2, 0x0b, 0x1d, 0xdf, 0xe1, 0xd6, 0xb4, 0xd9,
     0x83, 0xcc, 0x26, 0x85, 0x62, 0x7d, 0x23, 0x5e, 0x84, 0x17, 0xe7, 0xe9, 0x55, 0x09, 0x75, 0xc9,
@@ -58,7 +58,7 @@ fn street_rows() -> &'static [StreetRow] {
     STREET_ROWS
 }
 
-/// What is written of the set from a source to a sink under the mask is this text.
+/// The text written from a source to a sink under the mask is this one.
 fn is_written(rt: &impl Abort, alloc: Global, row: &str, mask: Mask, set: &[u8], text: &[u8]) {
     let mut room = vec![in alloc; 0u8; 400].expect(rt, row);
     let mut sink = SlowSink::new(&mut room, 7);
@@ -80,7 +80,7 @@ fn has_text_under(rt: &impl Abort, alloc: Global, row: &StreetRow, set: &[u8], t
     is_written(rt, alloc, name, mask, set, text);
 }
 
-/// Main St from either end has the text of the row under its mask. So has the text, which is its own under no mask too.
+/// Main St from either end has the row's text under its mask. So does the text itself, which is its own text under no mask too.
 fn street_has_text(rt: &impl Abort, alloc: Global, row: &StreetRow) {
     let text = lines_of(rt, alloc, row.3);
     for lines in [street(), street_turned(), row.3] {
@@ -98,7 +98,7 @@ fn a_street_has_a_text_under_each_mask(rt: HostRuntime) {
     }
 }
 
-/// The renaming turns Main St, and carries the one set onto the other under the mask.
+/// The renaming turns Main St, and carries the first set onto the second under the mask.
 fn is_turned_under(rt: &impl Abort, alloc: Global, mask: Mask, sets: [&[u8]; 2], by: &Renaming) {
     has_lists(rt, "the street", by, &turn_of_the_street());
     let here = county_of(rt, alloc, "here", sets[0]);
@@ -125,7 +125,8 @@ fn are_one_map(rt: &impl Abort, alloc: Global, mask: Mask, set: &[u8], other: &[
     is_same
 }
 
-/// Under the mask of the row Main St is one map with itself from its other end. With another SOURCE it is where that is left out.
+/// Under the row's mask, Main St is one map with itself from its other end. It is one map with a Main St of another SOURCE if the
+/// mask leaves SOURCE out.
 fn street_is_one_map(rt: &impl Abort, alloc: Global, row: &StreetRow) {
     let set = lines_of(rt, alloc, street());
     let turned = lines_of(rt, alloc, street_turned());

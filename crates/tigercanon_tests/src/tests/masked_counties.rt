@@ -24,15 +24,15 @@ const WITH_SOURCES: &[&str] = &[STREET, STREET_LINK];
 
 const WITHOUT_SOURCES: &[&str] = &[STREET_WITHOUT_SOURCE, STREET_LINK];
 
-/// Two contents of one landmark, which change places where their SOURCE is left out.
-const ANNEX_AND_BARN: &[&str] = &[
+/// Two contents of one landmark, which change places if their SOURCE is left out.
+pub(super) const ANNEX_AND_BARN: &[&str] = &[
     CHAIN,
     LINK,
     "7200601001{8}40BD43Annex{45}",
     "7200601001{8}40AD43Barn{46}",
 ];
 
-const BARN_FIRST: &[&str] = &[
+pub(super) const BARN_FIRST: &[&str] = &[
     STREET,
     "7200601001{9}1AD43Barn{46}",
     "7200601001{9}1BD43Annex{45}",
@@ -68,7 +68,7 @@ const OF_MAIN: &[MaskedRow] = &[
     ("both, turned", MAIN_TURNED, BOTH, WITHOUT_SOURCES),
 ];
 
-/// Contents of a landmark, and chains of one shape, stand in the order that they have without the fields that are left out.
+/// Contents of a landmark, and chains with the same shape, have the order that they have without the fields left out.
 const IN_ORDER: &[MaskedRow] = &[
     ("contents", ANNEX_AND_BARN, NONE, BARN_FIRST),
     (

@@ -1,4 +1,4 @@
-//! What the contents of records are under masks.
+//! The contents of records under masks.
 
 use super::comparing::same;
 use super::sets::{lines_of, records_of};
@@ -56,7 +56,7 @@ pub(super) fn without_either() -> &'static [&'static str] {
     NEITHER
 }
 
-/// Whether the content of the one record is under the mask that of the other.
+/// Whether the first record's content under the mask is the second record's content.
 fn is_masked(record: &Record, mask: Mask, other: &Record) -> bool {
     match (record, other) {
         (Record::One(record), Record::One(other)) => {
@@ -78,7 +78,7 @@ fn is_masked(record: &Record, mask: Mask, other: &Record) -> bool {
     }
 }
 
-/// Whether these records have under the mask the contents of the others.
+/// Whether the first records have, under the mask, the contents of the others.
 pub(super) fn are_masked(records: &[Record], others: &[Record], mask: Mask) -> bool {
     records
         .iter()

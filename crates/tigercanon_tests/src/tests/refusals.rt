@@ -1,9 +1,19 @@
-//! Growths of memory that are refused, one after another. A test asks for that by sizes of memory that nothing else asks for, and
-//! `scripts/refuse-growths` lets it be heard: then each call meets the refusal of each of its growths, first alone and then with
-//! all later ones. Elsewhere nothing is refused, and a test sees that each call answers where memory is ample.
+//! Growths of memory that are refused, one after another. A test asks for a refusal by requesting a size of memory that nothing else
+//! requests, and `tools/refuse-growths` carries it out: it refuses each growth of each call, first alone and then with all later
+//! ones. Without that tool nothing is refused, and a test only checks that each call returns with ample memory.
 //!
-//! Each call is a type, whose run names that call alone: a function that named them all would be long to prove, and so would
-//! each one above it.
+//! These sets are swept:
+//!
+//! - the accepted sets of `worked_sets.rt`, by all calls: streets, shape points, names, a record of each type, and twins in one
+//!   group and in two
+//! - sets that are rejected, one for each of the refusals 1 to 6, 11 to 20, 23 and 24 (`refused.rt`), by the whole calls and by the
+//!   calls of the layer that rejects them. Refusal 7 needs 20,000,001 records
+//! - a record of each type, twins, and sets that a mask changes (`under_masks.rt`), by the calls that take a mask, under each mask
+//!   that leaves out something. All others are swept under the mask that leaves out everything
+//! - a made map of 2,000 chains (`many.rt`), by all calls
+//!
+//! Each call is a type whose run names that call alone. A function that named all calls would take long to prove, and so would each
+//! function above it.
 
 mod canonising;
 mod carrying;
@@ -13,9 +23,11 @@ mod over_linked;
 mod pieces;
 mod reading;
 mod refused;
+mod under_masks;
 mod whole;
 
 use super::comparing::same;
+use super::masks::BOTH;
 use super::sets::{Set, SetLines};
 use super::worked_sets::worked;
 pub(super) use canonising::{
@@ -24,55 +36,58 @@ pub(super) use canonising::{
 use carrying::{CheckMasked, CheckRenaming, Inverse, NewShape, Then};
 use linking::{Admit, AdmitIn, Link, LinkIn, LinkInOrder, OrderByShape};
 use over_linked::AdmitLinked;
-use pieces::{ArrangeSteps, WriteInOrder};
+use pieces::{ArrangeSteps, WriteAdmitted};
 use reading::{EndPart, Feed, ReadPart, TablesOf};
 use std::alloc::Global;
 use std::fmt::Debug;
 use std::process::Abort;
-use tigercanon::Fault;
+use tigercanon::{Fault, check};
 use tl_county::LinkFault;
+use tl_layout::Mask;
 use tl_load::LoadFault;
 use tl_profile::ProfileFault;
 pub(super) use whole::{NormaliseWithRenaming, normalise_slowly};
 use whole::{
-    AreOneMap, AreOneMapMasked, Check, CompareMasked, CompareWithItself, CompareWithStreet,
-    Fingerprint, FingerprintMasked, Normalise, NormaliseMasked, NormaliseTo, NormaliseToMasked,
-    NormaliseWithRenamingMasked, Respell,
+    AreOneMap, AreOneMapMasked, Check, CompareMasked, CompareStreetWith, CompareWithItself,
+    CompareWithStreet, Fingerprint, FingerprintMasked, Normalise, NormaliseMasked, NormaliseTo,
+    NormaliseToMasked, NormaliseWithRenamingMasked, Respell,
 };
 
-/// So much memory and n bytes asks that the n-th growth from here on is refused.
+/// A request of this size plus n bytes refuses the n-th growth from here.
 const ALONE: usize = 70_368_744_177_664;
 
-/// So much memory and n bytes asks that the n-th growth from here on is refused with all later ones.
+/// A request of this size plus n bytes refuses the n-th growth from here and all later ones.
 const WITH_LATER_ONES: usize = 140_737_488_355_328;
 
-/// So much memory asks that a growth is refused that no call comes to.
+/// A request of this size refuses a growth that no call reaches.
 const NONE: usize = 70_373_039_144_959;
 
-/// So much memory asks that no more growths are refused. It is found exactly if none was.
+/// A request of this size ends the refusals. It succeeds exactly if no growth was refused.
 const NO_MORE: usize = 40_961;
 
 /// More growths than a call has.
 const MANY: usize = 1000;
 
-/// From here on growths are refused as is asked for.
+/// From here growths are refused as requested.
 fn refuse(alloc: Global, asked: usize) {
     let _ = Vec::<u8>::with_capacity(alloc, asked);
 }
 
-/// From here on no growth is refused. Says whether one was.
+/// From here no growth is refused. Returns whether one was.
 fn has_refused(alloc: Global) -> bool {
     Vec::<u8>::with_capacity(alloc, NO_MORE).is_err()
 }
 
-/// A run of a call: all that it answered, as a text, or nothing where that was want of memory, and whether a growth was refused.
+/// A run of a call: its whole result as a text, or nothing if it was out of memory; the set that it named as the one out of memory,
+/// if any; and whether a growth was refused.
 #[derive(Drop)]
 pub(super) struct Run {
     answer: Option<String>,
+    set: Option<u8>,
     refused: bool,
 }
 
-/// Whether the fault is want of memory.
+/// Whether the fault is out of memory.
 pub(super) fn is_memory(fault: Fault) -> bool {
     matches!(
         fault,
@@ -83,7 +98,7 @@ pub(super) fn is_memory(fault: Fault) -> bool {
     )
 }
 
-/// The run that came to this end.
+/// The run with this outcome.
 fn ended<T: Debug + Drop>(
     rt: &impl Abort,
     alloc: Global,
@@ -94,24 +109,28 @@ fn ended<T: Debug + Drop>(
         Err(fault) if is_memory(*fault) => None,
         _ => Some(format!(in alloc; "{outcome:?}").expect(rt, "there is memory")),
     };
-    Run { answer, refused }
+    Run {
+        answer,
+        set: None,
+        refused,
+    }
 }
 
-/// A public call that takes memory, or two where one alone tells nothing.
+/// A public call that allocates memory, or two calls if one alone has no visible result.
 pub(super) trait Call {
-    /// A run of it on a set, with growths refused as is asked for. What the call takes is made before growths are refused, and
-    /// what it answered is told when none is any more.
+    /// Runs the call on a set, with growths refused as requested. Its input is made before growths are refused, and its result is
+    /// turned into text after refusals end.
     fn run(rt: &impl Abort, alloc: Global, set: &Set<'_>, asked: usize) -> Run;
 }
 
-/// What a call answers on a set where memory is ample.
+/// The result of a call on a set with ample memory.
 pub(super) fn ample_answer<C: Call>(rt: &impl Abort, alloc: Global, set: &Set<'_>) -> String {
     C::run(rt, alloc, set, NONE)
         .answer
         .expect(rt, "memory is ample")
 }
 
-/// A run answers as with ample memory, or tells want of it where a growth was refused.
+/// A run has the same result as with ample memory, or reports out of memory after a growth was refused.
 fn is_right(rt: &impl Abort, set: &Set<'_>, growth: usize, run: &Run, ample: &str) {
     let is_right = match &run.answer {
         Some(answer) => answer.as_str() == ample,
@@ -124,58 +143,113 @@ fn is_right(rt: &impl Abort, set: &Set<'_>, growth: usize, run: &Run, ample: &st
     );
 }
 
-/// Each growth of a call on a set is refused in turn, until a run meets no refusal. Answers how many were.
-fn growths<C: Call>(
+/// The growths of a call on a set: how many there are, and for how many of them out of memory was reported for set 1, for set 2,
+/// and for neither. A growth that the call can do without is reported for none.
+#[derive(Clone, Copy)]
+struct Growths {
+    count: usize,
+    told: [usize; 3],
+}
+
+/// Counts the set that a run reported. The growths for set 1 come before those for set 2, and the growths for neither come last.
+fn count_run(rt: &impl Abort, row: &str, told: &mut [usize; 3], run: &Run) {
+    let place = match run.set {
+        Some(1) => 0usize,
+        Some(2) => 1,
+        _ => 2,
+    };
+    let behind = told
+        .iter()
+        .skip(place.saturating_add(1))
+        .copied()
+        .max()
+        .unwrap_or(0);
+    same(rt, row, &behind, &0);
+    if let Some(count) = told.get_mut(place) {
+        *count = count.saturating_add(usize::from(run.answer.is_none()));
+    }
+}
+
+/// Refuses each growth of a call on a set in turn, until a run meets no refusal.
+fn count_growths<C: Call>(
     rt: &impl Abort,
     alloc: Global,
     set: &Set<'_>,
     ample: &str,
     first: usize,
-) -> usize {
+) -> Growths {
+    let mut told = [0; 3];
     for growth in 1..MANY {
         let run = C::run(rt, alloc, set, first.saturating_add(growth));
         is_right(rt, set, growth, &run, ample);
         if !run.refused {
-            return growth - 1;
+            let count = growth - 1;
+            return Growths { count, told };
         }
+        count_run(rt, set.row, &mut told, &run);
     }
     panic!(rt; "no run on {} meets no refusal", set.row)
 }
 
-/// What calls are swept over: sets, and how a line calls them.
+/// The input of a sweep: sets, the mask for calls that take one, and its name in the printed lines.
 #[derive(Clone, Copy)]
 pub(super) struct Swept<'a> {
     pub(super) what: &'a str,
     pub(super) sets: &'a [SetLines],
+    pub(super) mask: Mask,
 }
 
-/// Each growth of a call on a set is refused, alone and then with all later ones. Answers how many there are.
-fn growths_on<C: Call>(rt: &impl Abort, alloc: Global, set: &Set<'_>) -> usize {
+/// These sets, under a mask that leaves out everything that masks can leave out.
+pub(super) fn on_sets<'a>(what: &'a str, sets: &'a [SetLines]) -> Swept<'a> {
+    Swept {
+        what,
+        sets,
+        mask: BOTH,
+    }
+}
+
+/// Refuses each growth of a call on a set, alone and then with all later ones.
+fn growths_on<C: Call>(rt: &impl Abort, alloc: Global, set: &Set<'_>) -> Growths {
     let ample = ample_answer::<C>(rt, alloc, set);
-    let found = growths::<C>(rt, alloc, set, &ample, ALONE);
-    let again = growths::<C>(rt, alloc, set, &ample, WITH_LATER_ONES);
-    same(rt, set.row, &again, &found);
+    let found = count_growths::<C>(rt, alloc, set, &ample, ALONE);
+    let again = count_growths::<C>(rt, alloc, set, &ample, WITH_LATER_ONES);
+    same(rt, set.row, &again.count, &found.count);
     found
 }
 
-/// Each growth of a call on each set is refused. Tells how many there are: the call that fails a test is the one behind the last that
-/// was told.
+/// Refuses each growth of a call on each set. Prints how many there are: if a test fails, the call at fault is the one after the
+/// last printed.
 fn sweep<C: Call>(rt: &(impl Abort + Print), alloc: Global, call: &str, of: Swept<'_>) {
     let mut count = 0usize;
     for lines in of.sets {
-        count = count.saturating_add(growths_on::<C>(rt, alloc, &lines.set()));
+        let found = growths_on::<C>(rt, alloc, &lines.under(of.mask));
+        count = count.saturating_add(found.count);
     }
     println!(rt; "{call}{}: {count} growths refused", of.what).expect(rt, "a line goes out");
 }
 
-/// Two calls have one answer on a set where memory is ample.
+/// The same for a call that compares a set with itself. If the set is accepted, as many faults are reported for set 2 as for set 1;
+/// if it is rejected, set 2 is never reached.
+fn sweep_twice<C: Call>(rt: &(impl Abort + Print), alloc: Global, call: &str, of: Swept<'_>) {
+    let mut count = 0usize;
+    for lines in of.sets {
+        let found = growths_on::<C>(rt, alloc, &lines.under(of.mask));
+        let accepted = usize::from(check(alloc, &[&lines.bytes]).is_ok());
+        let wanted = found.told[0].saturating_mul(accepted);
+        same(rt, lines.row, &found.told[1], &wanted);
+        count = count.saturating_add(found.count);
+    }
+    println!(rt; "{call}{}: {count} growths refused", of.what).expect(rt, "a line goes out");
+}
+
+/// Two calls have the same result on a set with ample memory.
 pub(super) fn answer_alike<C: Call, D: Call>(rt: &impl Abort, alloc: Global, set: &Set<'_>) {
     let one = ample_answer::<C>(rt, alloc, set);
     let other = ample_answer::<D>(rt, alloc, set);
     same(rt, set.row, &other.as_str(), &one.as_str());
 }
 
-/// The renaming onto the text is one, whether a call answers it beside the text or beside the county, which may be in an arena.
+/// The renaming onto the text is the same, whether a call returns it with the text or with the county, which may be in an arena.
 fn answer_one_renaming(rt: &impl Abort, alloc: Global, sets: &[SetLines]) {
     for lines in sets {
         let set = lines.set();
@@ -193,15 +267,21 @@ pub(super) fn sweep_whole_calls(rt: &(impl Abort + Print), alloc: Global, of: Sw
     sweep::<NormaliseTo>(rt, alloc, "NormaliseTo", of);
     sweep::<Fingerprint>(rt, alloc, "Fingerprint", of);
     sweep::<Check>(rt, alloc, "Check", of);
-    sweep::<CompareWithItself>(rt, alloc, "CompareWithItself", of);
+    sweep_twice::<CompareWithItself>(rt, alloc, "CompareWithItself", of);
     sweep::<CompareWithStreet>(rt, alloc, "CompareWithStreet", of);
-    sweep::<AreOneMap>(rt, alloc, "AreOneMap", of);
+    sweep::<CompareStreetWith>(rt, alloc, "CompareStreetWith", of);
+    sweep_twice::<AreOneMap>(rt, alloc, "AreOneMap", of);
+    sweep_masked_calls(rt, alloc, of);
+}
+
+/// Sweeps the whole calls that take a mask.
+fn sweep_masked_calls(rt: &(impl Abort + Print), alloc: Global, of: Swept<'_>) {
     sweep::<NormaliseMasked>(rt, alloc, "NormaliseMasked", of);
     sweep::<NormaliseWithRenamingMasked>(rt, alloc, "NormaliseWithRenamingMasked", of);
     sweep::<NormaliseToMasked>(rt, alloc, "NormaliseToMasked", of);
     sweep::<FingerprintMasked>(rt, alloc, "FingerprintMasked", of);
-    sweep::<CompareMasked>(rt, alloc, "CompareMasked", of);
-    sweep::<AreOneMapMasked>(rt, alloc, "AreOneMapMasked", of);
+    sweep_twice::<CompareMasked>(rt, alloc, "CompareMasked", of);
+    sweep_twice::<AreOneMapMasked>(rt, alloc, "AreOneMapMasked", of);
 }
 
 /// Sweeps the calls of a loader.
@@ -225,7 +305,7 @@ pub(super) fn sweep_admitting(rt: &(impl Abort + Print), alloc: Global, of: Swep
     sweep::<AdmitLinked>(rt, alloc, "AdmitLinked", of);
 }
 
-/// Sweeps the other calls of the layers, which refuse nothing.
+/// Sweeps the other calls of the layers, which reject nothing.
 pub(super) fn sweep_others(rt: &(impl Abort + Print), alloc: Global, of: Swept<'_>) {
     sweep::<NewShape>(rt, alloc, "NewShape", of);
     sweep::<TablesOf>(rt, alloc, "TablesOf", of);
@@ -237,7 +317,7 @@ pub(super) fn sweep_others(rt: &(impl Abort + Print), alloc: Global, of: Swept<'
     sweep::<CanoniseInMasked>(rt, alloc, "CanoniseInMasked", of);
     sweep::<RecordsOf>(rt, alloc, "RecordsOf", of);
     sweep::<RecordsOfIn>(rt, alloc, "RecordsOfIn", of);
-    sweep::<WriteInOrder>(rt, alloc, "WriteInOrder", of);
+    sweep::<WriteAdmitted>(rt, alloc, "WriteAdmitted", of);
     sweep::<CheckRenaming>(rt, alloc, "CheckRenaming", of);
     sweep::<CheckMasked>(rt, alloc, "CheckMasked", of);
     sweep::<Inverse>(rt, alloc, "Inverse", of);
@@ -248,20 +328,13 @@ pub(super) fn sweep_others(rt: &(impl Abort + Print), alloc: Global, of: Swept<'
 #[test]
 fn whole_calls_tell_refused_growths(rt: HostRuntime) {
     let sets = worked(&rt, rt.alloc());
-    let of = Swept {
-        what: "",
-        sets: &sets,
-    };
-    sweep_whole_calls(&rt, rt.alloc(), of);
+    sweep_whole_calls(&rt, rt.alloc(), on_sets("", &sets));
 }
 
 #[test]
 fn calls_of_layers_tell_refused_growths(rt: HostRuntime) {
     let sets = worked(&rt, rt.alloc());
-    let of = Swept {
-        what: "",
-        sets: &sets,
-    };
+    let of = on_sets("", &sets);
     sweep_reading(&rt, rt.alloc(), of);
     sweep_linking(&rt, rt.alloc(), of);
     sweep_admitting(&rt, rt.alloc(), of);

@@ -1,4 +1,4 @@
-//! Renamings as values: back, one after another, and whether one carries a county onto another.
+//! Renamings as values: inverses, compositions, and whether one carries a county onto another.
 
 use super::comparing::{same, same_items};
 use super::counties::county_of;
@@ -51,7 +51,7 @@ const NOTHING: Lists<'static> = Lists {
     turned: &[],
 };
 
-/// A county of one chain seen from its other end, with other numbers.
+/// The renaming of a county with one chain onto the same county seen from its other end, with other numbers.
 const THERE: Lists<'static> = Lists {
     chains: &[(500, 77)],
     names: &[(8, 9), (9, 8)],
@@ -79,7 +79,7 @@ const THERE_AND_BACK: Lists<'static> = Lists {
     turned: &[],
 };
 
-/// Two pairs and two turned chains of one TLID, and a turned chain that no pair names.
+/// Two pairs and two turned chains with the same TLID, and a turned chain that no pair names.
 const ODD: Lists<'static> = Lists {
     chains: &[(1, 2), (1, 3), (4, 2)],
     names: &[(5, 6), (5, 6)],
@@ -89,7 +89,7 @@ const ODD: Lists<'static> = Lists {
     turned: &[1, 9, 1, 4],
 };
 
-/// The way back of that, by the first pair of a TLID.
+/// The inverse of that, by the first pair of a TLID.
 const ODD_BACK: Lists<'static> = Lists {
     chains: &[(2, 1), (3, 1), (2, 4)],
     names: &[(6, 5), (6, 5)],
@@ -108,7 +108,7 @@ const NEXT: Lists<'static> = Lists {
     turned: &[2, 3],
 };
 
-/// The odd one and then the next one, which leaves out what it doesn't name.
+/// The odd one and then the next one, which leaves out the numbers that it doesn't name.
 const ODD_AND_NEXT: Lists<'static> = Lists {
     chains: &[(1, 7), (1, 8), (4, 7)],
     names: &[],
@@ -136,7 +136,7 @@ const NEXT_AND_STAY: Lists<'static> = Lists {
     turned: &[2],
 };
 
-/// What a row shows, a renaming, and the way back.
+/// The purpose of a row, a renaming, and its inverse.
 type WayBack = (&'static str, Lists<'static>, Lists<'static>);
 
 const WAYS_BACK: &[WayBack] = &[
@@ -145,7 +145,7 @@ const WAYS_BACK: &[WayBack] = &[
     ("no numbers", NOTHING, NOTHING),
 ];
 
-/// What a row shows, a renaming, another one, and what they are one after the other.
+/// The purpose of a row, a renaming, another one, and both one after the other.
 type WayOn = (&'static str, Lists<'static>, Lists<'static>, Lists<'static>);
 
 const WAYS_ON: &[WayOn] = &[
@@ -154,24 +154,24 @@ const WAYS_ON: &[WayOn] = &[
     ("turned and turned back", NEXT, STAY, NEXT_AND_STAY),
 ];
 
-/// The rows of ways back.
+/// The rows of inverses.
 fn ways_back() -> &'static [WayBack] {
     WAYS_BACK
 }
 
-/// The rows of ways on.
+/// The rows of compositions.
 fn ways_on() -> &'static [WayOn] {
     WAYS_ON
 }
 
-/// The way back of a renaming is as its row says.
+/// The inverse of a renaming is as in its row.
 fn goes_back(rt: &impl Abort, alloc: Global, row: &WayBack) {
     let (name, there, wanted) = row;
     let back = renaming(rt, alloc, there).inverse().expect(rt, name);
     has_lists(rt, name, &back, wanted);
 }
 
-/// Two renamings one after the other are as their row says.
+/// Two renamings one after the other are as in their row.
 fn goes_on(rt: &impl Abort, alloc: Global, row: &WayOn) {
     let (name, first, second, wanted) = row;
     let second = renaming(rt, alloc, second);
@@ -220,7 +220,7 @@ const LEFT: PolygonKey = (*b"00001", 12);
 
 const RIGHT: PolygonKey = (*b"00002", 12);
 
-/// What a row shows, a set, another set, a renaming, and whether it carries the one onto the other.
+/// The purpose of a row, a set, another set, a renaming, and whether it carries the first set onto the second.
 type CarriedRow = (
     &'static str,
     &'static [&'static str],
@@ -386,7 +386,7 @@ pub(super) fn carries(
     carried
 }
 
-/// The renaming carries the one set onto the other, or doesn't, as its row says.
+/// The renaming carries the first set onto the second, or doesn't, as in its row.
 fn is_carried(rt: &impl Abort, alloc: Global, row: &CarriedRow) {
     let (name, here, there, lists, wanted) = row;
     let renaming = renaming(rt, alloc, lists);

@@ -1,48 +1,49 @@
 //! Jobs over files that are missing or fail, and over devices that take little.
 
 use super::comparing::{same, same_items};
-use super::devices::{KINDS, SlowReader, failing_writer, reader, writer};
+use super::devices::{SlowReader, failing_writer, kinds, reader};
 use super::sets::lines_of;
 use super::worked_sets::{CHAIN, LINK, MAIN_TEXT, OTHER_CHAIN, RESPELT, TURNED, TURNED_LINK};
 use std::alloc::Global;
 use std::cell::Cell;
 use std::io::{ErrorKind, Read};
 use std::process::Abort;
-use tigercanon::{Fault, Job, Opened, PlanFault, Refusal, run, tell};
+use tigercanon::{Fault, Job, Opened, PlanFault, Refusal, exit_status, run, tell};
 use tl_county::LinkFault;
 use tl_layout::Mask;
 use tl_load::LoadFault;
 use tl_profile::ProfileFault;
+use tl_write::{CountedOut, Sink};
 
-/// A file as opening it goes.
+/// A file, by the outcome of opening it.
 enum File {
     /// It has these lines.
     Whole(&'static [&'static str]),
-    /// The same, and the read after so many is interrupted.
+    /// The same, and the read after this number of reads is interrupted.
     Failing(&'static [&'static str], usize),
     Absent,
     Failed,
 }
 
-/// A job over the files of two sets, the second of which a comparison alone looks at, and how it ends.
+/// A job over the files of two sets, and its outcome. Only a comparison uses the second set.
 struct Row {
     name: &'static str,
     job: Job,
     files: [&'static [File]; 2],
-    /// How many bytes a read gives and a write takes at most.
+    /// How many bytes a read returns and a write takes at most.
     step: usize,
-    /// The room on standard output, and on standard error.
+    /// The capacity of standard output, and of standard error.
     room: [usize; 2],
     status: u8,
-    /// The lines that would go out, and how many bytes of them do.
+    /// The lines of the full output, and how many of its bytes are written.
     lines: &'static [&'static str],
     written: usize,
     told: &'static str,
-    /// How many reads are made of all files, where the row says so.
+    /// The number of reads of all files, if the row has it.
     reads: Option<usize>,
 }
 
-/// A job that is done, with nothing to print.
+/// A completed job that prints nothing.
 const DONE: Row = Row {
     name: "no files",
     job: Job::Respell,
@@ -81,12 +82,12 @@ const NO_FILE: File = File::Absent;
 
 const ONE_STREET: [&[File]; 2] = [&[STREET_FILE], &[]];
 
-/// The files of a stem: chains and links, and no other.
+/// The files of a stem: only chains and links.
 const STEM: &[File] = &[
     CHAIN_FILE, NO_FILE, NO_FILE, NO_FILE, NO_FILE, NO_FILE, NO_FILE, LINK_FILE, NO_FILE,
 ];
 
-/// Files between which one is absent.
+/// Files with an absent one between them.
 const PARTED: &[File] = &[CHAIN_FILE, NO_FILE, LINK_FILE];
 
 const MAIN_STREET: &str = "06442d8d2f1e29f7c20b1ddfe1d6b4d983cc2685627d235e8417e7e9550975c9";
@@ -151,8 +152,8 @@ const ABSENT: &[Row] = &[
     },
 ];
 
-/// What can't be opened is told before anything is read, and what can't be read before what is wrong. Normalising alone reads
-/// no further than the faulty line.
+/// A file that can't be opened is reported before anything is read, and a file that can't be read before any fault in the lines.
+/// Only normalising stops reading at the faulty line.
 const BROKEN: &[Row] = &[
     Row {
         name: "the first read fails",
@@ -303,7 +304,7 @@ const COMPARED: &[Row] = &[
     },
 ];
 
-/// As much goes out as there is room for.
+/// The output stops when the device is full.
 const FULL: &[Row] = &[
     Row {
         name: "no room",
@@ -390,7 +391,7 @@ const FULL: &[Row] = &[
     },
 ];
 
-/// What goes out is the same whatever the steps.
+/// The output is the same whatever the steps.
 const STEPS: &[Row] = &[
     Row {
         name: "steps of 1",
@@ -474,7 +475,7 @@ fn opened<'a>(
     all
 }
 
-/// The job ends as its row says, whatever the kind of a failure is. A reader gives one byte at least.
+/// The job ends as in its row, whatever the kind of failure. A reader returns at least one byte.
 fn ends(rt: &impl Abort, alloc: Global, row: &Row, kind: ErrorKind) {
     let count = Cell::new(0);
     let first = opened(rt, alloc, row.files[0], row.step.max(1), kind, &count);
@@ -511,14 +512,14 @@ fn ends(rt: &impl Abort, alloc: Global, row: &Row, kind: ErrorKind) {
 fn jobs_end_as_their_files_and_devices_let_them(rt: HostRuntime) {
     for rows in [absent(), broken(), compared(), full(), steps()] {
         for row in rows {
-            for kind in KINDS {
-                ends(&rt, rt.alloc(), row, kind);
+            for kind in kinds() {
+                ends(&rt, rt.alloc(), row, *kind);
             }
         }
     }
 }
 
-/// A file as it was opened gives so many of its bytes at a read, or the read fails.
+/// A read of an opened file returns this number of its bytes, or fails.
 fn gives(rt: &impl Abort, row: &str, file: Opened<SlowReader<'_>>, wanted: Option<usize>) {
     let mut file = file;
     let mut room = [0; 9];
@@ -536,7 +537,7 @@ fn a_file_is_read_as_it_was_opened(rt: HostRuntime) {
     gives(&rt, "one that couldn't be opened", Opened::Failed, None);
 }
 
-/// Faults that no files bring about, or hardly any, their line, and the status.
+/// Faults that files can't cause, or hardly can, with their line and status.
 const RARE: &[(Fault, &'static str, u8)] = &[
     (
         Fault::Load(LoadFault::TooManyRecords { rtype: b'8' }),
@@ -564,9 +565,46 @@ fn rare_refusals_are_told(rt: HostRuntime) {
     }
 }
 
+/// As much of this text is written as the device takes, whatever the kind of failure, and the status is this one.
+fn is_told(rt: &impl Abort, alloc: Global, fault: &PlanFault, text: &str, status: u8, room: usize) {
+    for kind in kinds() {
+        let mut err = CountedOut::new(failing_writer(alloc, 7, room, *kind));
+        same(rt, text, &tell(fault, &mut err), &status);
+        let failed = u64::from(room < text.len());
+        same(rt, text, &err.failures(), &failed);
+        let bytes = text.as_bytes();
+        let held = err.into_inner().held;
+        same_items(rt, text, &held, bytes.get(..room).unwrap_or(bytes));
+    }
+}
+
+/// The beginning of a usage is written, or all of it: its lines, including the empty one.
+const USAGE: &str = "error: unexpected argument 'b' found\n\nUsage: tigercanon check\n";
+
+#[test]
+fn a_usage_is_told_whole(rt: HostRuntime) {
+    let alloc = rt.alloc();
+    let text = String::from_str(alloc, USAGE).expect(&rt, USAGE);
+    let fault = PlanFault::Usage(text);
+    for room in [0, 37, 38, 61, 62, 100] {
+        is_told(&rt, alloc, &fault, USAGE, 2, room);
+    }
+}
+
 #[test]
 fn want_of_memory_is_told(rt: HostRuntime) {
-    let mut err = writer(rt.alloc(), 7, 100);
-    same(&rt, "status", &tell(&PlanFault::Memory, &mut err), &5);
-    same_items(&rt, "line", &err.held, b"refused 9 Memory\n");
+    let line = "refused 9 Memory\n";
+    for room in [0, 16, 17] {
+        is_told(&rt, rt.alloc(), &PlanFault::Memory, line, 5, room);
+    }
+}
+
+#[test]
+fn the_program_exits_with_the_status_of_its_job(rt: HostRuntime) {
+    let mut err = CountedOut::new(failing_writer(rt.alloc(), 7, 100, ErrorKind::Other));
+    same(&rt, "of a job", &exit_status(Ok(3), &mut err), &3);
+    let status = exit_status(Err(PlanFault::Memory), &mut err);
+    same(&rt, "of no job", &status, &5);
+    let held = err.into_inner().held;
+    same_items(&rt, "what is told", &held, b"refused 9 Memory\n");
 }

@@ -1,4 +1,4 @@
-//! Patterns of lines, in which `{n}` stands for n blanks, sets told by them, and the lines of records.
+//! Patterns of lines in which `{n}` means n blanks, sets written in them, and the lines of records.
 
 ghost use Rattle.std.specs.Prelude.{All};
 ghost use Rattle.tl_county.specs.Limits.{most_records};
@@ -11,13 +11,13 @@ use std::process::Abort;
 use tl_layout::{Mask, Record};
 use tl_load::Loader;
 
-/// Appends so many blanks.
+/// Appends this number of blanks.
 fn put_blanks(rt: &impl Abort, bytes: &mut Vec<u8>, count: usize) {
     let len = bytes.len().saturating_add(count);
     bytes.resize(len, b' ').expect(rt, "there is memory");
 }
 
-/// Appends what a byte of a pattern stands for: behind `{` it is part of a number, which its `}` makes so many blanks.
+/// Appends the meaning of a byte of a pattern. After `{` it is part of a number, and the `}` turns the number into as many blanks.
 fn put_byte(
     rt: &impl Abort,
     bytes: &mut Vec<u8>,
@@ -41,7 +41,7 @@ fn put_byte(
     }
 }
 
-/// Appends the line that a pattern stands for, ended by LF.
+/// Appends the line of a pattern, terminated by LF.
 fn put_line(rt: &impl Abort, bytes: &mut Vec<u8>, pattern: &str) {
     let mut blanks = None;
     for byte in pattern.bytes() {
@@ -50,7 +50,7 @@ fn put_line(rt: &impl Abort, bytes: &mut Vec<u8>, pattern: &str) {
     bytes.push(b'\n').expect(rt, "there is memory");
 }
 
-/// The lines that the patterns stand for, each ended by LF.
+/// The lines of the patterns, each terminated by LF.
 pub(super) fn lines_of(rt: &impl Abort, alloc: Global, patterns: &[&str]) -> Vec<u8> {
     let mut bytes = Vec::new(alloc);
     for pattern in patterns {
@@ -59,14 +59,14 @@ pub(super) fn lines_of(rt: &impl Abort, alloc: Global, patterns: &[&str]) -> Vec
     bytes
 }
 
-/// A set by its patterns: what it shows or why it is refused, its lines, and the lines of its canonical text where it is accepted.
+/// A set as patterns: its purpose or its refusal, its lines, and the lines of its canonical text if it is accepted.
 pub(super) type Row = (
     &'static str,
     &'static [&'static str],
     &'static [&'static str],
 );
 
-/// A set, its canonical text where it is accepted, and what calls with a mask leave out.
+/// A set, its canonical text if it is accepted, and the mask for calls that take one.
 #[derive(Clone, Copy)]
 pub(super) struct Set<'a> {
     pub(super) row: &'a str,
@@ -84,13 +84,18 @@ pub(super) struct SetLines {
 }
 
 impl SetLines {
-    /// The set with its text, lent, and a mask that leaves out all that masks leave out.
+    /// The set with its text, borrowed, and a mask that leaves out everything that masks can leave out.
     pub(super) fn set(&self) -> Set<'_> {
+        self.under(BOTH)
+    }
+
+    /// The set with its text, borrowed, and this mask.
+    pub(super) fn under(&self, mask: Mask) -> Set<'_> {
         Set {
             row: self.row,
             bytes: &self.bytes,
             text: &self.text,
-            mask: BOTH,
+            mask,
         }
     }
 }
@@ -121,7 +126,7 @@ pub(super) fn records_of(rt: &impl Abort, alloc: Global, row: &str, set: &[u8]) 
     loader.finish().expect(rt, row)
 }
 
-/// The lines of records in canonical spelling, each ended by LF.
+/// The lines of records in canonical spelling, each terminated by LF.
 pub(super) fn spelled(rt: &impl Abort, alloc: Global, records: &[Record]) -> Vec<u8> {
     let mut text = Vec::new(alloc);
     for record in records {

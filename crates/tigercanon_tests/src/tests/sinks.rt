@@ -1,7 +1,7 @@
 //! A text to sinks that take a few bytes at a time, and fail.
 
 use super::comparing::{same, same_items};
-use super::devices::{KINDS, failing_writer, writer};
+use super::devices::{failing_writer, kinds, writer};
 use super::sets::lines_of;
 use super::worked_sets::street_text;
 use std::alloc::Global;
@@ -9,8 +9,8 @@ use std::io::ErrorKind;
 use std::process::Abort;
 use tl_write::{CountedOut, Sink, SlowSink, WriteFault, write_bytes};
 
-/// Writes the text to a sink with this room, which takes at most `most` bytes a write: the answer is right, and so is what is
-/// held.
+/// Writes the text to a sink of this capacity, which takes at most `most` bytes a write. The result and the content of the sink are
+/// right.
 fn writes(rt: &impl Abort, text: &[u8], room: usize, most: usize) {
     let mut place = [0; 400];
     assert!(rt; room <= 400 && 0 < most);
@@ -52,7 +52,7 @@ fn a_beginning_goes_out_before_a_failure(rt: HostRuntime) {
     }
 }
 
-/// How many bytes a writer takes at a time, its room, what is answered of two bytes, and how often it has failed.
+/// How many bytes a writer takes at a time, its capacity, the result for two bytes, and how often it failed.
 const FEW: &[(usize, usize, Result<u64, WriteFault>, u64)] = &[
     (0, 9, Err(WriteFault { written: 0 }), 1),
     (9, 0, Err(WriteFault { written: 0 }), 1),
@@ -64,7 +64,7 @@ fn few() -> &'static [(usize, usize, Result<u64, WriteFault>, u64)] {
     FEW
 }
 
-/// A write that takes nothing is a failure, but where there are no bytes.
+/// A write that takes nothing is a failure, unless there are no bytes to write.
 #[test]
 fn a_write_of_nothing_is_a_failure(rt: HostRuntime) {
     for (step, room, wanted, failures) in few() {
@@ -86,7 +86,7 @@ fn a_write_of_nothing_is_a_failure(rt: HostRuntime) {
     same(&rt, "no bytes", &found, &(Ok(0), Ok(0), 0));
 }
 
-/// A writer that takes 7 bytes at a time and fails once it holds 300 was asked 44 times, and then no more.
+/// A writer that takes 7 bytes at a time and fails once it holds 300 was called 44 times, and not again.
 fn fails_once(rt: &impl Abort, alloc: Global, text: &[u8], kind: ErrorKind) {
     let mut sink = CountedOut::new(failing_writer(alloc, 7, 300, kind));
     let answer = write_bytes(text, &mut sink);
@@ -100,7 +100,7 @@ fn fails_once(rt: &impl Abort, alloc: Global, text: &[u8], kind: ErrorKind) {
 #[test]
 fn no_write_is_tried_again(rt: HostRuntime) {
     let text = lines_of(&rt, rt.alloc(), street_text());
-    for kind in KINDS {
-        fails_once(&rt, rt.alloc(), &text, kind);
+    for kind in kinds() {
+        fails_once(&rt, rt.alloc(), &text, *kind);
     }
 }

@@ -1,17 +1,17 @@
-//! What each fault says to people.
+//! What `Display` shows of each fault: the line that the program prints.
 
 use super::comparing::same_items;
 use std::alloc::Global;
-use std::fmt::Display;
+use std::fmt::{Debug, Display};
 use std::process::Abort;
 use tigercanon::{CompareFault, Fault, PlanFault};
 use tl_county::{LinkFault, LinkedType, SequencedType};
-use tl_layout::{DeviceFault, FieldFault, FieldKind};
+use tl_layout::{DeviceFault, FieldFault, FieldKind, NumberOrNone};
 use tl_load::{LineFault, LoadFault};
 use tl_profile::ProfileFault;
 use tl_write::WriteFault;
 
-/// What is said of a number that is none.
+/// The message about a number that isn't valid.
 const NO_NUMBER: &str = "column 16: this is not a number of the field";
 
 const NUMBER: FieldFault = FieldFault {
@@ -33,31 +33,31 @@ const LINES: &[(LineFault, &'static str)] = &[
     (LineFault::Field(NUMBER), NO_NUMBER),
 ];
 
-/// Where a fault of loading is.
+/// The part of a fault of loading.
 const PART: u64 = 2;
 
 const LINE: u64 = 34;
 
-/// Which numbers a fault of linking tells.
+/// The TLID of a fault of linking.
 const TLID: u64 = 9_000_000_001;
 
 const CENID: [u8; 5] = *b"00012";
 
-/// Faults as whole calls tell them.
+/// Faults as whole calls report them.
 const FAULTS: &[(Fault, &'static str)] = &[
     (
         Fault::Load(LoadFault::UnknownType {
             part: PART,
             line: LINE,
         }),
-        "part 2, line 34: the first byte is no known record type",
+        "refused 1 UnknownType 2 34",
     ),
     (
         Fault::Load(LoadFault::LineTooLong {
             part: PART,
             line: LINE,
         }),
-        "part 2, line 34: the line is longer than its record type allows",
+        "refused 2 LineTooLong 2 34",
     ),
     (
         Fault::Load(LoadFault::BadByte {
@@ -65,7 +65,7 @@ const FAULTS: &[(Fault, &'static str)] = &[
             line: LINE,
             column: 156,
         }),
-        "part 2, line 34, column 156: this byte is not allowed",
+        "refused 3 BadByte 2 34 156",
     ),
     (
         Fault::Load(LoadFault::BadNumber {
@@ -73,7 +73,7 @@ const FAULTS: &[(Fault, &'static str)] = &[
             line: LINE,
             column: 156,
         }),
-        "part 2, line 34, column 156: this is not a number of the field",
+        "refused 4 BadNumber 2 34 156",
     ),
     (
         Fault::Load(LoadFault::BadPoint {
@@ -81,7 +81,7 @@ const FAULTS: &[(Fault, &'static str)] = &[
             line: LINE,
             column: 156,
         }),
-        "part 2, line 34, column 156: this is not a point",
+        "refused 5 BadPoint 2 34 156",
     ),
     (
         Fault::Load(LoadFault::GapInRecord {
@@ -89,93 +89,87 @@ const FAULTS: &[(Fault, &'static str)] = &[
             line: LINE,
             column: 156,
         }),
-        "part 2, line 34, column 156: a used place follows an unused one",
+        "refused 6 GapInRecord 2 34 156",
     ),
     (
         Fault::Load(LoadFault::TooManyRecords { rtype: b'8' }),
-        "there are too many records of type 8",
+        "refused 7 TooManyRecords 8",
     ),
-    (
-        Fault::Load(LoadFault::Device),
-        "the source could not be read",
-    ),
-    (Fault::Load(LoadFault::Memory), "there is not enough memory"),
+    (Fault::Load(LoadFault::Device), "refused 8 Device"),
+    (Fault::Load(LoadFault::Memory), "refused 9 Memory"),
     (
         Fault::Link(LinkFault::ChainTwice { tlid: TLID }),
-        "two records of type 1 have the TLID 9000000001",
+        "refused 11 ChainTwice 9000000001",
     ),
     (
         Fault::Link(LinkFault::NoChain {
             rtype: LinkedType::I,
             tlid: TLID,
         }),
-        "a record of type I has the TLID 9000000001, which no record of type 1 has",
+        "refused 12 NoChain I 9000000001",
     ),
     (
         Fault::Link(LinkFault::SequenceBroken {
             rtype: SequencedType::Four,
             tlid: TLID,
         }),
-        "an RTSQ stands twice among the records of type 4 of the TLID 9000000001",
+        "refused 13 SequenceBroken 4 9000000001",
     ),
     (
         Fault::Link(LinkFault::LinkMissing { tlid: TLID }),
-        "the TLID 9000000001 has no record of type I",
+        "refused 14 LinkMissing 9000000001",
     ),
     (
         Fault::Link(LinkFault::LinkTwice { tlid: TLID }),
-        "two records of type I have the TLID 9000000001",
+        "refused 15 LinkTwice 9000000001",
     ),
     (
         Fault::Link(LinkFault::NameTwice { feat: 8 }),
-        "two records of type 5 have the FEAT 8",
+        "refused 16 NameTwice 8",
     ),
     (
         Fault::Link(LinkFault::NameUnknown {
             tlid: TLID,
             feat: 8,
         }),
-        "the chain with the TLID 9000000001 names the FEAT 8, which no record of type 5 has",
+        "refused 17 NameUnknown 9000000001 8",
     ),
     (
         Fault::Link(LinkFault::PolygonTwice {
             cenid: CENID,
             polyid: 9,
         }),
-        "two records of type P have the POLYID 9 under the CENID [48, 48, 48, 49, 50]",
+        "refused 18 PolygonTwice 3030303132 9",
     ),
     (
         Fault::Link(LinkFault::LandUnknown { land: 30 }),
-        "a record of type 8 has the LAND 30, which no record of type 7 has",
+        "refused 19 LandUnknown 30",
     ),
     (
         Fault::Link(LinkFault::PolygonUnknown {
             cenid: CENID,
             polyid: 9,
         }),
-        "a record of type 8 has the POLYID 9 under the CENID [48, 48, 48, 49, 50], which stands on no side and has no record of type P",
+        "refused 20 PolygonUnknown 3030303132 9",
     ),
-    (Fault::Link(LinkFault::Memory), "there is not enough memory"),
+    (Fault::Link(LinkFault::Memory), "refused 9 Memory"),
     (
         Fault::Profile(ProfileFault::PolygonWithoutChain {
             cenid: CENID,
             polyid: 9,
         }),
-        "the POLYID 9 under the CENID [48, 48, 48, 49, 50] has a record of type P and is on no side of a chain",
+        "refused 23 PolygonWithoutChain 3030303132 9",
     ),
     (
         Fault::Profile(ProfileFault::TooSymmetric),
-        "too many chains have the same points, or points that are the same from both ends",
+        "refused 24 TooSymmetric",
     ),
-    (
-        Fault::Profile(ProfileFault::Memory),
-        "there is not enough memory",
-    ),
+    (Fault::Profile(ProfileFault::Memory), "refused 9 Memory"),
     (
         Fault::Write(WriteFault { written: 229 }),
-        "the device failed after 229 bytes",
+        "refused 10 WriteFault 229",
     ),
-    (Fault::Memory, "out of memory"),
+    (Fault::Memory, "refused 9 Memory"),
 ];
 
 /// Those tables.
@@ -187,17 +181,99 @@ fn faults() -> &'static [(Fault, &'static str)] {
     FAULTS
 }
 
-/// The fault says this, and nothing else.
+/// The message of the fault is exactly this.
 fn says<T: Display>(rt: &impl Abort, alloc: Global, fault: &T, text: &str) {
     let said = format!(in alloc; "{fault}").expect(rt, text);
     same_items(rt, text, said.as_bytes(), text.as_bytes());
 }
 
-/// Each fault says what stands beside it.
+/// Each fault has the message beside it.
 fn each_says<T: Display>(rt: &impl Abort, alloc: Global, faults: &[(T, &str)]) {
     for (fault, text) in faults {
         says(rt, alloc, fault, text);
     }
+}
+
+/// Faults of linking as `Debug` prints them, like a derived `Debug`.
+const SHOWN: &[(LinkFault, &'static str)] = &[
+    (
+        LinkFault::ChainTwice { tlid: TLID },
+        "ChainTwice { tlid: 9000000001 }",
+    ),
+    (
+        LinkFault::NoChain {
+            rtype: LinkedType::I,
+            tlid: TLID,
+        },
+        "NoChain { rtype: I, tlid: 9000000001 }",
+    ),
+    (
+        LinkFault::SequenceBroken {
+            rtype: SequencedType::Four,
+            tlid: TLID,
+        },
+        "SequenceBroken { rtype: Four, tlid: 9000000001 }",
+    ),
+    (
+        LinkFault::LinkMissing { tlid: TLID },
+        "LinkMissing { tlid: 9000000001 }",
+    ),
+    (
+        LinkFault::LinkTwice { tlid: TLID },
+        "LinkTwice { tlid: 9000000001 }",
+    ),
+    (LinkFault::NameTwice { feat: 8 }, "NameTwice { feat: 8 }"),
+    (
+        LinkFault::NameUnknown {
+            tlid: TLID,
+            feat: 8,
+        },
+        "NameUnknown { tlid: 9000000001, feat: 8 }",
+    ),
+    (
+        LinkFault::PolygonTwice {
+            cenid: CENID,
+            polyid: 9,
+        },
+        "PolygonTwice { cenid: [48, 48, 48, 49, 50], polyid: 9 }",
+    ),
+    (
+        LinkFault::LandUnknown { land: 30 },
+        "LandUnknown { land: 30 }",
+    ),
+    (
+        LinkFault::PolygonUnknown {
+            cenid: CENID,
+            polyid: 9,
+        },
+        "PolygonUnknown { cenid: [48, 48, 48, 49, 50], polyid: 9 }",
+    ),
+    (LinkFault::Memory, "Memory"),
+];
+
+/// Those rows.
+fn shown() -> &'static [(LinkFault, &'static str)] {
+    SHOWN
+}
+
+/// `Debug` prints the value exactly like this.
+fn shows<T: Debug>(rt: &impl Abort, alloc: Global, value: &T, text: &str) {
+    let found = format!(in alloc; "{value:?}").expect(rt, text);
+    same_items(rt, text, found.as_bytes(), text.as_bytes());
+}
+
+/// Hand-written `Debug` prints like a derived one, and a number that can be none prints like an `Option`.
+#[test]
+fn values_are_shown_as_a_derive_would_show_them(rt: HostRuntime) {
+    let alloc = rt.alloc();
+    for (fault, text) in shown() {
+        shows(&rt, alloc, fault, text);
+    }
+    shows(&rt, alloc, &NumberOrNone::new(Some(9)), "Some(9)");
+    shows(&rt, alloc, &NumberOrNone::new(None), "None");
+    let fault = Fault::Link(LinkFault::LinkMissing { tlid: 7 });
+    let in_set = "In { set: 2, fault: Link(LinkMissing { tlid: 7 }) }";
+    shows(&rt, alloc, &CompareFault::In { set: 2, fault }, in_set);
 }
 
 #[test]
@@ -214,10 +290,10 @@ fn faults_beside_those_of_sets_say_what_they_are(rt: HostRuntime) {
     says(&rt, alloc, &DeviceFault, "the device failed");
     let fault = Fault::Memory;
     let second = CompareFault::In { set: 2, fault };
-    says(&rt, alloc, &second, "out of memory in set 2");
-    says(&rt, alloc, &CompareFault::Memory, "out of memory");
+    says(&rt, alloc, &second, "refused 9 Memory in set 2");
+    says(&rt, alloc, &CompareFault::Memory, "refused 9 Memory");
     says(&rt, alloc, &PlanFault::Memory, "refused 9 Memory");
-    // A command line that is no plan is told by the usage as it is.
+    // For a command line without a plan, the message is the usage as it is.
     let text = "error: no such word\n\nUsage: tigercanon\n";
     let usage = String::from_str(alloc, text).expect(&rt, text);
     says(&rt, alloc, &PlanFault::Usage(usage), text);

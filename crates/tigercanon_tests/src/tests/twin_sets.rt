@@ -1,5 +1,5 @@
-//! Worked sets in which the points leave it open which of two chains comes first, or in which direction a chain runs. The texts were
-//! worked out by hand: of all that the points leave open, the least.
+//! Worked sets whose points don't decide which of two chains comes first, or in which direction a chain runs. The texts were worked
+//! out manually: of all texts that the points leave open, the least.
 
 /// Main St from its other end, as a loop that comes back through no other point.
 pub(super) const CLOSED: &[&str] = &[
@@ -48,7 +48,7 @@ pub(super) const STREET_TWICE_TEXT: &[&str] = &[
     "I200601001{9}2{9}3{9}4{87}",
 ];
 
-/// Main St twice, the one ending where the other begins.
+/// Main St twice, the first one ending where the second begins.
 pub(super) const ON_END: &[&str] = &[
     STREET_9,
     "I{4}01001{9}9{8}11{8}12",
@@ -56,7 +56,7 @@ pub(super) const ON_END: &[&str] = &[
     "I{4}01001{9}4{8}12{8}13",
 ];
 
-/// The same with the TLIDs exchanged, and the one that begins told from its other end.
+/// The same with the TLIDs exchanged, and the chain that begins there given from its other end.
 pub(super) const ON_END_EXCHANGED: &[&str] = &[
     STREET_9,
     "I{4}01001{9}9{8}11{8}12",
@@ -64,7 +64,7 @@ pub(super) const ON_END_EXCHANGED: &[&str] = &[
     "I{4}01001{9}4{8}11{8}13",
 ];
 
-/// The one that begins comes first; else the second line of type I would have 3 and 1.
+/// The one that begins there comes first; otherwise the second line of type I would have 3 and 1.
 pub(super) const ON_END_TEXT: &[&str] = &[STREET_1, STREET_2, LINK_1, "I200601001{9}2{9}2{9}3{87}"];
 
 /// Two chains from a point to the same point: two orders, with four directions each.
@@ -83,7 +83,7 @@ pub(super) const CLOSED_TWICE_TEXT: &[&str] = &[
     "I200601001{9}2{9}3{9}2{87}",
 ];
 
-/// Chains of which nothing is told but their points.
+/// Chains with nothing except their points.
 const BARE_4: &str = "1{13}4{176}-86468669+32424914{1}-86468545+32424948";
 
 const BARE_9: &str = "1{13}9{176}-86468669+32424914{1}-86468545+32424948";
@@ -92,7 +92,7 @@ const BARE_1: &str = "12006{9}1{175}-086468669+32424914-086468545+32424948";
 
 const BARE_2: &str = "12006{9}2{175}-086468669+32424914-086468545+32424948";
 
-/// Two chains of five and of seven names, of which the first five are the same.
+/// Two chains with five and with seven names, the first five of them the same.
 pub(super) const NAMES_5_AND_7: &[&str] = &[
     BARE_4,
     BARE_9,
@@ -110,7 +110,7 @@ pub(super) const NAMES_5_AND_7: &[&str] = &[
     "I{4}01001{9}9{8}12{8}13",
 ];
 
-/// The one of seven comes first: its second record of type 4, of TLID 1, comes before one of TLID 2.
+/// The one with seven comes first: its second record of type 4, with TLID 1, comes before one with TLID 2.
 pub(super) const NAMES_5_AND_7_TEXT: &[&str] = &[
     BARE_1,
     BARE_2,
@@ -128,7 +128,7 @@ pub(super) const NAMES_5_AND_7_TEXT: &[&str] = &[
     "I200601001{9}2{9}3{9}1{87}",
 ];
 
-/// Two chains with a record of each type, which are alike but for what is told of the polygons on their left.
+/// Two chains with a record of each type, which differ only in the polygons on their left.
 pub(super) const ALIKE: &[&str] = &[
     BARE_4,
     BARE_9,
@@ -168,7 +168,7 @@ pub(super) const ALIKE_TEXT: &[&str] = &[
     "P20060100100001{9}2{19}1",
 ];
 
-/// Main St twice, under two sources, the one ending where the other begins.
+/// Main St twice, under two sources, the first one ending where the second begins.
 pub(super) const OF_TWO_SOURCES: &[&str] = &[
     "1{13}9{1}B{2}Main{26}St{4}A41{8}101{8}199{8}100{8}19801{2}3600336006{14}0101001001{30}02020002030010012002{1}-86468669+32424914{1}-86468545+32424948",
     "I{4}01001{9}9{8}11{8}12",
@@ -184,7 +184,7 @@ pub(super) const OF_TWO_SOURCES_TEXT: &[&str] = &[
     "I200601001{9}2{9}3{9}1{87}",
 ];
 
-/// Where the sources are left out, the nodes decide.
+/// If the sources are left out, the nodes decide.
 pub(super) const OF_NO_SOURCES_TEXT: &[&str] = &[
     "12006{9}1{4}Main{26}St{4}A41{8}101{8}199{8}100{8}19801{2}3600336006{14}0101001001{30}02020002030010012002-086468669+32424914-086468545+32424948",
     "12006{9}2{4}Main{26}St{4}A41{8}101{8}199{8}100{8}19801{2}3600336006{14}0101001001{30}02020002030010012002-086468669+32424914-086468545+32424948",
@@ -192,7 +192,51 @@ pub(super) const OF_NO_SOURCES_TEXT: &[&str] = &[
     "I200601001{9}2{9}2{9}300001{82}",
 ];
 
-/// Six chains from a point to the same point, which leave more choices than are gone through.
+/// Two pairs of chains between the same points, which leave two orders each.
+pub(super) const TWO_PAIRS: &[&str] = &[
+    "1{13}1{176}-86468669+32424914{1}-86468545+32424948",
+    "1{13}2{176}-86468669+32424914{1}-86468545+32424948",
+    "1{13}3{183}+1{7}+1{8}+2{7}+1",
+    "1{13}4{183}+1{7}+1{8}+2{7}+1",
+    "I{4}01001{9}1{8}13{8}14",
+    "I{4}01001{9}2{8}11{8}12",
+    "I{4}01001{9}3{8}12{8}13",
+    "I{4}01001{9}4{8}11{8}11",
+];
+
+/// The order of the first pair is decided by the second: after 1 to 2 and 3 to 4 it can have 1 to 1, otherwise at best 3 to 3.
+pub(super) const TWO_PAIRS_TEXT: &[&str] = &[
+    BARE_1,
+    BARE_2,
+    "12006{9}3{175}+000000001+00000001+000000002+00000001",
+    "12006{9}4{175}+000000001+00000001+000000002+00000001",
+    LINK_1,
+    "I200601001{9}2{9}3{9}4{87}",
+    "I200601001{9}3{9}1{9}1{87}",
+    "I200601001{9}4{9}2{9}3{87}",
+];
+
+/// Two streets with the same shape, one of them given from its other end, and a chain that is its own reverse.
+pub(super) const PAIR_AND_LOOP: &[&str] = &[
+    "1{13}1{4}Oak{176}+1{7}+1{8}+2{7}+1",
+    "1{13}2{4}Elm{176}+2{7}+1{8}+1{7}+1",
+    "1{13}9{91}2{4}1{79}-86468669+32424914{1}-86468669+32424914",
+    "I{4}01001{9}1",
+    "I{4}01001{9}2",
+    "I{4}01001{9}9",
+];
+
+/// The loop's point comes first, and it is turned for its 1; Elm comes before Oak.
+pub(super) const PAIR_AND_LOOP_TEXT: &[&str] = &[
+    "12006{9}1{91}1{4}2{78}-086468669+32424914-086468669+32424914",
+    "12006{9}2{4}Elm{168}+000000001+00000001+000000002+00000001",
+    "12006{9}3{4}Oak{168}+000000001+00000001+000000002+00000001",
+    "I200601001{9}1{107}",
+    "I200601001{9}2{107}",
+    "I200601001{9}3{107}",
+];
+
+/// Six chains from a point to the same point, which leave more choices than are tried.
 pub(super) const TOO_SYMMETRIC: &[&str] = &[
     "1{13}1{183}+2{7}+1{8}+2{7}+1",
     "I{18}1",

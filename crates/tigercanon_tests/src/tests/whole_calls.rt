@@ -1,4 +1,4 @@
-//! The library's whole calls on sets in memory, and over sources and sinks that give and take few bytes and fail.
+//! The library's whole calls on sets in memory, and over sources and sinks that transfer few bytes and fail.
 
 use super::comparing::{same, same_items};
 use super::renamings::{carries, has_lists, turn_of_the_street};
@@ -10,7 +10,7 @@ use tigercanon::{Fault, Verdict, are_one_map, compare, fingerprint, normalise_to
 use tl_load::{LoadFault, SlowSource, Source};
 use tl_write::{SlowSink, WriteFault};
 
-/// The fingerprint of Main St, by another program.
+/// The fingerprint of Main St, made by another program.
 const MAIN_STREET: [u8; 32] = [
     0x06, 0x44, 0x2d, 0x8d, 0x2f, 0x1e, 0x29, 0xf7, 0xc2, 0x0b, 0x1d, 0xdf, 0xe1, 0xd6, 0xb4, 0xd9,
     0x83, 0xcc, 0x26, 0x85, 0x62, 0x7d, 0x23, 0x5e, 0x84, 0x17, 0xe7, 0xe9, 0x55, 0x09, 0x75, 0xc9,
@@ -36,7 +36,7 @@ fn a_street_is_respelt_and_has_a_fingerprint(rt: HostRuntime) {
     );
 }
 
-/// The sets are one map exactly if they have one text, and then the renaming that is told carries the one onto the other.
+/// The sets are one map exactly if they have the same text, and then the returned renaming carries the first onto the second.
 fn are_compared(rt: &impl Abort, alloc: Global, set: &Set<'_>, other: &Set<'_>) {
     let verdict = compare(alloc, &[set.bytes], &[other.bytes]).expect(rt, set.row);
     let found = match &verdict {
@@ -74,8 +74,8 @@ fn a_street_is_renamed_onto_the_street_from_its_other_end(rt: HostRuntime) {
     drop(verdict);
 }
 
-/// What a row shows, which read of Main St fails and which of a second source that has nothing, the room at the sink, what is
-/// answered, and which sources have failed.
+/// The purpose of a row, the failing read of Main St and of a second, empty source, the capacity of the sink, the result, and which
+/// sources failed.
 type Passing = (
     &'static str,
     [Option<u64>; 2],
@@ -156,7 +156,7 @@ fn passing() -> &'static [Passing] {
     PASSING
 }
 
-/// Of the set, read by 100 bytes and written by 7, as much of the text goes out as the row says.
+/// Reads the set by 100 bytes and writes it by 7. As much of the text is written as in the row.
 fn passes(rt: &impl Abort, alloc: Global, row: &Passing, set: &[u8], text: &[u8]) {
     let (name, failing, room, wanted, failures) = *row;
     let mut place = vec![in alloc; 0u8; room].expect(rt, name);

@@ -1,9 +1,10 @@
-//! Worked sets, each a list of patterns of lines. The texts were worked out by hand, from what the canonical form asks for.
+//! Worked sets, each a list of patterns of lines. The texts were worked out manually from the rules of the canonical form.
 
 use super::sets::{Row, SetLines, sets_of};
 use super::twin_sets::{
     ALIKE, ALIKE_TEXT, CLOSED, CLOSED_TEXT, CLOSED_TWICE, CLOSED_TWICE_TEXT, NAMES_5_AND_7,
-    NAMES_5_AND_7_TEXT, ON_END, ON_END_EXCHANGED, ON_END_TEXT, STREET_TWICE, STREET_TWICE_TEXT,
+    NAMES_5_AND_7_TEXT, ON_END, ON_END_EXCHANGED, ON_END_TEXT, PAIR_AND_LOOP, PAIR_AND_LOOP_TEXT,
+    STREET_TWICE, STREET_TWICE_TEXT, TWO_PAIRS, TWO_PAIRS_TEXT,
 };
 use std::alloc::Global;
 use std::process::Abort;
@@ -33,7 +34,7 @@ pub(super) const TURNED: &str =
 /// The line of record type I of that chain.
 pub(super) const TURNED_LINK: &str = "I{4}01001{8}77{9}6{9}5";
 
-/// Two names of one content.
+/// Two names with the same content.
 const OLD_MILL_8: &str = "5{4}01001{7}8{2}Old{1}Mill{22}Rd";
 
 const OLD_MILL_9: &str = "5{4}01001{7}9{2}Old{1}Mill{22}Rd";
@@ -73,7 +74,7 @@ const LOOP: &[&str] = &[
     "2{11}500{2}1{1}-86468600+32424990{1}-86468600+32424900",
 ];
 
-/// A chain between two polygons of one number.
+/// A chain between two polygons with the same number.
 pub(super) const SIDED: &[&str] = &[CHAIN, SIDES];
 
 /// Two names with one content, both used, in both orders.
@@ -90,7 +91,7 @@ pub(super) const NAMED_BACKWARDS: &[&str] = &[
 /// One of the names twice, and the other one unused.
 const NAMED_TWICE: &[&str] = &[CHAIN, LINK, OLD_MILL_8, OLD_MILL_9, "4{11}500{2}1{7}8{7}8"];
 
-/// Two landmarks of one content with a link each, and one with two contents and none.
+/// Two landmarks with the same content and a link each, and one with two contents and no link.
 const LANDMARKS: &[&str] = &[
     CHAIN,
     SIDES,
@@ -102,7 +103,7 @@ const LANDMARKS: &[&str] = &[
     "8{4}0100100001{8}12{8}31",
 ];
 
-/// A landmark whose point is told by zeros, which is none.
+/// A landmark with zeros as its point, which means no point.
 const WITHOUT_A_POINT: &[&str] = &[CHAIN, LINK, "7{4}01001{8}30AD43Barn{26}+000000000+00000000"];
 
 /// Two chains that share a node and a polygon.
@@ -113,7 +114,7 @@ const TWO_CHAINS: &[&str] = &[
     "I{4}01001{9}3{8}70{8}7100001{9}9",
 ];
 
-/// One chain, and a record of each other type that says more of it.
+/// One chain, and a record of each other type that adds to it.
 const RICH: &[&str] = &[
     "8{4}0100100001{8}12{8}30{1}",
     "2{11}500{2}5{1}-86468600+32424930",
@@ -130,7 +131,7 @@ const RICH: &[&str] = &[
     "5{4}01001{7}8{2}Elm{27}St{4}",
 ];
 
-/// The chain of that county as it is seen from its other end, and the names that it uses.
+/// The chain of that county as seen from its other end, and the names that it uses.
 const RICH_TURNED: &[&str] = &[
     TURNED,
     "I{4}01001{8}77{8}12{8}1100002{8}1200001{8}12",
@@ -282,8 +283,17 @@ const NEARLY_ALIKE: &[Row] = &[
     ("two chains that are nearly alike", ALIKE, ALIKE_TEXT),
 ];
 
-/// The tables of tests are asked of functions: what a constant holds is known wherever it is named, and that makes the proof there
-/// long. The proof of a table grows as the square of its length, so that several short ones are shorter than one.
+const GROUPS: &[Row] = &[
+    ("two pairs of one shape each", TWO_PAIRS, TWO_PAIRS_TEXT),
+    (
+        "a pair of one shape, and a loop",
+        PAIR_AND_LOOP,
+        PAIR_AND_LOOP_TEXT,
+    ),
+];
+
+/// Functions return the tables of tests. The prover knows the content of a constant wherever it is named, which makes the proof
+/// there long. The proof of a table grows as the square of its length, so several short tables are faster than one long one.
 fn streets() -> &'static [Row] {
     STREETS
 }
@@ -296,16 +306,20 @@ fn names() -> &'static [Row] {
     NAMES
 }
 
-fn types() -> &'static [Row] {
+pub(super) fn types() -> &'static [Row] {
     TYPES
 }
 
-fn twins() -> &'static [Row] {
+pub(super) fn twins() -> &'static [Row] {
     TWINS
 }
 
 fn nearly_alike() -> &'static [Row] {
     NEARLY_ALIKE
+}
+
+fn groups() -> &'static [Row] {
+    GROUPS
 }
 
 /// The sets that are accepted.
@@ -317,6 +331,7 @@ pub(super) fn worked(rt: &impl Abort, alloc: Global) -> Vec<SetLines> {
         types(),
         twins(),
         nearly_alike(),
+        groups(),
     ];
     sets_of(rt, alloc, &tables)
 }
@@ -341,12 +356,12 @@ pub(super) fn street_respelt() -> &'static [&'static str] {
     RESPELT
 }
 
-/// One chain, and a record of each other type that says more of it.
+/// One chain, and a record of each other type that adds to it.
 pub(super) fn record_of_each_type() -> &'static [&'static str] {
     RICH
 }
 
-/// That chain as it is seen from its other end.
+/// That chain as seen from its other end.
 pub(super) fn chain_of_each_type_turned() -> &'static [&'static str] {
     RICH_TURNED
 }

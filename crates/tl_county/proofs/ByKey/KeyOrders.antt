@@ -1,4 +1,4 @@
--- The orders of this crate tell any two values apart.
+-- In the orders of this crate, values that compare as equal are equal.
 use Rattle.std.proofs.Common.{◌≡◌, List, [], ◌∷◌, Ordering, Less, Equal, Greater, refl, ap, nat_cmp, int_cmp, Option, Some, None}
 use Rattle.std.proofs.Common.{option_to_list}
 use Rattle.std.specs.Ordering.{ordering_then}
@@ -16,7 +16,7 @@ use Rattle.tl_county.specs.BodyOrder.{bytes_cmp, feature_name_cmp, name_body_cmp
 use Rattle.tl_county.specs.BodyOrder.{link_part_cmp, link_cmp}
 use Rattle.tl_county.proofs.ByKey.Keys.{IsKeyOrder, nat_keys}
 
--- what two orders one after another tell
+-- what follows if two orders, one after the other, compare as equal
 pub then-equal : (a b : Ordering) → ordering_then a b ≡ Equal → (a ≡ Equal) × (b ≡ Equal)
 then-equal Less b e = absurd (less e)
   where
@@ -155,7 +155,7 @@ link_keys = record {
         let parts : link_part a ≡ link_part b = link_part_keys.exact (link_part a) (link_part b) both.1 in
         λ i. record { file = (parts i).2; cenid = (parts i).1; polyid = (parts i).0; land = exact_unsigned a.land b.land both.0 i }
 
--- two orders on the two parts of a pair, one after the other
+-- the order of pairs by two orders, one per part
 pub pair_keys : {A B : Type 0} {P : A → A → Ordering} {Q : B → B → Ordering} → IsKeyOrder P → IsKeyOrder Q
     → IsKeyOrder (λ (x y : A × B). ordering_then (P x.0 y.0) (Q x.1 y.1))
 pair_keys {A} {B} {P} {Q} p q = record {

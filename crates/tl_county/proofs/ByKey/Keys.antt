@@ -1,4 +1,4 @@
--- Keys that an order tells apart: how often they stand in a list, and their images by pairs.
+-- Keys under an order that distinguishes any two: how often they occur in a list, and their images by pairs.
 use Rattle.std.proofs.Common.{◌≡◌, ◌⊎◌, ◌<◌, ◌≤◌, ◌+◌, ℕ, zero, suc, nat_lt, length-append, ◌||◌, List, [], ◌∷◌, ◌++◌, Bool, true}
 use Rattle.std.proofs.Common.{false, cond, map, filter, length, Ordering, Less, Equal, Greater, is_eq, is_gt, sym, refl, ap, ◌∙◌}
 use Rattle.std.proofs.Common.{subst, inl, inr, arith, IsPermutation, nat_cmp}
@@ -15,7 +15,7 @@ use Rattle.std.specs.List.Sorted.{IsStrictlySortedBy}
 use Rattle.tl_county.specs.Orders.{times, stands_in, has_repeat}
 use Rattle.tl_county.specs.Renumbering.{image, swapped, composed, is_named, to_itself}
 
--- an order that tells any two keys apart
+-- an order in which keys that compare as equal are equal
 pub record IsKeyOrder {K : Type 0} (cmp : K → K → Ordering) : Type 0 where
   pub total : IsTotalOrder cmp
   pub exact : (x y : K) → cmp x y ≡ Equal → x ≡ y
@@ -28,11 +28,11 @@ is_eq-true Less e = absurd (false≢true e)
 is_eq-true Equal e = refl
 is_eq-true Greater e = absurd (false≢true e)
 
--- each number that stands in the list
+-- the key is in the list
 abbrev pub Known : {K : Type 0} → (K → K → Ordering) → List K → K → Type 0
 Known cmp ks k = 0 < times cmp k ks
 
--- ne key stands there twice
+-- no key occurs twice
 abbrev pub IsApart : {K : Type 0} → (K → K → Ordering) → List K → Type 0
 IsApart {K} cmp ks = (k : K) → times cmp k ks ≤ 1
 
@@ -120,7 +120,7 @@ module _ {K : Type 0} {cmp : K → K → Ordering} (o : IsKeyOrder cmp) where
       go (inl e) = inl e
       go (inr ne) = inr (omega (arith, times-no k j ks ne), ne)
 
-  -- what holds of each known key holds of each element
+  -- a property of each known key is a property of each element
   pub all_known : (P : K → Type 0) (ks : List K) → ((k : K) → Known cmp ks k → P k) → AllByRecursion P ks
   all_known P [] h = tt
   all_known P (k ∷ ks) h = (h k (known-here k ks), all_known P ks (λ j l. h j (known-later j k ks l)))
@@ -156,7 +156,7 @@ module _ {K : Type 0} {cmp : K → K → Ordering} (o : IsKeyOrder cmp) where
       go (inr r) ih = subst (λ y. Known cmp (rights (p ∷ ps)) y) (sym (image-no p ps x r.1))
           (known-later (image cmp ps x) p.1 (rights ps) (ih r.0))
 
-  -- the other way round, images come back
+  -- swapped pairs take images back
   pub image-back : (ps : List (K × K)) (x : K) → IsApart cmp (rights ps) → Known cmp (lefts ps) x
       → image cmp (swapped ps) (image cmp ps x) ≡ x
   image-back [] x a h = absurd (omega (arith, h))
@@ -200,7 +200,7 @@ module _ {K : Type 0} {cmp : K → K → Ordering} (o : IsKeyOrder cmp) where
   rights-to_itself [] = refl
   rights-to_itself (k ∷ ks) = ap (λ ys. k ∷ ys) (rights-to_itself ks)
 
-  -- the images of what the pairs name, in order
+  -- the images of the left sides of pairs, in order
   pub images-lefts : (qs : List (K × K)) → IsApart cmp (lefts qs) → map (image cmp qs) (lefts qs) ≡ rights qs
   images-lefts [] a = refl
   images-lefts (q ∷ qs) a = λ i. image-yes q qs q.0 refl i ∷ (rest ∙ images-lefts qs (apart_tail q.0 (lefts qs) a)) i
@@ -212,7 +212,7 @@ module _ {K : Type 0} {cmp : K → K → Ordering} (o : IsKeyOrder cmp) where
       rest : map (image cmp (q ∷ qs)) (lefts qs) ≡ map (image cmp qs) (lefts qs)
       rest = map_agree (image cmp (q ∷ qs)) (image cmp qs) (lefts qs) (λ k l. other k l (same_or_not k q.0))
 
-  -- pairs composed, where the next ones name each right side
+  -- pairs composed, if the next ones name each right side
   abbrev pub followed : List (K × K) → List (K × K) → List (K × K)
   followed ps qs = map (λ pair. (pair.0, image cmp qs pair.1)) ps
 
@@ -258,7 +258,7 @@ module _ {K : Type 0} {cmp : K → K → Ordering} (o : IsKeyOrder cmp) where
       → image cmp ps x ≡ image cmp ps y → x ≡ y
   image-injective ps x y a k l e = sym (image-back ps x a k) ∙ ap (image cmp (swapped ps)) e ∙ image-back ps y a l
 
-  -- a number stands in a list as often as its image among the images
+  -- a number occurs in a list as often as its image among the images
   pub times-images : (ps : List (K × K)) (x : K) → IsApart cmp (rights ps) → Known cmp (lefts ps) x → (ts : List K)
       → AllByRecursion (Known cmp (lefts ps)) ts → times cmp (image cmp ps x) (map (image cmp ps) ts) ≡ times cmp x ts
   times-images ps x a k [] h = refl
@@ -320,7 +320,7 @@ module _ {K : Type 0} {cmp : K → K → Ordering} (o : IsKeyOrder cmp) where
       go true = lt-ltb 0 (times cmp k ls) l
       go false = refl
 
-  -- neither is greater
+  -- if neither is greater, they are equal
   pub order_antisymm : (x y : K) → is_gt (cmp x y) ≡ false → is_gt (cmp y x) ≡ false → x ≡ y
   order_antisymm x y f g = o.exact x y (go (cmp x y) (cmp y x) (o.total.antisymm x y) f g)
     where

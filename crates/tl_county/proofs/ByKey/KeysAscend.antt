@@ -1,4 +1,4 @@
--- Lists each of whose keys is below the next: they are in order, and no key stands twice.
+-- If each key of a list is below the next, the list is in order, and no key occurs twice.
 use Rattle.std.proofs.Common.{◌≡◌, ◌<◌, ◌+◌, ℕ, suc, List, [], ◌∷◌, length, map, get_or, Bool, true, false, Ordering, Less, Equal, Greater}
 use Rattle.std.proofs.Common.{is_eq, is_gt, sym, refl, ◌∙◌, subst, arith}
 use Rattle.std.proofs.lemmas.Bool.{false≢true}
@@ -16,7 +16,7 @@ below-not_above Less e = refl
 below-not_above Equal e = refl
 below-not_above Greater e = absurd (false≢true (sym e))
 
--- what is above another isn't equal to it
+-- a key that is below another isn't equal to it
 below-not_equal : (a b : Ordering) → a ≡ ordering_reverse b → true ≡ is_lt a → is_eq b ≡ false
 below-not_equal a Less f e = refl
 below-not_equal a Equal f e = absurd (false≢true (sym (e ∙ (λ i. is_lt (f i)))))

@@ -1,4 +1,4 @@
--- Keys that are read one after the other, none greater than the next.
+-- Keys read one after the other, none greater than the next.
 use Rattle.std.proofs.Common.{◌≡◌, ◌<◌, ◌+◌, ℕ, suc, List, [], ◌∷◌, ◌++◌, length, map, take, get_or, false, Ordering, is_gt}
 use Rattle.std.proofs.Common.{sym, ap, ◌∙◌, arith}
 use Rattle.std.proofs.Math.Seq.{take-suc}
@@ -9,7 +9,7 @@ use Rattle.std.specs.List.{AllByRecursion}
 use Rattle.std.specs.Ordering.{on}
 use Rattle.tl_county.specs.Orders.{IsInOrder}
 
--- keys in order whose last is this one, and then a key that it isn't greater than
+-- keys in order whose last one is `last`, and then a key that is at least `last`
 module _ {K : Type 0} {cmp : K → K → Ordering} (o : IsTotalOrder cmp) (last key : K) (e : is_gt (cmp last key) ≡ false) where
   pub at_most-then : (keys : List K) → AllByRecursion (λ k. is_gt (cmp k last) ≡ false) keys
       → AllByRecursion (λ k. is_gt (cmp k key) ≡ false) (keys ++ key ∷ [])
@@ -26,7 +26,7 @@ module _ {K : Type 0} {cmp : K → K → Ordering} (o : IsTotalOrder cmp) (last 
       each [] b = (upto o k last key a.0 e, tt)
       each (j ∷ js) b = (b.0, each js b.1)
 
--- where the keys are in order, what has them is in their order
+-- if the keys are in order, so are the items that have them
 pub in_order-unmap : {X K : Type 0} (cmp : K → K → Ordering) (key : X → K) (xs : List X) → IsInOrder cmp (map key xs)
     → IsInOrder (on key cmp) xs
 in_order-unmap cmp key [] h = tt

@@ -1,4 +1,4 @@
--- Marks by number, and uses of which each is of a FEAT that has a name.
+-- Marks by number, and uses whose FEATs all have names.
 use Rattle.std.proofs.Common.{◌≡◌, ◌≢◌, ◌⊎◌, ◌<◌, ◌≤◌, ◌&&◌, ◌++◌, ◌∷◌, [], not, ℕ, Bool, true, false, List, length, set, get_or, slice_get, nat_lt, replicate}
 use Rattle.std.proofs.Common.{Some, None}
 use Rattle.std.proofs.Common.{flat_map, is_eq, nat_cmp, sym, ap, ◌∙◌, subst, inl, inr, refl, arith}
@@ -21,7 +21,7 @@ none_marked n number within =
     slice_get-get_or (replicate n false) number false within
     ∙ ap Some (get_or-replicate n number false false (omega (arith, within, length-replicate n false)))
 
--- one more number stands in the list at its own place, and nothing changes at another one
+-- one more number is in the list at its own place, and no other place changes
 stands_in-end : (numbers : List ℕ) (place number : ℕ) → is_eq (nat_cmp number place) ≡ false
     → stands_in nat_cmp number (numbers ++ (place ∷ [])) ≡ stands_in nat_cmp number numbers
 stands_in-end numbers place number ne = ap (nat_lt 0) (omega (arith, times-append nat_keys number numbers (place ∷ []), times-no nat_keys number place [] ne))
@@ -62,7 +62,7 @@ marked_without numbers marks place known none number within =
 abbrev IsNamed : List ℕ → ℕ × ℕ → Type 0
 IsNamed names pair = stands_in nat_cmp pair.1 names ≡ true
 
--- where each FEAT that records name has a name, no use is of one without
+-- if each FEAT that records name has a name, no use lacks one
 pub none_unnamed : (names : List ℕ) (records : List Fields4) → AllNamed names records
     → IsLeastPassing sequence_cmp (is_unnamed (flat_map uses_of records) names) None
 none_unnamed names records h pair = go (stands_in sequence_cmp pair uses) refl

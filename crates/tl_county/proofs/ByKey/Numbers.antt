@@ -1,4 +1,4 @@
--- Elements by their numbers: how many have one, and lists that ascend strictly.
+-- Elements by their numbers: how many have a number, and lists that ascend strictly.
 use Rattle.std.proofs.Common.{◌≡◌, ◌⊎◌, ◌≤◌, ℕ, suc, ◌==◌, List, [], ◌∷◌, map, filter, length, Bool, true, false, cond, Ordering}
 use Rattle.std.proofs.Common.{Less, Equal, Greater, is_eq, is_gt, sym, refl, ap, ◌∙◌, inl, inr, arith, nat_cmp}
 use Rattle.std.proofs.lemmas.Bool.{true≢false, eq-eqb, ne_eqb, cases_eq, eqb-true}
@@ -32,7 +32,7 @@ only_one [] e = absurd (omega (arith, e))
 only_one (x ∷ []) e = (x, refl)
 only_one (x ∷ y ∷ xs) e = absurd (omega (arith, e))
 
--- each of those has the number
+-- each of these elements has the number
 pub of_number-all : {X : Type 0} (f : X → ℕ) (n : ℕ) (xs : List X) → AllByRecursion (λ x. f x ≡ n) (of_number f n xs)
 of_number-all f n [] = tt
 of_number-all f n (x ∷ xs) = go (f x == n) refl (of_number-all f n xs)
@@ -101,7 +101,7 @@ module _ {K : Type 0} {cmp : K → K → Ordering} (o : IsKeyOrder cmp) where
   lower Equal g e = absurd (true≢false e)
   lower Greater g e = absurd (true≢false g)
 
-  -- in order and none twice is strictly ascending
+  -- a list in order in which nothing occurs twice is strictly ascending
   pub strict_from_order : (ks : List K) → IsInOrder cmp ks → IsApart cmp ks → IsStrictlySortedBy cmp ks
   unfolding IsStrictlySortedBy
   strict_from_order [] h a = tt

@@ -8,7 +8,7 @@ use Rattle.std.specs.Option.{option_eq}
 use lib.Pointwise.{pointwise}
 use Rattle.tl_county.proofs.ByKey.Keys.{IsKeyOrder, Known, known-here, known-later}
 
--- a look-up that finds the wanted bytes says where they stand
+-- a look-up that finds the wanted bytes returns their place
 pub stands_at : {B : Type 0} (now : B → List ℕ) (xs : List (List ℕ)) (i : ℕ) (found : Option B) (wanted : B)
     → (is_some found ≡ true → i < length xs) → IfSome found (λ x. now x ≡ get_or xs i (now x))
     → option_eq (λ x y. pointwise nat_eq (now x) (now y)) found (Some wanted) ≡ true → slice_get xs i ≡ Some (now wanted)
@@ -16,7 +16,7 @@ stands_at now xs i None wanted within at same = absurd (false≢true same)
 stands_at now xs i (Some x) wanted within at same =
     slice_get_read xs (length xs) i (now x) refl (within refl) at ∙ ap Some (same_text (now x) (now wanted) (sym same))
 
--- a key at a place of a list stands in it
+-- a key at a place of a list is in the list
 pub known_at : {K : Type 0} {cmp : K → K → Ordering} (o : IsKeyOrder cmp) (xs : List K) (i : ℕ) (k : K)
     → slice_get xs i ≡ Some k → Known cmp xs k
 known_at o [] i k e = absurd (cc)

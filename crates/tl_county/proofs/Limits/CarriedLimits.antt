@@ -1,5 +1,5 @@
--- What a renaming that carries keeps of a county's limits: its contents fit, its lists have room, and it takes as many
--- records of each type.
+-- A renaming that carries keeps a county's limits: its contents fit, its lists fit into their records, and it takes as many records
+-- of each type.
 use Rattle.std.proofs.Common.{◌≡◌, ◌+◌, ◌-◌, ◌≤◌, ℕ, zero, suc, List, [], ◌∷◌, map, flat_map, filter_map}
 use Rattle.std.proofs.Common.{length, reverse, drop, sum_by, Bool, true, false, Option, Some, None, IfSome, sym, refl, ap, ap₂}
 use Rattle.std.proofs.Common.{◌∙◌, subst, arith, nat_cmp, IsPermutation, length-drop}
@@ -13,7 +13,7 @@ use Rattle.tl_layout.specs.AddressRanges.{FitsRanges}
 use Rattle.tl_layout.specs.Bytes.{IsText}
 use Rattle.tl_layout.specs.Coordinates.{Coordinates, IsOnMap}
 use Rattle.tl_layout.specs.Turned.{turned_ranges}
-use Rattle.tl_layout.specs.TurnedFits.{body_turned_fits, ranges_turned_fit}
+use Rattle.tl_layout.specs.Laws.TurnedFits.{body_turned_fits, ranges_turned_fit}
 use Rattle.tl_layout.specs.declared.ranges.Ranges.{Ranges}
 use Rattle.tl_layout.specs.declared.type5.Body5.{Body5}
 use Rattle.tl_layout.specs.declared.type7.Body7.{Body7}
@@ -49,10 +49,10 @@ chain_turned_fits true c f = record {
   points = all_reversed IsOnMap c.points f.points;
   ranges = all_map FitsRanges turned_ranges c.ranges
       (all_weaker FitsRanges (λ entry. FitsRanges (turned_ranges entry)) ranges_turned_fit c.ranges f.ranges);
-  link = link_content_turned c.link_body c.left.cenid c.right.cenid f.link;
+  link = link_content_turned c.topology c.left.cenid c.right.cenid f.link;
 }
 
--- how many points stand between a chain's ends
+-- the number of points between a chain's ends
 length-without_last : (points : List Coordinates) → length (without_last points) ≡ length points - 1
 length-without_last [] = refl
 length-without_last (p ∷ []) = refl
@@ -75,7 +75,7 @@ ranges_turned : (b : Bool) (c : Chain) → length (turned_if b c).ranges ≡ len
 ranges_turned false c = refl
 ranges_turned true c = length-map c.ranges turned_ranges
 
--- how many pieces there are is told by the length alone
+-- the number of pieces depends only on the length
 pieces_by_length : {X Y : Type 0} (n room : ℕ) (xs : List X) (ys : List Y) → length xs ≡ length ys
     → length (pieces n room xs) ≡ length (pieces n room ys)
 pieces_by_length n zero xs ys e = refl
@@ -136,8 +136,8 @@ module _ (r : Renumbering) (a b : County) (h : Carries r a b) where
     body = f.body;
     points = f.points;
     ranges = f.ranges;
-    link = subst (λ left. FitsLinkContent c.link_body left (renumbered r c).right.cenid) (sym (side_cenid c.left.cenid c.left.polyid))
-        (subst (FitsLinkContent c.link_body c.left.cenid) (sym (side_cenid c.right.cenid c.right.polyid)) f.link);
+    link = subst (λ left. FitsLinkContent c.topology left (renumbered r c).right.cenid) (sym (side_cenid c.left.cenid c.left.polyid))
+        (subst (FitsLinkContent c.topology c.left.cenid) (sym (side_cenid c.right.cenid c.right.polyid)) f.link);
   }
 
   pub carried_contents : ContentsFit a → ContentsFit b

@@ -1,4 +1,4 @@
--- What fits the columns of a record type, by names: its numbers and its content.
+-- The fact that a record fits its columns, split by name: its numbers and its content.
 use Rattle.std.proofs.Common.{ℕ, ◌≤◌, List, length, arith, lit<}
 use Rattle.std.specs.List.{AllByRecursion}
 use Rattle.tl_layout.specs.AddressRanges.{FitsRanges}
@@ -8,7 +8,7 @@ use Rattle.tl_layout.specs.Fields.{Fields1, Fields2, Fields4, Fields5, Fields6, 
 use Rattle.tl_layout.specs.Numbers.{IsNumber, IsNumberOrNone}
 use Rattle.tl_layout.specs.Type1.{FitsType1}
 use Rattle.tl_layout.specs.Type1Groups.{FitsBody1}
-use Rattle.tl_layout.specs.Type1Laws.{type_1_fits}
+use Rattle.tl_layout.specs.Laws.Type1Laws.{type_1_fits}
 use Rattle.tl_layout.specs.Type2.{FitsType2}
 use Rattle.tl_layout.specs.Type4.{FitsType4}
 use Rattle.tl_layout.specs.Type5.{FitsType5}
@@ -159,7 +159,7 @@ pub columns_4 : (r : Fields4) → Fit4 r → FitsType4 r
 unfolding FitsType4
 columns_4 r f = (f.tlid, (f.rtsq, ((f.len, f.feats), tt)))
 
--- content that fits beside the number 1 fits beside another that does
+-- content that fits with the number 1 fits with any other number that fits
 pub named_5 : (r : Fields5) → FitsType5 r → Fit5 r
 unfolding FitsType5
 named_5 r h = record { feat = h.1.0; body = (h.0, ((omega arith, lit< tt), h.1.1)) }

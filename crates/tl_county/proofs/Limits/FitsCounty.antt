@@ -1,4 +1,4 @@
--- Linked records that fit, and of no type too many, have a county within its limits.
+-- Linked records that fit, and aren't too many of any type, have a county within its limits.
 use Rattle.std.proofs.Common.{◌≡◌, ◌⊎◌, ◌+◌, ◌*◌, ◌-◌, ◌<◌, ◌≤◌, ◌==◌, ℕ, List, [], ◌∷◌, ◌++◌, map, flat_map, filter}
 use Rattle.std.proofs.Common.{filter_map, length, length-append, Bool, true, false, cond, Option, Some, None, IfSome, is_eq}
 use Rattle.std.proofs.Common.{Ordering, sym, refl, ap, ◌∙◌, subst, inl, inr, arith, nat_cmp}
@@ -103,14 +103,14 @@ unfolding FitsRecord
 fits_p (P r) y e h = subst FitP (let same : r ≡ y = cc in same) (named_p r h)
 fits_p _ y e h = cc
 
--- what holds of each content holds of those that are joined in the order of their RTSQs
+-- a property of each content is a property of the contents joined in the order of their RTSQs
 all_joined_in_order : {X Y : Type 0} (Q : Y → Type 0) (content : X → List Y) (by : X → X → Ordering) (test : X → Bool) (xs : List X)
     → AllByRecursion (λ x. AllByRecursion Q (content x)) xs → AllByRecursion Q (flat_map content (in_order by (filter test xs)))
 all_joined_in_order Q content by test xs a =
     all_joined Q content (in_order by (filter test xs))
     (all-in_order (λ x. AllByRecursion Q (content x)) by (filter test xs) (all_filter (λ x. AllByRecursion Q (content x)) test xs a))
 
--- contents of at most width elements are together no more than width a content
+-- contents of at most `width` elements each have at most `width` times as many elements together
 length-joined : {X Y : Type 0} (width : ℕ) (content : X → List Y) (xs : List X) → AllByRecursion (λ x. length (content x) ≤ width) xs
     → length (flat_map content xs) ≤ width * length xs
 length-joined width content [] a = omega arith
@@ -136,7 +136,7 @@ pub flat_map-map : {X Y Z : Type 0} (f : Y → List Z) (g : X → Y) (xs : List 
 flat_map-map f g [] = refl
 flat_map-map f g (x ∷ xs) = ap (λ zs. f (g x) ++ zs) (flat_map-map f g xs)
 
--- of keys that are apart, one at most is that of a record
+-- at most one of several distinct keys belongs to a record
 once : (found : List PolygonKey) → IsApart key_cmp found → (r : FieldsP) → length (filter (λ key. is_eq (key_cmp key (p_key r))) found) ≤ 1
 once found apart r = subst (λ ls. length ls ≤ 1) (filter-agree (λ key. is_eq (key_cmp (p_key r) key)) (λ key. is_eq (key_cmp key (p_key r)))
     (λ key. either_way (p_key r) key) found) (apart (p_key r))
@@ -148,13 +148,13 @@ once found apart r = subst (λ ls. length ls ≤ 1) (filter-agree (λ key. is_eq
         go (inl e) = λ i. is_eq (key_cmp (e i) (sym e i))
         go (inr ne) = ne ∙ sym (differ key_keys j k (λ e. differ_apart key_keys k j ne (sym e)))
 
--- a polygon has content where it has a record
+-- a polygon takes a packed record only if it has a record
 few_packed : (key : PolygonKey) (bodies : List BodyP) (rest : List FieldsP) (n : ℕ) → length rest ≤ n
     → length (cons_option (packed_body key (first bodies)) rest) ≤ length bodies + n
 few_packed key [] rest n h = omega arith
 few_packed key (body ∷ bodies) rest n h = omega arith
 
--- the contents of a polygon's records fit beside its CENID
+-- the contents of a polygon's records fit with its CENID
 bodies_of_key : (key : PolygonKey) (rs : List FieldsP) → AllByRecursion FitP rs
     → AllByRecursion (λ r. FitsPolygon key.0 r.body) (filter (λ r. is_eq (key_cmp key (p_key r))) rs)
 bodies_of_key key [] a = tt
@@ -277,7 +277,7 @@ module _ (records : List Record) (linked : IsLinked records) (fits : AllByRecurs
   abbrev landmark_at : ℕ → ℕ × List Body7
   landmark_at land = (land, in_order landmark_body_cmp (map (λ (r : Fields7). r.body) (of_number seven_land land (of_type_7 records))))
 
-  -- what is known of a type 1 record and the type I record of its chain
+  -- the known facts about a type 1 record and the type I record of its chain
   all_chains : (Q : ℕ × Chain → Type 0) → ((r : Fields1) (link : FieldsI) → Fit1 r → FitI link → Q (r.tlid, chain_of records r link))
       → AllByRecursion Q (chains_of records)
   all_chains Q h = chains_all records linked Q (λ r link m n. h r link (all_among Fit1 r (of_type_1 records) fit_1 m)
@@ -326,7 +326,7 @@ module _ (records : List Record) (linked : IsLinked records) (fits : AllByRecurs
         (all_weaker Fit8 (λ link. IsNumber 10 link.land) (λ link f. f.land) (of_type_8 records) fit_8);
   }
 
-  -- a chain has no more records of a type than there are RTSQs
+  -- a chain has at most as many records of a type as there are RTSQs
   few_records : {X : Type 0} (tlid rtsq : X → ℕ) (n : ℕ) (xs : List X) → AllByRecursion (λ x. IsNumber 3 (rtsq x)) xs
       → has_repeat nat_cmp (map rtsq (of_number tlid n xs)) ≡ false → length (of_number tlid n xs) ≤ greatest_rtsq
   few_records {X} tlid rtsq n xs a e =
@@ -390,7 +390,7 @@ module _ (records : List Record) (linked : IsLinked records) (fits : AllByRecurs
     ranges = subst (λ n. n ≤ greatest_rtsq) (sym (ranges_held r.tlid)) (few_sixes r.tlid);
   })
 
-  -- no chain needs more records of a type than it has, so all together need no more
+  -- no chain needs more records of a type than it has, so neither do all chains together
   few_of_chains : {X Y : Type 0} (tlid : X → ℕ) (pack : ℕ × Chain → List Y) (xs : List X)
       → AllByRecursion (λ entry. length (pack entry) ≤ length (of_number tlid entry.0 xs)) (chains_of records)
       → length (flat_map pack (chains_of records)) ≤ length xs
@@ -405,7 +405,7 @@ module _ (records : List Record) (linked : IsLinked records) (fits : AllByRecurs
       shorter_pieces pack (λ (entry : ℕ × Chain). of_number tlid entry.0 xs) (chains_of records) a in
       omega arith
 
-  -- lists in pieces with RTSQs are no more than the records that hold them
+  -- a list cut into pieces with RTSQs needs at most as many records as hold it
   few_in_pieces : {X Y : Type 0} (width count : ℕ) (make : ℕ × List X → Y) (xs : List X) → length xs ≤ width * count
       → length (map make (numbered_from 1 (in_pieces width xs))) ≤ count
   few_in_pieces width count make xs h =

@@ -1,4 +1,4 @@
--- A whole county whose contents and numbers fit, and whose chains have room, is packed into records that fit.
+-- A whole county whose contents and numbers fit, and whose chains' lists fit into their records, is packed into records that fit.
 use Rattle.std.proofs.Common.{◌≡◌, ◌+◌, ◌*◌, ◌<◌, ◌≤◌, ℕ, List, [], ◌∷◌, map, flat_map, filter_map, length, Option, Some}
 use Rattle.std.proofs.Common.{None, IfSome, arith, nat_cmp, subst}
 use Rattle.std.specs.List.{AllByRecursion}
@@ -56,7 +56,7 @@ one_fits entry n two f = record {
   end = last_holds IsOnMap entry.1.points (omega arith) f.points;
 }
 
--- lists in pieces of a width, of which there are at most 999, as records with RTSQs
+-- a list in at most 999 pieces of a width, as records with RTSQs
 module _ {X Y : Type 0} (width : ℕ) (P : X → Type 0) (make : ℕ × List X → Y) (Fits : Y → Type 0)
     (each : (rtsq : ℕ) (piece : List X) → IsNumber 3 rtsq → length piece ≤ width → AllByRecursion P piece → Fits (make (rtsq, piece))) where
   pieces_fit : (xs : List X) → length xs ≤ width * greatest_rtsq → AllByRecursion P xs
@@ -125,7 +125,7 @@ p_fits key (Some body) r e f =
     some_same : (x y : FieldsP) → Some x ≡ Some y → x ≡ y
     some_same x y e = cc
 
--- what is known of each chain of such a county
+-- the known facts about each chain of such a county
 abbrev IsFitEntry : ℕ × Chain → Type 0
 IsFitEntry entry = (2 ≤ length entry.1.points) × (IsNumber 10 entry.0 × (FitsChain entry.1 × (FitsNumbers entry.1 × HasRoom entry.1)))
 
@@ -139,7 +139,7 @@ module _ (county : County) (whole : IsWhole county) (contents : ContentsFit coun
       (all_both (λ entry. FitsChain entry.1) (λ entry. FitsNumbers entry.1 × HasRoom entry.1) county.chains contents.chains
       (all_both (λ entry. FitsNumbers entry.1) (λ entry. HasRoom entry.1) county.chains numbers.named room)))
 
-  -- records of chains fit if they do chain by chain
+  -- records of chains fit if those of each chain do
   each_chain : {Y : Type 0} (Fits : Y → Type 0) (pack : ℕ × Chain → List Y)
       → ((entry : ℕ × Chain) → IsFitEntry entry → AllByRecursion Fits (pack entry)) → AllByRecursion Fits (flat_map pack county.chains)
   each_chain Fits pack h =
@@ -168,7 +168,7 @@ module _ (county : County) (whole : IsWhole county) (contents : ContentsFit coun
       (all_both (λ entry. IfSome entry.1 (FitsPolygon entry.0.0))
       (λ entry. IsNumber 10 entry.0.1) county.polygons contents.polygons numbers.polygons))
 
-  -- records of one type, as records of any
+  -- records of one type, as records of any type
   wrapped : {X : Type 0} (Fit : X → Type 0) (wrap : X → Record) → ((x : X) → Fit x → FitsRecord (wrap x)) → (xs : List X)
       → AllByRecursion Fit xs → AllByRecursion FitsRecord (map wrap xs)
   wrapped Fit wrap w xs a = all_map FitsRecord wrap xs (all_weaker Fit (λ x. FitsRecord (wrap x)) w xs a)

@@ -1,4 +1,4 @@
--- How many elements lists have: in groups, in pieces, and of numbers within bounds.
+-- How many elements lists have, in groups and in pieces, and how many numbers are within bounds.
 use Rattle.std.proofs.Common.{◌≡◌, ◌⊎◌, ◌+◌, ◌*◌, ◌-◌, ◌<◌, ◌≤◌, ◌==◌, ℕ, zero, suc, List, [], ◌∷◌, ◌++◌, map, filter, flat_map}
 use Rattle.std.proofs.Common.{filter_map, length, length-append, take, drop, Bool, true, false, cond, Option, Some, None, Less}
 use Rattle.std.proofs.Common.{is_eq, sym, refl, ap, ◌∙◌, subst, inl, inr, arith, nat_cmp}
@@ -15,9 +15,9 @@ use Rattle.tl_county.proofs.Rules.LinkedCounty.{length-in_order}
 use Rattle.tl_county.proofs.Lists.Elements.{all_weaker, all_both}
 use Rattle.tl_county.proofs.ByKey.Numbers.{count-in_order, all-in_order, strict_from_order}
 
--- the elements for which each of several tests holds, test after test
+-- the elements that pass each of several tests, test after test
 module _ {X K : Type 0} (p : K → X → Bool) where
-  -- how many tests hold of an element
+  -- the number of tests that an element passes
   abbrev pub hits : X → List K → ℕ
   hits x ks = length (filter (λ k. p k x) ks)
 
@@ -37,7 +37,7 @@ module _ {X K : Type 0} (p : K → X → Bool) where
   groups-nil [] = refl
   groups-nil (k ∷ ks) = groups-nil ks
 
-  -- where no two tests hold of one element, the groups together have no more elements than the list
+  -- if no element passes two tests, the groups together have at most as many elements as the list
   pub few_in_groups : (ks : List K) → ((x : X) → hits x ks ≤ 1) → (xs : List X) → length (flat_map (λ k. filter (p k) xs) ks) ≤ length xs
   few_in_groups ks h [] = omega (arith, groups-nil ks)
   few_in_groups ks h (x ∷ xs) = omega (arith, groups-cons x xs ks, h x, few_in_groups ks h xs)
@@ -53,12 +53,12 @@ eq_test a b = go (cases_eq a b)
     go (inl e) = eq-eqb a b e ∙ sym (subst (λ c. is_eq (nat_cmp a c) ≡ true) e (same-itself nat_keys a))
     go (inr ne) = ne_eqb a b ne ∙ sym (differ nat_keys a b ne)
 
--- of numbers that are apart, one at most is that of an element
+-- at most one of several distinct numbers belongs to an element
 pub hits_once : {X : Type 0} (f : X → ℕ) (ks : List ℕ) → IsApart nat_cmp ks → (x : X) → hits (λ k y. f y == k) x ks ≤ 1
 hits_once f ks a x = subst (λ ls. length ls ≤ 1) (sym (filter-agree (λ k. f x == k) (λ k. is_eq (nat_cmp (f x) k))
     (λ k. eq_test (f x) k) ks)) (a (f x))
 
--- lists that are no longer one by one are no longer together
+-- lists that are one by one at most as long are at most as long together
 pub shorter_pieces : {X Y Z : Type 0} (f : X → List Y) (g : X → List Z) (xs : List X) → AllByRecursion (λ x. length (f x) ≤ length (g x)) xs
     → length (flat_map f xs) ≤ length (flat_map g xs)
 shorter_pieces f g [] h = omega arith
@@ -82,7 +82,7 @@ strict_few a b (k ∷ ks) s h =
     let high : k < b = h.0.1 in
     omega arith
 
--- so are numbers that are apart, in any order
+-- the same for distinct numbers in any order
 pub few_numbers : (a b : ℕ) (ks : List ℕ) → IsApart nat_cmp ks → AllByRecursion (λ k. (a ≤ k) × (k < b)) ks → length ks ≤ b - a
 few_numbers a b ks apart h = subst (λ n. n ≤ b - a) (length-in_order nat_cmp ks)
     (strict_few a b (in_order nat_cmp ks)
@@ -90,7 +90,7 @@ few_numbers a b ks apart h = subst (λ n. n ≤ b - a) (length-in_order nat_cmp 
     (λ k. subst (λ n. n ≤ 1) (sym (count-in_order (λ j. is_eq (nat_cmp k j)) nat_cmp ks)) (apart k)))
     (all-in_order (λ k. (a ≤ k) × (k < b)) nat_cmp ks h))
 
--- pieces of n: at most c of them where there are at most n * c elements, none longer than n
+-- pieces of n: at most c of them if there are at most n * c elements, none longer than n
 pub few_pieces : {X : Type 0} (n c room : ℕ) (xs : List X) → length xs ≤ n * c → length (pieces n room xs) ≤ c
 few_pieces n c zero xs h = omega arith
 few_pieces n c (suc room) [] h = omega arith
@@ -115,14 +115,14 @@ all_drop P zero xs a = a
 all_drop P (suc n) [] a = tt
 all_drop P (suc n) (x ∷ xs) a = all_drop P n xs a.1
 
--- what holds of each element holds of each element of a piece
+-- a property of each element is a property of each element of a piece
 pub all_in_pieces : {X : Type 0} (P : X → Type 0) (n room : ℕ) (xs : List X) → AllByRecursion P xs
     → AllByRecursion (AllByRecursion P) (pieces n room xs)
 all_in_pieces P n zero xs a = tt
 all_in_pieces P n (suc room) [] a = tt
 all_in_pieces P n (suc room) (x ∷ xs) a = (all_take P n (x ∷ xs) a, all_in_pieces P n room (drop n (x ∷ xs)) (all_drop P n (x ∷ xs) a))
 
--- what holds of each content, and the RTSQs from i on
+-- a property of each content, with RTSQs from i
 pub all_numbered_from : {X : Type 0} (P : X → Type 0) (i : ℕ) (xs : List X) → AllByRecursion P xs
     → AllByRecursion (λ (entry : ℕ × X). (i ≤ entry.0) × ((entry.0 < i + length xs) × P entry.1)) (numbered_from i xs)
 all_numbered_from P i [] a = tt
@@ -138,7 +138,7 @@ pub length-numbered_from : {X : Type 0} (i : ℕ) (xs : List X) → length (numb
 length-numbered_from i [] = refl
 length-numbered_from i (x ∷ xs) = ap suc (length-numbered_from (suc i) xs)
 
--- what holds of each element where it is selected holds of all that are
+-- if a property of an element gives a property of what is selected from it, all selected values have that one
 pub all_selected : {X Y : Type 0} (P : X → Type 0) (Q : Y → Type 0) (h : X → Option Y) → ((x : X) (y : Y) → h x ≡ Some y → P x → Q y)
     → (xs : List X) → AllByRecursion P xs → AllByRecursion Q (filter_map h xs)
 all_selected P Q h f [] a = tt

@@ -1,4 +1,4 @@
--- Lists: what holds of each element, and maps that agree.
+-- Lists: properties of each element, and maps that agree.
 use Rattle.std.proofs.Common.{◌≡◌, List, [], ◌∷◌, ◌++◌, Bool, true, false, cond, map, filter, flat_map, refl, ap, suc, arith}
 use Rattle.std.specs.Prelude.{All}
 use Rattle.std.specs.List.{AllByRecursion}
@@ -7,7 +7,7 @@ pub map_itself : {X : Type 0} (f : X → X) → ((x : X) → f x ≡ x) → (xs 
 map_itself f h [] = refl
 map_itself f h (x ∷ xs) = λ i. h x i ∷ map_itself f h xs i
 
--- what holds of the element at each place holds of each element
+-- a property of the element at each place is a property of each element
 pub all_places : {X : Type 0} (P : X → Type 0) (xs : List X) → All P xs → AllByRecursion P xs
 all_places P [] h = tt
 all_places P (x ∷ xs) h = (h 0 x (omega arith), all_places P xs (λ k d l. h (suc k) d (omega arith)))

@@ -32,7 +32,7 @@ pub zip-map : {X K V : Type 0} (f : X → K) (g : X → V) (xs : List X) → zip
 zip-map f g [] = refl
 zip-map f g (x ∷ xs) = ap (λ l. (f x, g x) ∷ l) (zip-map f g xs)
 
--- entries whose values are turned into others
+-- entries with other values
 pub keys-map_values : {K V W : Type 0} (f : V → W) (xs : List (K × V)) → entry_keys (map_values f xs) ≡ entry_keys xs
 keys-map_values f [] = refl
 keys-map_values f (x ∷ xs) = ap (λ l. x.0 ∷ l) (keys-map_values f xs)
@@ -45,7 +45,7 @@ pub map_values-id : {K V : Type 0} (xs : List (K × V)) → map_values (λ v. v)
 map_values-id [] = refl
 map_values-id (x ∷ xs) = ap (λ l. x ∷ l) (map_values-id xs)
 
--- entries are known by their keys and their values
+-- entries are determined by their keys and their values
 pub entries-equal : {K V : Type 0} (xs ys : List (K × V)) → entry_keys xs ≡ entry_keys ys → entry_values xs ≡ entry_values ys → xs ≡ ys
 entries-equal [] [] e f = refl
 entries-equal [] (y ∷ ys) e f = cc
@@ -57,7 +57,7 @@ entries-equal (x ∷ xs) (y ∷ ys) e f =
     let vs : entry_values xs ≡ entry_values ys = cc in
     λ i. (k i, v i) ∷ entries-equal xs ys ks vs i
 
--- strictly ascending is in order
+-- a strictly ascending list is in order
 pub in_order-strict : {K : Type 0} (cmp : K → K → Ordering) (ks : List K) → IsStrictlySortedBy cmp ks → IsInOrder cmp ks
 unfolding IsStrictlySortedBy
 in_order-strict cmp [] h = tt
@@ -73,7 +73,7 @@ later_apart {cmp = cmp} o key (k ∷ ks) zero h e =
 later_apart o key (k ∷ ks) (suc place) h e = later_apart o key ks place h.1 e
 
 module _ {K V : Type 0} {cmp : K → K → Ordering} (o : IsKeyOrder cmp) where
-  -- a key that doesn't stand there has no value
+  -- a key that isn't in the list has no value
   pub none-under : (key : K) (entries : List (K × V)) → stands_in cmp key (entry_keys entries) ≡ false → value_under cmp key entries ≡ None
   none-under key [] e = refl
   none-under key (entry ∷ entries) e = go (same_or_not o key entry.0) (none-under key entries)
@@ -86,7 +86,7 @@ module _ {K V : Type 0} {cmp : K → K → Ordering} (o : IsKeyOrder cmp) where
       go (inr n) ih = ap (λ b. cond b (Some entry.1) (value_under cmp key entries)) n
           ∙ ih (sym (ap (nat_lt 0) (times-no o key entry.0 (entry_keys entries) n)) ∙ e)
 
-  -- the value at the place of a key is the one under it
+  -- the value at the place of a key is the value under it
   pub value-at_place : (key : K) (entries : List (K × V)) (place : ℕ) → IsStrictlySortedBy cmp (entry_keys entries)
       → slice_get (entry_keys entries) place ≡ Some key → slice_get (entry_values entries) place ≡ value_under cmp key entries
   unfolding IsStrictlySortedBy

@@ -1,4 +1,4 @@
--- Groups of records of one number, taken one after the other from records in the order of their numbers.
+-- Groups of records with one number, taken in turn from records in the order of their numbers.
 use Rattle.std.proofs.Common.{◌≡◌, ◌⊎◌, ◌==◌, ℕ, List, [], ◌∷◌, ◌++◌, map, filter, Bool, true, false, cond, Ordering, Less, Equal}
 use Rattle.std.proofs.Common.{Greater, is_eq, is_gt, sym, refl, ap, ◌∙◌, subst, inl, inr, nat_cmp, append_assoc, Option}
 use Rattle.std.proofs.lemmas.Bool.{false≢true}
@@ -24,12 +24,12 @@ eq_reversed a Equal e = ap is_eq e
 eq_reversed a Greater e = ap is_eq e
 
 module _ {X K : Type 0} {cmp : K → K → Ordering} (o : IsKeyOrder cmp) (key : X → K) where
-  -- the items of a key, whichever way it is compared
+  -- the items with a key, whichever way it is compared
   pub group-flipped : (k : K) (xs : List X) → filter (λ x. is_eq (cmp (key x) k)) xs ≡ filter (λ x. is_eq (cmp k (key x))) xs
   group-flipped k xs = filter-agree (λ x. is_eq (cmp (key x) k)) (λ x. is_eq (cmp k (key x)))
       (λ x. eq_reversed (cmp (key x) k) (cmp k (key x)) (o.total.antisymm (key x) k)) xs
 
-  -- later groups stand among the later items
+  -- later groups are among the later items
   pub group-later : (k j : K) → cmp k j ≡ Less → (xs : List X)
       → filter (λ x. is_eq (cmp (key x) j)) (filter (λ x. is_gt (cmp (key x) k)) xs) ≡ filter (λ x. is_eq (cmp (key x) j)) xs
   group-later k j less [] = refl
@@ -67,7 +67,7 @@ module _ {X : Type 0} (number : X → ℕ) where
   number-later k j less xs = sym (group-of_number j (filter (λ x. is_gt (nat_cmp (number x) k)) xs))
       ∙ group-later nat_keys number k j less xs ∙ group-of_number j xs
 
--- what comes later of records of a number
+-- the records with numbers greater than this one
 abbrev pub later_than : {X : Type 0} → (X → ℕ) → ℕ → List X → List X
 later_than number n xs = filter (λ x. is_gt (nat_cmp (number x) n)) xs
 
@@ -101,7 +101,7 @@ polygons-later key points (j ∷ keys) h =
     ∙ group-later key_keys p_key key j h.0 points ∙ group-flipped key_keys p_key j points in
     λ i. first (map (λ (r : FieldsP). r.body) (same i)) ∷ polygons-later key points keys h.1 i
 
--- a walk has one element more behind it
+-- one more element of a walk is done
 pub one_done : {X : Type 0} (done : List X) (x y : X) (ahead others whole : List X) → done ++ (x ∷ ahead) ≡ whole → y ≡ x → others ≡ ahead
     → (done ++ (y ∷ [])) ++ others ≡ whole
 one_done done x y ahead others whole e f g = append_assoc done (y ∷ []) others ∙ (λ i. done ++ (f i ∷ g i)) ∙ e
@@ -115,7 +115,7 @@ pub strict_tail : {K : Type 0} (cmp : K → K → Ordering) (k : K) (ks : List K
 unfolding IsStrictlySortedBy
 strict_tail cmp k ks h = h.1
 
--- the chain of the groups of its TLID
+-- the chain made from the groups of its TLID
 pub chain-of_groups : (head : Fields1) (link : FieldsI) (twos shape : List Fields2) (fours named : List Fields4)
     (sixes ranged : List Fields6) (tlid : ℕ) → tlid ≡ head.tlid
     → shape ≡ filter (λ x. is_eq (nat_cmp (two_tlid x) tlid)) twos → named ≡ filter (λ x. is_eq (nat_cmp (four_tlid x) tlid)) fours

@@ -1,4 +1,4 @@
--- Elements of a list: under a permutation, in a map, and where a test finds one.
+-- Elements of a list: under a permutation, in a map, and when a test finds one.
 use Rattle.std.proofs.Common.{◌≡◌, ◌⊎◌, ◌<◌, ℕ, zero, suc, List, [], ◌∷◌, ◌++◌, map, flat_map, length, get_or, Bool, true, false}
 use Rattle.std.proofs.Common.{sym, refl, ap, ◌∙◌, subst, inl, inr, arith, IsPermutation, Contains, Ordering, is_eq, filter_map}
 use Rattle.std.proofs.Common.{Option, Some, None}
@@ -103,7 +103,7 @@ to_filter_map {X} {Y} h x y (z ∷ xs) (inr m) e = go (h z) (to_filter_map h x y
     go None n = n
     go (Some w) n = inr n
 
--- where no left part stands twice, entries with one left part are one
+-- if no left part occurs twice, two entries with the same left part are equal
 pub one_entry : {K V : Type 0} {cmp : K → K → Ordering} (o : IsKeyOrder cmp) (es : List (K × V)) → IsApart cmp (map (λ e. e.0) es)
     → (p q : K × V) → Among p es → Among q es → p.0 ≡ q.0 → p ≡ q
 one_entry o [] a p q m n same = absurd m

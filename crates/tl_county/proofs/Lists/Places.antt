@@ -1,4 +1,4 @@
--- Places: what a list begins with from a place on, and what stands at the place of a key, or past the end.
+-- Places: the elements up to a place, and the element at the place of a key, or past the end.
 use Rattle.std.proofs.Common.{◌≡◌, ◌+◌, ◌++◌, ℕ, zero, suc, List, [], ◌∷◌, length, take, drop, true, false, cond, IsTrue}
 use Rattle.std.proofs.Common.{
   Option,
@@ -30,7 +30,7 @@ use Rattle.tl_county.specs.Orders.{stands_in}
 use Rattle.tl_county.proofs.Lists.EntryLists.{none-under, value-at_place}
 use Rattle.tl_county.proofs.ByKey.Keys.{IsKeyOrder}
 
--- the elements up to a place, and with the one that stands there
+-- the elements up to a place, and those with the element at that place
 pub next_taken : {X : Type 0} (xs : List X) (place : ℕ) (x : X) → Some x ≡ slice_get xs place
     → take (suc place) xs ≡ take place xs ++ (x ∷ [])
 next_taken [] place x e = cc
@@ -54,7 +54,7 @@ length_values : {K V : Type 0} (entries : List (K × V)) → length (entry_value
 length_values [] = refl
 length_values (entry ∷ entries) = omega (arith, length_values entries)
 
--- the value at the place of a key, or past the end where no entry has it, is the one under the key
+-- the value at the place of a key, or past the end if no entry has the key, is the value under the key
 value-at_or_end : {K V : Type 0} {cmp : K → K → Ordering} (o : IsKeyOrder cmp) (key : K) (entries : List (K × V)) (found : Option ℕ)
     → IsStrictlySortedBy cmp (entry_keys entries) → IfSome found (λ place. slice_get (entry_keys entries) place ≡ Some key)
     → is_some found ≡ stands_in cmp key (entry_keys entries)
@@ -64,7 +64,7 @@ value-at_or_end o key entries None strict at known =
     slice_get_past (entry_values entries) (length entries) (omega (arith, length_values entries))
     ∙ sym (none-under o key entries (sym known))
 
--- the same of a place that a chart tells, and of its count of entries
+-- the same for a place that a chart returns, and for its number of entries
 pub value-told : {K V : Type 0} {cmp : K → K → Ordering} (o : IsKeyOrder cmp) (key : K) (entries : List (K × V)) (found : Option ℕ)
     {place count : ℕ} → place ≡ unwrap_or found count → count ≡ length entries → IsStrictlySortedBy cmp (entry_keys entries)
     → IfSome found (λ at. slice_get (entry_keys entries) at ≡ Some key) → is_some found ≡ stands_in cmp key (entry_keys entries)
@@ -72,7 +72,7 @@ pub value-told : {K V : Type 0} {cmp : K → K → Ordering} (o : IsKeyOrder cmp
 value-told o key entries found is counted strict at known =
     ap (slice_get (entry_values entries)) (is ∙ ap (unwrap_or found) counted) ∙ value-at_or_end o key entries found strict at known
 
--- links whose LANDs all stand there have no LAND that doesn't
+-- links whose LANDs are all in the list have no LAND that isn't
 none_of_land : (land : ℕ) (lands : List ℕ) → stands_in nat_cmp land lands ≡ false → (links : List Fields8)
     → AllByRecursion (λ link. IsTrue (stands_in nat_cmp link.land lands)) links → of_number eight_land land links ≡ []
 none_of_land land lands unknown [] all = refl
@@ -81,7 +81,7 @@ none_of_land land lands unknown (link ∷ links) all =
     (ne_eqb link.land land (λ e. false≢true (sym unknown ∙ subst (λ n. stands_in nat_cmp n lands ≡ true) e all.0)))
     ∙ none_of_land land lands unknown links all.1
 
--- the links at the place of a LAND, or past the end, are those of the LAND
+-- the links at the place of a LAND, or past the end, are the links with the LAND
 pub links-at_or_end : (land : ℕ) (lands : List ℕ) (links : List Fields8) (found : Option ℕ) (end : ℕ) → length lands ≡ end
     → AllByRecursion (λ link. IsTrue (stands_in nat_cmp link.land lands)) links
     → IfSome found (λ place. slice_get lands place ≡ Some land) → is_some found ≡ stands_in nat_cmp land lands

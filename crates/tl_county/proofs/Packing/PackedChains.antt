@@ -1,4 +1,4 @@
--- The records of a chain in a packed county: each is of a chain that is there, and no RTSQ stands twice.
+-- The records of a chain in a packed county: each belongs to a chain of the county, and no RTSQ occurs twice.
 use Rattle.std.proofs.Common.{◌≡◌, ℕ, List, map, flat_map}
 use Rattle.std.proofs.Common.{false}
 use Rattle.std.proofs.Common.{sym, refl, ap, ◌∙◌, subst, nat_cmp}

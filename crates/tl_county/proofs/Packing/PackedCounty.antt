@@ -43,7 +43,7 @@ use Rattle.tl_county.proofs.Packing.PackedNumbers.{fives, sixes, sevens, eights,
 use Rattle.tl_county.proofs.Packing.PackedNamed.{few_polygons, key_stands, land_stands, sides_along}
 use Rattle.tl_county.proofs.Rules.PolygonBodies.{first_body, body_found}
 
--- a list of at least two points is its first, those between and its last
+-- a list of at least two points is its first point, those between and its last point
 last_behind : (p : Coordinates) (points : List Coordinates) → 1 ≤ length points
     → without_last points ++ (last_point (p ∷ points) ∷ []) ≡ points
 last_behind p [] h = absurd (omega (arith, h))
@@ -55,7 +55,7 @@ pub ends_and_inner : (points : List Coordinates) → 2 ≤ length points
 ends_and_inner [] h = absurd (omega (arith, h))
 ends_and_inner (p ∷ points) h = ap (λ rest. p ∷ rest) (last_behind p points (omega arith))
 
--- pieces put together again
+-- pieces joined again
 pub pieces_together : {X : Type 0} (n room : ℕ) (xs : List X) → 1 ≤ n → length xs ≤ room → flat_map (λ piece. piece) (pieces n room xs) ≡ xs
 pieces_together n zero [] one h = refl
 pieces_together n (suc room) [] one h = refl
@@ -68,7 +68,7 @@ flat_map-map : {X Y Z : Type 0} (f : Y → List Z) (g : X → Y) (xs : List X) �
 flat_map-map f g [] = refl
 flat_map-map f g (x ∷ xs) = ap (λ zs. f (g x) ++ zs) (flat_map-map f g xs)
 
--- records with the RTSQs 1, 2, 3, .. are in order, and hold what was put into them
+-- records with the RTSQs 1, 2, 3, .. are in order, and hold the items put into them
 module _ {X Y : Type 0} (rtsq : X → ℕ) (make : ℕ × Y → X) (told : (piece : ℕ × Y) → rtsq (make piece) ≡ piece.0) where
   pub in_sequence : (ys : List Y) → in_order (on rtsq nat_cmp) (map make (numbered_from 1 ys)) ≡ map make (numbered_from 1 ys)
   in_sequence ys = in_order-itself (on rtsq nat_cmp) (map make (numbered_from 1 ys))

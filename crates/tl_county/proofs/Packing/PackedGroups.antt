@@ -1,4 +1,4 @@
--- Records that are made entry by entry: those of one number are those of one entry, and they stand in order.
+-- Records made entry by entry: the records with one number come from one entry, and they are in order.
 use Rattle.std.proofs.Common.{◌≡◌, ◌⊎◌, ◌<◌, ◌≤◌, ◌==◌, ℕ, List, [], ◌∷◌, ◌++◌, map, flat_map, filter_map}
 use Rattle.std.proofs.Common.{true, false, cond, Option, Some, None, Ordering, Less, is_eq, is_gt, sym, refl}
 use Rattle.std.proofs.Common.{ap, ap₂, ◌∙◌, subst, inl, inr, arith, nat_cmp, append-nil}
@@ -15,7 +15,7 @@ use Rattle.tl_county.proofs.ByKey.Keys.{IsApart, nat_keys, same_or_not, times-ye
 use Rattle.tl_county.proofs.Lists.Elements.{all_weaker, all_append}
 use Rattle.tl_county.proofs.Lists.Members.{among_known, among-map}
 
--- the selection of what was wrapped
+-- selecting from wrapped values returns the values
 pub selected_own : {X Y : Type 0} (h : X → Option Y) (wrap : Y → X) → ((y : Y) → h (wrap y) ≡ Some y) → (ys : List Y)
     → filter_map h (map wrap ys) ≡ ys
 selected_own h wrap e [] = refl
@@ -26,7 +26,7 @@ pub selected_none : {X Y Z : Type 0} (h : X → Option Y) (wrap : Z → X) → (
 selected_none h wrap e [] = refl
 selected_none h wrap e (z ∷ zs) = λ i. cons_option (e z i) (selected_none h wrap e zs i)
 
--- two lists in order, of which nothing of the first is greater than anything of the second
+-- two joined lists in order are in order if nothing in the first is greater than anything in the second
 pub in_order-append : {X : Type 0} (by : X → X → Ordering) (xs ys : List X) → IsInOrder by xs → IsInOrder by ys
     → AllByRecursion (λ x. AllByRecursion (λ y. is_gt (by x y) ≡ false) ys) xs → IsInOrder by (xs ++ ys)
 in_order-append by [] ys g h a = h
@@ -45,7 +45,7 @@ module _ {V X : Type 0} (key : X → ℕ) (pack : ℕ × V → List X) (own : (e
   other_group n e ne = none_of n (pack e) (all_weaker (λ x. key x ≡ e.0) (λ x. key x ≡ n → ⊥)
       (λ x f g. differ_apart nat_keys n e.0 ne (sym g ∙ f)) (pack e) (own e))
 
-  -- no entry of this number, none of its records
+  -- without an entry of this number there is no record of it
   pub no_group : (n : ℕ) (es : List (ℕ × V)) → times nat_cmp n (map (λ (e : ℕ × V). e.0) es) ≡ 0 → of_number key n (flat_map pack es) ≡ []
   no_group n [] h = refl
   no_group n (e ∷ es) h = go (same_or_not nat_keys n e.0) (no_group n es)
@@ -90,7 +90,7 @@ module _ {V X : Type 0} (key : X → ℕ) (pack : ℕ × V → List X) (own : (e
           among_number f fs k = among_known nat_keys f.0 (map (λ (x : ℕ × V). x.0) fs) (among-map (λ (x : ℕ × V). x.0) f fs k)
       go (inr l) (inr ne) ih = later_group e.0 d es ne ∙ ih l
 
-  -- what holds of no records and of each entry's records holds of the records of any number
+  -- a property of the empty list and of each entry's records is a property of the records of any number
   pub group_holds : (Q : List X → Type 0) → Q [] → (es : List (ℕ × V)) → IsApart nat_cmp (map (λ (e : ℕ × V). e.0) es)
       → AllByRecursion (λ e. Q (pack e)) es → (n : ℕ) → Q (of_number key n (flat_map pack es))
   group_holds Q none [] apart a n = none
@@ -102,7 +102,8 @@ module _ {V X : Type 0} (key : X → ℕ) (pack : ℕ × V → List X) (own : (e
       go (inl same) ih = subst Q (sym (first_group n e es same apart)) a.0
       go (inr ne) ih = subst Q (sym (later_group n e es ne)) ih
 
-  -- entries that ascend, each with records in an order of their own: all together are in order by number and then so
+  -- if entries ascend, and the records of each are in an order of their own, all records are in order by number and then by that
+  -- order
   module _ (sub : X → X → Ordering) where
     abbrev pub by_number : X → X → Ordering
     by_number x y = ordering_then (nat_cmp (key x) (key y)) (sub x y)

@@ -23,7 +23,7 @@ use Rattle.tl_county.proofs.Packing.PackedNumbers.{chain_numbers, eights, link_n
 use Rattle.tl_county.proofs.Packing.PackedChains.{all_linked, sequence}
 use Rattle.tl_county.proofs.Packing.PackedNamed.{few_polygons, key_stands, land_stands, named}
 
--- of two tests the second holds where the first does, so the first never holds alone
+-- if the second of two tests holds whenever the first does, the first never holds alone
 implied : (a b : Bool) → (a ≡ true → b ≡ true) → (a && not b) ≡ false
 implied true true h = refl
 implied true false h = absurd (false≢true (h refl))
@@ -31,7 +31,7 @@ implied false true h = refl
 implied false false h = refl
 
 module _ (c : County) (is : IsCounty c) where
-  -- where numbers are apart no rule on numbers that stand twice is broken
+  -- if numbers are distinct, no rule on numbers that occur twice is broken
   once : (numbers known : List ℕ) → numbers ≡ known → IsApart nat_cmp known → (n : ℕ) → nat_lt 1 (times nat_cmp n numbers) ≡ false
   once numbers known e apart n = ap (λ ks. nat_lt 1 (times nat_cmp n ks)) e ∙ le-ltb 1 (times nat_cmp n known) (apart n)
 

@@ -1,4 +1,4 @@
--- What the records of a packed county name stands in it: FEATs, LANDs and polygons.
+-- The FEATs, LANDs and polygons that the records of a packed county name are in the county.
 use Rattle.std.proofs.Common.{◌≡◌, ◌⊎◌, ◌<◌, ◌≤◌, ◌+◌, ◌||◌, ℕ, List, [], ◌∷◌, ◌++◌, map, flat_map}
 use Rattle.std.proofs.Common.{filter_map, length, true, false, Option, Some, None, IsTrue, is_some}
 use Rattle.std.proofs.Common.{is_eq, sym, refl, ap, ◌∙◌, subst, inl, inr, arith, nat_cmp}
@@ -111,7 +111,7 @@ module _ (c : County) (is : IsCounty c) where
       joined [] = refl
       joined (e ∷ es) = ap (λ ks. side_keys (packed_i e) ++ ks) (joined es)
 
-  -- a polygon of the county stands on a side or has a record
+  -- a polygon of the county is on a side or has a record
   pub key_stands : (key : PolygonKey) → Known key_cmp (polygon_keys c) key
       → Known key_cmp (flat_map side_keys (of_type_i (packed c)) ++ map p_key (of_type_p (packed c))) key
   key_stands key k =

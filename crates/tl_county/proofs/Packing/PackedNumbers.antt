@@ -23,7 +23,7 @@ use Rattle.tl_county.proofs.ByKey.Keys.{apart_from_sorted}
 use Rattle.tl_county.proofs.Lists.Elements.{map-map, all_map, all_everywhere}
 use Rattle.tl_county.proofs.Packing.PackedTypes.{type_1, type_2, type_4, type_5, type_6, type_7, type_8, type_i, type_p}
 
--- each record of an entry bears its number
+-- each record of an entry has its number
 pub two_own : (e : ℕ × Chain) → AllByRecursion (λ x. two_tlid x ≡ e.0) (packed_twos e)
 two_own e = all_map (λ x. two_tlid x ≡ e.0) (λ (piece : ℕ × List _). record { tlid = e.0; rtsq = piece.0; points = piece.1 })
     (numbered_from 1 (in_pieces 10 (inner_points e.1.points)))

@@ -9,7 +9,7 @@ use Rattle.tl_layout.specs.declared.record_type.Record.TheVariants.{One, Two, Fo
 use Rattle.tl_county.specs.Packing.{Typed, by_type, type_after_type}
 use Rattle.tl_county.proofs.Packing.PackedGroups.{selected_own, selected_none}
 
--- what is selected of records type after type is what is selected of each type
+-- selecting from records type after type is selecting from each type
 module _ {Y : Type 0} (h : Record → Option Y) (t : Typed) where
   split : (a b c d e f g i p : List Y) →
       filter_map h (map One t.of_type_1) ≡ a → filter_map h (map Two t.of_type_2) ≡ b → filter_map h (map Four t.of_type_4) ≡ c →
@@ -149,7 +149,7 @@ type_p t = split as_type_p t [] [] [] [] [] [] [] [] t.of_type_p
     (selected_none as_type_p I (λ x. refl) t.of_type_i)
     (selected_own as_type_p P (λ x. refl) t.of_type_p)
 
--- the records of each type of records that stand type after type
+-- the records of each type, if the records are listed type after type
 pub by_type_of : (t : Typed) → by_type (type_after_type t) ≡ t
 by_type_of t = λ i. record {
   of_type_1 = type_1 t i;

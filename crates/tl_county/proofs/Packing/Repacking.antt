@@ -1,4 +1,4 @@
--- The county depends on the packing of types 2 and 4 and on RTSQs only by what stands in order.
+-- The county depends on the packing of types 2 and 4 and on RTSQs only through the contents in their order.
 use Rattle.std.proofs.Common.{◌≡◌, ◌⊎◌, ◌<◌, ℕ, ◌==◌, List, [], ◌∷◌, ◌++◌, map, flat_map, filter, filter_map, Bool, true, false}
 use Rattle.std.proofs.Common.{cond, Option, Some, None, option_map, Ordering, Less, Equal, Greater, is_eq, is_gt, sym, refl, ap}
 use Rattle.std.proofs.Common.{ap₂, ◌∙◌, inl, inr, nat_cmp, IsTrue, suc, nat_lt, not, ◌&&◌, ◌||◌, length}
@@ -33,7 +33,7 @@ use Rattle.tl_county.proofs.Lists.Elements.{map-map, map_agree_all, map_agree_ev
 use Rattle.tl_county.proofs.Sameness.SameChains.{chains_alike}
 use Rattle.tl_county.proofs.ByKey.Numbers.{all-in_order, of_number-all}
 
--- the records of the types that don't stand in the order of RTSQs
+-- the records of the types that aren't ordered by RTSQ
 abbrev pub unsequenced : List Record → Typed
 unsequenced records = record (by_type records) { of_type_2 = []; of_type_4 = []; of_type_6 = [] }
 
@@ -115,7 +115,7 @@ less m n h = ap (λ b. cond b Less (cond (m == n) Equal Greater)) (lt-ltb m n h)
 pub greater : (m n : ℕ) → n < m → nat_cmp m n ≡ Greater
 greater m n h = nat_cmp_total.antisymm m n ∙ ap ordering_reverse (less n m h)
 
--- two numbers that rise with others are in their order
+-- two numbers that increase with two others have the same order
 rising : (f : ℕ → ℕ) (i j : ℕ) → (i < j → f i < f j) → (j < i → f j < f i) → is_gt (nat_cmp (f i) (f j)) ≡ is_gt (nat_cmp i j)
 rising f i j up down = go (cases_order i j)
   where
@@ -125,7 +125,7 @@ rising f i j up down = go (cases_order i j)
     go (inr (inl lt)) = ap is_gt (less (f i) (f j) (up lt) ∙ sym (less i j lt))
     go (inr (inr gt)) = ap is_gt (greater (f i) (f j) (down gt) ∙ sym (greater i j gt))
 
--- the number stands among those of the list
+-- the number is one of the list's numbers
 abbrev Stands : {X : Type 0} → (X → ℕ) → List X → ℕ → Type 0
 Stands number xs n = IsTrue (stands_in nat_cmp n (map number xs))
 
@@ -152,7 +152,7 @@ flat_map-kept : {X Y : Type 0} (c : X → List Y) (f : X → X) → ((x : X) →
 flat_map-kept c f k [] = refl
 flat_map-kept c f k (x ∷ xs) = λ i. k x i ++ flat_map-kept c f k xs i
 
--- numbers that rise with others are equal where those are
+-- numbers that increase with others are equal if those are
 even : (f : ℕ → ℕ) (i j : ℕ) → (i < j → f i < f j) → (j < i → f j < f i) → is_eq (nat_cmp (f i) (f j)) ≡ is_eq (nat_cmp i j)
 even f i j up down = go (cases_order i j)
   where

@@ -1,4 +1,4 @@
--- A record of types 2 and 4 cut into two, and an empty one left out, change neither what is linked nor the county.
+-- Cutting a record of type 2 or 4 into two, or leaving out an empty one, changes neither whether a list is linked nor its county.
 use Rattle.std.proofs.Common.{◌≡◌, ◌⊎◌, ◌<◌, ℕ, suc, nat_lt, ◌==◌, List, [], ◌∷◌, ◌++◌, map, flat_map, Bool, true, false, cond, not}
 use Rattle.std.proofs.Common.{◌&&◌, ◌||◌, Ordering, is_eq, is_gt, sym, refl, ap, ap₂, ◌∙◌, subst, inl, inr, arith, nat_cmp, length}
 use Rattle.std.proofs.Common.{IsPermutation, append_assoc, filter}
@@ -37,7 +37,7 @@ rises m n h = ap is_gt (less m n h)
 falls : (m n : ℕ) → n < m → is_gt (nat_cmp m n) ≡ true
 falls m n h = ap is_gt (greater m n h)
 
--- a key that stands there twice stands there
+-- a key that is in the list twice is in the list
 stands-twice : (n k : ℕ) (ks : List ℕ) → stands_in nat_cmp n (k ∷ ks) ≡ stands_in nat_cmp n (k ∷ k ∷ ks)
 stands-twice n k ks = go (is_eq (nat_cmp n k))
   where
@@ -52,7 +52,7 @@ module _ {X Y : Type 0} (tlid rtsq : X → ℕ) (held : X → List Y) where
   abbrev pub by_rtsq : X → X → Ordering
   by_rtsq = on rtsq nat_cmp
 
-  -- what is held, in the order of the RTSQs
+  -- the contents, in the order of the RTSQs
   abbrev pub sequenced : List X → List Y
   sequenced xs = flat_map held (in_order by_rtsq xs)
 
@@ -87,7 +87,7 @@ module _ {X Y : Type 0} (tlid rtsq : X → ℕ) (held : X → List Y) where
             (put-before by_rtsq second x xs (rises (rtsq second) (rtsq x) above))
             ∙ ap (flat_map held) (put-before by_rtsq first second (x ∷ xs) (rises (rtsq first) (rtsq second) cut.later)))
 
-    -- the records of a chain, by whether the one that is cut is among them
+    -- the records of a chain, by whether the record that is cut is one of them
     of_chain : (n : ℕ) → (C : List X → List X → Type 0)
         → ((tlid whole ≡ n) → C (whole ∷ of_number tlid n others) (first ∷ second ∷ of_number tlid n others))
         → C (of_number tlid n others) (of_number tlid n others)
@@ -149,7 +149,7 @@ module _ {X Y : Type 0} (tlid rtsq : X → ℕ) (held : X → List Y) where
             (sym (ap (nat_lt 0) (times-no nat_keys (rtsq first) (rtsq second) (map rtsq xs)
             (differs (rtsq first) (rtsq second) (inl cut.later))))) (sym (absent xs free))
 
-  -- one that holds nothing
+  -- a record that holds nothing
   module _ (empty : X) (is_empty : held empty ≡ []) where
     put-empty : (xs : List X) → flat_map held (put_in_order by_rtsq empty xs) ≡ flat_map held xs
     put-empty [] = ap (λ h. h ++ []) is_empty
@@ -176,7 +176,7 @@ module _ {X Y : Type 0} (tlid rtsq : X → ℕ) (held : X → List Y) where
         go true = ap (λ h. h ++ flat_map held (of_number tlid n others)) is_empty
         go false = refl
 
-  -- one that is left out: fewer numbers, so fewer that are unknown or stand twice
+  -- leaving out a record: there are fewer numbers, so fewer are unknown or occur twice
   module _ (empty : X) where
     pub unknown-empty : (n : ℕ) (others : List X) (known : Bool)
         → (stands_in nat_cmp n (map tlid (empty ∷ others)) && not known) ≡ false
@@ -268,7 +268,7 @@ alike others (Four whole) first second h =
     }))
 alike others _ first second h = absurd h
 
--- from any order of the one list to any order of the other
+-- from any order of one list to any order of another
 in_any_order : (records others xs ys : List Record) → IsPermutation xs records → IsPermutation ys others
     → (IsLinked xs → IsLinked ys) → county_of xs ≡ county_of ys → IsLinked records
     → IsLinked others × (county_of others ≡ county_of records)

@@ -1,4 +1,4 @@
--- How many records of each type: by the type's byte, and by the lists of records of one type.
+-- The number of records of each type, by the type's byte and by the lists of records of one type.
 use Rattle.std.proofs.Common.{◌≡◌, ◌⊎◌, ◌+◌, ◌≤◌, ◌==◌, ℕ, suc, List, [], ◌∷◌, length, filter_map, Bool, true, false, cond}
 use Rattle.std.proofs.Common.{Option, Some, None, refl, sym, ap, ◌∙◌, subst, inl, inr, arith, zero-add}
 use Rattle.std.proofs.lemmas.Bool.{eqb-true}
@@ -16,7 +16,7 @@ use Rattle.tl_county.specs.Packing.{Typed, by_type, packed_by_type, packed}
 use Rattle.tl_county.proofs.Packing.PackedTypes.{by_type_of}
 use Rattle.tl_county.proofs.Rules.FirstFault.{Among, all_among}
 
--- at most so many records of each type, which the limits tell by the type's byte
+-- each type has at most as many records as the limit for its byte
 pub record HasWithin (limits : ℕ → ℕ) (records : Typed) : Type 0 where
   pub of_type_1 : length records.of_type_1 ≤ limits 49
   pub of_type_2 : length records.of_type_2 ≤ limits 50
@@ -44,7 +44,7 @@ pub record HasAsMany (records others : Typed) : Type 0 where
   pub of_type_i : length records.of_type_i ≡ length others.of_type_i
   pub of_type_p : length records.of_type_p ≡ length others.of_type_p
 
--- no more records of any type than the limits tell
+-- no type has more records than its limit
 abbrev pub KeepsLimits : (ℕ → ℕ) → List Record → Type 0
 KeepsLimits limits records = (rtype : ℕ) → count_of_type rtype records ≤ limits rtype
 
@@ -57,7 +57,7 @@ count-cons : (n : ℕ) (r : Record) (records : List Record)
     → count_of_type n (r ∷ records) ≡ cond (type_of r == n) 1 0 + count_of_type n records
 count-cons n r records = sum_by-cons (λ q. cond (type_of q == n) 1 0) r records
 
--- how many are of a type is how many a selection leaves that selects just these
+-- the number of records of a type is the number that a selection of exactly these leaves
 count_selected : {Y : Type 0} (h : Record → Option Y) (n : ℕ) → ((r : Record) → (type_of r == n) ≡ is_selected (h r))
     → (records : List Record) → count_of_type n records ≡ length (filter_map h records)
 unfolding is_selected
@@ -142,7 +142,7 @@ count_p = count_selected as_type_p 80 told
     told (P r) = refl
     told _ = refl
 
--- records that keep the limits have at most so many of each type
+-- if records keep the limits, their lists by type do
 pub by_type_keeps : (limits : ℕ → ℕ) (records : List Record) → KeepsLimits limits records → HasWithin limits (by_type records)
 by_type_keeps limits records h = record {
   of_type_1 = subst (λ n. n ≤ limits 49) (count_1 records) (h 49);
@@ -180,7 +180,7 @@ type_has_byte (Eight r) = inr (inr (inr (inr (inr (inr (inl refl))))))
 type_has_byte (I r) = inr (inr (inr (inr (inr (inr (inr (inl refl)))))))
 type_has_byte (P r) = inr (inr (inr (inr (inr (inr (inr (inr (inl refl))))))))
 
--- a number is the byte of a type, or of none
+-- a number is the byte of a type, or of no type
 byte_or_none : (n : ℕ) (bytes : List ℕ) → Among n bytes ⊎ ((b : ℕ) → Among b bytes → (b == n) ≡ false)
 byte_or_none n [] = inr (λ b m. absurd m)
 byte_or_none n (byte ∷ bytes) = go (byte == n) refl (byte_or_none n bytes)
@@ -195,7 +195,7 @@ byte_or_none n (byte ∷ bytes) = go (byte == n) refl (byte_or_none n bytes)
         either b (inl same) = ap (λ m. m == n) same ∙ e
         either b (inr m) = none b m
 
--- and records of which there are at most so many of each type keep the limits
+-- if the lists by type keep the limits, the records do
 pub within_from : (limits : ℕ → ℕ) (records : List Record) → HasWithin limits (by_type records) → KeepsLimits limits records
 within_from limits records h n = go (byte_or_none n type_bytes)
   where

@@ -1,4 +1,4 @@
--- What linking builds of tables in order is the county of their records.
+-- The parts that linking builds from tables in order are the county of their records.
 use Rattle.std.proofs.Common.{◌≡◌, ◌⊎◌, ◌==◌, ℕ, suc, List, [], ◌∷◌, ◌++◌, map, flat_map, length, Bool, true, false, cond, Less}
 use Rattle.std.proofs.Common.{is_eq, inl, inr, sym, refl, ap, ◌∙◌, subst, arith, nat_cmp, IsPermutation, Option, Some, None}
 use Rattle.std.proofs.Common.{unwrap_or, option_map, slice_get, zero}
@@ -52,7 +52,7 @@ length-chains_along twos fours sixes (r ∷ rs) [] e = cc
 length-chains_along twos fours sixes (r ∷ rs) (l ∷ ls) e = let rest : map one_tlid rs ≡ map i_tlid ls = cc in
     omega (arith, length-chains_along twos fours sixes rs ls rest)
 
--- the nodes of chains are those of their records of type I
+-- the nodes of chains are those of their type I records
 nodes-chains_along : (twos : List Fields2) (fours : List Fields4) (sixes : List Fields6) (rs : List Fields1) (ls : List FieldsI)
     → map one_tlid rs ≡ map i_tlid ls → flat_map chain_nodes (chains_along twos fours sixes rs ls) ≡ flat_map link_nodes ls
 nodes-chains_along twos fours sixes [] [] e = refl
@@ -107,7 +107,7 @@ module _ (t : Typed) (order : AreInOrder t) where
     pub built-is_county : IsCounty (county_along t)
     built-is_county = subst IsCounty as_built (county-is_county (type_after_type t) linked)
 
--- tables hold the records of a list, whose order has no meaning
+-- tables hold the records of a list; the list's order has no meaning
 pub held : (tables : Tables) (records : List Record) → HoldsByType tables records → by_type records ≡ typed_of tables
 held tables records h = λ i. record {
   of_type_1 = sym h.type_1 i;
@@ -146,12 +146,12 @@ links_under_lands-along t = go (distinct nat_cmp (map seven_land t.of_type_7))
     go [] = tt
     go (land ∷ lands) = (of_number-all eight_land land t.of_type_8, go lands)
 
--- the links of a LAND are those under it
+-- the links with a LAND are the ones stored under it
 module _ (land : ℕ) where
   abbrev none : LandmarkParts
   none = record { bodies = []; links = [] }
 
-  -- where all or no links have the number
+  -- if all links, or none, have the number
   all_of : (links : List Fields8) → AllByRecursion (λ link. link.land ≡ land) links → of_number eight_land land links ≡ links
   all_of [] a = refl
   all_of (link ∷ links) a =
@@ -255,7 +255,7 @@ links-at landmarks strict under place = go (slice_get (entry_keys landmarks) pla
         (value-at_place nat_keys land landmarks place strict e) ∙ links-under land landmarks strict under
     go None e = ap (λ (v : Option LandmarkParts). (unwrap_or v (record { bodies = []; links = [] })).links) (no_value landmarks place e)
 
--- what tables within their limits become when they are put in order has a county within its limits
+-- if tables are within their limits, the tables put in order have a county within its limits
 pub within_limits-moved : (before after : Tables) → HoldsWithinLimits before → ArePermuted (typed_of before) (typed_of after)
     → IsLinked (type_after_type (typed_of after)) → IsWithinLimits most_records (county_of (type_after_type (typed_of after)))
 within_limits-moved before after within permuted linked =

@@ -1,4 +1,4 @@
--- Of faults that stand in a finite list, either none is there or exactly one is the first.
+-- If all faults are in a finite list, either there is none or exactly one is the first.
 use Rattle.std.proofs.Common.{◌≡◌, ◌⊎◌, ℕ, List, [], ◌∷◌, ◌++◌, map, Bool, true, false, not, ◌&&◌, ◌||◌, is_eq, is_gt, sym, refl}
 use Rattle.std.proofs.Common.{ap, ◌∙◌, subst, inl, inr}
 use Rattle.std.proofs.lemmas.Bool.{false≢true, and_parts, or_cases, not-true}
@@ -12,7 +12,7 @@ use Rattle.std.proofs.Common.{Ordering, arith}
 pub place_keys : IsKeyOrder place_cmp
 place_keys = lists_keys bytes_keys
 
--- x is one of the list
+-- x is in the list
 abbrev pub Among : {X : Type 0} → X → List X → Type 0
 Among x [] = ⊥
 Among x (y ∷ ys) = (x ≡ y) ⊎ Among x ys
@@ -41,7 +41,7 @@ known_among {cmp = cmp} o f k (j ∷ ks) h = go (known_cases o k j ks h) (known_
     go (inr r) ih = inr (ih r.0)
 
 module _ {F : Type 0} (there : F → Bool) (place : F → List (List ℕ)) where
-  -- f is there, and none of the list comes before it
+  -- f is present, and no fault in the list comes before it
   abbrev pub IsLeastOf : List F → F → Type 0
   IsLeastOf cs f = (there f ≡ true) × AllByRecursion (λ c. there c ≡ true → is_gt (place_cmp (place f) (place c)) ≡ false) cs
 
@@ -72,7 +72,7 @@ module _ {F : Type 0} (there : F → Bool) (place : F → List (List ℕ)) where
       go false t (inl none) = inl (t, none)
       go false t (inr p) = inr (p.0, (p.1.0, ((λ u. absurd (false≢true (sym t ∙ u))), p.1.1)))
 
-  -- where each fault that is there stands in the list
+  -- if each present fault is in the list
   pub first_or_none : (cs : List F) → ((f : F) → there f ≡ true → Among f cs)
       → ((f : F) → there f ≡ false) ⊎ ((f : F) × IsFirst there place f)
   first_or_none cs all = go (first_among cs)
@@ -101,7 +101,7 @@ module _ {F : Type 0} (there : F → Bool) (place : F → List (List ℕ)) where
   one_first at back f g h k = sym (back f) ∙ ap at (order_antisymm place_keys (place f) (place g) (h.least g k.there) (k.least f h.there))
       ∙ back g
 
-  -- the same by computing, over a list in which each fault that is there stands
+  -- the same by computing, over a list that has each present fault
   abbrev pub none_there : List F → Bool
   none_there cs = list_all (λ c. not (there c)) cs
 

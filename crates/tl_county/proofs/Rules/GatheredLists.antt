@@ -1,4 +1,4 @@
--- What is gathered for linking: keys without repetition, landmarks in order, and tables whose records are those of a list.
+-- The lists gathered for linking: keys without repetition, landmarks in order, and tables that hold the records of a list.
 use Rattle.std.proofs.Common.{◌≡◌, ◌⊎◌, nat_lt, List, [], ◌∷◌, Bool, true, false, cond, Ordering}
 use Rattle.std.proofs.Common.{Less, Equal, Greater, is_eq, is_gt, sym, refl, ap, ◌∙◌, subst, inl, inr, arith, nat_cmp, Option}
 use Rattle.std.proofs.Common.{Some, None, IsPermutation}
@@ -58,7 +58,7 @@ module _ {K : Type 0} {cmp : K → K → Ordering} (o : IsKeyOrder cmp) where
   pub distinct-permuted : (xs ys : List K) → IsPermutation xs ys → distinct cmp ys ≡ distinct cmp xs
   distinct-permuted xs ys p = distinct_same o ys xs (λ k. ap (nat_lt 0) (times-permutation o k xs ys p))
 
--- in order by an order that answers the same
+-- in order by another order with the same results
 pub in_order-alike : {X : Type 0} (by other : X → X → Ordering) → ((x y : X) → by x y ≡ other x y) → (xs : List X) → IsInOrder by xs
     → IsInOrder other xs
 in_order-alike by other e [] h = tt
@@ -67,7 +67,7 @@ in_order-alike by other e (x ∷ xs) h = (
   in_order-alike by other e xs h.1,
 )
 
--- landmarks by their fields, with any order of points or none that puts none first
+-- landmarks by their fields, with any order of optional points that puts no point first
 module _ (by : Option Coordinates → Option Coordinates → Ordering) (none : by None None ≡ Equal) (first : (p : Coordinates)
     → by None (Some p) ≡ Less) (last : (p : Coordinates) → by (Some p) None ≡ Greater) (both : (p q : Coordinates)
     → by (Some p) (Some q) ≡ point_cmp p q) where

@@ -1,4 +1,4 @@
--- Entries whose values are kept in some way, and the entries that they stand for.
+-- Entries with stored values, and the entries that they represent.
 use Rattle.std.proofs.Common.{◌≡◌, ℕ, zero, suc, List, [], ◌∷◌, map, flat_map, refl, sym, ap, ◌∙◌, subst, slice_get, Option, Some, IfSome, option_map, unwrap_or, nat_cmp}
 use Rattle.std.specs.List.Sorted.{IsStrictlySortedBy}
 use Rattle.tl_layout.specs.ByType.{of_number}
@@ -17,7 +17,7 @@ use Rattle.tl_county.proofs.Lists.Elements.{map-map}
 pub keys-kept : {K V W : Type 0} (f : V → W) (xs : List (K × V)) → entry_keys xs ≡ entry_keys (map_values f xs)
 keys-kept f xs = sym (keys-map_values f xs)
 
--- what was found in the one list of keys is found in the other
+-- a number found in one list of keys is found in an equal list
 pub found-in : {keys others : List ℕ} (place : Option ℕ) (number : ℕ) → keys ≡ others
     → IfSome place (λ at. slice_get keys at ≡ Some number) → IfSome place (λ at. slice_get others at ≡ Some number)
 found-in place number same found =
@@ -33,7 +33,7 @@ pub lands-kept-in : {V : Type 0} (f : V → LandmarkParts) (xs : List (ℕ × V)
     → entry_keys xs ≡ entry_keys (map landmark_entry (map_values f xs))
 lands-kept-in f xs = keys-kept f xs ∙ lands-kept (map_values f xs)
 
--- the names of records of type 5, under the FEATs of these records
+-- the names of type 5 records, under the FEATs of these records
 pub names-built : {V : Type 0} (f : V → Body5) (xs : List (ℕ × V)) (t : Typed) → entry_keys xs ≡ map five_feat t.of_type_5
     → map f (entry_values xs) ≡ map (λ (r : Fields5). r.body) t.of_type_5 → map_values f xs ≡ (county_along t).names
 names-built f xs t keys values =
@@ -41,11 +41,11 @@ names-built f xs t keys values =
     (keys-map_values f xs ∙ keys ∙ sym (map-map (λ e. e.0) (λ (r : Fields5). (r.feat, r.body)) t.of_type_5))
     (values-map_values f xs ∙ values ∙ sym (map-map (λ e. e.1) (λ (r : Fields5). (r.feat, r.body)) t.of_type_5))
 
--- where there is no landmark
+-- the parts if there is no landmark
 abbrev pub without : LandmarkParts
 without = record { bodies = []; links = [] }
 
--- a landmark that is kept as it is, as it is found under a LAND: its contents and its links
+-- a landmark that is stored as it is, looked up under a LAND: its contents and its links
 module _ (land : ℕ) (kept : List (ℕ × LandmarkParts)) {found : Option LandmarkParts} (is : found ≡ value_under nat_cmp land kept) where
   as_kept : found ≡ value_under nat_cmp land (map_values (λ l. l) kept)
   as_kept = is ∙ ap (value_under nat_cmp land) (sym (map_values-id kept))

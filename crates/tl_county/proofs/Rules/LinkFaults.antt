@@ -1,4 +1,4 @@
--- A list of records is linked, or some rule is broken first and no other is.
+-- Either a list of records is linked, or exactly one rule is the first that is broken.
 use Rattle.std.proofs.Common.{◌≡◌, ◌⊎◌, ◌<◌, ℕ, zero, suc, nat_lt, ◌==◌, List, [], ◌∷◌, ◌++◌, map, flat_map, Bool, true, false}
 use Rattle.std.proofs.Common.{cond, not, ◌&&◌, is_eq, sym, refl, ap, ◌∙◌, subst, inl, inr, nat_cmp, arith}
 use Rattle.std.proofs.lemmas.Bool.{false≢true, ltb-true, and_parts, ne_eqb, eqb-true}
@@ -70,7 +70,7 @@ fault_at-place (NoChain Two tlid) = refl
 fault_at-place (SequenceBroken sequenced.Two tlid) = refl
 fault_at-place fault = refl
 
--- Among these each broken rule stands with its place.
+-- These lists have every broken rule, with its place.
 abbrev pub name_faults : List Fields4 → List LinkFault
 name_faults = flat_map (λ r. map (NameUnknown r.tlid) r.feats)
 
@@ -163,7 +163,7 @@ among_types sequenced.Six f records h =
     (among_right f (type_faults sequenced.Two records) _
     (among_right f (type_faults sequenced.Four records) _ (among_left f (type_faults sequenced.Six records) _ h)))
 
--- the faults of the three types left aside
+-- a fault listed after those of types 2, 4 and 6 is in the whole list
 after_types : (f : LinkFault) (records : List Record)
     → Among f (map (NoChain I) (linked_tlids I records)
     ++ (map LinkMissing (chain_tlids records) ++ map LinkTwice (map i_tlid (of_type_i records)))) → Among f (faults_11_to_15 records)
@@ -191,7 +191,7 @@ some_above n e = omega (arith, ltb-true 1 n e)
 some : (n : ℕ) (b : Bool) → (nat_lt 0 n && b) ≡ true → 0 < n
 some n b e = ltb-true 0 n (and_parts (nat_lt 0 n) b e).0
 
--- the faults among which each broken rule stands
+-- the faults that have every broken rule among them
 abbrev pub all_faults : List Record → List LinkFault
 all_faults records = faults_11_to_15 records ++ faults_16_to_20 records
 

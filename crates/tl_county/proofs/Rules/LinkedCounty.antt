@@ -1,4 +1,4 @@
--- The county of a linked list of records: its numbers ascend, and each number that it names is there.
+-- The county of a linked list of records: its numbers ascend, and each number that it names exists.
 use Rattle.std.proofs.Common.{◌≡◌, ◌⊎◌, ◌<◌, ◌≤◌, ◌+◌, ◌==◌, ◌||◌, ℕ, suc, nat_lt, length, length-append, filter, cond, is_eq}
 use Rattle.std.proofs.Common.{is_gt, is_some, inl, inr, Ordering, Option, List, [], ◌∷◌, ◌++◌, map, flat_map, Bool, true, false}
 use Rattle.std.proofs.Common.{not, ◌&&◌, IsTrue, sym, refl, ap, ◌∙◌, subst, arith, nat_cmp, map-id}
@@ -38,7 +38,7 @@ use Rattle.tl_county.proofs.Lists.Reordered.{to_filter}
 use Rattle.tl_county.proofs.ByKey.Numbers.{all_themselves, times-of_number, only_one, of_number-among, times-in_order, all-in_order}
 use Rattle.tl_county.proofs.ByKey.Numbers.{from_in_order, to_in_order, strict_from_order, distinct-strict}
 
--- of two tests that don't both hold, the second fails where the first holds
+-- if a test never holds without another, the other holds whenever it does
 pub needed : (a b : Bool) → (a && not b) ≡ false → a ≡ true → b ≡ true
 needed a true e t = refl
 needed true false e t = absurd (false≢true (sym e))
@@ -159,7 +159,7 @@ module _ (records : List Record) (linked : IsLinked records) where
       (λ k n. key_stands k (known-left key_keys k (flat_map side_keys (of_type_i records)) (map p_key (of_type_p records))
       (among_known key_keys k (flat_map side_keys (of_type_i records)) (among-pieces side_keys link k (of_type_i records) m n))))
 
-  -- what holds of the chain of each pair of records holds of each chain of the county
+  -- a property of the chain of each pair of records is a property of each chain of the county
   pub chains_all : (P : ℕ × Chain → Type 0) → ((r : Fields1) (link : FieldsI) → Among r (of_type_1 records) → Among link (of_type_i records)
       → P (r.tlid, chain_of records r link)) → AllByRecursion P (chains_of records)
   chains_all P h = all_joined P (λ r. map (λ link. (r.tlid, chain_of records r link)) (of_number i_tlid r.tlid (of_type_i records)))
@@ -195,7 +195,7 @@ module _ (records : List Record) (linked : IsLinked records) where
       (lt-ltb 0 (times key_cmp (link_key link) (map link_key (of_type_8 records))) named) in
       key_stands (link_key link) (ltb-true 0 (times key_cmp (link_key link) all_keys) t)
 
-  -- each type I record is that of a chain of the county
+  -- each type I record belongs to a chain of the county
   pub linked_chain : (link : FieldsI) → Among link (of_type_i records)
       → (r : Fields1) × Among (r.tlid, chain_of records r link) (chains_of records)
   linked_chain link m =

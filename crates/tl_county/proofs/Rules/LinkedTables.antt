@@ -1,4 +1,4 @@
--- The county of linked records in the order of their numbers is the one that walking their tables builds.
+-- The county of linked records in the order of their numbers is the one built by walking their tables.
 use Rattle.std.proofs.Common.{◌≡◌, ◌⊎◌, ◌<◌, ◌==◌, ℕ, List, [], ◌∷◌, ◌++◌, map, flat_map, filter, Bool, true}
 use Rattle.std.proofs.Common.{false, not, cond, Ordering, Less, Equal, is_eq, is_gt, sym, refl, ap, ◌∙◌, subst, inl, inr}
 use Rattle.std.proofs.Common.{arith, nat_cmp}
@@ -37,7 +37,7 @@ use Rattle.tl_county.proofs.Lists.Members.{among_known, known_is_among, among-ma
 use Rattle.tl_county.proofs.ByKey.Numbers.{all_themselves, of_number-all, strict_from_order, distinct-strict}
 use Rattle.tl_county.proofs.Lists.Reordered.{to_filter}
 
--- in a group of one number, order by the number and something else is order by the other
+-- in a group with one number, an order by the number and something else is an order by the other
 pub group_order : {X : Type 0} (number : X → ℕ) (next : X → X → Ordering) (n : ℕ) (xs : List X) → AllByRecursion (λ x. number x ≡ n) xs
     → IsInOrder (λ x y. ordering_then (nat_cmp (number x) (number y)) (next x y)) xs → IsInOrder next xs
 group_order number next n [] a h = tt
@@ -113,7 +113,7 @@ module _ (records : List Record) (order : AreInOrder (by_type records)) (linked 
       (in_order-map nat_cmp five_feat (of_type_5 records) order.type_5)
       (λ n. ltb-false 1 (times nat_cmp n (map five_feat (of_type_5 records))) (linked (NameTwice n)))
 
-  -- records of types 1 and I stand side by side
+  -- type 1 and type I records are paired by place
   pub side_by_side : map one_tlid (of_type_1 records) ≡ map i_tlid (of_type_i records)
   side_by_side = strict-equal nat_cmp_total (λ n. n) (map one_tlid (of_type_1 records))
       (map i_tlid (of_type_i records)) tlids-strict links-strict
@@ -124,7 +124,7 @@ module _ (records : List Record) (order : AreInOrder (by_type records)) (linked 
       (needed (stands_in nat_cmp n (linked_tlids I records)) (stands_in nat_cmp n (chain_tlids records)) (linked (NoChain I n))
       (lt-ltb 0 (times nat_cmp n (linked_tlids I records)) (among_known nat_keys n (linked_tlids I records) m)))))
 
-  -- the chain of its groups
+  -- the chain made from its groups
   chain-groups : (r : Fields1) (link : FieldsI) → chain_of records r link ≡ chain_with r link
       (of_number two_tlid r.tlid (of_type_2 records)) (of_number four_tlid r.tlid (of_type_4 records))
       (of_number six_tlid r.tlid (of_type_6 records))
@@ -136,7 +136,7 @@ module _ (records : List Record) (order : AreInOrder (by_type records)) (linked 
       (in_order-itself (on six_rtsq nat_cmp) (of_number six_tlid r.tlid (of_type_6 records))
       (group_in_order six_tlid (on six_rtsq nat_cmp) r.tlid (of_type_6 records) order.type_6) i)
 
-  -- the one record of type I of a chain
+  -- the one type I record of a chain
   only_link : (n : ℕ) (l : FieldsI) → Known nat_cmp (chain_tlids records) n → Among l (of_type_i records) → l.tlid ≡ n
       → of_number i_tlid n (of_type_i records) ≡ l ∷ []
   only_link n l known m e =

@@ -1,4 +1,4 @@
--- The content of a polygon is that of its type P record.
+-- A polygon has the content of its type P record.
 use Rattle.std.proofs.Common.{◌≡◌, ◌⊎◌, ◌≤◌, suc, List, [], ◌∷◌, map, filter, Bool, true, false, cond, Some, is_eq, sym, refl, ap}
 use Rattle.std.proofs.Common.{◌∙◌, subst, inl, inr, arith}
 use Rattle.tl_layout.specs.Fields.{FieldsP}

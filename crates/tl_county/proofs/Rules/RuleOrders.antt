@@ -1,4 +1,4 @@
--- The rules one after the other: what each search says of its rule, and how stretches of rules are joined.
+-- The rules in turn: what each search finds about its rule, and how stretches of rules are joined.
 use Rattle.std.proofs.Common.{◌≡◌, ◌<◌, ◌≤◌, ◌==◌, ℕ, suc, nat_lt, List, [], ◌∷◌, ◌++◌, Bool, true, false, cond, not}
 use Rattle.std.proofs.Common.{◌||◌, Ordering, Less, Equal, Greater, is_gt, sym, refl, ap, ◌∙◌, subst, inl, inr, arith}
 use Rattle.std.proofs.Common.{nat_cmp, Some, None}
@@ -21,7 +21,7 @@ use Rattle.tl_county.proofs.Rules.FirstFault.{Among}
 use Rattle.tl_county.proofs.Rules.LinkFaults.{part, number}
 use Rattle.tl_county.proofs.Lists.Members.{any_among}
 
--- a fault's place is that of its rule and then that of its key
+-- a fault's place begins with the place of its rule and ends with its key
 abbrev head_of_rule : ℕ → List (List ℕ)
 head_of_rule n =
     cond (n == 0) ((11 ∷ []) ∷ [])
@@ -82,11 +82,11 @@ fault_of_rule-itself (NoChain Two tlid) = refl
 fault_of_rule-itself (SequenceBroken sequenced.Two tlid) = refl
 fault_of_rule-itself fault = refl
 
--- the places at which the rules stand
+-- the places of the rules
 abbrev places : List ℕ
 places = 0 ∷ 1 ∷ 2 ∷ 3 ∷ 4 ∷ 5 ∷ 6 ∷ 7 ∷ 8 ∷ 9 ∷ 10 ∷ 11 ∷ 12 ∷ 13 ∷ 14 ∷ []
 
--- a fault that is there stands at one of them
+-- a broken rule has one of these places
 has_place : (records : List Record) (f : LinkFault) → is_rule_broken records f ≡ true → list_any (λ n. n == rule_place f) places ≡ true
 has_place records (NoChain Two tlid) b = refl
 has_place records (SequenceBroken sequenced.Two tlid) b = refl
@@ -99,7 +99,7 @@ place_among records f b =
     any_among (λ n. n == rule_place f) places (has_place records f b) in
     subst (λ n. Among n places) (eqb-true found.0 (rule_place f) found.2) found.1
 
--- whether the one comes before the other at the first place where they differ, before either ends
+-- whether the first list comes before the second at the first place where they differ, before either ends
 abbrev differs_at : Ordering → Bool → Bool
 differs_at Less rest = true
 differs_at Equal rest = rest
@@ -121,7 +121,7 @@ before-less (a ∷ ps) (b ∷ qs) xs ys e = go (slice_cmp nat_cmp a b) e (before
     go Equal f ih = ih f
     go Greater f ih = absurd (false≢true f)
 
--- the rules stand in the order of their places
+-- the rules are in the order of their places
 rules_ascend : list_all (λ m. list_all (λ n. not (nat_lt m n) || comes_before (head_of_rule m) (head_of_rule n)) places) places ≡ true
 rules_ascend = refl
 
@@ -148,8 +148,8 @@ earlier_rule records f g b d lt =
     go true e h = h
     go false e h = absurd (false≢true e)
 
--- A rule as its search sees it: its faults have keys, it is broken at a key where the test passes, and lesser keys have
--- lesser places.
+-- A rule as its search finds it: its faults have keys, it is broken at a key that passes the test, and lesser keys have lesser
+-- places.
 pub record IsRule {K : Type 0} (cmp : K → K → Ordering) (test : K → Bool) (records : List Record) (n : ℕ) (at : K
     → LinkFault) : Type 0 where
   pub broken : (k : K) → is_rule_broken records (at k) ≡ test k

@@ -1,4 +1,4 @@
--- The rules by which records fit together, each as its search sees it.
+-- The rules for records that fit together, each as its search finds it.
 use Rattle.std.proofs.Common.{◌≡◌, ◌⊎◌, ◌<◌, ◌≤◌, ◌+◌, ◌==◌, ◌&&◌, not, ℕ, suc, nat_lt, List, [], ◌∷◌, ◌++◌, map, flat_map}
 use Rattle.std.proofs.Common.{Bool, true, false, cond, Ordering, Less, Equal, Greater, is_eq, is_gt, sym, refl}
 use Rattle.std.proofs.Common.{ap, ◌∙◌, subst, inl, inr, arith, nat_cmp, Some, None, zero-add, IsPermutation}
@@ -52,7 +52,7 @@ paired Less b e = refl
 paired Equal b e = single b e
 paired Greater b e = e
 
--- order by two things is order by the first of them
+-- an order by two keys is an order by the first
 first_order : (a b : Ordering) → is_gt (ordering_then a b) ≡ false → is_gt a ≡ false
 first_order Less b e = refl
 first_order Equal b e = refl
@@ -70,7 +70,7 @@ in_order-first first next (x ∷ xs) h = (
 pub sequence_keys : IsKeyOrder sequence_cmp
 sequence_keys = pair_keys nat_keys nat_keys
 
--- a number stands in a chain's records as often as the pair of both in all
+-- a number occurs in a chain's records as often as the pair of both in all records
 module _ {X : Type 0} (f g : X → ℕ) where
   pub times-pair : (n m : ℕ) (xs : List X) → times sequence_cmp (n, m) (map (λ x. (f x, g x)) xs) ≡ times nat_cmp m
       (map g (of_number f n xs))
@@ -125,7 +125,7 @@ module _ {X : Type 0} (f g : X → ℕ) where
       go (inr r) ih = let found : (m : ℕ) × (1 < times nat_cmp m ks) = ih r in
           (found.0, omega (arith, times-cons nat_keys found.0 k ks, found.1))
 
-  -- the least pair that stands twice has the least number under which something stands twice
+  -- the least pair that occurs twice has the least number under which something occurs twice
   pub least-repeat : (n m : ℕ) (xs : List X) → IsLeastPassing sequence_cmp (is_repeated sequence_cmp (map (λ x. (f x, g x)) xs))
       (Some (n, m)) → IsLeastPassing nat_cmp (λ k. has_repeat nat_cmp (map g (of_number f k xs))) (Some n)
   least-repeat n m xs h = (
@@ -152,7 +152,7 @@ module _ {X : Type 0} (f g : X → ℕ) where
           absurd (false≢true (sym (h (k, found.0))
           ∙ lt-ltb 1 (times sequence_cmp (k, found.0) (map (λ x. (f x, g x)) xs)) (omega (arith, found.1, times-pair k found.0 xs))))
 
--- a use stands in all as often as its FEAT among those of its chain
+-- a use occurs among all uses as often as its FEAT among those of its chain
 pub times-uses : (n y : ℕ) (rs : List Fields4) → times sequence_cmp (n, y) (flat_map uses_of rs) ≡ times nat_cmp y
     (flat_map (λ r. r.feats) (of_number four_tlid n rs))
 times-uses n y [] = refl
@@ -197,7 +197,7 @@ times-uses n y (r ∷ rs) =
         ∙ ap (λ b. times nat_cmp y (flat_map (λ (q : Fields4). q.feats) (cond b (r ∷ of_number four_tlid n rs) (of_number four_tlid n rs))))
         (sym (ne_eqb r.tlid n (λ e. false≢true (sym ne ∙ subst (λ k. is_eq (nat_cmp n k) ≡ true) (sym e) (same-itself nat_keys n)))))
 
--- the first use is of a FEAT that no name has
+-- the first use has a FEAT that no name has
 pub unnamed-first : (first : ℕ × ℕ) (later : List (ℕ × ℕ)) (feats : List ℕ) → IsInOrder sequence_cmp (first ∷ later)
     → stands_in nat_cmp first.1 feats ≡ false → IsLeastPassing sequence_cmp (is_unnamed (first ∷ later) feats) (Some first)
 unnamed-first first later feats h none = (
@@ -207,7 +207,7 @@ unnamed-first first later feats h none = (
       (and_parts (stands_in sequence_cmp other (first ∷ later)) (not (stands_in nat_cmp other.1 feats)) t).0),
 )
 
--- the uses and the names may stand in another order
+-- the uses and the names may be in another order
 pub unnamed-reordered : (uses others : List (ℕ × ℕ)) (feats : List ℕ) → IsPermutation uses others → (pair : ℕ × ℕ)
     → is_unnamed others feats pair ≡ is_unnamed uses feats pair
 unnamed-reordered uses others feats p pair =

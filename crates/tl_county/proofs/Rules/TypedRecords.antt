@@ -1,4 +1,4 @@
--- Records type after type: they have the records of each type, and the records of a list in another order.
+-- Records type after type: they have the records of each type, and are the records of a list in another order.
 use Rattle.std.proofs.Common.{◌≡◌, List, [], ◌∷◌, ◌++◌, map, filter_map, Option, Some, None, refl, ap, ◌∙◌, IsPermutation}
 use Rattle.std.proofs.lemmas.List.{append-nil}
 use Rattle.std.proofs.lemmas.List.Sorted.{IsPermutation-refl, IsPermutation-sym, IsPermutation-trans, IsPermutation-cons}
@@ -113,7 +113,7 @@ module _ (t : Typed) where
     of_type_p = type-p i;
   }
 
--- an element may stand behind others
+-- an element may come after others
 deeper : {X : Type 0} (x : X) (xs rest others : List X) → IsPermutation (x ∷ rest) others → IsPermutation (x ∷ (xs ++ rest)) (xs ++ others)
 deeper x xs rest others p =
     IsPermutation-trans _ _ _ (IsPermutation-sym _ _ (IsPermutation-middle xs x rest)) (IsPermutation-append_right xs (x ∷ rest) others p)
@@ -155,7 +155,7 @@ pub grouped : (records : List Record) → IsPermutation records (type_after_type
 grouped [] = IsPermutation-refl []
 grouped (r ∷ rs) = IsPermutation-trans _ _ _ (IsPermutation-cons r rs (type_after_type (by_type rs)) (grouped rs)) (add r rs)
 
--- where each table is permuted, so are the records
+-- if each table is permuted, so are the records
 pub permuted-after : (t u : Typed) → ArePermuted t u → IsPermutation (type_after_type t) (type_after_type u)
 permuted-after t u p =
     IsPermutation-append (map One t.of_type_1) (map One u.of_type_1) _ _ (IsPermutation-map One t.of_type_1 u.of_type_1 p.type_1)

@@ -24,12 +24,12 @@ use Rattle.tl_county.proofs.Lists.Members.{among-pieces, among_known, known_is_a
 use Rattle.tl_county.proofs.ByKey.Numbers.{count-map}
 use Rattle.tl_county.proofs.Lists.Reordered.{distinct_same, stands_alike}
 
--- there is a first element exactly if there is one
+-- a list has a first element exactly if it isn't empty
 first_there : {X Y : Type 0} (f : X → Y) (xs : List X) → is_some (first (map f xs)) ≡ nat_lt 0 (length xs)
 first_there f [] = refl
 first_there f (x ∷ xs) = sym (lt-ltb 0 (suc (length xs)) (omega arith))
 
--- of keys with what belongs to each, one has content exactly if it stands there and has content
+-- if keys are listed with their contents, a key has content exactly if it is listed and has content
 content_under : {K V : Type 0} {cmp : K → K → Ordering} (o : IsKeyOrder cmp) (content : K → Option V) (key : K) (keys : List K)
     → list_any (λ (entry : K × Option V). is_eq (cmp key entry.0) && is_some entry.1) (map (λ k. (k, content k)) keys)
     ≡ (stands_in cmp key keys && is_some (content key))
@@ -57,14 +57,14 @@ content_under {K} {V} {cmp} o content key (k ∷ keys) = go (is_eq (cmp key k)) 
         ∙ ap (λ b. b && is_some (content key)) (sym (lt-ltb 0 (suc (length others)) (omega arith)))
     go false e ih = ih
 
--- where no key passes, none does
+-- if the search for a passing key finds none, no key passes
 pub none_passes : {K : Type 0} (cmp : K → K → Ordering) (test : K → Bool) (found : Option K) → is_some found ≡ false
     → IsLeastPassing cmp test found → (k : K) → test k ≡ false
 none_passes cmp test None e h = h
 none_passes cmp test (Some k) e h = absurd (false≢true (sym e))
 
 module _ {K : Type 0} {cmp : K → K → Ordering} (o : IsKeyOrder cmp) where
-  -- keys that all stand among others add nothing to them
+  -- if all added keys are known already, they add nothing
   pub distinct-all_known : (known more : List K) → ((k : K) → is_unknown cmp more known k ≡ false)
       → distinct cmp known ≡ distinct cmp (known ++ more)
   distinct-all_known known more h = distinct_same o known (known ++ more)
@@ -78,7 +78,7 @@ module _ {K : Type 0} {cmp : K → K → Ordering} (o : IsKeyOrder cmp) where
           go (inr m) = ltb-true 0 (times cmp k known)
               (needed (stands_in cmp k more) (stands_in cmp k known) (h k) (lt-ltb 0 (times cmp k more) m))
 
-  -- what is unknown among keys in order is unknown among the keys
+  -- a key that is unknown among the keys in order is unknown among the keys
   pub unknown-distinct : (asked known ordered : List K) → ordered ≡ distinct cmp known → (k : K)
       → is_unknown cmp asked (map (λ j. j) ordered) k ≡ is_unknown cmp asked known k
   unknown-distinct asked known ordered e k = ap (λ b. stands_in cmp k asked && not b)
@@ -112,11 +112,11 @@ module _ (records : List Record) (linked : IsLinked records) where
       each r link n m = each_from (Known key_cmp on_sides) (side_keys link)
           (λ k l. among_known key_keys k on_sides (among-pieces side_keys link k (of_type_i records) m l))
 
-  -- a polygon is on a side of a record of type I exactly if it is on a side of a chain
+  -- a polygon is on a side in a type I record exactly if it is on a side of a chain
   same_sides : (key : PolygonKey) → stands_in key_cmp key on_sides ≡ stands_in key_cmp key along
   same_sides key = stands_alike key_keys on_sides along key (side_along key) (along_side key)
 
-  -- it has a record of type P exactly if the county has content for it
+  -- it has a type P record exactly if the county has content for it
   same_body : (key : PolygonKey) → stands_in key_cmp key (map p_key (of_type_p records)) ≡ has_body (county_of records) key
   same_body key =
       let there : stands_in key_cmp key (map p_key (of_type_p records)) ≡ is_some (polygon_body records key) =
@@ -142,7 +142,7 @@ module _ (records : List Record) (linked : IsLinked records) where
           never false = refl
       within false e true d = absurd (cc)
 
-  -- so the two searches look for the same polygons
+  -- so both searches look for the same polygons
   pub same_without_chain : (key : PolygonKey) → is_unknown key_cmp (map p_key (of_type_p records)) on_sides key
       ≡ is_without_chain (county_of records) key
   same_without_chain key = ap₂ (λ a b. a && not b) (same_body key) (same_sides key)

@@ -47,7 +47,7 @@ among-unpieces {X} f y (x ∷ xs) h = go (among-unappend y (f x) (flat_map f xs)
     go (inl k) ih = (x, inl refl, k)
     go (inr k) ih = let r : (z : X) × Among z xs × Among y (f z) = ih k in (r.0, inr r.1, r.2)
 
--- what stands in two lists stands in them the other way round
+-- an element of two joined lists is in them joined the other way round
 pub among-swapped : {X : Type 0} (x : X) (xs ys : List X) → Among x (xs ++ ys) → Among x (ys ++ xs)
 among-swapped x xs ys h = go (among-unappend x xs ys h)
   where

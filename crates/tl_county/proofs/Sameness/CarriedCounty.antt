@@ -1,4 +1,4 @@
--- What a renaming that carries keeps: a closed county is carried onto a closed one, a whole one onto a whole one.
+-- A renaming that carries takes a closed county to a closed one, and a whole one to a whole one.
 use Rattle.std.proofs.Common.{◌≡◌, ◌⊎◌, ◌≤◌, ◌||◌, ℕ, List, map, length, Bool, true, false}
 use Rattle.std.proofs.Common.{Option, IsTrue, is_some, option_to_list, Ordering, sym, refl, subst, inl, inr, arith}
 use Rattle.std.proofs.Common.{nat_cmp}
@@ -24,7 +24,7 @@ use Rattle.tl_county.proofs.ByKey.Keys.{IsKeyOrder, Known, nat_keys, lefts, righ
 use Rattle.tl_county.proofs.Rules.LinkedCounty.{each_from}
 use Rattle.tl_county.proofs.Lists.Members.{among-permutation, among-map, among-unmap, among-pieces, among_known, known_is_among}
 
--- a turn keeps the members of what is told of both ends and sides, in both directions
+-- a turn keeps the nodes and polygons of a chain, in both directions
 pub nodes-turned : (n : ℕ) (b : Bool) (c : Chain) → Among n (chain_nodes c) → Among n (chain_nodes (turned_if b c))
 nodes-turned n false c h = h
 nodes-turned n true c h = among-swapped n (option_to_list c.start_node) (option_to_list c.end_node) h
@@ -45,7 +45,7 @@ points-turned : (b : Bool) (c : Chain) → length (turned_if b c).points ≡ len
 points-turned false c = refl
 points-turned true c = length-reverse c.points
 
--- the image of a known number is known on the other side
+-- the image of a known number is known in the other county
 pub paired_known : {K : Type 0} {cmp : K → K → Ordering} (o : IsKeyOrder cmp) (pairs : List (K × K)) (olds news : List K)
     → ArePaired pairs olds news → (k : K) → Known cmp olds k → Known cmp news (image cmp pairs k)
 paired_known {K} {cmp} o pairs olds news h k l =
@@ -53,7 +53,7 @@ paired_known {K} {cmp} o pairs olds news h k l =
     (image-known o pairs k (known-permutation o k (lefts pairs) olds h.left l))
 
 module _ (r : Renumbering) (a b : County) (h : Carries r a b) where
-  -- each part of the county onto which it carries is the image of one
+  -- each part of the county carried onto is the image of one
   old_chain : (e : ℕ × Chain) → Among e b.chains → (d : ℕ × Chain) × Among d a.chains × (e ≡ carried_chain r d)
   old_chain e m = among-unmap (carried_chain r) e a.chains
       (among-permutation e b.chains (map (carried_chain r) a.chains)
@@ -115,7 +115,7 @@ module _ (r : Renumbering) (a b : County) (h : Carries r a b) where
         (polygon_keys a))) o.0 a.links closed.link_polygons o.1)));
   }
 
-  -- a polygon on a side stands on one under its new number
+  -- the renamed polygon of a side is on a side
   pub carried_side : (k : PolygonKey) → Known key_cmp (polygons_along a.chains) k
       → Known key_cmp (polygons_along b.chains) (image key_cmp r.polygons k)
   carried_side k l =

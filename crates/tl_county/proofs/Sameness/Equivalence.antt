@@ -27,7 +27,7 @@ use Rattle.tl_county.proofs.ByKey.Keys.{images-lefts, followed, joined-followed,
 use Rattle.tl_county.proofs.ByKey.KeyOrders.{key_keys}
 use Rattle.tl_county.proofs.Lists.Distinct.{apart-distinct, known-distinct, has_repeat-apart}
 
--- numbers don't depend on the direction
+-- renaming and turning a chain commute
 pub renumbered-turned : (r : Renumbering) (c : Chain) → renumbered r (turned c) ≡ turned (renumbered r c)
 renumbered-turned r c = refl
 
@@ -63,7 +63,7 @@ renumbered-nothing c = λ i. record c {
   right = renumbered-nothing_side c.right.cenid c.right.polyid i;
 }
 
--- first r and then q is p, on the numbers of the county a
+-- r and then q act as p on the numbers of the county a
 pub record Follows (q r p : Renumbering) (a : County) : Type 0 where
   pub chains : (n : ℕ) → Known nat_cmp (tlids a) n → image nat_cmp q.chains (image nat_cmp r.chains n) ≡ image nat_cmp p.chains n
   pub names : (n : ℕ) → Known nat_cmp (feats a) n → image nat_cmp q.names (image nat_cmp r.names n) ≡ image nat_cmp p.names n
@@ -208,7 +208,7 @@ parts_follow q r p a closed f = record {
       }) a.links (links_are a closed);
 }
 
--- what carries nothing anywhere leaves each part
+-- a renaming that changes nothing leaves each part as it is
 pub carried-nothing : (e : ℕ × Chain) → carried_chain nothing e ≡ e
 carried-nothing e = λ i. (e.0, renumbered-nothing e.1 i)
 
@@ -310,7 +310,7 @@ cenids_back : (ps : List (PolygonKey × PolygonKey)) → AllByRecursion (λ p. p
 cenids_back [] h = tt
 cenids_back (p ∷ ps) h = (sym h.0, cenids_back ps h.1)
 
--- where pairs name all olds and all news, images go there and back
+-- if pairs name all old and all new numbers, images go there and back
 pub there_and_back : {K : Type 0} {cmp : K → K → Ordering} (o : IsKeyOrder cmp) (ps : List (K × K)) (olds news : List K)
     → ArePaired ps olds news → IsApart cmp news → (k : K) → Known cmp olds k → image cmp (swapped ps) (image cmp ps k) ≡ k
 there_and_back o ps olds news h a k l =
@@ -389,7 +389,7 @@ module _ (r : Renumbering) (a b : County) (ca : IsCounty a) (cb : IsCounty b) (h
         links = back (carried_link r) (carried_link (inverse r)) a.links b.links (f.links ∙ map-id a.links) h.links;
       }
 
--- transitive: a renaming and then another carry on
+-- transitive: two renamings, one after the other, carry as one
 pub paired_on : {K : Type 0} {cmp : K → K → Ordering} (o : IsKeyOrder cmp) (ps qs : List (K × K)) (olds mids news : List K)
     → IsApart cmp mids → ArePaired ps olds mids → ArePaired qs mids news → ArePaired (composed cmp ps qs) olds news
 paired_on {K} {cmp} o ps qs olds mids news a g h =
@@ -407,7 +407,7 @@ paired_on {K} {cmp} o ps qs olds mids news a g h =
           (IsPermutation-trans (map (image cmp qs) (rights ps)) (rights qs) news images h.right);
     }
 
--- and the images follow
+-- and so do the images
 pub images_on : {K : Type 0} {cmp : K → K → Ordering} (o : IsKeyOrder cmp) (ps qs : List (K × K)) (olds mids news : List K)
     → ArePaired ps olds mids → ArePaired qs mids news → (k : K) → Known cmp olds k
     → image cmp qs (image cmp ps k) ≡ image cmp (composed cmp ps qs) k

@@ -1,4 +1,4 @@
--- The chains of two lists of records, where what each chain is said to be is the same.
+-- The chains of two lists of records that agree on the records of each chain.
 use Rattle.std.proofs.Common.{◌≡◌, ◌∙◌, ℕ, List, map, flat_map, ap, nat_cmp}
 use Rattle.std.specs.Ordering.{on}
 use Rattle.tl_layout.specs.ByType.{of_number, of_type_1, of_type_i}

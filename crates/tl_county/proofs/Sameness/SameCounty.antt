@@ -1,4 +1,4 @@
--- The county doesn't depend on the order of the records, on the packing of types 2 and 4, nor on the choice of RTSQs.
+-- The county depends neither on the order of the records, nor on the packing of types 2 and 4, nor on the choice of RTSQs.
 use Rattle.std.proofs.Common.{◌≡◌, ◌≤◌, ℕ, nat_lt, ◌==◌, List, [], ◌∷◌, ◌++◌, map, flat_map, filter, length, false}
 use Rattle.std.proofs.Common.{is_eq, sym, ap, ◌∙◌, arith, nat_cmp, IsPermutation}
 use Rattle.std.proofs.lemmas.Bool.{ltb-false}

@@ -1,4 +1,4 @@
--- Small counties on which the definitions are tried.
+-- Small counties that try out the definitions.
 use Rattle.std.proofs.Common.{ℕ, ◌-◌, ◌+◌, ◌*◌, List, [], ◌∷◌, ◌++◌, length, replicate, codes, Option, Some, None, pos, negsuc}
 use Rattle.tl_layout.specs.Coordinates.{Coordinates}
 use Rattle.tl_layout.specs.PolygonSide.{PolygonSide}
@@ -12,7 +12,7 @@ use Rattle.tl_layout.specs.declared.record_type.Record.TheVariants.{One, Two, Fo
 abbrev pub blanks : ℕ → List ℕ
 blanks n = replicate n 32
 
--- text filled with blanks on the right, and on the left
+-- text padded with blanks on the right, and on the left
 abbrev pub filled : ℕ → List ℕ → List ℕ
 filled n bytes = bytes ++ blanks (n - length bytes)
 
@@ -43,10 +43,10 @@ side cenid polyid = record { cenid = cenid; polyid = Some polyid }
 abbrev pub file : List ℕ
 file = codes "01001"
 
-abbrev pub link_body : BodyI
-link_body = record { file = file; source = blanks 10; ftseg = blanks 17; rs_i1 = blanks 10; rs_i2 = blanks 10; rs_i3 = blanks 10 }
+abbrev pub topology : BodyI
+topology = record { file = file; source = blanks 10; ftseg = blanks 17; rs_i1 = blanks 10; rs_i2 = blanks 10; rs_i3 = blanks 10 }
 
--- a street with its ranges, tracts and blocks, all else of it fixed
+-- a street with these ranges, tracts and blocks; everything else is fixed
 abbrev pub street : Ranges → List ℕ → List ℕ → List ℕ → List ℕ → Body1Fields
 street ranges tractl tractr blockl blockr = record {
   side1 = blanks 1;
@@ -111,7 +111,7 @@ east_end = at 86468545 32424948
 -- a record of type I
 abbrev pub link : ℕ → Option ℕ → Option ℕ → PolygonSide → PolygonSide → Record
 link tlid start end left right =
-    I (record { tlid = tlid; body = link_body; start_node = start; end_node = end; left = left; right = right })
+    I (record { tlid = tlid; body = topology; start_node = start; end_node = end; left = left; right = right })
 
 abbrev pub chain_there : ℕ → Record
 chain_there tlid = One (record { tlid = tlid; body = street_there; start = west_end; end = east_end })
@@ -141,7 +141,7 @@ back_wrong = One (record {
   end = west_end;
 }) ∷ link 77 (Some 6) (Some 5) no_side no_side ∷ []
 
--- the point number k of eleven between the ends
+-- point number k of eleven between the ends
 abbrev pub between_ends : ℕ → Coordinates
 between_ends k = at (86468669 - 10 * k) (32424914 + k)
 
@@ -165,7 +165,7 @@ abbrev pub canonical_shaped : List Record
 canonical_shaped = chain_there 1 ∷ two 1 1 (1 ∷ 2 ∷ 3 ∷ 4 ∷ 5 ∷ 6 ∷ 7 ∷ 8 ∷ 9 ∷ 10 ∷ []) ∷ two 1 2 (11 ∷ []) ∷ link 1 (Some 1)
     (Some 2) no_side no_side ∷ []
 
--- a loop, with two points between or with none
+-- a loop, with two points in between or with none
 abbrev pub loop_chain : ℕ → Record
 loop_chain tlid = One (record { tlid = tlid; body = street_there; start = west_end; end = west_end })
 
@@ -176,18 +176,18 @@ loop = loop_chain 500 ∷ Two (record { tlid = 500; rtsq = 1; points = at 864686
 abbrev pub bare_loop : List Record
 bare_loop = loop_chain 500 ∷ link 500 (Some 11) (Some 11) no_side no_side ∷ []
 
--- two chains of one shape
+-- two chains of the same shape
 abbrev pub doubled : List Record
 doubled = chain_there 9 ∷ link 9 (Some 11) (Some 12) no_side no_side ∷ chain_back 4 ∷ link 4 (Some 6) (Some 5) no_side no_side ∷ []
 
--- two polygons of one POLYID under two CENIDs
+-- two polygons with the same POLYID under two CENIDs
 abbrev pub two_polygons : List Record
 two_polygons = chain_there 500 ∷ link 500 (Some 11) (Some 12) (side cenid_1 12) (side cenid_2 12) ∷ []
 
 abbrev pub canonical_polygons : List Record
 canonical_polygons = chain_there 1 ∷ link 1 (Some 1) (Some 2) (side cenid_1 1) (side cenid_2 2) ∷ []
 
--- two names that only their uses tell apart
+-- two names that differ only in their uses
 abbrev pub old_mill : Body5
 old_mill = record {
   file = file;

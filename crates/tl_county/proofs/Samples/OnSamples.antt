@@ -1,4 +1,4 @@
--- What the definitions say of the samples: their counties, which renamings carry, and which refusal a list of records has.
+-- The definitions applied to the samples: their counties, the renamings that carry, and the refusal of a list of records.
 use Rattle.std.proofs.Common.{◌≡◌, ℕ, List, [], ◌∷◌, ◌++◌, map, length, Bool, true, false, Some, sym, refl, ap, ◌∙◌, arith}
 use Rattle.std.proofs.Common.{IsPermutation, codes, ◌==◌, ◌&&◌, ◌⊎◌, inl, inr, slice_index, lit<, nat_cmp}
 use Rattle.std.proofs.lemmas.Bool.{false≢true}
@@ -15,19 +15,19 @@ use Rattle.tl_layout.specs.Turned.{turned_body}
 use Rattle.tl_shape.specs.Turned.{turned_if}
 use Rattle.tl_county.proofs.Lists.Members.{among-permutation}
 use Rattle.tl_county.proofs.Rules.LinkFaults.{linked_computed, first_rule_computed}
-use Rattle.tl_county.proofs.Samples.Counties.{filled, right, street, ranges_back, east_end, street_there, street_back, west_end, link_body}
+use Rattle.tl_county.proofs.Samples.Counties.{filled, right, street, ranges_back, east_end, street_there, street_back, west_end, topology}
 use Rattle.tl_county.proofs.Samples.Counties.{no_side, cenid_1, cenid_2, there, back, back_wrong, back_shaped, there_shaped}
 use Rattle.tl_county.proofs.Samples.Counties.{canonical_shaped, points_up, two_polygons, named, schools, landmark, in_polygon, four, two}
 use Rattle.tl_county.proofs.Samples.Counties.{chain_there, meeting, old_mill}
 
--- the one chain, with further names
+-- the only chain, with further names
 abbrev named_chain : List ℕ → Chain
 named_chain names = record {
   body = street_there;
   points = west_end ∷ east_end ∷ [];
   feats = names;
   ranges = [];
-  link_body = link_body;
+  topology = topology;
   start_node = Some 11;
   end_node = Some 12;
   left = no_side;
@@ -41,7 +41,7 @@ county_there = refl
 pub turned_street : turned_body street_there ≡ street_back
 turned_street = refl
 
--- the renaming of the one chain onto the other, with its nodes and turned
+-- the renaming of the first chain onto the second, with its nodes, and turned
 abbrev pub onto_back : Renumbering
 onto_back = record { chains = (500, 77) ∷ []; names = []; polygons = []; lands = []; nodes = (11, 5) ∷ (12, 6) ∷ []; turned = 500 ∷ [] }
 
@@ -64,12 +64,12 @@ onto_back_carries = record {
   links = IsPermutation-refl [];
 }
 
--- without the pair of a node it carries no longer
+-- without the pair of a node it doesn't carry
 pub without_a_node : Carries (record onto_back { nodes = (11, 5) ∷ [] }) (county_of there) (county_of back) → ⊥
 without_a_node h = let one : List ℕ = 11 ∷ [] in let two : List ℕ = 11 ∷ 12 ∷ [] in let e : length two ≡ length one =
     length_permutation one two h.numbers.nodes.left in omega arith
 
--- reading the records in another order of the file, or in other pieces, gives the points in the order of the RTSQs
+-- records in another order in the file, or in other pieces, have the points in the order of the RTSQs
 pub back_shaped_points : map (λ e. e.1.points) (county_of back_shaped).chains ≡
     (east_end ∷ (points_up (11 ∷ 10 ∷ 9 ∷ 8 ∷ 7 ∷ 6 ∷ 5 ∷ 4 ∷ 3 ∷ 2 ∷ 1 ∷ []) ++ (west_end ∷ []))) ∷ []
 back_shaped_points = refl
@@ -86,7 +86,7 @@ pub names_stay : (map (λ e. e.0) (county_of (named (8 ∷ 8 ∷ []))).names ≡
     × (map (λ e. e.1.feats) (county_of (named (8 ∷ 8 ∷ []))).chains ≡ (8 ∷ 8 ∷ []) ∷ [])
 names_stay = (refl, refl)
 
--- two records of one LAND are one landmark with two bodies, in order
+-- two records with the same LAND are one landmark with two bodies, in order
 abbrev lanames : ℕ × List Body7 → ℕ × List (List ℕ)
 lanames entry = (entry.0, map (λ b. b.laname) entry.1)
 
@@ -101,11 +101,11 @@ there_linked = linked_computed there refl
 pub schools_linked : IsLinked (schools 30 31)
 schools_linked = linked_computed (schools 30 31) refl
 
--- and these are refused
+-- and these are rejected
 pub name_unknown : IsFirstBrokenRule (four 500 1 (8 ∷ []) ∷ there) (NameUnknown 500 8)
 name_unknown = first_rule_computed (four 500 1 (8 ∷ []) ∷ there) (NameUnknown 500 8) refl
 
--- the least rule is told, though another is broken too
+-- the rule with the least number is reported, although another is broken too
 pub sequence_broken : IsFirstBrokenRule (two 500 1 [] ∷ two 500 1 [] ∷ four 500 1 (8 ∷ []) ∷ there) (SequenceBroken sequenced.Two 500)
 sequence_broken = first_rule_computed (two 500 1 [] ∷ two 500 1 [] ∷ four 500 1 (8 ∷ []) ∷ there) (SequenceBroken sequenced.Two 500) refl
 
@@ -119,7 +119,7 @@ chain_twice = first_rule_computed (chain_there 500 ∷ chain_there 500 ∷ []) (
 pub meeting_nodes : nodes (county_of meeting) ≡ 70 ∷ 71 ∷ 72 ∷ []
 meeting_nodes = refl
 
--- Where only the left addresses are exchanged, no renaming carries: neither the chain as it is nor turned is the other.
+-- If only the left addresses are exchanged, no renaming carries: neither the chain nor the turned chain is the other one.
 only : {X : Type 0} (x y : X) → IsPermutation (x ∷ []) (y ∷ []) → y ≡ x
 only x y p = go (among-permutation x (x ∷ []) (y ∷ []) p (inl refl))
   where
@@ -137,7 +137,7 @@ wrong_entry = (
     points = east_end ∷ west_end ∷ [];
     feats = [];
     ranges = [];
-    link_body = link_body;
+    topology = topology;
     start_node =
         Some 6;
     end_node = Some 5;
@@ -163,7 +163,7 @@ wrong_addresses s =
     only (carried_chain s.by (500, there_chain)) wrong_entry s.carries.chains in
     false≢true (sym (address_differs s.by (turns s.by 500)) ∙ ap (λ (d : ℕ × Chain). address d.1) (sym e))
 
--- Two names that only their uses tell apart may be exchanged: the order in which a chain names them is the one difference.
+-- Two names that differ only in their uses may be exchanged: the order in which a chain names them is the only difference.
 abbrev exchanged_names : Renumbering
 exchanged_names = record {
   chains = (500, 500) ∷ [];
@@ -196,7 +196,7 @@ exchanged_names_carry = record {
   links = IsPermutation-refl [];
 }
 
--- A chain with one name twice is no renaming of a chain with two names.
+-- A chain with one name twice isn't a renaming of a chain with two names.
 feats_of : Chain → List ℕ
 feats_of c = c.feats
 
@@ -217,6 +217,6 @@ one_name_twice s =
     let second : 9 ≡ image nat_cmp s.by.names 8 = ap (λ ns. slice_index ns 1) names in
     omega arith
 
--- exchanging two landmarks of one content that are linked alike changes nothing
+-- exchanging two landmarks with the same content and the same links changes nothing
 pub schools_alike : county_of (schools 30 31) ≡ county_of (schools 31 30)
 schools_alike = refl

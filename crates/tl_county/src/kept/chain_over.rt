@@ -1,13 +1,13 @@
-//! Chains over their records.
+//! Chains that borrow from their records.
 
 ghost use Rattle.std.specs.Prelude.{◌≡◌};
 
-use crate::kept::keeping::KeptChain;
+use crate::kept::keeping::StoredChain;
 use std::marker::Model;
 use tl_layout::{Body1, BodyI, Point, Ranges, Rec1, RecI, Side};
 
-/// A chain without its TLID over its records of types 1 and I, which are lent; its points, FEATs and further address ranges
-/// are lent too, as from an arena.
+/// A chain without its TLID that borrows its records of types 1 and I. Its points, FEATs and further address ranges are borrowed
+/// too, for example from an arena.
 #[derive(Drop)]
 pub struct ChainOver<'a> {
     head: &'a Rec1,
@@ -27,7 +27,7 @@ impl<'a> Model for ChainOver<'a> {
       points = c.points.now;
       feats = c.feats.now;
       ranges = c.ranges.now;
-      link_body = c.link.now.body;
+      topology = c.link.now.body;
       start_node = c.link.now.start_node;
       end_node = c.link.now.end_node;
       left = c.link.now.left;
@@ -36,7 +36,7 @@ impl<'a> Model for ChainOver<'a> {
 }
 
 impl<'a> ChainOver<'a> {
-    /// The chain of a record of type 1 and one of type I, with all of its points, its FEATs and its further address ranges.
+    /// The chain of a type 1 record and a type I record, with all of its points, its FEATs and its further address ranges.
     pub(crate) fn new(
         head: &'a Rec1,
         link: &'a RecI,
@@ -49,7 +49,7 @@ impl<'a> ChainOver<'a> {
           points = points.now;
           feats = feats.now;
           ranges = ranges.now;
-          link_body = link.now.body;
+          topology = link.now.body;
           start_node = link.now.start_node;
           end_node = link.now.end_node;
           left = link.now.left;
@@ -66,7 +66,7 @@ impl<'a> ChainOver<'a> {
     }
 }
 
-impl<'a> KeptChain for ChainOver<'a> {
+impl<'a> StoredChain for ChainOver<'a> {
     ghost chain = { λ c. c };
 
     fn body(&self) -> &Body1 {
@@ -85,7 +85,7 @@ impl<'a> KeptChain for ChainOver<'a> {
         self.ranges
     }
 
-    fn link_body(&self) -> &BodyI {
+    fn topology(&self) -> &BodyI {
         self.link.body()
     }
 

@@ -1,12 +1,12 @@
-//! How a county may keep its chains, names and landmarks.
+//! The ways in which a county can store its chains, names and landmarks.
 
 ghost use Rattle.std.specs.Prelude.{◌≡◌};
 
 use tl_layout::{Body1, Body5, Body7, BodyI, Point, Ranges, Rec8, Side};
 use tl_shape::{Chain, ChainIn};
 
-/// A chain without its TLID, however it is kept.
-pub trait KeptChain: Drop {
+/// A chain without its TLID, whatever its storage.
+pub trait StoredChain: Drop {
     ghost use Rattle.tl_shape.specs.Chain.{Chain};
 
     /// The chain.
@@ -16,41 +16,41 @@ pub trait KeptChain: Drop {
     fn body(&self) -> &Body1
         ensures { result.now ≡ (chain self.now).body };
 
-    /// Its points, from its start node to its end node.
+    /// Its points, from its start node to its end node, in millionths of a degree.
     fn points(&self) -> &[Point]
         ensures { result.now ≡ (chain self.now).points };
 
-    /// The FEATs of its further names.
+    /// The FEATs of its further names (record type 4).
     fn feats(&self) -> &[u32]
         ensures { result.now ≡ (chain self.now).feats };
 
-    /// Its further address ranges.
+    /// Its further address ranges (record type 6).
     fn ranges(&self) -> &[Ranges]
         ensures { result.now ≡ (chain self.now).ranges };
 
     /// The content of its record of type I.
-    fn link_body(&self) -> &BodyI
-        ensures { result.now ≡ (chain self.now).link_body };
+    fn topology(&self) -> &BodyI
+        ensures { result.now ≡ (chain self.now).topology };
 
-    /// The node where it starts, or none.
+    /// The node where it starts (record type I, TZIDS), or none.
     fn start_node(&self) -> Option<u64>
         ensures { result ≡ (chain self.now).start_node };
 
-    /// The node where it ends, or none.
+    /// The node where it ends (record type I, TZIDE), or none.
     fn end_node(&self) -> Option<u64>
         ensures { result ≡ (chain self.now).end_node };
 
-    /// What stands on its left side.
+    /// Its left side (record type I, CENIDL and POLYIDL).
     fn left(&self) -> &Side
         ensures { result.now ≡ (chain self.now).left };
 
-    /// What stands on its right side.
+    /// Its right side (record type I, CENIDR and POLYIDR).
     fn right(&self) -> &Side
         ensures { result.now ≡ (chain self.now).right };
 }
 
-/// A name without its FEAT, however it is kept.
-pub trait KeptName: Drop {
+/// A name without its FEAT, whatever its storage.
+pub trait StoredName: Drop {
     ghost use Rattle.tl_layout.specs.declared.type5.Body5.{Body5};
 
     /// The name.
@@ -61,25 +61,25 @@ pub trait KeptName: Drop {
         ensures { result.now ≡ name self.now };
 }
 
-/// A landmark without its LAND, however it is kept: its records' contents and its polygons, both in order and as often as they
-/// stand in the set.
-pub trait KeptLandmark: Drop {
+/// A landmark without its LAND, whatever its storage: the contents of its type 7 records and its type 8 records, both in order and
+/// repeated as often as in the set.
+pub trait StoredLandmark: Drop {
     ghost use Rattle.tl_county.specs.LandmarkParts.{LandmarkParts};
 
     /// The landmark.
     ghost landmark: { Self → LandmarkParts };
 
-    /// The contents of its records of type 7, by FILE, SOURCE, CFCC, LANAME and the point, none first.
+    /// The contents of its type 7 records, ordered by FILE, SOURCE, CFCC, LANAME and the point, with no point first.
     fn bodies(&self) -> &[Body7]
         ensures { result.now ≡ (landmark self.now).bodies };
 
-    /// Its records of type 8, by POLYID, CENID and FILE.
+    /// Its type 8 records, ordered by POLYID, CENID and FILE.
     fn links(&self) -> &[Rec8]
         ensures { result.now ≡ (landmark self.now).links };
 }
 
 /// A chain that owns its lists.
-impl KeptChain for Chain {
+impl StoredChain for Chain {
     ghost chain = { λ c. c };
 
     fn body(&self) -> &Body1 {
@@ -98,8 +98,8 @@ impl KeptChain for Chain {
         self.ranges()
     }
 
-    fn link_body(&self) -> &BodyI {
-        self.link_body()
+    fn topology(&self) -> &BodyI {
+        self.topology()
     }
 
     fn start_node(&self) -> Option<u64> {
@@ -119,8 +119,8 @@ impl KeptChain for Chain {
     }
 }
 
-/// A chain whose lists are lent, as from an arena.
-impl<'a> KeptChain for ChainIn<'a> {
+/// A chain that borrows its lists, for example from an arena.
+impl<'a> StoredChain for ChainIn<'a> {
     ghost chain = { λ c. c };
 
     fn body(&self) -> &Body1 {
@@ -139,8 +139,8 @@ impl<'a> KeptChain for ChainIn<'a> {
         self.ranges()
     }
 
-    fn link_body(&self) -> &BodyI {
-        self.link_body()
+    fn topology(&self) -> &BodyI {
+        self.topology()
     }
 
     fn start_node(&self) -> Option<u64> {
@@ -160,8 +160,8 @@ impl<'a> KeptChain for ChainIn<'a> {
     }
 }
 
-/// A name's content itself.
-impl KeptName for Body5 {
+/// The name's content itself.
+impl StoredName for Body5 {
     ghost name = { λ n. n };
 
     fn content(&self) -> &Body5 {

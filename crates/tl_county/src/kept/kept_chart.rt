@@ -1,17 +1,17 @@
-//! A county as a chart, in whichever way it is kept.
+//! A stored county as a chart, whichever way it is stored.
 
 ghost use Rattle.tl_county.specs.Entries.{map_values};
 ghost use Rattle.tl_county.specs.KeptCounty.{county_with};
 
 use crate::chart::Chart;
-use crate::kept::Kept;
-use crate::kept::keeping::{KeptChain, KeptLandmark, KeptName};
+use crate::kept::StoredCounty;
+use crate::kept::keeping::{StoredChain, StoredLandmark, StoredName};
 use crate::keys::keyed::place_of;
 use crate::keys::record_keys::PolygonKey;
 use tl_layout::{Body1, Body5, Body7, BodyI, BodyP, Point, Ranges, Rec8, Side};
 
-/// The county's own tables answer, and its chains, names and landmarks in the way that they are kept.
-impl<C: KeptChain, N: KeptName, L: KeptLandmark> Chart for Kept<C, N, L> {
+/// Calls read the county's own tables, and its chains, names and landmarks by their own traits.
+impl<C: StoredChain, N: StoredName, L: StoredLandmark> Chart for StoredCounty<C, N, L> {
     ghost county = { λ k. county_with (map_values C.chain k.chains) (map_values N.name k.names) k.polygons (map_values L.landmark k.landmarks) };
 
     fn chain_count(&self) -> usize {
@@ -131,7 +131,7 @@ impl<C: KeptChain, N: KeptName, L: KeptLandmark> Chart for Kept<C, N, L> {
 
     fn link_body_at(&self, place: usize) -> Option<BodyI> {
         match self.chain_of_place(place) {
-            Some(chain) => Some(*chain.link_body()),
+            Some(chain) => Some(*chain.topology()),
             None => None,
         }
     }

@@ -2,12 +2,11 @@
 
 ghost use Rattle.std.specs.Prelude.{◌≡◌};
 
-use crate::kept::keeping::KeptLandmark;
+use crate::kept::keeping::StoredLandmark;
 use std::marker::Model;
 use tl_layout::{Body7, Rec8};
 
-/// A landmark: the contents of its records of type 7 and its records of type 8, both in order and as often as they stand
-/// in the set.
+/// A landmark: the contents of its type 7 records and its type 8 records, both in order and repeated as often as in the set.
 #[derive(Debug, Drop)]
 pub struct Landmark {
     bodies: Vec<Body7>,
@@ -23,7 +22,7 @@ impl Model for Landmark {
 }
 
 impl Landmark {
-    /// The landmark of these contents and polygons.
+    /// The landmark with these contents and links.
     pub(crate) fn new(bodies: Vec<Body7>, links: Vec<Rec8>) -> Landmark
         ensures { result ≡ record { bodies = bodies.items; links = links.items } }
     {
@@ -31,7 +30,7 @@ impl Landmark {
     }
 }
 
-impl KeptLandmark for Landmark {
+impl StoredLandmark for Landmark {
     ghost landmark = { λ l. l };
 
     fn bodies(&self) -> &[Body7] {

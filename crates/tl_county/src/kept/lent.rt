@@ -1,12 +1,12 @@
-//! Names and landmarks whose contents are lent.
+//! Names and landmarks that borrow their contents.
 
 ghost use Rattle.std.specs.Prelude.{◌≡◌};
 
-use crate::kept::keeping::{KeptLandmark, KeptName};
+use crate::kept::keeping::{StoredLandmark, StoredName};
 use std::marker::Model;
 use tl_layout::{Body5, Body7, Rec8};
 
-/// A name whose content is lent, as from an arena.
+/// A name that borrows its content, for example from an arena.
 #[derive(Debug, Drop)]
 pub struct NameIn<'a> {
     body: &'a Body5,
@@ -21,7 +21,7 @@ impl<'a> Model for NameIn<'a> {
 }
 
 impl<'a> NameIn<'a> {
-    /// The name of this content.
+    /// The name with this content.
     pub(crate) fn new(body: &'a Body5) -> NameIn<'a>
         ensures { result ≡ body.now }
     {
@@ -36,7 +36,7 @@ impl<'a> NameIn<'a> {
     }
 }
 
-impl<'a> KeptName for NameIn<'a> {
+impl<'a> StoredName for NameIn<'a> {
     ghost name = { λ n. n };
 
     fn content(&self) -> &Body5 {
@@ -44,7 +44,7 @@ impl<'a> KeptName for NameIn<'a> {
     }
 }
 
-/// A landmark, as [`Landmark`](crate::kept::landmark::Landmark) is one, whose lists are lent, as from an arena.
+/// A landmark like [`Landmark`](crate::kept::landmark::Landmark) that borrows its lists, for example from an arena.
 #[derive(Debug, Drop)]
 pub struct LandmarkIn<'a> {
     bodies: &'a [Body7],
@@ -60,21 +60,21 @@ impl<'a> Model for LandmarkIn<'a> {
 }
 
 impl<'a> LandmarkIn<'a> {
-    /// The landmark of these contents and polygons.
+    /// The landmark with these contents and links.
     pub(crate) fn new(bodies: &'a [Body7], links: &'a [Rec8]) -> LandmarkIn<'a>
         ensures { result ≡ record { bodies = bodies.now; links = links.now } }
     {
         LandmarkIn { bodies, links }
     }
 
-    /// The contents of its records of type 7, by FILE, SOURCE, CFCC, LANAME and the point, none first.
+    /// The contents of its type 7 records, ordered by FILE, SOURCE, CFCC, LANAME and the point, with no point first.
     pub(crate) fn bodies(&self) -> &'a [Body7]
         ensures { result.now ≡ self.now.bodies }
     {
         self.bodies
     }
 
-    /// Its records of type 8, by POLYID, CENID and FILE.
+    /// Its type 8 records, ordered by POLYID, CENID and FILE.
     pub(crate) fn links(&self) -> &'a [Rec8]
         ensures { result.now ≡ self.now.links }
     {
@@ -82,7 +82,7 @@ impl<'a> LandmarkIn<'a> {
     }
 }
 
-impl<'a> KeptLandmark for LandmarkIn<'a> {
+impl<'a> StoredLandmark for LandmarkIn<'a> {
     ghost landmark = { λ l. l };
 
     fn bodies(&self) -> &[Body7] {

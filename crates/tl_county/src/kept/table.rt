@@ -9,7 +9,7 @@ ghost use Rattle.tl_county.specs.Orders.{stands_in};
 use crate::keys::keyed::{Key, place_of};
 use std::marker::Model;
 
-/// Values under keys; the keys ascend, and none stands twice.
+/// Values under keys. The keys ascend, and no key occurs twice.
 #[derive(Debug, Drop)]
 pub(crate) struct Table<K: Key, V> {
     keys: Vec<K>,
@@ -29,7 +29,7 @@ impl<K: Key, V> Model for Table<K, V> {
 }
 
 impl<K: Key, V> Table<K, V> {
-    /// The table of these values under these keys, which ascend and are as many.
+    /// The table of these values under these keys. The keys must ascend, and there must be as many values as keys.
     pub(crate) fn new(keys: Vec<K>, values: Vec<V>) -> Table<K, V>
         requires ascending { IsStrictlySortedBy K.cmp keys.items }
         requires same_length { length keys.items ≡ length values.items }
@@ -39,7 +39,7 @@ impl<K: Key, V> Table<K, V> {
         Table { keys, values }
     }
 
-    /// How many keys there are.
+    /// The number of keys.
     pub(crate) fn len(&self) -> usize
         ensures { result ≡ length self.now }
     {
@@ -61,21 +61,21 @@ impl<K: Key, V> Table<K, V> {
         self.values.as_slice()
     }
 
-    /// The key at a place, from 0, or none past the end.
+    /// The key at a place, counted from 0, or none past the end.
     pub(crate) fn key_at(&self, place: usize) -> Option<K>
         ensures { result ≡ slice_get (entry_keys self.now) place }
     {
         self.keys().get(place).copied()
     }
 
-    /// The value at a place, from 0, or none past the end.
+    /// The value at a place, counted from 0, or none past the end.
     pub(crate) fn value_at(&self, place: usize) -> Option<&V>
         ensures { option_copied result ≡ slice_get (entry_values self.now) place }
     {
         self.values().get(place)
     }
 
-    /// The place of a key, from 0, or none where it doesn't stand in the table.
+    /// The place of a key, counted from 0, or none if the table doesn't have it.
     pub(crate) fn place(&self, key: K) -> Option<usize>
         ensures found { IfSome result (λ place. slice_get (entry_keys self.now) place ≡ Some key) }
         ensures known { is_some result ≡ stands_in K.cmp key (entry_keys self.now) }
@@ -84,7 +84,7 @@ impl<K: Key, V> Table<K, V> {
         place_of(self.keys(), key)
     }
 
-    /// The value under a key, or none where it doesn't stand in the table.
+    /// The value under a key, or none if the table doesn't have it.
     pub(crate) fn get(&self, key: K) -> Option<&V>
         ensures { option_copied result ≡ value_under K.cmp key self.now }
     {

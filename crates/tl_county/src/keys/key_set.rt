@@ -13,8 +13,8 @@ use std::hash::Hash;
 use std::marker::Model;
 use tl_layout::Side;
 
-/// A set of keys, seen as a list of them. A key that is met often is found by its hash, so that only the keys themselves are left
-/// to be put in order, and not all places where they stand.
+/// A set of keys; contracts see it as a list. A key that occurs often is found by its hash, so that only the keys themselves are
+/// sorted later, not all their occurrences.
 #[derive(Drop)]
 pub struct KeySet<K: Key + Hash> {
     keys: IndexSet<K>,
@@ -29,7 +29,7 @@ impl<K: Key + Hash> Model for KeySet<K> {
 }
 
 impl<K: Key + Hash> KeySet<K> {
-    /// The empty set, without memory.
+    /// The empty set. It allocates no memory.
     pub fn new(alloc: Global) -> KeySet<K>
         ensures { result ≡ [] }
     {
@@ -38,11 +38,11 @@ impl<K: Key + Hash> KeySet<K> {
         }
     }
 
-    /// Puts a key into the set, if it isn't there.
+    /// Inserts a key if the set doesn't have it.
     ///
     /// # Errors
     ///
-    /// Only that memory was lacking.
+    /// `AllocError` if an allocation failed.
     pub fn insert(&mut self, key: K) -> Result<(), AllocError>
         ensures inserted { OnOk result (distinct K.cmp self.new ≡ distinct K.cmp (self.old ++ key ∷ [])) }
         ensures kept { OnErr result (self.new ≡ self.old) }
@@ -62,11 +62,11 @@ impl<K: Key + Hash> KeySet<K> {
 
 /// Sets of polygons.
 impl KeySet<PolygonKey> {
-    /// Puts the polygon on a side into the set, if there is one.
+    /// Inserts the polygon on a side, if there is one.
     ///
     /// # Errors
     ///
-    /// Only that memory was lacking.
+    /// `AllocError` if an allocation failed.
     pub fn insert_side(&mut self, side: &Side) -> Result<(), AllocError>
         ensures inserted { OnOk result (distinct key_cmp self.new ≡ distinct key_cmp (self.old ++ key_on side.now)) }
         ensures kept { OnErr result (self.new ≡ self.old) }
@@ -82,7 +82,7 @@ impl KeySet<PolygonKey> {
     ///
     /// # Errors
     ///
-    /// Only that memory was lacking.
+    /// `AllocError` if an allocation failed.
     pub fn in_order(&self, alloc: Global) -> Result<Vec<PolygonKey>, AllocError>
         ensures { IfOk result (λ keys. keys.items ≡ distinct key_cmp self.now) }
     {

@@ -1,4 +1,4 @@
-//! Lists of what has a key, in the order of their keys.
+//! Lists of items that have a key, in the order of the keys.
 
 ghost use Rattle.std.specs.declared.cmp.Ordering.TheVariants.{Equal};
 ghost use Rattle.std.specs.Ordering.{nat_cmp, on, is_eq, is_gt, is_lt};
@@ -10,13 +10,13 @@ use crate::keys::by_number::bring_by_number;
 use std::alloc::{AllocError, Global};
 use std::cmp::Ordering;
 
-/// What orders records of one type. Two keys that compare as equal are the same key.
+/// A key that orders records of one type. Two keys that compare as equal are the same key.
 pub trait Key: Ord + Copy {
-    /// Keys that compare as equal are the same.
+    /// Keys that compare as equal are the same key.
     ghost exact: { (x y : Self) → Self.Ord.cmp x y ≡ Equal → x ≡ y };
 }
 
-/// What has a key, as a record has its number.
+/// An item that has a key, as a record has its number.
 pub trait Keyed<K: Ord + Copy> {
     /// The key.
     ghost key_of: { Self → K };
@@ -26,7 +26,7 @@ pub trait Keyed<K: Ord + Copy> {
         ensures { result ≡ key_of self.now };
 }
 
-/// Whether the items stand in the order of their keys.
+/// Whether the items are in the order of their keys.
 fn are_in_order<K: Ord + Copy, T: Keyed<K>>(items: &[T]) -> bool
     ensures in_order { result ≡ true → IsInOrder (on T.key_of K.cmp) items.now }
     ensures told { IsInOrder (on T.key_of K.cmp) items.now → result ≡ true }
@@ -34,8 +34,12 @@ fn are_in_order<K: Ord + Copy, T: Keyed<K>>(items: &[T]) -> bool
     items.is_sorted_by(|item, next| item.key().cmp(&next.key()).is_le())
 }
 
-/// Puts the items in the order of their keys. Where they are in order already it takes linear time and no memory; else their
+/// Puts the items in the order of their keys. If they are in order already, this takes linear time and no memory. Otherwise their
 /// keys are sorted, and each item is moved to its place once.
+///
+/// # Errors
+///
+/// `AllocError` if an allocation failed. The items are then the same, in any order.
 pub fn put_in_order<K: Ord + Copy, T: Keyed<K>>(items: &mut Vec<T>) -> Result<(), AllocError>
     ensures permutation { IsPermutation items.old.items items.new.items }
     ensures in_order { OnOk result (IsInOrder (on T.key_of K.cmp) items.new.items) }
@@ -46,7 +50,7 @@ pub fn put_in_order<K: Ord + Copy, T: Keyed<K>>(items: &mut Vec<T>) -> Result<()
     items.sort_by_cached_key(|item| item.key())
 }
 
-/// The keys of the items, if they stand in the order of their keys.
+/// The keys of the items, if the items are in the order of their keys.
 fn keys_in_order<K: Key, T: Keyed<K>>(
     alloc: Global,
     items: &[T],
@@ -70,9 +74,8 @@ fn keys_in_order<K: Key, T: Keyed<K>>(
     Ok(Some(keys))
 }
 
-/// Puts the items in the order of their numbers, and answers these in that order. Where the items are in order already each is read
-/// once. Else each is brought to its place by one move, and only if they still don't stand in order they are put there as
-/// `put_in_order` does it.
+/// Puts the items in the order of their numbers, and returns the numbers in that order. If the items are in order already, each is
+/// read once. Otherwise each is moved once to its place; only if they still aren't in order, `put_in_order` sorts them.
 pub(crate) fn put_in_order_with_numbers<T: Keyed<u64> + Copy>(
     alloc: Global,
     items: &mut Vec<T>,
@@ -92,7 +95,7 @@ pub(crate) fn put_in_order_with_numbers<T: Keyed<u64> + Copy>(
     keys_of::<u64, T>(alloc, items)
 }
 
-/// Puts keys in order. It takes no memory.
+/// Puts keys in order. It allocates no memory.
 pub fn sort_keys<K: Key>(keys: &mut Vec<K>)
     ensures permutation { IsPermutation keys.old.items keys.new.items }
     ensures in_order { IsInOrder K.cmp keys.new.items }
@@ -100,7 +103,7 @@ pub fn sort_keys<K: Key>(keys: &mut Vec<K>)
     keys.sort_unstable();
 }
 
-/// Puts keys in order, each once. It takes no memory.
+/// Puts keys in order and removes repetitions. It allocates no memory.
 pub(crate) fn sort_distinct<K: Key>(keys: &mut Vec<K>)
     ensures { keys.new.items ≡ distinct K.cmp keys.old.items }
 {
@@ -108,8 +111,8 @@ pub(crate) fn sort_distinct<K: Key>(keys: &mut Vec<K>)
     keys.dedup();
 }
 
-/// The least key that stands twice among items in order.
-pub fn least_repeated<K: Key, T: Keyed<K>>(items: &[T]) -> Option<K>
+/// The least key that occurs twice among the items, or none. The items must be in order.
+pub(crate) fn least_repeated<K: Key, T: Keyed<K>>(items: &[T]) -> Option<K>
     requires { IsInOrder (on T.key_of K.cmp) items.now }
     ensures { IsLeastPassing K.cmp (is_repeated K.cmp (map T.key_of items.now)) result }
 {
@@ -125,7 +128,7 @@ pub fn least_repeated<K: Key, T: Keyed<K>>(items: &[T]) -> Option<K>
     None
 }
 
-/// Whether each item's key is below the next one's; then no key stands twice.
+/// Whether each item's key is less than the next one's. If so, no key occurs twice.
 fn are_ascending<K: Key, T: Keyed<K>>(items: &[T]) -> bool
     ensures in_order { result ≡ true → IsInOrder (on T.key_of K.cmp) items.now }
     ensures apart { result ≡ true → IsLeastPassing K.cmp (is_repeated K.cmp (map T.key_of items.now)) None }
@@ -133,8 +136,8 @@ fn are_ascending<K: Key, T: Keyed<K>>(items: &[T]) -> bool
     items.is_sorted_by(|item, next| item.key().cmp(&next.key()).is_lt())
 }
 
-/// Puts the items in the order of their keys, and answers the least key that stands twice. Where each key is below the next
-/// one already, one walk tells both.
+/// Puts the items in the order of their keys, and returns the least key that occurs twice. If each key is less than the next one
+/// already, a single pass finds both.
 pub(crate) fn put_in_order_with_repeated<K: Key, T: Keyed<K>>(
     items: &mut Vec<T>,
 ) -> Result<Option<K>, AllocError>
@@ -149,7 +152,7 @@ pub(crate) fn put_in_order_with_repeated<K: Key, T: Keyed<K>>(
     Ok(least_repeated::<K, T>(items))
 }
 
-/// The least key of the items that none of `known` has, both in order.
+/// The least key of `items` that no item of `known` has, or none. Both lists must be in order.
 pub fn least_unknown<K: Key, A: Keyed<K>, B: Keyed<K>>(items: &[A], known: &[B]) -> Option<K>
     requires items { IsInOrder (on A.key_of K.cmp) items.now }
     requires known { IsInOrder (on B.key_of K.cmp) known.now }
@@ -170,7 +173,7 @@ pub fn least_unknown<K: Key, A: Keyed<K>, B: Keyed<K>>(items: &[A], known: &[B])
     None
 }
 
-/// The items from the first on whose key isn't below this one; items in order.
+/// The items from the first one whose key isn't less than `key`. The items must be in order.
 fn from_key<K: Key, T: Keyed<K>>(items: &[T], key: K) -> &[T]
     requires { IsInOrder (on T.key_of K.cmp) items.now }
     ensures { result.now ≡ filter (λ item. not (is_lt (K.cmp (T.key_of item) key))) items.now }
@@ -185,7 +188,7 @@ fn from_key<K: Key, T: Keyed<K>>(items: &[T], key: K) -> &[T]
     rest
 }
 
-/// The items from the first on whose key is above this one; items in order.
+/// The items from the first one whose key is greater than `key`. The items must be in order.
 fn after_key<K: Key, T: Keyed<K>>(items: &[T], key: K) -> &[T]
     requires { IsInOrder (on T.key_of K.cmp) items.now }
     ensures { result.now ≡ filter (λ item. is_gt (K.cmp (T.key_of item) key)) items.now }
@@ -200,7 +203,7 @@ fn after_key<K: Key, T: Keyed<K>>(items: &[T], key: K) -> &[T]
     rest
 }
 
-/// The items of this key, and those of greater keys; items in order.
+/// The items with this key, and the items with greater keys. The items must be in order.
 pub fn split_group<K: Key, T: Keyed<K>>(items: &[T], key: K) -> (&[T], &[T])
     requires { IsInOrder (on T.key_of K.cmp) items.now }
     ensures group { result.0.now ≡ filter (λ item. is_eq (K.cmp (T.key_of item) key)) items.now }
@@ -211,7 +214,7 @@ pub fn split_group<K: Key, T: Keyed<K>>(items: &[T], key: K) -> (&[T], &[T])
     (&from[..from.len() - later.len()], later)
 }
 
-/// The keys of the items, one after the other.
+/// The keys of the items, in the order of the items.
 pub(crate) fn keys_of<K: Ord + Copy, T: Keyed<K>>(
     alloc: Global,
     items: &[T],
@@ -225,7 +228,7 @@ pub(crate) fn keys_of<K: Ord + Copy, T: Keyed<K>>(
     Ok(keys)
 }
 
-/// The place of a key in a list of keys in order, from 0, or none where it doesn't stand there.
+/// The place of a key in a list of keys in order, counted from 0, or none if the list doesn't have it.
 pub fn place_of<K: Key>(keys: &[K], key: K) -> Option<usize>
     requires { IsInOrder K.cmp keys.now }
     ensures found { IfSome result (λ place. slice_get keys.now place ≡ Some key) }

@@ -1,4 +1,4 @@
-//! Marks by number. Where a number has a mark, one reading tells that it stands in a list.
+//! Marks by number. A number that has a place for a mark is looked up in a list by one read.
 
 ghost use Rattle.std.specs.Ordering.{nat_cmp};
 ghost use Rattle.std.specs.Prelude.{◌≡◌, ◌≤◌, ◌*◌, length, IfOk};
@@ -8,10 +8,10 @@ ghost use Rattle.tl_county.specs.Orders.{IsInOrder, stands_in};
 use crate::keys::keyed::place_of;
 use std::alloc::{AllocError, Global};
 
-/// How many places for marks there are at most for each number of a list.
+/// The most places for marks per number of a list.
 const PLACES_EACH: usize = 8;
 
-/// How many places for marks a list in order gets: one for each number up to its greatest, unless these are too many.
+/// The number of places for marks that a list in order gets: one for each number up to its greatest, but at most 8 per element.
 fn places_for(numbers: &[u32]) -> usize
     ensures { result ≤ 8 * length numbers.now }
 {
@@ -22,7 +22,7 @@ fn places_for(numbers: &[u32]) -> usize
     }
 }
 
-/// Marks for the numbers of a list in order, each at the place of its number. Numbers above all places have none.
+/// Marks for the numbers of a list in order, each at the place of its number. Numbers past the last place have none.
 pub(crate) fn marks_of(alloc: Global, numbers: &[u32]) -> Result<Vec<bool>, AllocError>
     ensures { IfOk result (λ marks. AreMarksOf numbers.now marks.items) }
 {
@@ -36,7 +36,8 @@ pub(crate) fn marks_of(alloc: Global, numbers: &[u32]) -> Result<Vec<bool>, Allo
     Ok(marks)
 }
 
-/// Whether a number stands in a list in order, as the list's marks tell. It's looked for only where it has no place for one.
+/// Whether a list in order has a number, read from the list's marks. The list is searched only if the number has no place for a
+/// mark.
 pub(crate) fn is_marked(marks: &[bool], numbers: &[u32], number: u32) -> bool
     requires marks { AreMarksOf numbers.now marks.now }
     requires numbers { IsInOrder nat_cmp numbers.now }

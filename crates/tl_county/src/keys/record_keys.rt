@@ -1,9 +1,9 @@
-//! The keys that order records, and the records' keys.
+//! The keys that order records, and each record's key.
 
 use crate::keys::keyed::{Key, Keyed};
 use tl_layout::{Point, Rec1, Rec2, Rec4, Rec5, Rec6, Rec7, Rec8, RecI, RecP};
 
-/// The key of a polygon: its CENID, and its POLYID under that CENID.
+/// The key of a polygon: its CENID, of 5 bytes, and its POLYID under that CENID.
 pub type PolygonKey = ([u8; 5], u64);
 
 impl Key for u64 {
@@ -179,7 +179,7 @@ impl Keyed<PolygonKey> for RecP {
     }
 }
 
-/// A key that stands for itself.
+/// A key is its own key.
 impl<K: Key> Keyed<K> for K {
     ghost key_of = { λ key. key };
 
@@ -188,7 +188,7 @@ impl<K: Key> Keyed<K> for K {
     }
 }
 
-/// The fields of a link in their order: LAND, POLYID, CENID, FILE.
+/// The fields of a landmark's link in the order of comparison: LAND, POLYID, CENID, FILE.
 pub(crate) type LinkKey = (u64, (u64, ([u8; 5], [u8; 5])));
 
 /// By LAND, POLYID, CENID, FILE.
@@ -203,13 +203,13 @@ impl Keyed<LinkKey> for Rec8 {
     }
 }
 
-/// The fields of a landmark in their order: LAND, FILE, SOURCE, CFCC, LANAME, the point.
+/// The fields of a landmark in the order of comparison: LAND, FILE, SOURCE, CFCC, LANAME, the point.
 pub(crate) type LandmarkKey = (
     u64,
     ([u8; 5], ([u8; 1], ([u8; 3], ([u8; 30], Option<Point>)))),
 );
 
-/// By LAND, FILE, SOURCE, CFCC, LANAME, the point, none first.
+/// By LAND, FILE, SOURCE, CFCC, LANAME, the point; no point comes before any point.
 impl Keyed<LandmarkKey> for Rec7 {
     ghost use Rattle.tl_county.specs.SequenceKeys.{landmark_sequence};
 

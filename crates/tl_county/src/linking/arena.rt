@@ -1,4 +1,5 @@
-//! The parts of a county in an arena: each list is a final slice of it. What grows stands in ordinary memory.
+//! The parts of a county in an arena: each list is a slice of it that doesn't change again. Lists that still grow are in ordinary
+//! memory.
 
 ghost use Rattle.std.specs.List.{AllByRecursion};
 ghost use Rattle.std.specs.Prelude.{◌≡◌, ◌∷◌, [], ◌++◌, IfOk, flat_map, map};
@@ -16,7 +17,7 @@ use std::alloc::{AllocError, Global};
 use tl_layout::{Body5, Body7, Point, Ranges, Rec1, Rec2, Rec4, Rec5, Rec6, Rec7, Rec8};
 use tl_shape::ChainIn;
 
-/// Copies a list into the arena. An empty one takes no room there.
+/// Copies a list into the arena. An empty list takes no space there.
 fn keep<'a, T: Copy>(arena: &'a Bump, items: &[T]) -> Result<&'a [T], AllocError>
     ensures { IfOk result (λ kept. kept.now ≡ items.now) }
 {
@@ -35,8 +36,8 @@ struct ChainLists<'a> {
     ranges: &'a [Ranges],
 }
 
-/// Builds chains and landmarks whose lists lie in an arena. A list is gathered in a vector, which serves again and again, and
-/// copied when it is whole.
+/// Builds chains and landmarks whose lists are in an arena. A list is gathered in a vector that is used over and over, and copied
+/// when it is complete.
 #[derive(Drop)]
 pub(crate) struct InArena<'a> {
     arena: &'a Bump,
@@ -47,7 +48,7 @@ pub(crate) struct InArena<'a> {
 }
 
 impl<'a> InArena<'a> {
-    /// What builds in this arena. It takes no memory.
+    /// A builder for this arena. It allocates no memory.
     pub(crate) fn new(alloc: Global, arena: &'a Bump) -> InArena<'a> {
         InArena {
             arena,
@@ -58,7 +59,7 @@ impl<'a> InArena<'a> {
         }
     }
 
-    /// The points of a chain, of its records of types 1 and 2.
+    /// The points of a chain, from its records of types 1 and 2.
     fn keep_points(&mut self, head: &Rec1, shape: &[Rec2]) -> Result<&'a [Point], AllocError>
         ensures { IfOk result (λ points. points.now ≡ head.now.start ∷ (flat_map (λ (r : Fields2). r.points) shape.now ++ (head.now.end ∷ []))) }
     {
@@ -72,7 +73,7 @@ impl<'a> InArena<'a> {
         keep(self.arena, &self.points)
     }
 
-    /// The FEATs of a chain, of its records of type 4.
+    /// The FEATs of a chain, from its records of type 4.
     fn keep_feats(&mut self, names: &[Rec4]) -> Result<&'a [u32], AllocError>
         ensures value { IfOk result (λ feats. feats.now ≡ flat_map (λ (r : Fields4). r.feats) names.now) }
         ensures in_range { IfOk result (λ feats. AllByRecursion (IsNumber 8) feats.now) }
@@ -82,7 +83,7 @@ impl<'a> InArena<'a> {
         keep(self.arena, &self.feats)
     }
 
-    /// The further address ranges of a chain, of its records of type 6.
+    /// The further address ranges of a chain, from its records of type 6.
     fn keep_ranges(&mut self, ranges: &[Rec6]) -> Result<&'a [Ranges], AllocError>
         ensures { IfOk result (λ kept. kept.now ≡ map (λ (r : Fields6). r.ranges) ranges.now) }
     {
@@ -91,7 +92,7 @@ impl<'a> InArena<'a> {
         keep(self.arena, &self.ranges)
     }
 
-    /// The lists of the chain of its records of types 1, 2, 4 and 6.
+    /// The lists of a chain, from its records of types 1, 2, 4 and 6.
     fn join_lists<'t, 'r>(
         &mut self,
         records: &ChainRecords<'t, 'r>,
@@ -161,7 +162,7 @@ impl<'a> LandmarkBuilder<LandmarkIn<'a>> for InArena<'a> {
     }
 }
 
-/// The names of records of type 5, their contents in the arena.
+/// The names of records of type 5, with their contents in the arena.
 pub(crate) fn names_in<'a>(
     alloc: Global,
     arena: &'a Bump,
@@ -177,7 +178,7 @@ pub(crate) fn names_in<'a>(
     Ok(names)
 }
 
-/// The names of records of type 5, whose contents stay where they are.
+/// The names of records of type 5, with their contents left in the records.
 pub(crate) fn names_over<'a>(
     alloc: Global,
     records: &'a [Rec5],

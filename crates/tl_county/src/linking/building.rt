@@ -12,7 +12,7 @@ ghost use Rattle.tl_layout.specs.ByType.{of_number};
 ghost use Rattle.tl_layout.specs.Fields.{Fields2, Fields4, Fields5, Fields6, Fields7, FieldsP};
 ghost use Rattle.tl_layout.specs.Numbers.{IsNumber, IsNumberOrNone};
 
-use crate::kept::keeping::{KeptChain, KeptLandmark};
+use crate::kept::keeping::{StoredChain, StoredLandmark};
 use crate::keys::keyed::{keys_of, split_group};
 use crate::keys::number_set::NumberSet;
 use crate::keys::record_keys::PolygonKey;
@@ -22,7 +22,7 @@ use tl_layout::{
 };
 use tl_shape::Surroundings;
 
-/// The contents of the records of type 5, one after the other.
+/// The contents of the type 5 records, in their order.
 pub(crate) fn name_bodies(alloc: Global, names: &[Rec5]) -> Result<Vec<Body5>, AllocError>
     ensures { IfOk result (λ bodies. bodies.items ≡ map (λ (r : Fields5). r.body) names.now) }
 {
@@ -43,7 +43,7 @@ fn first_body(points: &[RecP]) -> Option<BodyP>
     }
 }
 
-/// The contents of the polygons' records of type P, each where there is one; polygons and records in order.
+/// The content of each polygon's type P record, if it has one. The polygons and the records must be in order.
 pub(crate) fn polygon_bodies(
     alloc: Global,
     polygons: &[PolygonKey],
@@ -65,7 +65,7 @@ pub(crate) fn polygon_bodies(
     Ok(bodies)
 }
 
-/// Adds the shape points of records of type 2.
+/// Appends the shape points of type 2 records.
 pub(crate) fn join_points(points: &mut Vec<Point>, records: &[Rec2]) -> Result<(), AllocError>
     ensures { OnOk result (points.new.items ≡ points.old.items ++ flat_map (λ (r : Fields2). r.points) records.now) }
 {
@@ -75,7 +75,7 @@ pub(crate) fn join_points(points: &mut Vec<Point>, records: &[Rec2]) -> Result<(
     Ok(())
 }
 
-/// Adds the FEATs of records of type 4.
+/// Appends the FEATs of type 4 records.
 pub(crate) fn join_feats(feats: &mut Vec<u32>, records: &[Rec4]) -> Result<(), AllocError>
     requires { AllByRecursion (IsNumber 8) feats.old.items }
     ensures value { OnOk result (feats.new.items ≡ feats.old.items ++ flat_map (λ (r : Fields4). r.feats) records.now) }
@@ -87,7 +87,7 @@ pub(crate) fn join_feats(feats: &mut Vec<u32>, records: &[Rec4]) -> Result<(), A
     Ok(())
 }
 
-/// Adds the address ranges of records of type 6.
+/// Appends the address ranges of type 6 records.
 pub(crate) fn join_ranges(ranges: &mut Vec<Ranges>, records: &[Rec6]) -> Result<(), AllocError>
     ensures { OnOk result (ranges.new.items ≡ ranges.old.items ++ map (λ (r : Fields6). r.ranges) records.now) }
 {
@@ -97,7 +97,7 @@ pub(crate) fn join_ranges(ranges: &mut Vec<Ranges>, records: &[Rec6]) -> Result<
     Ok(())
 }
 
-/// Adds the contents of records of type 7.
+/// Appends the contents of type 7 records.
 pub(crate) fn join_bodies(bodies: &mut Vec<Body7>, records: &[Rec7]) -> Result<(), AllocError>
     ensures { OnOk result (bodies.new.items ≡ bodies.old.items ++ map (λ (r : Fields7). r.body) records.now) }
 {
@@ -133,15 +133,16 @@ pub(crate) struct ChainRecords<'t, 'r> {
     pub(crate) link: &'t RecI,
 }
 
-/// What builds the chains of a county, as they are kept there. They may keep the records of types 1 and I, which live for `'t`.
-pub(crate) trait ChainBuilder<'t, C: KeptChain> {
-    /// The chain of its records.
+/// Builds the chains of a county in the way that it stores them. The chains may borrow the records of types 1 and I, which live for
+/// `'t`.
+pub(crate) trait ChainBuilder<'t, C: StoredChain> {
+    /// The chain made from its records.
     fn build_chain<'r>(&mut self, records: &ChainRecords<'t, 'r>) -> Result<C, AllocError>
         ensures { IfOk result (λ built. C.chain built ≡ chain_with records.now.head.now records.now.link.now records.now.shape.now
             records.now.names.now records.now.ranges.now) };
 }
 
-/// Records of types 2, 4 and 6, which tell of chains what their records of types 1 and I don't.
+/// Records of types 2, 4 and 6, with the parts of chains that the records of types 1 and I don't hold.
 #[derive(Drop)]
 struct Details<'r> {
     shapes: &'r [Rec2],
@@ -149,9 +150,9 @@ struct Details<'r> {
     ranges: &'r [Rec6],
 }
 
-/// Adds the chain of its records of types 1 and I and of those of its TLID among the details, which are left with the records
-/// of greater TLIDs.
-fn push_chain<'t, 'r, C: KeptChain, B: ChainBuilder<'t, C>>(
+/// Appends one chain, made from its records of types 1 and I and from the details with its TLID. `details` keeps the records of
+/// greater TLIDs.
+fn push_chain<'t, 'r, C: StoredChain, B: ChainBuilder<'t, C>>(
     chains: &mut Vec<C>,
     builder: &mut B,
     head: &'t Rec1,
@@ -187,8 +188,8 @@ fn push_chain<'t, 'r, C: KeptChain, B: ChainBuilder<'t, C>>(
     Ok(())
 }
 
-/// The chains of records of types 1 and I, which stand side by side, each with its records of types 2, 4 and 6.
-pub(crate) fn chains_of_records<'t, C: KeptChain, B: ChainBuilder<'t, C>>(
+/// The chains of type 1 and type I records, paired by place, each with its records of types 2, 4 and 6.
+pub(crate) fn chains_of_records<'t, C: StoredChain, B: ChainBuilder<'t, C>>(
     alloc: Global,
     builder: &mut B,
     heads: &'t [Rec1],
@@ -222,7 +223,7 @@ pub(crate) fn chains_of_records<'t, C: KeptChain, B: ChainBuilder<'t, C>>(
     Ok(chains)
 }
 
-/// The LANDs of records of type 7 in order, each once.
+/// The LANDs of type 7 records in order, each once.
 pub(crate) fn lands_of(alloc: Global, landmarks: &[Rec7]) -> Result<Vec<u64>, AllocError>
     requires { IsInOrder (on seven_land nat_cmp) landmarks.now }
     ensures { IfOk result (λ lands. lands.items ≡ distinct nat_cmp (map seven_land landmarks.now)) }
@@ -232,15 +233,15 @@ pub(crate) fn lands_of(alloc: Global, landmarks: &[Rec7]) -> Result<Vec<u64>, Al
     Ok(lands)
 }
 
-/// What builds the landmarks of a county, as they are kept there.
-pub(crate) trait LandmarkBuilder<L: KeptLandmark> {
-    /// The landmark of its records of types 7 and 8, in their order.
+/// Builds the landmarks of a county in the way that it stores them.
+pub(crate) trait LandmarkBuilder<L: StoredLandmark> {
+    /// The landmark made from its records of types 7 and 8, in their order.
     fn build_landmark(&mut self, records: &[Rec7], links: &[Rec8]) -> Result<L, AllocError>
         ensures { IfOk result (λ built. L.landmark built ≡ record { bodies = map (λ (r : Fields7). r.body) records.now; links = links.now }) };
 }
 
-/// The landmarks of these LANDs, of records of types 7 and 8 in the order of their LANDs.
-pub(crate) fn landmarks_of<L: KeptLandmark, B: LandmarkBuilder<L>>(
+/// The landmarks with these LANDs, made from records of types 7 and 8 in the order of their LANDs.
+pub(crate) fn landmarks_of<L: StoredLandmark, B: LandmarkBuilder<L>>(
     alloc: Global,
     builder: &mut B,
     lands: &[u64],
@@ -267,7 +268,7 @@ pub(crate) fn landmarks_of<L: KeptLandmark, B: LandmarkBuilder<L>>(
     Ok(found)
 }
 
-/// Puts a node into the set, if there is one.
+/// Inserts a node into the set, if there is one.
 fn insert_node(nodes: &mut NumberSet, node: Option<u64>) -> Result<(), AllocError>
     ensures { OnOk result (distinct nat_cmp nodes.new ≡ distinct nat_cmp (nodes.old ++ option_to_list node)) }
 {
@@ -277,7 +278,7 @@ fn insert_node(nodes: &mut NumberSet, node: Option<u64>) -> Result<(), AllocErro
     Ok(())
 }
 
-/// The nodes of records of type I in order, each once. Nodes that are numbered from 1 on without gaps have a mark each.
+/// The nodes of type I records in order, each once. If nodes are numbered from 1 without gaps, each has a mark.
 pub(crate) fn nodes_of(alloc: Global, links: &[RecI]) -> Result<Vec<u64>, AllocError>
     ensures { IfOk result (λ nodes. nodes.items ≡ distinct nat_cmp (flat_map link_nodes links.now)) }
 {

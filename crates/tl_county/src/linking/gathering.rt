@@ -1,4 +1,4 @@
-//! What linking gathers from tables in order: uses of names, linked polygons, and all polygons with their places on sides.
+//! What linking gathers from tables in order: uses of names, linked polygons, and all polygons, with whether each is on a side.
 
 ghost use Rattle.std.specs.List.Sorted.{IsStrictlySortedBy};
 ghost use Rattle.std.specs.Ordering.{on};
@@ -16,7 +16,7 @@ use crate::keys::record_keys::PolygonKey;
 use std::alloc::{AllocError, Global};
 use tl_layout::{Rec4, Rec8, RecI, RecP};
 
-/// Adds the FEATs that a record of type 4 names, each with its TLID.
+/// Appends the FEATs that a type 4 record names, each with its TLID.
 fn push_uses(uses: &mut Vec<(u64, u32)>, names: &Rec4) -> Result<(), AllocError>
     ensures { OnOk result (uses.new.items ≡ uses.old.items ++ uses_of names.now) }
 {
@@ -27,7 +27,7 @@ fn push_uses(uses: &mut Vec<(u64, u32)>, names: &Rec4) -> Result<(), AllocError>
     Ok(())
 }
 
-/// Each FEAT that a record of type 4 names with its TLID, in order.
+/// Each FEAT that a type 4 record names, with its TLID, in order.
 pub(crate) fn uses_in_order(alloc: Global, names: &[Rec4]) -> Result<Vec<(u64, u32)>, AllocError>
     ensures in_order { IfOk result (λ uses. IsInOrder sequence_cmp uses.items) }
     ensures same { IfOk result (λ uses. IsPermutation (flat_map uses_of names.now) uses.items) }
@@ -40,7 +40,7 @@ pub(crate) fn uses_in_order(alloc: Global, names: &[Rec4]) -> Result<Vec<(u64, u
     Ok(uses)
 }
 
-/// The polygons of the records of type 8, in order.
+/// The polygons of the type 8 records, in order.
 pub(crate) fn linked_polygons(alloc: Global, links: &[Rec8]) -> Result<Vec<PolygonKey>, AllocError>
     ensures in_order { IfOk result (λ keys. IsInOrder key_cmp keys.items) }
     ensures same { IfOk result (λ keys. IsPermutation (map link_key links.now) keys.items) }
@@ -50,7 +50,7 @@ pub(crate) fn linked_polygons(alloc: Global, links: &[Rec8]) -> Result<Vec<Polyg
     Ok(keys)
 }
 
-/// Adds the polygons of type P.
+/// Appends the polygons of type P records.
 fn push_points(polygons: &mut Vec<PolygonKey>, points: &[RecP]) -> Result<(), AllocError>
     ensures { OnOk result (polygons.new.items ≡ polygons.old.items ++ map p_key points.now) }
 {
@@ -60,7 +60,7 @@ fn push_points(polygons: &mut Vec<PolygonKey>, points: &[RecP]) -> Result<(), Al
     Ok(())
 }
 
-/// The CENIDs of most polygons on sides, in order: those of type P, as mostly each polygon has a record of type P.
+/// The CENIDs of most polygons on sides, in order. They are read from the type P records, since usually each polygon has one.
 fn likely_cenids(alloc: Global, sides: &[RecI], points: &[RecP]) -> Result<Vec<[u8; 5]>, AllocError>
     ensures { IfOk result (λ cenids. IsStrictlySortedBy bytes_cmp cenids.items) }
 {
@@ -70,17 +70,17 @@ fn likely_cenids(alloc: Global, sides: &[RecI], points: &[RecP]) -> Result<Vec<[
     cenids_of::<RecP>(alloc, points)
 }
 
-/// The polygons on sides and of type P.
+/// The polygons on sides and of type P records.
 #[derive(Drop)]
 pub(crate) struct Polygons {
     /// The polygons in order, each once.
     pub(crate) keys: Vec<PolygonKey>,
-    /// The least polygon of type P that is on no side.
+    /// The least polygon that has a type P record and is on no side.
     pub(crate) without_side: Option<PolygonKey>,
 }
 
-/// The polygons on sides and of type P, those of type P in order. Mostly each of type P is on a side: then those on sides
-/// are all.
+/// The polygons on sides and of type P records; the type P records must be in order. Usually each polygon of type P is on a side;
+/// then the polygons on sides are all of them.
 pub(crate) fn gather_polygons(
     alloc: Global,
     sides: &[RecI],

@@ -1,4 +1,4 @@
-//! Records that fit together, in order, and the counties that are built of them.
+//! Records that fit together, in order, and the counties built from them.
 
 ghost use Rattle.std.specs.Prelude.{◌≡◌, ◌≢◌, List, IfOk, IfErr};
 ghost use Rattle.tl_county.specs.County.{county_of};
@@ -20,7 +20,7 @@ use crate::linking::arena::{InArena, names_in, names_over};
 use crate::linking::building::name_bodies;
 use crate::linking::gathering::Polygons;
 use crate::linking::owned::Owned;
-use crate::linking::{build_county, settle};
+use crate::linking::{build_county, sort_and_check};
 use bumpalo::Bump;
 use std::alloc::{AllocError, Global};
 use std::marker::Model;
@@ -61,11 +61,11 @@ impl Model for LinkedRecords {
 }
 
 impl LinkedRecords {
-    /// The county of the records, over these tables and an arena, which outlive it.
+    /// The county of the records, which borrows from these tables and from an arena; both outlive it.
     ///
     /// # Errors
     ///
-    /// Only that memory was lacking.
+    /// `AllocError` if an allocation failed.
     pub fn county<'a>(
         &'a self,
         alloc: Global,
@@ -93,7 +93,7 @@ impl LinkedRecords {
     ///
     /// # Errors
     ///
-    /// Only that memory was lacking.
+    /// `AllocError` if an allocation failed.
     pub(crate) fn into_county(self, alloc: Global) -> Result<County, AllocError>
         ensures { IfOk result (λ county. ⟦<County as Chart>⟧.county county ≡ county_of (type_after_type self)) }
     {
@@ -106,11 +106,11 @@ impl LinkedRecords {
         build_county(alloc, &mut builder, &tables, tlids, feats, names, polygons)
     }
 
-    /// The county of the records in an arena, which outlives it.
+    /// The county of the records in an arena that outlives it.
     ///
     /// # Errors
     ///
-    /// Only that memory was lacking.
+    /// `AllocError` if an allocation failed.
     pub(crate) fn into_county_in<'a>(
         self,
         alloc: Global,
@@ -127,7 +127,8 @@ impl LinkedRecords {
         build_county(alloc, &mut builder, &tables, tlids, feats, names, polygons)
     }
 
-    /// The least polygon with a record of type P that is on no side of a chain, by the bytes of the CENID and then by POLYID.
+    /// The least polygon that has a type P record and is on no side of a chain, ordered by the bytes of the CENID and then by
+    /// POLYID, or none.
     pub fn polygon_without_chain(&self) -> Option<PolygonKey>
         ensures { IsLeastPassing key_cmp (is_without_chain (county_of (type_after_type self.now))) result }
     {
@@ -135,8 +136,12 @@ impl LinkedRecords {
     }
 }
 
-/// Tables of records that fit together, put in order, or the first rule that the records break. The tables' order has no
-/// meaning. They hold 10,000,000 records of a type at most.
+/// Puts tables of records in order and checks that the records fit together. The order within a table has no meaning. A table may
+/// hold at most 10,000,000 records.
+///
+/// # Errors
+///
+/// The first rule that the records break, or `LinkFault::Memory` if an allocation failed.
 pub fn link_in_order(alloc: Global, tables: Tables) -> Result<LinkedRecords, LinkFault>
     requires { HoldsWithinLimits tables }
     ensures linked { IfOk result (λ linked. (records : List Record) →
@@ -145,7 +150,7 @@ pub fn link_in_order(alloc: Global, tables: Tables) -> Result<LinkedRecords, Lin
         HoldsByType tables records → IsFirstBrokenRule records fault) }
 {
     let mut tables = tables;
-    let gathered = settle(alloc, &mut tables)?;
+    let gathered = sort_and_check(alloc, &mut tables)?;
     let tlids = gathered.tlids;
     let feats = gathered.feats;
     let polygons = gathered.polygons;

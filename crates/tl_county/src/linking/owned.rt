@@ -18,7 +18,7 @@ pub(crate) struct Owned {
     pub(crate) alloc: Global,
 }
 
-/// The points of a chain, of its records of types 1 and 2.
+/// The points of a chain, from its records of types 1 and 2.
 fn shape_of(alloc: Global, head: &Rec1, shape: &[Rec2]) -> Result<Shape, AllocError>
     ensures { IfOk result (λ points. points ≡ head.now.start ∷ (flat_map (λ (r : Fields2). r.points) shape.now ++ (head.now.end ∷ []))) }
 {

@@ -1,4 +1,4 @@
-//! The rules by which records fit together, over tables in order.
+//! The rules for records that fit together, over tables in order.
 
 ghost use Rattle.std.specs.Ordering.{nat_cmp};
 ghost use Rattle.std.specs.Prelude.{◌≡◌, false, true, List, map, flat_map, ◌++◌, MatchResult, IfOk, OnOk, IsPermutation};
@@ -23,8 +23,8 @@ use crate::linking::table_order::Repeated;
 use std::alloc::{AllocError, Global};
 use tl_layout::{Rec2, Rec4, Rec5, Rec6, Rec7, Rec8, Tables};
 
-/// Rules 11 and 12: no TLID has two records of type 1, and each record of types 2, 4, 6 and I has its chain. The TLIDs are
-/// those of the records of type 1, and the linked ones those of type I, which are searched in place of the records.
+/// Rules 11 and 12: no TLID has two records of type 1, and each record of types 2, 4, 6 and I has its chain. `tlids` are the TLIDs
+/// of the type 1 records, and `linked` those of the type I records; these lists are searched, not the records.
 pub(crate) fn check_chains(tables: &Tables, tlids: &[u64], linked: &[u64]) -> Result<(), LinkFault>
     requires tables { AreInOrder (typed_of tables.now) }
     requires tlids { tlids.now ≡ map one_tlid tables.now.type_1.items }
@@ -53,7 +53,7 @@ pub(crate) fn check_chains(tables: &Tables, tlids: &[u64], linked: &[u64]) -> Re
     Ok(())
 }
 
-/// Rule 13: no RTSQ stands twice for a chain in a record type. The least that do are given.
+/// Rule 13: no two records of a chain have the same type and RTSQ. `repeated` are the least repeated keys.
 pub(crate) fn check_sequences(repeated: &Repeated) -> Result<(), LinkFault>
     ensures { (records : List Record) → AreLeastRepeated repeated.now (by_type records) →
         MatchResult result (λ _. RulesHold records 5 8) (IsFirstFrom records 5) }
@@ -73,8 +73,8 @@ pub(crate) fn check_sequences(repeated: &Repeated) -> Result<(), LinkFault>
     Ok(())
 }
 
-/// Rules 14 and 15: each record of type 1 has its record of type I, and no TLID has two. The TLIDs are those of the records
-/// of type 1, and the linked ones those of type I.
+/// Rules 14 and 15: each record of type 1 has its record of type I, and no TLID has two. `tlids` are the TLIDs of the type 1
+/// records, and `linked` those of the type I records.
 pub(crate) fn check_links(tables: &Tables, tlids: &[u64], linked: &[u64]) -> Result<(), LinkFault>
     requires tables { AreInOrder (typed_of tables.now) }
     requires tlids { tlids.now ≡ map one_tlid tables.now.type_1.items }
@@ -90,7 +90,7 @@ pub(crate) fn check_links(tables: &Tables, tlids: &[u64], linked: &[u64]) -> Res
     Ok(())
 }
 
-/// The least use of a FEAT that isn't among `feats`, as TLID and FEAT; uses and FEATs in order.
+/// The least use, as TLID and FEAT, of a FEAT that isn't in `feats`. Both lists must be in order.
 fn least_unnamed(uses: &[(u64, u32)], feats: &[u32]) -> Option<(u64, u32)>
     requires uses { IsInOrder sequence_cmp uses.now }
     requires feats { IsInOrder nat_cmp feats.now }
@@ -106,7 +106,7 @@ fn least_unnamed(uses: &[(u64, u32)], feats: &[u32]) -> Option<(u64, u32)>
     None
 }
 
-/// Whether each FEAT that a record of type 4 names is among `feats`, which are in order.
+/// Whether each FEAT that a type 4 record names is in `feats`, which must be in order.
 fn are_named(names: &Rec4, feats: &[u32], marks: &[bool]) -> bool
     requires feats { IsInOrder nat_cmp feats.now }
     requires marks { AreMarksOf feats.now marks.now }
@@ -121,8 +121,7 @@ fn are_named(names: &Rec4, feats: &[u32], marks: &[bool]) -> bool
     true
 }
 
-/// Whether each FEAT that records of type 4 name is among `feats`, which are in order. The records are read once, as they
-/// stand.
+/// Whether each FEAT that type 4 records name is in `feats`, which must be in order. The records are read once, in their own order.
 fn all_named(alloc: Global, names: &[Rec4], feats: &[u32]) -> Result<bool, AllocError>
     requires { IsInOrder nat_cmp feats.now }
     ensures named { IfOk result (λ all. all ≡ true → AllNamed feats.now names.now) }
@@ -137,8 +136,8 @@ fn all_named(alloc: Global, names: &[Rec4], feats: &[u32]) -> Result<bool, Alloc
     Ok(true)
 }
 
-/// The least use, as TLID and FEAT, of a FEAT that isn't among `feats`, which are in order. Mostly there is none: then no use
-/// is drawn out.
+/// The least use, as TLID and FEAT, of a FEAT that isn't in `feats`, which must be in order. Usually there is none, and then no
+/// list of uses is made.
 pub(crate) fn unnamed_use(
     alloc: Global,
     names: &[Rec4],
@@ -154,8 +153,8 @@ pub(crate) fn unnamed_use(
     Ok(least_unnamed(&uses, feats))
 }
 
-/// Rules 16 and 17: no FEAT has two records of type 5, and each FEAT that a record of type 4 names has one. The unnamed use
-/// is the least one of a FEAT that has none.
+/// Rules 16 and 17: no FEAT has two records of type 5, and each FEAT that a type 4 record names has one. `unnamed` is the least use
+/// of a FEAT that has none.
 pub(crate) fn check_names(tables: &Tables, unnamed: Option<(u64, u32)>) -> Result<(), LinkFault>
     requires tables { AreInOrder (typed_of tables.now) }
     requires unnamed { IsLeastPassing sequence_cmp
@@ -171,9 +170,9 @@ pub(crate) fn check_names(tables: &Tables, unnamed: Option<(u64, u32)>) -> Resul
     Ok(())
 }
 
-/// Rules 18 to 20: no polygon has two records of type P, each landmark of a record of type 8 has a record of type 7, and
-/// each polygon of one stands on a side or has a record of type P. The linked polygons are those of the records of type 8,
-/// and the polygons are the keys on sides and of type P, both in order. The least polygon that has two records is given.
+/// Rules 18 to 20: no polygon has two records of type P; each landmark of a type 8 record has a record of type 7; and each polygon
+/// of a type 8 record is on a side or has a record of type P. `linked` are the polygons of the type 8 records, and `polygons` the
+/// keys on sides and of type P, both in order. `repeated` is the least polygon that has two records.
 pub(crate) fn check_landmarks(
     tables: &Tables,
     repeated: Option<PolygonKey>,

@@ -1,7 +1,7 @@
-//! Tables put in the order of their records' numbers, and what that tells.
+//! Puts tables in the order of their records' numbers, and reports what the sorting finds.
 //!
-//! Each table is put in order once, by std's stable sort; a table that is in order already is read once. The walk that finds it in
-//! order also tells its keys, or the least key that stands twice.
+//! Each table is put in order once, by std's stable sort; a table that is in order already is read once. The pass that finds it in
+//! order also returns its keys, or the least key that occurs twice.
 
 ghost use Rattle.std.specs.Ordering.{nat_cmp, on};
 ghost use Rattle.std.specs.Prelude.{◌≡◌, map, OnOk, IfOk};
@@ -22,35 +22,35 @@ use tl_layout::{Rec1, Rec2, Rec4, Rec5, Rec6, Rec7, Rec8, RecI, RecP, Tables};
 /// The TLIDs of the records of types 1 and I.
 #[derive(Drop)]
 pub(crate) struct Tlids {
-    /// Those of the records of type 1.
+    /// The TLIDs of the type 1 records.
     pub(crate) chains: Vec<u64>,
-    /// Those of the records of type I.
+    /// The TLIDs of the type I records.
     pub(crate) links: Vec<u64>,
 }
 
-/// The least keys that two records of a type have, where two have one.
+/// The least key of each type that two records have, if any.
 #[derive(Drop)]
 pub(crate) struct Repeated {
-    /// TLID and RTSQ of records of type 2.
+    /// TLID and RTSQ of type 2 records.
     pub(crate) type_2: Option<(u64, u16)>,
-    /// TLID and RTSQ of records of type 4.
+    /// TLID and RTSQ of type 4 records.
     pub(crate) type_4: Option<(u64, u16)>,
-    /// TLID and RTSQ of records of type 6.
+    /// TLID and RTSQ of type 6 records.
     pub(crate) type_6: Option<(u64, u16)>,
-    /// The polygon of records of type P.
+    /// The polygon of type P records.
     pub(crate) type_p: Option<PolygonKey>,
 }
 
-/// What is told of records by putting them in order.
+/// What is found when records are put in order.
 #[derive(Drop)]
 pub(crate) struct Ordered {
-    /// The TLIDs in order.
+    /// The TLIDs, in order.
     pub(crate) tlids: Tlids,
-    /// The keys that stand twice.
+    /// The keys that occur twice.
     pub(crate) repeated: Repeated,
 }
 
-/// Puts the records of types 2, 4, 6 and P in the order of their keys, and answers the least key of each type that stands twice.
+/// Puts the records of types 2, 4, 6 and P in the order of their keys, and returns the least key of each type that occurs twice.
 fn order_repeated(
     shapes: &mut Vec<Rec2>,
     names: &mut Vec<Rec4>,
@@ -93,7 +93,7 @@ fn order_named(
     put_in_order::<LinkKey, Rec8>(links)
 }
 
-/// Puts the records of types 1 and I in the order of their TLIDs, and answers these.
+/// Puts the records of types 1 and I in the order of their TLIDs, and returns the TLIDs.
 fn order_chains(
     alloc: Global,
     heads: &mut Vec<Rec1>,
@@ -109,8 +109,8 @@ fn order_chains(
     Ok(Tlids { chains, links })
 }
 
-/// Puts each table in the order of its records' numbers. It answers the TLIDs of the records of types 1 and I in that order, and
-/// the keys of types 2, 4, 6 and P that stand twice.
+/// Puts each table in the order of its records' numbers. Returns the TLIDs of the records of types 1 and I in that order, and the
+/// keys of types 2, 4, 6 and P that occur twice.
 pub(crate) fn order_tables(alloc: Global, tables: &mut Tables) -> Result<Ordered, AllocError>
     ensures in_order { OnOk result (AreInOrder (typed_of tables.new)) }
     ensures same { OnOk result (ArePermuted (typed_of tables.old) (typed_of tables.new)) }

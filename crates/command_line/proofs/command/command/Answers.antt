@@ -4,7 +4,7 @@ use Rattle.clap.specs.Words.{App, with_subcommand}
 use Rattle.command_line.specs.Grammar.{over_one_set, with_mask}
 use Rattle.command_line.proofs.command.command.Goals as goal
 
--- the top of what a subcommand is
+-- the top of an app
 top_of : (a b : App) → a ≡ b → a.top ≡ b.top
 top_of a b e = ap (λ (x : App). x.top) e
 

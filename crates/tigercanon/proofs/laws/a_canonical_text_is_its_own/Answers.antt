@@ -1,5 +1,5 @@
 use Rattle.tl_number.specs.Sights.{plain}
-use Rattle.tl_number.proofs.Accepted.{plain_sight}
+use Rattle.tl_number.proofs.CanonicalLists.Accepted.{plain_sight}
 use Rattle.tigercanon.proofs.Sets.{text_accepted, text_itself}
 use Rattle.tigercanon.proofs.laws.a_canonical_text_is_its_own.Goals as goal
 

@@ -1,4 +1,4 @@
-//! Canonical counties and their records, with growths refused as is asked for.
+//! Canonical counties and their records, with growths refused as requested.
 
 use super::super::comparing::{same, same_items};
 use super::super::sets::{Set, spelled};
@@ -11,7 +11,7 @@ use tigercanon::{Fault, normalise_masked};
 use tl_cert::Renaming;
 use tl_county::Chart;
 use tl_layout::Record;
-use tl_number::{CanonCounty, CanonCountyIn, canonise_chart};
+use tl_number::{CanonCounty, CanonCountyIn, canonise_alone};
 use tl_profile::Admitted;
 use tl_write::{SlowSink, write_in, write_to};
 
@@ -37,7 +37,7 @@ fn has_text<C: Chart>(
     same_items(rt, row, sink.held(), text);
 }
 
-/// The run that came to a canonical county with this text, or to nothing. The answer is the renaming.
+/// The run that ended with a canonical county with this text, or with nothing. The result is the renaming.
 fn canonised<C: Chart + Drop>(
     rt: &impl Abort,
     alloc: Global,
@@ -116,10 +116,10 @@ fn canonical_of<C: Chart + Drop>(
     row: &str,
     admitted: Admitted<C>,
 ) -> CanonCounty<C> {
-    canonise_chart(alloc, admitted.into_chart()).expect(rt, row)
+    canonise_alone(alloc, admitted).expect(rt, row)
 }
 
-/// The run that came to the records of a canonical county, or to nothing. Their lines are the set's text.
+/// The run that ended with the records of a canonical county, or with nothing. Their lines are the set's text.
 fn listed(
     rt: &impl Abort,
     alloc: Global,
@@ -159,7 +159,7 @@ impl Call for RecordsOf {
     }
 }
 
-/// What is written of a county in an arena is the set's text.
+/// The text written for a county in an arena is the set's text.
 fn is_written_in(rt: &impl Abort, alloc: Global, set: &Set<'_>, county: &CanonCountyIn<'_>) {
     let mut room = vec![in alloc; 0u8; set.text.len()].expect(rt, "there is memory");
     let mut sink = SlowSink::new(&mut room, 4000);

@@ -1,7 +1,6 @@
-//! Renamings, and shapes, with growths refused as is asked for.
+//! Renamings and shapes, with growths refused as requested.
 
 use super::super::counties::county_of;
-use super::super::masks::BOTH;
 use super::super::sets::Set;
 use super::{Call, Run, ended, has_refused, refuse};
 use std::alloc::Global;
@@ -9,7 +8,7 @@ use std::process::Abort;
 use tigercanon::{Fault, normalise_with_renaming};
 use tl_cert::{Renaming, check, check_masked};
 use tl_county::Chart;
-use tl_layout::Point;
+use tl_layout::{Mask, Point};
 use tl_shape::Shape;
 
 /// The renaming of the set onto its text.
@@ -32,17 +31,18 @@ fn checked<A: Chart, B: Chart>(
     ended(rt, alloc, has_refused(alloc), outcome.map_err(Fault::from))
 }
 
-/// The run that checks it under both masks.
+/// The run that checks it under a mask.
 fn checked_masked<A: Chart, B: Chart>(
     rt: &impl Abort,
     alloc: Global,
     here: &A,
     there: &B,
     renaming: &Renaming,
+    mask: Mask,
     asked: usize,
 ) -> Run {
     refuse(alloc, asked);
-    let outcome = check_masked(alloc, here, there, renaming, BOTH);
+    let outcome = check_masked(alloc, here, there, renaming, mask);
     ended(rt, alloc, has_refused(alloc), outcome.map_err(Fault::from))
 }
 
@@ -63,12 +63,12 @@ impl Call for CheckRenaming {
 pub(super) struct CheckMasked;
 
 impl Call for CheckMasked {
-    /// What carries the set onto its text carries it under the mask.
+    /// The renaming that carries the set onto its text carries it under the mask.
     fn run(rt: &impl Abort, alloc: Global, set: &Set<'_>, asked: usize) -> Run {
         let here = county_of(rt, alloc, set.row, set.bytes);
         let there = county_of(rt, alloc, set.row, set.text);
         let renaming = renaming_of(rt, alloc, set);
-        let run = checked_masked(rt, alloc, &here, &there, &renaming, asked);
+        let run = checked_masked(rt, alloc, &here, &there, &renaming, set.mask, asked);
         drop(here);
         drop(there);
         run

@@ -1,10 +1,10 @@
-//! Which layer tells want of memory within a whole call: the one that was refused.
+//! The layer that reports out of memory within a whole call is the one whose growth was refused.
 
 use super::super::comparing::same;
 use super::super::sets::{Set, SetLines};
 use super::super::worked_sets::worked;
 use super::{
-    ALONE, Call, LinkInOrder, MANY, OrderByShape, Run, TablesOf, WriteInOrder, has_refused, refuse,
+    ALONE, Call, LinkInOrder, MANY, OrderByShape, TablesOf, WriteAdmitted, has_refused, refuse,
 };
 use std::alloc::Global;
 use std::process::Abort;
@@ -13,7 +13,7 @@ use tl_county::LinkFault;
 use tl_load::LoadFault;
 use tl_profile::ProfileFault;
 
-/// The layer that tells want of memory: loading, linking, the profile, or what comes behind them.
+/// The layer that reports out of memory: loading, linking, the profile, or the steps after them.
 fn layer_of(fault: Fault) -> Option<usize> {
     match fault {
         Fault::Load(LoadFault::Memory) => Some(0),
@@ -24,7 +24,7 @@ fn layer_of(fault: Fault) -> Option<usize> {
     }
 }
 
-/// The layer that tells the refusal of this growth of a whole call, and whether there was one.
+/// The layer that reports the refusal of this growth of a whole call, and whether there was one.
 fn layer_at(alloc: Global, set: &Set<'_>, growth: usize) -> (Option<usize>, bool) {
     refuse(alloc, ALONE.saturating_add(growth));
     let outcome = normalise(alloc, &[set.bytes]);
@@ -32,7 +32,7 @@ fn layer_at(alloc: Global, set: &Set<'_>, growth: usize) -> (Option<usize>, bool
     (outcome.err().and_then(layer_of), refused)
 }
 
-/// Counts what a layer told. No layer tells want of memory behind a later one.
+/// Counts the report of a layer. No layer reports out of memory after a later one did.
 fn count_layer(rt: &impl Abort, row: &str, counts: &mut [usize; 4], layer: usize) {
     let behind: usize = counts
         .iter()
@@ -46,8 +46,8 @@ fn count_layer(rt: &impl Abort, row: &str, counts: &mut [usize; 4], layer: usize
     }
 }
 
-/// How often each layer tells want of memory, while each growth of a whole call is refused in turn. A growth that the call meets
-/// amply all the same isn't told.
+/// How often each layer reports out of memory while each growth of a whole call is refused in turn. A growth that the call can do
+/// without isn't reported.
 fn tellings_by_layer(rt: &impl Abort, alloc: Global, set: &Set<'_>) -> [usize; 4] {
     let mut counts = [0usize; 4];
     for growth in 1..MANY {
@@ -62,20 +62,20 @@ fn tellings_by_layer(rt: &impl Abort, alloc: Global, set: &Set<'_>) -> [usize; 4
     counts
 }
 
-/// How often a call tells want of memory, while each of its growths is refused in turn.
+/// How often a call reports out of memory while each of its growths is refused in turn.
 fn tellings<C: Call>(rt: &impl Abort, alloc: Global, set: &Set<'_>) -> usize {
     let mut count = 0usize;
     for growth in 1..MANY {
-        let Run { answer, refused } = C::run(rt, alloc, set, ALONE.saturating_add(growth));
-        if !refused {
+        let run = C::run(rt, alloc, set, ALONE.saturating_add(growth));
+        if !run.refused {
             break;
         }
-        count = count.saturating_add(usize::from(answer.is_none()));
+        count = count.saturating_add(usize::from(run.answer.is_none()));
     }
     count
 }
 
-/// Each layer tells as many refusals within a whole call as it tells by itself. Answers how many linking tells.
+/// Each layer reports as many refusals within a whole call as it does alone. Returns how many linking reports.
 fn layers_tell_their_refusals(rt: &impl Abort, alloc: Global, lines: &SetLines) -> usize {
     let set = lines.set();
     let told = tellings_by_layer(rt, alloc, &set);
@@ -83,7 +83,7 @@ fn layers_tell_their_refusals(rt: &impl Abort, alloc: Global, lines: &SetLines) 
         tellings::<TablesOf>(rt, alloc, &set),
         tellings::<LinkInOrder>(rt, alloc, &set),
         tellings::<OrderByShape>(rt, alloc, &set),
-        tellings::<WriteInOrder>(rt, alloc, &set),
+        tellings::<WriteAdmitted>(rt, alloc, &set),
     ];
     same(rt, lines.row, &told, &wanted);
     told[1]

@@ -1,4 +1,4 @@
-//! Linking, and admission to the profile, with growths refused as is asked for.
+//! Linking, and admission to the profile, with growths refused as requested.
 
 use super::super::counties::{county_in_of, county_of};
 use super::super::sets::{Set, records_of};
@@ -10,7 +10,7 @@ use std::process::Abort;
 use tigercanon::{Fault, normalise_with_renaming};
 use tl_cert::Renaming;
 use tl_county::{Chart, LinkedRecords};
-use tl_profile::{Admitted, AdmittedIn, ChainWalk, ShapeOrder};
+use tl_profile::{Admitted, AdmittedIn, DirectedChain, ShapeOrder};
 
 pub(super) struct Link;
 
@@ -42,7 +42,7 @@ fn standstill(rt: &impl Abort, alloc: Global, set: &Set<'_>) -> Renaming {
     told.1.then(&back).expect(rt, set.row)
 }
 
-/// Whether the renaming carries the one county onto the other.
+/// Whether the renaming carries the first county onto the second.
 pub(super) fn carries<A: Chart, B: Chart>(
     alloc: Global,
     one: &A,
@@ -55,7 +55,7 @@ pub(super) fn carries<A: Chart, B: Chart>(
     }
 }
 
-/// Whether the county is that of the set, number by number.
+/// Whether the county is the set's, number by number.
 pub(super) fn is_of_set<C: Chart>(
     rt: &impl Abort,
     alloc: Global,
@@ -70,7 +70,7 @@ pub(super) fn is_of_set<C: Chart>(
     carried
 }
 
-/// The run that builds the county over linked records. The answer is whether it is that of the set.
+/// The run that builds the county over linked records. The result is whether it is the set's county.
 fn built_over(rt: &impl Abort, alloc: Global, set: &Set<'_>, linked: &LinkedRecords) -> Run {
     let arena = Bump::new(alloc);
     let outcome = linked.county(alloc, &arena);
@@ -82,7 +82,7 @@ fn built_over(rt: &impl Abort, alloc: Global, set: &Set<'_>, linked: &LinkedReco
     ended(rt, alloc, refused, outcome)
 }
 
-/// Linking, and then the county over what was linked.
+/// Linking, and then the county over the linked records.
 pub(super) struct LinkInOrder;
 
 impl Call for LinkInOrder {
@@ -146,8 +146,8 @@ pub(super) fn admitted_in_of<'a>(
     tl_profile::admit_in(alloc, county).expect(rt, set.row)
 }
 
-/// The chains of an order, as they stand in it.
-pub(super) fn walks_of(rt: &impl Abort, alloc: Global, order: &ShapeOrder) -> Vec<ChainWalk> {
+/// The chains of an order, in that order.
+pub(super) fn walks_of(rt: &impl Abort, alloc: Global, order: &ShapeOrder) -> Vec<DirectedChain> {
     Vec::from_slice(alloc, order.walks()).expect(rt, "there is memory")
 }
 

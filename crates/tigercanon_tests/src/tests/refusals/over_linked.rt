@@ -14,17 +14,14 @@ use std::alloc::Global;
 use std::process::Abort;
 use tigercanon::Fault;
 use tl_county::{Chart, CountyOver, LinkedRecords, link_in_order};
-use tl_profile::{Admitted, ChainWalk, ProfileFault, ShapeOrder, admit_linked};
-
-/// A county as it is admitted, and the order of its chains by their shapes.
-type Admission<C> = Result<(Admitted<C>, ShapeOrder), ProfileFault>;
+use tl_profile::{Admitted, DirectedChain, ProfileFault, admit_linked};
 
 /// Admits the county of these linked records.
 fn admit_over<'a>(
     alloc: Global,
     county: CountyOver<'a>,
     linked: &LinkedRecords,
-) -> Admission<CountyOver<'a>>
+) -> Result<Admitted<CountyOver<'a>>, ProfileFault>
     requires { ⟦<CountyOver<'a> as Chart>⟧.county county ≡ county_of (type_after_type linked.now) }
 {
     admit_linked(alloc, county, linked.polygon_without_chain())
@@ -35,11 +32,11 @@ fn order_of<C: Chart + Drop>(
     rt: &impl Abort,
     alloc: Global,
     set: &Set<'_>,
-    outcome: Admission<C>,
-) -> Result<Vec<ChainWalk>, Fault> {
+    outcome: Result<Admitted<C>, ProfileFault>,
+) -> Result<Vec<DirectedChain>, Fault> {
     match outcome {
-        Ok((admitted, order)) => {
-            let county = admitted.into_chart();
+        Ok(admitted) => {
+            let (county, order) = admitted.into_parts();
             let is_same = is_of_set(rt, alloc, set, &county);
             drop(county);
             same(rt, set.row, &is_same, &Ok(true));

@@ -4,7 +4,6 @@ ghost use Rattle.std.specs.Prelude.{◌≡◌};
 ghost use Rattle.tl_number.specs.Arrangement.{ascending};
 ghost use Rattle.tl_number.specs.Steps.{AreSteps, arrangement_of};
 ghost use Rattle.tl_profile.specs.Profile.{IsInProfile};
-ghost use Rattle.tl_profile.specs.ShapeOrder.{IsShapeOrder};
 
 use super::super::comparing::same;
 use super::super::counties::county_of;
@@ -16,20 +15,16 @@ use std::process::Abort;
 use tigercanon::Fault;
 use tl_cert::Renaming;
 use tl_county::Chart;
-use tl_number::{Arranged, arrange, ascending_steps, canonise_in_order};
-use tl_profile::{ChainWalk, ShapeOrder, admit_with_order};
+use tl_number::{Arranged, arrange, ascending_steps, canonise_alone};
+use tl_profile::{Admitted, DirectedChain};
 use tl_write::{CountedOut, write_to};
 
-/// The text of an admitted county, from the order of its chains by their shapes, in memory.
-fn text_in_order<C: Chart + Drop>(
+/// The text of an admitted county, in memory.
+fn text_of_admitted<C: Chart + Drop>(
     alloc: Global,
-    chart: C,
-    order: &ShapeOrder,
-) -> Result<Vec<u8>, Fault>
-    requires profile { IsInProfile (C.county chart) }
-    requires shapes { IsShapeOrder (C.county chart) order.now }
-{
-    let county = canonise_in_order(alloc, chart, order)?;
+    admitted: Admitted<C>,
+) -> Result<Vec<u8>, Fault> {
+    let county = canonise_alone(alloc, admitted)?;
     let mut sink = CountedOut::new(Vec::new(alloc));
     let written = write_to(&county, &mut sink);
     drop(county);
@@ -41,15 +36,13 @@ fn text_in_order<C: Chart + Drop>(
 }
 
 /// The canonical county, and its text in memory.
-pub(super) struct WriteInOrder;
+pub(super) struct WriteAdmitted;
 
-impl Call for WriteInOrder {
+impl Call for WriteAdmitted {
     fn run(rt: &impl Abort, alloc: Global, set: &Set<'_>, asked: usize) -> Run {
-        let county = county_of(rt, alloc, set.row, set.bytes);
-        let (admitted, order) = admit_with_order(alloc, county).expect(rt, set.row);
-        let chart = admitted.into_chart();
+        let admitted = admitted_of(rt, alloc, set);
         refuse(alloc, asked);
-        let outcome = text_in_order(alloc, chart, &order);
+        let outcome = text_of_admitted(alloc, admitted);
         ended(rt, alloc, has_refused(alloc), outcome)
     }
 }
@@ -58,7 +51,7 @@ impl Call for WriteInOrder {
 fn arrange_ascending<C: Chart + Drop>(
     alloc: Global,
     chart: C,
-    steps: Vec<ChainWalk>,
+    steps: Vec<DirectedChain>,
 ) -> Result<Arranged<C>, AllocError>
     requires profile { IsInProfile (C.county chart) }
     requires there { AreSteps (C.county chart) steps.items }

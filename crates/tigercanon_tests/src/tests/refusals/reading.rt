@@ -1,4 +1,4 @@
-//! Loaders with growths refused as is asked for.
+//! Loaders with growths refused as requested.
 
 ghost use Rattle.tl_county.specs.Limits.{HoldsWithinLimits};
 
@@ -11,7 +11,7 @@ use tigercanon::Fault;
 use tl_layout::Tables;
 use tl_load::{LoadFault, Loader, SlowSource, Source};
 
-/// After a fault a loader answers it to the reading of a source, of which nothing is read.
+/// After a fault, a loader returns it when asked to read a source, and reads nothing.
 fn reads_nothing(rt: &impl Abort, loader: &mut Loader, fault: LoadFault) {
     assert!(rt; loader.parts() < 2, "one part was fed at most");
     let mut source = SlowSource::new(b"8\n", 1, None);
@@ -27,14 +27,14 @@ fn reads_nothing(rt: &impl Abort, loader: &mut Loader, fault: LoadFault) {
     );
 }
 
-/// After a fault a loader answers it to what is fed, and to a part's end.
+/// After a fault, a loader returns it when fed, and at a part's end.
 fn takes_nothing(rt: &impl Abort, loader: &mut Loader, fault: LoadFault) {
     assert!(rt; loader.parts() < 2, "one part was fed at most");
     let found = (loader.feed(b"8\n"), loader.end_part());
     same(rt, "feed, end_part", &found, &(Err(fault), Err(fault)));
 }
 
-/// After a fault a loader answers it to each call, and keeps its number of parts.
+/// After a fault, a loader returns it from each call, and keeps its number of parts.
 fn stands(rt: &impl Abort, loader: &mut Loader, fault: LoadFault) {
     let parts = loader.parts();
     takes_nothing(rt, loader, fault);
@@ -42,7 +42,7 @@ fn stands(rt: &impl Abort, loader: &mut Loader, fault: LoadFault) {
     same(rt, "parts", &loader.parts(), &parts);
 }
 
-/// The run of a loader that came to this end before it was finished, or that is to be finished.
+/// The run of a loader that ended so before it was finished, or that is still to finish.
 fn finished(rt: &impl Abort, alloc: Global, loader: Loader, so_far: Result<(), LoadFault>) -> Run {
     let mut loader = loader;
     match so_far {
@@ -63,7 +63,7 @@ fn finished(rt: &impl Abort, alloc: Global, loader: Loader, so_far: Result<(), L
 pub(super) struct Feed;
 
 impl Call for Feed {
-    /// The last line is ended by the loader's end.
+    /// The loader's end completes the last line.
     fn run(rt: &impl Abort, alloc: Global, set: &Set<'_>, asked: usize) -> Run {
         let piece = set.bytes.strip_suffix(b"\n").unwrap_or(set.bytes);
         let mut loader = Loader::new(alloc);
@@ -76,7 +76,7 @@ impl Call for Feed {
 pub(super) struct EndPart;
 
 impl Call for EndPart {
-    /// The last line is ended by the part's end.
+    /// The part's end completes the last line.
     fn run(rt: &impl Abort, alloc: Global, set: &Set<'_>, asked: usize) -> Run {
         let piece = set.bytes.strip_suffix(b"\n").unwrap_or(set.bytes);
         let mut loader = Loader::new(alloc);

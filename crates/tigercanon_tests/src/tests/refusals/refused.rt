@@ -1,11 +1,11 @@
-//! Sets that are refused, by calls of which growths of memory are refused too: what is told stays, or it is want of memory.
+//! Rejected sets, by calls whose growths of memory are refused too: the reported fault is the same, or it is out of memory.
 
 use super::super::comparing::{same, same_items};
 use super::super::counties::{county_in_of, county_of};
 use super::super::sets::{Row, Set, SetLines, sets_of};
 use super::super::twin_sets::TOO_SYMMETRIC;
 use super::super::worked_sets::{CHAIN, LINK, SIDES};
-use super::{Swept, sweep_admitting, sweep_linking, sweep_reading, sweep_whole_calls};
+use super::{on_sets, sweep_admitting, sweep_linking, sweep_reading, sweep_whole_calls};
 use bumpalo::Bump;
 use std::alloc::Global;
 use std::process::Abort;
@@ -23,7 +23,7 @@ const POINT: &str = "P{4}0100100001{8}12";
 
 const POLYGON: &str = "8{4}0100100001{8}12{8}30";
 
-/// Sets with a faulty line, each under what is told of it.
+/// Sets with a faulty line, each with the reported fault as its name.
 const LINES: &[Row] = &[
     ("refused 1 UnknownType 1 3", &[CHAIN, LINK, "A"], &[]),
     (
@@ -90,7 +90,7 @@ const RULES: &[Row] = &[
     ),
 ];
 
-/// Sets whose county is outside of the profile.
+/// Sets whose county is outside the profile.
 const CLAUSES: &[Row] = &[
     (
         "refused 23 PolygonWithoutChain 3030303031 12",
@@ -113,7 +113,7 @@ fn of_clauses() -> &'static [Row] {
     CLAUSES
 }
 
-/// Each whole call tells this fault of the set, and comparing tells which set it is.
+/// Each whole call reports this fault of the set, and comparing reports which set it is.
 fn each_tells(rt: &impl Abort, alloc: Global, set: &Set<'_>, fault: Fault) {
     let told = Some(fault);
     let faults = [
@@ -127,7 +127,7 @@ fn each_tells(rt: &impl Abort, alloc: Global, set: &Set<'_>, fault: Fault) {
     same(rt, set.row, &compared, &in_set);
 }
 
-/// The set is refused as its name says, by each whole call.
+/// Each whole call rejects the set as its name states.
 fn is_refused(rt: &impl Abort, alloc: Global, set: &Set<'_>) {
     let fault = check(alloc, &[set.bytes]).expect_err(rt, set.row);
     let line = format!(in alloc; "{}", Refusal(fault)).expect(rt, "there is memory");
@@ -135,7 +135,7 @@ fn is_refused(rt: &impl Abort, alloc: Global, set: &Set<'_>) {
     each_tells(rt, alloc, set, fault);
 }
 
-/// A county outside of the profile is refused as its set is, where it is kept.
+/// A stored county outside the profile is rejected as its set is.
 fn is_kept_out(rt: &impl Abort, alloc: Global, set: &Set<'_>) {
     let told = check(alloc, &[set.bytes]).err();
     let county = county_of(rt, alloc, set.row, set.bytes);
@@ -147,7 +147,7 @@ fn is_kept_out(rt: &impl Abort, alloc: Global, set: &Set<'_>) {
     same(rt, set.row, &fault, &told);
 }
 
-/// The sets of these tables, each of which is refused as its name says.
+/// The sets of these tables. Each is rejected as its name states.
 fn refused_sets(rt: &impl Abort, alloc: Global, tables: &[&'static [Row]]) -> Vec<SetLines> {
     let sets = sets_of(rt, alloc, tables);
     for lines in &sets {
@@ -159,10 +159,7 @@ fn refused_sets(rt: &impl Abort, alloc: Global, tables: &[&'static [Row]]) -> Ve
 #[test]
 fn faulty_lines_are_told_where_growths_are_refused(rt: HostRuntime) {
     let sets = refused_sets(&rt, rt.alloc(), &[of_lines()]);
-    let of = Swept {
-        what: " of faulty lines",
-        sets: &sets,
-    };
+    let of = on_sets(" of faulty lines", &sets);
     sweep_whole_calls(&rt, rt.alloc(), of);
     sweep_reading(&rt, rt.alloc(), of);
 }
@@ -170,10 +167,7 @@ fn faulty_lines_are_told_where_growths_are_refused(rt: HostRuntime) {
 #[test]
 fn broken_rules_are_told_where_growths_are_refused(rt: HostRuntime) {
     let sets = refused_sets(&rt, rt.alloc(), &[of_rules()]);
-    let of = Swept {
-        what: " of broken rules",
-        sets: &sets,
-    };
+    let of = on_sets(" of broken rules", &sets);
     sweep_whole_calls(&rt, rt.alloc(), of);
     sweep_linking(&rt, rt.alloc(), of);
 }
@@ -181,10 +175,7 @@ fn broken_rules_are_told_where_growths_are_refused(rt: HostRuntime) {
 #[test]
 fn broken_clauses_are_told_where_growths_are_refused(rt: HostRuntime) {
     let sets = refused_sets(&rt, rt.alloc(), &[of_clauses()]);
-    let of = Swept {
-        what: " of broken clauses",
-        sets: &sets,
-    };
+    let of = on_sets(" of broken clauses", &sets);
     for lines in &sets {
         is_kept_out(&rt, rt.alloc(), &lines.set());
     }

@@ -1,13 +1,13 @@
-//! The whole calls with growths refused as is asked for, as they are and under a mask that leaves out all that masks leave out.
+//! The whole calls with growths refused as requested, without a mask and under the set's mask.
 
 ghost use Rattle.std.specs.Prelude.{◌<◌};
 
 use super::super::comparing::{same, same_items};
-use super::super::masks::BOTH;
 use super::super::sets::{Set, lines_of};
 use super::super::worked_sets::street;
 use super::{Call, Run, ended, has_refused, is_memory, refuse};
 use std::alloc::Global;
+use std::fmt::Debug;
 use std::process::Abort;
 use tigercanon::{CompareFault, Fault};
 use tl_load::SlowSource;
@@ -36,7 +36,7 @@ impl Call for Normalise {
 pub(crate) struct NormaliseWithRenaming;
 
 impl Call for NormaliseWithRenaming {
-    /// The answer is the renaming.
+    /// The result is the renaming.
     fn run(rt: &impl Abort, alloc: Global, set: &Set<'_>, asked: usize) -> Run {
         refuse(alloc, asked);
         let outcome = tigercanon::normalise_with_renaming(alloc, &[set.bytes]);
@@ -51,7 +51,7 @@ impl Call for NormaliseWithRenaming {
     }
 }
 
-/// Reads a set and writes its text, a hundred bytes at most at a time.
+/// Reads a set and writes its text, at most a hundred bytes at a time.
 pub(crate) fn normalise_slowly(
     alloc: Global,
     set: &[u8],
@@ -63,7 +63,7 @@ pub(crate) fn normalise_slowly(
     tigercanon::normalise_to(alloc, &mut sources, sink)
 }
 
-/// The run that came to this end at a sink. The answer is what the sink holds, which is nothing where a growth was refused.
+/// The run with this outcome at a sink. The result is the content of the sink, which is empty if a growth was refused.
 fn written_by(
     rt: &impl Abort,
     alloc: Global,
@@ -115,15 +115,30 @@ impl Call for Check {
     }
 }
 
-/// What comparing finds, apart from want of memory.
+/// The result of a comparison, apart from out of memory.
 type Comparison<V> = Result<V, CompareFault>;
 
-/// The answer of a comparison, with want of memory as other calls tell it.
+/// The result of a comparison, with out of memory as other calls report it.
 fn told<V: Drop>(outcome: Comparison<V>) -> Result<Comparison<V>, Fault> {
     match outcome {
         Err(CompareFault::Memory) => Err(Fault::Memory),
         Err(CompareFault::In { fault, .. }) if is_memory(fault) => Err(fault),
         other => Ok(other),
+    }
+}
+
+/// The run with this outcome of a comparison, and the set that the fault names.
+fn compared<V: Debug + Drop>(rt: &impl Abort, alloc: Global, outcome: Comparison<V>) -> Run {
+    let refused = has_refused(alloc);
+    let set = match &outcome {
+        Err(CompareFault::In { set, .. }) => Some(*set),
+        _ => None,
+    };
+    let Run { answer, .. } = ended(rt, alloc, refused, told(outcome));
+    Run {
+        answer,
+        set,
+        refused,
     }
 }
 
@@ -133,7 +148,7 @@ impl Call for CompareWithItself {
     fn run(rt: &impl Abort, alloc: Global, set: &Set<'_>, asked: usize) -> Run {
         refuse(alloc, asked);
         let outcome = tigercanon::compare(alloc, &[set.bytes], &[set.bytes]);
-        ended(rt, alloc, has_refused(alloc), told(outcome))
+        compared(rt, alloc, outcome)
     }
 }
 
@@ -144,7 +159,18 @@ impl Call for CompareWithStreet {
         let other = lines_of(rt, alloc, street());
         refuse(alloc, asked);
         let outcome = tigercanon::compare(alloc, &[set.bytes], &[&other]);
-        ended(rt, alloc, has_refused(alloc), told(outcome))
+        compared(rt, alloc, outcome)
+    }
+}
+
+pub(super) struct CompareStreetWith;
+
+impl Call for CompareStreetWith {
+    fn run(rt: &impl Abort, alloc: Global, set: &Set<'_>, asked: usize) -> Run {
+        let other = lines_of(rt, alloc, street());
+        refuse(alloc, asked);
+        let outcome = tigercanon::compare(alloc, &[&other], &[set.bytes]);
+        compared(rt, alloc, outcome)
     }
 }
 
@@ -154,7 +180,7 @@ impl Call for AreOneMap {
     fn run(rt: &impl Abort, alloc: Global, set: &Set<'_>, asked: usize) -> Run {
         refuse(alloc, asked);
         let outcome = tigercanon::are_one_map(alloc, &[set.bytes], &[set.bytes]);
-        ended(rt, alloc, has_refused(alloc), told(outcome))
+        compared(rt, alloc, outcome)
     }
 }
 
@@ -163,7 +189,7 @@ pub(super) struct NormaliseMasked;
 impl Call for NormaliseMasked {
     fn run(rt: &impl Abort, alloc: Global, set: &Set<'_>, asked: usize) -> Run {
         refuse(alloc, asked);
-        let outcome = tigercanon::normalise_masked(alloc, &[set.bytes], BOTH);
+        let outcome = tigercanon::normalise_masked(alloc, &[set.bytes], set.mask);
         ended(rt, alloc, has_refused(alloc), outcome)
     }
 }
@@ -173,17 +199,21 @@ pub(super) struct NormaliseWithRenamingMasked;
 impl Call for NormaliseWithRenamingMasked {
     fn run(rt: &impl Abort, alloc: Global, set: &Set<'_>, asked: usize) -> Run {
         refuse(alloc, asked);
-        let outcome = tigercanon::normalise_with_renaming_masked(alloc, &[set.bytes], BOTH);
+        let outcome = tigercanon::normalise_with_renaming_masked(alloc, &[set.bytes], set.mask);
         ended(rt, alloc, has_refused(alloc), outcome)
     }
 }
 
-/// Reads a set and writes its text under the mask, a hundred bytes at most at a time.
-fn normalise_slowly_masked(alloc: Global, set: &[u8], sink: &mut SlowSink<'_>) -> Result<u64, Fault>
+/// Reads a set and writes its text under the mask, at most a hundred bytes at a time.
+fn normalise_slowly_masked(
+    alloc: Global,
+    set: &Set<'_>,
+    sink: &mut SlowSink<'_>,
+) -> Result<u64, Fault>
     requires { sink.old.failures < u64.MAX }
 {
-    let mut sources = [SlowSource::new(set, 100, None)];
-    tigercanon::normalise_to_masked(alloc, &mut sources, sink, BOTH)
+    let mut sources = [SlowSource::new(set.bytes, 100, None)];
+    tigercanon::normalise_to_masked(alloc, &mut sources, sink, set.mask)
 }
 
 pub(super) struct NormaliseToMasked;
@@ -194,7 +224,7 @@ impl Call for NormaliseToMasked {
         let mut room = vec![in alloc; 0u8; set.text.len()].expect(rt, "there is memory");
         let mut sink = SlowSink::new(&mut room, 100);
         refuse(alloc, asked);
-        let outcome = normalise_slowly_masked(alloc, set.bytes, &mut sink);
+        let outcome = normalise_slowly_masked(alloc, set, &mut sink);
         written_by(rt, alloc, set, &sink, outcome)
     }
 }
@@ -204,7 +234,7 @@ pub(super) struct FingerprintMasked;
 impl Call for FingerprintMasked {
     fn run(rt: &impl Abort, alloc: Global, set: &Set<'_>, asked: usize) -> Run {
         refuse(alloc, asked);
-        let outcome = tigercanon::fingerprint_masked(alloc, &[set.bytes], BOTH);
+        let outcome = tigercanon::fingerprint_masked(alloc, &[set.bytes], set.mask);
         ended(rt, alloc, has_refused(alloc), outcome)
     }
 }
@@ -214,8 +244,8 @@ pub(super) struct CompareMasked;
 impl Call for CompareMasked {
     fn run(rt: &impl Abort, alloc: Global, set: &Set<'_>, asked: usize) -> Run {
         refuse(alloc, asked);
-        let outcome = tigercanon::compare_masked(alloc, &[set.bytes], &[set.bytes], BOTH);
-        ended(rt, alloc, has_refused(alloc), told(outcome))
+        let outcome = tigercanon::compare_masked(alloc, &[set.bytes], &[set.bytes], set.mask);
+        compared(rt, alloc, outcome)
     }
 }
 
@@ -224,7 +254,7 @@ pub(super) struct AreOneMapMasked;
 impl Call for AreOneMapMasked {
     fn run(rt: &impl Abort, alloc: Global, set: &Set<'_>, asked: usize) -> Run {
         refuse(alloc, asked);
-        let outcome = tigercanon::are_one_map_masked(alloc, &[set.bytes], &[set.bytes], BOTH);
-        ended(rt, alloc, has_refused(alloc), told(outcome))
+        let outcome = tigercanon::are_one_map_masked(alloc, &[set.bytes], &[set.bytes], set.mask);
+        compared(rt, alloc, outcome)
     }
 }

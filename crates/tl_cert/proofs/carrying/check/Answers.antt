@@ -1,4 +1,6 @@
-use Rattle.std.proofs.Common.{◌≡◌, false, rules}
+use Rattle.std.proofs.Common.{◌≡◌, IfOk, false, rules, subst, sym, true}
+use Rattle.std.specs.Bool.{Decides}
+use Rattle.tl_county.specs.Renumbering.{Carries, NumbersArePaired}
 use Rattle.tl_cert.proofs.Places.{decides_no}
 use Rattle.tl_cert.proofs.carrying.check.Goals as goal
 
@@ -6,3 +8,14 @@ pub returns-then-not-paired : goal.returns-then-not-paired
 returns-then-not-paired g c =
     let not_paired : c.in_ok-paired.paired ≡ false = search rules in
     decides_no c.in_ok-paired.paired not_paired c.in_ok-paired.ensures (λ h. h.numbers)
+
+pub carries_parts-requires : goal.carries_parts-requires
+carries_parts-requires g c =
+    let paired : c.in_ok-paired.paired ≡ true = search rules in
+    subst (λ r. NumbersArePaired r (g.A.Chart.county c.args.a.now) (g.B.Chart.county c.args.b.now)) (sym c.in_ok-tables.ensures)
+    (c.in_ok-paired.ensures.0 paired)
+
+pub returns : goal.returns
+returns g c =
+    subst (λ r. IfOk c.carries_parts.result (λ yes. Decides yes (Carries r (g.A.Chart.county c.args.a.now) (g.B.Chart.county c.args.b.now))))
+    c.in_ok-tables.ensures c.carries_parts.ensures

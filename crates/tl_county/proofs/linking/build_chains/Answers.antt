@@ -29,24 +29,24 @@ new-requires-clause-ascending g c =
 pub new-requires-clause-same_length : goal.new-requires-clause-same_length
 new-requires-clause-same_length g c =
     let t = typed_of c.args.tables.now in
-    let chains : map g.C.KeptChain.chain c.in_ok-chains.chains.items ≡ chains_along t.of_type_2 t.of_type_4 t.of_type_6 t.of_type_1
+    let chains : map g.C.StoredChain.chain c.in_ok-chains.chains.items ≡ chains_along t.of_type_2 t.of_type_4 t.of_type_6 t.of_type_1
     t.of_type_i =
     c.in_ok-chains.ensures ∙ (λ i. chains_along (c.deref-3.ensures.value i) (c.deref-4.ensures.value i) (c.deref-5.ensures.value i)
     (c.deref.ensures.value i) (c.deref-2.ensures.value i)) in
     ap length c.requires.tlids
     ∙ length-chains_along t.of_type_2 t.of_type_4 t.of_type_6 t.of_type_1 t.of_type_i (beside t c.requires.tables c.requires.linked)
-    ∙ ap length (sym chains) ∙ length-map c.in_ok-chains.chains.items g.C.KeptChain.chain
+    ∙ ap length (sym chains) ∙ length-map c.in_ok-chains.chains.items g.C.StoredChain.chain
 
 pub returns : goal.returns
 returns g c =
     let t = typed_of c.args.tables.now in
-    let chains : map g.C.KeptChain.chain c.in_ok-chains.chains.items ≡ chains_along t.of_type_2 t.of_type_4 t.of_type_6 t.of_type_1
+    let chains : map g.C.StoredChain.chain c.in_ok-chains.chains.items ≡ chains_along t.of_type_2 t.of_type_4 t.of_type_6 t.of_type_1
     t.of_type_i =
     c.in_ok-chains.ensures ∙ (λ i. chains_along (c.deref-3.ensures.value i) (c.deref-4.ensures.value i) (c.deref-5.ensures.value i)
     (c.deref.ensures.value i) (c.deref-2.ensures.value i)) in
     let same_length = length-chains_along t.of_type_2 t.of_type_4 t.of_type_6 t.of_type_1 t.of_type_i
     (beside t c.requires.tables c.requires.linked) in
-    let f = g.C.KeptChain.chain in
+    let f = g.C.StoredChain.chain in
     entries-equal (map_values f c.new.result) _
     (keys-map_values f c.new.result ∙ c.new.ensures.keys ∙ c.requires.tlids
     ∙ sym (keys-zip (map one_tlid t.of_type_1) (chains_along t.of_type_2 t.of_type_4 t.of_type_6 t.of_type_1 t.of_type_i) same_length))

@@ -22,18 +22,18 @@ pub new-requires-clause-same_length : goal.new-requires-clause-same_length
 new-requires-clause-same_length g c =
     let fives = c.args.tables.now.type_5.items in
     ap length c.requires.feats ∙ length-map fives five_feat ∙ sym (length-map fives (λ (r : Fields5). r.body))
-    ∙ ap length (sym c.requires.names) ∙ length-map c.args.names.items g.N.KeptName.name
+    ∙ ap length (sym c.requires.names) ∙ length-map c.args.names.items g.N.StoredName.name
 
 pub invariant_of-result : goal.invariant_of-result
 invariant_of-result g c =
     let t = typed_of c.args.tables.now in
     let parts = c.in_ok-parts.parts in
     let told = c.in_ok-parts.ensures in
-    let name = g.N.KeptName.name in
+    let name = g.N.StoredName.name in
     let names = names-built name c.new.result t (c.new.ensures.keys ∙ c.requires.feats)
     (ap (map name) c.new.ensures.values ∙ c.requires.names) in
-    let same : county_with (map_values g.C.KeptChain.chain parts.chains) (map_values name c.new.result) parts.polygons
-    (map_values g.L.KeptLandmark.landmark parts.landmarks) ≡ county_along t =
+    let same : county_with (map_values g.C.StoredChain.chain parts.chains) (map_values name c.new.result) parts.polygons
+    (map_values g.L.StoredLandmark.landmark parts.landmarks) ≡ county_along t =
     λ i. county_with (told.chains i) (names i) (told.polygons i) (told.landmarks i) in
     record {
       within_limits = subst (IsWithinLimits most_records)
@@ -47,7 +47,7 @@ pub returns : goal.returns
 returns g c =
     let t = typed_of c.args.tables.now in
     let told = c.in_ok-parts.ensures in
-    let names = names-built g.N.KeptName.name c.new.result t (c.new.ensures.keys ∙ c.requires.feats)
-    (ap (map g.N.KeptName.name) c.new.ensures.values ∙ c.requires.names) in
+    let names = names-built g.N.StoredName.name c.new.result t (c.new.ensures.keys ∙ c.requires.feats)
+    (ap (map g.N.StoredName.name) c.new.ensures.values ∙ c.requires.names) in
     (λ i. county_with (told.chains i) (names i) (told.polygons i) (told.landmarks i))
     ∙ sym (as_built t c.requires.tables c.requires.linked)

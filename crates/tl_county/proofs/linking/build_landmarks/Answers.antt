@@ -41,7 +41,7 @@ returns g c =
     let lands : List ℕ = distinct nat_cmp (map seven_land sevens) in
     let found : c.in_ok-lands.lands.items ≡ lands = c.in_ok-lands.ensures
     ∙ ap (λ l. distinct nat_cmp (map seven_land l)) c.deref.ensures.value in
-    let f = g.L.KeptLandmark.landmark in
+    let f = g.L.StoredLandmark.landmark in
     entries-equal (map_values f c.new.result) (map (λ land. (land, landmark_of sevens eights land)) lands)
     (keys-map_values f c.new.result ∙ c.new.ensures.keys ∙ found
     ∙ sym (map-map (λ e. e.0) (λ land. (land, landmark_of sevens eights land)) lands ∙ map-id lands))

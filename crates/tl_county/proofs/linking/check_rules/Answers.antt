@@ -9,7 +9,7 @@ use Rattle.tl_county.proofs.Rules.RuleOrders.{rules-join, first-after, all_hold,
 use Rattle.tl_county.proofs.linking.check_rules.Goals as goal
 
 module _ (Of : List Record → Type 0) (before : (records : List Record) → Of records → RulesHold records 0 12) where
-  -- the last rules decide where those before them hold
+  -- if the earlier rules hold, the last rules decide
   all_linked : (r : Result (Unit {0}) LinkFault) → ((records : List Record) → Of records
       → MatchResult r (λ _. RulesHold records 12 15) (IsFirstFrom records 12))
       → OnOk r ((records : List Record) → Of records → IsLinked records)
@@ -22,7 +22,7 @@ module _ (Of : List Record → Type 0) (before : (records : List Record) → Of 
   first_told (Ok u) h = tt
   first_told (Err f) h = λ records e. first_of_all records f (first-after records (omega arith) (before records e) (h records e))
 
--- four stretches of rules, one after the other
+-- four stretches of rules in turn
 all_before : {Of : List Record → Type 0} {first second third : ℕ} → ((records : List Record) → Of records → RulesHold records 0 first)
     → ((records : List Record) → Of records → RulesHold records first second)
     → ((records : List Record) → Of records → RulesHold records second third)

@@ -1,4 +1,4 @@
--- Fewer than nineteen digits stand before a digit, so it fits with them.
+-- There are fewer than nineteen digits before a digit, so it fits with them.
 use Rattle.std.proofs.Common.{arith}
 use Rattle.tl_layout.proofs.NumberLemmas.{digit_fits}
 use Rattle.tl_layout.proofs.number.digits.Goals as goal

@@ -1,4 +1,4 @@
--- Eight digits in a word make the number that they make one after another.
+-- Eight digits in a word make the same number as one after another.
 use Rattle.std.proofs.Common.{◌≡◌, ◌+◌, ◌-◌, ◌*◌, ◌<◌, ◌≤◌, ◌^◌, ◌/◌, ℕ, get_or, bit_and, ◌∙◌, Some, refl, arith}
 use Rattle.tl_layout.proofs.Words.{IsDigitOf, digit_of, digits_in_word, eight_in_word, number_of_eight}
 use Rattle.tl_layout.specs.NumberReading.{number_after}
@@ -11,7 +11,7 @@ value_at c k = get_or c.args.bytes k 0 - 48
 digit_at : (c : After-from_le_bytes-ones) → (k : ℕ) → k < 8 → IsDigitOf (get_or c.args.bytes k 0) (value_at c k)
 digit_at c k lt = digit_of (get_or c.args.bytes k 0) (c.are_digits.ensures c.if-not-are_digits.false k lt)
 
--- the word has the bytes of the digits
+-- the word consists of the digits' bytes
 word_is : (c : After-from_le_bytes-ones) → c.from_le_bytes-ones.result
     ≡ ((((((((48 + value_at c 7) * 256 + (48 + value_at c 6)) * 256 + (48 + value_at c 5)) * 256 + (48 + value_at c 4)) * 256
     + (48 + value_at c 3)) * 256 + (48 + value_at c 2)) * 256 + (48 + value_at c 1)) * 256 + (48 + value_at c 0))

@@ -4,13 +4,13 @@ use Rattle.tl_layout.proofs.Columns.{ten_columns_low, ten_columns_high, first_of
 use Rattle.tl_layout.proofs.number.put_ten_columns.Goals as goal
 use Rattle.tl_layout.proofs.number.put_ten_columns.Goals.{then-high-lt10, else-high-lt10}
 
-pub returns-then-high-eq0 : goal.returns-then-high-eq0
-returns-then-high-eq0 c =
+pub returns-then-number-lt100000000 : goal.returns-then-number-lt100000000
+returns-then-number-lt100000000 c =
     let out = c.args.out.now in
     let n = c.args.number in
     let len = length-set (slice_set out 0 32) 1 32 ∙ length-set out 0 32 in
     two_then_rest out 32 32 _ c.put_eight_columns.new.out (omega arith) (omega arith)
-    ∙ ap (λ l. 32 ∷ 32 ∷ l) c.put_eight_columns.ensures ∙ ten_columns_low n c.if-high-eq0.true
+    ∙ ap (λ l. 32 ∷ 32 ∷ l) c.put_eight_columns.ensures ∙ ten_columns_low n c.if-number-lt100000000.true
 
 pub returns-after-high-lt10 : goal.returns-after-high-lt10
 returns-after-high-lt10 c =
@@ -30,4 +30,4 @@ returns-after-high-lt10 c =
     let first_is = first_of_ten n first (omega arith) (cases_lt (n / 100000000) 10) blank digit in
     two_then_rest out first second _ c.put_eight_digits.new.out (omega arith) (omega arith)
     ∙ ap (λ l. first ∷ second ∷ l) c.put_eight_digits.ensures
-    ∙ ten_columns_high n first (let some = c.if-high-eq0.false in omega arith) first_is
+    ∙ ten_columns_high n first (let some = c.if-number-lt100000000.false in omega arith) first_is

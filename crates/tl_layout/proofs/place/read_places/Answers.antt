@@ -1,4 +1,4 @@
--- Each place was read as the reading of all places says.
+-- Each place was read as the reading of all places requires.
 use Rattle.std.proofs.Common.{◌≡◌, ◌≤◌, ◌+◌, ◌*◌, ◌-◌, ℕ, suc, length, Bool, true, false, Ok, Err, sym, ◌∙◌, ap, subst, refl, arith}
 use Rattle.std.proofs.lemmas.List.{length_push}
 use Rattle.tl_layout.specs.FieldReading.{places_reading}

@@ -1,4 +1,5 @@
--- What was read so far, with what is read of the rest behind it, is what is read of all places.
+-- The items read so far, followed by those of the remaining places, are the reading of all
+-- places.
 use Rattle.std.proofs.Common.{◌≡◌, ◌≤◌, ◌+◌, ◌*◌, ℕ, length, false}
 use Rattle.tl_layout.specs.FieldReading.{places_reading}
 use Rattle.tl_layout.proofs.PlaceSteps.{with_front}

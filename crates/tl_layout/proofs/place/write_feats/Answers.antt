@@ -1,4 +1,4 @@
--- One place after another was written.
+-- The places were written one after another.
 use Rattle.std.proofs.Common.{◌≡◌, ◌+◌, ◌*◌, ◌-◌, ◌++◌, ℕ, suc, slice_get, unwrap_or, take, ap, ◌∙◌, subst, arith}
 use Rattle.tl_layout.specs.FieldTexts.{number_text}
 use Rattle.tl_layout.specs.FieldTexts.{number_place_text}

@@ -1,4 +1,4 @@
--- One place after another was written.
+-- The places were written one after another.
 use Rattle.std.proofs.Common.{◌≡◌, ◌+◌, ◌*◌, ◌-◌, ◌++◌, ℕ, suc, Option, IfSome, slice_get, take, ap, subst, arith, below_more}
 use Rattle.tl_layout.specs.Coordinates.{IsOnMap}
 use Rattle.tl_layout.specs.FieldTexts.{point_place_text}

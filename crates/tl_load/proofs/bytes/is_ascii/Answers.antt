@@ -1,22 +1,16 @@
-use Rattle.std.proofs.Common.{◌≡◌, ◌-◌, ◌≤◌, ◌^◌, ℕ, List, cond, length, map, ltb, sym, subst, ap, ◌∙◌, lit≤, inl, inr, arith, w8}
+use Rattle.std.proofs.Common.{◌≡◌, length, map, ltb, sym, ◌∙◌, lit≤, inl, inr, arith, w8}
 use Rattle.std.proofs.lemmas.Bool.{cases_lt, eqb-true}
-use Rattle.std.proofs.lemmas.Simd.{bitmask_splat, tops_compared}
-use lib.Lanes.{Each1, mask_l, sel_l, top, zip2}
-use Rattle.tl_load.proofs.Lanes.{allowed_at_each, each_of_least, each_of_empty_mask}
+use Rattle.std.proofs.lemmas.Simd.{bitmask_splat}
+use lib.Lanes.{mask_l}
+use Rattle.tl_load.proofs.Lanes.{allowed_at_each, each_of_selected, each_of_empty_mask}
 use Rattle.tl_load.proofs.bytes.is_ascii.Goals as goal
-
--- the lanes of the lesser of two blocks
-least_is : (xs ys : List ℕ) → sel_l (map (top 7) (zip2 (λ a b. cond (ltb a b) (2 ^ 8 - 1) 0) xs ys)) xs ys ≡ sel_l (zip2 ltb xs ys) xs ys
-least_is xs ys = ap (λ ms. sel_l ms xs ys) (tops_compared w8 ltb xs ys)
 
 pub loop-at-preserved : goal.loop-at-preserved
 loop-at-preserved c =
     let least = c.loop-at.least in
     let block = c.from_delete.result in
     let same : length least ≡ length block = c.loop-at.auto.least.0 ∙ sym c.from_delete.ensures.long in
-    let both : Each1 (λ x. 161 ≤ x) (sel_l (map (top 7) (zip2 (λ a b. cond (ltb a b) (2 ^ 8 - 1) 0) least block)) least block)
-    → Each1 (λ x. 161 ≤ x) least × Each1 (λ x. 161 ≤ x) block =
-    λ each. each_of_least 161 least block same (subst (λ lanes. Each1 (λ x. 161 ≤ x) lanes) (least_is least block) each) in
+    let both = each_of_selected 161 least block same in
     record {
       clean = λ each k below. elim (cases_lt k c.loop-at.at) [
         | inl before ↦ c.loop-at.invariant.clean (both each).0 k before
@@ -25,7 +19,7 @@ loop-at-preserved c =
       ends_clean = λ each. c.loop-at.invariant.ends_clean (both each).0;
     }
 
--- each byte stands before the last block, or in it
+-- each byte is before the last block or in it
 pub returns : goal.returns
 returns c none_below =
     let least = c.loop-at.least in

@@ -3,7 +3,7 @@ use lib.Lanes.{Each1}
 use Rattle.tl_layout.specs.Bytes.{is_allowed}
 use Rattle.tl_load.proofs.bytes.is_ascii.Given as goal
 
--- where no lane is below 0xA1, the bytes before this place are clean, and the last 16
+-- if no lane is below 0xA1, the bytes before this position and the last 16 are clean
 abbrev pub invariant-loop-at : goal.invariant-loop-at
 invariant-loop-at l = record {
   clean : Each1 (λ x. 161 ≤ x) l.least → (k : ℕ) → k < l.at → is_allowed (get_or l.bytes k 0) ≡ true;

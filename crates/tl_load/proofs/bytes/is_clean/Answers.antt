@@ -1,8 +1,32 @@
-use Rattle.tl_load.proofs.Lanes.{allowed_at_each}
+use Rattle.std.proofs.Common.{◌≡◌, length, map, ltb, sym, ◌∙◌, lit≤, inl, inr, arith, w8}
+use Rattle.std.proofs.lemmas.Bool.{cases_lt, eqb-true}
+use Rattle.std.proofs.lemmas.Simd.{bitmask_splat}
+use lib.Lanes.{mask_l}
+use Rattle.tl_load.proofs.Lanes.{allowed_at_each, each_of_selected, each_of_empty_mask}
 use Rattle.tl_load.proofs.bytes.is_clean.Goals as goal
 
-pub returns-then-bytes-lt-LANES : goal.returns-then-bytes-lt-LANES
-returns-then-bytes-lt-LANES c clean = allowed_at_each c.args.bytes.now (c.are_clean.ensures clean)
+pub loop-at-preserved : goal.loop-at-preserved
+loop-at-preserved c =
+    let least = c.loop-at.least in
+    let block = c.past_controls.result in
+    let same : length least ≡ length block = c.loop-at.auto.least.0 ∙ sym c.past_controls.ensures.long in
+    let both = each_of_selected 66 least block same in
+    record {
+      clean = λ each k below. elim (cases_lt k c.loop-at.at) [
+        | inl before ↦ c.loop-at.invariant.clean (both each).0 k before
+        | inr after ↦ c.past_controls.ensures.clean (both each).1 k after below
+      ];
+      ends_clean = λ each. c.loop-at.invariant.ends_clean (both each).0;
+    }
 
+-- each byte is before the last block or in it
 pub returns : goal.returns
-returns c clean = allowed_at_each c.args.bytes.now (c.are_clean_blocks.ensures clean)
+returns c none_below =
+    let least = c.loop-at.least in
+    let none : mask_l (map (λ x. ltb x 66) least) ≡ 0 =
+    sym (bitmask_splat w8 ltb least 32 66 c.loop-at.auto.least.0 (lit≤ tt)) ∙ eqb-true _ _ none_below in
+    let each = each_of_empty_mask 66 least none in
+    allowed_at_each c.args.bytes.now (λ k lt. elim (cases_lt k c.loop-at.at) [
+      | inl below ↦ c.loop-at.invariant.clean each k below
+      | inr above ↦ c.loop-at.invariant.ends_clean each k (omega arith) (omega arith)
+    ])

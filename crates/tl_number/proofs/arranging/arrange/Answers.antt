@@ -1,7 +1,7 @@
 use Rattle.std.proofs.Common.{sym, subst}
 use Rattle.tl_number.specs.ViewFacts.{AreWhole, TellsNodes, TellsPolygons, TellsNames, TellsLandmarks}
-use Rattle.tl_number.proofs.ArrangedViews.{whole_steps}
-use Rattle.tl_number.proofs.PlacesFit.{places_fit}
+use Rattle.tl_number.proofs.Views.ArrangedViews.{whole_steps}
+use Rattle.tl_number.proofs.Arrangements.PlacesFit.{places_fit}
 use Rattle.tl_number.proofs.arranging.arrange.Goals as goal
 
 pub arrange_tables-requires : goal.arrange_tables-requires

@@ -8,12 +8,12 @@ use Rattle.tl_number.specs.CanonCounties.{IsCanonCounty}
 use Rattle.tl_number.specs.Tidy.{IsLeastChoice}
 use Rattle.tl_number.specs.ViewFacts.{stepped}
 use Rattle.tl_number.specs.Steps.{arrangement_of}
-use Rattle.tl_number.proofs.Ascending.{few_in_profile, sides_in_profile}
-use Rattle.tl_number.proofs.CanonLists.{least_choice_county}
-use Rattle.tl_number.proofs.Carrying.{arrangement_carries}
+use Rattle.tl_number.proofs.CanonicalLists.Ascending.{few_in_profile, sides_in_profile}
+use Rattle.tl_number.proofs.CanonicalLists.CanonLists.{least_choice_county}
+use Rattle.tl_number.proofs.Arrangements.Carrying.{arrangement_carries}
 use Rattle.tl_number.proofs.arranging.canonise_in_order.Goals as goal
 
--- the county of a choice of least text is canonical, and the renaming that belongs to it carries
+-- the county of a choice of least text is canonical, and its renaming carries
 module _ (county : County) (is : IsCounty county) (profile : IsInProfile county) (steps : Arrangement) (least : IsLeastChoice county steps)
   where
     canonical : IsCanonCounty (arranged county steps)

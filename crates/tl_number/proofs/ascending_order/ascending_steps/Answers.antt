@@ -2,7 +2,7 @@ use Rattle.std.proofs.Common.{◌≡◌}
 use Rattle.std.proofs.lemmas.Result.{IfOk-weaker}
 use Rattle.tl_number.specs.Arrangement.{ascending}
 use Rattle.tl_number.specs.Steps.{arrangement_of, AreSteps}
-use Rattle.tl_number.proofs.AscendingSteps.{steps_ascend, steps_there}
+use Rattle.tl_number.proofs.Choices.AscendingSteps.{steps_ascend, steps_there}
 use Rattle.tl_number.proofs.ascending_order.ascending_steps.Goals as goal
 
 pub returns-clause-arrangement : goal.returns-clause-arrangement

@@ -1,7 +1,7 @@
 use Rattle.std.proofs.Common.{◌-◌, ◌∙◌, length, sym, ap, arith}
 use Rattle.tl_county.specs.ChartWords.{chain_at, points_of}
 use Rattle.tl_county.proofs.Limits.CarriedLimits.{length-inner}
-use Rattle.tl_number.proofs.ChainPlaces.{chain_there}
+use Rattle.tl_number.proofs.Records.ChainPlaces.{chain_there}
 use Rattle.tl_number.proofs.chain_records.shape_point_count.Goals as goal
 
 pub overflow_sub-result : goal.overflow_sub-result

@@ -1,5 +1,5 @@
 use Rattle.std.proofs.Common.{◌∙◌, ◌+◌, ◌∷◌, sym, ap, arith}
-use Rattle.tl_number.proofs.GroupRests.{rest_before, rest_goes_on, rest_none, rest_passed}
+use Rattle.tl_number.proofs.Records.GroupRests.{rest_before, rest_goes_on, rest_none, rest_passed}
 use Rattle.tl_number.proofs.cursor.next.Goals as goal
 
 pub returns-then-cursor-records : goal.returns-then-cursor-records

@@ -2,7 +2,7 @@ use Rattle.std.proofs.Common.{◌≡◌, ◌-◌}
 use Rattle.tl_number.specs.Groups.{rest_of}
 use Rattle.tl_number.proofs.cursor.next.Given as goal
 
--- what was left when the call began is left still
+-- the rest is the same as at the beginning of the call
 abbrev pub invariant-loop-cursor : goal.invariant-loop-cursor
 invariant-loop-cursor g l = rest_of (g.G.RecordGroups.groups l.groups) l.initial.cursor.group l.initial.cursor.place
     ≡ rest_of (g.G.RecordGroups.groups l.groups) l.cursor.group l.cursor.place

@@ -1,5 +1,5 @@
 use Rattle.std.proofs.Common.{◌∙◌}
-use Rattle.tl_number.proofs.StepTables.{ends_met, few_met, nodes_met, polygons_met, sides_met}
+use Rattle.tl_number.proofs.Views.StepTables.{ends_met, few_met, nodes_met, polygons_met, sides_met}
 use Rattle.tl_number.proofs.first_appearance.number_links.Goals as goal
 
 pub number_sides-requires : goal.number_sides-requires

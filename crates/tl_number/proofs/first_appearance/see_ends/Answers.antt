@@ -3,7 +3,7 @@ use Rattle.std.proofs.lemmas.List.{take_more_set}
 use Rattle.tl_county.proofs.ByKey.Keys.{nat_keys}
 use Rattle.tl_number.specs.ByStep.{node_among, nodes_at}
 use Rattle.tl_number.specs.Growth.{first_seen}
-use Rattle.tl_number.proofs.StepPairs.{left_later, left_there, pair_numbered, pair_seen}
+use Rattle.tl_number.proofs.Views.StepPairs.{left_later, left_there, pair_numbered, pair_seen}
 use Rattle.tl_number.proofs.first_appearance.see_ends.Goals as goal
 
 pub loop-pair-preserved : goal.loop-pair-preserved

@@ -1,4 +1,5 @@
--- What was seen so far, and then the rest, is what all sides give; what is numbered has its last numbers, and the rest is as it was.
+-- The keys seen so far, and then those of the rest, are those of all sides; the numbered part has its final numbers, and the rest
+-- is unchanged.
 use Rattle.std.proofs.Common.{◌≡◌, drop, flat_map, map, take}
 use Rattle.tl_county.specs.PolygonKeys.{key_cmp}
 use Rattle.tl_number.specs.ByStep.{polygons_at, sides_among}

@@ -3,7 +3,7 @@ use Rattle.tl_number.specs.Groups.{rest_of}
 use Rattle.tl_number.specs.RecordOrder.{groups_cmp, records_cmp}
 use Rattle.tl_number.proofs.group_order.compare_groups.Given as goal
 
--- what is left decides
+-- the rest decides
 abbrev pub invariant-loop-record : goal.invariant-loop-record
 invariant-loop-record g l = groups_cmp g.L.Tabled.as_record (g.G.RecordGroups.groups l.a) (g.H.RecordGroups.groups l.b)
     ≡ records_cmp (map g.L.Tabled.as_record (rest_of (g.G.RecordGroups.groups l.a) l.at.group l.at.place))

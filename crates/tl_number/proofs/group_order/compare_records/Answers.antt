@@ -1,5 +1,5 @@
 use Rattle.std.proofs.Common.{ap}
-use Rattle.tl_number.proofs.GroupOrders.{same_spelling}
+use Rattle.tl_number.proofs.Texts.GroupOrders.{same_spelling}
 use Rattle.tl_number.proofs.group_order.compare_records.Goals as goal
 
 pub returns-then-is_same : goal.returns-then-is_same

@@ -3,21 +3,21 @@ use Rattle.std.proofs.lemmas.List.{take_all}
 use Rattle.std.proofs.lemmas.Result.{err_from_is_err_and}
 use Rattle.tl_number.specs.Groups.{group_at}
 use Rattle.tl_county.proofs.Lists.Places.{next_taken}
-use Rattle.tl_number.proofs.ChainPlaces.{some_at}
-use Rattle.tl_number.proofs.Grouped.{map-append, parted}
+use Rattle.tl_number.proofs.Records.ChainPlaces.{some_at}
+use Rattle.tl_number.proofs.Records.Grouped.{map-append, parted}
 use Rattle.tl_number.proofs.groups.give_group.Goals as goal
 
 pub loop-place-init : goal.loop-place-init
 loop-place-init g c = record {
-  taken = g.met.T.RecordTaker.none c.args.taker.now c.args.device.now;
+  taken = g.met.T.RecordVisitor.none c.args.visitor.now c.args.device.now;
   ready = c.requires.ready;
 }
 
-pub take_from-requires-clause-ready : goal.take_from-requires-clause-ready
-take_from-requires-clause-ready g c = c.loop-place.invariant.ready
+pub visit_group-requires-clause-ready : goal.visit_group-requires-clause-ready
+visit_group-requires-clause-ready g c = c.loop-place.invariant.ready
 
-pub returns-in_err-take_from-clause-given : goal.returns-in_err-take_from-clause-given
-returns-in_err-take_from-clause-given g c =
+pub returns-in_err-visit_group-clause-given : goal.returns-in_err-visit_group-clause-given
+returns-in_err-visit_group-clause-given g c =
     let f = g.G.Item.Tabled.as_record in
     let xs = group_at (g.G.RecordGroups.groups c.args.groups.now) c.args.group in
     let i = c.loop-place.place in
@@ -26,13 +26,13 @@ returns-in_err-take_from-clause-given g c =
     let p = err_from_is_err_and c.from_residual.result c.from_residual.ensures.1 in
     let all : map f xs ≡ map f (take i xs) ++ ((f x ∷ []) ++ map f (drop (suc i) xs)) =
     ap (map f) (parted xs i x (sym found.1)) ∙ map-append f (take i xs) (x ∷ drop (suc i) xs) in
-    subst (λ rs. g.T.RecordTaker.Takes rs c.args.taker.now c.args.device.now c.from_residual.result c.take_from.new.self c.take_from.new.device)
+    subst (λ rs. g.T.RecordVisitor.Takes rs c.args.visitor.now c.args.device.now c.from_residual.result c.visit_group.new.self c.visit_group.new.device)
     (sym all)
-    (rw (p.1, p.2) (g.met.T.RecordTaker.then (map f (take i xs)) ((f x ∷ []) ++ map f (drop (suc i) xs)) c.args.taker.now c.loop-place.taker
-    c.take_from.new.self
-    c.args.device.now c.loop-place.device c.take_from.new.device (Err c.in_err-take_from.field-0.0) c.loop-place.invariant.taken
-    (g.met.T.RecordTaker.stops (f x ∷ []) (map f (drop (suc i) xs)) c.loop-place.taker c.take_from.new.self c.loop-place.device c.take_from.new.device
-    c.in_err-take_from.field-0.0 (c.in_err-take_from.ensures.takes x found.1))))
+    (rw (p.1, p.2) (g.met.T.RecordVisitor.then (map f (take i xs)) ((f x ∷ []) ++ map f (drop (suc i) xs)) c.args.visitor.now c.loop-place.visitor
+    c.visit_group.new.self
+    c.args.device.now c.loop-place.device c.visit_group.new.device (Err c.in_err-visit_group.field-0.0) c.loop-place.invariant.taken
+    (g.met.T.RecordVisitor.stops (f x ∷ []) (map f (drop (suc i) xs)) c.loop-place.visitor c.visit_group.new.self c.loop-place.device c.visit_group.new.device
+    c.in_err-visit_group.field-0.0 (c.in_err-visit_group.ensures.takes x found.1))))
 
 pub loop-place-preserved : goal.loop-place-preserved
 loop-place-preserved g c =
@@ -44,17 +44,17 @@ loop-place-preserved g c =
     let next : map f (take (i + 1) xs) ≡ map f (take i xs) ++ (f x ∷ []) =
     rw (add-one) (ap (map f) (next_taken xs i x (sym found.1)) ∙ map-append f (take i xs) (x ∷ [])) in
     record {
-      taken = subst (λ rs. g.T.RecordTaker.Takes rs c.args.taker.now c.args.device.now (Ok tt) c.take_from.new.self c.take_from.new.device) (sym next)
-          (g.met.T.RecordTaker.then (map f (take i xs)) (f x ∷ []) c.args.taker.now c.loop-place.taker c.take_from.new.self
-          c.args.device.now c.loop-place.device c.take_from.new.device (Ok tt) c.loop-place.invariant.taken (c.in_ok-take_from.ensures.takes x found.1));
-      ready = c.in_ok-take_from.ensures.ready;
+      taken = subst (λ rs. g.T.RecordVisitor.Takes rs c.args.visitor.now c.args.device.now (Ok tt) c.visit_group.new.self c.visit_group.new.device) (sym next)
+          (g.met.T.RecordVisitor.then (map f (take i xs)) (f x ∷ []) c.args.visitor.now c.loop-place.visitor c.visit_group.new.self
+          c.args.device.now c.loop-place.device c.visit_group.new.device (Ok tt) c.loop-place.invariant.taken (c.in_ok-visit_group.ensures.takes x found.1));
+      ready = c.in_ok-visit_group.ensures.ready;
     }
 
 pub returns-clause-given : goal.returns-clause-given
 returns-clause-given g c =
     let f = g.G.Item.Tabled.as_record in
     let xs = group_at (g.G.RecordGroups.groups c.args.groups.now) c.args.group in
-    subst (λ ys. g.T.RecordTaker.Takes (map f ys) c.args.taker.now c.args.device.now (Ok tt) c.loop-place.taker c.loop-place.device)
+    subst (λ ys. g.T.RecordVisitor.Takes (map f ys) c.args.visitor.now c.args.device.now (Ok tt) c.loop-place.visitor c.loop-place.device)
     (take_all c.loop-place.place xs (omega (arith, c.count_in-place-end.ensures, c.loop-place-test.false))) c.loop-place.invariant.taken
 
 pub returns-clause-ready : goal.returns-clause-ready

@@ -2,15 +2,15 @@ use Rattle.std.proofs.Common.{◌∙◌, Ok, Err, map, take, drop, subst, sym, r
 use Rattle.std.proofs.lemmas.List.{length-take, take_all}
 use Rattle.std.proofs.lemmas.Result.{err_from_is_err_and}
 use Rattle.tl_number.specs.Groups.{grouped}
-use Rattle.tl_number.proofs.GivenGroups.{around_groups, with_groups}
-use Rattle.tl_number.proofs.OneAfterAnother.{second_stops}
+use Rattle.tl_number.proofs.Records.GivenGroups.{around_groups, with_groups}
+use Rattle.tl_number.proofs.Records.OneAfterAnother.{second_stops}
 use Rattle.tl_number.proofs.groups.give_groups.Goals as goal
 
 pub loop-first-init : goal.loop-first-init
 loop-first-init g c = record {
   room = refl;
   within = omega arith;
-  taken = g.met.T.RecordTaker.none c.args.taker.now c.args.device.now;
+  taken = g.met.T.RecordVisitor.none c.args.visitor.now c.args.device.now;
   ready = c.requires.ready;
 }
 
@@ -21,13 +21,13 @@ returns-in_err-give_headed-clause-given g c =
     let i = c.loop-first.first in
     let n = c.read_heads-heads.result in
     let p = err_from_is_err_and c.from_residual.result c.from_residual.ensures.1 in
-    subst (λ rs. g.T.RecordTaker.Takes rs c.args.taker.now c.args.device.now c.from_residual.result c.give_headed.new.taker
+    subst (λ rs. g.T.RecordVisitor.Takes rs c.args.visitor.now c.args.device.now c.from_residual.result c.give_headed.new.visitor
     c.give_headed.new.device) (sym (around_groups f groups i n))
-    (rw (p.1, p.2) (second_stops g.T.RecordTaker.Takes g.met.T.RecordTaker.then g.met.T.RecordTaker.stops
+    (rw (p.1, p.2) (second_stops g.T.RecordVisitor.Takes g.met.T.RecordVisitor.then g.met.T.RecordVisitor.stops
     (map f (grouped (take i groups))) (map f (grouped (take n (drop i groups)))) (map f (grouped (drop n (drop i groups))))
     c.loop-first.invariant.taken
-    (subst (λ k. g.T.RecordTaker.Takes (map f (grouped (take k (drop i groups)))) c.loop-first.taker c.loop-first.device
-    (Err c.in_err-give_headed.field-0.0) c.give_headed.new.taker c.give_headed.new.device)
+    (subst (λ k. g.T.RecordVisitor.Takes (map f (grouped (take k (drop i groups)))) c.loop-first.visitor c.loop-first.device
+    (Err c.in_err-give_headed.field-0.0) c.give_headed.new.visitor c.give_headed.new.device)
     (length-take n c.read_heads-heads.new.room ∙ omega (arith, c.read_heads-heads.ensures.count, c.read_heads-heads.ensures.room))
     c.in_err-give_headed.ensures.given)))
 
@@ -39,14 +39,14 @@ loop-first-preserved g c =
     record {
       room = c.read_heads-heads.ensures.room ∙ c.loop-first.invariant.room;
       within = omega (arith, c.read_heads-heads.ensures.count, c.loop-first.invariant.within);
-      taken = subst (λ rs. g.T.RecordTaker.Takes rs
-          c.args.taker.now c.args.device.now (Ok tt) c.give_headed.new.taker c.give_headed.new.device)
+      taken = subst (λ rs. g.T.RecordVisitor.Takes rs
+          c.args.visitor.now c.args.device.now (Ok tt) c.give_headed.new.visitor c.give_headed.new.device)
           (sym (with_groups f groups c.loop-first.first n))
-          (g.met.T.RecordTaker.then (map f (grouped (take c.loop-first.first groups))) (map f (grouped (take n (drop c.loop-first.first groups))))
-          c.args.taker.now c.loop-first.taker c.give_headed.new.taker
+          (g.met.T.RecordVisitor.then (map f (grouped (take c.loop-first.first groups))) (map f (grouped (take n (drop c.loop-first.first groups))))
+          c.args.visitor.now c.loop-first.visitor c.give_headed.new.visitor
           c.args.device.now c.loop-first.device c.give_headed.new.device (Ok tt) c.loop-first.invariant.taken
-          (subst (λ k. g.T.RecordTaker.Takes (map f (grouped (take k (drop c.loop-first.first groups)))) c.loop-first.taker c.loop-first.device
-          (Ok tt) c.give_headed.new.taker c.give_headed.new.device)
+          (subst (λ k. g.T.RecordVisitor.Takes (map f (grouped (take k (drop c.loop-first.first groups)))) c.loop-first.visitor c.loop-first.device
+          (Ok tt) c.give_headed.new.visitor c.give_headed.new.device)
           (length-take n c.read_heads-heads.new.room ∙ omega (arith, c.read_heads-heads.ensures.count, c.read_heads-heads.ensures.room))
           c.in_ok-give_headed.ensures.given));
       ready = c.in_ok-give_headed.ensures.ready;
@@ -56,8 +56,8 @@ pub returns-clause-given : goal.returns-clause-given
 returns-clause-given g c =
     let f = g.G.Item.Tabled.as_record in
     let gs = g.G.RecordGroups.groups c.args.groups.now in
-    subst (λ hs. g.T.RecordTaker.Takes (map f (grouped hs))
-    c.args.taker.now c.args.device.now (Ok tt) c.loop-first.taker c.loop-first.device)
+    subst (λ hs. g.T.RecordVisitor.Takes (map f (grouped hs))
+    c.args.visitor.now c.args.device.now (Ok tt) c.loop-first.visitor c.loop-first.device)
     (take_all c.loop-first.first gs (omega (arith, c.count-count.ensures, c.loop-first-test.false))) c.loop-first.invariant.taken
 
 pub returns-clause-ready : goal.returns-clause-ready

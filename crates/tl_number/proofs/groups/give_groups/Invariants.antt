@@ -2,14 +2,14 @@ use Rattle.std.proofs.Common.{◌≡◌, ◌≤◌, ◌-◌, length, map, take, 
 use Rattle.tl_number.specs.Groups.{grouped}
 use Rattle.tl_number.proofs.groups.give_groups.Given as goal
 
--- the records of the groups up to the first one that is left were taken
+-- the records of the groups before `first` were taken
 abbrev pub invariant-loop-first : goal.invariant-loop-first
 invariant-loop-first g l = record {
   room : length l.room ≡ length l.initial.room;
   within : l.first ≤ length (g.G.RecordGroups.groups l.groups);
-  taken : g.T.RecordTaker.Takes (map g.G.Item.Tabled.as_record (grouped (take l.first (g.G.RecordGroups.groups l.groups))))
-      l.initial.taker l.initial.device (Ok tt) l.taker l.device;
-  ready : g.T.RecordTaker.IsReady l.taker l.device;
+  taken : g.T.RecordVisitor.Takes (map g.G.Item.Tabled.as_record (grouped (take l.first (g.G.RecordGroups.groups l.groups))))
+      l.initial.visitor l.initial.device (Ok tt) l.visitor l.device;
+  ready : g.T.RecordVisitor.IsReady l.visitor l.device;
 }
 
 abbrev pub decreases-loop-first : goal.decreases-loop-first

@@ -3,14 +3,14 @@ use Rattle.std.proofs.lemmas.List.{take_all}
 use Rattle.std.proofs.lemmas.Option.{slice_get_read}
 use Rattle.std.proofs.lemmas.Result.{err_from_is_err_and}
 use Rattle.tl_number.specs.Groups.{group_at, grouped}
-use Rattle.tl_number.proofs.GivenGroups.{around_group, with_group}
-use Rattle.tl_number.proofs.Grouped.{length_headed}
-use Rattle.tl_number.proofs.OneAfterAnother.{second_stops}
+use Rattle.tl_number.proofs.Records.GivenGroups.{around_group, with_group}
+use Rattle.tl_number.proofs.Records.Grouped.{length_headed}
+use Rattle.tl_number.proofs.Records.OneAfterAnother.{second_stops}
 use Rattle.tl_number.proofs.groups.give_headed.Goals as goal
 
 pub loop-ahead-init : goal.loop-ahead-init
 loop-ahead-init g c = record {
-  taken = g.met.T.RecordTaker.none c.args.taker.now c.args.device.now;
+  taken = g.met.T.RecordVisitor.none c.args.visitor.now c.args.device.now;
   ready = c.requires.ready;
 }
 
@@ -24,9 +24,9 @@ returns-in_err-give_group-clause-given g c =
     let i = c.loop-ahead.ahead in
     let gs = take (length c.args.heads.now) (drop c.args.first groups) in
     let p = err_from_is_err_and c.from_residual.result c.from_residual.ensures.1 in
-    subst (λ rs. g.T.RecordTaker.Takes rs c.args.taker.now c.args.device.now c.from_residual.result c.give_group.new.taker
+    subst (λ rs. g.T.RecordVisitor.Takes rs c.args.visitor.now c.args.device.now c.from_residual.result c.give_group.new.visitor
     c.give_group.new.device) (sym (around_group f groups c.args.first (length c.args.heads.now) i c.requires.within c.loop-ahead-test.true))
-    (rw (p.1, p.2) (second_stops g.T.RecordTaker.Takes g.met.T.RecordTaker.then g.met.T.RecordTaker.stops
+    (rw (p.1, p.2) (second_stops g.T.RecordVisitor.Takes g.met.T.RecordVisitor.then g.met.T.RecordVisitor.stops
     (map f (grouped (take i gs))) (map f (group_at groups (c.args.first + i))) (map f (grouped (drop (suc i) gs)))
     c.loop-ahead.invariant.taken c.in_err-give_group.ensures.given))
 
@@ -36,11 +36,11 @@ loop-ahead-preserved g c =
     let groups = g.G.RecordGroups.groups c.args.groups.now in
     let i = c.loop-ahead.ahead in
     record {
-      taken = subst (λ rs. g.T.RecordTaker.Takes rs
-          c.args.taker.now c.args.device.now (Ok tt) c.give_group.new.taker c.give_group.new.device)
+      taken = subst (λ rs. g.T.RecordVisitor.Takes rs
+          c.args.visitor.now c.args.device.now (Ok tt) c.give_group.new.visitor c.give_group.new.device)
           (sym (with_group f groups c.args.first (length c.args.heads.now) i c.requires.within c.loop-ahead-test.true))
-          (g.met.T.RecordTaker.then (map f (grouped (take i (take (length c.args.heads.now) (drop c.args.first groups)))))
-          (map f (group_at groups (c.args.first + i))) c.args.taker.now c.loop-ahead.taker c.give_group.new.taker
+          (g.met.T.RecordVisitor.then (map f (grouped (take i (take (length c.args.heads.now) (drop c.args.first groups)))))
+          (map f (group_at groups (c.args.first + i))) c.args.visitor.now c.loop-ahead.visitor c.give_group.new.visitor
           c.args.device.now c.loop-ahead.device c.give_group.new.device (Ok tt) c.loop-ahead.invariant.taken c.in_ok-give_group.ensures.given);
       ready = c.in_ok-give_group.ensures.ready;
     }
@@ -51,8 +51,8 @@ returns-clause-given g c =
     let all_groups = g.G.RecordGroups.groups c.args.groups.now in
     let count = length c.args.heads.now in
     let gs = take count (drop c.args.first all_groups) in
-    subst (λ hs. g.T.RecordTaker.Takes (map f (grouped hs))
-    c.args.taker.now c.args.device.now (Ok tt) c.loop-ahead.taker c.loop-ahead.device)
+    subst (λ hs. g.T.RecordVisitor.Takes (map f (grouped hs))
+    c.args.visitor.now c.args.device.now (Ok tt) c.loop-ahead.visitor c.loop-ahead.device)
     (take_all c.loop-ahead.ahead gs
     (omega (arith, length_headed all_groups c.args.first count c.requires.within, c.loop-ahead-test.false))) c.loop-ahead.invariant.taken
 

@@ -5,7 +5,7 @@ use Rattle.tl_county.specs.County.{eight_land}
 use Rattle.tl_county.specs.Orders.{IsInOrder}
 use Rattle.tl_county.proofs.ByKey.KeyedLists.{in_order-filter}
 use Rattle.tl_number.specs.ViewFacts.{links_up_to}
-use Rattle.tl_number.proofs.LandmarkLinks.{fewer_later, bound_told, later_next}
+use Rattle.tl_number.proofs.Landmarks.LandmarkLinks.{fewer_later, bound_told, later_next}
 use Rattle.tl_number.proofs.landmark_links.bounds_of.Goals as goal
 
 pub overflow_sub-links : goal.overflow_sub-links

@@ -1,7 +1,7 @@
 use Rattle.std.proofs.Common.{◌++◌, map, ap, ◌∙◌}
 use Rattle.tl_county.specs.ChartWords.{links_at}
 use Rattle.tl_number.specs.LandmarkItems.{link_under}
-use Rattle.tl_number.proofs.LandmarkLinks.{pieces_next}
+use Rattle.tl_number.proofs.Landmarks.LandmarkLinks.{pieces_next}
 use Rattle.tl_number.proofs.landmark_links.gather_links.Goals as goal
 
 pub loop-place-preserved : goal.loop-place-preserved

@@ -1,5 +1,5 @@
 use Rattle.std.proofs.Common.{◌+◌, ◌-◌, get_or, take, ap, ◌∙◌, arith}
-use Rattle.tl_number.proofs.LinkSlices.{bounds_rise, bounds_within, slice_told}
+use Rattle.tl_number.proofs.Landmarks.LinkSlices.{bounds_rise, bounds_within, slice_told}
 use Rattle.tl_number.proofs.landmark_links.links_of_landmark.Goals as goal
 
 pub split_at-requires : goal.split_at-requires

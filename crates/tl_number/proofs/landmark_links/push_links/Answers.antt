@@ -2,7 +2,7 @@ use Rattle.std.proofs.Common.{◌++◌, List, Option, map, option_to_list, ap₂
 use Rattle.tl_layout.specs.Fields.{Fields8}
 use Rattle.tl_county.specs.ChartWords.{links_at}
 use Rattle.tl_number.specs.LandmarkItems.{link_under}
-use Rattle.tl_number.proofs.LandmarkLinks.{pushed_next}
+use Rattle.tl_number.proofs.Landmarks.LandmarkLinks.{pushed_next}
 use Rattle.tl_number.proofs.landmark_links.push_links.Goals as goal
 
 pub loop-link-preserved : goal.loop-link-preserved

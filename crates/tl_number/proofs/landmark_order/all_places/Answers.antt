@@ -1,5 +1,5 @@
 use Rattle.std.proofs.Common.{◌∷◌, [], ◌++◌, ap, ◌∙◌}
-use Rattle.tl_number.proofs.LandmarkLinks.{range_next}
+use Rattle.tl_number.proofs.Landmarks.LandmarkLinks.{range_next}
 use Rattle.tl_number.proofs.landmark_order.all_places.Goals as goal
 
 pub loop-place-preserved : goal.loop-place-preserved

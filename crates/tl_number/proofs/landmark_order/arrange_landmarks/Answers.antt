@@ -3,7 +3,7 @@ use Rattle.tl_county.specs.CountyRules.{lands}
 use Rattle.tl_county.specs.Orders.{has_repeat}
 use Rattle.tl_number.specs.LandmarkItems.{lands_at, numbered_links}
 use Rattle.tl_number.specs.ViewFacts.{link_bounds, stepped}
-use Rattle.tl_number.proofs.LandmarkOrder.{landmarks_told, lands_once, places_counted, new_links}
+use Rattle.tl_number.proofs.Landmarks.LandmarkOrder.{landmarks_told, lands_once, places_counted, new_links}
 use Rattle.tl_number.proofs.landmark_order.arrange_landmarks.Goals as goal
 
 pub links_by_land-requires-clause-few_places : goal.links_by_land-requires-clause-few_places

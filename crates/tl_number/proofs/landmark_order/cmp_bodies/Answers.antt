@@ -4,7 +4,7 @@ use Rattle.std.specs.Option.{option_cmp}
 use Rattle.tl_layout.specs.declared.type7.Body7.{Body7}
 use Rattle.tl_county.specs.BodyOrder.{landmark_body_cmp}
 use Rattle.tl_county.specs.ChartWords.{bodies_at}
-use Rattle.tl_number.proofs.ItemByItem.{agrees_at, differs_at, beginning_less}
+use Rattle.tl_number.proofs.Lists.ItemByItem.{agrees_at, differs_at, beginning_less}
 use Rattle.tl_number.proofs.landmark_order.cmp_bodies.Goals as goal
 
 pub returns-in_default : goal.returns-in_default

@@ -3,8 +3,8 @@ use Rattle.std.specs.Cmp.Lexicographic.{slice_cmp}
 use Rattle.std.specs.Option.{option_cmp}
 use Rattle.std.specs.Ordering.{on}
 use Rattle.tl_county.specs.BodyOrder.{link_part, link_part_cmp}
-use Rattle.tl_number.proofs.LandmarkOrder.{cmp_mapped}
-use Rattle.tl_number.proofs.ItemByItem.{agrees_at, differs_at, beginning_less, both_end}
+use Rattle.tl_number.proofs.Landmarks.LandmarkOrder.{cmp_mapped}
+use Rattle.tl_number.proofs.Lists.ItemByItem.{agrees_at, differs_at, beginning_less, both_end}
 use Rattle.tl_number.proofs.landmark_order.cmp_links.Goals as goal
 
 pub returns-in_default : goal.returns-in_default

@@ -4,7 +4,7 @@ use Rattle.tl_county.proofs.Lists.Distinct.{apart_from_no_repeat}
 use Rattle.tl_county.proofs.ByKey.KeyedLists.{empty_list}
 use Rattle.tl_county.proofs.ByKey.Keys.{nat_keys}
 use Rattle.tl_number.specs.Growth.{first_seen_after}
-use Rattle.tl_number.proofs.NameOrder.{first_seen-itself}
+use Rattle.tl_number.proofs.Names.NameOrder.{first_seen-itself}
 use Rattle.tl_number.proofs.landmark_order.lands_at.Goals as goal
 
 pub returns : goal.returns

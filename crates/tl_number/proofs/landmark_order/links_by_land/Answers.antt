@@ -5,7 +5,7 @@ use Rattle.tl_county.specs.CountyRules.{lands}
 use Rattle.tl_county.specs.Orders.{IsInOrder}
 use Rattle.tl_number.specs.LandmarkItems.{numbered_links}
 use Rattle.tl_number.specs.ViewFacts.{link_bounds}
-use Rattle.tl_number.proofs.LandmarkOrder.{few_lands, numbered_by_land}
+use Rattle.tl_number.proofs.Landmarks.LandmarkOrder.{few_lands, numbered_by_land}
 use Rattle.tl_number.proofs.landmark_order.links_by_land.Goals as goal
 
 pub links_under-requires-clause-few_lands : goal.links_under-requires-clause-few_lands

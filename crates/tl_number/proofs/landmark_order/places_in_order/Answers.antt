@@ -10,7 +10,7 @@ use Rattle.tl_county.specs.Orders.{IsInOrder, has_repeat}
 use Rattle.tl_county.specs.PolygonKeys.{PolygonKey}
 use Rattle.tl_number.specs.LandmarkItems.{landmark_place_cmp, lands_at, numbered_links, place_cmp_under}
 use Rattle.tl_number.specs.ViewFacts.{link_bounds, links_up_to}
-use Rattle.tl_number.proofs.LandmarkOrder.{all_lands, all_lands_once, numbered_by_land}
+use Rattle.tl_number.proofs.Landmarks.LandmarkOrder.{all_lands, all_lands_once, numbered_by_land}
 use Rattle.tl_number.proofs.landmark_order.places_in_order.Goals as goal
 
 pub links_by_land-requires-clause-few_places : goal.links_by_land-requires-clause-few_places
@@ -26,7 +26,7 @@ links_by_land-requires-clause-once g c =
     subst (λ places. has_repeat nat_cmp (lands_at county places) ≡ false) (sym (c.deref.ensures.value ∙ c.in_ok-unordered.ensures))
     (all_lands_once county (g.met.C.Chart.is_county c.args.chart.now))
 
--- what is true of the lists by which landmarks are sorted
+-- the facts about the lists by which landmarks are sorted
 record AreListed (county : County) (polygons : List PolygonKey) (links : List Fields8) (bounds : List ℕ) : Type 0 where
   numbered : links ≡ numbered_links county polygons (lands county)
   long : length bounds ≡ length county.landmarks + 1

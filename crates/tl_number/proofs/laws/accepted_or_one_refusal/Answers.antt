@@ -1,4 +1,4 @@
-use Rattle.tl_number.proofs.Accepted.{accepted_or_refused, accepted_not_refused, one_refusal}
+use Rattle.tl_number.proofs.CanonicalLists.Accepted.{accepted_or_refused, accepted_not_refused, one_refusal}
 use Rattle.tl_number.proofs.laws.accepted_or_one_refusal.Goals as goal
 
 pub returns-clause-either : goal.returns-clause-either

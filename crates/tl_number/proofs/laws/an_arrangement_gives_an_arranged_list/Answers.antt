@@ -1,6 +1,6 @@
-use Rattle.tl_number.proofs.Carrying.{arrangement_carries}
-use Rattle.tl_number.proofs.ArrangedCounties.{arranged_county, is_arranged}
-use Rattle.tl_number.proofs.ArrangedPacking.{packed_arranged}
+use Rattle.tl_number.proofs.Arrangements.Carrying.{arrangement_carries}
+use Rattle.tl_number.proofs.Arrangements.ArrangedCounties.{arranged_county, is_arranged}
+use Rattle.tl_number.proofs.Arrangements.ArrangedPacking.{packed_arranged}
 use Rattle.tl_number.proofs.laws.an_arrangement_gives_an_arranged_list.Goals as goal
 
 pub returns-clause-carries : goal.returns-clause-carries

@@ -1,4 +1,4 @@
-use Rattle.tl_number.proofs.TidyLists.{choice_is_same, least_choice, least_choice_is_canonical, canonical_is_choice}
+use Rattle.tl_number.proofs.CanonicalLists.TidyLists.{choice_is_same, least_choice, least_choice_is_canonical, canonical_is_choice}
 use Rattle.tl_number.proofs.laws.canonical_lists_are_those_of_least_choices.Goals as goal
 
 pub returns-clause-exists : goal.returns-clause-exists

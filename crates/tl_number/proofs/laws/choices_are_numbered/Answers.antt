@@ -1,4 +1,4 @@
-use Rattle.tl_number.proofs.TidyChoices.{numbered_is_choice, choice_number, first_choice}
+use Rattle.tl_number.proofs.Choices.TidyChoices.{numbered_is_choice, choice_number, first_choice}
 use Rattle.tl_number.proofs.laws.choices_are_numbered.Goals as goal
 
 pub returns-clause-told : goal.returns-clause-told

@@ -1,5 +1,5 @@
 use Rattle.tl_number.specs.Sights.{plain}
-use Rattle.tl_number.proofs.Accepted.{plain_sight, same_canonical_text, one_canonical_same, canonical_of_itself}
+use Rattle.tl_number.proofs.CanonicalLists.Accepted.{plain_sight, same_canonical_text, one_canonical_same, canonical_of_itself}
 use Rattle.tl_number.proofs.laws.one_canonical_text_for_one_map.Goals as goal
 
 pub returns-clause-same : goal.returns-clause-same

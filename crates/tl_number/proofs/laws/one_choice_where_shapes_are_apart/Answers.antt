@@ -1,4 +1,4 @@
-use Rattle.tl_number.proofs.OneChoice.{one_choice, only_choice}
+use Rattle.tl_number.proofs.CanonicalLists.OneChoice.{one_choice, only_choice}
 use Rattle.tl_number.proofs.laws.one_choice_where_shapes_are_apart.Goals as goal
 
 pub returns-clause-count : goal.returns-clause-count

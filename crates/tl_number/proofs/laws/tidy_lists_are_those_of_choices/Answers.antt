@@ -1,4 +1,4 @@
-use Rattle.tl_number.proofs.TidyLists.{choice_is_tidy, choice_is_same, tidy_is_choice}
+use Rattle.tl_number.proofs.CanonicalLists.TidyLists.{choice_is_tidy, choice_is_same, tidy_is_choice}
 use Rattle.tl_number.proofs.laws.tidy_lists_are_those_of_choices.Goals as goal
 
 pub returns-clause-list : goal.returns-clause-list

@@ -5,7 +5,7 @@ use Rattle.tl_number.specs.Steps.{arrangement_of, AreSteps}
 use Rattle.tl_number.specs.Tidy.{numbered_choice}
 use Rattle.tl_number.specs.ViewFacts.{NamesEachOnce}
 use Rattle.tl_number.specs.Views.{arranged_county}
-use Rattle.tl_number.proofs.ChosenSteps.{places_within, steps_of_number, steps_of_number_there, steps_of_number_once}
+use Rattle.tl_number.proofs.Choices.ChosenSteps.{places_within, steps_of_number, steps_of_number_there, steps_of_number_once}
 use Rattle.tl_number.proofs.least_choice.arrange_choice.Goals as goal
 
 pub steps_of_number-requires : goal.steps_of_number-requires

@@ -6,8 +6,8 @@ use Rattle.tl_number.specs.MovedSteps.{AgreeApart, AreWithin, other_way}
 use Rattle.tl_number.specs.NumberedChoices.{moved}
 use Rattle.tl_number.specs.RecordOrder.{groups_cmp}
 use Rattle.tl_number.specs.ViewFacts.{stepped}
-use Rattle.tl_number.proofs.ChosenSteps.{places_within, steps_of_number, steps_of_number_apart}
-use Rattle.tl_number.proofs.LeastOnes.{agree_of_numbers}
+use Rattle.tl_number.proofs.Choices.ChosenSteps.{places_within, steps_of_number, steps_of_number_apart}
+use Rattle.tl_number.proofs.Choices.LeastOnes.{agree_of_numbers}
 use Rattle.tl_number.proofs.least_choice.compare_number.Goals as goal
 
 pub put_back-requires-clause-within : goal.put_back-requires-clause-within

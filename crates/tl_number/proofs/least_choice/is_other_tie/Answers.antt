@@ -2,7 +2,7 @@ use Rattle.std.proofs.Common.{◌≡◌, ◌∙◌, Bool, true, false, not, is_e
 use Rattle.std.proofs.lemmas.Bool.{false≢true}
 use Rattle.tl_profile.specs.Choices.{choices}
 use Rattle.tl_number.specs.TypeOneOrder.{ones_cmp}
-use Rattle.tl_number.proofs.LeastOnes.{agree_of_numbers, equal_from, least_one_first, one_list}
+use Rattle.tl_number.proofs.Choices.LeastOnes.{agree_of_numbers, equal_from, least_one_first, one_list}
 use Rattle.tl_number.proofs.least_choice.is_other_tie.Goals as goal
 
 was_true : (b : Bool) → not b ≡ false → b ≡ true

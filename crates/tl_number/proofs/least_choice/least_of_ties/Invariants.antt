@@ -1,4 +1,4 @@
--- The least so far is arranged, and it is the least below the number from which on further ones are looked for.
+-- The least choice so far is arranged, and it is the least below the number where the search goes on.
 use Rattle.std.proofs.Common.{◌≡◌, ◌-◌, Equal, length}
 use Rattle.tl_profile.specs.Choices.{choices}
 use Rattle.tl_number.specs.Arrangement.{arranged}

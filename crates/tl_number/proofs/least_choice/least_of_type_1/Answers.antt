@@ -1,9 +1,9 @@
 use Rattle.std.proofs.Common.{◌≡◌, is_gt, length, sym, ap, ◌∙◌, subst, true, false}
 use Rattle.tl_number.specs.MovedSteps.{AgreeApart}
 use Rattle.tl_number.specs.TypeOneOrder.{ones_cmp}
-use Rattle.tl_number.proofs.ChosenSteps.{places_within, steps_of_number_apart, steps_of_number_count}
-use Rattle.tl_number.proofs.KeptPlaces.{agree_itself}
-use Rattle.tl_number.proofs.LeastOnes.{first_one, greater_from, not_greater_from, one_gives_way, one_stays}
+use Rattle.tl_number.proofs.Choices.ChosenSteps.{places_within, steps_of_number_apart, steps_of_number_count}
+use Rattle.tl_number.proofs.Choices.KeptPlaces.{agree_itself}
+use Rattle.tl_number.proofs.Choices.LeastOnes.{first_one, greater_from, not_greater_from, one_gives_way, one_stays}
 use Rattle.tl_number.proofs.least_choice.least_of_type_1.Goals as goal
 
 pub steps_of_number-requires : goal.steps_of_number-requires

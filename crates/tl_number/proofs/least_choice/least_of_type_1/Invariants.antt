@@ -1,4 +1,4 @@
--- The steps of the least number so far, and what they are least of.
+-- The steps of the least number so far, which has the least records of type 1 among the numbers so far.
 use Rattle.std.proofs.Common.{◌≡◌, length}
 use Rattle.tl_number.specs.MovedSteps.{AgreeApart, other_way}
 use Rattle.tl_number.specs.NumberedChoices.{moved}

@@ -5,8 +5,8 @@ use Rattle.tl_number.specs.NumberedChoices.{moved}
 use Rattle.tl_number.specs.Steps.{arrangement_of, AreSteps}
 use Rattle.tl_number.specs.Tidy.{IsLeastChoice}
 use Rattle.tl_number.specs.ViewFacts.{NamesEachOnce}
-use Rattle.tl_number.proofs.ChosenSteps.{places_within, steps_of_number, steps_of_number_there, steps_of_number_once}
-use Rattle.tl_number.proofs.LeastNumbers.{least_of_all}
+use Rattle.tl_number.proofs.Choices.ChosenSteps.{places_within, steps_of_number, steps_of_number_there, steps_of_number_once}
+use Rattle.tl_number.proofs.Choices.LeastNumbers.{least_of_all}
 use Rattle.tl_number.proofs.least_choice.least_steps.Goals as goal
 
 pub steps_of_number-requires : goal.steps_of_number-requires

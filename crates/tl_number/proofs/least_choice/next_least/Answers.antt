@@ -9,9 +9,9 @@ use Rattle.tl_number.specs.RecordOrder.{groups_cmp}
 use Rattle.tl_number.specs.Tidy.{numbered_choice}
 use Rattle.tl_number.specs.TypeOneOrder.{ones_cmp}
 use Rattle.tl_number.specs.Views.{arranged_county}
-use Rattle.tl_number.proofs.LeastNumbers.{choices_same, of_either, text_compared, told_of_either}
-use Rattle.tl_number.proofs.LeastOnes.{tied_with_itself}
-use Rattle.tl_number.proofs.SameShapes.{twos_of_numbers}
+use Rattle.tl_number.proofs.Choices.LeastNumbers.{choices_same, of_either, text_compared, told_of_either}
+use Rattle.tl_number.proofs.Choices.LeastOnes.{tied_with_itself}
+use Rattle.tl_number.proofs.CanonicalLists.SameShapes.{twos_of_numbers}
 use Rattle.tl_number.proofs.least_choice.next_least.Goals as goal
 
 pub compare_texts-ordering-requires-clause-ones : goal.compare_texts-ordering-requires-clause-ones

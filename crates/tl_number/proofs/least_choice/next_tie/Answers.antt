@@ -1,5 +1,5 @@
 use Rattle.std.proofs.Common.{◌≡◌, false, rules, arith}
-use Rattle.tl_number.proofs.LeastOnes.{from_more}
+use Rattle.tl_number.proofs.Choices.LeastOnes.{from_more}
 use Rattle.tl_number.proofs.least_choice.next_tie.Goals as goal
 
 pub is_other_tie-tied-requires-clause-number : goal.is_other_tie-tied-requires-clause-number

@@ -1,6 +1,6 @@
 use Rattle.std.proofs.Common.{◌<◌, arith}
 use Rattle.tl_profile.specs.Choices.{choices}
-use Rattle.tl_number.proofs.LeastNumbers.{first_least}
+use Rattle.tl_number.proofs.Choices.LeastNumbers.{first_least}
 use Rattle.tl_number.proofs.least_choice.number_of_least.Goals as goal
 
 pub returns-then-choices-eq1 : goal.returns-then-choices-eq1

@@ -3,7 +3,7 @@ use Rattle.tl_county.specs.ChartWords.{feats_of}
 use Rattle.tl_number.specs.Growth.{first_seen_after}
 use Rattle.tl_number.specs.NameItems.{feats_along_steps}
 use Rattle.tl_number.specs.Steps.{step_chain}
-use Rattle.tl_number.proofs.SeenLists.{seen_append}
+use Rattle.tl_number.proofs.Numbering.SeenLists.{seen_append}
 use Rattle.tl_number.proofs.name_order.number_uses.Goals as goal
 
 pub loop-step-preserved : goal.loop-step-preserved

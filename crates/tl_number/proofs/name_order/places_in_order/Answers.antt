@@ -11,7 +11,7 @@ use Rattle.tl_number.specs.NameItems.{ranked_at, ranked_cmp, ranked_place}
 use Rattle.tl_number.specs.Steps.{arrangement_of}
 use Rattle.tl_number.specs.ViewFacts.{AreReadAt}
 use Rattle.tl_number.specs.declared.name_order.RankedName.{RankedName}
-use Rattle.tl_number.proofs.NameOrder.{names_told, ranked_total}
+use Rattle.tl_number.proofs.Names.NameOrder.{names_told, ranked_total}
 use Rattle.tl_number.proofs.name_order.places_in_order.Goals as goal
 
 pub returns : goal.returns

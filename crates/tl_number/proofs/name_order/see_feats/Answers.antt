@@ -1,7 +1,7 @@
 use Rattle.std.proofs.Common.{nat_cmp}
 use Rattle.tl_county.specs.ChartWords.{feats_of}
 use Rattle.tl_number.specs.Steps.{step_chain}
-use Rattle.tl_number.proofs.SeenLists.{seen_next}
+use Rattle.tl_number.proofs.Numbering.SeenLists.{seen_next}
 use Rattle.tl_number.proofs.name_order.see_feats.Goals as goal
 
 pub loop-name-preserved : goal.loop-name-preserved

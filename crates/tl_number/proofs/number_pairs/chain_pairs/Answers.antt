@@ -2,15 +2,15 @@ use Rattle.std.proofs.Common.{◌+◌, ◌++◌, ◌∷◌, [], ◌∙◌, ap, a
 use Rattle.std.proofs.lemmas.Option.{slice_get-get_or}
 use Rattle.tl_number.specs.Arrangement.{arranged_tlids}
 use Rattle.tl_number.specs.Steps.{arrangement_of}
-use Rattle.tl_profile.specs.declared.chain_walk.ChainWalk.{ChainWalk}
-use Rattle.tl_number.proofs.RenamingPairs.{all_numbered, length-arranged, next_numbered, step_tlid}
+use Rattle.tl_profile.specs.declared.directed_chain.DirectedChain.{DirectedChain}
+use Rattle.tl_number.proofs.Views.RenamingPairs.{all_numbered, length-arranged, next_numbered, step_tlid}
 use Rattle.tl_number.proofs.number_pairs.chain_pairs.Goals as goal
 
 pub loop-place-preserved : goal.loop-place-preserved
 loop-place-preserved g c =
     let county = g.C.Chart.county c.args.chart.now in
     let steps = c.args.steps.now in
-    let none : ChainWalk = record { place = 0; turned = false } in
+    let none : DirectedChain = record { place = 0; turned = false } in
     c.in_ok-push.ensures.items
     ∙ ap (λ xs. xs ++ ((c.tlid_there-tlid.result, c.loop-place.place + 1) ∷ [])) c.loop-place.invariant
     ∙ sym (next_numbered (arranged_tlids (arrangement_of county steps)) c.loop-place.place c.tlid_there-tlid.result

@@ -1,6 +1,6 @@
 use Rattle.std.proofs.Common.{◌≡◌, ◌+◌, ◌++◌, ◌∷◌, [], ◌∙◌, Some, ap, arith, slice_get, sym}
-use Rattle.tl_number.proofs.RenamingPairs.{all_numbered, next_numbered}
-use Rattle.tl_number.proofs.StepChains.{at_place}
+use Rattle.tl_number.proofs.Views.RenamingPairs.{all_numbered, next_numbered}
+use Rattle.tl_number.proofs.Views.StepChains.{at_place}
 use Rattle.tl_number.proofs.number_pairs.name_pairs.Goals as goal
 use Rattle.tl_number.proofs.number_pairs.name_pairs.Goals.{in-Some+in_ok-push, in_default}
 

@@ -1,6 +1,6 @@
 use Rattle.std.proofs.Common.{◌≡◌, ◌+◌, ◌++◌, ◌∷◌, [], ◌∙◌, Some, ap, arith, slice_get, sym}
-use Rattle.tl_number.proofs.RenamingPairs.{all_polygons, next_polygon}
-use Rattle.tl_number.proofs.StepChains.{at_place}
+use Rattle.tl_number.proofs.Views.RenamingPairs.{all_polygons, next_polygon}
+use Rattle.tl_number.proofs.Views.StepChains.{at_place}
 use Rattle.tl_number.proofs.number_pairs.polygon_pairs.Goals as goal
 use Rattle.tl_number.proofs.number_pairs.polygon_pairs.Goals.{in-Some+in_ok-push, in_default}
 

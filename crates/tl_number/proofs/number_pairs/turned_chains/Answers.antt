@@ -3,8 +3,8 @@ use Rattle.std.proofs.lemmas.List.{take_all}
 use Rattle.std.proofs.lemmas.Option.{slice_get-get_or}
 use Rattle.tl_number.specs.Arrangement.{turned_tlids}
 use Rattle.tl_number.specs.Steps.{arrangement_of}
-use Rattle.tl_profile.specs.declared.chain_walk.ChainWalk.{ChainWalk}
-use Rattle.tl_number.proofs.RenamingPairs.{turned_more, unturned_more}
+use Rattle.tl_profile.specs.declared.directed_chain.DirectedChain.{DirectedChain}
+use Rattle.tl_number.proofs.Views.RenamingPairs.{turned_more, unturned_more}
 use Rattle.tl_number.proofs.number_pairs.turned_chains.Goals as goal
 use Rattle.tl_number.proofs.number_pairs.turned_chains.Goals.{then-step+in_ok-push, else-step}
 
@@ -12,7 +12,7 @@ pub loop-step-preserved : goal.loop-step-preserved
 loop-step-preserved g c =
     let county = g.C.Chart.county c.args.chart.now in
     let steps = c.args.steps.now in
-    let none : ChainWalk = record { place = 0; turned = false } in
+    let none : DirectedChain = record { place = 0; turned = false } in
     let step = get_or steps c.loop-step.step-index none in
     let read = slice_get-get_or steps c.loop-step.step-index none c.loop-step-test.true in
     elim c.if-step.branch [

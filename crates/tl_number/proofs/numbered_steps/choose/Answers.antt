@@ -2,7 +2,7 @@ use Rattle.std.proofs.Common.{◌∷◌, [], length, sym, ap, ◌∙◌, subst}
 use Rattle.tl_county.proofs.Lists.Elements.{all_left}
 use Rattle.tl_number.specs.MovedSteps.{AreWithin, IsWithin, other_way}
 use Rattle.tl_number.specs.NumberedChoices.{moved}
-use Rattle.tl_number.proofs.MovedChoice.{moved-last}
+use Rattle.tl_number.proofs.Choices.MovedChoice.{moved-last}
 use Rattle.tl_number.proofs.numbered_steps.choose.Goals as goal
 
 pub loop-at-preserved : goal.loop-at-preserved

@@ -1,4 +1,4 @@
--- What the places that are left make of the steps and the number that are left is what all make of those at the start.
+-- The remaining places turn the remaining steps and number into the same as all places do from the start.
 use Rattle.std.proofs.Common.{◌≡◌, length}
 use Rattle.tl_number.specs.MovedSteps.{AreWithin, other_way}
 use Rattle.tl_number.specs.NumberedChoices.{moved}

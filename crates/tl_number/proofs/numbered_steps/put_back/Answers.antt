@@ -1,6 +1,6 @@
 use Rattle.std.proofs.Common.{length, sym, subst, ◌∙◌}
 use Rattle.tl_number.specs.MovedSteps.{AgreeApart, AreWithin}
-use Rattle.tl_number.proofs.KeptPlaces.{agree_put, agree_same, nothing_left}
+use Rattle.tl_number.proofs.Choices.KeptPlaces.{agree_put, agree_same, nothing_left}
 use Rattle.tl_number.proofs.numbered_steps.put_back.Goals as goal
 
 pub put_back_at-requires-clause-within : goal.put_back_at-requires-clause-within

@@ -1,4 +1,4 @@
--- The steps agree with the walks but at the open places that are left.
+-- The steps agree with the walks, except at the remaining open places.
 use Rattle.std.proofs.Common.{◌≡◌, length}
 use Rattle.tl_number.specs.MovedSteps.{AgreeApart, AreWithin}
 use Rattle.tl_number.proofs.numbered_steps.put_back.Given as goal

@@ -1,5 +1,5 @@
 use Rattle.std.proofs.lemmas.Slice.Eq.{slice_eq-Decides}
-use Rattle.tl_number.proofs.RecordFields.{points_decide}
+use Rattle.tl_number.proofs.Records.RecordFields.{points_decide}
 use Rattle.tl_number.proofs.record_eq.have_same_points.Goals as goal
 
 pub returns : goal.returns

@@ -4,7 +4,7 @@ use Rattle.std.specs.List.{AllByRecursion}
 use Rattle.tl_number.specs.MovedSteps.{AreWithin, HaveSameChainAt, IsApart, StandInOrder}
 use Rattle.tl_number.specs.Steps.{step_chain}
 use Rattle.tl_cert.proofs.Places.{decides_no}
-use Rattle.tl_number.proofs.KeptPlaces.{before_apart, nothing_left, past_first, same_everywhere}
+use Rattle.tl_number.proofs.Choices.KeptPlaces.{before_apart, nothing_left, past_first, same_everywhere}
 use Rattle.tl_number.proofs.same_chains.have_same_chains.Goals as goal
 
 pub loop-at-init : goal.loop-at-init

@@ -1,4 +1,4 @@
--- The chains that are apart from the open places that are left are the same.
+-- The chains apart from the remaining open places are the same.
 use Rattle.std.proofs.Common.{ℕ, length}
 use Rattle.std.specs.List.{AllByRecursion}
 use Rattle.tl_number.specs.MovedSteps.{AreWithin, HaveSameChainAt, IsApart, StandInOrder}

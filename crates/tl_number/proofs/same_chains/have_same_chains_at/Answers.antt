@@ -1,9 +1,9 @@
 use Rattle.std.proofs.Common.{◌≡◌, ◌<◌, ◌∙◌, Some, get_or, length, map, true, false, rules, refl, sym, ap, arith}
-use Rattle.tl_profile.specs.declared.chain_walk.ChainWalk.{ChainWalk}
+use Rattle.tl_profile.specs.declared.directed_chain.DirectedChain.{DirectedChain}
 use Rattle.tl_number.specs.Steps.{step_chain}
 use Rattle.tl_cert.proofs.Places.{decides_no}
-use Rattle.tl_number.proofs.LinkOrder.{same_further}
-use Rattle.tl_number.proofs.SameChains.{chain_read, the_same}
+use Rattle.tl_number.proofs.Texts.LinkOrder.{same_further}
+use Rattle.tl_number.proofs.Texts.SameChains.{chain_read, the_same}
 use Rattle.tl_number.proofs.same_chains.have_same_chains_at.Goals as goal
 
 pub loop-place-preserved : goal.loop-place-preserved
@@ -20,7 +20,7 @@ pub returns-then-not-same : goal.returns-then-not-same
 returns-then-not-same g c =
     let county = g.C.Chart.county c.args.chart.now in
     let i = c.loop-place.place in
-    let none : ChainWalk = record { place = 0; turned = false } in
+    let none : DirectedChain = record { place = 0; turned = false } in
     let there : i < length c.args.one.now = omega (arith, c.loop-place-test.true, c.requires.within.there) in
     let not_same : c.is_same_chain-same.result ≡ false = search rules in
     decides_no c.is_same_chain-same.result not_same c.is_same_chain-same.ensures

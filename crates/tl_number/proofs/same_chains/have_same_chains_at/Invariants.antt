@@ -1,4 +1,4 @@
--- the chains in front of a place are the same
+-- the chains before a place are the same
 use Rattle.tl_number.specs.MovedSteps.{HaveSameChainsBelow}
 use Rattle.tl_number.proofs.same_chains.have_same_chains_at.Given as goal
 

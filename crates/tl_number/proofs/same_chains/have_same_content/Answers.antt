@@ -8,6 +8,6 @@ returns g c =
     decides_same c.is_same_link_body.result c.is_same_link_body.ensures
     (λ e. record {
       body = sym c.body_of_step.ensures ∙ c.is_same_body-body.ensures.0 yes ∙ c.body_of_step-2.ensures;
-      link_body = sym c.link_body_of_step.ensures ∙ e ∙ c.link_body_of_step-2.ensures;
+      topology = sym c.link_body_of_step.ensures ∙ e ∙ c.link_body_of_step-2.ensures;
     })
-    (λ h. c.link_body_of_step.ensures ∙ h.link_body ∙ sym c.link_body_of_step-2.ensures)
+    (λ h. c.link_body_of_step.ensures ∙ h.topology ∙ sym c.link_body_of_step-2.ensures)

@@ -1,7 +1,7 @@
 use Rattle.std.proofs.Common.{◌≡◌, ◌∙◌, Some, true, false, rules, sym, ap}
 use Rattle.tl_number.specs.Steps.{step_chain}
 use Rattle.tl_cert.proofs.Places.{decides_no, decides_same}
-use Rattle.tl_number.proofs.SameChains.{ends_from, ends_to, sides_to, the_same}
+use Rattle.tl_number.proofs.Texts.SameChains.{ends_from, ends_to, sides_to, the_same}
 use Rattle.tl_number.proofs.same_chains.have_same_ends.Goals as goal
 
 pub returns-then-not-ends : goal.returns-then-not-ends

@@ -1,10 +1,10 @@
 use Rattle.std.proofs.Common.{◌≡◌, ◌∙◌, Some, get_or, length, slice_get, true, false, rules, refl, sym, ap, arith}
 use Rattle.std.proofs.lemmas.List.{length-map}
 use Rattle.tl_county.specs.ChartWords.{ranges_of}
-use Rattle.tl_profile.specs.declared.chain_walk.ChainWalk.{ChainWalk}
+use Rattle.tl_profile.specs.declared.directed_chain.DirectedChain.{DirectedChain}
 use Rattle.tl_number.specs.Steps.{ranges_along, step_chain}
 use Rattle.tl_cert.proofs.Places.{decides_no, same_next, same_seen}
-use Rattle.tl_number.proofs.SameChains.{part_read, the_same}
+use Rattle.tl_number.proofs.Texts.SameChains.{part_read, the_same}
 use Rattle.tl_number.proofs.same_chains.have_same_ranges_along.Goals as goal
 
 pub loop-place-preserved : goal.loop-place-preserved
@@ -21,7 +21,7 @@ pub returns-then-not-same : goal.returns-then-not-same
 returns-then-not-same g c =
     let county = g.C.Chart.county c.args.chart.now in
     let i = c.loop-place.place in
-    let none : ChainWalk = record { place = 0; turned = false } in
+    let none : DirectedChain = record { place = 0; turned = false } in
     let not_same : c.have_same_ranges_at-same.result ≡ false = search rules in
     decides_no c.have_same_ranges_at-same.result not_same c.have_same_ranges_at-same.ensures
     (λ all. the_same (ranges_of (step_chain county (get_or c.args.one.now i none))) (ranges_of (step_chain county (get_or c.args.other.now i none)))
@@ -32,7 +32,7 @@ returns-then-not-same g c =
 pub returns : goal.returns
 returns g c =
     let county = g.C.Chart.county c.args.chart.now in
-    let part : ChainWalk → _ = λ step. ranges_of (step_chain county step) in (
+    let part : DirectedChain → _ = λ step. ranges_of (step_chain county step) in (
       λ e. same_seen (ranges_along county c.args.one.now) (ranges_along county c.args.other.now) c.loop-place.place
           (length c.args.one.now) c.loop-place.invariant (length-map c.args.one.now part)
           (length-map c.args.other.now part ∙ sym c.requires) (omega (arith, c.loop-place-test.false)),

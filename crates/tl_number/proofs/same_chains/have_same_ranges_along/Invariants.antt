@@ -1,4 +1,4 @@
--- those so far are the same
+-- the further address ranges so far are the same
 use Rattle.std.proofs.Common.{◌≡◌, take}
 use Rattle.tl_number.specs.Steps.{ranges_along}
 use Rattle.tl_number.proofs.same_chains.have_same_ranges_along.Given as goal

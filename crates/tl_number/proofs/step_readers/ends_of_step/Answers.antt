@@ -1,8 +1,8 @@
--- A county's nodes count from 1.
+-- A county's nodes have numbers from 1 on.
 use Rattle.std.proofs.Common.{sym, subst}
 use Rattle.tl_layout.specs.Numbers.{IsNumberOrNone}
-use Rattle.tl_number.proofs.ChainPlaces.{chain_there, from_one}
-use Rattle.tl_number.proofs.RecordPlaces.{part_of}
+use Rattle.tl_number.proofs.Records.ChainPlaces.{chain_there, from_one}
+use Rattle.tl_number.proofs.Records.RecordPlaces.{part_of}
 use Rattle.tl_number.proofs.step_readers.ends_of_step.Goals as goal
 
 pub new-start-requires : goal.new-start-requires

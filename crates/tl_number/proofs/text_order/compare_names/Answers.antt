@@ -1,7 +1,7 @@
 use Rattle.std.proofs.Common.{◌∙◌, length, sym, ap}
 use Rattle.tl_number.specs.Steps.{feats_along}
-use Rattle.tl_number.proofs.SameLists.{type_5_through}
-use Rattle.tl_number.proofs.TypeOnes.{as_many_steps}
+use Rattle.tl_number.proofs.Texts.SameLists.{type_5_through}
+use Rattle.tl_number.proofs.Texts.TypeOnes.{as_many_steps}
 use Rattle.tl_number.proofs.text_order.compare_names.Goals as goal
 
 pub have_same_feats_along-requires : goal.have_same_feats_along-requires

@@ -2,8 +2,8 @@ use Rattle.std.proofs.Common.{◌∙◌, sym, ap}
 use Rattle.std.specs.Ordering.{ordering_then}
 use Rattle.tl_number.specs.RecordOrder.{types_5_to_7_cmp, types_8_to_p_cmp}
 use Rattle.tl_number.specs.ViewFacts.{stepped}
-use Rattle.tl_number.proofs.GroupOrders.{decided}
-use Rattle.tl_number.proofs.TypeOrders.{tied_texts_in_order}
+use Rattle.tl_number.proofs.Texts.GroupOrders.{decided}
+use Rattle.tl_number.proofs.Texts.TypeOrders.{tied_texts_in_order}
 use Rattle.tl_number.proofs.text_order.compare_texts.Goals as goal
 
 pub returns-in_default : goal.returns-in_default

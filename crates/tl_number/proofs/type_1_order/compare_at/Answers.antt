@@ -2,7 +2,7 @@ use Rattle.std.proofs.Common.{◌≡◌, ◌∙◌, arith}
 use Rattle.std.specs.Option.{option_cmp}
 use Rattle.tl_number.specs.RecordOrder.{spelling_cmp}
 use Rattle.tl_number.specs.TypeOneOrder.{one_at}
-use Rattle.tl_number.proofs.TypeOnes.{same_one, same_turns}
+use Rattle.tl_number.proofs.Texts.TypeOnes.{same_one, same_turns}
 use Rattle.tl_number.proofs.type_1_order.compare_at.Goals as goal
 
 pub returns-then-one-other-2 : goal.returns-then-one-other-2

@@ -4,9 +4,9 @@ use Rattle.std.specs.Option.{option_cmp}
 use Rattle.tl_number.specs.RecordOrder.{spelling_cmp}
 use Rattle.tl_number.specs.TypeOneOrder.{ones_of}
 use Rattle.tl_number.specs.ViewFacts.{stepped}
-use Rattle.tl_profile.specs.declared.chain_walk.ChainWalk.{ChainWalk}
-use Rattle.tl_number.proofs.TiedOnes.{first_untied, tied_more}
-use Rattle.tl_number.proofs.TypeOnes.{length_whole, ones_stepped}
+use Rattle.tl_profile.specs.declared.directed_chain.DirectedChain.{DirectedChain}
+use Rattle.tl_number.proofs.Texts.TiedOnes.{first_untied, tied_more}
+use Rattle.tl_number.proofs.Texts.TypeOnes.{length_whole, ones_stepped}
 use Rattle.tl_number.proofs.type_1_order.compare_at_open.Goals as goal
 
 pub compare_at-requires-clause-place : goal.compare_at-requires-clause-place
@@ -26,7 +26,7 @@ returns-in_default-clause-untied g c =
     let xs = ones_of (stepped county c.args.one.now) in
     let ys = ones_of (stepped county c.args.other.now) in
     let i = c.loop-place.place in
-    let none : ChainWalk = record { place = 0; turned = false } in
+    let none : DirectedChain = record { place = 0; turned = false } in
     let there : i < length c.args.one.now = omega (arith, c.loop-place-test.true, c.requires.within.there) in
     let answer : c.compare_at.result ≡ option_cmp spelling_cmp (slice_get xs i) (slice_get ys i) =
     c.compare_at.ensures
@@ -43,7 +43,7 @@ loop-place-preserved g c =
     let xs = ones_of (stepped county c.args.one.now) in
     let ys = ones_of (stepped county c.args.other.now) in
     let i = c.loop-place.place in
-    let none : ChainWalk = record { place = 0; turned = false } in
+    let none : DirectedChain = record { place = 0; turned = false } in
     let there : i < length c.args.one.now = omega (arith, c.loop-place-test.true, c.requires.within.there) in
     let answer : c.compare_at.result ≡ option_cmp spelling_cmp (slice_get xs i) (slice_get ys i) =
     c.compare_at.ensures

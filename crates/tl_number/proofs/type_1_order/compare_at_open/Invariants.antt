@@ -1,4 +1,4 @@
--- the records in front of a place are tied
+-- the records before a place are tied
 use Rattle.tl_number.specs.RecordOrder.{AreTiedBelow}
 use Rattle.tl_number.specs.TypeOneOrder.{ones_of}
 use Rattle.tl_number.specs.ViewFacts.{stepped}

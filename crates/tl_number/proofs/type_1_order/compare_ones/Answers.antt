@@ -4,8 +4,8 @@ use Rattle.tl_number.specs.MovedSteps.{AreWithin, IsApart, StandInOrder}
 use Rattle.tl_number.specs.RecordOrder.{AreTiedAt}
 use Rattle.tl_number.specs.TypeOneOrder.{ones_of}
 use Rattle.tl_number.specs.ViewFacts.{stepped}
-use Rattle.tl_number.proofs.KeptPlaces.{before_apart, nothing_left, past_first}
-use Rattle.tl_number.proofs.TiedOnes.{all_tied, same_tied}
+use Rattle.tl_number.proofs.Choices.KeptPlaces.{before_apart, nothing_left, past_first}
+use Rattle.tl_number.proofs.Texts.TiedOnes.{all_tied, same_tied}
 use Rattle.tl_number.proofs.type_1_order.compare_ones.Goals as goal
 
 pub loop-at-init : goal.loop-at-init

@@ -1,4 +1,4 @@
--- The records that are apart from the open places that are left are tied.
+-- The records apart from the remaining open places are tied.
 use Rattle.std.proofs.Common.{ℕ, length}
 use Rattle.std.specs.List.{AllByRecursion}
 use Rattle.tl_number.specs.MovedSteps.{AreWithin, IsApart, StandInOrder}

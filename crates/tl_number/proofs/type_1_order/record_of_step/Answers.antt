@@ -2,9 +2,9 @@ use Rattle.std.proofs.Common.{◌≡◌, ◌+◌, ◌-◌, Some, is_some, length
 use Rattle.tl_county.specs.ChartWords.{points_of}
 use Rattle.tl_county.specs.Packing.{first_point, last_point, packed_one}
 use Rattle.tl_profile.proofs.FewChains.{few_chains}
-use Rattle.tl_number.proofs.ChainPlaces.{first_at, last_at}
-use Rattle.tl_number.proofs.Grouped.{some-same}
-use Rattle.tl_number.proofs.TypeOnes.{step_there}
+use Rattle.tl_number.proofs.Records.ChainPlaces.{first_at, last_at}
+use Rattle.tl_number.proofs.Records.Grouped.{some-same}
+use Rattle.tl_number.proofs.Texts.TypeOnes.{step_there}
 use Rattle.tl_number.proofs.type_1_order.record_of_step.Goals as goal
 
 pub overflow_sub-last : goal.overflow_sub-last

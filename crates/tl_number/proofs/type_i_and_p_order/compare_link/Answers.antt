@@ -2,7 +2,7 @@ use Rattle.std.proofs.Common.{◌∙◌, slice_get, ap, ap₂}
 use Rattle.std.specs.Option.{option_cmp}
 use Rattle.tl_number.specs.RecordOrder.{links_of, spelling_cmp}
 use Rattle.tl_number.specs.ViewFacts.{stepped}
-use Rattle.tl_number.proofs.TypeOnes.{same_one}
+use Rattle.tl_number.proofs.Texts.TypeOnes.{same_one}
 use Rattle.tl_number.proofs.type_i_and_p_order.compare_link.Goals as goal
 
 pub returns-then-is_same_link : goal.returns-then-is_same_link

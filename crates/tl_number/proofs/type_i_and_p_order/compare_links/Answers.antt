@@ -1,8 +1,8 @@
 use Rattle.std.proofs.Common.{◌∙◌, sym, arith}
 use Rattle.tl_number.specs.RecordOrder.{links_of}
 use Rattle.tl_number.specs.ViewFacts.{stepped}
-use Rattle.tl_number.proofs.LinkOrder.{all_links_tied, as_many_through}
-use Rattle.tl_number.proofs.TiedOnes.{first_untied, tied_more}
+use Rattle.tl_number.proofs.Texts.LinkOrder.{all_links_tied, as_many_through}
+use Rattle.tl_number.proofs.Texts.TiedOnes.{first_untied, tied_more}
 use Rattle.tl_number.proofs.type_i_and_p_order.compare_links.Goals as goal
 
 pub loop-place-init : goal.loop-place-init

@@ -1,4 +1,4 @@
--- the records in front of a place are tied
+-- the records before a place are tied
 use Rattle.tl_number.specs.RecordOrder.{AreTiedBelow, links_of}
 use Rattle.tl_number.specs.ViewFacts.{stepped}
 use Rattle.tl_number.proofs.type_i_and_p_order.compare_links.Given as goal

@@ -2,7 +2,7 @@ use Rattle.std.proofs.Common.{◌∙◌, map, sym, ap₂}
 use Rattle.tl_number.specs.ByNumber.{under_number}
 use Rattle.tl_number.specs.Growth.{numbered}
 use Rattle.tl_number.specs.ViewFacts.{stepped}
-use Rattle.tl_number.proofs.LinkOrder.{same_polygons}
+use Rattle.tl_number.proofs.Texts.LinkOrder.{same_polygons}
 use Rattle.tl_number.proofs.type_i_and_p_order.compare_polygons.Goals as goal
 
 pub returns-then-have_same_numbers : goal.returns-then-have_same_numbers

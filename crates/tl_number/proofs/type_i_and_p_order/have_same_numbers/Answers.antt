@@ -1,5 +1,5 @@
 use Rattle.std.proofs.Common.{◌∙◌, sym, arith}
-use Rattle.tl_number.proofs.LinkOrder.{same_further, same_lists}
+use Rattle.tl_number.proofs.Texts.LinkOrder.{same_further, same_lists}
 use Rattle.tl_number.proofs.type_i_and_p_order.have_same_numbers.Goals as goal
 
 pub loop-place-init : goal.loop-place-init

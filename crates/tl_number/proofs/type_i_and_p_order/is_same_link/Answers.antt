@@ -1,5 +1,5 @@
 use Rattle.std.proofs.Common.{◌∙◌, sym}
-use Rattle.tl_number.proofs.LinkOrder.{same_link_through}
+use Rattle.tl_number.proofs.Texts.LinkOrder.{same_link_through}
 use Rattle.tl_number.proofs.type_i_and_p_order.is_same_link.Goals as goal
 
 pub returns : goal.returns

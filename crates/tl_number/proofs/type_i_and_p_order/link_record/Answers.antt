@@ -3,9 +3,9 @@ use Rattle.std.proofs.lemmas.List.{length-map}
 use Rattle.tl_layout.specs.declared.record_type.Record.TheVariants.{I}
 use Rattle.tl_county.specs.Packing.{packed_i}
 use Rattle.tl_number.specs.ViewFacts.{stepped}
-use Rattle.tl_number.proofs.ChainPlaces.{some_at}
-use Rattle.tl_number.proofs.Grouped.{group_of}
-use Rattle.tl_number.proofs.LinkOrder.{link_there}
+use Rattle.tl_number.proofs.Records.ChainPlaces.{some_at}
+use Rattle.tl_number.proofs.Records.Grouped.{group_of}
+use Rattle.tl_number.proofs.Texts.LinkOrder.{link_there}
 use Rattle.tl_number.proofs.type_i_and_p_order.link_record.Goals as goal
 
 pub head-head-requires : goal.head-head-requires

@@ -1,4 +1,4 @@
--- The shapes that are left, and those behind them, which are counted.
+-- The remaining shapes, and the shapes after them, which are counted.
 use Rattle.std.proofs.Common.{◌≡◌, ◌≤◌, ◌++◌, List, length, map}
 use Rattle.tl_shape.specs.PointOrder.{points_cmp}
 use Rattle.tl_profile.specs.Choices.{is_either_way, most_choices}

@@ -1,4 +1,4 @@
--- The ranges so far are turned, and the others stand as they stood.
+-- The ranges so far are turned, and the others are unchanged.
 use Rattle.std.proofs.Common.{◌≡◌, ◌++◌, map, take, drop}
 use Rattle.tl_layout.specs.Turned.{turned_ranges}
 use Rattle.tl_shape.proofs.chain.turn_all.Given as goal

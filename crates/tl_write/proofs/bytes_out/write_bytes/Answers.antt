@@ -3,7 +3,7 @@ use Rattle.std.proofs.Math.Seq.{take-add}
 use Rattle.std.proofs.lemmas.List.{take_rest}
 use Rattle.tl_write.proofs.bytes_out.write_bytes.Goals as goal
 
--- the first n bytes of what is left follow the first i
+-- the first n of the remaining bytes follow the first i
 next_taken : (bytes : List ℕ) (i n : ℕ) → take i bytes ++ take n (take (length bytes - i) (drop i bytes)) ≡ take (i + n) bytes
 next_taken bytes i n = ap (λ rest. take i bytes ++ take n rest) (take_rest bytes i) ∙ sym (take-add i n bytes)
 

@@ -1,7 +1,7 @@
 use Rattle.std.proofs.Common.{ℕ, List, ◌≡◌, ◌≤◌, ◌++◌, ◌-◌, length, take}
 use Rattle.tl_write.proofs.bytes_out.write_bytes.Given as goal
 
--- what went out so far is the beginning of the text, and nothing has failed
+-- the bytes written so far are the beginning of the text, and no write failed
 abbrev pub invariant-loop-written : goal.invariant-loop-written
 invariant-loop-written g l = record {
   within : l.written ≤ length l.bytes;

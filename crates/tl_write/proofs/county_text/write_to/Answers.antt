@@ -8,28 +8,28 @@ use Rattle.tl_write.proofs.Finished.{at_the_start, none_counted, begun, whole_le
 use Rattle.tl_write.proofs.TextLengths.{few_bytes}
 use Rattle.tl_write.proofs.county_text.write_to.Goals as goal
 
-pub returns-in_err-give_records-clause-short : goal.returns-in_err-give_records-clause-short
-returns-in_err-give_records-clause-short g c =
+pub returns-in_err-visit_records-clause-short : goal.returns-in_err-visit_records-clause-short
+returns-in_err-visit_records-clause-short g c =
     let p = err_from_is_err_and c.from_residual.result c.from_residual.ensures.1 in
     let start = subst (HasCounted 0) (sym c.new-buffer.ensures) (none_counted g.W.Sink.holds) in
-    rw (p.1, p.2) (omega (arith, c.in_err-give_records.ensures.given.counted 0 start))
+    rw (p.1, p.2) (omega (arith, c.in_err-visit_records.ensures.given.counted 0 start))
 
-pub returns-in_err-give_records-clause-bytes : goal.returns-in_err-give_records-clause-bytes
-returns-in_err-give_records-clause-bytes g c held h =
+pub returns-in_err-visit_records-clause-bytes : goal.returns-in_err-visit_records-clause-bytes
+returns-in_err-visit_records-clause-bytes g c held h =
     let county = stepped (g.C.Chart.county c.args.county.now.chart) c.args.county.now.steps.items in
     let whole = c.args.county.now.whole in
     let p = err_from_is_err_and c.from_residual.result c.from_residual.ensures.1 in
     let start = subst (λ b. IsGoingOut g.W.Sink.holds held [] b c.args.w.now) (sym c.new-buffer.ensures)
     (at_the_start g.W.Sink.holds held c.args.w.now h) in
-    rw (p.1, p.2) (begun g.W.Sink.holds held (text_of (packed county)) c.in_err-give_records.field-0.0.written c.give_records.new.device
-    (few_bytes county whole.is_county whole.within_limits) (c.in_err-give_records.ensures.given.bytes held [] start))
+    rw (p.1, p.2) (begun g.W.Sink.holds held (text_of (packed county)) c.in_err-visit_records.field-0.0.written c.visit_records.new.device
+    (few_bytes county whole.is_county whole.within_limits) (c.in_err-visit_records.ensures.given.bytes held [] start))
 
 pub returns-clause-length : goal.returns-clause-length
 returns-clause-length g c =
     let county = stepped (g.C.Chart.county c.args.county.now.chart) c.args.county.now.steps.items in
     let whole = c.args.county.now.whole in
     let start = subst (HasCounted 0) (sym c.new-buffer.ensures) (none_counted g.W.Sink.holds) in
-    let counted = subst (λ n. HasCounted n c.give_records.new.taker) (omega arith) (c.in_ok-give_records.ensures.given.counted 0 start) in
+    let counted = subst (λ n. HasCounted n c.visit_records.new.visitor) (omega arith) (c.in_ok-visit_records.ensures.given.counted 0 start) in
     whole_length g.W.Sink.holds (text_of (packed county)) (few_bytes county whole.is_county whole.within_limits) c.finish.result
     (c.finish.ensures.counted (length (text_of (packed county))) counted)
 
@@ -37,7 +37,7 @@ pub returns-clause-short : goal.returns-clause-short
 returns-clause-short g c =
     let county = stepped (g.C.Chart.county c.args.county.now.chart) c.args.county.now.steps.items in
     let start = subst (HasCounted 0) (sym c.new-buffer.ensures) (none_counted g.W.Sink.holds) in
-    let counted = subst (λ n. HasCounted n c.give_records.new.taker) (omega arith) (c.in_ok-give_records.ensures.given.counted 0 start) in
+    let counted = subst (λ n. HasCounted n c.visit_records.new.visitor) (omega arith) (c.in_ok-visit_records.ensures.given.counted 0 start) in
     whole_short g.W.Sink.holds (text_of (packed county)) c.finish.result
     (c.finish.ensures.counted (length (text_of (packed county))) counted)
 
@@ -48,4 +48,4 @@ returns-clause-bytes g c held h =
     let start = subst (λ b. IsGoingOut g.W.Sink.holds held [] b c.args.w.now) (sym c.new-buffer.ensures)
     (at_the_start g.W.Sink.holds held c.args.w.now h) in
     whole_bytes g.W.Sink.holds held (text_of (packed county)) c.finish.new.w (few_bytes county whole.is_county whole.within_limits)
-    c.finish.result (c.finish.ensures.whole held (text_of (packed county)) (c.in_ok-give_records.ensures.given.bytes held [] start))
+    c.finish.result (c.finish.ensures.whole held (text_of (packed county)) (c.in_ok-visit_records.ensures.given.bytes held [] start))

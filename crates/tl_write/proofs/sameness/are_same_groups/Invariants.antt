@@ -1,7 +1,7 @@
 use Rattle.std.proofs.Common.{◌≡◌, ◌≤◌, ◌-◌, length, take}
 use Rattle.tl_write.proofs.sameness.are_same_groups.Given as goal
 
--- the groups up to the first one that is left are the same
+-- the groups up to the first remaining one are the same
 abbrev pub invariant-loop-first : goal.invariant-loop-first
 invariant-loop-first g l = record {
   room : length l.room ≡ length l.initial.room;

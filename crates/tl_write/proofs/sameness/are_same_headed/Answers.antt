@@ -1,7 +1,7 @@
 use Rattle.std.proofs.Common.{◌≡◌, ◌∙◌, true, false, rules, drop, length, take, refl, sym, ap, arith}
 use Rattle.std.proofs.lemmas.Option.{slice_get_read}
 use Rattle.tl_number.specs.Groups.{group_at}
-use Rattle.tl_number.proofs.Grouped.{group_headed, length_headed}
+use Rattle.tl_number.proofs.Records.Grouped.{group_headed, length_headed}
 use Rattle.tl_write.proofs.SameGroups.{decides_no, same_next, same_whole, same_group}
 use Rattle.tl_write.proofs.sameness.are_same_headed.Goals as goal
 

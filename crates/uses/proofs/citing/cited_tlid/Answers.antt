@@ -2,7 +2,7 @@ use Rattle.std.proofs.Common.{◌∷◌, [], Result, Ok, Err, Option, Some, None
 use Rattle.uses.proofs.Cited.{carried_through}
 use Rattle.uses.proofs.citing.cited_tlid.Goals as goal
 
--- what follows from two things that are said of what may be there
+-- the consequence of two properties of an optional result
 both : {X E : Type 0} (r : Result (Option X) E) {P Q R : X → Type 0} → IfOk r (λ o. IfSome o P) → IfOk r (λ o. IfSome o Q)
     → ((x : X) → P x → Q x → R x) → IfOk r (λ o. IfSome o R)
 both (Err e) p q h = tt

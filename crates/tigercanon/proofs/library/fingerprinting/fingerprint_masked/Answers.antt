@@ -1,14 +1,15 @@
+use Rattle.std.proofs.Common.{refl}
+use Rattle.tigercanon.proofs.Told.{told_no_device, told_refused, told_succeeds}
 use Rattle.tigercanon.proofs.library.fingerprinting.fingerprint_masked.Goals as goal
 
 pub returns-clause-fingerprint : goal.returns-clause-fingerprint
-returns-clause-fingerprint c = c.fingerprint_linked.ensures.fingerprint _ c.in_ok-linked.ensures.linked
+returns-clause-fingerprint c = c.make_of.ensures.made _ refl
 
 pub returns-clause-refused : goal.returns-clause-refused
-returns-clause-refused c = c.fingerprint_linked.ensures.set_refused _ c.in_ok-linked.ensures.linked
+returns-clause-refused c = told_refused _ c.make_of.result (c.make_of.ensures.refused _ refl)
 
 pub returns-clause-no_device : goal.returns-clause-no_device
-returns-clause-no_device c = c.fingerprint_linked.ensures.no_device _ c.in_ok-linked.ensures.linked
+returns-clause-no_device c = told_no_device _ c.make_of.result (c.make_of.ensures.refused _ refl)
 
 pub returns-clause-succeeds : goal.returns-clause-succeeds
-returns-clause-succeeds c = λ records accepted.
-    c.fingerprint_linked.ensures.succeeds _ records c.in_ok-linked.ensures.linked accepted
+returns-clause-succeeds c = told_succeeds _ c.make_of.result (c.make_of.ensures.refused _ refl)

@@ -1,25 +1,52 @@
-use Rattle.std.proofs.lemmas.Result.{IfOk-weaker}
+use Rattle.std.proofs.Common.{◌≡◌, ◌<◌, length, subst, take}
+use Rattle.std.proofs.lemmas.Result.{err_from_is_err_and}
 use Rattle.tl_cert.specs.MaskedCounty.{masked}
-use Rattle.tl_number.proofs.MaskedSights.{masked_sight}
+use Rattle.tl_number.proofs.Masks.MaskedSights.{masked_sight}
+use Rattle.tigercanon.specs.Normalising.{Took}
+use Rattle.tigercanon.proofs.CanonicalTexts.{match_err, match_ok}
+use Rattle.tigercanon.proofs.Refusing.{read_refused}
 use Rattle.tigercanon.proofs.Sets.{only_text}
 use Rattle.tigercanon.proofs.library.normalising.normalise_to_masked.Goals as goal
 
 pub returns-clause-written : goal.returns-clause-written
 returns-clause-written g c =
     let l = c.in_ok-linked.ensures.linked in
-    let only = only_text (masked c.args.mask) (masked_sight c.args.mask) l.0 in
-    IfOk-weaker c.write_linked.result _ _
-    (λ n t. (t.0, record { parts = l.0; read = l.1; canonical = t.1; only = only t.0 t.1 }, t.2.0, t.2.1))
-    (c.write_linked.ensures.written l.0 l.2)
+    let w = c.in_ok-made.ensures.made l.0 l.2 in
+    let out = match_ok _ _ c.in_ok-made.made _ c.in_ok-written.was w.out in
+    let only = only_text (masked c.args.mask) (masked_sight c.args.mask) l.0 w.text w.canonical in
+    (w.text, record { parts = l.0; read = l.1; canonical = w.canonical; only = only }, out.0.0, out.0.1)
 
-pub returns-clause-stopped : goal.returns-clause-stopped
-returns-clause-stopped g c = λ fault told.
+pub returns-clause-failures : goal.returns-clause-failures
+returns-clause-failures g c =
     let l = c.in_ok-linked.ensures.linked in
-    let only = only_text (masked c.args.mask) (masked_sight c.args.mask) l.0 in
-    let s = c.write_linked.ensures.stopped l.0 fault l.2 told in
+    let w = c.in_ok-made.ensures.made l.0 l.2 in (match_ok _ _ c.in_ok-made.made _ c.in_ok-written.was w.out).1
+
+pub returns-in_err-written-clause-stopped : goal.returns-in_err-written-clause-stopped
+returns-in_err-written-clause-stopped g c =
+    let p = err_from_is_err_and c.from_residual-in_err-written.result c.from_residual-in_err-written.ensures.1 in
+    let l = c.in_ok-linked.ensures.linked in
+    let w = c.in_ok-made.ensures.made l.0 l.2 in
+    let out = match_err _ _ c.in_ok-made.made _ c.in_err-written.was w.out in
+    let only = only_text (masked c.args.mask) (masked_sight c.args.mask) l.0 w.text w.canonical in
+    rw (p.1, p.2) (λ fault is.
+    let e : c.in_err-written.field-0.0.written ≡ fault.written = cc in
     record {
-      text = s.0;
-      normalised = record { parts = l.0; read = l.1; canonical = s.1; only = only s.0 s.1 };
-      short = s.2.0;
-      took = s.2.1;
-    }
+      text = w.text;
+      normalised = record { parts = l.0; read = l.1; canonical = w.canonical; only = only };
+      short = subst (λ n. n < length w.text) e out.0.0;
+      took = subst (λ n. Took g.W.Sink.holds c.args.out.now c.make_of_linked.new.device (take n w.text)) e out.0.1;
+    })
+
+pub returns-in_err-written-clause-failures : goal.returns-in_err-written-clause-failures
+returns-in_err-written-clause-failures g c =
+    let p = err_from_is_err_and c.from_residual-in_err-written.result c.from_residual-in_err-written.ensures.1 in
+    let l = c.in_ok-linked.ensures.linked in
+    let w = c.in_ok-made.ensures.made l.0 l.2 in
+    rw (p.1, p.2) (match_err _ _ c.in_ok-made.made _ c.in_err-written.was w.out).1
+
+pub returns-in_err-made-clause-refused : goal.returns-in_err-made-clause-refused
+returns-in_err-made-clause-refused g c =
+    let p = err_from_is_err_and c.from_residual-in_err-made.result c.from_residual-in_err-made.ensures.1 in
+    let l = c.in_ok-linked.ensures.linked in
+    rw (p.1, p.2) (read_refused g.R.Source.remaining g.R.Source.given c.args.parts.now c.link_sources.new.parts l.0 l.1 l.2.0 l.2.1
+    c.in_err-made.field-0.0 (c.in_err-made.ensures.refused l.2.0 l.2.2))

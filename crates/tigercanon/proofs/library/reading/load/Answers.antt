@@ -1,8 +1,7 @@
-use Rattle.std.proofs.Common.{◌≡◌, ◌+◌, ◌∙◌, ap, Result, IfErr, IsErrAnd, [], subst}
+use Rattle.std.proofs.Common.{◌+◌, ◌∙◌, ap, [], subst}
 use Rattle.tl_layout.proofs.Exits.{exit_with}
 use Rattle.tl_load.specs.Loaded.{IsOfLines}
 use Rattle.tl_load.specs.Keeping.{WasFedInto}
-use Rattle.tl_load.specs.declared.fault.LoadFault.{LoadFault}
 use Rattle.tigercanon.specs.Respelling.{record_limit, IsFirstFault}
 use Rattle.tigercanon.proofs.Parts.{parts_of, parts_so_far, fault_of_all, fault_of_closed}
 use Rattle.tigercanon.proofs.library.reading.load.Goals as goal
@@ -21,7 +20,7 @@ returns-in_err-end_part-clause-faulty g c =
 pub loop-part-preserved : goal.loop-part-preserved
 loop-part-preserved g c =
     let fed = c.in_ok-feed.ensures.fed _ _ _ c.loop-part.invariant.0 in (
-      subst (λ ps. WasFedInto g.K.Keeper.holds record_limit c.end_part.new.self ps []) (parts_so_far _ _ _ c.loop-part-test.true)
+      subst (λ ps. WasFedInto g.K.Collector.holds record_limit c.end_part.new.self ps []) (parts_so_far _ _ _ c.loop-part-test.true)
           (c.in_ok-end_part.ensures.fed _ _ _ fed),
       c.in_ok-end_part.ensures.ok,
       c.in_ok-end_part.ensures.parts

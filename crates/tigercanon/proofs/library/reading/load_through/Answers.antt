@@ -45,13 +45,13 @@ returns-in_err-read_part_by-clause-faulty g c =
         [],
         nothing_more g.R.Source.remaining g.R.Source.given _ _ _
             (one_more_at g.R.Source.remaining g.R.Source.given _ _ r.0 i d x r.1 r.2 c.loop-source-test.true f.0 f.1 end),
-        standing_fault g.K.Keeper.holds c.read_part_by.new.self fault _ _ c.in_err-read_part_by.ensures.told fed lines,
+        standing_fault g.K.Collector.holds c.read_part_by.new.self fault _ _ c.in_err-read_part_by.ensures.told fed lines,
       )
       | inr fed ↦ (
         r.0,
         f.0,
         up_to_at g.R.Source.remaining g.R.Source.given _ _ r.0 i d x r.1 r.2 c.loop-source-test.true f.0 f.1,
-        standing_fault g.K.Keeper.holds c.read_part_by.new.self fault _ _ c.in_err-read_part_by.ensures.told fed lines,
+        standing_fault g.K.Collector.holds c.read_part_by.new.self fault _ _ c.in_err-read_part_by.ensures.told fed lines,
       )
     ])
 
@@ -110,7 +110,7 @@ pub returns-clause-faulty : goal.returns-clause-faulty
 returns-clause-faulty g c =
     let r = c.loop-source.invariant.read in
     if_err_by c.finish.result (λ f at. λ lines.
-    absurd (none_standing g.K.Keeper.holds c.loop-source.loader f r.0 c.loop-source.invariant.no_fault r.3 (at lines)))
+    absurd (none_standing g.K.Collector.holds c.loop-source.loader f r.0 c.loop-source.invariant.no_fault r.3 (at lines)))
     (c.finish.ensures.fault record_limit r.0 [] r.3)
 
 pub returns-clause-device : goal.returns-clause-device

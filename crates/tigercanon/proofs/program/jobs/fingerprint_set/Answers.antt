@@ -10,7 +10,7 @@ use Rattle.command_line.specs.declared.plans.Job.TheVariants.{Fingerprint}
 use Rattle.tigercanon.proofs.SourceSets.{leaves_untouched, set_of_no_sink}
 use Rattle.tigercanon.proofs.program.jobs.fingerprint_set.Goals as goal
 
--- the line of the bytes that are a set's fingerprint
+-- the line with the bytes of a set's fingerprint
 said : {seen : County → County} {set : GivenSet} {bytes line : List ℕ} → IsAnswered (IsFingerprintThrough seen) set bytes
     → line ≡ encode_lower bytes ++ 10 ∷ [] → IsAnswered (SaysFingerprintThrough seen) set line
 said a is = record { parts = a.parts; held = a.held; answered = record { bytes = _; fingerprint = a.answered; text_is = is } }

@@ -3,7 +3,7 @@ use Rattle.tl_county.specs.Entries.{value_under}
 use Rattle.std.specs.Map.{lookup}
 use Rattle.tl_county.proofs.ByKey.Keys.{IsKeyOrder}
 use Rattle.tl_county.proofs.ByKey.KeyedLists.{empty_list}
-use Rattle.tl_cert.proofs.Tables.{lookup-under, put_before}
+use Rattle.tl_cert.proofs.Tables.{put_before}
 use Rattle.tl_cert.proofs.images.Images.new.Goals as goal
 
 pub loop-last-init : goal.loop-last-init
@@ -25,8 +25,7 @@ loop-last-preserved g c =
           ∙ put_before g.K.PartialEq.eq g.K.Ord.cmp g.met.K.Ord.matches_eq o c.in-Some.last.now c.loop-last.invariant.done old;
     }
 
-pub returns : goal.returns
-returns g c = λ old. sym (lookup-under g.K.PartialEq.eq g.K.Ord.cmp g.met.K.Ord.matches_eq old c.loop-last.table.entries)
-    ∙ c.loop-last.invariant.told old
+pub invariant_of-result : goal.invariant_of-result
+invariant_of-result g c = λ old. c.loop-last.invariant.told old
     ∙ ap (value_under g.K.Ord.cmp old) (sym (c.loop-last.invariant.cut ∙ ap (λ rest. rest ++ c.loop-last.invariant.done)
     (empty_list c.loop-last.rest.now c.in_default.ensures.cases)))

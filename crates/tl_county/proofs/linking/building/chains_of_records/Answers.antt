@@ -10,7 +10,7 @@ use Rattle.tl_county.proofs.linking.building.chains_of_records.Goals as goal
 
 pub loop-head-preserved : goal.loop-head-preserved
 loop-head-preserved g c =
-    let f = g.C.KeptChain.chain in
+    let f = g.C.StoredChain.chain in
     let at = c.loop-head in
     let head = c.in-Some.head.now in
     let heads : at.heads.now ≡ head ∷ c.in-Some.later.now = c.in-Some.ensures.cases.0 in

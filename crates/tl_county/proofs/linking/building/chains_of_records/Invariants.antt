@@ -12,7 +12,7 @@ invariant-loop-head g l = record {
   shapes : IsInOrder (on two_tlid nat_cmp) l.details.shapes.now;
   names : IsInOrder (on four_tlid nat_cmp) l.details.names.now;
   ranges : IsInOrder (on six_tlid nat_cmp) l.details.ranges.now;
-  done : map g.C.KeptChain.chain l.chains.items ++ chains_along l.details.shapes.now l.details.names.now l.details.ranges.now l.heads l.links
+  done : map g.C.StoredChain.chain l.chains.items ++ chains_along l.details.shapes.now l.details.names.now l.details.ranges.now l.heads l.links
       ≡ chains_along l.fn.shapes l.fn.names l.fn.ranges l.fn.heads l.fn.links;
 }
 

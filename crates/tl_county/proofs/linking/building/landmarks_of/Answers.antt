@@ -11,7 +11,7 @@ use Rattle.tl_county.proofs.linking.building.landmarks_of.Goals as goal
 
 pub loop-land-preserved : goal.loop-land-preserved
 loop-land-preserved g c =
-    let f = g.L.KeptLandmark.landmark in
+    let f = g.L.StoredLandmark.landmark in
     let at = c.loop-land in
     let lands : at.lands.now ≡ c.in-Some.land.now ∷ c.in-Some.later.now = c.in-Some.ensures.cases.0 in
     let landmarks = c.split_group.ensures.later in

@@ -11,7 +11,7 @@ invariant-loop-land g l = record {
   lands : IsStrictlySortedBy nat_cmp l.lands;
   landmarks : IsInOrder (on seven_land nat_cmp) l.landmarks;
   links : IsInOrder (on eight_land nat_cmp) l.links;
-  done : map g.L.KeptLandmark.landmark l.found.items ++ map (landmark_of l.landmarks l.links) l.lands
+  done : map g.L.StoredLandmark.landmark l.found.items ++ map (landmark_of l.landmarks l.links) l.lands
       ≡ map (landmark_of l.fn.landmarks l.fn.links) l.fn.lands;
 }
 

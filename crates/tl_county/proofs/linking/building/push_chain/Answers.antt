@@ -6,7 +6,7 @@ use Rattle.tl_county.proofs.linking.building.push_chain.Goals as goal
 
 pub returns-clause-chains : goal.returns-clause-chains
 returns-clause-chains g c =
-    let f = g.C.KeptChain.chain in
+    let f = g.C.StoredChain.chain in
     let before = c.args.chains.now.items in
     ap (map f) c.in_ok-push.ensures.items ∙ map-append f before (c.in_ok-build_chain.field-0 ∷ [])
     ∙ ap (λ chain. map f before ++ (chain ∷ []))

@@ -7,7 +7,7 @@ invariant_of-result c =
     let told = c.in_ok-gathered.ensures in (
       told.in_order,
       told.linked,
-      within_limits-moved c.args.tables c.settle.new.tables c.requires told.same told.linked,
+      within_limits-moved c.args.tables c.sort_and_check.new.tables c.requires told.same told.linked,
       told.tlids,
       told.feats,
       told.polygons,
@@ -17,7 +17,7 @@ invariant_of-result c =
 pub returns-clause-linked : goal.returns-clause-linked
 returns-clause-linked c records h =
     let t = typed_of c.args.tables in
-    let u = typed_of c.settle.new.tables in
+    let u = typed_of c.sort_and_check.new.tables in
     let holds = held c.args.tables records h in
     let permuted = c.in_ok-gathered.ensures.same in (
       also_linked records t u holds permuted c.in_ok-gathered.ensures.linked,

@@ -18,7 +18,7 @@ use Rattle.tl_county.proofs.Rules.RuleOrders.{rule-holds, rule-broken, rules-joi
 use Rattle.tl_county.proofs.Rules.RuleTests.{in_order-first, unknown-distinct, rule_18, rule_19, rule_20}
 use Rattle.tl_county.proofs.linking.rules.check_landmarks.Goals as goal
 
--- the least polygon of the records of type P that stands twice, the least LAND that the other table lacks, or that there is none
+-- the least polygon that occurs twice among the type P records, the least LAND that the other table lacks, or none
 abbrev Twice : List FieldsP → Option PolygonKey → Type 0
 Twice points found = IsLeastPassing key_cmp (is_repeated key_cmp (map p_key points)) found
 
@@ -46,7 +46,7 @@ returns-in-Some c records e =
     rule-broken (rule_18 records (typed_of c.args.tables.now) e) c.in-Some.key
     (subst (Twice c.args.tables.now.type_p.items) c.in-Some.is c.requires.repeated)
 
--- where no polygon stands twice, and where no LAND is unknown, the rule holds
+-- if no polygon occurs twice, and if no LAND is unknown, the rule holds
 points : (records : List Record) (t : Typed) → by_type records ≡ t → Twice t.of_type_p None → RulesHold records 12 13
 points records t e none = rule-holds (rule_18 records t e) none
 
@@ -62,7 +62,7 @@ returns-in-Some-least_unknown c records e =
     (at_lists (Unknown eight_land seven_land
     (Some c.in-Some-least_unknown.land)) c.deref.ensures.value c.deref-2.ensures.value c.in-Some-least_unknown.ensures))
 
--- the polygons asked for and known, as the lists that they were gathered from have them
+-- the polygons asked for and known, as in the lists from which they were gathered
 alike : (linked polygons keys known : List PolygonKey) → IsPermutation keys linked → polygons ≡ distinct key_cmp known
     → (found : Option PolygonKey)
     → IsLeastPassing key_cmp (is_unknown key_cmp (map (λ k. k) linked) (map (λ k. k) polygons)) found

@@ -9,11 +9,11 @@ use Rattle.tl_county.proofs.Rules.RuleOrders.{rule-holds, rule-broken, rules-joi
 use Rattle.tl_county.proofs.Rules.RuleTests.{rule_16, rule_17}
 use Rattle.tl_county.proofs.linking.rules.check_names.Goals as goal
 
--- the least FEAT of a table that stands twice, or that there is none
+-- the least FEAT that occurs twice in a table, or none
 abbrev Twice : {X : Type 0} → (X → ℕ) → Option ℕ → List X → Type 0
 Twice number found xs = IsLeastPassing nat_cmp (is_repeated nat_cmp (map number xs)) found
 
--- the least use of a FEAT that has no name, or that there is none
+-- the least use of a FEAT without a name, or none
 abbrev Unnamed : List Fields4 → List Fields5 → Option (ℕ × ℕ) → Type 0
 Unnamed fours fives found = IsLeastPassing sequence_cmp (is_unnamed (flat_map uses_of fours) (map five_feat fives)) found
 

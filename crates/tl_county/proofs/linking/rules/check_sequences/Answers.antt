@@ -9,11 +9,11 @@ use Rattle.tl_county.proofs.Rules.RuleOrders.{rule-holds, rule-broken, rules-joi
 use Rattle.tl_county.proofs.Rules.RuleTests.{least-repeat, no_repeat, rule_13_two, rule_13_four, rule_13_six}
 use Rattle.tl_county.proofs.linking.rules.check_sequences.Goals as goal
 
--- the least pair of a table that stands twice, or that there is none
+-- the least pair that occurs twice in a table, or none
 abbrev Twice : {X : Type 0} → (X → ℕ × ℕ) → List X → Option (ℕ × ℕ) → Type 0
 Twice sequence xs found = IsLeastPassing sequence_cmp (is_repeated sequence_cmp (map sequence xs)) found
 
--- where no pair stands twice the rule holds
+-- if no pair occurs twice, the rule holds
 twos : (records : List Record) → Twice two_sequence (by_type records).of_type_2 None → RulesHold records 5 6
 twos records none = rule-holds (rule_13_two records (by_type records) refl) (no_repeat two_tlid two_rtsq (by_type records).of_type_2 none)
 

@@ -3,7 +3,7 @@ use Rattle.tl_layout.specs.RecordText.{FitsRecord}
 use Rattle.tl_layout.specs.Tables.{HoldsByType}
 use Rattle.tl_layout.proofs.tables.Tables.of.Given as goal
 
--- the tables hold the records so far, each of which fits
+-- the tables hold the records so far, and each of these fits
 abbrev pub invariant-loop-record : goal.invariant-loop-record
 invariant-loop-record l = record {
   held : HoldsByType l.tables l.yielded;

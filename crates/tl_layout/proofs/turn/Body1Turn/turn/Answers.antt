@@ -1,14 +1,14 @@
--- The turned content was written behind fifteen blanks, and is kept as it stands there.
+-- The turned content was written after fifteen blanks, and those columns are kept.
 use Rattle.std.proofs.Common.{arith, ap, sym, subst, ◌∙◌}
 use Rattle.tl_layout.proofs.Writes.{whole}
 use Rattle.tl_layout.proofs.turn.Body1Turn.turn.Goals as goal
-use Rattle.tl_layout.specs.ByteLaws.{blanks_are_text}
+use Rattle.tl_layout.specs.Laws.ByteLaws.{blanks_are_text}
 use Rattle.tl_layout.specs.Bytes.{AreAllowed, blanks}
-use Rattle.tl_layout.specs.ColumnLaws.{joined-before}
-use Rattle.tl_layout.specs.PlaceLaws.{pair_of_texts}
+use Rattle.tl_layout.specs.Laws.ColumnLaws.{joined-before}
+use Rattle.tl_layout.specs.Laws.PlaceLaws.{pair_of_texts}
 use Rattle.tl_layout.specs.Turned.{turned_body}
-use Rattle.tl_layout.specs.TurnedFits.{body_turned_fits}
-use Rattle.tl_layout.specs.Type1ColumnLaws.{columns_are_text, fields_again}
+use Rattle.tl_layout.specs.Laws.TurnedFits.{body_turned_fits}
+use Rattle.tl_layout.specs.Laws.Type1ColumnLaws.{columns_are_text, fields_again}
 use Rattle.tl_layout.specs.Type1Groups.{body_1_at, body_1_texts}
 
 pub at-requires-clause-allowed : goal.at-requires-clause-allowed

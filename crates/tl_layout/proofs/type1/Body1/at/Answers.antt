@@ -1,5 +1,5 @@
 use Rattle.std.proofs.Common.{ap, ◌∙◌}
-use Rattle.tl_layout.specs.Type1ColumnLaws.{content_of_line}
+use Rattle.tl_layout.specs.Laws.Type1ColumnLaws.{content_of_line}
 use Rattle.tl_layout.specs.Type1Columns.{body_1_of}
 use Rattle.tl_layout.proofs.type1.Body1.at.Goals as goal
 

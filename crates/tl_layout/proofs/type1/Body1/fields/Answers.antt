@@ -1,10 +1,10 @@
--- The columns were written behind fifteen blanks, and the fields are read there.
+-- The columns were written after fifteen blanks, and the fields are read from there.
 use Rattle.std.proofs.Common.{arith, ap, sym, subst, ◌∙◌}
 use Rattle.tl_layout.proofs.Writes.{whole}
 use Rattle.tl_layout.proofs.type1.Body1.fields.Goals as goal
-use Rattle.tl_layout.specs.ByteLaws.{blanks_are_text}
+use Rattle.tl_layout.specs.Laws.ByteLaws.{blanks_are_text}
 use Rattle.tl_layout.specs.Bytes.{AreAllowed}
-use Rattle.tl_layout.specs.PlaceLaws.{pair_of_texts}
+use Rattle.tl_layout.specs.Laws.PlaceLaws.{pair_of_texts}
 use Rattle.tl_layout.specs.Type1Groups.{body_1_at}
 
 pub at-requires-clause-allowed : goal.at-requires-clause-allowed

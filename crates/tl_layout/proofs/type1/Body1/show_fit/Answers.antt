@@ -1,5 +1,5 @@
 use Rattle.std.proofs.Common.{subst}
-use Rattle.tl_layout.specs.Type1ColumnLaws.{content_fits}
+use Rattle.tl_layout.specs.Laws.Type1ColumnLaws.{content_fits}
 use Rattle.tl_layout.specs.Type1Groups.{FitsBody1}
 use Rattle.tl_layout.proofs.type1.Body1.show_fit.Goals as goal
 

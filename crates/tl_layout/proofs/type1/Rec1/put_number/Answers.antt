@@ -1,4 +1,4 @@
--- The number was written behind the record type and the version.
+-- The number was written after the record type and the version.
 use Rattle.std.proofs.Common.{refl}
 use Rattle.tl_layout.proofs.Writes.{◌▸◌}
 use Rattle.tl_layout.proofs.type1.Rec1.put_number.Goals as goal

@@ -1,4 +1,4 @@
--- One point was written behind the other.
+-- One point was written after the other.
 use Rattle.std.proofs.Common.{arith, refl}
 use Rattle.tl_layout.proofs.Writes.{group_behind, whole}
 use Rattle.tl_layout.specs.Type1Groups.{point_texts}

@@ -1,6 +1,6 @@
 use Rattle.std.proofs.Common.{subst}
 use Rattle.tl_layout.specs.Type1.{FitsType1}
-use Rattle.tl_layout.specs.Type1Laws.{type_1_fits}
+use Rattle.tl_layout.specs.Laws.Type1Laws.{type_1_fits}
 use Rattle.tl_layout.proofs.type1.Rec1.show_fit.Goals as goal
 
 pub returns : goal.returns

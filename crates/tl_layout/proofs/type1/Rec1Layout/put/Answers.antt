@@ -1,4 +1,4 @@
--- The content was written behind the number, and the points behind both.
+-- The content was written after the number, and the points after both.
 use Rattle.std.proofs.Common.{ap, ◌∙◌}
 use Rattle.tl_layout.proofs.Writes.{group_behind}
 use Rattle.tl_layout.specs.Columns.{joined}

@@ -1,4 +1,4 @@
--- One column after another was written behind the record type and the version.
+-- The columns were written one after another, following the record type and the version.
 use Rattle.std.proofs.Common.{arith, refl, ap, ◌∙◌, subst}
 use Rattle.std.proofs.Common.{List, length, ◌≤◌}
 use Rattle.std.specs.List.{AllByRecursion}

@@ -1,4 +1,4 @@
--- One column after another was written behind the record type and the version.
+-- The columns were written one after another, following the record type and the version.
 use Rattle.std.proofs.Common.{arith, refl, ap, ◌∙◌}
 use Rattle.tl_layout.proofs.Writes.{◌▸◌, behind, whole}
 use Rattle.tl_layout.specs.FieldTexts.{number_text}

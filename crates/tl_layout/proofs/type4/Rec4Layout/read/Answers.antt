@@ -1,4 +1,4 @@
-use Rattle.tl_layout.specs.Type4Laws.{feats_in_range}
+use Rattle.tl_layout.specs.Laws.Type4Laws.{feats_in_range}
 use Rattle.tl_layout.proofs.type4.Rec4Layout.read.Goals as goal
 
 pub new-requires-clause-feats : goal.new-requires-clause-feats

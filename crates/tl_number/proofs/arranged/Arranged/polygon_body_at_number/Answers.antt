@@ -5,7 +5,7 @@ use Rattle.tl_county.specs.PolygonKeys.{PolygonKey}
 use Rattle.tl_number.specs.ByNumber.{under_number}
 use Rattle.tl_number.specs.Growth.{numbered}
 use Rattle.tl_number.specs.ViewFacts.{stepped}
-use Rattle.tl_number.proofs.PolygonNumbers.{content_at_number, key_numbered}
+use Rattle.tl_number.proofs.Polygons.PolygonNumbers.{content_at_number, key_numbered}
 use Rattle.tl_number.proofs.arranged.Arranged.polygon_body_at_number.Goals as goal
 
 pub returns : goal.returns

@@ -4,8 +4,8 @@ use Rattle.tl_number.specs.Arrangement.{renaming_of}
 use Rattle.tl_number.specs.Growth.{numbered}
 use Rattle.tl_number.specs.Steps.{arrangement_of}
 use Rattle.tl_number.specs.ViewFacts.{stepped}
-use Rattle.tl_number.proofs.Carrying.{arrangement_carries}
-use Rattle.tl_number.proofs.ViewChains.{arranges}
+use Rattle.tl_number.proofs.Arrangements.Carrying.{arrangement_carries}
+use Rattle.tl_number.proofs.Views.ViewChains.{arranges}
 use Rattle.tl_number.proofs.arranged.Arranged.renaming.Goals as goal
 
 pub returns-clause-value : goal.returns-clause-value

@@ -2,7 +2,7 @@ use Rattle.std.proofs.Common.{Some, option_map, sym, ap, ◌∙◌, nat_cmp}
 use Rattle.tl_county.specs.Renumbering.{image}
 use Rattle.tl_number.specs.Arrangement.{renaming_of}
 use Rattle.tl_number.specs.Steps.{arrangement_of}
-use Rattle.tl_number.proofs.ViewTables.{feats_paired}
+use Rattle.tl_number.proofs.Views.ViewTables.{feats_paired}
 use Rattle.tl_number.proofs.arranged.Arranged.renumbered_feat.Goals as goal
 
 pub returns-in-Some : goal.returns-in-Some

@@ -1,5 +1,5 @@
 use Rattle.std.proofs.Common.{slice_get, length, ap, ◌∙◌}
-use Rattle.tl_number.proofs.ViewTables.{landmark_there, landmark_missing}
+use Rattle.tl_number.proofs.Views.ViewTables.{landmark_there, landmark_missing}
 use Rattle.tl_number.proofs.arranged_chart.ArrangedChart.body_count_at.Goals as goal
 
 pub returns-in-Some : goal.returns-in-Some

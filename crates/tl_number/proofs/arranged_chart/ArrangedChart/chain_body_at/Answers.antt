@@ -1,6 +1,6 @@
 use Rattle.std.proofs.Common.{refl, ◌∙◌, Option, option_map}
 use Rattle.tl_shape.specs.Chain.{Chain}
-use Rattle.tl_number.proofs.ViewChains.{told, untold}
+use Rattle.tl_number.proofs.Views.ViewChains.{told, untold}
 use Rattle.tl_number.proofs.arranged_chart.ArrangedChart.chain_body_at.Goals as goal
 
 pub returns-in-Some : goal.returns-in-Some

@@ -1,5 +1,5 @@
 use Rattle.std.proofs.Common.{sym, ap, ◌∙◌, length}
-use Rattle.tl_number.proofs.ViewChains.{chains_stepped}
+use Rattle.tl_number.proofs.Views.ViewChains.{chains_stepped}
 use Rattle.tl_number.proofs.arranged_chart.ArrangedChart.chain_count.Goals as goal
 
 pub returns : goal.returns

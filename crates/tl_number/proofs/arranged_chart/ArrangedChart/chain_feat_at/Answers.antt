@@ -5,7 +5,7 @@ use Rattle.tl_county.specs.ChartWords.{feats_of}
 use Rattle.tl_county.specs.Renumbering.{image}
 use Rattle.tl_number.specs.Arrangement.{renaming_of}
 use Rattle.tl_number.specs.Steps.{arrangement_of}
-use Rattle.tl_number.proofs.ViewChains.{told, untold}
+use Rattle.tl_number.proofs.Views.ViewChains.{told, untold}
 use Rattle.tl_number.proofs.arranged_chart.ArrangedChart.chain_feat_at.Goals as goal
 
 pub returns-in-Some : goal.returns-in-Some

@@ -1,7 +1,7 @@
 use Rattle.std.proofs.Common.{◌≤◌, slice_get, sym, ap, ◌∙◌, arith}
 use Rattle.tl_number.specs.Growth.{up_to}
-use Rattle.tl_number.proofs.ViewNumbers.{within_up_to}
-use Rattle.tl_number.proofs.ViewTables.{feats_stepped}
+use Rattle.tl_number.proofs.Views.ViewNumbers.{within_up_to}
+use Rattle.tl_number.proofs.Views.ViewTables.{feats_stepped}
 use Rattle.tl_number.proofs.arranged_chart.ArrangedChart.feat_at.Goals as goal
 
 pub overflow_cast-result : goal.overflow_cast-result

@@ -2,7 +2,7 @@ use Rattle.std.proofs.Common.{◌∙◌, Option, length, sym}
 use Rattle.tl_county.specs.ChartWords.{feats_of}
 use Rattle.std.proofs.lemmas.List.{length-map}
 use Rattle.tl_shape.specs.Chain.{Chain}
-use Rattle.tl_number.proofs.ViewChains.{told, untold}
+use Rattle.tl_number.proofs.Views.ViewChains.{told, untold}
 use Rattle.tl_number.proofs.arranged_chart.ArrangedChart.feat_count_at.Goals as goal
 
 pub returns-in-Some : goal.returns-in-Some

@@ -1,5 +1,5 @@
 use Rattle.std.proofs.Common.{sym, ap, ◌∙◌, length}
-use Rattle.tl_number.proofs.ViewTables.{landmarks_stepped}
+use Rattle.tl_number.proofs.Views.ViewTables.{landmarks_stepped}
 use Rattle.tl_number.proofs.arranged_chart.ArrangedChart.landmark_count.Goals as goal
 
 pub returns : goal.returns

@@ -1,5 +1,5 @@
 use Rattle.std.proofs.Common.{length, slice_get, ap, ◌∙◌, arith}
-use Rattle.tl_number.proofs.ViewTables.{bounds_counted, bounds_told, links_told, links_ordered}
+use Rattle.tl_number.proofs.Views.ViewTables.{bounds_counted, bounds_told, links_told, links_ordered}
 use Rattle.tl_number.proofs.arranged_chart.ArrangedChart.landmark_link_at.Goals as goal
 
 pub links_of_landmark-links-requires-clause-in_order : goal.links_of_landmark-links-requires-clause-in_order

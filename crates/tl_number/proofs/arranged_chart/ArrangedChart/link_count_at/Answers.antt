@@ -1,5 +1,5 @@
 use Rattle.std.proofs.Common.{length, ap, ◌∙◌, arith}
-use Rattle.tl_number.proofs.ViewTables.{bounds_counted, bounds_told, links_told, links_ordered}
+use Rattle.tl_number.proofs.Views.ViewTables.{bounds_counted, bounds_told, links_told, links_ordered}
 use Rattle.tl_number.proofs.arranged_chart.ArrangedChart.link_count_at.Goals as goal
 
 pub links_of_landmark-requires-clause-in_order : goal.links_of_landmark-requires-clause-in_order

@@ -1,5 +1,5 @@
 use Rattle.std.proofs.Common.{sym, ◌∙◌}
-use Rattle.tl_number.proofs.ViewTables.{names_stepped}
+use Rattle.tl_number.proofs.Views.ViewTables.{names_stepped}
 use Rattle.tl_number.proofs.arranged_chart.ArrangedChart.name_count.Goals as goal
 
 pub returns : goal.returns

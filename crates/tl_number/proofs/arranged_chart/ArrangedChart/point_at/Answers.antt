@@ -1,8 +1,8 @@
 use Rattle.std.proofs.Common.{refl, ap, ◌∙◌, Option, slice_get}
 use Rattle.tl_county.specs.ChartWords.{points_of}
 use Rattle.tl_shape.specs.Chain.{Chain}
-use Rattle.tl_number.proofs.StepChains.{points_stepped}
-use Rattle.tl_number.proofs.ViewChains.{told, untold}
+use Rattle.tl_number.proofs.Views.StepChains.{points_stepped}
+use Rattle.tl_number.proofs.Views.ViewChains.{told, untold}
 use Rattle.tl_number.proofs.arranged_chart.ArrangedChart.point_at.Goals as goal
 
 pub returns-in-Some : goal.returns-in-Some

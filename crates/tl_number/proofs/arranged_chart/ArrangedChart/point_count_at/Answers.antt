@@ -1,7 +1,7 @@
 use Rattle.std.proofs.Common.{refl, ◌∙◌, Option, length}
 use Rattle.tl_county.specs.ChartWords.{points_of}
 use Rattle.tl_shape.specs.Chain.{Chain}
-use Rattle.tl_number.proofs.ViewChains.{told, untold}
+use Rattle.tl_number.proofs.Views.ViewChains.{told, untold}
 use Rattle.tl_number.proofs.arranged_chart.ArrangedChart.point_count_at.Goals as goal
 
 pub returns-in-Some : goal.returns-in-Some

@@ -1,7 +1,7 @@
 use Rattle.std.proofs.Common.{sym, ◌∙◌, subst}
 use Rattle.tl_county.specs.Orders.{IsInOrder}
 use Rattle.tl_county.specs.PolygonKeys.{key_cmp}
-use Rattle.tl_number.proofs.ViewTables.{order_from_strict}
+use Rattle.tl_number.proofs.Views.ViewTables.{order_from_strict}
 use Rattle.tl_number.proofs.arranged_chart.ArrangedChart.polygon_place.Goals as goal
 
 pub place_of-requires : goal.place_of-requires

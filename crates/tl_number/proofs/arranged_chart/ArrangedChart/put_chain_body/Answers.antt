@@ -2,8 +2,8 @@ use Rattle.std.proofs.Common.{◌≡◌, ◌<◌, ◌∙◌, List, ℕ, Option, 
 use Rattle.tl_layout.specs.Columns.{joined}
 use Rattle.tl_layout.specs.Turned.{body_towards}
 use Rattle.tl_layout.specs.Type1Groups.{body_1_texts}
-use Rattle.tl_number.proofs.ChainPlaces.{all_at, chain_there}
-use Rattle.tl_number.proofs.ViewChains.{told, untold}
+use Rattle.tl_number.proofs.Records.ChainPlaces.{all_at, chain_there}
+use Rattle.tl_number.proofs.Views.ViewChains.{told, untold}
 use Rattle.tl_number.specs.ViewFacts.{stepped}
 use Rattle.tl_shape.specs.Chain.{Chain}
 use Rattle.tl_number.proofs.arranged_chart.ArrangedChart.put_chain_body.Goals as goal

@@ -1,6 +1,6 @@
 use Rattle.std.proofs.Common.{slice_get, sym, ap, ◌∙◌, length}
 use Rattle.tl_number.specs.Growth.{up_to}
-use Rattle.tl_number.proofs.ViewChains.{tlids_stepped}
+use Rattle.tl_number.proofs.Views.ViewChains.{tlids_stepped}
 use Rattle.tl_number.proofs.arranged_chart.ArrangedChart.tlid_at.Goals as goal
 
 pub returns : goal.returns

@@ -1,7 +1,7 @@
 use Rattle.std.proofs.Common.{◌∷◌, [], length, sym, ap}
 use Rattle.tl_county.specs.Packing.{packed_one}
-use Rattle.tl_number.proofs.ChainPlaces.{chain_of_group}
-use Rattle.tl_number.proofs.Grouped.{group_of}
+use Rattle.tl_number.proofs.Records.ChainPlaces.{chain_of_group}
+use Rattle.tl_number.proofs.Records.Grouped.{group_of}
 use Rattle.tl_number.proofs.chain_records.ChainRecordsRecordGroups.count_in.Goals as goal
 
 pub returns : goal.returns

@@ -1,8 +1,8 @@
 use Rattle.std.proofs.Common.{◌≡◌, ◌-◌, ◌∙◌, ◌∷◌, [], Some, length, slice_get, option_map, sym, ap, arith}
 use Rattle.tl_county.specs.ChartWords.{chain_at, points_of}
 use Rattle.tl_county.specs.Packing.{packed_one, first_point, last_point}
-use Rattle.tl_number.proofs.ChainPlaces.{chain_of_group, first_at, last_at}
-use Rattle.tl_number.proofs.Grouped.{some-same}
+use Rattle.tl_number.proofs.Records.ChainPlaces.{chain_of_group, first_at, last_at}
+use Rattle.tl_number.proofs.Records.Grouped.{some-same}
 use Rattle.tl_number.proofs.chain_records.ChainRecordsRecordGroups.head.Goals as goal
 
 pub overflow_sub-last : goal.overflow_sub-last

@@ -1,4 +1,4 @@
--- The number, the content and the points were written one behind the other, as the record is spelled.
+-- The number, the content and the points are written one after another, as the record is spelled.
 use Rattle.std.proofs.Common.{◌<◌, ◌∙◌, ◌∷◌, ◌++◌, [], Some, option_map, codes, take, sym, ap, subst}
 use Rattle.std.proofs.lemmas.List.{length-map}
 use Rattle.tl_county.specs.Packing.{packed_one, first_point, last_point}
@@ -7,8 +7,8 @@ use Rattle.tl_layout.specs.FieldTexts.{number_text}
 use Rattle.tl_layout.specs.RecordTables.{rtype_1}
 use Rattle.tl_layout.specs.Type1.{type_1_spelling}
 use Rattle.tl_layout.specs.Type1Groups.{body_1_texts, point_texts}
-use Rattle.tl_number.proofs.ChainPlaces.{chain_of_group}
-use Rattle.tl_number.proofs.RecordPlaces.{tlid_of, part_of, lone_of}
+use Rattle.tl_number.proofs.Records.ChainPlaces.{chain_of_group}
+use Rattle.tl_number.proofs.Records.RecordPlaces.{tlid_of, part_of, lone_of}
 use Rattle.tl_number.proofs.chain_records.ChainRecordsRecordGroups.put.Goals as goal
 
 pub put_chain_body-requires-clause-place : goal.put_chain_body-requires-clause-place

@@ -1,8 +1,8 @@
 use Rattle.std.proofs.Common.{◌∙◌, ◌∷◌, [], Some, sym, ap, subst}
 use Rattle.tl_layout.specs.Numbers.{IsNumber}
 use Rattle.tl_county.specs.Packing.{packed_one, first_point, last_point}
-use Rattle.tl_number.proofs.ChainPlaces.{chain_of_group}
-use Rattle.tl_number.proofs.RecordPlaces.{tlid_of, part_of, lone_of}
+use Rattle.tl_number.proofs.Records.ChainPlaces.{chain_of_group}
+use Rattle.tl_number.proofs.Records.RecordPlaces.{tlid_of, part_of, lone_of}
 use Rattle.tl_number.proofs.chain_records.ChainRecordsRecordGroups.record.Goals as goal
 
 pub new-requires : goal.new-requires

@@ -1,9 +1,9 @@
 use Rattle.std.proofs.Common.{◌≡◌, ◌∙◌, length, sym, ap}
 use Rattle.tl_county.specs.ChartWords.{feats_of}
 use Rattle.tl_county.specs.Packing.{packed_fours}
-use Rattle.tl_number.proofs.ChainPlaces.{chain_of_group}
-use Rattle.tl_number.proofs.Grouped.{group_of}
-use Rattle.tl_number.proofs.Pieces.{numbered_pieces_length, pieces_counted}
+use Rattle.tl_number.proofs.Records.ChainPlaces.{chain_of_group}
+use Rattle.tl_number.proofs.Records.Grouped.{group_of}
+use Rattle.tl_number.proofs.Records.Pieces.{numbered_pieces_length, pieces_counted}
 use Rattle.tl_number.proofs.chain_records.FurtherNameRecordsRecordGroups.head.Goals as goal
 
 pub returns : goal.returns

@@ -10,13 +10,13 @@ use Rattle.tl_county.specs.Limits.{IsWithinLimits, most_records}
 use Rattle.tl_county.proofs.Lists.Counted.{all_take, all_drop}
 use Rattle.tl_number.specs.CountyGroups.{type_4_by_chain}
 use Rattle.tl_number.specs.Groups.{group_at}
-use Rattle.tl_number.proofs.RecordPlaces.{PieceThere, piece_there, tlid_of}
+use Rattle.tl_number.proofs.Records.RecordPlaces.{PieceThere, piece_there, tlid_of}
 use Rattle.tl_number.proofs.chain_records.FurtherNameRecordsRecordGroups.record.Goals as goal
 
 make : ℕ → ℕ × List ℕ → Fields4
 make tlid numbered = record { tlid = tlid; rtsq = numbered.0; feats = numbered.1 }
 
--- five FEATs a record
+-- five FEATs per record
 piece : (county : County) → IsCounty county → IsWithinLimits most_records county → (group place : ℕ)
     → group < length (type_4_by_chain county) → place < length (group_at (type_4_by_chain county) group)
     → PieceThere 4 (λ chain. chain.feats) make county group place

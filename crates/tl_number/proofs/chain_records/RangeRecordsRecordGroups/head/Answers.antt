@@ -1,9 +1,9 @@
 use Rattle.std.proofs.Common.{◌∙◌, length, sym, ap}
 use Rattle.tl_county.specs.ChartWords.{ranges_of}
 use Rattle.tl_county.specs.Packing.{packed_sixes}
-use Rattle.tl_number.proofs.ChainPlaces.{chain_of_group}
-use Rattle.tl_number.proofs.Grouped.{group_of}
-use Rattle.tl_number.proofs.Pieces.{numbered_list_length}
+use Rattle.tl_number.proofs.Records.ChainPlaces.{chain_of_group}
+use Rattle.tl_number.proofs.Records.Grouped.{group_of}
+use Rattle.tl_number.proofs.Records.Pieces.{numbered_list_length}
 use Rattle.tl_number.proofs.chain_records.RangeRecordsRecordGroups.head.Goals as goal
 
 pub returns : goal.returns

@@ -9,13 +9,13 @@ use Rattle.tl_county.specs.CountyRules.{IsCounty}
 use Rattle.tl_county.specs.Limits.{IsWithinLimits, most_records}
 use Rattle.tl_number.specs.CountyGroups.{type_6_by_chain}
 use Rattle.tl_number.specs.Groups.{group_at}
-use Rattle.tl_number.proofs.RecordPlaces.{ItemThere, item_there, tlid_of}
+use Rattle.tl_number.proofs.Records.RecordPlaces.{ItemThere, item_there, tlid_of}
 use Rattle.tl_number.proofs.chain_records.RangeRecordsRecordGroups.record.Goals as goal
 
 make : ℕ → ℕ × Ranges → Fields6
 make tlid numbered = record { tlid = tlid; rtsq = numbered.0; ranges = numbered.1 }
 
--- one entry of ranges a record
+-- one entry of ranges per record
 piece : (county : County) → IsCounty county → IsWithinLimits most_records county → (group place : ℕ)
     → group < length (type_6_by_chain county) → place < length (group_at (type_6_by_chain county) group)
     → ItemThere (λ chain. chain.ranges) make county group place

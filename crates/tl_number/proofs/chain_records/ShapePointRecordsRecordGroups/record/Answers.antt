@@ -10,13 +10,13 @@ use Rattle.tl_county.specs.Limits.{IsWithinLimits, most_records}
 use Rattle.tl_county.specs.Packing.{inner_points}
 use Rattle.tl_number.specs.CountyGroups.{type_2_by_chain}
 use Rattle.tl_number.specs.Groups.{group_at}
-use Rattle.tl_number.proofs.RecordPlaces.{PieceThere, piece_there, tlid_of}
+use Rattle.tl_number.proofs.Records.RecordPlaces.{PieceThere, piece_there, tlid_of}
 use Rattle.tl_number.proofs.chain_records.ShapePointRecordsRecordGroups.record.Goals as goal
 
 make : ℕ → ℕ × List Coordinates → Fields2
 make tlid numbered = record { tlid = tlid; rtsq = numbered.0; points = numbered.1 }
 
--- ten points a record
+-- ten points per record
 piece : (county : County) → IsCounty county → IsWithinLimits most_records county → (group place : ℕ)
     → group < length (type_2_by_chain county) → place < length (group_at (type_2_by_chain county) group)
     → PieceThere 9 (λ chain. inner_points chain.points) make county group place

@@ -1,8 +1,8 @@
 use Rattle.std.proofs.Common.{◌∙◌, length, sym, ap}
 use Rattle.std.proofs.lemmas.List.{length-map}
 use Rattle.tl_county.specs.Packing.{packed_sevens}
-use Rattle.tl_number.proofs.EntryPlaces.{landmark_of_group}
-use Rattle.tl_number.proofs.Grouped.{group_of}
+use Rattle.tl_number.proofs.Records.EntryPlaces.{landmark_of_group}
+use Rattle.tl_number.proofs.Records.Grouped.{group_of}
 use Rattle.tl_number.proofs.name_records.LandmarkRecordsRecordGroups.head.Goals as goal
 
 pub returns : goal.returns

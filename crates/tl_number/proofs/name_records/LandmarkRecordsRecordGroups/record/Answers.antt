@@ -6,8 +6,8 @@ use Rattle.tl_layout.specs.Numbers.{IsNumber}
 use Rattle.tl_layout.specs.declared.type7.Body7.{Body7}
 use Rattle.tl_county.specs.CountyRules.{lands}
 use Rattle.tl_county.specs.Packing.{packed_sevens}
-use Rattle.tl_number.proofs.EntryPlaces.{landmark_of_group}
-use Rattle.tl_number.proofs.Grouped.{group_of, some-same}
+use Rattle.tl_number.proofs.Records.EntryPlaces.{landmark_of_group}
+use Rattle.tl_number.proofs.Records.Grouped.{group_of, some-same}
 use Rattle.tl_number.proofs.name_records.LandmarkRecordsRecordGroups.record.Goals as goal
 
 pub landmark_body_there-requires : goal.landmark_body_there-requires

@@ -5,8 +5,8 @@ use Rattle.tl_county.specs.CountyRules.{feats}
 use Rattle.tl_county.specs.Packing.{packed_five}
 use Rattle.tl_number.specs.CountyGroups.{type_5_by_name}
 use Rattle.tl_number.specs.Groups.{group_at}
-use Rattle.tl_number.proofs.EntryPlaces.{name_of_group}
-use Rattle.tl_number.proofs.Grouped.{group_of, lone, some-same}
+use Rattle.tl_number.proofs.Records.EntryPlaces.{name_of_group}
+use Rattle.tl_number.proofs.Records.Grouped.{group_of, lone, some-same}
 use Rattle.tl_number.proofs.name_records.NameRecordsRecordGroups.record.Goals as goal
 
 pub new-requires : goal.new-requires

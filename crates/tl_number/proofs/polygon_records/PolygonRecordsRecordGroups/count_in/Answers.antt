@@ -1,7 +1,7 @@
 use Rattle.std.proofs.Common.{◌∙◌, length, option_to_list, sym, ap}
 use Rattle.tl_county.specs.Packing.{packed_body}
 use Rattle.tl_number.specs.ViewFacts.{stepped}
-use Rattle.tl_number.proofs.EntryPlaces.{polygon_group}
+use Rattle.tl_number.proofs.Records.EntryPlaces.{polygon_group}
 use Rattle.tl_number.proofs.polygon_records.PolygonRecordsRecordGroups.count_in.Goals as goal
 
 pub returns-in-Some : goal.returns-in-Some

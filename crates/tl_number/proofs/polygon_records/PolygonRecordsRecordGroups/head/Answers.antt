@@ -1,7 +1,7 @@
 use Rattle.std.proofs.Common.{◌<◌, option_to_list, subst}
 use Rattle.tl_county.specs.Packing.{packed_p}
 use Rattle.tl_number.specs.ViewFacts.{stepped}
-use Rattle.tl_number.proofs.EntryPlaces.{polygons_counted}
+use Rattle.tl_number.proofs.Records.EntryPlaces.{polygons_counted}
 use Rattle.tl_number.proofs.polygon_records.PolygonRecordsRecordGroups.head.Goals as goal
 
 pub polygon_by_number-requires : goal.polygon_by_number-requires

@@ -3,8 +3,8 @@ use Rattle.tl_county.specs.Packing.{packed_body}
 use Rattle.tl_number.specs.ViewFacts.{stepped}
 use Rattle.tl_number.specs.CountyGroups.{type_p_by_number}
 use Rattle.tl_number.specs.Groups.{group_at}
-use Rattle.tl_number.proofs.EntryPlaces.{polygon_group, polygon_fits, body_there}
-use Rattle.tl_number.proofs.Grouped.{lone}
+use Rattle.tl_number.proofs.Records.EntryPlaces.{polygon_group, polygon_fits, body_there}
+use Rattle.tl_number.proofs.Records.Grouped.{lone}
 use Rattle.tl_number.proofs.polygon_records.PolygonRecordsRecordGroups.record.Goals as goal
 
 pub unwrap-requires : goal.unwrap-requires

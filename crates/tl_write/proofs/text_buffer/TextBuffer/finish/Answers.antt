@@ -4,7 +4,7 @@ use Rattle.std.proofs.lemmas.Result.{err_from_is_err_and}
 use Rattle.tl_write.specs.GoingOut.{IsGoingOut, Waiting, up_to_most}
 use Rattle.tl_write.proofs.text_buffer.TextBuffer.finish.Goals as goal
 
--- where nothing waits, all of the text was sent
+-- if no bytes are waiting, the whole text was sent
 all_sent : {W : Type 0} (holds : W → List ℕ → Type 0) (held text : List ℕ) (buffer : Waiting) (sink : W) → buffer.waiting ≡ []
     → IsGoingOut holds held text buffer sink → holds sink (held ++ text) × (buffer.sent ≡ up_to_most (length text))
 all_sent holds held text buffer sink none h =

@@ -3,7 +3,7 @@ use Rattle.std.proofs.lemmas.List.{take-append-drop, length-append, length-take}
 use Rattle.tl_write.specs.GoingOut.{HasCounted, IsGoingOut, HoldsBeginning, up_to_most}
 use Rattle.tl_write.proofs.text_buffer.TextBuffer.send.Goals as goal
 
--- a sink that failed holds what was sent before, and the first bytes of what waited
+-- a sink that failed holds the bytes sent before and the first of the waiting bytes
 stopped : {W : Type 0} (holds : W → List ℕ → Type 0) (held text sent waiting : List ℕ) (n total : ℕ) (sink : W)
     → text ≡ sent ++ waiting → n < length waiting → total ≡ up_to_most (length sent + n)
     → holds sink ((held ++ sent) ++ take n waiting) → HoldsBeginning holds held text total sink
@@ -17,7 +17,7 @@ stopped holds held text sent waiting n total sink is short count arrived = recor
   arrived = subst (holds sink) (append_assoc held sent (take n waiting)) arrived;
 }
 
--- a count that stops at the greatest number, and some more
+-- a count that stops at the greatest number, plus some more
 capped : (a s n total : ℕ) → total ≡ min (s + n) 18446744073709551615 → s ≡ up_to_most a → total ≡ up_to_most (a + n)
 capped a s n total p q = omega (arith, p, q)
 

@@ -3,8 +3,8 @@ use Rattle.tl_county.specs.CountyRules.{tlids}
 use Rattle.tl_county.proofs.ByKey.Keys.{nat_keys, times-permutation}
 use Rattle.tl_number.specs.Arrangement.{ascending, arranged_tlids}
 use Rattle.tl_number.specs.ViewFacts.{NamesEachOnce}
-use Rattle.tl_number.proofs.Ascending.{sides_in_profile}
-use Rattle.tl_number.proofs.TidyChoices.{shapes_arrange}
+use Rattle.tl_number.proofs.CanonicalLists.Ascending.{sides_in_profile}
+use Rattle.tl_number.proofs.Choices.TidyChoices.{shapes_arrange}
 use Rattle.tigercanon_tests.proofs.tests.refusals.pieces.arrange_ascending.Goals as goal
 
 pub arrange-requires-clause-once : goal.arrange-requires-clause-once

@@ -1,0 +1,38 @@
+-- Sets with the same lines are accepted alike, refused alike except for a faulty line's part and line, and have one canonical text.
+use Rattle.std.proofs.Common.{◌≡◌, ℕ, List, refl, ap}
+use Rattle.tl_layout.specs.declared.record_type.Record.{Record}
+use Rattle.tl_load.specs.Choice.{tiger}
+use Rattle.tl_load.specs.Lines.{HaveSameLines}
+use Rattle.tl_load.specs.Outcome.{SpellsWithin}
+use Rattle.tl_load.proofs.CutParts.{spells_as, fault_elsewhere}
+use Rattle.tl_county.specs.County.{County}
+use Rattle.tigercanon.specs.Respelling.{record_limit}
+use Rattle.tigercanon.specs.Sets.{IsAcceptedSet, IsSetRefusal, IsCanonicalTextThrough, refusal_without_place}
+use Rattle.tigercanon.specs.declared.fault.Fault.{Fault}
+use Rattle.tigercanon.specs.declared.fault.Fault.TheVariants.{Load, Link, Profile, Write, Memory}
+
+module _ (parts others : List (List ℕ)) (same : HaveSameLines parts others) where
+  spelled_alike : (records : List Record) → SpellsWithin tiger record_limit parts records → SpellsWithin tiger record_limit others records
+  spelled_alike records h = record { spells = spells_as tiger parts others records same h.spells; within = h.within }
+
+  pub accepted_alike : (records : List Record) → IsAcceptedSet parts records → IsAcceptedSet others records
+  accepted_alike records h = record { spelled = spelled_alike records h.spelled; accepted = h.accepted }
+
+  pub text_alike : (seen : County → County) (text : List ℕ) → IsCanonicalTextThrough seen parts text → IsCanonicalTextThrough seen others text
+  text_alike seen text h = record {
+    records = h.records;
+    canonical = h.canonical;
+    spelled = spelled_alike h.records h.spelled;
+    canonical_of = h.canonical_of;
+    text_is = h.text_is;
+  }
+
+  pub refused_alike : (refusal : Fault) → IsSetRefusal parts refusal
+      → (told : Fault) × IsSetRefusal others told × (refusal_without_place told ≡ refusal_without_place refusal)
+  refused_alike (Load fault) h =
+      let found = fault_elsewhere tiger record_limit parts others fault same h in
+      (Load found.0, found.1, ap Load found.2)
+  refused_alike (Link fault) h = (Link fault, (h.0, spelled_alike h.0 h.1, h.2), refl)
+  refused_alike (Profile fault) h = (Profile fault, (h.0, spelled_alike h.0 h.1, h.2, h.3), refl)
+  refused_alike (Write fault) h = absurd h
+  refused_alike Memory h = absurd h

@@ -1,0 +1,9 @@
+use Rattle.tl_cert.specs.MaskedCounty.{masked}
+use Rattle.tl_number.proofs.Masks.MaskedSights.{masked_sight}
+use Rattle.tigercanon.proofs.Verdicts.{found_of_sets}
+use Rattle.tigercanon.proofs.library.comparing.ComparedProductUnit.of.Goals as goal
+
+pub returns : goal.returns
+returns g c = λ b second a first.
+    found_of_sets (masked c.args._mask) (masked_sight c.args._mask) a b _ _ _ _ first second
+    (g.V.Conclusion.finding c.of.result) c.of.ensures

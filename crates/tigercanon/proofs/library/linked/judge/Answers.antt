@@ -1,0 +1,17 @@
+use Rattle.std.proofs.lemmas.Result.{err_from_is_err_and}
+use Rattle.tigercanon.proofs.CanonicalTexts.{if_err_by, on_ok_by}
+use Rattle.tigercanon.proofs.Refusing.{linked_refused}
+use Rattle.tigercanon.proofs.library.linked.judge.Goals as goal
+
+pub returns-clause-accepted : goal.returns-clause-accepted
+returns-clause-accepted g c = λ parts says.
+    on_ok_by c.judge_linked.result (λ accepted. accepted parts (c.in_ok-linked.ensures.linked parts says)) c.judge_linked.ensures.accepted
+
+pub returns-clause-refused : goal.returns-clause-refused
+returns-clause-refused g c = λ parts says.
+    if_err_by c.judge_linked.result (linked_refused parts c.in_ok-linked.linked (c.in_ok-linked.ensures.linked parts says)) c.judge_linked.ensures.refused
+
+pub returns-in_err-linked-clause-refused : goal.returns-in_err-linked-clause-refused
+returns-in_err-linked-clause-refused g c = λ parts says.
+    let p = err_from_is_err_and c.from_residual.result c.from_residual.ensures.1 in
+    rw (p.1, p.2) (c.in_err-linked.ensures.refused parts says)

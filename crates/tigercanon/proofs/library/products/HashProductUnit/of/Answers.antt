@@ -1,0 +1,16 @@
+use Rattle.std.proofs.Common.{refl}
+use Rattle.tl_cert.specs.MaskedCounty.{masked}
+use Rattle.tl_number.proofs.Masks.MaskedSights.{masked_sight}
+use Rattle.tigercanon.proofs.CanonicalTexts.{only_of_set, text_of_set}
+use Rattle.tigercanon.proofs.library.products.HashProductUnit.of.Goals as goal
+
+pub returns : goal.returns
+returns g c = λ parts set.
+    let seen = masked c.args._mask in
+    let sight = masked_sight c.args._mask in
+    record {
+      text = _;
+      canonical = text_of_set seen sight _ _ _ set _ refl;
+      only = only_of_set seen sight _ _ _ set _ refl;
+      bytes_are = c.hash_of.ensures;
+    }

@@ -1,0 +1,15 @@
+use Rattle.std.proofs.Common.{refl}
+use Rattle.tl_cert.specs.MaskedCounty.{masked}
+use Rattle.tl_number.proofs.Masks.MaskedSights.{masked_sight}
+use Rattle.tigercanon.proofs.CanonicalTexts.{goes_out, text_of_set}
+use Rattle.tigercanon.proofs.library.products.WrittenProduct.of.Goals as goal
+
+pub returns : goal.returns
+returns g c = λ parts set.
+    let mask = c.args._mask in
+    let w = c.write_to.ensures in
+    record {
+      text = _;
+      canonical = text_of_set (masked mask) (masked_sight mask) _ _ _ set _ refl;
+      out = goes_out g.W.Sink.failed g.W.Sink.holds _ _ _ c.write_to.result w.length w.short w.failures w.bytes;
+    }

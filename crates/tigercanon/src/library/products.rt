@@ -1,0 +1,165 @@
+//! What the calls make from a canonical county: its text in memory, the renaming onto it, its text on a sink, and its hash.
+
+ghost use Rattle.sha2.specs.Sha256.{sha256};
+ghost use Rattle.std.specs.Prelude.{◌≡◌, ◌<◌, [], ◌∷◌, IfOk};
+ghost use Rattle.tigercanon.specs.Fingerprints.{IsFingerprintThrough};
+ghost use Rattle.tigercanon.specs.Normalising.{IsWrittenThrough};
+ghost use Rattle.tigercanon.specs.Sets.{CarriesSetThrough, IsCanonicalTextThrough};
+ghost use Rattle.tl_cert.specs.MaskedCounty.{masked};
+ghost use Rattle.tl_county.specs.Packing.{packed};
+ghost use Rattle.tl_county.specs.Renumbering.{Carries};
+ghost use Rattle.tl_layout.specs.RecordText.{text_of};
+ghost use Rattle.tl_number.specs.Views.{arranged_county, source_of};
+
+use crate::library::hashing::Hashing;
+use crate::library::making::Product;
+use std::alloc::{AllocError, Global};
+use tl_cert::Renaming;
+use tl_county::Chart;
+use tl_layout::Mask;
+use tl_number::CanonCounty;
+use tl_write::{CountedOut, Sink, WriteFault, write_to};
+
+/// From this many chains on, capacity for the text is reserved.
+const MANY_CHAINS: usize = 1024;
+
+/// The text of a county with all record types nearly always has at most this many bytes per chain.
+const BYTES_A_CHAIN: usize = 512;
+
+/// An empty text. If the county has many chains, capacity for its text is reserved. Capacity that is never written takes no memory,
+/// and if the allocation fails, the text grows like any other.
+fn text_with_room(alloc: Global, chains: usize) -> Vec<u8>
+    ensures { result.items ≡ [] }
+{
+    let mut text = Vec::new(alloc);
+    if chains >= MANY_CHAINS {
+        let _ = text.reserve(chains.saturating_mul(BYTES_A_CHAIN));
+    }
+    text
+}
+
+/// The text of a canonical county, in memory.
+fn text_in_memory<C: Chart>(alloc: Global, county: &CanonCounty<C>) -> Result<Vec<u8>, AllocError>
+    ensures { IfOk result (λ text. text.items ≡ text_of (packed (arranged_county county.now))) }
+{
+    let mut sink = CountedOut::new(text_with_room(alloc, county.chain_count()));
+    match write_to(county, &mut sink) {
+        Ok(_) => Ok(sink.into_inner()),
+        // A vector fails only if it can't grow.
+        Err(_) => Err(AllocError),
+    }
+}
+
+/// The text of a canonical county, in memory, and the renaming onto it from the county that it was made from.
+fn text_and_renaming<C: Chart>(
+    alloc: Global,
+    county: &CanonCounty<C>,
+) -> Result<(Vec<u8>, Renaming), AllocError>
+    ensures text { IfOk result (λ told. told.0.items ≡ text_of (packed (arranged_county county.now))) }
+    ensures carries { IfOk result (λ told. Carries told.1 (C.county (source_of county.now)) (arranged_county county.now)) }
+{
+    let renaming = county.renaming(alloc)?;
+    let text = text_in_memory(alloc, county)?;
+    Ok((text, renaming))
+}
+
+/// The SHA-256 hash of the text of a canonical county. The text is hashed as it is written, and isn't kept.
+fn hash_of<C: Chart>(county: &CanonCounty<C>) -> [u8; 32]
+    ensures { result ≡ sha256 (text_of (packed (arranged_county county.now))) }
+{
+    let mut hashing = Hashing::new();
+    // Hashing never fails.
+    let _ = write_to(county, &mut hashing);
+    hashing.hash()
+}
+
+/// Makes the canonical text, in memory.
+#[derive(Drop)]
+pub(crate) struct Text;
+
+impl Product<()> for Text {
+    type Out = Result<Vec<u8>, AllocError>;
+
+    ghost IsReady = { λ _ _. Unit {0} };
+
+    ghost Answers = { λ mask parts _ _ made _. IfOk made (λ text. IsCanonicalTextThrough (masked mask) parts text.items) };
+
+    fn of<C: Chart>(
+        self,
+        alloc: Global,
+        county: &CanonCounty<C>,
+        _device: &mut (),
+        _mask: Mask,
+    ) -> Result<Vec<u8>, AllocError> {
+        text_in_memory(alloc, county)
+    }
+}
+
+/// Makes the canonical text, in memory, and the renaming onto it.
+#[derive(Drop)]
+pub(crate) struct TextAndRenaming;
+
+impl Product<()> for TextAndRenaming {
+    type Out = Result<(Vec<u8>, Renaming), AllocError>;
+
+    ghost IsReady = { λ _ _. Unit {0} };
+
+    ghost Answers = { λ mask parts _ _ made _. IfOk made (λ answer. IsCanonicalTextThrough (masked mask) parts answer.0.items
+        × CarriesSetThrough (masked mask) answer.1 parts (answer.0.items ∷ [])) };
+
+    fn of<C: Chart>(
+        self,
+        alloc: Global,
+        county: &CanonCounty<C>,
+        _device: &mut (),
+        _mask: Mask,
+    ) -> Result<(Vec<u8>, Renaming), AllocError> {
+        text_and_renaming(alloc, county)
+    }
+}
+
+/// Writes the canonical text to a sink, and returns how many bytes it has.
+#[derive(Drop)]
+pub(crate) struct Written;
+
+impl<W: Sink> Product<W> for Written {
+    ghost use Rattle.std.below.core.specs.declared.int.u64.TheConstants.{MAX};
+
+    type Out = Result<u64, WriteFault>;
+
+    ghost IsReady = { λ _ out. W.failed out < MAX };
+
+    ghost Answers = { λ mask parts _ old made new. IsWrittenThrough (masked mask) W.failed W.holds parts old new made };
+
+    fn of<C: Chart>(
+        self,
+        _alloc: Global,
+        county: &CanonCounty<C>,
+        out: &mut W,
+        _mask: Mask,
+    ) -> Result<u64, WriteFault> {
+        write_to(county, out)
+    }
+}
+
+/// Makes the SHA-256 hash of the canonical text.
+#[derive(Drop)]
+pub(crate) struct Hash;
+
+impl Product<()> for Hash {
+    type Out = [u8; 32];
+
+    ghost IsReady = { λ _ _. Unit {0} };
+
+    ghost Answers = { λ mask parts _ _ hash _. IsFingerprintThrough (masked mask) parts hash };
+
+    fn of<C: Chart>(
+        self,
+        _alloc: Global,
+        county: &CanonCounty<C>,
+        _device: &mut (),
+        _mask: Mask,
+    ) -> [u8; 32] {
+        hash_of(county)
+    }
+}

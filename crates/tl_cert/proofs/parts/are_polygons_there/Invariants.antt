@@ -1,8 +1,0 @@
-use Rattle.std.proofs.Common.{take}
-use Rattle.std.specs.List.{AllByRecursion}
-use Rattle.tl_cert.specs.PartsThere.{IsPolygonThere}
-use Rattle.tl_cert.proofs.parts.are_polygons_there.Given as goal
-
-abbrev pub invariant-loop-place : goal.invariant-loop-place
-invariant-loop-place g l =
-    AllByRecursion (IsPolygonThere l.tables (g.B.Chart.county l.b)) (take l.place (g.A.Chart.county l.a).polygons)

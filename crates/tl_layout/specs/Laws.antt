@@ -1,0 +1,21 @@
+-- Laws of the definitions in the folder above, with their proofs.
+pub mod ByteLaws
+pub mod ColumnLaws
+pub mod NumberLaws
+pub mod NumberTextLaws
+pub mod CoordinateLaws
+pub mod FieldLaws
+pub mod PlaceLaws
+pub mod ValueLaws
+pub mod PlaceFaultLaws
+pub mod TableFaultLaws
+pub mod TableLaws
+pub mod Type1Laws
+pub mod Type4Laws
+pub mod TypeLaws
+pub mod PieceLaws
+pub mod Type1ColumnLaws
+pub mod RecordLaws
+pub mod TurnedFits
+pub mod MaskLaws
+pub mod TabledLaws

@@ -1,0 +1,128 @@
+-- Reading a line by a column table fails exactly with the leftmost fault of the table.
+use Rattle.std.proofs.Common.{◌≡◌, ℕ, ◌+◌, List, [], ◌∷◌, ◌++◌, Result, Ok, Err, refl, sym, ap, ◌∙◌, subst, inl, inr}
+use Rattle.std.specs.List.{AllByRecursion}
+use Rattle.tl_layout.specs.FieldReading.{number_at, number_or_none_at, point_at, point_or_none_at}
+use Rattle.tl_layout.specs.FieldMeaning.{SpellsNumberPlace, SpellsPointPlace}
+use Rattle.tl_layout.specs.Laws.FieldLaws.{reads_on, number_or_none_at_found, number_or_none_at_only, point_or_none_at_found}
+use Rattle.tl_layout.specs.Laws.FieldLaws.{point_or_none_at_only}
+use Rattle.tl_layout.specs.ColumnTable.{Kind, Number, NumberOrNone, Pair, PairOrNone, NumberPlaces, PointPlaces, Opaque, Filler, Row}
+use Rattle.tl_layout.specs.FieldFaults.{IsNumberOrNoneFault, IsPairOrNoneFault, IsValueFault, IsWellFormed, IsFieldFault, IsLeftmostFault}
+use Rattle.tl_layout.specs.TableReading.{Makes, rows_reading}
+use Rattle.tl_layout.specs.Laws.ValueLaws.{value_reading, reading_goes_on, value_found, value_only, fails, fails_first}
+use Rattle.tl_layout.specs.Laws.ValueLaws.{nothing_spelled, number_told, number_or_none_told, point_told, point_or_none_told, one_told}
+use Rattle.tl_layout.specs.Laws.PlaceFaultLaws.{places_fault_found, places_fault_only}
+use Rattle.tl_layout.specs.declared.fault.FieldFault.{FieldFault}
+
+-- if reading fails, the field is at fault
+pub value_fault_found : (line : List ℕ) (first last : ℕ) (kind : Kind) (fault : FieldFault) → value_reading line first last kind ≡ Err fault
+    → IsValueFault line first last kind fault
+value_fault_found line first last Number fault h =
+    record { none_spelled = nothing_spelled line first last Number fault h; told = number_told first last line fault h }
+value_fault_found line first last NumberOrNone fault h =
+    record { none_spelled = nothing_spelled line first last NumberOrNone fault h; told = number_or_none_told first last line fault h }
+value_fault_found line first last Pair fault h =
+    record { none_spelled = nothing_spelled line first last Pair fault h; told = point_told line first fault h }
+value_fault_found line first last PairOrNone fault h =
+    record { none_spelled = nothing_spelled line first last PairOrNone fault h; told = point_or_none_told line first fault h }
+value_fault_found line first last NumberPlaces fault h =
+    places_fault_found (λ column. number_or_none_at column (column + 7) line) (SpellsNumberPlace line)
+    (λ column. IsNumberOrNoneFault line column (column + 7)) (λ column place. number_or_none_at_found column (column + 7) line place)
+    (λ column f e. record {
+      none_spelled = nothing_spelled line column (column + 7) NumberOrNone f e;
+      told =
+          number_or_none_told column (column + 7) line f e;
+    }) 8 5 first fault h
+value_fault_found line first last PointPlaces fault h =
+    places_fault_found (λ column. point_or_none_at column line) (SpellsPointPlace line) (IsPairOrNoneFault line)
+    (λ column place. point_or_none_at_found column line place)
+    (λ column f e. record {
+      none_spelled = nothing_spelled line column (column + 18) PairOrNone f e;
+      told =
+          point_or_none_told line column f e;
+    }) 19 10 first fault h
+value_fault_found line first last Opaque fault h = (cc)
+value_fault_found line first last Filler fault h = (cc)
+
+-- if nothing is spelled, reading fails with the reported fault, provided that there is only one
+fails_told : {A : Type 0} (Spells : A → Type 0) (Told : FieldFault → Type 0) (read : Result A FieldFault)
+    → ((value : A) → read ≡ Ok value → Spells value) → ((fault : FieldFault) → read ≡ Err fault → Told fault)
+    → ((f g : FieldFault) → Told f → Told g → f ≡ g) → (fault : FieldFault) → ((value : A) → ¬ Spells value) → Told fault → read ≡ Err fault
+fails_told {A} Spells Told read found told one fault none t = go read refl
+  where
+    go : (answer : Result A FieldFault) → read ≡ answer → read ≡ Err fault
+    go (Ok value) e = absurd (none value (found value e))
+    go (Err f) e = e ∙ ap (λ (f : FieldFault). Err f) (one f fault (told f e) t)
+
+-- if the field is at fault, reading fails with its fault
+pub value_fault_only : (line : List ℕ) (first last : ℕ) (kind : Kind) (fault : FieldFault) → IsValueFault line first last kind fault
+    → value_reading line first last kind ≡ Err fault
+value_fault_only line first last Number fault h =
+    fails_told _ _ (number_at first last line) (value_found line first last Number) (number_told first last line) (λ f g a b. a
+    ∙ sym b) fault h.none_spelled h.told
+value_fault_only line first last NumberOrNone fault h =
+    fails_told _ _ (number_or_none_at first last line) (value_found line first last NumberOrNone) (number_or_none_told first last line)
+    (λ f g a b. a ∙ sym b) fault h.none_spelled h.told
+value_fault_only line first last Pair fault h =
+    fails_told _ _ (point_at first line) (value_found line first last Pair) (point_told line first)
+    (one_told line first) fault h.none_spelled h.told
+value_fault_only line first last PairOrNone fault h =
+    fails_told _ _ (point_or_none_at first line) (value_found line first last PairOrNone) (point_or_none_told line first)
+    (one_told line first) fault h.none_spelled h.told
+value_fault_only line first last NumberPlaces fault h =
+    places_fault_only (λ column. number_or_none_at column (column + 7) line) (SpellsNumberPlace line)
+    (λ column. IsNumberOrNoneFault line column (column + 7)) (λ column place. number_or_none_at_only column (column + 7) line place)
+    (λ column f e. fails_told _ _ (number_or_none_at column (column + 7) line) (value_found line column (column + 7) NumberOrNone)
+    (number_or_none_told column (column + 7) line) (λ f g a b. a ∙ sym b) f e.none_spelled e.told) 8 5 first fault h
+value_fault_only line first last PointPlaces fault h =
+    places_fault_only (λ column. point_or_none_at column line) (SpellsPointPlace line) (IsPairOrNoneFault line)
+    (λ column place. point_or_none_at_only column line place)
+    (λ column f e. fails_told _ _ (point_or_none_at column line) (value_found line column (column + 18) PairOrNone)
+    (point_or_none_told line column) (one_told line column) f e.none_spelled e.told) 19 10 first fault h
+value_fault_only line first last Opaque fault h = absurd h
+value_fault_only line first last Filler fault h = absurd h
+
+-- if reading a line fails, it fails with the leftmost fault
+pub leftmost_found : {R A : Type 0} (rows : List (Row R)) (make : Makes rows A) (line : List ℕ) (fault : FieldFault)
+    → rows_reading rows make line ≡ Err fault → IsLeftmostFault rows line fault
+leftmost_found [] make line fault h = absurd (cc)
+leftmost_found {R} {A} (row ∷ rows) make line fault h =
+    elim (fails (value_reading line row.first row.last row.kind) _ fault
+    (sym (reading_goes_on line row.first row.last row.kind (λ value. rows_reading rows (make value) line)) ∙ h)) [
+      | inl e ↦ record {
+        before = [];
+        row = row;
+        after = rows;
+        split = refl;
+        well_formed = tt;
+        at_fault =
+            value_fault_found line row.first row.last row.kind fault e;
+      }
+      | inr r ↦ (
+          let later = leftmost_found rows (make r.0) line fault r.2 in
+          record {
+            before = row ∷ later.before;
+            row = later.row;
+            after = later.after;
+            split = ap (λ (l : List (Row R)). row ∷ l) later.split;
+            well_formed = ((r.0, value_found line row.first row.last row.kind r.0 r.1), later.well_formed);
+            at_fault = later.at_fault;
+          }
+          )
+    ]
+
+fails_at : {R A : Type 0} (before : List (Row R)) (row : Row R) (after : List (Row R)) (make : Makes (before ++ row ∷ after) A)
+    (line : List ℕ) (fault : FieldFault) → AllByRecursion (IsWellFormed line) before → IsFieldFault line row fault
+    → rows_reading (before ++ row ∷ after) make line ≡ Err fault
+fails_at [] row after make line fault w f =
+    reading_goes_on line row.first row.last row.kind _ ∙ fails_first _ _ fault (value_fault_only line row.first row.last row.kind fault f)
+fails_at (first ∷ before) row after make line fault w f =
+    reading_goes_on line first.first first.last first.kind _
+    ∙ reads_on _ _ w.0.0 _ (value_only line first.first first.last first.kind w.0.0 w.0.1)
+    (fails_at before row after (make w.0.0) line fault w.1 f)
+
+-- reading a line fails with the leftmost fault
+pub leftmost_only : {R A : Type 0} (rows : List (Row R)) (make : Makes rows A) (line : List ℕ) (fault : FieldFault)
+    → IsLeftmostFault rows line fault → rows_reading rows make line ≡ Err fault
+leftmost_only {R} {A} rows make line fault f =
+    let P : List (Row R) → Type 0 = λ all. (make : Makes all A) → rows_reading all make line ≡ Err fault in
+    subst P (sym f.split) (λ make. fails_at f.before f.row f.after make line fault f.well_formed f.at_fault) make

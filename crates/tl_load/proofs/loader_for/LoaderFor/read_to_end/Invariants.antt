@@ -1,0 +1,20 @@
+use Rattle.std.proofs.Common.{◌≡◌, ℕ, ◌+◌, ◌-◌, ◌≤◌, List, length, Ok}
+use Rattle.tl_load.specs.Sources.{Gave}
+use Rattle.tl_load.specs.Keeping.{Lifts, IsSamePart, bytes_used}
+use Rattle.tl_load.specs.Steps.{Takes}
+use Rattle.tl_load.proofs.loader_for.LoaderFor.read_to_end.Given as goal
+use Rattle.tl_load.specs.declared.loader_for.TheConstants.{LINE_BYTES, MOST_BYTES}
+
+abbrev pub invariant-loop-count : goal.invariant-loop-count
+invariant-loop-count g l = record {
+  reads : (taken : List ℕ) × Gave g.R.Source.remaining g.R.Source.given l.initial.source l.source taken
+      × (length taken + bytes_used l.initial.self ≤ bytes_used l.self)
+      × Lifts {T = Unit {0}} g.K.Collector.holds (Takes taken) l.initial.self (Ok tt) l.self;
+  same_part : IsSamePart l.initial.self l.self;
+  most : bytes_used l.self ≤ MOST_BYTES;
+  short : length l.self.unfinished ≤ LINE_BYTES;
+  failures : g.R.Source.failed l.source ≡ g.R.Source.failed l.initial.source;
+}
+
+abbrev pub decreases-loop-count : goal.decreases-loop-count
+decreases-loop-count g l = MOST_BYTES - bytes_used l.self

@@ -1,0 +1,266 @@
+-- The chains of an arrangement, in their new order and direction and with their new numbers.
+use Rattle.std.proofs.Common.{◌≡◌, ◌⊎◌, ◌≤◌, ℕ, zero, suc, nat_lt, List, [], ◌∷◌, ◌++◌, map, filter, flat_map}
+use Rattle.std.proofs.Common.{length, Bool, true, false, cond, is_eq, sym, refl, ap, ap₂, ◌∙◌, subst, inl, inr, arith}
+use Rattle.std.proofs.Common.{nat_cmp, IsPermutation}
+use Rattle.std.proofs.lemmas.Bool.{lt-ltb}
+use Rattle.std.proofs.lemmas.List.{map-append, length-map}
+use Rattle.std.specs.List.{AllByRecursion}
+use Rattle.tl_shape.specs.Chain.{Chain}
+use Rattle.tl_shape.specs.Turned.{turned_if}
+use Rattle.tl_county.specs.County.{County}
+use Rattle.tl_county.specs.CountyRules.{IsCounty, tlids}
+use Rattle.tl_county.specs.Orders.{times, stands_in}
+use Rattle.tl_county.specs.Packing.{numbered_from}
+use Rattle.tl_county.specs.PolygonKeys.{PolygonKey, key_cmp}
+use Rattle.tl_county.specs.Renumbering.{Renumbering, image, turns, renumbered, carried_chain}
+use Rattle.tl_county.proofs.ByKey.KeyOrders.{key_keys}
+use Rattle.tl_county.proofs.ByKey.Keys.{IsApart, Known, nat_keys, times-yes, times-no}
+use Rattle.tl_county.proofs.ByKey.Keys.{apart_tail, apart_from_sorted, apart-permutation, known-permutation, known-permutation_to}
+use Rattle.tl_county.proofs.ByKey.Keys.{known_cases, known-here, known-later, image-yes, image-no, images-lefts}
+use Rattle.tl_county.proofs.ByKey.Keys.{same_or_not, differ}
+use Rattle.tl_county.proofs.Lists.Elements.{map-map, map_agree_all, all_weaker}
+use Rattle.tl_county.proofs.ByKey.Numbers.{times-of_number, only_one, of_number-all}
+use Rattle.tl_county.proofs.Lists.Permutations.{groups-permutation}
+use Rattle.tl_county.proofs.Sameness.Equivalence.{keys_known}
+use Rattle.tl_number.specs.Arrangement.{Arrangement, Arranges, arranged_tlids, entries_of, chains_in_order, placed, under_cenid}
+use Rattle.tl_number.specs.Arrangement.{turned_tlids}
+use Rattle.tl_number.specs.Growth.{numbered, up_to}
+use Rattle.tl_number.proofs.Lists.Counting.{entries_equal}
+use Rattle.tl_county.proofs.Lists.Counted.{lefts-numbered_from, rights-numbered_from}
+use Rattle.tl_number.proofs.Numbering.FirstSeen.{place_from, place-here, place-later}
+use Rattle.tl_number.proofs.Unique.SameNumbers.{kept_entry}
+
+-- numbered keys as pairs
+pub lefts-numbered : {K : Type 0} (keys : List K) → map (λ (pair : K × ℕ). pair.0) (numbered keys) ≡ keys
+lefts-numbered {K} keys = map-map (λ (pair : K × ℕ). pair.0) (λ (entry : ℕ × K). (entry.1, entry.0)) (numbered_from 1 keys)
+    ∙ rights-numbered_from 1 keys
+
+pub rights-numbered : {K : Type 0} (keys : List K) → map (λ (pair : K × ℕ). pair.1) (numbered keys) ≡ up_to (length keys)
+rights-numbered {K} keys = map-map (λ (pair : K × ℕ). pair.1) (λ (entry : ℕ × K). (entry.1, entry.0)) (numbered_from 1 keys)
+    ∙ lefts-numbered_from 1 keys
+
+numbers_are_places : (i : ℕ) (keys : List ℕ) (k : ℕ) → Known nat_cmp keys k
+    → image nat_cmp (map (λ (entry : ℕ × ℕ). (entry.1, entry.0)) (numbered_from i keys)) k ≡ place_from nat_keys i keys k
+numbers_are_places i [] k h = absurd (omega (arith, h))
+numbers_are_places i (x ∷ xs) k h = go (known_cases nat_keys k x xs h) (numbers_are_places (suc i) xs k)
+  where
+    go : (k ≡ x) ⊎ (Known nat_cmp xs k × (is_eq (nat_cmp k x) ≡ false))
+        → (Known nat_cmp xs k
+        → image nat_cmp (map (λ (entry : ℕ × ℕ). (entry.1, entry.0)) (numbered_from (suc i) xs)) k ≡ place_from nat_keys (suc i) xs k)
+        → image nat_cmp ((x, i) ∷ map (λ (entry : ℕ × ℕ). (entry.1, entry.0)) (numbered_from (suc i) xs)) k ≡ place_from nat_keys i
+        (x ∷ xs) k
+    go (inl e) ih = image-yes nat_keys (x, i) (map (λ (entry : ℕ × ℕ). (entry.1, entry.0)) (numbered_from (suc i) xs)) k e
+        ∙ sym (place-here nat_keys i x xs k e)
+    go (inr l) ih = image-no nat_keys (x, i) (map (λ (entry : ℕ × ℕ). (entry.1, entry.0)) (numbered_from (suc i) xs)) k l.1 ∙ ih l.0
+        ∙ sym (place-later nat_keys i x xs k l.1)
+
+-- the new number of a number is its place
+pub image-numbered : (keys : List ℕ) (k : ℕ) → Known nat_cmp keys k → image nat_cmp (numbered keys) k ≡ place_from nat_keys 1 keys k
+image-numbered keys k h = numbers_are_places 1 keys k h
+
+keys_are_places : (i : ℕ) (keys : List PolygonKey) (k : PolygonKey) → Known key_cmp keys k
+    → image key_cmp (map under_cenid (map (λ (entry : ℕ × PolygonKey). (entry.1, entry.0)) (numbered_from i keys))) k ≡
+    (k.0, place_from key_keys i keys k)
+keys_are_places i [] k h = absurd (omega (arith, h))
+keys_are_places i (x ∷ xs) k h = go (known_cases key_keys k x xs h) (keys_are_places (suc i) xs k)
+  where
+    go : (k ≡ x) ⊎ (Known key_cmp xs k × (is_eq (key_cmp k x) ≡ false))
+        → (Known key_cmp xs k
+        → image key_cmp (map under_cenid (map (λ (entry : ℕ × PolygonKey). (entry.1, entry.0)) (numbered_from (suc i) xs))) k ≡
+        (k.0, place_from key_keys (suc i) xs k))
+        → image key_cmp
+        ((x, (x.0, i)) ∷ map under_cenid (map (λ (entry : ℕ × PolygonKey). (entry.1, entry.0)) (numbered_from (suc i) xs))) k ≡
+        (k.0, place_from key_keys i (x ∷ xs) k)
+    go (inl e) ih = image-yes key_keys (x, (x.0, i))
+        (map under_cenid (map (λ (entry : ℕ × PolygonKey). (entry.1, entry.0)) (numbered_from (suc i) xs))) k e
+        ∙ (λ j. ((sym e j).0, sym (place-here key_keys i x xs k e) j))
+    go (inr l) ih = image-no key_keys (x, (x.0, i))
+        (map under_cenid (map (λ (entry : ℕ × PolygonKey). (entry.1, entry.0)) (numbered_from (suc i) xs))) k l.1 ∙ ih l.0
+        ∙ (λ j. (k.0, sym (place-later key_keys i x xs k l.1) j))
+
+-- the new key of a polygon is its CENID with its place
+pub image-under_cenid : (keys : List PolygonKey) (k : PolygonKey) → Known key_cmp keys k
+    → image key_cmp (map under_cenid (numbered keys)) k ≡ (k.0, place_from key_keys 1 keys k)
+image-under_cenid keys k h = keys_are_places 1 keys k h
+
+-- the chains that an arrangement turns
+pub turned_known : (steps : Arrangement) (k : ℕ) → Known nat_cmp (turned_tlids steps) k → Known nat_cmp (arranged_tlids steps) k
+turned_known [] k h = h
+turned_known (s ∷ steps) k h = go s.1 h (turned_known steps k)
+  where
+    go : (b : Bool) → Known nat_cmp (map (λ (t : ℕ × Bool). t.0) (cond b (s ∷ filter (λ t. t.1) steps) (filter (λ t. t.1) steps))) k
+        → (Known nat_cmp (turned_tlids steps) k → Known nat_cmp (arranged_tlids steps) k) → Known nat_cmp (s.0 ∷ arranged_tlids steps) k
+    go true l ih = at (known_cases nat_keys k s.0 (turned_tlids steps) l)
+      where
+        at : (k ≡ s.0) ⊎ (Known nat_cmp (turned_tlids steps) k × (is_eq (nat_cmp k s.0) ≡ false))
+            → Known nat_cmp (s.0 ∷ arranged_tlids steps) k
+        at (inl e) = subst (λ n. Known nat_cmp (s.0 ∷ arranged_tlids steps) n) (sym e) (known-here nat_keys s.0 (arranged_tlids steps))
+        at (inr m) = known-later nat_keys k s.0 (arranged_tlids steps) (ih m.0)
+    go false l ih = known-later nat_keys k s.0 (arranged_tlids steps) (ih l)
+
+pub turned_apart : (steps : Arrangement) → IsApart nat_cmp (arranged_tlids steps) → IsApart nat_cmp (turned_tlids steps)
+turned_apart [] a k = omega arith
+turned_apart (s ∷ steps) a k = go s.1 (turned_apart steps (apart_tail nat_keys s.0 (arranged_tlids steps) a))
+  where
+    go : (b : Bool) → IsApart nat_cmp (turned_tlids steps)
+        → times nat_cmp k (map (λ (t : ℕ × Bool). t.0) (cond b (s ∷ filter (λ t. t.1) steps) (filter (λ t. t.1) steps))) ≤ 1
+    go true ih = at (same_or_not nat_keys k s.0)
+      where
+        at : (k ≡ s.0) ⊎ (is_eq (nat_cmp k s.0) ≡ false) → times nat_cmp k (s.0 ∷ turned_tlids steps) ≤ 1
+        at (inl e) = none (times nat_cmp k (turned_tlids steps)) refl
+          where
+            none : (n : ℕ) → times nat_cmp k (turned_tlids steps) ≡ n → times nat_cmp k (s.0 ∷ turned_tlids steps) ≤ 1
+            none zero f = omega (arith, times-yes nat_keys k s.0 (turned_tlids steps) e, f)
+            none (suc n) f = absurd (let l : Known nat_cmp (arranged_tlids steps) k = turned_known steps k (omega (arith, f)) in
+                omega (arith, l, times-yes nat_keys k s.0 (arranged_tlids steps) e, a k))
+        at (inr ne) = omega (arith, times-no nat_keys k s.0 (turned_tlids steps) ne, ih k)
+    go false ih = ih k
+
+-- an arrangement turns exactly the chains that its steps turn
+pub turns_as_told : (steps : Arrangement) → IsApart nat_cmp (arranged_tlids steps)
+    → AllByRecursion (λ s. stands_in nat_cmp s.0 (turned_tlids steps) ≡ s.1) steps
+turns_as_told [] a = tt
+turns_as_told (s ∷ steps) a = (
+  here s.1 refl,
+  all_weaker (λ t. (stands_in nat_cmp t.0 (turned_tlids steps) ≡ t.1) × (is_eq (nat_cmp t.0 s.0) ≡ false))
+      (λ t. stands_in nat_cmp t.0 (turned_tlids (s ∷ steps)) ≡ t.1) (λ t h. later s.1 t h.0 h.1) steps
+      (both steps (turns_as_told steps (apart_tail nat_keys s.0 (arranged_tlids steps) a)) (apart_others steps (λ t l. l))),
+)
+  where
+    none : times nat_cmp s.0 (arranged_tlids steps) ≤ 0
+    none = omega (arith, times-yes nat_keys s.0 s.0 (arranged_tlids steps) refl, a s.0)
+
+    here : (b : Bool) → s.1 ≡ b → stands_in nat_cmp s.0 (map (λ (t : ℕ × Bool). t.0)
+        (cond s.1 (s ∷ filter (λ t. t.1) steps) (filter (λ t. t.1) steps))) ≡ s.1
+    here true e = ap (λ b. stands_in nat_cmp s.0 (map (λ (t : ℕ × Bool). t.0)
+        (cond b (s ∷ filter (λ t. t.1) steps) (filter (λ t. t.1) steps)))) e
+        ∙ lt-ltb 0 (times nat_cmp s.0 (s.0 ∷ turned_tlids steps)) (known-here nat_keys s.0 (turned_tlids steps)) ∙ sym e
+    here false e = ap (λ b. stands_in nat_cmp s.0 (map (λ (t : ℕ × Bool). t.0)
+        (cond b (s ∷ filter (λ t. t.1) steps) (filter (λ t. t.1) steps)))) e ∙ unknown (times nat_cmp s.0 (turned_tlids steps)) refl ∙ sym e
+      where
+        unknown : (n : ℕ) → times nat_cmp s.0 (turned_tlids steps) ≡ n → stands_in nat_cmp s.0 (turned_tlids steps) ≡ false
+        unknown zero f = ap (nat_lt 0) f
+        unknown (suc n) f = absurd (let l : Known nat_cmp (arranged_tlids steps) s.0 = turned_known steps s.0 (omega (arith, f)) in
+            omega (arith, l, none))
+
+    later : (b : Bool) (t : ℕ × Bool) → stands_in nat_cmp t.0 (turned_tlids steps) ≡ t.1 → is_eq (nat_cmp t.0 s.0) ≡ false
+        → stands_in nat_cmp t.0 (map (λ (u : ℕ × Bool). u.0) (cond b (s ∷ filter (λ u. u.1) steps) (filter (λ u. u.1) steps))) ≡ t.1
+    later true t h ne = ap (nat_lt 0) (times-no nat_keys t.0 s.0 (turned_tlids steps) ne) ∙ h
+    later false t h ne = h
+
+    both : (ts : Arrangement) → AllByRecursion (λ t. stands_in nat_cmp t.0 (turned_tlids steps) ≡ t.1) ts
+        → AllByRecursion (λ t. is_eq (nat_cmp t.0 s.0) ≡ false) ts
+        → AllByRecursion (λ t. (stands_in nat_cmp t.0 (turned_tlids steps) ≡ t.1) × (is_eq (nat_cmp t.0 s.0) ≡ false)) ts
+    both [] g h = tt
+    both (t ∷ ts) g h = ((g.0, h.0), both ts g.1 h.1)
+
+    apart_others : (ts : Arrangement) → ((k : ℕ) → Known nat_cmp (arranged_tlids ts) k → Known nat_cmp (arranged_tlids steps) k)
+        → AllByRecursion (λ t. is_eq (nat_cmp t.0 s.0) ≡ false) ts
+    apart_others [] h = tt
+    apart_others (t ∷ ts) h = (
+      differ nat_keys t.0 s.0 (λ e. let l : Known nat_cmp (arranged_tlids steps) s.0 =
+          subst (Known nat_cmp (arranged_tlids steps)) e (h t.0 (known-here nat_keys t.0 (arranged_tlids ts))) in omega (arith, l, none)),
+      apart_others ts (λ k l. h k (known-later nat_keys k t.0 (arranged_tlids ts) l)),
+    )
+
+flat_map-map : {X Y Z : Type 0} (f : Y → List Z) (g : X → Y) (xs : List X) → flat_map f (map g xs) ≡ flat_map (λ x. f (g x)) xs
+flat_map-map f g [] = refl
+flat_map-map f g (x ∷ xs) = ap (λ zs. f (g x) ++ zs) (flat_map-map f g xs)
+
+module _ (county : County) (steps : Arrangement) (is : IsCounty county) (arranges : Arranges steps county) where
+  pub steps_apart : IsApart nat_cmp (arranged_tlids steps)
+  steps_apart = apart-permutation nat_keys (arranged_tlids steps) (tlids county) arranges
+      (apart_from_sorted nat_keys (tlids county) is.ascending.chains)
+
+  -- the chains in their new order are the chains
+  pub order-permutation : IsPermutation (chains_in_order county steps) county.chains
+  order-permutation = subst (λ es. IsPermutation es county.chains) (flat_map-map (entries_of county.chains) (λ (s : ℕ × Bool). s.0) steps)
+      (groups-permutation (λ (entry : ℕ × Chain). entry.0) (arranged_tlids steps) county.chains steps_apart
+      (all_weaker (λ entry. Known nat_cmp (tlids county) entry.0) (λ entry. Known nat_cmp (arranged_tlids steps) entry.0)
+      (λ entry k. known-permutation nat_keys entry.0 (arranged_tlids steps) (tlids county) arranges k) county.chains
+      (keys_known nat_keys county.chains)))
+
+  -- a known TLID has one chain
+  pub one_chain : (n : ℕ) → Known nat_cmp (tlids county) n → (entry : ℕ × Chain) × (entries_of county.chains n ≡ entry ∷ []) × (entry.0 ≡ n)
+  one_chain n k =
+      let once : times nat_cmp n (tlids county) ≤ 1 = apart_from_sorted nat_keys (tlids county) is.ascending.chains n in
+      let count : times nat_cmp n (tlids county) ≡ length (entries_of county.chains n) =
+      times-of_number (λ (entry : ℕ × Chain). entry.0) n county.chains in
+      let one : (entry : ℕ × Chain) × (entries_of county.chains n ≡ entry ∷ []) =
+      only_one (entries_of county.chains n) (omega (arith, once, count, k)) in
+      let all : AllByRecursion (λ (entry : ℕ × Chain). entry.0 ≡ n) (one.0 ∷ []) =
+      subst (AllByRecursion (λ (entry : ℕ × Chain). entry.0 ≡ n)) one.1
+      (of_number-all (λ (entry : ℕ × Chain). entry.0) n county.chains) in
+      (one.0, one.1, all.0)
+
+  steps_known : AllByRecursion (λ (s : ℕ × Bool). Known nat_cmp (tlids county) s.0) steps
+  steps_known = all_weaker (λ (s : ℕ × Bool). Known nat_cmp (arranged_tlids steps) s.0) (λ s. Known nat_cmp (tlids county) s.0)
+      (λ s k. known-permutation_to nat_keys s.0 (arranged_tlids steps) (tlids county) arranges k) steps (keys_known nat_keys steps)
+
+  abbrev bodies_of : ℕ × Bool → List Chain
+  bodies_of s = map (λ entry. turned_if s.1 entry.1) (entries_of county.chains s.0)
+
+  order_tlids : (ss : Arrangement) → AllByRecursion (λ s. Known nat_cmp (tlids county) s.0) ss
+      → map (λ (entry : ℕ × Chain). entry.0) (flat_map (λ s. entries_of county.chains s.0) ss) ≡ arranged_tlids ss
+  order_tlids [] a = refl
+  order_tlids (s ∷ ss) a =
+      let one = one_chain s.0 a.0 in
+      let rest : List (ℕ × Chain) = flat_map (λ t. entries_of county.chains t.0) ss in
+      ap (λ es. map (λ (entry : ℕ × Chain). entry.0) (es ++ rest)) one.1 ∙ (λ i. one.2 i ∷ order_tlids ss a.1 i)
+
+  count_bodies : (ss : Arrangement) → AllByRecursion (λ s. Known nat_cmp (tlids county) s.0) ss
+      → length (flat_map bodies_of ss) ≡ length (arranged_tlids ss)
+  count_bodies [] a = refl
+  count_bodies (s ∷ ss) a =
+      ap (λ es. length (map (λ (entry : ℕ × Chain). turned_if s.1 entry.1) es ++ flat_map bodies_of ss)) (one_chain s.0 a.0).1
+      ∙ ap suc (count_bodies ss a.1)
+
+  pub chain_count : length (placed county steps) ≡ length (arranged_tlids steps)
+  chain_count = sym (length-map (placed county steps) (λ (entry : ℕ × Chain). entry.1))
+      ∙ ap length (rights-numbered_from 1 (flat_map bodies_of steps)) ∙ count_bodies steps steps_known
+
+  pub placed_tlids : map (λ (entry : ℕ × Chain). entry.0) (placed county steps) ≡ up_to (length (arranged_tlids steps))
+  placed_tlids = lefts-numbered_from 1 (flat_map bodies_of steps) ∙ ap up_to (count_bodies steps steps_known)
+
+  -- any renaming that numbers and turns the chains as the arrangement does
+  module _ (r : Renumbering) (chains : r.chains ≡ numbered (arranged_tlids steps)) (turning : r.turned ≡ turned_tlids steps) where
+    new_tlids : map (image nat_cmp r.chains) (arranged_tlids steps) ≡ up_to (length (arranged_tlids steps))
+    new_tlids =
+        let ps : List (ℕ × ℕ) = numbered (arranged_tlids steps) in
+        ap (λ pairs. map (image nat_cmp pairs) (arranged_tlids steps)) chains
+        ∙ ap (map (image nat_cmp ps)) (sym (lefts-numbered (arranged_tlids steps)))
+        ∙ images-lefts nat_keys ps (subst (IsApart nat_cmp) (sym (lefts-numbered (arranged_tlids steps))) steps_apart)
+        ∙ rights-numbered (arranged_tlids steps)
+
+    told : AllByRecursion (λ (s : ℕ × Bool). turns r s.0 ≡ s.1) steps
+    told = subst (λ ts. AllByRecursion (λ (s : ℕ × Bool). stands_in nat_cmp s.0 ts ≡ s.1) steps) (sym turning)
+        (turns_as_told steps steps_apart)
+
+    same_bodies : (ss : Arrangement) → AllByRecursion (λ s. turns r s.0 ≡ s.1) ss
+        → map (λ (entry : ℕ × Chain). renumbered r (turned_if (turns r entry.0) entry.1))
+        (flat_map (λ s. entries_of county.chains s.0) ss) ≡ map (renumbered r) (flat_map bodies_of ss)
+    same_bodies [] a = refl
+    same_bodies (s ∷ ss) a =
+        let rest : List (ℕ × Chain) = flat_map (λ t. entries_of county.chains t.0) ss in
+        map-append (λ (entry : ℕ × Chain). renumbered r (turned_if (turns r entry.0) entry.1)) (entries_of county.chains s.0) rest
+        ∙ ap₂ (λ xs ys. xs ++ ys)
+        (map_agree_all (λ (entry : ℕ × Chain). renumbered r (turned_if (turns r entry.0) entry.1))
+        (λ entry. renumbered r (turned_if s.1 entry.1)) (λ entry. entry.0 ≡ s.0)
+        (λ entry e. ap (λ b. renumbered r (turned_if b entry.1)) (ap (turns r) e ∙ a.0)) (entries_of county.chains s.0)
+        (of_number-all (λ (entry : ℕ × Chain). entry.0) s.0 county.chains)
+        ∙ sym (map-map (renumbered r) (λ (entry : ℕ × Chain). turned_if s.1 entry.1) (entries_of county.chains s.0)))
+        (same_bodies ss a.1)
+        ∙ sym (map-append (renumbered r) (bodies_of s) (flat_map bodies_of ss))
+
+    -- carried by the renaming, the chains in their new order are the placed chains with their numbers renamed
+    pub carried_placed : map (carried_chain r) (chains_in_order county steps) ≡ map (kept_entry r) (placed county steps)
+    carried_placed = entries_equal (map (carried_chain r) (chains_in_order county steps)) (map (kept_entry r) (placed county steps))
+        (map-map (λ (entry : ℕ × Chain). entry.0) (carried_chain r) (chains_in_order county steps)
+        ∙ sym (map-map (image nat_cmp r.chains) (λ (entry : ℕ × Chain). entry.0) (chains_in_order county steps))
+        ∙ ap (map (image nat_cmp r.chains)) (order_tlids steps steps_known) ∙ new_tlids
+        ∙ sym (map-map (λ (entry : ℕ × Chain). entry.0) (kept_entry r) (placed county steps) ∙ placed_tlids))
+        (map-map (λ (entry : ℕ × Chain). entry.1) (carried_chain r) (chains_in_order county steps)
+        ∙ same_bodies steps told
+        ∙ sym (map-map (λ (entry : ℕ × Chain). entry.1) (kept_entry r) (placed county steps)
+        ∙ sym (map-map (renumbered r) (λ (entry : ℕ × Chain). entry.1) (placed county steps))
+        ∙ ap (map (renumbered r)) (rights-numbered_from 1 (flat_map bodies_of steps))))

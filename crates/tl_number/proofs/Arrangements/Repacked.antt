@@ -1,0 +1,287 @@
+-- A canonical list of records is the packing of its county: chains, names and landmarks.
+use Rattle.std.proofs.Common.{◌≡◌, ℕ, ◌==◌, List, [], ◌∷◌, ◌++◌, map, flat_map, length, false, is_gt, sym, refl, ap, ap₂, ◌∙◌}
+use Rattle.std.proofs.Common.{subst, arith, nat_cmp, map-id}
+use Rattle.std.proofs.lemmas.Cmp.{tied_itself, nat_cmp_total}
+use Rattle.std.proofs.lemmas.List.{map-append}
+use Rattle.std.specs.List.{AllByRecursion}
+use Rattle.std.specs.List.Sorted.{IsStrictlySortedBy}
+use Rattle.std.specs.Ordering.{on, then_cmp}
+use Rattle.tl_layout.specs.Coordinates.{Coordinates}
+use Rattle.tl_layout.specs.Fields.{Fields1, Fields2, Fields4, Fields5, Fields6, Fields7, FieldsI}
+use Rattle.tl_layout.specs.declared.ranges.Ranges.{Ranges}
+use Rattle.tl_layout.specs.declared.record_type.Record.{Record}
+use Rattle.tl_county.specs.BodyOrder.{landmark_body_cmp}
+use Rattle.tl_layout.specs.ByType.{of_type_1, of_type_2, of_type_4, of_type_5, of_type_6, of_type_7, of_type_i, of_number}
+use Rattle.tl_shape.specs.Chain.{Chain}
+use Rattle.tl_county.specs.County.{one_tlid, two_tlid, two_rtsq, four_tlid, four_rtsq, five_feat, six_tlid, six_rtsq, seven_land}
+use Rattle.tl_county.specs.County.{i_tlid, shape_points, further_names, chain_of, chains_of, names_of, landmarks_of}
+use Rattle.tl_county.specs.LinkRules.{IsLinked, chain_tlids, linked_tlids}
+use Rattle.tl_county.specs.declared.fault.LinkFault.TheVariants.{NoChain}
+use Rattle.tl_county.specs.declared.fault.LinkedType.{LinkedType}
+use Rattle.tl_county.specs.declared.fault.LinkedType.TheVariants.{Two, Four, Six, I}
+use Rattle.tl_county.specs.Orders.{times, stands_in, IsInOrder, in_order, distinct}
+use Rattle.tl_county.proofs.Lists.Distinct.{known-distinct}
+use Rattle.tl_county.proofs.Lists.InOrder.{in_order-itself, in_order-from_strict}
+use Rattle.tl_county.proofs.ByKey.Keys.{Known, nat_keys, all_known}
+use Rattle.tl_county.proofs.Rules.LinkedCounty.{needed, apart_chains, the_link}
+use Rattle.tl_county.proofs.Lists.Elements.{map-map, map_agree_all, all_unmap}
+use Rattle.tl_county.proofs.ByKey.Numbers.{of_number-all, distinct-strict, strict_from_order}
+use Rattle.std.proofs.lemmas.Bool.{ltb-true, lt-ltb}
+use Rattle.tl_county.proofs.Lists.InOrder.{in_order-map}
+use Rattle.tl_number.specs.Canonical.{StandsInOrder, IsPacked, seven_cmp}
+use Rattle.tl_number.specs.Growth.{up_to}
+use Rattle.tl_county.specs.Packing.{in_pieces, numbered_from, last_point, without_last, packed_one, packed_twos, packed_fours}
+use Rattle.tl_county.specs.Packing.{packed_sixes, packed_i, packed_five, packed_sevens}
+use Rattle.tl_number.proofs.Lists.Counting.{up_to-strict}
+use Rattle.tl_number.proofs.Lists.Grouping.{in_order-weaker, then-first, then-second, in_order-filter, grouped, pieces-joined, rtsqs-back}
+
+-- the points between the ends, and the last one
+inner_back : (s : Coordinates) (ps : List Coordinates) (e : Coordinates) → without_last (ps ++ (e ∷ [])) ≡ ps
+inner_back s [] e = refl
+inner_back s (p ∷ []) e = refl
+inner_back s (p ∷ q ∷ ps) e = ap (λ rs. p ∷ rs) (inner_back s (q ∷ ps) e)
+
+last_back : (s : Coordinates) (ps : List Coordinates) (e : Coordinates) → last_point (s ∷ (ps ++ (e ∷ []))) ≡ e
+last_back s [] e = refl
+last_back s (p ∷ ps) e = last_back p ps e
+
+flat_map-agree : {X Y : Type 0} (f g : X → List Y) → ((x : X) → f x ≡ g x) → (xs : List X) → flat_map f xs ≡ flat_map g xs
+flat_map-agree f g h [] = refl
+flat_map-agree f g h (x ∷ xs) = ap₂ (λ ys zs. ys ++ zs) (h x) (flat_map-agree f g h xs)
+
+flat_map-map : {X Y Z : Type 0} (f : Y → List Z) (g : X → Y) (xs : List X) → flat_map f (map g xs) ≡ flat_map (λ x. f (g x)) xs
+flat_map-map f g [] = refl
+flat_map-map f g (x ∷ xs) = ap (λ ys. f (g x) ++ ys) (flat_map-map f g xs)
+
+map_over_pieces : {X Y : Type 0} (f : X → Y) (ls : List (List X)) → flat_map (λ l. l) (map (λ x. x) ls) ≡ flat_map (λ l. l) ls
+map_over_pieces f ls = ap (flat_map (λ l. l)) (map-id ls)
+
+-- In a linked list each type 1 record has one type I record, and the chains are the type 1 records with their type I records.
+module _ (records : List Record) (linked : IsLinked records) where
+  chain_entries : Fields1 → List (ℕ × Chain)
+  chain_entries r = map (λ link. (r.tlid, chain_of records r link)) (of_number i_tlid r.tlid (of_type_i records))
+
+  -- a value that depends only on the type 1 record, once for each chain
+  each_chain : {Y : Type 0} (f : ℕ × Chain → Y) (g : Fields1 → Y)
+      → ((r : Fields1) (link : FieldsI) → f (r.tlid, chain_of records r link) ≡ g r) → (rs : List Fields1)
+      → AllByRecursion (λ r. Known nat_cmp (chain_tlids records) r.tlid) rs → map f (flat_map chain_entries rs) ≡ map g rs
+  unfolding chain_entries
+  each_chain f g h [] a = refl
+  each_chain f g h (r ∷ rs) a =
+      let one = the_link records linked r.tlid a.0 in
+      ap (λ ls. map f (map (λ link. (r.tlid, chain_of records r link)) ls ++ flat_map chain_entries rs)) one.1
+      ∙ ap₂ (λ y ys. y ∷ ys) (h r one.0) (each_chain f g h rs a.1)
+
+  each_chain_list : {Y : Type 0} (f : ℕ × Chain → List Y) (g : Fields1 → List Y)
+      → ((r : Fields1) (link : FieldsI) → f (r.tlid, chain_of records r link) ≡ g r) → (rs : List Fields1)
+      → AllByRecursion (λ r. Known nat_cmp (chain_tlids records) r.tlid) rs → flat_map f (flat_map chain_entries rs) ≡ flat_map g rs
+  unfolding chain_entries
+  each_chain_list f g h [] a = refl
+  each_chain_list f g h (r ∷ rs) a =
+      let one = the_link records linked r.tlid a.0 in
+      ap (λ ls. flat_map f (map (λ link. (r.tlid, chain_of records r link)) ls ++ flat_map chain_entries rs)) one.1
+      ∙ ap₂ (λ y ys. y ++ ys) (h r one.0) (each_chain_list f g h rs a.1)
+
+  each_link : {Y : Type 0} (f : ℕ × Chain → Y) (g : FieldsI → Y)
+      → ((r : Fields1) (link : FieldsI) → link.tlid ≡ r.tlid → f (r.tlid, chain_of records r link) ≡ g link) → (rs : List Fields1)
+      → map f (flat_map chain_entries rs) ≡ map g (flat_map (λ r. of_number i_tlid r.tlid (of_type_i records)) rs)
+  unfolding chain_entries
+  each_link f g h [] = refl
+  each_link f g h (r ∷ rs) =
+      map-append f (map (λ link. (r.tlid, chain_of records r link)) (of_number i_tlid r.tlid (of_type_i records)))
+      (flat_map chain_entries rs)
+      ∙ ap₂ (λ ys zs. ys ++ zs)
+      (map-map f (λ link. (r.tlid, chain_of records r link)) (of_number i_tlid r.tlid (of_type_i records))
+      ∙ map_agree_all (λ link. f (r.tlid, chain_of records r link)) g (λ link. link.tlid ≡ r.tlid) (h r)
+      (of_number i_tlid r.tlid (of_type_i records)) (of_number-all i_tlid r.tlid (of_type_i records)))
+      (each_link f g h rs)
+      ∙ sym (map-append g (of_number i_tlid r.tlid (of_type_i records)) (flat_map (λ q. of_number i_tlid q.tlid (of_type_i records)) rs))
+
+  module _ (order : StandsInOrder records) (full : IsPacked records) where
+    chains_are : chains_of records ≡ flat_map chain_entries (of_type_1 records)
+    unfolding chain_entries
+    chains_are = ap (flat_map chain_entries) (in_order-itself (on one_tlid nat_cmp) (of_type_1 records) order.of_type_1)
+
+    ones_known : AllByRecursion (λ r. Known nat_cmp (chain_tlids records) r.tlid) (of_type_1 records)
+    ones_known = all_unmap (Known nat_cmp (chain_tlids records)) one_tlid (of_type_1 records)
+        (all_known nat_keys (Known nat_cmp (chain_tlids records)) (chain_tlids records) (λ n k. k))
+
+    tlids_strict : IsStrictlySortedBy nat_cmp (chain_tlids records)
+    tlids_strict = strict_from_order nat_keys (chain_tlids records) (in_order-map nat_cmp one_tlid (of_type_1 records) order.of_type_1)
+        (apart_chains records linked)
+
+    -- each record of the types of chains has a chain
+    linked_known : (t : LinkedType) → AllByRecursion (Known nat_cmp (chain_tlids records)) (linked_tlids t records)
+    linked_known t = all_known nat_keys (Known nat_cmp (chain_tlids records)) (linked_tlids t records)
+        (λ n k. ltb-true 0 (times nat_cmp n (chain_tlids records))
+        (needed (stands_in nat_cmp n (linked_tlids t records)) (stands_in nat_cmp n (chain_tlids records)) (linked (NoChain t n))
+        (lt-ltb 0 (times nat_cmp n (linked_tlids t records)) k)))
+
+    by_chain : {X : Type 0} (tlid : X → ℕ) (xs : List X) → IsInOrder (on tlid nat_cmp) xs
+        → AllByRecursion (λ x. Known nat_cmp (chain_tlids records) (tlid x)) xs
+        → flat_map (λ r. of_number tlid r.tlid xs) (of_type_1 records) ≡ xs
+    by_chain tlid xs h a = sym (flat_map-map (λ n. of_number tlid n xs) one_tlid (of_type_1 records))
+        ∙ grouped tlid xs h (chain_tlids records) tlids_strict a
+
+    pub ones_back : map packed_one (chains_of records) ≡ of_type_1 records
+    unfolding chain_entries
+    ones_back =
+        ap (map packed_one) chains_are
+        ∙ each_chain packed_one (λ r. r) (λ r link i. record {
+          tlid = r.tlid;
+          body = r.body;
+          start = r.start;
+          end =
+              last_back r.start (shape_points records r.tlid) r.end i;
+        }) (of_type_1 records) ones_known
+        ∙ map-id (of_type_1 records)
+
+    pub is_back : map packed_i (chains_of records) ≡ of_type_i records
+    unfolding chain_entries
+    is_back =
+        ap (map packed_i) chains_are
+        ∙ each_link packed_i (λ link. link) (λ r link e i. record link { tlid = sym e i }) (of_type_1 records)
+        ∙ map-id (flat_map (λ r. of_number i_tlid r.tlid (of_type_i records)) (of_type_1 records))
+        ∙ by_chain i_tlid (of_type_i records) order.of_type_i
+        (all_unmap (Known nat_cmp (chain_tlids records)) i_tlid (of_type_i records) (linked_known I))
+
+    -- records with the RTSQs 1, 2, 3, .. are in the order of their RTSQs
+    rtsq_order : {X : Type 0} (rtsq : X → ℕ) (xs : List X) → map rtsq xs ≡ up_to (length xs) → in_order (on rtsq nat_cmp) xs ≡ xs
+    rtsq_order rtsq xs e =
+        in_order-itself (on rtsq nat_cmp) xs
+        (in_order-from_strict rtsq xs (subst (IsStrictlySortedBy nat_cmp) (sym e) (up_to-strict (length xs))))
+
+    joined_pieces : {X Y : Type 0} (f : X → List Y) (xs : List X) → flat_map f xs ≡ flat_map (λ l. l) (map f xs)
+    joined_pieces f xs = sym (flat_map-map (λ l. l) f xs)
+
+    two_pieces : (n : ℕ) → in_pieces 10 (shape_points records n) ≡ map (λ (r : Fields2). r.points)
+        (of_number two_tlid n (of_type_2 records))
+    two_pieces n =
+        let rs : List Fields2 = of_number two_tlid n (of_type_2 records) in
+        let e : shape_points records n ≡ flat_map (λ l. l) (map (λ (r : Fields2). r.points) rs) =
+        ap (flat_map (λ (r : Fields2). r.points)) (rtsq_order two_rtsq rs (full.two_rtsqs n))
+        ∙ joined_pieces (λ (r : Fields2). r.points) rs in
+        ap (in_pieces 10) e ∙ pieces-joined 10 (omega arith) (map (λ (r : Fields2). r.points) rs) (full.points n)
+        (length (flat_map (λ l. l) (map (λ (r : Fields2). r.points) rs))) (omega arith)
+
+    twos_of : (r : Fields1) (link : FieldsI) → packed_twos (r.tlid, chain_of records r link) ≡ of_number two_tlid r.tlid (of_type_2 records)
+    twos_of r link =
+        let rs : List Fields2 = of_number two_tlid r.tlid (of_type_2 records) in
+        ap (λ ps. map (λ (p : ℕ × List Coordinates). record { tlid = r.tlid; rtsq = p.0; points = p.1 })
+        (numbered_from 1 (in_pieces 10 ps))) (inner_back r.start (shape_points records r.tlid) r.end)
+        ∙ ap (λ ls. map (λ (p : ℕ × List Coordinates). record { tlid = r.tlid; rtsq = p.0; points = p.1 }) (numbered_from 1 ls))
+        (two_pieces r.tlid)
+        ∙ rtsqs-back two_tlid two_rtsq (λ (q : Fields2). q.points) (λ t i content. record { tlid = t; rtsq = i; points = content })
+        (λ q. refl) r.tlid 1 rs (of_number-all two_tlid r.tlid (of_type_2 records)) (full.two_rtsqs r.tlid)
+
+    pub twos_back : flat_map packed_twos (chains_of records) ≡ of_type_2 records
+    unfolding chain_entries
+    twos_back =
+        ap (flat_map packed_twos) chains_are
+        ∙ each_chain_list packed_twos (λ r. of_number two_tlid r.tlid (of_type_2 records)) twos_of (of_type_1 records) ones_known
+        ∙ by_chain two_tlid (of_type_2 records) (in_order-weaker (then_cmp (on two_tlid nat_cmp) (on two_rtsq nat_cmp))
+        (on two_tlid nat_cmp) (λ x y. then-first (nat_cmp x.tlid y.tlid) (nat_cmp x.rtsq y.rtsq)) (of_type_2 records) order.of_type_2)
+        (all_unmap (Known nat_cmp (chain_tlids records)) two_tlid (of_type_2 records) (linked_known Two))
+
+    four_pieces : (n : ℕ) → in_pieces 5 (further_names records n) ≡ map (λ (r : Fields4). r.feats)
+        (of_number four_tlid n (of_type_4 records))
+    four_pieces n =
+        let rs : List Fields4 = of_number four_tlid n (of_type_4 records) in
+        let e : further_names records n ≡ flat_map (λ l. l) (map (λ (r : Fields4). r.feats) rs) =
+        ap (flat_map (λ (r : Fields4). r.feats)) (rtsq_order four_rtsq rs (full.four_rtsqs n))
+        ∙ joined_pieces (λ (r : Fields4). r.feats) rs in
+        ap (in_pieces 5) e ∙ pieces-joined 5 (omega arith) (map (λ (r : Fields4). r.feats) rs) (full.feats n)
+        (length (flat_map (λ l. l) (map (λ (r : Fields4). r.feats) rs))) (omega arith)
+
+    fours_of : (r : Fields1) (link : FieldsI) → packed_fours (r.tlid, chain_of records r link) ≡ of_number four_tlid r.tlid
+        (of_type_4 records)
+    fours_of r link =
+        let rs : List Fields4 = of_number four_tlid r.tlid (of_type_4 records) in
+        ap (λ ls. map (λ (p : ℕ × List ℕ). record { tlid = r.tlid; rtsq = p.0; feats = p.1 }) (numbered_from 1 ls)) (four_pieces r.tlid)
+        ∙ rtsqs-back four_tlid four_rtsq (λ (q : Fields4). q.feats) (λ t i content. record { tlid = t; rtsq = i; feats = content })
+        (λ q. refl) r.tlid 1 rs (of_number-all four_tlid r.tlid (of_type_4 records)) (full.four_rtsqs r.tlid)
+
+    pub fours_back : flat_map packed_fours (chains_of records) ≡ of_type_4 records
+    unfolding chain_entries
+    fours_back =
+        ap (flat_map packed_fours) chains_are
+        ∙ each_chain_list packed_fours (λ r. of_number four_tlid r.tlid (of_type_4 records)) fours_of (of_type_1 records) ones_known
+        ∙ by_chain four_tlid (of_type_4 records) (in_order-weaker (then_cmp (on four_tlid nat_cmp) (on four_rtsq nat_cmp))
+        (on four_tlid nat_cmp) (λ x y. then-first (nat_cmp x.tlid y.tlid) (nat_cmp x.rtsq y.rtsq)) (of_type_4 records) order.of_type_4)
+        (all_unmap (Known nat_cmp (chain_tlids records)) four_tlid (of_type_4 records) (linked_known Four))
+
+    sixes_of : (r : Fields1) (link : FieldsI) → packed_sixes (r.tlid, chain_of records r link) ≡ of_number six_tlid r.tlid
+        (of_type_6 records)
+    sixes_of r link =
+        let rs : List Fields6 = of_number six_tlid r.tlid (of_type_6 records) in
+        ap (λ qs. map (λ (p : ℕ × Ranges). record { tlid = r.tlid; rtsq = p.0; ranges = p.1 })
+        (numbered_from 1 (map (λ (q : Fields6). q.ranges) qs))) (rtsq_order six_rtsq rs (full.six_rtsqs r.tlid))
+        ∙ rtsqs-back six_tlid six_rtsq (λ (q : Fields6). q.ranges) (λ t i content. record { tlid = t; rtsq = i; ranges = content })
+        (λ q. refl) r.tlid 1 rs (of_number-all six_tlid r.tlid (of_type_6 records)) (full.six_rtsqs r.tlid)
+
+    pub sixes_back : flat_map packed_sixes (chains_of records) ≡ of_type_6 records
+    unfolding chain_entries
+    sixes_back =
+        ap (flat_map packed_sixes) chains_are
+        ∙ each_chain_list packed_sixes (λ r. of_number six_tlid r.tlid (of_type_6 records)) sixes_of (of_type_1 records) ones_known
+        ∙ by_chain six_tlid (of_type_6 records) (in_order-weaker (then_cmp (on six_tlid nat_cmp) (on six_rtsq nat_cmp))
+        (on six_tlid nat_cmp) (λ x y. then-first (nat_cmp x.tlid y.tlid) (nat_cmp x.rtsq y.rtsq)) (of_type_6 records) order.of_type_6)
+        (all_unmap (Known nat_cmp (chain_tlids records)) six_tlid (of_type_6 records) (linked_known Six))
+
+    pub fives_back : map packed_five (names_of records) ≡ of_type_5 records
+    fives_back =
+        map-map packed_five (λ (r : Fields5). (r.feat, r.body)) (in_order (on five_feat nat_cmp) (of_type_5 records))
+        ∙ map-id (in_order (on five_feat nat_cmp) (of_type_5 records))
+        ∙ in_order-itself (on five_feat nat_cmp) (of_type_5 records) order.of_type_5
+
+    -- the bodies of one landmark are in order
+    bodies_order : (n : ℕ) (xs : List Fields7) → AllByRecursion (λ r. r.land ≡ n) xs → IsInOrder seven_cmp xs
+        → IsInOrder landmark_body_cmp (map (λ (r : Fields7). r.body) xs)
+    bodies_order n [] a h = tt
+    bodies_order n (x ∷ xs) a h = (each xs a.1 h.0, bodies_order n xs a.1 h.1)
+      where
+        each : (ys : List Fields7) → AllByRecursion (λ r. r.land ≡ n) ys → AllByRecursion (λ y. is_gt (seven_cmp x y) ≡ false) ys
+            → AllByRecursion (λ b. is_gt (landmark_body_cmp x.body b) ≡ false) (map (λ (r : Fields7). r.body) ys)
+        each [] l g = tt
+        each (y ∷ ys) l g = (
+          then-second (nat_cmp x.land y.land) (landmark_body_cmp x.body y.body) (ap (nat_cmp x.land) (l.0 ∙ sym a.0)
+              ∙ tied_itself nat_cmp_total x.land) g.0,
+          each ys l.1 g.1,
+        )
+
+    sevens_of : (n : ℕ) → packed_sevens (
+      n,
+      in_order landmark_body_cmp
+          (map (λ (r : Fields7). r.body) (of_number seven_land n (of_type_7 records))),
+    ) ≡ of_number seven_land n (of_type_7 records)
+    sevens_of n =
+        let rs : List Fields7 = of_number seven_land n (of_type_7 records) in
+        let all : AllByRecursion (λ r. r.land ≡ n) rs = of_number-all seven_land n (of_type_7 records) in
+        ap (map (λ body. record { land = n; body = body }))
+        (in_order-itself landmark_body_cmp (map (λ (r : Fields7). r.body) rs)
+        (bodies_order n rs all (in_order-filter seven_cmp (λ r. r.land == n) (of_type_7 records) order.of_type_7)))
+        ∙ map-map (λ body. record { land = n; body = body }) (λ (r : Fields7). r.body) rs
+        ∙ map_agree_all (λ (r : Fields7). record { land = n; body = r.body }) (λ r. r) (λ r. r.land ≡ n)
+        (λ r e i. record r { land = sym e i }) rs all
+        ∙ map-id rs
+
+    pub sevens_back : flat_map packed_sevens (landmarks_of records) ≡ of_type_7 records
+    sevens_back =
+        let ls : List ℕ = distinct nat_cmp (map seven_land (of_type_7 records)) in
+        flat_map-map packed_sevens (λ land. (
+          land,
+          in_order landmark_body_cmp
+              (map (λ (r : Fields7). r.body) (of_number seven_land land (of_type_7 records))),
+        )) ls
+        ∙ flat_map-agree (λ land. packed_sevens (
+          land,
+          in_order landmark_body_cmp
+              (map (λ (r : Fields7). r.body) (of_number seven_land land (of_type_7 records))),
+        ))
+        (λ land. of_number seven_land land (of_type_7 records)) sevens_of ls
+        ∙ grouped seven_land (of_type_7 records) (in_order-weaker seven_cmp (on seven_land nat_cmp)
+        (λ x y. then-first (nat_cmp x.land y.land) (landmark_body_cmp x.body y.body)) (of_type_7 records) order.of_type_7) ls
+        (distinct-strict nat_keys (map seven_land (of_type_7 records)))
+        (all_unmap (Known nat_cmp ls) seven_land (of_type_7 records)
+        (all_known nat_keys (Known nat_cmp ls) (map seven_land (of_type_7 records))
+        (known-distinct nat_keys (map seven_land (of_type_7 records)))))

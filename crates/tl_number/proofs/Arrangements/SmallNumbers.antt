@@ -1,0 +1,206 @@
+-- Numbers up to the greatest one of a canonical list: in a county, and in the records that it is packed into.
+use Rattle.std.proofs.Common.{◌≡◌, ◌+◌, ◌<◌, ◌≤◌, ℕ, List, map, flat_map, filter_map, length, Option, Some, None}
+use Rattle.std.proofs.Common.{option_to_list, subst, arith, nat_cmp}
+use Rattle.std.specs.List.{AllByRecursion}
+use Rattle.std.specs.Ordering.{on}
+use Rattle.tl_layout.specs.Fields.{Fields2, Fields4, Fields6, Fields7, Fields8, FieldsP}
+use Rattle.tl_layout.specs.Numbers.{IsNumber, IsNumberOrNone}
+use Rattle.tl_layout.specs.declared.ranges.Ranges.{Ranges}
+use Rattle.tl_layout.specs.declared.record_type.Record.{Record}
+use Rattle.tl_layout.specs.declared.record_type.Record.TheVariants.{One, Two, Four, Five, Six, Seven, Eight, I, P}
+use Rattle.tl_layout.specs.declared.type5.Body5.{Body5}
+use Rattle.tl_layout.specs.declared.type7.Body7.{Body7}
+use Rattle.tl_layout.specs.declared.type_p.BodyP.{BodyP}
+use Rattle.tl_shape.specs.Chain.{Chain}
+use Rattle.tl_county.specs.County.{County}
+use Rattle.tl_county.specs.CountyRules.{chain_nodes, chain_polygons}
+use Rattle.tl_county.specs.Limits.{FitsNumbers, NumbersFit}
+use Rattle.tl_county.specs.Orders.{in_order}
+use Rattle.tl_county.specs.Packing.{in_pieces, numbered_from, inner_points, packed_one, packed_twos, packed_fours, packed_five}
+use Rattle.tl_county.specs.Packing.{packed_sixes, packed_sevens, packed_i, packed_body, packed_p, p_polyid, packed}
+use Rattle.tl_county.specs.PolygonKeys.{PolygonKey, key_on, key_under}
+use Rattle.tl_county.proofs.Lists.Counted.{all_in_pieces, all_numbered_from, all_selected}
+use Rattle.tl_county.proofs.Lists.Elements.{all_weaker, all_both, all_map, all_append, all_joined, all_everywhere, all_left, all_right}
+use Rattle.tl_county.proofs.ByKey.Numbers.{all-in_order}
+use Rattle.tl_number.specs.RecordNumbers.{numbers_of, greatest_number}
+
+abbrev pub IsSmall : ℕ → Type 0
+IsSmall n = (1 ≤ n) × (n ≤ greatest_number)
+
+abbrev pub IsSmallKey : PolygonKey → Type 0
+IsSmallKey key = IsSmall key.1
+
+-- the numbers in a chain
+abbrev pub NamesSmall : Chain → Type 0
+NamesSmall chain = AllByRecursion IsSmall chain.feats
+    × (AllByRecursion IsSmall (chain_nodes chain) × AllByRecursion IsSmallKey (chain_polygons chain))
+
+-- the numbers of a county are small
+pub record NumbersSmall (county : County) : Type 0 where
+  pub chains : AllByRecursion (λ (entry : ℕ × Chain). IsSmall entry.0) county.chains
+  pub named : AllByRecursion (λ (entry : ℕ × Chain). NamesSmall entry.1) county.chains
+  pub names : AllByRecursion (λ (entry : ℕ × Body5). IsSmall entry.0) county.names
+  pub polygons : AllByRecursion (λ (entry : PolygonKey × Option BodyP). IsSmallKey entry.0) county.polygons
+  pub landmarks : AllByRecursion (λ (entry : ℕ × List Body7). IsSmall entry.0) county.landmarks
+  pub link_polygons : AllByRecursion (λ (link : Fields8). IsSmall link.polyid) county.links
+  pub link_lands : AllByRecursion (λ (link : Fields8). IsSmall link.land) county.links
+
+-- ---- small numbers fit their fields
+
+fits_10 : (n : ℕ) → IsSmall n → IsNumber 10 n
+fits_10 n h = (let low : 1 ≤ n = h.0 in omega arith, let high : n ≤ 20000000 = h.1 in omega arith)
+
+fits_8 : (n : ℕ) → IsSmall n → IsNumber 8 n
+fits_8 n h = (let low : 1 ≤ n = h.0 in omega arith, let high : n ≤ 20000000 = h.1 in omega arith)
+
+node_fits : (o : Option ℕ) → AllByRecursion IsSmall (option_to_list o) → IsNumberOrNone 10 o
+node_fits None a = tt
+node_fits (Some n) a = fits_10 n a.0
+
+polyid_fits : (cenid : List ℕ) (polyid : Option ℕ) → AllByRecursion IsSmallKey (key_under cenid polyid) → IsNumberOrNone 10 polyid
+polyid_fits cenid None a = tt
+polyid_fits cenid (Some polyid) a = fits_10 polyid a.0
+
+names_fit : (chain : Chain) → NamesSmall chain → FitsNumbers chain
+names_fit chain h = record {
+  feats = all_weaker IsSmall (IsNumber 8) fits_8 chain.feats h.0;
+  start_node = node_fits chain.start_node (all_left IsSmall (option_to_list chain.start_node) (option_to_list chain.end_node) h.1.0);
+  end_node = node_fits chain.end_node (all_right IsSmall (option_to_list chain.start_node) (option_to_list chain.end_node) h.1.0);
+  left = polyid_fits chain.left.cenid chain.left.polyid (all_left IsSmallKey (key_on chain.left) (key_on chain.right) h.1.1);
+  right = polyid_fits chain.right.cenid chain.right.polyid (all_right IsSmallKey (key_on chain.left) (key_on chain.right) h.1.1);
+}
+
+pub small_numbers_fit : (county : County) → NumbersSmall county → NumbersFit county
+small_numbers_fit county small = record {
+  chains = all_weaker (λ (entry : ℕ × Chain). IsSmall entry.0) (λ entry. IsNumber 10 entry.0)
+      (λ entry h. fits_10 entry.0 h) county.chains small.chains;
+  named = all_weaker (λ (entry : ℕ × Chain). NamesSmall entry.1) (λ entry. FitsNumbers entry.1)
+      (λ entry h. names_fit entry.1 h) county.chains small.named;
+  names = all_weaker (λ (entry : ℕ × Body5). IsSmall entry.0) (λ entry. IsNumber 8 entry.0)
+      (λ entry h. fits_8 entry.0 h) county.names small.names;
+  polygons = all_weaker (λ (entry : PolygonKey × Option BodyP). IsSmallKey entry.0) (λ entry. IsNumber 10 entry.0.1)
+      (λ entry h. fits_10 entry.0.1 h) county.polygons small.polygons;
+  landmarks = all_weaker (λ (entry : ℕ × List Body7). IsSmall entry.0) (λ entry. IsNumber 10 entry.0)
+      (λ entry h. fits_10 entry.0 h) county.landmarks small.landmarks;
+  link_polygons = all_weaker (λ (link : Fields8). IsSmall link.polyid) (λ link. IsNumber 10 link.polyid)
+      (λ link h. fits_10 link.polyid h) county.links small.link_polygons;
+  link_lands = all_weaker (λ (link : Fields8). IsSmall link.land) (λ link. IsNumber 10 link.land)
+      (λ link h. fits_10 link.land h) county.links small.link_lands;
+}
+
+-- ---- the records of such a county have small numbers
+
+abbrev IsLow : ℕ → Type 0
+IsLow n = n ≤ greatest_number
+
+abbrev IsLowRecord : Record → Type 0
+IsLowRecord r = AllByRecursion IsLow (numbers_of r)
+
+all_low : (ns : List ℕ) → AllByRecursion IsSmall ns → AllByRecursion IsLow ns
+all_low = all_weaker IsSmall IsLow (λ n h. h.1)
+
+polyid_low : (cenid : List ℕ) (polyid : Option ℕ) → AllByRecursion IsSmallKey (key_under cenid polyid)
+    → AllByRecursion IsLow (option_to_list polyid)
+polyid_low cenid None a = tt
+polyid_low cenid (Some polyid) a = (a.0.1, tt)
+
+p_low : (key : PolygonKey) (body : Option BodyP) (r : FieldsP) → packed_body key body ≡ Some r → IsSmallKey key → IsLowRecord (P r)
+p_low key None r e h = cc
+p_low key (Some body) r e h =
+    let same : record { cenid = key.0; polyid = key.1; body = body } ≡ r =
+    some_same (record { cenid = key.0; polyid = key.1; body = body }) r e in
+    subst (λ (q : FieldsP). IsLowRecord (P q)) same (h.1, tt)
+  where
+    some_same : (x y : FieldsP) → Some x ≡ Some y → x ≡ y
+    some_same x y e = cc
+
+module _ (county : County) (small : NumbersSmall county) where
+  -- records of chains have small numbers if those of each chain do
+  each_chain : {X : Type 0} (wrap : X → Record) (pack : ℕ × Chain → List X)
+      → ((entry : ℕ × Chain) → IsSmall entry.0 → NamesSmall entry.1 → AllByRecursion (λ x. IsLowRecord (wrap x)) (pack entry))
+      → AllByRecursion IsLowRecord (map wrap (flat_map pack county.chains))
+  each_chain wrap pack h = all_map IsLowRecord wrap (flat_map pack county.chains)
+      (all_joined (λ x. IsLowRecord (wrap x)) pack county.chains
+      (all_weaker (λ (entry : ℕ × Chain). IsSmall entry.0 × NamesSmall entry.1)
+      (λ entry. AllByRecursion (λ x. IsLowRecord (wrap x)) (pack entry)) (λ entry s. h entry s.0 s.1) county.chains
+      (all_both (λ (entry : ℕ × Chain). IsSmall entry.0) (λ entry. NamesSmall entry.1) county.chains small.chains small.named)))
+
+  ones : AllByRecursion IsLowRecord (map One (map packed_one county.chains))
+  ones = all_map IsLowRecord One (map packed_one county.chains)
+      (all_map (λ r. IsLowRecord (One r)) packed_one county.chains
+      (all_weaker (λ (entry : ℕ × Chain). IsSmall entry.0) (λ entry. IsLowRecord (One (packed_one entry)))
+      (λ entry h. (h.1, tt)) county.chains small.chains))
+
+  twos : AllByRecursion IsLowRecord (map Two (flat_map packed_twos county.chains))
+  twos = each_chain Two packed_twos (λ entry h names.
+      all_map (λ (r : Fields2). IsLowRecord (Two r)) (λ piece. record { tlid = entry.0; rtsq = piece.0; points = piece.1 })
+      (numbered_from 1 (in_pieces 10 (inner_points entry.1.points)))
+      (all_everywhere (λ _. IsLow entry.0 × Unit {0}) (λ _. (h.1, tt)) (numbered_from 1 (in_pieces 10 (inner_points entry.1.points)))))
+
+  fours : AllByRecursion IsLowRecord (map Four (flat_map packed_fours county.chains))
+  fours = each_chain Four packed_fours (λ entry h names.
+      all_map (λ (r : Fields4). IsLowRecord (Four r)) (λ piece. record { tlid = entry.0; rtsq = piece.0; feats = piece.1 })
+      (numbered_from 1 (in_pieces 5 entry.1.feats))
+      (all_weaker (λ (piece : ℕ × List ℕ). (1 ≤ piece.0) × ((piece.0 < 1 + length (in_pieces 5 entry.1.feats)) × AllByRecursion IsLow piece.1))
+      (λ piece. IsLow entry.0 × AllByRecursion IsLow piece.1) (λ piece a. (h.1, a.1.1)) (numbered_from 1 (in_pieces 5 entry.1.feats))
+      (all_numbered_from (AllByRecursion IsLow) 1 (in_pieces 5 entry.1.feats)
+      (all_in_pieces IsLow 5 (length entry.1.feats) entry.1.feats (all_low entry.1.feats names.0)))))
+
+  fives : AllByRecursion IsLowRecord (map Five (map packed_five county.names))
+  fives = all_map IsLowRecord Five (map packed_five county.names)
+      (all_map (λ r. IsLowRecord (Five r)) packed_five county.names
+      (all_weaker (λ (entry : ℕ × Body5). IsSmall entry.0) (λ entry. IsLowRecord (Five (packed_five entry)))
+      (λ entry h. (h.1, tt)) county.names small.names))
+
+  sixes : AllByRecursion IsLowRecord (map Six (flat_map packed_sixes county.chains))
+  sixes = each_chain Six packed_sixes (λ entry h names.
+      all_map (λ (r : Fields6). IsLowRecord (Six r)) (λ (piece : ℕ × Ranges). record { tlid = entry.0; rtsq = piece.0; ranges = piece.1 })
+      (numbered_from 1 entry.1.ranges)
+      (all_everywhere (λ _. IsLow entry.0 × Unit {0}) (λ _. (h.1, tt)) (numbered_from 1 entry.1.ranges)))
+
+  sevens : AllByRecursion IsLowRecord (map Seven (flat_map packed_sevens county.landmarks))
+  sevens = all_map IsLowRecord Seven (flat_map packed_sevens county.landmarks)
+      (all_joined (λ (r : Fields7). IsLowRecord (Seven r)) packed_sevens county.landmarks
+      (all_weaker (λ (entry : ℕ × List Body7). IsSmall entry.0)
+      (λ entry. AllByRecursion (λ (r : Fields7). IsLowRecord (Seven r)) (packed_sevens entry))
+      (λ entry h. all_map (λ (r : Fields7). IsLowRecord (Seven r)) (λ body. record { land = entry.0; body = body }) entry.1
+      (all_everywhere (λ _. IsLow entry.0 × Unit {0}) (λ _. (h.1, tt)) entry.1)) county.landmarks small.landmarks))
+
+  eights : AllByRecursion IsLowRecord (map Eight county.links)
+  eights = all_map IsLowRecord Eight county.links
+      (all_weaker (λ (link : Fields8). IsSmall link.polyid × IsSmall link.land) (λ link. IsLowRecord (Eight link))
+      (λ link h. (h.0.1, (h.1.1, tt))) county.links
+      (all_both (λ (link : Fields8). IsSmall link.polyid) (λ link. IsSmall link.land) county.links small.link_polygons small.link_lands))
+
+  i_low : (entry : ℕ × Chain) → IsSmall entry.0 → NamesSmall entry.1 → IsLowRecord (I (packed_i entry))
+  i_low entry h names = (
+    h.1,
+    all_append IsLow (chain_nodes entry.1) _ (all_low (chain_nodes entry.1) names.1.0)
+        (all_append IsLow (option_to_list entry.1.left.polyid) (option_to_list entry.1.right.polyid)
+        (polyid_low entry.1.left.cenid entry.1.left.polyid (all_left IsSmallKey (key_on entry.1.left) (key_on entry.1.right) names.1.1))
+        (polyid_low entry.1.right.cenid entry.1.right.polyid (all_right IsSmallKey (key_on entry.1.left) (key_on entry.1.right) names.1.1))),
+  )
+
+  is : AllByRecursion IsLowRecord (map I (map packed_i county.chains))
+  is = all_map IsLowRecord I (map packed_i county.chains)
+      (all_map (λ r. IsLowRecord (I r)) packed_i county.chains
+      (all_weaker (λ (entry : ℕ × Chain). IsSmall entry.0 × NamesSmall entry.1) (λ entry. IsLowRecord (I (packed_i entry)))
+      (λ entry s. i_low entry s.0 s.1) county.chains
+      (all_both (λ (entry : ℕ × Chain). IsSmall entry.0) (λ entry. NamesSmall entry.1) county.chains small.chains small.named)))
+
+  ps : AllByRecursion IsLowRecord (map P (in_order (on p_polyid nat_cmp) (filter_map packed_p county.polygons)))
+  ps = all_map IsLowRecord P (in_order (on p_polyid nat_cmp) (filter_map packed_p county.polygons))
+      (all-in_order (λ (r : FieldsP). IsLowRecord (P r)) (on p_polyid nat_cmp) (filter_map packed_p county.polygons)
+      (all_selected (λ (entry : PolygonKey × Option BodyP). IsSmallKey entry.0) (λ (r : FieldsP). IsLowRecord (P r)) packed_p
+      (λ entry r e h. p_low entry.0 entry.1 r e h) county.polygons small.polygons))
+
+  pub packed_low : AllByRecursion (λ r. AllByRecursion (λ n. n ≤ greatest_number) (numbers_of r)) (packed county)
+  packed_low =
+      all_append IsLowRecord (map One (map packed_one county.chains)) _ ones
+      (all_append IsLowRecord (map Two (flat_map packed_twos county.chains)) _ twos
+      (all_append IsLowRecord (map Four (flat_map packed_fours county.chains)) _ fours
+      (all_append IsLowRecord (map Five (map packed_five county.names)) _ fives
+      (all_append IsLowRecord (map Six (flat_map packed_sixes county.chains)) _ sixes
+      (all_append IsLowRecord (map Seven (flat_map packed_sevens county.landmarks)) _ sevens
+      (all_append IsLowRecord (map Eight county.links) _ eights
+      (all_append IsLowRecord (map I (map packed_i county.chains)) _ is ps)))))))

@@ -1,0 +1,53 @@
+-- A county is canonical exactly if its packing is a canonical list.
+use Rattle.std.proofs.Common.{◌≡◌, sym, subst}
+use Rattle.tl_county.specs.County.{County, county_of}
+use Rattle.tl_county.specs.CountyRules.{IsCounty, polygon_keys, polygons_along, AllKeysStandIn}
+use Rattle.tl_county.specs.Packing.{packed}
+use Rattle.tl_county.specs.Renumbering.{AreSame}
+use Rattle.tl_county.proofs.Packing.PackedCounty.{packed_county}
+use Rattle.tl_county.proofs.Rules.LinkedCounty.{county-is_county}
+use Rattle.tl_number.specs.Arrangement.{Arrangement, arranged}
+use Rattle.tl_number.specs.ArrangedCounty.{IsArranged, IsTidy}
+use Rattle.tl_number.specs.CanonCounties.{IsCanonCounty}
+use Rattle.tl_number.specs.Canonical.{IsCanonical, IsNotAfter, IsTidyList}
+use Rattle.tl_number.specs.Tidy.{IsLeastChoice}
+use Rattle.tl_number.proofs.Arrangements.ArrangedCounties.{arranged_county}
+use Rattle.tl_number.proofs.Arrangements.ArrangedPacking.{packed_arranged}
+use Rattle.tl_number.proofs.Arrangements.RepackedPolygons.{arranged_list_is_packed}
+use Rattle.tl_number.proofs.CanonicalLists.TidyLists.{least_choice_is_canonical}
+
+pub packed_tidy : (county : County) → IsCounty county → IsArranged county → IsTidy county → IsTidyList (packed county)
+packed_tidy county is form tidy = record {
+  in_form = packed_arranged county is form;
+  tidy = subst IsTidy (sym (packed_county county is)) tidy;
+}
+
+pub canonical_packing : (county : County) → IsCounty county → IsCanonCounty county → IsCanonical (packed county)
+canonical_packing county is h =
+    let tidy : IsTidyList (packed county) = packed_tidy county is h.in_form h.tidy in
+    record {
+      in_form = tidy.in_form;
+      tidy = tidy.tidy;
+      least = λ other t s. subst (IsNotAfter (packed county)) (sym (arranged_list_is_packed other t.in_form))
+          (h.least (county_of other) (county-is_county other t.in_form.linked) t.in_form.numbers t.tidy
+          (subst (λ c. AreSame c (county_of other)) (packed_county county is) s));
+    }
+
+pub canonical_county : (county : County) → IsCounty county → IsCanonical (packed county) → IsCanonCounty county
+canonical_county county is h =
+    let back : county_of (packed county) ≡ county = packed_county county is in
+    record {
+      in_form = subst IsArranged back h.in_form.numbers;
+      tidy = subst IsTidy back h.tidy;
+      least = λ other wo form tidy s. h.least (packed other) (packed_tidy other wo form tidy)
+          (subst (λ c. AreSame c (county_of (packed other))) (sym back)
+          (subst (AreSame county) (sym (packed_county other wo)) s));
+    }
+
+-- The county of a choice of least text is canonical.
+pub least_choice_county : (county : County) (steps : Arrangement) → IsCounty county
+    → AllKeysStandIn (polygons_along county.chains) (polygon_keys county) → IsLeastChoice county steps
+    → IsCanonCounty (arranged county steps)
+least_choice_county county steps is sides h =
+    canonical_county (arranged county steps) (arranged_county county steps is h.choice.arranges sides)
+    (least_choice_is_canonical county is sides steps h)

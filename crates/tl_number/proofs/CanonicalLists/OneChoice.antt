@@ -1,0 +1,117 @@
+-- If the shapes of chains are distinct, and none is its own reverse, there is one choice: the ascending arrangement.
+use Rattle.std.proofs.Common.{◌≡◌, ◌<◌, ◌*◌, suc, List, [], ◌∷◌, map, reverse, Bool, false, cond, Ordering, Less, Equal, Greater}
+use Rattle.std.proofs.Common.{is_eq, is_gt, sym, refl, ap, ◌∙◌, subst, arith}
+use Rattle.std.specs.List.{AllByRecursion}
+use Rattle.std.specs.List.Sorted.{IsStrictlySortedBy}
+use Rattle.tl_layout.specs.declared.record_type.Record.{Record}
+use Rattle.tl_shape.specs.PointOrder.{points_cmp}
+use Rattle.tl_county.specs.County.{County, county_of}
+use Rattle.tl_county.specs.CountyRules.{IsCounty}
+use Rattle.tl_county.specs.Orders.{times}
+use Rattle.tl_county.specs.Renumbering.{AreSame}
+use Rattle.tl_county.proofs.ByKey.KeyOrders.{points_keys}
+use Rattle.tl_county.proofs.ByKey.Keys.{IsKeyOrder, IsApart, times-yes, apart_tail, apart_from_sorted}
+use Rattle.tl_county.proofs.Lists.Distinct.{apart_from_no_repeat, has_repeat-apart}
+use Rattle.tl_county.proofs.Lists.Elements.{map_agree_all, all_weaker, all_map}
+use Rattle.tl_county.proofs.Lists.EntryLists.{in_order-strict}
+use Rattle.tl_county.proofs.Lists.InOrder.{strict-unmap}
+use Rattle.tl_county.proofs.Rules.LinkedCounty.{county-is_county}
+use Rattle.tl_county.proofs.Sameness.Equivalence.{same-reflexive}
+use Rattle.tl_profile.specs.Choices.{choices, is_either_way, running, shapes}
+use Rattle.tl_profile.specs.Shapes.{points_from}
+use Rattle.tl_profile.proofs.SameChoices.{choices_of_shapes}
+use Rattle.tl_number.specs.Arrangement.{Arrangement, entry_shape, ascending}
+use Rattle.tl_number.specs.ArrangedCounty.{IsTidy, entry_points}
+use Rattle.tl_number.specs.Canonical.{IsArrangedList, IsCanonical, IsNotAfter, IsTidyList}
+use Rattle.tl_number.specs.Strict.{IsStrict}
+use Rattle.tl_number.specs.Tidy.{HasShapesApart, IsChoice, IsLeastChoice, arranged_list, numbered_choice}
+use Rattle.tl_number.proofs.Choices.AscendingSteps.{turned_same}
+use Rattle.tl_number.proofs.Lists.SortedPlaces.{in_order-unmap}
+use Rattle.tl_number.proofs.Choices.TidyChoices.{choice_number, first_choice, numbered_is_choice}
+use Rattle.tl_number.proofs.CanonicalLists.TidyLists.{tidy_is_choice, not_after_itself}
+
+running_one : {K : Type 0} {cmp : K → K → Ordering} (o : IsKeyOrder cmp) (either : K → Bool) (ks : List K) → IsApart cmp ks
+    → AllByRecursion (λ k. either k ≡ false) ks → running cmp either ks ≡ 1
+running_one o either [] a h = refl
+running_one {K} {cmp} o either (k ∷ ks) a h =
+    let none : times cmp k ks ≡ 0 = omega (arith, a k, times-yes o k k ks refl) in
+    let rest : running cmp either ks ≡ 1 = running_one o either ks (apart_tail o k ks a) h.1 in
+    λ i. suc (none i) * (cond (h.0 i) 2 1 * rest i)
+
+pub one_choice : (county : County) → HasShapesApart county → choices county ≡ 1
+one_choice county h = sym (choices_of_shapes county) ∙ running_one points_keys is_either_way (shapes county)
+    (apart_from_no_repeat points_keys (shapes county) h.apart) h.one_way
+
+pub only_choice : (county : County) → IsCounty county → HasShapesApart county → (steps : Arrangement) → IsChoice county steps
+    → steps ≡ ascending county
+only_choice county is h steps c =
+    let found = choice_number county is steps c in
+    let below : found.0 < choices county = found.1 in
+    let first : found.0 ≡ 0 = omega (arith, below, one_choice county h) in
+    sym found.2 ∙ ap (numbered_choice county) first ∙ first_choice county is
+
+-- It therefore has the least text.
+pub only_choice_is_least : (county : County) → IsCounty county → HasShapesApart county → IsLeastChoice county (ascending county)
+only_choice_is_least county is h = record {
+  choice = subst (IsChoice county) (first_choice county is) (numbered_is_choice county is 0);
+  least = λ other c. subst (λ steps. IsNotAfter (arranged_list county (ascending county)) (arranged_list county steps))
+      (sym (only_choice county is h other c)) (not_after_itself (arranged_list county (ascending county)));
+}
+
+-- points that come before their reverse
+less_cases : (o : Ordering) → o ≡ Less → (is_gt o ≡ false) × (is_eq o ≡ false)
+less_cases Less e = (refl, refl)
+less_cases Equal e = cc
+less_cases Greater e = cc
+
+-- If points come before their reverse and ascend strictly, shapes are distinct and the county is tidy.
+module _ (county : County) (h : IsStrict county) where
+  each_shape : map entry_points county.chains ≡ shapes county
+  each_shape = map_agree_all entry_points entry_shape
+      (λ e. points_cmp (entry_points e) (reverse (entry_points e)) ≡ Less)
+      (λ e less. sym (ap (λ b. points_from b e.1.points)
+      (turned_same e.1.points ∙ (less_cases (points_cmp e.1.points (reverse e.1.points)) less).0)))
+      county.chains h.directions
+
+  strict_apart : HasShapesApart county
+  strict_apart = record {
+    apart = has_repeat-apart points_keys (shapes county) (apart_from_sorted points_keys (shapes county)
+        (subst (IsStrictlySortedBy points_cmp) each_shape (strict-unmap points_cmp entry_points county.chains h.ascending)));
+    one_way = subst (AllByRecursion (λ points. is_eq (points_cmp points (reverse points)) ≡ false)) each_shape
+        (all_map (λ points. is_eq (points_cmp points (reverse points)) ≡ false) entry_points county.chains
+        (all_weaker (λ e. points_cmp (entry_points e) (reverse (entry_points e)) ≡ Less)
+        (λ e. is_eq (points_cmp (entry_points e) (reverse (entry_points e))) ≡ false)
+        (λ e less. (less_cases (points_cmp (entry_points e) (reverse (entry_points e))) less).1) county.chains h.directions));
+  }
+
+  strict_tidy : IsTidy county
+  strict_tidy = record {
+    directions = all_weaker (λ e. points_cmp (entry_points e) (reverse (entry_points e)) ≡ Less)
+        (λ e. is_gt (points_cmp (entry_points e) (reverse (entry_points e))) ≡ false)
+        (λ e less. (less_cases (points_cmp (entry_points e) (reverse (entry_points e))) less).0) county.chains h.directions;
+    ascending = in_order-unmap points_cmp entry_points county.chains
+        (in_order-strict points_cmp (map entry_points county.chains) (strict-unmap points_cmp entry_points county.chains h.ascending));
+  }
+
+-- An arranged list of such a county is therefore the only tidy list of its map, and canonical.
+module _ (records : List Record) (form : IsArrangedList records) (h : IsStrict (county_of records)) where
+  is_county : IsCounty (county_of records)
+  is_county = county-is_county records form.linked
+
+  only_list : (list : List Record) → IsTidyList list → AreSame (county_of records) (county_of list)
+      → list ≡ arranged_list (county_of records) (ascending (county_of records))
+  only_list list tidy s =
+      let found = tidy_is_choice (county_of records) is_county form.numbers.on_sides list tidy s in
+      found.2 ∙ ap (arranged_list (county_of records))
+      (only_choice (county_of records) is_county (strict_apart (county_of records) h) found.0 found.1)
+
+  pub only_tidy : (list : List Record) → IsTidyList list → AreSame (county_of records) (county_of list) → list ≡ records
+  only_tidy list tidy s = only_list list tidy s ∙ sym (only_list records (record { in_form = form; tidy = strict_tidy (county_of records) h })
+      (same-reflexive (county_of records)))
+
+  pub strict_is_canonical : IsCanonical records
+  strict_is_canonical = record {
+    in_form = form;
+    tidy = strict_tidy (county_of records) h;
+    least = λ other tidy s. subst (IsNotAfter records) (sym (only_tidy other tidy s)) (not_after_itself records);
+  }

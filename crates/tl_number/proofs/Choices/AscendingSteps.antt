@@ -1,0 +1,137 @@
+-- The steps of all chains in the order of their shapes and places are the ascending arrangement.
+use Rattle.std.proofs.Common.{◌≡◌, ◌<◌, ℕ, List, [], ◌∷◌, map, length, Bool, true, false, Less, Equal, Option}
+use Rattle.std.proofs.Common.{Some, None}
+use Rattle.std.proofs.Common.{option_map, slice_get, is_gt, is_lt, refl, sym, ap, ap₂, ◌∙◌, subst, nat_cmp}
+use Rattle.std.proofs.Common.{reverse, Ordering}
+use Rattle.std.proofs.lemmas.Cmp.{on_total}
+use Rattle.std.proofs.lemmas.Option.{slice_get-map, get_or_from_slice_get}
+use Rattle.std.specs.Cmp.{IsTotalOrder}
+use Rattle.std.specs.List.{AllByRecursion}
+use Rattle.std.specs.Option.{option_cmp}
+use Rattle.std.specs.Ordering.{on, ordering_then, ordering_reverse}
+use Rattle.tl_layout.specs.Coordinates.{Coordinates}
+use Rattle.tl_shape.specs.Chain.{Chain}
+use Rattle.tl_shape.specs.PointOrder.{points_cmp}
+use Rattle.tl_shape.specs.Turned.{turned_if}
+use Rattle.tl_county.specs.ChartWords.{chain_at, points_of}
+use Rattle.tl_county.specs.County.{County}
+use Rattle.tl_county.specs.CountyRules.{tlids}
+use Rattle.tl_county.specs.Orders.{in_order}
+use Rattle.tl_county.proofs.ByKey.KeyOrders.{points_keys}
+use Rattle.tl_county.proofs.ByKey.KeyedLists.{lt_reversed}
+use Rattle.tl_county.proofs.Lists.Elements.{all_unmap}
+use Rattle.tl_profile.specs.ShapeOrder.{AreWalksInOrder, least_walk, points_along, walk_cmp}
+use Rattle.tl_profile.specs.Shapes.{least_points, points_from}
+use Rattle.tl_number.specs.Arrangement.{ascending, entry_shape, comes_turned}
+use Rattle.tl_number.specs.Steps.{arrangement_of, AreSteps, tlid_at}
+use Rattle.tl_profile.specs.declared.directed_chain.DirectedChain.{DirectedChain}
+use Rattle.tl_number.proofs.Lists.SortedPlaces.{sorted_items, each_item, item_places, places_below}
+
+-- an order of optional values with none first
+pub options_total : {X : Type 0} {R : X → X → Ordering} → IsTotalOrder R → IsTotalOrder (option_cmp R)
+options_total {X} {R} o = record { antisymm = antisymm; trans = trans; congr = congr }
+  where
+    antisymm : (x y : Option X) → option_cmp R x y ≡ ordering_reverse (option_cmp R y x)
+    antisymm None None = refl
+    antisymm None (Some y) = refl
+    antisymm (Some x) None = refl
+    antisymm (Some x) (Some y) = o.antisymm x y
+
+    trans : (x y z : Option X) → option_cmp R x y ≡ Less → option_cmp R y z ≡ Less → option_cmp R x z ≡ Less
+    trans None None z e f = cc
+    trans None (Some y) None e f = cc
+    trans None (Some y) (Some z) e f = refl
+    trans (Some x) None z e f = cc
+    trans (Some x) (Some y) None e f = cc
+    trans (Some x) (Some y) (Some z) e f = o.trans x y z e f
+
+    congr : (x y z : Option X) → option_cmp R x y ≡ Equal → option_cmp R x z ≡ option_cmp R y z
+    congr None None z e = refl
+    congr None (Some y) z e = cc
+    congr (Some x) None z e = cc
+    congr (Some x) (Some y) None e = refl
+    congr (Some x) (Some y) (Some z) e = o.congr x y z e
+
+-- the reverse comes before the points exactly if the points come after it
+pub turned_same : (ps : List Coordinates) → is_lt (points_cmp (reverse ps) ps) ≡ is_gt (points_cmp ps (reverse ps))
+turned_same ps = lt_reversed (points_cmp (reverse ps) ps) (points_cmp ps (reverse ps)) (points_keys.total.antisymm (reverse ps) ps)
+
+-- an entry's shape is the points of its chain in its lesser direction
+pub shape_turned : (entry : ℕ × Chain) → (turned_if (comes_turned entry.1) entry.1).points ≡ entry_shape entry
+shape_turned entry = sym (from_turned (comes_turned entry.1) entry.1) ∙ ap (λ b. points_from b entry.1.points) (sym (turned_same entry.1.points))
+  where
+    from_turned : (b : Bool) (c : Chain) → points_from b c.points ≡ (turned_if b c).points
+    from_turned true c = refl
+    from_turned false c = refl
+
+module _ (county : County) where
+  chain_read : (i : ℕ) (x : ℕ × Chain) → slice_get county.chains i ≡ Some x → chain_at county i ≡ Some x.1
+  chain_read i x e = slice_get-map (λ (d : ℕ × Chain). d.1) county.chains i ∙ ap (option_map (λ (d : ℕ × Chain). d.1)) e
+
+  along_read : (i : ℕ) (x : ℕ × Chain) → slice_get county.chains i ≡ Some x → points_along county (least_walk county i) ≡ entry_shape x
+  along_read i x e = ap (λ o. least_points (points_of o)) (chain_read i x e)
+
+  turned_read : (i : ℕ) (x : ℕ × Chain) → slice_get county.chains i ≡ Some x → (least_walk county i).turned ≡ comes_turned x.1
+  turned_read i x e =
+      ap (λ o. is_lt (points_cmp (reverse (points_of o)) (points_of o))) (chain_read i x e) ∙ turned_same x.1.points
+
+  agrees : (i j : ℕ) (x y : ℕ × Chain) → slice_get county.chains i ≡ Some x → slice_get county.chains j ≡ Some y
+      → walk_cmp county (least_walk county i) (least_walk county j) ≡ ordering_then (points_cmp (entry_shape x) (entry_shape y))
+      (nat_cmp i j)
+  agrees i j x y e f = ap₂ (λ ps qs. ordering_then (points_cmp ps qs) (nat_cmp i j)) (along_read i x e) (along_read j y f)
+
+  abbrev place_of : DirectedChain → ℕ
+  place_of w = w.place
+
+  -- walks that read the chains in order, each in its lesser direction
+  steps_told : (walks : List DirectedChain) (ordered : List (ℕ × Chain)) → AllByRecursion (λ w. w ≡ least_walk county (place_of w)) walks
+      → map (slice_get county.chains) (map place_of walks) ≡ map Some ordered
+      → arrangement_of county walks ≡ map (λ e. (e.0, comes_turned e.1)) ordered
+  steps_told [] [] a e = refl
+  steps_told [] (x ∷ xs) a e = cc
+  steps_told (w ∷ ws) [] a e = cc
+  steps_told (w ∷ ws) (x ∷ xs) a e =
+      let here : slice_get county.chains w.place ≡ Some x = cc in
+      let rest : map (slice_get county.chains) (map place_of ws) ≡ map Some xs = cc in
+      let tlid : tlid_at county w.place ≡ x.0 =
+      get_or_from_slice_get (tlids county) w.place x.0 0
+      (slice_get-map (λ (d : ℕ × Chain). d.0) county.chains w.place ∙ ap (option_map (λ (d : ℕ × Chain). d.0)) here) in
+      let turned : w.turned ≡ comes_turned x.1 = ap (λ (v : DirectedChain). v.turned) a.0 ∙ turned_read w.place x here in
+      λ i. (tlid i, turned i) ∷ steps_told ws xs a.1 rest i
+
+  module _ (walks : List DirectedChain) (order : AreWalksInOrder county walks) where
+    read : map (slice_get county.chains) (map place_of walks) ≡ map Some (in_order (on entry_shape points_cmp) county.chains)
+    read = sorted_items (least_walk county) place_of (λ i. refl) (walk_cmp county) (on_total entry_shape points_keys.total) county.chains
+        agrees walks order.all order.in_order
+
+    each_walk : AllByRecursion (λ w. w ≡ least_walk county (place_of w)) walks
+    each_walk = each_item (least_walk county) place_of (λ i. refl) (walk_cmp county) (on_total entry_shape points_keys.total) county.chains
+        agrees walks order.all order.in_order
+
+    -- the points along the walks are the shapes in order
+    shapes_told : (ws : List DirectedChain) (ordered : List (ℕ × Chain)) → AllByRecursion (λ w. w ≡ least_walk county (place_of w)) ws
+        → map (slice_get county.chains) (map place_of ws) ≡ map Some ordered
+        → map (points_along county) ws ≡ map entry_shape ordered
+    shapes_told [] [] a e = refl
+    shapes_told [] (x ∷ xs) a e = cc
+    shapes_told (w ∷ ws) [] a e = cc
+    shapes_told (w ∷ ws) (x ∷ xs) a e =
+        let here : slice_get county.chains w.place ≡ Some x = cc in
+        let rest : map (slice_get county.chains) (map place_of ws) ≡ map Some xs = cc in
+        let along : points_along county w ≡ entry_shape x = ap (points_along county) a.0 ∙ along_read w.place x here in
+        λ i. along i ∷ shapes_told ws xs a.1 rest i
+
+    pub walks_shapes : map (points_along county) walks ≡ map entry_shape (in_order (on entry_shape points_cmp) county.chains)
+    walks_shapes = shapes_told walks (in_order (on entry_shape points_cmp) county.chains) each_walk read
+
+    -- The steps along the shapes in their order are the ascending arrangement.
+    pub steps_ascend : (steps : List DirectedChain) → steps ≡ walks → arrangement_of county steps ≡ ascending county
+    steps_ascend steps e =
+        ap (arrangement_of county) e ∙ steps_told walks (in_order (on entry_shape points_cmp) county.chains) each_walk read
+
+    pub steps_there : (steps : List DirectedChain) → steps ≡ walks → AreSteps county steps
+    steps_there steps e =
+        subst (AreSteps county) (sym e)
+        (all_unmap (λ n. n < length county.chains) place_of walks (places_below (length county.chains) (map place_of walks)
+        (item_places (least_walk county) place_of (λ i. refl) (walk_cmp county) (on_total entry_shape points_keys.total) county.chains
+        agrees walks order.all order.in_order)))

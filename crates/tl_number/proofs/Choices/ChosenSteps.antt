@@ -1,0 +1,144 @@
+-- Walks in the order of shapes, moved at their open places, are the steps of the choice with a number.
+use Rattle.std.proofs.Common.{◌≡◌, ◌<◌, ◌≤◌, ◌+◌, ◌/◌, ◌%◌, ℕ, zero, suc, List, [], ◌∷◌, ◌++◌, map, take, drop, length, Bool, true, false}
+use Rattle.std.proofs.Common.{cond}
+use Rattle.std.proofs.Common.{Ordering, sym, refl, ap, ◌∙◌, subst, arith}
+use Rattle.std.proofs.lemmas.List.{drop-map, length-map, map-append, take-map}
+use Rattle.std.proofs.lemmas.List.Sorted.{length_permutation, IsPermutation-insert}
+use Rattle.std.specs.List.{AllByRecursion, insert}
+use Rattle.tl_shape.specs.PointOrder.{points_cmp}
+use Rattle.tl_county.specs.County.{County}
+use Rattle.tl_county.specs.CountyRules.{IsCounty, tlids}
+use Rattle.tl_county.specs.Orders.{times}
+use Rattle.tl_county.proofs.ByKey.KeyOrders.{points_keys}
+use Rattle.tl_county.proofs.ByKey.Keys.{IsKeyOrder, nat_keys, times-permutation}
+use Rattle.tl_profile.specs.Choices.{is_either_way, is_settled, open_places, place_of}
+use Rattle.tl_profile.specs.ShapeOrder.{AreWalksInOrder, points_along}
+use Rattle.tl_profile.specs.declared.directed_chain.DirectedChain.{DirectedChain}
+use Rattle.tl_profile.specs.declared.open_places.OpenPlace.{OpenPlace}
+use Rattle.tl_profile.proofs.CountedChoices.{alike_few}
+use Rattle.tl_number.specs.Arrangement.{arranged_tlids}
+use Rattle.tl_number.specs.MovedSteps.{AgreeApart, AreWithin, StandInOrder, other_way}
+use Rattle.tl_number.specs.NumberedChoices.{turned_by, stood, chosen, moved}
+use Rattle.tl_number.specs.Steps.{arrangement_of, AreSteps, tlid_at}
+use Rattle.tl_number.specs.Tidy.{step_shape, turned_step, numbered_choice}
+use Rattle.tl_number.specs.ViewFacts.{NamesEachOnce}
+use Rattle.tl_number.proofs.Choices.AscendingSteps.{steps_ascend, steps_there, walks_shapes}
+use Rattle.tl_number.proofs.Choices.Choosing.{all_insert}
+use Rattle.tl_number.proofs.Choices.KeptPlaces.{moved_apart, open_in_order}
+use Rattle.tl_number.proofs.Choices.MovedChoice.{moved_is}
+use Rattle.tl_number.proofs.Choices.TidyChoices.{numbered_is_choice, shapes_ascending, told_here}
+
+-- a property of elements in either direction is a property of those chosen
+chosen_all : {X K : Type 0} (cmp : K → K → Ordering) (either : K → Bool) (key : X → K) (turn : X → X) (P : X → Type 0)
+    → ((x : X) → P x → P (turn x)) → (xs : List X) → AllByRecursion P xs → (n : ℕ)
+    → AllByRecursion P (chosen cmp either key turn xs n).0
+chosen_all cmp either key turn P kept [] a n = tt
+chosen_all {X} cmp either key turn P kept (x ∷ xs) a n =
+    all_insert P (turned_by turn _ x) _ (chosen cmp either key turn xs n).0 (either_kept _) (chosen_all cmp either key turn P kept xs a.1 n)
+  where
+    either_kept : (d : ℕ) → P (turned_by turn d x)
+    either_kept zero = a.0
+    either_kept (suc d) = kept x a.0
+
+-- and there are equally many
+chosen_count : {X K : Type 0} (cmp : K → K → Ordering) (either : K → Bool) (key : X → K) (turn : X → X) (xs : List X) (n : ℕ)
+    → length (chosen cmp either key turn xs n).0 ≡ length xs
+chosen_count cmp either key turn [] n = refl
+chosen_count cmp either key turn (x ∷ xs) n =
+    length_inserted (chosen cmp either key turn xs n).0 _ _ ∙ ap suc (chosen_count cmp either key turn xs n)
+  where
+    length_inserted : {Z : Type 0} (zs : List Z) (i : ℕ) (z : Z) → length (insert zs i z) ≡ suc (length zs)
+    length_inserted zs i z =
+        let same = length_permutation (z ∷ zs) (insert zs i z) (IsPermutation-insert zs i z) in omega (arith, same)
+
+-- images of elements, with the same keys and turned as the elements are
+module _ {X Y K : Type 0} (cmp : K → K → Ordering) (either : K → Bool) (key : X → K) (turn : X → X) (key_told : Y → K) (turn_told : Y → Y)
+    (tell : X → Y) (turns : (x : X) → tell (turn x) ≡ turn_told (tell x)) where
+  turned_told : (d : ℕ) (x : X) → tell (turned_by turn d x) ≡ turned_by turn_told d (tell x)
+  turned_told zero x = refl
+  turned_told (suc d) x = turns x
+
+  insert_told : (xs : List X) (i : ℕ) (x : X) → map tell (insert xs i x) ≡ insert (map tell xs) i (tell x)
+  insert_told xs i x =
+      map-append tell (take i xs) (x ∷ drop i xs) ∙ (λ j. sym (take-map tell i xs) j ++ tell x ∷ sym (drop-map tell i xs) j)
+
+  stood_told : (g w : ℕ) (x : X) (later : List X × ℕ)
+      → ◌≡◌ {A = List Y × ℕ} (map tell (stood turn g w x later).0, (stood turn g w x later).1)
+      (stood turn_told g w (tell x) (map tell later.0, later.1))
+  stood_told g w x later =
+      let put = insert_told later.0 (later.1 % g) (turned_by turn (later.1 / g % w) x)
+      ∙ ap (insert (map tell later.0) (later.1 % g)) (turned_told (later.1 / g % w) x) in
+      λ j. (put j, later.1 / g / w)
+
+  chosen_told : (xs : List X) → map key xs ≡ map key_told (map tell xs) → (n : ℕ)
+      → ◌≡◌ {A = List Y × ℕ} (map tell (chosen cmp either key turn xs n).0, (chosen cmp either key turn xs n).1)
+      (chosen cmp either key_told turn_told (map tell xs) n)
+  chosen_told [] e n = refl
+  chosen_told (x ∷ xs) e n =
+      let here : key x ≡ key_told (tell x) = cc in
+      let rest : map key xs ≡ map key_told (map tell xs) = cc in
+      stood_told (suc (times cmp (key x) (map key xs))) (cond (either (key x)) 2 1) x (chosen cmp either key turn xs n)
+      ∙ ap (stood turn_told (suc (times cmp (key x) (map key xs))) (cond (either (key x)) 2 1) (tell x)) (chosen_told xs rest n)
+      ∙ (λ j. stood turn_told (suc (times cmp (here j) (rest j))) (cond (either (here j)) 2 1) (tell x)
+      (chosen cmp either key_told turn_told (map tell xs) n))
+
+-- an open place and the elements with its key are within the list
+open_within : {K : Type 0} {cmp : K → K → Ordering} (o : IsKeyOrder cmp) (either : K → Bool) (count place : ℕ) (keys : List K)
+    → place + length keys ≤ count → AreWithin count (open_places cmp either place keys)
+open_within o either count place [] few = tt
+open_within {K} {cmp} o either count place (k ∷ ks) few =
+    go (is_settled (place_of cmp either place k ks)) (open_within o either count (suc place) ks (omega (arith, few)))
+  where
+    go : (b : Bool) → AreWithin count (open_places cmp either (suc place) ks)
+        → AreWithin count (cond b (open_places cmp either (suc place) ks)
+        (place_of cmp either place k ks ∷ open_places cmp either (suc place) ks))
+    go true rest = rest
+    go false rest = (record { some = omega arith; there = omega (arith, alike_few o (k ∷ ks), few) }, rest)
+
+module _ (county : County) (is : IsCounty county) (walks : List DirectedChain) (order : AreWalksInOrder county walks) (places : List OpenPlace)
+    (there : places ≡ open_places points_cmp is_either_way 0 (map (points_along county) walks)) where
+  pub places_within : AreWithin (length walks) places
+  places_within = subst (AreWithin (length walks)) (sym there)
+      (open_within points_keys is_either_way (length walks) 0 (map (points_along county) walks)
+      (let same = length-map walks (points_along county) in omega (arith, same)))
+
+  pub places_in_order : StandInOrder places
+  places_in_order = subst StandInOrder (sym there) (open_in_order points_cmp is_either_way 0 (map (points_along county) walks))
+
+  keys_same : map (points_along county) walks ≡ map (step_shape county) (arrangement_of county walks)
+  keys_same = walks_shapes county walks order ∙ sym (shapes_ascending county is)
+      ∙ ap (map (step_shape county)) (sym (steps_ascend county walks order walks refl))
+
+  module _ (steps : List DirectedChain) (n : ℕ) (told : steps ≡ (moved other_way places (walks, n)).0) where
+    as_chosen : steps ≡ (chosen points_cmp is_either_way (points_along county) other_way walks n).0
+    as_chosen = told ∙ ap (λ l. (moved other_way l (walks, n)).0) there
+        ∙ ap (λ r. r.0) (moved_is points_cmp is_either_way (points_along county) other_way walks n)
+
+    -- So the moved walks are the steps of the choice with the number,
+    pub steps_of_number : arrangement_of county steps ≡ numbered_choice county n
+    steps_of_number =
+        ap (arrangement_of county) as_chosen
+        ∙ ap (λ r. r.0) (chosen_told points_cmp is_either_way (points_along county) other_way (step_shape county) turned_step
+        (λ (step : DirectedChain). (tlid_at county step.place, step.turned)) (λ step. refl) walks keys_same n)
+        ∙ ap (λ l. (chosen points_cmp is_either_way (step_shape county) turned_step l n).0) (steps_ascend county walks order walks refl)
+        ∙ sym (told_here county is n)
+
+    pub steps_of_number_count : length steps ≡ length walks
+    steps_of_number_count = ap length as_chosen
+        ∙ chosen_count points_cmp is_either_way (points_along county) other_way walks n
+
+    -- they stay, except for those moved at open places,
+    pub steps_of_number_apart : AgreeApart places steps walks
+    steps_of_number_apart = subst (λ moving. AgreeApart places moving walks) (sym told) (moved_apart other_way places walks n places_within)
+
+    -- each belongs to a chain of the county,
+    pub steps_of_number_there : AreSteps county steps
+    steps_of_number_there = subst (AreSteps county) (sym as_chosen)
+        (chosen_all points_cmp is_either_way (points_along county) other_way (λ step. step.place < length county.chains) (λ step l. l) walks
+        (steps_there county walks order walks refl) n)
+
+    -- and each chain occurs once.
+    pub steps_of_number_once : NamesEachOnce county (arrangement_of county steps)
+    steps_of_number_once = subst (NamesEachOnce county) (sym steps_of_number)
+        (λ tlid. sym (times-permutation nat_keys tlid (arranged_tlids (numbered_choice county n)) (tlids county)
+        (numbered_is_choice county is n).arranges))

@@ -1,0 +1,126 @@
+-- The least of the texts of numbered choices, number by number.
+use Rattle.std.proofs.Common.{◌≡◌, ◌≤◌, ◌+◌, ℕ, nat_lt, List, Bool, true, false, cond, Ordering, is_gt, nat_cmp, refl, sym, ap, ◌∙◌, subst}
+use Rattle.std.proofs.Common.{arith}
+use Rattle.std.proofs.lemmas.Bool.{ltb-true, ltb-false}
+use Rattle.std.specs.Cmp.Lexicographic.{slice_cmp}
+use Rattle.tl_layout.specs.RecordText.{text_of}
+use Rattle.tl_county.specs.County.{County}
+use Rattle.tl_county.specs.CountyRules.{IsCounty, polygon_keys, polygons_along, AllKeysStandIn}
+use Rattle.tl_county.specs.Packing.{packed}
+use Rattle.tl_county.specs.Renumbering.{AreSame}
+use Rattle.tl_county.proofs.ByKey.KeyOrders.{bytes_keys}
+use Rattle.tl_county.proofs.Lists.InOrder.{not_greater}
+use Rattle.tl_county.proofs.Sameness.Equivalence.{same-symmetric, same-transitive}
+use Rattle.tl_profile.specs.Choices.{choices}
+use Rattle.std.proofs.lemmas.Cmp.{upto}
+use Rattle.tl_number.specs.Arrangement.{Arrangement, arranged, renaming_of}
+use Rattle.tl_number.specs.LeastNumber.{IsLeastBelow, choice_list}
+use Rattle.tl_number.specs.Canonical.{IsNotAfter}
+use Rattle.tl_number.specs.Tidy.{IsChoice, IsLeastChoice, arranged_list, numbered_choice}
+use Rattle.tl_number.specs.TypeOneOrder.{IsLeastFrom}
+use Rattle.tl_number.proofs.Arrangements.ArrangedCounties.{arranged_county}
+use Rattle.tl_number.proofs.Arrangements.Carrying.{arrangement_carries}
+use Rattle.tl_number.proofs.Choices.Choosing.{one_more}
+use Rattle.tl_number.proofs.Choices.TidyChoices.{choice_number, numbered_is_choice}
+use Rattle.tl_number.proofs.CanonicalLists.TidyLists.{not_after_itself}
+
+module _ (county : County) where
+  abbrev text_at : ℕ → List ℕ
+  text_at n = text_of (choice_list county n)
+
+  -- with only one number
+  pub first_least : IsLeastBelow county 1 0
+  first_least = one_more bytes_keys.total text_at 0 0 (λ m below. absurd (omega (arith, below))) (not_after_itself (choice_list county 0))
+
+  -- the lesser of two texts isn't after either
+  pub lesser_of : (n m : ℕ) (o : Ordering) → o ≡ slice_cmp nat_cmp (text_at n) (text_at m)
+      → IsNotAfter (choice_list county (cond (is_gt o) m n)) (choice_list county n)
+      × IsNotAfter (choice_list county (cond (is_gt o) m n)) (choice_list county m)
+  lesser_of n m o is = go (is_gt o) refl
+    where
+      go : (b : Bool) → is_gt o ≡ b
+          → IsNotAfter (choice_list county (cond b m n)) (choice_list county n) × IsNotAfter (choice_list county (cond b m n)) (choice_list county m)
+      go false e = (not_after_itself (choice_list county n), sym (ap is_gt is) ∙ e)
+      go true e = (
+        not_greater (slice_cmp nat_cmp (text_at n) (text_at m)) (slice_cmp nat_cmp (text_at m) (text_at n))
+            (bytes_keys.total.antisymm (text_at n) (text_at m)) (sym (ap is_gt is) ∙ e),
+        not_after_itself (choice_list county m),
+      )
+
+  -- the same for the counties of these numbers, in any form
+  pub text_compared : (n m : ℕ) (o : Ordering) (one other : County)
+      → one ≡ arranged county (numbered_choice county n) → other ≡ arranged county (numbered_choice county m)
+      → o ≡ slice_cmp nat_cmp (text_of (packed one)) (text_of (packed other))
+      → IsNotAfter (choice_list county (cond (is_gt o) m n)) (choice_list county n)
+      × IsNotAfter (choice_list county (cond (is_gt o) m n)) (choice_list county m)
+  text_compared n m o one other is_one is_other e =
+      lesser_of n m o (e ∙ (λ j. slice_cmp nat_cmp (text_of (packed (is_one j))) (text_of (packed (is_other j)))))
+
+  -- texts that don't come after one another
+  pub not_after_both : (n m k : ℕ) → IsNotAfter (choice_list county n) (choice_list county m)
+      → IsNotAfter (choice_list county m) (choice_list county k) → IsNotAfter (choice_list county n) (choice_list county k)
+  not_after_both n m k e f = upto bytes_keys.total (text_at n) (text_at m) (text_at k) e f
+
+  -- The least choice among the ties up to a number, and the next tie: the lesser of both is least up to the next number.
+  pub tie_least : (first from tie old new : ℕ) → IsLeastBelow county from old → IsNotAfter (choice_list county old) (choice_list county first)
+      → IsLeastFrom county from tie first → IsNotAfter (choice_list county new) (choice_list county old)
+      → IsNotAfter (choice_list county new) (choice_list county tie) → IsLeastBelow county (tie + 1) new
+  tie_least first from tie old new below upper among lesser other m l = go (nat_lt m from) refl (nat_lt m tie) refl
+    where
+      go : (b : Bool) → nat_lt m from ≡ b → (d : Bool) → nat_lt m tie ≡ d → IsNotAfter (choice_list county new) (choice_list county m)
+      go true e d f = not_after_both new old m lesser (below m (ltb-true m from e))
+      go false e true f =
+          not_after_both new first m (not_after_both new old first lesser upper) (among m (ltb-false m from e) (ltb-true m tie f))
+      go false e false f =
+          let past : tie ≤ m = ltb-false m tie f in
+          let same : tie ≡ m = omega (arith, l, past) in
+          subst (λ k. IsNotAfter (choice_list county new) (choice_list county k)) same other
+
+  -- and if there is no further tie, it is least of all
+  pub ties_least : (first from count old : ℕ) → IsLeastBelow county from old → IsNotAfter (choice_list county old) (choice_list county first)
+      → IsLeastFrom county from count first → IsLeastBelow county count old
+  ties_least first from count old below upper among m l = go (nat_lt m from) refl
+    where
+      go : (b : Bool) → nat_lt m from ≡ b → IsNotAfter (choice_list county old) (choice_list county m)
+      go true e = below m (ltb-true m from e)
+      go false e = not_after_both old first m upper (among m (ltb-false m from e) l)
+
+-- a property of two values is a property of either
+pub of_either : {X : Type 0} (P : X → Type 0) (b : Bool) (x y : X) → P x → P y → P (cond b x y)
+of_either P true x y p q = p
+of_either P false x y p q = q
+
+pub told_of_either : {X Y : Type 0} (tell : X → Y) (P : Y → Type 0) (b : Bool) (x y : X) → P (cond b (tell x) (tell y))
+    → P (tell (cond b x y))
+told_of_either tell P true x y p = p
+told_of_either tell P false x y p = p
+
+module _ (county : County) (is : IsCounty county) where
+  -- the choice with the number that is least of all
+  pub least_of_all : (n : ℕ) → IsLeastBelow county (choices county) n → IsLeastChoice county (numbered_choice county n)
+  least_of_all n least = record {
+    choice = numbered_is_choice county is n;
+    least = λ other choice. (let m = choice_number county is other choice in
+        subst (λ steps. IsNotAfter (choice_list county n) (arranged_list county steps)) m.2 (least m.0 m.1));
+  }
+
+  -- the counties of two choices are the same
+  module _ (sides : AllKeysStandIn (polygons_along county.chains) (polygon_keys county)) where
+    same_by : (steps : Arrangement) → IsChoice county steps → AreSame county (arranged county steps)
+    same_by steps choice = record {
+      by = renaming_of county steps;
+      carries = arrangement_carries county steps is choice.arranges sides;
+    }
+
+    county_by : (steps : Arrangement) → IsChoice county steps → IsCounty (arranged county steps)
+    county_by steps choice = arranged_county county steps is choice.arranges sides
+
+    pub choices_same : (n m : ℕ) → AreSame (arranged county (numbered_choice county n)) (arranged county (numbered_choice county m))
+    choices_same n m =
+        let a = numbered_is_choice county is n in
+        let b = numbered_is_choice county is m in
+        same-transitive (arranged county (numbered_choice county n)) county (arranged county (numbered_choice county m))
+        (county_by (numbered_choice county n) a) is
+        (same-symmetric county (arranged county (numbered_choice county n)) is (county_by (numbered_choice county n) a)
+        (same_by (numbered_choice county n) a))
+        (same_by (numbered_choice county m) b)

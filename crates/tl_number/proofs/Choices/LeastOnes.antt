@@ -1,0 +1,170 @@
+-- The least type 1 records of choices, number by number, and the consequence for texts.
+use Rattle.std.proofs.Common.{◌≡◌, ◌<◌, ◌≤◌, ◌+◌, ℕ, suc, nat_lt, List, Bool, true, false, Ordering, Less, Equal, Greater}
+use Rattle.std.proofs.Common.{is_eq, is_gt, length, map, sym, refl, ap, ◌∙◌, subst, arith}
+use Rattle.std.proofs.lemmas.Bool.{ltb-true, ltb-false, false≢true}
+use Rattle.std.proofs.lemmas.Cmp.{tied_itself, upto}
+use Rattle.std.specs.Ordering.{is_le, ordering_then}
+use Rattle.tl_layout.specs.declared.record_type.Record.{Record}
+use Rattle.tl_county.specs.County.{County}
+use Rattle.tl_county.specs.CountyRules.{IsCounty, polygon_keys, polygons_along, AllKeysStandIn}
+use Rattle.tl_county.specs.Limits.{IsWithinLimits, most_records}
+use Rattle.tl_county.specs.Packing.{packed}
+use Rattle.tl_county.proofs.Lists.InOrder.{not_greater}
+use Rattle.tl_profile.specs.Choices.{is_either_way, open_places}
+use Rattle.tl_profile.specs.ShapeOrder.{AreWalksInOrder, points_along}
+use Rattle.tl_profile.specs.declared.directed_chain.DirectedChain.{DirectedChain}
+use Rattle.tl_profile.specs.declared.open_places.OpenPlace.{OpenPlace}
+use Rattle.tl_profile.proofs.FewChains.{few_chains}
+use Rattle.tl_shape.specs.PointOrder.{points_cmp}
+use Rattle.tl_number.specs.Arrangement.{arranged}
+use Rattle.tl_number.specs.LeastNumber.{choice_list}
+use Rattle.tl_number.specs.MovedSteps.{AgreeApart, AgreeButOpen, AreWithin, StandInOrder, other_way}
+use Rattle.tl_number.specs.NumberedChoices.{moved}
+use Rattle.tl_number.specs.Canonical.{IsNotAfter}
+use Rattle.tl_number.specs.Steps.{step_chain}
+use Rattle.tl_number.specs.Tidy.{numbered_choice}
+use Rattle.tl_number.specs.TypeOneOrder.{IsLeastFrom, IsLeastOne, ones_cmp, ones_of}
+use Rattle.tl_number.specs.ViewFacts.{AreWhole}
+use Rattle.tl_number.proofs.Arrangements.ArrangedCounties.{arranged_county}
+use Rattle.tl_number.proofs.Arrangements.ArrangedNumbers.{arrangement_within}
+use Rattle.tl_number.proofs.Views.ArrangedViews.{whole_steps}
+use Rattle.tl_number.proofs.Choices.ChosenSteps.{places_in_order, places_within, steps_of_number, steps_of_number_apart, steps_of_number_count}
+use Rattle.tl_number.proofs.Choices.ChosenSteps.{steps_of_number_there, steps_of_number_once}
+use Rattle.tl_number.proofs.Choices.Choosing.{one_more}
+use Rattle.tl_number.proofs.Texts.GroupOrders.{records_total}
+use Rattle.tl_number.proofs.Choices.KeptPlaces.{agree_both}
+use Rattle.tl_number.proofs.Choices.LeastNumbers.{choices_same}
+use Rattle.tl_number.proofs.Texts.SameChains.{stepped_same}
+use Rattle.tl_number.proofs.Choices.TidyChoices.{numbered_is_choice}
+use Rattle.tl_number.proofs.CanonicalLists.TidyLists.{not_after_itself}
+use Rattle.tl_number.proofs.Texts.TypeOrders.{texts_in_order}
+
+less_from_others : (o : Ordering) → is_gt o ≡ false → is_eq o ≡ false → o ≡ Less
+less_from_others Less e f = refl
+less_from_others Equal e f = absurd (false≢true (sym f))
+less_from_others Greater e f = absurd (false≢true (sym e))
+
+pub greater_from : (o : Ordering) → is_le o ≡ false → is_gt o ≡ true
+greater_from Less e = absurd (false≢true (sym e))
+greater_from Equal e = absurd (false≢true (sym e))
+greater_from Greater e = refl
+
+pub not_greater_from : (o : Ordering) → is_le o ≡ true → is_gt o ≡ false
+not_greater_from Less e = refl
+not_greater_from Equal e = refl
+not_greater_from Greater e = absurd (false≢true e)
+
+pub equal_from : (o : Ordering) → is_eq o ≡ true → o ≡ Equal
+equal_from Less e = absurd (false≢true e)
+equal_from Equal e = refl
+equal_from Greater e = absurd (false≢true e)
+
+then_less : (o p q : Ordering) → o ≡ Less → is_gt (ordering_then (ordering_then o p) q) ≡ false
+then_less o p q e = ap (λ r. is_gt (ordering_then (ordering_then r p) q)) e
+
+module _ (county : County) where
+  abbrev ones_at : ℕ → List Record
+  ones_at n = ones_of (arranged county (numbered_choice county n))
+
+  one_itself : (n : ℕ) → is_gt (ones_cmp county n n) ≡ false
+  one_itself n = ap is_gt (tied_itself records_total (ones_at n))
+
+  -- two numbers whose type 1 records are spelled as those of a third one
+  pub both_tied : (first n m : ℕ) → ones_cmp county first n ≡ Equal → ones_cmp county first m ≡ Equal → ones_cmp county n m ≡ Equal
+  both_tied first n m e f = sym (records_total.congr (ones_at first) (ones_at n) (ones_at m) e) ∙ f
+
+  pub tied_along : (first n m : ℕ) → ones_cmp county first n ≡ Equal → ones_cmp county n m ≡ Equal → ones_cmp county first m ≡ Equal
+  tied_along first n m e f = records_total.congr (ones_at first) (ones_at n) (ones_at m) e ∙ f
+
+  pub tied_with_itself : (n : ℕ) → ones_cmp county n n ≡ Equal
+  tied_with_itself n = tied_itself records_total (ones_at n)
+
+  pub first_one : IsLeastOne county 1 0
+  first_one = one_more records_total ones_at 0 0 (λ m below. absurd (omega (arith, below))) (one_itself 0)
+
+  -- the least so far stays if the next number has no lesser records
+  pub one_stays : (bound n : ℕ) → IsLeastOne county bound n → is_gt (ones_cmp county n bound) ≡ false → IsLeastOne county (bound + 1) n
+  one_stays bound n least e =
+      subst (λ b. IsLeastOne county b n) (let s : suc bound ≡ bound + 1 = omega arith in s)
+      (one_more records_total ones_at bound n least e)
+
+  -- and is replaced if it has
+  pub one_gives_way : (bound n : ℕ) → IsLeastOne county bound n → is_gt (ones_cmp county n bound) ≡ true → IsLeastOne county (bound + 1) bound
+  one_gives_way bound n least e =
+      let turned : is_gt (ones_cmp county bound n) ≡ false =
+      not_greater (ones_cmp county n bound) (ones_cmp county bound n) (records_total.antisymm (ones_at n) (ones_at bound)) e in
+      subst (λ b. IsLeastOne county b bound) (let s : suc bound ≡ bound + 1 = omega arith in s)
+      (one_more records_total ones_at bound bound
+      (λ m l. upto records_total (ones_at bound) (ones_at n) (ones_at m) turned (least m l)) (one_itself bound))
+
+  -- one more number whose text isn't before that of the number
+  pub from_more : (first bound n : ℕ) → IsLeastFrom county first bound n → IsNotAfter (choice_list county n) (choice_list county bound)
+      → IsLeastFrom county first (bound + 1) n
+  from_more first bound n among last m l k = go (nat_lt m bound) refl
+    where
+      go : (b : Bool) → nat_lt m bound ≡ b → IsNotAfter (choice_list county n) (choice_list county m)
+      go true e = among m l (ltb-true m bound e)
+      go false e =
+          let past : bound ≤ m = ltb-false m bound e in
+          let same : bound ≡ m = omega (arith, k, past) in
+          subst (λ j. IsNotAfter (choice_list county n) (choice_list county j)) same last
+
+  pub from_itself : (first n : ℕ) → IsLeastFrom county first n n → IsLeastFrom county first (n + 1) n
+  from_itself first n among = from_more first n n among (not_after_itself (choice_list county n))
+
+module _ (county : County) (is : IsCounty county) (within : IsWithinLimits most_records county)
+    (sides : AllKeysStandIn (polygons_along county.chains) (polygon_keys county)) where
+  -- Lesser records of type 1 make a lesser text.
+  pub less_first : (n m : ℕ) → ones_cmp county n m ≡ Less → IsNotAfter (choice_list county n) (choice_list county m)
+  less_first n m e =
+      let a = numbered_is_choice county is n in
+      let b = numbered_is_choice county is m in
+      ap is_gt (texts_in_order (arranged county (numbered_choice county n)) (arranged county (numbered_choice county m))
+      (arranged_county county (numbered_choice county n) is a.arranges sides) (arranged_county county (numbered_choice county m) is b.arranges sides)
+      (arrangement_within most_records (omega arith) county is (numbered_choice county n) a.arranges sides within)
+      (arrangement_within most_records (omega arith) county is (numbered_choice county m) b.arranges sides within)
+      (choices_same county is sides n m))
+      ∙ then_less _ _ _ e
+
+  -- so if the least of them doesn't tie
+  pub least_one_first : (count n m : ℕ) → IsLeastOne county count n → m < count → is_eq (ones_cmp county n m) ≡ false
+      → IsNotAfter (choice_list county n) (choice_list county m)
+  least_one_first count n m least l e = less_first n m (less_from_others (ones_cmp county n m) (least m l) e)
+
+  pub whole_of_number : (walks : List DirectedChain) (order : AreWalksInOrder county walks) (places : List OpenPlace)
+      → places ≡ open_places points_cmp is_either_way 0 (map (points_along county) walks) → (steps : List DirectedChain) (n : ℕ)
+      → steps ≡ (moved other_way places (walks, n)).0 → AreWhole county steps
+  whole_of_number walks order places there steps n told =
+      whole_steps county steps is within (steps_of_number_there county is walks order places there steps n told)
+      (steps_of_number_once county is walks order places there steps n told) sides (few_chains county within)
+
+  module _ (walks : List DirectedChain) (order : AreWalksInOrder county walks) (places : List OpenPlace)
+      (there : places ≡ open_places points_cmp is_either_way 0 (map (points_along county) walks)) (one other : List DirectedChain) (n m : ℕ)
+      (told : one ≡ (moved other_way places (walks, n)).0) (other_told : other ≡ (moved other_way places (walks, m)).0) where
+    -- The steps of two numbers agree, except for those moved at open places,
+    pub agree_of_numbers : (all : List OpenPlace) → all ≡ places → AgreeButOpen county all one other
+    agree_of_numbers all same =
+        let count : length one ≡ length walks = steps_of_number_count county is walks order places there one n told in
+        let other_count : length other ≡ length walks = steps_of_number_count county is walks order places there other m other_told in
+        record {
+          whole = whole_of_number walks order places there one n told;
+          other_whole = whole_of_number walks order places there other m other_told;
+          count = count ∙ sym other_count;
+          within = subst (λ k. AreWithin k all) (sym count)
+              (subst (AreWithin (length walks)) (sym same) (places_within county is walks order places there));
+          in_order = subst StandInOrder (sym same) (places_in_order county is walks order places there);
+          apart = subst (λ ps. AgreeApart ps one other) (sym same)
+              (agree_both places one other walks (steps_of_number_apart county is walks order places there one n told)
+              (steps_of_number_apart county is walks order places there other m other_told));
+        }
+
+    -- and if they have the same chains, their choices have the same list.
+    pub one_list : map (step_chain county) one ≡ map (step_chain county) other
+        → IsNotAfter (choice_list county n) (choice_list county m)
+    one_list same =
+        let lists : choice_list county n ≡ choice_list county m =
+        ap (λ a. packed (arranged county a)) (sym (steps_of_number county is walks order places there one n told))
+        ∙ ap packed (stepped_same county is one other (whole_of_number walks order places there one n told)
+        (whole_of_number walks order places there other m other_told) same)
+        ∙ ap (λ a. packed (arranged county a)) (steps_of_number county is walks order places there other m other_told) in
+        subst (IsNotAfter (choice_list county n)) lists (not_after_itself (choice_list county n))

@@ -1,0 +1,164 @@
+-- Links gathered landmark by landmark, and counted LAND by LAND.
+use Rattle.std.proofs.Common.{◌≡◌, ◌⊎◌, ◌<◌, ◌≤◌, ◌+◌, ◌-◌, ℕ, zero, suc, nat_le, List, [], ◌∷◌, ◌++◌, map, filter, flat_map, length, take}
+use Rattle.std.proofs.Common.{Bool, true, false, cond, not, Ordering, Less, Equal, Greater, is_gt, Some, option_to_list}
+use Rattle.std.proofs.Common.{slice_get}
+use Rattle.std.proofs.Common.{refl, sym, ap, ap₂, ◌∙◌, subst, inl, inr, arith, nat_cmp, append-nil, append_assoc, IsPermutation, IsTrue}
+use Rattle.std.proofs.lemmas.Bool.{true≢false, ltb-true}
+use Rattle.std.proofs.lemmas.Bool.Decides.{leb_tells}
+use Rattle.std.proofs.lemmas.Cmp.{ranked}
+use Rattle.std.proofs.lemmas.List.{map-append, length-map}
+use Rattle.std.proofs.lemmas.List.FromFn.{map-range_with_len_more}
+use Rattle.std.proofs.lemmas.List.Filters.{length-filter_both}
+use Rattle.std.proofs.lemmas.List.Sorted.{IsPermutation-sym, IsPermutation-trans, IsPermutation-map}
+use Rattle.std.specs.List.{range_with_len}
+use Rattle.std.specs.Ordering.{MatchOrdering}
+use Rattle.tl_layout.specs.ByType.{of_number}
+use Rattle.tl_layout.specs.Fields.{Fields8}
+use Rattle.tl_county.specs.BodyOrder.{link_cmp}
+use Rattle.tl_county.specs.ChartWords.{links_with, links_at}
+use Rattle.tl_county.specs.County.{County, eight_land}
+use Rattle.tl_county.specs.CountyRules.{IsCounty, lands}
+use Rattle.tl_county.specs.Orders.{IsInOrder, in_order, times, stands_in}
+use Rattle.tl_county.proofs.Lists.InOrder.{in_order-in_order, in_order-permutation}
+use Rattle.tl_county.proofs.ByKey.KeyOrders.{link_keys}
+use Rattle.tl_county.proofs.ByKey.Keys.{Known, nat_keys, apart_from_sorted}
+use Rattle.tl_county.proofs.Lists.Elements.{map_itself, all_weaker}
+use Rattle.tl_county.proofs.Lists.Permutations.{groups-permutation, in_order-is_permutation}
+use Rattle.tl_number.specs.ViewFacts.{links_up_to}
+use Rattle.tl_number.proofs.Views.StepChains.{flat_map-map}
+
+-- one more element of a list
+taken : {X : Type 0} (i : ℕ) (xs : List X) → take (suc i) xs ≡ take i xs ++ option_to_list (slice_get xs i)
+taken zero [] = refl
+taken (suc i) [] = refl
+taken zero (x ∷ xs) = refl
+taken (suc i) (x ∷ xs) = ap (λ ys. x ∷ ys) (taken i xs)
+
+pub pushed_next : {X Y : Type 0} (f : X → Y) (first : List Y) (xs : List X) (i : ℕ)
+    → (first ++ map f (take i xs)) ++ map f (option_to_list (slice_get xs i)) ≡ first ++ map f (take (i + 1) xs)
+pushed_next f first xs i =
+    append_assoc first (map f (take i xs)) (map f (option_to_list (slice_get xs i)))
+    ∙ ap (λ ys. first ++ ys) (sym (map-append f (take i xs) (option_to_list (slice_get xs i))) ∙ ap (map f) (sym (taken i xs)))
+    ∙ (let t : suc i ≡ i + 1 = omega arith in ap (λ n. first ++ map f (take n xs)) t)
+
+-- one more piece
+piece_more : {Y : Type 0} (f : ℕ → List Y) (a n : ℕ) → flat_map f (range_with_len a (suc n)) ≡ flat_map f (range_with_len a n) ++ f (a + n)
+piece_more f a zero = append-nil (f a) ∙ (let t : a ≡ a + 0 = omega arith in ap f t)
+piece_more f a (suc n) =
+    ap (λ ys. f a ++ ys) (piece_more f (a + 1) n)
+    ∙ sym (append_assoc (f a) (flat_map f (range_with_len (a + 1) n)) (f ((a + 1) + n)))
+    ∙ (let t : (a + 1) + n ≡ a + suc n = omega arith in ap (λ m. (f a ++ flat_map f (range_with_len (a + 1) n)) ++ f m) t)
+
+pub pieces_next : {Y : Type 0} (f : ℕ → List Y) (n : ℕ) → flat_map f (range_with_len 0 n) ++ f n ≡ flat_map f (range_with_len 0 (n + 1))
+pieces_next f n =
+    sym (piece_more f 0 n ∙ (let t : 0 + n ≡ n = omega arith in ap (λ m. flat_map f (range_with_len 0 n) ++ f m) t))
+    ∙ (let t : suc n ≡ n + 1 = omega arith in ap (λ m. flat_map f (range_with_len 0 m)) t)
+
+-- the elements of a list, by their places
+shifted : {Y : Type 0} (f : ℕ → Y) (a n : ℕ) → map f (range_with_len (a + 1) n) ≡ map (λ i. f (suc i)) (range_with_len a n)
+shifted f a zero = refl
+shifted f a (suc n) = ap₂ (λ y ys. y ∷ ys) (let t : a + 1 ≡ suc a = omega arith in ap f t) (shifted f (a + 1) n)
+
+pub listed : {X : Type 0} (xs : List X) → map (slice_get xs) (range_with_len 0 (length xs)) ≡ map Some xs
+listed [] = refl
+listed (x ∷ xs) = ap (λ ys. Some x ∷ ys) (shifted (slice_get (x ∷ xs)) 0 (length xs) ∙ listed xs)
+
+module _ (county : County) (is : IsCounty county) (f : Fields8 → Fields8) where
+  abbrev gathered : List Fields8
+  gathered = flat_map (λ place. map f (links_at county place)) (range_with_len 0 (length county.landmarks))
+
+  pieces_mapped : {X : Type 0} (g : X → List Fields8) (xs : List X) → flat_map (λ x. map f (g x)) xs ≡ map f (flat_map g xs)
+  pieces_mapped g [] = refl
+  pieces_mapped g (x ∷ xs) = ap (λ ys. map f (g x) ++ ys) (pieces_mapped g xs) ∙ sym (map-append f (g x) (flat_map g xs))
+
+  by_lands : flat_map (links_at county) (range_with_len 0 (length county.landmarks)) ≡ flat_map
+      (λ land. of_number eight_land land county.links) (lands county)
+  by_lands =
+      (let len : length county.landmarks ≡ length (lands county) = sym (length-map county.landmarks (λ (d : ℕ × _). d.0)) in
+      ap (λ n. flat_map (links_at county) (range_with_len 0 n)) len)
+      ∙ sym (flat_map-map (links_with county.links) (slice_get (lands county)) (range_with_len 0 (length (lands county))))
+      ∙ ap (flat_map (links_with county.links)) (listed (lands county))
+      ∙ flat_map-map (links_with county.links) Some (lands county)
+
+  permuted : IsPermutation gathered (map f county.links)
+  permuted =
+      subst (λ ls. IsPermutation ls (map f county.links)) (sym (pieces_mapped (links_at county) (range_with_len 0 (length county.landmarks))
+      ∙ ap (map f) by_lands))
+      (IsPermutation-map f (flat_map (λ land. of_number eight_land land county.links) (lands county)) county.links
+      (groups-permutation eight_land (lands county) county.links (apart_from_sorted nat_keys (lands county) is.ascending.landmarks)
+      (all_weaker (λ (l : Fields8). IsTrue (stands_in nat_cmp l.land (lands county))) (λ l. Known nat_cmp (lands county) l.land)
+      (λ l t. ltb-true 0 (times nat_cmp l.land (lands county)) t) county.links is.closed.link_lands)))
+
+  -- the gathered links, put in order, are the list in order
+  pub links_sorted : (links : List Fields8) → IsPermutation gathered links → IsInOrder link_cmp links → links ≡ in_order link_cmp
+      (map f county.links)
+  links_sorted links p ordered =
+      in_order-permutation link_keys links (in_order link_cmp (map f county.links)) ordered
+      (in_order-in_order link_keys.total (map f county.links))
+      (IsPermutation-trans links gathered (in_order link_cmp (map f county.links)) (IsPermutation-sym gathered links p)
+      (IsPermutation-trans gathered (map f county.links) (in_order link_cmp (map f county.links)) permuted
+      (IsPermutation-sym (in_order link_cmp (map f county.links)) (map f county.links)
+      (in_order-is_permutation link_cmp (map f county.links)))))
+
+-- tests
+above_or_not : (a b : ℕ) → is_gt (nat_cmp a b) ≡ not (nat_le a b)
+above_or_not a b = go (leb_tells a b) (nat_cmp a b) (ranked a b (nat_cmp a b) refl)
+  where
+    go : ((nat_le a b ≡ true) × (a ≤ b)) ⊎ ((nat_le a b ≡ false) × (b < a)) → (o : Ordering) → MatchOrdering o (a < b) (a ≡ b) (b < a)
+        → is_gt o ≡ not (nat_le a b)
+    go (inl p) Less m = sym (ap not p.0)
+    go (inl p) Equal m = sym (ap not p.0)
+    go (inl p) Greater m = absurd (let low = p.1 in omega (arith, low, m))
+    go (inr p) Less m = absurd (let high = p.1 in omega (arith, high, m))
+    go (inr p) Equal m = absurd (let high = p.1 in omega (arith, high, m))
+    go (inr p) Greater m = sym (ap not p.0)
+
+filter_twice : {X : Type 0} (p q : X → Bool) → ((x : X) → p x ≡ true → q x ≡ true) → (xs : List X) → filter p (filter q xs) ≡ filter p xs
+filter_twice p q h [] = refl
+filter_twice {X} p q h (x ∷ xs) = go (q x) (p x) refl refl (filter_twice p q h xs)
+  where
+    go : (b c : Bool) → q x ≡ b → p x ≡ c → filter p (filter q xs) ≡ filter p xs
+        → filter p (cond (q x) (x ∷ filter q xs) (filter q xs)) ≡ cond (p x) (x ∷ filter p xs) (filter p xs)
+    go true c e f ih = ap (λ b. filter p (cond b (x ∷ filter q xs) (filter q xs))) e
+        ∙ ap (λ ys. cond (p x) (x ∷ ys) ys) ih
+    go false true e f ih = absurd (true≢false (sym (h x f) ∙ e))
+    go false false e f ih = ap (λ b. filter p (cond b (x ∷ filter q xs) (filter q xs))) e ∙ ih
+        ∙ sym (ap (λ b. cond b (x ∷ filter p xs) (filter p xs)) f)
+
+-- the links with a greater LAND, and those up to it
+module _ (links rest later : List Fields8) (land : ℕ)
+    (so_far : (n : ℕ) → land ≤ n → filter (λ link. is_gt (nat_cmp (eight_land link) n)) rest ≡ filter
+    (λ link. is_gt (nat_cmp (eight_land link) n)) links)
+    (cut : later ≡ filter (λ link. is_gt (nat_cmp (eight_land link) land)) rest) where
+  counted : length later + links_up_to links land ≡ length links
+  counted = ap (λ ls. length ls + links_up_to links land) (cut ∙ so_far land (omega arith))
+      ∙ (let both = length-filter_both (λ (link : Fields8). nat_le link.land land) (λ link. is_gt (nat_cmp (eight_land link) land))
+      (λ link. above_or_not (eight_land link) land) links in omega (arith, both))
+
+  pub fewer_later : length later ≤ length links
+  fewer_later = omega (arith, counted)
+
+  pub bound_told : length links - length later ≡ links_up_to links land
+  bound_told = omega (arith, counted)
+
+  pub later_next : (n : ℕ) → land + 1 ≤ n → filter (λ link. is_gt (nat_cmp (eight_land link) n)) later ≡ filter
+      (λ link. is_gt (nat_cmp (eight_land link) n)) links
+  later_next n h =
+      ap (filter (λ link. is_gt (nat_cmp (eight_land link) n))) (cut ∙ so_far land (omega arith))
+      ∙ filter_twice (λ link. is_gt (nat_cmp (eight_land link) n)) (λ link. is_gt (nat_cmp (eight_land link) land))
+      (λ link e. above (eight_land link) e) links
+    where
+      above : (a : ℕ) → is_gt (nat_cmp a n) ≡ true → is_gt (nat_cmp a land) ≡ true
+      above a e = go (leb_tells a n) (leb_tells a land)
+        where
+          go : ((nat_le a n ≡ true) × (a ≤ n)) ⊎ ((nat_le a n ≡ false) × (n < a))
+              → ((nat_le a land ≡ true) × (a ≤ land)) ⊎ ((nat_le a land ≡ false) × (land < a)) → is_gt (nat_cmp a land) ≡ true
+          go (inl p) q = absurd (true≢false (sym e ∙ above_or_not a n ∙ ap not p.0))
+          go (inr p) (inl q) = absurd (let high = p.1 in let low = q.1 in omega (arith, high, low, h))
+          go (inr p) (inr q) = above_or_not a land ∙ ap not q.0
+
+-- one more place
+pub range_next : (n : ℕ) → range_with_len 0 n ++ (n ∷ []) ≡ range_with_len 0 (n + 1)
+range_next n =
+    ap (λ ks. ks ++ (n ∷ [])) (sym (map_itself (λ i. i) (λ i. refl) (range_with_len 0 n)))
+    ∙ sym (map-range_with_len_more (λ i. i) 0 n n (omega arith)) ∙ map_itself (λ i. i) (λ i. refl) (range_with_len 0 (n + 1))

@@ -1,0 +1,5 @@
+-- Lemmas on lists of any elements.
+pub mod Counting
+pub mod Grouping
+pub mod SortedPlaces
+pub mod ItemByItem

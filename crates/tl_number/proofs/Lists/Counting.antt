@@ -1,0 +1,38 @@
+-- Lists that count from a number: they ascend, and lists with the same length are equal.
+use Rattle.std.proofs.Common.{◌≡◌, ◌<◌, ◌+◌, ℕ, zero, suc, List, [], ◌∷◌, map, Less, Equal, Greater, refl, ap, arith, nat_cmp, cond, ◌==◌}
+use Rattle.std.proofs.lemmas.Bool.{lt-ltb}
+use Rattle.std.specs.List.{AllByRecursion, range_with_len}
+use Rattle.std.specs.List.Sorted.{IsStrictlySortedBy}
+use Rattle.tl_number.specs.Growth.{up_to}
+
+pub less : (m n : ℕ) → m < n → nat_cmp m n ≡ Less
+less m n h = ap (λ b. cond b Less (cond (m == n) Equal Greater)) (lt-ltb m n h)
+
+above : (m a n : ℕ) → m < a → AllByRecursion (λ y. nat_cmp m y ≡ Less) (range_with_len a n)
+above m a zero h = tt
+above m a (suc n) h = (less m a h, above m (a + 1) n (omega arith))
+
+pub range_strict : (a n : ℕ) → IsStrictlySortedBy nat_cmp (range_with_len a n)
+unfolding IsStrictlySortedBy
+range_strict a zero = tt
+range_strict a (suc n) = (above a (a + 1) n (omega arith), range_strict (a + 1) n)
+
+pub up_to-strict : (n : ℕ) → IsStrictlySortedBy nat_cmp (up_to n)
+up_to-strict n = range_strict 1 n
+
+-- entries with equal left parts and equal right parts are equal
+pub entries_equal : {A B : Type 0} (xs ys : List (A × B)) → map (λ e. e.0) xs ≡ map (λ e. e.0) ys → map (λ e. e.1) xs ≡ map (λ e. e.1) ys
+    → xs ≡ ys
+entries_equal [] [] p q = refl
+entries_equal [] (y ∷ ys) p q = cc
+entries_equal (x ∷ xs) [] p q = cc
+entries_equal {A} {B} (x ∷ xs) (y ∷ ys) p q =
+    let left : x.0 ≡ y.0 = cc in
+    let right : x.1 ≡ y.1 = cc in
+    let lefts : map (λ (e : A × B). e.0) xs ≡ map (λ (e : A × B). e.0) ys = cc in
+    let rights : map (λ (e : A × B). e.1) xs ≡ map (λ (e : A × B). e.1) ys = cc in
+    λ i. (left i, right i) ∷ entries_equal xs ys lefts rights i
+
+pub map-equal_all : {X Y : Type 0} (f g : X → Y) (xs : List X) → map f xs ≡ map g xs → AllByRecursion (λ x. f x ≡ g x) xs
+map-equal_all f g [] e = tt
+map-equal_all f g (x ∷ xs) e = ((let t : f x ≡ g x = cc in t), map-equal_all f g xs (cc))

@@ -1,0 +1,3 @@
+-- Counties under a mask.
+pub mod MaskedProfile
+pub mod MaskedSights

@@ -1,0 +1,78 @@
+-- The profile and the order of chains by their shapes don't depend on anything that a mask leaves out.
+use Rattle.std.proofs.Common.{◌≡◌, ◌&&◌, ℕ, List, map, reverse, not, refl, sym, ap, ◌∙◌, subst}
+use Rattle.std.proofs.Common.{nat_cmp, length, min, suc, ◌≤◌, IsPermutation}
+use Rattle.std.specs.Prelude.{nat_lt}
+use Rattle.std.specs.List.{range_with_len}
+use Rattle.std.specs.Ordering.{is_lt, ordering_then}
+use Rattle.tl_layout.specs.Coordinates.{Coordinates}
+use Rattle.tl_layout.specs.declared.mask.Mask.{Mask}
+use Rattle.tl_shape.specs.Chain.{Chain}
+use Rattle.tl_shape.specs.PointOrder.{points_cmp}
+use Rattle.tl_county.specs.County.{County}
+use Rattle.tl_county.specs.CountyRules.{has_body}
+use Rattle.tl_county.specs.Orders.{IsInOrder, stands_in}
+use Rattle.tl_county.specs.PolygonKeys.{key_cmp}
+use Rattle.tl_cert.specs.MaskedCounty.{masked_chain, masked}
+use Rattle.tl_cert.specs.MaskedLaws.{sides_masked}
+use Rattle.tl_cert.proofs.MaskedReads.{chain_count_masked, points_masked}
+use Rattle.tl_profile.specs.Profile.{is_clause_broken, IsInProfile}
+use Rattle.tl_profile.specs.Choices.{choices, is_either_way, most_choices, open_places, running}
+use Rattle.tl_profile.specs.ShapeOrder.{least_walk, least_walks, points_along, walk_cmp, AreWalksInOrder, IsShapeOrder, OrderOfShapes}
+use Rattle.tl_profile.specs.Shapes.{least_points, points_at, points_from}
+use Rattle.tl_profile.proofs.SameChoices.{choices_of_shapes}
+use Rattle.tl_county.proofs.Lists.Elements.{map-map}
+use Rattle.tl_profile.specs.declared.directed_chain.DirectedChain.{DirectedChain}
+use Rattle.tl_profile.specs.declared.fault.ProfileFault.{ProfileFault}
+use Rattle.tl_profile.specs.declared.fault.ProfileFault.TheVariants.{PolygonWithoutChain, TooSymmetric, Memory}
+
+module _ (mask : Mask) (county : County) where
+  abbrev mask_entry : ℕ × Chain → ℕ × Chain
+  mask_entry entry = (entry.0, masked_chain mask entry.1)
+
+  choices_kept : choices (masked mask county) ≡ choices county
+  choices_kept =
+      sym (choices_of_shapes (masked mask county))
+      ∙ ap (running points_cmp is_either_way) (map-map (λ (entry : ℕ × Chain). least_points entry.1.points) mask_entry county.chains)
+      ∙ choices_of_shapes county
+
+  clause_masked : (fault : ProfileFault) → is_clause_broken (masked mask county) fault ≡ is_clause_broken county fault
+  clause_masked (PolygonWithoutChain cenid polyid) =
+      ap (λ sides. has_body county (cenid, polyid) && not (stands_in key_cmp (cenid, polyid) sides)) (sides_masked mask county)
+  clause_masked TooSymmetric = ap (nat_lt most_choices) choices_kept
+  clause_masked Memory = refl
+
+  pub masked_in_profile : IsInProfile county → IsInProfile (masked mask county)
+  masked_in_profile h fault = clause_masked fault ∙ h fault
+
+  -- the points at each place
+  points_kept : points_at (masked mask county) ≡ points_at county
+  points_kept = λ i place. points_masked mask county place i
+
+  walks_kept : least_walks (masked mask county) ≡ least_walks county
+  walks_kept =
+      ap (λ (points : ℕ → List Coordinates). map (λ (place : ℕ). let w : DirectedChain = record {
+        place = place;
+        turned = is_lt (points_cmp (reverse (points place)) (points place));
+      } in w) (range_with_len 0 (length (masked mask county).chains))) points_kept
+      ∙ ap (λ count. map (least_walk county) (range_with_len 0 count)) (chain_count_masked mask county)
+
+  order_kept : walk_cmp (masked mask county) ≡ walk_cmp county
+  order_kept = λ i a b. ordering_then
+      (points_cmp (points_from a.turned (points_kept i a.place)) (points_from b.turned (points_kept i b.place))) (nat_cmp a.place b.place)
+
+  walks_in_order : (walks : List DirectedChain) → AreWalksInOrder county walks → AreWalksInOrder (masked mask county) walks
+  walks_in_order walks h = record {
+    all = subst (λ ws. IsPermutation ws walks) (sym walks_kept) h.all;
+    in_order = subst (λ cmp. IsInOrder cmp walks) (sym order_kept) h.in_order;
+  }
+
+  along_kept : points_along (masked mask county) ≡ points_along county
+  along_kept = λ i walk. points_from walk.turned (points_kept i walk.place)
+
+  pub masked_shape_order : (order : OrderOfShapes) → IsShapeOrder county order → IsShapeOrder (masked mask county) order
+  masked_shape_order order h = record {
+    walks = walks_in_order order.walks h.walks;
+    count = h.count ∙ ap (λ n. min n (suc most_choices)) (sym choices_kept);
+    places = λ few. h.places (subst (λ n. n ≤ most_choices) choices_kept few)
+        ∙ ap (λ (along : DirectedChain → List Coordinates). open_places points_cmp is_either_way 0 (map along order.walks)) (sym along_kept);
+  }

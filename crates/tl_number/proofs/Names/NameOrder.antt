@@ -1,0 +1,197 @@
+-- Names sorted by their bytes, the ranks of their first uses and their places are in their new order.
+use Rattle.std.proofs.Common.{◌≡◌, ◌<◌, ◌≤◌, ◌+◌, ℕ, suc, nat_lt, List, [], ◌∷◌, ◌++◌, map, flat_map, filter_map, length, Bool}
+use Rattle.std.proofs.Common.{true, false}
+use Rattle.std.proofs.Common.{cond, not, Ordering, Less, Equal, Greater, Option, Some, None, option_map, slice_get, is_eq, sym, refl, ap}
+use Rattle.std.proofs.Common.{ap₂}
+use Rattle.std.proofs.Common.{◌∙◌, subst, arith, nat_cmp, IsPermutation, append-nil, append_assoc}
+use Rattle.std.proofs.lemmas.Bool.{ltb-true, ltb-false}
+use Rattle.std.proofs.lemmas.Cmp.{on_total, then_total, nat_cmp_total}
+use Rattle.std.proofs.lemmas.List.{map-append, length-map}
+use Rattle.std.proofs.lemmas.List.Sorted.{length_permutation, IsPermutation-map}
+use Rattle.std.proofs.lemmas.Option.{slice_get-map}
+use Rattle.std.specs.Cmp.{IsTotalOrder}
+use Rattle.std.specs.Cmp.Lexicographic.{slice_cmp}
+use Rattle.std.specs.List.Sorted.{IsStrictlySortedBy}
+use Rattle.std.specs.Option.{option_cmp}
+use Rattle.std.specs.List.{cons_option, position_or_len, range_with_len}
+use Rattle.std.specs.Ordering.{ordering_then}
+use Rattle.tl_layout.specs.declared.type5.Body5.{Body5}
+use Rattle.tl_shape.specs.Chain.{Chain}
+use Rattle.tl_county.specs.BodyOrder.{name_body_cmp}
+use Rattle.tl_county.specs.ChartWords.{name_at}
+use Rattle.tl_county.specs.County.{County}
+use Rattle.tl_county.specs.CountyRules.{IsCounty, feats}
+use Rattle.tl_county.specs.Entries.{entry_keys}
+use Rattle.tl_county.specs.Orders.{IsInOrder, has_repeat, stands_in}
+use Rattle.tl_county.proofs.Lists.Distinct.{has_repeat-apart}
+use Rattle.tl_county.proofs.ByKey.KeyOrders.{name_body_keys}
+use Rattle.tl_county.proofs.ByKey.Keys.{IsKeyOrder, IsApart, nat_keys, times-append, times-yes, apart-permutation, apart_from_sorted}
+use Rattle.tl_number.specs.Arrangement.{Arrangement, arranged_tlids, placed, names_in_order}
+use Rattle.tl_number.specs.Growth.{first_seen_after, first_seen}
+use Rattle.tl_number.specs.NameItems.{feats_along_steps, from_one, rank_of, ranked_at, ranked_cmp, ranked_place}
+use Rattle.tl_number.specs.Steps.{arrangement_of}
+use Rattle.tl_number.specs.Uses.{Use, use_cmp, all_uses, uses_from, uses_of_name, name_key, name_key_cmp}
+use Rattle.tl_number.specs.ViewFacts.{AreWhole, AreReadAt}
+use Rattle.tl_profile.specs.declared.directed_chain.DirectedChain.{DirectedChain}
+use Rattle.tl_number.specs.declared.name_order.RankedName.{RankedName}
+use Rattle.tl_number.proofs.Choices.AscendingSteps.{options_total}
+use Rattle.tl_number.proofs.Arrangements.Carrying.{names_permutation}
+use Rattle.tl_number.proofs.Lists.Counting.{up_to-strict}
+use Rattle.tl_number.proofs.Numbering.FirstSeen.{place_from}
+use Rattle.tl_number.proofs.Names.NameRanks.{ranks_decide}
+use Rattle.tl_number.proofs.Arrangements.Placed.{placed_tlids}
+use Rattle.tl_number.proofs.Polygons.PolygonOrder.{read_mapped}
+use Rattle.tl_number.proofs.Unique.SameNames.{name_key_keys}
+use Rattle.tl_number.proofs.Lists.SortedPlaces.{sorted_items}
+use Rattle.tl_number.proofs.Views.StepChains.{feats_placed}
+use Rattle.tl_number.proofs.Names.UsesOrder.{all_uses-strict}
+use Rattle.tl_number.proofs.Views.ViewChains.{arranges}
+
+-- distinct keys are each seen once
+module _ {K : Type 0} {cmp : K → K → Ordering} (o : IsKeyOrder cmp) where
+  seen_apart : (seen keys : List K) → IsApart cmp (seen ++ keys) → first_seen_after cmp seen keys ≡ seen ++ keys
+  seen_apart seen [] a = sym (append-nil seen)
+  seen_apart seen (k ∷ keys) a = go (stands_in cmp k seen) refl
+      (seen_apart (seen ++ (k ∷ [])) keys (subst (IsApart cmp) (sym (append_assoc seen (k ∷ []) keys)) a))
+    where
+      go : (b : Bool) → stands_in cmp k seen ≡ b → first_seen_after cmp (seen ++ (k ∷ [])) keys ≡ (seen ++ (k ∷ [])) ++ keys
+          → cond b (first_seen_after cmp seen keys) (first_seen_after cmp (seen ++ (k ∷ [])) keys) ≡ seen ++ (k ∷ keys)
+      go true e ih = absurd (let twice = times-append o k seen (k ∷ keys) in let here = times-yes o k k keys refl in
+          let some = ltb-true 0 _ e in let once = a k in omega (arith, twice, here, some, once))
+      go false e ih = ih ∙ append_assoc seen (k ∷ []) keys
+
+  pub first_seen-itself : (keys : List K) → IsApart cmp keys → first_seen cmp keys ≡ keys
+  first_seen-itself keys a = seen_apart [] keys a
+
+-- if every element is found, the found elements are all of them
+pub filter_map_all : {X Y : Type 0} (f : X → Option Y) (xs : List X) (ys : List Y) → map f xs ≡ map Some ys → filter_map f xs ≡ ys
+filter_map_all f [] [] e = refl
+filter_map_all f [] (y ∷ ys) e = cc
+filter_map_all f (x ∷ xs) [] e = cc
+filter_map_all {X} {Y} f (x ∷ xs) (y ∷ ys) e =
+    let here : f x ≡ Some y = cc in
+    let rest : map f xs ≡ map Some ys = cc in
+    ap (λ o. cons_option o (filter_map f xs)) here ∙ ap (λ zs. y ∷ zs) (filter_map_all f xs ys rest)
+
+-- the rank of a FEAT is its place among those first seen
+found_rank : (i : ℕ) (ks : List ℕ) (f : ℕ) → position_or_len (λ k. is_eq (nat_cmp f k)) ks < length ks
+    → place_from nat_keys i ks f ≡ i + position_or_len (λ k. is_eq (nat_cmp f k)) ks
+found_rank i [] f h = absurd (omega (arith, h))
+found_rank i (x ∷ xs) f h = go (is_eq (nat_cmp f x)) h (found_rank (suc i) xs f)
+  where
+    go : (b : Bool) → cond (not b) (1 + position_or_len (λ k. is_eq (nat_cmp f k)) xs) 0 < suc (length xs)
+        → (position_or_len (λ k. is_eq (nat_cmp f k)) xs < length xs
+        → place_from nat_keys (suc i) xs f ≡ suc i + position_or_len (λ k. is_eq (nat_cmp f k)) xs)
+        → cond b i (place_from nat_keys (suc i) xs f) ≡ i + cond (not b) (1 + position_or_len (λ k. is_eq (nat_cmp f k)) xs) 0
+    go true l ih = (let t : i ≡ i + 0 = omega arith in t)
+    go false l ih = (let e = ih (omega (arith, l)) in omega (arith, e))
+
+missing_rank : (i : ℕ) (ks : List ℕ) (f : ℕ) → length ks ≤ position_or_len (λ k. is_eq (nat_cmp f k)) ks → place_from nat_keys i ks f ≡ 0
+missing_rank i [] f h = refl
+missing_rank i (x ∷ xs) f h = go (is_eq (nat_cmp f x)) h (missing_rank (suc i) xs f)
+  where
+    go : (b : Bool) → suc (length xs) ≤ cond (not b) (1 + position_or_len (λ k. is_eq (nat_cmp f k)) xs) 0
+        → (length xs ≤ position_or_len (λ k. is_eq (nat_cmp f k)) xs → place_from nat_keys (suc i) xs f ≡ 0)
+        → cond b i (place_from nat_keys (suc i) xs f) ≡ 0
+    go true l ih = absurd (omega (arith, l))
+    go false l ih = ih (omega (arith, l))
+
+rank_told : (ks : List ℕ) (f : ℕ) → rank_of ks (Some f) ≡ place_from nat_keys 1 ks f
+rank_told ks f = go (nat_lt (position_or_len (λ k. is_eq (nat_cmp f k)) ks) (length ks)) refl
+  where
+    go : (b : Bool) → nat_lt (position_or_len (λ k. is_eq (nat_cmp f k)) ks) (length ks) ≡ b
+        → from_one (cond b (Some (position_or_len (λ k. is_eq (nat_cmp f k)) ks)) None) ≡ place_from nat_keys 1 ks f
+    go true e = (let t : position_or_len (λ k. is_eq (nat_cmp f k)) ks + 1 ≡ 1 + position_or_len (λ k. is_eq
+        (nat_cmp f k)) ks = omega arith in t)
+        ∙ sym (found_rank 1 ks f (ltb-true (position_or_len (λ k. is_eq (nat_cmp f k)) ks) (length ks) e))
+    go false e = sym (missing_rank 1 ks f (ltb-false (position_or_len (λ k. is_eq (nat_cmp f k)) ks) (length ks) e))
+
+-- the FEATs of all uses, along the chains
+named_from : (t i : ℕ) (fs : List ℕ) → map (λ (u : Use × ℕ). u.1) (uses_from t i fs) ≡ fs
+named_from t i [] = refl
+named_from t i (f ∷ fs) = ap (λ gs. f ∷ gs) (named_from t (suc i) fs)
+
+named : (cs : List (ℕ × Chain)) → map (λ (u : Use × ℕ). u.1) (all_uses cs) ≡ flat_map (λ (e : ℕ × Chain). e.1.feats) cs
+named [] = refl
+named (c ∷ cs) = map-append (λ (u : Use × ℕ). u.1) (uses_from c.0 1 c.1.feats) (all_uses cs)
+    ∙ ap₂ (λ xs ys. xs ++ ys) (named_from c.0 1 c.1.feats) (named cs)
+
+pub then_assoc : (a b c : Ordering) → ordering_then a (ordering_then b c) ≡ ordering_then (ordering_then a b) c
+then_assoc Less b c = refl
+then_assoc Equal b c = refl
+then_assoc Greater b c = refl
+
+pub ranked_total : (county : County) → IsTotalOrder (ranked_cmp county)
+ranked_total county =
+    then_total (on_total (λ (n : RankedName). name_at county n.place) (options_total name_body_keys.total))
+    (then_total (on_total (λ (n : RankedName). n.rank) nat_cmp_total) (on_total (λ (n : RankedName). n.place) nat_cmp_total))
+
+module _ (county : County) (steps : List DirectedChain) (is : IsCounty county) (whole : AreWhole county steps) (seen : List ℕ)
+    (uses : seen ≡ first_seen nat_cmp (feats_along_steps county steps)) (items : List RankedName)
+    (p : IsPermutation (map (ranked_at county seen) (range_with_len 0 (length county.names))) items)
+    (ordered : IsInOrder (ranked_cmp county) items) where
+  abbrev order : Arrangement
+  order = arrangement_of county steps
+
+  abbrev used : List (Use × ℕ)
+  used = all_uses (placed county order)
+
+  seen_uses : seen ≡ first_seen_after nat_cmp [] (map (λ (u : Use × ℕ). u.1) used)
+  seen_uses = uses ∙ ap (first_seen nat_cmp) (sym (named (placed county order) ∙ feats_placed county is steps whole.there))
+
+  ranked : (f : ℕ) → rank_of seen (Some f) ≡ place_from nat_keys 1 (first_seen_after nat_cmp [] (map (λ (u : Use × ℕ). u.1) used)) f
+  ranked f = rank_told seen f ∙ ap (λ ks. place_from nat_keys 1 ks f) seen_uses
+
+  by_uses : (f g : ℕ) → nat_cmp (rank_of seen (Some f)) (rank_of seen (Some g)) ≡ slice_cmp use_cmp (uses_of_name used f)
+      (uses_of_name used g)
+  by_uses f g =
+      ap₂ nat_cmp (ranked f) (ranked g)
+      ∙ sym (ranks_decide [] used (all_uses-strict (placed county order)
+      (subst (IsStrictlySortedBy nat_cmp) (sym (placed_tlids county order is (arranges county steps is whole)))
+      (up_to-strict (length (arranged_tlids order))))) f g refl refl)
+
+  abbrev item_cmp : Option Body5 → Option ℕ → ℕ → Option Body5 → Option ℕ → ℕ → Ordering
+  item_cmp a f i b g j = ordering_then (option_cmp name_body_cmp a b) (ordering_then (nat_cmp (rank_of seen f) (rank_of seen g))
+      (nat_cmp i j))
+
+  agrees : (i j : ℕ) (x y : ℕ × Body5) → slice_get county.names i ≡ Some x → slice_get county.names j ≡ Some y
+      → ranked_cmp county (ranked_at county seen i) (ranked_at county seen j) ≡ ordering_then (name_key_cmp (name_key used x)
+      (name_key used y))
+      (nat_cmp i j)
+  agrees i j x y h k =
+      let value = λ (n : ℕ) (z : ℕ × Body5) (e : slice_get county.names n ≡ Some z).
+      slice_get-map (λ (d : ℕ × Body5). d.1) county.names n ∙ ap (option_map (λ (d : ℕ × Body5). d.1)) e in
+      let number = λ (n : ℕ) (z : ℕ × Body5) (e : slice_get county.names n ≡ Some z).
+      slice_get-map (λ (d : ℕ × Body5). d.0) county.names n ∙ ap (option_map (λ (d : ℕ × Body5). d.0)) e in
+      (λ l. item_cmp (value i x h l) (number i x h l) i (value j y k l) (number j y k l) j)
+      ∙ ap (λ o. ordering_then (name_body_cmp x.1 y.1) (ordering_then o (nat_cmp i j))) (by_uses x.0 y.0)
+      ∙ then_assoc (name_body_cmp x.1 y.1) (slice_cmp use_cmp (uses_of_name used x.0) (uses_of_name used y.0)) (nat_cmp i j)
+
+  -- the sorted names are in their new order
+  pub names_told : AreReadAt county.names (map ranked_place items) (names_in_order county order)
+  names_told = sorted_items (ranked_at county seen) ranked_place (λ i. refl) (ranked_cmp county)
+      (on_total (name_key used) name_key_keys.total) county.names agrees items p ordered
+
+-- the tables of the names at these places, if they are those in their new order
+module _ (county : County) (steps : List DirectedChain) (is : IsCounty county) (whole : AreWhole county steps) (places : List ℕ)
+    (told : AreReadAt county.names places (names_in_order county (arrangement_of county steps))) where
+  abbrev reordered : List (ℕ × Body5)
+  reordered = names_in_order county (arrangement_of county steps)
+
+  permuted_names : IsPermutation reordered county.names
+  permuted_names = names_permutation county (arrangement_of county steps) is (arranges county steps is whole)
+
+  pub feats_told : filter_map (slice_get (feats county)) places ≡ entry_keys reordered
+  feats_told = filter_map_all (slice_get (feats county)) places (entry_keys reordered)
+      (read_mapped (λ (d : ℕ × Body5). d.0) county.names reordered places told)
+
+  pub feats_once : has_repeat nat_cmp (filter_map (slice_get (feats county)) places) ≡ false
+  feats_once = ap (has_repeat nat_cmp) feats_told
+      ∙ has_repeat-apart nat_keys (entry_keys reordered)
+      (apart-permutation nat_keys (entry_keys reordered) (feats county)
+      (IsPermutation-map (λ (d : ℕ × Body5). d.0) reordered county.names permuted_names)
+      (apart_from_sorted nat_keys (feats county) is.ascending.names))
+
+  pub few_feats : length (filter_map (slice_get (feats county)) places) ≡ length county.names
+  few_feats = ap length feats_told ∙ length-map reordered (λ (d : ℕ × Body5). d.0)
+      ∙ sym (length_permutation reordered county.names permuted_names)

@@ -1,0 +1,7 @@
+-- Numbers by first appearance: the keys that were seen, and their places.
+pub mod Growth
+pub mod FirstSeen
+pub mod SeenKeys
+pub mod SeenPlaces
+pub mod SeenLists
+pub mod PlacedKeys

@@ -1,0 +1,163 @@
+-- Polygons in the order of first appearance are the polygons of the arranged county by number.
+use Rattle.std.proofs.Common.{◌≡◌, ℕ, List, [], ◌∷◌, map, length, Option, Some, sym, refl, ap, ◌∙◌, subst, nat_cmp}
+use Rattle.std.proofs.Common.{IsPermutation, IfSome, zero, suc, slice_get, option_map, None, arith, ◌+◌}
+use Rattle.tl_county.specs.Packing.{numbered_from}
+use Rattle.std.proofs.lemmas.Cmp.{nat_cmp_total, on_total}
+use Rattle.std.proofs.lemmas.Option.{slice_get-map}
+use Rattle.std.proofs.lemmas.List.Sorted.{IsPermutation-sym, IsPermutation-trans, IsPermutation-map}
+use Rattle.std.specs.List.{AllByRecursion}
+use Rattle.std.specs.List.Sorted.{IsStrictlySortedBy}
+use Rattle.std.specs.Option.{option_and_then}
+use Rattle.std.specs.Ordering.{on}
+use Rattle.tl_layout.specs.declared.type_p.BodyP.{BodyP}
+use Rattle.tl_county.specs.ChartWords.{polygon_under}
+use Rattle.tl_county.specs.County.{County}
+use Rattle.tl_county.specs.CountyRules.{IsCounty, AllKeysStandIn, polygon_keys, polygons_along}
+use Rattle.tl_county.specs.Entries.{entry_keys, entry_values, value_under}
+use Rattle.tl_county.specs.Orders.{in_order}
+use Rattle.tl_county.specs.PolygonKeys.{PolygonKey, key_cmp}
+use Rattle.tl_county.specs.Renumbering.{image, carried_polygon}
+use Rattle.tl_county.proofs.Lists.InOrder.{in_order-permutation, in_order-in_order, in_order-map, strict-map, strict-permutation}
+use Rattle.tl_county.proofs.ByKey.KeyOrders.{key_keys}
+use Rattle.tl_county.proofs.ByKey.Keys.{nat_keys, images-lefts, IsApart, rights, lefts}
+use Rattle.tl_county.proofs.Lists.Elements.{map-map}
+use Rattle.tl_county.proofs.Lists.EntryLists.{in_order-strict, value-at_place}
+use Rattle.tl_county.proofs.Lists.Permutations.{in_order-is_permutation}
+use Rattle.tl_cert.proofs.Places.{all_at}
+use Rattle.tl_profile.proofs.PlacedOrder.{all_permuted}
+use Rattle.tl_number.specs.Arrangement.{Arrangement, Arranges, polygons_in_order, placed, renaming_of, arranged, under_cenid}
+use Rattle.tl_number.specs.ByNumber.{entry_polyid, polygons_by_number, under_number}
+use Rattle.tl_number.specs.Growth.{numbered, up_to}
+use Rattle.tl_number.proofs.Arrangements.Carrying.{polygon_lefts, polygons_permutation, polygons_renamed, polygons_arranged}
+use Rattle.tl_number.proofs.Lists.Counting.{up_to-strict}
+use Rattle.tl_number.proofs.Numbering.FirstSeen.{first_seen-apart}
+use Rattle.tl_number.proofs.Arrangements.Placed.{lefts-numbered, rights-numbered}
+
+-- numbered elements, read by place
+pub numbered_at : {X : Type 0} (i : ℕ) (xs : List X) (k : ℕ) → slice_get (numbered_from i xs) k ≡ option_map (λ x. (i + k, x))
+    (slice_get xs k)
+numbered_at i [] k = refl
+numbered_at i (x ∷ xs) zero = ap (λ j. Some (j, x)) (let e : i ≡ i + 0 = omega arith in e)
+numbered_at i (x ∷ xs) (suc k) = numbered_at (suc i) xs k
+    ∙ ap (λ j. option_map (λ x. (j, x)) (slice_get xs k)) (let e : suc i + k ≡ i + suc k = omega arith in e)
+
+-- the number of a key is its place plus one
+pub key_numbered : {K : Type 0} (keys : List K) (i : ℕ) → slice_get (numbered keys) i ≡ option_map {U = K × ℕ} (λ key. (key, i + 1))
+    (slice_get keys i)
+key_numbered {K} keys i = slice_get-map (λ (pair : ℕ × K). (pair.1, pair.0)) (numbered_from 1 keys) i
+    ∙ ap (option_map (λ (pair : ℕ × K). (pair.1, pair.0))) (numbered_at 1 keys i) ∙ go (slice_get keys i)
+  where
+    go : (o : Option K) → option_map (λ (pair : ℕ × K). (pair.1, pair.0)) (option_map {U = ℕ × K} (λ x. (1 + i, x)) o)
+        ≡ option_map {U = K × ℕ} (λ key. (key, i + 1)) o
+    go None = refl
+    go (Some x) = ap (λ j. Some (x, j)) (let e : 1 + i ≡ i + 1 = omega arith in e)
+
+-- if two functions have equal lists of values, they have equal values
+pointwise : {X Y : Type 0} (f g : X → Y) (xs : List X) → map f xs ≡ map g xs → AllByRecursion (λ x. f x ≡ g x) xs
+pointwise f g [] e = tt
+pointwise f g (x ∷ xs) e = (cc, pointwise f g xs cc)
+
+map_agree : {X Y : Type 0} (f g : X → Y) (xs : List X) → AllByRecursion (λ x. f x ≡ g x) xs → map f xs ≡ map g xs
+map_agree f g [] a = refl
+map_agree f g (x ∷ xs) a = λ i. a.0 i ∷ map_agree f g xs a.1 i
+
+-- a property of the element at each place is a property of all elements
+all_places : {X : Type 0} (P : X → Type 0) (xs : List X) → ((i : ℕ) (x : X) → slice_get xs i ≡ Some x → P x) → AllByRecursion P xs
+all_places P [] h = tt
+all_places P (x ∷ xs) h = (h zero x refl, all_places P xs (λ i. h (suc i)))
+
+-- each content is the one stored for its key
+all_under : (es : List (PolygonKey × Option BodyP)) → IsStrictlySortedBy key_cmp (entry_keys es)
+    → AllByRecursion (λ e. value_under key_cmp e.0 es ≡ Some e.1) es
+all_under es h = all_places (λ e. value_under key_cmp e.0 es ≡ Some e.1) es (λ i e g.
+    sym (value-at_place key_keys e.0 es i h
+    (slice_get-map (λ (d : PolygonKey × Option BodyP). d.0) es i ∙ ap (option_map (λ (d : PolygonKey × Option BodyP). d.0)) g))
+    ∙ slice_get-map (λ (d : PolygonKey × Option BodyP). d.1) es i ∙ ap (option_map (λ (d : PolygonKey × Option BodyP). d.1)) g)
+
+-- if the key of a polygon is at the place of its number, in the order of keys, its content is there too
+pub content_at_number : (county : County) → IsStrictlySortedBy key_cmp (polygon_keys county)
+    → (place : ℕ) (polygon : PolygonKey × Option BodyP) → slice_get (polygon_keys county) place ≡ Some polygon.0
+    → slice_get (polygons_by_number county) place ≡ Some polygon → slice_get (entry_values county.polygons) place ≡ Some polygon.1
+content_at_number county strict place polygon at_key at_number =
+    let Holds : PolygonKey × Option BodyP → Type 0 = λ e. value_under key_cmp e.0 county.polygons ≡ Some e.1 in
+    let all : AllByRecursion Holds (polygons_by_number county) =
+    all_permuted Holds county.polygons (polygons_by_number county)
+    (IsPermutation-sym (polygons_by_number county) county.polygons (in_order-is_permutation (on entry_polyid nat_cmp) county.polygons))
+    (all_under county.polygons strict) in
+    value-at_place key_keys polygon.0 county.polygons place strict at_key
+    ∙ subst (λ o. IfSome o Holds) at_number (all_at Holds (polygons_by_number county) all place)
+
+module _ (county : County) (steps : Arrangement) (is : IsCounty county) (arranges : Arranges steps county)
+    (sides : AllKeysStandIn (polygons_along county.chains) (polygon_keys county)) where
+  abbrev seen : List PolygonKey
+  seen = polygons_in_order county steps
+
+  -- a polygon with its new key and its content
+  abbrev renewed : PolygonKey → PolygonKey × Option BodyP
+  renewed key = (image key_cmp (renaming_of county steps).polygons key, option_and_then (λ body. body) (polygon_under county key))
+
+  renewed_entries : map renewed (polygon_keys county) ≡ map (carried_polygon (renaming_of county steps)) county.polygons
+  renewed_entries = map-map renewed (λ (e : PolygonKey × Option BodyP). e.0) county.polygons
+      ∙ map_agree (λ e. renewed e.0) (carried_polygon (renaming_of county steps)) county.polygons
+      (each county.polygons (all_under county.polygons is.ascending.polygons))
+    where
+      each : (es : List (PolygonKey × Option BodyP)) → AllByRecursion (λ e. value_under key_cmp e.0 county.polygons ≡ Some e.1) es
+          → AllByRecursion (λ e. renewed e.0 ≡ carried_polygon (renaming_of county steps) e) es
+      each [] a = tt
+      each (e ∷ es) a = (
+        ap (λ (o : Option (Option BodyP)). (image key_cmp (renaming_of county steps).polygons e.0, option_and_then (λ body. body) o)) a.0,
+        each es a.1,
+      )
+
+  -- the new keys have the numbers of first appearance
+  renewed_numbers : map renewed seen ≡ map (under_number county) (numbered seen)
+  renewed_numbers =
+      let pairs : List (PolygonKey × PolygonKey) = (renaming_of county steps).polygons in
+      let left : lefts pairs ≡ seen = polygon_lefts county steps is arranges sides in
+      let apart : IsApart key_cmp (lefts pairs) =
+      subst (IsApart key_cmp) (sym left) (first_seen-apart key_keys (polygons_along (placed county steps))) in
+      let images : map (image key_cmp pairs) seen ≡ map (λ (p : PolygonKey × ℕ). (p.0.0, p.1)) (numbered seen) =
+      ap (map (image key_cmp pairs)) (sym left) ∙ images-lefts key_keys pairs apart ∙ ap rights (polygons_renamed county steps is arranges)
+      ∙ map-map (λ (q : PolygonKey × PolygonKey). q.1) under_cenid (numbered seen) in
+      ap (map renewed) (sym (lefts-numbered seen))
+      ∙ map-map renewed (λ (p : PolygonKey × ℕ). p.0) (numbered seen)
+      ∙ map_agree (λ p. renewed p.0) (under_number county) (numbered seen)
+      (each (numbered seen) (pointwise (λ (p : PolygonKey × ℕ). image key_cmp pairs p.0) (λ p. (p.0.0, p.1)) (numbered seen)
+      (sym (map-map (image key_cmp pairs) (λ (p : PolygonKey × ℕ). p.0) (numbered seen))
+      ∙ ap (map (image key_cmp pairs)) (lefts-numbered seen) ∙ images)))
+    where
+      each : (ps : List (PolygonKey × ℕ))
+          → AllByRecursion (λ p. image key_cmp (renaming_of county steps).polygons p.0 ≡ (p.0.0, p.1)) ps
+          → AllByRecursion (λ p. renewed p.0 ≡ under_number county p) ps
+      each [] a = tt
+      each (p ∷ ps) a = (ap (λ k. (k, option_and_then (λ body. body) (polygon_under county p.0))) a.0, each ps a.1)
+
+  -- The order of first appearance is the order of numbers.
+  pub by_number : map (under_number county) (numbered seen) ≡ polygons_by_number (arranged county steps)
+  by_number =
+      let ours : List (PolygonKey × Option BodyP) = map (under_number county) (numbered seen) in
+      let theirs : List (PolygonKey × Option BodyP) = polygons_by_number (arranged county steps) in
+      let carried : List (PolygonKey × Option BodyP) = map (carried_polygon (renaming_of county steps)) county.polygons in
+      let sorted : List (PolygonKey × Option BodyP) = in_order (on (λ (e : PolygonKey × Option BodyP). e.0) key_cmp) carried in
+      let to_carried : IsPermutation ours carried =
+      subst (IsPermutation ours) renewed_entries
+      (subst (λ es. IsPermutation es (map renewed (polygon_keys county))) renewed_numbers
+      (IsPermutation-map renewed seen (polygon_keys county) (polygons_permutation county steps is arranges sides))) in
+      let from_sorted : IsPermutation theirs sorted =
+      subst (λ es. IsPermutation (in_order (on entry_polyid nat_cmp) es) sorted) (sym (polygons_arranged county steps is arranges))
+      (in_order-is_permutation (on entry_polyid nat_cmp) sorted) in
+      let both : IsPermutation ours theirs =
+      IsPermutation-trans ours carried theirs to_carried
+      (IsPermutation-sym theirs carried (IsPermutation-trans theirs sorted carried from_sorted
+      (in_order-is_permutation (on (λ (e : PolygonKey × Option BodyP). e.0) key_cmp) carried))) in
+      let numbers : map entry_polyid ours ≡ up_to (length seen) =
+      map-map entry_polyid (under_number county) (numbered seen) ∙ rights-numbered seen in
+      let strict : IsStrictlySortedBy nat_cmp (map entry_polyid ours) = subst (IsStrictlySortedBy nat_cmp) (sym numbers)
+      (up_to-strict (length seen)) in
+      let same : map entry_polyid ours ≡ map entry_polyid theirs =
+      in_order-permutation nat_keys (map entry_polyid ours) (map entry_polyid theirs)
+      (in_order-strict nat_cmp (map entry_polyid ours) strict)
+      (in_order-map nat_cmp entry_polyid theirs (in_order-in_order (on_total entry_polyid nat_cmp_total) (arranged county steps).polygons))
+      (IsPermutation-map entry_polyid ours theirs both) in
+      strict-permutation nat_cmp_total entry_polyid ours theirs (strict-map nat_cmp entry_polyid ours strict)
+      (strict-map nat_cmp entry_polyid theirs (subst (IsStrictlySortedBy nat_cmp) same strict)) both

@@ -1,0 +1,9 @@
+-- Comparing the texts of two arrangements, type by type.
+pub mod TiedOnes
+pub mod LinkOrder
+pub mod SameChains
+pub mod SameLists
+pub mod TypeOnes
+pub mod RecordTexts
+pub mod TypeOrders
+pub mod GroupOrders

@@ -1,0 +1,201 @@
+-- The records of types I and P of a county in two arrangements.
+use Rattle.std.proofs.Common.{◌≡◌, ◌<◌, ◌≤◌, ◌+◌, ℕ, nat_lt, List, map, length, Bool, true, false, Option, Some, None}
+use Rattle.std.proofs.Common.{option_map, option_to_list, slice_get, Equal, sym, refl, ap, ap₂, ◌∙◌, subst, arith}
+use Rattle.std.proofs.lemmas.Bool.{ltb-true, ltb-false}
+use Rattle.std.proofs.lemmas.Cmp.{tied_itself}
+use Rattle.std.proofs.lemmas.Option.{slice_get-map, slice_get_past}
+use Rattle.std.specs.Option.{option_cmp}
+use Rattle.tl_layout.specs.declared.record_type.Record.{Record}
+use Rattle.tl_layout.specs.declared.record_type.Record.TheVariants.{I, P}
+use Rattle.tl_layout.specs.declared.type_p.BodyP.{BodyP}
+use Rattle.tl_shape.specs.Chain.{Chain}
+use Rattle.tl_county.specs.ChartWords.{chain_at}
+use Rattle.tl_county.specs.County.{County}
+use Rattle.tl_county.specs.CountyRules.{IsCounty}
+use Rattle.tl_county.specs.Packing.{packed_i, packed_p}
+use Rattle.tl_county.specs.PolygonKeys.{PolygonKey}
+use Rattle.tl_county.specs.Renumbering.{renumbered}
+use Rattle.tl_profile.specs.declared.directed_chain.DirectedChain.{DirectedChain}
+use Rattle.tl_number.specs.Arrangement.{placed, renaming_of}
+use Rattle.tl_number.specs.ByStep.{ends_of, sides_of}
+use Rattle.tl_number.specs.ByNumber.{polygons_by_number}
+use Rattle.tl_number.specs.CountyGroups.{type_p_by_number}
+use Rattle.tl_number.specs.Groups.{grouped}
+use Rattle.tl_number.specs.RecordOrder.{AreTiedAt, AreTiedBelow, groups_cmp, links_of, records_cmp, spelling_cmp}
+use Rattle.tl_number.specs.Steps.{arrangement_of, step_chain}
+use Rattle.tl_number.specs.ViewFacts.{AreWhole, stepped}
+use Rattle.tl_number.proofs.Arrangements.Carrying.{chains_arranged}
+use Rattle.tl_number.proofs.Choices.KeptPlaces.{same_everywhere}
+use Rattle.tl_number.proofs.Texts.GroupOrders.{records_total}
+use Rattle.tl_number.proofs.Records.PackedGroups.{is}
+use Rattle.tl_number.proofs.Unique.SameNumbers.{kept_entry}
+use Rattle.tl_number.proofs.Texts.TiedOnes.{all_tied}
+use Rattle.tl_number.proofs.Texts.TypeOnes.{length_whole, numbered_at}
+use Rattle.tl_number.proofs.Views.ViewChains.{arranges, bodies_read, chains, chains_stepped, read_nowhere, read_there}
+
+-- the type I record of a chain
+pub link_there : (county : County) (place : ℕ) → slice_get (links_of county) place ≡ option_map (λ entry. I (packed_i entry))
+    (slice_get county.chains place)
+link_there county place =
+    ap (λ rs. slice_get rs place) (is county)
+    ∙ slice_get-map I (map packed_i county.chains) place
+    ∙ ap (option_map I) (slice_get-map packed_i county.chains place)
+    ∙ twice (slice_get county.chains place)
+  where
+    twice : (o : Option (ℕ × Chain)) → option_map I (option_map packed_i o) ≡ option_map (λ entry. I (packed_i entry)) o
+    twice None = refl
+    twice (Some entry) = refl
+
+pub no_link : (county : County) (place : ℕ) → length county.chains ≤ place → slice_get (links_of county) place ≡ None
+no_link county place past = link_there county place ∙ ap (option_map (λ entry. I (packed_i entry))) (slice_get_past county.chains place past)
+
+module _ (county : County) (steps : List DirectedChain) (is_county : IsCounty county) (whole : AreWhole county steps) where
+  -- the chain at a place is the chain of the step there, under the new numbers
+  entry_there : (place : ℕ) (chain : Chain) → slice_get (chains county steps is_county whole) place ≡ Some chain
+      → slice_get (stepped county steps).chains place ≡ Some (1 + place, renumbered (renaming_of county (arrangement_of county steps)) chain)
+  entry_there place chain e =
+      let order = arrangement_of county steps in
+      ap (λ es. slice_get es place) (chains_arranged county order is_county (arranges county steps is_county whole))
+      ∙ slice_get-map (kept_entry (renaming_of county order)) (placed county order) place
+      ∙ ap (option_map (kept_entry (renaming_of county order)))
+      (numbered_at 1 (chains county steps is_county whole) place ∙ ap (option_map (λ (x : Chain). (1 + place, x))) e)
+
+  -- without a step there is no chain
+  no_entry : (place : ℕ) → slice_get steps place ≡ None → slice_get (stepped county steps).chains place ≡ None
+  no_entry place e =
+      let order = arrangement_of county steps in
+      ap (λ es. slice_get es place) (chains_arranged county order is_county (arranges county steps is_county whole))
+      ∙ slice_get-map (kept_entry (renaming_of county order)) (placed county order) place
+      ∙ ap (option_map (kept_entry (renaming_of county order)))
+      (numbered_at 1 (chains county steps is_county whole) place
+      ∙ ap (option_map (λ (x : Chain). (1 + place, x)))
+      (read_nowhere (step_chain county) steps (chains county steps is_county whole) (bodies_read county steps is_county whole steps whole.there)
+      place e))
+
+  pub record LinkThere (place : ℕ) (step : DirectedChain) : Type 0 where
+    pub chain : Chain
+    pub of_step : step_chain county step ≡ Some chain
+    pub entry : slice_get (stepped county steps).chains place
+        ≡ Some (1 + place, renumbered (renaming_of county (arrangement_of county steps)) chain)
+
+  pub link_of_step : (place : ℕ) (step : DirectedChain) → slice_get steps place ≡ Some step → LinkThere place step
+  link_of_step place step e =
+      let c = read_there (step_chain county) steps (chains county steps is_county whole)
+      (bodies_read county steps is_county whole steps whole.there) place step e in
+      record { chain = c.0; of_step = c.2; entry = entry_there place c.0 c.1 }
+
+-- If two arrangements have the same step, and its chain has the same ends and sides, its type I records are the same.
+module _ (county : County) (is_county : IsCounty county) (one other : List DirectedChain) (whole : AreWhole county one)
+    (other_whole : AreWhole county other) where
+  pub same_link : (place : ℕ) → slice_get one place ≡ slice_get other place
+      → option_map ends_of (chain_at (stepped county one) place) ≡ option_map ends_of (chain_at (stepped county other) place)
+      → option_map sides_of (chain_at (stepped county one) place) ≡ option_map sides_of (chain_at (stepped county other) place)
+      → slice_get (links_of (stepped county one)) place ≡ slice_get (links_of (stepped county other)) place
+  same_link place same ends sides = go (slice_get one place) refl
+    where
+      go : (o : Option DirectedChain) → slice_get one place ≡ o
+          → slice_get (links_of (stepped county one)) place ≡ slice_get (links_of (stepped county other)) place
+      go None e =
+          link_there (stepped county one) place
+          ∙ ap (option_map (λ entry. I (packed_i entry))) (no_entry county one is_county whole place e
+          ∙ sym (no_entry county other is_county other_whole place (sym same ∙ e)))
+          ∙ sym (link_there (stepped county other) place)
+      go (Some step) e =
+          let a = link_of_step county one is_county whole place step e in
+          let b = link_of_step county other is_county other_whole place step (sym same ∙ e) in
+          let r = renaming_of county (arrangement_of county one) in
+          let s = renaming_of county (arrangement_of county other) in
+          let chain_a : chain_at (stepped county one) place ≡ Some (renumbered r a.chain) =
+          slice_get-map (λ (entry : ℕ × Chain). entry.1) (stepped county one).chains place
+          ∙ ap (option_map (λ (entry : ℕ × Chain). entry.1)) a.entry in
+          let chain_b : chain_at (stepped county other) place ≡ Some (renumbered s b.chain) =
+          slice_get-map (λ (entry : ℕ × Chain). entry.1) (stepped county other).chains place
+          ∙ ap (option_map (λ (entry : ℕ × Chain). entry.1)) b.entry in
+          let body : a.chain.topology ≡ b.chain.topology =
+          (let both : Some a.chain ≡ Some b.chain = sym a.of_step ∙ b.of_step in
+          let chain : a.chain ≡ b.chain = cc in ap (λ c. c.topology) chain) in
+          let same_ends : Some (ends_of (renumbered r a.chain)) ≡ Some (ends_of (renumbered s b.chain)) =
+          sym (ap (option_map ends_of) chain_a) ∙ ends ∙ ap (option_map ends_of) chain_b in
+          let same_sides : Some (sides_of (renumbered r a.chain)) ≡ Some (sides_of (renumbered s b.chain)) =
+          sym (ap (option_map sides_of) chain_a) ∙ sides ∙ ap (option_map sides_of) chain_b in
+          let e1 : ends_of (renumbered r a.chain) ≡ ends_of (renumbered s b.chain) = cc in
+          let e2 : sides_of (renumbered r a.chain) ≡ sides_of (renumbered s b.chain) = cc in
+          link_there (stepped county one) place
+          ∙ ap (option_map (λ entry. I (packed_i entry))) a.entry
+          ∙ (λ i. Some (I (record {
+            tlid = 1 + place;
+            body = body i;
+            start_node = (e1 i).0;
+            end_node = (e1 i).1;
+            left = (e2 i).0;
+            right = (e2 i).1;
+          })))
+          ∙ sym (link_there (stepped county other) place ∙ ap (option_map (λ entry. I (packed_i entry))) b.entry)
+
+-- lists that agree up to a place, and at it
+pub same_further : {X : Type 0} (xs ys : List X) (end : ℕ) → ((place : ℕ) → place < end → slice_get xs place ≡ slice_get ys place)
+    → slice_get xs end ≡ slice_get ys end → (place : ℕ) → place < end + 1 → slice_get xs place ≡ slice_get ys place
+same_further xs ys end below here place l = go (nat_lt place end) refl
+  where
+    go : (b : Bool) → nat_lt place end ≡ b → slice_get xs place ≡ slice_get ys place
+    go true e = below place (ltb-true place end e)
+    go false e =
+        let past : end ≤ place = ltb-false place end e in
+        let same : end ≡ place = omega (arith, l, past) in
+        subst (λ k. slice_get xs k ≡ slice_get ys k) same here
+
+-- and up to the end of both
+pub same_lists : {X : Type 0} (xs ys : List X) (end : ℕ) → length xs ≤ end → length ys ≤ end
+    → ((place : ℕ) → place < end → slice_get xs place ≡ slice_get ys place) → xs ≡ ys
+same_lists xs ys end xs_end ys_end below = same_everywhere xs ys (λ place. go place (nat_lt place end) refl)
+  where
+    go : (place : ℕ) (b : Bool) → nat_lt place end ≡ b → slice_get xs place ≡ slice_get ys place
+    go place true e = below place (ltb-true place end e)
+    go place false e =
+        let past : end ≤ place = ltb-false place end e in
+        slice_get_past xs place (omega (arith, past, xs_end)) ∙ sym (slice_get_past ys place (omega (arith, past, ys_end)))
+
+-- type I records that are tied up to the last chain of both counties
+pub all_links_tied : (a b : County) (end : ℕ) → length a.chains ≤ end → length b.chains ≤ end
+    → AreTiedBelow end (links_of a) (links_of b) → Equal ≡ records_cmp (links_of a) (links_of b)
+all_links_tied a b end a_end b_end below = all_tied (links_of a) (links_of b) (λ place. go place (nat_lt place end) refl)
+  where
+    go : (place : ℕ) (answer : Bool) → nat_lt place end ≡ answer → AreTiedAt (links_of a) (links_of b) place
+    go place true e = below place (ltb-true place end e)
+    go place false e =
+        let past : end ≤ place = ltb-false place end e in
+        ap₂ (option_cmp spelling_cmp) (no_link a place (omega (arith, past, a_end))) (no_link b place (omega (arith, past, b_end)))
+
+-- all arrangements of a county have equally many chains
+pub as_many_chains : (county : County) → IsCounty county → (one other : List DirectedChain) → AreWhole county one → AreWhole county other
+    → length (stepped county one).chains ≡ length (stepped county other).chains
+as_many_chains county is_county one other whole other_whole =
+    chains_stepped county one is_county whole ∙ length_whole county one is_county whole
+    ∙ sym (chains_stepped county other is_county other_whole ∙ length_whole county other is_county other_whole)
+
+pub as_many_through : (a b : County) → a ≡ b → IsCounty a → (one other : List DirectedChain) → AreWhole a one → AreWhole b other
+    → length (stepped a one).chains ≡ length (stepped b other).chains
+as_many_through a b same is_county one other whole = subst (λ c. AreWhole c other → length (stepped a one).chains
+    ≡ length (stepped c other).chains) same (as_many_chains a is_county one other whole)
+
+-- the same if two names denote the county
+pub same_link_through : (a b : County) → a ≡ b → IsCounty a → (one other : List DirectedChain) → AreWhole a one → AreWhole b other → (place : ℕ)
+    → slice_get one place ≡ slice_get other place
+    → option_map ends_of (chain_at (stepped a one) place) ≡ option_map ends_of (chain_at (stepped b other) place)
+    → option_map sides_of (chain_at (stepped a one) place) ≡ option_map sides_of (chain_at (stepped b other) place)
+    → slice_get (links_of (stepped a one)) place ≡ slice_get (links_of (stepped b other)) place
+same_link_through a b same is_county one other whole other_whole place step =
+    subst (λ c. AreWhole c other
+    → option_map ends_of (chain_at (stepped a one) place) ≡ option_map ends_of (chain_at (stepped c other) place)
+    → option_map sides_of (chain_at (stepped a one) place) ≡ option_map sides_of (chain_at (stepped c other) place)
+    → slice_get (links_of (stepped a one)) place ≡ slice_get (links_of (stepped c other)) place) same
+    (λ w. same_link a is_county one other whole w place step) other_whole
+
+-- counties with the same polygons by their numbers
+pub same_polygons : (a b : County) → polygons_by_number a ≡ polygons_by_number b
+    → Equal ≡ groups_cmp P (type_p_by_number a) (type_p_by_number b)
+same_polygons a b same =
+    let records : List (PolygonKey × Option BodyP) → List Record =
+    λ polygons. map P (grouped (map (λ (entry : PolygonKey × Option BodyP). option_to_list (packed_p entry)) polygons)) in
+    sym (tied_itself records_total (records (polygons_by_number a)))
+    ∙ ap (λ polygons. records_cmp (records (polygons_by_number a)) (records polygons)) same

@@ -1,0 +1,171 @@
+-- Two arrangements of a county that have the same chains in the same order make the same county, whatever TLIDs these have.
+use Rattle.std.proofs.Common.{◌≡◌, ◌<◌, ◌∙◌, ℕ, List, get_or, length, map, Option, None, Some, option_map, slice_get, false, sym, refl, ap, nat_cmp}
+use Rattle.std.proofs.lemmas.Option.{slice_get-get_or, slice_get-map}
+use Rattle.std.specs.Ordering.{on}
+use Rattle.tl_layout.specs.Fields.{Fields8}
+use Rattle.tl_layout.specs.PolygonSide.{PolygonSide}
+use Rattle.tl_layout.specs.declared.type5.Body5.{Body5}
+use Rattle.tl_layout.specs.declared.type7.Body7.{Body7}
+use Rattle.tl_layout.specs.declared.type_p.BodyP.{BodyP}
+use Rattle.tl_shape.specs.Chain.{Chain}
+use Rattle.tl_county.specs.BodyOrder.{link_cmp}
+use Rattle.tl_county.specs.County.{County, link_key}
+use Rattle.tl_county.specs.CountyRules.{IsCounty, nodes_along, polygons_along}
+use Rattle.tl_county.specs.Orders.{in_order}
+use Rattle.tl_county.specs.Packing.{numbered_from}
+use Rattle.tl_county.specs.PolygonKeys.{PolygonKey, key_cmp}
+use Rattle.tl_county.specs.Renumbering.{Renumbering, image, renumbered, renumbered_polygon, side_of}
+use Rattle.tl_county.proofs.Lists.Elements.{map_agree_everywhere}
+use Rattle.tl_cert.specs.PartsThere.{HaveSameEnds}
+use Rattle.tl_number.specs.Arrangement.{Arrangement, Arranges, arranged, landmarks_in_order, names_in_order, new_keys, nodes_in_order, placed}
+use Rattle.tl_number.specs.Arrangement.{relinked, renaming_of, under_cenid}
+use Rattle.tl_number.specs.ByStep.{ends_of, sides_of}
+use Rattle.tl_number.specs.Growth.{first_seen, numbered}
+use Rattle.tl_number.specs.Steps.{arrangement_of, step_chain}
+use Rattle.tl_number.specs.Uses.{all_uses, landmark_key, landmark_key_cmp, name_key, name_key_cmp}
+use Rattle.tl_number.specs.ViewFacts.{AreWhole, stepped}
+use Rattle.tl_profile.specs.declared.directed_chain.DirectedChain.{DirectedChain}
+use Rattle.tl_number.proofs.Arrangements.Carrying.{chains_arranged, lands_renamed, landmarks_arranged, links_arranged, names_arranged, names_renamed}
+use Rattle.tl_number.proofs.Arrangements.Carrying.{nodes_renamed, polygons_arranged, polygons_renamed}
+use Rattle.tl_number.proofs.Unique.SameNumbers.{kept_entry}
+use Rattle.tl_number.proofs.Views.StepTables.{same_somes}
+use Rattle.tl_number.proofs.Views.ViewChains.{arranges, bodies_read, chains}
+
+-- a value read from a part of a chain is read from the chain
+through : {X Y : Type 0} (f : Chain → X) (g : X → Y) (o : Option Chain) → option_map (λ c. g (f c)) o ≡ option_map g (option_map f o)
+through f g None = refl
+through f g (Some c) = refl
+
+pub the_same : {X : Type 0} (x y : X) → Some x ≡ Some y → x ≡ y
+the_same x y e = cc
+
+-- chains with the same ends and the same sides, or two missing chains
+pub ends_from : (o p : Option Chain) → option_map ends_of o ≡ option_map ends_of p → option_map sides_of o ≡ option_map sides_of p
+    → HaveSameEnds o p
+ends_from o p ends sides = record {
+  start_node = by_ends (λ e. e.0);
+  end_node = by_ends (λ e. e.1);
+  left = by_sides (λ s. s.0);
+  right = by_sides (λ s. s.1);
+}
+  where
+    by_ends : {Y : Type 0} (g : Option ℕ × Option ℕ → Y) → option_map (λ c. g (ends_of c)) o ≡ option_map (λ c. g (ends_of c)) p
+    by_ends g = through ends_of g o ∙ ap (option_map g) ends ∙ sym (through ends_of g p)
+
+    by_sides : {Y : Type 0} (g : PolygonSide × PolygonSide → Y) → option_map (λ c. g (sides_of c)) o ≡ option_map (λ c. g (sides_of c)) p
+    by_sides g = through sides_of g o ∙ ap (option_map g) sides ∙ sym (through sides_of g p)
+
+pub ends_to : (o p : Option Chain) → HaveSameEnds o p → option_map ends_of o ≡ option_map ends_of p
+ends_to None None h = refl
+ends_to None (Some d) h = let no : None ≡ Some d.start_node = h.start_node in cc
+ends_to (Some c) None h = let no : Some c.start_node ≡ None = h.start_node in cc
+ends_to (Some c) (Some d) h = λ i. Some (the_same c.start_node d.start_node h.start_node i, the_same c.end_node d.end_node h.end_node i)
+
+pub sides_to : (o p : Option Chain) → HaveSameEnds o p → option_map sides_of o ≡ option_map sides_of p
+sides_to None None h = refl
+sides_to None (Some d) h = let no : None ≡ Some d.left = h.left in cc
+sides_to (Some c) None h = let no : Some c.left ≡ None = h.left in cc
+sides_to (Some c) (Some d) h = λ i. Some (the_same c.left d.left h.left i, the_same c.right d.right h.right i)
+
+-- the chain of the step at a place
+pub chain_read : (county : County) (steps : List DirectedChain) (i : ℕ) → i < length steps
+    → slice_get (map (step_chain county) steps) i ≡ Some (step_chain county (get_or steps i (record { place = 0; turned = false })))
+chain_read county steps i there = slice_get-map (step_chain county) steps i
+    ∙ ap (option_map (step_chain county)) (slice_get-get_or steps i (record { place = 0; turned = false }) there)
+
+-- and a component of it
+pub part_read : {X : Type 0} (county : County) (part : Option Chain → X) (steps : List DirectedChain) (i : ℕ) → i < length steps
+    → slice_get (map (λ step. part (step_chain county step)) steps) i
+    ≡ Some (part (step_chain county (get_or steps i (record { place = 0; turned = false }))))
+part_read county part steps i there = slice_get-map (λ step. part (step_chain county step)) steps i
+    ∙ ap (option_map (λ step. part (step_chain county step))) (slice_get-get_or steps i (record { place = 0; turned = false }) there)
+
+-- A chain under new numbers depends only on the new numbers of names, of polygons and of nodes.
+module _ (r s : Renumbering) (names : r.names ≡ s.names) (polygons : r.polygons ≡ s.polygons) (nodes : r.nodes ≡ s.nodes) where
+  same_side : (cenid : List ℕ) (polyid : Option ℕ) → renumbered_polygon r cenid polyid ≡ renumbered_polygon s cenid polyid
+  same_side cenid None = refl
+  same_side cenid (Some polyid) = ap (λ pairs. side_of (image key_cmp pairs (cenid, polyid))) polygons
+
+  same_renumbered : (c : Chain) → renumbered r c ≡ renumbered s c
+  same_renumbered c = λ i. record c {
+    feats = map (image nat_cmp (names i)) c.feats;
+    start_node = option_map (image nat_cmp (nodes i)) c.start_node;
+    end_node = option_map (image nat_cmp (nodes i)) c.end_node;
+    left = same_side c.left.cenid c.left.polyid i;
+    right = same_side c.right.cenid c.right.polyid i;
+  }
+
+module _ (county : County) (is : IsCounty county) (one other : Arrangement) (arranges_one : Arranges one county)
+    (arranges_other : Arranges other county) (same : placed county one ≡ placed county other) where
+  abbrev r : Renumbering
+  r = renaming_of county one
+
+  abbrev s : Renumbering
+  s = renaming_of county other
+
+  -- the consequences of the chains in their order and their directions
+  names_ordered : names_in_order county one ≡ names_in_order county other
+  names_ordered = ap (λ (cs : List (ℕ × Chain)). in_order (on (name_key (all_uses cs)) name_key_cmp) county.names) same
+
+  keys_same : new_keys county one ≡ new_keys county other
+  keys_same = ap (λ (cs : List (ℕ × Chain)). map under_cenid (numbered (first_seen key_cmp (polygons_along cs)))) same
+
+  landmarks_ordered : landmarks_in_order county one ≡ landmarks_in_order county other
+  landmarks_ordered = ap (λ (keys : List (PolygonKey × PolygonKey)). in_order
+      (on (landmark_key (in_order link_cmp (map (relinked keys) county.links))) landmark_key_cmp) county.landmarks) keys_same
+
+  nodes_ordered : nodes_in_order county one ≡ nodes_in_order county other
+  nodes_ordered = ap (λ (cs : List (ℕ × Chain)). first_seen nat_cmp (nodes_along cs)) same
+
+  -- so the new numbers of everything except the chains are the same
+  names_same : r.names ≡ s.names
+  names_same = names_renamed county one is arranges_one ∙ ap (λ (es : List (ℕ × Body5)). numbered (map (λ e. e.0) es)) names_ordered
+      ∙ sym (names_renamed county other is arranges_other)
+
+  polygons_same : r.polygons ≡ s.polygons
+  polygons_same = polygons_renamed county one is arranges_one ∙ keys_same ∙ sym (polygons_renamed county other is arranges_other)
+
+  lands_same : r.lands ≡ s.lands
+  lands_same = lands_renamed county one is arranges_one ∙ ap (λ (es : List (ℕ × List Body7)). numbered (map (λ e. e.0) es)) landmarks_ordered
+      ∙ sym (lands_renamed county other is arranges_other)
+
+  nodes_same : r.nodes ≡ s.nodes
+  nodes_same = nodes_renamed county one is arranges_one ∙ ap numbered nodes_ordered ∙ sym (nodes_renamed county other is arranges_other)
+
+  entry_same : (e : ℕ × Chain) → kept_entry r e ≡ kept_entry s e
+  entry_same e = λ i. (e.0, same_renumbered r s names_same polygons_same nodes_same e.1 i)
+
+  -- and so is everything under them
+  pub arranged_same : arranged county one ≡ arranged county other
+  arranged_same = λ i. record {
+    chains = (chains_arranged county one is arranges_one
+        ∙ map_agree_everywhere (kept_entry r) (kept_entry s) entry_same (placed county one)
+        ∙ ap (map (kept_entry s)) same ∙ sym (chains_arranged county other is arranges_other)) i;
+    names = (names_arranged county one is arranges_one
+        ∙ (λ j. map (λ (e : ℕ × Body5). (image nat_cmp (names_same j) e.0, e.1)) (names_ordered j))
+        ∙ sym (names_arranged county other is arranges_other)) i;
+    polygons = (polygons_arranged county one is arranges_one
+        ∙ (λ j. in_order (on (λ (e : PolygonKey × Option BodyP). e.0) key_cmp)
+        (map (λ (e : PolygonKey × Option BodyP). (image key_cmp (polygons_same j) e.0, e.1)) county.polygons))
+        ∙ sym (polygons_arranged county other is arranges_other)) i;
+    landmarks = (landmarks_arranged county one is arranges_one
+        ∙ (λ j. map (λ (e : ℕ × List Body7). (image nat_cmp (lands_same j) e.0, e.1)) (landmarks_ordered j))
+        ∙ sym (landmarks_arranged county other is arranges_other)) i;
+    links = (links_arranged county one is arranges_one
+        ∙ (λ j. in_order link_cmp (map (λ (link : Fields8). record {
+          file = link.file;
+          cenid = (image key_cmp (polygons_same j) (link_key link)).0;
+          polyid = (image key_cmp (polygons_same j) (link_key link)).1;
+          land = image nat_cmp (lands_same j) link.land;
+        }) county.links))
+        ∙ sym (links_arranged county other is arranges_other)) i;
+  }
+
+-- the same for arrangements given by steps
+pub stepped_same : (county : County) → IsCounty county → (one other : List DirectedChain) → AreWhole county one → AreWhole county other
+    → map (step_chain county) one ≡ map (step_chain county) other → stepped county one ≡ stepped county other
+stepped_same county is one other whole other_whole same =
+    arranged_same county is (arrangement_of county one) (arrangement_of county other) (arranges county one is whole)
+    (arranges county other is other_whole)
+    (ap (numbered_from 1) (same_somes (chains county one is whole) (chains county other is other_whole)
+    (sym (bodies_read county one is whole one whole.there) ∙ same ∙ bodies_read county other is other_whole other other_whole.there)))

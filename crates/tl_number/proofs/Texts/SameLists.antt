@@ -1,0 +1,141 @@
+-- Arrangements of chains with the same further names have the same records of types 4 and 5, and those of chains with the same
+-- further address ranges have the same records of type 6.
+use Rattle.std.proofs.Common.{◌≡◌, ◌∙◌, ℕ, suc, List, [], ◌∷◌, ◌++◌, map, Option, Some, Equal, sym, refl, ap, nat_cmp, subst}
+use Rattle.std.proofs.lemmas.Cmp.{tied_itself}
+use Rattle.std.specs.Ordering.{on}
+use Rattle.tl_layout.specs.Fields.{Fields4, Fields6}
+use Rattle.tl_layout.specs.declared.ranges.Ranges.{Ranges}
+use Rattle.tl_layout.specs.declared.record_type.Record.{Record}
+use Rattle.tl_layout.specs.declared.record_type.Record.TheVariants.{Five, Four, Six}
+use Rattle.tl_layout.specs.declared.type5.Body5.{Body5}
+use Rattle.tl_shape.specs.Chain.{Chain}
+use Rattle.tl_county.specs.ChartWords.{feats_of, ranges_of}
+use Rattle.tl_county.specs.County.{County}
+use Rattle.tl_county.specs.CountyRules.{IsCounty}
+use Rattle.tl_county.specs.Orders.{in_order}
+use Rattle.tl_county.specs.Packing.{in_pieces, numbered_from, packed_five, packed_fours, packed_sixes}
+use Rattle.tl_county.specs.Renumbering.{Renumbering, image}
+use Rattle.tl_county.proofs.Lists.Elements.{map-map}
+use Rattle.tl_number.specs.Arrangement.{names_in_order, renaming_of}
+use Rattle.tl_number.specs.CountyGroups.{type_4_by_chain, type_5_by_name, type_6_by_chain}
+use Rattle.tl_number.specs.Groups.{grouped}
+use Rattle.tl_number.specs.Growth.{numbered}
+use Rattle.tl_number.specs.RecordOrder.{groups_cmp}
+use Rattle.tl_number.specs.Steps.{arrangement_of, feats_along, ranges_along, step_chain}
+use Rattle.tl_number.specs.Uses.{all_uses, name_key, name_key_cmp, uses_from}
+use Rattle.tl_number.specs.ViewFacts.{AreWhole, stepped}
+use Rattle.tl_profile.specs.declared.directed_chain.DirectedChain.{DirectedChain}
+use Rattle.tl_number.proofs.Arrangements.Carrying.{chains_arranged, names_arranged, names_renamed}
+use Rattle.tl_number.proofs.Texts.GroupOrders.{records_total}
+use Rattle.tl_number.proofs.Unique.SameNumbers.{kept_entry}
+use Rattle.tl_number.proofs.Views.ViewChains.{arranges, bodies_read, chains}
+
+-- equal groups are tied
+pub same_groups : {X : Type 0} (record_of : X → Record) (groups others : List (List X)) → groups ≡ others
+    → Equal ≡ groups_cmp record_of groups others
+same_groups record_of groups others same = sym (tied_itself records_total (map record_of (grouped groups)))
+    ∙ ap (groups_cmp record_of groups) same
+
+-- the uses of names depend only on the names of each chain
+same_uses : (cs ds : List Chain) → map (λ (c : Chain). c.feats) cs ≡ map (λ (c : Chain). c.feats) ds → (n : ℕ)
+    → all_uses (numbered_from n cs) ≡ all_uses (numbered_from n ds)
+same_uses [] [] e n = refl
+same_uses [] (d ∷ ds) e n = cc
+same_uses (c ∷ cs) [] e n = cc
+same_uses (c ∷ cs) (d ∷ ds) e n =
+    let here : c.feats ≡ d.feats = cc in
+    let rest : map (λ (c : Chain). c.feats) cs ≡ map (λ (c : Chain). c.feats) ds = cc in
+    λ i. uses_from n 1 (here i) ++ same_uses cs ds rest (suc n) i
+
+-- the records of type 4 for a TLID and names with new numbers
+abbrev fours : List (ℕ × ℕ) → ℕ → List ℕ → List Fields4
+fours names tlid feats =
+    map (λ piece. record { tlid = tlid; rtsq = piece.0; feats = piece.1 }) (numbered_from 1 (in_pieces 5 (map (image nat_cmp names) feats)))
+
+abbrev sixes : ℕ → List Ranges → List Fields6
+sixes tlid ranges = map (λ piece. record { tlid = tlid; rtsq = piece.0; ranges = piece.1 }) (numbered_from 1 ranges)
+
+module _ (r s : Renumbering) where
+  same_fours : r.names ≡ s.names → (cs ds : List Chain) → map (λ (c : Chain). c.feats) cs ≡ map (λ (c : Chain). c.feats) ds → (n : ℕ)
+      → map packed_fours (map (kept_entry r) (numbered_from n cs)) ≡ map packed_fours (map (kept_entry s) (numbered_from n ds))
+  same_fours names [] [] e n = refl
+  same_fours names [] (d ∷ ds) e n = cc
+  same_fours names (c ∷ cs) [] e n = cc
+  same_fours names (c ∷ cs) (d ∷ ds) e n =
+      let here : c.feats ≡ d.feats = cc in
+      let rest : map (λ (c : Chain). c.feats) cs ≡ map (λ (c : Chain). c.feats) ds = cc in
+      λ i. fours (names i) n (here i) ∷ same_fours names cs ds rest (suc n) i
+
+  same_sixes : (cs ds : List Chain) → map (λ (c : Chain). c.ranges) cs ≡ map (λ (c : Chain). c.ranges) ds → (n : ℕ)
+      → map packed_sixes (map (kept_entry r) (numbered_from n cs)) ≡ map packed_sixes (map (kept_entry s) (numbered_from n ds))
+  same_sixes [] [] e n = refl
+  same_sixes [] (d ∷ ds) e n = cc
+  same_sixes (c ∷ cs) [] e n = cc
+  same_sixes (c ∷ cs) (d ∷ ds) e n =
+      let here : c.ranges ≡ d.ranges = cc in
+      let rest : map (λ (c : Chain). c.ranges) cs ≡ map (λ (c : Chain). c.ranges) ds = cc in
+      λ i. sixes n (here i) ∷ same_sixes cs ds rest (suc n) i
+
+module _ (county : County) (is : IsCounty county) (one other : List DirectedChain) (whole : AreWhole county one) (other_whole : AreWhole county other)
+  where
+    -- values read from each step's chain are read from the chains in their new order
+    read_along : {X : Type 0} (part : Option Chain → X) (steps : List DirectedChain) (w : AreWhole county steps)
+        → map (λ step. part (step_chain county step)) steps ≡ map (λ c. part (Some c)) (chains county steps is w)
+    read_along part steps w = sym (map-map part (step_chain county) steps) ∙ ap (map part) (bodies_read county steps is w steps w.there)
+        ∙ map-map part Some (chains county steps is w)
+
+    module _ (same : feats_along county one ≡ feats_along county other) where
+      feats_same : map (λ (c : Chain). c.feats) (chains county one is whole) ≡ map (λ (c : Chain). c.feats) (chains county other is other_whole)
+      feats_same = sym (read_along feats_of one whole) ∙ same ∙ read_along feats_of other other_whole
+
+      names_ordered : names_in_order county (arrangement_of county one) ≡ names_in_order county (arrangement_of county other)
+      names_ordered = ap (λ uses. in_order (on (name_key uses) name_key_cmp) county.names)
+          (same_uses (chains county one is whole) (chains county other is other_whole) feats_same 1)
+
+      names_same : (renaming_of county (arrangement_of county one)).names ≡ (renaming_of county (arrangement_of county other)).names
+      names_same = names_renamed county (arrangement_of county one) is (arranges county one is whole)
+          ∙ ap (λ (es : List (ℕ × Body5)). numbered (map (λ e. e.0) es)) names_ordered
+          ∙ sym (names_renamed county (arrangement_of county other) is (arranges county other is other_whole))
+
+      pub type_4_same : type_4_by_chain (stepped county one) ≡ type_4_by_chain (stepped county other)
+      type_4_same = ap (map packed_fours) (chains_arranged county (arrangement_of county one) is (arranges county one is whole))
+          ∙ same_fours (renaming_of county (arrangement_of county one)) (renaming_of county (arrangement_of county other)) names_same
+          (chains county one is whole) (chains county other is other_whole) feats_same 1
+          ∙ sym (ap (map packed_fours) (chains_arranged county (arrangement_of county other) is (arranges county other is other_whole)))
+
+      pub type_5_same : type_5_by_name (stepped county one) ≡ type_5_by_name (stepped county other)
+      type_5_same = ap (map (λ entry. packed_five entry ∷ []))
+          (names_arranged county (arrangement_of county one) is (arranges county one is whole)
+          ∙ (λ j. map (λ (e : ℕ × Body5). (image nat_cmp (names_same j) e.0, e.1)) (names_ordered j))
+          ∙ sym (names_arranged county (arrangement_of county other) is (arranges county other is other_whole)))
+
+    pub type_6_same : ranges_along county one ≡ ranges_along county other
+        → type_6_by_chain (stepped county one) ≡ type_6_by_chain (stepped county other)
+    type_6_same same = ap (map packed_sixes) (chains_arranged county (arrangement_of county one) is (arranges county one is whole))
+        ∙ same_sixes (renaming_of county (arrangement_of county one)) (renaming_of county (arrangement_of county other))
+        (chains county one is whole) (chains county other is other_whole)
+        (sym (read_along ranges_of one whole) ∙ same ∙ read_along ranges_of other other_whole) 1
+        ∙ sym (ap (map packed_sixes) (chains_arranged county (arrangement_of county other) is (arranges county other is other_whole)))
+
+-- The same if two names denote the county.
+module _ (a b : County) (told : a ≡ b) (is : IsCounty a) (one other : List DirectedChain) (whole : AreWhole a one) where
+  through : (Same : County → Type 0) → ((w : AreWhole a other) → Same a) → AreWhole b other → Same b
+  through Same f w = subst Same told (f (subst (λ c. AreWhole c other) (sym told) w))
+
+  pub type_4_through : AreWhole b other → feats_along a one ≡ feats_along a other
+      → Equal ≡ groups_cmp Four (type_4_by_chain (stepped a one)) (type_4_by_chain (stepped b other))
+  type_4_through w same = through (λ c. Equal ≡ groups_cmp Four (type_4_by_chain (stepped a one)) (type_4_by_chain (stepped c other)))
+      (λ v. same_groups Four (type_4_by_chain (stepped a one)) (type_4_by_chain (stepped a other))
+      (type_4_same a is one other whole v same)) w
+
+  pub type_5_through : AreWhole b other → feats_along a one ≡ feats_along a other
+      → Equal ≡ groups_cmp Five (type_5_by_name (stepped a one)) (type_5_by_name (stepped b other))
+  type_5_through w same = through (λ c. Equal ≡ groups_cmp Five (type_5_by_name (stepped a one)) (type_5_by_name (stepped c other)))
+      (λ v. same_groups Five (type_5_by_name (stepped a one)) (type_5_by_name (stepped a other))
+      (type_5_same a is one other whole v same)) w
+
+  pub type_6_through : AreWhole b other → ranges_along a one ≡ ranges_along a other
+      → Equal ≡ groups_cmp Six (type_6_by_chain (stepped a one)) (type_6_by_chain (stepped b other))
+  type_6_through w same = through (λ c. Equal ≡ groups_cmp Six (type_6_by_chain (stepped a one)) (type_6_by_chain (stepped c other)))
+      (λ v. same_groups Six (type_6_by_chain (stepped a one)) (type_6_by_chain (stepped a other))
+      (type_6_same a is one other whole v same)) w

@@ -1,0 +1,72 @@
+-- The type 1 records of two arrangements, compared only at open places.
+use Rattle.std.proofs.Common.{◌≡◌, ◌≢◌, ◌≤◌, ◌+◌, ℕ, zero, suc, nat_lt, List, [], ◌∷◌, length, get_or, Bool, true, false, Less}
+use Rattle.std.proofs.Common.{Equal, Greater, Some, slice_get, sym, refl, ap, ap₂, ◌∙◌, subst, arith}
+use Rattle.std.proofs.lemmas.Bool.{ltb-true, ltb-false}
+use Rattle.std.proofs.lemmas.Option.{slice_get-get_or, slice_get_past}
+use Rattle.std.specs.Option.{option_cmp}
+use Rattle.std.specs.Ordering.{ordering_then}
+use Rattle.tl_layout.specs.declared.record_type.Record.{Record}
+use Rattle.tl_county.specs.County.{County}
+use Rattle.tl_county.specs.CountyRules.{IsCounty}
+use Rattle.tl_profile.specs.declared.directed_chain.DirectedChain.{DirectedChain}
+use Rattle.tl_number.specs.RecordOrder.{AreTiedAt, AreTiedBelow, records_cmp, spelling_cmp}
+use Rattle.tl_number.specs.TypeOneOrder.{one_at, ones_of}
+use Rattle.tl_number.specs.ViewFacts.{AreWhole, stepped}
+use Rattle.tl_number.proofs.Texts.GroupOrders.{decided}
+use Rattle.tl_number.proofs.Texts.TypeOnes.{length-ones_stepped, ones_stepped, same_one}
+
+-- with one more place
+pub tied_more : (rs ss : List Record) (end : ℕ) → AreTiedBelow end rs ss → AreTiedAt rs ss end → AreTiedBelow (end + 1) rs ss
+tied_more rs ss end below here place l = go (nat_lt place end) refl
+  where
+    go : (b : Bool) → nat_lt place end ≡ b → AreTiedAt rs ss place
+    go true e = below place (ltb-true place end e)
+    go false e =
+        let past : end ≤ place = ltb-false place end e in
+        let same : end ≡ place = omega (arith, l, past) in
+        subst (AreTiedAt rs ss) same here
+
+-- the first place where two lists aren't tied decides
+pub first_untied : (rs ss : List Record) (place : ℕ) → AreTiedBelow place rs ss
+    → option_cmp spelling_cmp (slice_get rs place) (slice_get ss place) ≢ Equal
+    → option_cmp spelling_cmp (slice_get rs place) (slice_get ss place) ≡ records_cmp rs ss
+first_untied [] [] place below ne = absurd (ne refl)
+first_untied [] (s ∷ ss) zero below ne = refl
+first_untied (r ∷ rs) [] zero below ne = refl
+first_untied (r ∷ rs) (s ∷ ss) zero below ne = sym (decided (spelling_cmp r s) (records_cmp rs ss) ne)
+first_untied [] (s ∷ ss) (suc place) below ne = let e : Less ≡ Equal = below 0 (omega arith) in absurd (cc)
+first_untied (r ∷ rs) [] (suc place) below ne = let e : Greater ≡ Equal = below 0 (omega arith) in absurd (cc)
+first_untied (r ∷ rs) (s ∷ ss) (suc place) below ne =
+    first_untied rs ss place (λ k l. below (suc k) (omega (arith, l))) ne
+    ∙ sym (ap (λ o. ordering_then o (records_cmp rs ss)) (below 0 (omega arith)))
+
+-- lists that are tied everywhere are spelled alike
+pub all_tied : (rs ss : List Record) → ((place : ℕ) → AreTiedAt rs ss place) → Equal ≡ records_cmp rs ss
+all_tied [] [] tied = refl
+all_tied [] (s ∷ ss) tied = let e : Less ≡ Equal = tied 0 in absurd (cc)
+all_tied (r ∷ rs) [] tied = let e : Greater ≡ Equal = tied 0 in absurd (cc)
+all_tied (r ∷ rs) (s ∷ ss) tied =
+    all_tied rs ss (λ place. tied (suc place)) ∙ sym (ap (λ o. ordering_then o (records_cmp rs ss)) (tied 0))
+
+-- if two arrangements have the same step, their records are tied
+module _ (county : County) (is : IsCounty county) (one other : List DirectedChain) (whole : AreWhole county one) (other_whole : AreWhole county other)
+    (count : length one ≡ length other) where
+  pub same_tied : (place : ℕ) → slice_get one place ≡ slice_get other place
+      → AreTiedAt (ones_of (stepped county one)) (ones_of (stepped county other)) place
+  same_tied place same = go (nat_lt place (length one)) refl
+    where
+      none : DirectedChain
+      none = record { place = 0; turned = false }
+
+      go : (b : Bool) → nat_lt place (length one) ≡ b → AreTiedAt (ones_of (stepped county one)) (ones_of (stepped county other)) place
+      go true e =
+          let step = get_or one place none in
+          let there : slice_get one place ≡ Some step = slice_get-get_or one place none (ltb-true place (length one) e) in
+          ap₂ (option_cmp spelling_cmp) (ones_stepped county one is whole place step there)
+          (ones_stepped county other is other_whole place step (sym same ∙ there))
+          ∙ sym (same_one (one_at county step place))
+      go false e =
+          let past : length one ≤ place = ltb-false place (length one) e in
+          ap₂ (option_cmp spelling_cmp)
+          (slice_get_past (ones_of (stepped county one)) place (omega (arith, past, length-ones_stepped county one is whole)))
+          (slice_get_past (ones_of (stepped county other)) place (omega (arith, past, count, length-ones_stepped county other is other_whole)))

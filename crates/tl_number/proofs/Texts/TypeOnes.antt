@@ -1,0 +1,111 @@
+-- The type 1 records of a county in an arrangement, from its steps.
+use Rattle.std.proofs.Common.{◌≡◌, ◌<◌, ◌≤◌, ◌+◌, ℕ, zero, suc, List, [], ◌∷◌, map, length, Bool, true, false, Option, Some, None}
+use Rattle.std.proofs.Common.{option_map, slice_get, Equal, sym, refl, ap, ◌∙◌, subst, arith}
+use Rattle.std.proofs.lemmas.Bool.{false≢true}
+use mathlib.Core.Bool.{beq}
+use Rattle.std.proofs.lemmas.Cmp.{nat_list_cmp_total, tied_itself}
+use Rattle.std.proofs.lemmas.List.{length-map, length-reverse}
+use Rattle.std.proofs.lemmas.List.Sorted.{length_permutation}
+use Rattle.std.proofs.lemmas.Option.{slice_get-map}
+use Rattle.std.specs.Option.{option_cmp}
+use Rattle.tl_layout.specs.RecordText.{spelling_of}
+use Rattle.tl_layout.specs.declared.record_type.Record.{Record}
+use Rattle.tl_layout.specs.declared.record_type.Record.TheVariants.{One}
+use Rattle.tl_shape.specs.Chain.{Chain}
+use Rattle.tl_shape.specs.Turned.{turned_if}
+use Rattle.tl_county.specs.ChartWords.{points_of}
+use Rattle.tl_county.specs.County.{County}
+use Rattle.tl_county.specs.CountyRules.{IsCounty, tlids}
+use Rattle.tl_county.specs.Limits.{IsWithinLimits, most_records}
+use Rattle.tl_county.specs.Packing.{numbered_from, packed_one}
+use Rattle.tl_profile.specs.ShapeOrder.{points_along}
+use Rattle.tl_profile.specs.declared.directed_chain.DirectedChain.{DirectedChain}
+use Rattle.tl_number.specs.Arrangement.{arranged_tlids, placed, renaming_of}
+use Rattle.tl_number.specs.RecordOrder.{spelling_cmp}
+use Rattle.tl_number.specs.Steps.{arrangement_of, step_chain, tlid_at}
+use Rattle.tl_number.specs.TypeOneOrder.{one_at, ones_of}
+use Rattle.tl_number.specs.ViewFacts.{AreWhole, stepped}
+use Rattle.tl_number.proofs.Arrangements.Carrying.{chains_arranged}
+use Rattle.tl_number.proofs.Records.ChainPlaces.{chain_there}
+use Rattle.tl_number.proofs.Records.PackedGroups.{ones}
+use Rattle.tl_number.proofs.Unique.SameNumbers.{kept_entry}
+use Rattle.tl_number.proofs.Views.StepChains.{points_stepped}
+use Rattle.tl_number.proofs.Views.ViewChains.{arranges, bodies_read, chains, chains_stepped, read_there}
+
+pub same_turns : (a b : Bool) → beq a b ≡ true → a ≡ b
+same_turns true true e = refl
+same_turns false false e = refl
+same_turns true false e = absurd (false≢true e)
+same_turns false true e = absurd (false≢true e)
+
+-- a record compared with itself, if there is one
+pub same_one : (r : Option Record) → Equal ≡ option_cmp spelling_cmp r r
+same_one None = refl
+same_one (Some r) = sym (tied_itself nat_list_cmp_total (spelling_of r))
+
+-- The chain of a step.
+pub record StepThere (county : County) (step : DirectedChain) : Type 0 where
+  pub chain : Chain
+  pub there : step_chain county step ≡ Some chain
+  pub two : 2 ≤ length chain.points
+  pub along : points_along county step ≡ chain.points
+
+pub step_there : (county : County) → IsCounty county → IsWithinLimits most_records county → (step : DirectedChain)
+    → step.place < length county.chains → StepThere county step
+step_there county is within step h =
+    let at = chain_there county is within step.place h in
+    let there : step_chain county step ≡ Some (turned_if step.turned at.entry.1) = ap (option_map (turned_if step.turned)) at.chain in
+    record {
+      chain = turned_if step.turned at.entry.1;
+      there = there;
+      two = either step.turned at.entry.1 at.two;
+      along = points_stepped county step ∙ ap points_of there;
+    }
+  where
+    either : (turned : Bool) (chain : Chain) → 2 ≤ length chain.points → 2 ≤ length (turned_if turned chain).points
+    either true chain two = subst (λ n. 2 ≤ n) (sym (length-reverse chain.points)) two
+    either false chain two = two
+
+pub numbered_at : {X : Type 0} (n : ℕ) (xs : List X) (i : ℕ) → slice_get (numbered_from n xs) i ≡ option_map (λ x. (n + i, x)) (slice_get xs i)
+numbered_at n [] i = refl
+numbered_at n (x ∷ xs) zero = ap (λ m. Some (m, x)) (let e : n ≡ n + zero = omega arith in e)
+numbered_at n (x ∷ xs) (suc i) = numbered_at (suc n) xs i
+    ∙ ap (λ m. option_map (λ y. (m, y)) (slice_get xs i)) (let e : suc n + i ≡ n + suc i = omega arith in e)
+
+pub length-ones : (county : County) → length (ones_of county) ≡ length county.chains
+length-ones county = ap length (ones county) ∙ length-map (map packed_one county.chains) One ∙ length-map county.chains packed_one
+
+module _ (county : County) (steps : List DirectedChain) (is : IsCounty county) (whole : AreWhole county steps) where
+  pub length-ones_stepped : length (ones_of (stepped county steps)) ≡ length steps
+  length-ones_stepped = length-ones (stepped county steps) ∙ chains_stepped county steps is whole
+
+  pub length_whole : length steps ≡ length county.chains
+  length_whole =
+      let order = arrangement_of county steps in
+      let told : length order ≡ length steps = length-map steps (λ (s : DirectedChain). (tlid_at county s.place, s.turned)) in
+      let named : length (arranged_tlids order) ≡ length order = length-map order (λ (s : ℕ × Bool). s.0) in
+      let all : length (tlids county) ≡ length county.chains = length-map county.chains (λ (e : ℕ × Chain). e.0) in
+      let same = length_permutation (arranged_tlids order) (tlids county) (arranges county steps is whole) in
+      omega (arith, told, named, all, same)
+
+  -- the record at a place belongs to the step's chain
+  pub ones_stepped : (i : ℕ) (step : DirectedChain) → slice_get steps i ≡ Some step → slice_get (ones_of (stepped county steps)) i ≡ one_at county step i
+  ones_stepped i step e =
+      let order = arrangement_of county steps in
+      let r = renaming_of county order in
+      let c = read_there (step_chain county) steps (chains county steps is whole) (bodies_read county steps is whole steps whole.there) i step e in
+      ap (λ rs. slice_get rs i) (ones (stepped county steps)
+      ∙ ap (λ es. map One (map packed_one es)) (chains_arranged county order is (arranges county steps is whole)))
+      ∙ slice_get-map One (map packed_one (map (kept_entry r) (placed county order))) i
+      ∙ ap (option_map One) (slice_get-map packed_one (map (kept_entry r) (placed county order)) i
+      ∙ ap (option_map packed_one) (slice_get-map (kept_entry r) (placed county order) i
+      ∙ ap (option_map (kept_entry r)) (numbered_at 1 (chains county steps is whole) i ∙ ap (option_map (λ x. (1 + i, x))) c.1)))
+      ∙ ap (λ n. Some (One (packed_one (n, c.0)))) (let m : 1 + i ≡ i + 1 = omega arith in m)
+      ∙ sym (ap (option_map (λ chain. One (packed_one (i + 1, chain)))) c.2)
+
+-- arrangements of a county have equally many steps, even if two names denote the county
+pub as_many_steps : (a b : County) → a ≡ b → IsCounty a → (one other : List DirectedChain) → AreWhole a one → AreWhole b other
+    → length one ≡ length other
+as_many_steps a b told is one other whole other_whole =
+    length_whole a one is whole
+    ∙ sym (length_whole a other is (subst (λ c. AreWhole c other) (sym told) other_whole))

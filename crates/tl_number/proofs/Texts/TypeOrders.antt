@@ -1,0 +1,99 @@
+-- For two packings with equally many records of each type, the first type that differs decides the order.
+use Rattle.std.proofs.Common.{◌≡◌, ◌∙◌, ◌+◌, List, ◌++◌, length, map, length-append, nat_cmp, Equal, sym, ap, ap₂}
+use Rattle.std.proofs.lemmas.Cmp.{tied_itself}
+use Rattle.std.proofs.lemmas.List.{length-map}
+use Rattle.std.specs.Cmp.Lexicographic.{slice_cmp}
+use Rattle.std.specs.Ordering.{ordering_then}
+use Rattle.tl_layout.specs.RecordText.{text_of}
+use Rattle.tl_layout.specs.declared.record_type.Record.{Record}
+use Rattle.tl_layout.specs.declared.record_type.Record.TheVariants.{One, Two, Four, Five, Six, Seven, Eight, I}
+use Rattle.tl_county.specs.County.{County}
+use Rattle.tl_county.specs.CountyRules.{IsCounty}
+use Rattle.tl_county.specs.Limits.{IsWithinLimits, most_records}
+use Rattle.tl_county.specs.Packing.{packed, packed_by_type}
+use Rattle.tl_county.specs.Renumbering.{AreSame}
+use Rattle.tl_county.proofs.Limits.CarriedLimits.{carried_many}
+use Rattle.tl_county.proofs.Limits.FitsPacked.{packed-fits}
+use Rattle.tl_county.proofs.Packing.TypeCounts.{HasAsMany}
+use Rattle.tl_number.specs.CountyGroups.{type_1_by_chain, type_2_by_chain, type_4_by_chain, type_5_by_name, type_6_by_chain}
+use Rattle.tl_number.specs.CountyGroups.{type_7_by_landmark, type_8_together, type_i_by_chain}
+use Rattle.tl_number.specs.CountyGroups.{types_1_to_4, types_5_to_7, types_8_to_p}
+use Rattle.tl_number.specs.Groups.{grouped}
+use Rattle.tl_number.specs.RecordOrder.{groups_cmp, records_cmp, spelling_cmp, types_1_to_4_cmp, types_5_to_7_cmp, types_8_to_p_cmp}
+use Rattle.tl_number.proofs.Texts.GroupOrders.{records_total}
+use Rattle.tl_number.proofs.Records.PackedGroups.{all_groups, ones, twos, fours, fives, sixes, sevens, eights, is}
+use Rattle.tl_number.proofs.Texts.RecordTexts.{cmp-append, text_cmp}
+
+-- three lists, the first two of them as long as the lists that they are compared with
+three_lists : (a b c d e f : List Record) → length a ≡ length d → length b ≡ length e
+    → records_cmp (a ++ (b ++ c)) (d ++ (e ++ f)) ≡ ordering_then (records_cmp a d) (ordering_then (records_cmp b e) (records_cmp c f))
+three_lists a b c d e f first second = cmp-append spelling_cmp a d (b ++ c) (e ++ f) first
+    ∙ ap (ordering_then (records_cmp a d)) (cmp-append spelling_cmp b e c f second)
+
+three_lengths : (a b c d e f : List Record) → length a ≡ length d → length b ≡ length e → length c ≡ length f
+    → length (a ++ (b ++ c)) ≡ length (d ++ (e ++ f))
+three_lengths a b c d e f first second third = length-append a (b ++ c)
+    ∙ ap₂ (λ m n. m + n) first (length-append b c ∙ ap₂ (λ m n. m + n) second third ∙ sym (length-append e f))
+    ∙ sym (length-append d (e ++ f))
+
+-- lists of records of one type, under other names
+of_type : {X : Type 0} (record_of : X → Record) (xs ys : List X) (rs ss : List Record) → rs ≡ map record_of xs → ss ≡ map record_of ys
+    → length xs ≡ length ys → length rs ≡ length ss
+of_type record_of xs ys rs ss e f many = ap length e ∙ length-map xs record_of ∙ many ∙ sym (length-map ys record_of) ∙ sym (ap length f)
+
+module _ (a b : County) (many : HasAsMany (packed_by_type a) (packed_by_type b)) where
+  types_1_to_4_many : (length (map One (grouped (type_1_by_chain a))) ≡ length (map One (grouped (type_1_by_chain b))))
+      × ((length (map Two (grouped (type_2_by_chain a))) ≡ length (map Two (grouped (type_2_by_chain b))))
+      × (length (map Four (grouped (type_4_by_chain a))) ≡ length (map Four (grouped (type_4_by_chain b)))))
+  types_1_to_4_many = (
+    of_type One _ _ _ _ (ones a) (ones b) many.of_type_1,
+    (of_type Two _ _ _ _ (twos a) (twos b) many.of_type_2, of_type Four _ _ _ _ (fours a) (fours b) many.of_type_4),
+  )
+
+  types_5_to_7_many : (length (map Five (grouped (type_5_by_name a))) ≡ length (map Five (grouped (type_5_by_name b))))
+      × ((length (map Six (grouped (type_6_by_chain a))) ≡ length (map Six (grouped (type_6_by_chain b))))
+      × (length (map Seven (grouped (type_7_by_landmark a))) ≡ length (map Seven (grouped (type_7_by_landmark b)))))
+  types_5_to_7_many = (
+    of_type Five _ _ _ _ (fives a) (fives b) many.of_type_5,
+    (of_type Six _ _ _ _ (sixes a) (sixes b) many.of_type_6, of_type Seven _ _ _ _ (sevens a) (sevens b) many.of_type_7),
+  )
+
+  eights_many : length (map Eight (grouped (type_8_together a))) ≡ length (map Eight (grouped (type_8_together b)))
+  eights_many = of_type Eight _ _ _ _ (eights a) (eights b) many.of_type_8
+
+  is_many : length (map I (grouped (type_i_by_chain a))) ≡ length (map I (grouped (type_i_by_chain b)))
+  is_many = of_type I _ _ _ _ (is a) (is b) many.of_type_i
+
+  types_in_order : records_cmp (packed a) (packed b)
+      ≡ ordering_then (types_1_to_4_cmp a b) (ordering_then (types_5_to_7_cmp a b) (types_8_to_p_cmp a b))
+  types_in_order =
+      let m = types_1_to_4_many in
+      let n = types_5_to_7_many in
+      ap₂ records_cmp (sym (all_groups a)) (sym (all_groups b))
+      ∙ three_lists (types_1_to_4 a) (types_5_to_7 a) (types_8_to_p a) (types_1_to_4 b) (types_5_to_7 b) (types_8_to_p b)
+      (three_lengths _ _ _ _ _ _ m.0 m.1.0 m.1.1) (three_lengths _ _ _ _ _ _ n.0 n.1.0 n.1.1)
+      ∙ ap₂ ordering_then (three_lists _ _ _ _ _ _ m.0 m.1.0)
+      (ap₂ ordering_then (three_lists _ _ _ _ _ _ n.0 n.1.0) (three_lists _ _ _ _ _ _ eights_many is_many))
+
+-- The texts of counties that are the same map are in that order.
+pub texts_in_order : (a b : County) → IsCounty a → IsCounty b → IsWithinLimits most_records a → IsWithinLimits most_records b → AreSame a b
+    → slice_cmp nat_cmp (text_of (packed a)) (text_of (packed b))
+    ≡ ordering_then (types_1_to_4_cmp a b) (ordering_then (types_5_to_7_cmp a b) (types_8_to_p_cmp a b))
+texts_in_order a b is_a is_b within_a within_b same =
+    text_cmp (packed a) (packed b) (packed-fits a is_a.whole within_a.contents within_a.numbers within_a.room)
+    (packed-fits b is_b.whole within_b.contents within_b.numbers within_b.room)
+    ∙ types_in_order a b (carried_many same.by a b same.carries)
+
+-- So if their type 1 records are spelled alike and their type 2 records are the same, the records of the other types decide.
+pub tied_texts_in_order : (a b : County) → IsCounty a → IsCounty b → IsWithinLimits most_records a → IsWithinLimits most_records b → AreSame a b
+    → groups_cmp One (type_1_by_chain a) (type_1_by_chain b) ≡ Equal → type_2_by_chain a ≡ type_2_by_chain b
+    → slice_cmp nat_cmp (text_of (packed a)) (text_of (packed b))
+    ≡ ordering_then (groups_cmp Four (type_4_by_chain a) (type_4_by_chain b)) (ordering_then (types_5_to_7_cmp a b) (types_8_to_p_cmp a b))
+tied_texts_in_order a b is_a is_b within_a within_b same ones_tied twos_same =
+    let fours = groups_cmp Four (type_4_by_chain a) (type_4_by_chain b) in
+    let rest = ordering_then (types_5_to_7_cmp a b) (types_8_to_p_cmp a b) in
+    let twos_tied : groups_cmp Two (type_2_by_chain a) (type_2_by_chain b) ≡ Equal =
+    ap (λ groups. groups_cmp Two groups (type_2_by_chain b)) twos_same ∙ tied_itself records_total (map Two (grouped (type_2_by_chain b))) in
+    texts_in_order a b is_a is_b within_a within_b same
+    ∙ ap (λ o. ordering_then (ordering_then o (ordering_then (groups_cmp Two (type_2_by_chain a) (type_2_by_chain b)) fours)) rest) ones_tied
+    ∙ ap (λ o. ordering_then (ordering_then o fours) rest) twos_tied

@@ -1,0 +1,255 @@
+-- If a renaming carries one arranged county onto another, keeps each TLID and turns no chain, the landmarks and their links are
+-- equal: landmarks are in the order of their bodies and links.
+use Rattle.std.proofs.Common.{◌≡◌, ◌⊎◌, ◌<◌, ℕ, zero, suc, ◌==◌, List, [], ◌∷◌, map, filter, length, Bool, true, false, cond}
+use Rattle.std.proofs.Common.{◌&&◌, IsTrue, Ordering, Less, Equal, Greater, is_eq, is_gt, sym, refl, ap, ◌∙◌, subst, inl, inr}
+use Rattle.std.proofs.Common.{arith, nat_cmp, IsPermutation}
+use Rattle.std.proofs.lemmas.Bool.{false≢true, ltb-true, eqb-true, eq-eqb, ne_eqb, cases_eq}
+use Rattle.std.proofs.lemmas.Cmp.{tied_itself, nat_cmp_total}
+use Rattle.std.proofs.lemmas.List.{length-map}
+use Rattle.std.proofs.lemmas.List.Sums.{length-filter}
+use Rattle.std.proofs.lemmas.List.Sorted.{IsPermutation-map, sum_by-IsPermutation}
+use Rattle.std.specs.List.{AllByRecursion}
+use Rattle.std.specs.Ordering.{ordering_then}
+use Rattle.tl_layout.specs.Fields.{Fields8}
+use Rattle.tl_layout.specs.declared.type7.Body7.{Body7}
+use Rattle.tl_county.specs.BodyOrder.{LinkPart, link_part, link_part_cmp, link_cmp}
+use Rattle.tl_county.specs.County.{County, link_key}
+use Rattle.tl_county.specs.CountyRules.{IsAscending, IsClosed, lands, polygon_keys}
+use Rattle.tl_county.specs.Orders.{stands_in, times, IsInOrder}
+use Rattle.tl_county.specs.PolygonKeys.{PolygonKey, key_cmp}
+use Rattle.tl_county.specs.Renumbering.{Renumbering, Carries, image, carried_landmark, carried_link}
+use Rattle.tl_county.proofs.Lists.InOrder.{in_order-equal, in_order-permutation, in_order-map}
+use Rattle.tl_county.proofs.ByKey.KeyOrders.{landmark_body_keys, link_part_keys, link_keys, pair_keys, lists_keys}
+use Rattle.tl_county.proofs.ByKey.Keys.{IsKeyOrder, Known, IsApart, nat_keys, lefts, rights, apart-permutation, known-permutation}
+use Rattle.tl_county.proofs.ByKey.Keys.{image-injective, apart_from_sorted, known_all, differ}
+use Rattle.tl_county.proofs.Lists.Elements.{map-map, map_agree_all, all_weaker, all_map}
+use Rattle.tl_county.proofs.Sameness.Equivalence.{keys_known}
+use Rattle.tl_number.specs.Growth.{up_to}
+use Rattle.tl_number.specs.ArrangedCounty.{IsArranged}
+use Rattle.tl_number.specs.Uses.{links_of, LandmarkKey, landmark_key, landmark_key_cmp}
+use Rattle.tl_number.proofs.Lists.Counting.{entries_equal, map-equal_all, up_to-strict}
+
+pub landmark_key_keys : IsKeyOrder landmark_key_cmp
+landmark_key_keys = pair_keys (lists_keys landmark_body_keys) (lists_keys link_part_keys)
+
+-- a link with its LAND renamed
+abbrev pub relanded : (ℕ → ℕ) → Fields8 → Fields8
+relanded f link = record link { land = f link.land }
+
+-- a permutation doesn't change how many elements pass a test
+pub count-permutation : {X : Type 0} (p : X → Bool) (xs ys : List X) → IsPermutation xs ys → length (filter p xs) ≡ length (filter p ys)
+count-permutation p xs ys h = length-filter p xs ∙ sym (sum_by-IsPermutation (λ x. cond (p x) 1 0) xs ys h) ∙ sym (length-filter p ys)
+
+-- the links of one landmark with this content
+abbrev pub is_link : ℕ → LinkPart → Fields8 → Bool
+is_link land part link = (link.land == land) && is_eq (link_part_cmp part (link_part link))
+
+pub times-links : (links : List Fields8) (y : ℕ) (k : LinkPart)
+    → times link_part_cmp k (links_of links y) ≡ length (filter (is_link y k) links)
+times-links [] y k = refl
+times-links (x ∷ xs) y k = go (x.land == y) (is_eq (link_part_cmp k (link_part x))) (times-links xs y k)
+  where
+    go : (b c : Bool) → times link_part_cmp k (links_of xs y) ≡ length (filter (is_link y k) xs)
+        → length (filter (λ p. is_eq (link_part_cmp k p))
+        (map link_part (cond b (x ∷ filter (λ l. l.land == y) xs) (filter (λ l. l.land == y) xs)))) ≡ length
+        (cond (b && is_eq (link_part_cmp k (link_part x))) (x ∷ filter (is_link y k) xs) (filter (is_link y k) xs))
+    go true c ih = yes (is_eq (link_part_cmp k (link_part x))) ih
+      where
+        yes : (d : Bool) → times link_part_cmp k (links_of xs y) ≡ length (filter (is_link y k) xs)
+            → length (cond d (link_part x ∷ filter (λ p. is_eq (link_part_cmp k p)) (links_of xs y))
+            (filter (λ p. is_eq (link_part_cmp k p)) (links_of xs y))) ≡ length
+            (cond d (x ∷ filter (is_link y k) xs) (filter (is_link y k) xs))
+        yes true ih = ap suc ih
+        yes false ih = ih
+    go false c ih = ih
+
+-- the links of one landmark are in order
+pub links_of-in_order : (links : List Fields8) → IsInOrder link_cmp links → (y : ℕ) → IsInOrder link_part_cmp (links_of links y)
+links_of-in_order [] h y = tt
+links_of-in_order (x ∷ xs) h y = go (x.land == y) refl (links_of-in_order xs h.1 y)
+  where
+    below : (o : Ordering) (z : Fields8) → o ≡ Equal → is_gt (ordering_then o (link_part_cmp (link_part x) (link_part z))) ≡ false
+        → is_gt (link_part_cmp (link_part x) (link_part z)) ≡ false
+    below o z e f = sym (ap (λ q. is_gt (ordering_then q (link_part_cmp (link_part x) (link_part z)))) e) ∙ f
+
+    each : x.land ≡ y → (zs : List Fields8) → AllByRecursion (λ z. is_gt (link_cmp x z) ≡ false) zs
+        → AllByRecursion (λ p. is_gt (link_part_cmp (link_part x) p) ≡ false) (links_of zs y)
+    each e [] a = tt
+    each e (z ∷ zs) a = at (z.land == y) refl (each e zs a.1)
+      where
+        at : (b : Bool) → (z.land == y) ≡ b → AllByRecursion (λ p. is_gt (link_part_cmp (link_part x) p) ≡ false) (links_of zs y)
+            → AllByRecursion (λ p. is_gt (link_part_cmp (link_part x) p) ≡ false)
+            (map link_part (cond b (z ∷ filter (λ l. l.land == y) zs) (filter (λ l. l.land == y) zs)))
+        at true f ih = (
+          below (nat_cmp x.land z.land) z (ap (nat_cmp x.land) (eqb-true z.land y f ∙ sym e)
+              ∙ tied_itself nat_cmp_total x.land) a.0,
+          ih,
+        )
+        at false f ih = ih
+
+    go : (b : Bool) → (x.land == y) ≡ b → IsInOrder link_part_cmp (links_of xs y)
+        → IsInOrder link_part_cmp (map link_part (cond b (x ∷ filter (λ l. l.land == y) xs) (filter (λ l. l.land == y) xs)))
+    go true e ih = (each (eqb-true x.land y e) xs h.0, ih)
+    go false e ih = ih
+
+-- links that each have one LAND, counted by landmark
+times-land : (links : List Fields8) (k : Fields8) → times link_cmp k links ≡ length (filter (is_link k.land (link_part k)) links)
+times-land [] k = refl
+times-land (x ∷ xs) k = go (cases_eq x.land k.land) (times-land xs k)
+  where
+    step : (b c : Bool) → b ≡ c → times link_cmp k xs ≡ length (filter (is_link k.land (link_part k)) xs)
+        → length (cond b (x ∷ filter (λ l. is_eq (link_cmp k l)) xs) (filter (λ l. is_eq (link_cmp k l)) xs)) ≡ length
+        (cond c (x ∷ filter (is_link k.land (link_part k)) xs) (filter (is_link k.land (link_part k)) xs))
+    step true true e ih = ap suc ih
+    step true false e ih = cc
+    step false true e ih = cc
+    step false false e ih = ih
+
+    other : (o : Ordering) → is_eq o ≡ false → is_eq (ordering_then o (link_part_cmp (link_part k) (link_part x))) ≡ false
+    other Less e = refl
+    other Equal e = absurd (false≢true (sym e))
+    other Greater e = refl
+
+    go : (x.land ≡ k.land) ⊎ (x.land ≡ k.land → ⊥) → times link_cmp k xs ≡ length (filter (is_link k.land (link_part k)) xs)
+        → times link_cmp k (x ∷ xs) ≡ length (filter (is_link k.land (link_part k)) (x ∷ xs))
+    go (inl e) ih = step (is_eq (link_cmp k x)) (is_link k.land (link_part k) x)
+        (ap (λ o. is_eq (ordering_then o (link_part_cmp (link_part k) (link_part x)))) (ap (nat_cmp k.land) e
+        ∙ tied_itself nat_cmp_total k.land)
+        ∙ ap (λ b. b && is_eq (link_part_cmp (link_part k) (link_part x))) (sym (eq-eqb x.land k.land e))) ih
+    go (inr ne) ih = step (is_eq (link_cmp k x)) (is_link k.land (link_part k) x)
+        (other (nat_cmp k.land x.land) (differ nat_keys k.land x.land (λ e. ne (sym e)))
+        ∙ ap (λ b. b && is_eq (link_part_cmp (link_part k) (link_part x))) (sym (ne_eqb x.land k.land ne))) ih
+
+-- if renaming keeps LANDs distinct, a renamed landmark has the same links as before
+pub count-relanded : (f : ℕ → ℕ) (Dom : ℕ → Type 0) → ((n m : ℕ) → Dom n → Dom m → f n ≡ f m → n ≡ m) → (links : List Fields8)
+    → AllByRecursion (λ l. Dom l.land) links → (y : ℕ) → Dom y → (k : LinkPart)
+    → length (filter (is_link (f y) k) (map (relanded f) links)) ≡ length (filter (is_link y k) links)
+count-relanded f Dom inj [] a y d k = refl
+count-relanded f Dom inj (x ∷ xs) a y d k = go (cases_eq x.land y) (count-relanded f Dom inj xs a.1 y d k)
+  where
+    step : (b c : Bool) → b ≡ c → length (filter (is_link (f y) k) (map (relanded f) xs)) ≡ length (filter (is_link y k) xs)
+        → length (cond (b && is_eq (link_part_cmp k (link_part x))) (relanded f x ∷ filter (is_link (f y) k) (map (relanded f) xs))
+        (filter (is_link (f y) k) (map (relanded f) xs))) ≡ length
+        (cond (c && is_eq (link_part_cmp k (link_part x))) (x ∷ filter (is_link y k) xs) (filter (is_link y k) xs))
+    step true true e ih = yes (is_eq (link_part_cmp k (link_part x))) ih
+      where
+        yes : (v : Bool) → length (filter (is_link (f y) k) (map (relanded f) xs)) ≡ length (filter (is_link y k) xs)
+            → length (cond v (relanded f x ∷ filter (is_link (f y) k) (map (relanded f) xs))
+            (filter (is_link (f y) k) (map (relanded f) xs))) ≡ length (cond v (x ∷ filter (is_link y k) xs) (filter (is_link y k) xs))
+        yes true ih = ap suc ih
+        yes false ih = ih
+    step true false e ih = cc
+    step false true e ih = cc
+    step false false e ih = ih
+
+    go : (x.land ≡ y) ⊎ (x.land ≡ y → ⊥) → length (filter (is_link (f y) k) (map (relanded f) xs)) ≡ length (filter (is_link y k) xs)
+        → length (filter (is_link (f y) k) (map (relanded f) (x ∷ xs))) ≡ length (filter (is_link y k) (x ∷ xs))
+    go (inl e) ih = step (f x.land == f y) (x.land == y) (eq-eqb (f x.land) (f y) (ap f e) ∙ sym (eq-eqb x.land y e)) ih
+    go (inr ne) ih = step (f x.land == f y) (x.land == y) (ne_eqb (f x.land) (f y) (λ e. ne (inj x.land y a.0 d e))
+        ∙ sym (ne_eqb x.land y ne)) ih
+
+-- a LAND without a landmark has no link
+no_links : (known : List ℕ) (links : List Fields8) → AllByRecursion (λ l. IsTrue (stands_in nat_cmp l.land known)) links → (y : ℕ)
+    → times nat_cmp y known ≡ 0 → (k : LinkPart) → length (filter (is_link y k) links) ≡ 0
+no_links known [] a y e k = refl
+no_links known (x ∷ xs) a y e k = go (cases_eq x.land y) (no_links known xs a.1 y e k)
+  where
+    go : (x.land ≡ y) ⊎ (x.land ≡ y → ⊥) → length (filter (is_link y k) xs) ≡ 0 → length (filter (is_link y k) (x ∷ xs)) ≡ 0
+    go (inl same) ih = absurd (let t : 0 < times nat_cmp x.land known = ltb-true 0 (times nat_cmp x.land known) a.0 in
+        let u : times nat_cmp x.land known ≡ 0 = subst (λ n. times nat_cmp n known ≡ 0) (sym same) e in omega (arith, t, u))
+    go (inr ne) ih = ap (λ b. length (cond (b && is_eq (link_part_cmp k (link_part x))) (x ∷ filter (is_link y k) xs)
+        (filter (is_link y k) xs))) (ne_eqb x.land y ne) ∙ ih
+
+module _ (r : Renumbering) (a b : County) (h : Carries r a b) (aa : IsAscending a) (ab : IsAscending b) (ca : IsClosed a) (cb : IsClosed b)
+    (ta : IsArranged a) (tb : IsArranged b)
+    (fixed : (k : PolygonKey) → Known key_cmp (polygon_keys a) k → image key_cmp r.polygons k ≡ k) where
+  f_land : ℕ → ℕ
+  f_land = image nat_cmp r.lands
+
+  land_injective : (n m : ℕ) → Known nat_cmp (lands a) n → Known nat_cmp (lands a) m → f_land n ≡ f_land m → n ≡ m
+  unfolding f_land
+  land_injective n m k l = image-injective nat_keys r.lands n m
+      (apart-permutation nat_keys (rights r.lands) (lands b) h.numbers.lands.right
+      (subst (IsApart nat_cmp) (sym tb.lands)
+      (apart_from_sorted nat_keys (up_to (length b.landmarks)) (up_to-strict (length b.landmarks)))))
+      (known-permutation nat_keys n (lefts r.lands) (lands a) h.numbers.lands.left k)
+      (known-permutation nat_keys m (lefts r.lands) (lands a) h.numbers.lands.left l)
+
+  links_carried : map (carried_link r) a.links ≡ map (relanded f_land) a.links
+  unfolding f_land
+  links_carried = map_agree_all (carried_link r) (relanded (image nat_cmp r.lands))
+      (λ l. IsTrue (stands_in key_cmp (link_key l) (polygon_keys a)))
+      (λ l t i. record {
+        file = l.file;
+        cenid =
+            (fixed (link_key l) (ltb-true 0 (times key_cmp (link_key l) (polygon_keys a)) t) i).0;
+        polyid =
+            (fixed (link_key l) (ltb-true 0 (times key_cmp (link_key l) (polygon_keys a)) t) i).1;
+        land = image nat_cmp r.lands l.land;
+      })
+      a.links ca.link_polygons
+
+  lands_known : AllByRecursion (λ l. Known nat_cmp (lands a) l.land) a.links
+  lands_known = all_weaker (λ l. IsTrue (stands_in nat_cmp l.land (lands a))) (λ l. Known nat_cmp (lands a) l.land)
+      (λ l t. ltb-true 0 (times nat_cmp l.land (lands a)) t) a.links ca.link_lands
+
+  links_kept : (y : ℕ) → Known nat_cmp (lands a) y → links_of b.links (f_land y) ≡ links_of a.links y
+  links_kept y d = in_order-equal link_part_keys (links_of b.links (f_land y)) (links_of a.links y)
+      (links_of-in_order b.links ab.links (f_land y)) (links_of-in_order a.links aa.links y)
+      (λ k. times-links b.links (f_land y) k
+      ∙ sym (count-permutation (is_link (f_land y) k) (map (carried_link r) a.links) b.links h.links)
+      ∙ ap (λ ls. length (filter (is_link (f_land y) k) ls)) links_carried
+      ∙ count-relanded f_land (Known nat_cmp (lands a)) land_injective a.links lands_known y d k
+      ∙ sym (times-links a.links y k))
+
+  keys_same : map (landmark_key a.links) a.landmarks ≡ map (landmark_key b.links) b.landmarks
+  unfolding f_land
+  keys_same =
+      let carried : map (landmark_key b.links) (map (carried_landmark r) a.landmarks) ≡ map (landmark_key a.links) a.landmarks =
+      map-map (landmark_key b.links) (carried_landmark r) a.landmarks
+      ∙ map_agree_all (λ d. landmark_key b.links (carried_landmark r d)) (landmark_key a.links) (λ d. Known nat_cmp (lands a) d.0)
+      (λ d k i. (d.1, links_kept d.0 k i)) a.landmarks (keys_known nat_keys a.landmarks) in
+      in_order-permutation landmark_key_keys (map (landmark_key a.links) a.landmarks) (map (landmark_key b.links) b.landmarks)
+      (in_order-map landmark_key_cmp (landmark_key a.links) a.landmarks ta.landmarks)
+      (in_order-map landmark_key_cmp (landmark_key b.links) b.landmarks tb.landmarks)
+      (subst (λ ks. IsPermutation ks (map (landmark_key b.links) b.landmarks)) carried
+      (IsPermutation-map (landmark_key b.links) (map (carried_landmark r) a.landmarks) b.landmarks h.landmarks))
+
+  pub landmarks_equal : a.landmarks ≡ b.landmarks
+  landmarks_equal =
+      let len : length a.landmarks ≡ length b.landmarks = sym (length-map a.landmarks (landmark_key a.links)) ∙ ap length keys_same
+      ∙ length-map b.landmarks (landmark_key b.links) in
+      let left : map (λ (d : ℕ × List Body7). d.0) a.landmarks ≡ map (λ (d : ℕ × List Body7). d.0) b.landmarks = ta.lands ∙ ap up_to len
+      ∙ sym tb.lands in
+      let right : map (λ (d : ℕ × List Body7). d.1) a.landmarks ≡ map (λ (d : ℕ × List Body7). d.1) b.landmarks =
+      sym (map-map (λ (k : LandmarkKey). k.0) (landmark_key a.links) a.landmarks)
+      ∙ ap (map (λ (k : LandmarkKey). k.0)) keys_same
+      ∙ map-map (λ (k : LandmarkKey). k.0) (landmark_key b.links) b.landmarks in
+      entries_equal a.landmarks b.landmarks left right
+
+  same_links : (y : ℕ) → Known nat_cmp (lands a) y → links_of a.links y ≡ links_of b.links y
+  same_links y k =
+      let keys : map (landmark_key a.links) a.landmarks ≡ map (landmark_key b.links) a.landmarks = keys_same
+      ∙ ap (map (landmark_key b.links)) (sym landmarks_equal) in
+      let each : AllByRecursion (λ d. landmark_key a.links d ≡ landmark_key b.links d) a.landmarks =
+      map-equal_all (landmark_key a.links) (landmark_key b.links) a.landmarks keys in
+      let all : AllByRecursion (λ n. links_of a.links n ≡ links_of b.links n) (lands a) =
+      all_map (λ n. links_of a.links n ≡ links_of b.links n) (λ (d : ℕ × List Body7). d.0) a.landmarks
+      (all_weaker (λ d. landmark_key a.links d ≡ landmark_key b.links d) (λ d. links_of a.links d.0 ≡ links_of b.links d.0)
+      (λ d same. ap (λ (key : LandmarkKey). key.1) same) a.landmarks each) in
+      known_all nat_keys (λ n. links_of a.links n ≡ links_of b.links n) (lands a) all y k
+
+  links_count : (k : Fields8) (n : ℕ) → times nat_cmp k.land (lands a) ≡ n
+      → length (filter (is_link k.land (link_part k)) a.links) ≡ length (filter (is_link k.land (link_part k)) b.links)
+  links_count k zero e =
+      no_links (lands a) a.links ca.link_lands k.land e (link_part k)
+      ∙ sym (no_links (lands b) b.links cb.link_lands k.land
+      (ap (λ ls. times nat_cmp k.land (map (λ (d : ℕ × List Body7). d.0) ls)) (sym landmarks_equal) ∙ e) (link_part k))
+  links_count k (suc n) e =
+      sym (times-links a.links k.land (link_part k))
+      ∙ ap (times link_part_cmp (link_part k)) (same_links k.land (omega (arith, e)))
+      ∙ times-links b.links k.land (link_part k)
+
+  pub links_equal : a.links ≡ b.links
+  links_equal = in_order-equal link_keys a.links b.links aa.links ab.links
+      (λ k. times-land a.links k ∙ links_count k (times nat_cmp k.land (lands a)) refl ∙ sym (times-land b.links k))

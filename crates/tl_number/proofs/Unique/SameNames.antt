@@ -1,0 +1,189 @@
+-- If a renaming carries one arranged county onto another, keeps each TLID and turns no chain, the names and the FEATs of chains are
+-- equal: names are in the order of content and uses, and their uses determine the chains' lists.
+use Rattle.std.proofs.Common.{◌≡◌, ◌⊎◌, ℕ, suc, ◌==◌, List, [], ◌∷◌, ◌++◌, map, filter, length, Bool, true, false, cond, IsTrue}
+use Rattle.std.proofs.Common.{sym, refl, ap, ap₂, ◌∙◌, subst, inl, inr, nat_cmp, IsPermutation}
+use Rattle.std.proofs.lemmas.Bool.{ltb-true, eq-eqb, ne_eqb, cases_eq}
+use Rattle.std.proofs.lemmas.List.{map-append, length-map}
+use Rattle.std.proofs.lemmas.List.Sorted.{IsPermutation-map}
+use Rattle.std.specs.List.{AllByRecursion}
+use Rattle.std.specs.List.Sorted.{IsStrictlySortedBy}
+use Rattle.tl_layout.specs.declared.type5.Body5.{Body5}
+use Rattle.tl_shape.specs.Chain.{Chain}
+use Rattle.tl_county.specs.County.{County}
+use Rattle.tl_county.specs.CountyRules.{IsClosed, feats, AllStandIn}
+use Rattle.tl_county.specs.Orders.{stands_in, times}
+use Rattle.tl_county.specs.Renumbering.{Renumbering, Carries, image, carried_name}
+use Rattle.tl_county.proofs.Rules.FirstFault.{Among}
+use Rattle.tl_county.proofs.Lists.InOrder.{in_order-permutation, in_order-map}
+use Rattle.tl_county.proofs.ByKey.KeyOrders.{name_body_keys, pair_keys, lists_keys}
+use Rattle.tl_county.proofs.ByKey.Keys.{IsKeyOrder, Known, IsApart, nat_keys, lefts, rights, apart-permutation, known-permutation}
+use Rattle.tl_county.proofs.ByKey.Keys.{image-injective, apart_from_sorted, known_all}
+use Rattle.tl_county.proofs.Lists.Elements.{map-map, map_agree_all, all_weaker, all_map, all_append, all_left, all_right}
+use Rattle.tl_county.proofs.Lists.Members.{among-unmap, one_entry}
+use Rattle.tl_county.proofs.Sameness.Equivalence.{keys_known}
+use Rattle.tl_number.specs.Growth.{up_to}
+use Rattle.tl_number.specs.ArrangedCounty.{IsArranged}
+use Rattle.tl_number.specs.Uses.{Use, use_cmp, uses_from, all_uses, uses_of_name, NameKey, name_key, name_key_cmp}
+use Rattle.tl_number.proofs.Lists.Counting.{entries_equal, map-equal_all, up_to-strict}
+use Rattle.tl_number.proofs.Unique.SameNumbers.{kept_entry, KeepsChains, all_themselves}
+use Rattle.tl_number.proofs.Names.UsesOrder.{use_keys, all_uses-strict, use_under, under_use}
+
+pub name_key_keys : IsKeyOrder name_key_cmp
+name_key_keys = pair_keys name_body_keys (lists_keys use_keys)
+
+-- a use with its FEAT renamed
+abbrev pub renamed_use : (ℕ → ℕ) → Use × ℕ → Use × ℕ
+renamed_use f u = (u.0, f u.1)
+
+uses_from-renamed : (f : ℕ → ℕ) (t i : ℕ) (fs : List ℕ) → uses_from t i (map f fs) ≡ map (renamed_use f) (uses_from t i fs)
+uses_from-renamed f t i [] = refl
+uses_from-renamed f t i (x ∷ fs) = ap (λ us. ((t, i), f x) ∷ us) (uses_from-renamed f t (suc i) fs)
+
+pub all_uses-kept : (r : Renumbering) (cs : List (ℕ × Chain))
+    → all_uses (map (kept_entry r) cs) ≡ map (renamed_use (image nat_cmp r.names)) (all_uses cs)
+all_uses-kept r [] = refl
+all_uses-kept r (c ∷ cs) = ap₂ (λ xs ys. xs ++ ys) (uses_from-renamed (image nat_cmp r.names) c.0 1 c.1.feats) (all_uses-kept r cs)
+    ∙ sym (map-append (renamed_use (image nat_cmp r.names)) (uses_from c.0 1 c.1.feats) (all_uses cs))
+
+-- a property of each FEAT of a chain is a property of each use, and conversely
+uses_from-all : (P : ℕ → Type 0) (t i : ℕ) (fs : List ℕ) → AllByRecursion P fs → AllByRecursion (λ u. P u.1) (uses_from t i fs)
+uses_from-all P t i [] a = tt
+uses_from-all P t i (x ∷ fs) a = (a.0, uses_from-all P t (suc i) fs a.1)
+
+from_uses : (P : ℕ → Type 0) (t i : ℕ) (fs : List ℕ) → AllByRecursion (λ u. P u.1) (uses_from t i fs) → AllByRecursion P fs
+from_uses P t i [] a = tt
+from_uses P t i (x ∷ fs) a = (a.0, from_uses P t (suc i) fs a.1)
+
+pub all_uses-all : (P : ℕ → Type 0) (cs : List (ℕ × Chain)) → AllByRecursion (λ c. AllByRecursion P c.1.feats) cs
+    → AllByRecursion (λ u. P u.1) (all_uses cs)
+all_uses-all P [] a = tt
+all_uses-all P (c ∷ cs) a =
+    all_append (λ u. P u.1) (uses_from c.0 1 c.1.feats) (all_uses cs) (uses_from-all P c.0 1 c.1.feats a.0) (all_uses-all P cs a.1)
+
+from_all_uses : (P : ℕ → Type 0) (cs : List (ℕ × Chain)) → AllByRecursion (λ u. P u.1) (all_uses cs)
+    → AllByRecursion (λ c. AllByRecursion P c.1.feats) cs
+from_all_uses P [] a = tt
+from_all_uses P (c ∷ cs) a = (
+  from_uses P c.0 1 c.1.feats (all_left (λ u. P u.1) (uses_from c.0 1 c.1.feats) (all_uses cs) a),
+  from_all_uses P cs (all_right (λ u. P u.1) (uses_from c.0 1 c.1.feats) (all_uses cs) a),
+)
+
+-- if renaming keeps FEATs distinct, a renamed name has the same uses as before
+pub uses_of-renamed : (f : ℕ → ℕ) (Dom : ℕ → Type 0) → ((n m : ℕ) → Dom n → Dom m → f n ≡ f m → n ≡ m) → (us : List (Use × ℕ))
+    → AllByRecursion (λ u. Dom u.1) us → (y : ℕ) → Dom y → uses_of_name (map (renamed_use f) us) (f y) ≡ uses_of_name us y
+uses_of-renamed f Dom inj [] a y d = refl
+uses_of-renamed f Dom inj (u ∷ us) a y d = go (cases_eq u.1 y) (uses_of-renamed f Dom inj us a.1 y d)
+  where
+    step : (b c : Bool) → b ≡ c → uses_of_name (map (renamed_use f) us) (f y) ≡ uses_of_name us y
+        → map (λ (v : Use × ℕ). v.0)
+        (cond b ((u.0, f u.1) ∷ filter (λ v. v.1 == f y) (map (renamed_use f) us)) (filter (λ v. v.1 == f y) (map (renamed_use f) us)))
+        ≡ map (λ (v : Use × ℕ). v.0) (cond c (u ∷ filter (λ v. v.1 == y) us) (filter (λ v. v.1 == y) us))
+    step true true e ih = ap (λ vs. u.0 ∷ vs) ih
+    step true false e ih = cc
+    step false true e ih = cc
+    step false false e ih = ih
+
+    go : (u.1 ≡ y) ⊎ (u.1 ≡ y → ⊥) → uses_of_name (map (renamed_use f) us) (f y) ≡ uses_of_name us y
+        → uses_of_name (map (renamed_use f) (u ∷ us)) (f y) ≡ uses_of_name (u ∷ us) y
+    go (inl e) ih = step (f u.1 == f y) (u.1 == y) (eq-eqb (f u.1) (f y) (ap f e) ∙ sym (eq-eqb u.1 y e)) ih
+    go (inr ne) ih = step (f u.1 == f y) (u.1 == y) (ne_eqb (f u.1) (f y) (λ e. ne (inj u.1 y a.0 d e)) ∙ sym (ne_eqb u.1 y ne)) ih
+
+module _ (r : Renumbering) (a b : County) (h : Carries r a b) (ca : IsClosed a) (ta : IsArranged a) (tb : IsArranged b)
+    (e : KeepsChains r a b) where
+  f_name : ℕ → ℕ
+  f_name = image nat_cmp r.names
+
+  name_injective : (n m : ℕ) → Known nat_cmp (feats a) n → Known nat_cmp (feats a) m → f_name n ≡ f_name m → n ≡ m
+  unfolding f_name
+  name_injective n m k l = image-injective nat_keys r.names n m
+      (apart-permutation nat_keys (rights r.names) (feats b) h.numbers.names.right
+      (subst (IsApart nat_cmp) (sym tb.feats) (apart_from_sorted nat_keys (up_to (length b.names)) (up_to-strict (length b.names)))))
+      (known-permutation nat_keys n (lefts r.names) (feats a) h.numbers.names.left k)
+      (known-permutation nat_keys m (lefts r.names) (feats a) h.numbers.names.left l)
+
+  uses_b : all_uses b.chains ≡ map (renamed_use f_name) (all_uses a.chains)
+  unfolding f_name
+  uses_b = ap all_uses e ∙ all_uses-kept r a.chains
+
+  uses_known : AllByRecursion (λ u. Known nat_cmp (feats a) u.1) (all_uses a.chains)
+  uses_known = all_uses-all (Known nat_cmp (feats a)) a.chains
+      (all_weaker (λ c. AllStandIn (feats a) c.1.feats) (λ c. AllByRecursion (Known nat_cmp (feats a)) c.1.feats)
+      (λ c g. all_weaker (λ n. IsTrue (stands_in nat_cmp n (feats a))) (Known nat_cmp (feats a))
+      (λ n t. ltb-true 0 (times nat_cmp n (feats a)) t) c.1.feats g)
+      a.chains ca.names)
+
+  uses_kept : (y : ℕ) → Known nat_cmp (feats a) y → uses_of_name (all_uses b.chains) (f_name y) ≡ uses_of_name (all_uses a.chains) y
+  uses_kept y d = ap (λ us. uses_of_name us (f_name y)) uses_b
+      ∙ uses_of-renamed f_name (Known nat_cmp (feats a)) name_injective (all_uses a.chains) uses_known y d
+
+  -- the keys of names, list by list
+  keys_a : List NameKey
+  keys_a = map (name_key (all_uses a.chains)) a.names
+
+  keys_b : List NameKey
+  keys_b = map (name_key (all_uses b.chains)) b.names
+
+  keys_same : keys_a ≡ keys_b
+  unfolding keys_a keys_b f_name
+  keys_same =
+      let carried : map (name_key (all_uses b.chains)) (map (carried_name r) a.names) ≡ map (name_key (all_uses a.chains)) a.names =
+      map-map (name_key (all_uses b.chains)) (carried_name r) a.names
+      ∙ map_agree_all (λ d. name_key (all_uses b.chains) (carried_name r d)) (name_key (all_uses a.chains))
+      (λ d. Known nat_cmp (feats a) d.0) (λ d k i. (d.1, uses_kept d.0 k i)) a.names (keys_known nat_keys a.names) in
+      in_order-permutation name_key_keys (map (name_key (all_uses a.chains)) a.names) (map (name_key (all_uses b.chains)) b.names)
+      (in_order-map name_key_cmp (name_key (all_uses a.chains)) a.names ta.names)
+      (in_order-map name_key_cmp (name_key (all_uses b.chains)) b.names tb.names)
+      (subst (λ ks. IsPermutation ks (map (name_key (all_uses b.chains)) b.names)) carried
+      (IsPermutation-map (name_key (all_uses b.chains)) (map (carried_name r) a.names) b.names h.names))
+
+  pub names_equal : a.names ≡ b.names
+  unfolding keys_a keys_b
+  names_equal =
+      let len : length a.names ≡ length b.names = sym (length-map a.names (name_key (all_uses a.chains))) ∙ ap length keys_same
+      ∙ length-map b.names (name_key (all_uses b.chains)) in
+      let left : map (λ (d : ℕ × Body5). d.0) a.names ≡ map (λ (d : ℕ × Body5). d.0) b.names = ta.feats ∙ ap up_to len ∙ sym tb.feats in
+      let right : map (λ (d : ℕ × Body5). d.1) a.names ≡ map (λ (d : ℕ × Body5). d.1) b.names =
+      sym (map-map (λ (k : NameKey). k.0) (name_key (all_uses a.chains)) a.names)
+      ∙ ap (map (λ (k : NameKey). k.0)) keys_same
+      ∙ map-map (λ (k : NameKey). k.0) (name_key (all_uses b.chains)) b.names in
+      entries_equal a.names b.names left right
+
+  -- each FEAT therefore has the same uses in both
+  same_uses : (y : ℕ) → Known nat_cmp (feats a) y → uses_of_name (all_uses a.chains) y ≡ uses_of_name (all_uses b.chains) y
+  unfolding keys_a keys_b
+  same_uses y k =
+      let keys : map (name_key (all_uses a.chains)) a.names ≡ map (name_key (all_uses b.chains)) a.names = keys_same
+      ∙ ap (map (name_key (all_uses b.chains))) (sym names_equal) in
+      let each : AllByRecursion (λ d. name_key (all_uses a.chains) d ≡ name_key (all_uses b.chains) d) a.names =
+      map-equal_all (name_key (all_uses a.chains)) (name_key (all_uses b.chains)) a.names keys in
+      let uses : AllByRecursion (λ n. uses_of_name (all_uses a.chains) n ≡ uses_of_name (all_uses b.chains) n) (feats a) =
+      all_map (λ n. uses_of_name (all_uses a.chains) n ≡ uses_of_name (all_uses b.chains) n) (λ (d : ℕ × Body5). d.0) a.names
+      (all_weaker (λ d. name_key (all_uses a.chains) d ≡ name_key (all_uses b.chains) d)
+      (λ d. uses_of_name (all_uses a.chains) d.0 ≡ uses_of_name (all_uses b.chains) d.0)
+      (λ d same. ap (λ (key : NameKey). key.1) same) a.names each) in
+      known_all nat_keys (λ n. uses_of_name (all_uses a.chains) n ≡ uses_of_name (all_uses b.chains) n) (feats a) uses y k
+
+  uses_apart : IsApart use_cmp (map (λ u. u.0) (all_uses a.chains))
+  uses_apart = apart_from_sorted use_keys (map (λ u. u.0) (all_uses a.chains))
+      (all_uses-strict a.chains (subst (IsStrictlySortedBy nat_cmp) (sym ta.tlids) (up_to-strict (length a.chains))))
+
+  use_fixed : (u : Use × ℕ) → Among u (all_uses a.chains) → Known nat_cmp (feats a) u.1 → f_name u.1 ≡ u.1
+  use_fixed u m k =
+      let there : Among u.0 (uses_of_name (all_uses b.chains) u.1) =
+      subst (Among u.0) (same_uses u.1 k) (use_under (all_uses a.chains) u.0 u.1 m) in
+      let entry : Among u (map (renamed_use f_name) (all_uses a.chains)) =
+      subst (Among u) uses_b (under_use (all_uses b.chains) u.0 u.1 there) in
+      let v = among-unmap (renamed_use f_name) u (all_uses a.chains) entry in
+      let same : u ≡ v.0 = one_entry use_keys (all_uses a.chains) uses_apart u v.0 m v.1 (ap (λ (w : Use × ℕ). w.0) v.2) in
+      ap (λ (w : Use × ℕ). f_name w.1) same ∙ ap (λ (w : Use × ℕ). w.1) (sym v.2)
+
+  fixed_all : (us : List (Use × ℕ)) → AllByRecursion (λ u. Among u (all_uses a.chains)) us
+      → AllByRecursion (λ u. Known nat_cmp (feats a) u.1) us → AllByRecursion (λ u. f_name u.1 ≡ u.1) us
+  fixed_all [] m k = tt
+  fixed_all (u ∷ us) m k = (use_fixed u m.0 k.0, fixed_all us m.1 k.1)
+
+  -- each FEAT of a chain is its own new number
+  pub feats_kept : AllByRecursion (λ c. AllByRecursion (λ y. image nat_cmp r.names y ≡ y) c.1.feats) a.chains
+  unfolding f_name
+  feats_kept = from_all_uses (λ y. image nat_cmp r.names y ≡ y) a.chains
+      (fixed_all (all_uses a.chains) (all_themselves (all_uses a.chains)) uses_known)

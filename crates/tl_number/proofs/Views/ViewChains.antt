@@ -1,0 +1,120 @@
+-- The chains of a county in an arrangement, read at the places of its steps.
+use Rattle.std.proofs.Common.{◌≡◌, ℕ, zero, suc, List, [], ◌∷◌, ◌++◌, map, flat_map, length, Option, Some, None, option_map}
+use Rattle.std.proofs.Common.{slice_get, sym, refl, ap, ◌∙◌, arith, nat_cmp}
+use Rattle.std.proofs.lemmas.List.{length-map}
+use Rattle.std.proofs.lemmas.Option.{slice_get-map}
+use Rattle.tl_shape.specs.Chain.{Chain}
+use Rattle.tl_shape.specs.Turned.{turned_if}
+use Rattle.tl_county.specs.ChartWords.{chain_at}
+use Rattle.tl_county.specs.County.{County}
+use Rattle.tl_county.specs.CountyRules.{IsCounty, tlids}
+use Rattle.tl_county.specs.Entries.{entry_values}
+use Rattle.tl_county.specs.Renumbering.{renumbered}
+use Rattle.tl_county.proofs.Lists.Counted.{rights-numbered_from}
+use Rattle.tl_county.proofs.ByKey.Keys.{IsApart, nat_keys, apart_from_sorted}
+use Rattle.tl_county.proofs.Lists.Elements.{map-map}
+use Rattle.tl_county.proofs.Lists.Permutations.{apart-permutation_of}
+use Rattle.tl_number.specs.Arrangement.{Arrangement, Arranges, arranged_tlids, entries_of, placed, renaming_of}
+use Rattle.tl_number.specs.Growth.{up_to}
+use Rattle.tl_number.specs.Steps.{AreSteps, arrangement_of, step_chain, tlid_at}
+use Rattle.tl_number.specs.ViewFacts.{AreWhole, stepped}
+use Rattle.tl_profile.specs.declared.directed_chain.DirectedChain.{DirectedChain}
+use Rattle.tl_number.proofs.Arrangements.Carrying.{chains_arranged, tlids_arranged}
+use Rattle.tl_number.proofs.Unique.SameNumbers.{kept_entry}
+use Rattle.tl_number.proofs.Views.StepChains.{one_here}
+
+-- a list read through a function of another list's elements
+pub read_there : {X Y : Type 0} (f : X → Option Y) (xs : List X) (ys : List Y) → map f xs ≡ map Some ys → (i : ℕ) (x : X)
+    → slice_get xs i ≡ Some x → (y : Y) × (slice_get ys i ≡ Some y) × (f x ≡ Some y)
+read_there f [] ys e i x h = cc
+read_there f (z ∷ zs) [] e i x h = cc
+read_there f (z ∷ zs) (y ∷ ys) e zero x h =
+    let first : f z ≡ Some y = cc in
+    let same : z ≡ x = cc in
+    (y, refl, ap f (sym same) ∙ first)
+read_there {X} {Y} f (z ∷ zs) (y ∷ ys) e (suc i) x h =
+    let rest : map f zs ≡ map Some ys = cc in
+    read_there f zs ys rest i x h
+
+pub read_nowhere : {X Y : Type 0} (f : X → Option Y) (xs : List X) (ys : List Y) → map f xs ≡ map Some ys → (i : ℕ)
+    → slice_get xs i ≡ None → slice_get ys i ≡ None
+read_nowhere f [] [] e i h = refl
+read_nowhere f [] (y ∷ ys) e i h = cc
+read_nowhere f (z ∷ zs) [] e i h = refl
+read_nowhere f (z ∷ zs) (y ∷ ys) e zero h = cc
+read_nowhere f (z ∷ zs) (y ∷ ys) e (suc i) h =
+    let rest : map f zs ≡ map Some ys = cc in
+    read_nowhere f zs ys rest i h
+
+pub read_length : {X Y : Type 0} (f : X → Option Y) (xs : List X) (ys : List Y) → map f xs ≡ map Some ys → length ys ≡ length xs
+read_length f xs ys e = sym (length-map ys Some) ∙ ap length (sym e) ∙ length-map xs f
+
+module _ (county : County) (steps : List DirectedChain) (is : IsCounty county) (whole : AreWhole county steps) where
+  abbrev order : Arrangement
+  order = arrangement_of county steps
+
+  pub arranges : Arranges order county
+  arranges =
+      let apart : IsApart nat_cmp (tlids county) = apart_from_sorted nat_keys (tlids county) is.ascending.chains in
+      apart-permutation_of nat_keys (arranged_tlids order) (tlids county)
+      (λ k. let once = whole.once k in let few = apart k in omega (arith, once, few)) apart
+      (λ k h. let once = whole.once k in omega (arith, once, h)) (λ k h. let once = whole.once k in omega (arith, once, h))
+
+  pub bodies_read : (ss : List DirectedChain) → AreSteps county ss
+      → map (step_chain county) ss ≡ map Some (flat_map (λ s. map (λ (entry : ℕ × Chain). turned_if s.1 entry.1)
+      (entries_of county.chains s.0)) (arrangement_of county ss))
+  bodies_read [] h = refl
+  bodies_read (s ∷ ss) h =
+      let here = one_here county is s.place h.0 in
+      let rest : List Chain = flat_map (λ t. map (λ (entry : ℕ × Chain). turned_if t.1 entry.1) (entries_of county.chains t.0))
+      (arrangement_of county ss) in
+      let chain : chain_at county s.place ≡ Some here.0.1 =
+      slice_get-map (λ (d : ℕ × Chain). d.1) county.chains s.place ∙ ap (option_map (λ (d : ℕ × Chain). d.1)) here.1 in
+      (λ i. option_map (turned_if s.turned) (chain i) ∷ bodies_read ss h.1 i)
+      ∙ sym (ap (λ es. map Some (map (λ (entry : ℕ × Chain). turned_if s.turned entry.1) es ++ rest)) here.2)
+
+  abbrev pub chains : List Chain
+  chains = flat_map (λ s. map (λ (entry : ℕ × Chain). turned_if s.1 entry.1) (entries_of county.chains s.0)) order
+
+  pub values : entry_values (stepped county steps).chains ≡ map (renumbered (renaming_of county order)) chains
+  values =
+      ap entry_values (chains_arranged county order is arranges)
+      ∙ map-map (λ (e : ℕ × Chain). e.1) (kept_entry (renaming_of county order)) (placed county order)
+      ∙ sym (map-map (renumbered (renaming_of county order)) (λ (e : ℕ × Chain). e.1) (placed county order))
+      ∙ ap (map (renumbered (renaming_of county order))) (rights-numbered_from 1 chains)
+
+  -- the chain at a place is the step's, with the new numbers
+  pub chain_there : (i : ℕ) (s : DirectedChain) → slice_get steps i ≡ Some s
+      → (c : Chain) × (step_chain county s ≡ Some c) × (chain_at (stepped county steps) i ≡ Some (renumbered (renaming_of county order) c))
+  chain_there i s h =
+      let c = read_there (step_chain county) steps chains (bodies_read steps whole.there) i s h in (
+        c.0,
+        c.2,
+        ap (λ cs. slice_get cs i) values ∙ slice_get-map (renumbered (renaming_of county order)) chains i
+            ∙ ap (option_map (renumbered (renaming_of county order))) c.1,
+      )
+
+  pub chain_missing : (i : ℕ) → slice_get steps i ≡ None → chain_at (stepped county steps) i ≡ None
+  chain_missing i h =
+      ap (λ cs. slice_get cs i) values ∙ slice_get-map (renumbered (renaming_of county order)) chains i
+      ∙ ap (option_map (renumbered (renaming_of county order))) (read_nowhere (step_chain county) steps chains
+      (bodies_read steps whole.there) i h)
+
+  pub tlids_stepped : tlids (stepped county steps) ≡ up_to (length steps)
+  tlids_stepped = tlids_arranged county order is arranges
+      ∙ ap up_to (length-map order (λ (s : ℕ × _). s.0) ∙ length-map steps (λ s. (tlid_at county s.place, s.turned)))
+
+  pub chains_stepped : length (stepped county steps).chains ≡ length steps
+  chains_stepped =
+      sym (length-map (stepped county steps).chains (λ (e : ℕ × Chain). e.1)) ∙ ap length values
+      ∙ length-map chains (renumbered (renaming_of county order))
+      ∙ read_length (step_chain county) steps chains (bodies_read steps whole.there)
+
+  -- a value read from a step's chain, with the new numbers filled in, is the value read from the chain at the place
+  pub told : {Y : Type 0} (F G : Option Chain → Y)
+      → ((c : Chain) → G (Some c) ≡ F (Some (renumbered (renaming_of county order) c)))
+      → (i : ℕ) (s : DirectedChain) → Some s ≡ slice_get steps i → G (step_chain county s) ≡ F (chain_at (stepped county steps) i)
+  told F G h i s e = let t = chain_there i s (sym e) in ap G t.1 ∙ h t.0 ∙ sym (ap F t.2)
+
+  pub untold : {Y : Type 0} (F : Option Chain → Y) (i : ℕ) → None ≡ slice_get steps i → F None ≡ F (chain_at (stepped county steps) i)
+  untold F i e = sym (ap F (chain_missing i (sym e)))

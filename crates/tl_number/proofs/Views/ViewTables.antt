@@ -1,0 +1,181 @@
+-- Nodes, names, polygons and landmarks of a county in an arrangement, read from its tables.
+use Rattle.std.proofs.Common.{◌≡◌, ℕ, suc, List, [], ◌∷◌, map, length, Option, Some, None, option_map, Less, Equal}
+use Rattle.std.proofs.Common.{Greater, is_gt, false, ◌+◌, ◌-◌, ap₂}
+use Rattle.std.proofs.Common.{Ordering, slice_get, unwrap_or, sym, refl, ap, ◌∙◌, subst, arith, nat_cmp, IsPermutation}
+use Rattle.std.proofs.lemmas.List.{length-map}
+use Rattle.std.proofs.lemmas.List.FromFn.{length-map-range_with_len}
+use Rattle.std.proofs.lemmas.Option.{slice_get-map}
+use Rattle.std.specs.List.Sorted.{IsStrictlySortedBy}
+use Rattle.std.specs.Ordering.{on, ordering_then}
+use Rattle.tl_layout.specs.Fields.{Fields8}
+use Rattle.tl_layout.specs.declared.type5.Body5.{Body5}
+use Rattle.tl_layout.specs.declared.type7.Body7.{Body7}
+use Rattle.tl_county.specs.BodyOrder.{link_cmp, link_part, link_part_cmp}
+use Rattle.tl_county.specs.ChartWords.{links_with, links_at}
+use Rattle.tl_county.specs.County.{County, eight_land}
+use Rattle.tl_county.specs.CountyRules.{IsCounty, feats, lands, nodes, nodes_along}
+use Rattle.tl_county.specs.Entries.{entry_values}
+use Rattle.tl_county.specs.Orders.{IsInOrder}
+use Rattle.tl_county.specs.PolygonKeys.{PolygonKey}
+use Rattle.tl_county.specs.Renumbering.{carried_name, carried_landmark}
+use Rattle.tl_county.proofs.Lists.InOrder.{in_order-permutation}
+use Rattle.tl_county.proofs.ByKey.Keys.{nat_keys}
+use Rattle.tl_county.proofs.Lists.Elements.{map-map, all_weaker}
+use Rattle.tl_county.proofs.ByKey.Numbers.{distinct-in_order}
+use Rattle.tl_number.specs.Arrangement.{Arrangement, nodes_in_order, polygons_in_order, names_in_order, landmarks_in_order}
+use Rattle.tl_number.specs.Arrangement.{renaming_of, under_cenid}
+use Rattle.tl_number.specs.Growth.{numbered, up_to}
+use Rattle.tl_number.specs.Steps.{arrangement_of}
+use Rattle.tl_number.specs.ViewFacts.{AreWhole, AreReadAt, TellsNames, TellsLandmarks, stepped, links_up_to, link_bounds}
+use Rattle.tl_profile.specs.declared.directed_chain.DirectedChain.{DirectedChain}
+use Rattle.tl_number.specs.declared.arranged_tables.LandmarkTables.{LandmarkTables}
+use Rattle.tl_number.specs.declared.arranged_tables.NameTables.{NameTables}
+use Rattle.tl_number.proofs.Arrangements.Carrying.{names_arranged, landmarks_arranged, feats_arranged, lands_arranged, paired_nodes, node_rights}
+use Rattle.tl_number.proofs.Arrangements.Carrying.{nodes_renamed, names_renamed, polygons_renamed}
+use Rattle.tl_number.proofs.Lists.Counting.{up_to-strict}
+use Rattle.tl_number.proofs.Views.ViewChains.{arranges, read_there, read_nowhere, read_length}
+
+-- a strictly ascending list is in order
+pub order_from_strict : {K : Type 0} (cmp : K → K → Ordering) (ks : List K) → IsStrictlySortedBy cmp ks → IsInOrder cmp ks
+unfolding IsStrictlySortedBy
+order_from_strict cmp [] h = tt
+order_from_strict cmp (k ∷ ks) h =
+    (all_weaker (λ j. cmp k j ≡ Less) (λ j. is_gt (cmp k j) ≡ false) (λ j e. ap is_gt e) ks h.0, order_from_strict cmp ks h.1)
+
+-- links in order are in the order of their LANDs
+pub by_land : (links : List Fields8) → IsInOrder link_cmp links → IsInOrder (on eight_land nat_cmp) links
+by_land [] h = tt
+by_land (l ∷ ls) h = (
+  all_weaker (λ m. is_gt (link_cmp l m) ≡ false) (λ m. is_gt (nat_cmp l.land m.land) ≡ false) (λ m e. first m (nat_cmp l.land m.land) e)
+      ls h.0,
+  by_land ls h.1,
+)
+  where
+    first : (m : Fields8) (o : Ordering) → is_gt (ordering_then o (link_part_cmp (link_part l) (link_part m))) ≡ false → is_gt o ≡ false
+    first m Less e = refl
+    first m Equal e = refl
+    first m Greater e = e
+
+-- an element read at its old place
+pub read_at : {X : Type 0} (xs ys : List X) (places : List ℕ) → AreReadAt xs places ys → (i p : ℕ) → Some p ≡ slice_get places i
+    → slice_get xs p ≡ slice_get ys i
+read_at xs ys places e i p h = let y = read_there (slice_get xs) places ys e i p (sym h) in y.2 ∙ sym y.1
+
+pub read_past : {X : Type 0} (xs ys : List X) (places : List ℕ) → AreReadAt xs places ys → (i : ℕ) → None ≡ slice_get places i
+    → None ≡ slice_get ys i
+read_past xs ys places e i h = sym (read_nowhere (slice_get xs) places ys e i (sym h))
+
+-- the value of an entry read at its old place
+pub value_at : {V : Type 0} (xs ys : List (ℕ × V)) (places : List ℕ) → AreReadAt xs places ys → (i p : ℕ) → Some p ≡ slice_get places i
+    → slice_get (entry_values xs) p ≡ slice_get (entry_values ys) i
+value_at {V} xs ys places e i p h =
+    slice_get-map (λ (d : ℕ × V). d.1) xs p ∙ ap (option_map (λ (d : ℕ × V). d.1)) (read_at xs ys places e i p h)
+    ∙ sym (slice_get-map (λ (d : ℕ × V). d.1) ys i)
+
+pub value_past : {V : Type 0} (xs ys : List (ℕ × V)) (places : List ℕ) → AreReadAt xs places ys → (i : ℕ) → None ≡ slice_get places i
+    → None ≡ slice_get (entry_values ys) i
+value_past {V} xs ys places e i h =
+    ap (option_map (λ (d : ℕ × V). d.1)) (read_past xs ys places e i h) ∙ sym (slice_get-map (λ (d : ℕ × V). d.1) ys i)
+
+module _ (county : County) (steps : List DirectedChain) (is : IsCounty county) (whole : AreWhole county steps) where
+  abbrev order : Arrangement
+  order = arrangement_of county steps
+
+  pub nodes_stepped : (ns : List ℕ) → ns ≡ nodes_in_order county order → nodes (stepped county steps) ≡ up_to (length ns)
+  nodes_stepped ns e =
+      let n : ℕ = length (nodes_in_order county order) in
+      let permuted : IsPermutation (up_to n) (nodes (stepped county steps)) =
+      subst (λ ks. IsPermutation ks (nodes (stepped county steps)))
+      (node_rights county order is (arranges county steps is whole)) (paired_nodes county order is
+      (arranges county steps is whole)).right in
+      sym (in_order-permutation nat_keys (up_to n) (nodes (stepped county steps)) (order_from_strict nat_cmp (up_to n) (up_to-strict n))
+      (distinct-in_order nat_keys (nodes_along (stepped county steps).chains)) permuted) ∙ ap (λ ks. up_to (length ks)) (sym e)
+
+  -- the tables have the renaming's pairs of numbers
+  pub nodes_paired : (ns : List ℕ) → ns ≡ nodes_in_order county order → numbered ns ≡ (renaming_of county order).nodes
+  nodes_paired ns e = ap numbered e ∙ sym (nodes_renamed county order is (arranges county steps is whole))
+
+  pub keys_paired : (ks : List PolygonKey) → ks ≡ polygons_in_order county order
+      → map under_cenid (numbered ks) ≡ (renaming_of county order).polygons
+  keys_paired ks e = ap (λ js. map under_cenid (numbered js)) e ∙ sym (polygons_renamed county order is (arranges county steps is whole))
+
+  module _ (tables : NameTables) (told : TellsNames county steps tables) where
+    pub feats_paired : numbered tables.feats ≡ (renaming_of county order).names
+    feats_paired = ap numbered told.feats ∙ sym (names_renamed county order is (arranges county steps is whole))
+
+    name_values : entry_values (stepped county steps).names ≡ entry_values (names_in_order county order)
+    name_values = ap entry_values (names_arranged county order is (arranges county steps is whole))
+        ∙ map-map (λ (d : ℕ × Body5). d.1) (carried_name (renaming_of county order)) (names_in_order county order)
+
+    count : length tables.feats ≡ length (names_in_order county order)
+    count = ap length told.feats ∙ length-map (names_in_order county order) (λ (d : ℕ × Body5). d.0)
+
+    pub feats_stepped : feats (stepped county steps) ≡ up_to (length tables.feats)
+    feats_stepped = feats_arranged county order is (arranges county steps is whole) ∙ ap up_to (sym count)
+
+    pub names_stepped : length (stepped county steps).names ≡ length tables.feats
+    names_stepped = ap length (names_arranged county order is (arranges county steps is whole))
+        ∙ length-map (names_in_order county order) (carried_name (renaming_of county order)) ∙ sym count
+
+    pub name_there : (i p : ℕ) → Some p ≡ slice_get tables.places.items i
+        → slice_get (entry_values county.names) p ≡ slice_get (entry_values (stepped county steps).names) i
+    name_there i p h = value_at county.names (names_in_order county order) tables.places.items told.names i p h
+        ∙ ap (λ vs. slice_get vs i) (sym name_values)
+
+    pub name_missing : (i : ℕ) → None ≡ slice_get tables.places.items i → None ≡ slice_get (entry_values (stepped county steps).names) i
+    name_missing i h = value_past county.names (names_in_order county order) tables.places.items told.names i h
+        ∙ ap (λ vs. slice_get vs i) (sym name_values)
+
+  module _ (tables : LandmarkTables) (told : TellsLandmarks county steps tables) where
+    landmark_values : entry_values (stepped county steps).landmarks ≡ entry_values (landmarks_in_order county order)
+    landmark_values = ap entry_values (landmarks_arranged county order is (arranges county steps is whole))
+        ∙ map-map (λ (d : ℕ × List Body7). d.1) (carried_landmark (renaming_of county order)) (landmarks_in_order county order)
+
+    lands_count : length tables.places.items ≡ length (landmarks_in_order county order)
+    lands_count = sym (read_length (slice_get county.landmarks) tables.places.items (landmarks_in_order county order) told.landmarks)
+
+    pub lands_stepped : lands (stepped county steps) ≡ up_to (length tables.places.items)
+    lands_stepped = lands_arranged county order is (arranges county steps is whole) ∙ ap up_to (sym lands_count)
+
+    pub landmarks_stepped : length (stepped county steps).landmarks ≡ length tables.places.items
+    landmarks_stepped = ap length (landmarks_arranged county order is (arranges county steps is whole))
+        ∙ length-map (landmarks_in_order county order) (carried_landmark (renaming_of county order)) ∙ sym lands_count
+
+    pub landmark_there : (i p : ℕ) → Some p ≡ slice_get tables.places.items i
+        → unwrap_or (slice_get (entry_values county.landmarks) p) [] ≡ unwrap_or (slice_get (entry_values
+        (stepped county steps).landmarks) i) []
+    landmark_there i p h = ap (λ (o : Option (List Body7)). unwrap_or o [])
+        (value_at county.landmarks (landmarks_in_order county order) tables.places.items told.landmarks i p h
+        ∙ ap (λ vs. slice_get vs i) (sym landmark_values))
+
+    pub landmark_missing : (i : ℕ) → None ≡ slice_get tables.places.items i
+        → [] ≡ unwrap_or (slice_get (entry_values (stepped county steps).landmarks) i) []
+    landmark_missing i h = ap (λ (o : Option (List Body7)). unwrap_or o [])
+        (value_past county.landmarks (landmarks_in_order county order) tables.places.items told.landmarks i h
+        ∙ ap (λ vs. slice_get vs i) (sym landmark_values))
+
+    -- the links are between their bounds
+    pub bounds_counted : length tables.bounds.items ≡ suc (length tables.places.items)
+    bounds_counted = ap length told.bounds
+        ∙ length-map-range_with_len (links_up_to (stepped county steps).links) 0 (length tables.places.items + 1)
+        ∙ (let t : length tables.places.items + 1 ≡ suc (length tables.places.items) = omega arith in t)
+
+    fewer : length tables.bounds.items - 1 ≡ length tables.places.items
+    fewer = omega (arith, bounds_counted)
+
+    pub bounds_told : (links : List Fields8) (bounds : List ℕ) → links ≡ tables.links.items → bounds ≡ tables.bounds.items
+        → bounds ≡ link_bounds links (length bounds - 1)
+    bounds_told links bounds e f =
+        f ∙ told.bounds
+        ∙ ap₂ (λ ls n. link_bounds ls n) (sym (e ∙ told.links)) (sym (ap (λ bs. length bs - 1) f ∙ fewer))
+
+    pub links_told : (links : List Fields8) (bounds : List ℕ) → links ≡ tables.links.items → bounds ≡ tables.bounds.items → (i : ℕ)
+        → links_with links (slice_get (up_to (length bounds - 1)) i) ≡ links_at (stepped county steps) i
+    links_told links bounds e f i =
+        ap₂ (λ ls n. links_with ls (slice_get (up_to n) i)) (e ∙ told.links) (ap (λ bs. length bs - 1) f ∙ fewer)
+        ∙ ap (λ ls. links_with (stepped county steps).links (slice_get ls i)) (sym lands_stepped)
+
+    pub links_ordered : (links : List Fields8) → links ≡ tables.links.items → IsInOrder (on eight_land nat_cmp) links
+    links_ordered links e =
+        subst (IsInOrder (on eight_land nat_cmp)) (sym (e ∙ told.links)) (by_land
+        (stepped county steps).links whole.is_county.ascending.links)

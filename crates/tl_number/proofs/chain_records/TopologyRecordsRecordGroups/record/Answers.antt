@@ -1,0 +1,48 @@
+use Rattle.std.proofs.Common.{◌≡◌, ◌∙◌, ◌∷◌, [], Some, option_map, sym, ap, subst}
+use Rattle.tl_layout.specs.Numbers.{IsNumber, IsNumberOrNone}
+use Rattle.tl_county.specs.Packing.{packed_i}
+use Rattle.tl_number.proofs.Records.ChainPlaces.{chain_of_group}
+use Rattle.tl_number.proofs.Records.Grouped.{some-same}
+use Rattle.tl_number.proofs.Records.RecordPlaces.{tlid_of, part_of, lone_of}
+use Rattle.tl_number.proofs.chain_records.TopologyRecordsRecordGroups.record.Goals as goal
+
+pub new-requires-clause-tlid : goal.new-requires-clause-tlid
+new-requires-clause-tlid g c =
+    let chart = c.args.self.now.chart.now in
+    let there = chain_of_group (λ entry. packed_i entry ∷ []) (g.C.Chart.county chart) (g.met.C.Chart.is_county chart)
+    (g.met.C.Chart.within_limits chart) c.args.group c.requires.group in
+    subst (IsNumber 10) (sym (tlid_of there c.tlid_there.result c.tlid_there.ensures)) there.is_number
+
+pub new-requires-clause-nodes : goal.new-requires-clause-nodes
+new-requires-clause-nodes g c =
+    let chart = c.args.self.now.chart.now in
+    let there = chain_of_group (λ entry. packed_i entry ∷ []) (g.C.Chart.county chart) (g.met.C.Chart.is_county chart)
+    (g.met.C.Chart.within_limits chart) c.args.group c.requires.group in
+    let start_is = part_of (λ chain. chain.start_node) there c.start_node_there.result c.start_node_there.ensures in
+    let end_is = part_of (λ chain. chain.end_node) there c.end_node_there.result c.end_node_there.ensures in (
+      subst (IsNumberOrNone 10) (sym start_is) there.named.start_node,
+      subst (IsNumberOrNone 10) (sym end_is) there.named.end_node,
+    )
+
+pub returns : goal.returns
+returns g c =
+    let chart = c.args.self.now.chart.now in
+    let there = chain_of_group (λ entry. packed_i entry ∷ []) (g.C.Chart.county chart) (g.met.C.Chart.is_county chart)
+    (g.met.C.Chart.within_limits chart) c.args.group c.requires.group in
+    let tlid_is = tlid_of there c.tlid_there.result c.tlid_there.ensures in
+    let body_is : c.unwrap.result ≡ there.entry.1.topology =
+    some-same c.args.head c.unwrap.result there.entry.1.topology (sym c.unwrap.ensures)
+    (c.requires.head ∙ ap (option_map (λ chain. chain.topology)) there.chain) in
+    let start_is = part_of (λ chain. chain.start_node) there c.start_node_there.result c.start_node_there.ensures in
+    let end_is = part_of (λ chain. chain.end_node) there c.end_node_there.result c.end_node_there.ensures in
+    let left_is = part_of (λ chain. chain.left) there c.left_there.result c.left_there.ensures in
+    let right_is = part_of (λ chain. chain.right) there c.right_there.result c.right_there.ensures in
+    ap Some (c.new.ensures ∙ (λ i. record {
+      tlid = tlid_is i;
+      body = body_is i;
+      start_node = start_is i;
+      end_node = end_is i;
+      left = left_is i;
+      right = right_is i;
+    }))
+    ∙ sym (lone_of packed_i there c.args._place c.requires.place)

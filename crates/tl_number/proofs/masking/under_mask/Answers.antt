@@ -1,0 +1,17 @@
+use Rattle.std.proofs.Common.{sym, subst}
+use Rattle.tl_county.specs.County.{County}
+use Rattle.tl_profile.specs.Profile.{IsInProfile}
+use Rattle.tl_profile.specs.ShapeOrder.{IsShapeOrder}
+use Rattle.tl_number.proofs.Masks.MaskedProfile.{masked_in_profile, masked_shape_order}
+use Rattle.tl_number.proofs.masking.under_mask.Goals as goal
+
+pub known-requires-clause-profile : goal.known-requires-clause-profile
+known-requires-clause-profile g c =
+    subst IsInProfile (sym c.in_ok-shown.ensures.county)
+    (masked_in_profile c.args.mask (g.C.Chart.county c.into_parts-chart.result.0) c.into_parts-chart.ensures.in_profile)
+
+pub known-requires-clause-shapes : goal.known-requires-clause-shapes
+known-requires-clause-shapes g c =
+    subst (λ (county : County). IsShapeOrder county c.into_parts-chart.result.1) (sym c.in_ok-shown.ensures.county)
+    (masked_shape_order c.args.mask (g.C.Chart.county c.into_parts-chart.result.0) c.into_parts-chart.result.1
+    c.into_parts-chart.ensures.shapes)
