@@ -1,7 +1,7 @@
 # Completion of tigercanon's words in bash, 4.0 or later. To have it, source this file, or put it under the name tigercanon
 # into ~/.local/share/bash-completion/completions.
 
-# The sets that a word may begin: by --stem what the names of a county's files begin with, else files.
+# The sets that a word may begin: with --stem the beginnings of counties' file names, otherwise files.
 _tigercanon_sets() {
     local word="$1" is_stem="$2"
     compopt -o filenames

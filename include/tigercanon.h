@@ -1,20 +1,23 @@
 /* The calls of tigercanon for C and C++.
  *
  * A set is an array of parts, each an address and a length: a county's files, in any order, or one part with all of its records. Each
- * call answers a status, that of the program (below), and tells a fault in a struct of numbers. None of them reads a file, prints or
- * keeps anything: what a call answers depends on the bytes of the parts alone, and on whether there was memory.
+ * call returns a status, the same as the program's (below), and reports a fault in a struct of numbers. No call reads a file, prints or
+ * keeps anything: its result depends only on the bytes of the parts, and on whether there was enough memory.
  *
- * What a caller owes, since C can't check it:
+ * The caller must ensure the following, since C can't check it:
  *
- *   - parts and each part's bytes are addresses that aren't null, not even where the count or the length is 0, with as many parts or
- *     bytes behind them as is said. TIGERCANON_EMPTY is such an address.
+ *   - parts and each part's bytes are addresses that aren't null, even if the count or the length is 0, and have as many parts or
+ *     bytes as count or length says. TIGERCANON_EMPTY is such an address.
  *   - Nothing writes to the parts during a call. Any number of calls may read them, also at once.
- *   - What a call writes to (text, hash, fault) isn't null and lies apart from the parts and from one another, and no other thread
- *     looks at it during the call. A text holds TIGERCANON_NO_TEXT, or what was answered and then freed, before it is handed over.
- *   - malloc, realloc and free are of one allocator, and blocks are aligned as C asks for.
+ *   - What a call writes to (text, hash, fault) isn't null, overlaps neither the parts nor the others, and isn't read or written by
+ *     another thread during the call. Before the call, a text is TIGERCANON_NO_TEXT, or a call returned it and it was then freed.
+ *   - A flag (no_sources, no_reserved) is the byte 0 or 1, as C's bool always is. Take care of this in other languages.
+ *   - malloc, realloc and free are of one allocator, and blocks are aligned as C requires. The calls take their memory
+ *     from these, and get no allocator.
  *   - No call is made from a signal handler, nor in the forked child of a process that has other threads.
+ *   - The calling thread has 256 KiB of stack left. Calls were measured to use 178 KiB at most, however large the county is.
  *
- * Otherwise calls can be made from any thread, also at once.
+ * Otherwise any thread can make calls, also at the same time.
  */
 #ifndef TIGERCANON_H
 #define TIGERCANON_H
@@ -29,7 +32,7 @@
 extern "C" {
 #endif
 
-/* The name of the form of the canonical texts, which is cited with a fingerprint. */
+/* The name of the form of the canonical texts. Cite it with a fingerprint. */
 #define TIGERCANON_FORM "tigercanon form 1"
 
 /* An address for what has no bytes. */
@@ -38,30 +41,32 @@ extern "C" {
 /* What a text holds before a call. */
 #define TIGERCANON_NO_TEXT {TIGERCANON_EMPTY, 0}
 
-/* A part of a set. */
+/* A part of a set: 16 bytes, the address and then the length. An array of them has no gaps. */
 struct tigercanon_part {
     const uint8_t *bytes;
     size_t length;
 };
 
-/* A text that a call answers: a block of the caller's own, which tigercanon_free frees. It isn't ended by a 0. */
+/* A text that a call returns: a block that belongs to the caller; tigercanon_free frees it. It doesn't end with a 0. A text without
+ * bytes isn't a block. The struct has 16 bytes, the address and then the length. */
 struct tigercanon_text {
     const uint8_t *bytes;
     size_t length;
 };
 
-/* A fingerprint: the SHA-256 hash of a canonical text. */
+/* A fingerprint: the SHA-256 hash of a canonical text, 32 bytes. */
 struct tigercanon_hash {
     uint8_t bytes[32];
 };
 
-/* Why there is no answer. What a fault doesn't have is 0. */
+/* Why there is no answer. A member that a fault doesn't use is 0. The struct has 32 bytes and no gaps: first is at byte 8, second at 16
+ * and third at 24. Each call writes the whole struct, which may hold anything before. */
 struct tigercanon_fault {
-    /* The number of the refusal (enum tigercanon_number), 0 where there is an answer. */
+    /* The number of the refusal (enum tigercanon_number), 0 if there is an answer. */
     uint8_t number;
-    /* By tigercanon_compare: which set is at fault, 1 or 2. */
+    /* For tigercanon_compare: which set is at fault, 1 or 2. */
     uint8_t set;
-    /* The record type, by its character. */
+    /* The record type, as its character. */
     uint8_t record_type;
     /* The bytes of the CENID. */
     uint8_t cenid[5];
@@ -71,15 +76,15 @@ struct tigercanon_fault {
     uint64_t third;
 };
 
-/* What a call answers. */
+/* What a call returns. */
 enum tigercanon_status {
-    TIGERCANON_DONE = 0,      /* the answer is there; by tigercanon_compare: the sets are one map */
-    TIGERCANON_DIFFERENT = 1, /* by tigercanon_compare: the sets are different maps */
+    TIGERCANON_DONE = 0,      /* there is an answer; by tigercanon_compare: the sets describe the same map */
+    TIGERCANON_DIFFERENT = 1, /* by tigercanon_compare: the sets describe different maps */
     TIGERCANON_REFUSED = 3,   /* the set is refused */
     TIGERCANON_MEMORY = 5     /* there wasn't enough memory */
 };
 
-/* The refusals, with their places. docs/guide.md has each with a line that has it. */
+/* The refusals, with their places. docs/guide.md describes each, with an example. */
 enum tigercanon_number {
     TIGERCANON_UNKNOWN_TYPE = 1,          /* part, line */
     TIGERCANON_LINE_TOO_LONG = 2,         /* part, line */
@@ -103,31 +108,31 @@ enum tigercanon_number {
     TIGERCANON_TOO_SYMMETRIC = 24
 };
 
-/* Whether the parts are accepted: each line is a record, the records fit together to a county, each polygon of record type P is on a
- * side of a chain, and the points of chains leave few enough choices open. TIGERCANON_DONE if so. */
+/* Returns TIGERCANON_DONE if the parts are accepted: each line is a record, the records fit together to a county, each polygon of
+ * record type P is on a side of a chain, and the points of chains leave few enough choices open. */
 uint8_t tigercanon_check(const struct tigercanon_part *parts, size_t count, struct tigercanon_fault *fault);
 
-/* The records of the parts in canonical spelling, each line ended by LF, in the order of their lines. Of the refusals it knows 1 to 7
- * and 9. On each status but TIGERCANON_DONE the text has no bytes. */
+/* Makes a text of the records of the parts in canonical spelling, in the order of their lines, each line ending with LF. It reports
+ * only the refusals 1 to 7 and 9. With any status other than TIGERCANON_DONE the text has no bytes. */
 uint8_t tigercanon_respell(const struct tigercanon_part *parts, size_t count, struct tigercanon_text *text,
                            struct tigercanon_fault *fault);
 
-/* The canonical text of the map that the parts say. no_sources leaves out where data came from (SOURCE of record types 1, 7 and I),
- * and no_reserved the reserved fields. On each status but TIGERCANON_DONE the text has no bytes. */
+/* Makes the canonical text of the map that the parts describe. no_sources leaves out where data came from (SOURCE of record types 1, 7
+ * and I), and no_reserved the reserved fields. With any status other than TIGERCANON_DONE the text has no bytes. */
 uint8_t tigercanon_normalise(const struct tigercanon_part *parts, size_t count, bool no_sources, bool no_reserved,
                              struct tigercanon_text *text, struct tigercanon_fault *fault);
 
-/* The fingerprint of the map that the parts say: the hash of the text that tigercanon_normalise answers with the same flags. On each
- * status but TIGERCANON_DONE the hash stays as it was. */
+/* Computes the fingerprint of the map that the parts describe: the hash of the text that tigercanon_normalise returns with the same
+ * flags. With any status other than TIGERCANON_DONE the hash stays as it was. */
 uint8_t tigercanon_fingerprint(const struct tigercanon_part *parts, size_t count, bool no_sources, bool no_reserved,
                                struct tigercanon_hash *hash, struct tigercanon_fault *fault);
 
-/* Whether two sets are one map: TIGERCANON_DONE if they are, TIGERCANON_DIFFERENT if they aren't. The first set is judged wholly
+/* Compares two sets: TIGERCANON_DONE if they describe the same map, TIGERCANON_DIFFERENT if they don't. The whole first set is judged
  * before the second. */
 uint8_t tigercanon_compare(const struct tigercanon_part *first, size_t first_count, const struct tigercanon_part *second,
                            size_t second_count, bool no_sources, bool no_reserved, struct tigercanon_fault *fault);
 
-/* Frees a text, which has no bytes then. */
+/* Frees a text. Afterwards it has no bytes. */
 static inline void tigercanon_free(struct tigercanon_text *text)
 {
     if (text->length > 0) {
@@ -137,10 +142,10 @@ static inline void tigercanon_free(struct tigercanon_text *text)
     text->length = 0;
 }
 
-/* Room for the line of any fault. */
+/* The size of a buffer for the line of any fault. */
 #define TIGERCANON_LINE 128
 
-/* Writes the line by which the program tells a fault, without its end, and a 0. Where there is no fault that is the empty line. */
+/* Writes the line with which the program reports a fault, without its line ending, and a 0. If there is no fault, the line is empty. */
 static inline void tigercanon_line(const struct tigercanon_fault *fault, char line[TIGERCANON_LINE])
 {
     static const char *const names[] = {"", "UnknownType", "LineTooLong", "BadByte", "BadNumber", "BadPoint", "GapInRecord",

@@ -18,6 +18,9 @@
 
 #define PARTS 9
 #define THREADS 16
+/* How much stack is touched ahead: more than a call uses. */
+#define STACK (256 << 10)
+#define PAGE 4096
 
 /* A set: the parts, and how many. */
 struct set {
@@ -296,12 +299,25 @@ static void read_words(struct words *asked, struct job *job, int at, int count, 
     }
 }
 
+/* Touches the stack ahead of all calls: under a limit of address space it can't grow later. Returns 0. */
+static int touch_stack(void)
+{
+    volatile char room[STACK];
+    int sum = 0;
+    size_t i;
+    for (i = 0; i < STACK; i += PAGE) {
+        room[i] = 0;
+        sum += room[i];
+    }
+    return sum;
+}
+
 int main(int count, char **words)
 {
     struct job job = {NULL, false, false, {{{{NULL, 0}}, 0}, {{{NULL, 0}}, 0}}};
     struct words asked = {0, 0, false, false, {NULL, NULL}, 0};
     struct outcome outcome;
-    int i, status;
+    int i, status = touch_stack();
     double began;
     read_words(&asked, &job, read_settings(&asked, count, words), count, words);
     if (asked.sets == 0 || asked.threads > THREADS) {

@@ -7,11 +7,11 @@ import os
 import re
 import resource
 import shutil
-import subprocess
 from pathlib import Path
 from typing import List
 
-from library_tests.support import ROOT, WARNINGS, Answer, Tests, cases_of, compiled, in_library, judge_cases, run, script, tools
+from library_tests import in_header
+from library_tests.support import ROOT, WARNINGS, Answer, Tests, cases_of, compiled, in_library, judge_cases, make_county, run, script, tools
 
 CALLS = ["check", "compare", "fingerprint", "normalise", "respell"]
 AUTAUGA = ROOT / "examples/autauga/all.txt"
@@ -21,7 +21,7 @@ GROWTH = 256
 
 
 def try_exports(tests: Tests) -> None:
-    """The shared library has the calls, and nothing else, and needs nothing but the C library."""
+    """The shared library has the calls and nothing else, and needs only the C library."""
     shared = tests.library / "lib/libtigercanon.so.1"
     listed = run(["nm", "-D", "--defined-only", shared]).out.decode().split("\n")
     tests.equal("exports", [f"tigercanon_{call}" for call in CALLS], sorted(line.split()[-1] for line in listed if line))
@@ -31,7 +31,7 @@ def try_exports(tests: Tests) -> None:
 
 
 def try_header(tests: Tests) -> None:
-    """The header by itself, by each compiler that is there."""
+    """The header alone, by each compiler that is installed."""
     header = tests.library / "include/tigercanon.h"
     source = tests.room / "header.c"
     source.write_text('#include "tigercanon.h"\n#include "tigercanon.h"\nint main(void) { struct tigercanon_text text = '
@@ -46,7 +46,7 @@ def try_header(tests: Tests) -> None:
 
 
 def compile_callers(tests: Tests) -> None:
-    """The caller with the archive and with the shared library, by each compiler that is there."""
+    """The caller with the archive and with the shared library, by each compiler that is installed."""
     include, archive = ["-I", tests.library / "include"], tests.library / "lib/libtigercanon.a"
     for compiler in tools("gcc", "clang"):
         made = compiled(tests, f"by-{compiler}", [compiler, *include, archive])
@@ -103,7 +103,7 @@ def try_rounds(tests: Tests) -> None:
 
 
 def try_threads(tests: Tests, county: Path) -> None:
-    """Calls in several threads at once answer what one answers."""
+    """Calls in several threads at once return what one returns."""
     for call in [["fingerprint", county], ["normalise", county], ["compare", county, county], ["check", AUTAUGA]]:
         wanted = run([*tests.callers["gcc"], *call])
         for threads in (2, 4):
@@ -111,7 +111,7 @@ def try_threads(tests: Tests, county: Path) -> None:
 
 
 def try_little_memory(tests: Tests, county: Path) -> None:
-    """Where there is little memory, want of it is told, and nothing else."""
+    """If memory is short, only that is reported."""
     lacking, caller = Answer(5, b"", b"refused 9 Memory\n"), tests.callers["gcc"]
     # With large pages a growth is so large that none of the steps below may stop it.
     plain = {key: text for key, text in os.environ.items() if key != "GLIBC_TUNABLES"}
@@ -120,8 +120,8 @@ def try_little_memory(tests: Tests, county: Path) -> None:
         for kib in range(2048, 32768, 512):
             size = (kib << 10, kib << 10)
             found = run([*caller, command, county], env=plain, preexec_fn=lambda: resource.setrlimit(resource.RLIMIT_AS, size))
-            # With less still neither the caller nor its file finds room.
-            if found.status in (0, 5):
+            # With even less memory the caller can't start or read its file.
+            if told or found.status in (0, 5):
                 tests.count(found in (right, lacking), f"{command} in {kib} KiB: {found.status}, {found.err!r}")
                 told.add(found.status)
         tests.equal(f"{command} in little memory, its statuses", {0, 5}, told)
@@ -158,11 +158,12 @@ def run_all(tests: Tests) -> None:
         tests.skip("gcc isn't installed: nothing was tried by C")
         return
     try_header(tests)
+    in_header.run_all(tests)
     compile_callers(tests)
     if "gcc" not in tests.callers:
         return
     county = tests.room / "county.txt"
-    subprocess.run([ROOT / "scripts/make-county", "2000", county], check=True)
+    make_county(2000, county)
     try_vectors(tests, "C", tests.callers["gcc"])
     if "shared" in tests.callers:
         try_shared(tests)

@@ -1,15 +1,14 @@
-"""The examples of the guide's pages on C and Python, as they stand there, where a reader of the page would call them."""
+"""The examples of the guide's pages on C and Python, word for word, in a folder where a reader of the page would call them."""
 
 from __future__ import annotations
 
 import os
 import re
-import subprocess
 import zipfile
 from pathlib import Path
 from typing import List
 
-from library_tests.support import ROOT, SUFFIXES, Tests, run, tools
+from library_tests.support import ROOT, SUFFIXES, Answer, Tests, run, tools
 
 STEM = ROOT / "examples/autauga/TGR01001"
 REFUSED = ROOT / "examples/broken.txt"
@@ -23,7 +22,7 @@ def blocks(heading: str) -> List[str]:
 
 
 def desk(tests: Tests) -> Path:
-    """A folder that looks to the examples as the root of the repository does, with the library where the page has it."""
+    """A folder like the root of the repository, with the library in the place that the page names."""
     place = tests.room / "guide"
     (place / "out").mkdir(parents=True)
     (place / "out/library").symlink_to(tests.library)
@@ -42,11 +41,24 @@ def try_c(tests: Tests, place: Path, fingerprint: str) -> None:
             tests.skip(f"the guide's {call}: {' and '.join(sorted(lacking))} isn't installed")
             continue
         found = run(["bash", "-ec", f"{exported}\n{call}"], cwd=place)
-        tests.equal(f"the guide's {call}", (0, f"{fingerprint}\n".encode(), b""), tuple(found))
+        tests.equal(f"the guide's {call}", Answer(0, f"{fingerprint}\n".encode(), b""), found)
     if (place / "one").exists():
         with open(REFUSED, "rb") as refused:
-            done = subprocess.run([place / "one"], stdin=refused, stdout=subprocess.PIPE, stderr=subprocess.PIPE, check=False)
-        tests.equal("the guide's program of a refused set", (1, b"", b"refused 4 BadNumber 1 4 6\n"), (done.returncode, done.stdout, done.stderr))
+            found = run([place / "one"], stdin=refused)
+        tests.equal("the guide's program with a refused set", Answer(1, b"", b"refused 4 BadNumber 1 4 6\n"), found)
+        try_input(tests, place)
+
+
+def try_input(tests: Tests, place: Path) -> None:
+    """The program of the page reads all of a long input, and reports what can't be read."""
+    record = (ROOT / "examples/autauga/canonical.txt").read_bytes().partition(b"\n")[0] + b"\n"
+    lines = (65 << 20) // len(record) + 1
+    found = run([place / "one"], input=record * lines + b"1\n")
+    tests.equal("the guide's program with 65 MiB", Answer(1, b"", b"refused 4 BadNumber 1 %d 6\n" % (lines + 1)), found)
+    folder = os.open(place, os.O_RDONLY)
+    found = run([place / "one"], stdin=folder)
+    os.close(folder)
+    tests.equal("the guide's program with a folder", Answer(1, b"", b"standard input: Is a directory\n"), found)
 
 
 def try_python(tests: Tests, place: Path, fingerprint: str) -> None:
@@ -62,7 +74,7 @@ def try_python(tests: Tests, place: Path, fingerprint: str) -> None:
         county.write(REFUSED, "TGR01003.RT1")
     found = run(["bash", "-ec", line], cwd=place, env={**os.environ, "PYTHONDONTWRITEBYTECODE": "1"})
     wanted = f"{fingerprint}  TGR01001\n{fingerprint}  TGR01002\n"
-    tests.equal("the guide's counties.py", (0, wanted.encode(), b"TGR01003: refused 4 BadNumber 1 4 6\n"), tuple(found))
+    tests.equal("the guide's counties.py", Answer(0, wanted.encode(), b"TGR01003: refused 4 BadNumber 1 4 6\n"), found)
 
 
 def run_all(tests: Tests) -> None:

@@ -1,16 +1,17 @@
-"""The library on a county of 100,000 chains, held to the program's answers."""
+"""The library on a county of 100,000 chains, compared with the program's answers; and by C on the counties of .ci/test-large."""
 
 from __future__ import annotations
 
+import importlib
 import mmap
 import os
 import resource
-import subprocess
 import sys
 from pathlib import Path
 from typing import List, Tuple
 
-from library_tests.support import ROOT, SUFFIXES, Answer, Tests, run
+from library_tests.support import SUFFIXES, Answer, Tests, make_county, run, script
+from measuring import use_large_pages
 
 CHAINS = 100_000
 
@@ -18,8 +19,8 @@ CHAINS = 100_000
 def make_counties(room: Path) -> Tuple[Path, Path]:
     """One file of a county, and the stem of nine files of it under other numbers."""
     whole, stem = room / "large.txt", room / "large"
-    subprocess.run([ROOT / "scripts/make-county", str(CHAINS), whole], check=True)
-    subprocess.run([ROOT / "scripts/make-county", "--stem", "--shuffle", "--renumber", "--turn", str(CHAINS), stem], check=True)
+    make_county(CHAINS, whole)
+    make_county("--stem", "--shuffle", "--renumber", "--turn", CHAINS, stem)
     return whole, stem
 
 
@@ -38,7 +39,9 @@ def try_c(tests: Tests, whole: Path, stem: Path) -> None:
 
 
 def try_python(tests: Tests, whole: Path, stem: Path) -> None:
-    module = sys.modules["tigercanon"]
+    os.environ["TIGERCANON_LIBRARY"] = str(tests.library / "lib/libtigercanon.so.1")
+    sys.path.insert(0, str(tests.library / "python"))
+    module = importlib.import_module("tigercanon")
     parts = [Path(f"{stem}{suffix}").read_bytes() for suffix in SUFFIXES]
     with open(whole, "rb") as file, mmap.mmap(file.fileno(), 0, prot=mmap.PROT_READ) as mapped:
         digits = run([tests.program, "fingerprint", whole]).out.decode().strip()
@@ -64,10 +67,21 @@ def try_little_memory(tests: Tests, whole: Path) -> None:
     tests.equal("large counties in little memory", {0, 5}, told)
 
 
+def try_counties(tests: Tests) -> None:
+    """The calls for C on the large counties on which the program is tried, and on the large sets that are rejected."""
+    test_large = script(".ci/test-large")
+    large = test_large.Tests(Path(tests.callers["gcc"][0]), tests.room)
+    for test in (test_large.many_of_each, test_large.large_refusals, test_large.very_many_chains):
+        test(large)
+    tests.passed += large.passed
+    tests.failed += large.failed
+
+
 def run_all(tests: Tests) -> None:
-    os.environ.setdefault("GLIBC_TUNABLES", "glibc.malloc.hugetlb=1")
+    use_large_pages()
     whole, stem = make_counties(tests.room)
     if "gcc" in tests.callers:
         try_c(tests, whole, stem)
         try_little_memory(tests, whole)
+        try_counties(tests)
     try_python(tests, whole, stem)

@@ -1,0 +1,222 @@
+"""Changes a county at places that are kept in mind: what two maps then differ in is known without comparing them."""
+
+from __future__ import annotations
+
+import pickle
+import random
+from collections import Counter
+from dataclasses import dataclass, field
+from typing import FrozenSet
+
+from tigercanon.differences.columns import CHAIN
+
+from .county import Chain, County, Landmark, Point, Polygon, addresses
+
+Place = tuple[Point, ...]
+"""The points of something, in the direction of canonical texts: a chain runs so that its points come before their
+reverse."""
+
+
+@dataclass(frozen=True)
+class Difference:
+    """A chain, landmark or polygon that isn't alike: its kind, where it lies, and the fields that differ."""
+
+    what: str
+    kind: str
+    place: Place
+    fields: FrozenSet[str] = frozenset()
+
+
+@dataclass
+class Changing:
+    """A county that is being changed, and the differences that it then has from the one that it was."""
+
+    county: County
+    chance: random.Random
+    differences: set[Difference] = field(default_factory=set)
+    names: list[tuple[str, str]] = field(default_factory=list)
+    touched: set[int] = field(default_factory=set)
+
+    @classmethod
+    def begin(cls, county: County, seed: int) -> "Changing":
+        return cls(pickle.loads(pickle.dumps(county)), random.Random(seed))
+
+    def tell(self, what: str, kind: str, points: list[Point], *fields: str) -> None:
+        self.differences.add(Difference(what, kind, tuple(min(points, points[::-1])), frozenset(fields)))
+
+    def some_chains(self, count: int) -> list[Chain]:
+        """Streets that no change has touched yet. Each polygon beside them has enough other chains."""
+        sides = Counter(side for chain in self.county.chains for side in (chain.left, chain.right))
+        free = [chain for chain in self.county.chains if chain.fields["CFCC"] == "A41" and id(chain) not in self.touched]
+        chosen: list[Chain] = []
+        for chain in self.chance.sample(free, len(free)):
+            if len(chosen) == count:
+                break
+            if all(sides[side] > 3 for side in (chain.left, chain.right)):
+                sides.subtract((chain.left, chain.right))
+                chosen.append(chain)
+        self.touched.update(map(id, chosen))
+        return chosen
+
+    # Chains
+
+    def take_away(self, count: int) -> None:
+        gone = self.some_chains(count)
+        for chain in gone:
+            self.tell("chain", "in the first alone", chain.points)
+        self.county.chains = [chain for chain in self.county.chains if not any(chain is other for other in gone)]
+
+    def add_courts(self, count: int) -> None:
+        """Streets that end within a polygon, on both sides of them."""
+        for chain in self.some_chains(count):
+            begin, inside = chain.points[0], place_of(self.county.polygons[chain.left or 0])
+            points = [begin, (begin[0] + (inside[0] - begin[0]) // 3 + 7, begin[1] + (inside[1] - begin[1]) // 3 + 9)]
+            fields = {"SOURCE": "L", "FENAME": f"{self.chance.choice(('Quail', 'Heron', 'Wren'))}", "FETYPE": "Ct", "CFCC": "A41"}
+            court = Chain(
+                fields, points, chain.start, 10**6 + len(self.county.chains), chain.left, chain.left, link=dict(chain.link)
+            )
+            self.county.chains.append(court)
+            self.touched.add(id(court))
+            self.tell("chain", "in the second alone", points)
+
+    def move_ends(self, count: int) -> None:
+        for chain in self.some_chains(count):
+            self.tell("chain", "in the first alone", chain.points)
+            longitude, latitude = chain.points[-1]
+            chain.points[-1] = (longitude + 131, latitude - 57)
+            self.tell("chain", "in the second alone", chain.points)
+
+    def rename(self, count: int, name: str) -> None:
+        for chain in self.some_chains(count):
+            chain.fields["FENAME"] = name
+            self.tell("chain", "changed", chain.points, "FENAME")
+
+    def rename_street(self, old: str, new: str, count: int) -> None:
+        """Some chains of a street that lie one after another."""
+        street = [chain for chain in self.county.chains if chain.fields.get("FENAME") == old and id(chain) not in self.touched]
+        middle = len(street) // 2
+        for chain in street[middle : middle + count]:
+            chain.fields["FENAME"] = new
+            self.touched.add(id(chain))
+            self.tell("chain", "changed", chain.points, "FENAME")
+
+    def change_field(self, count: int, name: str, value: str) -> None:
+        """A field of one side. The canonical text may have it in its partner's columns."""
+        partner = next(column.partner for column in CHAIN.columns if column.name == name)
+        for chain in self.some_chains(count):
+            chain.fields[name] = value
+            self.tell("chain", "changed", chain.points, partner if chain.points > chain.points[::-1] else name)
+
+    def give_names(self, count: int, name: int) -> None:
+        for chain in self.some_chains(count):
+            chain.names.append(name)
+            self.tell("chain", "changed", chain.points, f"further name {len(chain.names)}")
+
+    def give_ranges(self, count: int) -> None:
+        for chain in self.some_chains(count):
+            chain.ranges.append(addresses(9001, 9099, "36999", "36999"))
+            number = len(chain.ranges)
+            fields = ("FRADDL", "TOADDL", "FRADDR", "TOADDR", "ZIPL", "ZIPR")
+            self.tell("chain", "changed", chain.points, f"range {number}", *(f"{name} of range {number}" for name in fields))
+
+    def move_sides(self, count: int) -> None:
+        """Puts another polygon on a side."""
+        for chain in self.some_chains(count):
+            while True:
+                other = self.chance.randrange(len(self.county.polygons))
+                if other not in (chain.left, chain.right):
+                    break
+            is_turned = chain.points > chain.points[::-1]
+            chain.left = other
+            self.tell("chain", "changed", chain.points, "right polygon" if is_turned else "left polygon")
+
+    # Polygons, landmarks and names
+
+    def some_polygons(self, count: int) -> list[Polygon]:
+        """Polygons with records that no change has touched."""
+        free = [polygon for polygon in self.county.polygons if id(polygon) not in self.touched]
+        chosen = self.chance.sample(free, count)
+        self.touched.update(map(id, chosen))
+        return chosen
+
+    def flood(self, count: int) -> None:
+        for polygon in self.some_polygons(count):
+            polygon.fields["WATER"] = "" if polygon.fields["WATER"] else "1"
+            self.tell("polygon", "changed", [place_of(polygon)], "WATER")
+
+    def move_inner_points(self, count: int) -> None:
+        for polygon in self.some_polygons(count):
+            self.tell("polygon", "changed", [place_of(polygon)], "POLYLONG, POLYLAT")
+            longitude, latitude = place_of(polygon)
+            polygon.point = (longitude + 11, latitude + 13)
+
+    def some_landmarks(self, count: int) -> list[Landmark]:
+        free = [landmark for landmark in self.county.landmarks if id(landmark) not in self.touched and landmark.point]
+        chosen = self.chance.sample(free, count)
+        self.touched.update(map(id, chosen))
+        return chosen
+
+    def rename_landmarks(self, count: int) -> None:
+        for landmark in self.some_landmarks(count):
+            landmark.fields["LANAME"] = landmark.fields["LANAME"] + " Annex"
+            self.tell("landmark", "changed", [place_of(landmark)], "LANAME")
+
+    def take_landmarks(self, count: int) -> None:
+        gone = self.some_landmarks(count)
+        for landmark in gone:
+            self.tell("landmark", "in the first alone", [place_of(landmark)])
+        self.county.landmarks = [landmark for landmark in self.county.landmarks if not any(landmark is other for other in gone)]
+
+    def add_landmarks(self, count: int) -> None:
+        for number in range(count):
+            point = (-86_470_001 - 977 * number, 32_461_003 + 613 * number)
+            self.county.landmarks.append(
+                Landmark({"FILE": "01001", "SOURCE": "L", "CFCC": "D57", "LANAME": f"Air Field {number}"}, point)
+            )
+            self.touched.add(id(self.county.landmarks[-1]))
+            self.tell("landmark", "in the second alone", [point])
+
+    def add_name(self, name: str) -> int:
+        """A name that only the second map has."""
+        self.county.names.append({"FILE": "01001", "FENAME": name})
+        self.names.append(("in the second alone", name))
+        return len(self.county.names) - 1
+
+    # Ties
+
+    def split_nodes(self, count: int) -> list[Point]:
+        """Gives a chain's start a node of its own. Nothing that is said differs by this."""
+        split: list[Point] = []
+        starts = Counter(node for chain in self.county.chains for node in (chain.start, chain.end))
+        for chain in self.some_chains(count):
+            assert starts[chain.start] > 1
+            chain.start = 10**7 + len(split)
+            split.append(chain.points[0])
+        return split
+
+
+def place_of(thing: Landmark | Polygon) -> Point:
+    """The point of something that has one."""
+    assert thing.point
+    return thing.point
+
+
+def much_changed(county: County, seed: int) -> Changing:
+    """The county changed in every way, at some hundred places."""
+    changing = Changing.begin(county, seed)
+    changing.move_sides(5)
+    changing.take_away(15)
+    changing.move_ends(20)
+    changing.rename(25, "Changed")
+    changing.change_field(6, "ZIPL", "36111")
+    changing.change_field(4, "BLOCKR", "9876")
+    changing.give_names(4, changing.add_name("Chang\xe9d Name"))
+    changing.give_ranges(3)
+    changing.add_courts(2)
+    changing.flood(3)
+    changing.move_inner_points(2)
+    changing.rename_landmarks(4)
+    changing.take_landmarks(2)
+    changing.add_landmarks(3)
+    changing.add_name("Unused Name")
+    return changing

@@ -1,0 +1,140 @@
+"""Calls of tigercanon-tools diff, and readers of what it reports."""
+
+from __future__ import annotations
+
+import json
+import re
+from pathlib import Path
+from typing import Any
+
+import pytest
+from support import ROOT, Ended, built_program, call
+
+from tigercanon.differences.sets import Canonical, Sets
+
+from .changes import Difference, Place
+from .county import Point
+
+EXAMPLE = ROOT / "examples/two-maps"
+LEAFLET = Path("/usr/share/javascript/leaflet")
+KINDS = ("in the first alone", "in the second alone", "changed")
+
+WORDS_HEADING = re.compile(rf"(chain|landmark|polygon|feature name)s ({'|'.join(KINDS)}): ([\d,]+)")
+DEGREES = re.compile(r"(\d+)\.(\d{6})° ([NS]), (\d+)\.(\d{6})° ([WE])")
+PROGRESS = re.compile(r"tigercanon-tools: (normalising|reading|comparing|finding|writing) .*\n")
+PROGRAM = built_program()
+
+needs_leaflet = pytest.mark.skipif(not (LEAFLET / "leaflet.css").exists(), reason="libjs-leaflet isn't installed")
+
+
+def diff(*words: object, program: object = PROGRAM, **options: Any) -> Ended:
+    """Calls tigercanon-tools diff. Lines of progress are left out of what it reported: a machine at work prints more of them."""
+    if not program:
+        pytest.skip("no program is built: ./tigercanon builds it, and TIGERCANON can name another")
+    ended = call("diff", *words, env={"TIGERCANON": str(program), **options.pop("env", {})}, **options)
+    return ended._replace(err=PROGRESS.sub("", ended.err))
+
+
+def sets_of(first: bytes, second: bytes) -> Sets:
+    """Two sets with these canonical texts."""
+    return Sets(Canonical("one", first), Canonical("other", second))
+
+
+def put_in(folder: Path, name: str, text: bytes) -> Path:
+    """A file in a folder."""
+    path = folder / name
+    path.write_bytes(text)
+    return path
+
+
+# Reading reports
+
+
+def told_in_words(text: str) -> set[Difference]:
+    """The differences in a printed report. It has only the ends of a chain."""
+    found = set()
+    heading: tuple[str, str] = ("", "")
+    place: Place = ()
+    fields: list[str] = []
+
+    def add() -> None:
+        if place:
+            found.add(Difference(*heading, place, frozenset(fields)))
+
+    for line in text.splitlines():
+        opened = WORDS_HEADING.fullmatch(line)
+        if opened or re.match(r" {2}\S", line):
+            add()
+            place, fields = (), []
+        if opened:
+            heading = (opened[1], opened[2])
+        elif re.match(r" {2}\S", line):
+            place = tuple(map(point_of_words, DEGREES.findall(line)))
+        elif re.match(r" {6}\S", line):
+            fields.append(re.split(r" {2,}", line.strip())[0])
+    add()
+    return found
+
+
+def point_of_words(parts: tuple[str, ...]) -> Point:
+    """The point of a printed text in degrees."""
+    north, east = int(parts[0] + parts[1]), int(parts[3] + parts[4])
+    return (-east if parts[5] == "W" else east, -north if parts[2] == "S" else north)
+
+
+def in_words(difference: Difference) -> Difference:
+    """A difference as a printed report has it."""
+    place = difference.place
+    return Difference(
+        difference.what, difference.kind, (place[0], place[-1]) if difference.what == "chain" else place, difference.fields
+    )
+
+
+def counts_in_words(text: str) -> dict[str, list[str]]:
+    """The table of counts."""
+    return {line[:19].strip(): line[19:].split() for line in text.splitlines()[3:8]}
+
+
+def told_in_geojson(path: Path) -> set[Difference]:
+    """The differences in a GeoJSON file, without feature names and ties."""
+    found = set()
+    for feature in json.loads(path.read_text("utf-8"))["features"]:
+        properties, geometry = feature["properties"], feature["geometry"]
+        if properties["what"] in ("tie", "feature name"):
+            continue
+        coordinates = geometry["coordinates"] if geometry else []
+        positions = [coordinates] if geometry and geometry["type"] == "Point" else coordinates
+        place = tuple((round(longitude * 1e6), round(latitude * 1e6)) for longitude, latitude in positions)
+        fields = frozenset(properties["differs"].split("; ")) if properties["differs"] else frozenset()
+        found.add(Difference(properties["what"], properties["kind"], place, fields))
+    return found
+
+
+def page_data(path: Path) -> dict[str, Any]:
+    """The data in a page."""
+    found = re.search(r'<script type="application/json" id="data">(.*?)</script>', path.read_text("utf-8"), re.DOTALL)
+    data: dict[str, Any] = json.loads(found[1]) if found else {}
+    return data
+
+
+def told_in_page(path: Path) -> set[Difference]:
+    """The differences in a page, without feature names and ties, which have no place."""
+    data = page_data(path)
+    found = set()
+    for entry in data["entries"]:
+        if entry["what"] in ("chain", "landmark", "polygon"):
+            place = line_of(entry["line"]) if "line" in entry else tuple(line_of(point)[0] for point in entry["points"])
+            fields = frozenset(data["labels"][row[0]][0] for row in entry["rows"] if row[3:] == [1])
+            found.add(Difference(entry["what"], data["kinds"][entry["kind"]], place, fields))
+    return found
+
+
+def line_of(distances: list[int]) -> Place:
+    """The points of a list of distances."""
+    longitude = latitude = 0
+    points = []
+    for at in range(0, len(distances), 2):
+        longitude += distances[at]
+        latitude += distances[at + 1]
+        points.append((longitude, latitude))
+    return tuple(points)

@@ -1,0 +1,283 @@
+"""The command line, with a stand-in for the program: statuses, refusals, and files that are whole or not there."""
+
+from __future__ import annotations
+
+import json
+import os
+import resource
+import signal
+import stat
+import subprocess
+import zipfile
+from pathlib import Path
+from typing import Any
+
+import pytest
+from support import NAME, Ended, begin, end, environment, put, words_of
+
+from .county import made_county, written
+from .reports import diff
+
+STAND_IN = """\
+#!/bin/sh
+# Prints a file as it is, and rejects one that says so.
+for name; do :; done
+[ "$2" != --stem ] || name="$name.RT1"
+if [ "$name" = /dev/null ]; then exit 0; fi
+if [ ! -e "$name" ]; then echo "refused 8 Device" >&2; exit 4; fi
+if grep -q broken "$name"; then echo "refused 4 BadNumber 1 4 6" >&2; exit 3; fi
+if grep -q packed "$name"; then echo "refused 1 UnknownType 1 1" >&2; exit 3; fi
+exec cat "$name"
+"""
+SLOW = STAND_IN.replace('exec cat "$name"', "exec sleep 600")
+NOTING = STAND_IN.replace("exec cat", 'echo "$*" >>"$(dirname "$0")/words"; exec cat')
+
+LEAFLET = ("--leaflet", "leaflet")
+REFUSED = "broken: refused 4 BadNumber 1 4 6"
+
+
+@pytest.fixture(autouse=True)
+def files_of_the_test(room: Path) -> None:
+    """Two maps that differ in a name, a rejected file, and a stand-in for Leaflet."""
+    county = made_county(3, 3, 1)
+    put("one", written(county))
+    county.chains[0].fields["FENAME"] = "Changed"
+    put("other", written(county))
+    put("broken", b"broken\n")
+    put("leaflet/leaflet.js", b"/* no library */")
+    put("leaflet/leaflet.css", b".a { background: url(pictures/a.png); color: red }")
+    put_program("program", STAND_IN)
+
+
+def put_program(name: str, script: str) -> str:
+    put(name, script.encode()).chmod(0o755)
+    return os.path.abspath(name)
+
+
+def ask(*words: object, program: str = "program", **options: Any) -> Ended:
+    return diff(*words, program=os.path.abspath(program), **options)
+
+
+def ask_shell(command: str, **options: Any) -> "subprocess.CompletedProcess[bytes]":
+    """Runs a command of bash, in which DIFF is the command."""
+    shell = ["bash", "-c", command.replace("DIFF", " ".join(words_of("diff")))]
+    env = environment(TIGERCANON=os.path.abspath("program"), **options.pop("env", {}))
+    return subprocess.run(shell, env=env, stderr=subprocess.PIPE, **options)
+
+
+def assert_fails(line: str, *words: object, **options: Any) -> None:
+    """One line, status 2, nothing on standard output and nothing left behind."""
+    before = sorted(os.listdir("."))
+    ended = ask(*words, **options)
+    assert (ended.status, ended.out, ended.err) == (2, "", f"{NAME}{line}\n")
+    assert sorted(os.listdir(".")) == before
+
+
+def test_help() -> None:
+    ended = ask("--help")
+    assert (ended.status, ended.err) == (0, "")
+    assert "Shows where two maps differ" in ended.out
+
+
+@pytest.mark.parametrize("second, status", [("one", 0), ("other", 1)])
+def test_statuses(second: str, status: int) -> None:
+    assert ask("one", second).status == status
+
+
+@pytest.mark.parametrize(
+    "words", ["", "one", "one one one", "--loud one one", "--all one one", "--leaflet x one one", "--summary --json one one"]
+)
+def test_wrong_use(words: str) -> None:
+    ended = ask(*words.split())
+    assert (ended.status, ended.out, ended.err.count("\n")) == (2, "", 1)
+
+
+@pytest.mark.parametrize(
+    "flags, wanted",
+    [
+        ([], ""),
+        (["--no-sources"], "--no-sources"),
+        (["--no-reserved"], "--no-reserved"),
+        (["--no-reserved", "--no-sources"], "--no-sources --no-reserved"),
+    ],
+)
+def test_masks(flags: list[str], wanted: str) -> None:
+    """The flags that leave fields out go to the program, and all that is written names them."""
+    put_program("program", NOTING)
+    ended = ask(*flags, "--page", "page", "--geojson", "geojson", *LEAFLET, "one", "other")
+    assert (ended.status, ended.err) == (1, "")
+    asked = [f"normalise {wanted}{' ' * bool(wanted)}-- {name}" for name in ("one", "other")]
+    asked += [f"respell -- {name}" for name in ("one", "other")]
+    assert sorted(Path("words").read_text().splitlines()) == sorted(asked)
+    assert (f"left out: {wanted}" in ended.out.splitlines()) == bool(wanted)
+    compared = f"left out: {wanted}" if wanted else "all fields"
+    assert f'<td colspan="2">{compared}</td>' in Path("page").read_text()
+    assert json.loads(Path("geojson").read_text()).get("left_out", "") == wanted
+
+
+@pytest.mark.parametrize(
+    "words, line",
+    [
+        (["broken", "one"], REFUSED),
+        (["one", "broken"], REFUSED),
+        (["broken", "again"], REFUSED),
+        (["again", "broken"], "again: refused 4 BadNumber 1 4 6"),
+        (["--page", "page.html", "--geojson", "geojson", *LEAFLET, "one", "broken"], REFUSED),
+        (["one", "packed"], "packed: refused 1 UnknownType 1 1; the file is compressed by gzip: unpack it first"),
+        (["in/packed", "one"], "in/packed: refused 1 UnknownType 1 1; the file is compressed by gzip: unpack it first"),
+    ],
+)
+def test_refused(words: list[str], line: str) -> None:
+    """The file, the program's line and a hint. The first set is reported before the second."""
+    put("again", b"broken\n")
+    put("packed", b"\x1f\x8bpacked\n")
+    put("in/packed.RT1", b"\x1f\x8bpacked\n")
+    assert_fails(line, *words)
+
+
+@pytest.mark.parametrize("name", ["nowhere", "leaflet", "not.zip"])
+def test_what_is_no_set(name: str) -> None:
+    put("not.zip", b"PK\x03\x04 broken")
+    ended = ask(name, "one")
+    assert (ended.status, ended.out, ended.err.count("\n")) == (2, "", 1)
+    assert name in ended.err
+
+
+def test_program(room: Path) -> None:
+    assert_fails(f"the program {room}/nowhere can't be run: no such file", "one", "one", program="nowhere")
+    put_program("odd", "#!/bin/sh\necho odd\n")
+    assert_fails("the program doesn't print a canonical text: line 1 isn't a record", "one", "one", program="odd")
+
+
+def test_stems_and_zips() -> None:
+    """A county is read from a zip and from single files, in either case of their names, and from a pipe."""
+    put("in/tgr01001.rt1", Path("one").read_bytes())
+    put("in/TGR01003.RT1", Path("one").read_bytes())
+    with zipfile.ZipFile("in/TGR01001.ZIP", "w") as packed:
+        packed.writestr("tgr01001.Rt1", Path("other").read_bytes())
+    for first, second, status in (
+        ("in/tgr01001", "in/TGR01003", 0),
+        ("in/TGR01001.ZIP", "in/TGR01003", 1),
+        ("one", "in/tgr01001", 0),
+        ("other", "in/TGR01001.ZIP", 0),
+    ):
+        ended = ask(first, second)
+        assert (ended.status, ended.err) == (status, ""), (first, second)
+    run = ask_shell("DIFF <(cat one) <(cat other) --summary --geojson of-pipes", stdout=subprocess.DEVNULL)
+    assert (run.returncode, run.stderr) == (1, b"")
+    assert len(json.loads(Path("of-pipes").read_text())["features"]) == 1
+
+
+def test_summary() -> None:
+    ended = ask("--summary", "one", "other")
+    assert ended.status == 1
+    lines = ended.out.splitlines()
+    assert lines == ask("one", "other").out.splitlines()[: len(lines)]
+    assert lines[-1].split()[0] == "alike"
+
+
+def test_json() -> None:
+    ended = ask("--json", "one", "other")
+    answer = json.loads(ended.out)
+    assert (ended.status, answer["verdict"]) == (1, "different")
+    assert answer["counts"]["chains"]["changed"] == 1
+    (difference,) = answer["differences"]
+    found = [difference[name] for name in ("what", "kind", "differs", "second_FENAME")]
+    assert found == ["chain", "changed", "FENAME", "Changed"]
+    answer = json.loads(ask("--json", "one", "one").out)
+    assert (answer["verdict"], answer["differences"]) == ("same", [])
+
+
+def test_files_are_written() -> None:
+    put("a.geojson", b"older").chmod(0o640)
+    os.symlink("a.geojson", "link")
+    before = os.listdir(".")
+    ended = ask("--page", "a.html", "--geojson", "link", *LEAFLET, "one", "other")
+    assert (ended.status, ended.err) == (1, "")
+    assert os.path.islink("link")
+    assert Path("a.geojson").read_text().startswith('{"type":"FeatureCollection"')
+    assert stat.S_IMODE(os.stat("a.geojson").st_mode) == 0o640
+    assert "url(" not in Path("a.html").read_text()
+    assert sorted(os.listdir(".")) == sorted([*before, "a.html"])
+
+
+@pytest.mark.parametrize(
+    "name, why",
+    [
+        ("leaflet", "it is a folder"),
+        ("/dev/null", "it isn't a regular file"),
+        ("none/page", "No such file or directory"),
+        ("one/page", "Not a directory"),
+    ],
+)
+def test_files_that_cant_be_written(name: str, why: str) -> None:
+    assert_fails(f"{name}: can't be written: {why}", "--geojson", name, "one", "other")
+
+
+@pytest.mark.parametrize(
+    "words, line",
+    [
+        (["--page", "one"], "one: can't be written: it belongs to one of the sets"),
+        (["--geojson", "other"], "other: can't be written: it belongs to one of the sets"),
+        (["--page", "x", "--geojson", "x"], "--page and --geojson name the same file"),
+    ],
+)
+def test_files_that_are_in_use(words: list[str], line: str) -> None:
+    assert_fails(line, *words, "one", "other")
+
+
+def test_a_full_disk() -> None:
+    """A file that can't be written to its end isn't left behind, and an older file of its name is unchanged."""
+    put("geojson", b"older")
+    limit = (20_000, 20_000)
+    assert_fails(
+        *("geojson: can't be written: File too large", "--geojson", "geojson", "--all", "one", "other"),
+        preexec_fn=lambda: resource.setrlimit(resource.RLIMIT_FSIZE, limit),
+    )
+    assert Path("geojson").read_bytes() == b"older"
+
+
+def test_no_leaflet() -> None:
+    os.mkdir("empty")
+    why = "empty: there is no Leaflet here: it needs leaflet.js and leaflet.css"
+    assert_fails(why, "--page", "page.html", "--leaflet", "empty", "one", "other")
+
+
+@pytest.mark.parametrize(
+    "redirected, told",
+    [
+        (">/dev/full", b"standard output: can't be written: No space left on device\n"),
+        (">&-", b"standard output: can't be written"),
+        ("| head -n 1", b""),
+    ],
+)
+def test_standard_output(redirected: str, told: bytes) -> None:
+    run = ask_shell(f"set -o pipefail; DIFF one other {redirected}", stdout=subprocess.DEVNULL)
+    assert (told in run.stderr, bool(run.stderr)) == (True, bool(told)), run.stderr
+    assert run.returncode == 2 or not told
+
+
+def test_other_letters() -> None:
+    """Letters are UTF-8 whatever the terminal takes, and names of files are shown on one line."""
+    county = made_county(2, 2, 1)
+    put("one\n\xe9", written(county))
+    county.chains[0].fields["FENAME"] = "Caf\xe9"
+    put("other", written(county))
+    ended = ask("one\n\xe9", "other", env={"PYTHONIOENCODING": "ascii", "PYTHONUTF8": "0"})
+    assert (ended.status, ended.err) == (1, "")
+    assert "Caf\xe9" in ended.out
+    assert "one\\n\xe9" in ended.out.splitlines()[0]
+
+
+@pytest.mark.parametrize("number", [signal.SIGTERM, signal.SIGINT, signal.SIGHUP])
+def test_stopped(number: signal.Signals) -> None:
+    """A run that a signal ends leaves nothing behind, and one that takes long reports its progress."""
+    slow = put_program("slow", SLOW)
+    before = sorted(os.listdir("."))
+    run = begin("diff", "--geojson", "stopped", "one", "other", env={"TIGERCANON": slow})
+    assert run.stderr and run.stderr.readline() == f"{NAME}normalising both sets\n".encode()
+    assert sorted(os.listdir(".")) != before
+    os.kill(run.pid, number)
+    ended = end(run, 60)
+    assert ended.status in (128 + number, -number)
+    assert (ended.out, sorted(os.listdir("."))) == ("", before)

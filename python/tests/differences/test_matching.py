@@ -1,0 +1,242 @@
+"""How small counties are matched and reported. They are read as they are written, without the program."""
+
+from __future__ import annotations
+
+import copy
+from typing import Any, Callable, Optional
+
+import pytest
+
+from tigercanon.differences.fields import decimal, degrees, landmark_rows, rows
+from tigercanon.differences.matching import Comparison, compare
+from tigercanon.differences.page import page_data, shift_of
+from tigercanon.differences.reading import NotCanonical, read_county
+from tigercanon.differences.words import ONE_MAP, TIED, told
+
+from .county import Chain, County, Landmark, Polygon, made_county, written
+from .reports import sets_of
+
+Told = tuple[str, Optional[str], Optional[str]]
+"""The label of a field that differs, and what both maps say."""
+
+
+def compared(first: County, second: County) -> Comparison:
+    return compare(read_county(written(first)), read_county(written(second)))
+
+
+def words_of(first: County, second: County) -> str:
+    """The printed report."""
+    return "\n".join(told(compared(first, second), sets_of(written(first), written(second))))
+
+
+def chain_between(points: list[tuple[int, int]], **values: Any) -> Chain:
+    """A chain through these points, between the polygons 0 and 1."""
+    return Chain({"FENAME": "Main", "CFCC": "A41"}, points, 1, 2, 0, 1, **values)
+
+
+def two_sided(*chains: Chain) -> County:
+    """A county with these chains and two polygons."""
+    polygons = [Polygon({"FILE": "01001"}, (-86_000_000 + place, 32_000_000)) for place in range(2)]
+    return County(list(chains), [{"FENAME": "Old Rd"}, {"FENAME": "Old Rd"}], polygons, [])
+
+
+def differing_chain(change: Callable[[Chain], None]) -> list[Told]:
+    """The differences in the only chain of two counties, after a change of one of them."""
+    first = two_sided(chain_between([(1, 1), (2, 5), (9, 9)]))
+    second = copy.deepcopy(first)
+    change(second.chains[0])
+    comparison = compared(first, second)
+    assert comparison.chains.counts == (0, 0, 1, 0)
+    one, other = comparison.chains.changed[0]
+    table = rows(comparison.first.chain(one), comparison.second.chain(other))
+    return [(row.name.label, row.first, row.second) for row in table if row.differs]
+
+
+@pytest.mark.parametrize(
+    "change, wanted",
+    [
+        (lambda chain: chain.fields.update(FENAME="Maple"), [("FENAME", "Main", "Maple")]),
+        (lambda chain: chain.fields.update(FENAME=""), [("FENAME", "Main", "(blank)")]),
+        (lambda chain: chain.fields.update(FENAME=" Main"), [("FENAME", f'"{"Main":30}"', f'"{" Main":30}"')]),
+        (lambda chain: chain.fields.update(SOURCE="A"), [("SOURCE", "(blank)", "A")]),
+        (lambda chain: chain.link.update(SOURCE="A"), [("SOURCE of type I", "(blank)", "A")]),
+        (lambda chain: chain.names.append(0), [("further name 1", "(none)", "Old Rd")]),
+        (lambda chain: chain.ranges.append({}), [("range 1", "no", "yes")]),
+        (lambda chain: chain.ranges.append({"ZIPL": "36067"}), [("range 1", "no", "yes"), ("ZIPL of range 1", "(none)", "36067")]),
+        (lambda chain: setattr(chain, "start", None), [("start node", "yes", "no")]),
+        (lambda chain: setattr(chain, "end", None), [("end node", "yes", "no")]),
+        (lambda chain: setattr(chain, "left", None), [("left polygon", "at 32.000000° N, 86.000000° W", "(none)")]),
+        (
+            lambda chain: setattr(chain, "right", 0),
+            [("right polygon", "at 32.000000° N, 85.999999° W", "at 32.000000° N, 86.000000° W")],
+        ),
+    ],
+)
+def test_fields(change: Callable[[Chain], None], wanted: list[Told]) -> None:
+    assert differing_chain(change) == wanted
+
+
+def test_chains_of_one_shape() -> None:
+    """They are matched as a multiset, by their fields."""
+    points = [(1, 1), (2, 5), (9, 9)]
+    one, other, third = (chain_between(points) for _ in range(3))
+    other.fields["FENAME"] = "Upper Main"
+    third.fields.update(FENAME="Upper Main", CFCC="A31")
+    assert compared(two_sided(one, other), two_sided(other, one)).chains.counts == (0, 0, 0, 2)
+    assert compared(two_sided(one, other), two_sided(third, one)).chains.counts == (0, 0, 1, 1)
+    assert compared(two_sided(one, one), two_sided(one)).chains.counts == (1, 0, 0, 1)
+    comparison = compared(two_sided(one, other), two_sided(third, other, one))
+    assert comparison.chains.counts == (0, 1, 0, 2)
+    assert comparison.ties == []
+
+
+def test_own_reverse() -> None:
+    """A chain whose points are the same from both ends may be seen from either."""
+    chain = chain_between([(1, 1), (2, 5), (1, 1)])
+    chain.fields.update(FRADDL="1", TOADDR="9")
+    turned = chain_between([(1, 1), (2, 5), (1, 1)])
+    turned.fields.update(FRADDL="9", TOADDR="1")
+    turned.left, turned.right = 1, 0
+    assert compared(two_sided(chain), two_sided(turned)).chains.counts == (0, 0, 0, 1)
+    turned.fields["FENAME"] = "Maple"
+    comparison = compared(two_sided(chain), two_sided(turned))
+    one, other = comparison.chains.changed[0]
+    table = rows(comparison.first.chain(one), comparison.second.chain(other))
+    assert [row.name.label for row in table if row.differs] == ["FENAME"]
+
+
+@pytest.mark.parametrize(
+    "change",
+    [
+        lambda polygon: polygon.fields.update(WATER="9"),
+        lambda polygon: setattr(polygon, "point", (-86_470_001, 32_460_001)),
+        lambda polygon: setattr(polygon, "point", None),
+        lambda polygon: setattr(polygon, "has_record", False),
+    ],
+)
+def test_polygons(change: Callable[[Polygon], None]) -> None:
+    """A polygon that changed is reported once, and not again at the chains beside it."""
+    county = made_county(4, 4, 1)
+    other = copy.deepcopy(county)
+    change(other.polygons[2])
+    comparison = compared(county, other)
+    assert comparison.polygons.counts == (0, 0, 1, len(county.polygons) - 1)
+    assert comparison.chains.is_alike and comparison.landmarks.is_alike
+
+
+@pytest.mark.parametrize(
+    "change, labels",
+    [
+        (lambda landmark: landmark.polygons.remove(1), ["polygon 3"]),
+        (lambda landmark: landmark.fields.update(LANAME="Short Park"), ["LANAME"]),
+        (lambda landmark: landmark.fields.update(CFCC="D84"), ["CFCC"]),
+        (lambda landmark: setattr(landmark, "point", (5, 5)), ["LALONG, LALAT"]),
+    ],
+)
+def test_landmarks(change: Callable[[Landmark], None], labels: list[str]) -> None:
+    county = made_county(4, 4, 1)
+    county.landmarks.append(Landmark({"FILE": "01001", "CFCC": "D85", "LANAME": "Long Park"}, None, [0, 1, 2]))
+    other = copy.deepcopy(county)
+    change(other.landmarks[-1])
+    comparison = compared(county, other)
+    assert comparison.landmarks.counts == (0, 0, 1, len(county.landmarks) - 1)
+    table = landmark_rows(comparison.first, comparison.second, *comparison.landmarks.changed[0])
+    assert [row.name.label for row in table if row.differs] == labels
+
+
+def test_names() -> None:
+    county = made_county(4, 4, 1)
+    other = copy.deepcopy(county)
+    other.names.append({"FENAME": "Unused"})
+    comparison = compared(county, other)
+    assert comparison.names.counts == (0, 1, 0, 2)
+    assert not (comparison.is_alike)
+    assert "  Unused, FILE (blank), a further name of no chains" in words_of(county, other).splitlines()
+
+
+def test_nothing() -> None:
+    empty = County([], [], [], [])
+    assert ONE_MAP in words_of(empty, empty)
+    county = made_county(2, 2, 1)
+    assert compared(empty, county).chains.counts == (0, len(county.chains), 0, 0)
+    page_data(compared(empty, empty), sets_of(b"", b""))
+
+
+def test_what_is_no_canonical_text() -> None:
+    good = written(made_county(2, 2, 1))
+    for text in (b"x\n", good[:-1], good + b"\n", good.replace(b"I2006", b"Z2006")):
+        with pytest.raises(NotCanonical):
+            read_county(text)
+
+
+def test_date_line() -> None:
+    """A map across the line of 180 degrees is drawn in one piece."""
+    west = chain_between([(-179_000_000, 51_000_000), (-179_000_001, 51_000_000)])
+    east = chain_between([(179_000_000, 51_000_000), (179_000_001, 51_000_000)])
+    county = two_sided(west, east)
+    comparison = compared(county, two_sided(west))
+    assert shift_of(comparison) == 360_000_000
+    data = page_data(comparison, sets_of(b"x", b"y"))
+    assert data["entries"][0]["line"] == [-181_000_000, 51_000_000, 1, 0]
+
+
+@pytest.mark.parametrize(
+    "point, words, numbers",
+    [
+        ("-086477532+32464118", "32.464118° N, 86.477532° W", ("-86.477532", "32.464118")),
+        ("+179000001-05000020", "5.000020° S, 179.000001° E", ("179.000001", "-5.000020")),
+        ("-000000001+00000000", "0.000000° N, 0.000001° W", ("-0.000001", "0.000000")),
+        ("+999999999-99999999", "99.999999° S, 999.999999° E", ("999.999999", "-99.999999")),
+    ],
+)
+def test_degrees(point: str, words: str, numbers: tuple[str, str]) -> None:
+    assert degrees(point) == words
+    assert (decimal(point[:10]), decimal(point[10:])) == numbers
+
+
+# Maps in which nothing differs except how things are tied
+
+
+def assert_tied(first: County, second: County, *lines: str) -> None:
+    comparison = compared(first, second)
+    assert comparison.is_alike
+    text = words_of(first, second)
+    assert TIED in text
+    for line in lines:
+        assert line in text
+
+
+def test_tied_nodes() -> None:
+    first = two_sided(chain_between([(1, 1), (5, 5)]), chain_between([(1, 1), (6, 6)]))
+    second = copy.deepcopy(first)
+    second.chains[1].start = 7
+    assert_tied(first, second, "one node in the first, 2 in the second:", "start of Main (A41), 0.000001° N, 0.000001° E")
+    assert_tied(second, first, "one node in the second, 2 in the first:")
+
+
+def test_tied_polygons() -> None:
+    """Polygons without records differ only in the sides that they are on."""
+    first = two_sided(chain_between([(1, 1), (5, 5)]), chain_between([(1, 1), (6, 6)]))
+    first.polygons = [Polygon({}, None, False) for _ in range(3)]
+    first.chains.append(chain_between([(3, 3), (4, 4)]))
+    first.chains[2].right = 2
+    second = copy.deepcopy(first)
+    second.chains[1].right = 2
+    assert_tied(first, second, "one polygon in the first, 2 in the second:", "right side of Main (A41)")
+
+
+def test_tied_names() -> None:
+    first = two_sided(chain_between([(1, 1), (5, 5)], names=[0]), chain_between([(1, 1), (6, 6)], names=[1]))
+    second = copy.deepcopy(first)
+    second.chains[1].names = [0]
+    assert_tied(first, second, "one feature name in the second, 2 in the first:", "further name 1 of Main (A41)")
+
+
+def test_tied_landmarks() -> None:
+    """Landmarks with the same content in polygons with the same content."""
+    first = two_sided(chain_between([(1, 1), (5, 5)]))
+    first.polygons = [Polygon({}, None, False) for _ in range(2)]
+    first.landmarks = [Landmark({"LANAME": "Park"}, None, [0]), Landmark({"LANAME": "Park"}, None, [0])]
+    second = copy.deepcopy(first)
+    second.landmarks[1].polygons = [1]
+    assert_tied(first, second)

@@ -1,0 +1,263 @@
+"""The page in a browser: what it shows, by the pointer and by the keyboard."""
+
+from __future__ import annotations
+
+import base64
+import re
+import shutil
+import subprocess
+from collections import Counter
+from pathlib import Path
+from typing import Any, Iterator, NamedTuple
+
+import pytest
+from support import ROOT
+
+from .browser import Browser, needs_browser
+from .changes import Changing, much_changed
+from .county import County, made_county, written
+from .example import example
+from .reports import EXAMPLE, diff, put_in
+
+SCRIPT = "<script>alert(1)</script>"
+PICTURE = "<img src=x onerror=alert(1)>"
+
+pytestmark = [pytest.mark.browser, needs_browser]
+NAMES_OF_KINDS = {"in the first alone": "first", "in the second alone": "second", "changed": "changed"}
+
+COVERED_BUTTONS = """
+const { map } = window.differences;
+map.panBy = (offset) => Object.getPrototypeOf(map).panBy.call(map, offset, { animate: false });
+const covered = [];
+for (const button of [...document.querySelectorAll('#list button')].filter((_, place) => place % 4 === 0)) {
+  button.click();
+  const close = document.querySelector('.leaflet-popup-close-button');
+  if (!close) continue;
+  const { left, top, width, height } = close.getBoundingClientRect();
+  const seen = document.elementFromPoint(left + width / 2, top + height / 2);
+  if (!seen || !close.contains(seen)) covered.push(button.innerText);
+}
+return covered;
+"""
+
+BROKEN_WORDS = """
+const broken = [];
+for (const piece of document.querySelectorAll('.sets .name span')) {
+  const range = document.createRange();
+  range.selectNodeContents(piece);
+  if (range.getClientRects().length > 1) broken.push(piece.textContent);
+}
+return broken;
+"""
+
+
+class Town(NamedTuple):
+    """A county, how it has changed, and the page of both."""
+
+    county: County
+    changing: Changing
+    page: Path
+
+
+@pytest.fixture(scope="module")
+def window() -> Iterator[Browser]:
+    """One browser for all tests here."""
+    opened = Browser()
+    yield opened
+    opened.quit()
+
+
+@pytest.fixture
+def browser(window: Browser) -> Iterator[Browser]:
+    """The browser, with nothing in its log before the test nor after it."""
+    window.resize(1400, 900)
+    window.complaints()
+    window.requests()
+    yield window
+    assert window.complaints() == []
+
+
+def page_of(folder: Path, name: str, first: bytes, second: bytes) -> Path:
+    """A page of two sets."""
+    one, other = put_in(folder, f"{name}-<b>first", first), put_in(folder, f"{name}-<b>second", second)
+    ended = diff("--page", folder / f"{name}.html", one, other)
+    assert ended.err == ""
+    return folder / f"{name}.html"
+
+
+@pytest.fixture(scope="module")
+def town(tmp_path_factory: pytest.TempPathFactory) -> Town:
+    folder = tmp_path_factory.mktemp("town")
+    county = made_county(20, 20, 20)
+    changing = much_changed(county, 21)
+    changing.rename(1, SCRIPT)
+    changing.county.landmarks[-1].fields["LANAME"] = PICTURE
+    return Town(county, changing, page_of(folder, "page", written(county, 22), written(changing.county, 23)))
+
+
+class TestPage:
+    @pytest.fixture(autouse=True)
+    def opened(self, browser: Browser, town: Town) -> None:
+        browser.open(town.page)
+
+    def test_nothing_is_asked_for(self, browser: Browser, town: Town) -> None:
+        assert set(browser.requests()) == {town.page.as_uri()}
+
+    def test_head(self, browser: Browser, town: Town) -> None:
+        head = browser.texts(".sets")[0]
+        assert "page-<b>first" in head
+        assert re.search(r"\b[0-9a-f]{64}\b", head)
+        assert "all fields" in head
+
+    def test_counts(self, browser: Browser, town: Town) -> None:
+        told = Counter((difference.what, NAMES_OF_KINDS[difference.kind]) for difference in town.changing.differences)
+        parts: dict[str, list[Any]] = {
+            "chain": town.county.chains,
+            "landmark": town.county.landmarks,
+            "polygon": town.county.polygons,
+        }
+        for what, things in parts.items():
+            told[what, "alike"] = len(things) - told[what, "first"] - told[what, "changed"]
+            for kind in ("first", "second", "changed", "alike"):
+                shown = browser.texts(f'#legend [data-kind="{kind}"][data-subject="{what}"]')[0]
+                assert int(shown.replace(",", "")) == told[what, kind], (what, kind)
+        assert browser.listed() == len(town.changing.differences) + len(town.changing.names)
+
+    def test_letters(self, browser: Browser, town: Town) -> None:
+        """What looks like markup is shown as letters, in the list, in popups and in the legend."""
+        for text in (SCRIPT, PICTURE):
+            browser.filter(text)
+            assert browser.listed() == 1
+            assert text in browser.texts("#list")[0]
+            browser.click("#list button")
+            assert text in browser.texts(".leaflet-popup-content")[0]
+        assert browser.run("return document.querySelectorAll('#map img, #list img, #list script').length") == 0
+
+    def test_popup_at_a_chain(self, browser: Browser, town: Town) -> None:
+        title = browser.click_at_changed("Changed")
+        popup = browser.texts(".leaflet-popup-content")[0]
+        assert "chain changed" in popup
+        assert title in popup
+        assert browser.texts(".leaflet-popup-content .differs th")[0].split("\n")[0] == "FENAME"
+        assert browser.texts(".leaflet-popup-content .differs td")[1] == "Changed"
+        assert len(browser.texts(".leaflet-popup-content .differs")) == 1
+        assert title in browser.texts("#list [aria-current]")[0]
+
+    def test_list_goes_to_the_place(self, browser: Browser, town: Town) -> None:
+        browser.filter("in the first alone chain")
+        assert browser.listed() == 35
+        for place in (1, 20):
+            browser.click(f"#list li:nth-child({place}) button")
+            assert browser.run(
+                "const { map, entries } = window.differences;"
+                "const entry = entries[document.querySelector('#list [aria-current]').dataset.entry];"
+                "return entry.line.every((point) => map.getBounds().contains(point)) && map.getZoom() > 13;"
+            )
+            assert "chain in the first alone" in browser.texts(".leaflet-popup-content")[0]
+
+    def test_keyboard(self, browser: Browser, town: Town) -> None:
+        """The list is one stop of the tabulator; arrows move in it, Enter goes to the map, and Escape comes back."""
+        down, up, enter, escape, tab = "\ue015", "\ue013", "\ue007", "\ue00c", "\ue004"
+        browser.run("document.getElementById('filter').focus()")
+        browser.press(tab, down, down, up, enter)
+        assert browser.run("return document.querySelector('.leaflet-popup-content').contains(document.activeElement)")
+        browser.press(escape)
+        assert browser.texts(".leaflet-popup-content") == []
+        assert browser.run("return document.activeElement === document.querySelector('#list li:nth-child(2) button')")
+
+    def test_layers(self, browser: Browser, town: Town) -> None:
+        """A layer that is hidden is gone from the map and from the list, and comes back."""
+        all_listed = browser.listed()
+        for kind, (name, what, number) in enumerate(
+            (("first", "chain", 35), ("second", "landmark", 3), ("changed", "chain", 48), ("changed", "polygon", 5))
+        ):
+            box = f'#legend [data-kind="{name}"][data-subject="{what}"] input'
+            shown = f"const {{ map, layers }} = window.differences; return map.hasLayer(layers[{min(kind, 2)}]['{what}']);"
+            for is_shown in (False, True):
+                browser.click(box)
+                assert browser.listed() == all_listed - number * (not is_shown)
+                assert browser.run(shown) == is_shown
+
+    def test_print(self, browser: Browser, town: Town) -> None:
+        """A printed page has the whole list, and the page is afterwards as it was."""
+        before = browser.run("return JSON.stringify(window.differences.map.getBounds())")
+        browser.run(
+            "window.addEventListener('beforeprint', () => { window.printed = document.querySelectorAll('#list li').length; });"
+        )
+        assert len(browser.driver.print_page()) > 10_000
+        assert browser.run("return window.printed") == browser.listed()
+        assert browser.run("return JSON.stringify(window.differences.map.getBounds())") == before
+
+    def test_printed_map(self, browser: Browser, town: Town, room: Path) -> None:
+        """The map is whole on the first sheet, with its scale, whichever way the paper lies."""
+        if not shutil.which("pdftotext"):
+            pytest.skip("no poppler-utils")
+        for orientation in ("portrait", "landscape"):
+            options = browser.paper(orientation)
+            printed = room / "printed.pdf"
+            printed.write_bytes(base64.b64decode(browser.driver.print_page(options)))
+            words = ["pdftotext", "-f", "1", "-l", "1", str(printed), "-"]
+            text = subprocess.run(words, check=True, stdout=subprocess.PIPE).stdout.decode()
+            assert re.search(r"(?m)^ *\d+ k?m$", text)
+            assert re.search(r"(?m)^ *\d+ (ft|mi)$", text)
+
+
+class TestLayout:
+    """What lies over what, in windows of several sizes."""
+
+    @pytest.fixture(scope="class")
+    def page(self, tmp_path_factory: pytest.TempPathFactory) -> Path:
+        folder = tmp_path_factory.mktemp("layout") / "a-folder-with-a-long-name/another-folder-with-a-long-name"
+        folder.mkdir(parents=True)
+        county = made_county(20, 20, 20)
+        return page_of(folder, "TGR01001", written(county, 22), written(much_changed(county, 21).county, 23))
+
+    @pytest.mark.parametrize("width, height", [(1300, 850), (1000, 600)])
+    def test_close_button(self, browser: Browser, page: Path, width: int, height: int) -> None:
+        """Nothing lies over a popup's close button, wherever the popup is opened."""
+        browser.resize(width, height)
+        browser.open(page)
+        assert browser.run(COVERED_BUTTONS) == []
+
+    def test_paths(self, browser: Browser, page: Path) -> None:
+        """In a narrow window a path is broken between folders alone."""
+        browser.resize(420, 800)
+        browser.open(page)
+        assert browser.run(BROKEN_WORDS) == []
+        assert browser.run("return document.querySelector('.sets .name').getClientRects()[0].height") > 30
+
+
+class TestVerdicts:
+    """Pages of maps that don't differ, or only in how things are tied."""
+
+    def test_one_map(self, browser: Browser, room: Path) -> None:
+        county = made_county(6, 6, 24)
+        browser.open(page_of(room, "same", written(county, 25), written(county, 26)))
+        assert browser.texts("#notes") == ["No differences: the two are one map."]
+        assert browser.texts("#list li") == []
+
+    def test_nothing(self, browser: Browser, room: Path) -> None:
+        browser.open(page_of(room, "nothing", b"", b""))
+        assert browser.texts("#notes") == ["No differences: the two are one map."]
+
+    def test_ties(self, browser: Browser, room: Path) -> None:
+        county = made_county(10, 10, 27)
+        changing = Changing.begin(county, 28)
+        changing.split_nodes(1)
+        browser.open(page_of(room, "tied", written(county, 29), written(changing.county, 30)))
+        assert "What differs is how they are tied" in browser.texts("#notes")[0]
+        assert len(browser.texts("#list li")) == 1
+        browser.click("#list button")
+        assert "one node in the first, 2 in the second" in browser.texts(".leaflet-popup-content")[0]
+
+
+def test_picture(browser: Browser, room: Path) -> None:
+    """The example in examples/two-maps, and the picture of its page."""
+    ended = diff("--page", room / "example.html", "two-maps/first.txt", "two-maps/second.txt", cwd=EXAMPLE.parent)
+    assert (ended.status, ended.err) == (1, "")
+    browser.resize(1280, 800)
+    browser.open(room / "example.html")
+    assert browser.texts("#listed") == [f"{len(example()[1].differences) + 1} in all"]
+    browser.click_at_changed("Commerce")
+    assert "Commerce" in browser.texts(".leaflet-popup-content")[0]
+    assert (ROOT / "docs/differences.png").stat().st_size < 150_000

@@ -1,0 +1,240 @@
+"""Calls of the tools, waiting, and a Dask scheduler with workers."""
+
+from __future__ import annotations
+
+import ctypes
+import hashlib
+import os
+import shutil
+import signal
+import subprocess
+import sys
+import tempfile
+import time
+from importlib.machinery import SourceFileLoader
+from importlib.util import module_from_spec, spec_from_loader
+from pathlib import Path
+from typing import Any, Callable, Iterator, NamedTuple
+
+PACKAGE = Path(__file__).resolve().parent.parent
+ROOT = PACKAGE.parent
+TYPES = "1245678IP"
+NAME = "tigercanon-tools: "
+PATIENCE = 300.0
+"""No call takes longer than this many seconds."""
+
+PR_SET_PDEATHSIG = 1
+
+STAND_IN = r"""#!/bin/bash
+# Prints the hash of the flags and the first file. Words in that file make it do something else.
+[ "$1" = fingerprint ] || exit 0
+shift
+flags="" stem=""
+while [ "$1" != -- ]; do
+    if [ "$1" = --stem ]; then stem=.RT1; else flags+="$1 "; fi
+    shift
+done
+echo "$2" >>"$ROOM/calls"
+file="$2$stem"
+[ -e "$file" ] || { echo "refused 8 Device" >&2; exit 4; }
+read -r word <"$file"
+while [ "$word" = waits ] && [ -e "$ROOM/waits" ]; do sleep 0.05; done
+case "$word" in
+    broken) echo "refused 1 UnknownType 1 1" >&2; exit 3 ;;
+    killed) kill -KILL "$$" ;;
+    wanting) echo "refused 9 Memory" >&2; exit 5 ;;
+    once) if [ ! -e "$ROOM/tried" ]; then touch "$ROOM/tried"; echo "refused 9 Memory" >&2; exit 5; fi ;;
+    four) printf '%064d\n' 7; exit 4 ;;
+    silent) exit 6 ;;
+    chatty) echo "no fingerprint"; exit 0 ;;
+    limited) echo "refused 1 Limit $(ulimit -v)" >&2; exit 3 ;;
+esac
+{ printf %s "$flags"; cat "$file"; } | sha256sum | cut -c 1-64
+"""
+
+
+def script(place: str) -> Any:
+    """A script of the repository as a module."""
+    loader = SourceFileLoader(Path(place).name.replace("-", "_"), str(ROOT / place))
+    spec = spec_from_loader(loader.name, loader)
+    assert spec
+    module = module_from_spec(spec)
+    loader.exec_module(module)
+    return module
+
+
+def digest(text: bytes, flags: str = "") -> str:
+    """The fingerprint that the stand-in prints."""
+    return hashlib.sha256((f"{flags} " if flags else "").encode() + text).hexdigest()
+
+
+def built_program() -> str | None:
+    """The program that TIGERCANON names, or that was built last."""
+    named = os.environ.get("TIGERCANON") or str(ROOT / "crates/tigercanon_main/out/tigercanon_main")
+    return os.path.abspath(named) if os.access(named, os.X_OK) else None
+
+
+class Ended(NamedTuple):
+    """How a call ended."""
+
+    status: int
+    out: str
+    err: str
+
+    @property
+    def lines(self) -> list[str]:
+        """What was reported, without the command's name."""
+        return [line[len(NAME) :] for line in self.err.splitlines() if line.startswith(NAME)]
+
+    @property
+    def reports(self) -> dict[str, str]:
+        """What was reported of single counties."""
+        parts = [line.partition(": ") for line in self.lines]
+        return {stem: text for stem, _, text in parts if "/" in stem and text}
+
+
+def die_with_the_test() -> None:
+    """Has the process that starts here end with this one, however this one ends."""
+    ctypes.CDLL(None).prctl(PR_SET_PDEATHSIG, signal.SIGKILL)
+
+
+def environment(**more: str) -> dict[str, str]:
+    return {**os.environ, "PYTHONPATH": str(PACKAGE), "PYTHONDONTWRITEBYTECODE": "1", **more}
+
+
+def words_of(*words: object) -> list[str]:
+    return [sys.executable, "-m", "tigercanon", *map(str, words)]
+
+
+def call(*words: object, env: dict[str, str] | None = None, **options: Any) -> Ended:
+    """Calls the tools in the current folder."""
+    options = {"stdout": subprocess.PIPE, "stderr": subprocess.PIPE, "preexec_fn": die_with_the_test, **options}
+    run = subprocess.run(words_of(*words), env=environment(**(env or {})), stdin=subprocess.DEVNULL, timeout=PATIENCE, **options)
+    return ended(run.returncode, run.stdout, run.stderr)
+
+
+def ended(status: int, out: bytes | None, err: bytes | None) -> Ended:
+    return Ended(status, os.fsdecode(out or b""), os.fsdecode(err or b""))
+
+
+def begin(*words: object, env: dict[str, str] | None = None, **options: Any) -> "subprocess.Popen[bytes]":
+    """Starts the tools in the current folder."""
+    options = {"stdout": subprocess.PIPE, "stderr": subprocess.PIPE, "preexec_fn": die_with_the_test, **options}
+    return subprocess.Popen(
+        words_of(*words), env=environment(**(env or {})), stdin=subprocess.DEVNULL, start_new_session=True, **options
+    )
+
+
+def end(run: "subprocess.Popen[bytes]", seconds: float = PATIENCE) -> Ended:
+    """Waits for a call that was started. If it takes too long it is killed with all that it started."""
+    try:
+        out, err = run.communicate(timeout=seconds)
+    finally:
+        kill_group(run)
+    return ended(run.returncode, out, err)
+
+
+def kill_group(run: "subprocess.Popen[bytes]") -> None:
+    try:
+        os.killpg(run.pid, signal.SIGKILL)
+    except ProcessLookupError:
+        pass
+    run.wait()
+
+
+def await_that(holds: Callable[[], Any], seconds: float = 60.0) -> bool:
+    """Waits until something holds. Returns whether it did."""
+    until = time.monotonic() + seconds
+    while not holds():
+        if time.monotonic() > until:
+            return False
+        time.sleep(0.02)
+    return True
+
+
+def count_of_lines(name: str) -> int:
+    """The whole lines of a file, which may not be there yet."""
+    return Path(name).read_bytes().count(b"\n") if os.path.exists(name) else 0
+
+
+def put(name: str, text: bytes = b"") -> Path:
+    """Writes a file in the current folder."""
+    path = Path(name)
+    path.parent.mkdir(parents=True, exist_ok=True)
+    path.write_bytes(text)
+    return path
+
+
+def complete(stem: str, first: bytes) -> None:
+    """Writes all nine files of a county; the stand-in looks at the first alone."""
+    for kind in TYPES:
+        put(f"{stem}.RT{kind}", first if kind == "1" else b"x\n")
+
+
+def processes_with(word: str) -> list[int]:
+    """The processes with this word in their command lines that haven't ended."""
+    found = []
+    for status in Path("/proc").glob("[0-9]*/stat"):
+        try:
+            state = status.read_text().rpartition(")")[2].split()[0]
+            command = (status.parent / "cmdline").read_bytes()
+        except OSError:
+            continue
+        if state != "Z" and word.encode() in command:
+            found.append(int(status.parent.name))
+    return found
+
+
+def children_of(parents: list[int]) -> Iterator[int]:
+    for status in Path("/proc").glob("[0-9]*/stat"):
+        try:
+            words = status.read_text().rpartition(")")[2].split()
+        except OSError:
+            continue
+        if words[0] != "Z" and int(words[1]) in parents:
+            yield int(status.parent.name)
+
+
+def left_behind() -> list[str]:
+    """Temporary folders of runs, here and in memory."""
+    rooms = [Path(os.environ["TMPDIR"]), Path(os.environ["TIGERCANON_SHM"])]
+    return [str(path) for room in rooms for path in room.glob("tigercanon-*")]
+
+
+class Engine:
+    """A Dask scheduler and workers on 127.0.0.1, each a process as a cluster starts it. The package isn't installed on the workers."""
+
+    def __init__(self, room: Path, workers: int = 3, threads: int = 1) -> None:
+        self.room = Path(tempfile.mkdtemp(dir=room))
+        self.file = self.room / "scheduler.json"
+        self.workers: list["subprocess.Popen[bytes]"] = []
+        self.scheduler = self.begin("scheduler", "--port", "0", "--dashboard-address", "127.0.0.1:0")
+        if not await_that(self.file.exists):
+            self.close()
+            raise AssertionError("the scheduler doesn't start")
+        for _ in range(workers):
+            self.start_worker(threads)
+
+    def start_worker(self, threads: int = 1) -> None:
+        words = f"--nthreads {threads} --memory-limit 2GB --no-dashboard --local-directory".split()
+        self.workers.append(self.begin("worker", *words, str(self.room)))
+
+    def begin(self, kind: str, *words: str) -> "subprocess.Popen[bytes]":
+        module = f"distributed.cli.dask_{kind}"
+        command = [sys.executable, "-m", module, "--scheduler-file", str(self.file), "--host", "127.0.0.1", *words]
+        kept = {key: text for key, text in os.environ.items() if key != "PYTHONPATH"}
+        with open(self.room / f"{kind}.log", "ab") as log:
+            streams: dict[str, Any] = {"stdin": subprocess.DEVNULL, "stdout": log, "stderr": log}
+            return subprocess.Popen(
+                command, cwd=self.room, env=kept, start_new_session=True, preexec_fn=die_with_the_test, **streams
+            )
+
+    def worker_processes(self) -> list[int]:
+        """The processes that run tasks: the children of the workers' nannies."""
+        nannies = [worker.pid for worker in self.workers]
+        return [pid for pid in children_of(nannies) if b"spawn_main" in Path(f"/proc/{pid}/cmdline").read_bytes()]
+
+    def close(self) -> None:
+        for run in (*self.workers, self.scheduler):
+            kill_group(run)
+        shutil.rmtree(self.room, ignore_errors=True)

@@ -1,0 +1,240 @@
+"""Whole runs over 300 counties by the real program, here and by a Dask scheduler whose workers are killed."""
+
+from __future__ import annotations
+
+import os
+import re
+import signal
+import subprocess
+from concurrent.futures import ThreadPoolExecutor
+from importlib.util import find_spec
+from pathlib import Path
+from typing import Iterator, NamedTuple
+
+import made
+import pytest
+from conftest import PROGRAM
+from support import TYPES, Engine, await_that, begin, call, count_of_lines, end, left_behind, put
+
+from tigercanon.judge import endings
+
+needs_dask = pytest.mark.skipif(not find_spec("distributed"), reason="distributed isn't installed")
+
+
+class Archive(NamedTuple):
+    """The folder, and what is expected: the lines of the manifest, and the reports."""
+
+    folder: Path
+    lines: list[str]
+    reports: dict[str, str]
+
+
+def by_program(program: str, county: made.Made, folder: Path) -> "subprocess.CompletedProcess[str]":
+    """What the program itself answers for a county as single files."""
+    made.put_files(folder, county)
+    return subprocess.run([program, "fingerprint", "--stem", "--", folder / county.stem], capture_output=True, text=True)
+
+
+@pytest.fixture(scope="module")
+def expected(tmp_path_factory: pytest.TempPathFactory) -> Iterator[Archive]:
+    """What the program prints for each county alone."""
+    if not PROGRAM:
+        pytest.skip("no program is built")
+    folder = tmp_path_factory.mktemp("files")
+    counties = made.counties()
+    with ThreadPoolExecutor() as pool:
+        runs = list(pool.map(lambda county: by_program(str(PROGRAM), county, folder), counties))
+    lines, reports = ["# tigercanon form 1"], {}
+    for county, run in sorted(zip(counties, runs), key=lambda pair: pair[0].stem):
+        missing = [kind for kind in TYPES if kind not in county.parts]
+        empty = ["empty .RT1"] if county.parts.get("1") == b"" else []
+        notes = [*([f"no {endings(missing)}"] if missing else []), *empty]
+        if run.returncode == 0:
+            lines.append(f"{run.stdout.strip()}  {county.stem}")
+        else:
+            notes.insert(0, run.stderr.strip())
+        if notes:
+            reports[county.stem] = "; ".join(notes)
+    yield Archive(folder, lines, reports)
+
+
+@pytest.fixture
+def archive(room: Path, program: str, expected: Archive) -> Archive:
+    made.put_archive(room, made.counties())
+    return expected
+
+
+@pytest.fixture
+def slow(room: Path, program: str, monkeypatch: pytest.MonkeyPatch) -> Path:
+    """The program, which waits a moment before it answers. For some files it ends its parent, which is the worker."""
+    path = room / "slow"
+    path.write_text(
+        f"""#!/bin/bash
+if [ "$1" = fingerprint ]; then
+    sleep 0.05
+    for file in "${{@: -1}}.RT1" "${{@: -1}}"; do
+        if [ -e "$file" ] && [ "$(head -c 4 "$file")" = kill ]; then kill -KILL "$PPID"; fi
+    done
+fi
+exec {program} "$@"
+"""
+    )
+    path.chmod(0o755)
+    monkeypatch.setenv("TIGERCANON", str(path))
+    return path
+
+
+def plain(reports: dict[str, str]) -> dict[str, str]:
+    """Reports without hints, which the program itself doesn't print."""
+    return {stem: re.sub(r"; (the file|there is) .*$", "", text) for stem, text in reports.items()}
+
+
+def assert_all_done(archive: Archive, killed: int = 0) -> None:
+    """The manifest is whole, and nothing is left behind; a killed worker's folder is removed by a later run."""
+    assert Path("m").read_text().splitlines() == archive.lines
+    if killed:
+        assert len(left_behind()) <= killed
+        for folder in left_behind():
+            os.utime(folder, (0, 0))
+        assert call("verify", "m", env={"TIGERCANON": "/bin/true"}).status == 1
+    assert left_behind() == []
+    assert not os.path.exists("m.lock") and not os.path.exists("m.new")
+
+
+def test_most_counties_have_a_fingerprint(expected: Archive) -> None:
+    assert made.COUNTIES * 8 // 10 < len(expected.lines) - 1 < made.COUNTIES
+
+
+def test_on_this_machine(archive: Archive) -> None:
+    ended = call("fingerprint", "-o", "m", "in")
+    assert (ended.status, plain(ended.reports)) == (1, archive.reports)
+    assert_all_done(archive)
+    count = len(archive.lines) - 1
+    refused = [text.split(";")[0] for text in archive.reports.values() if text.startswith("refused")]
+    rules = [" ".join(text.split()[1:3]) for text in refused]
+    (summary,) = [line for line in ended.lines if line.startswith(f"{made.COUNTIES} counties: ")]
+    assert summary.startswith(f"{made.COUNTIES} counties: {count} new, {len(refused)} refused, 0 failed; ")
+    (line,) = [line for line in ended.lines if line.startswith("refused: ")]
+    assert sorted(line[9:].split(", ")) == sorted({f"{rules.count(rule)} by {rule}" for rule in rules})
+    again = call("fingerprint", "-o", "m", "in")
+    assert again.lines[-3].startswith(f"{made.COUNTIES} counties: {count} in the manifest already, 0 new, {len(refused)} refused, ")
+    assert call("verify", "--quiet", "m").out == ""
+
+
+def test_the_same_from_single_files(archive: Archive) -> None:
+    """Zips and their unpacked files have the same manifest."""
+    assert call("fingerprint", "-o", "m", "in").status == 1
+    ended = call("verify", "--root", archive.folder, "m")
+    assert (ended.status, ended.out.count(": OK\n")) == (0, len(archive.lines) - 1)
+
+
+@pytest.mark.cluster
+@needs_dask
+class TestDask:
+    @pytest.fixture
+    def engine(self, room: Path) -> Iterator[Engine]:
+        engine = Engine(room)
+        yield engine
+        engine.close()
+
+    def test_by_a_scheduler(self, archive: Archive, engine: Engine) -> None:
+        """The package isn't installed on the workers: what they do comes with the work."""
+        words = ["--scheduler", engine.file]
+        ended = call("fingerprint", *words, "-o", "m", "in/TGR000*", "in/more")
+        assert ended.status == 1, ended.err
+        ended = call("fingerprint", *words, "-o", "m", "in")
+        assert ended.status == 1, ended.err
+        assert_all_done(archive)
+        checked = call("verify", *words, "m")
+        assert (checked.status, checked.out.count(": OK\n")) == (0, len(archive.lines) - 1)
+
+    def test_workers_are_killed(self, archive: Archive, slow: Path, engine: Engine) -> None:
+        """Two of three workers: nothing is missing, and no county is blamed."""
+        run = begin("fingerprint", "--scheduler", engine.file, "-o", "m", "in")
+        assert await_that(lambda: count_of_lines("m") > 20)
+        victims = engine.worker_processes()
+        assert len(victims) == 3
+        for victim in victims[:2]:
+            os.kill(victim, signal.SIGKILL)
+        ended = end(run)
+        assert (ended.status, plain(ended.reports)) == (1, archive.reports)
+        assert_all_done(archive, killed=2)
+
+    def test_a_county_that_ends_its_worker(self, archive: Archive, slow: Path, engine: Engine) -> None:
+        """It is reported; counties that only shared a worker with it aren't."""
+        put("in/TGR90001.RT1", b"kill\r\n")
+        ended = call("fingerprint", "--scheduler", engine.file, "-o", "m", "in")
+        reports = plain(ended.reports)
+        assert reports.pop("in/TGR90001") == "every worker that judged it ended"
+        assert (ended.status, reports) == (1, archive.reports)
+        assert_all_done(archive, killed=8)
+
+    def test_the_scheduler_is_killed(self, archive: Archive, slow: Path, engine: Engine, room: Path) -> None:
+        """The command reports how many counties are left, and the same command does the rest."""
+        run = begin("fingerprint", "--scheduler", engine.file, "-o", "m", "in")
+        assert await_that(lambda: count_of_lines("m") > 40)
+        os.killpg(engine.scheduler.pid, signal.SIGKILL)
+        ended = end(run)
+        assert ended.status == 1, ended.err
+        done = Path("m").read_text().splitlines()
+        (left,) = re.findall(r"is gone: (\d+) counties are left; run the same command again to do them", ended.err)
+        assert int(left) == made.COUNTIES - (len(done) - 1) - sum("refused" in text for text in ended.reports.values())
+        assert set(done) <= set(archive.lines) and done[1:] == sorted(done[1:], key=lambda line: line[66:])
+        assert call("fingerprint", "-o", "m", "in").status == 1
+        assert_all_done(archive)
+
+    def test_a_signal(self, archive: Archive, slow: Path, engine: Engine) -> None:
+        run = begin("fingerprint", "--scheduler", engine.file, "-o", "m", "in")
+        assert await_that(lambda: count_of_lines("m") > 20)
+        run.send_signal(signal.SIGTERM)
+        assert run.wait(2) == -signal.SIGTERM
+        ended = end(run)
+        assert re.fullmatch(rf"stopped by TERM: \d+ of {made.COUNTIES} counties done", ended.lines[-1])
+        assert call("fingerprint", "--scheduler", engine.file, "-o", "m", "in").status == 1
+        assert_all_done(archive)
+
+    def test_workers_without_the_program(self, archive: Archive, engine: Engine) -> None:
+        ended = call("fingerprint", "--scheduler", engine.file, "--program", "/no/program", "-o", "m", "in")
+        assert ended.status == 2
+        why = "a worker has no program: there is no /no/program, and no tigercanon on its PATH"
+        assert ended.lines[-1] == f"the scheduler at {engine.file}: {why}"
+
+    @pytest.mark.parametrize("address", ["tcp://127.0.0.1:9", "nowhere.json"])
+    def test_without_a_scheduler(self, archive: Archive, address: str, monkeypatch: pytest.MonkeyPatch) -> None:
+        from tigercanon import engines
+        from tigercanon.errors import Failure
+
+        monkeypatch.setattr(engines, "PATIENCE_FOR_SCHEDULER", 1.0)
+        with pytest.raises(Failure, match=f"no scheduler answers at {address}: "):
+            engines.client_of(address)
+
+    def test_all_workers_are_gone(self, archive: Archive, room: Path, monkeypatch: pytest.MonkeyPatch) -> None:
+        """A run over a scheduler without workers ends after a while; one whose first worker comes late goes on."""
+        from tigercanon import engines
+        from tigercanon.counties import Finder
+        from tigercanon.judge import Order
+
+        monkeypatch.setattr(engines, "PATIENCE_FOR_WORKERS", 2.0)
+        cluster = Engine(room, workers=0)
+        counties, _ = Finder().counties(["in/TGR0001*"])
+        engine = engines.DaskEngine(str(cluster.file))
+        with pytest.raises(engines.Gone, match="has had no worker for"):
+            list(engine.answers(counties, Order(os.environ["TIGERCANON"])))
+        monkeypatch.setattr(engines, "PATIENCE_FOR_WORKERS", 300.0)
+        cluster.start_worker()  # which takes some seconds to be there
+        answers = [result for result in engine.answers(counties, Order(os.environ["TIGERCANON"])) if result]
+        engine.close()
+        cluster.close()
+        assert sorted(number for number, _ in answers) == list(range(len(counties)))
+
+
+def test_a_scheduler_without_dask(room: Path, stand_in: Path) -> None:
+    """The error names the packages that are needed."""
+    put("hidden/distributed.py", b"raise ImportError('hidden')\n")
+    put("in/a.RT1", b"x\n")
+    path = f"{room}/hidden:{Path(__file__).parent.parent}"
+    ended = call("fingerprint", "--scheduler", "a:1", "in", env={"PYTHONPATH": path})
+    assert ended.status == 2
+    assert ended.lines == [
+        "--scheduler needs the Python packages distributed and fsspec (Debian: python3-distributed and python3-fsspec): hidden"
+    ]

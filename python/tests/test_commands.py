@@ -1,0 +1,210 @@
+"""The command line: help, versions, errors, and how the program is found."""
+
+from __future__ import annotations
+
+import os
+import shutil
+import subprocess
+import sys
+from pathlib import Path
+
+import pytest
+from support import PACKAGE, ROOT, call, complete, digest, put
+
+from tigercanon.progress import Tally, amount, duration
+from tigercanon.version import VERSION
+
+COMMANDS = ["fingerprint", "verify", "duplicates", "changes", "diff", "explain"]
+
+
+@pytest.mark.parametrize("words", [["--help"], *([command, "--help"] for command in COMMANDS)])
+def test_help(room: Path, words: list[str]) -> None:
+    """It goes to standard output, with status 0; a line has at most 120 letters."""
+    ended = call(*words, env={"COLUMNS": "100"})
+    assert (ended.status, ended.err) == (0, "")
+    assert ended.out.startswith(f"usage: tigercanon-tools{'' if len(words) == 1 else ' ' + words[0]} ")
+    assert max(map(len, ended.out.splitlines())) <= 120
+
+
+def test_help_names_all_commands(room: Path) -> None:
+    text = call("--help").out
+    assert [command for command in COMMANDS if f"\n    {command}" not in text] == []
+
+
+@pytest.mark.parametrize("words", [[], *([command] for command in COMMANDS)])
+def test_version(room: Path, words: list[str]) -> None:
+    ended = call(*words, "--version")
+    assert (ended.status, ended.out, ended.err) == (0, f"tigercanon-tools {VERSION}\n", "")
+
+
+def test_the_versions_agree() -> None:
+    """The package has the version of the program."""
+    assert VERSION in (ROOT / "crates/command_line/src/command.rt").read_text()
+
+
+@pytest.mark.parametrize(
+    "words, why",
+    [
+        ([], "tigercanon-tools: the following arguments are required: COMMAND"),
+        (["loud"], "tigercanon-tools: argument COMMAND: invalid choice: 'loud'"),
+        (["fingerprint"], "tigercanon-tools fingerprint: the following arguments are required: SOURCE"),
+        (["fingerprint", "--loud", "in"], "tigercanon-tools: unrecognized arguments: --loud"),
+        (["fingerprint", "--sche", "a:1", "in"], "tigercanon-tools: unrecognized arguments: --sche"),
+        (["fingerprint", "--jobs", "0", "in"], "tigercanon-tools fingerprint: argument --jobs: '0' isn't a number from 1"),
+        (["fingerprint", "--jobs", "x", "in"], "tigercanon-tools fingerprint: argument --jobs: 'x' isn't a number from 1"),
+        (
+            ["fingerprint", "--largest", "2XB", "in"],
+            "tigercanon-tools fingerprint: argument --largest: '2XB' isn't a size such as 500MB or 2GB",
+        ),
+        (
+            ["fingerprint", "--memory", "0", "in"],
+            "tigercanon-tools fingerprint: argument --memory: '0' isn't a size such as 500MB or 2GB",
+        ),
+        (
+            ["fingerprint", "--jobs", "2", "--scheduler", "a:1", "in"],
+            "tigercanon-tools fingerprint: argument --scheduler: not allowed with argument --jobs",
+        ),
+        (["verify"], "tigercanon-tools verify: the following arguments are required: MANIFEST, SOURCE"),
+        (["verify", "--strict", "m"], "tigercanon-tools: unrecognized arguments: --strict"),
+        (["changes", "m"], "tigercanon-tools changes: the following arguments are required: NEW"),
+        (["duplicates"], "tigercanon-tools duplicates: the following arguments are required: MANIFEST"),
+        (["explain"], "tigercanon-tools explain: the following arguments are required: LINE"),
+    ],
+)
+def test_wrong_use(room: Path, words: list[str], why: str) -> None:
+    """One line that names what is wrong, with status 2."""
+    ended = call(*words)
+    assert (ended.status, ended.out, ended.err.count("\n")) == (2, "", 1)
+    assert ended.err.startswith(why) and " --help\n" in ended.err
+
+
+class TestProgram:
+    """The program is the one that is named, else the one that is built here, else the one on the PATH."""
+
+    def test_an_option_beats_the_variable(self, room: Path, stand_in: Path) -> None:
+        complete("in/a", b"x\n")
+        other = put("other", b"#!/bin/sh\n[ $1 = fingerprint ] || exit 0\necho refused 1 Other 1 1 >&2; exit 3\n")
+        other.chmod(0o755)
+        assert call("fingerprint", "--program", "./other", "in").reports == {"in/a": "refused 1 Other 1 1"}
+        assert call("fingerprint", "in").status == 0
+
+    @pytest.mark.parametrize(
+        "name, why",
+        [
+            ("./nowhere", "no such file"),
+            ("./plain", "it isn't executable"),
+            ("./text", "Exec format error"),
+            ("./ends", "it ended with status 7"),
+        ],
+    )
+    def test_one_that_does_not_run(self, room: Path, name: str, why: str) -> None:
+        complete("in/a", b"x\n")
+        put("plain")
+        put("text", b"\0").chmod(0o755)
+        put("ends", b"#!/bin/sh\nexit 7\n").chmod(0o755)
+        ended = call("fingerprint", "--program", name, "in")
+        assert (ended.status, ended.lines) == (2, [f"the program {name} can't be run: {why}"])
+
+    @pytest.fixture
+    def installed(self, room: Path) -> Path:
+        """The package without a clone around it."""
+        shutil.copytree(PACKAGE / "tigercanon", room / "packages/tigercanon")
+        return room / "packages"
+
+    def call_installed(self, room: Path, path: str) -> "subprocess.CompletedProcess[bytes]":
+        env = {"PYTHONPATH": str(room / "packages"), "PATH": path, "ROOM": str(room), "TMPDIR": str(room / "tmp")}
+        return subprocess.run([sys.executable, "-m", "tigercanon", "fingerprint", "in"], env=env, capture_output=True)
+
+    def test_on_the_path(self, installed: Path, room: Path, stand_in: Path) -> None:
+        complete("in/a", b"x\n")
+        os.mkdir("bin")
+        os.rename(stand_in, "bin/tigercanon")
+        run = self.call_installed(room, f"{room}/bin:/bin:/usr/bin")
+        assert (run.returncode, run.stdout.splitlines()[-1]) == (0, f"{digest(b'x' + bytes([10]))}  in/a".encode())
+
+    def test_inside_the_package(self, installed: Path, room: Path, stand_in: Path) -> None:
+        """As a wheel has it."""
+        complete("in/a", b"x\n")
+        os.mkdir(installed / "tigercanon/bin")
+        os.rename(stand_in, installed / "tigercanon/bin/tigercanon")
+        assert self.call_installed(room, "/bin:/usr/bin").returncode == 0
+
+    def test_none(self, installed: Path, room: Path) -> None:
+        complete("in/a", b"x\n")
+        run = self.call_installed(room, "/bin:/usr/bin")
+        why = "there is no program tigercanon here: run ./tigercanon once, which builds it, or name one with --program"
+        assert (run.returncode, run.stderr.decode()) == (2, f"tigercanon-tools: {why}\n")
+
+    def test_a_clone(self, room: Path, stand_in: Path, monkeypatch: pytest.MonkeyPatch) -> None:
+        """In a clone ./tigercanon is asked once, so that a stale program is built again; then the built one is called."""
+        monkeypatch.delenv("TIGERCANON")
+        complete("in/a", b"x\n")
+        shutil.copytree(PACKAGE / "tigercanon", room / "clone/python/tigercanon")
+        shutil.copy(ROOT / "tigercanon-tools", room / "clone")
+        put("clone/scripts/launch")
+        put("clone/tigercanon", b"#!/bin/sh\necho launched >>$ROOM/calls\n").chmod(0o755)
+        built = Path("clone/crates/tigercanon_main/out/tigercanon_main")
+        built.parent.mkdir(parents=True)
+        os.rename(stand_in, built)
+        os.symlink("clone/tigercanon-tools", "tools")
+        run = subprocess.run(["./tools", "fingerprint", "in"], env={**os.environ, "PYTHON": sys.executable}, capture_output=True)
+        assert (run.returncode, run.stdout.count(b"\n")) == (0, 2), run.stderr
+        assert Path("calls").read_text() == f"launched\n{room}/in/a\n"
+
+    @pytest.mark.parametrize("name", ["tigercanon/__init__.py", "tigercanon.py", "argparse.py"])
+    def test_a_module_in_the_current_folder(self, room: Path, name: str) -> None:
+        """It doesn't take the place of the package's modules, nor of Python's."""
+        put(name, b"raise SystemExit('of the current folder')\n")
+        run = subprocess.run([ROOT / "tigercanon-tools", "--version"], capture_output=True, text=True)
+        assert (run.returncode, run.stdout, run.stderr) == (0, f"tigercanon-tools {VERSION}\n", "")
+
+    def test_the_examples(self, program: str, monkeypatch: pytest.MonkeyPatch, room: Path) -> None:
+        """What a new user tries first."""
+        monkeypatch.chdir(ROOT)
+        run = subprocess.run(["./tigercanon-tools", "fingerprint", "examples"], env=os.environ, capture_output=True)
+        assert run.returncode == 0, run.stderr
+        digits = b"1d52be5838ff73bc2575fb45a3df3475437eff9b6347ef11d750d52787afbf1a"
+        assert run.stdout.splitlines()[1:] == [
+            digits + b"  examples/autauga-renumbered/TGR01001",
+            digits + b"  examples/autauga/TGR01001",
+        ]
+
+
+def test_installing(room: Path) -> None:
+    """The package installs with Debian's setuptools, without a network, and has its command."""
+    if not os.path.exists("/usr/lib/python3/dist-packages/wheel"):
+        pytest.skip("python3-wheel isn't installed")
+    copy = room / "python"
+    shutil.copytree(PACKAGE, copy, ignore=shutil.ignore_patterns("tests", "*.egg-info", "build", "__pycache__"))
+    (room / "docs").mkdir()
+    shutil.copy(PACKAGE.parent / "docs/guide.md", room / "docs")
+    install = "-m pip install --no-build-isolation --no-index --no-deps --target site"
+    command = [sys.executable, *install.split(), str(copy)]
+    run = subprocess.run(command, capture_output=True, text=True)
+    assert run.returncode == 0, run.stderr
+    env = {"PYTHONPATH": str(room / "site"), "PATH": "/usr/bin:/bin"}
+    ended = subprocess.run([sys.executable, "site/bin/tigercanon-tools", "--version"], env=env, capture_output=True, text=True)
+    assert (ended.returncode, ended.stdout) == (0, f"tigercanon-tools {VERSION}\n")
+    ended = subprocess.run([sys.executable, "-m", "tigercanon", "explain", "9"], env=env, capture_output=True, text=True)
+    assert (ended.returncode, ended.stdout.splitlines()[0]) == (0, "refused 9 Memory"), ended.stderr
+
+
+class TestNumbers:
+    """How numbers, times and progress are written."""
+
+    def test_amounts(self) -> None:
+        found = [amount(count) for count in (0, 999, 1000, 1_250_000, 3_400_000_000, 5_000_000_000_000)]
+        assert found == ["0 bytes", "999 bytes", "1.0 kB", "1.2 MB", "3.4 GB", "5,000.0 GB"]
+
+    def test_durations(self) -> None:
+        found = [duration(seconds) for seconds in (0.2, 59.6, 61, 3600, 90_061)]
+        assert found == ["0 s", "1 min 0 s", "1 min 1 s", "1 h 0 min", "25 h 1 min"]
+
+    def test_progress(self) -> None:
+        tally = Tally()
+        tally.counties, tally.bytes_in_all = 3200, 40_000_000_000
+        tally.bytes, tally.ended, tally.failed = 10_000_000_000, 1200, 2
+        tally.refused["4 BadNumber"] += 3
+        assert tally.progress(100.0) == (
+            "1,200 of 3,200 counties, 10.0 GB of 40.0 GB, 100.0 MB a second, 5 min 0 s left, 3 refused, 2 failed"
+        )

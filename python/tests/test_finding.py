@@ -1,0 +1,213 @@
+"""How counties are found: in folders, by globs and by names, on disks and in stores."""
+
+from __future__ import annotations
+
+import os
+from importlib.util import find_spec
+from pathlib import Path
+
+import pytest
+from support import call, put
+
+from tigercanon.counties import Finder
+from tigercanon.judge import County, File
+from tigercanon.layout import TYPES, stem_of
+from tigercanon.storage import joined, parted, tidy
+
+ENDINGS = [f".RT{kind}" for kind in TYPES]
+FILES = "in/b.RT1 in/b.RT2 in/b.RTA in/a.ZIP in/read.me in/deep/er/c.zip in/deep/d.RT7 in/.e.zip in/small.rt1 in/[f].RT1"
+ALL = ["in/.e", "in/[f]", "in/a", "in/all", "in/b", "in/deep/d", "in/deep/er/c", "in/small"]
+
+
+@pytest.fixture
+def archive(room: Path) -> Path:
+    for name in FILES.split():
+        put(name, b"12345")
+    for ending in ENDINGS:
+        put(f"in/all{ending}", b"123")
+    return room
+
+
+def found(*sources: str, known: str = "") -> list[County]:
+    return Finder().counties(sources, known.split().__contains__)[0]
+
+
+def stems(*sources: str, known: str = "") -> list[str]:
+    return sorted(county.stem for county in found(*sources, known=known) if not county.trouble)
+
+
+@pytest.mark.parametrize(
+    "sources, wanted",
+    [
+        (["in"], ALL),
+        (["in/"], ALL),
+        (["./in//"], ALL),
+        (["in", "in/deep"], ALL),
+        (["in/*.zip"], []),
+        (["in/*.ZIP"], ["in/a"]),
+        (["in/?.*"], ["in/a", "in/b"]),
+        (["in/[ab].*"], ["in/a", "in/b"]),
+        (["*/d*"], ["in/deep/d", "in/deep/er/c"]),
+        (["in/**/*.[zZ][iI][pP]"], ["in/a", "in/deep/er/c"]),
+        (["in/b", "in/b.RT2", "in/a.ZIP", "in/[f].RT1"], ["in/[f]", "in/a", "in/b"]),
+        (["in/b.RT?"], ["in/b"]),
+        (["in/small.rt1"], ["in/small"]),
+    ],
+)
+def test_sources(archive: Path, sources: list[str], wanted: list[str]) -> None:
+    assert stems(*sources) == wanted
+
+
+def test_known_counties_are_left_out(archive: Path) -> None:
+    counties, known = Finder().counties(["in", "in/b.RT1"], "in/a in/b in/z".split().__contains__)
+    assert sorted(county.stem for county in counties) == [stem for stem in ALL if stem not in ("in/a", "in/b")]
+    assert known == 2
+
+
+def test_the_current_folder(archive: Path, monkeypatch: pytest.MonkeyPatch) -> None:
+    monkeypatch.chdir("in/deep")
+    assert stems(".") == ["d", "er/c"]
+
+
+def test_links_to_folders(archive: Path) -> None:
+    """They are followed, a ring of them once; and a county that is there under two names is counted once."""
+    os.symlink("..", "in/deep/up")
+    assert stems("in") == ALL
+    os.unlink("in/deep/up")
+    os.mkdir("links")
+    os.symlink("../in/deep", "links/to")
+    assert stems("links") == ["links/to/d", "links/to/er/c"]
+    finder = Finder()
+    counties, _ = finder.counties(["in", "links"])
+    assert sorted(county.stem for county in counties) == ALL
+    assert finder.same == [("links/to/d", "in/deep/d"), ("links/to/er/c", "in/deep/er/c")]
+
+
+def test_hard_links_are_counties_of_their_own(archive: Path) -> None:
+    os.mkdir("second")
+    os.link("in/a.ZIP", "second/a.ZIP")
+    assert stems("in/a", "second") == ["in/a", "second/a"]
+
+
+@pytest.mark.parametrize(
+    "source, why",
+    [
+        ("empty", "there is no county in this folder"),
+        ("in/x", "no such file, folder or county"),
+        ("in/x.ZIP", "no such file"),
+        ("in/x.RT1", "no such file"),
+        ("nowhere/x", "no such file, folder or county"),
+        ("in/x*.RT1", "nothing matches this pattern"),
+        ("nowhere/*", "can't be read: No such file or directory"),
+        ("in/b.RTA/x", "can't be read: Not a directory"),
+        ("in/pipe.RT1", "pipe.RT1 isn't a regular file"),
+        ("in/pipe.zip", "pipe.zip isn't a regular file"),
+        ("in/pipe", "isn't a regular file"),
+        ("in/only.RTA", "isn't one of a county's nine files"),
+        ("in/two", "there are 2 files of type 1: two.RT1, two.rt1"),
+        ("in/zips", "there are 2 zips: zips.ZIP, zips.zip"),
+        ("in/gone", "gone.zip can't be read: No such file or directory"),
+        ("in/line\nbreak", "its name has a line break in it"),
+    ],
+)
+def test_troubles(archive: Path, source: str, why: str) -> None:
+    """What can't be judged is reported as what it is."""
+    os.mkdir("empty")
+    for name in ("in/pipe.RT1", "in/pipe.zip", "in/pipe"):
+        os.mkfifo(name if source == name else f"{name}.other")
+    for name in "in/only.RTA in/two.RT1 in/two.rt1 in/zips.ZIP in/zips.zip".split():
+        put(name)
+    put("in/line\nbreak.RT1")
+    os.symlink("nothing", "in/gone.zip")
+    (county,) = found(source)
+    assert (county.trouble, county.files) == (why, {})
+
+
+def test_files(archive: Path) -> None:
+    (county,) = found("in/all")
+    assert [file.place for file in county.files.values()] == [f"{archive}/in/all{ending}" for ending in ENDINGS]
+    assert (county.size, county.readable_stem) == (27, f"{archive}/in/all")
+    (county,) = found("in/b")
+    assert list(county.files) == ["1", "2"]
+    (county,) = found("in/a")
+    assert county.zip == File(f"{archive}/in/a.ZIP", 5)
+    (county,) = found("in/small")
+    assert (list(county.files), county.readable_stem) == (["1"], None)
+    put("in/a.rt1", b"")
+    (county,) = found("in/a")
+    assert (list(county.files), county.notes) == (["1"], ("its single files are read, and not a.ZIP",))
+    (county,) = found("in/read.me")
+    assert county.whole == File(f"{archive}/in/read.me", 5)
+
+
+def test_files_that_are_passed_over(archive: Path) -> None:
+    for name in ("in/a.tar.gz", "in/c.RT1.gz", "in/d.RT2.gz", "in/deep/README"):
+        put(name)
+    finder = Finder()
+    finder.counties(["in", "in", "in/*.gz"])
+    assert finder.passed_over == {".RTA": 1, ".me": 1, ".tar.gz": 2, ".gz": 4, "without an ending": 1}
+
+
+@pytest.mark.parametrize(
+    "path, folder, name",
+    [
+        ("a", "", "a"),
+        ("a/b", "a", "b"),
+        ("/a", "/", "a"),
+        ("s3://a/b", "s3://a", "b"),
+        ("s3://a", "s3://", "a"),
+        ("file:///a", "file:///", "a"),
+    ],
+)
+def test_paths(path: str, folder: str, name: str) -> None:
+    assert (parted(path), joined(folder, name)) == ((folder, name), path)
+
+
+@pytest.mark.parametrize(
+    "path, wanted",
+    [("./a", "a"), ("a//b/", "a/b"), (".", ""), ("/", "/"), ("/./a/.", "/a"), ("a/../b", "a/../b"), ("s3://a//b/", "s3://a//b")],
+)
+def test_tidy(path: str, wanted: str) -> None:
+    assert tidy(path) == wanted
+
+
+@pytest.mark.parametrize(
+    "path, stem",
+    [("a.RT1", "a"), ("a.rtZ", "a"), ("a.b.ZiP", "a.b"), ("a.txt", "a.txt"), (".RT1", ".RT1"), ("x/a.RT12", "x/a.RT12")],
+)
+def test_stems(path: str, stem: str) -> None:
+    assert stem_of(path) == stem
+
+
+@pytest.mark.cluster
+@pytest.mark.skipif(not find_spec("fsspec"), reason="fsspec isn't installed")
+class TestStores:
+    """The same behind URLs, by the file systems that fsspec has without a further package."""
+
+    def test_a_store_in_memory(self) -> None:
+        import fsspec
+
+        store = fsspec.filesystem("memory")
+        for name in ("/tiger/AL/TGR01001.ZIP", "/tiger/AL/TGR01003.RT1", "/tiger/GA/tgr13001.zip", "/tiger/read.me"):
+            store.pipe_file(name, b"12345")
+        url = "memory://tiger"
+        counties = found(url)
+        assert [county.stem for county in counties] == [f"{url}/AL/TGR01001", f"{url}/AL/TGR01003", f"{url}/GA/tgr13001"]
+        assert counties[0].zip == File(f"{url}/AL/TGR01001.ZIP", 5)
+        assert counties[1].files == {"1": File(f"{url}/AL/TGR01003.RT1", 5)}
+        assert stems(f"{url}/*/*.zip", f"{url}/AL/TGR01003") == [f"{url}/AL/TGR01003", f"{url}/GA/tgr13001"]
+        store.rm("/tiger", recursive=True)
+
+    def test_files_by_url(self, room: Path) -> None:
+        put("in/a.ZIP", b"123")
+        url = f"file://{room}/in"
+        assert [county.zip for county in found(url)] == [File(f"{url}/a.ZIP", 3)]
+        assert found(f"{url}/a")[0].zip == File(f"{url}/a.ZIP", 3)
+        assert "can't be read: " in found("nothing://a/b")[0].trouble
+
+
+def test_urls_without_fsspec(room: Path, stand_in: Path) -> None:
+    """The error names the package that is needed."""
+    put("hidden/fsspec.py", b"raise ImportError('hidden')\n")
+    ended = call("fingerprint", "s3://a/b", env={"PYTHONPATH": f"{room}/hidden:{Path(__file__).parent.parent}"})
+    assert (ended.status, ended.lines) == (2, ["s3://a/b needs the Python package fsspec (Debian: python3-fsspec)"])

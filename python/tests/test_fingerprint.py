@@ -1,0 +1,253 @@
+"""The command fingerprint, with a stand-in for the program."""
+
+from __future__ import annotations
+
+import json
+import os
+import subprocess
+from pathlib import Path
+
+import pytest
+from support import TYPES, begin, call, complete, digest, end, left_behind, put, words_of
+
+HEAD = "# tigercanon form 1\n"
+
+
+def line(name: str, text: bytes, flags: str = "") -> str:
+    return f"{digest(text, flags)}  {name}\n"
+
+
+def calls() -> list[str]:
+    return Path("calls").read_text().splitlines()
+
+
+@pytest.fixture
+def four(room: Path, stand_in: Path) -> dict[str, bytes]:
+    """Four counties with odd names, in the order of the manifest."""
+    counties = {f"in/{name}": f"county {name}\n".encode() for name in ("-d", "a a", "b", "c")}
+    for stem, text in counties.items():
+        complete(stem, text)
+    return counties
+
+
+def test_a_manifest(four: dict[str, bytes]) -> None:
+    wanted = HEAD + "".join(line(stem, text) for stem, text in four.items())
+    ended = call("fingerprint", "-o", "m", "in/c.RT1", "in/a a", "in/b", "in/-d.RT1", "in/c.RT2")
+    assert (ended.status, ended.out, Path("m").read_text()) == (0, "", wanted)
+    assert ended.lines[0].startswith("4 counties: 4 new, 0 refused, 0 failed; ")
+    assert len(calls()) == 4
+    again = call("fingerprint", "--jobs", "1", "-o", "m", "in")
+    assert (again.status, Path("m").read_text(), len(calls())) == (0, wanted, 4)
+    complete("in/aa", b"more\n")
+    more = call("fingerprint", "-o", "m", "in")
+    assert more.lines[0].startswith("5 counties: 4 in the manifest already, 1 new, 0 refused, 0 failed; ")
+    assert Path("m").read_text() == wanted.replace(
+        line("in/b", four["in/b"]), line("in/aa", b"more\n") + line("in/b", four["in/b"])
+    )
+    assert len(calls()) == 5
+
+
+def test_standard_output(four: dict[str, bytes]) -> None:
+    """Without -o the manifest is printed, in order."""
+    wanted = HEAD + "".join(line(stem, text) for stem, text in four.items())
+    for jobs in (1, 4):
+        ended = call("fingerprint", "--jobs", jobs, "in")
+        assert (ended.status, ended.out) == (0, wanted)
+    assert ended.lines[0].startswith("4 counties: 4 fingerprints, 0 refused, 0 failed; ")
+
+
+def test_json(four: dict[str, bytes]) -> None:
+    put("in/b.RT1", b"broken\n")
+    os.unlink("in/c.RT5")
+    ended = call("fingerprint", "--json", "in")
+    rows = json.loads(ended.out)
+    assert ended.status == 1
+    assert [row["county"] for row in rows] == list(four)
+    assert rows[2] == {"county": "in/b", "fingerprint": None, "reason": "refused 1 UnknownType 1 1", "notes": []}
+    assert rows[3] == {"county": "in/c", "fingerprint": digest(four["in/c"]), "reason": None, "notes": ["no .RT5"]}
+
+
+@pytest.mark.parametrize(
+    "word, report",
+    [
+        (b"broken", "refused 1 UnknownType 1 1"),
+        (b"killed", "the program was ended by signal 9"),
+        (b"wanting", "refused 9 Memory"),
+        (b"four", "the program ended with status 4"),
+        (b"silent", "the program ended with status 6"),
+        (b"chatty", "the program printed something else than a fingerprint"),
+    ],
+)
+def test_a_county_without_a_fingerprint(four: dict[str, bytes], word: bytes, report: str) -> None:
+    """It is reported, the others are done, and the same command does the rest after it was mended."""
+    put("in/b.RT1", word + b"\n")
+    ended = call("fingerprint", "-o", "m", "in")
+    assert (ended.status, ended.reports) == (1, {"in/b": report})
+    wanted = HEAD + "".join(line(stem, text) for stem, text in four.items() if stem != "in/b")
+    assert Path("m").read_text() == wanted
+    assert len(calls()) == (5 if word in (b"killed", b"wanting") else 4)
+    put("in/b.RT1", four["in/b"])
+    again = call("fingerprint", "-o", "m", "in")
+    assert (again.status, Path("m").read_text().count("\n")) == (0, 5)
+    assert again.lines[0].startswith("4 counties: 3 in the manifest already, 1 new, 0 refused, 0 failed; ")
+
+
+def test_what_did_not_fit_is_tried_alone(four: dict[str, bytes]) -> None:
+    put("in/b.RT1", b"once\n")
+    ended = call("fingerprint", "-o", "m", "in")
+    assert (ended.status, ended.reports) == (0, {})
+    assert line("in/b", b"once\n") in Path("m").read_text()
+    assert calls().count(str(Path("in/b").absolute())) == 2
+
+
+def test_the_limit_of_memory(four: dict[str, bytes]) -> None:
+    put("in/b.RT1", b"limited\n")
+    ended = call("fingerprint", "--memory", "3GB", "in")
+    assert ended.reports == {"in/b": "refused 1 Limit 2929687"}
+    assert call("fingerprint", "in").reports == {"in/b": "refused 1 Limit unlimited"}
+
+
+def test_the_summary_counts_refusals(four: dict[str, bytes]) -> None:
+    put("in/b.RT1", b"broken\n")
+    put("in/c.RT1", b"broken\n")
+    ended = call("fingerprint", "--strict", "-o", "m", "in", "in/nothing")
+    assert ended.lines[-2].startswith("5 counties: 2 new, 2 refused, 1 failed; ")
+    assert ended.lines[-1] == "refused: 2 by 1 UnknownType"
+
+
+@pytest.mark.parametrize("is_zip", [False, True])
+@pytest.mark.parametrize("kind", TYPES)
+def test_strict_without_a_file(room: Path, stand_in: Path, kind: str, is_zip: bool) -> None:
+    complete("in/b", b"b\n")
+    os.unlink(f"in/b.RT{kind}")
+    if is_zip:
+        subprocess.run(["zip", "-qmj", "in/b.zip", *sorted(map(str, Path("in").glob("b.RT?")))], check=True)
+    ended = call("fingerprint", "--strict", "-o", "m", "in")
+    assert (ended.status, ended.reports) == (1, {"in/b": f"rejected by --strict: no .RT{kind}"})
+    assert ended.lines[-1] == "refused: 1 by --strict"
+    assert calls() == [] and not os.path.exists("m")
+    ended = call("fingerprint", "-o", "m", "in")
+    if kind == "1":
+        assert (ended.status, ended.reports) == (1, {"in/b": "refused 8 Device; no .RT1"})
+    else:
+        assert (ended.status, ended.reports) == (0, {"in/b": f"no .RT{kind}"})
+
+
+@pytest.mark.parametrize("is_zip", [False, True])
+@pytest.mark.parametrize("kind", TYPES)
+def test_empty_files(room: Path, stand_in: Path, kind: str, is_zip: bool) -> None:
+    """Strict mode rejects an empty file of type 1, 2 or I, and reports other ones. An empty file of type 1 is always reported."""
+    complete("in/b", b"b\n")
+    put(f"in/b.RT{kind}")
+    if is_zip:
+        subprocess.run(["zip", "-qmj", "in/b.zip", *sorted(map(str, Path("in").glob("b.RT?")))], check=True)
+    ended = call("fingerprint", "--strict", "in")
+    if kind in "12I":
+        assert (ended.status, ended.reports) == (1, {"in/b": f"rejected by --strict: empty .RT{kind}"})
+    else:
+        assert (ended.status, ended.reports) == (0, {"in/b": f"empty .RT{kind}"})
+    ended = call("fingerprint", "in")
+    assert (ended.status, ended.reports) == (0, {"in/b": "empty .RT1"} if kind == "1" else {})
+
+
+def test_nine_empty_files(room: Path, stand_in: Path) -> None:
+    for kind in TYPES:
+        put(f"in/b.RT{kind}")
+    ended = call("fingerprint", "--strict", "in")
+    assert ended.reports == {"in/b": "rejected by --strict: empty .RT1 .RT2 .RT4 .RT5 .RT6 .RT7 .RT8 .RTI .RTP"}
+
+
+def test_names_in_lower_case(room: Path, stand_in: Path) -> None:
+    """They are read, also if some are in capitals, and the manifest has the names of the files."""
+    for name, text in (("tgr01001", b"a\n"), ("TGR01003", b"b\n")):
+        complete(f"in/{name}", text)
+        for kind in TYPES[:5]:
+            os.rename(f"in/{name}.RT{kind}", f"in/{name}.rt{kind.lower()}")
+    ended = call("fingerprint", "--strict", "in")
+    assert (ended.status, ended.out) == (0, HEAD + line("in/TGR01003", b"b\n") + line("in/tgr01001", b"a\n"))
+    assert left_behind() == []
+
+
+def test_a_county_in_one_file(room: Path, stand_in: Path) -> None:
+    put("in/all.txt", b"all\n")
+    ended = call("fingerprint", "in/all.txt")
+    assert (ended.status, ended.out) == (0, HEAD + line("in/all.txt", b"all\n"))
+
+
+def test_what_is_reported_of_sources(four: dict[str, bytes]) -> None:
+    """Files that are passed over are counted, and a county under two names is counted once."""
+    os.symlink("in", "other")
+    for name in ("in/x.tar.gz", "in/y.RT1.gz", "in/c.RTA"):
+        put(name)
+    os.mkdir("empty")
+    ended = call("fingerprint", "-o", "m", "in", "other/b", "empty", "nothing.zip", "'no*'")
+    assert ended.status == 1
+    for wanted in (
+        "passed over: 3 files (1 .RTA, 1 .gz, 1 .tar.gz)",
+        "other/b: the same file as in/b, which is counted once",
+        "empty: there is no county in this folder",
+        "nothing.zip: no such file",
+        "'no*': nothing matches this pattern",
+    ):
+        assert wanted in ended.lines
+    assert len(calls()) == 4
+
+
+def test_the_same_map(four: dict[str, bytes]) -> None:
+    complete("in/e", four["in/b"])
+    ended = call("fingerprint", "-o", "m", "in")
+    assert ended.lines[-1] == "2 counties in the manifest share their map with another one: see the command duplicates"
+
+
+def test_a_name_that_is_no_utf8(room: Path, stand_in: Path) -> None:
+    """Names are bytes."""
+    complete("in/\udcc4 \udce4", b"x\n")
+    assert call("fingerprint", "-o", "m", "in").status == 0
+    assert Path("m").read_bytes().splitlines()[-1][66:] == b"in/\xc4 \xe4"
+    assert call("verify", "m").out == "in/\udcc4 \udce4: OK\n"
+
+
+def limited(*words: object) -> "subprocess.CompletedProcess[bytes]":
+    """Calls the tools with a limit of 1,024 bytes for each file that they write."""
+    shell = ["bash", "-c", 'trap "" XFSZ; ulimit -f 1; exec "$@"', "-"]
+    env = {**os.environ, "PYTHONPATH": str(Path(__file__).parent.parent)}
+    return subprocess.run([*shell, *words_of(*words)], env=env, capture_output=True)
+
+
+@pytest.mark.parametrize("count, added", [(12, 1), (14, 0)])
+def test_a_manifest_that_takes_no_more(four: dict[str, bytes], count: int, added: int) -> None:
+    """The run ends with 2, whole lines stay, and the same command goes on."""
+    before = HEAD + "".join(f"{number:064}  a/no-{number:02}\n" for number in range(count))
+    put("m", before.encode())
+    run = limited("fingerprint", "--jobs", "1", "-o", "m", "in")
+    assert (run.returncode, b"m: can't be written: File too large" in run.stderr) == (2, True)
+    lines = Path("m").read_text().splitlines()
+    assert lines[: count + 1] == before.splitlines()
+    assert len(lines) == count + 1 + added and all(len(text) > 66 for text in lines[1:])
+    assert not [name for name in os.listdir(".") if name.startswith("m.")]
+    assert call("fingerprint", "-o", "m", "in").status == 0
+    assert len(Path("m").read_text().splitlines()) == count + 5
+
+
+def test_no_room_for_a_zip(four: dict[str, bytes]) -> None:
+    """It is reported, and the others are done."""
+    put("in/b.RT1", b"x" * 3000)
+    subprocess.run(["zip", "-qmj", "in/b.zip", *sorted(map(str, Path("in").glob("b.RT?")))], check=True)
+    run = limited("fingerprint", "in")
+    assert b"in/b: can't be read or unpacked: File too large\n" in run.stderr
+    assert (run.returncode, len(run.stdout.splitlines()), left_behind()) == (1, 4, [])
+
+
+def test_a_reader_that_is_gone(four: dict[str, bytes]) -> None:
+    """The command ends by SIGPIPE, silently. A full device is reported."""
+    for words in (["fingerprint", "in"], ["fingerprint", "--json", "in"]):
+        run = begin(*words)
+        assert run.stdout
+        run.stdout.close()
+        run.stdout = None
+        ended = end(run)
+        assert (ended.status, [text for text in ended.lines if "write" in text or "pipe" in text.lower()]) == (-13, [])
+        with open("/dev/full", "wb") as full:
+            ended = call(*words, stdout=full)
+        assert ended.status == 2
+        assert ended.lines[-1] == "standard output: can't be written: No space left on device"

@@ -1,0 +1,237 @@
+"""The module for Python over the library itself, as scripts/build-library makes it, compared with the program."""
+
+from __future__ import annotations
+
+import concurrent.futures
+import gc
+import hashlib
+import os
+import re
+import resource
+import subprocess
+import sys
+import zipfile
+from pathlib import Path
+from typing import Any, Callable, Iterator, NamedTuple
+
+import pytest
+from support import ROOT, TYPES, script
+
+import tigercanon
+from tigercanon import _library
+
+AUTAUGA = ROOT / "examples/autauga/all.txt"
+RENUMBERED = ROOT / "examples/autauga-renumbered/all.txt"
+ONE_ADDRESS = ROOT / "examples/autauga-one-address.txt"
+CANONICAL = ROOT / "examples/autauga/canonical.txt"
+ENDINGS = [f".RT{kind}" for kind in TYPES]
+GROWTH = 512
+"""At most this many KiB more may be in use after 1,000 rounds than after 100."""
+
+pytestmark = pytest.mark.library
+
+
+@pytest.fixture(scope="module", autouse=True, name="library")
+def loaded() -> Iterator[Path]:
+    """The library that the variable names, or the one that was built last."""
+    made = Path(os.environ.get(_library.VARIABLE, ROOT / "out/library/lib" / _library.NAME)).resolve()
+    if not made.exists():
+        pytest.skip(f"no {made}: scripts/build-library builds it")
+    _library.library.cache_clear()
+    yield made
+    _library.library.cache_clear()
+
+
+class Answer(NamedTuple):
+    """What the program prints on both streams, and its status."""
+
+    status: int
+    out: bytes
+    err: bytes
+
+
+def answer(words: list[str], files: dict[str, bytes]) -> Answer:
+    """What the program would answer to these words, by the module and with files in memory."""
+    command, flags = words[0], {}
+    names: list[str] = []
+    rest = iter(words[1:])
+    for word in rest:
+        if word == "--":
+            names += rest
+        elif not word.startswith("-"):
+            names.append(word)
+        elif word != "--stem":
+            flags[word[2:].replace("-", "_")] = True
+    is_stem = "--stem" in words
+    sets = [[files.get(name + end, b"") for end in ENDINGS] if is_stem else files[name] for name in names]
+    try:
+        answered = getattr(tigercanon, command)(*sets, **flags)
+    except tigercanon.Refusal as refusal:
+        return Answer(5 if refusal.number == 9 else 3, b"", f"{refusal}\n".encode())
+    if command == "compare":
+        return Answer(0, b"same\n", b"") if answered else Answer(1, b"different\n", b"")
+    if command == "check":
+        return Answer(0, b"accepted\n", b"")
+    return Answer(0, f"{answered}\n".encode() if command == "fingerprint" else answered, b"")
+
+
+def test_vectors() -> None:
+    """The cases of vectors/ with correct arguments and files that can be read."""
+    vectors = script("vectors/run")
+
+    def call(_: list[str], asked: Any) -> Any:
+        files = {name: text for name, text in asked.files.items() if text is not None}
+        if asked.pieces is not None:
+            files["/dev/stdin"] = b"".join(asked.pieces)
+        return vectors.Ended(*answer(asked.words, files))
+
+    vectors.call = call
+    cases = [case for case in vectors.cases_of("") if case.get("status") not in (2, 4) and None not in case["files"].values()]
+    assert len(cases) > 100
+    wrong = {case["name"]: told for case in cases for told in [vectors.judge([], case)] if told}
+    assert wrong == {}
+
+
+# Refusals
+
+
+def test_examples_of_refusals() -> None:
+    """Every example of a refusal, with all that the exception has."""
+    table = (ROOT / "examples/README.md").read_text("utf-8").split("## Refused sets")[1]
+    rows = re.findall(r"^\| `([a-z-]*\.txt)` \|.*`refused ([^`]*)` \|$", table, re.M)
+    assert len(rows) == len(list((ROOT / "examples/refused").iterdir()))
+    for name, told in rows:
+        path = ROOT / "examples/refused" / name
+        number, title, *places = told.split()
+        calls: list[tuple[Callable[[], object], int | None]] = [
+            (lambda: tigercanon.check(path), None),
+            (lambda: tigercanon.normalise(path), None),
+            (lambda: tigercanon.fingerprint(path), None),
+            (lambda: tigercanon.compare(path, AUTAUGA), 1),
+            (lambda: tigercanon.compare(AUTAUGA, path), 2),
+        ]
+        for call, which in calls:
+            with pytest.raises(tigercanon.Refusal) as raised:
+                call()
+            line = f"refused {told}" + (f" in set {which}" if which else "")
+            refusal = raised.value
+            assert (refusal.number, refusal.name, refusal.set) == (int(number), title, which)
+            assert refusal.line == str(refusal) == line
+            assert [str(place) for place in refusal.places] == places
+
+
+def test_lines_of_the_guide() -> None:
+    """The lines that the guide shows with the refusals 1 to 6."""
+    guide = (ROOT / "docs/guide.md").read_text("utf-8").replace("\n###", "\n###\n###")
+    heading = r"^### `refused (\d) (\w+) PART LINE(?: COLUMN)?`$(.*?)^###"
+    found = {}
+    for number, name, text in re.findall(heading, guide, re.M | re.S):
+        shown = re.search(r"^    (.*)$", text, re.M)
+        assert shown
+        with pytest.raises(tigercanon.Refusal) as raised:
+            tigercanon.respell([shown[1].encode()])
+        assert (raised.value.number, raised.value.name) == (int(number), name)
+        found[int(number)] = raised.value.places
+    assert found == {1: (1, 1), 2: (1, 1), 3: (1, 1, 12), 4: (1, 1, 6), 5: (1, 1, 55), 6: (1, 1, 27)}
+
+
+def test_a_line_of_the_third_part() -> None:
+    with pytest.raises(tigercanon.Refusal, match="^refused 4 BadNumber 3 1 6$"):
+        tigercanon.respell([AUTAUGA, b"", b"1\n\n"])
+
+
+# Answers
+
+
+def test_counties(tmp_path: Path) -> None:
+    """One county as bytes, as a file, as nine files and as a zip, in either case of their names."""
+    packed = tmp_path / "TGR01001.ZIP"
+    with zipfile.ZipFile(packed, "w", zipfile.ZIP_DEFLATED) as county:
+        for end in ENDINGS:
+            (tmp_path / f"tgr01001{end.lower()}").write_bytes((AUTAUGA.parent / f"TGR01001{end}").read_bytes())
+            county.write(AUTAUGA.parent / f"TGR01001{end}", f"TGR01001{end}")
+    digits = hashlib.sha256(CANONICAL.read_bytes()).hexdigest()
+    parts = [(AUTAUGA.parent / f"TGR01001{end}").read_bytes() for end in ENDINGS]
+    files: list[tigercanon.Set] = [AUTAUGA, AUTAUGA.parent / "TGR01001", tmp_path / "tgr01001", packed, CANONICAL]
+    for county_ in [*files, AUTAUGA.read_bytes(), parts]:
+        assert tigercanon.fingerprint(county_) == digits
+        assert tigercanon.normalise(county_) == CANONICAL.read_bytes()
+        assert tigercanon.compare(county_, RENUMBERED) is True
+        assert tigercanon.compare(ONE_ADDRESS, county_) is False
+    assert tigercanon.fingerprint([]) == hashlib.sha256(b"").hexdigest()
+    assert tigercanon.normalise([b"", AUTAUGA, b""]) == CANONICAL.read_bytes()
+
+
+def memory() -> int:
+    """The memory that this process has, in KiB."""
+    return int(Path("/proc/self/statm").read_text().split()[1]) * resource.getpagesize() // 1024
+
+
+def test_rounds() -> None:
+    """A thousand calls leave no memory behind, refused ones among them."""
+    text, other = AUTAUGA.read_bytes(), bytearray(RENUMBERED.read_bytes())
+    bad = (ROOT / "examples/broken.txt").read_bytes()
+    after = 0
+    for made in range(1000):
+        tigercanon.normalise([text, b""])
+        tigercanon.fingerprint(memoryview(other), no_sources=True)
+        tigercanon.compare(text, other)
+        with pytest.raises(tigercanon.Refusal):
+            tigercanon.check(bad)
+        if made == 99:
+            gc.collect()
+            after = memory()
+    gc.collect()
+    assert memory() - after <= GROWTH
+
+
+@pytest.fixture(scope="module", name="county")
+def made_county(tmp_path_factory: pytest.TempPathFactory) -> Path:
+    """A county of 2,000 chains."""
+    path = tmp_path_factory.mktemp("county") / "county.txt"
+    maker = next(ROOT / place for place in ("scripts/make-county", "tools/make-county") if (ROOT / place).exists())
+    subprocess.run([maker, "2000", path], check=True)
+    return path
+
+
+def test_threads(county: Path) -> None:
+    """Threads at once, over one part and over several."""
+    texts = [county.read_bytes(), AUTAUGA.read_bytes(), RENUMBERED.read_bytes(), b""]
+    wanted = [(tigercanon.fingerprint(text), tigercanon.normalise(text)) for text in texts]
+    asked = [index % len(texts) for index in range(64)]
+    with concurrent.futures.ThreadPoolExecutor(4) as threads:
+        found = list(threads.map(lambda index: (tigercanon.fingerprint(texts[index]), tigercanon.normalise(texts[index])), asked))
+    assert found == [wanted[index] for index in asked]
+
+
+IN_LITTLE_MEMORY = """
+import sys, resource, threading, tigercanon
+with open(sys.argv[1], 'rb') as file: text = file.read()
+tigercanon.check(b'')
+
+def ask():
+    size = int(open('/proc/self/statm').read().split()[0]) * 4096 + int(sys.argv[2]) * 1024
+    resource.setrlimit(resource.RLIMIT_AS, (size, size))
+    try: print(tigercanon.fingerprint(text))
+    except MemoryError as error: print(repr(error), error.number, error)
+
+threading.stack_size(16 << 20)
+thread = threading.Thread(target=ask)
+thread.start()
+thread.join()
+"""
+"""The call is made on a stack that has its memory already: under the limit a stack can't grow."""
+
+
+def test_little_memory(county: Path, library: Path) -> None:
+    """A county that memory doesn't suffice for is refused, and never answered wrongly."""
+    environment = {**os.environ, "PYTHONPATH": str(ROOT / "python"), "MALLOC_ARENA_MAX": "1", _library.VARIABLE: str(library)}
+    right = f"{tigercanon.fingerprint(county)}\n"
+    lacking = "OutOfMemory(9, 'Memory', (), None) 9 refused 9 Memory\n"
+    told = set()
+    for kib in range(0, 6144, 512):
+        words = [sys.executable, "-W", "ignore", "-c", IN_LITTLE_MEMORY, str(county), str(kib)]
+        ended = subprocess.run(words, env=environment, capture_output=True, text=True)
+        assert ended.stdout in (right, lacking), (kib, ended.stderr[-300:])
+        told.add(ended.stdout)
+    assert told == {right, lacking}

@@ -1,0 +1,209 @@
+"""The manifest: its lines, its lock, and what two of them say."""
+
+from __future__ import annotations
+
+import json
+import os
+import stat
+from pathlib import Path
+
+import pytest
+from support import begin, await_that, call, complete, digest, end, put
+
+A, B, C = ("a" * 64, "b" * 64, "c" * 64)
+HEAD = b"# tigercanon form 1\n"
+
+
+def lines(*pairs: str) -> bytes:
+    """Lines from texts such as `a in/x`, in which a letter stands for a fingerprint of it."""
+    return "".join(f"{pair[0] * 64}  {pair[2:]}\n" for pair in pairs).encode()
+
+
+@pytest.mark.parametrize(
+    "text, why",
+    [
+        (b"something else\n", "not a manifest: line 1 isn't a fingerprint and a name"),
+        (b"something", "not a manifest: its last line isn't a fingerprint and a name"),
+        (lines("a x")[1:], "not a manifest: line 1 isn't a fingerprint and a name"),
+        (lines("a "), "not a manifest: line 1 isn't a fingerprint and a name"),
+        (lines("a x") + b"x\n" + lines("b y"), "not a manifest: line 2 isn't a fingerprint and a name"),
+        (b"# --loud\n" + lines("a x"), "not a manifest: line 1 isn't a fingerprint and a name"),
+        (b"# tigercanon form 2\n", "not a manifest: line 1 isn't a fingerprint and a name"),
+        (HEAD + HEAD, "not a manifest: line 2 isn't a fingerprint and a name"),
+    ],
+)
+def test_other_files(room: Path, stand_in: Path, text: bytes, why: str) -> None:
+    """A file of something else isn't changed."""
+    put("m", text)
+    complete("in/b", b"b\n")
+    for words in (["fingerprint", "-o", "m", "in"], ["verify", "m"], ["duplicates", "m"], ["changes", "m", "m"]):
+        ended = call(*words)
+        assert (ended.status, ended.out, ended.lines) == (2, "", [f"m: {why}"])
+    assert Path("m").read_bytes() == text
+    assert Path("calls").read_text() == ""
+
+
+@pytest.mark.parametrize("name", ["/dev/null", "/dev/full", "in", "pipe"])
+def test_names_that_are_no_files(room: Path, stand_in: Path, name: str) -> None:
+    os.mkfifo("pipe")
+    complete("in/b", b"b\n")
+    for words in (["fingerprint", "-o", name, "in"], ["verify", name]):
+        ended = call(*words)
+        assert (ended.status, ended.lines) == (2, [f"{name}: not a manifest: it isn't a regular file"])
+
+
+@pytest.mark.parametrize(
+    "words, why",
+    [
+        (
+            ["fingerprint", "-o", "in/b.RT1", "in/c"],
+            "in/b.RT1: has the name of a county's file, and isn't overwritten by a manifest",
+        ),
+        (
+            ["fingerprint", "-o", "in/b.zip", "in/c"],
+            "in/b.zip: has the name of a county's file, and isn't overwritten by a manifest",
+        ),
+        (["fingerprint", "-o", "no/m", "in/c"], "no/m: can't be written: there is no folder {room}/no"),
+        (["verify", "nowhere"], "nowhere: No such file or directory"),
+        (["verify", "empty"], "empty: the manifest is empty"),
+        (["verify", "head"], "head: the manifest is empty"),
+        (["duplicates", "empty"], "empty: the manifest is empty"),
+        (["verify", "cut"], "cut: its last line is cut off; let the run that writes it finish first"),
+        (["fingerprint", ""], "a name is empty or has a line break in it"),
+        (["verify", "head", "a\nb"], "a name is empty or has a line break in it"),
+    ],
+)
+def test_errors(room: Path, stand_in: Path, words: list[str], why: str) -> None:
+    """Each is one line that names the file and the cause, and no file is changed: not even an empty one."""
+    put("in/b.RT1")
+    put("empty")
+    put("head", HEAD)
+    put("cut", lines("a x", "b y")[:-5])
+    ended = call(*words)
+    assert (ended.status, ended.out, ended.lines) == (2, "", [why.format(room=room)])
+    assert (Path("in/b.RT1").read_bytes(), Path("empty").read_bytes()) == (b"", b"")
+    assert not [name for name in os.listdir(".") if name.endswith((".lock", ".new"))]
+
+
+@pytest.mark.parametrize("flags", ["", "--no-sources", "--no-reserved", "--no-sources --no-reserved"])
+@pytest.mark.parametrize("is_old", [False, True])
+def test_flags(room: Path, stand_in: Path, flags: str, is_old: bool) -> None:
+    """The head names the form and the flags. Manifests of the earlier tools are continued, and get the new head."""
+    complete("in/b", b"b\n")
+    complete("in/c", b"c\n")
+    old_head = f"# {flags}\n" if flags else ""
+    if is_old:
+        put("m", f"{old_head}{digest(b'c' + bytes([10]), flags)}  in/c\n".encode())
+    reordered = flags.split()[::-1]
+    assert call("fingerprint", *reordered, "-o", "m", "in").status == 0
+    wanted = [" ".join(["# tigercanon form 1", *flags.split()])]
+    wanted += [f"{digest(text, flags)}  in/{text.decode()[0]}" for text in (b"b\n", b"c\n")]
+    assert Path("m").read_text().splitlines() == wanted
+    assert call("verify", "m").out == "in/b: OK\nin/c: OK\n"
+    assert call("verify", *reordered, "m").status == 0
+    other = [] if flags == "--no-sources" else ["--no-sources"]
+    ended = call("fingerprint", *other, "-o", "m", "in")
+    have, want = flags or "no flags", " ".join(other) or "no flags"
+    assert (ended.status, ended.lines) == (2, [f"m: made with {have}, but this run has {want}"])
+
+
+def test_order_and_rest(room: Path, stand_in: Path) -> None:
+    """A run with nothing to do puts the manifest in order and drops a part of a line. Its mode stays."""
+    names = ("a", "a b", "b", "\udcc4")
+    for name in names:
+        complete(f"in/{name}", b"x\n")
+    pairs = [os.fsencode(f"{A}  in/{name}\n") for name in names]
+    for rest in (b"", pairs[0][:40], pairs[0][:66]):
+        put("m", pairs[3] + pairs[1] + pairs[0] + pairs[2] + rest).chmod(0o640)
+        ended = call("fingerprint", "-o", "m", "in")
+        assert (ended.status, Path("m").read_bytes()) == (0, HEAD + b"".join(pairs))
+        assert ended.lines[0] == "4 counties: 4 in the manifest already, 0 new, 0 refused, 0 failed; 0 bytes in 0 s"
+        assert stat.S_IMODE(os.stat("m").st_mode) == 0o640
+    assert Path("calls").read_text() == ""
+
+
+def test_a_line_that_was_being_written(room: Path, stand_in: Path) -> None:
+    put("m", HEAD[:9])
+    complete("in/b", b"b\n")
+    assert call("fingerprint", "-o", "m", "in").status == 0
+    assert Path("m").read_text() == f"# tigercanon form 1\n{digest(b'b' + bytes([10]))}  in/b\n"
+
+
+def test_a_linked_manifest(room: Path, stand_in: Path) -> None:
+    """The file that the link leads to is written, and the link stays."""
+    complete("in/b", b"b\n")
+    put("real/m", lines("a x"))
+    os.symlink("real/m", "m")
+    assert call("fingerprint", "-o", "m", "in").status == 0
+    assert os.path.islink("m") and Path("real/m").read_text().count("\n") == 3
+
+
+def test_the_lock(room: Path, stand_in: Path) -> None:
+    """A file of another kind in its place isn't touched; one that a killed run left is taken."""
+    complete("in/b", b"b\n")
+    put("m.lock", b"something else\n")
+    ended = call("fingerprint", "-o", "m", "in")
+    assert (ended.status, ended.lines) == (2, ["m.lock: isn't the lock of m but another file: move it away"])
+    assert Path("m.lock").read_bytes() == b"something else\n"
+    os.unlink("m.lock")
+    os.mkfifo("m.lock")
+    assert call("fingerprint", "-o", "m", "in").status == 2
+    os.unlink("m.lock")
+    put("m.lock", b"process 1 on elsewhere\n")
+    assert call("fingerprint", "-o", "m", "in").status == 0
+    assert not os.path.exists("m.lock")
+
+
+def test_two_runs(room: Path, stand_in: Path) -> None:
+    """The second one, and a verification, name the process that writes."""
+    complete("in/b", b"waits\n")
+    put("waits")
+    run = begin("fingerprint", "-o", "m", "in")
+    assert await_that(lambda: Path("calls").read_text())
+    for words in (["fingerprint", "-o", "m", "in"], ["verify", "m"]):
+        ended = call(*words)
+        assert ended.status == 2
+        assert ended.lines[0].startswith(f"m: another run writes to it: process {run.pid} on ")
+    os.unlink("waits")
+    assert end(run).status == 0
+    assert call("verify", "m").status == 0
+
+
+def test_duplicates(room: Path) -> None:
+    put("m", HEAD + lines("a in/x", "b in/y", "a in/z", "c in/u", "b in/v"))
+    assert call("duplicates", "m").out.encode() == lines("a in/x", "a in/z") + b"\n" + lines("b in/y", "b in/v")
+    groups = [{"fingerprint": A, "counties": ["in/x", "in/z"]}, {"fingerprint": B, "counties": ["in/y", "in/v"]}]
+    assert json.loads(call("duplicates", "--json", "m").out) == groups
+    put("m", lines("a x"))
+    ended = call("duplicates", "m")
+    assert (ended.status, ended.out) == (0, "")
+
+
+def test_changes(room: Path) -> None:
+    """Counties are matched by their names, whatever their folder, case and ending."""
+    put("old", lines("a one/TGR01001", "a one/TGR01003", "c one/TGR01005", "a one/TGR01009"))
+    put("new", HEAD + lines("a two/tgr01001", "b two/TGR01003.txt", "c TGR01007", "a TGR01009"))
+    ended = call("changes", "old", "new")
+    wanted = ["same  two/tgr01001", "changed  two/TGR01003.txt", "removed  one/TGR01005", "added  TGR01007", "same  TGR01009"]
+    assert (ended.status, ended.out.splitlines()) == (1, wanted)
+    assert ended.lines == ["2 same, 1 changed, 1 added, 1 removed"]
+    quiet = call("changes", "--quiet", "--json", "old", "new")
+    rows = [(row["change"], row["county"], row["old"], row["new"]) for row in json.loads(quiet.out)]
+    assert rows == [
+        ("changed", "TGR01003", "one/TGR01003", "two/TGR01003.txt"),
+        ("removed", "TGR01005", "one/TGR01005", None),
+        ("added", "TGR01007", None, "TGR01007"),
+    ]
+    assert call("changes", "old", "old").status == 0
+
+
+def test_manifests_that_dont_compare(room: Path) -> None:
+    put("plain", lines("a x"))
+    put("masked", b"# --no-sources\n" + lines("a x"))
+    put("twice", lines("a one/x", "b two/X"))
+    ended = call("changes", "plain", "masked")
+    why = "plain was made with no flags and masked with --no-sources: their fingerprints can't be compared"
+    assert (ended.status, ended.out, ended.lines) == (2, "", [why])
+    ended = call("changes", "plain", "twice")
+    why = "twice: one/x and two/X have the same name, so counties can't be matched by it"
+    assert (ended.status, ended.lines) == (2, [why])

@@ -1,0 +1,336 @@
+"""The module for Python over a stand-in for the library: what it passes to the library, and what it makes of the answers."""
+
+from __future__ import annotations
+
+import array
+import gzip
+import inspect
+import io
+import mmap
+import os
+import shutil
+import subprocess
+import sys
+import threading
+import time
+import zipfile
+from pathlib import Path
+from typing import Any, Callable, Iterator
+
+import pytest
+from support import ROOT, TYPES
+
+import tigercanon
+from tigercanon import _library
+
+HERE = Path(__file__).resolve().parent
+TEXT = b"1 first line\n2 second line: \xe9\n"
+
+REFUSALS = [
+    (1, "UnknownType", "part line"),
+    (2, "LineTooLong", "part line"),
+    (3, "BadByte", "part line column"),
+    (4, "BadNumber", "part line column"),
+    (5, "BadPoint", "part line column"),
+    (6, "GapInRecord", "part line column"),
+    (7, "TooManyRecords", "type"),
+    (9, "Memory", ""),
+    (11, "ChainTwice", "tlid"),
+    (12, "NoChain", "type tlid"),
+    (13, "SequenceBroken", "type tlid"),
+    (14, "LinkMissing", "tlid"),
+    (15, "LinkTwice", "tlid"),
+    (16, "NameTwice", "feat"),
+    (17, "NameUnknown", "tlid feat"),
+    (18, "PolygonTwice", "cenid polyid"),
+    (19, "LandUnknown", "land"),
+    (20, "PolygonUnknown", "cenid polyid"),
+    (23, "PolygonWithoutChain", "cenid polyid"),
+    (24, "TooSymmetric", ""),
+]
+"""Each refusal that a call can report, with its places."""
+
+
+@pytest.fixture(scope="module", name="library")
+def compiled(tmp_path_factory: pytest.TempPathFactory) -> Path:
+    """The stand-in as a shared library."""
+    if not shutil.which("gcc"):
+        pytest.skip("no gcc")
+    made = tmp_path_factory.mktemp("library") / _library.NAME
+    words = ["gcc", "-shared", "-fPIC", "-O1", "-Wall", "-Werror", f"-I{ROOT / 'include'}"]
+    subprocess.run([*words, "-o", str(made), str(HERE / "stand_in.c")], check=True)
+    return made
+
+
+@pytest.fixture(autouse=True)
+def loaded(library: Path, monkeypatch: pytest.MonkeyPatch) -> Iterator[None]:
+    """The module takes the stand-in."""
+    monkeypatch.setenv(_library.VARIABLE, str(library))
+    _library.library.cache_clear()
+    yield
+    _library.library.cache_clear()
+
+
+def echoed(parts: Any) -> bytes:
+    """What the stand-in was lent."""
+    return tigercanon.respell(parts)
+
+
+# Parts
+
+
+def kinds(folder: Path) -> dict[str, Callable[[], Any]]:
+    """One part with the text, in each form that a part may have."""
+    path = folder / "part"
+    path.write_bytes(TEXT)
+    with gzip.open(folder / "part.gz", "wb") as packed:
+        packed.write(TEXT)
+    with zipfile.ZipFile(folder / "members.zip", "w") as archive:
+        archive.writestr("part", TEXT)
+    return {
+        "bytes": lambda: TEXT,
+        "bytearray": lambda: bytearray(TEXT),
+        "memoryview": lambda: memoryview(TEXT),
+        "slice": lambda: memoryview(b"xx" + TEXT + b"x")[2:-1],
+        "mmap": lambda: mmap.mmap(os.open(path, os.O_RDWR), 0),
+        "read-only mmap": lambda: mmap.mmap(os.open(path, os.O_RDONLY), 0, prot=mmap.PROT_READ),
+        "array": lambda: array.array("B", TEXT),
+        "array of wider items": lambda: array.array("H", TEXT),
+        "view of wider items": lambda: memoryview(TEXT).cast("H"),
+        "view of two dimensions": lambda: memoryview(TEXT).cast("B", (2, len(TEXT) // 2)),
+        "file": lambda: open(path, "rb"),
+        "file without a buffer": lambda: open(path, "rb", buffering=0),
+        "BytesIO": lambda: io.BytesIO(TEXT),
+        "gzip": lambda: gzip.open(folder / "part.gz", "rb"),
+        "member of a zip": lambda: zipfile.ZipFile(folder / "members.zip").open("part"),
+        "str": lambda: str(path),
+        "PathLike": lambda: path,
+    }
+
+
+def test_one_part(tmp_path: Path) -> None:
+    assert len(TEXT) % 2 == 0
+    for kind, make in kinds(tmp_path).items():
+        assert echoed(make()) == TEXT, kind
+        assert tigercanon.normalise(make(), no_sources=True) == TEXT + b"+no_sources", kind
+        assert tigercanon.compare(make(), TEXT) is True, kind
+        assert tigercanon.compare(b"other", make()) is False, kind
+        assert tigercanon.fingerprint(make())[:62] == TEXT[:31].hex().ljust(62, "0"), kind
+
+
+def test_several_parts(tmp_path: Path) -> None:
+    for kind, make in kinds(tmp_path).items():
+        for several in ([make(), b"", make()], (part for part in (make(), b"", make()))):
+            assert echoed(several) == TEXT + b"||" + TEXT, kind
+    assert echoed(TEXT.splitlines(keepends=True)) == b"|".join(TEXT.splitlines(keepends=True))
+
+
+def test_nothing() -> None:
+    empty = [b"", bytearray(), memoryview(b""), [], [b""], array.array("H"), io.BytesIO()]
+    empty.append(memoryview(b"").cast("B"))
+    for nothing in empty:
+        assert echoed(nothing) == b""
+    assert echoed([b""] * 3) == b"||"
+
+
+def test_a_file_from_its_position(tmp_path: Path) -> None:
+    path = tmp_path / "part"
+    path.write_bytes(TEXT)
+    with path.open("rb") as file:
+        first = file.readline()
+        assert echoed(file) == TEXT[len(first) :]
+        assert echoed(file) == b""
+
+
+def test_what_is_no_part(tmp_path: Path) -> None:
+    (tmp_path / "text").write_text("x")
+    with (tmp_path / "text").open() as in_text_mode:
+        for part in (1, None, [1, 2], [None], in_text_mode, [[b"x"]]):
+            with pytest.raises(TypeError):
+                tigercanon.check(part)  # type: ignore[arg-type]
+    for view in (memoryview(TEXT)[::2], memoryview(TEXT)[::-1], memoryview(TEXT).cast("H")[::2]):
+        with pytest.raises(BufferError):
+            tigercanon.check(view)
+    with pytest.raises(TypeError):
+        tigercanon.check(TEXT, no_sources=True)  # type: ignore[call-arg]
+
+
+def test_parts_are_given_back() -> None:
+    lent = bytearray(TEXT)
+    echoed(lent)
+    kept: list[object] = []
+    for parts in ([lent, memoryview(TEXT)[::2]], [lent, 1], [b"fault 4 0 6 0000000000 1 2 3", lent]):
+        with pytest.raises((BufferError, TypeError, tigercanon.Refusal)) as raised:
+            tigercanon.check(parts)  # type: ignore[arg-type]
+        kept.append(raised)
+    lent.extend(b"a bytearray that is lent can't be made longer")
+
+
+# Counties by their paths
+
+
+def test_stems(tmp_path: Path) -> None:
+    """The nine files in their order, in either case of their endings. An absent one is empty."""
+    (tmp_path / "TGR01001.RT1").write_bytes(b"one")
+    (tmp_path / "TGR01001.rti").write_bytes(b"I")
+    (tmp_path / "TGR01001.RTP").write_bytes(b"P")
+    (tmp_path / "TGR010011.RT2").write_bytes(b"of another county")
+    for stem in (tmp_path / "TGR01001", str(tmp_path / "TGR01001")):
+        assert echoed(stem) == b"one|||||||I|P"
+    with pytest.raises(FileNotFoundError, match="no county's files begin with this name"):
+        tigercanon.check(tmp_path / "TGR01003")
+    with pytest.raises(FileNotFoundError):
+        tigercanon.check([tmp_path / "TGR01001"])
+    (tmp_path / "TGR01001.rt1").write_bytes(b"one again")
+    with pytest.raises(ValueError, match="TGR01001.rt1"):
+        tigercanon.check(tmp_path / "TGR01001")
+    with pytest.raises(IsADirectoryError):
+        tigercanon.check(tmp_path)
+
+
+def test_zips(tmp_path: Path) -> None:
+    path = tmp_path / "TGR01001.ZIP"
+    with zipfile.ZipFile(path, "w", zipfile.ZIP_DEFLATED) as county:
+        for place, kind in enumerate(TYPES):
+            county.writestr(f"tgr01001.rt{kind.lower()}" if place % 2 else f"TGR01001.RT{kind}", kind)
+        county.writestr("README.TXT", "no records")
+    assert echoed(path) == "|".join(TYPES).encode()
+    assert tigercanon.compare(path, [kind.encode() for kind in TYPES]) is True
+    with zipfile.ZipFile(path, "a") as county:
+        county.writestr("TGR01003.RT1", "another county")
+    with pytest.raises(ValueError, match="TGR01001.ZIP: .*2 counties"):
+        tigercanon.check(path)
+
+
+# Answers
+
+
+def places_of(words: str) -> tuple[tuple[Any, ...], str]:
+    """The places of a refusal by their kinds: as the exception has them, and as the line has them."""
+    numbers = iter((12345678901, 22, 33))
+    places: list[Any] = []
+    for word in words.split():
+        places.append("6" if word == "type" else "3036303031" if word == "cenid" else next(numbers))
+    return tuple(places), "".join(f" {place}" for place in places)
+
+
+@pytest.mark.parametrize("number, name, words", REFUSALS)
+def test_refusals(number: int, name: str, words: str) -> None:
+    """Each refusal with its places, by each call."""
+    places, line = places_of(words)
+    for which in (0, 1, 2):
+        fault = f"fault {number} {which} 6 3036303031 12345678901 22 33".encode()
+        calls: list[Callable[[], object]] = [
+            lambda: tigercanon.check(fault),
+            lambda: tigercanon.respell(fault),
+            lambda: tigercanon.normalise(fault),
+            lambda: tigercanon.fingerprint(fault),
+            lambda: tigercanon.compare(b"", fault),
+        ]
+        for call in calls:
+            with pytest.raises(tigercanon.Refusal) as raised:
+                call()
+            refusal = raised.value
+            told = f"refused {number} {name}{line}" + (f" in set {which}" if which else "")
+            assert (refusal.number, refusal.name, refusal.places) == (number, name, places)
+            assert (refusal.set, refusal.line, str(refusal)) == (which or None, told, told)
+            assert isinstance(refusal, tigercanon.OutOfMemory) == (number == 9)
+            assert isinstance(refusal, MemoryError) == (number == 9)
+
+
+def test_flags() -> None:
+    """Each flag is passed as itself. Any true value counts as given."""
+    for given in (True, 1, "yes"):
+        flags: Any = {"no_sources": given}
+        assert tigercanon.normalise(TEXT, **flags) == TEXT + b"+no_sources"
+        assert tigercanon.fingerprint(TEXT, **flags)[62:] == "01"
+        assert tigercanon.compare(TEXT, TEXT, **flags) is False
+        flags = {"no_reserved": given}
+        assert tigercanon.normalise(TEXT, **flags) == TEXT + b"+no_reserved"
+        assert tigercanon.fingerprint(TEXT, **flags)[62:] == "02"
+        assert tigercanon.compare(TEXT, TEXT, **flags) is False
+        flags = {"no_sources": given, "no_reserved": given}
+        assert tigercanon.normalise(TEXT, **flags) == TEXT + b"+both"
+        assert tigercanon.fingerprint(TEXT, **flags)[62:] == "03"
+        assert tigercanon.compare(TEXT, b"other", **flags) is True
+    for absent in (False, 0, "", None):
+        nothing: Any = {"no_sources": absent, "no_reserved": absent}
+        assert tigercanon.normalise(TEXT, **nothing) == TEXT
+
+
+def test_a_large_text() -> None:
+    text = tigercanon.normalise(b"large")
+    assert len(text) == 70 << 20 and text.count(b"x") == len(text) - 1 and text.endswith(b"y")
+
+
+def test_other_threads_run() -> None:
+    """During a call of half a second another thread goes on."""
+    call = threading.Thread(target=tigercanon.check, args=(b"sleep",))
+    call.start()
+    rounds, end = 0, time.monotonic() + 0.3
+    while time.monotonic() < end:
+        rounds += 1
+        time.sleep(0.01)
+    assert call.is_alive() and rounds > 5
+    call.join()
+
+
+def test_check_returns_nothing() -> None:
+    assert tigercanon.check(TEXT) is None  # type: ignore[func-returns-value]
+
+
+# The library, and what stands about the calls
+
+
+def imported(*words: str, package: Path = ROOT / "python", **more: str) -> "subprocess.CompletedProcess[str]":
+    """What Python prints that loads the package from this folder."""
+    plain = {key: value for key, value in os.environ.items() if key not in ("LD_LIBRARY_PATH", _library.VARIABLE)}
+    environment = {**plain, "PYTHONPATH": str(package), "PYTHONDONTWRITEBYTECODE": "1", **more}
+    code = "; ".join(("import tigercanon", *words))
+    command = [sys.executable, "-c", code]
+    return subprocess.run(command, cwd="/", env=environment, capture_output=True, text=True)
+
+
+def test_where_the_library_is(library: Path, tmp_path: Path) -> None:
+    """The variable wins over a library beside the package, and that one over one of the system."""
+    package = tmp_path / "python"
+    shutil.copytree(ROOT / "python/tigercanon", package / "tigercanon")
+    call = "print(tigercanon.respell(b'x'))"
+    system = {"LD_LIBRARY_PATH": str(library.parent)}
+    assert imported(call, package=package, **system).stdout == "b'x'\n"
+    broken = tmp_path / "lib"
+    broken.mkdir()
+    (broken / _library.NAME).write_bytes(b"no library")
+    assert "ImportError" in imported(call, package=package, **system).stderr
+    assert imported(call, package=package, TIGERCANON_LIBRARY=str(library)).stdout == "b'x'\n"
+    (broken / _library.NAME).unlink()
+    (broken / _library.NAME).symlink_to(library)
+    assert imported(call, package=package).stdout == "b'x'\n"
+    assert "ImportError" in imported(call, package=package, TIGERCANON_LIBRARY=str(tmp_path / "none")).stderr
+    (package / "tigercanon" / _library.NAME).symlink_to(library)
+    (broken / _library.NAME).unlink()
+    assert imported(call, package=package).stdout == "b'x'\n"
+
+
+def test_without_a_library(tmp_path: Path) -> None:
+    """The package can be imported, and a call says in one line how to get the library."""
+    package = tmp_path / "python"
+    shutil.copytree(ROOT / "python/tigercanon", package / "tigercanon")
+    ended = imported("print(tigercanon.FORM)", "tigercanon.check(b'')", package=package)
+    assert ended.stdout == "tigercanon form 1\n"
+    last = ended.stderr.splitlines()[-1]
+    assert last.startswith("ImportError: the library libtigercanon.so.1 can't be loaded")
+    assert "scripts/build-library" in last and _library.VARIABLE in last
+
+
+def test_documentation() -> None:
+    """Each call has type hints and describes what it raises; check also describes what it returns, and which counties it accepts."""
+    for name in ("check", "respell", "normalise", "fingerprint", "compare"):
+        call = getattr(tigercanon, name)
+        assert "Raises" in inspect.getdoc(call), name  # type: ignore[operator]
+        assert {"return", *inspect.signature(call).parameters} == set(call.__annotations__), name
+    assert "None" in str(tigercanon.check.__doc__) and "raises Refusal" in str(tigercanon.check.__doc__)
+    profile = " ".join(str(tigercanon.check.__doc__).split())
+    assert "each polygon with a record of type P lies on a side of a chain" in profile and "few enough choices open" in profile
+    assert (ROOT / "python/tigercanon/py.typed").exists()
+    assert f'TIGERCANON_FORM "{tigercanon.FORM}"' in (ROOT / "include/tigercanon.h").read_text()

@@ -1,0 +1,170 @@
+"""A signal, whenever it comes: the command ends by it within a second and leaves nothing behind, and the same command goes on."""
+
+from __future__ import annotations
+
+import os
+import random
+import signal
+import subprocess
+import time
+import zipfile
+from pathlib import Path
+
+import pytest
+from support import (
+    TYPES,
+    await_that,
+    begin,
+    call,
+    complete,
+    count_of_lines,
+    digest,
+    end,
+    environment,
+    left_behind,
+    processes_with,
+    put,
+    words_of,
+)
+
+SIGNALS = [signal.SIGINT, signal.SIGTERM, signal.SIGHUP, signal.SIGQUIT, signal.SIGUSR1, signal.SIGXCPU]
+HEAD = "# tigercanon form 1\n"
+
+
+@pytest.fixture
+def archive(room: Path, stand_in: Path) -> Path:
+    """Ten counties: a zip for which the stand-in waits as long as there is a file `waits`, and nine others."""
+    for number in range(1, 10):
+        complete(f"in/TGR{number}", b"county %d\n" % number)
+    with zipfile.ZipFile(put("in/TGR0.zip"), "w") as file:
+        for kind in TYPES:
+            file.writestr(f"TGR0.RT{kind}", b"waits\n")
+    return room
+
+
+def wanted() -> str:
+    texts = [b"waits\n", *(b"county %d\n" % number for number in range(1, 10))]
+    return HEAD + "".join(f"{digest(text)}  in/TGR{number}\n" for number, text in enumerate(texts))
+
+
+def assert_nothing_is_left(room: Path) -> None:
+    assert left_behind() == []
+    assert os.listdir(room / "tmp") == []
+    assert not [name for name in os.listdir(room) if name.startswith("m.")]
+    assert await_that(lambda: not processes_with(str(room / "program")), 1)
+
+
+@pytest.mark.parametrize("number", SIGNALS)
+def test_a_signal(archive: Path, number: signal.Signals) -> None:
+    put("waits")
+    run = begin("fingerprint", "--jobs", "3", "-o", "m", "in")
+    assert await_that(lambda: count_of_lines("m") == 10)
+    assert left_behind() != []
+    at = time.monotonic()
+    run.send_signal(number)
+    status = run.wait(10)
+    took = time.monotonic() - at
+    ended = end(run)
+    assert (status, took < 1) == (-number, True), took
+    assert ended.lines == [f"stopped by {number.name[3:]}: 9 of 10 counties done"]
+    assert_nothing_is_left(archive)
+    os.unlink("waits")
+    Path("calls").write_text("")
+    assert call("fingerprint", "-o", "m", "in").status == 0
+    assert (Path("m").read_text(), Path("calls").read_text().count("\n")) == (wanted(), 1)
+
+
+def test_at_any_moment(archive: Path) -> None:
+    """Runs that are stopped again and again, while Python starts, while they look for counties, judge and write: in the end all is done."""
+    pauses = random.Random(1)
+    statuses = set()
+    for _ in range(25):
+        run = begin("fingerprint", "--jobs", "2", "-o", "m", "in")
+        time.sleep(pauses.uniform(0.1, 0.8))
+        number = pauses.choice(SIGNALS[:3])
+        run.send_signal(number)
+        status = end(run, 10).status
+        statuses.add(status)
+        # Python ends with status 1 if it is interrupted before the command has started.
+        assert status in (0, -number, *([1] if number == signal.SIGINT else []))
+        assert_nothing_is_left(archive)
+        if Path("m").exists():
+            text = Path("m").read_text()
+            assert text.startswith(HEAD) and set(text.splitlines()) <= set(wanted().splitlines()) and text.endswith("\n")
+    assert call("fingerprint", "-o", "m", "in").status == 0
+    assert Path("m").read_text() == wanted()
+    assert Path("calls").read_text().count("\n") < 60
+
+
+def test_a_signal_that_is_ignored(archive: Path) -> None:
+    """A command that was started by nohup isn't ended by a hangup."""
+    put("waits")
+    before = signal.signal(signal.SIGHUP, signal.SIG_IGN)
+    run = begin("fingerprint", "-o", "m", "in")
+    signal.signal(signal.SIGHUP, before)
+    assert await_that(lambda: count_of_lines("m") == 10)
+    run.send_signal(signal.SIGHUP)
+    os.unlink("waits")
+    assert end(run).status == 0
+    assert Path("m").read_text() == wanted()
+
+
+def test_a_run_that_is_killed(archive: Path) -> None:
+    """What it leaves behind is removed by a later run, once it is a minute old; a folder in use stays."""
+    put("waits")
+    run = begin("fingerprint", "-o", "m", "in")
+    assert await_that(lambda: count_of_lines("m") == 10)
+    (folder,) = left_behind()
+    os.utime(folder, (0, 0))
+    assert call("fingerprint", "in/TGR1").status == 0
+    assert left_behind() == [folder]
+    run.kill()
+    run.wait()
+    os.unlink("waits")
+    assert call("fingerprint", "in/TGR1").status == 0
+    assert left_behind() == []
+    assert call("fingerprint", "-o", "m", "in").status == 0
+    assert Path("m").read_text() == wanted()
+    end(run)
+
+
+def test_a_signal_while_a_verification_prints(archive: Path) -> None:
+    """Nobody reads standard output, so the command waits to write: it ends all the same."""
+    lines = [HEAD, *(f"{0:064}  {'x' * 200}/{number}\n" for number in range(2000))]
+    put("m", "".join(lines).encode())
+    run = begin("verify", "m")
+    time.sleep(1.5)
+    run.send_signal(signal.SIGTERM)
+    assert run.wait(2) == -signal.SIGTERM
+    end(run)
+
+
+def test_a_command_that_can_not_go_on(archive: Path) -> None:
+    """It ends at once, and doesn't wait for the counties that are being judged: here the manifest takes only one more line."""
+    put("waits")
+    put("m", "".join([HEAD, *(f"{number:064}  a/no-{number:02}\n" for number in range(12))]).encode())
+    limited = ["bash", "-c", 'trap "" XFSZ; ulimit -f 1; exec "$@"', "-", *words_of("fingerprint", "--jobs", "3", "-o", "m", "in")]
+    run = subprocess.Popen(limited, env=environment(), stderr=subprocess.PIPE, start_new_session=True)
+    ended = end(run, 30)
+    assert (ended.status, ended.lines[-1]) == (2, "m: can't be written: File too large")
+    assert Path("m").read_text().count("\n") == 14
+    assert_nothing_is_left(archive)
+
+
+def test_a_terminal(archive: Path) -> None:
+    """A progress bar, if tqdm is installed, and the lines above it."""
+    pytest.importorskip("tqdm")
+    put("in/TGR5.RT1", b"broken\n")
+    terminal, inner = os.openpty()
+    run = begin("fingerprint", "--jobs", "1", "-o", "m", "in", stderr=inner)
+    os.close(inner)
+    told = b""
+    while True:
+        try:
+            told += os.read(terminal, 4096)
+        except OSError:
+            break
+    os.close(terminal)
+    assert end(run).status == 1
+    assert b"0/10" in told and b" counties/s" in told
+    assert b"tigercanon-tools: in/TGR5: refused 1 UnknownType 1 1\r\n" in told

@@ -1,0 +1,183 @@
+"""Zips as they shouldn't be, and servers that break off: each is reported in one line, and all other counties are done."""
+
+from __future__ import annotations
+
+import io
+import re
+import struct
+import threading
+import zipfile
+from functools import partial
+from http.server import SimpleHTTPRequestHandler, ThreadingHTTPServer
+from importlib.util import find_spec
+from pathlib import Path
+from typing import Iterator
+
+import pytest
+from support import TYPES, call, complete, digest, left_behind, put
+
+from tigercanon import storage
+
+TEXT = b"county\n" * 40
+NAMES = [f"TGR00001.RT{kind}" for kind in TYPES]
+Texts = list[tuple[str, bytes]]
+
+
+def packed(members: Texts, method: int = zipfile.ZIP_DEFLATED) -> bytes:
+    file = io.BytesIO()
+    with zipfile.ZipFile(file, "w", method) as archive:
+        for name, text in members:
+            archive.writestr(name, text)
+    return file.getvalue()
+
+
+def members(name: str = "TGR00001") -> Texts:
+    return [(f"{name}.RT{kind}", TEXT if kind == "1" else b"x\n") for kind in TYPES]
+
+
+def headers(text: bytes, name: str) -> tuple[int, int]:
+    """Where the header before a file starts, and its line in the directory."""
+    with zipfile.ZipFile(io.BytesIO(text)) as archive:
+        before = archive.getinfo(name).header_offset
+    return before, text.rindex(name.encode()) - 46
+
+
+def patched(text: bytes, *changes: tuple[int, bytes]) -> bytes:
+    changed = bytearray(text)
+    for at, new in changes:
+        changed[at : at + len(new)] = new
+    return bytes(changed)
+
+
+def broken_zips() -> dict[str, tuple[bytes, str]]:
+    """Zips by what is wrong with them, and the expected reports."""
+    good, name, size = packed(members()), NAMES[0], len(TEXT)
+    before, line = headers(good, name)
+    data = before + 30 + len(name)
+    broken = f"the zip is broken at {name}"
+    both = (before + 6, b"\1"), (line + 8, b"\1")
+    unknown = (before + 8, b"\x09"), (line + 10, b"\x09")
+    return {
+        "no-zip": (b"no zip", "it isn't a zip"),
+        "empty": (b"", "it isn't a zip"),
+        "cut": (good[:-60], "the zip is cut off"),
+        "cut-in-half": (good[: len(good) // 2], "the zip is cut off"),
+        "byte": (patched(good, (data + 8, bytes([good[data + 8] ^ 255]))), broken),
+        "directory": (patched(good, (line, b"XX")), "the zip is broken: its directory can't be read"),
+        "header": (patched(good, (before, b"XX")), broken),
+        "locked": (patched(good, *both), "the zip is locked with a password"),
+        "method": (patched(good, *unknown), f"the zip can't be unpacked: {name} is compressed by an unknown method"),
+        "says-nothing": (patched(good, (line + 24, struct.pack("<L", 0))), broken),
+        "says-less": (patched(good, (line + 24, struct.pack("<L", size - 1))), broken),
+        "says-more": (patched(good, (line + 24, struct.pack("<L", size + 1))), broken),
+        "two": (packed([*members(), *members("tgr00003")]), "the zip has 2 counties in it: TGR00001, TGR00003"),
+        "folders": (
+            packed([*members("a/TGR00001"), ("b/TGR00001.RT2", b"")]),
+            "the zip has 2 counties in it: A/TGR00001, B/TGR00001",
+        ),
+        "none": (packed([("TGR00001.RTA", b"A"), ("read.me", b"")]), "the zip has no county in it"),
+        "twice": (packed([*members(), ("tgr00001.rt2", b"")]), "the zip has 2 files .RT2"),
+        "large": (
+            packed([*members()[:-1], (NAMES[-1], b" " * 300_000)]),
+            r"the zip unpacks to \d+ bytes, more than --largest 200000",
+        ),
+    }
+
+
+def test_broken_zips(room: Path, stand_in: Path) -> None:
+    wanted = {}
+    for name, (text, report) in broken_zips().items():
+        put(f"in/{name}.ZIP", text)
+        wanted[f"in/{name}"] = report
+    put("in/lower.zip", packed([(name.lower(), text) for name, text in [*members(), ("TGR00001.RTA", b"A"), ("x/y.txt", b"")]]))
+    put("in/stored.zip", packed(members(), zipfile.ZIP_STORED))
+    put("in/folder.ZiP", packed(members("of/TGR00001"), zipfile.ZIP_BZIP2))
+    complete("in/single", TEXT)
+    ended = call("fingerprint", "--largest", "200kB", "in")
+    reports = ended.reports
+    assert ended.status == 1
+    for stem, report in wanted.items():
+        assert re.fullmatch(report if "\\d" in report else re.escape(report), reports.pop(stem))
+    assert reports == {}
+    assert ended.out.splitlines()[1:] == [f"{digest(TEXT)}  in/{name}" for name in ("folder", "lower", "single", "stored")]
+    assert left_behind() == []
+
+
+class Server(SimpleHTTPRequestHandler):
+    """Files over HTTP. One fails; of others half is sent, the first time or every time."""
+
+    asked: list[str] = []
+
+    def do_GET(self) -> None:
+        self.asked.append(self.path)
+        if "failing" in self.path:
+            self.send_error(500)
+        elif "always" in self.path or ("once" in self.path and self.asked.count(self.path) == 1):
+            text = Path(self.translate_path(self.path)).read_bytes()
+            self.send_response(200)
+            self.send_header("Content-Length", str(len(text)))
+            self.end_headers()
+            self.wfile.write(text[: len(text) // 2])
+            self.close_connection = True
+        else:
+            super().do_GET()
+
+    def log_message(self, *_: object) -> None:
+        pass
+
+
+@pytest.fixture
+def url(room: Path) -> Iterator[str]:
+    """A server of the files of the test."""
+    Server.asked.clear()
+    server = ThreadingHTTPServer(("127.0.0.1", 0), partial(Server, directory=str(room)))
+    threading.Thread(target=server.serve_forever, daemon=True).start()
+    yield f"http://127.0.0.1:{server.server_port}"
+    server.shutdown()
+    server.server_close()
+
+
+@pytest.mark.cluster
+@pytest.mark.skipif(
+    not (find_spec("aiohttp") and find_spec("requests")), reason="fsspec reads no http without aiohttp and requests"
+)
+def test_a_server(url: str, room: Path, stand_in: Path) -> None:
+    """A transfer that breaks off once is made again; one that breaks off three times is reported."""
+    for name in ("TGR00001", "failing", "once", "always"):
+        put(f"in/{name}.ZIP", packed(members()))
+    complete("in/TGR00005", TEXT)
+    ended = call("fingerprint", "-o", "m", f"{url}/in")
+    reports = ended.reports
+    assert ended.status == 1, ended.err
+    assert re.fullmatch(r"can't be read: .*500.* \(three attempts\)", reports.pop(f"{url}/in/failing"))
+    assert re.fullmatch(r"can't be read: .* \(three attempts\)", reports.pop(f"{url}/in/always"))
+    assert reports == {}
+    counts = {name: Server.asked.count(f"/in/{name}.ZIP") for name in ("TGR00001", "failing", "once", "always")}
+    assert counts == {"TGR00001": 1, "failing": 3, "once": 2, "always": 3}
+    names = ("TGR00001", "TGR00005", "once")
+    assert Path("m").read_text().splitlines()[1:] == [f"{digest(TEXT)}  {url}/in/{name}" for name in names]
+    assert call("verify", "m").out == "".join(f"{url}/in/{name}: OK\n" for name in names)
+    assert left_behind() == []
+
+
+@pytest.mark.parametrize("short", [0, 1, 2, 3])
+def test_a_store_that_sends_too_little(room: Path, monkeypatch: pytest.MonkeyPatch, short: int) -> None:
+    """The bytes that come are counted, and three attempts are made."""
+
+    class Store:
+        asked = 0
+
+        def get_file(self, path: str, target: str) -> None:
+            self.asked += 1
+            put(target, TEXT[: len(TEXT) // 2] if self.asked <= short else TEXT)
+
+    store = Store()
+    monkeypatch.setattr(storage, "system_of", lambda url: (store, url))
+    monkeypatch.setattr(storage, "PAUSES", (0.0, 0.0))
+    if short < 3:
+        storage.fetch("s3://a", len(TEXT), "target")
+        assert (store.asked, Path("target").read_bytes()) == (short + 1, TEXT)
+    else:
+        with pytest.raises(storage.Broken, match="can't be read: only 140 of its 280 bytes came .three attempts."):
+            storage.fetch("s3://a", len(TEXT), "target")
+        assert store.asked == 3

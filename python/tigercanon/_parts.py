@@ -1,0 +1,150 @@
+"""The parts of a set: what a caller passes, as bytes that the C library can read."""
+
+from __future__ import annotations
+
+import ctypes
+import os
+import zipfile
+from contextlib import ExitStack, contextmanager
+from pathlib import Path
+from typing import TYPE_CHECKING, Any, BinaryIO, Iterable, Iterator, Union
+
+from . import zips
+from .layout import TYPES, file_name
+
+if TYPE_CHECKING:
+    import mmap
+    from array import array
+
+Lender = Union[bytes, bytearray, memoryview, "mmap.mmap", "array[Any]"]
+"""An object that lends its bytes in one piece."""
+
+Path_ = Union[str, "os.PathLike[str]"]
+
+Part = Union[Lender, BinaryIO, Path_]
+"""A part of a set: an object that lends its bytes, a file opened in binary mode, or the path of a file."""
+
+Set = Union[Part, Iterable[Part]]
+"""A set: one part, several parts, or the path of a county: one file, a zip, or the stem of its files."""
+
+
+class Piece(ctypes.Structure):
+    """The address and the length of a part, as the library reads them."""
+
+    _fields_ = [("bytes", ctypes.c_void_p), ("length", ctypes.c_size_t)]
+
+
+class Buffer(ctypes.Structure):
+    """CPython's Py_buffer."""
+
+    _fields_ = [
+        ("address", ctypes.c_void_p),
+        ("object", ctypes.c_void_p),
+        ("length", ctypes.c_ssize_t),
+        ("item_size", ctypes.c_ssize_t),
+        ("is_readonly", ctypes.c_int),
+        ("dimensions", ctypes.c_int),
+        ("format", ctypes.c_void_p),
+        ("shape", ctypes.c_void_p),
+        ("strides", ctypes.c_void_p),
+        ("suboffsets", ctypes.c_void_p),
+        ("internal", ctypes.c_void_p),
+    ]
+
+
+get_buffer = ctypes.pythonapi.PyObject_GetBuffer
+get_buffer.argtypes = [ctypes.py_object, ctypes.POINTER(Buffer), ctypes.c_int]
+release_buffer = ctypes.pythonapi.PyBuffer_Release
+release_buffer.argtypes = [ctypes.POINTER(Buffer)]
+release_buffer.restype = None
+
+EMPTY = ctypes.create_string_buffer(1)
+ADDRESS_OF_EMPTY = ctypes.addressof(EMPTY)
+"""The address of a part without bytes: the library wants one that isn't null."""
+
+
+@contextmanager
+def lent(parts: Set) -> Iterator[tuple[Any, int]]:
+    """Lends the parts of a set to the library: an array of pieces and how many they are. Afterwards the owners can change them."""
+    with ExitStack() as stack:
+        views = [stack.enter_context(view_of(part)) for part in parts_of(parts)]
+        pieces = (Piece * max(len(views), 1))()
+        for piece, view in zip(pieces, views):
+            buffer = Buffer()
+            get_buffer(view, ctypes.byref(buffer), 0)
+            stack.callback(release_buffer, ctypes.byref(buffer))
+            piece.bytes = buffer.address if buffer.length else ADDRESS_OF_EMPTY
+            piece.length = buffer.length
+        yield pieces, len(views)
+
+
+def parts_of(parts: Set) -> Iterable[Any]:
+    """The parts of a set, each as an object that lends its bytes."""
+    if isinstance(parts, (str, os.PathLike)):
+        return county_at(os.fspath(parts))
+    if lends_bytes(parts) or hasattr(parts, "read"):
+        return [bytes_of(parts)]
+    return (bytes_of(part) for part in parts)
+
+
+def bytes_of(part: Any) -> Any:
+    """The part as an object that lends its bytes. A file is read from its current position to its end."""
+    if isinstance(part, (str, os.PathLike)):
+        return Path(part).read_bytes()
+    if hasattr(part, "read") and not lends_bytes(part):
+        part = part.read()
+    if not lends_bytes(part):
+        raise TypeError(f"a part is bytes, a file opened in binary mode or a path, not {type(part).__name__}")
+    return part
+
+
+def lends_bytes(part: object) -> bool:
+    try:
+        with memoryview(part):  # type: ignore[arg-type]
+            return True
+    except TypeError:
+        return False
+
+
+def view_of(part: Any) -> memoryview:
+    """All bytes of a part, whatever the size of its items. Raises BufferError if they aren't in one piece."""
+    with memoryview(part) as view:
+        if not view.c_contiguous:
+            raise BufferError("a part has to lend its bytes in one piece")
+        return view.cast("B") if view.nbytes else memoryview(b"")
+
+
+# Counties by their paths
+
+
+def county_at(path: str) -> list[bytes]:
+    """The parts of the county at a path: of a file, of a zip, or of the files of a stem."""
+    if not os.path.lexists(path):
+        return files_behind(path)
+    if zipfile.is_zipfile(path):
+        return files_in_zip(path)
+    return [Path(path).read_bytes()]
+
+
+def files_behind(stem: str) -> list[bytes]:
+    """The nine files whose names begin with the stem, in either case of their endings. An absent one is empty."""
+    folder, base = os.path.split(stem)
+    endings = {file_name("", kind): place for place, kind in enumerate(TYPES)}
+    found: dict[int, str] = {}
+    for name in os.listdir(folder or ".") if os.path.isdir(folder or ".") else []:
+        place = endings.get(name[len(base) :].upper()) if name.startswith(base) else None
+        if place is not None and found.setdefault(place, name) != name:
+            raise ValueError(f"{found[place]} and {name} in {folder or '.'} are both the same file of a county")
+    if not found:
+        raise FileNotFoundError(f"there is no file {stem}, and no county's files begin with this name")
+    return [Path(folder, found[place]).read_bytes() if place in found else b"" for place in range(len(TYPES))]
+
+
+def files_in_zip(path: str) -> list[bytes]:
+    """The nine files of the one county in a zip. An absent one is empty."""
+    try:
+        with zips.opened(path) as archive:
+            members = zips.members_of(archive)
+            return [b"".join(zips.pieces_of(archive, members[kind])) if kind in members else b"" for kind in TYPES]
+    except zips.BadZip as fault:
+        raise ValueError(f"{path}: {fault}") from None

@@ -1,0 +1,286 @@
+"""The command line: one command with a subcommand for each job."""
+
+from __future__ import annotations
+
+import argparse
+import logging
+import os
+import re
+import signal
+import threading
+import traceback
+from importlib import import_module
+from typing import Any, Callable, Sequence
+
+from .errors import Failure, reason
+from .own import PATIENCE, PROCESS
+from .printing import print_json, print_lines
+from .progress import LOG, Lines, how_far, report
+from .version import VERSION
+
+NAME = "tigercanon-tools"
+SIZES = {"": 1, "kB": 10**3, "MB": 10**6, "GB": 10**9}
+LARGEST = "2GB"
+SIGNALS = [signal.Signals[f"SIG{name}"] for name in "INT TERM HUP QUIT USR1 USR2 ALRM XCPU".split()]
+
+ABOUT = """\
+Fingerprints the counties of an archive, and shows where two maps differ.
+
+A county is a zip as it is distributed (TGR01001.ZIP) or its single files
+(TGR01001.RT1 to TGR01001.RTP), in upper or lower case. A SOURCE is a folder,
+which is searched with all folders below it; a glob in quotes; the name of a
+county or of one of its files; or a URL that the Python package fsspec reads."""
+
+STATUSES = """\
+Exit status: 0 on success; 1 if a county has no fingerprint or something differs;
+2 if the command line is wrong or the command can't continue. A command that a
+signal stops leaves no temporary files; run it again to do the rest.
+
+Example: tigercanon-tools fingerprint -o manifest tiger/2006"""
+
+
+def size_of(word: str) -> int:
+    """A number of bytes, with or without a unit."""
+    found = re.fullmatch(r"([0-9]+)(|kB|MB|GB)", word)
+    if not found or int(found[1]) == 0:
+        raise argparse.ArgumentTypeError(f"{word!r} isn't a size such as 500MB or 2GB")
+    return int(found[1]) * SIZES[found[2]]
+
+
+def count_of(word: str) -> int:
+    if not re.fullmatch(r"[1-9][0-9]*", word):
+        raise argparse.ArgumentTypeError(f"{word!r} isn't a number from 1")
+    return int(word)
+
+
+class Parser(argparse.ArgumentParser):
+    """A parser whose errors take one line."""
+
+    def error(self, message: str) -> Any:
+        self.exit(2, f"{self.prog}: {message}; see {self.prog} --help\n")
+
+
+def parser() -> Parser:
+    """The parser of the whole command line."""
+    made = Parser(
+        prog=NAME, description=ABOUT, epilog=STATUSES, formatter_class=argparse.RawDescriptionHelpFormatter, allow_abbrev=False
+    )
+    made.add_argument("--version", action="version", version=f"{NAME} {VERSION}")
+    commands = made.add_subparsers(metavar="COMMAND", required=True, dest="command")
+    add_fingerprint(commands)
+    add_verify(commands)
+    add_duplicates(commands)
+    add_changes(commands)
+    add_diff(commands)
+    add_explain(commands)
+    return made
+
+
+def add_command(commands: Any, name: str, about: str, run: Callable[[argparse.Namespace], int]) -> argparse.ArgumentParser:
+    description = f"{about[0].upper()}{about[1:]}."
+    made: argparse.ArgumentParser = commands.add_parser(name, help=about, description=description, allow_abbrev=False)
+    made.add_argument("--version", action="version", version=f"{NAME} {VERSION}")
+    made.set_defaults(run=run)
+    return made
+
+
+def add_program(made: argparse.ArgumentParser) -> None:
+    where = "default: the one that $TIGERCANON names, else the one built here, else the one on the PATH"
+    made.add_argument("--program", metavar="FILE", help=f"run this program tigercanon ({where})")
+
+
+def add_masks(made: argparse.ArgumentParser) -> None:
+    made.add_argument("--no-sources", action="store_true", help="leave out the fields that record where data came from")
+    made.add_argument("--no-reserved", action="store_true", help="leave out the reserved fields")
+
+
+def add_json(made: argparse.ArgumentParser) -> None:
+    made.add_argument("--json", action="store_true", help="print a list in JSON")
+
+
+def add_manifest(made: argparse.ArgumentParser) -> None:
+    made.add_argument("manifest", metavar="MANIFEST", help="a manifest that the command fingerprint has written")
+
+
+def add_judging(made: argparse.ArgumentParser) -> None:
+    """The options of the commands that judge counties."""
+    add_program(made)
+    engine = made.add_mutually_exclusive_group()
+    about = "process N counties at a time (default: one per processor)"
+    engine.add_argument("--jobs", metavar="N", type=count_of, help=about)
+    about = "use the workers of the Dask scheduler at this address, or at the one in a file that the scheduler has written"
+    engine.add_argument("--scheduler", metavar="ADDRESS", help=about)
+    about = "limit the memory of each process, for example to 4GB; a county that doesn't fit is tried once more alone"
+    made.add_argument("--memory", metavar="SIZE", type=size_of, help=about)
+    about = f"skip zips that unpack to more than SIZE (default: {LARGEST})"
+    made.add_argument("--largest", metavar="SIZE", type=size_of, default=size_of(LARGEST), help=about)
+    add_masks(made)
+    add_json(made)
+
+
+def add_fingerprint(commands: Any) -> None:
+    about = "print or write a manifest: the fingerprint and the name of each county"
+    made = add_command(commands, "fingerprint", about, fingerprint)
+    about = "write the manifest to this file; counties that it already lists are skipped"
+    made.add_argument("-o", "--output", metavar="MANIFEST", help=about)
+    about = "reject a county if one of its files is missing, or if the one of type 1, 2 or I is empty"
+    made.add_argument("--strict", action="store_true", help=about)
+    add_judging(made)
+    made.add_argument("sources", metavar="SOURCE", nargs="+", help="where the counties are")
+
+
+def add_verify(commands: Any) -> None:
+    about = "check counties against their fingerprints in a manifest: OK, FAILED or MISSING for each"
+    made = add_command(commands, "verify", about, verify)
+    made.add_argument("--quiet", action="store_true", help="don't print counties that are OK")
+    made.add_argument("--root", metavar="FOLDER", help="look for the names in the manifest below this folder")
+    add_judging(made)
+    add_manifest(made)
+    made.add_argument("sources", metavar="SOURCE", nargs="*", help="print NEW for each county here that isn't in the manifest")
+
+
+def add_duplicates(commands: Any) -> None:
+    about = "list the counties of a manifest that are one map, in groups"
+    made = add_command(commands, "duplicates", about, list_duplicates)
+    add_json(made)
+    add_manifest(made)
+
+
+def add_changes(commands: Any) -> None:
+    about = "list how two manifests differ: counties that are the same, changed, added or removed"
+    made = add_command(commands, "changes", about, list_changes)
+    made.description = f"{made.description} Counties are matched by their names without folder, case and ending."
+    made.add_argument("--quiet", action="store_true", help="don't print counties that are the same")
+    add_json(made)
+    made.add_argument("old", metavar="OLD", help="the earlier manifest")
+    made.add_argument("new", metavar="NEW", help="the later manifest")
+
+
+def add_diff(commands: Any) -> None:
+    module = import_module(".differences.command", __package__)
+    made = add_command(commands, "diff", "show where two maps differ, as text, a page or GeoJSON", module.run)
+    add_program(made)
+    add_masks(made)
+    module.add_arguments(made)
+
+
+def add_explain(commands: Any) -> None:
+    made = add_command(commands, "explain", "explain a refusal: what it means, an example, and what to do", explain)
+    made.add_argument("line", metavar="LINE", nargs="+", help="the line that the program printed, or the refusal's number or name")
+
+
+def fingerprint(options: argparse.Namespace) -> int:
+    from .runs import Fingerprints
+
+    return Fingerprints(options)()
+
+
+def verify(options: argparse.Namespace) -> int:
+    from .runs import Verification
+
+    return Verification(options)()
+
+
+def list_duplicates(options: argparse.Namespace) -> int:
+    from .manifest import duplicates, loaded
+
+    groups = duplicates(loaded(options.manifest).lines)
+    if options.json:
+        rows = [{"fingerprint": group[0].fingerprint, "counties": [line.stem for line in group]} for group in groups]
+        print_json(rows)
+    else:
+        print_lines("\n".join(map(str, group)) + ("" if group is groups[-1] else "\n") for group in groups)
+    return 0
+
+
+def list_changes(options: argparse.Namespace) -> int:
+    from .manifest import changes
+
+    found = changes(options.old, options.new)
+    shown = [change for change in found if change.kind != "same" or not options.quiet]
+    if options.json:
+        rows = [{"county": each.name, "change": each.kind, "old": each.first, "new": each.second} for each in shown]
+        print_json(rows)
+    else:
+        print_lines(f"{change.kind}  {change.second or change.first}" for change in shown)
+    counts = {kind: sum(change.kind == kind for change in found) for kind in ("same", "changed", "added", "removed")}
+    report(", ".join(f"{count:,} {kind}" for kind, count in counts.items()))
+    return int(counts["same"] < len(found))
+
+
+def explain(options: argparse.Namespace) -> int:
+    from .explain import run as explain_line
+
+    return explain_line(options)
+
+
+class Command(threading.Thread):
+    """A command, which runs beside the main thread: that one waits for signals, so none comes at a bad moment."""
+
+    def __init__(self, options: argparse.Namespace) -> None:
+        super().__init__(daemon=True)
+        self.options = options
+        self.status: int = 2
+        self.is_whole = False
+        self.signal: int | None = None
+        self.error: BaseException | None = None
+
+    def run(self) -> None:
+        try:
+            self.status = self.options.run(self.options)
+            self.is_whole = True
+        except Failure as failure:
+            report(str(failure))
+        except BrokenPipeError:
+            self.signal = signal.SIGPIPE
+        except MemoryError:
+            report("out of memory")
+        except OSError as error:
+            name = f"{error.filename}: " if isinstance(error.filename, str) else ""
+            report(f"{name}{reason(error)}")
+        except SystemExit as ended:
+            self.status = ended.code if isinstance(ended.code, int) else 2
+        except BaseException as error:  # a fault of this package
+            self.error = error
+
+
+def end_by(number: int) -> None:
+    """Ends this process by a signal, as if it had no handler."""
+    signal.signal(number, signal.SIG_DFL)
+    signal.pthread_sigmask(signal.SIG_UNBLOCK, {number})
+    os.kill(os.getpid(), number)
+
+
+def stop(number: int, _: object) -> None:
+    """Ends what the command has started, and then this process by the signal."""
+    for each in SIGNALS:
+        signal.signal(each, signal.SIG_IGN)
+    PROCESS.end()
+    Lines.bar = None
+    text = f"stopped by {signal.Signals(number).name[3:]}{how_far()}"
+    last = threading.Thread(target=report, args=(text,), daemon=True)
+    last.start()
+    last.join(PATIENCE)  # nobody may be reading standard error
+    end_by(number)
+
+
+def run(arguments: Sequence[str]) -> int:
+    """Runs a command line and returns the exit status."""
+    options = parser().parse_args(list(arguments))
+    LOG.setLevel(logging.INFO)
+    LOG.propagate = False
+    LOG.handlers = [Lines()]
+    for number in SIGNALS:
+        if signal.getsignal(number) is not signal.SIG_IGN:
+            signal.signal(number, stop)
+    command = Command(options)
+    command.start()
+    command.join()
+    if command.is_whole:
+        return command.status
+    if command.error is not None:
+        traceback.print_exception(type(command.error), command.error, command.error.__traceback__)
+    PROCESS.end()
+    if command.signal is not None:
+        end_by(command.signal)
+    os._exit(command.status)  # other threads may still be at work

@@ -1,0 +1,294 @@
+"""Finds the counties of an archive: in folders, by globs, by names and behind URLs."""
+
+from __future__ import annotations
+
+import os
+import re
+from collections import Counter
+from contextlib import contextmanager
+from dataclasses import dataclass, field
+from fnmatch import fnmatchcase
+from typing import Callable, Iterable, Iterator
+
+from .errors import Failure, reason
+from .judge import County, File, Order, prepared
+from .layout import RECORD_FILE, TYPES, ZIP_FILE, file_name, stem_of
+from .own import PROCESS, Own
+from .storage import Broken, Entry, Folders, is_folder, is_url, joined, parted, real, system_of, tidy
+from .zips import BadZip
+
+MAGIC = re.compile(r"[*?[]")
+
+
+@dataclass
+class Names:
+    """The files of one stem in a folder."""
+
+    zips: list[Entry] = field(default_factory=list)
+    files: dict[str, list[Entry]] = field(default_factory=dict)
+    others: list[Entry] = field(default_factory=list)
+
+    def add(self, entry: Entry) -> None:
+        ending = RECORD_FILE.fullmatch(entry.name)
+        if not ending:
+            self.zips.append(entry)
+        elif ending[3].upper() in TYPES:
+            self.files.setdefault(ending[3].upper(), []).append(entry)
+        else:
+            self.others.append(entry)
+
+
+class Finder:
+    """Finds counties, and counts the files that it passes over."""
+
+    def __init__(self) -> None:
+        self.folders = Folders()
+        self.grouped: dict[str, dict[str, Names]] = {}
+        self.passed_over: Counter[str] = Counter()
+        self.same: list[tuple[str, str]] = []
+        self.counted: set[str] = set()
+
+    def counties(self, sources: Iterable[str], is_known: Callable[[str], bool] = lambda _: False) -> tuple[list[County], int]:
+        """The counties of all sources that aren't known, each once; and how many are known."""
+        found: dict[str, County] = {}
+        places: dict[str, str] = {}
+        known: set[str] = set()
+        for source in sources:
+            for county in self.of_source(source):
+                if is_known(county.stem):
+                    known.add(county.stem)
+                elif county.stem not in found and not self.is_same(county, places):
+                    found[county.stem] = county
+        return list(found.values()), len(known)
+
+    def is_same(self, county: County, places: dict[str, str]) -> bool:
+        """Whether a county's files were found before under another name. It is noted then."""
+        place = place_of(county)
+        first = places.setdefault(place, county.stem) if place else county.stem
+        if first != county.stem:
+            self.same.append((county.stem, first))
+        return first != county.stem
+
+    def of_source(self, source: str) -> Iterator[County]:
+        """The counties of a source: a folder, a glob, or the name of a county or of one of its files."""
+        path = tidy(source) or ("/" if source.startswith("/") else "")
+        try:
+            if not RECORD_FILE.fullmatch(path) and not ZIP_FILE.fullmatch(path) and is_folder(path or "."):
+                yield from self.of_folder(path)
+            elif MAGIC.search(path) and not self.is_named(path):
+                yield from self.of_glob(path)
+            else:
+                yield self.of_name(path)
+        except Failure:
+            raise
+        except Exception as error:
+            yield County(source, trouble=f"can't be read: {reason(error)}")
+
+    def of_folder(self, folder: str) -> Iterator[County]:
+        count = 0
+        for county in self.below(folder, set()):
+            count += 1
+            yield county
+        if count == 0:
+            yield County(folder or ".", trouble="there is no county in this folder", is_absent=True)
+
+    def below(self, folder: str, seen: set[str]) -> Iterator[County]:
+        """The counties in a folder and in all folders below it."""
+        if real(folder or ".") in seen:
+            return
+        seen.add(real(folder or "."))
+        try:
+            entries = self.folders.entries(folder)
+        except Exception as error:
+            yield County(folder, trouble=f"can't be listed: {reason(error)}")
+            return
+        self.count_passed_over(folder, entries)
+        for name, names in self.names(folder).items():
+            if names.zips or names.files:
+                yield county_of(joined(folder, name), folder, names)
+        for entry in entries:
+            if entry.is_folder:
+                yield from self.below(joined(folder, entry.name), seen)
+
+    def count_passed_over(self, folder: str, entries: list[Entry]) -> None:
+        """Counts the files of a folder that belong to no county, by their endings."""
+        if folder in self.counted:
+            return
+        self.counted.add(folder)
+        for entry in entries:
+            record = RECORD_FILE.fullmatch(entry.name)
+            if not entry.is_folder and not ZIP_FILE.fullmatch(entry.name):
+                if not record or record[3].upper() not in TYPES:
+                    self.passed_over[ending_of(entry.name)] += 1
+
+    def of_glob(self, pattern: str) -> Iterator[County]:
+        """The counties that a glob matches: folders with all that is in them, zips and single files."""
+        root, words = pattern, list[str]()
+        while MAGIC.search(root):
+            root, word = parted(root)
+            words.insert(0, word)
+        count = 0
+        for path, is_a_folder in self.matches(root, words):
+            if is_a_folder:
+                yield from self.below(path, set())
+            elif RECORD_FILE.fullmatch(path) or ZIP_FILE.fullmatch(path):
+                yield self.of_name(path)
+            else:
+                self.passed_over[ending_of(path)] += 1
+                continue
+            count += 1
+        if count == 0:
+            yield County(pattern, trouble="nothing matches this pattern", is_absent=True)
+
+    def matches(self, folder: str, words: list[str]) -> Iterator[tuple[str, bool]]:
+        """What a glob matches below a folder, and whether it is a folder. Two stars match any folders, and none."""
+        word, rest = words[0], words[1:]
+        if word == "**" and rest:
+            yield from self.matches(folder, rest)
+        for entry in self.folders.entries(folder):
+            path = joined(folder, entry.name)
+            if word == "**" and rest:
+                if entry.is_folder:
+                    yield from self.matches(path, words)
+            elif is_match(entry.name, word):
+                if not rest:
+                    yield path, entry.is_folder
+                elif entry.is_folder:
+                    yield from self.matches(path, rest)
+
+    def is_named(self, path: str) -> bool:
+        """Whether a path with the letters of a glob is the name of something that is there."""
+        folder, name = parted(path)
+        if MAGIC.search(folder):
+            return False
+        try:
+            return parted(stem_of(path))[1] in self.names(folder)
+        except Exception:
+            return False
+
+    def names(self, folder: str) -> dict[str, Names]:
+        """The stems in a folder."""
+        if folder not in self.grouped:
+            grouped: dict[str, Names] = {}
+            for entry in self.folders.entries(folder):
+                ending = RECORD_FILE.fullmatch(entry.name) or ZIP_FILE.fullmatch(entry.name)
+                if ending and not entry.is_folder:
+                    grouped.setdefault(ending[1], Names()).add(entry)
+            self.grouped[folder] = grouped
+        return self.grouped[folder]
+
+    def of_name(self, path: str) -> County:
+        """The county of this name, or the one that a file of this name belongs to."""
+        stem = stem_of(path)
+        folder, name = parted(stem)
+        try:
+            names = self.names(folder).get(name)
+        except FileNotFoundError:
+            names = None
+        except Exception as error:
+            if not is_url(path):
+                return County(path, trouble=f"can't be read: {reason(error)}")
+            names = None
+        if is_url(path) and not names:
+            names = probed(stem)
+        if names and (names.zips or names.files):
+            return county_of(stem, folder, names)
+        return whole(path)
+
+
+def place_of(county: County) -> str:
+    """A name that a county's files have whichever links lead to them."""
+    files = [file for file in (county.zip, county.whole, *county.files.values()) if file]
+    return real(files[0].place) if files else ""
+
+
+def ending_of(name: str) -> str:
+    """The ending under which a file that is passed over is counted."""
+    return ".tar.gz" if name.lower().endswith(".tar.gz") else os.path.splitext(name)[1] or "without an ending"
+
+
+def is_match(name: str, word: str) -> bool:
+    return fnmatchcase(name, word) and (word.startswith(".") or not name.startswith("."))
+
+
+def whole(path: str) -> County:
+    """A county of one file with all records, under the file's own name."""
+    if is_url(path):
+        return County(path, trouble="no such file, folder or county", is_absent=True)
+    if not os.path.lexists(path):
+        absent = "no such file" if stem_of(path) != path else "no such file, folder or county"
+        return County(path, trouble=absent, is_absent=True)
+    if not os.path.isfile(path):
+        return County(path, trouble="isn't a regular file")
+    if RECORD_FILE.fullmatch(path):
+        return County(path, trouble="isn't one of a county's nine files")
+    return County(path, whole=File(os.path.abspath(path), os.path.getsize(path)))
+
+
+def county_of(stem: str, folder: str, names: Names) -> County:
+    """The county of what lies under a stem: its single files if there are any, else its zip."""
+    if "\n" in stem:
+        return County(stem, trouble="its name has a line break in it")
+    if names.files:
+        return single_files(stem, folder, names)
+    if len(names.zips) > 1:
+        return County(stem, trouble=f"there are {len(names.zips)} zips: {listed(names.zips)}")
+    entry = names.zips[0]
+    if entry.trouble:
+        return County(stem, trouble=f"{entry.name} {entry.trouble}")
+    return County(stem, zip=File(absolute(joined(folder, entry.name)), entry.size))
+
+
+def single_files(stem: str, folder: str, names: Names) -> County:
+    for kind in TYPES:
+        entries = names.files.get(kind, [])
+        if len(entries) > 1:
+            return County(stem, trouble=f"there are {len(entries)} files of type {kind}: {listed(entries)}")
+        if entries and entries[0].trouble:
+            return County(stem, trouble=f"{entries[0].name} {entries[0].trouble}")
+    entries_of = {kind: names.files[kind][0] for kind in TYPES if kind in names.files}
+    files = {kind: File(absolute(joined(folder, entry.name)), entry.size) for kind, entry in entries_of.items()}
+    name = parted(stem)[1]
+    is_readable = all(entry.name == file_name(name, kind) for kind, entry in entries_of.items())
+    readable = absolute(stem) if is_readable and not is_url(stem) else None
+    notes = (f"its single files are read, and not {listed(names.zips)}",) if names.zips else ()
+    return County(stem, files, notes=notes, readable_stem=readable)
+
+
+def listed(entries: list[Entry]) -> str:
+    return ", ".join(entry.name for entry in entries)
+
+
+def absolute(path: str) -> str:
+    return path if is_url(path) else os.path.abspath(path)
+
+
+def probed(stem: str) -> Names:
+    """The files of a stem in a folder that can't be listed, as on a plain server of files."""
+    names = Names()
+    for ending in (".ZIP", ".zip", *(f".RT{kind}" for kind in TYPES)):
+        system, path = system_of(stem + ending)
+        try:
+            info = system.info(path)
+        except Exception:
+            continue
+        names.add(Entry(parted(stem + ending)[1], False, info.get("size")))
+    return names
+
+
+@contextmanager
+def as_stem(source: str, own: Own = PROCESS) -> Iterator[str]:
+    """A stem that the program reads, for the county of a name, of one of its files or of a zip.
+
+    Temporary files are removed in every case. Raises Failure if there is no such county.
+    """
+    county = Finder().of_name(tidy(source))
+    if county.trouble:
+        raise Failure(f"{source}: {county.trouble}")
+    if county.whole:
+        raise Failure(f"{source}: it is one file with all records, not a zip or one of a county's nine files")
+    try:
+        with prepared(county, Order(""), own, []) as (stem, _):
+            yield stem
+    except (BadZip, Broken) as error:
+        raise Failure(f"{source}: {error}") from None

@@ -1,0 +1,182 @@
+"""The columns of the records, as docs/format.md has them: those with the content of the map.
+
+Numbers that differ from file to file (TLID, RTSQ, FEAT, LAND, POLYID and those of nodes), the version and fillers aren't
+among them.
+"""
+
+from __future__ import annotations
+
+from dataclasses import dataclass, field, replace
+from itertools import accumulate
+from typing import Iterable
+
+
+@dataclass(frozen=True)
+class Column:
+    """A field of a record: its name, its first and last column, what it holds, and, for a chain, the field that holds
+    the same thing as seen from the chain's other end."""
+
+    name: str
+    first: int
+    last: int
+    holds: str
+    partner: str = ""
+
+    @property
+    def width(self) -> int:
+        return self.last - self.first + 1
+
+    @property
+    def is_point(self) -> bool:
+        """Whether this is a longitude of 10 columns and a latitude of 9."""
+        return ", " in self.name
+
+
+@dataclass(frozen=True, eq=False)
+class Layout:
+    """The columns of a record type. Joined they are a record's content, which is kept as one text."""
+
+    record_type: str
+    length: int
+    columns: tuple[Column, ...]
+    runs: tuple[slice, ...] = field(init=False)
+    places: dict[str, slice] = field(init=False)
+
+    def __post_init__(self) -> None:
+        ends = list(accumulate(column.width for column in self.columns))
+        places = {column.name: slice(end - column.width, end) for column, end in zip(self.columns, ends)}
+        object.__setattr__(self, "runs", tuple(runs_of(self.columns)))
+        object.__setattr__(self, "places", places)
+
+    def content(self, line: str) -> str:
+        """The content of a record."""
+        if len(self.runs) == 1:
+            return line[self.runs[0]]
+        return "".join([line[run] for run in self.runs])
+
+    def value(self, content: str, name: str) -> str:
+        """A field of the content."""
+        return content[self.places[name]]
+
+    def values(self, content: str) -> list[str]:
+        """The content's fields, in the order of the columns."""
+        return [content[place] for place in self.places.values()]
+
+    def blanked(self, content: str, names: Iterable[str]) -> str:
+        """The content with blanks in these fields."""
+        hidden = [self.places[name] for name in names]
+        return "".join(
+            value if place not in hidden else " " * len(value) for place, value in zip(self.places.values(), self.values(content))
+        )
+
+    def turned(self, content: str) -> str:
+        """The content as seen from the chain's other end."""
+        return "".join(self.value(content, column.partner or column.name) for column in self.columns)
+
+
+def runs_of(columns: tuple[Column, ...]) -> list[slice]:
+    """The slices of a line that hold these columns: columns that stand side by side are one slice."""
+    runs: list[slice] = []
+    for column in columns:
+        if runs and runs[-1].stop == column.first - 1:
+            runs[-1] = slice(runs[-1].start, column.last)
+        else:
+            runs.append(slice(column.first - 1, column.last))
+    return runs
+
+
+def on_both_sides(name: str, first: int, width: int, holds: str) -> tuple[Column, Column]:
+    """A field for the left side, and the same field for the right side, which follows it."""
+    middle = first + width
+    left = Column(f"{name}L", first, middle - 1, f"{holds} on the left", f"{name}R")
+    return left, Column(f"{name}R", middle, middle + width - 1, f"{holds} on the right", f"{name}L")
+
+
+def moved(columns: tuple[Column, ...], by: int) -> tuple[Column, ...]:
+    """The same fields, `by` columns further to the right."""
+    return tuple(replace(column, first=column.first + by, last=column.last + by) for column in columns)
+
+
+FEATURE_NAME = (
+    Column("FEDIRP", 18, 19, "direction before the name"),
+    Column("FENAME", 20, 49, "name"),
+    Column("FETYPE", 50, 53, "type after the name"),
+    Column("FEDIRS", 54, 55, "direction after the name"),
+)
+
+ADDRESSES = (
+    Column("FRADDL", 59, 69, "first address on the left", "TOADDR"),
+    Column("TOADDL", 70, 80, "last address on the left", "FRADDR"),
+    Column("FRADDR", 81, 91, "first address on the right", "TOADDL"),
+    Column("TOADDR", 92, 102, "last address on the right", "FRADDL"),
+    Column("FRIADDL", 103, 103, "mark of the first left address as imputed", "TOIADDR"),
+    Column("TOIADDL", 104, 104, "mark of the last left address as imputed", "FRIADDR"),
+    Column("FRIADDR", 105, 105, "mark of the first right address as imputed", "TOIADDL"),
+    Column("TOIADDR", 106, 106, "mark of the last right address as imputed", "FRIADDL"),
+    *on_both_sides("ZIP", 107, 5, "postal code"),
+)
+
+CHAIN = Layout(
+    "1",
+    228,
+    (
+        Column("SIDE1", 16, 16, "mark of a chain with one side alone"),
+        Column("SOURCE", 17, 17, "where the chain comes from"),
+        *FEATURE_NAME,
+        Column("CFCC", 56, 58, "class of the feature"),
+        *ADDRESSES,
+        *on_both_sides("AIANHHFP", 117, 5, "American Indian, Alaska Native or Hawaiian home land"),
+        *on_both_sides("AIHHTLI", 127, 1, "kind of home land"),
+        Column("CENSUS1", 129, 129, "the Bureau's own use"),
+        Column("CENSUS2", 130, 130, "the Bureau's own use"),
+        *on_both_sides("STATE", 131, 2, "state"),
+        *on_both_sides("COUNTY", 135, 3, "county"),
+        *on_both_sides("COUSUB", 141, 5, "county subdivision"),
+        *on_both_sides("SUBMCD", 151, 5, "subbarrio"),
+        *on_both_sides("PLACE", 161, 5, "place"),
+        *on_both_sides("TRACT", 171, 6, "census tract"),
+        *on_both_sides("BLOCK", 183, 4, "census block"),
+    ),
+)
+
+NAME = Layout("5", 56, (Column("FILE", 6, 10, "state and county"), *moved(FEATURE_NAME, 1)))
+
+RANGE = Layout("6", 76, moved(ADDRESSES, -40))
+
+LANDMARK = Layout(
+    "7",
+    74,
+    (
+        Column("FILE", 6, 10, "state and county"),
+        Column("SOURCE", 21, 21, "where it comes from"),
+        Column("CFCC", 22, 24, "class of the feature"),
+        Column("LANAME", 25, 54, "name"),
+        Column("LALONG, LALAT", 55, 73, "where it lies, for a landmark that is a point"),
+    ),
+)
+
+LINK = Layout(
+    "I",
+    127,
+    (
+        Column("FILE", 6, 10, "state and county"),
+        Column("SOURCE", 71, 80, "where the link comes from"),
+        Column("FTSEG", 81, 97, "segment of the feature"),
+        Column("RS_I1", 98, 107, "reserved"),
+        Column("RS_I2", 108, 117, "reserved"),
+        Column("RS_I3", 118, 127, "reserved"),
+    ),
+)
+
+POLYGON = Layout(
+    "P",
+    45,
+    (
+        Column("FILE", 6, 10, "state and county"),
+        Column("POLYLONG, POLYLAT", 26, 44, "a point inside it"),
+        Column("WATER", 45, 45, "mark of water"),
+    ),
+)
+
+LENGTHS = {"1": 228, "2": 208, "4": 58, "5": 56, "6": 76, "7": 74, "8": 36, "I": 127, "P": 45}
+"""The length of each record type's lines, without their ends."""

@@ -1,0 +1,160 @@
+"""The subcommand diff of tigercanon-tools: reports where two maps differ."""
+
+from __future__ import annotations
+
+import argparse
+import contextlib
+import gc
+import json
+import os
+import threading
+from typing import Any, Iterator
+
+from ..errors import Failure
+from ..manifest import flags_of
+from ..own import PROCESS
+from ..printing import print_lines
+from ..program import find_program
+from ..progress import report
+from .geojson import BothOwn, features, head, write_geojson
+from .matching import Comparison, compare
+from .numbers import own_numbers
+from .outputs import new_files
+from .page import find_leaflet, write_page
+from .reading import NotCanonical, read_county
+from .sets import Program, Sets, is_of_a_set, opened
+from .things import KINDS, SUBJECTS
+from .words import told
+
+ABOUT = """\
+Shows where two maps differ. FIRST and SECOND are each a file with all records
+of a county, a zip with its files, or the beginning of the names of its files.
+Chains are matched by their points. The program's command compare decides whether
+the maps are one; the list of differences is an aid, and isn't proved.
+
+Exit status: 0 if the two are one map, 1 if they differ, 2 if they can't be
+compared or the answer can't be written.
+"""
+
+PATIENCE = 2.0
+"""After this many seconds the progress is reported on standard error."""
+
+
+class Progress:
+    """Reports on standard error what is being done, if the whole takes a while."""
+
+    def __init__(self) -> None:
+        self.step = ""
+        self.is_late = False
+        self.lock = threading.Lock()
+        self.timer = threading.Timer(PATIENCE, self.begin)
+        self.timer.daemon = True
+
+    def __enter__(self) -> Progress:
+        self.timer.start()
+        return self
+
+    def __exit__(self, *_: object) -> None:
+        self.timer.cancel()
+
+    def begin(self) -> None:
+        with self.lock:
+            self.is_late = True
+            self.report()
+
+    def at(self, step: str) -> None:
+        """Notes what is done next."""
+        with self.lock:
+            self.step = step
+            if self.is_late:
+                self.report()
+
+    def report(self) -> None:
+        if self.step:
+            report(self.step)
+
+
+def add_arguments(parser: argparse.ArgumentParser) -> None:
+    """Declares the arguments of the subcommand."""
+    parser.formatter_class = argparse.RawDescriptionHelpFormatter
+    parser.description = ABOUT
+    add = parser.add_argument
+    add("first", metavar="FIRST", help="the first set")
+    add("second", metavar="SECOND", help="the second set")
+    add("--stem", action="store_true", help="use FIRST and SECOND as the beginnings of names, even if such files exist")
+    printed = parser.add_mutually_exclusive_group()
+    printed.add_argument("--summary", action="store_true", help="print only how many of each kind differ")
+    printed.add_argument("--json", action="store_true", help="print the differences as JSON")
+    add("--page", metavar="FILE", help="write a page with a map of the differences, which needs no network")
+    add("--geojson", metavar="FILE", help="write the differences as GeoJSON, for any GIS")
+    add("--all", action="store_true", help="with --geojson: also write what is the same in both maps")
+    add("--leaflet", metavar="FOLDER", help="with --page: the folder that has leaflet.js and leaflet.css")
+
+
+def run(options: argparse.Namespace) -> int:
+    """Runs the subcommand and returns its exit status."""
+    check_options(options)
+    is_collecting = gc.isenabled()
+    gc.disable()  # the counties are kept until the end, and looking for garbage in them takes a third of the time
+    try:
+        return compared(options)
+    except NotCanonical as fault:
+        raise Failure(f"the program doesn't print a canonical text: {fault}") from None
+    finally:
+        if is_collecting:
+            gc.enable()
+
+
+def check_options(options: argparse.Namespace) -> None:
+    """Rejects options that don't go together."""
+    outputs = [name for name in (options.page, options.geojson) if name is not None]
+    if options.all and options.geojson is None:
+        raise Failure("--all needs --geojson")
+    if options.leaflet is not None and options.page is None:
+        raise Failure("--leaflet needs --page")
+    if len({os.path.realpath(name) for name in outputs}) < len(outputs):
+        raise Failure("--page and --geojson name the same file")
+    for name in outputs:
+        if is_of_a_set(name, (options.first, options.second)):
+            raise Failure(f"{name}: can't be written: it belongs to one of the sets")
+
+
+def compared(options: argparse.Namespace) -> int:
+    """Compares the sets and writes what was asked for."""
+    leaflet = find_leaflet(options.leaflet) if options.page is not None else None
+    program = Program(find_program(options.program))
+    with contextlib.ExitStack() as stack:
+        progress = stack.enter_context(Progress())
+        page, geojson = stack.enter_context(new_files([options.page, options.geojson]))
+        names = (options.first, options.second)
+        sources = [stack.enter_context(opened(name, options.stem)) for name in names]
+        progress.at("normalising both sets")
+        sets = program.normalised(sources, flags_of(options))
+        progress.at("reading the canonical texts")
+        first, second = read_county(sets.first.text), read_county(sets.second.text)
+        progress.at(f"comparing {len(first.chains):,} chains with {len(second.chains):,}")
+        comparison = compare(first, second)
+        numbers: BothOwn = ()
+        if geojson or options.json:
+            progress.at("finding the sets' own numbers")
+            texts = zip(program.respelled(sources), (first, second))
+            numbers = [own_numbers(read_county(text), county, sets.masks) for text, county in texts]
+        if page and leaflet:
+            progress.at("writing the page")
+            write_page(page, comparison, sets, leaflet)
+        if geojson and numbers:
+            progress.at("writing GeoJSON")
+            write_geojson(geojson, comparison, sets, numbers, options.all)
+    if options.json and numbers:
+        print_lines(as_json(comparison, sets, numbers))
+    else:
+        print_lines(told(comparison, sets, options.summary))
+    return int(not sets.are_one_map)
+
+
+def as_json(comparison: Comparison, sets: Sets, own: BothOwn) -> Iterator[str]:
+    """The counts and the differences, as one JSON object."""
+    answer: dict[str, Any] = head(comparison, sets)
+    answer["counts"] = {f"{subject.what}s": dict(zip(KINDS, part.counts)) for subject, part in zip(SUBJECTS, comparison.parts)}
+    answer["differences"] = [feature.properties for feature in features(comparison, own)]
+    yield json.dumps(answer, ensure_ascii=False, indent=1)

@@ -1,0 +1,277 @@
+"""What a chain, a landmark or a polygon says, field by field and in words, and in which fields two of them differ."""
+
+from __future__ import annotations
+
+from collections import Counter
+from dataclasses import dataclass
+from functools import lru_cache
+from typing import Callable, Hashable, NamedTuple, Sequence, TypeVar
+
+from .columns import CHAIN, LANDMARK, LINK, NAME, POLYGON, RANGE, Layout
+from .reading import NO_POINT, POINT_WIDTH, Chain, County, Landmark, Name, Place, Polygon, PolygonKey
+
+NONE = "(none)"
+BLANK = "(blank)"
+YES = "yes"
+NO = "no"
+
+PolygonMarks = dict[PolygonKey, str]
+"""What each polygon of a map says. Polygons of two maps that are taken for one have one mark, even where they
+differ."""
+
+T = TypeVar("T")
+
+
+class FieldName(NamedTuple):
+    """A field's label, what it holds, and which kind of value that is: a text, a point, or whether something is there."""
+
+    label: str
+    holds: str
+    kind: str = "text"
+
+
+class Text(NamedTuple):
+    """What a field says: to be read, byte for byte, and as it is compared. A field that is blank reads as nothing."""
+
+    plain: str
+    exact: str
+    mark: Hashable
+
+
+Fields = dict[FieldName, Text]
+
+
+@dataclass(frozen=True)
+class Row:
+    """One field of what two maps have in common, or of what one map has alone: then the other's text is None. The exact
+    texts are as the records have them."""
+
+    name: FieldName
+    first: str | None
+    second: str | None
+    differs: bool
+    first_exact: str = ""
+    second_exact: str = ""
+
+
+@dataclass(frozen=True)
+class Teller:
+    """Tells what the parts of one map say."""
+
+    county: County
+    marks: PolygonMarks
+
+    def chain(self, chain: Chain) -> Fields:
+        """The fields of a chain without its points."""
+        fields = text_fields(CHAIN, chain.body)
+        for place, body in enumerate(self.county.name_bodies(chain), 1):
+            name = FieldName(f"further name {place}", "a further name of the chain")
+            fields[name] = Text(name_text(NAME, body) or BLANK, body, body)
+        for place, content in enumerate(chain.ranges, 1):
+            fields[FieldName(f"range {place}", "whether there is a further address range", "flag")] = text_of(True)
+            fields.update(text_fields(RANGE, content, f" of range {place}"))
+        for end, node in (("start", chain.start_node), ("end", chain.end_node)):
+            fields[FieldName(f"{end} node", f"whether the {end} has a node", "flag")] = text_of(not node.isspace())
+        fields.update(self.side("left", chain.left))
+        fields.update(self.side("right", chain.right))
+        fields.update(text_fields(LINK, chain.link_body, " of type I"))
+        return fields
+
+    def side(self, hand: str, side: PolygonKey) -> Fields:
+        """The fields of a chain's side."""
+        cenid = FieldName(f"CENID{hand[0].upper()}", f"office of the polygon on the {hand}")
+        polygon = FieldName(f"{hand} polygon", f"the polygon on the {hand}, by what its record says")
+        fields = {cenid: Text(side.cenid.strip(), side.cenid, side.cenid)}
+        if side.is_polygon:
+            fields[polygon] = self.polygon_text(side)
+        return fields
+
+    def polygon_text(self, key: PolygonKey) -> Text:
+        """A polygon, as something else names it."""
+        body = self.county.polygons[key].body
+        return Text(polygon_words(body), key.cenid + body, self.marks[key])
+
+    def place_text(self, place: Place) -> Text:
+        """A polygon, as a landmark's record of type 8 names it."""
+        text = self.polygon_text(place.key)
+        return Text(f"{text.plain} ({place.key.cenid.strip()})", place.file + text.exact, (place.file, text.mark))
+
+
+def text_fields(layout: Layout, content: str, suffix: str = "") -> Fields:
+    """The fields of a record's content."""
+    fields = {}
+    for name, value in zip(field_names(layout, suffix), layout.values(content)):
+        plain = "" if value.isspace() else degrees(value) if name.kind == "point" else value.strip()
+        fields[name] = Text(plain, value, value)
+    return fields
+
+
+@lru_cache(maxsize=None)
+def field_names(layout: Layout, suffix: str) -> list[FieldName]:
+    """The names of a record's fields with this suffix."""
+    return [FieldName(column.name + suffix, column.holds, "point" if column.is_point else "text") for column in layout.columns]
+
+
+def polygon_fields(polygon: Polygon) -> Fields:
+    """The fields of a polygon."""
+    cenid = polygon.key.cenid
+    fields = {
+        FieldName("CENID", "the office that numbers polygons"): Text(cenid.strip(), cenid, cenid),
+        FieldName("type P", "whether the polygon has a record of type P", "flag"): text_of(bool(polygon.body)),
+    }
+    if polygon.body:
+        fields.update(text_fields(POLYGON, polygon.body))
+    return fields
+
+
+def landmark_fields(bodies: Sequence[str], places: Sequence[Text]) -> Fields:
+    """The fields of a landmark with these records of type 7, in these polygons."""
+    fields: Fields = {}
+    for number, body in enumerate(bodies, 1):
+        if number > 1:
+            fields[FieldName(f"record {number}", "whether there is a further record of type 7", "flag")] = text_of(True)
+        fields.update(text_fields(LANDMARK, body, f" of record {number}" if number > 1 else ""))
+    for number, place in enumerate(places, 1):
+        fields[FieldName(f"polygon {number}", "a polygon that the landmark lies in")] = place
+    return fields
+
+
+def landmark_rows(first: Teller, second: Teller, one: Landmark | None, other: Landmark | None) -> list[Row]:
+    """The fields of a landmark of both maps, or of one of them. What both have stands first in its repeated
+    fields."""
+    bodies = aligned(one.bodies if one else [], other.bodies if other else [], lambda body: body)
+    places = aligned(
+        [first.place_text(place) for place in one.places] if one else [],
+        [second.place_text(place) for place in other.places] if other else [],
+        lambda text: text.mark,
+    )
+    return rows(landmark_fields(bodies[0], places[0]) if one else None, landmark_fields(bodies[1], places[1]) if other else None)
+
+
+def aligned(first: Sequence[T], second: Sequence[T], mark: Callable[[T], Hashable]) -> tuple[list[T], list[T]]:
+    """Both lists with what they have in common at their beginning, in one order."""
+    common = Counter(map(mark, first)) & Counter(map(mark, second))
+
+    def common_first(items: Sequence[T]) -> list[T]:
+        left = Counter(common)
+        shared, others = [], []
+        for item in items:
+            if left[mark(item)]:
+                left[mark(item)] -= 1
+                shared.append(item)
+            else:
+                others.append(item)
+        return sorted(shared, key=lambda item: repr(mark(item))) + others
+
+    return common_first(first), common_first(second)
+
+
+def rows(first: Fields | None, second: Fields | None) -> list[Row]:
+    """The fields of what both maps have or one of them alone, in the order of the first, without those that are blank in both."""
+    is_alone = first is None or second is None
+    first, second = first or {}, second or {}
+    table = []
+    for name in {**first, **second}:
+        one, other = first.get(name), second.get(name)
+        if not ((one and one.plain) or (other and other.plain)):
+            continue
+        if is_alone:
+            table.append(Row(name, one and one.plain, other and other.plain, False, exact(one), exact(other)))
+        else:
+            table.append(Row(name, shown(name, one, other), shown(name, other, one), differ(one, other), exact(one), exact(other)))
+    return table
+
+
+def fields_of(tell: Callable[[T], Fields], thing: T | None) -> Fields | None:
+    """The fields of a thing, if there is one."""
+    return None if thing is None else tell(thing)
+
+
+def differ(one: Text | None, other: Text | None) -> bool:
+    """Whether a field says something else in the two maps. One that isn't there says as little as a blank one."""
+    return mark_of(one) != mark_of(other)
+
+
+def mark_of(text: Text | None) -> Hashable | None:
+    return text.mark if text is not None and text.plain else None
+
+
+def exact(text: Text | None) -> str:
+    return text.exact if text is not None else ""
+
+
+def shown(name: FieldName, text: Text | None, other: Text | None) -> str:
+    """A field in words. If it would read like the other map's, which is another, it is shown byte for byte."""
+    if name.kind == "flag":
+        return YES if text is not None and text.plain else NO
+    if text is None or not text.exact:
+        return NONE
+    if other is not None and text.plain == other.plain and text.exact != other.exact:
+        return f'"{text.exact}"'
+    return text.plain or BLANK
+
+
+def count_of_differing(first: Fields, second: Fields) -> int:
+    """In how many fields two chains differ."""
+    return sum(differ(first.get(name), second.get(name)) for name in {**first, **second})
+
+
+def text_of(is_there: bool) -> Text:
+    """Whether something is there that has nothing to compare: a node, for example, has only a number, which differs from file to file."""
+    word = YES if is_there else ""
+    return Text(word, word, word)
+
+
+def polygon_words(body: str) -> str:
+    """A polygon by its record of type P: where it lies."""
+    if not body:
+        return "without a record of type P"
+    point = POLYGON.value(body, "POLYLONG, POLYLAT")
+    return "without a point" if point == NO_POINT else f"at {degrees(point)}"
+
+
+def name_text(layout: Layout, content: str) -> str:
+    """The feature name in a record of type 1 or 5: the direction before it, the name, its type and the direction
+    after it."""
+    parts = (layout.value(content, part).strip() for part in ("FEDIRP", "FENAME", "FETYPE", "FEDIRS"))
+    return " ".join(filter(None, parts))
+
+
+def chain_title(chain: Chain) -> str:
+    """A chain by its name and class."""
+    return titled(name_text(CHAIN, chain.body) or "unnamed", CHAIN.value(chain.body, "CFCC"))
+
+
+def landmark_title(landmark: Landmark) -> str:
+    """A landmark by its name and class."""
+    body = landmark.bodies[0]
+    return titled(LANDMARK.value(body, "LANAME").strip() or "unnamed landmark", LANDMARK.value(body, "CFCC"))
+
+
+def titled(name: str, cfcc: str) -> str:
+    return f"{name} ({cfcc.strip()})" if cfcc.strip() else name
+
+
+def landmark_points(landmark: Landmark, county: County) -> list[str]:
+    """Where a landmark lies: its own points, or else the internal points of its polygons."""
+    own = [LANDMARK.value(body, "LALONG, LALAT") for body in landmark.bodies]
+    of_polygons = [county.polygons[place.key].point for place in landmark.places]
+    return sorted(set(own) - {NO_POINT}) or sorted(set(of_polygons) - {NO_POINT})
+
+
+def degrees(point: str) -> str:
+    """A point as maps print it."""
+    longitude, latitude = point[:10], point[10:POINT_WIDTH]
+    north = "S" if latitude[0] == "-" else "N"
+    east = "W" if longitude[0] == "-" else "E"
+    return f"{in_degrees(latitude[1:])}° {north}, {in_degrees(longitude[1:])}° {east}"
+
+
+def in_degrees(digits: str) -> str:
+    """Millionths of a degree as degrees, with six places."""
+    return f"{int(digits[:-6])}.{digits[-6:]}"
+
+
+def decimal(coordinate: str) -> str:
+    """A coordinate as a number of degrees with its sign, as GeoJSON has it."""
+    return ("-" if coordinate[0] == "-" else "") + in_degrees(coordinate[1:])

@@ -1,0 +1,152 @@
+"""Writes where two maps differ as GeoJSON (RFC 7946), so that any GIS shows it."""
+
+from __future__ import annotations
+
+import json
+import re
+from dataclasses import dataclass
+from functools import lru_cache
+from typing import Any, Iterator, Sequence
+
+from .fields import BLANK, NONE, YES, FieldName, decimal
+from .matching import Comparison, Tie
+from .numbers import OwnNumbers
+from .outputs import NewFile
+from .reading import NO_POINT, POINT_WIDTH
+from .sets import Sets
+from .things import KINDS, Thing, things
+from .words import tie_line, tied_place, verdict
+
+Properties = dict[str, Any]
+BothOwn = Sequence[OwnNumbers]
+
+ABOUT = "Where two maps differ, found by tigercanon-tools diff: an aid, and not proved."
+
+SIDES = ("first", "second")
+
+
+@dataclass(frozen=True)
+class Feature:
+    """A difference, with its geometry as JSON."""
+
+    geometry: str
+    properties: Properties
+
+    @property
+    def json(self) -> str:
+        return f'{{"type":"Feature","geometry":{self.geometry},"properties":{as_json(self.properties)}}}'
+
+
+def write_geojson(file: NewFile, comparison: Comparison, sets: Sets, own: BothOwn, with_alike: bool) -> None:
+    """Writes a feature for each difference and, if asked for, for what is alike."""
+    file.write('{"type":"FeatureCollection",' + as_json(head(comparison, sets))[1:-1])
+    file.write(',"features":[')
+    begin = "\n"
+    for feature in features(comparison, own, with_alike):
+        file.write(begin + feature.json)
+        begin = ",\n"
+    file.write("\n]}\n")
+
+
+def head(comparison: Comparison, sets: Sets) -> Properties:
+    """What holds for all differences: the two sets, and the verdict."""
+    told: Properties = {"about": ABOUT, "verdict": "same" if sets.are_one_map else "different"}
+    for side, one in zip(SIDES, (sets.first, sets.second)):
+        told[side] = {"name": one.shown_name, "fingerprint": one.fingerprint}
+    if sets.masks:
+        told["left_out"] = " ".join(sets.masks)
+    if verdict(comparison, sets):
+        told["note"] = verdict(comparison, sets)
+    return told
+
+
+def features(comparison: Comparison, own: BothOwn, with_alike: bool = False) -> Iterator[Feature]:
+    """A feature for each thing that isn't alike, or for each one, and for each tie."""
+    for thing in things(comparison, with_alike):
+        geometry = line_geometry(thing.either.points) if thing.what == "chain" else points_geometry(thing.points)
+        yield Feature(geometry, properties(thing, own))
+    for tie in comparison.ties:
+        yield tie_feature(tie, own[0])
+
+
+def properties(thing: Thing, own: BothOwn) -> Properties:
+    """The properties of a thing: its numbers, and its fields in both maps."""
+    table = thing.rows
+    told: Properties = {"what": thing.what, "kind": thing.kind, "title": thing.name}
+    told["differs"] = "; ".join(row.name.label for row in table if row.differs) or None
+    if thing.number_field:
+        told.update(numbers_of(thing, own))
+    else:
+        told["uses"] = thing.about
+    for row in table:
+        told.update(values(SIDES[0], row.name, row.first, row.first_exact))
+    for row in table:
+        told.update(values(SIDES[1], row.name, row.second, row.second_exact))
+    return told
+
+
+def numbers_of(thing: Thing, own: BothOwn) -> Properties:
+    """The numbers of a thing in the user's files, and those in the canonical texts."""
+    found = [(side, one, numbers) for side, one, numbers in zip(SIDES, (thing.one, thing.other), own) if one is not None]
+    told: Properties = {f"{side}_{thing.number_field}": numbers.get(one.key) for side, one, numbers in found}
+    return {**told, **{f"canonical_{side}_{thing.number_field}": one.number for side, one, _ in found}}
+
+
+def tie_feature(tie: Tie, own: OwnNumbers) -> Feature:
+    """What is one in one of the maps and several in the other, at the places where chains have it. The chains have the first set's
+    numbers."""
+    counts = (1, len(tie.groups)) if tie.is_one_in_first else (len(tie.groups), 1)
+    told: Properties = {"what": "tie", "kind": KINDS[2], "title": tie_line(tie).rstrip(":"), "differs": tie.subject}
+    told.update({f"{side}_count": count for side, count in zip(SIDES, counts)})
+    told["places"] = " | ".join("; ".join(map(tied_place, group)) for group in tie.groups)
+    told["first_TLIDs"] = " | ".join("; ".join(str(own.get(at.chain.key, "")) for at in group) for group in tie.groups)
+    return Feature(points_geometry(tie.points), told)
+
+
+def values(side: str, name: FieldName, shown: str | None, exact: str) -> Properties:
+    """A field of one map: a text, true or false, or the two coordinates of a point. There is none if the map hasn't
+    what the field is of."""
+    if shown is None:
+        return {}
+    if name.kind == "flag":
+        return {property_name(side, name.label): shown == YES}
+    if name.kind == "point":
+        return coordinates(side, name.label, exact)
+    return {property_name(side, name.label): None if shown in (BLANK, NONE) else shown}
+
+
+def coordinates(side: str, label: str, point: str) -> Properties:
+    """A point's longitude and latitude in degrees, under the names of their columns."""
+    both, of, suffix = label.partition(" of ")
+    parts: list[float | None] = [None, None]
+    if point and point != NO_POINT:
+        parts = [float(decimal(point[:10])), float(decimal(point[10:]))]
+    return {property_name(side, name + of + suffix): part for name, part in zip(both.split(", "), parts)}
+
+
+@lru_cache(maxsize=None)
+def property_name(side: str, label: str) -> str:
+    """A field's name, for readers that take letters, digits and underscores alone."""
+    return f"{side}_" + re.sub(r"\W+", "_", label)
+
+
+def line_geometry(points: str) -> str:
+    positions = [position(points[at : at + POINT_WIDTH]) for at in range(0, len(points), POINT_WIDTH)]
+    return f'{{"type":"LineString","coordinates":[{",".join(positions)}]}}'
+
+
+def points_geometry(points: list[str]) -> str:
+    """One point, several, or none."""
+    if not points:
+        return "null"
+    if len(points) == 1:
+        return f'{{"type":"Point","coordinates":{position(points[0])}}}'
+    return f'{{"type":"MultiPoint","coordinates":[{",".join(map(position, points))}]}}'
+
+
+def position(point: str) -> str:
+    """Longitude and latitude in degrees."""
+    return f"[{decimal(point[:10])},{decimal(point[10:])}]"
+
+
+as_json = json.JSONEncoder(ensure_ascii=False, separators=(",", ":")).encode

@@ -1,0 +1,393 @@
+"""Finds what two maps have in common and what differs.
+
+Chains are matched by their points. If several have the same points, they are matched as a multiset, by their fields.
+Polygons are matched by the content of their records; the others by their point, and then by the chains beside them.
+Landmarks are matched in the same way; the others by their records, points, names and polygons. Feature names are
+compared as a multiset.
+
+Each map has numbers of its own, so numbers are never compared. The things that they tie together come last.
+"""
+
+from __future__ import annotations
+
+from collections import defaultdict, deque
+from dataclasses import dataclass, field, replace
+from functools import cached_property
+from typing import Any, Callable, Generic, Hashable, Iterable, Iterator, NamedTuple, Sequence, TypeVar
+
+from .columns import CHAIN, LANDMARK, RANGE
+from .fields import PolygonMarks, Teller, count_of_differing
+from .reading import NO_POINT, POINT_WIDTH, Chain, County, Landmark, Name, Polygon, PolygonKey, reversed_points
+
+T = TypeVar("T")
+Pair = tuple[T, T]
+
+
+@dataclass
+class Matched(Generic[T]):
+    """What is in the first map alone, in the second alone, changed, and alike."""
+
+    first: list[T] = field(default_factory=list)
+    second: list[T] = field(default_factory=list)
+    changed: list[Pair[T]] = field(default_factory=list)
+    alike: list[Pair[T]] = field(default_factory=list)
+
+    @property
+    def pairs(self) -> list[Pair[T]]:
+        """What both maps have, alike or changed."""
+        return self.alike + self.changed
+
+    @property
+    def counts(self) -> tuple[int, int, int, int]:
+        return len(self.first), len(self.second), len(self.changed), len(self.alike)
+
+    @property
+    def is_alike(self) -> bool:
+        return not (self.first or self.second or self.changed)
+
+
+@dataclass(frozen=True)
+class Tie:
+    """A number that is one in one of the maps and several in the other, though the content that it numbers is the same in both:
+    where chains have it, in groups by the number that they have in the other map."""
+
+    subject: str
+    is_one_in_first: bool
+    groups: list[list[Tied]]
+
+    @property
+    def points(self) -> list[str]:
+        return sorted({at.point for group in self.groups for at in group})
+
+
+@dataclass
+class Comparison:
+    """Where two maps differ. Certain are the pairs of chains whose points no other chain has."""
+
+    first: Teller
+    second: Teller
+    certain: list[Pair[Chain]]
+    chains: Matched[Chain]
+    landmarks: Matched[Landmark]
+    polygons: Matched[Polygon]
+    names: Matched[Name]
+
+    @cached_property
+    def ties(self) -> list[Tie]:
+        return find_ties(self.certain, self.first, self.second)
+
+    @property
+    def parts(self) -> Sequence[Matched[Any]]:
+        return self.chains, self.landmarks, self.polygons, self.names
+
+    @property
+    def is_alike(self) -> bool:
+        """Whether nothing differs, unless it is how things are tied."""
+        return all(part.is_alike for part in self.parts)
+
+
+def compare(first: County, second: County) -> Comparison:
+    """Where the maps differ."""
+    groups = chains_by_points(first, second)
+    certain = [(ones[0], others[0]) for ones, others in groups if len(ones) == len(others) == 1 and not is_own_reverse(ones[0])]
+    polygons = match_polygons(first, second, certain)
+    one, other = marks_of(polygons)
+    tellers = Teller(first, one), Teller(second, other)
+    return Comparison(
+        *tellers,
+        certain,
+        chains=match_chains(groups, *tellers),
+        landmarks=match_landmarks(*tellers),
+        polygons=polygons,
+        names=match_names(first, second),
+    )
+
+
+def pair_by(first: Iterable[T], second: Iterable[T], key: Callable[[T], Hashable | None]) -> tuple[list[Pair[T]], list[T], list[T]]:
+    """Pairs what has one key, as multisets, and returns the rest of both. Items without a key aren't paired."""
+    waiting: dict[Hashable, deque[T]] = defaultdict(deque)
+    second = list(second)
+    for item in second:
+        waiting[key(item)].append(item)
+    waiting.pop(None, None)
+    pairs, left, taken = [], [], set()
+    for item in first:
+        others = waiting.get(key(item))
+        if others:
+            other = others.popleft()
+            pairs.append((item, other))
+            taken.add(id(other))
+        else:
+            left.append(item)
+    return pairs, left, [item for item in second if id(item) not in taken]
+
+
+# Chains
+
+
+def chains_by_points(first: County, second: County) -> list[tuple[list[Chain], list[Chain]]]:
+    """The chains of both maps that run through the same points, in the order of the points."""
+    groups: dict[str, tuple[list[Chain], list[Chain]]] = {}
+    for place, county in enumerate((first, second)):
+        for chain in county.chains:
+            group = groups.get(chain.points)
+            if group is None:
+                group = groups[chain.points] = ([], [])
+            group[place].append(chain)
+    return list(groups.values())
+
+
+def match_chains(groups: list[tuple[list[Chain], list[Chain]]], first: Teller, second: Teller) -> Matched[Chain]:
+    """Matches the chains of each group."""
+    matched: Matched[Chain] = Matched()
+    for ones, others in groups:
+        if not others:
+            matched.first += ones
+        elif not ones:
+            matched.second += others
+        elif len(ones) == len(others) == 1 and says(ones[0], first) == says(others[0], second):
+            matched.alike.append((ones[0], others[0]))
+        else:
+            match_group(ones, others, first, second, matched)
+    return matched
+
+
+def match_group(ones: list[Chain], others: list[Chain], first: Teller, second: Teller, matched: Matched[Chain]) -> None:
+    """Matches chains of the same points as a multiset: those with the same content, and then those that differ the least.
+    A chain that is its own reverse may be seen from either end."""
+    if is_own_reverse(ones[0]):
+        ones = [lesser_turn(chain, first) for chain in ones]
+        others = [lesser_turn(chain, second) for chain in others]
+    said = {id(chain): says(chain, teller) for chains, teller in ((ones, first), (others, second)) for chain in chains}
+    alike, ones, others = pair_by(ones, others, lambda chain: said[id(chain)])
+    matched.alike += alike
+    while ones and others:
+        one, other = min(
+            ((one, seen) for one in ones for other in others for seen in ways_to_see(other)),
+            key=lambda pair: count_of_differing(first.chain(pair[0]), second.chain(pair[1])),
+        )
+        matched.changed.append((one, other))
+        ones = [chain for chain in ones if chain is not one]
+        others = [chain for chain in others if chain.tlid != other.tlid]
+    matched.first += ones
+    matched.second += others
+
+
+def says(chain: Chain, teller: Teller) -> tuple[Hashable, ...]:
+    """The content of a chain without its points and numbers."""
+    return (
+        chain.body,
+        chain.link_body,
+        chain.left.cenid,
+        chain.right.cenid,
+        teller.marks.get(chain.left),
+        teller.marks.get(chain.right),
+        chain.start_node.isspace(),
+        chain.end_node.isspace(),
+        teller.county.name_bodies(chain) if chain.feats else (),
+        chain.ranges,
+    )
+
+
+def is_own_reverse(chain: Chain) -> bool:
+    """Whether the chain's points are the same from both ends."""
+    return chain.points[:POINT_WIDTH] == chain.points[-POINT_WIDTH:] and chain.points == reversed_points(chain.points)
+
+
+def turned(chain: Chain) -> Chain:
+    """The chain as seen from its other end."""
+    return replace(
+        chain,
+        body=CHAIN.turned(chain.body),
+        points=reversed_points(chain.points),
+        ranges=tuple(RANGE.turned(content) for content in chain.ranges),
+        start_node=chain.end_node,
+        end_node=chain.start_node,
+        left=chain.right,
+        right=chain.left,
+    )
+
+
+def ways_to_see(chain: Chain) -> list[Chain]:
+    """The chain, and its turn if its points don't tell the two apart."""
+    return [chain, turned(chain)] if is_own_reverse(chain) else [chain]
+
+
+def lesser_turn(chain: Chain, teller: Teller) -> Chain:
+    """Of the ways to see a chain that is its own reverse the one that says the lesser."""
+    return min(ways_to_see(chain), key=lambda seen: repr(says(seen, teller)))
+
+
+# Polygons, landmarks and names
+
+
+def match_polygons(first: County, second: County, certain: list[Pair[Chain]]) -> Matched[Polygon]:
+    """Matches polygons by their content, the others by their point, and then by the sides of chains."""
+    sides: dict[int, Hashable] = {}
+    for county, found in zip((first, second), first_sides(certain)):
+        sides.update((id(polygon), found[key]) for key, polygon in county.polygons.items() if key in found)
+
+    def side(polygon: Polygon) -> Hashable | None:
+        return sides.get(id(polygon))
+
+    def content(polygon: Polygon) -> Hashable:
+        return polygon.key.cenid, polygon.body
+
+    def point(polygon: Polygon) -> Hashable | None:
+        return polygon.point if polygon.point != NO_POINT else None
+
+    ones, others = list(first.polygons.values()), list(second.polygons.values())
+    alike, ones, others = pair_by(ones, others, lambda polygon: (content(polygon), side(polygon)))
+    more, ones, others = pair_by(ones, others, content)
+    at_one_point, ones, others = pair_by(ones, others, point)
+    on_one_side, ones, others = pair_by(ones, others, side)
+    return Matched(ones, others, at_one_point + on_one_side, alike + more)
+
+
+def first_sides(certain: list[Pair[Chain]]) -> Pair[dict[PolygonKey, tuple[int, str]]]:
+    """Of each map's polygons the first side, among the chains that both maps have, on which it lies."""
+    one_sides: dict[PolygonKey, tuple[int, str]] = {}
+    other_sides: dict[PolygonKey, tuple[int, str]] = {}
+    for place, (chain, twin) in enumerate(certain):
+        left, right = (place, "left"), (place, "right")
+        one_sides.setdefault(chain.left, left)
+        one_sides.setdefault(chain.right, right)
+        other_sides.setdefault(twin.left, left)
+        other_sides.setdefault(twin.right, right)
+    return one_sides, other_sides
+
+
+def marks_of(polygons: Matched[Polygon]) -> Pair[PolygonMarks]:
+    """A mark of each map's polygons: their content, or, if they changed, one mark for both maps."""
+
+    def content(polygon: Polygon) -> str:
+        return polygon.key.cenid + polygon.body
+
+    first = {polygon.key: content(polygon) for polygon in polygons.first}
+    second = {polygon.key: content(polygon) for polygon in polygons.second}
+    for one, other in polygons.alike:
+        first[one.key] = second[other.key] = content(one)
+    for number, (one, other) in enumerate(polygons.changed):
+        first[one.key] = second[other.key] = f"changed {number}"
+    return first, second
+
+
+def match_landmarks(first: Teller, second: Teller) -> Matched[Landmark]:
+    """Matches landmarks by their whole content, and the others by their records, points, names and polygons."""
+    places = {}
+    for teller in (first, second):
+        for landmark in teller.county.landmarks:
+            places[id(landmark)] = tuple(sorted((place.file, teller.marks[place.key]) for place in landmark.places))
+
+    def bodies(landmark: Landmark) -> tuple[str, ...]:
+        return tuple(sorted(landmark.bodies))
+
+    def column(name: str) -> Callable[[Landmark], tuple[str, ...] | None]:
+        """A column of the landmark's records, or nothing if it is blank in all."""
+
+        def told(landmark: Landmark) -> tuple[str, ...] | None:
+            values = tuple(sorted(LANDMARK.value(body, name) for body in landmark.bodies))
+            return values if any(not value.isspace() for value in values) else None
+
+        return told
+
+    ones, others = first.county.landmarks, second.county.landmarks
+    alike, ones, others = pair_by(ones, others, lambda landmark: (bodies(landmark), places[id(landmark)]))
+    changed = []
+    for key in (bodies, column("LALONG, LALAT"), column("LANAME"), lambda landmark: places[id(landmark)] or None):
+        pairs, ones, others = pair_by(ones, others, key)
+        changed += pairs
+    return Matched(ones, others, changed, alike)
+
+
+def match_names(first: County, second: County) -> Matched[Name]:
+    """Matches feature names by their content."""
+    alike, ones, others = pair_by(first.names.values(), second.names.values(), lambda name: name.body)
+    return Matched(ones, others, [], alike)
+
+
+# Ties
+
+
+class Tied(NamedTuple):
+    """A number of the first map and one of the second that a chain of both maps has at one place."""
+
+    first: Hashable
+    second: Hashable
+    chain: Chain
+    place: str
+
+    @property
+    def point(self) -> str:
+        """The place: an end of the chain, or else its middle."""
+        points = self.chain.points
+        if self.place == "end":
+            return points[-POINT_WIDTH:]
+        at = 0 if self.place == "start" else len(points) // POINT_WIDTH // 2 * POINT_WIDTH
+        return points[at : at + POINT_WIDTH]
+
+
+def find_ties(certain: list[Pair[Chain]], first: Teller, second: Teller) -> list[Tie]:
+    """The nodes, polygons and names that are one in one map and several in the other."""
+    subjects: list[tuple[str, Callable[[], Iterator[Tied]]]] = [
+        ("node", lambda: tied_nodes(certain)),
+        ("polygon", lambda: tied_polygons(certain, first, second)),
+        ("feature name", lambda: tied_names(certain, first, second)),
+    ]
+    ties: list[Tie] = []
+    for subject, tied in subjects:
+        ones, others = split_numbers(tied())
+        forth = ((at.first, at.second, at) for at in tied() if at.first in ones)
+        back = ((at.second, at.first, at) for at in tied() if at.second in others)
+        ties += told_ties(subject, True, forth) if ones else []
+        ties += told_ties(subject, False, back) if others else []
+    return ties
+
+
+def tied_nodes(certain: list[Pair[Chain]]) -> Iterator[Tied]:
+    """The nodes at both ends of chains."""
+    for chain, twin in certain:
+        if not (chain.start_node.isspace() or twin.start_node.isspace()):
+            yield Tied(chain.start_node, twin.start_node, chain, "start")
+        if not (chain.end_node.isspace() or twin.end_node.isspace()):
+            yield Tied(chain.end_node, twin.end_node, chain, "end")
+
+
+def tied_polygons(certain: list[Pair[Chain]], first: Teller, second: Teller) -> Iterator[Tied]:
+    """The polygons on sides with the same content in both maps."""
+    for chain, twin in certain:
+        mark = first.marks.get(chain.left)
+        if mark is not None and mark == second.marks.get(twin.left):
+            yield Tied(chain.left, twin.left, chain, "left side")
+        mark = first.marks.get(chain.right)
+        if mark is not None and mark == second.marks.get(twin.right):
+            yield Tied(chain.right, twin.right, chain, "right side")
+
+
+def tied_names(certain: list[Pair[Chain]], first: Teller, second: Teller) -> Iterator[Tied]:
+    """The further names of chains whose names are the same."""
+    for chain, twin in certain:
+        if chain.feats and first.county.name_bodies(chain) == second.county.name_bodies(twin):
+            for place, (one, other) in enumerate(zip(chain.feats, twin.feats), 1):
+                yield Tied(one, other, chain, f"further name {place}")
+
+
+def split_numbers(tied: Iterable[Tied]) -> Pair[set[Hashable]]:
+    """The numbers of each map that are paired with several of the other."""
+    forth: dict[Hashable, Hashable] = {}
+    back: dict[Hashable, Hashable] = {}
+    ones, others = set(), set()
+    for first, second, _, _ in tied:
+        if forth.setdefault(first, second) != second:
+            ones.add(first)
+        if back.setdefault(second, first) != first:
+            others.add(second)
+    return ones, others
+
+
+def told_ties(subject: str, is_one_in_first: bool, tied: Iterable[tuple[Hashable, Hashable, Tied]]) -> list[Tie]:
+    """A tie for each number that is one, with what the other map has under each of its numbers."""
+    groups: dict[Hashable, dict[Hashable, list[Tied]]] = defaultdict(lambda: defaultdict(list))
+    for one, several, at in tied:
+        groups[one][several].append(at)
+    return [Tie(subject, is_one_in_first, list(several.values())) for several in groups.values()]

@@ -1,0 +1,93 @@
+"""Files that are written whole or not at all."""
+
+from __future__ import annotations
+
+import os
+import stat
+from contextlib import ExitStack, contextmanager, suppress
+from typing import Iterator, Sequence
+
+from ..errors import Failure
+from ..own import PROCESS
+
+
+class NewFile:
+    """A file beside the one whose place it takes when it is whole."""
+
+    def __init__(self, name: str) -> None:
+        self.name = name
+        self.place = os.path.realpath(name)
+        self.mode = mode_of(name, self.place)
+        folder, base = os.path.split(self.place)
+        self.path = os.path.join(folder, f".{base[:200]}.{os.getpid()}.part")
+        with self.told():
+            handle = os.open(self.path, os.O_WRONLY | os.O_CREAT | os.O_EXCL, 0o666)
+        self.file = open(handle, "w", encoding="utf-8", newline="\n")
+
+    @contextmanager
+    def told(self) -> Iterator[None]:
+        """Reports errors with this file's name."""
+        try:
+            yield
+        except OSError as error:
+            raise Failure(f"{self.name}: can't be written: {error.strerror}") from None
+
+    def write(self, text: str) -> None:
+        with self.told():
+            self.file.write(text)
+
+    def finish(self) -> None:
+        """Brings all of it to the disk."""
+        with self.told():
+            self.file.flush()
+            if self.mode is not None:
+                os.fchmod(self.file.fileno(), self.mode)
+            os.fsync(self.file.fileno())
+            self.file.close()
+
+    def take_place(self) -> None:
+        with self.told():
+            os.replace(self.path, self.place)
+
+    def discard(self) -> None:
+        """Leaves nothing behind. A file that has taken its place stays."""
+        with suppress(OSError):
+            self.file.close()
+        with suppress(FileNotFoundError):
+            os.unlink(self.path)
+
+
+def mode_of(name: str, place: str) -> int | None:
+    """The mode of the file that is there already, if there is one. Only a file may be written over."""
+    try:
+        found = os.stat(place)
+    except FileNotFoundError:
+        return None
+    except OSError as error:
+        raise Failure(f"{name}: can't be written: {error.strerror}") from None
+    if stat.S_ISDIR(found.st_mode):
+        raise Failure(f"{name}: can't be written: it is a folder")
+    if not stat.S_ISREG(found.st_mode):
+        raise Failure(f"{name}: can't be written: it isn't a regular file")
+    if not os.access(place, os.W_OK):
+        raise Failure(f"{name}: can't be written: Permission denied")
+    return stat.S_IMODE(found.st_mode)
+
+
+@contextmanager
+def new_files(names: Sequence[str | None]) -> Iterator[list[NewFile | None]]:
+    """Files to be written, which take the places of these names when all are whole. If anything goes wrong, a signal
+    for example, there are none of them, and what had these names is as it was. Without a name there is no file.
+    """
+    with ExitStack() as stack:
+        files: list[NewFile | None] = []
+        for name in names:
+            file = NewFile(name) if name is not None else None
+            files.append(file)
+            if file:
+                stack.enter_context(PROCESS.at_end(file.discard))
+        yield files
+        for file in filter(None, files):
+            file.finish()
+        for file in filter(None, files):
+            file.take_place()

@@ -1,0 +1,224 @@
+"""Writes where two maps differ as a page: one HTML file with a map, which needs nothing else."""
+
+from __future__ import annotations
+
+import html
+import json
+import re
+from dataclasses import dataclass, field
+from pathlib import Path
+from typing import Any, Iterator, Sequence
+
+from ..errors import Failure
+from .fields import FieldName, Row, chain_title, landmark_points, landmark_title
+from .matching import Comparison, Tie
+from .outputs import NewFile
+from .reading import NO_POINT, points_of
+from .sets import Sets
+from .things import KINDS, SUBJECTS, Thing, things
+from .words import tie_line, tied_place, verdict
+
+DEBIAN_LEAFLET = "/usr/share/javascript/leaflet"
+
+MOST_CHAINS = 300_000
+"""With more chains than this, those that are alike are left out."""
+
+ROOM_FOR_FIELDS = 5_000_000
+"""The page has at most this many characters of fields. After them a difference has only its name and its place."""
+
+
+@dataclass(frozen=True)
+class Leaflet:
+    """The library that draws the map, as texts."""
+
+    script: str
+    style: str
+
+
+def find_leaflet(folder: str | None) -> Leaflet:
+    """Leaflet, from a folder or from where Debian puts it."""
+    place = Path(folder if folder is not None else DEBIAN_LEAFLET)
+    for name in ("leaflet.min.js", "leaflet.js"):
+        try:
+            return Leaflet((place / name).read_text("utf-8"), (place / "leaflet.css").read_text("utf-8"))
+        except (OSError, UnicodeDecodeError):
+            continue
+    hint = "it needs leaflet.js and leaflet.css"
+    if folder is None:
+        hint = "install Debian's package libjs-leaflet, or name its folder by --leaflet"
+    raise Failure(f"{place}: there is no Leaflet here: {hint}")
+
+
+@dataclass
+class PageData:
+    """What a page's script reads. Points are in millionths of a degree, each as its distance from the point before it. If a map
+    crosses the line of 180 degrees, its eastern longitudes are moved to the west by the shift. Bare chains and polygons have no
+    fields: each is its kind, the number of a chain's title, and the points."""
+
+    comparison: Comparison
+    shift: int
+    labels: dict[FieldName, int] = field(default_factory=dict)
+    titles: dict[str, int] = field(default_factory=dict)
+    bare_chains: list[list[int]] = field(default_factory=list)
+    bare_polygons: list[list[int]] = field(default_factory=list)
+    room: int = field(default_factory=lambda: ROOM_FOR_FIELDS)
+
+    def differences(self) -> list[dict[str, Any]]:
+        """Everything that isn't alike, in the order of the list, in as much detail as the page has space for."""
+        return [*filter(None, map(self.thing, things(self.comparison))), *map(self.tie, self.comparison.ties)]
+
+    def thing(self, thing: Thing) -> dict[str, Any] | None:
+        """The entry of a thing. After the space for fields is used up, chains and polygons are bare, and have none."""
+        kind = KINDS.index(thing.kind)
+        if thing.what == "chain":
+            if self.room <= 0:
+                self.bare_chains.append([kind, self.title(thing.title), *self.line(thing.either.points)])
+                return None
+            return {**self.entry(thing.what, kind, thing.title, "", thing.rows), "line": self.line(thing.either.points)}
+        points = self.points(thing.points)
+        if thing.what == "polygon" and self.room <= 0 and points:
+            self.bare_polygons.append([kind, *points[0]])
+            return None
+        place = {} if thing.what == "feature name" else {"points": points}
+        return {**self.entry(thing.what, kind, thing.title, thing.about, thing.rows), **place}
+
+    def tie(self, tie: Tie) -> dict[str, Any]:
+        groups = [list(map(tied_place, group)) for group in tie.groups]
+        entry = self.entry("tie", KINDS.index("changed"), tie_line(tie).rstrip(":"), "", [])
+        return {**entry, "groups": groups, "points": self.points(tie.points)}
+
+    def entry(self, what: str, kind: int, title: str, about: str, table: list[Row]) -> dict[str, Any]:
+        """An entry of the list. Its fields are left out if the space for fields is used up."""
+        entry: dict[str, Any] = {"what": what, "kind": kind, "title": title, "about": about}
+        if self.room > 0:
+            entry["rows"] = list(map(self.row, table))
+            self.room -= sum(len(row.first or "") + len(row.second or "") + 12 for row in table)
+        return entry
+
+    def row(self, row: Row) -> list[Any]:
+        """A field: its label and its values, only one if both maps have the same."""
+        label = self.labels.setdefault(row.name, len(self.labels))
+        if row.first is None or row.second is None:
+            return [label, row.second if row.first is None else row.first]
+        if row.first == row.second and not row.differs:
+            return [label, row.first]
+        return [label, row.first, row.second, int(row.differs)]
+
+    def alike_chains(self) -> list[list[int]]:
+        """The points of the chains that are alike. Each chain's first point is a distance from the first point of the chain before it."""
+        lines: list[list[int]] = []
+        begin = (0, 0)
+        for chain, _ in self.comparison.chains.alike:
+            lines.append(self.line(chain.points, begin))
+            begin = (begin[0] + lines[-1][0], begin[1] + lines[-1][1])
+        return lines
+
+    def alike_titles(self) -> list[int]:
+        """The numbers of these chains' titles."""
+        return [self.title(chain_title(chain)) for chain, _ in self.comparison.chains.alike]
+
+    def alike_landmarks(self) -> list[list[Any]]:
+        """The landmarks that are alike and have a place, each as the number of its title and its points."""
+        county = self.comparison.first.county
+        places = ((landmark, landmark_points(landmark, county)) for landmark, _ in self.comparison.landmarks.alike)
+        return [[self.title(landmark_title(landmark)), *self.points(points)] for landmark, points in places if points]
+
+    def alike_polygons(self) -> list[list[int]]:
+        """The internal points of the polygons that are alike."""
+        return self.points([polygon.point for polygon, _ in self.comparison.polygons.alike if polygon.point != NO_POINT])
+
+    def title(self, title: str) -> int:
+        return self.titles.setdefault(title, len(self.titles))
+
+    def line(self, points: str, begin: tuple[int, int] = (0, 0)) -> list[int]:
+        """The points, each as its distance from the one before it."""
+        distances: list[int] = []
+        last_longitude, last_latitude = begin
+        for longitude, latitude in points_of(points):
+            if longitude > 0:
+                longitude -= self.shift
+            distances += (longitude - last_longitude, latitude - last_latitude)
+            last_longitude, last_latitude = longitude, latitude
+        return distances
+
+    def points(self, points: Sequence[str]) -> list[list[int]]:
+        return [self.line(point) for point in points]
+
+
+def write_page(file: NewFile, comparison: Comparison, sets: Sets, leaflet: Leaflet) -> None:
+    """Writes the page."""
+    parts = {
+        "leaflet_style": without_pictures(leaflet.style),
+        "style": asset("page.css"),
+        "leaflet_script": in_script(leaflet.script),
+        "script": asset("page.js"),
+        "data": as_data(page_data(comparison, sets)),
+        "compared": html.escape(f"left out: {' '.join(sets.masks)}" if sets.masks else "all fields"),
+    }
+    for side, one in (("first", sets.first), ("second", sets.second)):
+        parts[f"{side}_name"] = html.escape(one.shown_name)
+        parts[f"{side}_path"] = in_pieces(one.shown_name)
+        parts[f"{side}_fingerprint"] = one.fingerprint
+    file.write(re.sub(r"@@(\w+)@@", lambda marker: parts[marker[1]], asset("page.html")))
+
+
+def in_pieces(path: str) -> str:
+    """A path as HTML, in pieces that a line is broken between."""
+    return "".join(f"<span>{html.escape(piece)}</span>" for piece in re.split("(?<=/)", path))
+
+
+def page_data(comparison: Comparison, sets: Sets) -> dict[str, Any]:
+    """All that the page's script reads."""
+    data = PageData(comparison, shift_of(comparison))
+    is_too_large = sum(comparison.chains.counts) > MOST_CHAINS
+    page = {
+        "kinds": KINDS,
+        "shift": data.shift,
+        "counts": {subject.what: part.counts for subject, part in zip(SUBJECTS, comparison.parts)},
+        "entries": data.differences(),
+        "bare": {"chains": data.bare_chains, "polygons": data.bare_polygons},
+        "alike": {
+            "chains": [] if is_too_large else data.alike_chains(),
+            "chain_titles": [] if is_too_large else data.alike_titles(),
+            "landmarks": data.alike_landmarks(),
+            "polygons": [] if is_too_large else data.alike_polygons(),
+        },
+        "titles": list(data.titles),
+        "labels": [[name.label, name.holds] for name in data.labels],
+    }
+    return {**page, "verdict": verdict(comparison, sets), "notes": list(notes(is_too_large, data.room <= 0))}
+
+
+def notes(is_too_large: bool, is_out_of_room: bool) -> Iterator[str]:
+    """What the page leaves out."""
+    if is_too_large:
+        yield f"The maps have more than {MOST_CHAINS:,} chains: chains and polygons that are alike are left out."
+    if is_out_of_room:
+        yield "There are so many differences that only the first ones have their fields here. --geojson writes all fields."
+
+
+def shift_of(comparison: Comparison) -> int:
+    """By how much eastern longitudes are moved to the west, so that a map across the line of 180 degrees is in one
+    piece."""
+    counties = (comparison.first.county, comparison.second.county)
+    longitudes = [int(chain.points[:10]) for county in counties for chain in county.chains]
+    return 360_000_000 if longitudes and max(longitudes) - min(longitudes) > 180_000_000 else 0
+
+
+def asset(name: str) -> str:
+    return Path(__file__).with_name(name).read_text("utf-8")
+
+
+def as_data(value: Any) -> str:
+    """The value as JSON in which no letter begins a tag, whatever the input says."""
+    return json.dumps(value, ensure_ascii=False, separators=(",", ":")).replace("<", "\\u003c")
+
+
+def in_script(text: str) -> str:
+    """A script as an element `script` can hold it, without the file that its last line may name."""
+    return re.sub(r"^//# sourceMappingURL=.*$", "", text, flags=re.MULTILINE).replace("</", "<\\/")
+
+
+def without_pictures(style: str) -> str:
+    """The style without the files that it names."""
+    return re.sub(r"[^;{}]*url\([^)]*\)[^;}]*;?", "", re.sub(r"/\*#.*?\*/", "", style))

@@ -1,0 +1,251 @@
+"""Reads the records that the program prints: a county's chains, feature names, polygons and landmarks.
+
+The content of a record is kept as one string (see `columns`). A point is kept as it is spelled: 19 columns of longitude
+and latitude in millionths of a degree. A chain's points are one string of these. The program spells each number and
+each point in one way, in a canonical text and when it respells records.
+"""
+
+from __future__ import annotations
+
+from collections import defaultdict
+from dataclasses import dataclass, field
+from typing import NamedTuple
+
+from .columns import CHAIN, LANDMARK, LENGTHS, LINK, NAME, POLYGON, RANGE
+
+POINT_WIDTH = 19
+NO_POINT = " " * POINT_WIDTH
+UNUSED_PLACE = "+000000000+00000000"
+
+Records = dict[str, list[str]]
+"""The lines of each record type."""
+
+
+class NotCanonical(Exception):
+    """The text isn't one that the program prints."""
+
+
+def point(columns: str) -> tuple[int, int]:
+    """A point's longitude and latitude in millionths of a degree."""
+    return int(columns[:10]), int(columns[10:POINT_WIDTH])
+
+
+class PolygonKey(NamedTuple):
+    """The office that numbers a polygon, and the polygon's number there. On a side the number may be blank: no
+    polygon."""
+
+    cenid: str
+    polyid: str
+
+    @property
+    def is_polygon(self) -> bool:
+        return not self.polyid.isspace()
+
+
+@dataclass(eq=False)
+class Chain:
+    """The content of the records of one TLID."""
+
+    tlid: int
+    body: str
+    points: str
+    feats: tuple[str, ...]
+    ranges: tuple[str, ...]
+    link_body: str
+    start_node: str
+    end_node: str
+    left: PolygonKey
+    right: PolygonKey
+
+    @property
+    def key(self) -> int:
+        return self.tlid
+
+    @property
+    def number(self) -> int:
+        return self.tlid
+
+
+@dataclass(eq=False)
+class Name:
+    """A feature name, and how many chains have it as a further name."""
+
+    feat: str
+    body: str
+    uses: int = 0
+
+
+@dataclass(eq=False)
+class Polygon:
+    """A polygon on a side of a chain or of type P. Its body is empty where no record of type P has it."""
+
+    key: PolygonKey
+    body: str = ""
+
+    @property
+    def number(self) -> int:
+        return int(self.key.polyid)
+
+    @property
+    def point(self) -> str:
+        return POLYGON.value(self.body, "POLYLONG, POLYLAT") if self.body else NO_POINT
+
+
+class Place(NamedTuple):
+    """A polygon that contains a landmark, as a record of type 8 has it."""
+
+    file: str
+    key: PolygonKey
+
+
+@dataclass(eq=False)
+class Landmark:
+    """The records of type 7 of one LAND, and those of type 8."""
+
+    land: str
+    bodies: list[str] = field(default_factory=list)
+    places: list[Place] = field(default_factory=list)
+
+    @property
+    def key(self) -> str:
+        return self.land
+
+    @property
+    def number(self) -> int:
+        return int(self.land)
+
+
+@dataclass(eq=False)
+class County:
+    """The map that a text describes."""
+
+    chains: list[Chain]
+    names: dict[str, Name]
+    polygons: dict[PolygonKey, Polygon]
+    landmarks: list[Landmark]
+
+    def name_bodies(self, chain: Chain) -> tuple[str, ...]:
+        """The chain's further names, spelled out."""
+        return tuple([self.names[feat].body for feat in chain.feats])
+
+
+def read_county(text: bytes) -> County:
+    """The county of a canonical text, or of respelled records."""
+    records = records_of(text)
+    names = {line[10:18]: Name(line[10:18], NAME.content(line)) for line in records["5"]}
+    polygons = {polygon.key: polygon for polygon in map(read_polygon, records["P"])}
+    landmarks = read_landmarks(records)
+    try:
+        chains = read_chains(records)
+        for chain in chains:
+            for feat in chain.feats:
+                names[feat].uses += 1
+    except KeyError as missing:
+        raise NotCanonical(f"there is no record under {missing}") from None
+    for chain in chains:
+        for side in (chain.left, chain.right):
+            if side not in polygons and side.is_polygon:
+                polygons[side] = Polygon(side)
+    return County(chains, names, polygons, landmarks)
+
+
+def records_of(text: bytes) -> Records:
+    """The lines of each type, in their order."""
+    lines = text.decode("latin-1").split("\n")
+    if lines.pop():
+        raise NotCanonical("the last line has no line ending")
+    records: Records = {record_type: [] for record_type in LENGTHS}
+    for number, line in enumerate(lines, 1):
+        if LENGTHS.get(line[:1]) != len(line):
+            raise NotCanonical(f"line {number} isn't a record")
+        records[line[0]].append(line)
+    return records
+
+
+def read_chains(records: Records) -> list[Chain]:
+    """The chains, in the order of their records of type 1. What belongs to a chain is in the order of its RTSQs."""
+    inner: dict[str, list[str]] = defaultdict(list)
+    for line in sorted(records["2"], key=sequence):
+        inner[line[5:15]].append(without_unused(line[18:]))
+    feats: dict[str, list[str]] = defaultdict(list)
+    for line in sorted(records["4"], key=sequence):
+        feats[line[5:15]] += [line[at : at + 8] for at in range(18, 58, 8) if not line[at : at + 8].isspace()]
+    ranges: dict[str, list[str]] = defaultdict(list)
+    for line in sorted(records["6"], key=sequence):
+        ranges[line[5:15]].append(RANGE.content(line))
+    links = {line[10:20]: line for line in records["I"]}
+    sides: dict[str, PolygonKey] = {}
+
+    def side(columns: str) -> PolygonKey:
+        """A side's key. Most polygons are on several sides, and share one."""
+        found = sides.get(columns)
+        if found is None:
+            found = sides[columns] = PolygonKey(columns[:5], columns[5:])
+        return found
+
+    def chain(line: str) -> Chain:
+        tlid = line[5:15]
+        link = links[tlid]
+        return Chain(
+            tlid=int(tlid),
+            body=CHAIN.content(line),
+            points=line[190:209] + "".join(inner.get(tlid, ())) + line[209:],
+            feats=tuple(feats.get(tlid, ())),
+            ranges=tuple(ranges.get(tlid, ())),
+            link_body=LINK.content(link),
+            start_node=link[20:30],
+            end_node=link[30:40],
+            left=side(link[40:55]),
+            right=side(link[55:70]),
+        )
+
+    return [chain(line) for line in records["1"]]
+
+
+def sequence(line: str) -> str:
+    """The columns that order the records of a chain: its TLID and RTSQ."""
+    return line[5:18]
+
+
+def without_unused(places: str) -> str:
+    """The places of a record of type 2, without the unused ones at its end."""
+    while places.endswith(UNUSED_PLACE):
+        places = places[:-POINT_WIDTH]
+    return places
+
+
+def read_polygon(line: str) -> Polygon:
+    """The polygon of a record of type P."""
+    return Polygon(PolygonKey(line[10:15], line[15:25]), POLYGON.content(line))
+
+
+def read_landmarks(records: Records) -> list[Landmark]:
+    """The landmarks, in the order of their first records."""
+    landmarks: dict[str, Landmark] = {}
+    for line in records["7"]:
+        land = line[10:20]
+        landmarks.setdefault(land, Landmark(land)).bodies.append(LANDMARK.content(line))
+    for line in records["8"]:
+        land = line[25:35]
+        if land not in landmarks:
+            raise NotCanonical(f"there is no landmark {land.strip()}")
+        landmarks[land].places.append(Place(line[5:10], PolygonKey(line[10:15], line[15:25])))
+    return list(landmarks.values())
+
+
+def points_of(points: str) -> list[tuple[int, int]]:
+    """The points in a string of them."""
+    return [point(points[at : at + POINT_WIDTH]) for at in range(0, len(points), POINT_WIDTH)]
+
+
+def reversed_points(points: str) -> str:
+    """The same points from the last to the first."""
+    return "".join([points[at : at + POINT_WIDTH] for at in range(len(points) - POINT_WIDTH, -1, -POINT_WIDTH)])
+
+
+def comes_after_its_reverse(points: str) -> bool:
+    """Whether a canonical text has these points from the other end: there they come before their reverse."""
+    if points[:POINT_WIDTH] != points[-POINT_WIDTH:]:
+        return point(points[:POINT_WIDTH]) > point(points[-POINT_WIDTH:])
+    listed = points_of(points)
+    return listed > listed[::-1]

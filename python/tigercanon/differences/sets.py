@@ -1,0 +1,140 @@
+"""The two sets that are compared: their files, and what the program prints for them."""
+
+from __future__ import annotations
+
+import contextlib
+import hashlib
+import os
+import shutil
+import stat
+import zipfile
+from concurrent.futures import ThreadPoolExecutor
+from dataclasses import dataclass
+from functools import cached_property
+from typing import Iterator, Sequence
+
+from ..counties import as_stem
+from ..errors import Failure, printable, reason
+from ..hints import hint
+from ..judge import Files, complaint, environment, files_of
+from ..layout import TYPES, file_name
+from ..own import PROCESS
+
+
+@dataclass(frozen=True)
+class Source:
+    """A set: its name on the command line, the name that the program gets, and the files that are its parts."""
+
+    name: str
+    place: str
+    files: Files
+
+    @property
+    def words(self) -> list[str]:
+        """The program's arguments for the set."""
+        return [*(["--stem"] if len(self.files) > 1 else []), "--", self.place]
+
+
+@dataclass(frozen=True)
+class Canonical:
+    """The canonical text of a set."""
+
+    name: str
+    text: bytes
+
+    @cached_property
+    def fingerprint(self) -> str:
+        return hashlib.sha256(self.text).hexdigest()
+
+    @property
+    def shown_name(self) -> str:
+        return printable(self.name)
+
+
+@dataclass(frozen=True)
+class Sets:
+    """The canonical texts of the two sets, and the flags with which they were printed."""
+
+    first: Canonical
+    second: Canonical
+    masks: tuple[str, ...] = ()
+
+    @cached_property
+    def are_one_map(self) -> bool:
+        return self.first.text == self.second.text
+
+
+@contextlib.contextmanager
+def opened(name: str, is_stem: bool) -> Iterator[Source]:
+    """The set of this name: one file, a zip with a county, or the stem of a county's files in either case of their
+    endings. What the program can't read as it is gets a copy, which is removed in every case."""
+    if is_stem or not os.path.lexists(name) or is_zip(name):
+        with as_stem(name) as stem:
+            yield Source(name, stem, files_of(stem))
+    elif stat.S_ISREG(os.stat(name).st_mode):
+        yield Source(name, name, [name])
+    else:
+        with PROCESS.folder(0) as folder:
+            place = copied(name, os.path.join(folder, "set"))
+            yield Source(name, place, [place])
+
+
+def is_zip(name: str) -> bool:
+    """Whether this is the file of a zip. Raises Failure for a folder and for what can't be read."""
+    try:
+        mode = os.stat(name).st_mode
+        if stat.S_ISDIR(mode):
+            raise Failure(f"{printable(name)}: it is a folder: name a file, a zip or the stem of a county's files")
+        return stat.S_ISREG(mode) and zipfile.is_zipfile(name)
+    except OSError as error:
+        raise Failure(f"{printable(name)}: can't be read: {reason(error)}") from None
+
+
+def copied(name: str, target: str) -> str:
+    """A copy of what can be read only once, such as a pipe."""
+    try:
+        with open(name, "rb") as source, open(target, "wb") as copy:
+            shutil.copyfileobj(source, copy)
+    except OSError as error:
+        raise Failure(f"{printable(name)}: can't be read: {reason(error)}") from None
+    return target
+
+
+@dataclass(frozen=True)
+class Program:
+    """The program, run for both sets at once."""
+
+    path: str
+
+    def normalised(self, sources: Sequence[Source], masks: tuple[str, ...] = ()) -> Sets:
+        """The canonical texts of two sets."""
+        first, second = self.printed(("normalise", *masks), sources)
+        return Sets(Canonical(sources[0].name, first), Canonical(sources[1].name, second), masks)
+
+    def respelled(self, sources: Sequence[Source]) -> list[bytes]:
+        """The records of both sets in canonical spelling, with their own numbers."""
+        return self.printed(("respell",), sources)
+
+    def printed(self, command: Sequence[str], sources: Sequence[Source]) -> list[bytes]:
+        """What the program prints for each set. The first set that is rejected is reported."""
+        with ThreadPoolExecutor() as threads:
+            return list(threads.map(lambda source: self.printed_for(source, command), sources))
+
+    def printed_for(self, source: Source, command: Sequence[str]) -> bytes:
+        words = [self.path, *command, *source.words]
+        try:
+            ended = PROCESS.run(words, environment(), None)
+        except OSError as error:
+            raise Failure(f"the program {self.path} can't be run: {reason(error)}") from None
+        if ended.status != 0:
+            line = complaint(ended)
+            more = hint(line, source.files)
+            raise Failure(f"{printable(source.name)}: {line}{f'; {more}' if more else ''}")
+        return ended.out
+
+
+def is_of_a_set(output: str, names: Sequence[str]) -> bool:
+    """Whether an output file is one of the input files."""
+    inputs = [file_name(name, kind) for name in names for kind in TYPES]
+    inputs += [name[:-4] + name[-4:].lower() for name in inputs]
+    return any(os.path.exists(name) and os.path.exists(output) and os.path.samefile(name, output) for name in [*names, *inputs])

@@ -1,0 +1,19 @@
+"""Errors that end a command with one line on standard error."""
+
+from __future__ import annotations
+
+
+class Failure(Exception):
+    """A command can't start or can't go on. The text names the file and the cause; the exit status is 2."""
+
+
+def printable(text: str) -> str:
+    """The text on one line: characters that can't be printed are escaped."""
+    return "".join(letter if letter.isprintable() else repr(letter)[1:-1] for letter in text)
+
+
+def reason(error: BaseException) -> str:
+    """What an error reports, on one line."""
+    if isinstance(error, OSError) and error.strerror:
+        return error.strerror
+    return printable(" ".join(str(error).split())) or type(error).__name__

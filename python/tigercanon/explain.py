@@ -1,0 +1,74 @@
+"""The command explain: what a refusal means, an example line and what to do, from the user guide's own sections."""
+
+from __future__ import annotations
+
+import argparse
+import re
+from pathlib import Path
+
+from .errors import Failure, reason
+from .printing import print_lines
+
+SECTION = re.compile(r"^### `refused (\d+) (\w+)([^`]*)`$")
+REFUSAL = re.compile(r"(?:refused )?(\d+)?\s*([A-Z]\w+)?((?: [0-9A-Za-z]+)*?)(?: in set ([12]))?")
+HERE = Path(__file__).resolve().parent
+
+
+def page() -> str:
+    """The user guide: an installed package has a copy of it, and a clone and a release have the page itself."""
+    copy, guide = HERE / "refusals.md", HERE.parent.parent / "docs/guide.md"
+    found = copy if copy.exists() else guide
+    try:
+        return found.read_text(encoding="utf-8")
+    except OSError as error:
+        raise Failure(f"{found}: {reason(error)}") from None
+
+
+def sections(text: str) -> dict[int, list[str]]:
+    """The sections of the refusals by their numbers, the headings among them."""
+    found: dict[int, list[str]] = {}
+    current: list[str] | None = None
+    for line in text.splitlines():
+        heading = SECTION.match(line)
+        if heading:
+            current = found.setdefault(int(heading[1]), [])
+        elif line.startswith("#"):
+            current = None
+        if current is not None:
+            current.append(line)
+    return found
+
+
+def explained(line: str, text: str) -> list[str]:
+    """What the page has about a refusal. Raises Failure if the line isn't one."""
+    known = sections(text)
+    words = REFUSAL.fullmatch(line.strip().rpartition(": ")[2])
+    names = {SECTION.match(lines[0])[2]: number for number, lines in known.items()}  # type: ignore[index]
+    number = None if words is None else int(words[1]) if words[1] else names.get(words[2] or "")
+    if number not in known:
+        raise Failure(f"{line!r} isn't a refusal: give the program's line, its number or its name")
+    heading, *body = known[number]
+    return [heading[len("### `") : -1], *places(heading, words[3].split() if words else []), *trimmed(body)]
+
+
+def places(heading: str, given: list[str]) -> list[str]:
+    """The places of a refusal with their meanings: `part 1, line 201`."""
+    found = SECTION.match(heading)
+    meanings = found[3].split() if found else []
+    if not given or len(given) != len(meanings):
+        return []
+    return ["", ", ".join(f"{meaning.lower()} {place}" for meaning, place in zip(meanings, given))]
+
+
+def trimmed(lines: list[str]) -> list[str]:
+    """Plain text instead of Markdown: links and emphasis lose their marks."""
+    plain = [re.sub(r"\[([^\]]+)\]\([^)]*\)", r"\1", line).replace("**", "") for line in lines]
+    while plain and not plain[-1]:
+        plain.pop()
+    return plain
+
+
+def run(options: argparse.Namespace) -> int:
+    """Explains a refusal."""
+    print_lines(explained(" ".join(options.line), page()))
+    return 0

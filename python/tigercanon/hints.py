@@ -1,0 +1,69 @@
+"""Hints beside a refusal: what the bytes of the file suggest."""
+
+from __future__ import annotations
+
+import os
+import re
+from typing import Sequence
+
+FAULTY_LINE = re.compile(r"refused ([1-6]) \w+ (\d+) (\d+)\b.*")
+
+BEGINNINGS = (
+    (b"PK\3\4", "the file is a zip: name it with its ending .ZIP"),
+    (b"\x1f\x8b", "the file is compressed by gzip: unpack it first"),
+    (b"\xff\xfe", "the file is UTF-16: convert it to LATIN1 first"),
+    (b"\xfe\xff", "the file is UTF-16: convert it to LATIN1 first"),
+    (b"\xef\xbb\xbf", "the file begins with a byte order mark: remove its first three bytes"),
+)
+CONTROL_Z = b"\x1a"
+
+
+def hint(line: str, files: Sequence[str | None]) -> str:
+    """What to look at after a refusal, or nothing. files are the parts of the set in their order."""
+    if line.startswith("refused 8 "):
+        return names_hint(files)
+    found = FAULTY_LINE.match(line)
+    if not found or not 1 <= int(found[2]) <= len(files):
+        return ""
+    file = files[int(found[2]) - 1]
+    try:
+        return bytes_hint(file, int(found[3])) if file else ""
+    except OSError:
+        return ""
+
+
+def names_hint(files: Sequence[str | None]) -> str:
+    """Files that can't be opened because their names are in lower case."""
+    for file in files:
+        if file and not os.path.exists(file):
+            folder, name = os.path.split(file)
+            stem, ending = os.path.splitext(name)
+            for other in (stem + ending.lower(), name.lower()):
+                if other != name and os.path.exists(os.path.join(folder, other)):
+                    return f"there is {other}: the program reads names in capitals only"
+    return ""
+
+
+def bytes_hint(file: str, line: int) -> str:
+    """What the first bytes of a file, or the last ones, suggest about its faulty line."""
+    with open(file, "rb") as opened:
+        start = opened.read(4)
+        opened.seek(max(0, opened.seek(0, os.SEEK_END) - 4))
+        end = opened.read()
+    if line == 1:
+        for beginning, text in BEGINNINGS:
+            if start.startswith(beginning):
+                return text
+    if end.rstrip(b"\r\n").endswith(CONTROL_Z) and line == count_lines(file):
+        return "the file ends with a Control-Z, the end mark of an old system: remove it"
+    return ""
+
+
+def count_lines(file: str) -> int:
+    """How many lines a file has."""
+    count, last = 0, b"\n"
+    with open(file, "rb") as opened:
+        while piece := opened.read(1 << 20):
+            count += piece.count(b"\n")
+            last = piece[-1:]
+    return count + (last != b"\n")

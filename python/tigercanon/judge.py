@@ -1,0 +1,257 @@
+"""One county judged by one process of the program.
+
+These functions also run on the workers of a cluster, where this package need not be installed: they are sent there by value,
+and what they take and return is plain.
+"""
+
+from __future__ import annotations
+
+import os
+import re
+import shutil
+from contextlib import contextmanager
+from dataclasses import astuple, dataclass, field, replace
+from typing import Any, Iterable, Iterator, Optional
+
+from .errors import printable, reason
+from .hints import hint
+from .layout import TYPES, file_name
+from .own import Ended, Own, remove_stale_folders
+from .program import TUNABLES
+from .storage import Broken, fetch, is_url
+from .zips import BadZip, members_of, opened, unpack, unpacked_size
+
+DIGITS = re.compile(rb"[0-9a-f]{64}\n")
+STEM = "county"
+"""The files of a zip, and files under other names, get names with this stem."""
+
+NEEDED_IN_STRICT_MODE = "12I"
+"""Types whose file may not be empty in strict mode."""
+
+
+@dataclass(frozen=True)
+class File:
+    """Where a file is, and how many bytes it has, if that is known."""
+
+    place: str
+    size: int | None
+
+
+@dataclass(frozen=True)
+class County:
+    """A county in an archive: single files by their types, one file with all records, or a zip.
+
+    stem is its name in a manifest. trouble says why it can't be judged. notes are reported with its result. readable_stem is a
+    stem that the program can read without copies of the files, if their names are in capitals.
+    """
+
+    stem: str
+    files: dict[str, File] = field(default_factory=dict)
+    whole: File | None = None
+    zip: File | None = None
+    trouble: str = ""
+    is_absent: bool = False
+    notes: tuple[str, ...] = ()
+    readable_stem: str | None = None
+
+    @property
+    def size(self) -> int:
+        """The bytes that its files take in the archive."""
+        singles = [file for file in (self.whole, self.zip) if file]
+        return sum(file.size or 0 for file in (*self.files.values(), *singles))
+
+
+@dataclass(frozen=True)
+class Order:
+    """How counties are judged."""
+
+    program: str
+    flags: tuple[str, ...] = ()
+    is_strict: bool = False
+    largest: int = 2 * 10**9
+    memory: int | None = None
+
+
+@dataclass(frozen=True)
+class Answer:
+    """The result for a county: its fingerprint, or why it has none.
+
+    kind is "made" (text is the fingerprint), "refused" (text is the program's line, or says what strict mode rejects),
+    "failed" (text says what is wrong with its files) or "memory" (it may not have fitted into memory).
+    """
+
+    kind: str
+    text: str
+    notes: tuple[str, ...] = ()
+
+
+class Rejected(Exception):
+    """Strict mode rejects a county. The text says why."""
+
+
+def judge(county: County, order: Order, own: Own) -> Answer:
+    """Judges a county. Whatever goes wrong is part of the answer."""
+    notes: list[str] = list(county.notes)
+    try:
+        if county.trouble:
+            return Answer("failed", county.trouble, tuple(notes))
+        with prepared(county, order, own, notes) as (name, files):
+            return asked(name, files, order, own, notes)
+    except Rejected as rejected:
+        return Answer("refused", str(rejected), tuple(notes))
+    except (BadZip, Broken) as failure:
+        return Answer("failed", str(failure), county.notes)
+    except MemoryError:
+        return Answer("memory", "out of memory", tuple(notes))
+    except OSError as error:
+        return Answer("failed", f"can't be read or unpacked: {reason(error)}", tuple(notes))
+
+
+Files = list[Optional[str]]
+"""The files that are the parts of a set, in their order. A part that isn't there is None."""
+
+
+@contextmanager
+def prepared(county: County, order: Order, own: Own, notes: list[str]) -> Iterator[tuple[str, Files]]:
+    """The set as the program reads it: a file, or a stem of single files in capitals."""
+    if county.zip:
+        with unzipped(county.zip, order, own, notes) as stem:
+            yield stem, files_of(stem)
+    elif county.whole:
+        with local(county.whole, own) as place:
+            yield place, [place]
+    else:
+        sizes = {kind: file.size for kind, file in county.files.items()}
+        note_files(sizes, order, notes)
+        if county.readable_stem is not None:
+            yield county.readable_stem, files_of(county.readable_stem)
+            return
+        with own.folder(sum(size or 0 for size in sizes.values())) as folder:
+            stem = f"{folder}/{STEM}"
+            for kind, file in county.files.items():
+                bring(file, file_name(stem, kind))
+            yield stem, files_of(stem)
+
+
+def files_of(stem: str) -> Files:
+    return [file_name(stem, kind) for kind in TYPES]
+
+
+def bring(file: File, target: str) -> None:
+    """Makes a file readable under another name."""
+    if is_url(file.place):
+        fetch(file.place, file.size, target)
+    else:
+        os.symlink(file.place, target)
+
+
+@contextmanager
+def local(file: File, own: Own) -> Iterator[str]:
+    """A file on this machine: itself, or a copy of what a URL leads to."""
+    if not is_url(file.place):
+        yield file.place
+        return
+    with own.folder(file.size or 0) as folder:
+        fetch(file.place, file.size, f"{folder}/{STEM}")
+        yield f"{folder}/{STEM}"
+
+
+@contextmanager
+def unzipped(file: File, order: Order, own: Own, notes: list[str]) -> Iterator[str]:
+    """The county in a zip as single files."""
+    with local(file, own) as place, opened(place) as archive:
+        members = members_of(archive)
+        note_files({kind: member.file_size for kind, member in members.items()}, order, notes)
+        size = unpacked_size(members)
+        if size > order.largest:
+            raise BadZip(f"the zip unpacks to {size} bytes, more than --largest {order.largest}")
+        with own.folder(size) as folder:
+            stem = f"{folder}/{STEM}"
+            unpack(archive, members, stem)
+            yield stem
+
+
+def note_files(sizes: dict[str, int | None], order: Order, notes: list[str]) -> None:
+    """Notes which of the nine files are missing or empty. Raises Rejected if strict mode doesn't allow it."""
+    missing = [kind for kind in TYPES if kind not in sizes]
+    empty = [kind for kind, size in sizes.items() if size == 0]
+    if order.is_strict and missing:
+        raise Rejected(f"rejected by --strict: no {endings(missing)}")
+    if order.is_strict and any(kind in NEEDED_IN_STRICT_MODE for kind in empty):
+        raise Rejected(f"rejected by --strict: empty {endings(empty)}")
+    if missing:
+        notes.insert(0, f"no {endings(missing)}")
+    reported = empty if order.is_strict else [kind for kind in empty if kind == "1"]
+    if reported:
+        notes.append(f"empty {endings(reported)}")
+
+
+def endings(kinds: Iterable[str]) -> str:
+    return " ".join(f".RT{kind}" for kind in kinds)
+
+
+def asked(name: str, files: Files, order: Order, own: Own, notes: list[str]) -> Answer:
+    """What the program answers for a set."""
+    stem = ["--stem"] if len(files) > 1 else []
+    words = [order.program, "fingerprint", *stem, *order.flags, "--", name]
+    ended = own.run(words, environment(), order.memory)
+    if ended.status == 0 and DIGITS.fullmatch(ended.out):
+        return Answer("made", ended.out[:64].decode(), tuple(notes))
+    line = complaint(ended)
+    more = hint(line, files)
+    return Answer(kind_of(line, ended.status), line, (*notes, *([more] if more else [])))
+
+
+def environment() -> dict[str, str]:
+    """The environment in which the program is run: with settings for memory, unless the user has settings of their own."""
+    return {"GLIBC_TUNABLES": TUNABLES, **os.environ}
+
+
+def complaint(ended: Ended) -> str:
+    """The program's line, or what can be said about its end."""
+    lines = ended.err.decode(errors="replace").strip().splitlines()
+    if ended.status < 0:
+        return f"the program was ended by signal {-ended.status}"
+    if lines:
+        return printable(lines[-1])
+    if ended.status == 0:
+        return "the program printed something else than a fingerprint"
+    return f"the program ended with status {ended.status}"
+
+
+def kind_of(line: str, status: int) -> str:
+    """Signals end a program that finds no memory in one way or another; a shell between reports them as a status over 128."""
+    if line.startswith("refused 9 ") or status < 0 or status > 128:
+        return "memory"
+    return "refused" if line.startswith("refused ") else "failed"
+
+
+def plain(county: County) -> tuple[Any, ...]:
+    """A county without the classes of this package, which workers don't know."""
+    singles = [file and astuple(file) for file in (county.whole, county.zip)]
+    files = {kind: astuple(file) for kind, file in county.files.items()}
+    return (county.stem, files, *singles, county.notes, county.readable_stem)
+
+
+def from_plain(stem: str, files: Any, whole: Any, packed: Any, notes: Any, readable: Any) -> County:
+    """The inverse of `plain`."""
+    return County(
+        stem,
+        {kind: File(*file) for kind, file in files.items()},
+        whole=whole and File(*whole),
+        zip=packed and File(*packed),
+        notes=tuple(notes),
+        readable_stem=readable,
+    )
+
+
+def judge_on_a_worker(county: tuple[Any, ...], order: tuple[Any, ...]) -> tuple[str, str, tuple[str, ...]]:
+    """Judges a county on a worker, by the program at the client's path or the one on the worker's PATH."""
+    remove_stale_folders()
+    named = Order(*order)
+    program = shutil.which(named.program) or shutil.which("tigercanon")
+    if program is None:
+        why = f"there is no {named.program}, and no tigercanon on its PATH"
+        return "lost", f"a worker has no program: {why}", ()
+    answer = judge(from_plain(*county), replace(named, program=program), Own())
+    return answer.kind, answer.text, answer.notes

@@ -1,0 +1,345 @@
+"""The manifest: a line with the fingerprint, two blanks and the stem for each county, in the order of the stems.
+
+The first line names the form of the canonical texts and the flags that leave fields out. In manifests of earlier tools it has
+the flags alone, or isn't there. One run at a time has the manifest's lock.
+"""
+
+from __future__ import annotations
+
+import argparse
+import fcntl
+import os
+import re
+import shutil
+import socket
+import stat
+import time
+from contextlib import contextmanager
+from typing import Iterator, NamedTuple, Sequence
+
+from .errors import Failure, reason
+from .layout import RECORD_FILE, ZIP_FILE
+from .own import Own
+
+FORM = "# tigercanon form 1"
+FLAGS = ("--no-sources", "--no-reserved")
+FLAG_SETS: tuple[tuple[str, ...], ...] = ((), FLAGS[:1], FLAGS[1:], FLAGS)
+LINE = re.compile(rb"[0-9a-f]{64}  [^\n]+")
+STARTED_LINE = re.compile(rb"[0-9a-f]{0,64}|[0-9a-f]{64} ( [^\n]*)?")
+LOCK_LINE = re.compile(rb"process [0-9]* on ")
+PATIENCE_FOR_LOCK = 0.2
+
+
+def flags_of(options: argparse.Namespace) -> tuple[str, ...]:
+    """The flags of a command line that leave fields out, in one order."""
+    return tuple(flag for flag in FLAGS if getattr(options, flag[2:].replace("-", "_")))
+
+
+def heading(flags: Sequence[str]) -> str:
+    """The first line of a manifest."""
+    return " ".join([FORM, *flags])
+
+
+HEADINGS = {heading(flags).encode(): flags for flags in FLAG_SETS}
+HEADINGS.update({f"# {' '.join(flags)}".encode(): flags for flags in FLAG_SETS if flags})
+
+
+class Line(NamedTuple):
+    """A county of a manifest."""
+
+    fingerprint: str
+    stem: str
+
+    def __str__(self) -> str:
+        return f"{self.fingerprint}  {self.stem}"
+
+
+class Content(NamedTuple):
+    """What a manifest has. flags is None if it has no whole line."""
+
+    flags: tuple[str, ...] | None
+    lines: list[Line]
+
+
+def parsed(name: str, text: bytes) -> Content:
+    """The whole lines of a manifest. An interrupted run may have left a part of a line at its end, which is left out.
+
+    Raises Failure if it is another file.
+    """
+    *whole, rest = text.split(b"\n")
+    flags = HEADINGS.get(whole[0]) if whole else None
+    lines = whole if flags is None else whole[1:]
+    for number, line in enumerate(lines, 1 + len(whole) - len(lines)):
+        if not LINE.fullmatch(line):
+            raise Failure(f"{name}: not a manifest: line {number} isn't a fingerprint and a name")
+    if not STARTED_LINE.fullmatch(rest) and not any(each.startswith(rest) for each in HEADINGS):
+        raise Failure(f"{name}: not a manifest: its last line isn't a fingerprint and a name")
+    pairs = [Line(line[:64].decode(), os.fsdecode(line[66:])) for line in lines]
+    return Content((flags or ()) if whole else None, pairs)
+
+
+def read(name: str) -> bytes:
+    """The bytes of a manifest, which must be a regular file."""
+    try:
+        if not stat.S_ISREG(os.stat(name).st_mode):
+            raise Failure(f"{name}: not a manifest: it isn't a regular file")
+        with open(name, "rb") as file:
+            return file.read()
+    except OSError as error:
+        raise Failure(f"{name}: {reason(error)}") from None
+
+
+def loaded(name: str) -> Content:
+    """A whole manifest, with at least one county. Raises Failure."""
+    text = read(name)
+    content = parsed(name, text)
+    if text and not text.endswith(b"\n"):
+        raise Failure(f"{name}: its last line is cut off; let the run that writes it finish first")
+    if not content.lines:
+        raise Failure(f"{name}: the manifest is empty")
+    return content
+
+
+def agreed(name: str, made: tuple[str, ...] | None, asked: tuple[str, ...]) -> None:
+    """Raises Failure if a manifest was made with other flags."""
+    if made is not None and made != asked:
+        have, want = " ".join(made) or "no flags", " ".join(asked) or "no flags"
+        raise Failure(f"{name}: made with {have}, but this run has {want}")
+
+
+def key_of(stem: str) -> str:
+    """The name that matches counties of two manifests: without folder, case and ending."""
+    return os.path.splitext(stem.rpartition("/")[2])[0].upper()
+
+
+class Change(NamedTuple):
+    """A county of two manifests. first and second are its stems in them."""
+
+    kind: str
+    name: str
+    first: str | None
+    second: str | None
+
+
+def by_key(name: str, content: Content) -> "dict[str, Line]":
+    """The counties of a manifest by the names that they are matched by. Raises Failure if two have one name."""
+    found: "dict[str, Line]" = {}
+    for line in content.lines:
+        first = found.setdefault(key_of(line.stem), line)
+        if first is not line:
+            raise Failure(f"{name}: {first.stem} and {line.stem} have the same name, so counties can't be matched by it")
+    return found
+
+
+def changes(old_name: str, new_name: str) -> list[Change]:
+    """How the counties of two manifests compare, in the order of their names."""
+    old, new = loaded(old_name), loaded(new_name)
+    if old.flags != new.flags:
+        made = [" ".join(content.flags or ()) or "no flags" for content in (old, new)]
+        raise Failure(f"{old_name} was made with {made[0]} and {new_name} with {made[1]}: their fingerprints can't be compared")
+    first, second = by_key(old_name, old), by_key(new_name, new)
+    return [change_of(name, first.get(name), second.get(name)) for name in sorted({*first, *second})]
+
+
+def change_of(name: str, first: Line | None, second: Line | None) -> Change:
+    if first is None or second is None:
+        kind = "added" if first is None else "removed"
+    else:
+        kind = "same" if first.fingerprint == second.fingerprint else "changed"
+    return Change(kind, name, first and first.stem, second and second.stem)
+
+
+def duplicates(lines: Sequence[Line]) -> list[list[Line]]:
+    """The counties that are one map with another one, in groups."""
+    groups: "dict[str, list[Line]]" = {}
+    for line in lines:
+        groups.setdefault(line.fingerprint, []).append(line)
+    return [group for group in groups.values() if len(group) > 1]
+
+
+class Manifest:
+    """A manifest that is written to, under its lock."""
+
+    def __init__(self, name: str, flags: tuple[str, ...], own: Own) -> None:
+        self.name, self.flags, self.own = name, flags, own
+        self.place = os.path.realpath(name)
+        self.handle: int | None = None
+        self.lines: list[Line] = []
+
+    def open(self) -> None:
+        """Reads the existing manifest, and puts it in order. Raises Failure."""
+        if os.path.lexists(self.place):
+            text = read(self.name)
+            content = parsed(self.name, text)
+            agreed(self.name, content.flags, self.flags)
+            self.lines = content.lines
+            self.start_writing()
+            if text:
+                self.put_in_order()
+
+    def start_writing(self) -> None:
+        try:
+            self.handle = os.open(self.place, os.O_WRONLY | os.O_APPEND | os.O_CREAT, 0o666)
+        except OSError as error:
+            raise self.failure(error) from None
+
+    def failure(self, error: OSError) -> Failure:
+        return Failure(f"{self.name}: can't be written: {reason(error)}")
+
+    def add(self, line: Line) -> None:
+        """Adds a county, whose line is written at once: the whole of it or nothing."""
+        with self.own.lock:
+            if self.handle is None:
+                self.start_writing()
+            assert self.handle is not None
+            text = os.fsencode(f"{line}\n")
+            before = os.fstat(self.handle).st_size
+            if before == 0:
+                text = f"{heading(self.flags)}\n".encode() + text
+            try:
+                write_all(self.handle, text)
+            except OSError as error:
+                os.ftruncate(self.handle, before)
+                raise self.failure(error) from None
+            self.lines.append(line)
+
+    def put_in_order(self) -> None:
+        """Puts the counties in order by a copy, which takes the manifest's place once it is whole."""
+        if self.handle is None or not self.lines:
+            return
+        self.lines.sort(key=lambda line: (os.fsencode(line.stem), line.fingerprint))
+        text = "".join(f"{line}\n" for line in [heading(self.flags), *self.lines])
+        copy = f"{self.place}.new"
+        with self.own.at_end(lambda: discard(copy)):
+            try:
+                with open(copy, "wb") as file:
+                    file.write(os.fsencode(text))
+                    file.flush()
+                    os.fsync(file.fileno())
+                shutil.copymode(self.place, copy)
+                with self.own.lock:
+                    os.replace(copy, self.place)
+            except OSError as error:
+                raise self.failure(error) from None
+        self.close()
+        self.start_writing()
+
+    def close(self) -> None:
+        if self.handle is not None:
+            os.close(self.handle)
+            self.handle = None
+
+
+def write_all(handle: int, text: bytes) -> None:
+    while text:
+        text = text[os.write(handle, text) :]
+
+
+def discard(path: str) -> None:
+    try:
+        os.unlink(path)
+    except OSError:
+        pass
+
+
+def see_that_it_may_be_a_manifest(name: str) -> None:
+    """Keeps a county's file from being taken for a manifest, as when the manifest's name was forgotten."""
+    if RECORD_FILE.fullmatch(name) or ZIP_FILE.fullmatch(name):
+        raise Failure(f"{name}: has the name of a county's file, and isn't overwritten by a manifest")
+    folder = os.path.dirname(os.path.realpath(name))
+    if not os.path.isdir(folder):
+        raise Failure(f"{name}: can't be written: there is no folder {folder}")
+
+
+@contextmanager
+def written(name: str, flags: tuple[str, ...], own: Own) -> Iterator[Manifest]:
+    """A manifest to write to. No other run writes to it meanwhile."""
+    see_that_it_may_be_a_manifest(name)
+    lock = Lock(name)
+    with own.at_end(lock.give_back):
+        with own.lock:
+            lock.take()
+        manifest = Manifest(name, flags, own)
+        try:
+            manifest.open()
+            yield manifest
+            manifest.put_in_order()
+        finally:
+            manifest.close()
+
+
+class Lock:
+    """The lock of a manifest: the file MANIFEST.lock, locked, with a line that names the process that has it."""
+
+    def __init__(self, name: str) -> None:
+        self.name, self.path = name, f"{os.path.realpath(name)}.lock"
+        self.handle: int | None = None
+
+    def take(self) -> None:
+        """Takes the lock. It waits a little, since a verification has it for a moment."""
+        while self.handle is None:
+            try:
+                handle = os.open(self.path, os.O_RDWR | os.O_CREAT | os.O_NONBLOCK, 0o666)
+            except OSError as error:
+                raise Failure(f"{self.name}.lock: can't be written: {reason(error)}") from None
+            try:
+                self.see_that_it_is_a_lock(handle)
+                self.lock(handle, fcntl.LOCK_EX, PATIENCE_FOR_LOCK)
+                if self.is_of_this_name(handle):
+                    self.handle = handle
+            finally:
+                if self.handle is None:
+                    os.close(handle)
+        os.ftruncate(self.handle, 0)
+        os.pwrite(self.handle, f"process {os.getpid()} on {socket.gethostname()}\n".encode(), 0)
+
+    def respect(self) -> None:
+        """Raises Failure if a run writes to the manifest."""
+        try:
+            handle = os.open(self.path, os.O_RDONLY | os.O_NONBLOCK)
+        except OSError:
+            return
+        try:
+            self.lock(handle, fcntl.LOCK_SH, 0)
+        finally:
+            os.close(handle)
+
+    def give_back(self) -> None:
+        """Removes the file while it is locked: another run that has opened it finds that it is no longer the file of that name."""
+        if self.handle is not None:
+            discard(self.path)
+            os.close(self.handle)
+            self.handle = None
+
+    def lock(self, handle: int, how: int, patience: float) -> None:
+        until = time.monotonic() + patience
+        while True:
+            try:
+                fcntl.flock(handle, how | fcntl.LOCK_NB)
+                return
+            except BlockingIOError:
+                if time.monotonic() >= until:
+                    raise Failure(f"{self.name}: another run writes to it: {self.holder()}") from None
+                time.sleep(0.02)
+            except OSError as error:
+                raise Failure(f"{self.name}.lock: can't be locked: {reason(error)}") from None
+
+    def holder(self) -> str:
+        try:
+            with open(self.path, encoding="utf-8", errors="replace") as file:
+                return file.readline().strip() or "an unknown process"
+        except OSError:
+            return "an unknown process"
+
+    def see_that_it_is_a_lock(self, handle: int) -> None:
+        """Leaves a file of the user's that has such a name alone."""
+        status = os.fstat(handle)
+        lines = os.pread(handle, status.st_size, 0).splitlines() if stat.S_ISREG(status.st_mode) else [b""]
+        if not all(map(LOCK_LINE.match, lines)):
+            raise Failure(f"{self.name}.lock: isn't the lock of {self.name} but another file: move it away")
+
+    def is_of_this_name(self, handle: int) -> bool:
+        try:
+            return os.path.samestat(os.stat(self.path), os.fstat(handle))
+        except FileNotFoundError:
+            return False

@@ -1,0 +1,164 @@
+"""The processes and folders that a run has started or made: none of them outlives it."""
+
+from __future__ import annotations
+
+import fcntl
+import os
+import shutil
+import signal
+import subprocess
+import tempfile
+import threading
+import time
+from contextlib import contextmanager
+from dataclasses import dataclass
+from typing import Callable, Iterator, Sequence
+
+PREFIX = "tigercanon-"
+VARIABLE = "TIGERCANON_SHM"
+IN_MEMORY = "/dev/shm"
+"""The folder in memory, if the variable doesn't name another one; an empty variable means none."""
+
+SPARE = 64 << 20
+"""Folders are made in memory only if this many bytes stay free there."""
+
+STALE = 60.0
+"""A folder that nobody holds is removed by a later run once it is this many seconds old."""
+
+PATIENCE = 0.3
+"""A thread that is printing or writing keeps the end of the run waiting for at most this many seconds."""
+
+
+@dataclass(frozen=True)
+class Ended:
+    """How a process ended."""
+
+    status: int
+    out: bytes
+    err: bytes
+
+
+class Own:
+    """What belongs to a run. Whatever is started or made is noted under the lock; end() takes the lock and never returns it,
+    so that nothing new is started afterwards."""
+
+    def __init__(self) -> None:
+        self.lock = threading.RLock()
+        self.children: set[subprocess.Popen[bytes]] = set()
+        self.folders: dict[str, int] = {}
+        self.last: list[Callable[[], None]] = []
+
+    def run(self, words: Sequence[str], environment: dict[str, str], memory: int | None) -> Ended:
+        """Runs a program in a session of its own, so that all of it can be ended. memory limits its address space."""
+        pipe, nothing = subprocess.PIPE, subprocess.DEVNULL
+        if memory is not None:
+            words = ["/bin/sh", "-c", f'ulimit -v {memory // 1024} && exec "$@"', "sh", *words]
+        with self.lock:
+            child = subprocess.Popen(words, stdin=nothing, stdout=pipe, stderr=pipe, env=environment, start_new_session=True)
+            self.children.add(child)
+        try:
+            out, err = child.communicate()
+        finally:
+            with self.lock:
+                self.children.discard(child)
+        return Ended(child.returncode, out, err)
+
+    @contextmanager
+    def folder(self, size: int) -> Iterator[str]:
+        """A temporary folder, in memory if this many bytes fit there, else where TMPDIR says."""
+        with self.lock:
+            path = tempfile.mkdtemp(prefix=PREFIX, dir=room_for(size))
+            self.folders[path] = held(path)
+        try:
+            yield path
+        finally:
+            with self.lock:
+                remove(path)
+                os.close(self.folders.pop(path))
+
+    @contextmanager
+    def at_end(self, action: Callable[[], None]) -> Iterator[None]:
+        """Has an action done at the end of the block, or when a signal ends the run before."""
+        with self.lock:
+            self.last.append(action)
+        try:
+            yield
+        finally:
+            with self.lock:
+                self.last.remove(action)
+                action()
+
+    def end(self) -> None:
+        """Ends the processes and removes the folders. Nothing can be started or made afterwards."""
+        self.lock.acquire(timeout=PATIENCE)
+        for child in self.children:
+            kill(child)
+        for path in list(self.folders):
+            remove(path)
+        for action in reversed(self.last):
+            action()
+
+
+PROCESS = Own()
+"""What belongs to this process. Tasks on the workers of a cluster have some of their own."""
+
+
+def kill(child: subprocess.Popen[bytes]) -> None:
+    """Kills a process and all that it started."""
+    try:
+        os.killpg(child.pid, signal.SIGKILL)
+    except (ProcessLookupError, PermissionError):
+        pass
+
+
+def remove(path: str) -> None:
+    """Removes a folder, into which another thread may still write."""
+    for _ in range(20):
+        shutil.rmtree(path, ignore_errors=True)
+        if not os.path.lexists(path):
+            return
+        time.sleep(0.01)
+
+
+def room_for(size: int) -> str | None:
+    """The folder in memory, if this many bytes fit there; None is where TMPDIR says."""
+    room = os.environ.get(VARIABLE, IN_MEMORY)
+    try:
+        return room if room and shutil.disk_usage(room).free >= size + SPARE else None
+    except OSError:
+        return None
+
+
+def held(path: str) -> int:
+    """Opens and locks a folder: while it is locked, no other run removes it."""
+    handle = os.open(path, os.O_RDONLY | os.O_DIRECTORY)
+    fcntl.flock(handle, fcntl.LOCK_EX)
+    return handle
+
+
+def remove_stale_folders() -> None:
+    """Removes the folders of runs that were killed."""
+    for room in {os.environ.get(VARIABLE, IN_MEMORY), tempfile.gettempdir()}:
+        try:
+            names = [name for name in os.listdir(room) if name.startswith(PREFIX)]
+        except OSError:
+            continue
+        for name in names:
+            remove_if_stale(os.path.join(room, name))
+
+
+def remove_if_stale(path: str) -> None:
+    try:
+        status = os.lstat(path)
+        if status.st_uid != os.geteuid() or time.time() - status.st_mtime < STALE:
+            return
+        handle = os.open(path, os.O_RDONLY | os.O_DIRECTORY | os.O_NOFOLLOW)
+    except OSError:
+        return
+    try:
+        fcntl.flock(handle, fcntl.LOCK_EX | fcntl.LOCK_NB)
+        remove(path)
+    except OSError:
+        pass  # a run holds it
+    finally:
+        os.close(handle)

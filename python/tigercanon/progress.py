@@ -1,0 +1,122 @@
+"""What a run reports on standard error: lines, its progress and its end."""
+
+from __future__ import annotations
+
+import logging
+import sys
+import time
+from collections import Counter
+from typing import Any
+
+from .errors import printable
+
+PAUSE = 10.0
+"""Seconds between two lines of progress if standard error isn't a terminal."""
+
+LOG = logging.getLogger("tigercanon-tools")
+
+
+class Lines(logging.Handler):
+    """Writes messages to standard error, above a progress bar if there is one. What can't be written is dropped."""
+
+    bar: Any = None
+
+    def emit(self, record: logging.LogRecord) -> None:
+        text = f"tigercanon-tools: {record.getMessage()}"
+        try:
+            if Lines.bar is not None:
+                Lines.bar.write(text, file=sys.stderr)
+            else:
+                sys.stderr.write(text + "\n")
+                sys.stderr.flush()
+        except (OSError, ValueError, AttributeError):
+            pass
+
+
+def report(text: str) -> None:
+    """Reports a line on standard error."""
+    LOG.info("%s", printable(text))
+
+
+def amount(count: int) -> str:
+    """A number of bytes in the largest unit that it fills."""
+    for unit, size in (("GB", 10**9), ("MB", 10**6), ("kB", 10**3)):
+        if count >= size:
+            return f"{count / size:,.1f} {unit}"
+    return f"{count:,} bytes"
+
+
+def duration(seconds: float) -> str:
+    """A time in hours, minutes and seconds, without seconds if it has hours."""
+    whole = int(seconds + 0.5)
+    if whole >= 3600:
+        return f"{whole // 3600} h {whole // 60 % 60} min"
+    return f"{whole // 60} min {whole % 60} s" if whole >= 60 else f"{whole} s"
+
+
+class Tally:
+    """The results so far, and the progress of the run."""
+
+    current: "Tally" | None = None
+
+    def __init__(self) -> None:
+        Tally.current = self
+        self.counties = self.ended = self.bytes = self.bytes_in_all = 0
+        self.good = self.failed = 0
+        self.refused: Counter[str] = Counter()
+        self.started = self.reported_at = time.monotonic()
+        self.bar: Any = None
+
+    def start(self, counties: int, bytes_in_all: int) -> None:
+        """What there is to do is known."""
+        self.counties, self.bytes_in_all = counties, bytes_in_all
+        self.bar = Lines.bar = bar_of(counties) if counties else None
+
+    def end(self, size: int) -> None:
+        """One county more is done."""
+        self.ended += 1
+        self.bytes += size
+        if self.bar is not None:
+            self.bar.update()
+
+    def look(self) -> None:
+        """Reports the progress if it is time to."""
+        if self.bar is not None:
+            self.bar.refresh()
+        elif time.monotonic() - self.reported_at >= PAUSE:
+            self.reported_at = time.monotonic()
+            report(self.progress(self.reported_at - self.started))
+
+    def progress(self, took: float) -> str:
+        """How far the run has come, at what rate, and how long the rest will take at this rate."""
+        words = [f"{self.ended:,} of {self.counties:,} counties", f"{amount(self.bytes)} of {amount(self.bytes_in_all)}"]
+        rate = self.bytes / took if took > 0 else 0
+        if rate > 0:
+            words += [f"{amount(int(rate))} a second", f"{duration((self.bytes_in_all - self.bytes) / rate)} left"]
+        return ", ".join([*words, f"{sum(self.refused.values()):,} refused", f"{self.failed:,} failed"])
+
+    def close(self) -> None:
+        if self.bar is not None:
+            self.bar.close()
+        self.bar = Lines.bar = None
+
+    @property
+    def took(self) -> str:
+        return f"{amount(self.bytes)} in {duration(time.monotonic() - self.started)}"
+
+
+def how_far() -> str:
+    """How many counties are done, if there is a run over some."""
+    tally = Tally.current
+    return f": {tally.ended:,} of {tally.counties:,} counties done" if tally else ""
+
+
+def bar_of(counties: int) -> Any | None:
+    """A progress bar, where standard error is a terminal and tqdm is installed."""
+    if sys.stderr is None or not sys.stderr.isatty():
+        return None
+    try:
+        from tqdm import tqdm
+    except ImportError:
+        return None
+    return tqdm(total=counties, unit=" counties", file=sys.stderr, leave=False, dynamic_ncols=True)

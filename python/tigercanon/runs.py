@@ -1,0 +1,294 @@
+"""The commands that judge counties: fingerprint and verify."""
+
+from __future__ import annotations
+
+import argparse
+import os
+from contextlib import closing, contextmanager
+from dataclasses import replace
+from typing import Any, Callable, Iterator, NamedTuple, Sequence
+
+from .counties import Finder
+from .engines import DaskEngine, Gone, LocalEngine
+from .errors import Failure
+from .judge import Answer, County, Order
+from .manifest import Line, Lock, Manifest, agreed, duplicates, flags_of, heading, loaded, written
+from .own import PROCESS, remove_stale_folders
+from .printing import print_json, print_lines
+from .program import find_program
+from .progress import Tally, report
+from .storage import joined, tidy
+
+
+class Result(NamedTuple):
+    """A county and the answer for it."""
+
+    county: County
+    answer: Answer
+
+    @property
+    def remarks(self) -> str:
+        """What is reported of the county: why it has no fingerprint, and notes about its files."""
+        first = [] if self.answer.kind == "made" else [self.answer.text]
+        return "; ".join([*first, *self.answer.notes])
+
+
+def order_of(options: argparse.Namespace, flags: tuple[str, ...], is_strict: bool = False) -> Order:
+    """How counties are judged. On a cluster the program need not be on this machine."""
+    try:
+        program = options.program if options.scheduler and options.program else find_program(options.program)
+    except Failure:
+        if not options.scheduler:
+            raise
+        program = "tigercanon"
+    return Order(program, flags, is_strict, options.largest, options.memory)
+
+
+@contextmanager
+def engine_of(options: argparse.Namespace) -> Iterator[DaskEngine | LocalEngine]:
+    remove_stale_folders()
+    engine: DaskEngine | LocalEngine = LocalEngine(options.jobs, PROCESS)
+    if options.scheduler:
+        engine = DaskEngine(options.scheduler)
+    with closing(engine):
+        yield engine
+
+
+class Run:
+    """Counties that are being judged, and the tally of them. take gets each result, and returns the report about it."""
+
+    def __init__(self, options: argparse.Namespace, take: Callable[[int, Result], str]) -> None:
+        self.options, self.take = options, take
+        self.tally = Tally()
+        self.gone = ""
+
+    def judge(self, counties: list[County], order: Callable[[], Order]) -> None:
+        """Judges the counties. Those that can't be judged are reported first."""
+        self.tally.start(len(counties), sum(county.size for county in counties))
+        try:
+            for number, county in enumerate(counties):
+                if county.trouble:
+                    self.end(number, Result(county, Answer("failed", county.trouble)))
+            left = [number for number, county in enumerate(counties) if not county.trouble]
+            if left:
+                self.judge_files(counties, left, order())
+        finally:
+            self.tally.close()
+
+    def judge_files(self, counties: list[County], left: list[int], order: Order) -> None:
+        with engine_of(self.options) as engine:
+            try:
+                for result in engine.answers([counties[number] for number in left], order):
+                    if result:
+                        number = left[result[0]]
+                        self.end(number, Result(counties[number], result[1]))
+                    self.tally.look()
+            except Gone as gone:
+                self.gone = str(gone)
+
+    def end(self, number: int, result: Result) -> None:
+        if result.answer.kind == "refused":
+            self.tally.refused[rule_of(result.answer.text)] += 1
+        elif result.answer.kind != "made":
+            self.tally.failed += 1
+        remarks = self.take(number, result)
+        if remarks:
+            report(f"{result.county.stem}: {remarks}")
+        self.tally.end(result.county.size)
+
+    @property
+    def missing(self) -> int:
+        """How many counties weren't judged, because the engine is gone."""
+        return self.tally.counties - self.tally.ended
+
+    def report_refusals(self) -> None:
+        rules = sorted(self.tally.refused.items(), key=lambda item: (-item[1], item[0]))
+        if rules:
+            report(f"refused: {', '.join(f'{count:,} by {rule}' for rule, count in rules)}")
+        if self.gone:
+            report(f"{self.gone}: {self.missing:,} counties are left; run the same command again to do them")
+
+
+def rule_of(line: str) -> str:
+    """The rule that refuses a county: the number and name in the program's line, or the flag."""
+    return "--strict" if line.startswith("rejected") else " ".join(line.split()[1:3])
+
+
+def counted(count: int, noun: str = "county", nouns: str = "counties") -> str:
+    return f"{count:,} {noun if count == 1 else nouns}"
+
+
+def report_finds(finder: Finder) -> None:
+    """Reports what was found and isn't judged."""
+    for stem, first in finder.same:
+        report(f"{stem}: the same file as {first}, which is counted once")
+    if finder.passed_over:
+        found = ", ".join(f"{count:,} {ending}" for ending, count in sorted(finder.passed_over.items()))
+        report(f"passed over: {counted(sum(finder.passed_over.values()), 'file', 'files')} ({found})")
+
+
+class InOrder:
+    """Prints lines in the order of their numbers, each as soon as those before it are there. None prints nothing."""
+
+    def __init__(self) -> None:
+        self.waiting: dict[int, str | None] = {}
+        self.next = 0
+
+    def put(self, number: int, line: str | None) -> None:
+        self.waiting[number] = line
+        ready: list[str | None] = []
+        while self.next in self.waiting:
+            ready.append(self.waiting.pop(self.next))
+            self.next += 1
+        print_lines(line for line in ready if line is not None)
+
+
+class Fingerprints:
+    """The command fingerprint."""
+
+    def __init__(self, options: argparse.Namespace) -> None:
+        self.options, self.flags = options, flags_of(options)
+        self.manifest: Manifest | None = None
+        self.rows: dict[int, dict[str, Any]] = {}
+        self.printer = InOrder()
+        self.run = Run(options, self.take)
+
+    def __call__(self) -> int:
+        see_names([*self.options.sources, *([self.options.output] if self.options.output else [])])
+        if self.options.output is None:
+            return self.make()
+        with written(self.options.output, self.flags, PROCESS) as self.manifest:
+            status = self.make()
+        self.report_duplicates()
+        return status
+
+    def make(self) -> int:
+        finder = Finder()
+        known = {tidy(line.stem) for line in self.manifest.lines} if self.manifest else set()
+        counties, before = finder.counties(self.options.sources, known.__contains__)
+        if self.manifest:
+            counties.sort(key=lambda county: -county.size)  # the largest first: the end isn't a wait for one of them
+        else:
+            counties.sort(key=lambda county: os.fsencode(county.stem))
+            if not self.options.json:
+                print_lines([heading(self.flags)])
+        report_finds(finder)
+        del finder  # and what it has listed
+        self.run.judge(counties, lambda: order_of(self.options, self.flags, self.options.strict))
+        if self.options.json:
+            print_json([self.rows[number] for number in sorted(self.rows)])
+        self.report_end(before)
+        return int(self.run.missing > 0 or self.run.tally.failed > 0 or bool(self.run.tally.refused))
+
+    def take(self, number: int, result: Result) -> str:
+        line = None
+        if result.answer.kind == "made":
+            self.run.tally.good += 1
+            line = Line(result.answer.text, result.county.stem)
+        if line and self.manifest:
+            self.manifest.add(line)
+        if self.options.json:
+            self.rows[number] = self.described(result)
+        elif not self.manifest:
+            self.printer.put(number, line and str(line))
+        return result.remarks
+
+    def described(self, result: Result) -> dict[str, Any]:
+        """A county in JSON."""
+        answer, made = result.answer, result.answer.kind == "made"
+        return {
+            "county": result.county.stem,
+            "fingerprint": answer.text if made else None,
+            "reason": None if made else answer.text,
+            "notes": list(answer.notes),
+        }
+
+    def report_end(self, before: int) -> None:
+        tally = self.run.tally
+        there = [f"{before:,} in the manifest already"] if before else []
+        words = [*there, f"{tally.good:,} new" if self.manifest else f"{tally.good:,} fingerprints"]
+        words += [f"{sum(tally.refused.values()):,} refused", f"{tally.failed:,} failed"]
+        report(f"{counted(tally.counties + before)}: {', '.join(words)}; {tally.took}")
+        self.run.report_refusals()
+
+    def report_duplicates(self) -> None:
+        groups = duplicates(self.manifest.lines) if self.manifest else []
+        if groups:
+            count = sum(map(len, groups))
+            report(f"{count:,} counties in the manifest share their map with another one: see the command duplicates")
+
+
+class Verification:
+    """The command verify."""
+
+    def __init__(self, options: argparse.Namespace) -> None:
+        self.options = options
+        self.lines: list[Line] = []
+        self.rows: dict[int, dict[str, str]] = {}
+        self.printer = InOrder()
+        self.counts = {"OK": 0, "FAILED": 0, "MISSING": 0, "NEW": 0}
+        self.run = Run(options, self.take)
+
+    def __call__(self) -> int:
+        see_names([self.options.manifest, *self.options.sources])
+        Lock(self.options.manifest).respect()
+        content = loaded(self.options.manifest)
+        asked = flags_of(self.options)
+        if asked:
+            agreed(self.options.manifest, content.flags, asked)
+        self.lines = content.lines
+        finder = Finder()
+        counties = [finder.of_name(self.place(line.stem)) for line in self.lines]
+        counties += self.new_counties(finder, {tidy(county.stem) for county in counties})
+        self.run.judge(counties, lambda: order_of(self.options, content.flags or ()))
+        return self.finish()
+
+    def place(self, stem: str) -> str:
+        """Where a county of the manifest lies."""
+        return joined(self.options.root, stem) if self.options.root else stem
+
+    def new_counties(self, finder: Finder, known: "set[str]") -> list[County]:
+        """The counties of the sources that the manifest doesn't have. They aren't judged."""
+        found, _ = Finder().counties(self.options.sources, known.__contains__)
+        new = [county for county in found if not county.trouble]
+        troubled = [county for county in found if county.trouble]
+        for county in troubled:
+            report(f"{county.stem}: {county.trouble}")
+        if troubled:
+            raise Failure("not every source can be read")
+        return [replace(county, trouble="not in the manifest") for county in new]
+
+    def take(self, number: int, result: Result) -> str:
+        kind, remarks = self.verdict(number, result)
+        self.counts[kind] += 1
+        name = self.lines[number].stem if number < len(self.lines) else result.county.stem
+        is_shown = kind != "OK" or not self.options.quiet
+        if not self.options.json:
+            self.printer.put(number, f"{name}: {kind}" if is_shown else None)
+        elif is_shown:
+            self.rows[number] = {"county": name, "verdict": kind, "remarks": remarks}
+        return remarks
+
+    def verdict(self, number: int, result: Result) -> tuple[str, str]:
+        if number >= len(self.lines):
+            return "NEW", result.remarks
+        if result.county.is_absent:
+            return "MISSING", result.remarks
+        if result.answer.kind == "made" and result.answer.text == self.lines[number].fingerprint:
+            return "OK", result.remarks
+        return "FAILED", result.remarks if result.answer.kind != "made" else "another map"
+
+    def finish(self) -> int:
+        if self.options.json:
+            print_json([self.rows[number] for number in sorted(self.rows)])
+        counts = ", ".join(f"{count:,} {kind}" for kind, count in self.counts.items() if count or kind == "OK")
+        report(f"{counted(sum(self.counts.values()))}: {counts}; {self.run.tally.took}")
+        self.run.report_refusals()
+        return int(self.run.missing > 0 or self.counts["OK"] < sum(self.counts.values()))
+
+
+def see_names(names: Sequence[str]) -> None:
+    """Raises Failure for a name that can't be one of a file."""
+    for name in names:
+        if not name or "\n" in name:
+            raise Failure("a name is empty or has a line break in it")

@@ -1,0 +1,136 @@
+"""Folders and files, on this machine or at a URL that fsspec reads."""
+
+from __future__ import annotations
+
+import errno
+import os
+import stat
+import time
+from typing import Any, NamedTuple
+
+from .errors import Failure, reason
+
+PAUSES = (0.5, 2.0)
+"""Seconds between the three attempts to read a file at a URL."""
+
+NO_ROOM = (errno.ENOSPC, errno.EDQUOT, errno.EFBIG)
+
+
+class Entry(NamedTuple):
+    """A name in a folder, and the size of a file if the store reports it. trouble says why it can't be read as a file."""
+
+    name: str
+    is_folder: bool
+    size: int | None
+    trouble: str = ""
+    is_link: bool = False
+
+
+def is_url(path: str) -> bool:
+    return "://" in path
+
+
+def joined(folder: str, name: str) -> str:
+    """The path of a name in a folder. The empty folder is the current one."""
+    return f"{folder}{'' if not folder or folder.endswith('/') else '/'}{name}"
+
+
+def parted(path: str) -> tuple[str, str]:
+    """The folder of a path and the name in it: the inverse of `joined`."""
+    folder, slash, name = path.rpartition("/")
+    return (folder + slash if not folder or folder.endswith((":/", "://")) else folder), name
+
+
+def tidy(path: str) -> str:
+    """The path without `.`, empty parts and a slash at the end, so that one file has one name in a manifest."""
+    if is_url(path):
+        return path.rstrip("/")
+    parts = [part for part in path.split("/") if part not in ("", ".")]
+    return ("/" if path.startswith("/") else "") + "/".join(parts)
+
+
+class Folders:
+    """The folders that were listed. None is listed twice."""
+
+    def __init__(self) -> None:
+        self.known: dict[str, list[Entry]] = {}
+
+    def entries(self, folder: str) -> list[Entry]:
+        """The entries of a folder in the order of their names. Raises OSError, or what fsspec raises."""
+        if folder not in self.known:
+            found = remote_entries(folder) if is_url(folder) else local_entries(folder)
+            self.known[folder] = sorted(found, key=lambda entry: os.fsencode(entry.name))
+        return self.known[folder]
+
+
+def local_entries(folder: str) -> list[Entry]:
+    with os.scandir(folder or ".") as items:
+        return [local_entry(item) for item in items]
+
+
+def local_entry(item: os.DirEntry[str]) -> Entry:
+    try:
+        status = item.stat()
+    except OSError as error:
+        return Entry(item.name, False, None, f"can't be read: {reason(error)}", item.is_symlink())
+    if stat.S_ISDIR(status.st_mode):
+        return Entry(item.name, True, None)
+    trouble = "" if stat.S_ISREG(status.st_mode) else "isn't a regular file"
+    return Entry(item.name, False, status.st_size, trouble, item.is_symlink())
+
+
+def system_of(url: str) -> tuple[Any, str]:
+    """The file system of a URL, and the path in it."""
+    try:
+        import fsspec
+    except ImportError:
+        raise Failure(f"{url} needs the Python package fsspec (Debian: python3-fsspec)") from None
+    system, path = fsspec.core.url_to_fs(url)
+    return system, path
+
+
+def remote_entries(folder: str) -> list[Entry]:
+    system, path = system_of(folder)
+    own = path.rstrip("/")
+    return [
+        Entry(item["name"].rstrip("/").rpartition("/")[2], item["type"] == "directory", item.get("size"))
+        for item in system.ls(path, detail=True)
+        if item["name"].rstrip("/") != own
+    ]
+
+
+def is_folder(path: str) -> bool:
+    if not is_url(path):
+        return os.path.isdir(path)
+    system, inner = system_of(path)
+    return bool(system.isdir(inner))
+
+
+def real(path: str) -> str:
+    """A name that a folder or file has once, whichever links lead to it."""
+    return path if is_url(path) else os.path.realpath(path)
+
+
+class Broken(Exception):
+    """A file at a URL can't be read. The text says why."""
+
+
+def fetch(url: str, size: int | None, target: str) -> None:
+    """Copies a file from a URL, in at most three attempts. Raises Broken, and OSError if the copy can't be written."""
+    system, path = system_of(url)
+    for pause in (*PAUSES, None):
+        try:
+            system.get_file(path, target)
+            came = os.path.getsize(target)
+            if size is None or came >= size:
+                return
+            why = f"only {came} of its {size} bytes came"
+        except MemoryError:
+            raise
+        except Exception as error:
+            if getattr(error, "errno", None) in NO_ROOM:
+                raise
+            why = reason(error)
+        if pause is not None:
+            time.sleep(pause)
+    raise Broken(f"can't be read: {why} (three attempts)")

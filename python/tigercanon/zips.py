@@ -1,0 +1,95 @@
+"""Zips as they are distributed: the files of the one county in a zip, unpacked under the names that the program reads."""
+
+from __future__ import annotations
+
+import zipfile
+from typing import Iterator
+
+from .layout import TYPES, file_name
+
+END_OF_DIRECTORY = b"PK\5\6"
+LONGEST_END = 65557
+PIECE = 1 << 20
+
+Members = dict[str, zipfile.ZipInfo]
+
+
+class BadZip(Exception):
+    """A zip isn't the zip of one county. The text says why."""
+
+
+def opened(path: str) -> zipfile.ZipFile:
+    """Opens a zip. Raises BadZip if it isn't one, and OSError if it can't be read."""
+    try:
+        return zipfile.ZipFile(path)
+    except (OSError, MemoryError):
+        raise
+    except Exception:
+        raise BadZip(trouble_with(path)) from None
+
+
+def trouble_with(path: str) -> str:
+    """Why the directory of a zip can't be read."""
+    with open(path, "rb") as file:
+        if file.read(2) != b"PK":
+            return "it isn't a zip"
+        file.seek(max(0, file.seek(0, 2) - LONGEST_END))
+        if END_OF_DIRECTORY not in file.read():
+            return "the zip is cut off"
+    return "the zip is broken: its directory can't be read"
+
+
+def members_of(archive: zipfile.ZipFile) -> Members:
+    """The files of the one county in a zip by their types, in either case of their names. Raises BadZip."""
+    counties: dict[str, dict[str, list[zipfile.ZipInfo]]] = {}
+    for member in archive.infolist():
+        name = member.filename.upper()
+        if name[-4:-1] == ".RT" and name[-1] in TYPES:
+            counties.setdefault(name[:-4], {}).setdefault(name[-1], []).append(member)
+    if not counties:
+        raise BadZip("the zip has no county in it")
+    if len(counties) > 1:
+        names = ", ".join(sorted(ascii(name)[1:-1] for name in counties)[:3])
+        raise BadZip(f"the zip has {len(counties)} counties in it: {names}")
+    members = counties.popitem()[1]
+    for kind, found in members.items():
+        if len(found) > 1:
+            raise BadZip(f"the zip has {len(found)} files .RT{kind}")
+        if found[0].flag_bits & 1:
+            raise BadZip("the zip is locked with a password")
+    return {kind: members[kind][0] for kind in TYPES if kind in members}
+
+
+def unpacked_size(members: Members) -> int:
+    """The bytes that the files have according to the zip's directory."""
+    return sum(member.file_size for member in members.values())
+
+
+def unpack(archive: zipfile.ZipFile, members: Members, stem: str) -> None:
+    """Unpacks the files under the names of a stem. Raises BadZip, and OSError if they can't be written."""
+    for kind, member in members.items():
+        with open(file_name(stem, kind), "wb") as target:
+            for piece in pieces_of(archive, member):
+                target.write(piece)
+
+
+def pieces_of(archive: zipfile.ZipFile, member: zipfile.ZipInfo) -> Iterator[bytes]:
+    """The bytes of a file in a zip, and never more than the directory announces."""
+    name = ascii(member.filename)[1:-1]
+    left = member.file_size
+    try:
+        with archive.open(member) as source:
+            while piece := source.read(PIECE):
+                left -= len(piece)
+                if left < 0:
+                    break
+                yield piece
+    except (MemoryError, GeneratorExit):
+        raise
+    except NotImplementedError:
+        raise BadZip(f"the zip can't be unpacked: {name} is compressed by an unknown method") from None
+    except Exception:
+        # The archive can be read, so whatever goes wrong is wrong with these bytes.
+        raise BadZip(f"the zip is broken at {name}") from None
+    if left != 0:
+        raise BadZip(f"the zip is broken at {name}")

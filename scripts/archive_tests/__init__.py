@@ -1,1 +1,0 @@
-"""The tests of scripts/fingerprint-archive."""

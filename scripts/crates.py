@@ -1,0 +1,146 @@
+"""The crates of the repository as crates.txt has them, and what the libraries were proved from that scripts/prove left."""
+
+from __future__ import annotations
+
+import functools
+import hashlib
+import os
+import re
+import shutil
+from pathlib import Path
+from typing import Dict, List, Optional, Set
+
+ROOT = Path(__file__).resolve().parent.parent
+PARTS = ("src", "specs", "proofs")
+
+
+def folder_of(crate: str) -> Path:
+    return ROOT / "crates" / crate
+
+
+def is_program(crate: str) -> bool:
+    return (folder_of(crate) / "src" / "main.rt").exists()
+
+
+@functools.lru_cache(maxsize=None)
+def sources_of(crate: str) -> List[os.stat_result]:
+    """What the system reports of each of a crate's sources, and of their folders."""
+    parts = (folder_of(crate) / part for part in PARTS)
+    return [file.stat() for part in parts if part.is_dir() for file in (part, *part.rglob("*")) if file.exists()]
+
+
+def kit_of_rt() -> Optional[Path]:
+    """The folder of the kit that rt is of, if it has all that is used of it here."""
+    kit = Path(shutil.which("rt") or "/").resolve().parent.parent
+    parts = ("KIT-ID", "bin/rattle", "bin/rattle-link", "c", "logic_built", "rattle/logic/antt-project.json", "rlibs/std.rlib", "toolchain")
+    return kit if all((kit / part).exists() for part in parts) else None
+
+
+class Crates:
+    """The crates of crates.txt, each with its row and with those that it names."""
+
+    def __init__(self, text: str) -> None:
+        rows = filter(None, (line.partition("#")[0].strip() for line in text.splitlines()))
+        self.rows: Dict[str, str] = {re.split(r"[\s:]", row)[0]: row for row in rows}
+        words = {name: re.split(r"[\s,]+", row.partition(":")[2].strip()) for name, row in self.rows.items()}
+        self.named = {name: self.rows.keys() & set(named) for name, named in words.items()}
+        self.of_kit = {name: [it for it in named if it and it not in self.rows] for name, named in words.items()}
+        self.statics = {name for name, row in self.rows.items() if re.match(r"\S+\s+staticlib\b", row)}
+
+    def below(self, crate: str) -> Set[str]:
+        """All crates that this one depends on."""
+        found: Set[str] = set()
+        left = [*self.named[crate]]
+        while left:
+            it = left.pop()
+            left += self.named[it] - found
+            found |= {it}
+        return found
+
+    def makes_library(self, crate: str) -> bool:
+        """Whether other crates can depend on this one."""
+        return crate not in self.statics and not is_program(crate)
+
+    def wrong_with(self, crate: str) -> str:
+        """Says why this crate can't be proved, if that is known without rt."""
+        if crate not in self.rows:
+            return f"crates.txt has no line for {crate}"
+        for it in sorted(self.below(crate) | {crate}):
+            if it in self.below(it):
+                return f"by crates.txt {it} depends on itself"
+            if not (folder_of(it) / "src").is_dir():
+                return f"there is no folder crates/{it}/src"
+        return ""
+
+    def by_urgency(self, crates: Set[str]) -> List[str]:
+        """These crates, those first that have most to be proved one after the other, from them up. How long that takes is taken to go with
+        the bytes of their sources."""
+        ways: Dict[str, int] = {}
+        for crate in sorted(crates, key=lambda it: -len(self.below(it))):
+            above = (ways[it] for it in crates if crate in self.named[it])
+            ways[crate] = sum(it.st_size for it in sources_of(crate)) + max(above, default=0)
+        return sorted(crates, key=lambda it: -ways[it])
+
+    def is_built(self, crate: str) -> bool:
+        """Whether a library was built after the last change of its sources, and of those that it depends on. That isn't a proof, but rt,
+        which reads them, builds what isn't built before a crate that depends on it."""
+        stamp = folder_of(crate) / "out" / "rlib" / "stamp"
+        sources = [file for it in (crate, *self.below(crate)) for file in sources_of(it)]
+        return stamp.exists() and stamp.stat().st_mtime > max(file.st_mtime for file in sources)
+
+
+class Notes:
+    """What each library was proved from that was built without its proofs, and so isn't rt's."""
+
+    def __init__(self, crates: Crates, kit: Path) -> None:
+        self.crates, self.kit = crates, kit
+
+    def proved_from(self, crate: str) -> str:
+        """One word that changes with the kit, and with each source of a crate and of those that it depends on."""
+        whole = hashlib.sha256((self.kit / "KIT-ID").read_bytes())
+        for it in sorted(self.crates.below(crate) | {crate}):
+            whole.update(self.crates.rows[it].encode() + b"\n")
+            parts = (folder_of(it) / part for part in PARTS)
+            for file in sorted(file for part in parts for file in part.rglob("*") if file.is_file()):
+                whole.update(f"{file.relative_to(ROOT)} {file.stat().st_size}\n".encode() + file.read_bytes())
+        return whole.hexdigest()
+
+    @staticmethod
+    def library(crate: str) -> Path:
+        """The place of a library: in the folder in which rt looks for its own. Without rt's stamp rt doesn't take it."""
+        return folder_of(crate) / "out" / "rlib" / f"{crate}.rlib"
+
+    def note(self, crate: str) -> Path:
+        return self.library(crate).with_name("proved-once-from")
+
+    def is_of_rt(self, crate: str) -> bool:
+        return self.library(crate).with_name("stamp").exists()
+
+    def is_current(self, crate: str) -> bool:
+        """Whether a library was proved from the sources as they are."""
+        note = self.note(crate)
+        return note.exists() and note.read_text() == self.proved_from(crate)
+
+    def write(self, crate: str, proved_from: str) -> None:
+        """Notes what a library was proved from, unless it or one below it was edited meanwhile."""
+        if proved_from == self.proved_from(crate):
+            self.note(crate).write_text(proved_from)
+
+    def libraries(self) -> List[str]:
+        return [it for it in self.crates.rows if self.crates.makes_library(it)]
+
+    def remove_stale(self) -> None:
+        """Removes the libraries that no crate can be proved over, except rt's."""
+        for it in self.libraries():
+            if not self.is_of_rt(it) and not self.is_current(it):
+                shutil.rmtree(self.library(it).parent, ignore_errors=True)
+
+    def lacking(self) -> Dict[str, str]:
+        """The libraries that aren't there, with what each would be proved from now."""
+        return {it: self.proved_from(it) for it in self.libraries() if not self.library(it).parent.exists()}
+
+    def write_for_built(self, proved_from: Dict[str, str]) -> None:
+        """Notes what these libraries were proved from, of those that were built meanwhile."""
+        for it, was in proved_from.items():
+            if self.library(it).exists() and not self.is_of_rt(it):
+                self.write(it, was)

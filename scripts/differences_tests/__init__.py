@@ -1,1 +1,0 @@
-"""The tests of scripts/differences, which scripts/test-differences runs."""

@@ -1,0 +1,105 @@
+"""What the tests in .ci/ and scripts/ and the checks in tools/ share: a count of what passed, runs of programs, and scripts as modules."""
+
+from __future__ import annotations
+
+import hashlib
+import importlib.machinery
+import importlib.util
+import subprocess
+import threading
+from pathlib import Path
+from types import ModuleType
+from typing import NamedTuple, Sequence
+
+ROOT = Path(__file__).resolve().parent.parent
+PROGRAM = ROOT / "crates/tigercanon_main/out/tigercanon_main"
+LENGTHS = {"1": 228, "2": 208, "4": 58, "5": 56, "6": 76, "7": 74, "8": 36, "I": 127, "P": 45}
+TYPES = "".join(LENGTHS)
+"""The record types of the nine files, and the length of a line of each."""
+
+
+class Tally:
+    """Counts what passed, failed and was skipped, and prints what failed and why something was skipped."""
+
+    def __init__(self, what: str = "") -> None:
+        """`what` begins each line that is printed."""
+        self.what = what
+        self.passed = self.failed = self.skipped = 0
+        self.lock = threading.Lock()
+
+    def count(self, is_so: object, message: str) -> bool:
+        """Counts a case, and prints the message if it failed."""
+        with self.lock:
+            self.passed += bool(is_so)
+            self.failed += not is_so
+            if not is_so:
+                print(f"{self.what}{message}", flush=True)
+        return bool(is_so)
+
+    def holds(self, name: str, is_so: object, found: object = "it is not so") -> bool:
+        """A case by its name, with what was found if it failed."""
+        return self.count(is_so, f"{name}: {found}")
+
+    def equal(self, name: str, wanted: object, found: object) -> bool:
+        """A case in which two values must be equal."""
+        return self.count(wanted == found, f"{name}: {shown(found)} in place of {shown(wanted)}")
+
+    def has_no_faults(self, name: str, faults: Sequence[str]) -> bool:
+        """A case that may have several faults. The first three are printed."""
+        more = [f"and {len(faults) - 3} more"] if len(faults) > 3 else []
+        return self.count(not faults, "\n  ".join([name, *filter(None, faults[:3]), *more]))
+
+    def skip(self, reason: str) -> None:
+        """Counts a case that can't be tried here, and prints why."""
+        self.skipped += 1
+        print(f"{self.what or 'tests, '}skipped: {reason}", flush=True)
+
+    def close(self) -> int:
+        """Prints the closing line, and returns the exit status."""
+        print(f"{self.passed} passed, {self.failed} failed{f', {self.skipped} skipped' if self.skipped else ''}")
+        return int(self.failed > 0)
+
+
+def shown(value: object) -> str:
+    text = repr(value)
+    return text if len(text) < 600 else f"{text[:600]}.. ({len(text)} characters)"
+
+
+class Answer(NamedTuple):
+    """The exit status of a program, and what it printed to standard output and standard error."""
+
+    status: int
+    out: bytes
+    err: bytes
+
+
+def run(words: Sequence[object], **how: object) -> Answer:
+    """Runs a program to its end."""
+    called = [word if isinstance(word, bytes) else str(word) for word in words]
+    if "input" not in how:
+        how = {"stdin": subprocess.DEVNULL, **how}
+    done = subprocess.run(called, stdout=subprocess.PIPE, stderr=subprocess.PIPE, check=False, **how)  # type: ignore[call-overload]
+    return Answer(done.returncode, done.stdout, done.stderr)
+
+
+def make_county(*words: object) -> bytes:
+    """Calls make-county, and returns what it prints."""
+    made = subprocess.run([str(word) for word in (ROOT / "tools/make-county", *words)], stdout=subprocess.PIPE, check=True)
+    return made.stdout
+
+
+def sources_line(root: Path) -> str:
+    """The line with which the launcher compares the sources of a tree."""
+    files = [root / "crates.txt", root / "HANDLES"]
+    for part in ("src", "specs"):
+        files += [path for path in root.glob(f"crates/*/{part}/**/*") if path.suffix in (".rt", ".antt")]
+    lines = sorted(f"{hashlib.sha256(path.read_bytes()).hexdigest()}  {path.relative_to(root)}\n" for path in files)
+    return f"{hashlib.sha256(''.join(lines).encode()).hexdigest()}  -"
+
+
+def script(path: str) -> ModuleType:
+    """A script of this repository as a module."""
+    loader = importlib.machinery.SourceFileLoader(Path(path).name.replace("-", "_"), str(ROOT / path))
+    module = importlib.util.module_from_spec(importlib.util.spec_from_loader(loader.name, loader))
+    loader.exec_module(module)
+    return module
