@@ -11,7 +11,7 @@ use Rattle.tl_layout.specs.Type1Groups.{FitsBody1}
 use Rattle.tl_layout.specs.Type7.{FitsType7}
 use Rattle.tl_layout.specs.TypeI.{FitsTypeI}
 use Rattle.tl_layout.specs.declared.mask.Mask.{Mask}
-use Rattle.tl_layout.specs.declared.type1.Body1Fields.{Body1Fields}
+use Rattle.tl_layout.specs.declared.type1.fields.Body1Fields.{Body1Fields}
 use Rattle.tl_layout.specs.declared.type7.Body7.{Body7}
 use Rattle.tl_layout.specs.declared.type_i.BodyI.{BodyI}
 use Rattle.tl_shape.specs.Chain.{Chain}

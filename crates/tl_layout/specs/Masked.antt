@@ -4,7 +4,7 @@ use Rattle.std.specs.Prelude.{false}
 use Rattle.tl_layout.specs.Bytes.{blanks_if}
 use Rattle.tl_layout.specs.Fields.{Fields1, Fields7, FieldsI}
 use Rattle.tl_layout.specs.declared.mask.Mask.{Mask}
-use Rattle.tl_layout.specs.declared.type1.Body1Fields.{Body1Fields}
+use Rattle.tl_layout.specs.declared.type1.fields.Body1Fields.{Body1Fields}
 use Rattle.tl_layout.specs.declared.type7.Body7.{Body7}
 use Rattle.tl_layout.specs.declared.type_i.BodyI.{BodyI}
 

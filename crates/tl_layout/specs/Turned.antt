@@ -3,9 +3,9 @@ use Rattle.std.specs.Prelude.{ℕ, Bool, cond}
 use Rattle.tl_layout.specs.Fields.{Fields1, Fields6, FieldsI}
 use Rattle.tl_layout.specs.declared.pair.LeftRight.{LeftRight}
 use Rattle.tl_layout.specs.declared.ranges.Ranges.{Ranges}
-use Rattle.tl_layout.specs.declared.type1.Body1Fields.{Body1Fields}
-use Rattle.tl_layout.specs.declared.type1.NativeAreas.{NativeAreas}
-use Rattle.tl_layout.specs.declared.type1.GeographicEntities.{GeographicEntities}
+use Rattle.tl_layout.specs.declared.type1.fields.Body1Fields.{Body1Fields}
+use Rattle.tl_layout.specs.declared.type1.fields.NativeAreas.{NativeAreas}
+use Rattle.tl_layout.specs.declared.type1.fields.GeographicEntities.{GeographicEntities}
 
 -- the left and the right field exchanged
 abbrev pub exchanged : {N : ℕ} → LeftRight N → LeftRight N

@@ -3,7 +3,7 @@ use Rattle.std.specs.Prelude.{ℕ, List, [], ◌++◌}
 use Rattle.tl_layout.specs.Bytes.{blanks}
 use Rattle.tl_layout.specs.Columns.{joined}
 use Rattle.tl_layout.specs.Type1Groups.{body_1_at, body_1_texts}
-use Rattle.tl_layout.specs.declared.type1.Body1Fields.{Body1Fields}
+use Rattle.tl_layout.specs.declared.type1.fields.Body1Fields.{Body1Fields}
 
 -- the content in these columns
 abbrev pub body_1_of : List ℕ → Body1Fields

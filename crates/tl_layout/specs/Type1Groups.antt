@@ -7,9 +7,9 @@ use Rattle.tl_layout.specs.FieldTexts.{coordinate_text}
 use Rattle.tl_layout.specs.Pairs.{FitsPair, pair_at, pair_texts}
 use Rattle.tl_layout.specs.Names.{FitsName, feature_name_at, name_texts}
 use Rattle.tl_layout.specs.AddressRanges.{FitsRanges, ranges_at, ranges_texts}
-use Rattle.tl_layout.specs.declared.type1.NativeAreas.{NativeAreas}
-use Rattle.tl_layout.specs.declared.type1.GeographicEntities.{GeographicEntities}
-use Rattle.tl_layout.specs.declared.type1.Body1Fields.{Body1Fields}
+use Rattle.tl_layout.specs.declared.type1.fields.NativeAreas.{NativeAreas}
+use Rattle.tl_layout.specs.declared.type1.fields.GeographicEntities.{GeographicEntities}
+use Rattle.tl_layout.specs.declared.type1.fields.Body1Fields.{Body1Fields}
 
 pub record FitsNativeAreas (areas : NativeAreas) : Type 0 where
   pub aianhhfp : FitsPair 5 areas.aianhhfp

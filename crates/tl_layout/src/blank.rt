@@ -7,7 +7,7 @@ ghost use Rattle.tl_layout.specs.Laws.MaskLaws.{masked_twice_1, masked_twice_7, 
 
 use crate::mask::Mask;
 use crate::type_i::BodyI;
-use crate::type1::Body1;
+use crate::type1::body::Body1;
 use crate::type7::Body7;
 
 /// A content with fields that a mask can leave out.

@@ -3,7 +3,7 @@
 ghost use Rattle.std.specs.Prelude.{◌≡◌};
 ghost use Rattle.tl_layout.specs.ColumnTable.{MasksRows, TurnsRows};
 ghost use Rattle.tl_layout.specs.declared.mask.Mask.{Mask};
-ghost use Rattle.tl_layout.specs.declared.type1.Body1Fields.{Body1Fields};
+ghost use Rattle.tl_layout.specs.declared.type1.fields.Body1Fields.{Body1Fields};
 ghost use Rattle.tl_layout.specs.Fields.{Fields1, Fields2, Fields4, Fields5, Fields6, Fields7, Fields8, FieldsI, FieldsP};
 ghost use Rattle.tl_layout.specs.Masked.{masked_body_1, masked_type_1, masked_type_7, masked_type_i};
 ghost use Rattle.tl_layout.specs.RecordTables.{table_1, table_2, table_4, table_5, table_6, table_7, table_8, table_i, table_p};

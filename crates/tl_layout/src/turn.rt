@@ -7,7 +7,8 @@ ghost use Rattle.tl_layout.specs.Turned.{exchanged, turned_ranges, turned_entiti
 use crate::layout::LONGEST_LINE;
 use crate::pair::LeftRight;
 use crate::ranges::Ranges;
-use crate::type1::{Body1, GeographicEntities};
+use crate::type1::body::Body1;
+use crate::type1::fields::GeographicEntities;
 use crate::writing::write_text;
 use std::mem::swap;
 

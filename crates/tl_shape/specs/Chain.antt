@@ -3,7 +3,7 @@ use Rattle.std.specs.Prelude.{ℕ, List, Option}
 use Rattle.tl_layout.specs.Coordinates.{Coordinates}
 use Rattle.tl_layout.specs.PolygonSide.{PolygonSide}
 use Rattle.tl_layout.specs.declared.ranges.Ranges.{Ranges}
-use Rattle.tl_layout.specs.declared.type1.Body1Fields.{Body1Fields}
+use Rattle.tl_layout.specs.declared.type1.fields.Body1Fields.{Body1Fields}
 use Rattle.tl_layout.specs.declared.type_i.BodyI.{BodyI}
 
 -- a chain without its TLID

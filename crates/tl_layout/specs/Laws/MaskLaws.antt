@@ -2,7 +2,7 @@
 use Rattle.std.proofs.Common.{◌≡◌, refl, Bool, true, false}
 use Rattle.tl_layout.specs.Masked.{masked_body_1, masked_body_7, masked_body_i}
 use Rattle.tl_layout.specs.declared.mask.Mask.{Mask}
-use Rattle.tl_layout.specs.declared.type1.Body1Fields.{Body1Fields}
+use Rattle.tl_layout.specs.declared.type1.fields.Body1Fields.{Body1Fields}
 use Rattle.tl_layout.specs.declared.type7.Body7.{Body7}
 use Rattle.tl_layout.specs.declared.type_i.BodyI.{BodyI}
 

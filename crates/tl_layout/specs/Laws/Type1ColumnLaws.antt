@@ -21,7 +21,7 @@ use Rattle.tl_layout.specs.Type1Columns.{body_1_of, body_1_text}
 use Rattle.tl_layout.specs.Type1Groups.{FitsBody1, body_1_at, body_1_texts, entities_at, point_texts}
 use Rattle.tl_layout.specs.Laws.Type1Laws.{type_1_fits, type_1_reading_is_short}
 use Rattle.tl_layout.specs.Laws.TypeLaws.{type_1_laws}
-use Rattle.tl_layout.specs.declared.type1.Body1Fields.{Body1Fields}
+use Rattle.tl_layout.specs.declared.type1.fields.Body1Fields.{Body1Fields}
 
 -- the widths of the fields, from column 16 to column 190
 widths : List ℕ

@@ -1,6 +1,6 @@
 use Rattle.std.proofs.Common.{refl}
 use Rattle.tl_layout.specs.Type1Groups.{entities_at}
-use Rattle.tl_layout.proofs.type1.GeographicEntities.at.Goals as goal
+use Rattle.tl_layout.proofs.type1.fields.GeographicEntities.at.Goals as goal
 
 pub returns : goal.returns
 unfolding entities_at

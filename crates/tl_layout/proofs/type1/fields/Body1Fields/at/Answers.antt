@@ -1,6 +1,6 @@
 use Rattle.std.proofs.Common.{refl}
 use Rattle.tl_layout.specs.Type1Groups.{body_1_at}
-use Rattle.tl_layout.proofs.type1.Body1Fields.at.Goals as goal
+use Rattle.tl_layout.proofs.type1.fields.Body1Fields.at.Goals as goal
 
 pub returns : goal.returns
 unfolding body_1_at

@@ -2,7 +2,7 @@
 use Rattle.std.proofs.Common.{◌≡◌, List, ℕ, arith, ap, take, drop, ◌∙◌}
 use Rattle.std.proofs.lemmas.List.{take_all}
 use Rattle.tl_layout.proofs.Writes.{whole}
-use Rattle.tl_layout.proofs.type1.Body1.of.Goals as goal
+use Rattle.tl_layout.proofs.type1.body.Body1.of.Goals as goal
 use Rattle.tl_layout.specs.Bytes.{blanks}
 use Rattle.tl_layout.specs.Laws.ColumnLaws.{joined-before}
 use Rattle.tl_layout.specs.Laws.Type1ColumnLaws.{columns_are_text, fields_again}
