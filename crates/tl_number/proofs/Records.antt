@@ -11,3 +11,4 @@ pub mod RecordPlaces
 pub mod OneAfterAnother
 pub mod GivenGroups
 pub mod GroupRests
+pub mod SameGroups

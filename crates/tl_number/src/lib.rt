@@ -6,7 +6,8 @@
 //! an `Interner` numbers keys by first appearance. The crate `uses` has a proved caller, in `layers.rt`.
 //!
 //! To get the records of an arranged county in their order, implement `RecordVisitor`, to which `visit_records` passes them one
-//! after another; or read the records of one type from a `RecordGroups`, group by group.
+//! after another; or read the records of one type from a `RecordGroups`, group by group. `same_records` compares the records of two
+//! canonical counties, and takes no memory.
 #![tactic(auto)]
 
 mod arranged;
@@ -38,6 +39,7 @@ mod polygon_records;
 mod record_eq;
 mod renumbering;
 mod same_chains;
+mod sameness;
 mod step_readers;
 mod text_order;
 mod type_1_order;
@@ -70,4 +72,5 @@ pub use name_records::{LandmarkLinkRecords, LandmarkRecords, NameRecords};
 pub use numbers::{Interner, NumericKey};
 pub use polygon_records::PolygonRecords;
 pub use record_eq::RecordEq;
+pub use sameness::same_records;
 pub use visitor::RecordVisitor;

@@ -1,3 +1,2 @@
 pub mod TextLengths
 pub mod Finished
-pub mod SameGroups

@@ -1,6 +1,5 @@
 pub mod Room
 pub mod GoingOut
-pub mod SharedGroups
 pub mod Taking
 pub mod TakingLaws
 pub mod Reports

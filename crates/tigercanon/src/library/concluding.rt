@@ -11,8 +11,7 @@ use crate::library::comparing::Verdict;
 use std::alloc::{AllocError, Global};
 use tl_cert::Renaming;
 use tl_county::Chart;
-use tl_number::CanonCounty;
-use tl_write::same_records;
+use tl_number::{CanonCounty, same_records};
 
 /// A conclusion on two canonical counties.
 pub(crate) trait Conclusion: Drop + Sized {

@@ -1,8 +1,8 @@
 use Rattle.std.proofs.Common.{◌≡◌, ◌∙◌, ◌++◌, true, false, rules, drop, length, take, refl, sym, ap, arith}
 use Rattle.std.proofs.Math.Seq.{take-add}
 use Rattle.std.proofs.lemmas.List.{length-take}
-use Rattle.tl_write.proofs.SameGroups.{decides_no, same_whole}
-use Rattle.tl_write.proofs.sameness.are_same_groups.Goals as goal
+use Rattle.tl_number.proofs.Records.SameGroups.{decides_no, same_whole}
+use Rattle.tl_number.proofs.sameness.are_same_groups.Goals as goal
 
 pub loop-first-init : goal.loop-first-init
 loop-first-init g c = record { room = refl; other = refl; within = omega arith; same = refl }

@@ -1,7 +1,7 @@
 use Rattle.std.proofs.Common.{refl}
 use Rattle.tl_number.specs.ViewFacts.{stepped}
-use Rattle.tl_write.proofs.SameGroups.{also, not_also, decides_packing}
-use Rattle.tl_write.proofs.sameness.same_records.Goals as goal
+use Rattle.tl_number.proofs.Records.SameGroups.{also, not_also, decides_packing}
+use Rattle.tl_number.proofs.sameness.same_records.Goals as goal
 
 pub returns-then-have_same_chains : goal.returns-then-have_same_chains
 returns-then-have_same_chains g c =

@@ -2,8 +2,8 @@ use Rattle.std.proofs.Common.{◌≡◌, ◌∙◌, true, false, rules, drop, le
 use Rattle.std.proofs.lemmas.Option.{slice_get_read}
 use Rattle.tl_number.specs.Groups.{group_at}
 use Rattle.tl_number.proofs.Records.Grouped.{group_headed, length_headed}
-use Rattle.tl_write.proofs.SameGroups.{decides_no, same_next, same_whole, same_group}
-use Rattle.tl_write.proofs.sameness.are_same_headed.Goals as goal
+use Rattle.tl_number.proofs.Records.SameGroups.{decides_no, same_next, same_whole, same_group}
+use Rattle.tl_number.proofs.sameness.are_same_headed.Goals as goal
 
 pub is_same_group-same-requires-clause-head : goal.is_same_group-same-requires-clause-head
 is_same_group-same-requires-clause-head g c =

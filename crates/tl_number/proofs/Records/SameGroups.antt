@@ -10,7 +10,7 @@ use Rattle.tl_county.specs.Packing.{packed}
 use Rattle.tl_county.proofs.Packing.PackedCounty.{packed_county}
 use Rattle.tl_layout.specs.declared.record_type.Record.TheVariants.{One, Two, Four, Five, Six, Seven, Eight, I, P}
 use Rattle.tl_number.specs.CountyGroups.{type_1_by_chain, type_2_by_chain, type_4_by_chain, type_5_by_name, type_6_by_chain}
-use Rattle.tl_write.specs.SharedGroups.{HaveSameCounts, HaveSameChains, HaveSameEntries}
+use Rattle.tl_number.specs.SharedGroups.{HaveSameCounts, HaveSameChains, HaveSameEntries}
 use Rattle.tl_number.specs.CountyGroups.{type_7_by_landmark, type_8_together, type_i_by_chain, type_p_by_number}
 use Rattle.tl_number.specs.Groups.{group_at, grouped}
 use Rattle.tl_number.proofs.Records.PackedGroups.{all_groups}

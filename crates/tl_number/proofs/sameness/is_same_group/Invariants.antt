@@ -1,6 +1,6 @@
 use Rattle.std.proofs.Common.{◌≡◌, take}
 use Rattle.tl_number.specs.Groups.{group_at}
-use Rattle.tl_write.proofs.sameness.is_same_group.Given as goal
+use Rattle.tl_number.proofs.sameness.is_same_group.Given as goal
 
 -- the records up to the place are the same
 abbrev pub invariant-loop-place : goal.invariant-loop-place

@@ -4,15 +4,19 @@ ghost use Rattle.std.specs.Bool.{Decides};
 ghost use Rattle.std.specs.Prelude.{◌≡◌, ◌<◌, ◌≤◌, ◌+◌, length, drop, take};
 ghost use Rattle.tl_county.specs.Packing.{packed};
 ghost use Rattle.tl_number.specs.Groups.{AreHeads, group_at};
+ghost use Rattle.tl_number.specs.SharedGroups.{HaveSameChains, HaveSameCounts, HaveSameEntries, HaveSameHeads, HaveSameLandmarks, HaveSameLists};
 ghost use Rattle.tl_number.specs.Views.{arranged_county};
-ghost use Rattle.tl_write.specs.SharedGroups.{HaveSameChains, HaveSameCounts, HaveSameEntries, HaveSameHeads, HaveSameLandmarks, HaveSameLists};
 
-use tl_county::Chart;
-use tl_number::{
-    CanonCounty, ChainRecords, FurtherNameRecords, HeadBuffers, LandmarkLinkRecords,
-    LandmarkRecords, NameRecords, PolygonRecords, RangeRecords, RecordEq, RecordGroups,
-    ShapePointRecords, TopologyRecords, read_heads,
+use crate::canon_county::CanonCounty;
+use crate::chain_records::{
+    ChainRecords, FurtherNameRecords, RangeRecords, ShapePointRecords, TopologyRecords,
 };
+use crate::groups::{RecordGroups, read_heads};
+use crate::heads::HeadBuffers;
+use crate::name_records::{LandmarkLinkRecords, LandmarkRecords, NameRecords};
+use crate::polygon_records::PolygonRecords;
+use crate::record_eq::RecordEq;
+use tl_county::Chart;
 
 /// Whether a group that both counties have is the same in both, record by record.
 fn is_same_group<L: RecordEq, G: RecordGroups<Item = L>, H: RecordGroups<Item = L>>(

@@ -1,5 +1,5 @@
 use Rattle.std.proofs.Common.{◌≡◌, ◌≤◌, ◌-◌, length, take}
-use Rattle.tl_write.proofs.sameness.are_same_groups.Given as goal
+use Rattle.tl_number.proofs.sameness.are_same_groups.Given as goal
 
 -- the groups up to the first remaining one are the same
 abbrev pub invariant-loop-first : goal.invariant-loop-first

@@ -1,5 +1,5 @@
 use Rattle.std.proofs.Common.{◌≡◌, drop, length, take}
-use Rattle.tl_write.proofs.sameness.are_same_headed.Given as goal
+use Rattle.tl_number.proofs.sameness.are_same_headed.Given as goal
 
 -- the groups up to the one ahead are the same
 abbrev pub invariant-loop-ahead : goal.invariant-loop-ahead
