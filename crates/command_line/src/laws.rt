@@ -11,7 +11,7 @@ pub fn usual_words_are_planned()
 {}
 
 /// Respelling and checking have no flags that leave fields out: arguments with one of these flags aren't a valid command line.
-pub fn masks_are_for_jobs_that_tell_maps()
+pub fn masks_are_for_jobs_on_maps()
     ensures respell { TakesNoMask Job.Respell }
     ensures check { TakesNoMask Job.Check }
 {}

@@ -11,6 +11,6 @@ mod names;
 mod planning;
 mod plans;
 
-pub use laws::{masks_are_for_jobs_that_tell_maps, usual_words_are_planned};
+pub use laws::{masks_are_for_jobs_on_maps, usual_words_are_planned};
 pub use planning::plan;
 pub use plans::{Job, Plan, PlanFault};

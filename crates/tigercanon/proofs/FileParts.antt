@@ -18,16 +18,16 @@ taken_all (Some all) (Some rest) taken c e = sym (c ∙ ap (λ (l : List ℕ). t
 
 -- ---- faults of devices
 
-pub no_device_told : (f : LoadFault) → (f ≡ faults.Device → ⊥) → is_device_fault f ≡ false
-no_device_told faults.Device h = absurd (h refl)
-no_device_told (faults.UnknownType a b) h = refl
-no_device_told (faults.LineTooLong a b) h = refl
-no_device_told (faults.BadByte a b c) h = refl
-no_device_told (faults.BadNumber a b c) h = refl
-no_device_told (faults.BadPoint a b c) h = refl
-no_device_told (faults.GapInRecord a b c) h = refl
-no_device_told (faults.TooManyRecords a) h = refl
-no_device_told faults.Memory h = refl
+pub no_device_reported : (f : LoadFault) → (f ≡ faults.Device → ⊥) → is_device_fault f ≡ false
+no_device_reported faults.Device h = absurd (h refl)
+no_device_reported (faults.UnknownType a b) h = refl
+no_device_reported (faults.LineTooLong a b) h = refl
+no_device_reported (faults.BadByte a b c) h = refl
+no_device_reported (faults.BadNumber a b c) h = refl
+no_device_reported (faults.BadPoint a b c) h = refl
+no_device_reported (faults.GapInRecord a b c) h = refl
+no_device_reported (faults.TooManyRecords a) h = refl
+no_device_reported faults.Memory h = refl
 
 pub none_device : (o : Option LoadFault) → o ≡ None → IfSome o IsNotDevice
 none_device None e = tt
@@ -38,9 +38,9 @@ pub still_no_device : {L : Type 0} (fault_of : L → Option LoadFault) (before a
     → IfSome (fault_of before) IsNotDevice → OnOk r (fault_of after ≡ None) → IfErr r (λ f. fault_of after ≡ Some f)
     → (fault_of before ≡ None → IfErr r IsNotDevice) → IfSome (fault_of before) (λ f. (r ≡ Err f) × (after ≡ before))
     → IfSome (fault_of after) IsNotDevice
-still_no_device fault_of before after (Ok x) was ok told device stood = none_device (fault_of after) ok
-still_no_device fault_of before after (Err f) was ok told device stood =
-    subst (λ o. IfSome o IsNotDevice) (sym told) (go (fault_of before) refl was stood)
+still_no_device fault_of before after (Ok x) was ok reported device stood = none_device (fault_of after) ok
+still_no_device fault_of before after (Err f) was ok reported device stood =
+    subst (λ o. IfSome o IsNotDevice) (sym reported) (go (fault_of before) refl was stood)
   where
     go : (o : Option LoadFault) → fault_of before ≡ o → IfSome o IsNotDevice
         → IfSome o (λ g. (◌≡◌ {A = Result (Unit {0}) LoadFault} (Err f) (Err g)) × (after ≡ before)) → IsNotDevice f

@@ -8,9 +8,9 @@ use Rattle.tigercanon.specs.declared.fault.Fault.{Fault}
 use Rattle.tigercanon.specs.declared.fault.Fault.TheVariants.{Load, Link, Profile, Write, Memory}
 use Rattle.tigercanon.specs.Faults.{IsOfNoLines}
 use Rattle.tigercanon.specs.Outcomes.{Answer, GivenOutput, GivenSet, HoldsAccepted, IsAnswer, IsAnswered, Leaves, Prints, PrintsFront}
-use Rattle.tigercanon.specs.Outcomes.{Tells, TellsLines, TellsLoad, TellsSet}
-use Rattle.tigercanon.specs.TwoSets.{IsDifferent, IsDone, IsLineDifferent, IsLineOfVerdict, IsLineSame, IsToldWhy, LeavesComparison}
-use Rattle.tigercanon.specs.TwoSets.{LeavesStopped, TellsOne}
+use Rattle.tigercanon.specs.Outcomes.{Reports, ReportsLines, ReportsLoad, ReportsSet}
+use Rattle.tigercanon.specs.TwoSets.{IsDifferent, IsDone, IsLineDifferent, IsLineOfVerdict, IsLineSame, IsReportedWhy, LeavesComparison}
+use Rattle.tigercanon.specs.TwoSets.{LeavesStopped, ReportsOne}
 
 -- every fact about one set is a fact about the other
 pub record IsKnownOf (a b : GivenSet) : Type 0 where
@@ -40,29 +40,29 @@ module _ (a b : GivenSet) (known : IsKnownOf a b) where
   accepted_of : HoldsAccepted a → HoldsAccepted b
   accepted_of h = record { parts = h.parts; held = known.holds h.parts h.held; records = h.records; accepted = h.accepted }
 
-  load_told : (fault : LoadFault) → TellsLoad a fault → TellsLoad b fault
-  load_told fault t = (λ of. known.refused (Load fault) (t.0 of), λ is. known.unread (t.1 is))
+  load_reported : (fault : LoadFault) → ReportsLoad a fault → ReportsLoad b fault
+  load_reported fault t = (λ of. known.refused (Load fault) (t.0 of), λ is. known.unread (t.1 is))
 
-  lines_told : (fault : Fault) → TellsLines a fault → TellsLines b fault
-  lines_told (Load f) t = load_told f t
-  lines_told (Link f) t = absurd t
-  lines_told (Profile f) t = absurd t
-  lines_told (Write f) t = absurd t
-  lines_told Memory t = tt
+  lines_reported : (fault : Fault) → ReportsLines a fault → ReportsLines b fault
+  lines_reported (Load f) t = load_reported f t
+  lines_reported (Link f) t = absurd t
+  lines_reported (Profile f) t = absurd t
+  lines_reported (Write f) t = absurd t
+  lines_reported Memory t = tt
 
-  set_told : (fault : Fault) → TellsSet a fault → TellsSet b fault
-  set_told (Load f) t = load_told f t
-  set_told (Link f) t = λ ne. known.refused (Link f) (t ne)
-  set_told (Profile f) t = λ ne. known.refused (Profile f) (t ne)
-  set_told (Write f) t = absurd t
-  set_told Memory t = tt
+  set_reported : (fault : Fault) → ReportsSet a fault → ReportsSet b fault
+  set_reported (Load f) t = load_reported f t
+  set_reported (Link f) t = λ ne. known.refused (Link f) (t ne)
+  set_reported (Profile f) t = λ ne. known.refused (Profile f) (t ne)
+  set_reported (Write f) t = absurd t
+  set_reported Memory t = tt
 
-  job_told : (job : Job) (fault : Fault) → Tells job a fault → Tells job b fault
-  job_told Respell fault t = lines_told fault t
-  job_told Normalise fault t = set_told fault t
-  job_told Check fault t = set_told fault t
-  job_told Fingerprint fault t = set_told fault t
-  job_told Compare fault t = absurd t
+  job_reported : (job : Job) (fault : Fault) → Reports job a fault → Reports job b fault
+  job_reported Respell fault t = lines_reported fault t
+  job_reported Normalise fault t = set_reported fault t
+  job_reported Check fault t = set_reported fault t
+  job_reported Fingerprint fault t = set_reported fault t
+  job_reported Compare fault t = absurd t
 
 module _ (P Q : List ℕ → Type 0) (of : (text : List ℕ) → P text → Q text) (x y : GivenOutput) (to : IsPrintedTo x y) where
   prints_to : Prints P x → Prints Q y
@@ -78,11 +78,11 @@ module _ (P Q : List ℕ → Type 0) (of : (text : List ℕ) → P text → Q te
 
 module _ (mask : Mask) (a b c d : GivenSet) (first : IsKnownOf a b) (second : IsKnownOf c d) (x y : GivenOutput) (to : IsPrintedTo x y) where
   leaves_of : (job : Job) (fault : Fault) → Leaves mask job a x fault → Leaves mask job b y fault
-  leaves_of job (Load f) l = (to.kept l.0, job_told a b first job (Load f) l.1)
-  leaves_of job (Link f) l = (to.kept l.0, job_told a b first job (Link f) l.1)
-  leaves_of job (Profile f) l = (to.kept l.0, job_told a b first job (Profile f) l.1)
+  leaves_of job (Load f) l = (to.kept l.0, job_reported a b first job (Load f) l.1)
+  leaves_of job (Link f) l = (to.kept l.0, job_reported a b first job (Link f) l.1)
+  leaves_of job (Profile f) l = (to.kept l.0, job_reported a b first job (Profile f) l.1)
   leaves_of job (Write f) l = (to.failed l.0, front_to _ _ (answered_of a b first (IsAnswer mask job)) x y to f.written l.1)
-  leaves_of job Memory l = (to.kept l.0, job_told a b first job Memory l.1)
+  leaves_of job Memory l = (to.kept l.0, job_reported a b first job Memory l.1)
 
   line_same : (text : List ℕ) → IsLineSame mask a c text → IsLineSame mask b d text
   line_same text h = record {
@@ -106,20 +106,20 @@ module _ (mask : Mask) (a b c d : GivenSet) (first : IsKnownOf a b) (second : Is
   line_of_verdict text (inl h) = inl (line_same text h)
   line_of_verdict text (inr h) = inr (line_different text h)
 
-  one_told : (fault : Fault) (set : Option ℕ) → TellsOne a c fault set → TellsOne b d fault set
-  one_told fault set (inl t) = inl (t.0, set_told a b first fault t.1)
-  one_told fault set (inr t) = inr (t.0, go t.1, set_told c d second fault t.2)
+  one_reported : (fault : Fault) (set : Option ℕ) → ReportsOne a c fault set → ReportsOne b d fault set
+  one_reported fault set (inl t) = inl (t.0, set_reported a b first fault t.1)
+  one_reported fault set (inr t) = inr (t.0, go t.1, set_reported c d second fault t.2)
     where
       go : HoldsAccepted a ⊎ IsOfNoLines fault → HoldsAccepted b ⊎ IsOfNoLines fault
       go (inl h) = inl (accepted_of a b first h)
       go (inr h) = inr h
 
   comparison_of : (fault : Fault) (set : Option ℕ) → LeavesComparison mask a c x fault set → LeavesComparison mask b d y fault set
-  comparison_of (Load f) set l = (to.kept l.0, one_told (Load f) set l.1)
-  comparison_of (Link f) set l = (to.kept l.0, one_told (Link f) set l.1)
-  comparison_of (Profile f) set l = (to.kept l.0, one_told (Profile f) set l.1)
+  comparison_of (Load f) set l = (to.kept l.0, one_reported (Load f) set l.1)
+  comparison_of (Link f) set l = (to.kept l.0, one_reported (Link f) set l.1)
+  comparison_of (Profile f) set l = (to.kept l.0, one_reported (Profile f) set l.1)
   comparison_of (Write f) set l = (l.0, to.failed l.1, front_to _ _ line_of_verdict x y to f.written l.2)
-  comparison_of Memory set l = (to.kept l.0, one_told Memory set l.1)
+  comparison_of Memory set l = (to.kept l.0, one_reported Memory set l.1)
 
   pub stopped_of : (job : Job) (fault : Fault) (set : Option ℕ) → LeavesStopped mask job a c x fault set → LeavesStopped mask job b d y fault set
   stopped_of Respell fault set l = (l.0, leaves_of Respell fault l.1)
@@ -142,12 +142,12 @@ module _ (mask : Mask) (a b c d : GivenSet) (first : IsKnownOf a b) (second : Is
   different_of Fingerprint h = absurd h
   different_of Compare h = prints_to _ _ line_different x y to h
 
-  pub why_of : (job : Job) (told else_told : List ℕ → Type 0) (status : ℕ) → ((line : List ℕ) → told line → else_told line)
-      → IsToldWhy mask job a c x told status → IsToldWhy mask job b d y else_told status
-  why_of job told else_told status tells why = record {
+  pub why_of : (job : Job) (reported else_reported : List ℕ → Type 0) (status : ℕ) → ((line : List ℕ) → reported line → else_reported line)
+      → IsReportedWhy mask job a c x reported status → IsReportedWhy mask job b d y else_reported status
+  why_of job reported else_reported status reports why = record {
     fault = why.fault;
     set = why.set;
     status_is = why.status_is;
     left = stopped_of job why.fault why.set why.left;
-    line = tells _ why.line;
+    line = reports _ why.line;
   }

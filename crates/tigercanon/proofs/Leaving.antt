@@ -7,7 +7,7 @@ use Rattle.std.specs.Io.KnownBytes.{Appends, Keeps}
 use Rattle.tigercanon.specs.Devices.{to_sink}
 use Rattle.tigercanon.specs.Lending.{HoldsUnderName}
 use Rattle.tigercanon.specs.Normalising.{StopsShort, Took}
-use Rattle.tigercanon.specs.Outcomes.{TellsLine, TellsLineTo}
+use Rattle.tigercanon.specs.Outcomes.{ReportsLine, ReportsLineTo}
 use Rattle.tigercanon.specs.Running.{to_writer}
 use Rattle.tigercanon.proofs.GivenSets.{IsPrintedTo}
 use Rattle.tl_write.specs.declared.fault.WriteFault.{WriteFault}
@@ -66,13 +66,13 @@ module _ {W X : Type 0} (contents : W → Option (List ℕ)) (failed name : X �
   }
 
 -- a sink that got a line has it, or it failed and has a beginning of it
-pub line_told : {E : Type 0} (failed : E → ℕ) (holds : E → List ℕ → Type 0) (old new : E) (line : List ℕ)
+pub line_reported : {E : Type 0} (failed : E → ℕ) (holds : E → List ℕ → Type 0) (old new : E) (line : List ℕ)
     (outcome : Result (Unit {0}) WriteFault)
     → OnOk outcome (Took holds old new line) → OnOk outcome (failed new ≡ failed old)
     → IfErr outcome (λ f. StopsShort holds old new line f.written) → IfErr outcome (λ f. failed new ≡ failed old + 1)
-    → TellsLineTo failed holds old new line
-line_told failed holds old new line (Ok done) whole none stopped rose = inl (none, whole)
-line_told failed holds old new line (Err f) whole none stopped rose = inr (rose, f.written, stopped.1)
+    → ReportsLineTo failed holds old new line
+line_reported failed holds old new line (Ok done) whole none stopped rose = inl (none, whole)
+line_reported failed holds old new line (Err f) whole none stopped rose = inr (rose, f.written, stopped.1)
 
 -- and the same for the writer that was lent to the sink
 pub line_by : {W : Type 0} (contents : W → Option (List ℕ)) (start first last final : W) (name later : ℕ) → first ≡ start
@@ -80,7 +80,7 @@ pub line_by : {W : Type 0} (contents : W → Option (List ℕ)) (start first las
     → ((count ≡ was) × ((held : List ℕ) → HoldsUnderName name (contents first) held → HoldsUnderName later (contents last) (held ++ line)))
     ⊎ ((count ≡ was + 1) × (written : ℕ)
     × ((held : List ℕ) → HoldsUnderName name (contents first) held → HoldsUnderName later (contents last) (held ++ take written line)))
-    → TellsLine (contents start) (contents final) line
+    → ReportsLine (contents start) (contents final) line
 line_by contents start first last final name later is ends was count line (inl h) = (
   length line,
   subst (Appends (contents start) (contents final)) (sym (take-length line))

@@ -18,9 +18,9 @@ use Rattle.command_line.specs.declared.plans.Job.TheVariants.{Respell, Normalise
 use Rattle.tigercanon.specs.declared.fault.Fault.{Fault}
 use Rattle.tigercanon.specs.declared.fault.Fault.TheVariants.{Load, Link, Profile, Write, Memory}
 use Rattle.tigercanon.specs.Faults.{IsOfNoLines}
-use Rattle.tigercanon.specs.Outcomes.{GivenOutput, GivenSet, HoldsAccepted, IsAnswer, Leaves, PrintsPart, Refuses, TellsSet}
+use Rattle.tigercanon.specs.Outcomes.{GivenOutput, GivenSet, HoldsAccepted, IsAnswer, Leaves, PrintsPart, Refuses, ReportsSet}
 use Rattle.tigercanon.specs.Statuses.{status_of}
-use Rattle.tigercanon.specs.TwoSets.{IsOneRefused, IsPartOnly, LeavesComparison, LeavesStopped, RefusesOne, TellsOne}
+use Rattle.tigercanon.specs.TwoSets.{IsOneRefused, IsPartOnly, LeavesComparison, LeavesStopped, RefusesOne, ReportsOne}
 
 -- ---- each fault has one of the statuses
 
@@ -89,12 +89,12 @@ not_refusal (Profile f) h s = absurd h
 not_refusal (Write f) h s = absurd h
 not_refusal Memory h s = omega (arith, s)
 
-set_refused : (set : GivenSet) (fault : Fault) → TellsSet set fault → status_of fault ≡ 3 → ((told : Fault) × set.refused told)
-set_refused set (Load f) told s = (Load f, told.0 (of_lines f s))
-set_refused set (Link f) told s = (Link f, told (not_link_memory f s))
-set_refused set (Profile f) told s = (Profile f, told (not_profile_memory f s))
-set_refused set (Write f) told s = absurd told
-set_refused set Memory told s = absurd (omega (arith, s))
+set_refused : (set : GivenSet) (fault : Fault) → ReportsSet set fault → status_of fault ≡ 3 → ((reported : Fault) × set.refused reported)
+set_refused set (Load f) reported s = (Load f, reported.0 (of_lines f s))
+set_refused set (Link f) reported s = (Link f, reported (not_link_memory f s))
+set_refused set (Profile f) reported s = (Profile f, reported (not_profile_memory f s))
+set_refused set (Write f) reported s = absurd reported
+set_refused set Memory reported s = absurd (omega (arith, s))
 
 -- ---- the status of a device's fault
 
@@ -127,38 +127,38 @@ no_profile_device ProfileMemory s = omega (arith, s)
 no_profile_device TooSymmetric s = omega (arith, s)
 no_profile_device (PolygonWithoutChain c p) s = omega (arith, s)
 
-set_unread : (set : GivenSet) (fault : Fault) → TellsSet set fault → status_of fault ≡ 4 → set.unread
-set_unread set (Load f) told s = told.1 (is_device f s)
-set_unread set (Link f) told s = absurd (no_link_device f s)
-set_unread set (Profile f) told s = absurd (no_profile_device f s)
-set_unread set (Write f) told s = absurd told
-set_unread set Memory told s = absurd (omega (arith, s))
+set_unread : (set : GivenSet) (fault : Fault) → ReportsSet set fault → status_of fault ≡ 4 → set.unread
+set_unread set (Load f) reported s = reported.1 (is_device f s)
+set_unread set (Link f) reported s = absurd (no_link_device f s)
+set_unread set (Profile f) reported s = absurd (no_profile_device f s)
+set_unread set (Write f) reported s = absurd reported
+set_unread set Memory reported s = absurd (omega (arith, s))
 
 module _ (mask : Mask) (first second : GivenSet) (out : GivenOutput) where
   -- ---- a job over one set
 
-  told_refused : (job : Job) (fault : Fault) → Leaves mask job first out fault → status_of fault ≡ 3 → Refuses job first
-  told_refused job (Write f) left s = absurd (omega (arith, s))
-  told_refused Respell (Load f) left s = (Load f, tt, left.1.0 (of_lines f s))
-  told_refused Respell (Link f) left s = absurd left.1
-  told_refused Respell (Profile f) left s = absurd left.1
-  told_refused Respell Memory left s = absurd (omega (arith, s))
-  told_refused Normalise (Load f) left s = let r = set_refused first (Load f) left.1 s in (r.0, tt, r.1)
-  told_refused Normalise (Link f) left s = let r = set_refused first (Link f) left.1 s in (r.0, tt, r.1)
-  told_refused Normalise (Profile f) left s = let r = set_refused first (Profile f) left.1 s in (r.0, tt, r.1)
-  told_refused Normalise Memory left s = absurd (omega (arith, s))
-  told_refused Check (Load f) left s = let r = set_refused first (Load f) left.1 s in (r.0, tt, r.1)
-  told_refused Check (Link f) left s = let r = set_refused first (Link f) left.1 s in (r.0, tt, r.1)
-  told_refused Check (Profile f) left s = let r = set_refused first (Profile f) left.1 s in (r.0, tt, r.1)
-  told_refused Check Memory left s = absurd (omega (arith, s))
-  told_refused Fingerprint (Load f) left s = let r = set_refused first (Load f) left.1 s in (r.0, tt, r.1)
-  told_refused Fingerprint (Link f) left s = let r = set_refused first (Link f) left.1 s in (r.0, tt, r.1)
-  told_refused Fingerprint (Profile f) left s = let r = set_refused first (Profile f) left.1 s in (r.0, tt, r.1)
-  told_refused Fingerprint Memory left s = absurd (omega (arith, s))
-  told_refused Compare (Load f) left s = absurd left.1
-  told_refused Compare (Link f) left s = absurd left.1
-  told_refused Compare (Profile f) left s = absurd left.1
-  told_refused Compare Memory left s = absurd left.1
+  reported_refused : (job : Job) (fault : Fault) → Leaves mask job first out fault → status_of fault ≡ 3 → Refuses job first
+  reported_refused job (Write f) left s = absurd (omega (arith, s))
+  reported_refused Respell (Load f) left s = (Load f, tt, left.1.0 (of_lines f s))
+  reported_refused Respell (Link f) left s = absurd left.1
+  reported_refused Respell (Profile f) left s = absurd left.1
+  reported_refused Respell Memory left s = absurd (omega (arith, s))
+  reported_refused Normalise (Load f) left s = let r = set_refused first (Load f) left.1 s in (r.0, tt, r.1)
+  reported_refused Normalise (Link f) left s = let r = set_refused first (Link f) left.1 s in (r.0, tt, r.1)
+  reported_refused Normalise (Profile f) left s = let r = set_refused first (Profile f) left.1 s in (r.0, tt, r.1)
+  reported_refused Normalise Memory left s = absurd (omega (arith, s))
+  reported_refused Check (Load f) left s = let r = set_refused first (Load f) left.1 s in (r.0, tt, r.1)
+  reported_refused Check (Link f) left s = let r = set_refused first (Link f) left.1 s in (r.0, tt, r.1)
+  reported_refused Check (Profile f) left s = let r = set_refused first (Profile f) left.1 s in (r.0, tt, r.1)
+  reported_refused Check Memory left s = absurd (omega (arith, s))
+  reported_refused Fingerprint (Load f) left s = let r = set_refused first (Load f) left.1 s in (r.0, tt, r.1)
+  reported_refused Fingerprint (Link f) left s = let r = set_refused first (Link f) left.1 s in (r.0, tt, r.1)
+  reported_refused Fingerprint (Profile f) left s = let r = set_refused first (Profile f) left.1 s in (r.0, tt, r.1)
+  reported_refused Fingerprint Memory left s = absurd (omega (arith, s))
+  reported_refused Compare (Load f) left s = absurd left.1
+  reported_refused Compare (Link f) left s = absurd left.1
+  reported_refused Compare (Profile f) left s = absurd left.1
+  reported_refused Compare Memory left s = absurd left.1
 
   one_unread : (job : Job) (fault : Fault) → Leaves mask job first out fault → status_of fault ≡ 4 → first.unread ⊎ out.failed
   one_unread job (Write f) left s = inr left.0
@@ -199,12 +199,12 @@ module _ (mask : Mask) (first second : GivenSet) (out : GivenOutput) where
 
   -- ---- a comparison
 
-  refusal : (fault : Fault) (set : Option ℕ) → TellsOne first second fault set → status_of fault ≡ 3 → IsOneRefused first second
-  refusal fault set (inl told) s = let r = set_refused first fault told.1 s in (r.0, inl r.1)
-  refusal fault set (inr told) s = go told.1
+  refusal : (fault : Fault) (set : Option ℕ) → ReportsOne first second fault set → status_of fault ≡ 3 → IsOneRefused first second
+  refusal fault set (inl reported) s = let r = set_refused first fault reported.1 s in (r.0, inl r.1)
+  refusal fault set (inr reported) s = go reported.1
     where
       go : HoldsAccepted first ⊎ IsOfNoLines fault → IsOneRefused first second
-      go (inl accepted) = let r = set_refused second fault told.2 s in (r.0, inr (accepted, r.1))
+      go (inl accepted) = let r = set_refused second fault reported.2 s in (r.0, inr (accepted, r.1))
       go (inr none) = absurd (not_refusal fault none s)
 
   one_refused : (fault : Fault) (set : Option ℕ) → LeavesComparison mask first second out fault set → status_of fault ≡ 3
@@ -215,10 +215,10 @@ module _ (mask : Mask) (first second : GivenSet) (out : GivenOutput) where
   one_refused (Write f) set left s = absurd (omega (arith, s))
   one_refused Memory set left s = absurd (omega (arith, s))
 
-  either_unread : (fault : Fault) (set : Option ℕ) → TellsOne first second fault set → status_of fault ≡ 4
+  either_unread : (fault : Fault) (set : Option ℕ) → ReportsOne first second fault set → status_of fault ≡ 4
       → first.unread ⊎ second.unread ⊎ out.failed
-  either_unread fault set (inl told) s = inl (set_unread first fault told.1 s)
-  either_unread fault set (inr told) s = inr (inl (set_unread second fault told.2 s))
+  either_unread fault set (inl reported) s = inl (set_unread first fault reported.1 s)
+  either_unread fault set (inr reported) s = inr (inl (set_unread second fault reported.2 s))
 
   comparison_unread : (fault : Fault) (set : Option ℕ) → LeavesComparison mask first second out fault set → status_of fault ≡ 4
       → first.unread ⊎ second.unread ⊎ out.failed
@@ -239,10 +239,10 @@ module _ (mask : Mask) (first second : GivenSet) (out : GivenOutput) where
 
   pub left_refused : (job : Job) (fault : Fault) (set : Option ℕ) → LeavesStopped mask job first second out fault set → status_of fault ≡ 3
       → RefusesOne job first second
-  left_refused Respell fault set left s = told_refused Respell fault left.1 s
-  left_refused Normalise fault set left s = told_refused Normalise fault left.1 s
-  left_refused Check fault set left s = told_refused Check fault left.1 s
-  left_refused Fingerprint fault set left s = told_refused Fingerprint fault left.1 s
+  left_refused Respell fault set left s = reported_refused Respell fault left.1 s
+  left_refused Normalise fault set left s = reported_refused Normalise fault left.1 s
+  left_refused Check fault set left s = reported_refused Check fault left.1 s
+  left_refused Fingerprint fault set left s = reported_refused Fingerprint fault left.1 s
   left_refused Compare fault set left s = one_refused fault set left s
 
   pub left_some : (job : Job) (fault : Fault) (set : Option ℕ) → LeavesStopped mask job first second out fault set

@@ -18,9 +18,9 @@ use Rattle.tl_profile.specs.declared.fault.ProfileFault.TheVariants.{Memory as P
 use Rattle.tigercanon.specs.declared.fault.Fault.{Fault}
 use Rattle.tigercanon.specs.declared.fault.Fault.TheVariants.{Load, Link, Profile, Write, Memory}
 use Rattle.tl_county.specs.Packing.{Typed}
-use Rattle.tigercanon.specs.Faults.{RefusesRecords, TellsRefusal, TellsRefusalOfRead}
+use Rattle.tigercanon.specs.Faults.{RefusesRecords, ReportsRefusal, ReportsRefusalOfRead}
 use Rattle.tigercanon.specs.Linked.{AreLinkedAs, IsLinkedSet}
-use Rattle.tigercanon.specs.Normalising.{TellsRead}
+use Rattle.tigercanon.specs.Normalising.{ReportsRead}
 use Rattle.tigercanon.specs.Reading.{AreRead}
 use Rattle.tigercanon.specs.Respelling.{record_limit}
 
@@ -45,7 +45,7 @@ profile_memory_or_not TooSymmetric = inr (λ e. cc)
 
 -- parts are refused for the fault of their records
 pub set_refused : (parts : List (List ℕ)) (records : List Record) → SpellsWithin tiger record_limit parts records → (f : Fault)
-    → RefusesRecords records f → TellsRefusal parts f
+    → RefusesRecords records f → ReportsRefusal parts f
 set_refused parts records spelled (Load f) h = absurd h
 set_refused parts records spelled (Link f) h = λ ne. (records, spelled, h ne)
 set_refused parts records spelled (Profile f) h = λ ne. (records, spelled, (h ne).0, (h ne).1)
@@ -58,14 +58,14 @@ no_device_refused records f h e = subst (RefusesRecords records) e h
 
 -- parts are refused for the fault of the linked records that they spell
 pub linked_refused : (parts : List (List ℕ)) (tables : Typed) → IsLinkedSet parts tables → (f : Fault)
-    → ((records : List Record) → AreLinkedAs tables records → RefusesRecords records f) → TellsRefusalOfRead parts f
-linked_refused parts tables set f told = (set_refused parts set.0 set.1 f (told set.0 set.2), no_device_refused set.0 f (told set.0 set.2))
+    → ((records : List Record) → AreLinkedAs tables records → RefusesRecords records f) → ReportsRefusalOfRead parts f
+linked_refused parts tables set f reported = (set_refused parts set.0 set.1 f (reported set.0 set.2), no_device_refused set.0 f (reported set.0 set.2))
 
 -- the fault of the records of parts that were read is reported for what was read
 module _ {R : Type 0} (remaining : R → Option (List ℕ)) (given : R → ℕ) (before after : List R) (parts : List (List ℕ))
     (read : AreRead remaining given before after parts)
     (records : List Record) (spelled : SpellsWithin tiger record_limit parts records) where
-  pub read_refused : (f : Fault) → RefusesRecords records f → TellsRead remaining given before after f
+  pub read_refused : (f : Fault) → RefusesRecords records f → ReportsRead remaining given before after f
   read_refused (Load f) h = absurd h
   read_refused (Link f) h = λ ne. record { parts = parts; read = read; refused = (records, spelled, h ne) }
   read_refused (Profile f) h = λ ne. record { parts = parts; read = read; refused = (records, spelled, (h ne).0, (h ne).1) }

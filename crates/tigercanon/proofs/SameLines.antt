@@ -28,7 +28,7 @@ module _ (parts others : List (List ℕ)) (same : HaveSameLines parts others) wh
   }
 
   pub refused_alike : (refusal : Fault) → IsSetRefusal parts refusal
-      → (told : Fault) × IsSetRefusal others told × (refusal_without_place told ≡ refusal_without_place refusal)
+      → (reported : Fault) × IsSetRefusal others reported × (refusal_without_place reported ≡ refusal_without_place refusal)
   refused_alike (Load fault) h =
       let found = fault_elsewhere tiger record_limit parts others fault same h in
       (Load found.0, found.1, ap Load found.2)

@@ -10,7 +10,7 @@ use Rattle.tl_load.specs.declared.fault.LoadFault.{LoadFault}
 use Rattle.tl_load.specs.declared.fault.LoadFault.TheVariants as faults
 use Rattle.tl_load.proofs.Reading.{accepted_no_fault}
 use Rattle.tl_load.proofs.RecordLines.{tiger_is_sound}
-use Rattle.tigercanon.proofs.FileParts.{no_device_told}
+use Rattle.tigercanon.proofs.FileParts.{no_device_reported}
 use Rattle.tl_load.proofs.CutParts.{empty_fault}
 use Rattle.tigercanon.specs.Respelling.{record_limit, IsFirstFault}
 
@@ -46,9 +46,9 @@ module _ {K : Type 0} (holds : K → List Record → Type 0) (l : LoadedInto K) 
 -- a device's fault is counted, and no other fault is
 pub counted_device : (f : LoadFault) (was now : ℕ) → now ≡ (if is_device_fault f then was + 1 else was) → f ≡ faults.Device
     → now ≡ was + 1
-counted_device f was now told e =
-    subst (λ (g : LoadFault). now ≡ (if is_device_fault g then was + 1 else was)) e told
+counted_device f was now reported e =
+    subst (λ (g : LoadFault). now ≡ (if is_device_fault g then was + 1 else was)) e reported
 
 pub counted_none : (f : LoadFault) (was now : ℕ) → now ≡ (if is_device_fault f then was + 1 else was) → (f ≡ faults.Device → ⊥)
     → now ≡ was
-counted_none f was now told other = told ∙ ap (λ b. if b then was + 1 else was) (no_device_told f other)
+counted_none f was now reported other = reported ∙ ap (λ b. if b then was + 1 else was) (no_device_reported f other)

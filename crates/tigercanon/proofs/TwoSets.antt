@@ -9,7 +9,7 @@ use Rattle.tigercanon.specs.declared.fault.Fault.{Fault}
 use Rattle.tigercanon.specs.declared.fault.Fault.TheVariants.{Load, Link, Profile, Write, Memory}
 use Rattle.tl_cert.specs.MaskedCounty.{masked}
 use Rattle.tl_layout.specs.declared.mask.Mask.{Mask}
-use Rattle.tigercanon.specs.Comparing.{AreDifferentThrough, AreOneMapThrough, TellsRefusalOfOneRead}
+use Rattle.tigercanon.specs.Comparing.{AreDifferentThrough, AreOneMapThrough, ReportsRefusalOfOneRead}
 use Rattle.tigercanon.specs.Devices.{StopsReading}
 use Rattle.tigercanon.specs.Findings.{IsFound}
 use Rattle.tigercanon.specs.Findings.Finding.{OneMap, TwoMaps}
@@ -18,45 +18,45 @@ use Rattle.tigercanon.specs.declared.library.comparing.CompareFault.{CompareFaul
 use Rattle.tigercanon.specs.declared.library.comparing.CompareFault.TheVariants.{In, Memory as NoMemory}
 use Rattle.tigercanon.specs.Outcomes.{GivenOutput, GivenSet}
 use Rattle.tigercanon.specs.Sets.{IsSetRefusal}
-use Rattle.tigercanon.specs.TwoSets.{IsLineDifferent, IsLineOfVerdict, IsLineSame, LeavesComparison, OfTwoSets, TellsOne}
+use Rattle.tigercanon.specs.TwoSets.{IsLineDifferent, IsLineOfVerdict, IsLineSame, LeavesComparison, OfTwoSets, ReportsOne}
 use Rattle.tigercanon.specs.TwoSets.{line_of_ending, where_ended}
-use Rattle.tigercanon.proofs.SourceSets.{no_lines_stopped, read_told, set_stopped}
+use Rattle.tigercanon.proofs.SourceSets.{no_lines_stopped, read_reported, set_stopped}
 
 -- what holds when a job over one set is done
 pub done_of_one : {P : Type 0} (outcome : Result (Unit {0}) Fault) (result : Result Ending Stopped)
     → MatchResult outcome (λ _. result ≡ Ok Done) (λ fault. result ≡ Err (record { fault = fault; set = None })) → result ≡ Ok Done
     → OnOk outcome P → P
-done_of_one (Ok done) result is told p = p
-done_of_one (Err fault) result is told p = absurd cc
+done_of_one (Ok done) result is reported p = p
+done_of_one (Err fault) result is reported p = absurd cc
 
 module _ (mask : Mask) (first second : GivenSet) where
-  pub one_told : (a b : List (List ℕ)) → first.holds a → ((f : Fault) → IsSetRefusal a f → first.refused f)
-      → ((f : Fault) → IsSetRefusal b f → second.refused f) → (told : CompareFault) → TellsRefusalOfOneRead a b told
-      → TellsOne first second (stopped_by told).fault (stopped_by told).set
-  one_told a b held refuse other (In set f) (inl told) = inl (ap Some told.0, read_told first a refuse f told.1.0 told.1.1)
-  one_told a b held refuse other (In set f) (inr told) = inr (
-    ap Some told.0,
-    inl (record { parts = a; held = held; records = told.1.0; accepted = told.1.1 }),
-    read_told second b other f told.2.0 told.2.1,
+  pub one_reported : (a b : List (List ℕ)) → first.holds a → ((f : Fault) → IsSetRefusal a f → first.refused f)
+      → ((f : Fault) → IsSetRefusal b f → second.refused f) → (reported : CompareFault) → ReportsRefusalOfOneRead a b reported
+      → ReportsOne first second (stopped_by reported).fault (stopped_by reported).set
+  one_reported a b held refuse other (In set f) (inl reported) = inl (ap Some reported.0, read_reported first a refuse f reported.1.0 reported.1.1)
+  one_reported a b held refuse other (In set f) (inr reported) = inr (
+    ap Some reported.0,
+    inl (record { parts = a; held = held; records = reported.1.0; accepted = reported.1.1 }),
+    read_reported second b other f reported.2.0 reported.2.1,
   )
-  one_told a b held refuse other NoMemory told = absurd told
+  one_reported a b held refuse other NoMemory reported = absurd reported
 
   -- a failed read is reported for either set, and for the second one whatever the first is
-  pub unread_first : (fault : Fault) (set : Option ℕ) → StopsReading first.unread fault → set ≡ Some 1 → TellsOne first second fault set
+  pub unread_first : (fault : Fault) (set : Option ℕ) → StopsReading first.unread fault → set ≡ Some 1 → ReportsOne first second fault set
   unread_first fault set h e = inl (e, set_stopped first fault h)
 
   pub unread_second : (fault : Fault) (set : Option ℕ) → StopsReading second.unread fault → set ≡ Some 2
-      → TellsOne first second fault set
+      → ReportsOne first second fault set
   unread_second fault set h e = inr (e, inr (no_lines_stopped second fault h), set_stopped second fault h)
 
-  pub leaves_untouched : (out : GivenOutput) (fault : Fault) (set : Option ℕ) → out.kept → TellsOne first second fault set
+  pub leaves_untouched : (out : GivenOutput) (fault : Fault) (set : Option ℕ) → out.kept → ReportsOne first second fault set
       → LeavesComparison mask first second out fault set
-  leaves_untouched out (Load f) set k told = (k, told)
-  leaves_untouched out (Link f) set k told = (k, told)
-  leaves_untouched out (Profile f) set k told = (k, told)
-  leaves_untouched out (Write f) set k (inl told) = absurd told.1
-  leaves_untouched out (Write f) set k (inr told) = absurd told.2
-  leaves_untouched out Memory set k told = (k, told)
+  leaves_untouched out (Load f) set k reported = (k, reported)
+  leaves_untouched out (Link f) set k reported = (k, reported)
+  leaves_untouched out (Profile f) set k reported = (k, reported)
+  leaves_untouched out (Write f) set k (inl reported) = absurd reported.1
+  leaves_untouched out (Write f) set k (inr reported) = absurd reported.2
+  leaves_untouched out Memory set k reported = (k, reported)
 
   -- the finding about the parts of both sets, by the ending of the comparison
   pub ended_by_finding : (is_one_map : Bool) (a b : List (List ℕ)) → first.holds a → second.holds b

@@ -8,7 +8,7 @@ use Rattle.tigercanon.specs.declared.program.ending.Stopped.{Stopped}
 use Rattle.tigercanon.specs.declared.fault.Fault.{Fault}
 use Rattle.tigercanon.specs.declared.fault.Fault.TheVariants.{Load, Memory}
 use Rattle.tigercanon.specs.declared.program.files.Opened.{Opened}
-use Rattle.tigercanon.specs.Outcomes.{GivenOutput, GivenSet, TellsSet}
+use Rattle.tigercanon.specs.Outcomes.{GivenOutput, GivenSet, ReportsSet}
 use Rattle.tigercanon.specs.Running.{NamesMissing, set_of_files}
 use Rattle.tigercanon.specs.Statuses.{status_of}
 use Rattle.tigercanon.specs.Stopping.{set_of_job}
@@ -46,7 +46,7 @@ module _ (mask : Mask) (first second : GivenSet) (out : GivenOutput) (kept : out
 
 module _ {R : Type 0} (mask : Mask) (remaining : R → Option (List ℕ)) (first second : List (Opened R)) (out : GivenOutput)
     (kept : out.kept) where
-  unopened : (files : List (Opened R)) → TellsSet (set_of_files remaining files) (Load Device)
+  unopened : (files : List (Opened R)) → ReportsSet (set_of_files remaining files) (Load Device)
   unopened files = ((λ of. absurd of), (λ is. tt))
 
   device_left : (job : Job) (set : Option ℕ) → NamesMissing job first second set

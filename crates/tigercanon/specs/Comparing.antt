@@ -4,7 +4,7 @@ use Rattle.tl_layout.specs.declared.record_type.Record.{Record}
 use Rattle.tl_county.specs.County.{County, county_of}
 use Rattle.tl_county.specs.Renumbering.{AreSame, Renumbering}
 use Rattle.tl_number.specs.Sights.{plain}
-use Rattle.tigercanon.specs.Faults.{IsWantOfMemory, TellsRefusal, TellsRefusalOfRead}
+use Rattle.tigercanon.specs.Faults.{IsWantOfMemory, ReportsRefusal, ReportsRefusalOfRead}
 use Rattle.tigercanon.specs.Sets.{CarriesSetThrough, IsAcceptedSet}
 use Rattle.tigercanon.specs.declared.library.comparing.CompareFault.{CompareFault}
 use Rattle.tigercanon.specs.declared.library.comparing.CompareFault.TheVariants.{In, Memory}
@@ -52,19 +52,19 @@ IsAcceptable parts = (records : List Record) × IsAcceptedSet parts records
 
 -- What a fault means for two sets: except for a device's fault and a failed allocation, it is what the set that it names is refused
 -- for, the first set, or the second if the first is accepted. If a failed allocation names no set, both sets are accepted.
-abbrev pub TellsRefusalOfOne : List (List ℕ) → List (List ℕ) → CompareFault → Type 0
-TellsRefusalOfOne a b (In set fault) =
-    ((set ≡ 1) × TellsRefusal a fault) ⊎ ((set ≡ 2) × IsAcceptable a × TellsRefusal b fault)
-TellsRefusalOfOne a b Memory = IsAcceptable a × IsAcceptable b
+abbrev pub ReportsRefusalOfOne : List (List ℕ) → List (List ℕ) → CompareFault → Type 0
+ReportsRefusalOfOne a b (In set fault) =
+    ((set ≡ 1) × ReportsRefusal a fault) ⊎ ((set ≡ 2) × IsAcceptable a × ReportsRefusal b fault)
+ReportsRefusalOfOne a b Memory = IsAcceptable a × IsAcceptable b
 
 -- the same for parts that have been read: no fault is a device's, and each fault names a set
-abbrev pub TellsRefusalOfOneRead : List (List ℕ) → List (List ℕ) → CompareFault → Type 0
-TellsRefusalOfOneRead a b (In set fault) =
-    ((set ≡ 1) × TellsRefusalOfRead a fault) ⊎ ((set ≡ 2) × IsAcceptable a × TellsRefusalOfRead b fault)
-TellsRefusalOfOneRead a b Memory = ⊥
+abbrev pub ReportsRefusalOfOneRead : List (List ℕ) → List (List ℕ) → CompareFault → Type 0
+ReportsRefusalOfOneRead a b (In set fault) =
+    ((set ≡ 1) × ReportsRefusalOfRead a fault) ⊎ ((set ≡ 2) × IsAcceptable a × ReportsRefusalOfRead b fault)
+ReportsRefusalOfOneRead a b Memory = ⊥
 
 -- for a set that is accepted the only fault is a failed allocation
-abbrev pub TellsMemoryOfAccepted : List (List ℕ) → List (List ℕ) → CompareFault → Type 0
-TellsMemoryOfAccepted a b (In set fault) =
+abbrev pub ReportsMemoryOfAccepted : List (List ℕ) → List (List ℕ) → CompareFault → Type 0
+ReportsMemoryOfAccepted a b (In set fault) =
     (set ≡ 1 → IsAcceptable a → IsWantOfMemory fault) × (set ≡ 2 → IsAcceptable b → IsWantOfMemory fault)
-TellsMemoryOfAccepted a b Memory = Unit {0}
+ReportsMemoryOfAccepted a b Memory = Unit {0}

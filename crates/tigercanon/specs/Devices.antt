@@ -37,5 +37,5 @@ abbrev pub StopsReading : Type 0 → Fault → Type 0
 StopsReading unread fault = ((fault ≡ Load Device) × unread) ⊎ (fault ≡ Memory)
 
 -- a job that stopped reported another fault than a device's
-abbrev pub TellsNoDevice : Result Ending Stopped → Type 0
-TellsNoDevice result = IfErr result (λ stopped. stopped.fault ≢ Load Device)
+abbrev pub ReportsNoDevice : Result Ending Stopped → Type 0
+ReportsNoDevice result = IfErr result (λ stopped. stopped.fault ≢ Load Device)

@@ -15,24 +15,24 @@ use Rattle.tigercanon.specs.declared.fault.Fault.{Fault}
 use Rattle.tigercanon.specs.declared.fault.Fault.TheVariants.{Load, Link, Profile, Write, Memory}
 
 -- a fault in the set's lines is that of the first faulty line; the only other faults are a failed allocation and a device's
-abbrev pub TellsFirstFault : List (List ℕ) → Fault → Type 0
-TellsFirstFault parts (Load fault) = IsOfLines fault → IsFirstFault parts fault
-TellsFirstFault parts (Link _) = ⊥
-TellsFirstFault parts (Profile _) = ⊥
-TellsFirstFault parts (Write _) = ⊥
-TellsFirstFault parts Memory = Unit {0}
+abbrev pub ReportsFirstFault : List (List ℕ) → Fault → Type 0
+ReportsFirstFault parts (Load fault) = IsOfLines fault → IsFirstFault parts fault
+ReportsFirstFault parts (Link _) = ⊥
+ReportsFirstFault parts (Profile _) = ⊥
+ReportsFirstFault parts (Write _) = ⊥
+ReportsFirstFault parts Memory = Unit {0}
 
 -- unless the fault is a failed allocation or a device's, the set is refused for it
-abbrev pub TellsRefusal : List (List ℕ) → Fault → Type 0
-TellsRefusal parts (Load fault) = IsOfLines fault → IsSetRefusal parts (Load fault)
-TellsRefusal parts (Link fault) = fault ≢ LinkMemory → IsSetRefusal parts (Link fault)
-TellsRefusal parts (Profile fault) = fault ≢ ProfileMemory → IsSetRefusal parts (Profile fault)
-TellsRefusal parts (Write _) = ⊥
-TellsRefusal parts Memory = Unit {0}
+abbrev pub ReportsRefusal : List (List ℕ) → Fault → Type 0
+ReportsRefusal parts (Load fault) = IsOfLines fault → IsSetRefusal parts (Load fault)
+ReportsRefusal parts (Link fault) = fault ≢ LinkMemory → IsSetRefusal parts (Link fault)
+ReportsRefusal parts (Profile fault) = fault ≢ ProfileMemory → IsSetRefusal parts (Profile fault)
+ReportsRefusal parts (Write _) = ⊥
+ReportsRefusal parts Memory = Unit {0}
 
 -- the same for parts that have been read, and the fault is not a device's
-abbrev pub TellsRefusalOfRead : List (List ℕ) → Fault → Type 0
-TellsRefusalOfRead parts fault = TellsRefusal parts fault × (fault ≢ Load Device)
+abbrev pub ReportsRefusalOfRead : List (List ℕ) → Fault → Type 0
+ReportsRefusalOfRead parts fault = ReportsRefusal parts fault × (fault ≢ Load Device)
 
 -- unless the fault is a failed allocation, these records are refused for it; it is never a fault of loading
 abbrev pub RefusesRecords : List Record → Fault → Type 0

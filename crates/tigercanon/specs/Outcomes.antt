@@ -79,63 +79,63 @@ pub record HoldsAccepted (set : GivenSet) : Type 0 where
   pub accepted : IsAcceptedSet parts records
 
 -- if the fault is one of the set's lines, the set is refused for it, and if it is a device's, the set couldn't be read
-abbrev pub TellsLoad : GivenSet → LoadFault → Type 0
-TellsLoad set fault = (IsOfLines fault → set.refused (Load fault)) × (fault ≡ Device → set.unread)
+abbrev pub ReportsLoad : GivenSet → LoadFault → Type 0
+ReportsLoad set fault = (IsOfLines fault → set.refused (Load fault)) × (fault ≡ Device → set.unread)
 
 -- for a set of which only the lines are judged, the only other fault is a failed allocation
-abbrev pub TellsLines : GivenSet → Fault → Type 0
-TellsLines set (Load fault) = TellsLoad set fault
-TellsLines set (Link _) = ⊥
-TellsLines set (Profile _) = ⊥
-TellsLines set (Write _) = ⊥
-TellsLines set Memory = Unit {0}
+abbrev pub ReportsLines : GivenSet → Fault → Type 0
+ReportsLines set (Load fault) = ReportsLoad set fault
+ReportsLines set (Link _) = ⊥
+ReportsLines set (Profile _) = ⊥
+ReportsLines set (Write _) = ⊥
+ReportsLines set Memory = Unit {0}
 
 -- unless the fault is a failed allocation, the set is refused for it, or it couldn't be read
-abbrev pub TellsSet : GivenSet → Fault → Type 0
-TellsSet set (Load fault) = TellsLoad set fault
-TellsSet set (Link fault) = fault ≢ LinkMemory → set.refused (Link fault)
-TellsSet set (Profile fault) = fault ≢ ProfileMemory → set.refused (Profile fault)
-TellsSet set (Write _) = ⊥
-TellsSet set Memory = Unit {0}
+abbrev pub ReportsSet : GivenSet → Fault → Type 0
+ReportsSet set (Load fault) = ReportsLoad set fault
+ReportsSet set (Link fault) = fault ≢ LinkMemory → set.refused (Link fault)
+ReportsSet set (Profile fault) = fault ≢ ProfileMemory → set.refused (Profile fault)
+ReportsSet set (Write _) = ⊥
+ReportsSet set Memory = Unit {0}
 
 -- the faults that a job reports for a set without an answer
-abbrev pub Tells : Job → GivenSet → Fault → Type 0
-Tells Respell = TellsLines
-Tells Normalise = TellsSet
-Tells Check = TellsSet
-Tells Fingerprint = TellsSet
-Tells Compare = λ set fault. ⊥
+abbrev pub Reports : Job → GivenSet → Fault → Type 0
+Reports Respell = ReportsLines
+Reports Normalise = ReportsSet
+Reports Check = ReportsSet
+Reports Fingerprint = ReportsSet
+Reports Compare = λ set fault. ⊥
 
 -- what a job that stopped leaves: nothing if the set has no answer, and the beginning of the answer if the output failed
 abbrev pub LeavesOf : Answer → (GivenSet → Fault → Type 0) → GivenSet → GivenOutput → Fault → Type 0
-LeavesOf answer tells set out (Write fault) = out.failed × PrintsBeginning answer set fault.written out
-LeavesOf answer tells set out fault = out.kept × tells set fault
+LeavesOf answer reports set out (Write fault) = out.failed × PrintsBeginning answer set fault.written out
+LeavesOf answer reports set out fault = out.kept × reports set fault
 
 abbrev pub Leaves : Mask → Job → GivenSet → GivenOutput → Fault → Type 0
-Leaves mask job = LeavesOf (IsAnswer mask job) (Tells job)
+Leaves mask job = LeavesOf (IsAnswer mask job) (Reports job)
 
 -- whether a job can refuse a set for this fault: respelling checks only lines
-abbrev pub IsToldBy : Job → Fault → Type 0
-IsToldBy Respell (Load _) = Unit {0}
-IsToldBy Respell _ = ⊥
-IsToldBy Normalise _ = Unit {0}
-IsToldBy Check _ = Unit {0}
-IsToldBy Fingerprint _ = Unit {0}
-IsToldBy Compare _ = ⊥
+abbrev pub IsReportedBy : Job → Fault → Type 0
+IsReportedBy Respell (Load _) = Unit {0}
+IsReportedBy Respell _ = ⊥
+IsReportedBy Normalise _ = Unit {0}
+IsReportedBy Check _ = Unit {0}
+IsReportedBy Fingerprint _ = Unit {0}
+IsReportedBy Compare _ = ⊥
 
 -- the set is refused for something that the job checks
 abbrev pub Refuses : Job → GivenSet → Type 0
-Refuses job set = (fault : Fault) × IsToldBy job fault × set.refused fault
+Refuses job set = (fault : Fault) × IsReportedBy job fault × set.refused fault
 
 -- nothing was printed, or a beginning of the answer that isn't all of it
 abbrev pub PrintsPart : Answer → GivenSet → GivenOutput → Type 0
 PrintsPart answer set out = out.kept ⊎ ((written : ℕ) × PrintsBeginning answer set written out)
 
 -- the writer got the line, or a beginning of it
-abbrev pub TellsLine : Option (List ℕ) → Option (List ℕ) → List ℕ → Type 0
-TellsLine old new line = (written : ℕ) × Appends old new (take written line)
+abbrev pub ReportsLine : Option (List ℕ) → Option (List ℕ) → List ℕ → Type 0
+ReportsLine old new line = (written : ℕ) × Appends old new (take written line)
 
 -- a sink took the whole line, or it failed, once, and took a beginning of it
-abbrev pub TellsLineTo : {E : Type 0} → (E → ℕ) → (E → List ℕ → Type 0) → E → E → List ℕ → Type 0
-TellsLineTo failed holds old new line = ((failed new ≡ failed old) × Took holds old new line)
+abbrev pub ReportsLineTo : {E : Type 0} → (E → ℕ) → (E → List ℕ → Type 0) → E → E → List ℕ → Type 0
+ReportsLineTo failed holds old new line = ((failed new ≡ failed old) × Took holds old new line)
     ⊎ ((failed new ≡ failed old + 1) × (written : ℕ) × Took holds old new (take written line))

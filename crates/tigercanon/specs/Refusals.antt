@@ -23,13 +23,13 @@ report_of (Write fault) = write_report fault
 report_of Memory = bare kind.Memory
 
 -- how a fault is reported, with the number of the set at fault if two sets are read and one of them is at fault
-abbrev pub told_of : Fault → Option ℕ → List ℕ
-told_of fault (Some set) = report_line (report_of fault) ++ codes " in set " ++ decimal set
-told_of fault None = report_line (report_of fault)
+abbrev pub reported_of : Fault → Option ℕ → List ℕ
+reported_of fault (Some set) = report_line (report_of fault) ++ codes " in set " ++ decimal set
+reported_of fault None = report_line (report_of fault)
 
 -- that report as a line
 abbrev pub fault_line : Fault → Option ℕ → List ℕ
-fault_line fault set = told_of fault set ++ 10 ∷ []
+fault_line fault set = reported_of fault set ++ 10 ∷ []
 
 -- what is reported for a command line that isn't a plan: the usage as it is, or the line of a failed allocation
 abbrev pub plan_text_of : PlanFault → List ℕ
@@ -42,5 +42,5 @@ not_utf8 = codes "error: invalid UTF-8 was detected in one or more arguments\n"
 
 -- the reported usage is this text, or an allocation failed for it
 abbrev pub IsUsage : PlanFault → List ℕ → Type 0
-IsUsage (Usage text) told = string_bytes text ≡ told
-IsUsage PlanMemory told = Unit {0}
+IsUsage (Usage text) reported = string_bytes text ≡ reported
+IsUsage PlanMemory reported = Unit {0}

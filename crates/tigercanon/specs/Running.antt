@@ -12,7 +12,7 @@ use Rattle.tigercanon.specs.Files.{AreHeld, IsMissing}
 use Rattle.tigercanon.specs.Outcomes.{GivenOutput, GivenSet}
 use Rattle.tigercanon.specs.Refusals.{fault_line}
 use Rattle.tigercanon.specs.Sets.{IsSetRefusal}
-use Rattle.tigercanon.specs.TwoSets.{IsDifferent, IsDone, IsPartOnly, IsToldWhy, RefusesOne}
+use Rattle.tigercanon.specs.TwoSets.{IsDifferent, IsDone, IsPartOnly, IsReportedWhy, RefusesOne}
 
 -- what the files hold is refused for this fault
 pub record AreRefused {R : Type 0} (remaining : R → Option (List ℕ)) (files : List (Opened R)) (fault : Fault) : Type 0 where
@@ -55,10 +55,10 @@ PrintsSome mask job remaining first second old new =
     IsPartOnly mask job (set_of_files remaining first) (set_of_files remaining second) (to_writer old new)
 
 -- why a job over files stopped, and that this is reported
-abbrev pub TellsWhy : {R : Type 0} → Mask → Job → (R → Option (List ℕ)) → List (Opened R) → List (Opened R) → Option (List ℕ) → Option (List ℕ)
+abbrev pub ReportsWhy : {R : Type 0} → Mask → Job → (R → Option (List ℕ)) → List (Opened R) → List (Opened R) → Option (List ℕ) → Option (List ℕ)
     → (List ℕ → Type 0) → ℕ → Type 0
-TellsWhy mask job remaining first second old new told status =
-    IsToldWhy mask job (set_of_files remaining first) (set_of_files remaining second) (to_writer old new) told status
+ReportsWhy mask job remaining first second old new reported status =
+    IsReportedWhy mask job (set_of_files remaining first) (set_of_files remaining second) (to_writer old new) reported status
 
 -- a set that the job reads lacks a file that it needs
 abbrev pub IsMissingOne : {R : Type 0} → Job → List (Opened R) → List (Opened R) → Type 0
@@ -72,5 +72,5 @@ NamesMissing Compare first second set =
 NamesMissing job first second set = (set ≡ None) × IsMissing first
 
 -- the reported line says that a file is missing, and which of two sets lacks it
-abbrev pub TellsMissing : {R : Type 0} → Job → List (Opened R) → List (Opened R) → (List ℕ → Type 0) → Type 0
-TellsMissing job first second told = (set : Option ℕ) × NamesMissing job first second set × told (fault_line (Load Device) set)
+abbrev pub ReportsMissing : {R : Type 0} → Job → List (Opened R) → List (Opened R) → (List ℕ → Type 0) → Type 0
+ReportsMissing job first second reported = (set : Option ℕ) × NamesMissing job first second set × reported (fault_line (Load Device) set)

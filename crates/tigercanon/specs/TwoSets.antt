@@ -11,7 +11,7 @@ use Rattle.tl_layout.specs.declared.mask.Mask.{Mask}
 use Rattle.tigercanon.specs.Comparing.{SaysSameThrough, SaysDifferentThrough}
 use Rattle.tigercanon.specs.Faults.{IsOfNoLines}
 use Rattle.tigercanon.specs.Outcomes.{GivenOutput, GivenSet, HoldsAccepted, IsAnswer, Leaves}
-use Rattle.tigercanon.specs.Outcomes.{Prints, PrintsFront, PrintsPart, PrintsWhole, Refuses, TellsSet}
+use Rattle.tigercanon.specs.Outcomes.{Prints, PrintsFront, PrintsPart, PrintsWhole, Refuses, ReportsSet}
 use Rattle.tigercanon.specs.Refusals.{fault_line}
 use Rattle.tigercanon.specs.Statuses.{status_of}
 
@@ -46,9 +46,9 @@ line_of_ending Different = codes "different" ++ 10 ∷ []
 
 -- the fault is the named set's; the second set's is reported only if the first set is accepted, or if it concerns no line: a failed
 -- read, or no memory for reading
-abbrev pub TellsOne : GivenSet → GivenSet → Fault → Option ℕ → Type 0
-TellsOne first second fault set = ((set ≡ Some 1) × TellsSet first fault)
-    ⊎ ((set ≡ Some 2) × (HoldsAccepted first ⊎ IsOfNoLines fault) × TellsSet second fault)
+abbrev pub ReportsOne : GivenSet → GivenSet → Fault → Option ℕ → Type 0
+ReportsOne first second fault set = ((set ≡ Some 1) × ReportsSet first fault)
+    ⊎ ((set ≡ Some 2) × (HoldsAccepted first ⊎ IsOfNoLines fault) × ReportsSet second fault)
 
 -- one of the sets is refused: the first, or the second where the first is accepted
 abbrev pub IsOneRefused : GivenSet → GivenSet → Type 0
@@ -69,7 +69,7 @@ IsDifferent mask job first second = λ out. ⊥
 abbrev pub LeavesComparison : Mask → GivenSet → GivenSet → GivenOutput → Fault → Option ℕ → Type 0
 LeavesComparison mask first second out (Write fault) set =
     (set ≡ None) × out.failed × PrintsFront (IsLineOfVerdict mask first second) fault.written out
-LeavesComparison mask first second out fault set = out.kept × TellsOne first second fault set
+LeavesComparison mask first second out fault set = out.kept × ReportsOne first second fault set
 
 -- the same for any job; a job that reads one set names none
 abbrev pub LeavesStopped : Mask → Job → GivenSet → GivenSet → GivenOutput → Fault → Option ℕ → Type 0
@@ -89,9 +89,9 @@ IsPartOnly mask job first second out = PrintsPart (IsAnswer mask job) first out
 
 -- Why a job stopped: a fault, which determines the exit status, and which of two sets is at fault; the sets and what was printed
 -- for them are as the fault says, and the reported line has both.
-pub record IsToldWhy (mask : Mask) (job : Job) (first second : GivenSet) (out : GivenOutput) (told : List ℕ → Type 0) (status : ℕ) : Type 0 where
+pub record IsReportedWhy (mask : Mask) (job : Job) (first second : GivenSet) (out : GivenOutput) (reported : List ℕ → Type 0) (status : ℕ) : Type 0 where
   pub fault : Fault
   pub set : Option ℕ
   pub status_is : status ≡ status_of fault
   pub left : LeavesStopped mask job first second out fault set
-  pub line : told (fault_line fault set)
+  pub line : reported (fault_line fault set)

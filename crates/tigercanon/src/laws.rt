@@ -39,7 +39,7 @@ pub fn sets_of_the_same_lines_are_alike()
         HaveSameLines parts others → IsCanonicalTextThrough seen parts text → IsCanonicalTextThrough seen others text }
     ensures refused { (parts others : List (List ℕ)) (refusal : Fault) →
         HaveSameLines parts others → IsSetRefusal parts refusal →
-        (told : Fault) × IsSetRefusal others told × (refusal_without_place told ≡ refusal_without_place refusal) }
+        (reported : Fault) × IsSetRefusal others reported × (refusal_without_place reported ≡ refusal_without_place refusal) }
 {}
 
 /// Two sets that have canonical texts have equal ones exactly if their counties are the same.

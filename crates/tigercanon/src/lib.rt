@@ -15,7 +15,7 @@ mod library;
 mod program;
 
 pub use command_line::{
-    Job, Plan, PlanFault, masks_are_for_jobs_that_tell_maps, plan, usual_words_are_planned,
+    Job, Plan, PlanFault, masks_are_for_jobs_on_maps, plan, usual_words_are_planned,
 };
 pub use fault::Fault;
 pub use laws::{
@@ -36,5 +36,5 @@ pub use library::normalising::{
 pub use library::respelling::respell;
 pub use program::files::Opened;
 pub use program::refusal::Refusal;
+pub use program::reporting::{args_error, exit_status, report};
 pub use program::running::run;
-pub use program::telling::{args_error, exit_status, tell};

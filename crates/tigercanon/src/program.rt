@@ -4,7 +4,7 @@ pub(crate) mod ending;
 pub(crate) mod files;
 pub(crate) mod jobs;
 pub(crate) mod refusal;
+pub(crate) mod reporting;
 pub(crate) mod running;
-pub(crate) mod telling;
 pub(crate) mod two_sets;
 pub(crate) mod writing;

@@ -1,14 +1,14 @@
 //! The calls over parts as C lends them. Each makes the library's call and restates its contract.
 
 ghost use Rattle.std.specs.Prelude.{◌≡◌, ◌≢◌, Ok, Err, ℕ, List, ◌∷◌, [], IfErr, IfOk, OnOk, map, true, false};
-ghost use Rattle.tigercanon.specs.Comparing.{AreDifferentThrough, AreOneMapThrough, TellsMemoryOfAccepted, TellsRefusalOfOne};
-ghost use Rattle.tigercanon.specs.Faults.{IsWantOfMemory, TellsRefusalOfRead};
+ghost use Rattle.tigercanon.specs.Comparing.{AreDifferentThrough, AreOneMapThrough, ReportsMemoryOfAccepted, ReportsRefusalOfOne};
+ghost use Rattle.tigercanon.specs.Faults.{IsWantOfMemory, ReportsRefusalOfRead};
 ghost use Rattle.tigercanon.specs.Fingerprints.{IsFingerprintThrough};
 ghost use Rattle.tigercanon.specs.LentParts.{bytes_of_parts};
 ghost use Rattle.tigercanon.specs.Normalising.{IsOnlyTextThrough};
 ghost use Rattle.tigercanon.specs.Respelling.{record_limit, IsRespelt};
 ghost use Rattle.tigercanon.specs.Sets.{IsAcceptedSet, IsCanonicalText, IsCanonicalTextThrough, IsOneCanonicalTextThrough};
-ghost use Rattle.tigercanon_c.specs.Answers.{TellsFirstFaultOfRead, bytes_of_lent};
+ghost use Rattle.tigercanon_c.specs.Answers.{ReportsFirstFaultOfRead, bytes_of_lent};
 ghost use Rattle.tl_cert.specs.MaskedCounty.{masked};
 ghost use Rattle.tl_layout.specs.declared.record_type.Record.{Record};
 ghost use Rattle.tl_load.specs.Choice.{tiger};
@@ -58,7 +58,7 @@ fn handed_out<'t>(text: Vec<u8>) -> &'t [u8]
 /// Whether the parts are accepted.
 pub(crate) fn check_parts(alloc: Global, parts: &[Part]) -> Result<(), Fault>
     ensures accepted { OnOk result ((records : List Record) × IsAcceptedSet (bytes_of_lent parts.now) records) }
-    ensures refused { IfErr result (TellsRefusalOfRead (bytes_of_lent parts.now)) }
+    ensures refused { IfErr result (ReportsRefusalOfRead (bytes_of_lent parts.now)) }
     ensures succeeds { (records : List Record) → IsAcceptedSet (bytes_of_lent parts.now) records → IfErr result IsWantOfMemory }
 {
     let slices = beside(alloc, parts)?;
@@ -68,7 +68,7 @@ pub(crate) fn check_parts(alloc: Global, parts: &[Part]) -> Result<(), Fault>
 /// The records of the parts in canonical spelling.
 pub(crate) fn respell_parts<'t>(alloc: Global, parts: &[Part]) -> Result<&'t [u8], Fault>
     ensures respelt { IfOk result (λ text. IsRespelt (bytes_of_lent parts.now) text.now) }
-    ensures faulty { IfErr result (TellsFirstFaultOfRead (bytes_of_lent parts.now)) }
+    ensures faulty { IfErr result (ReportsFirstFaultOfRead (bytes_of_lent parts.now)) }
     ensures succeeds { (records : List Record) →
         SpellsWithin tiger record_limit (bytes_of_lent parts.now) records → IfErr result IsWantOfMemory }
 {
@@ -92,7 +92,7 @@ pub(crate) fn normalise_parts<'t>(
     ensures again_succeeds { (bytes : List ℕ) → IsOneCanonicalTextThrough (masked mask) (bytes_of_lent parts.now) bytes →
         IfErr result IsWantOfMemory }
     ensures plain { IfOk result (λ text. IsCanonicalText (text.now ∷ []) text.now) }
-    ensures refused { IfErr result (TellsRefusalOfRead (bytes_of_lent parts.now)) }
+    ensures refused { IfErr result (ReportsRefusalOfRead (bytes_of_lent parts.now)) }
     ensures succeeds { (records : List Record) → IsAcceptedSet (bytes_of_lent parts.now) records → IfErr result IsWantOfMemory }
 {
     let slices = beside(alloc, parts)?;
@@ -109,7 +109,7 @@ pub(crate) fn fingerprint_parts(
     mask: Mask,
 ) -> Result<[u8; 32], Fault>
     ensures fingerprint { IfOk result (IsFingerprintThrough (masked mask) (bytes_of_lent parts.now)) }
-    ensures refused { IfErr result (TellsRefusalOfRead (bytes_of_lent parts.now)) }
+    ensures refused { IfErr result (ReportsRefusalOfRead (bytes_of_lent parts.now)) }
     ensures succeeds { (records : List Record) → IsAcceptedSet (bytes_of_lent parts.now) records → IfErr result IsWantOfMemory }
 {
     let slices = beside(alloc, parts)?;
@@ -126,9 +126,9 @@ pub(crate) fn compare_parts(
     ensures same { result ≡ Ok true → AreOneMapThrough (masked mask) (bytes_of_lent first.now) (bytes_of_lent second.now) }
     ensures different { result ≡ Ok false →
         AreDifferentThrough (masked mask) (bytes_of_lent first.now) (bytes_of_lent second.now) }
-    ensures refused { IfErr result (TellsRefusalOfOne (bytes_of_lent first.now) (bytes_of_lent second.now)) }
+    ensures refused { IfErr result (ReportsRefusalOfOne (bytes_of_lent first.now) (bytes_of_lent second.now)) }
     ensures no_device { (set : ℕ) → result ≢ Err (CompareFault.In set (Fault.Load LoadFault.Device)) }
-    ensures succeeds { IfErr result (TellsMemoryOfAccepted (bytes_of_lent first.now) (bytes_of_lent second.now)) }
+    ensures succeeds { IfErr result (ReportsMemoryOfAccepted (bytes_of_lent first.now) (bytes_of_lent second.now)) }
 {
     let first = beside_of_two(alloc, first)?;
     let second = beside_of_two(alloc, second)?;

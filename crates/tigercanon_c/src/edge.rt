@@ -4,21 +4,21 @@
 //! many bytes from there as its length, and nothing may write to them during the call.
 
 ghost use Rattle.std.specs.Prelude.{◌≡◌, ◌≢◌, ◌<◌, ◌⊎◌, ◌∷◌, [], ℕ, List};
-ghost use Rattle.tigercanon.specs.Comparing.{AreDifferentThrough, AreOneMapThrough, TellsMemoryOfAccepted, TellsRefusalOfOne};
-ghost use Rattle.tigercanon.specs.Faults.{TellsRefusalOfRead};
+ghost use Rattle.tigercanon.specs.Comparing.{AreDifferentThrough, AreOneMapThrough, ReportsMemoryOfAccepted, ReportsRefusalOfOne};
+ghost use Rattle.tigercanon.specs.Faults.{ReportsRefusalOfRead};
 ghost use Rattle.tigercanon.specs.Fingerprints.{IsFingerprintThrough};
 ghost use Rattle.tigercanon.specs.Normalising.{IsOnlyTextThrough};
 ghost use Rattle.tigercanon.specs.Respelling.{record_limit, IsRespelt};
 ghost use Rattle.tigercanon.specs.Sets.{IsAcceptedSet, IsCanonicalText, IsCanonicalTextThrough, IsOneCanonicalTextThrough};
-ghost use Rattle.tigercanon_c.specs.Answers.{TellsFirstFaultOfRead, TellsOne, TellsOneOfTwo, bytes_of_lent, mask_of};
-ghost use Rattle.tigercanon_c.specs.Told.{no_fault};
+ghost use Rattle.tigercanon_c.specs.Answers.{ReportsFirstFaultOfRead, ReportsOne, ReportsOneOfTwo, bytes_of_lent, mask_of};
+ghost use Rattle.tigercanon_c.specs.Reported.{no_fault};
 ghost use Rattle.tl_cert.specs.MaskedCounty.{masked};
 ghost use Rattle.tl_layout.specs.declared.record_type.Record.{Record};
 ghost use Rattle.tl_load.specs.Choice.{tiger};
 ghost use Rattle.tl_load.specs.Outcome.{SpellsWithin};
 
 use crate::calls::{check_parts, compare_parts, fingerprint_parts, normalise_parts, respell_parts};
-use crate::telling::{tell, tell_none, tell_of_two};
+use crate::reporting::{report, report_none, report_of_two};
 use std::alloc::Global;
 use tl_layout::Mask;
 
@@ -79,10 +79,10 @@ fn mask_of(no_sources: bool, no_reserved: bool) -> Mask
 fn answer_text<'t>(bytes: &'t [u8], text: &mut Text<'t>, fault: &mut FaultNumbers) -> u8
     ensures text { text.new.bytes.now ≡ bytes.now }
     ensures status { result ≡ 0 }
-    ensures untold { fault.new ≡ no_fault }
+    ensures unreported { fault.new ≡ no_fault }
 {
     text.bytes = bytes;
-    tell_none(fault)
+    report_none(fault)
 }
 
 /// Checks whether the parts are accepted, like [`tigercanon::check`]. Returns 0 if they are, and otherwise the status of the
@@ -90,15 +90,15 @@ fn answer_text<'t>(bytes: &'t [u8], text: &mut Text<'t>, fault: &mut FaultNumber
 #[unsafe(no_mangle)]
 pub extern "C" fn tigercanon_check(alloc: Global, parts: &[Part], fault: &mut FaultNumbers) -> u8
     ensures accepted { result ≡ 0 → (records : List Record) × IsAcceptedSet (bytes_of_lent parts.now) records }
-    ensures refused { result ≢ 0 → TellsOne (TellsRefusalOfRead (bytes_of_lent parts.now)) result fault.new }
+    ensures refused { result ≢ 0 → ReportsOne (ReportsRefusalOfRead (bytes_of_lent parts.now)) result fault.new }
     ensures statuses { (result ≡ 0) ⊎ (result ≡ 3) ⊎ (result ≡ 5) }
-    ensures untold { result ≡ 0 → fault.new ≡ no_fault }
+    ensures unreported { result ≡ 0 → fault.new ≡ no_fault }
     // If the parts are accepted, the only possible fault is out of memory.
     ensures succeeds { (records : List Record) → IsAcceptedSet (bytes_of_lent parts.now) records → (result ≡ 0) ⊎ (result ≡ 5) }
 {
     match check_parts(alloc, parts) {
-        Ok(()) => tell_none(fault),
-        Err(of) => tell(of, fault),
+        Ok(()) => report_none(fault),
+        Err(of) => report(of, fault),
     }
 }
 
@@ -112,10 +112,10 @@ pub extern "C" fn tigercanon_respell<'t>(
     fault: &mut FaultNumbers,
 ) -> u8
     ensures respelt { result ≡ 0 → IsRespelt (bytes_of_lent parts.now) text.new.bytes.now }
-    ensures faulty { result ≢ 0 → TellsOne (TellsFirstFaultOfRead (bytes_of_lent parts.now)) result fault.new }
+    ensures faulty { result ≢ 0 → ReportsOne (ReportsFirstFaultOfRead (bytes_of_lent parts.now)) result fault.new }
     ensures statuses { (result ≡ 0) ⊎ (result ≡ 3) ⊎ (result ≡ 5) }
     ensures empty { result ≢ 0 → text.new.bytes.now ≡ [] }
-    ensures untold { result ≡ 0 → fault.new ≡ no_fault }
+    ensures unreported { result ≡ 0 → fault.new ≡ no_fault }
     // If the parts spell records, the only possible fault is out of memory.
     ensures succeeds { (records : List Record) →
         SpellsWithin tiger record_limit (bytes_of_lent parts.now) records → (result ≡ 0) ⊎ (result ≡ 5) }
@@ -124,7 +124,7 @@ pub extern "C" fn tigercanon_respell<'t>(
         Ok(bytes) => answer_text(bytes, text, fault),
         Err(of) => {
             text.bytes = &[];
-            tell(of, fault)
+            report(of, fault)
         }
     }
 }
@@ -153,10 +153,10 @@ pub extern "C" fn tigercanon_normalise<'t>(
         → (result ≡ 0) ⊎ (result ≡ 5) }
     // and is its own canonical text under no mask.
     ensures plain { result ≡ 0 → IsCanonicalText (text.new.bytes.now ∷ []) text.new.bytes.now }
-    ensures refused { result ≢ 0 → TellsOne (TellsRefusalOfRead (bytes_of_lent parts.now)) result fault.new }
+    ensures refused { result ≢ 0 → ReportsOne (ReportsRefusalOfRead (bytes_of_lent parts.now)) result fault.new }
     ensures statuses { (result ≡ 0) ⊎ (result ≡ 3) ⊎ (result ≡ 5) }
     ensures empty { result ≢ 0 → text.new.bytes.now ≡ [] }
-    ensures untold { result ≡ 0 → fault.new ≡ no_fault }
+    ensures unreported { result ≡ 0 → fault.new ≡ no_fault }
     // If the parts are accepted, the only possible fault is out of memory.
     ensures succeeds { (records : List Record) → IsAcceptedSet (bytes_of_lent parts.now) records → (result ≡ 0) ⊎ (result ≡ 5) }
 {
@@ -165,7 +165,7 @@ pub extern "C" fn tigercanon_normalise<'t>(
         Ok(bytes) => answer_text(bytes, text, fault),
         Err(of) => {
             text.bytes = &[];
-            tell(of, fault)
+            report(of, fault)
         }
     }
 }
@@ -183,10 +183,10 @@ pub extern "C" fn tigercanon_fingerprint(
 ) -> u8
     ensures fingerprint { result ≡ 0 →
         IsFingerprintThrough (masked (mask_of no_sources no_reserved)) (bytes_of_lent parts.now) hash.new.bytes }
-    ensures refused { result ≢ 0 → TellsOne (TellsRefusalOfRead (bytes_of_lent parts.now)) result fault.new }
+    ensures refused { result ≢ 0 → ReportsOne (ReportsRefusalOfRead (bytes_of_lent parts.now)) result fault.new }
     ensures statuses { (result ≡ 0) ⊎ (result ≡ 3) ⊎ (result ≡ 5) }
     ensures kept { result ≢ 0 → hash.new ≡ hash.old }
-    ensures untold { result ≡ 0 → fault.new ≡ no_fault }
+    ensures unreported { result ≡ 0 → fault.new ≡ no_fault }
     // If the parts are accepted, the only possible fault is out of memory.
     ensures succeeds { (records : List Record) → IsAcceptedSet (bytes_of_lent parts.now) records → (result ≡ 0) ⊎ (result ≡ 5) }
 {
@@ -194,9 +194,9 @@ pub extern "C" fn tigercanon_fingerprint(
     match fingerprint_parts(alloc, parts, mask) {
         Ok(bytes) => {
             hash.bytes = bytes;
-            tell_none(fault)
+            report_none(fault)
         }
-        Err(of) => tell(of, fault),
+        Err(of) => report(of, fault),
     }
 }
 
@@ -219,20 +219,20 @@ pub extern "C" fn tigercanon_compare(
         AreDifferentThrough (masked (mask_of no_sources no_reserved)) (bytes_of_lent first.now) (bytes_of_lent second.now) }
     // Otherwise, unless memory ran out, one of them is refused, the second only if the first is accepted.
     ensures refused { 1 < result →
-        TellsOneOfTwo (TellsRefusalOfOne (bytes_of_lent first.now) (bytes_of_lent second.now)) result fault.new }
+        ReportsOneOfTwo (ReportsRefusalOfOne (bytes_of_lent first.now) (bytes_of_lent second.now)) result fault.new }
     ensures statuses { (result ≡ 0) ⊎ (result ≡ 1) ⊎ (result ≡ 3) ⊎ (result ≡ 5) }
-    ensures untold { result < 2 → fault.new ≡ no_fault }
+    ensures unreported { result < 2 → fault.new ≡ no_fault }
     // For a set that is accepted, the only possible fault is out of memory.
     ensures succeeds { 1 < result →
-        TellsOneOfTwo (TellsMemoryOfAccepted (bytes_of_lent first.now) (bytes_of_lent second.now)) result fault.new }
+        ReportsOneOfTwo (ReportsMemoryOfAccepted (bytes_of_lent first.now) (bytes_of_lent second.now)) result fault.new }
 {
     let mask = mask_of(no_sources, no_reserved);
     match compare_parts(alloc, first, second, mask) {
-        Ok(true) => tell_none(fault),
+        Ok(true) => report_none(fault),
         Ok(false) => {
-            tell_none(fault);
+            report_none(fault);
             1
         }
-        Err(of) => tell_of_two(of, fault),
+        Err(of) => report_of_two(of, fault),
     }
 }

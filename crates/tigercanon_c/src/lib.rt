@@ -8,7 +8,7 @@
 
 mod calls;
 mod edge;
-mod telling;
+mod reporting;
 
 pub use edge::{
     FaultNumbers, Hash, Part, Text, tigercanon_check, tigercanon_compare, tigercanon_fingerprint,

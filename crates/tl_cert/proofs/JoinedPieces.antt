@@ -26,6 +26,6 @@ module _ {X : Type 0} (xs ys : List X) where
 pub list_joined : {X : Type 0} (old items list : List X) (ranges all_ranges : List (ℕ × ℕ)) (lists : List (List X)) (start end : ℕ)
     → items ≡ old ++ list → all_ranges ≡ ranges ++ ((start, end) ∷ []) → start ≡ length old → end ≡ length items
     → AreWithin (length old) ranges → pieces_in old ranges ≡ lists → pieces_in items all_ranges ≡ lists ++ (list ∷ [])
-list_joined old items list ranges all_ranges lists start end grown added s e h told =
+list_joined old items list ranges all_ranges lists start end grown added s e h stated =
     ap (λ xs. pieces_in xs all_ranges) grown ∙ ap (pieces_in (old ++ list)) added
-    ∙ piece_added old list ranges start end s (e ∙ ap length grown) h ∙ ap (λ ls. ls ++ (list ∷ [])) told
+    ∙ piece_added old list ranges start end s (e ∙ ap length grown) h ∙ ap (λ ls. ls ++ (list ∷ [])) stated

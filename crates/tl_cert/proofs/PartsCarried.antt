@@ -50,10 +50,10 @@ module _ {K V : Type 0} {cmp : K → K → Ordering} (o : IsKeyOrder cmp) where
   )
 
   -- the entries are those that their keys find
-  retold : (ds : List (K × V)) (d : V) (es : List (K × V)) → AllByRecursion (λ e. value_under cmp e.0 ds ≡ Some e.1) es
+  stated_again : (ds : List (K × V)) (d : V) (es : List (K × V)) → AllByRecursion (λ e. value_under cmp e.0 ds ≡ Some e.1) es
       → map (λ k. (k, unwrap_or (value_under cmp k ds) d)) (entry_keys es) ≡ es
-  retold ds d [] a = refl
-  retold ds d (e ∷ es) a = λ i. (e.0, unwrap_or (a.0 i) d) ∷ retold ds d es a.1 i
+  stated_again ds d [] a = refl
+  stated_again ds d (e ∷ es) a = λ i. (e.0, unwrap_or (a.0 i) d) ∷ stated_again ds d es a.1 i
 
   no_keys : (ds : List (K × V)) → IsPermutation [] (entry_keys ds) → IsPermutation [] ds
   no_keys [] p = IsPermutation-refl []
@@ -64,9 +64,9 @@ module _ {K V : Type 0} {cmp : K → K → Ordering} (o : IsKeyOrder cmp) where
       → AllByRecursion (λ e. value_under cmp e.0 ds ≡ Some e.1) es → IsPermutation es ds
   entries_permuted [] ds p a h = no_keys ds p
   entries_permuted (e ∷ es) ds p a h =
-      subst (λ xs. IsPermutation xs ds) (retold ds e.1 (e ∷ es) h)
+      subst (λ xs. IsPermutation xs ds) (stated_again ds e.1 (e ∷ es) h)
       (subst (IsPermutation (map (λ k. (k, unwrap_or (value_under cmp k ds) e.1)) (entry_keys (e ∷ es))))
-      (retold ds e.1 ds (each_under ds a))
+      (stated_again ds e.1 ds (each_under ds a))
       (IsPermutation-map (λ k. (k, unwrap_or (value_under cmp k ds) e.1)) (entry_keys (e ∷ es)) (entry_keys ds) p))
 
   permuted_entries : (es ds : List (K × V)) → IsPermutation es ds → IsApart cmp (entry_keys ds)

@@ -4,7 +4,7 @@ use Rattle.std.proofs.Props.{props}
 use Rattle.tl_layout.specs.declared.mask.Mask.{Mask}
 use Rattle.tl_layout.specs.declared.type7.Body7.{Body7}
 use Rattle.tl_county.specs.County.{County}
-use Rattle.tl_cert.specs.MaskedTables.{TellsBodies}
+use Rattle.tl_cert.specs.MaskedTables.{MatchesBodies}
 
-pub TellsBodies-prop : (mask : Mask) (county : County) (bodies : List (List Body7)) → IsProp (TellsBodies mask county bodies)
-TellsBodies-prop mask county bodies = hlevel props
+pub MatchesBodies-prop : (mask : Mask) (county : County) (bodies : List (List Body7)) → IsProp (MatchesBodies mask county bodies)
+MatchesBodies-prop mask county bodies = hlevel props

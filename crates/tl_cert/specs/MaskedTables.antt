@@ -7,5 +7,5 @@ use Rattle.tl_county.specs.Entries.{entry_values}
 use Rattle.tl_cert.specs.MaskedCounty.{masked}
 
 -- if the mask leaves out SOURCE, these are the contents of each landmark under the mask
-abbrev pub TellsBodies : Mask → County → List (List Body7) → Type 0
-TellsBodies mask county bodies = mask.sources ≡ true → bodies ≡ entry_values (masked mask county).landmarks
+abbrev pub MatchesBodies : Mask → County → List (List Body7) → Type 0
+MatchesBodies mask county bodies = mask.sources ≡ true → bodies ≡ entry_values (masked mask county).landmarks

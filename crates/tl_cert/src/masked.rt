@@ -7,8 +7,8 @@ ghost use Rattle.std.specs.Prelude.{◌≡◌, IfErr, IfOk, true};
 ghost use Rattle.tl_cert.specs.MaskedCounty.{masked};
 ghost use Rattle.tl_cert.specs.MaskedLaws.{masked_is_county};
 ghost use Rattle.tl_cert.specs.MaskedLimits.{masked_within_limits};
-ghost use Rattle.tl_cert.specs.MaskedProps.{TellsBodies-prop};
-ghost use Rattle.tl_cert.specs.MaskedTables.{TellsBodies};
+ghost use Rattle.tl_cert.specs.MaskedProps.{MatchesBodies-prop};
+ghost use Rattle.tl_cert.specs.MaskedTables.{MatchesBodies};
 ghost use Rattle.tl_county.specs.ChartWords.{bodies_at};
 ghost use Rattle.tl_county.specs.Limits.{most_records};
 
@@ -25,7 +25,7 @@ pub struct Masked<C: Chart> {
     chart: C,
     mask: Mask,
     bodies: JoinedLists<Body7>,
-    ghost told: { TellsBodies mask (C.county chart) bodies } by { TellsBodies-prop mask (C.county chart) bodies },
+    ghost stated: { MatchesBodies mask (C.county chart) bodies } by { MatchesBodies-prop mask (C.county chart) bodies },
 }
 
 /// A content under a mask.

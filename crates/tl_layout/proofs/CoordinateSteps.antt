@@ -29,9 +29,9 @@ pub found_is : (limit m sign : ℕ) (text field : List ℕ) (found : Option ℤ)
     → number_after 0 text ≡ Some m → m ≤ limit → IfSome found (λ value. sign ≡ 43 → Value value ≡ plus_of (Some m))
     → IfSome found (λ value. sign ≡ 45 → Value value ≡ minus_of (Some m)) → IfSome found (λ _. (sign ≡ 43) ⊎ (sign ≡ 45))
     → IfSome found (λ value. coordinate_of limit field ≡ Value value)
-found_is limit m sign text field None is d n h plus minus told = tt
-found_is limit m sign text field (Some value) is d n h plus minus told =
-    ap (coordinate_of limit) is ∙ signed_is limit m sign text value d n h plus minus told
+found_is limit m sign text field None is d n h plus minus reported = tt
+found_is limit m sign text field (Some value) is d n h plus minus reported =
+    ap (coordinate_of limit) is ∙ signed_is limit m sign text value d n h plus minus reported
 
 -- a field is its first byte and the bytes after it
 pub first_and_eight : (field : List ℕ) → length field ≡ 9 → field ≡ get_or field 0 0 ∷ chunk 1 8 field

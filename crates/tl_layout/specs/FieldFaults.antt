@@ -37,7 +37,7 @@ HasMalformedLatitude line first = IsMalformed MOST_LATITUDE (columns (first + 10
 
 -- The fault reported for a pair that begins at this column: at the latitude's column if only the latitude is malformed, and at
 -- the first column otherwise.
-pub record IsToldOfPair (line : List ℕ) (first : ℕ) (fault : FieldFault) : Type 0 where
+pub record IsReportedOfPair (line : List ℕ) (first : ℕ) (fault : FieldFault) : Type 0 where
   pub kind : fault.kind ≡ BadPoint
   pub longitude : HasMalformedLongitude line first → fault.column ≡ first
   pub latitude : ¬ HasMalformedLongitude line first → HasMalformedLatitude line first → fault.column ≡ first + 10
@@ -46,29 +46,29 @@ pub record IsToldOfPair (line : List ℕ) (first : ℕ) (fault : FieldFault) : T
 -- the field spells no number, but must have one
 pub record IsNumberFault (line : List ℕ) (first last : ℕ) (fault : FieldFault) : Type 0 where
   pub none_spelled : (n : ℕ) → ¬ SpellsNumber (columns first last line) n
-  pub told : fault ≡ bad_number first
+  pub reported : fault ≡ bad_number first
 
 -- the field spells neither a number nor none
 pub record IsNumberOrNoneFault (line : List ℕ) (first last : ℕ) (fault : FieldFault) : Type 0 where
   pub none_spelled : (n : Option ℕ) → ¬ SpellsNumberOrNone (columns first last line) n
-  pub told : fault ≡ bad_number first
+  pub reported : fault ≡ bad_number first
 
 -- the pair spells no point, but must have one
 pub record IsPairFault (line : List ℕ) (first : ℕ) (fault : FieldFault) : Type 0 where
   pub none_spelled : (point : _) → ¬ SpellsPoint (columns first (first + 9) line) (columns (first + 10) (first + 18) line) point
-  pub told : IsToldOfPair line first fault
+  pub reported : IsReportedOfPair line first fault
 
 -- the pair spells neither a point nor none
 pub record IsPairOrNoneFault (line : List ℕ) (first : ℕ) (fault : FieldFault) : Type 0 where
   pub none_spelled : (point : _) → ¬ SpellsPointOrNone (columns first (first + 9) line) (columns (first + 10) (first + 18) line) point
-  pub told : IsToldOfPair line first fault
+  pub reported : IsReportedOfPair line first fault
 
 -- the place that begins at this column is used, but one of the places before it, which spell these items, is unused
 pub record IsGap {A : Type 0} (Spells : ℕ → Option A → Type 0) (column before : ℕ) (items : List A) (fault : FieldFault) : Type 0 where
   pub item : A
   pub used : Spells column (Some item)
   pub fewer : length items < before
-  pub told : fault ≡ gap column
+  pub reported : fault ≡ gap column
 
 -- The leftmost faulty place of that many, from this column on: the places before it spell items, and either it is malformed or
 -- it is used after an unused place.

@@ -98,7 +98,7 @@ fn signed(sign: u8, magnitude: u64) -> Option<i32>
     requires { magnitude < 1000000000 }
     ensures plus { IfSome result (λ value. sign ≡ 43 → Value value ≡ plus_of (Some magnitude)) }
     ensures minus { IfSome result (λ value. sign ≡ 45 → Value value ≡ minus_of (Some magnitude)) }
-    ensures told { IfSome result (λ _. (sign ≡ 43) ⊎ (sign ≡ 45)) }
+    ensures reported { IfSome result (λ _. (sign ≡ 43) ⊎ (sign ≡ 45)) }
 {
     match sign {
         b'+' => Some(magnitude as i32),

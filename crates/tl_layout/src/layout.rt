@@ -79,5 +79,5 @@ pub trait Layout: Sized {
     ghost spelled_is_read: { (line : List ℕ) (r : Self) → IsLine RTYPE LEN line → Spells line r → reading line ≡ Ok r };
 
     /// Reading a full line fails exactly with its leftmost fault.
-    ghost tells_leftmost: { (line : List ℕ) (fault : FieldFault) → IsLine RTYPE LEN line → (reading line ≡ Err fault ↔ IsFault line fault) };
+    ghost shows_leftmost: { (line : List ℕ) (fault : FieldFault) → IsLine RTYPE LEN line → (reading line ≡ Err fault ↔ IsFault line fault) };
 }

@@ -176,5 +176,5 @@ impl Layout for Rec1 {
 
     ghost spelled_is_read = { type_1_laws.spelled_is_read };
 
-    ghost tells_leftmost = { type_1_laws.tells_leftmost };
+    ghost shows_leftmost = { type_1_laws.shows_leftmost };
 }

@@ -134,5 +134,5 @@ impl Layout for Rec2 {
 
     ghost spelled_is_read = { type_2_laws.spelled_is_read };
 
-    ghost tells_leftmost = { type_2_laws.tells_leftmost };
+    ghost shows_leftmost = { type_2_laws.shows_leftmost };
 }

@@ -135,5 +135,5 @@ impl Layout for Rec4 {
 
     ghost spelled_is_read = { type_4_laws.spelled_is_read };
 
-    ghost tells_leftmost = { type_4_laws.tells_leftmost };
+    ghost shows_leftmost = { type_4_laws.shows_leftmost };
 }

@@ -201,5 +201,5 @@ impl Layout for Rec5 {
 
     ghost spelled_is_read = { type_5_laws.spelled_is_read };
 
-    ghost tells_leftmost = { type_5_laws.tells_leftmost };
+    ghost shows_leftmost = { type_5_laws.shows_leftmost };
 }

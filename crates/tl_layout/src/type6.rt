@@ -129,5 +129,5 @@ impl Layout for Rec6 {
 
     ghost spelled_is_read = { type_6_laws.spelled_is_read };
 
-    ghost tells_leftmost = { type_6_laws.tells_leftmost };
+    ghost shows_leftmost = { type_6_laws.shows_leftmost };
 }

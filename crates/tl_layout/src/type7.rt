@@ -217,5 +217,5 @@ impl Layout for Rec7 {
 
     ghost spelled_is_read = { type_7_laws.spelled_is_read };
 
-    ghost tells_leftmost = { type_7_laws.tells_leftmost };
+    ghost shows_leftmost = { type_7_laws.shows_leftmost };
 }

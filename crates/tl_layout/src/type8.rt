@@ -154,5 +154,5 @@ impl Layout for Rec8 {
 
     ghost spelled_is_read = { type_8_laws.spelled_is_read };
 
-    ghost tells_leftmost = { type_8_laws.tells_leftmost };
+    ghost shows_leftmost = { type_8_laws.shows_leftmost };
 }

@@ -340,5 +340,5 @@ impl Layout for RecI {
 
     ghost spelled_is_read = { type_i_laws.spelled_is_read };
 
-    ghost tells_leftmost = { type_i_laws.tells_leftmost };
+    ghost shows_leftmost = { type_i_laws.shows_leftmost };
 }

@@ -200,5 +200,5 @@ impl Layout for RecP {
 
     ghost spelled_is_read = { type_p_laws.spelled_is_read };
 
-    ghost tells_leftmost = { type_p_laws.tells_leftmost };
+    ghost shows_leftmost = { type_p_laws.shows_leftmost };
 }

@@ -106,7 +106,7 @@ fault_unplaced part line other_part other_line (line_faults.Field f) = field_fau
 -- the fault of a line with the same bytes
 fault_of_same : {R : Type 0} (judge : Judge R) (limit : ℕ) (records : List R) (line other : PlacedLine) (fault : LoadFault)
     → line.bytes ≡ other.bytes → IsFaultOf judge limit records line fault
-    → (told : LoadFault) × IsFaultOf judge limit records other told × (without_place told ≡ without_place fault)
+    → (reported : LoadFault) × IsFaultOf judge limit records other reported × (without_place reported ≡ without_place fault)
 fault_of_same judge limit records line other fault same (of_line own h e) = (
   fault_at other.part other.line own,
   of_line own (subst (λ (bytes : List ℕ). judge.IsFault bytes own) same h) refl,
@@ -118,12 +118,12 @@ fault_of_same judge limit records line other fault same (of_limit r has full e) 
 -- the first fault of parts with the same lines
 pub fault_elsewhere : {R : Type 0} (judge : Judge R) (limit : ℕ) (parts others : List (List ℕ)) (fault : LoadFault)
     → HaveSameLines parts others → FaultAt judge limit parts fault
-    → (told : LoadFault) × FaultAt judge limit others told × (without_place told ≡ without_place fault)
+    → (reported : LoadFault) × FaultAt judge limit others reported × (without_place reported ≡ without_place fault)
 fault_elsewhere judge limit parts others fault same at =
     let found = split_alike at.before at.line at.after (placed_lines others)
     (ap bytes_of (sym at.split) ∙ same_bytes parts others same) in
-    let told = fault_of_same judge limit at.records at.line found.here fault found.same_here at.fault_is in (
-      told.0,
+    let reported = fault_of_same judge limit at.records at.line found.here fault found.same_here at.fault_is in (
+      reported.0,
       record {
         before = found.front;
         line = found.here;
@@ -132,9 +132,9 @@ fault_elsewhere judge limit parts others fault same at =
         split = found.split;
         well = spelled_as judge at.before found.front at.records found.same_front at.well;
         within = at.within;
-        fault_is = told.1;
+        fault_is = reported.1;
       },
-      told.2,
+      reported.2,
     )
 
 -- ---- cutting after the end of a line

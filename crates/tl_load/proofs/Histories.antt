@@ -204,10 +204,10 @@ fault_closed limit l closed open_part bytes f same h comes more later =
 
 -- ---- a loader over a collector
 
-pub with_fault_told : {K T : Type 0} (result : Result T LoadFault) (l : LoadedInto K)
+pub with_fault_reported : {K T : Type 0} (result : Result T LoadFault) (l : LoadedInto K)
     → IfErr result (λ f. (with_fault result l).fault ≡ Some f)
-with_fault_told (Ok x) l = tt
-with_fault_told (Err f) l = refl
+with_fault_reported (Ok x) l = tt
+with_fault_reported (Err f) l = refl
 
 -- a loader that was fed nothing
 pub fed_nothing : {K : Type 0} (holds : K → List Record → Type 0) (limit : ℕ) (kept : K) (counts unfinished : List ℕ) → holds kept []
@@ -248,11 +248,11 @@ pub stands_at : {K : Type 0} (holds : K → List Record → Type 0) (limit : ℕ
     (f : LoadFault) → l.fault ≡ Some f → WasFedInto holds limit l closed open_part → IsOfLines f → IsFaultHowever limit closed open_part f
 stands_at holds limit l closed open_part f e w = at_some _ _ l.fault f e w.comes
 
-pub told_at : {K T : Type 0} (holds : K → List Record → Type 0) (limit : ℕ) (l : LoadedInto K) (closed : List (List ℕ)) (open_part : List ℕ)
+pub reported_at : {K T : Type 0} (holds : K → List Record → Type 0) (limit : ℕ) (l : LoadedInto K) (closed : List (List ℕ)) (open_part : List ℕ)
     (result : Result T LoadFault) → IfErr result (λ f. l.fault ≡ Some f) → WasFedInto holds limit l closed open_part
     → IfErr result (λ f. IsOfLines f → IsFaultHowever limit closed open_part f)
-told_at holds limit l closed open_part (Ok x) e w = tt
-told_at holds limit l closed open_part (Err f) e w = stands_at holds limit l closed open_part f e w
+reported_at holds limit l closed open_part (Ok x) e w = tt
+reported_at holds limit l closed open_part (Err f) e w = stands_at holds limit l closed open_part f e w
 
 -- the records that were kept, if there is no recorded fault
 pub record Has {K : Type 0} (holds : K → List Record → Type 0) (limit : ℕ) (l : LoadedInto K) (closed : List (List ℕ))

@@ -18,8 +18,8 @@ pub record Reading {R : Type 0} (rtype len : ℕ) (reading : List ℕ → Result
   pub only : (line : List ℕ) (r : R) → IsLine rtype len line → Spells line r → reading line ≡ Ok r
 
 -- what a layout promises about its reading and the faults of lines
-abbrev pub TellsFaults : {R : Type 0} → ℕ → ℕ → (List ℕ → Result R FieldFault) → (List ℕ → FieldFault → Type 0) → Type 0
-TellsFaults rtype len reading IsFault = (line : List ℕ) (fault : FieldFault) → IsLine rtype len line
+abbrev pub ReportsFaults : {R : Type 0} → ℕ → ℕ → (List ℕ → Result R FieldFault) → (List ℕ → FieldFault → Type 0) → Type 0
+ReportsFaults rtype len reading IsFault = (line : List ℕ) (fault : FieldFault) → IsLine rtype len line
     → (reading line ≡ Err fault ↔ IsFault line fault)
 
 chosen : {A : Type 0} (b : Bool) (x : LineFault) (y : Result A LineFault) (r : A) → cond b (Err x) y ≡ Ok r → (b ≡ false) × (y ≡ Ok r)
@@ -95,7 +95,7 @@ bad_found bytes lt = record {
   bad = bad_is bytes lt;
   allowed_before = λ before h. not-false (is_allowed (get_or bytes before 0))
       (fails_before_first (λ b. not (is_allowed b)) bytes before 0 h);
-  told = refl;
+  reported = refl;
 }
 
 bad_only : (bytes : List ℕ) (column : ℕ) (h : IsLeftmostBadByte bytes column) → first_bad bytes ≡ h.place
@@ -116,10 +116,10 @@ read_fails {R} len IsFault line (Err f) fault short allowed found e =
 
 -- the fault that a line of a layout is judged to have is its fault
 pub judged_fault_found : {R : Type 0} (rtype len : ℕ) (reading : List ℕ → Result R FieldFault) (IsFault : List ℕ → FieldFault → Type 0)
-    → TellsFaults rtype len reading IsFault → (line : List ℕ) (fault : LineFault) → take 1 line ≡ rtype ∷ []
+    → ReportsFaults rtype len reading IsFault → (line : List ℕ) (fault : LineFault) → take 1 line ≡ rtype ∷ []
     → judged_as len reading line ≡ Err fault → IsFaultIn len IsFault line fault
 unfolding judged_as judged_full
-judged_fault_found {R} rtype len reading IsFault tells line fault begins = go (ltb len (length line)) refl
+judged_fault_found {R} rtype len reading IsFault reports line fault begins = go (ltb len (length line)) refl
   where
     full : (b : Bool) → ltb (first_bad (filled len line)) (length (filled len line)) ≡ b → length line ≤ len
         → cond b (Err (line_faults.BadByte (first_bad (filled len line) + 1))) (of_reading (reading (filled len line))) ≡ Err fault
@@ -129,7 +129,7 @@ judged_fault_found {R} rtype len reading IsFault tells line fault begins = go (l
     full false t short e =
         let allowed = none_bad (filled len line) t in
         read_fails len IsFault line (reading (filled len line)) fault short allowed
-        (λ f failed. (tells (filled len line) f (full_line rtype len line begins short allowed)).0 failed) e
+        (λ f failed. (reports (filled len line) f (full_line rtype len line begins short allowed)).0 failed) e
 
     go : (b : Bool) → ltb len (length line) ≡ b → cond b (Err line_faults.LineTooLong) (judged_full reading (filled len line)) ≡ Err fault
         → IsFaultIn len IsFault line fault
@@ -138,23 +138,23 @@ judged_fault_found {R} rtype len reading IsFault tells line fault begins = go (l
 
 -- a line of a layout is judged to have the fault that it has
 pub judged_fault_only : {R : Type 0} (rtype len : ℕ) (reading : List ℕ → Result R FieldFault) (IsFault : List ℕ → FieldFault → Type 0)
-    → TellsFaults rtype len reading IsFault → (line : List ℕ) (fault : LineFault) → take 1 line ≡ rtype ∷ []
+    → ReportsFaults rtype len reading IsFault → (line : List ℕ) (fault : LineFault) → take 1 line ≡ rtype ∷ []
     → IsFaultIn len IsFault line fault → judged_as len reading line ≡ Err fault
 unfolding judged_as judged_full
-judged_fault_only rtype len reading IsFault tells line line_faults.UnknownType begins h = absurd h
-judged_fault_only rtype len reading IsFault tells line line_faults.LineTooLong begins h =
+judged_fault_only rtype len reading IsFault reports line line_faults.UnknownType begins h = absurd h
+judged_fault_only rtype len reading IsFault reports line line_faults.LineTooLong begins h =
     ap (λ (b : Bool). cond b (Err line_faults.LineTooLong) (judged_full reading (filled len line))) (lt-ltb len (length line) h)
-judged_fault_only rtype len reading IsFault tells line (line_faults.BadByte column) begins h =
+judged_fault_only rtype len reading IsFault reports line (line_faults.BadByte column) begins h =
     let place = bad_only (filled len line) column h.1 in
     let within = h.1.within in
-    let told = h.1.told in
+    let reported = h.1.reported in
     let same : first_bad (filled len line) + 1 ≡ column = omega arith in
     ap (λ (b : Bool). cond b (Err line_faults.LineTooLong) (judged_full reading (filled len line))) (le-ltb len (length line) h.0)
     ∙ ap (λ (b : Bool). cond b (Err (line_faults.BadByte (first_bad (filled len line) + 1))) (of_reading (reading (filled len line))))
     (lt-ltb (first_bad (filled len line)) (length (filled len line)) (omega arith))
     ∙ ap (λ (c : ℕ). Err (line_faults.BadByte c)) same
-judged_fault_only rtype len reading IsFault tells line (line_faults.Field fault) begins h =
-    let read = (tells (filled len line) fault (full_line rtype len line begins h.0 h.1)).1 h.2 in
+judged_fault_only rtype len reading IsFault reports line (line_faults.Field fault) begins h =
+    let read = (reports (filled len line) fault (full_line rtype len line begins h.0 h.1)).1 h.2 in
     ap (λ (b : Bool). cond b (Err line_faults.LineTooLong) (judged_full reading (filled len line))) (le-ltb len (length line) h.0)
     ∙ ap (λ (b : Bool). cond b (Err (line_faults.BadByte (first_bad (filled len line) + 1))) (of_reading (reading (filled len line))))
     (bad_none (filled len line) h.1)

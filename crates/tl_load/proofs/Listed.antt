@@ -52,8 +52,8 @@ counted_of l h = subst (AreCounted l.counts) (sym h.1.held) h.1.counted
 pub listed_after : {T : Type 0} (before after : LoadedInto Records) (result : Result T LoadFault) → IsListed before
     → (HasSome holds_list before → OnOk result (HasSome holds_list after)) → IfErr result (λ f. after.fault ≡ Some f)
     → ((f : LoadFault) → before.fault ≡ Some f → result ≡ Err f) → IsListed after
-listed_after before after (Err f) was kept told stood none = absurd cc
-listed_after {T} before after (Ok x) was kept told stood none = go before.fault refl
+listed_after before after (Err f) was kept reported stood none = absurd cc
+listed_after {T} before after (Ok x) was kept reported stood none = go before.fault refl
   where
     go : (o : Option LoadFault) → before.fault ≡ o → AreCounted after.counts after.kept.items
     go None e = counted_of after (kept (some_of before (was e)))

@@ -183,41 +183,41 @@ fails_by {R} b t line wrap v rest fault h here later = go (eqb b t) refl h
     go true e k = here (begins_so b t line e) (unwrapped_err wrap v fault k)
     go false e k = later (begins_otherwise b t line e) k
 
-no_type_told : (fault : LineFault) → ◌≡◌ {A = Result Record LineFault} (Err line_faults.UnknownType) (Err fault)
+no_type_reported : (fault : LineFault) → ◌≡◌ {A = Result Record LineFault} (Err line_faults.UnknownType) (Err fault)
     → fault ≡ line_faults.UnknownType
-no_type_told fault e = cc
+no_type_reported fault e = cc
 
 fault_by_first : (b : ℕ) (line : List ℕ) (fault : LineFault) → judged_by b (b ∷ line) ≡ Err fault → IsFaultOfLine (b ∷ line) fault
 unfolding judged_by
 fault_by_first b line fault e =
     fails_by b rtype_1 line One (judged_as len_1 type_1_reading (b ∷ line)) _ fault e
     (λ begins failed. of_type_1 begins
-    (judged_fault_found rtype_1 len_1 type_1_reading _ type_1_laws.tells_leftmost (b ∷ line) fault begins failed)) (λ n0 e0.
+    (judged_fault_found rtype_1 len_1 type_1_reading _ type_1_laws.shows_leftmost (b ∷ line) fault begins failed)) (λ n0 e0.
     fails_by b rtype_2 line Two (judged_as len_2 type_2_reading (b ∷ line)) _ fault e0
     (λ begins failed. of_type_2 begins
-    (judged_fault_found rtype_2 len_2 type_2_reading _ type_2_laws.tells_leftmost (b ∷ line) fault begins failed)) (λ n1 e1.
+    (judged_fault_found rtype_2 len_2 type_2_reading _ type_2_laws.shows_leftmost (b ∷ line) fault begins failed)) (λ n1 e1.
     fails_by b rtype_4 line Four (judged_as len_4 type_4_reading (b ∷ line)) _ fault e1
     (λ begins failed. of_type_4 begins
-    (judged_fault_found rtype_4 len_4 type_4_reading _ type_4_laws.tells_leftmost (b ∷ line) fault begins failed)) (λ n2 e2.
+    (judged_fault_found rtype_4 len_4 type_4_reading _ type_4_laws.shows_leftmost (b ∷ line) fault begins failed)) (λ n2 e2.
     fails_by b rtype_5 line Five (judged_as len_5 type_5_reading (b ∷ line)) _ fault e2
     (λ begins failed. of_type_5 begins
-    (judged_fault_found rtype_5 len_5 type_5_reading _ type_5_laws.tells_leftmost (b ∷ line) fault begins failed)) (λ n3 e3.
+    (judged_fault_found rtype_5 len_5 type_5_reading _ type_5_laws.shows_leftmost (b ∷ line) fault begins failed)) (λ n3 e3.
     fails_by b rtype_6 line Six (judged_as len_6 type_6_reading (b ∷ line)) _ fault e3
     (λ begins failed. of_type_6 begins
-    (judged_fault_found rtype_6 len_6 type_6_reading _ type_6_laws.tells_leftmost (b ∷ line) fault begins failed)) (λ n4 e4.
+    (judged_fault_found rtype_6 len_6 type_6_reading _ type_6_laws.shows_leftmost (b ∷ line) fault begins failed)) (λ n4 e4.
     fails_by b rtype_7 line Seven (judged_as len_7 type_7_reading (b ∷ line)) _ fault e4
     (λ begins failed. of_type_7 begins
-    (judged_fault_found rtype_7 len_7 type_7_reading _ type_7_laws.tells_leftmost (b ∷ line) fault begins failed)) (λ n5 e5.
+    (judged_fault_found rtype_7 len_7 type_7_reading _ type_7_laws.shows_leftmost (b ∷ line) fault begins failed)) (λ n5 e5.
     fails_by b rtype_8 line Eight (judged_as len_8 type_8_reading (b ∷ line)) _ fault e5
     (λ begins failed. of_type_8 begins
-    (judged_fault_found rtype_8 len_8 type_8_reading _ type_8_laws.tells_leftmost (b ∷ line) fault begins failed)) (λ n6 e6.
+    (judged_fault_found rtype_8 len_8 type_8_reading _ type_8_laws.shows_leftmost (b ∷ line) fault begins failed)) (λ n6 e6.
     fails_by b rtype_i line I (judged_as len_i type_i_reading (b ∷ line)) _ fault e6
     (λ begins failed. of_type_i begins
-    (judged_fault_found rtype_i len_i type_i_reading _ type_i_laws.tells_leftmost (b ∷ line) fault begins failed)) (λ n7 e7.
+    (judged_fault_found rtype_i len_i type_i_reading _ type_i_laws.shows_leftmost (b ∷ line) fault begins failed)) (λ n7 e7.
     fails_by b rtype_p line P (judged_as len_p type_p_reading (b ∷ line)) _ fault e7
     (λ begins failed. of_type_p begins
-    (judged_fault_found rtype_p len_p type_p_reading _ type_p_laws.tells_leftmost (b ∷ line) fault begins failed)) (λ n8 e8.
-    of_no_type (n0, (n1, (n2, (n3, (n4, (n5, (n6, (n7, (n8, tt))))))))) (no_type_told fault e8))))))))))
+    (judged_fault_found rtype_p len_p type_p_reading _ type_p_laws.shows_leftmost (b ∷ line) fault begins failed)) (λ n8 e8.
+    of_no_type (n0, (n1, (n2, (n3, (n4, (n5, (n6, (n7, (n8, tt))))))))) (no_type_reported fault e8))))))))))
 
 empty_has_no_type : AllByRecursion (λ (rtype : ℕ). ¬ BeginsWith rtype []) record_types
 empty_has_no_type = ((λ e. cc), ((λ e. cc), ((λ e. cc), ((λ e. cc), ((λ e. cc), ((λ e. cc), ((λ e. cc), ((λ e. cc), ((λ e. cc), tt)))))))))
@@ -225,7 +225,7 @@ empty_has_no_type = ((λ e. cc), ((λ e. cc), ((λ e. cc), ((λ e. cc), ((λ e. 
 -- the fault that a line is judged to have is its fault
 pub fault_of_judged : (line : List ℕ) (fault : LineFault) → judged line ≡ Err fault → IsFaultOfLine line fault
 unfolding judged
-fault_of_judged [] fault e = of_no_type empty_has_no_type (no_type_told fault e)
+fault_of_judged [] fault e = of_no_type empty_has_no_type (no_type_reported fault e)
 fault_of_judged (b ∷ line) fault e = fault_by_first b line fault e
 
 unknown_judged : (line : List ℕ) → AllByRecursion (λ (rtype : ℕ). ¬ BeginsWith rtype line) record_types
@@ -250,23 +250,23 @@ pub judged_of_fault : (line : List ℕ) (fault : LineFault) → IsFaultOfLine li
 unfolding judged_by
 judged_of_fault line fault (of_no_type h e) = unknown_judged line h ∙ ap (λ (z : LineFault). Err z) (sym e)
 judged_of_fault line fault (of_type_1 begins h) = by_first rtype_1 line begins
-    ∙ wrapped_err One _ fault (judged_fault_only rtype_1 len_1 type_1_reading _ type_1_laws.tells_leftmost line fault begins h)
+    ∙ wrapped_err One _ fault (judged_fault_only rtype_1 len_1 type_1_reading _ type_1_laws.shows_leftmost line fault begins h)
 judged_of_fault line fault (of_type_2 begins h) = by_first rtype_2 line begins
-    ∙ wrapped_err Two _ fault (judged_fault_only rtype_2 len_2 type_2_reading _ type_2_laws.tells_leftmost line fault begins h)
+    ∙ wrapped_err Two _ fault (judged_fault_only rtype_2 len_2 type_2_reading _ type_2_laws.shows_leftmost line fault begins h)
 judged_of_fault line fault (of_type_4 begins h) = by_first rtype_4 line begins
-    ∙ wrapped_err Four _ fault (judged_fault_only rtype_4 len_4 type_4_reading _ type_4_laws.tells_leftmost line fault begins h)
+    ∙ wrapped_err Four _ fault (judged_fault_only rtype_4 len_4 type_4_reading _ type_4_laws.shows_leftmost line fault begins h)
 judged_of_fault line fault (of_type_5 begins h) = by_first rtype_5 line begins
-    ∙ wrapped_err Five _ fault (judged_fault_only rtype_5 len_5 type_5_reading _ type_5_laws.tells_leftmost line fault begins h)
+    ∙ wrapped_err Five _ fault (judged_fault_only rtype_5 len_5 type_5_reading _ type_5_laws.shows_leftmost line fault begins h)
 judged_of_fault line fault (of_type_6 begins h) = by_first rtype_6 line begins
-    ∙ wrapped_err Six _ fault (judged_fault_only rtype_6 len_6 type_6_reading _ type_6_laws.tells_leftmost line fault begins h)
+    ∙ wrapped_err Six _ fault (judged_fault_only rtype_6 len_6 type_6_reading _ type_6_laws.shows_leftmost line fault begins h)
 judged_of_fault line fault (of_type_7 begins h) = by_first rtype_7 line begins
-    ∙ wrapped_err Seven _ fault (judged_fault_only rtype_7 len_7 type_7_reading _ type_7_laws.tells_leftmost line fault begins h)
+    ∙ wrapped_err Seven _ fault (judged_fault_only rtype_7 len_7 type_7_reading _ type_7_laws.shows_leftmost line fault begins h)
 judged_of_fault line fault (of_type_8 begins h) = by_first rtype_8 line begins
-    ∙ wrapped_err Eight _ fault (judged_fault_only rtype_8 len_8 type_8_reading _ type_8_laws.tells_leftmost line fault begins h)
+    ∙ wrapped_err Eight _ fault (judged_fault_only rtype_8 len_8 type_8_reading _ type_8_laws.shows_leftmost line fault begins h)
 judged_of_fault line fault (of_type_i begins h) = by_first rtype_i line begins
-    ∙ wrapped_err I _ fault (judged_fault_only rtype_i len_i type_i_reading _ type_i_laws.tells_leftmost line fault begins h)
+    ∙ wrapped_err I _ fault (judged_fault_only rtype_i len_i type_i_reading _ type_i_laws.shows_leftmost line fault begins h)
 judged_of_fault line fault (of_type_p begins h) = by_first rtype_p line begins
-    ∙ wrapped_err P _ fault (judged_fault_only rtype_p len_p type_p_reading _ type_p_laws.tells_leftmost line fault begins h)
+    ∙ wrapped_err P _ fault (judged_fault_only rtype_p len_p type_p_reading _ type_p_laws.shows_leftmost line fault begins h)
 
 -- the judge of TIGER/Line 2006 finds exactly the records and the faults of lines
 pub tiger_is_sound : IsSound tiger

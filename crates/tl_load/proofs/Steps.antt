@@ -149,8 +149,8 @@ at_place part line line_faults.LineTooLong = tt
 at_place part line (line_faults.BadByte column) = tt
 at_place part line (line_faults.Field fault) = field_place part line fault.column fault.kind
 
-pub place_not_device : (part line : ℕ) (fault : LineFault) (told : LoadFault) → told ≡ fault_at part line fault → IsNotDevice told
-place_not_device part line fault told is = subst IsNotDevice (sym is) (at_place part line fault)
+pub place_not_device : (part line : ℕ) (fault : LineFault) (reported : LoadFault) → reported ≡ fault_at part line fault → IsNotDevice reported
+place_not_device part line fault reported is = subst IsNotDevice (sym is) (at_place part line fault)
 
 -- fields that a step hasn't changed before it judges a line
 pub record IsBefore (mid before : Loaded) : Type 0 where
@@ -254,7 +254,7 @@ refuses before mid after bytes line [] result same split some long none short ju
 refuses before mid after bytes line (c ∷ z) (Ok x) same split some long none short judges = absurd (omega arith)
 refuses before mid after bytes line (c ∷ z) (Err f) same split some long none short judges = λ is more later.
     let fault = err_of (judged line) (judged_long line long) in
-    let told = judges is in
+    let reported = judges is in
     let at_place : after_verdict tiger mid.limit mid.records (next_place mid line) (judged line) ≡ Err
     (fault_at (mid.parts + 1) (mid.judged + 1) fault.0) =
     ap (after_verdict tiger mid.limit mid.records (next_place mid line)) fault.1 in

@@ -25,7 +25,7 @@ pub record IsLeftmostBadByte (line : List ℕ) (column : ℕ) : Type 0 where
   pub within : place < length line
   pub bad : is_allowed (slice_index line place) ≡ false
   pub allowed_before : (before : ℕ) → before < place → is_allowed (slice_index line before) ≡ true
-  pub told : column ≡ place + 1
+  pub reported : column ≡ place + 1
 
 -- The fault of a line of one layout: that it is too long; otherwise, padded with blanks, its leftmost byte that isn't allowed;
 -- or if all bytes are allowed, the fault of its fields.

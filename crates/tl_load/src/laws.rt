@@ -59,7 +59,7 @@ pub fn sets_of_the_same_lines_are_alike()
         → (Spells tiger parts records ↔ Spells tiger others records) }
     ensures fault { (limit : ℕ) (parts others : List (List ℕ)) (fault : LoadFault) → HaveSameLines parts others
         → FaultAt tiger limit parts fault
-        → (told : LoadFault) × FaultAt tiger limit others told × (without_place told ≡ without_place fault) }
+        → (reported : LoadFault) × FaultAt tiger limit others reported × (without_place reported ≡ without_place fault) }
 {}
 
 /// A set can be cut into parts anywhere between lines. The lines stay the same, and the bytes after the cut spell the same as a

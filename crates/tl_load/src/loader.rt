@@ -81,7 +81,7 @@ impl Loader {
         // Each line is judged when it ends, or at its 230th byte.
         ensures well { OnOk result (IsWellAfter WasFed self.old piece.now) }
         ensures ok { OnOk result (self.new.fault ≡ None) }
-        ensures told { IfErr result (λ f. self.new.fault ≡ Some f) }
+        ensures reported { IfErr result (λ f. self.new.fault ≡ Some f) }
         // After a fault nothing changes.
         ensures stood { IfSome self.old.fault (λ f. (result ≡ Err f) × (self.new ≡ self.old)) }
         ensures parts { self.new.parts ≡ self.old.parts }
@@ -103,7 +103,7 @@ impl Loader {
         ensures fault { (limit : ℕ) (closed : List (List ℕ)) (open_part : List ℕ) → WasFed limit self.old closed open_part
             → IfErr result (λ f. IsOfLines f → IsFaultHowever limit (closed ++ open_part ∷ []) [] f) }
         ensures ok { OnOk result (self.new.fault ≡ None) }
-        ensures told { IfErr result (λ f. self.new.fault ≡ Some f) }
+        ensures reported { IfErr result (λ f. self.new.fault ≡ Some f) }
         // After a fault nothing changes.
         ensures stood { IfSome self.old.fault (λ f. (result ≡ Err f) × (self.new ≡ self.old)) }
         ensures parts { self.new.parts ≡ (if is_ok result then self.old.parts + 1 else self.old.parts) }
@@ -129,7 +129,7 @@ impl Loader {
         ensures stops { self.old.fault ≡ None
             → StopsThere R.remaining R.given R.reads source.old source.new (IsWellAfter WasFed self.old) }
         ensures ok { OnOk result (self.new.fault ≡ None) }
-        ensures told { IfErr result (λ f. self.new.fault ≡ Some f) }
+        ensures reported { IfErr result (λ f. self.new.fault ≡ Some f) }
         // After a fault nothing changes, and nothing is read.
         ensures stood { IfSome self.old.fault (λ f. (result ≡ Err f) × (self.new ≡ self.old) × (source.new ≡ source.old)) }
         ensures parts { self.new.parts ≡ (if is_ok result then self.old.parts + 1 else self.old.parts) }

@@ -12,5 +12,5 @@ ArePlaced {K} slot others marks keys =
     (place : ℕ) (key : K) → slice_get keys place ≡ Some key → (slice_index marks (slot key) ≡ place + 1) ⊎ (others key ≡ Some place)
 
 -- the first table's place of a key, or the second table's if the first has none
-abbrev pub told_by : {K : Type 0} → (K → Option ℕ) → (K → Option ℕ) → K → Option ℕ
-told_by first second key = option_or (first key) (second key)
+abbrev pub found_by_either : {K : Type 0} → (K → Option ℕ) → (K → Option ℕ) → K → Option ℕ
+found_by_either first second key = option_or (first key) (second key)

@@ -49,12 +49,12 @@ pub record AreWhole (county : County) (steps : List DirectedChain) : Type 0 wher
   pub within_limits : IsWithinLimits most_records (stepped county steps)
 
 -- the nodes by first appearance, and the ends of each chain
-pub record TellsNodes (county : County) (steps : List DirectedChain) (tables : NodeTables) : Type 0 where
+pub record MatchesNodes (county : County) (steps : List DirectedChain) (tables : NodeTables) : Type 0 where
   pub numbers : tables.numbers ≡ nodes_in_order county (arrangement_of county steps)
   pub ends : tables.ends.items ≡ map ends_of (entry_values (stepped county steps).chains)
 
 -- the polygons by first appearance, the sides of each chain, the new keys in order, and the places of the contents
-pub record TellsPolygons (county : County) (steps : List DirectedChain) (tables : PolygonTables) : Type 0 where
+pub record MatchesPolygons (county : County) (steps : List DirectedChain) (tables : PolygonTables) : Type 0 where
   pub numbers : tables.numbers ≡ polygons_in_order county (arrangement_of county steps)
   pub few : length tables.numbers < 10 ^ 10
   pub sides : tables.sides.items ≡ map sides_of (entry_values (stepped county steps).chains)
@@ -63,13 +63,13 @@ pub record TellsPolygons (county : County) (steps : List DirectedChain) (tables 
   pub by_number : map (under_number county) (numbered tables.numbers) ≡ polygons_by_number (stepped county steps)
 
 -- the names in their new order
-pub record TellsNames (county : County) (steps : List DirectedChain) (tables : NameTables) : Type 0 where
+pub record MatchesNames (county : County) (steps : List DirectedChain) (tables : NameTables) : Type 0 where
   pub feats : tables.feats ≡ entry_keys (names_in_order county (arrangement_of county steps))
   pub names : AreReadAt county.names tables.places.items (names_in_order county (arrangement_of county steps))
   pub few : length tables.feats < 2 ^ 32
 
 -- the landmarks in their new order, their links, and the bounds between which the links of each are
-pub record TellsLandmarks (county : County) (steps : List DirectedChain) (tables : LandmarkTables) : Type 0 where
+pub record MatchesLandmarks (county : County) (steps : List DirectedChain) (tables : LandmarkTables) : Type 0 where
   pub landmarks : AreReadAt county.landmarks tables.places.items (landmarks_in_order county (arrangement_of county steps))
   pub links : tables.links.items ≡ (stepped county steps).links
   pub bounds : tables.bounds.items ≡ link_bounds (stepped county steps).links (length tables.places.items)

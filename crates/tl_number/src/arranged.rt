@@ -11,8 +11,8 @@ ghost use Rattle.tl_number.specs.Arrangement.{renaming_of};
 ghost use Rattle.tl_number.specs.ByNumber.{polygons_by_number};
 ghost use Rattle.tl_number.specs.ByStep.{ends_of, sides_of};
 ghost use Rattle.tl_number.specs.Steps.{arrangement_of};
-ghost use Rattle.tl_number.specs.ViewFacts.{AreWhole, stepped, TellsNodes, TellsPolygons, TellsNames, TellsLandmarks};
-ghost use Rattle.tl_number.specs.ViewProps.{AreWhole-prop, StandOnSides-prop, TellsNodes-prop, TellsPolygons-prop, TellsNames-prop, TellsLandmarks-prop};
+ghost use Rattle.tl_number.specs.ViewFacts.{AreWhole, stepped, MatchesNodes, MatchesPolygons, MatchesNames, MatchesLandmarks};
+ghost use Rattle.tl_number.specs.ViewProps.{AreWhole-prop, StandOnSides-prop, MatchesNodes-prop, MatchesPolygons-prop, MatchesNames-prop, MatchesLandmarks-prop};
 
 use crate::arranged_tables::{Ends, LandmarkTables, NameTables, NodeTables, PolygonTables, Sides};
 use crate::numbers::stands_at;
@@ -51,10 +51,10 @@ pub struct Arranged<C: Chart, S: Evidence = Unknown> {
     pub(crate) standing: PhantomData<S>,
     ghost whole: { AreWhole (C.county chart) steps.items } by { AreWhole-prop (C.county chart) steps.items },
     ghost sides: { AllKeysStandIn (polygons_along (C.county chart).chains) (polygon_keys (C.county chart)) } by { StandOnSides-prop (C.county chart) },
-    ghost nodes_told: { TellsNodes (C.county chart) steps.items nodes } by { TellsNodes-prop (C.county chart) steps.items nodes },
-    ghost polygons_told: { TellsPolygons (C.county chart) steps.items polygons } by { TellsPolygons-prop (C.county chart) steps.items polygons },
-    ghost names_told: { TellsNames (C.county chart) steps.items names } by { TellsNames-prop (C.county chart) steps.items names },
-    ghost landmarks_told: { TellsLandmarks (C.county chart) steps.items landmarks } by { TellsLandmarks-prop (C.county chart) steps.items landmarks },
+    ghost nodes_stated: { MatchesNodes (C.county chart) steps.items nodes } by { MatchesNodes-prop (C.county chart) steps.items nodes },
+    ghost polygons_stated: { MatchesPolygons (C.county chart) steps.items polygons } by { MatchesPolygons-prop (C.county chart) steps.items polygons },
+    ghost names_stated: { MatchesNames (C.county chart) steps.items names } by { MatchesNames-prop (C.county chart) steps.items names },
+    ghost landmarks_stated: { MatchesLandmarks (C.county chart) steps.items landmarks } by { MatchesLandmarks-prop (C.county chart) steps.items landmarks },
     ghost stands: { ∥ S.holds (C.county chart) (stepped (C.county chart) steps.items) ∥₁ },
 }
 

@@ -7,7 +7,7 @@ ghost use Rattle.tl_number.specs.Arrangement.{arranged, polygons_in_order, renam
 ghost use Rattle.tl_number.specs.CanonCounties.{IsCanonCounty};
 ghost use Rattle.tl_number.specs.Steps.{AreSteps, arrangement_of};
 ghost use Rattle.tl_number.specs.Tidy.{IsLeastChoice};
-ghost use Rattle.tl_number.specs.ViewFacts.{stepped, AreWhole, NamesEachOnce, TellsLandmarks, TellsNames, TellsNodes, TellsPolygons};
+ghost use Rattle.tl_number.specs.ViewFacts.{stepped, AreWhole, NamesEachOnce, MatchesLandmarks, MatchesNames, MatchesNodes, MatchesPolygons};
 ghost use Rattle.tl_number.specs.Views.{arranged_county, arrangement_in, source_of, steps_of};
 ghost use Rattle.tl_profile.specs.Profile.{IsInProfile};
 ghost use Rattle.tl_profile.specs.ShapeOrder.{IsShapeOrder};
@@ -41,8 +41,8 @@ fn arrange_names_and_landmarks<C: Chart>(
     requires few_polygons { length polygons.now < 10 ^ 10 }
     requires few_names { length (C.county chart.now).names < 2 ^ 32 }
     requires few_landmarks { length (C.county chart.now).landmarks < 2 ^ 32 }
-    ensures names { IfOk result (λ tables. TellsNames (C.county chart.now) steps.now tables.0) }
-    ensures landmarks { IfOk result (λ tables. TellsLandmarks (C.county chart.now) steps.now tables.1) }
+    ensures names { IfOk result (λ tables. MatchesNames (C.county chart.now) steps.now tables.0) }
+    ensures landmarks { IfOk result (λ tables. MatchesLandmarks (C.county chart.now) steps.now tables.1) }
 {
     let names = arrange_names(alloc, chart, steps)?;
     let landmarks = arrange_landmarks(alloc, chart, steps, polygons)?;
@@ -60,10 +60,10 @@ fn arrange_tables<C: Chart>(
     requires few_polygons { length (C.county chart.now).polygons < 2 ^ 32 }
     requires few_names { length (C.county chart.now).names < 2 ^ 32 }
     requires few_landmarks { length (C.county chart.now).landmarks < 2 ^ 32 }
-    ensures nodes { IfOk result (λ tables. TellsNodes (C.county chart.now) steps.now tables.0) }
-    ensures polygons { IfOk result (λ tables. TellsPolygons (C.county chart.now) steps.now tables.1) }
-    ensures names { IfOk result (λ tables. TellsNames (C.county chart.now) steps.now tables.2) }
-    ensures landmarks { IfOk result (λ tables. TellsLandmarks (C.county chart.now) steps.now tables.3) }
+    ensures nodes { IfOk result (λ tables. MatchesNodes (C.county chart.now) steps.now tables.0) }
+    ensures polygons { IfOk result (λ tables. MatchesPolygons (C.county chart.now) steps.now tables.1) }
+    ensures names { IfOk result (λ tables. MatchesNames (C.county chart.now) steps.now tables.2) }
+    ensures landmarks { IfOk result (λ tables. MatchesLandmarks (C.county chart.now) steps.now tables.3) }
 {
     let (nodes, polygons) = arrange_nodes_and_polygons(alloc, chart, steps)?;
     let (names, landmarks) = arrange_names_and_landmarks(alloc, chart, steps, &polygons.numbers)?;

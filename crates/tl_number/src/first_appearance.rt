@@ -12,7 +12,7 @@ ghost use Rattle.tl_number.specs.Arrangement.{polygons_in_order};
 ghost use Rattle.tl_number.specs.ByStep.{ends_among, ends_of, node_among, nodes_at, polygons_at, side_among, sides_among, sides_of};
 ghost use Rattle.tl_number.specs.Growth.{first_seen, first_seen_after};
 ghost use Rattle.tl_number.specs.Steps.{AreSteps, arrangement_of, step_chain};
-ghost use Rattle.tl_number.specs.ViewFacts.{AreWhole, TellsNodes, stepped};
+ghost use Rattle.tl_number.specs.ViewFacts.{AreWhole, MatchesNodes, stepped};
 
 use crate::arranged_tables::{Ends, NodeTables, Sides};
 use crate::numbers::{Interner, marks_for};
@@ -137,7 +137,7 @@ pub(crate) fn number_links<C: Chart>(
     steps: &[DirectedChain],
 ) -> Result<(NodeTables, Interner<PolygonKey>, Vec<Sides>), AllocError>
     requires { AreWhole (C.county chart.now) steps.now }
-    ensures nodes { IfOk result (λ tables. TellsNodes (C.county chart.now) steps.now tables.0) }
+    ensures nodes { IfOk result (λ tables. MatchesNodes (C.county chart.now) steps.now tables.0) }
     ensures polygons { IfOk result (λ tables. tables.1 ≡ polygons_in_order (C.county chart.now) (arrangement_of (C.county chart.now) steps.now)) }
     ensures sides { IfOk result (λ tables. tables.2.items ≡ map sides_of (entry_values (stepped (C.county chart.now) steps.now).chains)) }
 {

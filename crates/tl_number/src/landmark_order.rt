@@ -15,7 +15,7 @@ ghost use Rattle.tl_number.specs.Arrangement.{polygons_in_order};
 ghost use Rattle.tl_number.specs.Growth.{first_seen_after};
 ghost use Rattle.tl_number.specs.LandmarkItems.{landmark_place_cmp, lands_at, numbered_links, own_links, place_cmp_under};
 ghost use Rattle.tl_number.specs.Steps.{arrangement_of};
-ghost use Rattle.tl_number.specs.ViewFacts.{AreWhole, TellsLandmarks, link_bounds};
+ghost use Rattle.tl_number.specs.ViewFacts.{AreWhole, MatchesLandmarks, link_bounds};
 
 use crate::arranged_tables::LandmarkTables;
 use crate::landmark_links::{bounds_of, link_at, links_of_landmark, links_under};
@@ -246,7 +246,7 @@ pub(crate) fn arrange_landmarks<C: Chart>(
     requires polygons { polygons.now ≡ polygons_in_order (C.county chart.now) (arrangement_of (C.county chart.now) steps.now) }
     requires few_polygons { length polygons.now < 10 ^ 10 }
     requires few { length (C.county chart.now).landmarks < 2 ^ 32 }
-    ensures { IfOk result (TellsLandmarks (C.county chart.now) steps.now) }
+    ensures { IfOk result (MatchesLandmarks (C.county chart.now) steps.now) }
 {
     let places = places_in_order(alloc, chart, polygons)?;
     let (links, bounds) = links_by_land(alloc, chart, polygons, &places)?;

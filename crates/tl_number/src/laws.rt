@@ -193,7 +193,7 @@ pub fn strict_lists_are_canonical()
 /// Each number selects a choice of a county: an arrangement in which no chain's points come after their reverse, or after those
 /// of a later chain. Each choice has a number below the number of choices, and number 0 is the ascending arrangement.
 pub fn choices_are_numbered()
-    ensures told { (county : County) (number : ℕ) → IsCounty county → IsChoice county (numbered_choice county number) }
+    ensures stated { (county : County) (number : ℕ) → IsCounty county → IsChoice county (numbered_choice county number) }
     ensures each { (county : County) (steps : Arrangement) →
         IsCounty county → IsChoice county steps →
         (number : ℕ) × (number < choices county) × (numbered_choice county number ≡ steps) }

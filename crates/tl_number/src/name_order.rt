@@ -15,7 +15,7 @@ ghost use Rattle.tl_number.specs.Arrangement.{names_in_order};
 ghost use Rattle.tl_number.specs.Growth.{first_seen, first_seen_after};
 ghost use Rattle.tl_number.specs.NameItems.{feats_along_steps, rank_of, ranked_at, ranked_cmp, ranked_place};
 ghost use Rattle.tl_number.specs.Steps.{arrangement_of, step_chain};
-ghost use Rattle.tl_number.specs.ViewFacts.{AreReadAt, AreWhole, TellsNames};
+ghost use Rattle.tl_number.specs.ViewFacts.{AreReadAt, AreWhole, MatchesNames};
 
 use crate::arranged_tables::NameTables;
 use crate::numbers::{Interner, marks_for};
@@ -209,7 +209,7 @@ pub(crate) fn arrange_names<C: Chart>(
 ) -> Result<NameTables, AllocError>
     requires whole { AreWhole (C.county chart.now) steps.now }
     requires few { length (C.county chart.now).names < 2 ^ 32 }
-    ensures { IfOk result (TellsNames (C.county chart.now) steps.now) }
+    ensures { IfOk result (MatchesNames (C.county chart.now) steps.now) }
 {
     let places = places_in_order(alloc, chart, steps)?;
     let feats = feats_at(alloc, chart, &places)?;

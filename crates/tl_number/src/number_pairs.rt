@@ -135,9 +135,9 @@ impl<C: Chart, S: Evidence> Arranged<C, S> {
     /// The pairs of chains: each old TLID with the new one, in the order of the new ones. Also the old TLIDs of the turned
     /// chains.
     fn tlid_pairs(&self, alloc: Global) -> Result<(Vec<(u64, u64)>, Vec<u64>), AllocError>
-        ensures chains { IfOk result (λ told. told.0.items ≡
+        ensures chains { IfOk result (λ stated. stated.0.items ≡
             (renaming_of (C.county self.now.chart) (arrangement_of (C.county self.now.chart) self.now.steps.items)).chains) }
-        ensures turned { IfOk result (λ told. told.1.items ≡
+        ensures turned { IfOk result (λ stated. stated.1.items ≡
             (renaming_of (C.county self.now.chart) (arrangement_of (C.county self.now.chart) self.now.steps.items)).turned) }
     {
         let chains = chain_pairs(alloc, &self.chart, &self.steps)?;

@@ -11,7 +11,7 @@ use tl_profile::{DirectedChain, OpenPlace};
 /// Inserts the step at an open place among those of its shape that come after it, by the last two digits of a number. The last
 /// digit is how many of these come before it, and the next one whether it takes the other direction. Returns the rest of the
 /// number.
-fn stand(steps: &mut [DirectedChain], at: OpenPlace, number: u64) -> u64
+fn place_chain(steps: &mut [DirectedChain], at: OpenPlace, number: u64) -> u64
     requires { IsWithin (length steps.old) at }
     ensures steps { steps.new ≡ (moved_at other_way at (steps.old, number)).0 }
     ensures left { result ≡ (moved_at other_way at (steps.old, number)).1 }
@@ -36,7 +36,7 @@ pub(crate) fn choose(steps: &mut [DirectedChain], places: &[OpenPlace], number: 
     let mut left = number;
     let mut rest = places;
     while let Some((at, before)) = rest.split_last() {
-        left = stand(steps, *at, left);
+        left = place_chain(steps, *at, left);
         rest = before;
     }
 }

@@ -11,7 +11,7 @@ ghost use Rattle.std.specs.Ordering.{is_eq};
 ghost use Rattle.std.specs.Prelude.{◌≡◌, ◌∷◌, [], ◌++◌, ◌+◌, ◌%◌, ◌<◌, ◌^◌, ◌↔◌, ℕ, false, length, is_some, IfSome, Some, IfOk, IsTrue, OnOk, OnErr, slice_get, slice_index};
 ghost use Rattle.tl_county.specs.Orders.{stands_in};
 ghost use Rattle.tl_number.specs.Growth.{first_seen_after};
-ghost use Rattle.tl_number.specs.PlacedKeys.{AreApart, ArePlaced, told_by};
+ghost use Rattle.tl_number.specs.PlacedKeys.{AreApart, ArePlaced, found_by_either};
 
 use crate::other_places::OtherPlaces;
 use std::alloc::{AllocError, Global};
@@ -88,14 +88,14 @@ impl<K: Key + Hash + NumericKey> Model for Interner<K> {
     ghost use Rattle.indexmap.specs.IndexMap.{get as found_by_hash};
     ghost use Rattle.std.specs.BTreeMap.{get as found_in_order};
     ghost use Rattle.std.specs.Prelude.{◌<◌, ◌^◌, ◌%◌, List, length};
-    ghost use Rattle.tl_number.specs.PlacedKeys.{AreApart, ArePlaced, told_by};
+    ghost use Rattle.tl_number.specs.PlacedKeys.{AreApart, ArePlaced, found_by_either};
 
     ghost Value = { List K };
 
     ghost view = { λ n. n.keys.items };
 
     ghost invariant = { λ n. AreApart n.keys.items × ArePlaced (λ key. K.number_of key % length n.marks.items)
-        (told_by (found_in_order K.cmp n.others.many) (found_by_hash K.eq n.others.few)) n.marks.items n.keys.items
+        (found_by_either (found_in_order K.cmp n.others.many) (found_by_hash K.eq n.others.few)) n.marks.items n.keys.items
         × (length n.keys.items < 2 ^ 63) };
 }
 
@@ -151,7 +151,7 @@ pub(crate) fn stands_at<K: Key>(keys: &[K], place: usize, key: K) -> bool
 #[inline(never)]
 fn place_among<K: Key + Hash>(keys: &[K], others: &OtherPlaces<K>, key: K) -> Option<usize>
     ensures found { IfSome result (λ place. slice_get keys.now place ≡ Some key) }
-    ensures told { (place : ℕ) → told_by (found_in_order K.cmp others.now.many) (found_by_hash K.eq others.now.few) key ≡ Some place → slice_get keys.now place ≡ Some key → result ≡ Some place }
+    ensures stated { (place : ℕ) → found_by_either (found_in_order K.cmp others.now.many) (found_by_hash K.eq others.now.few) key ≡ Some place → slice_get keys.now place ≡ Some key → result ≡ Some place }
 {
     match others.get(key) {
         Some(place) if stands_at(keys, place, key) => Some(place),
@@ -161,7 +161,7 @@ fn place_among<K: Key + Hash>(keys: &[K], others: &OtherPlaces<K>, key: K) -> Op
 
 /// The place of a key, counted from 0, or `None` if it isn't one of the keys.
 #[inline(always)]
-fn place_of<K: Key + Hash + NumericKey>(
+fn place_of_key<K: Key + Hash + NumericKey>(
     keys: &[K],
     marks: &[u32],
     others: &OtherPlaces<K>,
@@ -169,9 +169,9 @@ fn place_of<K: Key + Hash + NumericKey>(
 ) -> Option<usize>
     requires apart { AreApart keys.now }
     requires placed { ArePlaced (λ key. K.number_of key % length marks.now)
-        (told_by (found_in_order K.cmp others.now.many) (found_by_hash K.eq others.now.few)) marks.now keys.now }
+        (found_by_either (found_in_order K.cmp others.now.many) (found_by_hash K.eq others.now.few)) marks.now keys.now }
     ensures found { IfSome result (λ place. slice_get keys.now place ≡ Some key) }
-    ensures told { (place : ℕ) → slice_get keys.now place ≡ Some key → result ≡ Some place }
+    ensures stated { (place : ℕ) → slice_get keys.now place ≡ Some key → result ≡ Some place }
 {
     let mark = mark_at(marks, slot_of(marks.len(), key.number())) as usize;
     if mark > 0 && stands_at(keys, mark - 1, key) {
@@ -190,11 +190,11 @@ fn push_into_table<K: Key + Hash>(
 ) -> Result<(), AllocError>
     ensures small { OnOk result (place + 1 < 2 ^ 63) }
     ensures added { OnOk result (keys.new.items ≡ keys.old.items ++ key ∷ []) }
-    ensures placed { OnOk result (told_by (found_in_order K.cmp others.new.many) (found_by_hash K.eq others.new.few) key ≡ Some place) }
+    ensures placed { OnOk result (found_by_either (found_in_order K.cmp others.new.many) (found_by_hash K.eq others.new.few) key ≡ Some place) }
     ensures kept { OnErr result (keys.new.items ≡ keys.old.items) }
     ensures apart { (other : K) → (other ≡ key → ⊥)
-        → told_by (found_in_order K.cmp others.new.many) (found_by_hash K.eq others.new.few) other
-        ≡ told_by (found_in_order K.cmp others.old.many) (found_by_hash K.eq others.old.few) other }
+        → found_by_either (found_in_order K.cmp others.new.many) (found_by_hash K.eq others.new.few) other
+        ≡ found_by_either (found_in_order K.cmp others.old.many) (found_by_hash K.eq others.old.few) other }
 {
     if place >= MOST_KEYS {
         return Err(AllocError);
@@ -306,6 +306,6 @@ impl<K: Key + Hash + NumericKey> Interner<K> {
         ensures first { result ≡ position (λ other. is_eq (K.cmp key other)) self.now }
         ensures small { IfSome result (λ place. place < 2 ^ 63) }
     {
-        place_of(&self.keys, &self.marks, &self.others, key)
+        place_of_key(&self.keys, &self.marks, &self.others, key)
     }
 }

@@ -3,7 +3,7 @@
 ghost use Rattle.indexmap.specs.IndexMap.{get as found_by_hash};
 ghost use Rattle.std.specs.BTreeMap.{get as found_in_order};
 ghost use Rattle.std.specs.Prelude.{◌≡◌, None, OnOk, Some, IsTrue};
-ghost use Rattle.tl_number.specs.PlacedKeys.{told_by};
+ghost use Rattle.tl_number.specs.PlacedKeys.{found_by_either};
 
 use indexmap::IndexMap;
 use std::alloc::{AllocError, Global};
@@ -40,7 +40,7 @@ fn put_by_hash<K: Key + Hash>(
     key: K,
     place: usize,
 ) -> Result<(), AllocError>
-    ensures told { OnOk result (found_by_hash K.eq few.new key ≡ Some place) }
+    ensures stated { OnOk result (found_by_hash K.eq few.new key ≡ Some place) }
     ensures apart { (other : K) → (other ≡ key → ⊥) → found_by_hash K.eq few.new other ≡ found_by_hash K.eq few.old other }
 {
     few.insert(key, place)?;
@@ -53,7 +53,7 @@ fn put_in_order<K: Key>(
     key: K,
     place: usize,
 ) -> Result<(), AllocError>
-    ensures told { OnOk result (found_in_order K.cmp many.new key ≡ Some place) }
+    ensures stated { OnOk result (found_in_order K.cmp many.new key ≡ Some place) }
     ensures apart { (other : K) → (other ≡ key → ⊥) → found_in_order K.cmp many.new other ≡ found_in_order K.cmp many.old other }
 {
     many.insert(key, place)?;
@@ -71,7 +71,7 @@ impl<K: Key + Hash> OtherPlaces<K> {
 
     /// The place of a key, or none if it isn't known.
     pub(crate) fn get(&self, key: K) -> Option<usize>
-        ensures { result ≡ told_by (found_in_order K.cmp self.now.many) (found_by_hash K.eq self.now.few) key }
+        ensures { result ≡ found_by_either (found_in_order K.cmp self.now.many) (found_by_hash K.eq self.now.few) key }
     {
         match self.many.get(&key) {
             Some(place) => Some(*place),
@@ -81,10 +81,10 @@ impl<K: Key + Hash> OtherPlaces<K> {
 
     /// Puts the place of a key.
     pub(crate) fn insert(&mut self, key: K, place: usize) -> Result<(), AllocError>
-        ensures told { OnOk result (told_by (found_in_order K.cmp self.new.many) (found_by_hash K.eq self.new.few) key ≡ Some place) }
+        ensures stated { OnOk result (found_by_either (found_in_order K.cmp self.new.many) (found_by_hash K.eq self.new.few) key ≡ Some place) }
         ensures apart { (other : K) → (other ≡ key → ⊥)
-            → told_by (found_in_order K.cmp self.new.many) (found_by_hash K.eq self.new.few) other
-            ≡ told_by (found_in_order K.cmp self.old.many) (found_by_hash K.eq self.old.few) other }
+            → found_by_either (found_in_order K.cmp self.new.many) (found_by_hash K.eq self.new.few) other
+            ≡ found_by_either (found_in_order K.cmp self.old.many) (found_by_hash K.eq self.old.few) other }
     {
         if self.few.len() < MOST_HASHED && is_absent(&self.many, key) {
             put_by_hash(&mut self.few, key, place)

@@ -20,7 +20,7 @@ use Rattle.tl_profile.specs.declared.open_places.OpenPlace.{OpenPlace}
 use Rattle.tl_profile.specs.declared.shapes.PlacedShape.{PlacedShape}
 use Rattle.tl_profile.proofs.CountedChoices.{IsCounted, counted_next, more_choices-append}
 use Rattle.tl_profile.proofs.FewChains.{few_chains}
-use Rattle.tl_profile.proofs.SameChoices.{choices_told}
+use Rattle.tl_profile.proofs.SameChoices.{choices_stated}
 
 first_not_greater : (a b : Ordering) → is_gt (ordering_then a b) ≡ false → is_gt a ≡ false
 first_not_greater Less b e = refl
@@ -64,7 +64,7 @@ module _ (county : County) where
     pub choices_of_all : running points_cmp is_either_way (map (whole_shape county) shapes) ≡ choices county
     choices_of_all =
         ap (running points_cmp is_either_way) (sym (map-map (points_along county) placed_walk shapes))
-        ∙ choices_told county (map placed_walk shapes) order
+        ∙ choices_stated county (map placed_walk shapes) order
 
     pub few_shapes : IsWithinLimits most_records county → length shapes < 2 ^ 32
     few_shapes within =

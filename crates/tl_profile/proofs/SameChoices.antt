@@ -51,8 +51,8 @@ shapes_of_walks county walks p =
     (from_permutation walks (least_walks county) (IsPermutation-sym (least_walks county) walks p)) in
     subst (SameElements (map (points_along county) walks)) (shapes_along county) along
 
-pub choices_told : (county : County) (walks : List DirectedChain) → AreWalksInOrder county walks
+pub choices_stated : (county : County) (walks : List DirectedChain) → AreWalksInOrder county walks
     → running points_cmp is_either_way (map (points_along county) walks) ≡ choices county
-choices_told county walks order =
+choices_stated county walks order =
     running-same points_keys is_either_way (map (points_along county) walks) (shapes county) (shapes_of_walks county walks order.all)
     ∙ choices_of_shapes county

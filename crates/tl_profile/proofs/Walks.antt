@@ -29,22 +29,22 @@ module _ {X : Type 0} (cmp : X → X → Ordering) (xs ys : List X) (i : ℕ) (d
           rw (drop_more xs i d h, drop_all i ys k, slice_get-get_or xs i d h, slice_get_past ys i k) refl
 
   module _ (p q : Option X) (r all : Ordering) (here : p ≡ slice_get xs i) (there : q ≡ slice_get ys i)
-      (told : r ≡ option_cmp cmp p q) where
-    told_here : r ≡ option_cmp cmp (slice_get xs i) (slice_get ys i)
-    told_here = told ∙ ap (λ o. option_cmp cmp o q) here ∙ ap (option_cmp cmp (slice_get xs i)) there
+      (stated : r ≡ option_cmp cmp p q) where
+    stated_here : r ≡ option_cmp cmp (slice_get xs i) (slice_get ys i)
+    stated_here = stated ∙ ap (λ o. option_cmp cmp o q) here ∙ ap (option_cmp cmp (slice_get xs i)) there
 
     -- points that differ decide
     pub at_unequal : i < length xs → slice_cmp cmp (drop i xs) (drop i ys) ≡ all → (r ≡ Equal → ⊥) → r ≡ all
     at_unequal h was unequal =
         let rest : Ordering = slice_cmp cmp (drop (i + 1) xs) (drop (i + 1) ys) in
-        sym (decided r rest unequal) ∙ ap (λ o. ordering_then o rest) told_here ∙ sym (from_index h) ∙ was
+        sym (decided r rest unequal) ∙ ap (λ o. ordering_then o rest) stated_here ∙ sym (from_index h) ∙ was
 
     -- equal points leave the decision to the points after them
     pub after_equal : i < length xs → slice_cmp cmp (drop i xs) (drop i ys) ≡ all → r ≡ Equal
         → slice_cmp cmp (drop (i + 1) xs) (drop (i + 1) ys) ≡ all
     after_equal h was equal =
         let rest : Ordering = slice_cmp cmp (drop (i + 1) xs) (drop (i + 1) ys) in
-        ap (λ o. ordering_then o rest) (sym equal ∙ told_here) ∙ sym (from_index h) ∙ was
+        ap (λ o. ordering_then o rest) (sym equal ∙ stated_here) ∙ sym (from_index h) ∙ was
 
   -- after the end of one list, the other continues or ends too
   pub at_more : length xs ≤ i → slice_get ys i ≡ Some d → slice_cmp cmp (drop i xs) (drop i ys) ≡ Less

@@ -69,8 +69,8 @@ part : {X : Type 0} (f : Read → X) (a b : Read) → Some a ≡ Some b → f a 
 part f a b e = ap (λ (r : Option Read). f (unwrap_or r a)) e
 
 -- the parsed form of the arguments for a plan
-abbrev told : Plan → Bool → Text → Text → Read
-told plan is_stem first second = (
+abbrev reported : Plan → Bool → Text → Text → Read
+reported plan is_stem first second = (
   word_of plan.job,
   Some first,
   second_of plan.job second,
@@ -80,7 +80,7 @@ told plan is_stem first second = (
 )
 
 planned : (o : Option (Text × List Row)) (plan : Plan) (is_stem : Bool) (first second : Text)
-    → read o ≡ Some (told plan is_stem first second) → HasFilesOf is_stem first second plan → MayLeaveOut plan.job plan.mask → IsPlanOf o plan
+    → read o ≡ Some (reported plan is_stem first second) → HasFilesOf is_stem first second plan → MayLeaveOut plan.job plan.mask → IsPlanOf o plan
 planned None plan is_stem first second e files may = absurd cc
 planned (Some (name, rows)) plan is_stem first second e files may =
     let found : Read = (
@@ -91,7 +91,7 @@ planned (Some (name, rows)) plan is_stem first second e files may =
       one_of (codes "no-sources") rows,
       one_of (codes "no-reserved") rows,
     ) in
-    let wanted : Read = told plan is_stem first second in (
+    let wanted : Read = reported plan is_stem first second in (
       part (λ r. r.0) found wanted e,
       record {
         is_stem = is_stem;

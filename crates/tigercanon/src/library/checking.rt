@@ -1,7 +1,7 @@
 //! Whether a set is accepted.
 
 ghost use Rattle.std.specs.Prelude.{◌≢◌, Err, List, OnOk, IfErr};
-ghost use Rattle.tigercanon.specs.Faults.{IsWantOfMemory, TellsRefusal};
+ghost use Rattle.tigercanon.specs.Faults.{IsWantOfMemory, ReportsRefusal};
 ghost use Rattle.tigercanon.specs.LentParts.{bytes_of_parts};
 ghost use Rattle.tigercanon.specs.Sets.{IsAcceptedSet};
 ghost use Rattle.tl_layout.specs.declared.record_type.Record.{Record};
@@ -19,7 +19,7 @@ use tl_load::LoadFault;
 /// and [`Fault::Profile`] the first clause of the profile that the county breaks. Each of them can also report a failed allocation.
 pub fn check(alloc: Global, parts: &[&[u8]]) -> Result<(), Fault>
     ensures accepted { OnOk result ((records : List Record) × IsAcceptedSet (bytes_of_parts parts.now) records) }
-    ensures refused { IfErr result (TellsRefusal (bytes_of_parts parts.now)) }
+    ensures refused { IfErr result (ReportsRefusal (bytes_of_parts parts.now)) }
     ensures no_device { result ≢ Err (Fault.Load LoadFault.Device) }
     // For accepted parts the only fault is a failed allocation.
     ensures succeeds { (records : List Record) → IsAcceptedSet (bytes_of_parts parts.now) records → IfErr result IsWantOfMemory }

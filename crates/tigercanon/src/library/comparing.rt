@@ -2,10 +2,10 @@
 
 ghost use Rattle.std.specs.Prelude.{◌≡◌, ◌≢◌, Ok, Err, ℕ, List, IfOk, IfErr, MatchResult, true, false};
 ghost use Rattle.tigercanon.specs.Comparing.{AreDifferent, AreDifferentThrough, AreOneMap, AreOneMapThrough, IsAcceptable};
-ghost use Rattle.tigercanon.specs.Comparing.{TellsMemoryOfAccepted, TellsRefusalOfOne, TellsRefusalOfOneRead};
+ghost use Rattle.tigercanon.specs.Comparing.{ReportsMemoryOfAccepted, ReportsRefusalOfOne, ReportsRefusalOfOneRead};
 ghost use Rattle.tigercanon.specs.declared.fault.Fault.{Fault};
 ghost use Rattle.tigercanon.specs.declared.library.comparing.CompareFault.TheVariants.{Memory};
-ghost use Rattle.tigercanon.specs.Faults.{TellsRefusalOfRead};
+ghost use Rattle.tigercanon.specs.Faults.{ReportsRefusalOfRead};
 ghost use Rattle.tigercanon.specs.Findings.{IsFound};
 ghost use Rattle.tigercanon.specs.LentParts.{bytes_of_parts};
 ghost use Rattle.tigercanon.specs.Sets.{CarriesSet, CarriesSetThrough, IsCanonSetThrough};
@@ -68,7 +68,7 @@ impl From<AllocError> for CompareFault {
 /// The outcome of a step on one of two sets. A fault gets the number of that set.
 pub(crate) fn tag_set<T: Drop>(set: u8, outcome: Result<T, Fault>) -> Result<T, CompareFault>
     ensures ok { IfOk result (λ value. outcome ≡ Ok value) }
-    ensures err { IfErr result (λ told. (fault : Fault) × (outcome ≡ Err fault) × (told ≡ CompareFault.In set fault)) }
+    ensures err { IfErr result (λ reported. (fault : Fault) × (outcome ≡ Err fault) × (reported ≡ CompareFault.In set fault)) }
 {
     match outcome {
         Ok(value) => Ok(value),
@@ -117,7 +117,7 @@ impl<S: UnlinkedSet, V: Conclusion> Product<()> for Against<S, V> {
 
     ghost Answers = { λ mask a self _ made _. (b : List (List ℕ)) → S.Says self.second b
         → MatchResult made (λ conclusion. IsFound (masked mask) a b (V.finding conclusion))
-        (λ fault. IsAcceptable a × TellsRefusalOfRead b fault) };
+        (λ fault. IsAcceptable a × ReportsRefusalOfRead b fault) };
 
     fn of<A: Chart>(
         self,
@@ -145,7 +145,7 @@ pub(crate) fn compare_unlinked<A: UnlinkedSet, B: UnlinkedSet, V: Conclusion>(
     requires second { B.IsReady second }
     ensures found { (a b : List (List ℕ)) → A.Says first a → B.Says second b
         → IfOk result (λ conclusion. IsFound (masked mask) a b (V.finding conclusion)) }
-    ensures refused { (a b : List (List ℕ)) → A.Says first a → B.Says second b → IfErr result (TellsRefusalOfOneRead a b) }
+    ensures refused { (a b : List (List ℕ)) → A.Says first a → B.Says second b → IfErr result (ReportsRefusalOfOneRead a b) }
 {
     let against = Against {
         second,
@@ -168,10 +168,10 @@ pub fn compare(alloc: Global, a: &[&[u8]], b: &[&[u8]]) -> Result<Verdict, Compa
     // and different only if both are accepted and no renaming does.
     ensures different { result ≡ Ok Verdict.Different → AreDifferent (bytes_of_parts a.now) (bytes_of_parts b.now) }
     // Otherwise one of them is refused, the second only if the first is accepted.
-    ensures refused { IfErr result (TellsRefusalOfOne (bytes_of_parts a.now) (bytes_of_parts b.now)) }
+    ensures refused { IfErr result (ReportsRefusalOfOne (bytes_of_parts a.now) (bytes_of_parts b.now)) }
     ensures no_device { (set : ℕ) → result ≢ Err (CompareFault.In set (Fault.Load LoadFault.Device)) }
     // For an accepted set the only fault is a failed allocation.
-    ensures succeeds { IfErr result (TellsMemoryOfAccepted (bytes_of_parts a.now) (bytes_of_parts b.now)) }
+    ensures succeeds { IfErr result (ReportsMemoryOfAccepted (bytes_of_parts a.now) (bytes_of_parts b.now)) }
 {
     compare_masked(alloc, a, b, Mask::NONE)
 }
@@ -194,10 +194,10 @@ pub fn compare_masked(
     // and different only if both are accepted and no renaming does.
     ensures different { result ≡ Ok Verdict.Different → AreDifferentThrough (masked mask) (bytes_of_parts a.now) (bytes_of_parts b.now) }
     // Otherwise one of them is refused, the second only if the first is accepted.
-    ensures refused { IfErr result (TellsRefusalOfOne (bytes_of_parts a.now) (bytes_of_parts b.now)) }
+    ensures refused { IfErr result (ReportsRefusalOfOne (bytes_of_parts a.now) (bytes_of_parts b.now)) }
     ensures no_device { (set : ℕ) → result ≢ Err (CompareFault.In set (Fault.Load LoadFault.Device)) }
     // For an accepted set the only fault is a failed allocation.
-    ensures succeeds { IfErr result (TellsMemoryOfAccepted (bytes_of_parts a.now) (bytes_of_parts b.now)) }
+    ensures succeeds { IfErr result (ReportsMemoryOfAccepted (bytes_of_parts a.now) (bytes_of_parts b.now)) }
 {
     let found: Result<Verdict, AllocError> = compare_unlinked(alloc, a, b, mask)?;
     let verdict = found?;
@@ -215,10 +215,10 @@ pub fn are_one_map(alloc: Global, a: &[&[u8]], b: &[&[u8]]) -> Result<bool, Comp
     // and different only if both are accepted and no renaming does.
     ensures different { result ≡ Ok false → AreDifferent (bytes_of_parts a.now) (bytes_of_parts b.now) }
     // Otherwise one of them is refused, the second only if the first is accepted.
-    ensures refused { IfErr result (TellsRefusalOfOne (bytes_of_parts a.now) (bytes_of_parts b.now)) }
+    ensures refused { IfErr result (ReportsRefusalOfOne (bytes_of_parts a.now) (bytes_of_parts b.now)) }
     ensures no_device { (set : ℕ) → result ≢ Err (CompareFault.In set (Fault.Load LoadFault.Device)) }
     // For an accepted set the only fault is a failed allocation.
-    ensures succeeds { IfErr result (TellsMemoryOfAccepted (bytes_of_parts a.now) (bytes_of_parts b.now)) }
+    ensures succeeds { IfErr result (ReportsMemoryOfAccepted (bytes_of_parts a.now) (bytes_of_parts b.now)) }
 {
     are_one_map_masked(alloc, a, b, Mask::NONE)
 }
@@ -239,10 +239,10 @@ pub fn are_one_map_masked(
     // and different only if both are accepted and no renaming does.
     ensures different { result ≡ Ok false → AreDifferentThrough (masked mask) (bytes_of_parts a.now) (bytes_of_parts b.now) }
     // Otherwise one of them is refused, the second only if the first is accepted.
-    ensures refused { IfErr result (TellsRefusalOfOne (bytes_of_parts a.now) (bytes_of_parts b.now)) }
+    ensures refused { IfErr result (ReportsRefusalOfOne (bytes_of_parts a.now) (bytes_of_parts b.now)) }
     ensures no_device { (set : ℕ) → result ≢ Err (CompareFault.In set (Fault.Load LoadFault.Device)) }
     // For an accepted set the only fault is a failed allocation.
-    ensures succeeds { IfErr result (TellsMemoryOfAccepted (bytes_of_parts a.now) (bytes_of_parts b.now)) }
+    ensures succeeds { IfErr result (ReportsMemoryOfAccepted (bytes_of_parts a.now) (bytes_of_parts b.now)) }
 {
     compare_unlinked(alloc, a, b, mask)
 }

@@ -1,7 +1,7 @@
 //! The fingerprint of a map, to cite it by, without a mask or under one.
 
 ghost use Rattle.std.specs.Prelude.{◌≢◌, Err, List, IfOk, IfErr};
-ghost use Rattle.tigercanon.specs.Faults.{IsWantOfMemory, TellsRefusal};
+ghost use Rattle.tigercanon.specs.Faults.{IsWantOfMemory, ReportsRefusal};
 ghost use Rattle.tigercanon.specs.Fingerprints.{IsFingerprint, IsFingerprintThrough};
 ghost use Rattle.tigercanon.specs.LentParts.{bytes_of_parts};
 ghost use Rattle.tigercanon.specs.Sets.{IsAcceptedSet};
@@ -23,7 +23,7 @@ use tl_load::LoadFault;
 /// What the set is refused for, as for [`normalise`](crate::normalise); each refusal can also report a failed allocation.
 pub fn fingerprint(alloc: Global, parts: &[&[u8]]) -> Result<[u8; 32], Fault>
     ensures fingerprint { IfOk result (IsFingerprint (bytes_of_parts parts.now)) }
-    ensures refused { IfErr result (TellsRefusal (bytes_of_parts parts.now)) }
+    ensures refused { IfErr result (ReportsRefusal (bytes_of_parts parts.now)) }
     ensures no_device { result ≢ Err (Fault.Load LoadFault.Device) }
     // For accepted parts the only fault is a failed allocation.
     ensures succeeds { (records : List Record) → IsAcceptedSet (bytes_of_parts parts.now) records → IfErr result IsWantOfMemory }
@@ -39,7 +39,7 @@ pub fn fingerprint(alloc: Global, parts: &[&[u8]]) -> Result<[u8; 32], Fault>
 /// What the set is refused for, as for [`normalise`](crate::normalise), whatever the mask is.
 pub fn fingerprint_masked(alloc: Global, parts: &[&[u8]], mask: Mask) -> Result<[u8; 32], Fault>
     ensures fingerprint { IfOk result (IsFingerprintThrough (masked mask) (bytes_of_parts parts.now)) }
-    ensures refused { IfErr result (TellsRefusal (bytes_of_parts parts.now)) }
+    ensures refused { IfErr result (ReportsRefusal (bytes_of_parts parts.now)) }
     ensures no_device { result ≢ Err (Fault.Load LoadFault.Device) }
     // For accepted parts the only fault is a failed allocation.
     ensures succeeds { (records : List Record) → IsAcceptedSet (bytes_of_parts parts.now) records → IfErr result IsWantOfMemory }

@@ -2,7 +2,7 @@
 
 ghost use Rattle.std.specs.Prelude.{◌≡◌, ℕ, List, OnOk, IfOk, IfErr};
 ghost use Rattle.tigercanon.specs.Comparing.{IsAcceptable};
-ghost use Rattle.tigercanon.specs.Faults.{RefusesRecords, TellsRefusalOfRead};
+ghost use Rattle.tigercanon.specs.Faults.{RefusesRecords, ReportsRefusalOfRead};
 ghost use Rattle.tigercanon.specs.Linked.{AreLinkedAs, IsLinkedSet};
 ghost use Rattle.tigercanon.specs.Sets.{IsSeenSet};
 ghost use Rattle.tl_county.specs.County.{county_of};
@@ -88,7 +88,7 @@ fn judge_linked(alloc: Global, linked: &LinkedRecords) -> Result<(), Fault>
 pub(crate) fn judge<S: UnlinkedSet>(alloc: Global, set: S) -> Result<(), Fault>
     requires { S.IsReady set }
     ensures accepted { (parts : List (List ℕ)) → S.Says set parts → OnOk result (IsAcceptable parts) }
-    ensures refused { (parts : List (List ℕ)) → S.Says set parts → IfErr result (TellsRefusalOfRead parts) }
+    ensures refused { (parts : List (List ℕ)) → S.Says set parts → IfErr result (ReportsRefusalOfRead parts) }
 {
     let linked = set.link(alloc)?;
     judge_linked(alloc, &linked)

@@ -1,7 +1,7 @@
 //! The one way from a set to a product of its map: the set is linked and admitted, put under a mask and into canonical form.
 
 ghost use Rattle.std.specs.Prelude.{◌≡◌, ℕ, List, IfOk, IfErr};
-ghost use Rattle.tigercanon.specs.Faults.{RefusesRecords, TellsRefusalOfRead};
+ghost use Rattle.tigercanon.specs.Faults.{RefusesRecords, ReportsRefusalOfRead};
 ghost use Rattle.tigercanon.specs.Linked.{AreLinkedAs, IsLinkedSet};
 ghost use Rattle.tigercanon.specs.Sets.{IsCanonSetThrough, IsSeenSet};
 ghost use Rattle.tl_cert.specs.MaskedCounty.{masked};
@@ -117,7 +117,7 @@ pub(crate) fn make_of<S: UnlinkedSet, D, P: Product<D>>(
     requires device { P.IsReady product device.old }
     ensures made { (parts : List (List ℕ)) → S.Says set parts
         → IfOk result (λ made. P.Answers mask parts product device.old made device.new) }
-    ensures refused { (parts : List (List ℕ)) → S.Says set parts → IfErr result (TellsRefusalOfRead parts) }
+    ensures refused { (parts : List (List ℕ)) → S.Says set parts → IfErr result (ReportsRefusalOfRead parts) }
 {
     let linked = set.link(alloc)?;
     let arena = Bump::new(alloc);

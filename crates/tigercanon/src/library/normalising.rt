@@ -1,10 +1,10 @@
 //! The canonical text of a set, without a mask or under one.
 
 ghost use Rattle.std.specs.Prelude.{◌≡◌, ◌≢◌, ◌<◌, ◌+◌, ◌∷◌, [], Err, ℕ, List, All, false, length, IfOk, IfErr, if◌then◌else◌};
-ghost use Rattle.tigercanon.specs.Faults.{IsWantOfMemory, TellsRefusal};
+ghost use Rattle.tigercanon.specs.Faults.{IsWantOfMemory, ReportsRefusal};
 ghost use Rattle.tigercanon.specs.LentParts.{bytes_of_parts};
 ghost use Rattle.tigercanon.specs.Linked.{IsLinkedSet};
-ghost use Rattle.tigercanon.specs.Normalising.{AreNormalised, AreNormalisedThrough, IsCutOff, IsCutOffThrough, IsOnlyText, IsOnlyTextThrough, TellsRead, Took, is_of_sink, is_stopped};
+ghost use Rattle.tigercanon.specs.Normalising.{AreNormalised, AreNormalisedThrough, IsCutOff, IsCutOffThrough, IsOnlyText, IsOnlyTextThrough, ReportsRead, Took, is_of_sink, is_stopped};
 ghost use Rattle.tigercanon.specs.Reading.{AreRead, NoneFailed, OneFailed};
 ghost use Rattle.tigercanon.specs.Sets.{CarriesSet, CarriesSetThrough, IsAcceptedSet, IsCanonicalText, IsCanonicalTextThrough, IsOneCanonicalText, IsOneCanonicalTextThrough};
 ghost use Rattle.tl_cert.specs.MaskedCounty.{masked};
@@ -39,7 +39,7 @@ pub fn normalise(alloc: Global, parts: &[&[u8]]) -> Result<Vec<u8>, Fault>
     // For a canonical text, the result is that text.
     ensures again { (text : List ℕ) → IsOneCanonicalText (bytes_of_parts parts.now) text → IfOk result (λ answer. answer.items ≡ text) }
     ensures again_succeeds { (text : List ℕ) → IsOneCanonicalText (bytes_of_parts parts.now) text → IfErr result IsWantOfMemory }
-    ensures refused { IfErr result (TellsRefusal (bytes_of_parts parts.now)) }
+    ensures refused { IfErr result (ReportsRefusal (bytes_of_parts parts.now)) }
     ensures no_device { result ≢ Err (Fault.Load LoadFault.Device) }
     // For accepted parts the only fault is a failed allocation.
     ensures succeeds { (records : List Record) → IsAcceptedSet (bytes_of_parts parts.now) records → IfErr result IsWantOfMemory }
@@ -64,7 +64,7 @@ pub fn normalise_masked(alloc: Global, parts: &[&[u8]], mask: Mask) -> Result<Ve
         IfErr result IsWantOfMemory }
     // The result is its own canonical text without a mask.
     ensures plain { IfOk result (λ text. IsCanonicalText (text.items ∷ []) text.items) }
-    ensures refused { IfErr result (TellsRefusal (bytes_of_parts parts.now)) }
+    ensures refused { IfErr result (ReportsRefusal (bytes_of_parts parts.now)) }
     ensures no_device { result ≢ Err (Fault.Load LoadFault.Device) }
     // For accepted parts the only fault is a failed allocation.
     ensures succeeds { (records : List Record) → IsAcceptedSet (bytes_of_parts parts.now) records → IfErr result IsWantOfMemory }
@@ -85,7 +85,7 @@ pub fn normalise_with_renaming(alloc: Global, parts: &[&[u8]]) -> Result<(Vec<u8
     // No canonical list of the same map has another text.
     ensures only { IfOk result (λ answer. IsOnlyText (bytes_of_parts parts.now) answer.0.items) }
     ensures carries { IfOk result (λ answer. CarriesSet answer.1 (bytes_of_parts parts.now) (answer.0.items ∷ [])) }
-    ensures refused { IfErr result (TellsRefusal (bytes_of_parts parts.now)) }
+    ensures refused { IfErr result (ReportsRefusal (bytes_of_parts parts.now)) }
     ensures no_device { result ≢ Err (Fault.Load LoadFault.Device) }
     // For accepted parts the only fault is a failed allocation.
     ensures succeeds { (records : List Record) → IsAcceptedSet (bytes_of_parts parts.now) records → IfErr result IsWantOfMemory }
@@ -108,7 +108,7 @@ pub fn normalise_with_renaming_masked(
     // No canonical list of the same map under the mask has another text.
     ensures only { IfOk result (λ answer. IsOnlyTextThrough (masked mask) (bytes_of_parts parts.now) answer.0.items) }
     ensures carries { IfOk result (λ answer. CarriesSetThrough (masked mask) answer.1 (bytes_of_parts parts.now) (answer.0.items ∷ [])) }
-    ensures refused { IfErr result (TellsRefusal (bytes_of_parts parts.now)) }
+    ensures refused { IfErr result (ReportsRefusal (bytes_of_parts parts.now)) }
     ensures no_device { result ≢ Err (Fault.Load LoadFault.Device) }
     // For accepted parts the only fault is a failed allocation.
     ensures succeeds { (records : List Record) → IsAcceptedSet (bytes_of_parts parts.now) records → IfErr result IsWantOfMemory }
@@ -124,7 +124,7 @@ fn link_sources<R: Source>(alloc: Global, parts: &mut [R]) -> Result<LinkedRecor
     requires { All (λ part. R.failed part < u64.MAX) parts.old }
     ensures linked { IfOk result (λ linked. (set : List (List ℕ)) × AreRead R.remaining R.given parts.old parts.new set
         × IsLinkedSet set linked) }
-    ensures refused { IfErr result (TellsRead R.remaining R.given parts.old parts.new) }
+    ensures refused { IfErr result (ReportsRead R.remaining R.given parts.old parts.new) }
     ensures of_no_sink { IfErr result (λ fault. is_of_sink fault ≡ false) }
     ensures device { result ≡ Err (Fault.Load LoadFault.Device) → OneFailed R.failed parts.old parts.new }
     ensures no_device { result ≢ Err (Fault.Load LoadFault.Device) → NoneFailed R.failed parts.old parts.new }
@@ -156,7 +156,7 @@ pub fn normalise_to<R: Source, W: Sink>(
         IsCutOff R.remaining R.given parts.old parts.new W.holds out.old out.new fault.written }
     ensures failures { W.failed out.new ≡ (if is_stopped result then W.failed out.old + 1 else W.failed out.old) }
     // Or the set is refused, and nothing was written.
-    ensures refused { IfErr result (TellsRead R.remaining R.given parts.old parts.new) }
+    ensures refused { IfErr result (ReportsRead R.remaining R.given parts.old parts.new) }
     ensures silent { IfErr result (λ fault. is_of_sink fault ≡ false → out.new ≡ out.old) }
     // The fault is `Device` if and only if one of the sources failed.
     ensures device { result ≡ Err (Fault.Load LoadFault.Device) → OneFailed R.failed parts.old parts.new }
@@ -188,7 +188,7 @@ pub fn normalise_to_masked<R: Source, W: Sink>(
         IsCutOffThrough (masked mask) R.remaining R.given parts.old parts.new W.holds out.old out.new fault.written }
     ensures failures { W.failed out.new ≡ (if is_stopped result then W.failed out.old + 1 else W.failed out.old) }
     // Or the set is refused, and nothing was written.
-    ensures refused { IfErr result (TellsRead R.remaining R.given parts.old parts.new) }
+    ensures refused { IfErr result (ReportsRead R.remaining R.given parts.old parts.new) }
     ensures silent { IfErr result (λ fault. is_of_sink fault ≡ false → out.new ≡ out.old) }
     // The fault is `Device` if and only if one of the sources failed.
     ensures device { result ≡ Err (Fault.Load LoadFault.Device) → OneFailed R.failed parts.old parts.new }

@@ -55,8 +55,8 @@ fn text_and_renaming<C: Chart>(
     alloc: Global,
     county: &CanonCounty<C>,
 ) -> Result<(Vec<u8>, Renaming), AllocError>
-    ensures text { IfOk result (λ told. told.0.items ≡ text_of (packed (arranged_county county.now))) }
-    ensures carries { IfOk result (λ told. Carries told.1 (C.county (source_of county.now)) (arranged_county county.now)) }
+    ensures text { IfOk result (λ reported. reported.0.items ≡ text_of (packed (arranged_county county.now))) }
+    ensures carries { IfOk result (λ reported. Carries reported.1 (C.county (source_of county.now)) (arranged_county county.now)) }
 {
     let renaming = county.renaming(alloc)?;
     let text = text_in_memory(alloc, county)?;

@@ -7,7 +7,7 @@ ghost use Rattle.std.specs.Io.KnownBytes.{IsAtEnd};
 ghost use Rattle.std.specs.Prelude.{◌≡◌, ◌≢◌, ◌<◌, ◌≤◌, ◌+◌, Err, ℕ, List, [], length, vec_len, All, OnOk, IfOk, IfErr, IfSome};
 ghost use Rattle.tigercanon.specs.Devices.{StopsReading, set_of_sources};
 ghost use Rattle.tigercanon.specs.LentParts.{bytes_of_parts};
-ghost use Rattle.tigercanon.specs.Outcomes.{TellsLines};
+ghost use Rattle.tigercanon.specs.Outcomes.{ReportsLines};
 ghost use Rattle.tigercanon.specs.Reading.{AreRead, IsFaultOfRead, IsUnread, NoneFailed, OneFailed, SomeUnread, TakesPart};
 ghost use Rattle.tigercanon.specs.Respelling.{record_limit, IsFirstFault};
 ghost use Rattle.tl_layout.specs.declared.record_type.Record.{Record};
@@ -150,7 +150,7 @@ pub(crate) fn read_to_ends<K: Collector, R: Source>(
     requires { All (λ source. R.failed source < u64.MAX) sources.old }
     ensures fed { IfOk result (λ loader. (parts : List (List ℕ)) × AreRead R.remaining R.given sources.old sources.new parts
         × WasFedInto K.holds record_limit loader parts []) }
-    ensures told_none { IfOk result (λ loader. IfSome loader.fault IsNotDevice) }
+    ensures reported_none { IfOk result (λ loader. IfSome loader.fault IsNotDevice) }
     ensures no_device { result ≢ Err (Fault.Load LoadFault.Device) → NoneFailed R.failed sources.old sources.new }
     ensures stopped { IfErr result (StopsReading (SomeUnread R.failed R.reads sources.old sources.new)) }
 {
@@ -169,7 +169,7 @@ pub(crate) fn load_to_ends<K: Collector, R: Source>(
     requires { All (λ source. R.failed source < u64.MAX) sources.old }
     ensures loaded { IfOk result (λ kept. (parts : List (List ℕ)) × AreRead R.remaining R.given sources.old sources.new parts
         × (records : List Record) × K.holds kept records × SpellsWithin tiger record_limit parts records) }
-    ensures stopped { IfErr result (TellsLines (set_of_sources R.remaining R.given R.failed R.reads sources.old sources.new)) }
+    ensures stopped { IfErr result (ReportsLines (set_of_sources R.remaining R.given R.failed R.reads sources.old sources.new)) }
     ensures no_device { result ≢ Err (Fault.Load LoadFault.Device) → NoneFailed R.failed sources.old sources.new }
 {
     let loader = read_to_ends::<K, R>(alloc, sources)?;

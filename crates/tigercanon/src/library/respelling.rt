@@ -1,7 +1,7 @@
 //! Records in canonical spelling, in the order of their lines.
 
 ghost use Rattle.std.specs.Prelude.{◌≢◌, Err, List, IfOk, IfErr};
-ghost use Rattle.tigercanon.specs.Faults.{TellsFirstFault, IsWantOfMemory};
+ghost use Rattle.tigercanon.specs.Faults.{ReportsFirstFault, IsWantOfMemory};
 ghost use Rattle.tigercanon.specs.LentParts.{bytes_of_parts};
 ghost use Rattle.tigercanon.specs.Respelling.{record_limit, IsRespelt};
 ghost use Rattle.tl_layout.specs.declared.record_type.Record.{Record};
@@ -21,7 +21,7 @@ use tl_load::{CanonicalText, LoadFault};
 /// [`Fault::Load`] with the first faulty line, or a failed allocation.
 pub fn respell(alloc: Global, parts: &[&[u8]]) -> Result<Vec<u8>, Fault>
     ensures respelt { IfOk result (λ text. IsRespelt (bytes_of_parts parts.now) text.items) }
-    ensures faulty { IfErr result (TellsFirstFault (bytes_of_parts parts.now)) }
+    ensures faulty { IfErr result (ReportsFirstFault (bytes_of_parts parts.now)) }
     ensures no_device { result ≢ Err (Fault.Load LoadFault.Device) }
     // If the parts spell records, the only fault is a failed allocation.
     ensures succeeds { (records : List Record) →

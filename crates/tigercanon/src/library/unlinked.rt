@@ -1,7 +1,7 @@
 //! Sets whose records aren't linked yet: parts in memory, and what a loader was fed.
 
 ghost use Rattle.std.specs.Prelude.{◌≡◌, ℕ, List, [], IfErr, IfOk, IfSome};
-ghost use Rattle.tigercanon.specs.Faults.{TellsRefusalOfRead};
+ghost use Rattle.tigercanon.specs.Faults.{ReportsRefusalOfRead};
 ghost use Rattle.tigercanon.specs.Linked.{IsLinkedSet};
 
 use crate::fault::Fault;
@@ -24,7 +24,7 @@ pub(crate) trait UnlinkedSet: Drop + Sized {
     fn link(self, alloc: Global) -> Result<LinkedRecords, Fault>
         requires { IsReady self }
         ensures linked { (parts : List (List ℕ)) → Says self parts → IfOk result (IsLinkedSet parts) }
-        ensures refused { (parts : List (List ℕ)) → Says self parts → IfErr result (TellsRefusalOfRead parts) };
+        ensures refused { (parts : List (List ℕ)) → Says self parts → IfErr result (ReportsRefusalOfRead parts) };
 }
 
 /// Parts in memory.

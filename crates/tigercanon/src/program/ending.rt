@@ -1,7 +1,7 @@
 //! How jobs end, and how the program reports it.
 
 ghost use Rattle.std.specs.Prelude.{◌≡◌, ◌<◌, Ok, Err, MatchResult, None};
-ghost use Rattle.tigercanon.specs.Outcomes.{TellsLineTo};
+ghost use Rattle.tigercanon.specs.Outcomes.{ReportsLineTo};
 ghost use Rattle.tigercanon.specs.Refusals.{fault_line};
 ghost use Rattle.tigercanon.specs.Statuses.{status_of};
 ghost use Rattle.tigercanon.specs.Stopping.{stopped_by};
@@ -30,10 +30,10 @@ pub(crate) struct Stopped {
 }
 
 impl From<CompareFault> for Stopped {
-    ghost from_gives = { λ told made. made ≡ stopped_by told };
+    ghost from_gives = { λ reported made. made ≡ stopped_by reported };
 
-    fn from(told: CompareFault) -> Stopped {
-        match told {
+    fn from(reported: CompareFault) -> Stopped {
+        match reported {
             CompareFault::In { set, fault } => Stopped {
                 fault,
                 set: Some(set),
@@ -57,7 +57,7 @@ pub(crate) fn ending_of(outcome: Result<(), Fault>) -> Result<Ending, Stopped>
 }
 
 /// The line that reports why a job stopped: the refusal, and which of two sets it belongs to.
-fn line_of(stopped: Stopped) -> Line
+fn refusal_line_of(stopped: Stopped) -> Line
     ensures { result.items ≡ fault_line stopped.fault stopped.set }
 {
     let mut line = stopped.fault.report().line();
@@ -73,20 +73,20 @@ fn line_of(stopped: Stopped) -> Line
 }
 
 /// Writes a line to a sink, or a beginning of it if the sink fails.
-pub(crate) fn tell_line<E: Sink>(line: &[u8], err: &mut E)
+pub(crate) fn write_line<E: Sink>(line: &[u8], err: &mut E)
     requires { E.failed err.old < u64.MAX }
-    ensures { TellsLineTo E.failed E.holds err.old err.new line.now }
+    ensures { ReportsLineTo E.failed E.holds err.old err.new line.now }
 {
     let _ = write_text(line, err);
 }
 
 /// Writes to a sink, in one line, why a job stopped, and returns the exit status.
-pub(crate) fn tell_stopped<E: Sink>(stopped: Stopped, err: &mut E) -> u8
+pub(crate) fn report_stopped<E: Sink>(stopped: Stopped, err: &mut E) -> u8
     requires { E.failed err.old < u64.MAX }
     ensures status { result ≡ status_of stopped.fault }
-    ensures told { TellsLineTo E.failed E.holds err.old err.new (fault_line stopped.fault stopped.set) }
+    ensures reported { ReportsLineTo E.failed E.holds err.old err.new (fault_line stopped.fault stopped.set) }
 {
-    let line = line_of(stopped);
-    tell_line(line.as_slice(), err);
+    let line = refusal_line_of(stopped);
+    write_line(line.as_slice(), err);
     Refusal(stopped.fault).status()
 }

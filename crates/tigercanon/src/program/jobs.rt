@@ -5,9 +5,9 @@
 
 ghost use Rattle.hex.specs.Hex.{encode_lower};
 ghost use Rattle.std.specs.Prelude.{◌≡◌, ◌≢◌, ◌<◌, ◌++◌, ◌∷◌, [], All, Err, IfErr, IfOk, List, Ok, OnOk, string_bytes, ℕ};
-ghost use Rattle.tigercanon.specs.Devices.{TellsNoDevice, set_of_sources, to_sink};
+ghost use Rattle.tigercanon.specs.Devices.{ReportsNoDevice, set_of_sources, to_sink};
 ghost use Rattle.tigercanon.specs.Fingerprints.{IsFingerprintThrough, SaysFingerprintThrough};
-ghost use Rattle.tigercanon.specs.Outcomes.{HoldsAccepted, IsAnswered, Leaves, PrintsWhole, TellsSet};
+ghost use Rattle.tigercanon.specs.Outcomes.{HoldsAccepted, IsAnswered, Leaves, PrintsWhole, ReportsSet};
 ghost use Rattle.tigercanon.specs.Reading.{AreRead, NoneFailed};
 ghost use Rattle.tigercanon.specs.Respelling.{IsRespelt, record_limit};
 ghost use Rattle.tigercanon.specs.Sets.{IsCanonicalTextThrough, SaysAccepted};
@@ -75,7 +75,7 @@ fn normalise_set<R: Source, W: Sink>(
 fn judge_set<R: Source>(alloc: Global, set: &mut [R]) -> Result<(), Fault>
     requires { All (λ part. R.failed part < u64.MAX) set.old }
     ensures accepted { OnOk result (HoldsAccepted (set_of_sources R.remaining R.given R.failed R.reads set.old set.new)) }
-    ensures refused { IfErr result (TellsSet (set_of_sources R.remaining R.given R.failed R.reads set.old set.new)) }
+    ensures refused { IfErr result (ReportsSet (set_of_sources R.remaining R.given R.failed R.reads set.old set.new)) }
     // If the fault isn't a device's, no source has failed.
     ensures no_device { result ≢ Err (Fault.Load LoadFault.Device) → NoneFailed R.failed set.old set.new }
 {
@@ -104,7 +104,7 @@ fn hash_set<R: Source>(alloc: Global, set: &mut [R], mask: Mask) -> Result<[u8; 
     requires { All (λ part. R.failed part < u64.MAX) set.old }
     ensures accepted { IfOk result (IsAnswered (IsFingerprintThrough (masked mask))
         (set_of_sources R.remaining R.given R.failed R.reads set.old set.new)) }
-    ensures refused { IfErr result (TellsSet (set_of_sources R.remaining R.given R.failed R.reads set.old set.new)) }
+    ensures refused { IfErr result (ReportsSet (set_of_sources R.remaining R.given R.failed R.reads set.old set.new)) }
     // If the fault isn't a device's, no source has failed.
     ensures no_device { result ≢ Err (Fault.Load LoadFault.Device) → NoneFailed R.failed set.old set.new }
 {
@@ -167,7 +167,7 @@ pub(crate) fn do_job<R: Source, W: Sink>(
         (set_of_sources R.remaining R.given R.failed R.reads second.old second.new)
         (to_sink W.failed W.holds out.old out.new) stopped.fault stopped.set) }
     // If the fault isn't a device's, no source has failed.
-    ensures no_device { TellsNoDevice result → NoneFailed R.failed first.old first.new × NoneFailed R.failed second.old second.new }
+    ensures no_device { ReportsNoDevice result → NoneFailed R.failed first.old first.new × NoneFailed R.failed second.old second.new }
 {
     match job {
         Job::Respell => ending_of(respell_set(alloc, first, out)),

@@ -4,15 +4,15 @@ ghost use Rattle.std.specs.Io.KnownBytes.{Keeps};
 ghost use Rattle.std.specs.Prelude.{◌≡◌, ◌≢◌, ◌<◌, ◌≤◌, ◌+◌, ◌⊎◌, ◌∷◌, [], All, Contains, IfErr, IfOk, List, OnOk, Option, ℕ};
 ghost use Rattle.tigercanon.specs.Devices.{set_of_sources, to_sink};
 ghost use Rattle.tigercanon.specs.Files.{AreSourcesOf, IsMissing};
-ghost use Rattle.tigercanon.specs.Outcomes.{TellsLine, TellsLineTo};
+ghost use Rattle.tigercanon.specs.Outcomes.{ReportsLine, ReportsLineTo};
 ghost use Rattle.tigercanon.specs.Reading.{NoneFailed, SomeUnread};
-ghost use Rattle.tigercanon.specs.Running.{IsMissingOne, IsRefusedBy, NamesMissing, PrintsDifferent, PrintsDone, PrintsSome, TellsMissing, TellsWhy, set_of_files};
+ghost use Rattle.tigercanon.specs.Running.{IsMissingOne, IsRefusedBy, NamesMissing, PrintsDifferent, PrintsDone, PrintsSome, ReportsMissing, ReportsWhy, set_of_files};
 ghost use Rattle.tigercanon.specs.Stopping.{set_of_job};
-ghost use Rattle.tigercanon.specs.TwoSets.{IsDifferent, IsDone, IsToldWhy};
+ghost use Rattle.tigercanon.specs.TwoSets.{IsDifferent, IsDone, IsReportedWhy};
 
 use crate::fault::Fault;
 use crate::library::comparing::{FIRST, SECOND};
-use crate::program::ending::{Ending, Stopped, tell_stopped};
+use crate::program::ending::{Ending, Stopped, report_stopped};
 use crate::program::files::{OpenFile, Opened, is_missing_a_file, open_files};
 use crate::program::jobs::do_job;
 use crate::program::writing::LentOut;
@@ -109,10 +109,10 @@ fn run_to<R: Source, W: Sink, E: Sink>(
         (set_of_sources R.remaining R.given R.failed R.reads first.old first.new)
         (set_of_sources R.remaining R.given R.failed R.reads second.old second.new) (to_sink W.failed W.holds out.old out.new) }
     // The line on `err` reports the fault, and which of two sets is at fault. Nothing is written there if the job is done.
-    ensures told { 1 < result → IsToldWhy mask job (set_of_sources R.remaining R.given R.failed R.reads first.old first.new)
+    ensures reported { 1 < result → IsReportedWhy mask job (set_of_sources R.remaining R.given R.failed R.reads first.old first.new)
         (set_of_sources R.remaining R.given R.failed R.reads second.old second.new) (to_sink W.failed W.holds out.old out.new)
-        (TellsLineTo E.failed E.holds err.old err.new) result }
-    ensures untold { result ≤ 1 → err.new ≡ err.old }
+        (ReportsLineTo E.failed E.holds err.old err.new) result }
+    ensures unreported { result ≤ 1 → err.new ≡ err.old }
     // Only if a source failed or has no end, or the sink failed.
     ensures device { result ≡ 4 → SomeUnread R.failed R.reads first.old first.new ⊎ SomeUnread R.failed R.reads second.old second.new
         ⊎ (W.failed out.new ≡ W.failed out.old + 1) }
@@ -122,7 +122,7 @@ fn run_to<R: Source, W: Sink, E: Sink>(
     match do_job(alloc, job, first, second, out, mask) {
         Ok(Ending::Done) => 0,
         Ok(Ending::Different) => 1,
-        Err(stopped) => tell_stopped(stopped, err),
+        Err(stopped) => report_stopped(stopped, err),
     }
 }
 
@@ -144,17 +144,17 @@ fn run_found<R: Read + Drop, W: Sink, E: Sink>(
         (to_sink W.failed W.holds out.old out.new) }
     ensures different { result ≡ 1 → IsDifferent mask job (set_of_files R.remaining first.items) (set_of_files R.remaining second.items)
         (to_sink W.failed W.holds out.old out.new) }
-    ensures told { 1 < result → IsToldWhy mask job (set_of_files R.remaining first.items) (set_of_files R.remaining second.items)
-        (to_sink W.failed W.holds out.old out.new) (TellsLineTo E.failed E.holds err.old err.new) result }
-    ensures untold { result ≤ 1 → err.new ≡ err.old }
+    ensures reported { 1 < result → IsReportedWhy mask job (set_of_files R.remaining first.items) (set_of_files R.remaining second.items)
+        (to_sink W.failed W.holds out.old out.new) (ReportsLineTo E.failed E.holds err.old err.new) result }
+    ensures unreported { result ≤ 1 → err.new ≡ err.old }
 {
     let mut first = match open_set(alloc, job, FIRST, first) {
         Ok(sources) => sources,
-        Err(stopped) => return tell_stopped(stopped, err),
+        Err(stopped) => return report_stopped(stopped, err),
     };
     let mut second = match open_set(alloc, job, SECOND, second) {
         Ok(sources) => sources,
-        Err(stopped) => return tell_stopped(stopped, err),
+        Err(stopped) => return report_stopped(stopped, err),
     };
     run_to(alloc, job, &mut first, &mut second, out, err, mask)
 }
@@ -176,17 +176,17 @@ fn run_files<R: Read + Drop, W: Sink, E: Sink>(
         (to_sink W.failed W.holds out.old out.new) }
     ensures different { result ≡ 1 → IsDifferent mask job (set_of_files R.remaining first.items) (set_of_files R.remaining second.items)
         (to_sink W.failed W.holds out.old out.new) }
-    ensures told { 1 < result → IsToldWhy mask job (set_of_files R.remaining first.items) (set_of_files R.remaining second.items)
-        (to_sink W.failed W.holds out.old out.new) (TellsLineTo E.failed E.holds err.old err.new) result }
-    ensures untold { result ≤ 1 → err.new ≡ err.old }
+    ensures reported { 1 < result → IsReportedWhy mask job (set_of_files R.remaining first.items) (set_of_files R.remaining second.items)
+        (to_sink W.failed W.holds out.old out.new) (ReportsLineTo E.failed E.holds err.old err.new) result }
+    ensures unreported { result ≤ 1 → err.new ≡ err.old }
     ensures missing { IsMissingOne job first.items second.items → result ≡ 4 }
     ensures missing_silent { IsMissingOne job first.items second.items → out.new ≡ out.old }
-    ensures missing_told { IsMissingOne job first.items second.items →
-        TellsMissing job first.items second.items (TellsLineTo E.failed E.holds err.old err.new) }
+    ensures missing_reported { IsMissingOne job first.items second.items →
+        ReportsMissing job first.items second.items (ReportsLineTo E.failed E.holds err.old err.new) }
 {
     match refuse_missing_sets(job, &first, &second) {
         Ok(()) => run_found(alloc, job, first, second, out, err, mask),
-        Err(stopped) => tell_stopped(stopped, err),
+        Err(stopped) => report_stopped(stopped, err),
     }
 }
 
@@ -220,11 +220,11 @@ pub fn run<R: Read + Drop, W: Write, E: Write>(
     ensures missing_silent { IsMissingOne job first.items second.items → Keeps (W.contents out.old) (W.contents out.new) }
 
     // The line on `err` reports the fault, and which of two sets is at fault. Nothing is written there if the job is done.
-    ensures told { 1 < result → TellsWhy mask job R.remaining first.items second.items (W.contents out.old) (W.contents out.new)
-        (TellsLine (E.contents err.old) (E.contents err.new)) result }
-    ensures missing_told { IsMissingOne job first.items second.items →
-        TellsMissing job first.items second.items (TellsLine (E.contents err.old) (E.contents err.new)) }
-    ensures untold { result ≤ 1 → Keeps (E.contents err.old) (E.contents err.new) }
+    ensures reported { 1 < result → ReportsWhy mask job R.remaining first.items second.items (W.contents out.old) (W.contents out.new)
+        (ReportsLine (E.contents err.old) (E.contents err.new)) result }
+    ensures missing_reported { IsMissingOne job first.items second.items →
+        ReportsMissing job first.items second.items (ReportsLine (E.contents err.old) (E.contents err.new)) }
+    ensures unreported { result ≤ 1 → Keeps (E.contents err.old) (E.contents err.new) }
 {
     let mut text = LentOut::new(out);
     let mut lines = LentOut::new(err);

@@ -2,10 +2,10 @@
 
 ghost use Rattle.std.specs.Prelude.{◌≡◌, ◌<◌, All, Ok, IfOk, IfErr, if◌then◌else◌};
 ghost use Rattle.tigercanon.specs.Comparing.{AreDifferentThrough, AreOneMapThrough};
-ghost use Rattle.tigercanon.specs.Devices.{TellsNoDevice, set_of_sources, to_sink};
+ghost use Rattle.tigercanon.specs.Devices.{ReportsNoDevice, set_of_sources, to_sink};
 ghost use Rattle.tigercanon.specs.Outcomes.{Prints};
 ghost use Rattle.tigercanon.specs.Reading.{NoneFailed};
-ghost use Rattle.tigercanon.specs.TwoSets.{IsLineDifferent, IsLineSame, LeavesComparison, OfTwoSets, TellsOne, line_of_ending, where_ended};
+ghost use Rattle.tigercanon.specs.TwoSets.{IsLineDifferent, IsLineSame, LeavesComparison, OfTwoSets, ReportsOne, line_of_ending, where_ended};
 ghost use Rattle.tl_cert.specs.MaskedCounty.{masked};
 
 use crate::fault::Fault;
@@ -43,10 +43,10 @@ fn compare_sources<R: Source>(
         (set_of_sources R.remaining R.given R.failed R.reads second.old second.new))
         (OfTwoSets (AreDifferentThrough (masked mask)) (set_of_sources R.remaining R.given R.failed R.reads first.old first.new)
         (set_of_sources R.remaining R.given R.failed R.reads second.old second.new))) }
-    ensures refused { IfErr result (λ stopped. TellsOne (set_of_sources R.remaining R.given R.failed R.reads first.old first.new)
+    ensures refused { IfErr result (λ stopped. ReportsOne (set_of_sources R.remaining R.given R.failed R.reads first.old first.new)
         (set_of_sources R.remaining R.given R.failed R.reads second.old second.new) stopped.fault stopped.set) }
     // If the fault isn't a device's, no source has failed.
-    ensures no_device { TellsNoDevice result → NoneFailed R.failed first.old first.new × NoneFailed R.failed second.old second.new }
+    ensures no_device { ReportsNoDevice result → NoneFailed R.failed first.old first.new × NoneFailed R.failed second.old second.new }
 {
     let one = tag_set(FIRST, read_to_ends::<Tables, R>(alloc, first))?;
     let other = tag_set(SECOND, read_to_ends::<Tables, R>(alloc, second))?;
@@ -55,7 +55,7 @@ fn compare_sources<R: Source>(
 }
 
 /// The line that a comparison prints.
-fn line_of(ending: Ending) -> &'static [u8]
+fn answer_line_of(ending: Ending) -> &'static [u8]
     ensures { result.now ≡ line_of_ending ending }
 {
     match ending {
@@ -87,10 +87,10 @@ pub(crate) fn compare_sets<R: Source, W: Sink>(
         (set_of_sources R.remaining R.given R.failed R.reads second.old second.new)
         (to_sink W.failed W.holds out.old out.new) stopped.fault stopped.set) }
     // If the fault isn't a device's, no source has failed.
-    ensures no_device { TellsNoDevice result → NoneFailed R.failed first.old first.new × NoneFailed R.failed second.old second.new }
+    ensures no_device { ReportsNoDevice result → NoneFailed R.failed first.old first.new × NoneFailed R.failed second.old second.new }
 {
     let ending = compare_sources(alloc, first, second, mask)?;
-    match write_text(line_of(ending), out) {
+    match write_text(answer_line_of(ending), out) {
         Ok(()) => Ok(ending),
         Err(fault) => Err(Stopped {
             fault: Fault::Write(fault),

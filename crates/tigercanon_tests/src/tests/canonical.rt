@@ -17,9 +17,9 @@ fn becomes(rt: &impl Abort, alloc: Global, set: &Set<'_>) {
     let accepted = check(alloc, &[set.bytes]);
     let found = normalise(alloc, &[set.bytes]).expect(rt, set.row);
     same_items(rt, set.row, &found, set.text);
-    let told = normalise_with_renaming(alloc, &[set.bytes]).expect(rt, set.row);
-    let carried = carries(rt, alloc, set.row, set.bytes, set.text, &told.1);
-    drop(told);
+    let reported = normalise_with_renaming(alloc, &[set.bytes]).expect(rt, set.row);
+    let carried = carries(rt, alloc, set.row, set.bytes, set.text, &reported.1);
+    drop(reported);
     same(rt, set.row, &(accepted, carried), &(Ok(()), true));
 }
 
@@ -54,8 +54,8 @@ fn sets_become_their_texts(rt: HostRuntime) {
 
 /// The renaming onto the text names old numbers, those of the set.
 #[test]
-fn a_turned_chain_is_told_by_its_old_number(rt: HostRuntime) {
+fn a_turned_chain_is_reported_by_its_old_number(rt: HostRuntime) {
     let set = lines_of(&rt, rt.alloc(), street_turned());
-    let told = normalise_with_renaming(rt.alloc(), &[&set]).expect(&rt, "the street");
-    has_lists(&rt, "the street", &told.1, &onto_the_text());
+    let reported = normalise_with_renaming(rt.alloc(), &[&set]).expect(&rt, "the street");
+    has_lists(&rt, "the street", &reported.1, &onto_the_text());
 }

@@ -100,7 +100,7 @@ fn has_the_landmarks(rt: &impl Abort, county: &County) {
 }
 
 #[test]
-fn getters_tell_what_the_lines_say(rt: HostRuntime) {
+fn getters_report_what_the_lines_say(rt: HostRuntime) {
     let set = lines_of(&rt, rt.alloc(), record_of_each_type());
     let county = county_of(&rt, rt.alloc(), "a record of each type", &set);
     has_the_numbers(&rt, &county);

@@ -92,7 +92,7 @@ pub(super) struct SlowWriter {
     pub(super) held: Vec<u8>,
     pub(super) writes: usize,
     step: usize,
-    room: Option<usize>,
+    buffer: Option<usize>,
     kind: ErrorKind,
 }
 
@@ -100,7 +100,7 @@ impl Write for SlowWriter {
     fn write(&mut self, buf: &[u8]) -> io::Result<usize> {
         self.writes = self.writes.saturating_add(1);
         let left = match self.room {
-            Some(room) => room.saturating_sub(self.held.len()),
+            Some(buffer) => buffer.saturating_sub(self.held.len()),
             None => buf.len(),
         };
         if left == 0 && !buf.is_empty() {
@@ -139,19 +139,19 @@ pub(super) fn reader(
 pub(super) fn failing_writer(
     alloc: Global,
     step: usize,
-    room: usize,
+    buffer: usize,
     kind: ErrorKind,
 ) -> SlowWriter {
     SlowWriter {
         held: Vec::new(alloc),
         writes: 0,
         step,
-        room: Some(room),
+        buffer: Some(buffer),
         kind,
     }
 }
 
 /// A writer that holds nothing yet, and is interrupted.
-pub(super) fn writer(alloc: Global, step: usize, room: usize) -> SlowWriter {
-    failing_writer(alloc, step, room, ErrorKind::Interrupted)
+pub(super) fn writer(alloc: Global, step: usize, buffer: usize) -> SlowWriter {
+    failing_writer(alloc, step, buffer, ErrorKind::Interrupted)
 }

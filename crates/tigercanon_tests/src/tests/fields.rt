@@ -8,7 +8,7 @@ use tl_layout::{
 };
 
 /// Checks the kind of a chain, and the name of its feature.
-fn tells_feature(rt: &impl Abort, body: &Body1) {
+fn reports_feature(rt: &impl Abort, body: &Body1) {
     let found = (
         (body.side1(), body.source(), body.cfcc()),
         (body.fedirp(), body.fename(), body.fetype(), body.fedirs()),
@@ -24,7 +24,7 @@ fn tells_feature(rt: &impl Abort, body: &Body1) {
 }
 
 /// Checks the native areas beside a chain, the reserved fields, and the states and counties with their parts.
-fn tells_entities(rt: &impl Abort, body: &Body1) {
+fn reports_entities(rt: &impl Abort, body: &Body1) {
     let found = (
         (body.aianhhfpl(), body.aianhhfpr()),
         (body.aihhtlil(), body.aihhtlir()),
@@ -44,7 +44,7 @@ fn tells_entities(rt: &impl Abort, body: &Body1) {
 }
 
 /// Checks the subdivisions, places, census tracts and census blocks beside a chain.
-fn tells_blocks(rt: &impl Abort, body: &Body1) {
+fn reports_blocks(rt: &impl Abort, body: &Body1) {
     let found = (
         (body.cousubl(), body.cousubr()),
         (body.submcdl(), body.submcdr()),
@@ -64,7 +64,7 @@ fn tells_blocks(rt: &impl Abort, body: &Body1) {
 }
 
 /// Checks address ranges and ZIP codes.
-fn tells_ranges(rt: &impl Abort, ranges: &Ranges) {
+fn reports_ranges(rt: &impl Abort, ranges: &Ranges) {
     let found = (
         (ranges.fraddl(), ranges.toaddl()),
         (ranges.fraddr(), ranges.toaddr()),
@@ -84,32 +84,32 @@ fn tells_ranges(rt: &impl Abort, ranges: &Ranges) {
 }
 
 /// Checks the number, the ends and the content of a chain.
-fn tells_1(rt: &impl Abort, record: &Rec1) {
+fn reports_1(rt: &impl Abort, record: &Rec1) {
     let found = (record.tlid(), record.start(), record.end());
     let start = Point::new(-86468669, 32424914);
     let end = Point::new(-86468545, 32424948);
     same(rt, "TLID, start, end", &found, &(500, start, end));
-    tells_feature(rt, record.body());
-    tells_entities(rt, record.body());
-    tells_blocks(rt, record.body());
-    tells_ranges(rt, &record.body().ranges());
+    reports_feature(rt, record.body());
+    reports_entities(rt, record.body());
+    reports_blocks(rt, record.body());
+    reports_ranges(rt, &record.body().ranges());
 }
 
 /// Checks shape points.
-fn tells_2(rt: &impl Abort, record: &Rec2) {
+fn reports_2(rt: &impl Abort, record: &Rec2) {
     same(rt, "TLID, RTSQ", &(record.tlid(), record.rtsq()), &(500, 2));
     let points = [Point::new(-86468650, 32424920)];
     same_items(rt, "points", record.points(), &points);
 }
 
 /// Checks the further names of a chain.
-fn tells_4(rt: &impl Abort, record: &Rec4) {
+fn reports_4(rt: &impl Abort, record: &Rec4) {
     same(rt, "TLID, RTSQ", &(record.tlid(), record.rtsq()), &(500, 1));
     same_items(rt, "FEATs", record.feats(), &[9, 8]);
 }
 
 /// Checks a name.
-fn tells_5(rt: &impl Abort, body: &Body5) {
+fn reports_5(rt: &impl Abort, body: &Body5) {
     let found = (
         body.file(),
         (body.fedirp(), body.fename(), body.fetype(), body.fedirs()),
@@ -123,13 +123,13 @@ fn tells_5(rt: &impl Abort, body: &Body5) {
 }
 
 /// Checks further address ranges of a chain.
-fn tells_6(rt: &impl Abort, record: &Rec6) {
+fn reports_6(rt: &impl Abort, record: &Rec6) {
     same(rt, "TLID, RTSQ", &(record.tlid(), record.rtsq()), &(500, 3));
-    tells_ranges(rt, record.ranges());
+    reports_ranges(rt, record.ranges());
 }
 
 /// Checks the content of a landmark.
-fn tells_7(rt: &impl Abort, body: &Body7) {
+fn reports_7(rt: &impl Abort, body: &Body7) {
     let found = (
         (body.file(), body.source(), body.cfcc()),
         (body.laname(), body.point()),
@@ -145,7 +145,7 @@ fn tells_7(rt: &impl Abort, body: &Body7) {
 }
 
 /// Checks the polygon of a landmark.
-fn tells_8(rt: &impl Abort, record: &Rec8) {
+fn reports_8(rt: &impl Abort, record: &Rec8) {
     let found = (
         (record.file(), record.cenid()),
         (record.polyid(), record.land()),
@@ -155,7 +155,7 @@ fn tells_8(rt: &impl Abort, record: &Rec8) {
 }
 
 /// Checks the nodes and the polygons of a chain.
-fn tells_between(rt: &impl Abort, record: &RecI) {
+fn reports_between(rt: &impl Abort, record: &RecI) {
     let found = (
         (record.start_node(), record.end_node()),
         (record.left().cenid(), record.left().polyid()),
@@ -171,8 +171,8 @@ fn tells_between(rt: &impl Abort, record: &RecI) {
 }
 
 /// Checks the other fields of a type I record.
-fn tells_i(rt: &impl Abort, record: &RecI) {
-    tells_between(rt, record);
+fn reports_i(rt: &impl Abort, record: &RecI) {
+    reports_between(rt, record);
     let body = record.body();
     let found = (
         (body.file(), body.source(), body.ftseg()),
@@ -186,7 +186,7 @@ fn tells_i(rt: &impl Abort, record: &RecI) {
 }
 
 /// Checks a polygon.
-fn tells_p(rt: &impl Abort, record: &RecP) {
+fn reports_p(rt: &impl Abort, record: &RecP) {
     let body = record.body();
     let found = (
         (record.cenid(), record.polyid()),
@@ -200,17 +200,17 @@ fn tells_p(rt: &impl Abort, record: &RecP) {
 }
 
 /// Checks the fields of one record.
-fn tells_record(rt: &impl Abort, record: &Record) {
+fn reports_record(rt: &impl Abort, record: &Record) {
     match record {
-        Record::One(record) => tells_1(rt, record),
-        Record::Two(record) => tells_2(rt, record),
-        Record::Four(record) => tells_4(rt, record),
-        Record::Five(record) => tells_5(rt, record.body()),
-        Record::Six(record) => tells_6(rt, record),
-        Record::Seven(record) => tells_7(rt, record.body()),
-        Record::Eight(record) => tells_8(rt, record),
-        Record::I(record) => tells_i(rt, record),
-        Record::P(record) => tells_p(rt, record),
+        Record::One(record) => reports_1(rt, record),
+        Record::Two(record) => reports_2(rt, record),
+        Record::Four(record) => reports_4(rt, record),
+        Record::Five(record) => reports_5(rt, record.body()),
+        Record::Six(record) => reports_6(rt, record),
+        Record::Seven(record) => reports_7(rt, record.body()),
+        Record::Eight(record) => reports_8(rt, record),
+        Record::I(record) => reports_i(rt, record),
+        Record::P(record) => reports_p(rt, record),
     }
 }
 
@@ -233,11 +233,11 @@ fn lines() -> &'static [&'static str] {
 }
 
 #[test]
-fn fields_are_told_by_their_names(rt: HostRuntime) {
+fn fields_are_reported_by_their_names(rt: HostRuntime) {
     let set = lines_of(&rt, rt.alloc(), lines());
     let records = records_of(&rt, rt.alloc(), "a record of each type", &set);
     same(&rt, "records", &records.len(), &9);
     for record in &records {
-        tells_record(&rt, record);
+        reports_record(&rt, record);
     }
 }

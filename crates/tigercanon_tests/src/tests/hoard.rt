@@ -248,27 +248,27 @@ fn loaders_are_made(rt: HostRuntime) {
     let limited = loader_answers(Loader::with_limit(rt.alloc(), 2));
     drop(pieces);
     let memory = Err(LoadFault::Memory);
-    let told = (0, memory, memory, 0);
+    let reported = (0, memory, memory, 0);
     same(
         &rt,
         "a loader, and one with a limit",
         &(found, limited),
-        &(told, told),
+        &(reported, reported),
     );
 }
 
 /// Whether a canonical county is written as this text.
 fn is_written<C: Chart>(county: &CanonCounty<C>, text: &[u8]) -> bool {
-    let mut room = [0; 400];
-    let mut sink = SlowSink::new(&mut room, 100);
+    let mut buffer = [0; 400];
+    let mut sink = SlowSink::new(&mut buffer, 100);
     let answer = write_to(county, &mut sink);
     answer == Ok(text.len() as u64) && sink.held() == text
 }
 
 /// The same by the call for counties in an arena.
 fn is_written_in<C: Chart>(county: &CanonCounty<C>, text: &[u8]) -> bool {
-    let mut room = [0; 400];
-    let mut sink = SlowSink::new(&mut room, 100);
+    let mut buffer = [0; 400];
+    let mut sink = SlowSink::new(&mut buffer, 100);
     let answer = write_in(county, &mut sink);
     answer == Ok(text.len() as u64) && sink.held() == text
 }
@@ -320,7 +320,7 @@ fn counties_in_an_arena_are_written(rt: HostRuntime) {
 }
 
 /// Whether a whole call reported out of memory.
-fn tells<T: Drop>(outcome: Result<T, Fault>) -> bool {
+fn reports<T: Drop>(outcome: Result<T, Fault>) -> bool {
     match outcome {
         Ok(_) => false,
         Err(fault) => is_memory(fault),
@@ -328,7 +328,7 @@ fn tells<T: Drop>(outcome: Result<T, Fault>) -> bool {
 }
 
 /// Whether a comparison did.
-fn comparison_tells(outcome: Result<Verdict, CompareFault>) -> bool {
+fn comparison_reports(outcome: Result<Verdict, CompareFault>) -> bool {
     match outcome {
         Ok(_) => false,
         Err(CompareFault::In { fault, .. }) => is_memory(fault),
@@ -337,28 +337,28 @@ fn comparison_tells(outcome: Result<Verdict, CompareFault>) -> bool {
 }
 
 /// The whole calls that report out of memory.
-fn whole_calls_tell(alloc: Global, set: &[u8]) -> [bool; 7] {
-    let mut room = [0; 400];
-    let mut sink = SlowSink::new(&mut room, 100);
-    let is_told = tells(normalise_slowly(alloc, set, &mut sink));
+fn whole_calls_report(alloc: Global, set: &[u8]) -> [bool; 7] {
+    let mut buffer = [0; 400];
+    let mut sink = SlowSink::new(&mut buffer, 100);
+    let is_reported = reports(normalise_slowly(alloc, set, &mut sink));
     [
-        is_told && sink.held().is_empty(),
-        tells(respell(alloc, &[set])),
-        tells(normalise(alloc, &[set])),
-        tells(normalise_with_renaming(alloc, &[set])),
-        tells(fingerprint(alloc, &[set])),
-        tells(check(alloc, &[set])),
-        comparison_tells(compare(alloc, &[set], &[set])),
+        is_reported && sink.held().is_empty(),
+        reports(respell(alloc, &[set])),
+        reports(normalise(alloc, &[set])),
+        reports(normalise_with_renaming(alloc, &[set])),
+        reports(fingerprint(alloc, &[set])),
+        reports(check(alloc, &[set])),
+        comparison_reports(compare(alloc, &[set], &[set])),
     ]
 }
 
 /// The whole calls report out of memory, and write nothing. With ample memory, none reports it.
 #[test]
-fn whole_calls_tell_want_of_memory(rt: HostRuntime) {
+fn whole_calls_report_want_of_memory(rt: HostRuntime) {
     let set = lines_of(&rt, rt.alloc(), street());
-    let before = whole_calls_tell(rt.alloc(), &set);
+    let before = whole_calls_report(rt.alloc(), &set);
     let pieces = all_memory(&rt, rt.alloc());
-    let found = whole_calls_tell(rt.alloc(), &set);
+    let found = whole_calls_report(rt.alloc(), &set);
     drop(pieces);
     let wanted = ([false; 7], [true; 7]);
     same(&rt, "ample memory, and none", &(before, found), &wanted);

@@ -38,26 +38,26 @@ fn is_found(rt: &impl Abort, len: usize, place: usize, byte: (u8, bool), other: 
 }
 
 /// Each byte is classified correctly at this place, with a bad byte at `other` if there is one.
-fn are_told_apart(rt: &impl Abort, len: usize, place: usize, other: Option<usize>) {
+fn are_distinguished(rt: &impl Abort, len: usize, place: usize, other: Option<usize>) {
     for byte in BYTES {
         is_found(rt, len, place, byte, other);
     }
 }
 
 /// The same at each place of a text of this length.
-fn are_told_apart_everywhere(rt: &impl Abort, len: usize) {
+fn are_distinguished_everywhere(rt: &impl Abort, len: usize) {
     let none = first_bad(&[b'A'; MOST][..len.min(MOST)]);
     same(rt, "no bad byte", &none, &None);
     for place in 0..len {
-        are_told_apart(rt, len, place, None);
+        are_distinguished(rt, len, place, None);
     }
 }
 
 #[test]
 fn the_first_bad_byte_is_found_at_each_place(rt: HostRuntime) {
     for len in 0..101 {
-        are_told_apart_everywhere(&rt, len);
+        are_distinguished_everywhere(&rt, len);
     }
-    are_told_apart(&rt, MOST, 31, Some(32));
-    are_told_apart(&rt, MOST, 32, Some(64));
+    are_distinguished(&rt, MOST, 31, Some(32));
+    are_distinguished(&rt, MOST, 32, Some(64));
 }

@@ -61,7 +61,7 @@ fn pieces_of_any_size_give_the_same_records(rt: HostRuntime) {
 
 /// A line that is too long is reported by its first 230 bytes, and the source isn't read again.
 #[test]
-fn a_long_line_is_told_before_a_read_fails(rt: HostRuntime) {
+fn a_long_line_is_reported_before_a_read_fails(rt: HostRuntime) {
     let mut source = SlowSource::new(&[b'1'; 1000], 230, Some(2));
     let mut loader = Loader::new(rt.alloc());
     let answer = loader.read_part(&mut source);
@@ -77,20 +77,20 @@ fn fails_at(rt: &impl Abort, alloc: Global, set: &[u8], read: u64) {
     let mut source = SlowSource::new(set, 100, Some(read));
     let mut loader = Loader::new(alloc);
     let answer = loader.read_part(&mut source);
-    let told = (read, answer, source.failures(), loader.parts());
+    let reported = (read, answer, source.failures(), loader.parts());
     let wanted = (read, Err(LoadFault::Device), 1, 0);
     let fault = loader.finish().err();
     let device = Some(LoadFault::Device);
     same(
         rt,
         "what is told, in the end",
-        &(told, fault),
+        &(reported, fault),
         &(wanted, device),
     );
 }
 
 #[test]
-fn a_failed_read_is_told_wherever_it_comes(rt: HostRuntime) {
+fn a_failed_read_is_reported_wherever_it_comes(rt: HostRuntime) {
     let set = lines_of(&rt, rt.alloc(), street_respelt());
     same(&rt, "bytes", &set.len(), &357);
     for read in 1..6 {

@@ -60,8 +60,8 @@ fn street_rows() -> &'static [StreetRow] {
 
 /// The text written from a source to a sink under the mask is this one.
 fn is_written(rt: &impl Abort, alloc: Global, row: &str, mask: Mask, set: &[u8], text: &[u8]) {
-    let mut room = vec![in alloc; 0u8; 400].expect(rt, row);
-    let mut sink = SlowSink::new(&mut room, 7);
+    let mut buffer = vec![in alloc; 0u8; 400].expect(rt, row);
+    let mut sink = SlowSink::new(&mut buffer, 7);
     let mut sources = [SlowSource::new(set, 100, None)];
     let answer = normalise_to_masked(alloc, &mut sources, &mut sink, mask);
     same(rt, row, &answer, &Ok(text.len() as u64));
@@ -73,8 +73,8 @@ fn has_text_under(rt: &impl Abort, alloc: Global, row: &StreetRow, set: &[u8], t
     let (name, mask, _, _, print) = *row;
     let found = normalise_masked(alloc, &[set], mask).expect(rt, name);
     same_items(rt, name, &found, text);
-    let told = normalise_with_renaming_masked(alloc, &[set], mask).expect(rt, name);
-    same_items(rt, name, &told.0, text);
+    let reported = normalise_with_renaming_masked(alloc, &[set], mask).expect(rt, name);
+    same_items(rt, name, &reported.0, text);
     let hash = fingerprint_masked(alloc, &[set], mask);
     same(rt, name, &hash, &Ok(print));
     is_written(rt, alloc, name, mask, set, text);

@@ -148,24 +148,24 @@ fn is_right(rt: &impl Abort, set: &Set<'_>, growth: usize, run: &Run, ample: &st
 #[derive(Clone, Copy)]
 struct Growths {
     count: usize,
-    told: [usize; 3],
+    reported: [usize; 3],
 }
 
 /// Counts the set that a run reported. The growths for set 1 come before those for set 2, and the growths for neither come last.
-fn count_run(rt: &impl Abort, row: &str, told: &mut [usize; 3], run: &Run) {
+fn count_run(rt: &impl Abort, row: &str, reported: &mut [usize; 3], run: &Run) {
     let place = match run.set {
         Some(1) => 0usize,
         Some(2) => 1,
         _ => 2,
     };
-    let behind = told
+    let behind = reported
         .iter()
         .skip(place.saturating_add(1))
         .copied()
         .max()
         .unwrap_or(0);
     same(rt, row, &behind, &0);
-    if let Some(count) = told.get_mut(place) {
+    if let Some(count) = reported.get_mut(place) {
         *count = count.saturating_add(usize::from(run.answer.is_none()));
     }
 }
@@ -178,15 +178,15 @@ fn count_growths<C: Call>(
     ample: &str,
     first: usize,
 ) -> Growths {
-    let mut told = [0; 3];
+    let mut reported = [0; 3];
     for growth in 1..MANY {
         let run = C::run(rt, alloc, set, first.saturating_add(growth));
         is_right(rt, set, growth, &run, ample);
         if !run.refused {
             let count = growth - 1;
-            return Growths { count, told };
+            return Growths { count, reported };
         }
-        count_run(rt, set.row, &mut told, &run);
+        count_run(rt, set.row, &mut reported, &run);
     }
     panic!(rt; "no run on {} meets no refusal", set.row)
 }
@@ -235,8 +235,8 @@ fn sweep_twice<C: Call>(rt: &(impl Abort + Print), alloc: Global, call: &str, of
     for lines in of.sets {
         let found = growths_on::<C>(rt, alloc, &lines.under(of.mask));
         let accepted = usize::from(check(alloc, &[&lines.bytes]).is_ok());
-        let wanted = found.told[0].saturating_mul(accepted);
-        same(rt, lines.row, &found.told[1], &wanted);
+        let wanted = found.reported[0].saturating_mul(accepted);
+        same(rt, lines.row, &found.reported[1], &wanted);
         count = count.saturating_add(found.count);
     }
     println!(rt; "{call}{}: {count} growths refused", of.what).expect(rt, "a line goes out");
@@ -326,13 +326,13 @@ pub(super) fn sweep_others(rt: &(impl Abort + Print), alloc: Global, of: Swept<'
 }
 
 #[test]
-fn whole_calls_tell_refused_growths(rt: HostRuntime) {
+fn whole_calls_report_refused_growths(rt: HostRuntime) {
     let sets = worked(&rt, rt.alloc());
     sweep_whole_calls(&rt, rt.alloc(), on_sets("", &sets));
 }
 
 #[test]
-fn calls_of_layers_tell_refused_growths(rt: HostRuntime) {
+fn calls_of_layers_report_refused_growths(rt: HostRuntime) {
     let sets = worked(&rt, rt.alloc());
     let of = on_sets("", &sets);
     sweep_reading(&rt, rt.alloc(), of);

@@ -33,12 +33,12 @@ struct Row {
     /// How many bytes a read returns and a write takes at most.
     step: usize,
     /// The capacity of standard output, and of standard error.
-    room: [usize; 2],
+    buffer: [usize; 2],
     status: u8,
     /// The lines of the full output, and how many of its bytes are written.
     lines: &'static [&'static str],
     written: usize,
-    told: &'static str,
+    reported: &'static str,
     /// The number of reads of all files, if the row has it.
     reads: Option<usize>,
 }
@@ -83,7 +83,7 @@ fn ends(rt: &impl Abort, alloc: Global, row: &Row, kind: ErrorKind) {
         &mut err,
         Mask::NONE,
     );
-    same_items(rt, row.name, &err.held, row.told.as_bytes());
+    same_items(rt, row.name, &err.held, row.reported.as_bytes());
     same(rt, row.name, &status, &row.status);
     let lines = lines_of(rt, alloc, row.lines);
     same_items(
@@ -114,8 +114,8 @@ fn jobs_end_as_their_files_and_devices_let_them(rt: HostRuntime) {
 /// A read of an opened file returns this number of its bytes, or fails.
 fn gives(rt: &impl Abort, row: &str, file: Opened<SlowReader<'_>>, wanted: Option<usize>) {
     let mut file = file;
-    let mut room = [0; 9];
-    let found = file.read(&mut room).ok();
+    let mut buffer = [0; 9];
+    let found = file.read(&mut buffer).ok();
     same(rt, row, &found, &wanted);
 }
 

@@ -65,11 +65,11 @@ value-at_or_end o key entries None strict at known =
     ∙ sym (none-under o key entries (sym known))
 
 -- the same for a place that a chart returns, and for its number of entries
-pub value-told : {K V : Type 0} {cmp : K → K → Ordering} (o : IsKeyOrder cmp) (key : K) (entries : List (K × V)) (found : Option ℕ)
+pub value-stated : {K V : Type 0} {cmp : K → K → Ordering} (o : IsKeyOrder cmp) (key : K) (entries : List (K × V)) (found : Option ℕ)
     {place count : ℕ} → place ≡ unwrap_or found count → count ≡ length entries → IsStrictlySortedBy cmp (entry_keys entries)
     → IfSome found (λ at. slice_get (entry_keys entries) at ≡ Some key) → is_some found ≡ stands_in cmp key (entry_keys entries)
     → slice_get (entry_values entries) place ≡ value_under cmp key entries
-value-told o key entries found is counted strict at known =
+value-stated o key entries found is counted strict at known =
     ap (slice_get (entry_values entries)) (is ∙ ap (unwrap_or found) counted) ∙ value-at_or_end o key entries found strict at known
 
 -- links whose LANDs are all in the list have no LAND that isn't

@@ -69,12 +69,12 @@ flat_map-map f g [] = refl
 flat_map-map f g (x ∷ xs) = ap (λ zs. f (g x) ++ zs) (flat_map-map f g xs)
 
 -- records with the RTSQs 1, 2, 3, .. are in order, and hold the items put into them
-module _ {X Y : Type 0} (rtsq : X → ℕ) (make : ℕ × Y → X) (told : (piece : ℕ × Y) → rtsq (make piece) ≡ piece.0) where
+module _ {X Y : Type 0} (rtsq : X → ℕ) (make : ℕ × Y → X) (stated : (piece : ℕ × Y) → rtsq (make piece) ≡ piece.0) where
   pub in_sequence : (ys : List Y) → in_order (on rtsq nat_cmp) (map make (numbered_from 1 ys)) ≡ map make (numbered_from 1 ys)
   in_sequence ys = in_order-itself (on rtsq nat_cmp) (map make (numbered_from 1 ys))
       (in_order-from_strict rtsq (map make (numbered_from 1 ys))
       (subst (IsStrictlySortedBy nat_cmp) (sym (map-map rtsq make (numbered_from 1 ys)
-      ∙ map_agree_everywhere (λ piece. rtsq (make piece)) (λ (piece : ℕ × Y). piece.0) told (numbered_from 1 ys)))
+      ∙ map_agree_everywhere (λ piece. rtsq (make piece)) (λ (piece : ℕ × Y). piece.0) stated (numbered_from 1 ys)))
       (numbered_strict 1 ys)))
 
   pub held_in_order : {Z : Type 0} (content : X → Z) (back : Y → Z) → ((piece : ℕ × Y) → content (make piece) ≡ back piece.1)
@@ -175,14 +175,14 @@ module _ (c : County) (is : IsCounty c) where
       let listed : Among r (filter_map packed_p c.polygons) =
       from_in_order (on p_polyid nat_cmp) (filter_map packed_p c.polygons) r (subst (Among r) (polygons_packed c is) m) in
       let d = in_filter_map packed_p r c.polygons listed in
-      (d.0, d.1, told d.0.0 d.0.1 d.2)
+      (d.0, d.1, stated d.0.0 d.0.1 d.2)
     where
       some_same : (x y : FieldsP) → Some x ≡ Some y → x ≡ y
       some_same x y e = cc
 
-      told : (key : PolygonKey) (o : Option BodyP) → packed_body key o ≡ Some r → (p_key r ≡ key) × (Some r.body ≡ o)
-      told key None e = cc
-      told key (Some body) e =
+      stated : (key : PolygonKey) (o : Option BodyP) → packed_body key o ≡ Some r → (p_key r ≡ key) × (Some r.body ≡ o)
+      stated key None e = cc
+      stated key (Some body) e =
           let same : record { cenid = key.0; polyid = key.1; body = body } ≡ r =
           some_same (record { cenid = key.0; polyid = key.1; body = body }) r e in
           (ap p_key (sym same), ap (λ (x : FieldsP). Some x.body) (sym same))

@@ -72,75 +72,75 @@ count_selected {Y} h n same (r ∷ records) = count-cons n r records ∙ go (h r
 
 count_1 : (records : List Record) → count_of_type 49 records ≡ length (of_type_1 records)
 unfolding type_of is_selected
-count_1 = count_selected as_type_1 49 told
+count_1 = count_selected as_type_1 49 stated
   where
-    told : (r : Record) → (type_of r == 49) ≡ is_selected (as_type_1 r)
-    told (One r) = refl
-    told _ = refl
+    stated : (r : Record) → (type_of r == 49) ≡ is_selected (as_type_1 r)
+    stated (One r) = refl
+    stated _ = refl
 
 count_2 : (records : List Record) → count_of_type 50 records ≡ length (of_type_2 records)
 unfolding type_of is_selected
-count_2 = count_selected as_type_2 50 told
+count_2 = count_selected as_type_2 50 stated
   where
-    told : (r : Record) → (type_of r == 50) ≡ is_selected (as_type_2 r)
-    told (Two r) = refl
-    told _ = refl
+    stated : (r : Record) → (type_of r == 50) ≡ is_selected (as_type_2 r)
+    stated (Two r) = refl
+    stated _ = refl
 
 count_4 : (records : List Record) → count_of_type 52 records ≡ length (of_type_4 records)
 unfolding type_of is_selected
-count_4 = count_selected as_type_4 52 told
+count_4 = count_selected as_type_4 52 stated
   where
-    told : (r : Record) → (type_of r == 52) ≡ is_selected (as_type_4 r)
-    told (Four r) = refl
-    told _ = refl
+    stated : (r : Record) → (type_of r == 52) ≡ is_selected (as_type_4 r)
+    stated (Four r) = refl
+    stated _ = refl
 
 count_5 : (records : List Record) → count_of_type 53 records ≡ length (of_type_5 records)
 unfolding type_of is_selected
-count_5 = count_selected as_type_5 53 told
+count_5 = count_selected as_type_5 53 stated
   where
-    told : (r : Record) → (type_of r == 53) ≡ is_selected (as_type_5 r)
-    told (Five r) = refl
-    told _ = refl
+    stated : (r : Record) → (type_of r == 53) ≡ is_selected (as_type_5 r)
+    stated (Five r) = refl
+    stated _ = refl
 
 count_6 : (records : List Record) → count_of_type 54 records ≡ length (of_type_6 records)
 unfolding type_of is_selected
-count_6 = count_selected as_type_6 54 told
+count_6 = count_selected as_type_6 54 stated
   where
-    told : (r : Record) → (type_of r == 54) ≡ is_selected (as_type_6 r)
-    told (Six r) = refl
-    told _ = refl
+    stated : (r : Record) → (type_of r == 54) ≡ is_selected (as_type_6 r)
+    stated (Six r) = refl
+    stated _ = refl
 
 count_7 : (records : List Record) → count_of_type 55 records ≡ length (of_type_7 records)
 unfolding type_of is_selected
-count_7 = count_selected as_type_7 55 told
+count_7 = count_selected as_type_7 55 stated
   where
-    told : (r : Record) → (type_of r == 55) ≡ is_selected (as_type_7 r)
-    told (Seven r) = refl
-    told _ = refl
+    stated : (r : Record) → (type_of r == 55) ≡ is_selected (as_type_7 r)
+    stated (Seven r) = refl
+    stated _ = refl
 
 count_8 : (records : List Record) → count_of_type 56 records ≡ length (of_type_8 records)
 unfolding type_of is_selected
-count_8 = count_selected as_type_8 56 told
+count_8 = count_selected as_type_8 56 stated
   where
-    told : (r : Record) → (type_of r == 56) ≡ is_selected (as_type_8 r)
-    told (Eight r) = refl
-    told _ = refl
+    stated : (r : Record) → (type_of r == 56) ≡ is_selected (as_type_8 r)
+    stated (Eight r) = refl
+    stated _ = refl
 
 count_i : (records : List Record) → count_of_type 73 records ≡ length (of_type_i records)
 unfolding type_of is_selected
-count_i = count_selected as_type_i 73 told
+count_i = count_selected as_type_i 73 stated
   where
-    told : (r : Record) → (type_of r == 73) ≡ is_selected (as_type_i r)
-    told (I r) = refl
-    told _ = refl
+    stated : (r : Record) → (type_of r == 73) ≡ is_selected (as_type_i r)
+    stated (I r) = refl
+    stated _ = refl
 
 count_p : (records : List Record) → count_of_type 80 records ≡ length (of_type_p records)
 unfolding type_of is_selected
-count_p = count_selected as_type_p 80 told
+count_p = count_selected as_type_p 80 stated
   where
-    told : (r : Record) → (type_of r == 80) ≡ is_selected (as_type_p r)
-    told (P r) = refl
-    told _ = refl
+    stated : (r : Record) → (type_of r == 80) ≡ is_selected (as_type_p r)
+    stated (P r) = refl
+    stated _ = refl
 
 -- if records keep the limits, their lists by type do
 pub by_type_keeps : (limits : ℕ → ℕ) (records : List Record) → KeepsLimits limits records → HasWithin limits (by_type records)

@@ -8,8 +8,8 @@ use Rattle.tl_county.proofs.Lists.InOrder.{in_order-map}
 
 -- those of the type 1 records
 pub tlids_in_order : {tlids : List ℕ} (t : Typed) → AreInOrder t → tlids ≡ map one_tlid t.of_type_1 → IsInOrder nat_cmp tlids
-tlids_in_order t ordered told = subst (IsInOrder nat_cmp) (sym told) (in_order-map nat_cmp one_tlid t.of_type_1 ordered.type_1)
+tlids_in_order t ordered stated = subst (IsInOrder nat_cmp) (sym stated) (in_order-map nat_cmp one_tlid t.of_type_1 ordered.type_1)
 
 -- those of the type I records
 pub linked_in_order : {linked : List ℕ} (t : Typed) → AreInOrder t → linked ≡ map i_tlid t.of_type_i → IsInOrder nat_cmp linked
-linked_in_order t ordered told = subst (IsInOrder nat_cmp) (sym told) (in_order-map nat_cmp i_tlid t.of_type_i ordered.type_i)
+linked_in_order t ordered stated = subst (IsInOrder nat_cmp) (sym stated) (in_order-map nat_cmp i_tlid t.of_type_i ordered.type_i)

@@ -29,7 +29,7 @@ pub trait Keyed<K: Ord + Copy> {
 /// Whether the items are in the order of their keys.
 fn are_in_order<K: Ord + Copy, T: Keyed<K>>(items: &[T]) -> bool
     ensures in_order { result ≡ true → IsInOrder (on T.key_of K.cmp) items.now }
-    ensures told { IsInOrder (on T.key_of K.cmp) items.now → result ≡ true }
+    ensures stated { IsInOrder (on T.key_of K.cmp) items.now → result ≡ true }
 {
     items.is_sorted_by(|item, next| item.key().cmp(&next.key()).is_le())
 }

@@ -9,7 +9,7 @@ ghost use Rattle.tl_layout.specs.Numbers.{IsNumber};
 use crate::kept::chain_over::ChainOver;
 use crate::kept::lent::{LandmarkIn, NameIn};
 use crate::linking::building::{
-    ChainBuilder, ChainRecords, LandmarkBuilder, join_bodies, join_feats, join_points, join_ranges,
+    ChainBuilder, LandmarkBuilder, OneChain, join_bodies, join_feats, join_points, join_ranges,
     name_bodies, surroundings_of,
 };
 use bumpalo::Bump;
@@ -95,7 +95,7 @@ impl<'a> InArena<'a> {
     /// The lists of a chain, from its records of types 1, 2, 4 and 6.
     fn join_lists<'t, 'r>(
         &mut self,
-        records: &ChainRecords<'t, 'r>,
+        records: &OneChain<'t, 'r>,
     ) -> Result<ChainLists<'a>, AllocError>
         ensures points { IfOk result (λ lists. lists.points.now ≡ records.now.head.now.start ∷
             (flat_map (λ (r : Fields2). r.points) records.now.shape.now ++ (records.now.head.now.end ∷ []))) }
@@ -115,10 +115,7 @@ impl<'a> InArena<'a> {
 }
 
 impl<'t, 'a> ChainBuilder<'t, ChainIn<'a>> for InArena<'a> {
-    fn build_chain<'r>(
-        &mut self,
-        records: &ChainRecords<'t, 'r>,
-    ) -> Result<ChainIn<'a>, AllocError> {
+    fn build_chain<'r>(&mut self, records: &OneChain<'t, 'r>) -> Result<ChainIn<'a>, AllocError> {
         let lists = self.join_lists(records)?;
         let around = surroundings_of(records.link);
         Ok(ChainIn::new(
@@ -133,10 +130,7 @@ impl<'t, 'a> ChainBuilder<'t, ChainIn<'a>> for InArena<'a> {
 }
 
 impl<'a> ChainBuilder<'a, ChainOver<'a>> for InArena<'a> {
-    fn build_chain<'r>(
-        &mut self,
-        records: &ChainRecords<'a, 'r>,
-    ) -> Result<ChainOver<'a>, AllocError> {
+    fn build_chain<'r>(&mut self, records: &OneChain<'a, 'r>) -> Result<ChainOver<'a>, AllocError> {
         let lists = self.join_lists(records)?;
         Ok(ChainOver::new(
             records.head,

@@ -125,7 +125,7 @@ pub(crate) fn surroundings_of(link: &RecI) -> Surroundings
 
 /// The records of a chain: those of types 1 and I, which live for `'t`, and those of types 2, 4 and 6 in the order of their RTSQs.
 #[derive(Drop)]
-pub(crate) struct ChainRecords<'t, 'r> {
+pub(crate) struct OneChain<'t, 'r> {
     pub(crate) head: &'t Rec1,
     pub(crate) shape: &'r [Rec2],
     pub(crate) names: &'r [Rec4],
@@ -137,7 +137,7 @@ pub(crate) struct ChainRecords<'t, 'r> {
 /// `'t`.
 pub(crate) trait ChainBuilder<'t, C: StoredChain> {
     /// The chain made from its records.
-    fn build_chain<'r>(&mut self, records: &ChainRecords<'t, 'r>) -> Result<C, AllocError>
+    fn build_chain<'r>(&mut self, records: &OneChain<'t, 'r>) -> Result<C, AllocError>
         ensures { IfOk result (λ built. C.chain built ≡ chain_with records.now.head.now records.now.link.now records.now.shape.now
             records.now.names.now records.now.ranges.now) };
 }
@@ -177,7 +177,7 @@ fn push_chain<'t, 'r, C: StoredChain, B: ChainBuilder<'t, C>>(
     details.shapes = shapes;
     details.names = names;
     details.ranges = ranges;
-    let records = ChainRecords {
+    let records = OneChain {
         head,
         shape,
         names: named,

@@ -5,7 +5,7 @@ ghost use Rattle.tl_layout.specs.Fields.{Fields2};
 
 use crate::kept::landmark::Landmark;
 use crate::linking::building::{
-    ChainBuilder, ChainRecords, LandmarkBuilder, join_bodies, join_feats, join_points, join_ranges,
+    ChainBuilder, LandmarkBuilder, OneChain, join_bodies, join_feats, join_points, join_ranges,
     surroundings_of,
 };
 use std::alloc::{AllocError, Global};
@@ -28,7 +28,7 @@ fn shape_of(alloc: Global, head: &Rec1, shape: &[Rec2]) -> Result<Shape, AllocEr
 }
 
 impl<'t> ChainBuilder<'t, Chain> for Owned {
-    fn build_chain<'r>(&mut self, records: &ChainRecords<'t, 'r>) -> Result<Chain, AllocError> {
+    fn build_chain<'r>(&mut self, records: &OneChain<'t, 'r>) -> Result<Chain, AllocError> {
         let head = records.head;
         let link = records.link;
         let points = shape_of(self.alloc, head, records.shape)?;

@@ -14,7 +14,7 @@ record IsGapBehind {A : Type 0} (Spells : ℕ → Option A → Type 0) (after_un
   item : A
   used : Spells column (Some item)
   unused_before : (after_unused ≡ true) ⊎ (length items < before)
-  told : fault ≡ gap column
+  reported : fault ≡ gap column
 
 abbrev IsAtFault : {A : Type 0} → (ℕ → Option A → Type 0) → (ℕ → FieldFault → Type 0) → Bool → ℕ → ℕ → List A → FieldFault → Type 0
 IsAtFault Spells Form after_unused column before items fault = Form column fault ⊎ IsGapBehind Spells after_unused column before items fault
@@ -67,7 +67,7 @@ behind_unused {A} Spells Form width after_unused count column fault s f =
     go : IsAtFault Spells Form true (column + width + width * f.before) f.before f.items fault
         → IsAtFault Spells Form after_unused (column + width + width * f.before) (suc f.before) [] fault
     go (inl form) = inl form
-    go (inr g) = inr (record { item = g.item; used = g.used; unused_before = inr (omega arith); told = g.told })
+    go (inr g) = inr (record { item = g.item; used = g.used; unused_before = inr (omega arith); reported = g.reported })
 
 -- a fault after a used place
 behind_used : {A : Type 0} (Spells : ℕ → Option A → Type 0) (Form : ℕ → FieldFault → Type 0) (width count column : ℕ) (fault : FieldFault)
@@ -91,7 +91,7 @@ behind_used {A} Spells Form width count column fault x s f =
     go : IsAtFault Spells Form false (column + width + width * f.before) f.before f.items fault
         → IsAtFault Spells Form false (column + width + width * f.before) (suc f.before) (x ∷ f.items) fault
     go (inl form) = inl form
-    go (inr g) = inr (record { item = g.item; used = g.used; unused_before = inr (fewer g.unused_before); told = g.told })
+    go (inr g) = inr (record { item = g.item; used = g.used; unused_before = inr (fewer g.unused_before); reported = g.reported })
 
 -- the fault of reading from a used place on
 used_fails : {A : Type 0} (Spells : ℕ → Option A → Type 0) (Form : ℕ → FieldFault → Type 0) (width count column : ℕ) (fault : FieldFault)
@@ -101,7 +101,7 @@ used_fails : {A : Type 0} (Spells : ℕ → Option A → Type 0) (Form : ℕ →
     → IsFaultBehind Spells Form width after_unused (suc count) column fault
 used_fails {A} Spells Form width count column fault x true rest s later h =
     first_faulty Spells Form width true count column fault
-    (inr (record { item = x; used = s; unused_before = inl refl; told = sym (err_value (gap column) fault h) }))
+    (inr (record { item = x; used = s; unused_before = inl refl; reported = sym (err_value (gap column) fault h) }))
 used_fails {A} Spells Form width count column fault x false rest s later h =
     behind_used Spells Form width count column fault x s (go (fails rest (λ xs. Ok (x ∷ xs)) fault h))
   where
@@ -153,7 +153,7 @@ places_fault_found {A} reading Spells Form found form width count first fault h 
         → Form column fault ⊎ IsGap Spells column before items fault
     at column before items (inl f) = inl f
     at column before items (inr g) =
-        inr (record { item = g.item; used = g.used; fewer = fewer before items g.unused_before; told = g.told })
+        inr (record { item = g.item; used = g.used; fewer = fewer before items g.unused_before; reported = g.reported })
 
     go : IsFaultBehind Spells Form width false count first fault → IsPlaceFault Spells Form width count first fault
     go f = record {
@@ -177,7 +177,7 @@ unfolding places_reading
 at_first reading Spells Form only form width after_unused count column fault (inl f) =
     fails_first (reading column) _ fault (form column fault f)
 at_first {A} reading Spells Form only form width true count column fault (inr g) =
-    reads_on (reading column) _ (Some g.item) _ (only column (Some g.item) g.used) (ap (λ (f : FieldFault). Err f) (sym g.told))
+    reads_on (reading column) _ (Some g.item) _ (only column (Some g.item) g.used) (ap (λ (f : FieldFault). Err f) (sym g.reported))
 at_first {A} reading Spells Form only form width false count column fault (inr g) = absurd (none g.unused_before)
   where
     none : (false ≡ true) ⊎ (0 < 0) → ⊥
@@ -206,7 +206,7 @@ fault_behind_only {A} reading Spells Form only form width after_unused (suc coun
     go : IsAtFault Spells Form after_unused (column + width * suc before) (suc before) [] fault
         → IsAtFault Spells Form true (column + width * suc before) before [] fault
     go (inl form) = inl form
-    go (inr g) = inr (record { item = g.item; used = g.used; unused_before = inl refl; told = g.told })
+    go (inr g) = inr (record { item = g.item; used = g.used; unused_before = inl refl; reported = g.reported })
 fault_behind_only reading Spells Form only form width true (suc count) column (suc before) (x ∷ items) fault lt none s f =
     let empty : x ∷ items ≡ [] = none refl in absurd (cc)
 fault_behind_only {A} reading Spells Form only form width false (suc count) column (suc before) (x ∷ items) fault lt none s f =
@@ -222,7 +222,7 @@ fault_behind_only {A} reading Spells Form only form width false (suc count) colu
     go : IsAtFault Spells Form false (column + width * suc before) (suc before) (x ∷ items) fault
         → IsAtFault Spells Form false (column + width * suc before) before items fault
     go (inl form) = inl form
-    go (inr g) = inr (record { item = g.item; used = g.used; unused_before = inr (fewer g.unused_before); told = g.told })
+    go (inr g) = inr (record { item = g.item; used = g.used; unused_before = inr (fewer g.unused_before); reported = g.reported })
 
 pub places_fault_only : {A : Type 0} (reading : ℕ → Result (Option A) FieldFault) (Spells : ℕ → Option A → Type 0) (Form : ℕ → FieldFault
     → Type 0) → ((column : ℕ) (place : Option A) → Spells column place → reading column ≡ Ok place)
@@ -235,4 +235,4 @@ places_fault_only {A} reading Spells Form only form width count first fault f =
     go : Form (first + width * f.before) fault ⊎ IsGap Spells (first + width * f.before) f.before f.items fault
         → IsAtFault Spells Form false (first + width * f.before) f.before f.items fault
     go (inl form) = inl form
-    go (inr g) = inr (record { item = g.item; used = g.used; unused_before = inr g.fewer; told = g.told })
+    go (inr g) = inr (record { item = g.item; used = g.used; unused_before = inr g.fewer; reported = g.reported })

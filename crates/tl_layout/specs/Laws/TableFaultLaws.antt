@@ -9,7 +9,7 @@ use Rattle.tl_layout.specs.ColumnTable.{Kind, Number, NumberOrNone, Pair, PairOr
 use Rattle.tl_layout.specs.FieldFaults.{IsNumberOrNoneFault, IsPairOrNoneFault, IsValueFault, IsWellFormed, IsFieldFault, IsLeftmostFault}
 use Rattle.tl_layout.specs.TableReading.{Makes, rows_reading}
 use Rattle.tl_layout.specs.Laws.ValueLaws.{value_reading, reading_goes_on, value_found, value_only, fails, fails_first}
-use Rattle.tl_layout.specs.Laws.ValueLaws.{nothing_spelled, number_told, number_or_none_told, point_told, point_or_none_told, one_told}
+use Rattle.tl_layout.specs.Laws.ValueLaws.{nothing_spelled, number_reported, number_or_none_reported, point_reported, point_or_none_reported, one_reported}
 use Rattle.tl_layout.specs.Laws.PlaceFaultLaws.{places_fault_found, places_fault_only}
 use Rattle.tl_layout.specs.declared.fault.FieldFault.{FieldFault}
 
@@ -17,67 +17,67 @@ use Rattle.tl_layout.specs.declared.fault.FieldFault.{FieldFault}
 pub value_fault_found : (line : List ℕ) (first last : ℕ) (kind : Kind) (fault : FieldFault) → value_reading line first last kind ≡ Err fault
     → IsValueFault line first last kind fault
 value_fault_found line first last Number fault h =
-    record { none_spelled = nothing_spelled line first last Number fault h; told = number_told first last line fault h }
+    record { none_spelled = nothing_spelled line first last Number fault h; reported = number_reported first last line fault h }
 value_fault_found line first last NumberOrNone fault h =
-    record { none_spelled = nothing_spelled line first last NumberOrNone fault h; told = number_or_none_told first last line fault h }
+    record { none_spelled = nothing_spelled line first last NumberOrNone fault h; reported = number_or_none_reported first last line fault h }
 value_fault_found line first last Pair fault h =
-    record { none_spelled = nothing_spelled line first last Pair fault h; told = point_told line first fault h }
+    record { none_spelled = nothing_spelled line first last Pair fault h; reported = point_reported line first fault h }
 value_fault_found line first last PairOrNone fault h =
-    record { none_spelled = nothing_spelled line first last PairOrNone fault h; told = point_or_none_told line first fault h }
+    record { none_spelled = nothing_spelled line first last PairOrNone fault h; reported = point_or_none_reported line first fault h }
 value_fault_found line first last NumberPlaces fault h =
     places_fault_found (λ column. number_or_none_at column (column + 7) line) (SpellsNumberPlace line)
     (λ column. IsNumberOrNoneFault line column (column + 7)) (λ column place. number_or_none_at_found column (column + 7) line place)
     (λ column f e. record {
       none_spelled = nothing_spelled line column (column + 7) NumberOrNone f e;
-      told =
-          number_or_none_told column (column + 7) line f e;
+      reported =
+          number_or_none_reported column (column + 7) line f e;
     }) 8 5 first fault h
 value_fault_found line first last PointPlaces fault h =
     places_fault_found (λ column. point_or_none_at column line) (SpellsPointPlace line) (IsPairOrNoneFault line)
     (λ column place. point_or_none_at_found column line place)
     (λ column f e. record {
       none_spelled = nothing_spelled line column (column + 18) PairOrNone f e;
-      told =
-          point_or_none_told line column f e;
+      reported =
+          point_or_none_reported line column f e;
     }) 19 10 first fault h
 value_fault_found line first last Opaque fault h = (cc)
 value_fault_found line first last Filler fault h = (cc)
 
 -- if nothing is spelled, reading fails with the reported fault, provided that there is only one
-fails_told : {A : Type 0} (Spells : A → Type 0) (Told : FieldFault → Type 0) (read : Result A FieldFault)
-    → ((value : A) → read ≡ Ok value → Spells value) → ((fault : FieldFault) → read ≡ Err fault → Told fault)
-    → ((f g : FieldFault) → Told f → Told g → f ≡ g) → (fault : FieldFault) → ((value : A) → ¬ Spells value) → Told fault → read ≡ Err fault
-fails_told {A} Spells Told read found told one fault none t = go read refl
+fails_reported : {A : Type 0} (Spells : A → Type 0) (Reported : FieldFault → Type 0) (read : Result A FieldFault)
+    → ((value : A) → read ≡ Ok value → Spells value) → ((fault : FieldFault) → read ≡ Err fault → Reported fault)
+    → ((f g : FieldFault) → Reported f → Reported g → f ≡ g) → (fault : FieldFault) → ((value : A) → ¬ Spells value) → Reported fault → read ≡ Err fault
+fails_reported {A} Spells Reported read found reported one fault none t = go read refl
   where
     go : (answer : Result A FieldFault) → read ≡ answer → read ≡ Err fault
     go (Ok value) e = absurd (none value (found value e))
-    go (Err f) e = e ∙ ap (λ (f : FieldFault). Err f) (one f fault (told f e) t)
+    go (Err f) e = e ∙ ap (λ (f : FieldFault). Err f) (one f fault (reported f e) t)
 
 -- if the field is at fault, reading fails with its fault
 pub value_fault_only : (line : List ℕ) (first last : ℕ) (kind : Kind) (fault : FieldFault) → IsValueFault line first last kind fault
     → value_reading line first last kind ≡ Err fault
 value_fault_only line first last Number fault h =
-    fails_told _ _ (number_at first last line) (value_found line first last Number) (number_told first last line) (λ f g a b. a
-    ∙ sym b) fault h.none_spelled h.told
+    fails_reported _ _ (number_at first last line) (value_found line first last Number) (number_reported first last line) (λ f g a b. a
+    ∙ sym b) fault h.none_spelled h.reported
 value_fault_only line first last NumberOrNone fault h =
-    fails_told _ _ (number_or_none_at first last line) (value_found line first last NumberOrNone) (number_or_none_told first last line)
-    (λ f g a b. a ∙ sym b) fault h.none_spelled h.told
+    fails_reported _ _ (number_or_none_at first last line) (value_found line first last NumberOrNone) (number_or_none_reported first last line)
+    (λ f g a b. a ∙ sym b) fault h.none_spelled h.reported
 value_fault_only line first last Pair fault h =
-    fails_told _ _ (point_at first line) (value_found line first last Pair) (point_told line first)
-    (one_told line first) fault h.none_spelled h.told
+    fails_reported _ _ (point_at first line) (value_found line first last Pair) (point_reported line first)
+    (one_reported line first) fault h.none_spelled h.reported
 value_fault_only line first last PairOrNone fault h =
-    fails_told _ _ (point_or_none_at first line) (value_found line first last PairOrNone) (point_or_none_told line first)
-    (one_told line first) fault h.none_spelled h.told
+    fails_reported _ _ (point_or_none_at first line) (value_found line first last PairOrNone) (point_or_none_reported line first)
+    (one_reported line first) fault h.none_spelled h.reported
 value_fault_only line first last NumberPlaces fault h =
     places_fault_only (λ column. number_or_none_at column (column + 7) line) (SpellsNumberPlace line)
     (λ column. IsNumberOrNoneFault line column (column + 7)) (λ column place. number_or_none_at_only column (column + 7) line place)
-    (λ column f e. fails_told _ _ (number_or_none_at column (column + 7) line) (value_found line column (column + 7) NumberOrNone)
-    (number_or_none_told column (column + 7) line) (λ f g a b. a ∙ sym b) f e.none_spelled e.told) 8 5 first fault h
+    (λ column f e. fails_reported _ _ (number_or_none_at column (column + 7) line) (value_found line column (column + 7) NumberOrNone)
+    (number_or_none_reported column (column + 7) line) (λ f g a b. a ∙ sym b) f e.none_spelled e.reported) 8 5 first fault h
 value_fault_only line first last PointPlaces fault h =
     places_fault_only (λ column. point_or_none_at column line) (SpellsPointPlace line) (IsPairOrNoneFault line)
     (λ column place. point_or_none_at_only column line place)
-    (λ column f e. fails_told _ _ (point_or_none_at column line) (value_found line column (column + 18) PairOrNone)
-    (point_or_none_told line column) (one_told line column) f e.none_spelled e.told) 19 10 first fault h
+    (λ column f e. fails_reported _ _ (point_or_none_at column line) (value_found line column (column + 18) PairOrNone)
+    (point_or_none_reported line column) (one_reported line column) f e.none_spelled e.reported) 19 10 first fault h
 value_fault_only line first last Opaque fault h = absurd h
 value_fault_only line first last Filler fault h = absurd h
 

@@ -28,7 +28,7 @@ pub record AreLaws {R : Type 0} (rtype len : ℕ) (table : List (Row R)) (Fits :
   pub reads_spelling : (r : R) → Fits r → reading (spelling r) ≡ Ok r
   pub reads_spelled : (line : List ℕ) (r : R) → IsLine rtype len line → reading line ≡ Ok r → Fits r × Spells line r
   pub spelled_is_read : (line : List ℕ) (r : R) → IsLine rtype len line → Spells line r → reading line ≡ Ok r
-  pub tells_leftmost : (line : List ℕ) (fault : FieldFault) → IsLine rtype len line
+  pub shows_leftmost : (line : List ℕ) (fault : FieldFault) → IsLine rtype len line
       → (reading line ≡ Err fault ↔ IsLeftmostFault table line fault)
 
 laws_of : {R : Type 0} (rtype len : ℕ) (table : List (Row R)) (make : Makes table R) → IsTable rtype len table make
@@ -39,7 +39,7 @@ laws_of rtype len table make is = record {
   reads_spelling = table_reads_spelling rtype len table make is;
   reads_spelled = table_reads_spelled rtype len table make is;
   spelled_is_read = table_spelled_is_read rtype len table make is;
-  tells_leftmost = λ line fault _. (leftmost_found table make line fault, leftmost_only table make line fault);
+  shows_leftmost = λ line fault _. (leftmost_found table make line fault, leftmost_only table make line fault);
 }
 
 pub type_1_laws : AreLaws rtype_1 len_1 table_1 FitsType1 SpellsType1 type_1_reading type_1_spelling

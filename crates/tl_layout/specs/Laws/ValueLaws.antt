@@ -9,7 +9,7 @@ use Rattle.tl_layout.specs.Coordinates.{Coordinates}
 use Rattle.tl_layout.specs.FieldReading.{and_then, demanded_number, possible_number, number_at, number_or_none_at, pair_of}
 use Rattle.tl_layout.specs.FieldReading.{point_or_none_at, demanded_point, point_at, places_reading}
 use Rattle.tl_layout.specs.FieldMeaning.{SpellsPointOrNone, SpellsNumberPlace, SpellsPointPlace}
-use Rattle.tl_layout.specs.FieldFaults.{bad_number, bad_point, IsMalformed, HasMalformedLongitude, HasMalformedLatitude, IsToldOfPair}
+use Rattle.tl_layout.specs.FieldFaults.{bad_number, bad_point, IsMalformed, HasMalformedLongitude, HasMalformedLatitude, IsReportedOfPair}
 use Rattle.tl_layout.specs.Laws.FieldLaws.{ok_value, number_at_found, number_at_only, number_or_none_at_found, number_or_none_at_only}
 use Rattle.tl_layout.specs.Laws.FieldLaws.{point_or_none_at_found, point_or_none_at_only, point_at_found, point_at_only}
 use Rattle.tl_layout.specs.Laws.PlaceLaws.{places_found, places_only}
@@ -103,24 +103,24 @@ pub nothing_spelled : (line : List ℕ) (first last : ℕ) (kind : Kind) (fault 
     → (value : ValueOf kind) → SpellsValue line first last kind value → ⊥
 nothing_spelled line first last kind fault h value s = not_both _ value fault (value_only line first last kind value s) h
 
-demanded_told : (column : ℕ) (read : Option ℕ) (fault : FieldFault) → demanded_number column read ≡ Err fault → fault ≡ bad_number column
-demanded_told column None fault h = (cc)
-demanded_told column (Some zero) fault h = (cc)
-demanded_told column (Some (suc n)) fault h = absurd (cc)
+demanded_reported : (column : ℕ) (read : Option ℕ) (fault : FieldFault) → demanded_number column read ≡ Err fault → fault ≡ bad_number column
+demanded_reported column None fault h = (cc)
+demanded_reported column (Some zero) fault h = (cc)
+demanded_reported column (Some (suc n)) fault h = absurd (cc)
 
-pub number_told : (first last : ℕ) (line : List ℕ) (fault : FieldFault) → number_at first last line ≡ Err fault → fault ≡ bad_number first
+pub number_reported : (first last : ℕ) (line : List ℕ) (fault : FieldFault) → number_at first last line ≡ Err fault → fault ≡ bad_number first
 unfolding number_at
-number_told first last line fault h = demanded_told first (number_of (columns first last line)) fault h
+number_reported first last line fault h = demanded_reported first (number_of (columns first last line)) fault h
 
-possible_told : (column : ℕ) (read : Option ℕ) (fault : FieldFault) → possible_number column read ≡ Err fault → fault ≡ bad_number column
-possible_told column None fault h = (cc)
-possible_told column (Some zero) fault h = absurd (cc)
-possible_told column (Some (suc n)) fault h = absurd (cc)
+possible_reported : (column : ℕ) (read : Option ℕ) (fault : FieldFault) → possible_number column read ≡ Err fault → fault ≡ bad_number column
+possible_reported column None fault h = (cc)
+possible_reported column (Some zero) fault h = absurd (cc)
+possible_reported column (Some (suc n)) fault h = absurd (cc)
 
-pub number_or_none_told : (first last : ℕ) (line : List ℕ) (fault : FieldFault) → number_or_none_at first last line ≡ Err fault
+pub number_or_none_reported : (first last : ℕ) (line : List ℕ) (fault : FieldFault) → number_or_none_at first last line ≡ Err fault
     → fault ≡ bad_number first
 unfolding number_or_none_at
-number_or_none_told first last line fault h = possible_told first (number_of (columns first last line)) fault h
+number_or_none_reported first last line fault h = possible_reported first (number_of (columns first last line)) fault h
 
 -- ---- pairs
 
@@ -145,45 +145,45 @@ malformed_or_not limit field = go (coordinate_of limit field) refl
     go Blank e = inr (blank_not_malformed limit field e)
     go (Value v) e = inr (value_not_malformed limit field v e)
 
-long_told : (line : List ℕ) (first : ℕ) → HasMalformedLongitude line first → IsToldOfPair line first (bad_point first)
-long_told line first m =
+long_reported : (line : List ℕ) (first : ℕ) → HasMalformedLongitude line first → IsReportedOfPair line first (bad_point first)
+long_reported line first m =
     record { kind = refl; longitude = λ _. refl; latitude = λ not_long _. absurd (not_long m); pair = λ not_long _. absurd (not_long m) }
 
-lat_told : (line : List ℕ) (first : ℕ) → ¬ HasMalformedLongitude line first → HasMalformedLatitude line first
-    → IsToldOfPair line first (bad_point (first + 10))
-lat_told line first not_long m =
+lat_reported : (line : List ℕ) (first : ℕ) → ¬ HasMalformedLongitude line first → HasMalformedLatitude line first
+    → IsReportedOfPair line first (bad_point (first + 10))
+lat_reported line first not_long m =
     record { kind = refl; longitude = λ l. absurd (not_long l); latitude = λ _ _. refl; pair = λ _ not_lat. absurd (not_lat m) }
 
-both_told : (line : List ℕ) (first : ℕ) → ¬ HasMalformedLongitude line first → ¬ HasMalformedLatitude line first
-    → IsToldOfPair line first (bad_point first)
-both_told line first not_long not_lat =
+both_reported : (line : List ℕ) (first : ℕ) → ¬ HasMalformedLongitude line first → ¬ HasMalformedLatitude line first
+    → IsReportedOfPair line first (bad_point first)
+both_reported line first not_long not_lat =
     record { kind = refl; longitude = λ l. absurd (not_long l); latitude = λ _ m. absurd (not_lat m); pair = λ _ _. refl }
 
 -- two equal `Err` results have the same fault
 pub err_value : {A : Type 0} (x y : FieldFault) → ◌≡◌ {A = Result A FieldFault} (Err x) (Err y) → x ≡ y
 err_value x y h = (cc)
 
-pair_told : (line : List ℕ) (first : ℕ) (fault : FieldFault) (long lat : Coordinate)
+pair_reported : (line : List ℕ) (first : ℕ) (fault : FieldFault) (long lat : Coordinate)
     → coordinate_of MOST_LONGITUDE (columns first (first + 9) line) ≡ long
     → coordinate_of MOST_LATITUDE (columns (first + 10) (first + 18) line) ≡ lat → pair_of first long lat ≡ Err fault
-    → IsToldOfPair line first fault
-pair_told line first fault Malformed lat x y h =
-    subst (IsToldOfPair line first) (err_value _ fault h) (long_told line first (malformed_found _ _ x))
-pair_told line first fault Blank Malformed x y h =
-    subst (IsToldOfPair line first) (err_value _ fault h) (lat_told line first (blank_not_malformed _ _ x) (malformed_found _ _ y))
-pair_told line first fault (Value v) Malformed x y h =
-    subst (IsToldOfPair line first) (err_value _ fault h) (lat_told line first (value_not_malformed _ _ v x) (malformed_found _ _ y))
-pair_told line first fault Blank Blank x y h = absurd (cc)
-pair_told line first fault Blank (Value w) x y h =
-    subst (IsToldOfPair line first) (err_value _ fault h) (both_told line first (blank_not_malformed _ _ x) (value_not_malformed _ _ w y))
-pair_told line first fault (Value v) Blank x y h =
-    subst (IsToldOfPair line first) (err_value _ fault h) (both_told line first (value_not_malformed _ _ v x) (blank_not_malformed _ _ y))
-pair_told line first fault (Value v) (Value w) x y h = absurd (cc)
+    → IsReportedOfPair line first fault
+pair_reported line first fault Malformed lat x y h =
+    subst (IsReportedOfPair line first) (err_value _ fault h) (long_reported line first (malformed_found _ _ x))
+pair_reported line first fault Blank Malformed x y h =
+    subst (IsReportedOfPair line first) (err_value _ fault h) (lat_reported line first (blank_not_malformed _ _ x) (malformed_found _ _ y))
+pair_reported line first fault (Value v) Malformed x y h =
+    subst (IsReportedOfPair line first) (err_value _ fault h) (lat_reported line first (value_not_malformed _ _ v x) (malformed_found _ _ y))
+pair_reported line first fault Blank Blank x y h = absurd (cc)
+pair_reported line first fault Blank (Value w) x y h =
+    subst (IsReportedOfPair line first) (err_value _ fault h) (both_reported line first (blank_not_malformed _ _ x) (value_not_malformed _ _ w y))
+pair_reported line first fault (Value v) Blank x y h =
+    subst (IsReportedOfPair line first) (err_value _ fault h) (both_reported line first (value_not_malformed _ _ v x) (blank_not_malformed _ _ y))
+pair_reported line first fault (Value v) (Value w) x y h = absurd (cc)
 
-pub point_or_none_told : (line : List ℕ) (first : ℕ) (fault : FieldFault) → point_or_none_at first line ≡ Err fault
-    → IsToldOfPair line first fault
+pub point_or_none_reported : (line : List ℕ) (first : ℕ) (fault : FieldFault) → point_or_none_at first line ≡ Err fault
+    → IsReportedOfPair line first fault
 unfolding point_or_none_at
-point_or_none_told line first fault h = pair_told line first fault _ _ refl refl h
+point_or_none_reported line first fault h = pair_reported line first fault _ _ refl refl h
 
 -- a pair that spells a point or none has no malformed half
 halves_well_formed : (long lat : List ℕ) (point : Option Coordinates) → SpellsPointOrNone long lat point
@@ -192,22 +192,22 @@ halves_well_formed long lat None (inl h) = ((λ m. m.not_blank h.0), (λ m. m.no
 halves_well_formed long lat None (inr h) = ((λ m. m.no_value (pos 0) h.0), (λ m. m.no_value (pos 0) h.1))
 halves_well_formed long lat (Some point) h = ((λ m. m.no_value point.long h.long_spelled), (λ m. m.no_value point.lat h.lat_spelled))
 
-none_told : (line : List ℕ) (first : ℕ) (fault : FieldFault) (read : Option Coordinates) → point_or_none_at first line ≡ Ok read
-    → demanded_point first read ≡ Err fault → IsToldOfPair line first fault
-none_told line first fault None was h =
+none_reported : (line : List ℕ) (first : ℕ) (fault : FieldFault) (read : Option Coordinates) → point_or_none_at first line ≡ Ok read
+    → demanded_point first read ≡ Err fault → IsReportedOfPair line first fault
+none_reported line first fault None was h =
     let well = halves_well_formed _ _ None (point_or_none_at_found first line None was) in
-    subst (IsToldOfPair line first) (err_value _ fault h) (both_told line first well.0 well.1)
-none_told line first fault (Some point) was h = absurd (cc)
+    subst (IsReportedOfPair line first) (err_value _ fault h) (both_reported line first well.0 well.1)
+none_reported line first fault (Some point) was h = absurd (cc)
 
-pub point_told : (line : List ℕ) (first : ℕ) (fault : FieldFault) → point_at first line ≡ Err fault → IsToldOfPair line first fault
+pub point_reported : (line : List ℕ) (first : ℕ) (fault : FieldFault) → point_at first line ≡ Err fault → IsReportedOfPair line first fault
 unfolding point_at
-point_told line first fault h = go (fails (point_or_none_at first line) (demanded_point first) fault h)
+point_reported line first fault h = go (fails (point_or_none_at first line) (demanded_point first) fault h)
   where
     go : (point_or_none_at first line ≡ Err fault)
         ⊎ ((read : Option Coordinates) × (point_or_none_at first line ≡ Ok read) × (demanded_point first read ≡ Err fault))
-        → IsToldOfPair line first fault
-    go (inl e) = point_or_none_told line first fault e
-    go (inr r) = none_told line first fault r.0 r.1 r.2
+        → IsReportedOfPair line first fault
+    go (inl e) = point_or_none_reported line first fault e
+    go (inr r) = none_reported line first fault r.0 r.1 r.2
 
 -- two faults with the same kind and the same column are the same
 same_fault : (f g : FieldFault) → f.kind ≡ g.kind → f.column ≡ g.column → f ≡ g
@@ -215,8 +215,8 @@ same_fault f g k c = ap (λ (kind : _). record { kind = kind; column = f.column 
     ∙ ap (λ (column : ℕ). record { kind = g.kind; column = column }) c
 
 -- a pair has only one reported fault
-pub one_told : (line : List ℕ) (first : ℕ) (f g : FieldFault) → IsToldOfPair line first f → IsToldOfPair line first g → f ≡ g
-one_told line first f g t u = same_fault f g (t.kind ∙ sym u.kind) (go (malformed_or_not _ _) (malformed_or_not _ _))
+pub one_reported : (line : List ℕ) (first : ℕ) (f g : FieldFault) → IsReportedOfPair line first f → IsReportedOfPair line first g → f ≡ g
+one_reported line first f g t u = same_fault f g (t.kind ∙ sym u.kind) (go (malformed_or_not _ _) (malformed_or_not _ _))
   where
     go : HasMalformedLongitude line first ⊎ (¬ HasMalformedLongitude line first)
         → HasMalformedLatitude line first ⊎ (¬ HasMalformedLatitude line first) → f.column ≡ g.column

@@ -71,10 +71,10 @@ place-injective {K} {cmp} o i (x ∷ xs) k j h l e = go (known_cases o k x xs h)
     go (inr a) (inr b) ih = ih a.0 b.0 (sym (place-later o i x xs k a.1) ∙ e ∙ place-later o i x xs j b.1)
 
 -- keys are distinct if values computed from them are
-times-told : {K L : Type 0} {cmp : K → K → Ordering} {by : L → L → Ordering} (o : IsKeyOrder cmp) (q : IsKeyOrder by) (f : K → L) (k : K)
+times-stated : {K L : Type 0} {cmp : K → K → Ordering} {by : L → L → Ordering} (o : IsKeyOrder cmp) (q : IsKeyOrder by) (f : K → L) (k : K)
     (ks : List K) → times cmp k ks ≤ times by (f k) (map f ks)
-times-told o q f k [] = omega arith
-times-told {cmp = cmp} {by = by} o q f k (j ∷ ks) = go (same_or_not o k j) (same_or_not q (f k) (f j)) (times-told o q f k ks)
+times-stated o q f k [] = omega arith
+times-stated {cmp = cmp} {by = by} o q f k (j ∷ ks) = go (same_or_not o k j) (same_or_not q (f k) (f j)) (times-stated o q f k ks)
   where
     go : (k ≡ j) ⊎ (is_eq (cmp k j) ≡ false) → (f k ≡ f j) ⊎ (is_eq (by (f k) (f j)) ≡ false) → times cmp k ks ≤ times by (f k) (map f ks)
         → times cmp k (j ∷ ks) ≤ times by (f k) (f j ∷ map f ks)
@@ -309,8 +309,8 @@ module _ (county : County) (steps : Arrangement) (is : IsCounty county) (arrange
       subst (IsApart nat_cmp) (sym numbers)
       (apart_from_sorted nat_keys (up_to (length (polygons_in_order county steps)))
       (up_to-strict (length (polygons_in_order county steps)))) k.1 in
-      let told : times key_cmp k new ≤ times nat_cmp k.1 (map (λ (i : PolygonKey). i.1) new) =
-      times-told key_keys nat_keys (λ (i : PolygonKey). i.1) k new in
+      let stated : times key_cmp k new ≤ times nat_cmp k.1 (map (λ (i : PolygonKey). i.1) new) =
+      times-stated key_keys nat_keys (λ (i : PolygonKey). i.1) k new in
       let same : times key_cmp k (polygon_keys (arranged county steps)) ≡ times key_cmp k new =
       times-permutation key_keys k new (polygon_keys (arranged county steps)) h.numbers.polygons.right in
       omega arith

@@ -52,19 +52,19 @@ full_pieces {X} n (suc room) (x ∷ xs) one h =
 -- an ordered list, as records that contain it
 in_order-made : {X Y : Type 0} (cmp : Y → Y → Ordering) (key : X → Y) (make : Y → X) → ((y : Y) → key (make y) ≡ y) → (ys : List Y)
     → IsInOrder cmp ys → IsInOrder (on key cmp) (map make ys)
-in_order-made cmp key make told [] h = tt
-in_order-made {X} {Y} cmp key make told (y ∷ ys) h = (each ys h.0, in_order-made cmp key make told ys h.1)
+in_order-made cmp key make stated [] h = tt
+in_order-made {X} {Y} cmp key make stated (y ∷ ys) h = (each ys h.0, in_order-made cmp key make stated ys h.1)
   where
     each : (zs : List Y) → AllByRecursion (λ z. is_gt (cmp y z) ≡ false) zs
         → AllByRecursion (λ x. is_gt (cmp (key (make y)) (key x)) ≡ false) (map make zs)
     each [] a = tt
-    each (z ∷ zs) a = (ap₂ (λ k j. is_gt (cmp k j)) (told y) (told z) ∙ a.0, each zs a.1)
+    each (z ∷ zs) a = (ap₂ (λ k j. is_gt (cmp k j)) (stated y) (stated z) ∙ a.0, each zs a.1)
 
 -- records with the RTSQs 1, 2, 3, ..
-module _ {X Y : Type 0} (rtsq : X → ℕ) (make : ℕ × Y → X) (told : (piece : ℕ × Y) → rtsq (make piece) ≡ piece.0) where
+module _ {X Y : Type 0} (rtsq : X → ℕ) (make : ℕ × Y → X) (stated : (piece : ℕ × Y) → rtsq (make piece) ≡ piece.0) where
   rtsqs_made : (ys : List Y) → map rtsq (map make (numbered_from 1 ys)) ≡ map (λ (piece : ℕ × Y). piece.0) (numbered_from 1 ys)
   rtsqs_made ys = map-map rtsq make (numbered_from 1 ys)
-      ∙ map_agree_everywhere (λ piece. rtsq (make piece)) (λ (piece : ℕ × Y). piece.0) told (numbered_from 1 ys)
+      ∙ map_agree_everywhere (λ piece. rtsq (make piece)) (λ (piece : ℕ × Y). piece.0) stated (numbered_from 1 ys)
 
   rtsqs_ordered : (ys : List Y) → IsInOrder (on rtsq nat_cmp) (map make (numbered_from 1 ys))
   rtsqs_ordered ys = in_order-from_strict rtsq (map make (numbered_from 1 ys))

@@ -117,14 +117,14 @@ turned_apart (s ∷ steps) a k = go s.1 (turned_apart steps (apart_tail nat_keys
     go false ih = ih k
 
 -- an arrangement turns exactly the chains that its steps turn
-pub turns_as_told : (steps : Arrangement) → IsApart nat_cmp (arranged_tlids steps)
+pub turns_as_stated : (steps : Arrangement) → IsApart nat_cmp (arranged_tlids steps)
     → AllByRecursion (λ s. stands_in nat_cmp s.0 (turned_tlids steps) ≡ s.1) steps
-turns_as_told [] a = tt
-turns_as_told (s ∷ steps) a = (
+turns_as_stated [] a = tt
+turns_as_stated (s ∷ steps) a = (
   here s.1 refl,
   all_weaker (λ t. (stands_in nat_cmp t.0 (turned_tlids steps) ≡ t.1) × (is_eq (nat_cmp t.0 s.0) ≡ false))
       (λ t. stands_in nat_cmp t.0 (turned_tlids (s ∷ steps)) ≡ t.1) (λ t h. later s.1 t h.0 h.1) steps
-      (both steps (turns_as_told steps (apart_tail nat_keys s.0 (arranged_tlids steps) a)) (apart_others steps (λ t l. l))),
+      (both steps (turns_as_stated steps (apart_tail nat_keys s.0 (arranged_tlids steps) a)) (apart_others steps (λ t l. l))),
 )
   where
     none : times nat_cmp s.0 (arranged_tlids steps) ≤ 0
@@ -232,9 +232,9 @@ module _ (county : County) (steps : Arrangement) (is : IsCounty county) (arrange
         ∙ images-lefts nat_keys ps (subst (IsApart nat_cmp) (sym (lefts-numbered (arranged_tlids steps))) steps_apart)
         ∙ rights-numbered (arranged_tlids steps)
 
-    told : AllByRecursion (λ (s : ℕ × Bool). turns r s.0 ≡ s.1) steps
-    told = subst (λ ts. AllByRecursion (λ (s : ℕ × Bool). stands_in nat_cmp s.0 ts ≡ s.1) steps) (sym turning)
-        (turns_as_told steps steps_apart)
+    stated : AllByRecursion (λ (s : ℕ × Bool). turns r s.0 ≡ s.1) steps
+    stated = subst (λ ts. AllByRecursion (λ (s : ℕ × Bool). stands_in nat_cmp s.0 ts ≡ s.1) steps) (sym turning)
+        (turns_as_stated steps steps_apart)
 
     same_bodies : (ss : Arrangement) → AllByRecursion (λ s. turns r s.0 ≡ s.1) ss
         → map (λ (entry : ℕ × Chain). renumbered r (turned_if (turns r entry.0) entry.1))
@@ -260,7 +260,7 @@ module _ (county : County) (steps : Arrangement) (is : IsCounty county) (arrange
         ∙ ap (map (image nat_cmp r.chains)) (order_tlids steps steps_known) ∙ new_tlids
         ∙ sym (map-map (λ (entry : ℕ × Chain). entry.0) (kept_entry r) (placed county steps) ∙ placed_tlids))
         (map-map (λ (entry : ℕ × Chain). entry.1) (carried_chain r) (chains_in_order county steps)
-        ∙ same_bodies steps told
+        ∙ same_bodies steps stated
         ∙ sym (map-map (λ (entry : ℕ × Chain). entry.1) (kept_entry r) (placed county steps)
         ∙ sym (map-map (renumbered r) (λ (entry : ℕ × Chain). entry.1) (placed county steps))
         ∙ ap (map (renumbered r)) (rights-numbered_from 1 (flat_map bodies_of steps))))

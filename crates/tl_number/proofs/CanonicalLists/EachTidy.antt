@@ -19,7 +19,7 @@ use Rattle.tl_number.specs.Growth.{numbered, up_to}
 use Rattle.tl_number.proofs.Arrangements.ArrangedCounties.{arranged_county, is_arranged}
 use Rattle.tl_number.proofs.Arrangements.Carrying.{arrangement_carries, chains_renamed, turned_renamed, images-numbered}
 use Rattle.tl_number.proofs.Lists.Counting.{map-equal_all}
-use Rattle.tl_number.proofs.Arrangements.Placed.{steps_apart, turns_as_told}
+use Rattle.tl_number.proofs.Arrangements.Placed.{steps_apart, turns_as_stated}
 use Rattle.tl_number.proofs.Unique.Rigid.{rigid}
 
 both_or_none : (a b : Bool) → exactly_one a b ≡ false → a ≡ b
@@ -110,7 +110,7 @@ module _ (r : Renumbering) (a b : County) (wa : IsCounty a) (wb : IsCounty b) (h
         all_unmap (λ s. turns (renaming_of a (read_off r b)) s.0 ≡ s.1) (step_to r) (tlids b)
         (subst (λ ts. AllByRecursion (λ s. stands_in nat_cmp s.0 ts ≡ s.1) (read_off r b))
         (sym (turned_renamed a (read_off r b) wa read_arranges))
-        (turns_as_told (read_off r b) (steps_apart a (read_off r b) wa read_arranges)))
+        (turns_as_stated (read_off r b) (steps_apart a (read_off r b) wa read_arranges)))
 
     -- The county is arranged in this way.
     pub read_makes : b ≡ arranged a (read_off r b)

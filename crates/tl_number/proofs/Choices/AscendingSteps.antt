@@ -84,20 +84,20 @@ module _ (county : County) where
   place_of w = w.place
 
   -- walks that read the chains in order, each in its lesser direction
-  steps_told : (walks : List DirectedChain) (ordered : List (ℕ × Chain)) → AllByRecursion (λ w. w ≡ least_walk county (place_of w)) walks
+  steps_stated : (walks : List DirectedChain) (ordered : List (ℕ × Chain)) → AllByRecursion (λ w. w ≡ least_walk county (place_of w)) walks
       → map (slice_get county.chains) (map place_of walks) ≡ map Some ordered
       → arrangement_of county walks ≡ map (λ e. (e.0, comes_turned e.1)) ordered
-  steps_told [] [] a e = refl
-  steps_told [] (x ∷ xs) a e = cc
-  steps_told (w ∷ ws) [] a e = cc
-  steps_told (w ∷ ws) (x ∷ xs) a e =
+  steps_stated [] [] a e = refl
+  steps_stated [] (x ∷ xs) a e = cc
+  steps_stated (w ∷ ws) [] a e = cc
+  steps_stated (w ∷ ws) (x ∷ xs) a e =
       let here : slice_get county.chains w.place ≡ Some x = cc in
       let rest : map (slice_get county.chains) (map place_of ws) ≡ map Some xs = cc in
       let tlid : tlid_at county w.place ≡ x.0 =
       get_or_from_slice_get (tlids county) w.place x.0 0
       (slice_get-map (λ (d : ℕ × Chain). d.0) county.chains w.place ∙ ap (option_map (λ (d : ℕ × Chain). d.0)) here) in
       let turned : w.turned ≡ comes_turned x.1 = ap (λ (v : DirectedChain). v.turned) a.0 ∙ turned_read w.place x here in
-      λ i. (tlid i, turned i) ∷ steps_told ws xs a.1 rest i
+      λ i. (tlid i, turned i) ∷ steps_stated ws xs a.1 rest i
 
   module _ (walks : List DirectedChain) (order : AreWalksInOrder county walks) where
     read : map (slice_get county.chains) (map place_of walks) ≡ map Some (in_order (on entry_shape points_cmp) county.chains)
@@ -109,25 +109,25 @@ module _ (county : County) where
         agrees walks order.all order.in_order
 
     -- the points along the walks are the shapes in order
-    shapes_told : (ws : List DirectedChain) (ordered : List (ℕ × Chain)) → AllByRecursion (λ w. w ≡ least_walk county (place_of w)) ws
+    shapes_stated : (ws : List DirectedChain) (ordered : List (ℕ × Chain)) → AllByRecursion (λ w. w ≡ least_walk county (place_of w)) ws
         → map (slice_get county.chains) (map place_of ws) ≡ map Some ordered
         → map (points_along county) ws ≡ map entry_shape ordered
-    shapes_told [] [] a e = refl
-    shapes_told [] (x ∷ xs) a e = cc
-    shapes_told (w ∷ ws) [] a e = cc
-    shapes_told (w ∷ ws) (x ∷ xs) a e =
+    shapes_stated [] [] a e = refl
+    shapes_stated [] (x ∷ xs) a e = cc
+    shapes_stated (w ∷ ws) [] a e = cc
+    shapes_stated (w ∷ ws) (x ∷ xs) a e =
         let here : slice_get county.chains w.place ≡ Some x = cc in
         let rest : map (slice_get county.chains) (map place_of ws) ≡ map Some xs = cc in
         let along : points_along county w ≡ entry_shape x = ap (points_along county) a.0 ∙ along_read w.place x here in
-        λ i. along i ∷ shapes_told ws xs a.1 rest i
+        λ i. along i ∷ shapes_stated ws xs a.1 rest i
 
     pub walks_shapes : map (points_along county) walks ≡ map entry_shape (in_order (on entry_shape points_cmp) county.chains)
-    walks_shapes = shapes_told walks (in_order (on entry_shape points_cmp) county.chains) each_walk read
+    walks_shapes = shapes_stated walks (in_order (on entry_shape points_cmp) county.chains) each_walk read
 
     -- The steps along the shapes in their order are the ascending arrangement.
     pub steps_ascend : (steps : List DirectedChain) → steps ≡ walks → arrangement_of county steps ≡ ascending county
     steps_ascend steps e =
-        ap (arrangement_of county) e ∙ steps_told walks (in_order (on entry_shape points_cmp) county.chains) each_walk read
+        ap (arrangement_of county) e ∙ steps_stated walks (in_order (on entry_shape points_cmp) county.chains) each_walk read
 
     pub steps_there : (steps : List DirectedChain) → steps ≡ walks → AreSteps county steps
     steps_there steps e =

@@ -129,13 +129,13 @@ module _ {X K : Type 0} {cmp : K → K → Ordering} (o : IsKeyOrder cmp) (eithe
   abbrev pub key_of : X → K
   key_of x = key (name x)
 
-  abbrev pub told : List X → ℕ → List X × ℕ
-  told xs n = chosen cmp either key_of turn xs n
+  abbrev pub stated : List X → ℕ → List X × ℕ
+  stated xs n = chosen cmp either key_of turn xs n
 
   -- if names occur equally often, so do keys
-  keys_told : (xs ys : List X) → ((n : ℕ) → times nat_cmp n (map name xs) ≡ times nat_cmp n (map name ys)) → (k : K)
+  keys_stated : (xs ys : List X) → ((n : ℕ) → times nat_cmp n (map name xs) ≡ times nat_cmp n (map name ys)) → (k : K)
       → times cmp k (map key_of xs) ≡ times cmp k (map key_of ys)
-  keys_told xs ys h k =
+  keys_stated xs ys h k =
       ap (times cmp k) (sym (map-map key name xs))
       ∙ sym (times-permutation o k (map key (map name xs)) (map key (map name ys))
       (IsPermutation-map key (map name xs) (map name ys) (permutation_of_times nat_keys (map name xs) (map name ys) h)))
@@ -146,7 +146,7 @@ module _ {X K : Type 0} {cmp : K → K → Ordering} (o : IsKeyOrder cmp) (eithe
   all_keys P xs ys h a =
       all_unmap P key_of ys
       (all_known o P (map key_of ys)
-      (λ k l. known_all o P (map key_of xs) (all_map P key_of xs a) k (omega (arith, l, keys_told xs ys h k))))
+      (λ k l. known_all o P (map key_of xs) (all_map P key_of xs a) k (omega (arith, l, keys_stated xs ys h k))))
 
   times-insert : (n i : ℕ) (x : X) (xs : List X) → times nat_cmp n (map name (insert xs i x)) ≡ times nat_cmp n (name x ∷ map name xs)
   times-insert n i x xs = times-permutation nat_keys n (name x ∷ map name xs) (map name (insert xs i x))
@@ -219,7 +219,7 @@ module _ {X K : Type 0} {cmp : K → K → Ordering} (o : IsKeyOrder cmp) (eithe
         let t : X = turned_by turn d x in
         let same : name t ≡ name x = turned_named x d in
         let below : i < g = mod_below n g (omega arith) in
-        let keys : times cmp (key_of x) (map key_of later) ≡ times cmp (key_of x) (map key_of xs) = keys_told later xs c.names (key_of x) in
+        let keys : times cmp (key_of x) (map key_of later) ≡ times cmp (key_of x) (map key_of xs) = keys_stated later xs c.names (key_of x) in
         record {
           names = λ m. times-insert m i t later
               ∙ ap (λ k. times nat_cmp m (k ∷ map name later)) same
@@ -233,9 +233,9 @@ module _ {X K : Type 0} {cmp : K → K → Ordering} (o : IsKeyOrder cmp) (eithe
         }
 
     -- Each number selects a choice.
-    pub chosen_is_choice : (xs : List X) → AllByRecursion L xs → IsInOrder (on key_of cmp) xs → (n : ℕ) → IsChosen xs (told xs n).0
+    pub chosen_is_choice : (xs : List X) → AllByRecursion L xs → IsInOrder (on key_of cmp) xs → (n : ℕ) → IsChosen xs (stated xs n).0
     chosen_is_choice [] a h n = record { names = λ m. refl; lawful = tt; ordered = tt }
-    chosen_is_choice (x ∷ xs) a h n = put x xs a.0 h.0 (told xs n).0 (told xs n).1 (chosen_is_choice xs a.1 h.1 n)
+    chosen_is_choice (x ∷ xs) a h n = put x xs a.0 h.0 (stated xs n).0 (stated xs n).1 (chosen_is_choice xs a.1 h.1 n)
 
     -- the digit that turns an element this way
     digit_of : (x y : X) → (y ≡ x) ⊎ ((either (key_of x) ≡ true) × (y ≡ turn x))
@@ -253,7 +253,7 @@ module _ {X K : Type 0} {cmp : K → K → Ordering} (o : IsKeyOrder cmp) (eithe
 
     -- Each choice has a number that leaves q over, below q + 1 times the number of choices.
     pub choice_left : (xs : List X) → AllByRecursion L xs → IsInOrder (on key_of cmp) xs → (ys : List X) → IsChosen xs ys → (q : ℕ)
-        → (n : ℕ) × (n < (q + 1) * running cmp either (map key_of xs)) × (told xs n ≡ (ys, q))
+        → (n : ℕ) × (n < (q + 1) * running cmp either (map key_of xs)) × (stated xs n ≡ (ys, q))
     choice_left [] a h ys c q = (q, omega arith, λ i. (sym (none_left ys c.names) i, q))
     choice_left (x ∷ xs) a h ys c q =
         let found = taken_out name (name x) ys
@@ -270,8 +270,8 @@ module _ {X K : Type 0} {cmp : K → K → Ordering} (o : IsKeyOrder cmp) (eithe
         count = running cmp either (map key_of xs)
 
         rest : (i : ℕ) (y : X) (later : List X) → name y ≡ name x → ys ≡ insert later i y → i ≤ length later
-            → ((zs : List X) → IsChosen xs zs → (p : ℕ) → (n : ℕ) × (n < (p + 1) * count) × (told xs n ≡ (zs, p)))
-            → (n : ℕ) × (n < (q + 1) * (g * (w * count))) × (told (x ∷ xs) n ≡ (ys, q))
+            → ((zs : List X) → IsChosen xs zs → (p : ℕ) → (n : ℕ) × (n < (p + 1) * count) × (stated xs n ≡ (zs, p)))
+            → (n : ℕ) × (n < (q + 1) * (g * (w * count))) × (stated (x ∷ xs) n ≡ (ys, q))
         rest i y later same is within ih =
             let split = all_inserted L y i later (subst (AllByRecursion L) is c.lawful) in
             let ordered : IsInOrder (on key_of cmp) (insert later i y) = subst (IsInOrder (on key_of cmp)) is c.ordered in
@@ -286,7 +286,7 @@ module _ {X K : Type 0} {cmp : K → K → Ordering} (o : IsKeyOrder cmp) (eithe
             (subst (λ m. AllByRecursion (λ z. is_gt (cmp (key m) (key_of z)) ≡ false) later) (sym same) above) ordered in
             let few_here : i ≤ times cmp (key_of x) (map key_of later) =
             subst (λ m. i ≤ times cmp (key m) (map key_of later)) same few in
-            let at : i < g = omega (arith, few_here, keys_told later xs names (key_of x)) in
+            let at : i < g = omega (arith, few_here, keys_stated later xs names (key_of x)) in
             let digit = digit_of x y (one_way x y same a.0 split.0) in
             let p : ℕ = (q * w + digit.0) * g + i in
             let found = ih later (record { names = names; lawful = split.1; ordered = in_order-inserted (on key_of cmp) y i later ordered }) p in
@@ -308,18 +308,18 @@ module _ {X K : Type 0} {cmp : K → K → Ordering} (o : IsKeyOrder cmp) (eithe
 
     -- Each choice has a number below the number of choices.
     pub choice_has_number : (xs : List X) → AllByRecursion L xs → IsInOrder (on key_of cmp) xs → (ys : List X) → IsChosen xs ys
-        → (n : ℕ) × (n < running cmp either (map key_of xs)) × ((told xs n).0 ≡ ys)
+        → (n : ℕ) × (n < running cmp either (map key_of xs)) × ((stated xs n).0 ≡ ys)
     choice_has_number xs a h ys c =
         let found = choice_left xs a h ys c 0 in
         (found.0, (let l : found.0 < (0 + 1) * running cmp either (map key_of xs) = found.1 in omega (arith, l)), ap (λ r. r.0) found.2)
 
   -- Number 0 selects the list itself.
-  pub first_told : (xs : List X) → told xs 0 ≡ (xs, 0)
-  first_told [] = refl
-  first_told (x ∷ xs) =
+  pub first_stated : (xs : List X) → stated xs 0 ≡ (xs, 0)
+  first_stated [] = refl
+  first_stated (x ∷ xs) =
       let g : ℕ = suc (times cmp (key_of x) (map key_of xs)) in
       let w : ℕ = cond (either (key_of x)) 2 1 in
-      ap (stood turn g w x) (first_told xs)
+      ap (stood turn g w x) (first_stated xs)
       ∙ ap (λ n. stood turn g w x (xs, n)) (let e : 0 ≡ (0 * w + 0) * g + 0 = omega arith in e)
       ∙ stood-digits turn g w x xs 0 0 0 (omega arith) (some (either (key_of x)))
     where

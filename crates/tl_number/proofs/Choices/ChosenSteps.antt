@@ -26,7 +26,7 @@ use Rattle.tl_number.proofs.Choices.AscendingSteps.{steps_ascend, steps_there, w
 use Rattle.tl_number.proofs.Choices.Choosing.{all_insert}
 use Rattle.tl_number.proofs.Choices.KeptPlaces.{moved_apart, open_in_order}
 use Rattle.tl_number.proofs.Choices.MovedChoice.{moved_is}
-use Rattle.tl_number.proofs.Choices.TidyChoices.{numbered_is_choice, shapes_ascending, told_here}
+use Rattle.tl_number.proofs.Choices.TidyChoices.{numbered_is_choice, shapes_ascending, stated_here}
 
 -- a property of elements in either direction is a property of those chosen
 chosen_all : {X K : Type 0} (cmp : K → K → Ordering) (either : K → Bool) (key : X → K) (turn : X → X) (P : X → Type 0)
@@ -52,35 +52,35 @@ chosen_count cmp either key turn (x ∷ xs) n =
         let same = length_permutation (z ∷ zs) (insert zs i z) (IsPermutation-insert zs i z) in omega (arith, same)
 
 -- images of elements, with the same keys and turned as the elements are
-module _ {X Y K : Type 0} (cmp : K → K → Ordering) (either : K → Bool) (key : X → K) (turn : X → X) (key_told : Y → K) (turn_told : Y → Y)
-    (tell : X → Y) (turns : (x : X) → tell (turn x) ≡ turn_told (tell x)) where
-  turned_told : (d : ℕ) (x : X) → tell (turned_by turn d x) ≡ turned_by turn_told d (tell x)
-  turned_told zero x = refl
-  turned_told (suc d) x = turns x
+module _ {X Y K : Type 0} (cmp : K → K → Ordering) (either : K → Bool) (key : X → K) (turn : X → X) (key_stated : Y → K) (turn_stated : Y → Y)
+    (state : X → Y) (turns : (x : X) → state (turn x) ≡ turn_stated (state x)) where
+  turned_stated : (d : ℕ) (x : X) → state (turned_by turn d x) ≡ turned_by turn_stated d (state x)
+  turned_stated zero x = refl
+  turned_stated (suc d) x = turns x
 
-  insert_told : (xs : List X) (i : ℕ) (x : X) → map tell (insert xs i x) ≡ insert (map tell xs) i (tell x)
-  insert_told xs i x =
-      map-append tell (take i xs) (x ∷ drop i xs) ∙ (λ j. sym (take-map tell i xs) j ++ tell x ∷ sym (drop-map tell i xs) j)
+  insert_stated : (xs : List X) (i : ℕ) (x : X) → map state (insert xs i x) ≡ insert (map state xs) i (state x)
+  insert_stated xs i x =
+      map-append state (take i xs) (x ∷ drop i xs) ∙ (λ j. sym (take-map state i xs) j ++ state x ∷ sym (drop-map state i xs) j)
 
-  stood_told : (g w : ℕ) (x : X) (later : List X × ℕ)
-      → ◌≡◌ {A = List Y × ℕ} (map tell (stood turn g w x later).0, (stood turn g w x later).1)
-      (stood turn_told g w (tell x) (map tell later.0, later.1))
-  stood_told g w x later =
-      let put = insert_told later.0 (later.1 % g) (turned_by turn (later.1 / g % w) x)
-      ∙ ap (insert (map tell later.0) (later.1 % g)) (turned_told (later.1 / g % w) x) in
+  stood_stated : (g w : ℕ) (x : X) (later : List X × ℕ)
+      → ◌≡◌ {A = List Y × ℕ} (map state (stood turn g w x later).0, (stood turn g w x later).1)
+      (stood turn_stated g w (state x) (map state later.0, later.1))
+  stood_stated g w x later =
+      let put = insert_stated later.0 (later.1 % g) (turned_by turn (later.1 / g % w) x)
+      ∙ ap (insert (map state later.0) (later.1 % g)) (turned_stated (later.1 / g % w) x) in
       λ j. (put j, later.1 / g / w)
 
-  chosen_told : (xs : List X) → map key xs ≡ map key_told (map tell xs) → (n : ℕ)
-      → ◌≡◌ {A = List Y × ℕ} (map tell (chosen cmp either key turn xs n).0, (chosen cmp either key turn xs n).1)
-      (chosen cmp either key_told turn_told (map tell xs) n)
-  chosen_told [] e n = refl
-  chosen_told (x ∷ xs) e n =
-      let here : key x ≡ key_told (tell x) = cc in
-      let rest : map key xs ≡ map key_told (map tell xs) = cc in
-      stood_told (suc (times cmp (key x) (map key xs))) (cond (either (key x)) 2 1) x (chosen cmp either key turn xs n)
-      ∙ ap (stood turn_told (suc (times cmp (key x) (map key xs))) (cond (either (key x)) 2 1) (tell x)) (chosen_told xs rest n)
-      ∙ (λ j. stood turn_told (suc (times cmp (here j) (rest j))) (cond (either (here j)) 2 1) (tell x)
-      (chosen cmp either key_told turn_told (map tell xs) n))
+  chosen_stated : (xs : List X) → map key xs ≡ map key_stated (map state xs) → (n : ℕ)
+      → ◌≡◌ {A = List Y × ℕ} (map state (chosen cmp either key turn xs n).0, (chosen cmp either key turn xs n).1)
+      (chosen cmp either key_stated turn_stated (map state xs) n)
+  chosen_stated [] e n = refl
+  chosen_stated (x ∷ xs) e n =
+      let here : key x ≡ key_stated (state x) = cc in
+      let rest : map key xs ≡ map key_stated (map state xs) = cc in
+      stood_stated (suc (times cmp (key x) (map key xs))) (cond (either (key x)) 2 1) x (chosen cmp either key turn xs n)
+      ∙ ap (stood turn_stated (suc (times cmp (key x) (map key xs))) (cond (either (key x)) 2 1) (state x)) (chosen_stated xs rest n)
+      ∙ (λ j. stood turn_stated (suc (times cmp (here j) (rest j))) (cond (either (here j)) 2 1) (state x)
+      (chosen cmp either key_stated turn_stated (map state xs) n))
 
 -- an open place and the elements with its key are within the list
 open_within : {K : Type 0} {cmp : K → K → Ordering} (o : IsKeyOrder cmp) (either : K → Bool) (count place : ℕ) (keys : List K)
@@ -109,19 +109,19 @@ module _ (county : County) (is : IsCounty county) (walks : List DirectedChain) (
   keys_same = walks_shapes county walks order ∙ sym (shapes_ascending county is)
       ∙ ap (map (step_shape county)) (sym (steps_ascend county walks order walks refl))
 
-  module _ (steps : List DirectedChain) (n : ℕ) (told : steps ≡ (moved other_way places (walks, n)).0) where
+  module _ (steps : List DirectedChain) (n : ℕ) (stated : steps ≡ (moved other_way places (walks, n)).0) where
     as_chosen : steps ≡ (chosen points_cmp is_either_way (points_along county) other_way walks n).0
-    as_chosen = told ∙ ap (λ l. (moved other_way l (walks, n)).0) there
+    as_chosen = stated ∙ ap (λ l. (moved other_way l (walks, n)).0) there
         ∙ ap (λ r. r.0) (moved_is points_cmp is_either_way (points_along county) other_way walks n)
 
     -- So the moved walks are the steps of the choice with the number,
     pub steps_of_number : arrangement_of county steps ≡ numbered_choice county n
     steps_of_number =
         ap (arrangement_of county) as_chosen
-        ∙ ap (λ r. r.0) (chosen_told points_cmp is_either_way (points_along county) other_way (step_shape county) turned_step
+        ∙ ap (λ r. r.0) (chosen_stated points_cmp is_either_way (points_along county) other_way (step_shape county) turned_step
         (λ (step : DirectedChain). (tlid_at county step.place, step.turned)) (λ step. refl) walks keys_same n)
         ∙ ap (λ l. (chosen points_cmp is_either_way (step_shape county) turned_step l n).0) (steps_ascend county walks order walks refl)
-        ∙ sym (told_here county is n)
+        ∙ sym (stated_here county is n)
 
     pub steps_of_number_count : length steps ≡ length walks
     steps_of_number_count = ap length as_chosen
@@ -129,7 +129,7 @@ module _ (county : County) (is : IsCounty county) (walks : List DirectedChain) (
 
     -- they stay, except for those moved at open places,
     pub steps_of_number_apart : AgreeApart places steps walks
-    steps_of_number_apart = subst (λ moving. AgreeApart places moving walks) (sym told) (moved_apart other_way places walks n places_within)
+    steps_of_number_apart = subst (λ moving. AgreeApart places moving walks) (sym stated) (moved_apart other_way places walks n places_within)
 
     -- each belongs to a chain of the county,
     pub steps_of_number_there : AreSteps county steps

@@ -90,10 +90,10 @@ pub of_either : {X : Type 0} (P : X → Type 0) (b : Bool) (x y : X) → P x →
 of_either P true x y p q = p
 of_either P false x y p q = q
 
-pub told_of_either : {X Y : Type 0} (tell : X → Y) (P : Y → Type 0) (b : Bool) (x y : X) → P (cond b (tell x) (tell y))
-    → P (tell (cond b x y))
-told_of_either tell P true x y p = p
-told_of_either tell P false x y p = p
+pub stated_of_either : {X Y : Type 0} (state : X → Y) (P : Y → Type 0) (b : Bool) (x y : X) → P (cond b (state x) (state y))
+    → P (state (cond b x y))
+stated_of_either state P true x y p = p
+stated_of_either state P false x y p = p
 
 module _ (county : County) (is : IsCounty county) where
   -- the choice with the number that is least of all

@@ -134,28 +134,28 @@ module _ (county : County) (is : IsCounty county) (within : IsWithinLimits most_
   pub whole_of_number : (walks : List DirectedChain) (order : AreWalksInOrder county walks) (places : List OpenPlace)
       → places ≡ open_places points_cmp is_either_way 0 (map (points_along county) walks) → (steps : List DirectedChain) (n : ℕ)
       → steps ≡ (moved other_way places (walks, n)).0 → AreWhole county steps
-  whole_of_number walks order places there steps n told =
-      whole_steps county steps is within (steps_of_number_there county is walks order places there steps n told)
-      (steps_of_number_once county is walks order places there steps n told) sides (few_chains county within)
+  whole_of_number walks order places there steps n stated =
+      whole_steps county steps is within (steps_of_number_there county is walks order places there steps n stated)
+      (steps_of_number_once county is walks order places there steps n stated) sides (few_chains county within)
 
   module _ (walks : List DirectedChain) (order : AreWalksInOrder county walks) (places : List OpenPlace)
       (there : places ≡ open_places points_cmp is_either_way 0 (map (points_along county) walks)) (one other : List DirectedChain) (n m : ℕ)
-      (told : one ≡ (moved other_way places (walks, n)).0) (other_told : other ≡ (moved other_way places (walks, m)).0) where
+      (stated : one ≡ (moved other_way places (walks, n)).0) (other_stated : other ≡ (moved other_way places (walks, m)).0) where
     -- The steps of two numbers agree, except for those moved at open places,
     pub agree_of_numbers : (all : List OpenPlace) → all ≡ places → AgreeButOpen county all one other
     agree_of_numbers all same =
-        let count : length one ≡ length walks = steps_of_number_count county is walks order places there one n told in
-        let other_count : length other ≡ length walks = steps_of_number_count county is walks order places there other m other_told in
+        let count : length one ≡ length walks = steps_of_number_count county is walks order places there one n stated in
+        let other_count : length other ≡ length walks = steps_of_number_count county is walks order places there other m other_stated in
         record {
-          whole = whole_of_number walks order places there one n told;
-          other_whole = whole_of_number walks order places there other m other_told;
+          whole = whole_of_number walks order places there one n stated;
+          other_whole = whole_of_number walks order places there other m other_stated;
           count = count ∙ sym other_count;
           within = subst (λ k. AreWithin k all) (sym count)
               (subst (AreWithin (length walks)) (sym same) (places_within county is walks order places there));
           in_order = subst StandInOrder (sym same) (places_in_order county is walks order places there);
           apart = subst (λ ps. AgreeApart ps one other) (sym same)
-              (agree_both places one other walks (steps_of_number_apart county is walks order places there one n told)
-              (steps_of_number_apart county is walks order places there other m other_told));
+              (agree_both places one other walks (steps_of_number_apart county is walks order places there one n stated)
+              (steps_of_number_apart county is walks order places there other m other_stated));
         }
 
     -- and if they have the same chains, their choices have the same list.
@@ -163,8 +163,8 @@ module _ (county : County) (is : IsCounty county) (within : IsWithinLimits most_
         → IsNotAfter (choice_list county n) (choice_list county m)
     one_list same =
         let lists : choice_list county n ≡ choice_list county m =
-        ap (λ a. packed (arranged county a)) (sym (steps_of_number county is walks order places there one n told))
-        ∙ ap packed (stepped_same county is one other (whole_of_number walks order places there one n told)
-        (whole_of_number walks order places there other m other_told) same)
-        ∙ ap (λ a. packed (arranged county a)) (steps_of_number county is walks order places there other m other_told) in
+        ap (λ a. packed (arranged county a)) (sym (steps_of_number county is walks order places there one n stated))
+        ∙ ap packed (stepped_same county is one other (whole_of_number walks order places there one n stated)
+        (whole_of_number walks order places there other m other_stated) same)
+        ∙ ap (λ a. packed (arranged county a)) (steps_of_number county is walks order places there other m other_stated) in
         subst (IsNotAfter (choice_list county n)) lists (not_after_itself (choice_list county n))

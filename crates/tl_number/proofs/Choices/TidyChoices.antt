@@ -37,7 +37,7 @@ use Rattle.tl_number.specs.NumberedChoices.{chosen}
 use Rattle.tl_number.specs.Tidy.{IsChoice, step_shape, turned_step, numbered_choice}
 use Rattle.tl_number.proofs.Choices.AscendingSteps.{shape_turned, turned_same}
 use Rattle.tl_number.proofs.Arrangements.Carrying.{chains_arranged}
-use Rattle.tl_number.proofs.Choices.Choosing.{IsChosen, permutation_of_times, chosen_is_choice, choice_has_number, first_told}
+use Rattle.tl_number.proofs.Choices.Choosing.{IsChosen, permutation_of_times, chosen_is_choice, choice_has_number, first_stated}
 use Rattle.tl_number.proofs.Arrangements.Placed.{one_chain}
 use Rattle.tl_number.proofs.Unique.SameNumbers.{kept_entry}
 use Rattle.tl_number.proofs.Lists.SortedPlaces.{in_order-unmap}
@@ -281,12 +281,12 @@ module _ (county : County) (is : IsCounty county) where
     ordered = ordered_from_tidy steps c.arranges c.tidy;
   }
 
-  pub told_here : (n : ℕ) → numbered_choice county n ≡ (chosen points_cmp is_either_way (step_shape county) turned_step (ascending county) n).0
+  pub stated_here : (n : ℕ) → numbered_choice county n ≡ (chosen points_cmp is_either_way (step_shape county) turned_step (ascending county) n).0
   unfolding numbered_choice
-  told_here n = refl
+  stated_here n = refl
 
   pub numbered_is_choice : (n : ℕ) → IsChoice county (numbered_choice county n)
-  numbered_is_choice n = subst (IsChoice county) (sym (told_here n))
+  numbered_is_choice n = subst (IsChoice county) (sym (stated_here n))
       (choice_from_chosen (chosen points_cmp is_either_way (step_shape county) turned_step (ascending county) n).0
       (chosen_is_choice points_keys is_either_way step_tlid shape turned_step (λ s. refl) (IsLawful county) turned_lawful one_way
       (ascending county) all_lawful in_ascending n))
@@ -297,9 +297,9 @@ module _ (county : County) (is : IsCounty county) where
   choice_number steps c =
       let found = choice_has_number points_keys is_either_way step_tlid shape turned_step (λ s. refl) (IsLawful county) turned_lawful one_way
       (ascending county) all_lawful in_ascending steps (chosen_from_choice steps c) in
-      (found.0, subst (λ m. found.0 < m) count_is found.1, told_here found.0 ∙ found.2)
+      (found.0, subst (λ m. found.0 < m) count_is found.1, stated_here found.0 ∙ found.2)
 
   -- Number 0 is the ascending arrangement.
   pub first_choice : numbered_choice county 0 ≡ ascending county
-  first_choice = told_here 0
-      ∙ ap (λ r. r.0) (first_told points_keys is_either_way step_tlid shape turned_step (λ s. refl) (ascending county))
+  first_choice = stated_here 0
+      ∙ ap (λ r. r.0) (first_stated points_keys is_either_way step_tlid shape turned_step (λ s. refl) (ascending county))

@@ -138,8 +138,8 @@ module _ (links rest later : List Fields8) (land : ℕ)
   pub fewer_later : length later ≤ length links
   fewer_later = omega (arith, counted)
 
-  pub bound_told : length links - length later ≡ links_up_to links land
-  bound_told = omega (arith, counted)
+  pub bound_stated : length links - length later ≡ links_up_to links land
+  bound_stated = omega (arith, counted)
 
   pub later_next : (n : ℕ) → land + 1 ≤ n → filter (λ link. is_gt (nat_cmp (eight_land link) n)) later ≡ filter
       (λ link. is_gt (nat_cmp (eight_land link) n)) links

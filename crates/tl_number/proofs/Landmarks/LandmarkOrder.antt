@@ -97,7 +97,7 @@ numbered_by_land county polygons numbers =
     by_land (numbered_links county polygons numbers) (in_order-in_order link_keys.total (map (link_under polygons numbers) county.links))
 
 module _ (county : County) (steps : List DirectedChain) (is : IsCounty county) (whole : AreWhole county steps) (polygons : List PolygonKey)
-    (told : polygons ≡ polygons_in_order county (arrangement_of county steps)) where
+    (stated : polygons ≡ polygons_in_order county (arrangement_of county steps)) where
   abbrev order : Arrangement
   order = arrangement_of county steps
 
@@ -118,7 +118,7 @@ module _ (county : County) (steps : List DirectedChain) (is : IsCounty county) (
       (subst (λ ks. Known nat_cmp ks m) (sym (lefts-numbered (lands county))) l)
 
   under_old : map (link_under polygons (lands county)) county.links ≡ map (relanded f_old) relinks
-  under_old = ap (λ ks. map (link_under ks (lands county)) county.links) told
+  under_old = ap (λ ks. map (link_under ks (lands county)) county.links) stated
       ∙ sym (map-map (relanded f_old) (relinked (new_keys county order)) county.links)
 
   relinks_known : AllByRecursion (λ (l : Fields8). Known nat_cmp (lands county) l.land) relinks
@@ -183,19 +183,19 @@ module _ (county : County) (steps : List DirectedChain) (is : IsCounty county) (
 
     module _ (places : List ℕ) (p : IsPermutation (range_with_len 0 (length county.landmarks)) places)
         (ordered : IsInOrder (landmark_place_cmp county links (length county.landmarks)) places) where
-      pub landmarks_told : AreReadAt county.landmarks places (landmarks_in_order county order)
-      landmarks_told = sorted_places (on_total (landmark_key (links_relinked county order)) landmark_key_keys.total) county.landmarks
+      pub landmarks_stated : AreReadAt county.landmarks places (landmarks_in_order county order)
+      landmarks_stated = sorted_places (on_total (landmark_key (links_relinked county order)) landmark_key_keys.total) county.landmarks
           (landmark_place_cmp county links (length county.landmarks)) agrees places p ordered
 
-      lands_told : lands_at county places ≡ entry_keys (landmarks_in_order county order)
-      lands_told = filter_map_all (slice_get (lands county)) places (entry_keys (landmarks_in_order county order))
-          (read_mapped (λ (d : ℕ × List Body7). d.0) county.landmarks (landmarks_in_order county order) places landmarks_told)
+      lands_stated : lands_at county places ≡ entry_keys (landmarks_in_order county order)
+      lands_stated = filter_map_all (slice_get (lands county)) places (entry_keys (landmarks_in_order county order))
+          (read_mapped (λ (d : ℕ × List Body7). d.0) county.landmarks (landmarks_in_order county order) places landmarks_stated)
 
       permuted_landmarks : IsPermutation (landmarks_in_order county order) county.landmarks
       permuted_landmarks = landmarks_permutation county order is (arranges county steps is whole)
 
       pub lands_once : has_repeat nat_cmp (lands_at county places) ≡ false
-      lands_once = ap (has_repeat nat_cmp) lands_told
+      lands_once = ap (has_repeat nat_cmp) lands_stated
           ∙ has_repeat-apart nat_keys (entry_keys (landmarks_in_order county order))
           (apart-permutation nat_keys (entry_keys (landmarks_in_order county order)) (lands county)
           (IsPermutation-map (λ (d : ℕ × List Body7). d.0) (landmarks_in_order county order) county.landmarks permuted_landmarks)
@@ -209,6 +209,6 @@ module _ (county : County) (steps : List DirectedChain) (is : IsCounty county) (
             polyid = (image key_cmp ps (link_key l)).1;
             land = image nat_cmp ls l.land;
           }) county.links))
-          (keys_paired county steps is whole polygons told)
-          (ap numbered lands_told ∙ sym (lands_renamed county order is (arranges county steps is whole)))
+          (keys_paired county steps is whole polygons stated)
+          (ap numbered lands_stated ∙ sym (lands_renamed county order is (arranges county steps is whole)))
           ∙ sym (links_arranged county order is (arranges county steps is whole))

@@ -132,10 +132,10 @@ module _ {X : Type 0} (number : X → ℕ) where
       go (inr p) ih = omega (arith, ih, counted n x xs false p.0)
 
 -- the bounds of the links of the landmark at a place
-module _ (links : List Fields8) (bounds : List ℕ) (told : bounds ≡ link_bounds links (length bounds - 1)) (place : ℕ)
+module _ (links : List Fields8) (bounds : List ℕ) (stated : bounds ≡ link_bounds links (length bounds - 1)) (place : ℕ)
     (within : place < length bounds - 1) where
   bound_at : (p : ℕ) → p < length bounds → get_or bounds p 0 ≡ links_up_to links p
-  bound_at p h = ap (λ bs. get_or bs p 0) told
+  bound_at p h = ap (λ bs. get_or bs p 0) stated
       ∙ get_or-map-range_with_len (links_up_to links) 0 (length bounds - 1 + 1) p p 0 (omega (arith, h)) (omega arith)
 
   pub start_at : get_or bounds place 0 ≡ links_up_to links place
@@ -150,10 +150,10 @@ module _ (links : List Fields8) (bounds : List ℕ) (told : bounds ≡ link_boun
   pub bounds_within : get_or bounds (place + 1) 0 ≤ length links
   bounds_within = omega (arith, end_at, counts_within eight_land (suc place) links)
 
-  pub slice_told : IsInOrder (on eight_land nat_cmp) links
+  pub slice_stated : IsInOrder (on eight_land nat_cmp) links
       → take (get_or bounds (place + 1) 0 - get_or bounds place 0) (drop (get_or bounds place 0) links) ≡ links_with links
       (slice_get (up_to (length bounds - 1)) place)
-  slice_told ordered =
+  slice_stated ordered =
       ap₂ (λ high low. take (high - low) (drop low links)) end_at start_at
       ∙ between eight_land place links ordered
       ∙ (let t : suc place ≡ place + 1 = omega arith in ap (λ land. filter (λ link. eight_land link == land) links) t)

@@ -96,8 +96,8 @@ missing_rank i (x ∷ xs) f h = go (is_eq (nat_cmp f x)) h (missing_rank (suc i)
     go true l ih = absurd (omega (arith, l))
     go false l ih = ih (omega (arith, l))
 
-rank_told : (ks : List ℕ) (f : ℕ) → rank_of ks (Some f) ≡ place_from nat_keys 1 ks f
-rank_told ks f = go (nat_lt (position_or_len (λ k. is_eq (nat_cmp f k)) ks) (length ks)) refl
+rank_stated : (ks : List ℕ) (f : ℕ) → rank_of ks (Some f) ≡ place_from nat_keys 1 ks f
+rank_stated ks f = go (nat_lt (position_or_len (λ k. is_eq (nat_cmp f k)) ks) (length ks)) refl
   where
     go : (b : Bool) → nat_lt (position_or_len (λ k. is_eq (nat_cmp f k)) ks) (length ks) ≡ b
         → from_one (cond b (Some (position_or_len (λ k. is_eq (nat_cmp f k)) ks)) None) ≡ place_from nat_keys 1 ks f
@@ -140,7 +140,7 @@ module _ (county : County) (steps : List DirectedChain) (is : IsCounty county) (
   seen_uses = uses ∙ ap (first_seen nat_cmp) (sym (named (placed county order) ∙ feats_placed county is steps whole.there))
 
   ranked : (f : ℕ) → rank_of seen (Some f) ≡ place_from nat_keys 1 (first_seen_after nat_cmp [] (map (λ (u : Use × ℕ). u.1) used)) f
-  ranked f = rank_told seen f ∙ ap (λ ks. place_from nat_keys 1 ks f) seen_uses
+  ranked f = rank_stated seen f ∙ ap (λ ks. place_from nat_keys 1 ks f) seen_uses
 
   by_uses : (f g : ℕ) → nat_cmp (rank_of seen (Some f)) (rank_of seen (Some g)) ≡ slice_cmp use_cmp (uses_of_name used f)
       (uses_of_name used g)
@@ -168,30 +168,30 @@ module _ (county : County) (steps : List DirectedChain) (is : IsCounty county) (
       ∙ then_assoc (name_body_cmp x.1 y.1) (slice_cmp use_cmp (uses_of_name used x.0) (uses_of_name used y.0)) (nat_cmp i j)
 
   -- the sorted names are in their new order
-  pub names_told : AreReadAt county.names (map ranked_place items) (names_in_order county order)
-  names_told = sorted_items (ranked_at county seen) ranked_place (λ i. refl) (ranked_cmp county)
+  pub names_stated : AreReadAt county.names (map ranked_place items) (names_in_order county order)
+  names_stated = sorted_items (ranked_at county seen) ranked_place (λ i. refl) (ranked_cmp county)
       (on_total (name_key used) name_key_keys.total) county.names agrees items p ordered
 
 -- the tables of the names at these places, if they are those in their new order
 module _ (county : County) (steps : List DirectedChain) (is : IsCounty county) (whole : AreWhole county steps) (places : List ℕ)
-    (told : AreReadAt county.names places (names_in_order county (arrangement_of county steps))) where
+    (stated : AreReadAt county.names places (names_in_order county (arrangement_of county steps))) where
   abbrev reordered : List (ℕ × Body5)
   reordered = names_in_order county (arrangement_of county steps)
 
   permuted_names : IsPermutation reordered county.names
   permuted_names = names_permutation county (arrangement_of county steps) is (arranges county steps is whole)
 
-  pub feats_told : filter_map (slice_get (feats county)) places ≡ entry_keys reordered
-  feats_told = filter_map_all (slice_get (feats county)) places (entry_keys reordered)
-      (read_mapped (λ (d : ℕ × Body5). d.0) county.names reordered places told)
+  pub feats_stated : filter_map (slice_get (feats county)) places ≡ entry_keys reordered
+  feats_stated = filter_map_all (slice_get (feats county)) places (entry_keys reordered)
+      (read_mapped (λ (d : ℕ × Body5). d.0) county.names reordered places stated)
 
   pub feats_once : has_repeat nat_cmp (filter_map (slice_get (feats county)) places) ≡ false
-  feats_once = ap (has_repeat nat_cmp) feats_told
+  feats_once = ap (has_repeat nat_cmp) feats_stated
       ∙ has_repeat-apart nat_keys (entry_keys reordered)
       (apart-permutation nat_keys (entry_keys reordered) (feats county)
       (IsPermutation-map (λ (d : ℕ × Body5). d.0) reordered county.names permuted_names)
       (apart_from_sorted nat_keys (feats county) is.ascending.names))
 
   pub few_feats : length (filter_map (slice_get (feats county)) places) ≡ length county.names
-  few_feats = ap length feats_told ∙ length-map reordered (λ (d : ℕ × Body5). d.0)
+  few_feats = ap length feats_stated ∙ length-map reordered (λ (d : ℕ × Body5). d.0)
       ∙ sym (length_permutation reordered county.names permuted_names)

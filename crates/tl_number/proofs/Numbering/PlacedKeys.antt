@@ -43,7 +43,7 @@ module _ {K : Type 0} where
   pub marked_more : (number_of : K → ℕ) (others : K → Option ℕ) (marks : List ℕ) (ks : List K) (k : K) (n mark : ℕ)
       → ArePlaced number_of others marks ks → number_of k ≡ n → n < length marks → get_or marks n 0 ≡ 0 → mark ≡ length ks + 1
       → ArePlaced number_of others (set marks n mark) (ks ++ k ∷ [])
-  marked_more number_of others marks ks k n mark placed is within free told place j e = go (before_last ks k j place e)
+  marked_more number_of others marks ks k n mark placed is within free stated place j e = go (before_last ks k j place e)
     where
       old : (get_or marks (number_of j) 0 ≡ place + 1) ⊎ (others j ≡ Some place)
           → (get_or (set marks n mark) (number_of j) 0 ≡ place + 1) ⊎ (others j ≡ Some place)
@@ -58,17 +58,17 @@ module _ {K : Type 0} where
       go (inl l) = old (placed place j l)
       go (inr r) =
           let here : number_of j ≡ n = ap number_of (sym r.1) ∙ is in
-          let last : mark ≡ place + 1 = (let end = r.0 in omega (arith, told, end)) in
+          let last : mark ≡ place + 1 = (let end = r.0 in omega (arith, stated, end)) in
           inl (ap (λ i. get_or (set marks n mark) i 0) here ∙ get_or-set_same marks n mark 0 within ∙ last)
 
   -- so it is where a slot is the remainder of a number by the length of the table, which stays
   pub slot_marked : (num : K → ℕ) (others : K → Option ℕ) (marks : List ℕ) (ks new : List K) (k : K) (n mark : ℕ)
       → ArePlaced (λ j. num j % length marks) others marks ks → num k % length marks ≡ n → n < length marks → get_or marks n 0 ≡ 0
       → mark ≡ length ks + 1 → new ≡ ks ++ k ∷ [] → ArePlaced (λ j. num j % length (set marks n mark)) others (set marks n mark) new
-  slot_marked num others marks ks new k n mark placed is within free told more =
+  slot_marked num others marks ks new k n mark placed is within free stated more =
       subst (λ len. ArePlaced (λ j. num j % len) others (set marks n mark) new) (sym (length-set marks n mark))
       (subst (λ l. ArePlaced (λ j. num j % length marks) others (set marks n mark) l) (sym more)
-      (marked_more (λ j. num j % length marks) others marks ks k n mark placed is within free told))
+      (marked_more (λ j. num j % length marks) others marks ks k n mark placed is within free stated))
 
   -- one more key, which was put into the table of the others
   pub tabled_more : (number_of : K → ℕ) (others more : K → Option ℕ) (marks : List ℕ) (ks : List K) (k : K)
@@ -119,10 +119,10 @@ module _ {K : Type 0} {cmp : K → K → Ordering} (o : IsKeyOrder cmp) where
       )
 
   -- if a place is found for every key in the list, and only places of the key are found, it is the first
-  pub told_first : (ks : List K) (k : K) (told : Option ℕ) → IfSome told (λ place. slice_get ks place ≡ Some k)
-      → ((place : ℕ) → slice_get ks place ≡ Some k → told ≡ Some place)
-      → (told ≡ position (λ other. is_eq (cmp k other)) ks) × (is_some told ≡ stands_in cmp k ks)
-  told_first ks k told found each = go (stands_in cmp k ks) refl told found each
+  pub stated_first : (ks : List K) (k : K) (stated : Option ℕ) → IfSome stated (λ place. slice_get ks place ≡ Some k)
+      → ((place : ℕ) → slice_get ks place ≡ Some k → stated ≡ Some place)
+      → (stated ≡ position (λ other. is_eq (cmp k other)) ks) × (is_some stated ≡ stands_in cmp k ks)
+  stated_first ks k stated found each = go (stands_in cmp k ks) refl stated found each
     where
       nowhere_first : stands_in cmp k ks ≡ false → (r : Option ℕ) → position (λ other. is_eq (cmp k other)) ks ≡ r
           → None ≡ position (λ other. is_eq (cmp k other)) ks

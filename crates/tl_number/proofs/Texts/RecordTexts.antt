@@ -42,17 +42,17 @@ len_by : ℕ → ℕ
 len_by t = cond (t == 49) 228 (cond (t == 50) 208 (cond (t == 52) 58 (cond (t == 53) 56 (cond (t == 54) 76
     (cond (t == 55) 74 (cond (t == 56) 36 (cond (t == 73) 127 45)))))))
 
-len_told : (r : Record) → len_of r ≡ len_by (type_of r)
+len_stated : (r : Record) → len_of r ≡ len_by (type_of r)
 unfolding len_of type_of len_by
-len_told (One r) = refl
-len_told (Two r) = refl
-len_told (Four r) = refl
-len_told (Five r) = refl
-len_told (Six r) = refl
-len_told (Seven r) = refl
-len_told (Eight r) = refl
-len_told (I r) = refl
-len_told (P r) = refl
+len_stated (One r) = refl
+len_stated (Two r) = refl
+len_stated (Four r) = refl
+len_stated (Five r) = refl
+len_stated (Six r) = refl
+len_stated (Seven r) = refl
+len_stated (Eight r) = refl
+len_stated (I r) = refl
+len_stated (P r) = refl
 
 -- two lines, each with its line ending, are compared before the rest
 line_decides : (t u : ℕ) (line other : List ℕ) → IsLine t (len_by t) line → IsLine u (len_by u) other → (us vs : List ℕ)
@@ -98,6 +98,6 @@ text_cmp [] (s ∷ ss) f g = (some_line (spelling_of s) (text_of ss)).0
 text_cmp (r ∷ rs) [] f g = (some_line (spelling_of r) (text_of rs)).1
 text_cmp (r ∷ rs) (s ∷ ss) f g =
     line_decides (type_of r) (type_of s) (spelling_of r) (spelling_of s)
-    (subst (λ n. IsLine (type_of r) n (spelling_of r)) (len_told r) (spelling_is_line r f.0))
-    (subst (λ n. IsLine (type_of s) n (spelling_of s)) (len_told s) (spelling_is_line s g.0)) (text_of rs) (text_of ss)
+    (subst (λ n. IsLine (type_of r) n (spelling_of r)) (len_stated r) (spelling_is_line r f.0))
+    (subst (λ n. IsLine (type_of s) n (spelling_of s)) (len_stated s) (spelling_is_line s g.0)) (text_of rs) (text_of ss)
     ∙ ap (ordering_then (slice_cmp nat_cmp (spelling_of r) (spelling_of s))) (text_cmp rs ss f.1 g.1)

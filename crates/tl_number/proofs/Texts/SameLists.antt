@@ -118,9 +118,9 @@ module _ (county : County) (is : IsCounty county) (one other : List DirectedChai
         ∙ sym (ap (map packed_sixes) (chains_arranged county (arrangement_of county other) is (arranges county other is other_whole)))
 
 -- The same if two names denote the county.
-module _ (a b : County) (told : a ≡ b) (is : IsCounty a) (one other : List DirectedChain) (whole : AreWhole a one) where
+module _ (a b : County) (stated : a ≡ b) (is : IsCounty a) (one other : List DirectedChain) (whole : AreWhole a one) where
   through : (Same : County → Type 0) → ((w : AreWhole a other) → Same a) → AreWhole b other → Same b
-  through Same f w = subst Same told (f (subst (λ c. AreWhole c other) (sym told) w))
+  through Same f w = subst Same stated (f (subst (λ c. AreWhole c other) (sym stated) w))
 
   pub type_4_through : AreWhole b other → feats_along a one ≡ feats_along a other
       → Equal ≡ groups_cmp Four (type_4_by_chain (stepped a one)) (type_4_by_chain (stepped b other))

@@ -82,11 +82,11 @@ module _ (county : County) (steps : List DirectedChain) (is : IsCounty county) (
   pub length_whole : length steps ≡ length county.chains
   length_whole =
       let order = arrangement_of county steps in
-      let told : length order ≡ length steps = length-map steps (λ (s : DirectedChain). (tlid_at county s.place, s.turned)) in
+      let stated : length order ≡ length steps = length-map steps (λ (s : DirectedChain). (tlid_at county s.place, s.turned)) in
       let named : length (arranged_tlids order) ≡ length order = length-map order (λ (s : ℕ × Bool). s.0) in
       let all : length (tlids county) ≡ length county.chains = length-map county.chains (λ (e : ℕ × Chain). e.0) in
       let same = length_permutation (arranged_tlids order) (tlids county) (arranges county steps is whole) in
-      omega (arith, told, named, all, same)
+      omega (arith, stated, named, all, same)
 
   -- the record at a place belongs to the step's chain
   pub ones_stepped : (i : ℕ) (step : DirectedChain) → slice_get steps i ≡ Some step → slice_get (ones_of (stepped county steps)) i ≡ one_at county step i
@@ -106,6 +106,6 @@ module _ (county : County) (steps : List DirectedChain) (is : IsCounty county) (
 -- arrangements of a county have equally many steps, even if two names denote the county
 pub as_many_steps : (a b : County) → a ≡ b → IsCounty a → (one other : List DirectedChain) → AreWhole a one → AreWhole b other
     → length one ≡ length other
-as_many_steps a b told is one other whole other_whole =
+as_many_steps a b stated is one other whole other_whole =
     length_whole a one is whole
-    ∙ sym (length_whole a other is (subst (λ c. AreWhole c other) (sym told) other_whole))
+    ∙ sym (length_whole a other is (subst (λ c. AreWhole c other) (sym stated) other_whole))

@@ -128,16 +128,16 @@ module _ (county : County) where
       ∙ ap (λ l. turned_tlids (arrangement_of county (take place steps)) ++ l) (alone_unturned step unturned) ∙ append-nil _
 
   -- the landmark at an old place has the LAND at the new one
-  module _ (ls : List (ℕ × List Body7)) (places : List ℕ) (told : AreReadAt county.landmarks places ls) where
+  module _ (ls : List (ℕ × List Body7)) (places : List ℕ) (stated : AreReadAt county.landmarks places ls) where
     pub length-lands : length (entry_keys ls) ≡ length places
-    length-lands = length-map ls (λ (d : ℕ × List Body7). d.0) ∙ read_length (slice_get county.landmarks) places ls told
+    length-lands = length-map ls (λ (d : ℕ × List Body7). d.0) ∙ read_length (slice_get county.landmarks) places ls stated
 
     pub land_at_place : (place old : ℕ) → Some old ≡ slice_get places place
         → (land : ℕ) × (slice_get (lands county) old ≡ slice_get (entry_keys ls) place) × (slice_get (lands county) old ≡ Some land)
     land_at_place place old e =
         let same : slice_get (lands county) old ≡ slice_get (entry_keys ls) place =
         slice_get-map (λ (d : ℕ × List Body7). d.0) county.landmarks old
-        ∙ ap (option_map (λ (d : ℕ × List Body7). d.0)) (read_at county.landmarks ls places told place old e)
+        ∙ ap (option_map (λ (d : ℕ × List Body7). d.0)) (read_at county.landmarks ls places stated place old e)
         ∙ sym (slice_get-map (λ (d : ℕ × List Body7). d.0) ls place) in
         let within = slice_get_within places place old (sym e) in
         let there = at_place (entry_keys ls) place (let count = length-lands in omega (arith, count, within)) in

@@ -111,10 +111,10 @@ module _ (county : County) (steps : List DirectedChain) (is : IsCounty county) (
       ∙ read_length (step_chain county) steps chains (bodies_read steps whole.there)
 
   -- a value read from a step's chain, with the new numbers filled in, is the value read from the chain at the place
-  pub told : {Y : Type 0} (F G : Option Chain → Y)
+  pub stated : {Y : Type 0} (F G : Option Chain → Y)
       → ((c : Chain) → G (Some c) ≡ F (Some (renumbered (renaming_of county order) c)))
       → (i : ℕ) (s : DirectedChain) → Some s ≡ slice_get steps i → G (step_chain county s) ≡ F (chain_at (stepped county steps) i)
-  told F G h i s e = let t = chain_there i s (sym e) in ap G t.1 ∙ h t.0 ∙ sym (ap F t.2)
+  stated F G h i s e = let t = chain_there i s (sym e) in ap G t.1 ∙ h t.0 ∙ sym (ap F t.2)
 
-  pub untold : {Y : Type 0} (F : Option Chain → Y) (i : ℕ) → None ≡ slice_get steps i → F None ≡ F (chain_at (stepped county steps) i)
-  untold F i e = sym (ap F (chain_missing i (sym e)))
+  pub unstated : {Y : Type 0} (F : Option Chain → Y) (i : ℕ) → None ≡ slice_get steps i → F None ≡ F (chain_at (stepped county steps) i)
+  unstated F i e = sym (ap F (chain_missing i (sym e)))

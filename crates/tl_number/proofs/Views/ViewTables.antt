@@ -26,7 +26,7 @@ use Rattle.tl_number.specs.Arrangement.{Arrangement, nodes_in_order, polygons_in
 use Rattle.tl_number.specs.Arrangement.{renaming_of, under_cenid}
 use Rattle.tl_number.specs.Growth.{numbered, up_to}
 use Rattle.tl_number.specs.Steps.{arrangement_of}
-use Rattle.tl_number.specs.ViewFacts.{AreWhole, AreReadAt, TellsNames, TellsLandmarks, stepped, links_up_to, link_bounds}
+use Rattle.tl_number.specs.ViewFacts.{AreWhole, AreReadAt, MatchesNames, MatchesLandmarks, stepped, links_up_to, link_bounds}
 use Rattle.tl_profile.specs.declared.directed_chain.DirectedChain.{DirectedChain}
 use Rattle.tl_number.specs.declared.arranged_tables.LandmarkTables.{LandmarkTables}
 use Rattle.tl_number.specs.declared.arranged_tables.NameTables.{NameTables}
@@ -99,16 +99,16 @@ module _ (county : County) (steps : List DirectedChain) (is : IsCounty county) (
       → map under_cenid (numbered ks) ≡ (renaming_of county order).polygons
   keys_paired ks e = ap (λ js. map under_cenid (numbered js)) e ∙ sym (polygons_renamed county order is (arranges county steps is whole))
 
-  module _ (tables : NameTables) (told : TellsNames county steps tables) where
+  module _ (tables : NameTables) (stated : MatchesNames county steps tables) where
     pub feats_paired : numbered tables.feats ≡ (renaming_of county order).names
-    feats_paired = ap numbered told.feats ∙ sym (names_renamed county order is (arranges county steps is whole))
+    feats_paired = ap numbered stated.feats ∙ sym (names_renamed county order is (arranges county steps is whole))
 
     name_values : entry_values (stepped county steps).names ≡ entry_values (names_in_order county order)
     name_values = ap entry_values (names_arranged county order is (arranges county steps is whole))
         ∙ map-map (λ (d : ℕ × Body5). d.1) (carried_name (renaming_of county order)) (names_in_order county order)
 
     count : length tables.feats ≡ length (names_in_order county order)
-    count = ap length told.feats ∙ length-map (names_in_order county order) (λ (d : ℕ × Body5). d.0)
+    count = ap length stated.feats ∙ length-map (names_in_order county order) (λ (d : ℕ × Body5). d.0)
 
     pub feats_stepped : feats (stepped county steps) ≡ up_to (length tables.feats)
     feats_stepped = feats_arranged county order is (arranges county steps is whole) ∙ ap up_to (sym count)
@@ -119,20 +119,20 @@ module _ (county : County) (steps : List DirectedChain) (is : IsCounty county) (
 
     pub name_there : (i p : ℕ) → Some p ≡ slice_get tables.places.items i
         → slice_get (entry_values county.names) p ≡ slice_get (entry_values (stepped county steps).names) i
-    name_there i p h = value_at county.names (names_in_order county order) tables.places.items told.names i p h
+    name_there i p h = value_at county.names (names_in_order county order) tables.places.items stated.names i p h
         ∙ ap (λ vs. slice_get vs i) (sym name_values)
 
     pub name_missing : (i : ℕ) → None ≡ slice_get tables.places.items i → None ≡ slice_get (entry_values (stepped county steps).names) i
-    name_missing i h = value_past county.names (names_in_order county order) tables.places.items told.names i h
+    name_missing i h = value_past county.names (names_in_order county order) tables.places.items stated.names i h
         ∙ ap (λ vs. slice_get vs i) (sym name_values)
 
-  module _ (tables : LandmarkTables) (told : TellsLandmarks county steps tables) where
+  module _ (tables : LandmarkTables) (stated : MatchesLandmarks county steps tables) where
     landmark_values : entry_values (stepped county steps).landmarks ≡ entry_values (landmarks_in_order county order)
     landmark_values = ap entry_values (landmarks_arranged county order is (arranges county steps is whole))
         ∙ map-map (λ (d : ℕ × List Body7). d.1) (carried_landmark (renaming_of county order)) (landmarks_in_order county order)
 
     lands_count : length tables.places.items ≡ length (landmarks_in_order county order)
-    lands_count = sym (read_length (slice_get county.landmarks) tables.places.items (landmarks_in_order county order) told.landmarks)
+    lands_count = sym (read_length (slice_get county.landmarks) tables.places.items (landmarks_in_order county order) stated.landmarks)
 
     pub lands_stepped : lands (stepped county steps) ≡ up_to (length tables.places.items)
     lands_stepped = lands_arranged county order is (arranges county steps is whole) ∙ ap up_to (sym lands_count)
@@ -145,37 +145,37 @@ module _ (county : County) (steps : List DirectedChain) (is : IsCounty county) (
         → unwrap_or (slice_get (entry_values county.landmarks) p) [] ≡ unwrap_or (slice_get (entry_values
         (stepped county steps).landmarks) i) []
     landmark_there i p h = ap (λ (o : Option (List Body7)). unwrap_or o [])
-        (value_at county.landmarks (landmarks_in_order county order) tables.places.items told.landmarks i p h
+        (value_at county.landmarks (landmarks_in_order county order) tables.places.items stated.landmarks i p h
         ∙ ap (λ vs. slice_get vs i) (sym landmark_values))
 
     pub landmark_missing : (i : ℕ) → None ≡ slice_get tables.places.items i
         → [] ≡ unwrap_or (slice_get (entry_values (stepped county steps).landmarks) i) []
     landmark_missing i h = ap (λ (o : Option (List Body7)). unwrap_or o [])
-        (value_past county.landmarks (landmarks_in_order county order) tables.places.items told.landmarks i h
+        (value_past county.landmarks (landmarks_in_order county order) tables.places.items stated.landmarks i h
         ∙ ap (λ vs. slice_get vs i) (sym landmark_values))
 
     -- the links are between their bounds
     pub bounds_counted : length tables.bounds.items ≡ suc (length tables.places.items)
-    bounds_counted = ap length told.bounds
+    bounds_counted = ap length stated.bounds
         ∙ length-map-range_with_len (links_up_to (stepped county steps).links) 0 (length tables.places.items + 1)
         ∙ (let t : length tables.places.items + 1 ≡ suc (length tables.places.items) = omega arith in t)
 
     fewer : length tables.bounds.items - 1 ≡ length tables.places.items
     fewer = omega (arith, bounds_counted)
 
-    pub bounds_told : (links : List Fields8) (bounds : List ℕ) → links ≡ tables.links.items → bounds ≡ tables.bounds.items
+    pub bounds_stated : (links : List Fields8) (bounds : List ℕ) → links ≡ tables.links.items → bounds ≡ tables.bounds.items
         → bounds ≡ link_bounds links (length bounds - 1)
-    bounds_told links bounds e f =
-        f ∙ told.bounds
-        ∙ ap₂ (λ ls n. link_bounds ls n) (sym (e ∙ told.links)) (sym (ap (λ bs. length bs - 1) f ∙ fewer))
+    bounds_stated links bounds e f =
+        f ∙ stated.bounds
+        ∙ ap₂ (λ ls n. link_bounds ls n) (sym (e ∙ stated.links)) (sym (ap (λ bs. length bs - 1) f ∙ fewer))
 
-    pub links_told : (links : List Fields8) (bounds : List ℕ) → links ≡ tables.links.items → bounds ≡ tables.bounds.items → (i : ℕ)
+    pub links_stated : (links : List Fields8) (bounds : List ℕ) → links ≡ tables.links.items → bounds ≡ tables.bounds.items → (i : ℕ)
         → links_with links (slice_get (up_to (length bounds - 1)) i) ≡ links_at (stepped county steps) i
-    links_told links bounds e f i =
-        ap₂ (λ ls n. links_with ls (slice_get (up_to n) i)) (e ∙ told.links) (ap (λ bs. length bs - 1) f ∙ fewer)
+    links_stated links bounds e f i =
+        ap₂ (λ ls n. links_with ls (slice_get (up_to n) i)) (e ∙ stated.links) (ap (λ bs. length bs - 1) f ∙ fewer)
         ∙ ap (λ ls. links_with (stepped county steps).links (slice_get ls i)) (sym lands_stepped)
 
     pub links_ordered : (links : List Fields8) → links ≡ tables.links.items → IsInOrder (on eight_land nat_cmp) links
     links_ordered links e =
-        subst (IsInOrder (on eight_land nat_cmp)) (sym (e ∙ told.links)) (by_land
+        subst (IsInOrder (on eight_land nat_cmp)) (sym (e ∙ stated.links)) (by_land
         (stepped county steps).links whole.is_county.ascending.links)

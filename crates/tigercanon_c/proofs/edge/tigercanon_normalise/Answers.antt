@@ -17,5 +17,5 @@ returns-in-Ok-clause-again c = λ bytes is zero. c.answer_text.ensures.text ∙ 
     (subst (λ mask. IsOneCanonicalTextThrough (masked mask) (bytes_of_lent c.args.parts.now) bytes) (sym c.mask_of-mask.ensures) is)
 
 pub returns-in-Err-clause-again_succeeds : goal.returns-in-Err-clause-again_succeeds
-returns-in-Err-clause-again_succeeds c = λ bytes is. inr (c.tell.ensures.memory (c.in-Err.ensures.again_succeeds bytes
+returns-in-Err-clause-again_succeeds c = λ bytes is. inr (c.report.ensures.memory (c.in-Err.ensures.again_succeeds bytes
     (subst (λ mask. IsOneCanonicalTextThrough (masked mask) (bytes_of_lent c.args.parts.now) bytes) (sym c.mask_of-mask.ensures) is)))

@@ -26,8 +26,8 @@ fn has_text<C: Chart>(
     text: &[u8],
     county: &CanonCounty<C>,
 ) {
-    let mut room = vec![in alloc; 0u8; text.len()].expect(rt, "there is memory");
-    let mut sink = SlowSink::new(&mut room, 4000);
+    let mut buffer = vec![in alloc; 0u8; text.len()].expect(rt, "there is memory");
+    let mut sink = SlowSink::new(&mut buffer, 4000);
     same(
         rt,
         row,
@@ -161,8 +161,8 @@ impl Call for RecordsOf {
 
 /// The text written for a county in an arena is the set's text.
 fn is_written_in(rt: &impl Abort, alloc: Global, set: &Set<'_>, county: &CanonCountyIn<'_>) {
-    let mut room = vec![in alloc; 0u8; set.text.len()].expect(rt, "there is memory");
-    let mut sink = SlowSink::new(&mut room, 4000);
+    let mut buffer = vec![in alloc; 0u8; set.text.len()].expect(rt, "there is memory");
+    let mut sink = SlowSink::new(&mut buffer, 4000);
     let len = set.text.len() as u64;
     same(rt, set.row, &write_in(county, &mut sink), &Ok(len));
     same_items(rt, set.row, sink.held(), set.text);

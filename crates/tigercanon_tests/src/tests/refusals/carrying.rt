@@ -13,8 +13,8 @@ use tl_shape::Shape;
 
 /// The renaming of the set onto its text.
 fn renaming_of(rt: &impl Abort, alloc: Global, set: &Set<'_>) -> Renaming {
-    let told = normalise_with_renaming(alloc, &[set.bytes]).expect(rt, set.row);
-    told.1
+    let reported = normalise_with_renaming(alloc, &[set.bytes]).expect(rt, set.row);
+    reported.1
 }
 
 /// The run that checks a renaming of one county onto another.

@@ -48,7 +48,7 @@ fn count_layer(rt: &impl Abort, row: &str, counts: &mut [usize; 4], layer: usize
 
 /// How often each layer reports out of memory while each growth of a whole call is refused in turn. A growth that the call can do
 /// without isn't reported.
-fn tellings_by_layer(rt: &impl Abort, alloc: Global, set: &Set<'_>) -> [usize; 4] {
+fn memory_reports_by_layer(rt: &impl Abort, alloc: Global, set: &Set<'_>) -> [usize; 4] {
     let mut counts = [0usize; 4];
     for growth in 1..MANY {
         let (layer, refused) = layer_at(alloc, set, growth);
@@ -63,7 +63,7 @@ fn tellings_by_layer(rt: &impl Abort, alloc: Global, set: &Set<'_>) -> [usize; 4
 }
 
 /// How often a call reports out of memory while each of its growths is refused in turn.
-fn tellings<C: Call>(rt: &impl Abort, alloc: Global, set: &Set<'_>) -> usize {
+fn memory_reports<C: Call>(rt: &impl Abort, alloc: Global, set: &Set<'_>) -> usize {
     let mut count = 0usize;
     for growth in 1..MANY {
         let run = C::run(rt, alloc, set, ALONE.saturating_add(growth));
@@ -76,24 +76,24 @@ fn tellings<C: Call>(rt: &impl Abort, alloc: Global, set: &Set<'_>) -> usize {
 }
 
 /// Each layer reports as many refusals within a whole call as it does alone. Returns how many linking reports.
-fn layers_tell_their_refusals(rt: &impl Abort, alloc: Global, lines: &SetLines) -> usize {
+fn layers_report_their_refusals(rt: &impl Abort, alloc: Global, lines: &SetLines) -> usize {
     let set = lines.set();
-    let told = tellings_by_layer(rt, alloc, &set);
+    let reported = memory_reports_by_layer(rt, alloc, &set);
     let wanted = [
-        tellings::<TablesOf>(rt, alloc, &set),
-        tellings::<LinkInOrder>(rt, alloc, &set),
-        tellings::<OrderByShape>(rt, alloc, &set),
-        tellings::<WriteAdmitted>(rt, alloc, &set),
+        memory_reports::<TablesOf>(rt, alloc, &set),
+        memory_reports::<LinkInOrder>(rt, alloc, &set),
+        memory_reports::<OrderByShape>(rt, alloc, &set),
+        memory_reports::<WriteAdmitted>(rt, alloc, &set),
     ];
-    same(rt, lines.row, &told, &wanted);
-    told[1]
+    same(rt, lines.row, &reported, &wanted);
+    reported[1]
 }
 
 #[test]
-fn want_of_memory_is_told_by_the_layer_that_was_refused(rt: HostRuntime) {
+fn want_of_memory_is_reported_by_the_layer_that_was_refused(rt: HostRuntime) {
     let mut count = 0usize;
     for lines in &worked(&rt, rt.alloc()) {
-        count = count.saturating_add(layers_tell_their_refusals(&rt, rt.alloc(), lines));
+        count = count.saturating_add(layers_report_their_refusals(&rt, rt.alloc(), lines));
     }
     println!(rt; "Linking within Normalise: {count} growths refused").expect(
         &rt,

@@ -37,9 +37,9 @@ impl Call for LinkIn {
 
 /// The renaming of the set's county that leaves each number as it is.
 fn standstill(rt: &impl Abort, alloc: Global, set: &Set<'_>) -> Renaming {
-    let told = normalise_with_renaming(alloc, &[set.bytes]).expect(rt, set.row);
-    let back = told.1.inverse().expect(rt, set.row);
-    told.1.then(&back).expect(rt, set.row)
+    let reported = normalise_with_renaming(alloc, &[set.bytes]).expect(rt, set.row);
+    let back = reported.1.inverse().expect(rt, set.row);
+    reported.1.then(&back).expect(rt, set.row)
 }
 
 /// Whether the renaming carries the first county onto the second.

@@ -114,14 +114,14 @@ fn of_clauses() -> &'static [Row] {
 }
 
 /// Each whole call reports this fault of the set, and comparing reports which set it is.
-fn each_tells(rt: &impl Abort, alloc: Global, set: &Set<'_>, fault: Fault) {
-    let told = Some(fault);
+fn each_reports(rt: &impl Abort, alloc: Global, set: &Set<'_>, fault: Fault) {
+    let reported = Some(fault);
     let faults = [
         normalise(alloc, &[set.bytes]).err(),
         normalise_with_renaming(alloc, &[set.bytes]).err(),
         fingerprint(alloc, &[set.bytes]).err(),
     ];
-    same(rt, set.row, &faults, &[told; 3]);
+    same(rt, set.row, &faults, &[reported; 3]);
     let in_set = Some(CompareFault::In { set: 2, fault });
     let compared = compare(alloc, &[], &[set.bytes]).err();
     same(rt, set.row, &compared, &in_set);
@@ -132,19 +132,19 @@ fn is_refused(rt: &impl Abort, alloc: Global, set: &Set<'_>) {
     let fault = check(alloc, &[set.bytes]).expect_err(rt, set.row);
     let line = format!(in alloc; "{}", Refusal(fault)).expect(rt, "there is memory");
     same_items(rt, set.row, line.as_bytes(), set.row.as_bytes());
-    each_tells(rt, alloc, set, fault);
+    each_reports(rt, alloc, set, fault);
 }
 
 /// A stored county outside the profile is rejected as its set is.
 fn is_kept_out(rt: &impl Abort, alloc: Global, set: &Set<'_>) {
-    let told = check(alloc, &[set.bytes]).err();
+    let reported = check(alloc, &[set.bytes]).err();
     let county = county_of(rt, alloc, set.row, set.bytes);
     let fault = admit(alloc, county).err().map(Fault::from);
-    same(rt, set.row, &fault, &told);
+    same(rt, set.row, &fault, &reported);
     let arena = Bump::new(alloc);
     let county = county_in_of(rt, alloc, &arena, set.row, set.bytes);
     let fault = admit_in(alloc, county).err().map(Fault::from);
-    same(rt, set.row, &fault, &told);
+    same(rt, set.row, &fault, &reported);
 }
 
 /// The sets of these tables. Each is rejected as its name states.
@@ -157,7 +157,7 @@ fn refused_sets(rt: &impl Abort, alloc: Global, tables: &[&'static [Row]]) -> Ve
 }
 
 #[test]
-fn faulty_lines_are_told_where_growths_are_refused(rt: HostRuntime) {
+fn faulty_lines_are_reported_where_growths_are_refused(rt: HostRuntime) {
     let sets = refused_sets(&rt, rt.alloc(), &[of_lines()]);
     let of = on_sets(" of faulty lines", &sets);
     sweep_whole_calls(&rt, rt.alloc(), of);
@@ -165,7 +165,7 @@ fn faulty_lines_are_told_where_growths_are_refused(rt: HostRuntime) {
 }
 
 #[test]
-fn broken_rules_are_told_where_growths_are_refused(rt: HostRuntime) {
+fn broken_rules_are_reported_where_growths_are_refused(rt: HostRuntime) {
     let sets = refused_sets(&rt, rt.alloc(), &[of_rules()]);
     let of = on_sets(" of broken rules", &sets);
     sweep_whole_calls(&rt, rt.alloc(), of);
@@ -173,7 +173,7 @@ fn broken_rules_are_told_where_growths_are_refused(rt: HostRuntime) {
 }
 
 #[test]
-fn broken_clauses_are_told_where_growths_are_refused(rt: HostRuntime) {
+fn broken_clauses_are_reported_where_growths_are_refused(rt: HostRuntime) {
     let sets = refused_sets(&rt, rt.alloc(), &[of_clauses()]);
     let of = on_sets(" of broken clauses", &sets);
     for lines in &sets {

@@ -68,7 +68,7 @@ fn masks() -> &'static [(&'static str, Mask)] {
 }
 
 #[test]
-fn masked_calls_tell_refused_growths_under_each_mask(rt: HostRuntime) {
+fn masked_calls_report_refused_growths_under_each_mask(rt: HostRuntime) {
     let sets = sets_for_masks(&rt, rt.alloc());
     for (what, mask) in masks() {
         let of = Swept {

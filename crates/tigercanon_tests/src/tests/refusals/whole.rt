@@ -87,8 +87,8 @@ pub(super) struct NormaliseTo;
 
 impl Call for NormaliseTo {
     fn run(rt: &impl Abort, alloc: Global, set: &Set<'_>, asked: usize) -> Run {
-        let mut room = vec![in alloc; 0u8; set.text.len()].expect(rt, "there is memory");
-        let mut sink = SlowSink::new(&mut room, 100);
+        let mut buffer = vec![in alloc; 0u8; set.text.len()].expect(rt, "there is memory");
+        let mut sink = SlowSink::new(&mut buffer, 100);
         refuse(alloc, asked);
         let outcome = normalise_slowly(alloc, set.bytes, &mut sink);
         written_by(rt, alloc, set, &sink, outcome)
@@ -119,7 +119,7 @@ impl Call for Check {
 type Comparison<V> = Result<V, CompareFault>;
 
 /// The result of a comparison, with out of memory as other calls report it.
-fn told<V: Drop>(outcome: Comparison<V>) -> Result<Comparison<V>, Fault> {
+fn reported<V: Drop>(outcome: Comparison<V>) -> Result<Comparison<V>, Fault> {
     match outcome {
         Err(CompareFault::Memory) => Err(Fault::Memory),
         Err(CompareFault::In { fault, .. }) if is_memory(fault) => Err(fault),
@@ -134,7 +134,7 @@ fn compared<V: Debug + Drop>(rt: &impl Abort, alloc: Global, outcome: Comparison
         Err(CompareFault::In { set, .. }) => Some(*set),
         _ => None,
     };
-    let Run { answer, .. } = ended(rt, alloc, refused, told(outcome));
+    let Run { answer, .. } = ended(rt, alloc, refused, reported(outcome));
     Run {
         answer,
         set,
@@ -221,8 +221,8 @@ pub(super) struct NormaliseToMasked;
 impl Call for NormaliseToMasked {
     /// The text under the mask is as long as the text.
     fn run(rt: &impl Abort, alloc: Global, set: &Set<'_>, asked: usize) -> Run {
-        let mut room = vec![in alloc; 0u8; set.text.len()].expect(rt, "there is memory");
-        let mut sink = SlowSink::new(&mut room, 100);
+        let mut buffer = vec![in alloc; 0u8; set.text.len()].expect(rt, "there is memory");
+        let mut sink = SlowSink::new(&mut buffer, 100);
         refuse(alloc, asked);
         let outcome = normalise_slowly_masked(alloc, set, &mut sink);
         written_by(rt, alloc, set, &sink, outcome)

@@ -5,7 +5,7 @@ use super::super::devices::{failing_writer, kinds};
 use std::alloc::Global;
 use std::io::ErrorKind;
 use std::process::Abort;
-use tigercanon::{Fault, PlanFault, Refusal, exit_status, tell};
+use tigercanon::{Fault, PlanFault, Refusal, exit_status, report};
 use tl_county::LinkFault;
 use tl_load::LoadFault;
 use tl_profile::ProfileFault;
@@ -30,21 +30,28 @@ fn rare() -> &'static [(Fault, &'static str, u8)] {
 }
 
 #[test]
-fn rare_refusals_are_told(rt: HostRuntime) {
-    for (fault, told, status) in rare() {
+fn rare_refusals_are_reported(rt: HostRuntime) {
+    for (fault, reported, status) in rare() {
         let refusal = Refusal(*fault);
-        let line = format!(in rt.alloc(); "{refusal}").expect(&rt, told);
-        same_items(&rt, told, line.as_bytes(), told.as_bytes());
-        same(&rt, told, &refusal.status(), status);
+        let line = format!(in rt.alloc(); "{refusal}").expect(&rt, reported);
+        same_items(&rt, reported, line.as_bytes(), reported.as_bytes());
+        same(&rt, reported, &refusal.status(), status);
     }
 }
 
 /// As much of this text is written as the device takes, whatever the kind of failure, and the status is this one.
-fn is_told(rt: &impl Abort, alloc: Global, fault: &PlanFault, text: &str, status: u8, room: usize) {
+fn is_reported(
+    rt: &impl Abort,
+    alloc: Global,
+    fault: &PlanFault,
+    text: &str,
+    status: u8,
+    buffer: usize,
+) {
     for kind in kinds() {
-        let mut err = CountedOut::new(failing_writer(alloc, 7, room, *kind));
-        same(rt, text, &tell(fault, &mut err), &status);
-        let failed = u64::from(room < text.len());
+        let mut err = CountedOut::new(failing_writer(alloc, 7, buffer, *kind));
+        same(rt, text, &report(fault, &mut err), &status);
+        let failed = u64::from(buffer < text.len());
         same(rt, text, &err.failures(), &failed);
         let bytes = text.as_bytes();
         let held = err.into_inner().held;
@@ -56,20 +63,20 @@ fn is_told(rt: &impl Abort, alloc: Global, fault: &PlanFault, text: &str, status
 const USAGE: &str = "error: unexpected argument 'b' found\n\nUsage: tigercanon check\n";
 
 #[test]
-fn a_usage_is_told_whole(rt: HostRuntime) {
+fn a_usage_is_reported_whole(rt: HostRuntime) {
     let alloc = rt.alloc();
     let text = String::from_str(alloc, USAGE).expect(&rt, USAGE);
     let fault = PlanFault::Usage(text);
-    for room in [0, 37, 38, 61, 62, 100] {
-        is_told(&rt, alloc, &fault, USAGE, 2, room);
+    for buffer in [0, 37, 38, 61, 62, 100] {
+        is_reported(&rt, alloc, &fault, USAGE, 2, buffer);
     }
 }
 
 #[test]
-fn want_of_memory_is_told(rt: HostRuntime) {
+fn want_of_memory_is_reported(rt: HostRuntime) {
     let line = "refused 9 Memory\n";
-    for room in [0, 16, 17] {
-        is_told(&rt, rt.alloc(), &PlanFault::Memory, line, 5, room);
+    for buffer in [0, 16, 17] {
+        is_reported(&rt, rt.alloc(), &PlanFault::Memory, line, 5, buffer);
     }
 }
 

@@ -12,18 +12,18 @@ const DONE: Row = Row {
     job: Job::Respell,
     files: [&[], &[]],
     step: 100,
-    room: [1000, 1000],
+    buffer: [1000, 1000],
     status: 0,
     lines: &[],
     written: usize::MAX,
-    told: "",
+    reported: "",
     reads: None,
 };
 
 /// A job that a device stops.
 const STOPPED: Row = Row {
     status: 4,
-    told: "refused 8 Device\n",
+    reported: "refused 8 Device\n",
     ..DONE
 };
 
@@ -168,7 +168,7 @@ const BROKEN: &[Row] = &[
         job: Job::Normalise,
         files: [&[UNKNOWN_FILE, File::Failing(STREET, 0)], &[]],
         status: 3,
-        told: "refused 1 UnknownType 1 1\n",
+        reported: "refused 1 UnknownType 1 1\n",
         ..DONE
     },
     Row {
@@ -194,16 +194,16 @@ const BROKEN: &[Row] = &[
         files: [&[UNKNOWN_FILE], &[]],
         step: 1,
         status: 3,
-        told: "refused 1 UnknownType 1 1\n",
+        reported: "refused 1 UnknownType 1 1\n",
         reads: Some(3),
         ..DONE
     },
     Row {
         name: "standard error fails",
         files: [&[UNKNOWN_FILE], &[]],
-        room: [1000, 20],
+        buffer: [1000, 20],
         status: 3,
-        told: "refused 1 UnknownTyp",
+        reported: "refused 1 UnknownTyp",
         ..DONE
     },
 ];
@@ -214,7 +214,7 @@ const COMPARED: &[Row] = &[
         name: "one map, and just the room to say so",
         job: Job::Compare,
         files: [PARTED, &[TURNED_FILE]],
-        room: [5, 1000],
+        buffer: [5, 1000],
         lines: &["same"],
         ..DONE
     },
@@ -222,7 +222,7 @@ const COMPARED: &[Row] = &[
         name: "different maps, and just the room to say so",
         job: Job::Compare,
         files: [STEM, &[OTHER_FILE]],
-        room: [10, 1000],
+        buffer: [10, 1000],
         status: 1,
         lines: &["different"],
         ..DONE
@@ -231,38 +231,38 @@ const COMPARED: &[Row] = &[
         name: "one map, and less room",
         job: Job::Compare,
         files: [&[STREET_FILE], &[TURNED_FILE]],
-        room: [4, 1000],
+        buffer: [4, 1000],
         lines: &["same"],
         written: 4,
-        told: "refused 10 WriteFault 4\n",
+        reported: "refused 10 WriteFault 4\n",
         ..STOPPED
     },
     Row {
         name: "the first fails and the second cannot be opened",
         job: Job::Compare,
         files: [&[File::Failing(STREET, 0)], &[File::Failed]],
-        told: "refused 8 Device in set 2\n",
+        reported: "refused 8 Device in set 2\n",
         ..STOPPED
     },
     Row {
         name: "the first is absent and the second cannot be opened",
         job: Job::Compare,
         files: [&[NO_FILE], &[File::Failed]],
-        told: "refused 8 Device in set 1\n",
+        reported: "refused 8 Device in set 1\n",
         ..STOPPED
     },
     Row {
         name: "the first is faulty and the second fails",
         job: Job::Compare,
         files: [&[UNKNOWN_FILE], &[File::Failing(STREET, 1)]],
-        told: "refused 8 Device in set 2\n",
+        reported: "refused 8 Device in set 2\n",
         ..STOPPED
     },
     Row {
         name: "both fail",
         job: Job::Compare,
         files: [&[File::Failing(STREET, 1)], &[File::Failing(STREET, 1)]],
-        told: "refused 8 Device in set 1\n",
+        reported: "refused 8 Device in set 1\n",
         ..STOPPED
     },
 ];
@@ -273,50 +273,50 @@ const FULL: &[Row] = &[
         name: "no room",
         files: ONE_STREET,
         step: 7,
-        room: [0, 1000],
+        buffer: [0, 1000],
         lines: RESPELT,
         written: 0,
-        told: "refused 10 WriteFault 0\n",
+        reported: "refused 10 WriteFault 0\n",
         ..STOPPED
     },
     Row {
         name: "less room than a write",
         files: ONE_STREET,
         step: 7,
-        room: [6, 1000],
+        buffer: [6, 1000],
         lines: RESPELT,
         written: 6,
-        told: "refused 10 WriteFault 6\n",
+        reported: "refused 10 WriteFault 6\n",
         ..STOPPED
     },
     Row {
         name: "room for some writes",
         files: ONE_STREET,
         step: 7,
-        room: [300, 1000],
+        buffer: [300, 1000],
         lines: RESPELT,
         written: 300,
-        told: "refused 10 WriteFault 300\n",
+        reported: "refused 10 WriteFault 300\n",
         ..STOPPED
     },
     Row {
         name: "room for all but the last byte",
         files: ONE_STREET,
         step: 1000,
-        room: [356, 1000],
+        buffer: [356, 1000],
         lines: RESPELT,
         written: 356,
-        told: "refused 10 WriteFault 356\n",
+        reported: "refused 10 WriteFault 356\n",
         ..STOPPED
     },
     Row {
         name: "a writer that takes nothing",
         files: ONE_STREET,
         step: 0,
-        room: [1000, 1000],
+        buffer: [1000, 1000],
         lines: RESPELT,
         written: 0,
-        told: "refused 10 WriteFault 0\n",
+        reported: "refused 10 WriteFault 0\n",
         ..STOPPED
     },
     Row {
@@ -324,10 +324,10 @@ const FULL: &[Row] = &[
         job: Job::Normalise,
         files: ONE_STREET,
         step: 7,
-        room: [300, 1000],
+        buffer: [300, 1000],
         lines: MAIN_TEXT,
         written: 300,
-        told: "refused 10 WriteFault 300\n",
+        reported: "refused 10 WriteFault 300\n",
         ..STOPPED
     },
     Row {
@@ -335,10 +335,10 @@ const FULL: &[Row] = &[
         job: Job::Check,
         files: ONE_STREET,
         step: 4,
-        room: [8, 1000],
+        buffer: [8, 1000],
         lines: &["accepted"],
         written: 8,
-        told: "refused 10 WriteFault 8\n",
+        reported: "refused 10 WriteFault 8\n",
         ..STOPPED
     },
     Row {
@@ -346,10 +346,10 @@ const FULL: &[Row] = &[
         job: Job::Fingerprint,
         files: ONE_STREET,
         step: 7,
-        room: [64, 1000],
+        buffer: [64, 1000],
         lines: &[MAIN_STREET],
         written: 64,
-        told: "refused 10 WriteFault 64\n",
+        reported: "refused 10 WriteFault 64\n",
         ..STOPPED
     },
 ];

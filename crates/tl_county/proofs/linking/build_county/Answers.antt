@@ -28,26 +28,26 @@ pub invariant_of-result : goal.invariant_of-result
 invariant_of-result g c =
     let t = typed_of c.args.tables.now in
     let parts = c.in_ok-parts.parts in
-    let told = c.in_ok-parts.ensures in
+    let stated = c.in_ok-parts.ensures in
     let name = g.N.StoredName.name in
     let names = names-built name c.new.result t (c.new.ensures.keys ∙ c.requires.feats)
     (ap (map name) c.new.ensures.values ∙ c.requires.names) in
     let same : county_with (map_values g.C.StoredChain.chain parts.chains) (map_values name c.new.result) parts.polygons
     (map_values g.L.StoredLandmark.landmark parts.landmarks) ≡ county_along t =
-    λ i. county_with (told.chains i) (names i) (told.polygons i) (told.landmarks i) in
+    λ i. county_with (stated.chains i) (names i) (stated.polygons i) (stated.landmarks i) in
     record {
       within_limits = subst (IsWithinLimits most_records)
           (sym (same ∙ sym (as_built t c.requires.tables c.requires.linked))) c.requires.limits;
       is_county = subst IsCounty (sym same) (built-is_county t c.requires.tables c.requires.linked);
-      links_under_lands = subst LinksUnderLands (sym told.landmarks) (links_under_lands-along t);
-      nodes_stand = told.nodes ∙ sym (nodes-built t c.requires.tables c.requires.linked) ∙ ap nodes (sym same);
+      links_under_lands = subst LinksUnderLands (sym stated.landmarks) (links_under_lands-along t);
+      nodes_stand = stated.nodes ∙ sym (nodes-built t c.requires.tables c.requires.linked) ∙ ap nodes (sym same);
     }
 
 pub returns : goal.returns
 returns g c =
     let t = typed_of c.args.tables.now in
-    let told = c.in_ok-parts.ensures in
+    let stated = c.in_ok-parts.ensures in
     let names = names-built g.N.StoredName.name c.new.result t (c.new.ensures.keys ∙ c.requires.feats)
     (ap (map g.N.StoredName.name) c.new.ensures.values ∙ c.requires.names) in
-    (λ i. county_with (told.chains i) (names i) (told.polygons i) (told.landmarks i))
+    (λ i. county_with (stated.chains i) (names i) (stated.polygons i) (stated.landmarks i))
     ∙ sym (as_built t c.requires.tables c.requires.linked)

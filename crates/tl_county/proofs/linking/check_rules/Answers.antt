@@ -16,11 +16,11 @@ module _ (Of : List Record → Type 0) (before : (records : List Record) → Of 
   all_linked (Ok u) h = λ records e. all_hold records (rules-join records (before records e) (h records e))
   all_linked (Err f) h = tt
 
-  first_told : (r : Result (Unit {0}) LinkFault) → ((records : List Record) → Of records
+  first_stated : (r : Result (Unit {0}) LinkFault) → ((records : List Record) → Of records
       → MatchResult r (λ _. RulesHold records 12 15) (IsFirstFrom records 12))
       → IfErr r (λ fault. (records : List Record) → Of records → IsFirstBrokenRule records fault)
-  first_told (Ok u) h = tt
-  first_told (Err f) h = λ records e. first_of_all records f (first-after records (omega arith) (before records e) (h records e))
+  first_stated (Ok u) h = tt
+  first_stated (Err f) h = λ records e. first_of_all records f (first-after records (omega arith) (before records e) (h records e))
 
 -- four stretches of rules in turn
 all_before : {Of : List Record → Type 0} {first second third : ℕ} → ((records : List Record) → Of records → RulesHold records 0 first)
@@ -38,7 +38,7 @@ returns-clause-linked c =
 
 pub returns-clause-broken : goal.returns-clause-broken
 returns-clause-broken c =
-    first_told _ (all_before c.in_ok-check_chains.ensures
+    first_stated _ (all_before c.in_ok-check_chains.ensures
     (λ records e. c.in_ok-check_sequences.ensures records (subst (AreLeastRepeated c.args.ordered.now.repeated) (sym e) c.requires.repeated))
     c.in_ok-check_links.ensures c.in_ok-check_names.ensures) c.check_landmarks.result c.check_landmarks.ensures
 

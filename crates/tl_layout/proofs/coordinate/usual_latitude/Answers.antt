@@ -10,4 +10,4 @@ returns c =
     let eight = c.in_ok-eight_digits.ensures in
     found_is MOST_LATITUDE c.in_ok-eight_digits.field-0 (get_or field 0 0) (chunk 1 8 field) field c.signed.result
     (first_and_eight field c.requires)
-    eight.begins eight.value (let below = eight.below in omega arith) c.signed.ensures.plus c.signed.ensures.minus c.signed.ensures.told
+    eight.begins eight.value (let below = eight.below in omega arith) c.signed.ensures.plus c.signed.ensures.minus c.signed.ensures.reported

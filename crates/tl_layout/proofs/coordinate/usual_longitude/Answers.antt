@@ -11,4 +11,4 @@ returns c =
     found_is MOST_LONGITUDE c.in_ok-nine_digits.field-0 (get_or field 0 0) (get_or field 1 0 ∷ chunk 2 8 field) field c.signed.result
     (two_and_eight field c.requires) nine.begins nine.value (let below =
     nine.below in omega arith) c.signed.ensures.plus c.signed.ensures.minus
-    c.signed.ensures.told
+    c.signed.ensures.reported

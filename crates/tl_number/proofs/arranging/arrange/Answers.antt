@@ -1,5 +1,5 @@
 use Rattle.std.proofs.Common.{sym, subst}
-use Rattle.tl_number.specs.ViewFacts.{AreWhole, TellsNodes, TellsPolygons, TellsNames, TellsLandmarks}
+use Rattle.tl_number.specs.ViewFacts.{AreWhole, MatchesNodes, MatchesPolygons, MatchesNames, MatchesLandmarks}
 use Rattle.tl_number.proofs.Views.ArrangedViews.{whole_steps}
 use Rattle.tl_number.proofs.Arrangements.PlacesFit.{places_fit}
 use Rattle.tl_number.proofs.arranging.arrange.Goals as goal
@@ -28,11 +28,11 @@ invariant_of-result g c =
     record {
       whole = whole_steps county c.args.steps.items is within c.requires.there c.requires.once c.requires.sides fit.chains;
       sides = c.requires.sides;
-      nodes_told = subst (λ steps. TellsNodes county steps c.in_ok-nodes.nodes) c.deref.ensures.value c.in_ok-nodes.ensures.nodes;
-      polygons_told = subst (λ steps. TellsPolygons county steps c.in_ok-nodes.polygons) c.deref.ensures.value
+      nodes_stated = subst (λ steps. MatchesNodes county steps c.in_ok-nodes.nodes) c.deref.ensures.value c.in_ok-nodes.ensures.nodes;
+      polygons_stated = subst (λ steps. MatchesPolygons county steps c.in_ok-nodes.polygons) c.deref.ensures.value
           c.in_ok-nodes.ensures.polygons;
-      names_told = subst (λ steps. TellsNames county steps c.in_ok-nodes.names) c.deref.ensures.value c.in_ok-nodes.ensures.names;
-      landmarks_told = subst (λ steps. TellsLandmarks county steps c.in_ok-nodes.landmarks) c.deref.ensures.value
+      names_stated = subst (λ steps. MatchesNames county steps c.in_ok-nodes.names) c.deref.ensures.value c.in_ok-nodes.ensures.names;
+      landmarks_stated = subst (λ steps. MatchesLandmarks county steps c.in_ok-nodes.landmarks) c.deref.ensures.value
           c.in_ok-nodes.ensures.landmarks;
       stands = ∣ tt ∣₁;
     }

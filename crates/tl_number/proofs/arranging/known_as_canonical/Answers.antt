@@ -6,9 +6,9 @@ invariant_of-result g c =
     record {
       whole = view.whole;
       sides = view.sides;
-      nodes_told = view.nodes_told;
-      polygons_told = view.polygons_told;
-      names_told = view.names_told;
-      landmarks_told = view.landmarks_told;
+      nodes_stated = view.nodes_stated;
+      polygons_stated = view.polygons_stated;
+      names_stated = view.names_stated;
+      landmarks_stated = view.landmarks_stated;
       stands = ∣ (c.requires.canonical, c.requires.same) ∣₁;
     }

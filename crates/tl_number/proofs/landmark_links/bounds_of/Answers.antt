@@ -5,7 +5,7 @@ use Rattle.tl_county.specs.County.{eight_land}
 use Rattle.tl_county.specs.Orders.{IsInOrder}
 use Rattle.tl_county.proofs.ByKey.KeyedLists.{in_order-filter}
 use Rattle.tl_number.specs.ViewFacts.{links_up_to}
-use Rattle.tl_number.proofs.Landmarks.LandmarkLinks.{fewer_later, bound_told, later_next}
+use Rattle.tl_number.proofs.Landmarks.LandmarkLinks.{fewer_later, bound_stated, later_next}
 use Rattle.tl_number.proofs.landmark_links.bounds_of.Goals as goal
 
 pub overflow_sub-links : goal.overflow_sub-links
@@ -17,7 +17,7 @@ pub loop-land-preserved : goal.loop-land-preserved
 loop-land-preserved c = record {
   bounds = c.in_ok-push.ensures.items
       ∙ ap₂ (λ bounds bound. bounds ++ (bound ∷ [])) c.loop-land.invariant.bounds
-      (bound_told c.args.links.now c.loop-land.rest.now c.split_group.result.1.now c.loop-land.land c.loop-land.invariant.later
+      (bound_stated c.args.links.now c.loop-land.rest.now c.split_group.result.1.now c.loop-land.land c.loop-land.invariant.later
       c.split_group.ensures.later)
       ∙ sym (map-range_with_len_more (links_up_to c.args.links.now) 0 c.loop-land.land c.loop-land.land (omega arith));
   in_order = subst (IsInOrder (on eight_land nat_cmp)) (sym c.split_group.ensures.later)

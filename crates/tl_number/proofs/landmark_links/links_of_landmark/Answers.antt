@@ -1,5 +1,5 @@
 use Rattle.std.proofs.Common.{◌+◌, ◌-◌, get_or, take, ap, ◌∙◌, arith}
-use Rattle.tl_number.proofs.Landmarks.LinkSlices.{bounds_rise, bounds_within, slice_told}
+use Rattle.tl_number.proofs.Landmarks.LinkSlices.{bounds_rise, bounds_within, slice_stated}
 use Rattle.tl_number.proofs.landmark_links.links_of_landmark.Goals as goal
 
 pub split_at-requires : goal.split_at-requires
@@ -22,4 +22,4 @@ pub returns : goal.returns
 returns c =
     c.split_at-2.ensures.front
     ∙ ap (take (get_or c.args.bounds.now (c.args.place + 1) 0 - get_or c.args.bounds.now c.args.place 0)) c.split_at.ensures.back
-    ∙ slice_told c.args.links.now c.args.bounds.now c.requires.bounds c.args.place c.if-place-bounds.false c.requires.in_order
+    ∙ slice_stated c.args.links.now c.args.bounds.now c.requires.bounds c.args.place c.if-place-bounds.false c.requires.in_order

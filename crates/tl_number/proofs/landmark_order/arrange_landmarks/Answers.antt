@@ -3,7 +3,7 @@ use Rattle.tl_county.specs.CountyRules.{lands}
 use Rattle.tl_county.specs.Orders.{has_repeat}
 use Rattle.tl_number.specs.LandmarkItems.{lands_at, numbered_links}
 use Rattle.tl_number.specs.ViewFacts.{link_bounds, stepped}
-use Rattle.tl_number.proofs.Landmarks.LandmarkOrder.{landmarks_told, lands_once, places_counted, new_links}
+use Rattle.tl_number.proofs.Landmarks.LandmarkOrder.{landmarks_stated, lands_once, places_counted, new_links}
 use Rattle.tl_number.proofs.landmark_order.arrange_landmarks.Goals as goal
 
 pub links_by_land-requires-clause-few_places : goal.links_by_land-requires-clause-few_places
@@ -36,7 +36,7 @@ returns g c =
     c.in_ok-links.ensures.links ∙ ap (λ ns. numbered_links county ps (lands_at county ns)) c.deref.ensures.value
     ∙ new_links county steps is c.requires.whole ps c.requires.polygons old refl places permuted ordered in
     record {
-      landmarks = landmarks_told county steps is c.requires.whole ps c.requires.polygons old refl places permuted ordered;
+      landmarks = landmarks_stated county steps is c.requires.whole ps c.requires.polygons old refl places permuted ordered;
       links = links;
       bounds = c.in_ok-links.ensures.bounds ∙ ap₂ link_bounds links (ap length c.deref.ensures.value);
     }

@@ -1,8 +1,8 @@
 use Rattle.tl_number.proofs.Choices.TidyChoices.{numbered_is_choice, choice_number, first_choice}
 use Rattle.tl_number.proofs.laws.choices_are_numbered.Goals as goal
 
-pub returns-clause-told : goal.returns-clause-told
-returns-clause-told c = λ county number is. numbered_is_choice county is number
+pub returns-clause-stated : goal.returns-clause-stated
+returns-clause-stated c = λ county number is. numbered_is_choice county is number
 
 pub returns-clause-each : goal.returns-clause-each
 returns-clause-each c = λ county steps is. choice_number county is steps

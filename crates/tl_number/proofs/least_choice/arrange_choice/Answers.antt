@@ -38,10 +38,10 @@ returns-clause-county g c =
     let county = g.C.Chart.county c.args.chart.now in
     let steps = c.in_ok-steps.steps.items in
     let lent = g.C.Chart.county c.new.result.chart.now in
-    let told = steps_of_number county (g.met.C.Chart.is_county c.args.chart.now) c.args.order.now.walks
+    let stated = steps_of_number county (g.met.C.Chart.is_county c.args.chart.now) c.args.order.now.walks
     c.requires.order.walks c.args.order.now.places (c.requires.order.places c.requires.few) steps c.args.number
     c.in_ok-steps.ensures in
     IfOk-weaker c.arrange.result (λ view. arranged_county view ≡ arranged lent (arrangement_of lent steps))
     (λ view. arranged_county view ≡ arranged county (numbered_choice county c.args.number))
-    (λ view e. e ∙ (λ j. arranged (c.new.ensures j) (arrangement_of (c.new.ensures j) steps)) ∙ ap (arranged county) told)
+    (λ view e. e ∙ (λ j. arranged (c.new.ensures j) (arrangement_of (c.new.ensures j) steps)) ∙ ap (arranged county) stated)
     c.arrange.ensures.county

@@ -32,11 +32,11 @@ choose-requires g c =
 pub compare_ones-requires : goal.compare_ones-requires
 compare_ones-requires g c =
     let county = g.C.Chart.county c.args.chart.now in
-    let told = c.choose.ensures.steps
+    let stated = c.choose.ensures.steps
     ∙ (λ i. (moved other_way (c.open_places-places.ensures i) ((c.put_back.ensures ∙ c.walks.ensures) i, c.args.number)).0) in
     agree_of_numbers county (g.met.C.Chart.is_county c.args.chart.now) (g.met.C.Chart.within_limits c.args.chart.now) c.requires.sides
     c.args.order.now.walks c.requires.order.walks c.args.order.now.places (c.requires.order.places c.requires.few) c.deref.result.now
-    c.choose.new.steps c.args.least.now.number c.args.number (c.deref.ensures.value ∙ c.requires.least) told
+    c.choose.new.steps c.args.least.now.number c.args.number (c.deref.ensures.value ∙ c.requires.least) stated
     c.open_places-places.result.now c.open_places-places.ensures
 
 pub returns-clause-order : goal.returns-clause-order
@@ -46,18 +46,18 @@ returns-clause-order g c =
     let walks = c.args.order.now.walks in
     let places = c.args.order.now.places in
     let there = c.requires.order.places c.requires.few in
-    let told = c.choose.ensures.steps
+    let stated = c.choose.ensures.steps
     ∙ (λ i. (moved other_way (c.open_places-places.ensures i) ((c.put_back.ensures ∙ c.walks.ensures) i, c.args.number)).0) in
     c.compare_ones.ensures
     ∙ ap (λ steps. groups_cmp One (type_1_by_chain (stepped county steps)) (type_1_by_chain (stepped county c.choose.new.steps)))
     c.deref.ensures.value
     ∙ ap₂ (λ one other. groups_cmp One (type_1_by_chain (arranged county one)) (type_1_by_chain (arranged county other)))
     (steps_of_number county is walks c.requires.order.walks places there c.args.least.now.choice.items c.args.least.now.number c.requires.least)
-    (steps_of_number county is walks c.requires.order.walks places there c.choose.new.steps c.args.number told)
+    (steps_of_number county is walks c.requires.order.walks places there c.choose.new.steps c.args.number stated)
 
 pub returns-clause-apart : goal.returns-clause-apart
 returns-clause-apart g c =
-    let told = c.choose.ensures.steps
+    let stated = c.choose.ensures.steps
     ∙ (λ i. (moved other_way (c.open_places-places.ensures i) ((c.put_back.ensures ∙ c.walks.ensures) i, c.args.number)).0) in
     steps_of_number_apart (g.C.Chart.county c.args.chart.now) (g.met.C.Chart.is_county c.args.chart.now) c.args.order.now.walks
-    c.requires.order.walks c.args.order.now.places (c.requires.order.places c.requires.few) c.choose.new.steps c.args.number told
+    c.requires.order.walks c.args.order.now.places (c.requires.order.places c.requires.few) c.choose.new.steps c.args.number stated

@@ -23,8 +23,8 @@ returns-clause-least g c =
     let number = c.in_ok-number.number in
     IfOk-weaker c.steps_of_number.result (λ steps. steps.items ≡ (moved other_way places (walks, number)).0)
     (λ steps. IsLeastChoice county (arrangement_of county steps.items))
-    (λ steps told. subst (IsLeastChoice county)
-    (sym (steps_of_number county is walks c.requires.order.walks places (c.requires.order.places c.requires.few) steps.items number told))
+    (λ steps stated. subst (IsLeastChoice county)
+    (sym (steps_of_number county is walks c.requires.order.walks places (c.requires.order.places c.requires.few) steps.items number stated))
     (least_of_all county is number c.in_ok-number.ensures)) c.steps_of_number.ensures
 
 pub returns-clause-there : goal.returns-clause-there
@@ -36,8 +36,8 @@ returns-clause-there g c =
     let number = c.in_ok-number.number in
     IfOk-weaker c.steps_of_number.result (λ steps. steps.items ≡ (moved other_way places (walks, number)).0)
     (λ steps. AreSteps county steps.items)
-    (λ steps told. steps_of_number_there county is walks c.requires.order.walks places (c.requires.order.places c.requires.few) steps.items
-    number told) c.steps_of_number.ensures
+    (λ steps stated. steps_of_number_there county is walks c.requires.order.walks places (c.requires.order.places c.requires.few) steps.items
+    number stated) c.steps_of_number.ensures
 
 pub returns-clause-once : goal.returns-clause-once
 returns-clause-once g c =
@@ -48,5 +48,5 @@ returns-clause-once g c =
     let number = c.in_ok-number.number in
     IfOk-weaker c.steps_of_number.result (λ steps. steps.items ≡ (moved other_way places (walks, number)).0)
     (λ steps. NamesEachOnce county (arrangement_of county steps.items))
-    (λ steps told. steps_of_number_once county is walks c.requires.order.walks places (c.requires.order.places c.requires.few) steps.items
-    number told) c.steps_of_number.ensures
+    (λ steps stated. steps_of_number_once county is walks c.requires.order.walks places (c.requires.order.places c.requires.few) steps.items
+    number stated) c.steps_of_number.ensures

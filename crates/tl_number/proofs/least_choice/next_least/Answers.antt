@@ -9,7 +9,7 @@ use Rattle.tl_number.specs.RecordOrder.{groups_cmp}
 use Rattle.tl_number.specs.Tidy.{numbered_choice}
 use Rattle.tl_number.specs.TypeOneOrder.{ones_cmp}
 use Rattle.tl_number.specs.Views.{arranged_county}
-use Rattle.tl_number.proofs.Choices.LeastNumbers.{choices_same, of_either, text_compared, told_of_either}
+use Rattle.tl_number.proofs.Choices.LeastNumbers.{choices_same, of_either, text_compared, stated_of_either}
 use Rattle.tl_number.proofs.Choices.LeastOnes.{tied_with_itself}
 use Rattle.tl_number.proofs.CanonicalLists.SameShapes.{twos_of_numbers}
 use Rattle.tl_number.proofs.least_choice.next_least.Goals as goal
@@ -48,7 +48,7 @@ returns-in-Ok-clause-least g c =
     let county = g.C.Chart.county c.args.chart.now in
     let o = c.compare_texts-ordering.result in
     subst (λ kept. IsNotAfter (choice_list county kept.number) (choice_list county c.args.least.number)) (sym c.lesser.ensures)
-    (told_of_either (λ kept. kept.number) (λ n. IsNotAfter (choice_list county n) (choice_list county c.args.least.number)) (is_gt o)
+    (stated_of_either (λ kept. kept.number) (λ n. IsNotAfter (choice_list county n) (choice_list county c.args.least.number)) (is_gt o)
     (record { number = c.args.number; choice = c.in-Ok.choice }) c.args.least
     (text_compared county c.args.least.number c.args.number o (arranged_county c.args.least.choice)
     (arranged_county c.in-Ok.choice) c.requires.choice c.in-Ok.ensures.county c.compare_texts-ordering.ensures).0)
@@ -58,7 +58,7 @@ returns-in-Ok-clause-other g c =
     let county = g.C.Chart.county c.args.chart.now in
     let o = c.compare_texts-ordering.result in
     subst (λ kept. IsNotAfter (choice_list county kept.number) (choice_list county c.args.number)) (sym c.lesser.ensures)
-    (told_of_either (λ kept. kept.number) (λ n. IsNotAfter (choice_list county n) (choice_list county c.args.number)) (is_gt o)
+    (stated_of_either (λ kept. kept.number) (λ n. IsNotAfter (choice_list county n) (choice_list county c.args.number)) (is_gt o)
     (record { number = c.args.number; choice = c.in-Ok.choice }) c.args.least
     (text_compared county c.args.least.number c.args.number o (arranged_county c.args.least.choice)
     (arranged_county c.in-Ok.choice) c.requires.choice c.in-Ok.ensures.county c.compare_texts-ordering.ensures).1)

@@ -1,7 +1,7 @@
 use Rattle.std.proofs.Common.{◌≡◌, ◌<◌, ◌^◌, length, filter_map, slice_get, false, sym, ap, ◌∙◌, subst, nat_cmp}
 use Rattle.tl_county.specs.CountyRules.{feats}
 use Rattle.tl_county.specs.Orders.{has_repeat}
-use Rattle.tl_number.proofs.Names.NameOrder.{feats_told, feats_once, few_feats}
+use Rattle.tl_number.proofs.Names.NameOrder.{feats_stated, feats_once, few_feats}
 use Rattle.tl_number.proofs.name_order.arrange_names.Goals as goal
 
 pub feats_at-requires : goal.feats_at-requires
@@ -19,7 +19,7 @@ returns g c =
     let found : c.in_ok-feats.feats ≡ filter_map (slice_get (feats county)) places =
     c.in_ok-feats.ensures ∙ ap (filter_map (slice_get (feats county))) c.deref.ensures.value in
     record {
-      feats = found ∙ feats_told county c.args.steps.now is c.requires.whole places c.in_ok-places.ensures;
+      feats = found ∙ feats_stated county c.args.steps.now is c.requires.whole places c.in_ok-places.ensures;
       names = c.in_ok-places.ensures;
       few = subst (λ n. n < 2 ^ 32) (sym (ap length found
           ∙ few_feats county c.args.steps.now is c.requires.whole places c.in_ok-places.ensures)) c.requires.few;

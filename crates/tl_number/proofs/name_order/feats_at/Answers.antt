@@ -10,8 +10,8 @@ use Rattle.tl_number.proofs.name_order.feats_at.Goals as goal
 pub returns : goal.returns
 returns g c =
     let county = g.C.Chart.county c.args.chart.now in
-    let told : List ℕ = filter_map (slice_get (feats county)) c.args.places.now in
+    let stated : List ℕ = filter_map (slice_get (feats county)) c.args.places.now in
     let none : c.loop-place.rest.now ≡ [] = empty_list c.loop-place.rest.now c.in_default.ensures.cases in
     ap (λ places. first_seen_after nat_cmp c.loop-place.numbers (filter_map (slice_get (feats county)) places)) (sym none)
     ∙ c.loop-place.invariant
-    ∙ first_seen-itself nat_keys told (apart_from_no_repeat nat_keys told c.requires)
+    ∙ first_seen-itself nat_keys stated (apart_from_no_repeat nat_keys stated c.requires)

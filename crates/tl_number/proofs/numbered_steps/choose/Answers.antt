@@ -10,9 +10,9 @@ loop-at-preserved c =
     let before = c.in-Some.before.now in
     let at = c.in-Some.at.now in
     let split = c.in-Some.ensures.cases.0 in
-    let count = c.stand-left.ensures.count in
+    let count = c.place_chain-left.ensures.count in
     record {
-      same = (λ i. moved other_way before (c.stand-left.ensures.steps i, c.stand-left.ensures.left i))
+      same = (λ i. moved other_way before (c.place_chain-left.ensures.steps i, c.place_chain-left.ensures.left i))
           ∙ sym (moved-last other_way before at (c.loop-at.steps, c.loop-at.left))
           ∙ ap (λ l. moved other_way l (c.loop-at.steps, c.loop-at.left)) (sym split)
           ∙ c.loop-at.invariant.same;

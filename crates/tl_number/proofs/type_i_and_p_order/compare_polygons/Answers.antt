@@ -10,6 +10,6 @@ returns-then-have_same_numbers g c =
     let a = stepped (g.A.Chart.county c.args.a.now.chart) c.args.a.now.steps.items in
     let b = stepped (g.B.Chart.county c.args.b.now.chart) c.args.b.now.steps.items in
     same_polygons a b
-    (sym c.args.a.now.polygons_told.by_number
+    (sym c.args.a.now.polygons_stated.by_number
     ∙ ap₂ (λ county numbers. map (under_number county) (numbered numbers)) c.requires (c.have_same_numbers.ensures c.if-have_same_numbers.true)
-    ∙ c.args.b.now.polygons_told.by_number)
+    ∙ c.args.b.now.polygons_stated.by_number)

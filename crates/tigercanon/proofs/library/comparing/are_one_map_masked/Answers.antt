@@ -1,13 +1,13 @@
 use Rattle.std.proofs.Common.{refl}
 use Rattle.tigercanon.proofs.CanonicalTexts.{err_holds, if_err_by, ok_holds}
-use Rattle.tigercanon.proofs.Told.{one_no_device, one_refused, one_succeeds}
+use Rattle.tigercanon.proofs.Reported.{one_no_device, one_refused, one_succeeds}
 use Rattle.tigercanon.proofs.library.comparing.are_one_map_masked.Goals as goal
 
 pub returns-clause-same : goal.returns-clause-same
-returns-clause-same c = λ told. ok_holds _ _ _ told (c.compare_unlinked.ensures.found _ _ refl refl)
+returns-clause-same c = λ reported. ok_holds _ _ _ reported (c.compare_unlinked.ensures.found _ _ refl refl)
 
 pub returns-clause-different : goal.returns-clause-different
-returns-clause-different c = λ told. ok_holds _ _ _ told (c.compare_unlinked.ensures.found _ _ refl refl)
+returns-clause-different c = λ reported. ok_holds _ _ _ reported (c.compare_unlinked.ensures.found _ _ refl refl)
 
 pub returns-clause-refused : goal.returns-clause-refused
 returns-clause-refused c = if_err_by c.compare_unlinked.result (one_refused _ _) (c.compare_unlinked.ensures.refused _ _ refl refl)

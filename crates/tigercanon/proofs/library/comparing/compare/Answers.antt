@@ -5,13 +5,13 @@ use Rattle.tigercanon.proofs.Masking.{as_it_is}
 use Rattle.tigercanon.proofs.library.comparing.compare.Goals as goal
 
 pub returns-clause-same : goal.returns-clause-same
-returns-clause-same c = λ r told.
+returns-clause-same c = λ r reported.
     let first = bytes_of_parts c.args.a.now in
     let second = bytes_of_parts c.args.b.now in
-    as_it_is (λ seen. CarriesSetThrough seen r first second) (c.compare_masked.ensures.same r told)
+    as_it_is (λ seen. CarriesSetThrough seen r first second) (c.compare_masked.ensures.same r reported)
 
 pub returns-clause-different : goal.returns-clause-different
-returns-clause-different c = λ told.
+returns-clause-different c = λ reported.
     let first = bytes_of_parts c.args.a.now in
     let second = bytes_of_parts c.args.b.now in
-    as_it_is (λ seen. AreDifferentThrough seen first second) (c.compare_masked.ensures.different told)
+    as_it_is (λ seen. AreDifferentThrough seen first second) (c.compare_masked.ensures.different reported)

@@ -12,7 +12,7 @@ pub returns-clause-refused : goal.returns-clause-refused
 returns-clause-refused g c = λ a b says other.
     let made = ok_holds _ _ _ c.in_ok-made.ensures.ok (c.make_of.ensures.made a says) b other in
     if_err_by c.tag_set-2.result
-    (λ told e.
+    (λ reported e.
     let refused = match_err _ _ c.in_ok-made.made e.0 e.1 made in
     rw e.2 (inr (refl, refused.0, refused.1)))
     c.tag_set-2.ensures.err

@@ -9,12 +9,12 @@ link_records-requires g c = let l = c.in_ok-tables.ensures.loaded in within_limi
 pub returns-clause-linked : goal.returns-clause-linked
 returns-clause-linked g c =
     let l = c.in_ok-tables.ensures.loaded in
-    IfOk-weaker c.link_records.result _ _ (λ linked told. (l.0, l.1, (l.2, l.4, told l.2 l.3))) c.link_records.ensures.linked
+    IfOk-weaker c.link_records.result _ _ (λ linked reported. (l.0, l.1, (l.2, l.4, reported l.2 l.3))) c.link_records.ensures.linked
 
 pub returns-clause-refused : goal.returns-clause-refused
 returns-clause-refused g c =
     let l = c.in_ok-tables.ensures.loaded in
     if_err_by c.link_records.result
-    (λ fault told. read_refused g.R.Source.remaining g.R.Source.given c.args.parts.now c.load_sources.new.sources l.0 l.1 l.2 l.4
-    fault (told l.2 l.3))
+    (λ fault reported. read_refused g.R.Source.remaining g.R.Source.given c.args.parts.now c.load_sources.new.sources l.0 l.1 l.2 l.4
+    fault (reported l.2 l.3))
     c.link_records.ensures.refused

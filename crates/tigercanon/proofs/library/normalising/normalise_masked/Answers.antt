@@ -4,7 +4,7 @@ use Rattle.tl_cert.specs.MaskedCounty.{masked}
 use Rattle.tl_number.proofs.Masks.MaskedSights.{masked_sight}
 use Rattle.tigercanon.proofs.CanonicalTexts.{again, ok_holds, one_text_accepted}
 use Rattle.tigercanon.proofs.Sets.{only_text, text_as_it_is}
-use Rattle.tigercanon.proofs.Told.{accepted_wants_memory}
+use Rattle.tigercanon.proofs.Reported.{accepted_wants_memory}
 use Rattle.tigercanon.proofs.library.normalising.normalise_masked.Goals as goal
 
 pub returns-clause-canonical : goal.returns-clause-canonical

@@ -16,8 +16,8 @@ returns-clause-written g c =
     c.normalise_to_masked.ensures.written
 
 pub returns-clause-stopped : goal.returns-clause-stopped
-returns-clause-stopped g c = λ fault told.
+returns-clause-stopped g c = λ fault reported.
     as_it_is
     (λ seen. IsCutOffThrough seen g.R.Source.remaining g.R.Source.given c.args.parts.now c.normalise_to_masked.new.parts
     g.W.Sink.holds c.args.out.now c.normalise_to_masked.new.out fault.written)
-    (c.normalise_to_masked.ensures.stopped fault told)
+    (c.normalise_to_masked.ensures.stopped fault reported)

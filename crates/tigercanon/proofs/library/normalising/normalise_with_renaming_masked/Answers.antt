@@ -4,7 +4,7 @@ use Rattle.tl_cert.specs.MaskedCounty.{masked}
 use Rattle.tl_number.proofs.Masks.MaskedSights.{masked_sight}
 use Rattle.tigercanon.proofs.CanonicalTexts.{ok_holds}
 use Rattle.tigercanon.proofs.Sets.{only_text}
-use Rattle.tigercanon.proofs.Told.{accepted_wants_memory}
+use Rattle.tigercanon.proofs.Reported.{accepted_wants_memory}
 use Rattle.tigercanon.proofs.library.normalising.normalise_with_renaming_masked.Goals as goal
 
 pub returns-clause-canonical : goal.returns-clause-canonical

@@ -45,18 +45,18 @@ returns-in_err-read_part_by-clause-faulty g c =
         [],
         nothing_more g.R.Source.remaining g.R.Source.given _ _ _
             (one_more_at g.R.Source.remaining g.R.Source.given _ _ r.0 i d x r.1 r.2 c.loop-source-test.true f.0 f.1 end),
-        standing_fault g.K.Collector.holds c.read_part_by.new.self fault _ _ c.in_err-read_part_by.ensures.told fed lines,
+        standing_fault g.K.Collector.holds c.read_part_by.new.self fault _ _ c.in_err-read_part_by.ensures.reported fed lines,
       )
       | inr fed ↦ (
         r.0,
         f.0,
         up_to_at g.R.Source.remaining g.R.Source.given _ _ r.0 i d x r.1 r.2 c.loop-source-test.true f.0 f.1,
-        standing_fault g.K.Collector.holds c.read_part_by.new.self fault _ _ c.in_err-read_part_by.ensures.told fed lines,
+        standing_fault g.K.Collector.holds c.read_part_by.new.self fault _ _ c.in_err-read_part_by.ensures.reported fed lines,
       )
     ])
 
 pub returns-in_err-read_part_by-clause-device : goal.returns-in_err-read_part_by-clause-device
-returns-in_err-read_part_by-clause-device g c = λ told.
+returns-in_err-read_part_by-clause-device g c = λ reported.
     let p = err_from_is_err_and c.from_residual.result c.from_residual.ensures.1 in
     let is : c.in_err-read_part_by.field-0.0 ≡ faults.Device = cc in
     let i = c.loop-source.source-index in
@@ -114,8 +114,8 @@ returns-clause-faulty g c =
     (c.finish.ensures.fault record_limit r.0 [] r.3)
 
 pub returns-clause-device : goal.returns-clause-device
-returns-clause-device g c = λ told.
-    absurd (subst (λ result. IfErr result IsNotDevice) told (c.finish.ensures.device c.loop-source.invariant.no_fault))
+returns-clause-device g c = λ reported.
+    absurd (subst (λ result. IfErr result IsNotDevice) reported (c.finish.ensures.device c.loop-source.invariant.no_fault))
 
 pub returns-clause-no_device : goal.returns-clause-no_device
 returns-clause-no_device g c = λ other. c.loop-source.invariant.none_failed

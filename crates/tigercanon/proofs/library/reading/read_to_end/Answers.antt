@@ -30,7 +30,7 @@ loop-made-preserved g c =
       );
       parts = c.feed.ensures.parts ∙ c.loop-made.invariant.parts;
       no_device = still_no_device (λ l. l.fault) c.loop-made.loader c.feed.new.self c.feed.result c.loop-made.invariant.no_device
-          c.feed.ensures.ok c.feed.ensures.told c.feed.ensures.device c.feed.ensures.stood;
+          c.feed.ensures.ok c.feed.ensures.reported c.feed.ensures.device c.feed.ensures.stood;
       failures = c.in-Ok.ensures.failures ∙ c.loop-made.invariant.failures;
       reads = rose_again _ _ _ c.loop-made.made 1 c.loop-made.invariant.reads c.in-Ok.ensures.reads;
     }

@@ -19,10 +19,10 @@ pub returns-in_err-bytes-clause-stopped : goal.returns-in_err-bytes-clause-stopp
 returns-in_err-bytes-clause-stopped g c =
     let p = err_from_is_err_and c.from_residual.result c.from_residual.ensures.1 in
     let fault = c.in_err-bytes.field-0.0 in
-    let told = c.in_err-bytes.ensures.refused in
+    let reported = c.in_err-bytes.ensures.refused in
     let set = set_of_sources g.R.Source.remaining g.R.Source.given g.R.Source.failed g.R.Source.reads c.args.set.now c.hash_set.new.set in
     rw (p.1, p.2) (leaves_untouched set c.args.mask (to_sink g.W.Sink.failed g.W.Sink.holds c.args.out.now c.args.out.now) Fingerprint fault
-    (set_of_no_sink set fault told) refl told)
+    (set_of_no_sink set fault reported) refl reported)
 
 pub returns-in_err-write_text-clause-stopped : goal.returns-in_err-write_text-clause-stopped
 returns-in_err-write_text-clause-stopped g c =

@@ -11,11 +11,11 @@ pub returns-in_err-text-clause-stopped : goal.returns-in_err-text-clause-stopped
 returns-in_err-text-clause-stopped g c =
     let p = err_from_is_err_and c.from_residual.result c.from_residual.ensures.1 in
     let fault = c.in_err-text.field-0.0 in
-    let told = c.in_err-text.ensures.stopped in
+    let reported = c.in_err-text.ensures.stopped in
     let set = set_of_sources g.R.Source.remaining g.R.Source.given g.R.Source.failed g.R.Source.reads c.args.set.now
     c.load_to_ends.new.sources in
     rw (p.1, p.2) (leaves_untouched set no_mask (to_sink g.W.Sink.failed g.W.Sink.holds c.args.out.now c.args.out.now) Respell fault
-    (lines_of_no_sink set fault told) refl told)
+    (lines_of_no_sink set fault reported) refl reported)
 
 pub returns-in_err-write_text-clause-stopped : goal.returns-in_err-write_text-clause-stopped
 returns-in_err-write_text-clause-stopped g c =

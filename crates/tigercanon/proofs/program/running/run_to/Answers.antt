@@ -7,7 +7,7 @@ pub returns-in-Ok-Different-clause-statuses : goal.returns-in-Ok-Different-claus
 returns-in-Ok-Different-clause-statuses g c = (1, lit< tt, refl)
 
 pub returns-in-Err-clause-statuses : goal.returns-in-Err-clause-statuses
-returns-in-Err-clause-statuses g c = rw c.tell_stopped.ensures.status (status_is_one c.in-Err.stopped.fault)
+returns-in-Err-clause-statuses g c = rw c.report_stopped.ensures.status (status_is_one c.in-Err.stopped.fault)
 
 pub returns-in-Err-clause-device : goal.returns-in-Err-clause-device
 returns-in-Err-clause-device g c = λ four.
@@ -15,4 +15,4 @@ returns-in-Err-clause-device g c = λ four.
     (set_of_sources g.R.Source.remaining g.R.Source.given g.R.Source.failed g.R.Source.reads c.args.first.now c.do_job.new.first)
     (set_of_sources g.R.Source.remaining g.R.Source.given g.R.Source.failed g.R.Source.reads c.args.second.now c.do_job.new.second)
     (to_sink g.W.Sink.failed g.W.Sink.holds c.args.out.now c.do_job.new.out) c.args.job c.in-Err.stopped.fault c.in-Err.stopped.set
-    c.in-Err.ensures.stopped (sym c.tell_stopped.ensures.status ∙ four)
+    c.in-Err.ensures.stopped (sym c.report_stopped.ensures.status ∙ four)

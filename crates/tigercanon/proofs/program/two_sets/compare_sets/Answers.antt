@@ -19,7 +19,7 @@ pub returns-in-Err-clause-stopped : goal.returns-in-Err-clause-stopped
 returns-in-Err-clause-stopped g c =
     let ending = c.in_ok-ending.ending in
     let written = c.in-Err.fault.written in
-    let short = subst (λ (line : List ℕ). StopsShort g.W.Sink.holds c.args.out.now c.write_text.new.out line written) c.line_of.ensures
+    let short = subst (λ (line : List ℕ). StopsShort g.W.Sink.holds c.args.out.now c.write_text.new.out line written) c.answer_line_of.ensures
     c.in-Err.ensures.stopped in (
       refl,
       c.in-Err.ensures.failed,

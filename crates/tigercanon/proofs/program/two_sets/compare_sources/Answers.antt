@@ -3,18 +3,18 @@ use Rattle.std.proofs.lemmas.Result.{err_from_is_err_and}
 use Rattle.tigercanon.specs.Devices.{set_of_sources}
 use Rattle.tigercanon.proofs.CanonicalTexts.{err_holds, ok_holds}
 use Rattle.tigercanon.proofs.SourceSets.{refused_of_read}
-use Rattle.tigercanon.proofs.TwoSets.{ended_by_finding, one_told, unread_first, unread_second}
+use Rattle.tigercanon.proofs.TwoSets.{ended_by_finding, one_reported, unread_first, unread_second}
 use Rattle.tigercanon.proofs.program.two_sets.compare_sources.Goals as goal
 
 pub compare_unlinked-requires-clause-first : goal.compare_unlinked-requires-clause-first
 compare_unlinked-requires-clause-first g c =
     let a = ok_holds _ _ _ c.in_ok-one.ensures.ok c.read_to_ends.ensures.fed in
-    ((a.0, a.2), ok_holds _ _ _ c.in_ok-one.ensures.ok c.read_to_ends.ensures.told_none)
+    ((a.0, a.2), ok_holds _ _ _ c.in_ok-one.ensures.ok c.read_to_ends.ensures.reported_none)
 
 pub compare_unlinked-requires-clause-second : goal.compare_unlinked-requires-clause-second
 compare_unlinked-requires-clause-second g c =
     let b = ok_holds _ _ _ c.in_ok-other.ensures.ok c.read_to_ends-2.ensures.fed in
-    ((b.0, b.2), ok_holds _ _ _ c.in_ok-other.ensures.ok c.read_to_ends-2.ensures.told_none)
+    ((b.0, b.2), ok_holds _ _ _ c.in_ok-other.ensures.ok c.read_to_ends-2.ensures.reported_none)
 
 pub returns-clause-verdict : goal.returns-clause-verdict
 returns-clause-verdict g c =
@@ -30,7 +30,7 @@ returns-in_err-is_one_map-clause-refused g c =
     let p = err_from_is_err_and c.from_residual-in_err-is_one_map.result c.from_residual-in_err-is_one_map.ensures.1 in
     let a = ok_holds _ _ _ c.in_ok-one.ensures.ok c.read_to_ends.ensures.fed in
     let b = ok_holds _ _ _ c.in_ok-other.ensures.ok c.read_to_ends-2.ensures.fed in
-    rw (p.1, p.2) (one_told c.args.mask
+    rw (p.1, p.2) (one_reported c.args.mask
     (set_of_sources g.R.Source.remaining g.R.Source.given g.R.Source.failed g.R.Source.reads c.args.first.now c.read_to_ends.new.sources)
     (set_of_sources g.R.Source.remaining g.R.Source.given g.R.Source.failed g.R.Source.reads c.args.second.now c.read_to_ends-2.new.sources)
     a.0 b.0 a.1 (refused_of_read g.R.Source.remaining g.R.Source.given _ _ a.0 a.1)

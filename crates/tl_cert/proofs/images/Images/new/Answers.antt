@@ -10,7 +10,7 @@ pub loop-last-init : goal.loop-last-init
 loop-last-init g c = record {
   done = [];
   cut = sym (append-nil c.args.pairs.now);
-  told = λ old. ap (lookup (g.K.PartialEq.eq old)) c.in_ok-table.ensures.empty;
+  stated = λ old. ap (lookup (g.K.PartialEq.eq old)) c.in_ok-table.ensures.empty;
 }
 
 pub loop-last-preserved : goal.loop-last-preserved
@@ -20,12 +20,12 @@ loop-last-preserved g c =
       done = c.in-Some.last.now ∷ c.loop-last.invariant.done;
       cut = c.loop-last.invariant.cut ∙ ap (λ rest. rest ++ c.loop-last.invariant.done) c.in-Some.ensures.cases.0
           ∙ append_assoc c.in-Some.before.now (c.in-Some.last.now ∷ []) c.loop-last.invariant.done;
-      told = λ old. c.in_ok-insert.ensures.updates.0 old
-          ∙ ap (cond (g.K.PartialEq.eq c.in-Some.last.now.0 old) (Some c.in-Some.last.now.1)) (c.loop-last.invariant.told old)
+      stated = λ old. c.in_ok-insert.ensures.updates.0 old
+          ∙ ap (cond (g.K.PartialEq.eq c.in-Some.last.now.0 old) (Some c.in-Some.last.now.1)) (c.loop-last.invariant.stated old)
           ∙ put_before g.K.PartialEq.eq g.K.Ord.cmp g.met.K.Ord.matches_eq o c.in-Some.last.now c.loop-last.invariant.done old;
     }
 
 pub invariant_of-result : goal.invariant_of-result
-invariant_of-result g c = λ old. c.loop-last.invariant.told old
+invariant_of-result g c = λ old. c.loop-last.invariant.stated old
     ∙ ap (value_under g.K.Ord.cmp old) (sym (c.loop-last.invariant.cut ∙ ap (λ rest. rest ++ c.loop-last.invariant.done)
     (empty_list c.loop-last.rest.now c.in_default.ensures.cases)))

@@ -7,7 +7,7 @@ abbrev pub invariant-loop-last : goal.invariant-loop-last
 invariant-loop-last g l = record {
   done : List (g.row.K.Denot × g.row.K.Denot);
   cut : l.pairs ≡ l.rest ++ done;
-  told : (old : g.row.K.Denot) → get g.K.PartialEq.eq l.table old ≡ value_under g.K.Ord.cmp old done;
+  stated : (old : g.row.K.Denot) → get g.K.PartialEq.eq l.table old ≡ value_under g.K.Ord.cmp old done;
 }
 
 abbrev pub decreases-loop-last : goal.decreases-loop-last

@@ -2,13 +2,13 @@ use Rattle.std.proofs.Common.{[], ap, ◌∙◌, slice_get, unwrap_or}
 use Rattle.tl_county.specs.ChartWords.{links_with}
 use Rattle.tl_county.specs.CountyRules.{lands}
 use Rattle.tl_county.proofs.ByKey.Keys.{nat_keys}
-use Rattle.tl_county.proofs.Lists.Places.{links-at_or_end, length_keys, value-told}
+use Rattle.tl_county.proofs.Lists.Places.{links-at_or_end, length_keys, value-stated}
 use Rattle.tl_county.proofs.chart.Chart.landmark_place_or_end.Goals as goal
 
 pub returns-clause-bodies : goal.returns-clause-bodies
 returns-clause-bodies g c =
     let county = g.Self.Chart.county c.args.self.now in
-    ap (λ o. unwrap_or o []) (value-told nat_keys c.args.land county.landmarks c.landmark_place.result c.unwrap_or.ensures c.landmark_count.ensures
+    ap (λ o. unwrap_or o []) (value-stated nat_keys c.args.land county.landmarks c.landmark_place.result c.unwrap_or.ensures c.landmark_count.ensures
     (g.met.Self.Chart.is_county c.args.self.now).ascending.landmarks c.landmark_place.ensures.found c.landmark_place.ensures.known)
 
 pub returns-clause-links : goal.returns-clause-links

@@ -1,8 +1,8 @@
 use Rattle.tl_county.proofs.ByKey.Keys.{nat_keys}
-use Rattle.tl_county.proofs.Lists.Places.{value-told}
+use Rattle.tl_county.proofs.Lists.Places.{value-stated}
 use Rattle.tl_county.proofs.chart.Chart.name_place_or_end.Goals as goal
 
 pub returns : goal.returns
 returns g c =
-    value-told nat_keys c.args.feat (g.Self.Chart.county c.args.self.now).names c.name_place.result c.unwrap_or.ensures
+    value-stated nat_keys c.args.feat (g.Self.Chart.county c.args.self.now).names c.name_place.result c.unwrap_or.ensures
     c.name_count.ensures (g.met.Self.Chart.is_county c.args.self.now).ascending.names c.name_place.ensures.found c.name_place.ensures.known

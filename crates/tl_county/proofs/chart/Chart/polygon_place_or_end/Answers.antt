@@ -1,8 +1,8 @@
 use Rattle.tl_county.proofs.ByKey.KeyOrders.{key_keys}
-use Rattle.tl_county.proofs.Lists.Places.{value-told}
+use Rattle.tl_county.proofs.Lists.Places.{value-stated}
 use Rattle.tl_county.proofs.chart.Chart.polygon_place_or_end.Goals as goal
 
 pub returns : goal.returns
 returns g c =
-    value-told key_keys c.args.key (g.Self.Chart.county c.args.self.now).polygons c.polygon_place.result c.unwrap_or.ensures
+    value-stated key_keys c.args.key (g.Self.Chart.county c.args.self.now).polygons c.polygon_place.result c.unwrap_or.ensures
     c.polygon_count.ensures (g.met.Self.Chart.is_county c.args.self.now).ascending.polygons c.polygon_place.ensures.found c.polygon_place.ensures.known

@@ -11,8 +11,8 @@ returns-clause-in_order g c =
     (c.is_sorted_by.ensures.cases (λ item next. is_le (on g.T.Keyed.key_of g.K.Ord.cmp item next))
     (always_returns_same _ _ _ (λ a r f' k. search rules)))
 
-pub returns-clause-told : goal.returns-clause-told
-returns-clause-told g c =
+pub returns-clause-stated : goal.returns-clause-stated
+returns-clause-stated g c =
     answered-in_order (on_total g.T.Keyed.key_of g.met.K.Ord.total) c.args.items.now c.is_sorted_by.result
     (c.is_sorted_by.ensures.cases (λ item next. is_le (on g.T.Keyed.key_of g.K.Ord.cmp item next))
     (always_returns_same _ _ _ (λ a r f' k. search rules)))

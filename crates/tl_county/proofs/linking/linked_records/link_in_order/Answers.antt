@@ -4,14 +4,14 @@ use Rattle.tl_county.proofs.linking.linked_records.link_in_order.Goals as goal
 
 pub invariant_of-result : goal.invariant_of-result
 invariant_of-result c =
-    let told = c.in_ok-gathered.ensures in (
-      told.in_order,
-      told.linked,
-      within_limits-moved c.args.tables c.sort_and_check.new.tables c.requires told.same told.linked,
-      told.tlids,
-      told.feats,
-      told.polygons,
-      told.without_side,
+    let stated = c.in_ok-gathered.ensures in (
+      stated.in_order,
+      stated.linked,
+      within_limits-moved c.args.tables c.sort_and_check.new.tables c.requires stated.same stated.linked,
+      stated.tlids,
+      stated.feats,
+      stated.polygons,
+      stated.without_side,
     )
 
 pub returns-clause-linked : goal.returns-clause-linked

@@ -25,32 +25,32 @@ sixes : (records : List Record) → Twice six_sequence (by_type records).of_type
 sixes records none = rule-holds (rule_13_six records (by_type records) refl) (no_repeat six_tlid six_rtsq (by_type records).of_type_6 none)
 
 pub returns-in-Some : goal.returns-in-Some
-returns-in-Some c records told =
+returns-in-Some c records stated =
     let t : Typed = by_type records in
     rule-broken (rule_13_two records t refl) c.in-Some.tlid
     (least-repeat two_tlid two_rtsq c.in-Some.tlid c.in-Some.field-0-1 t.of_type_2
-    (subst (Twice two_sequence t.of_type_2) c.in-Some.is told.type_2))
+    (subst (Twice two_sequence t.of_type_2) c.in-Some.is stated.type_2))
 
 pub returns-in-Some-type_4 : goal.returns-in-Some-type_4
-returns-in-Some-type_4 c records told =
+returns-in-Some-type_4 c records stated =
     let t : Typed = by_type records in
-    first-after records (omega arith) (twos records (subst (Twice two_sequence t.of_type_2) c.in_default.is told.type_2))
+    first-after records (omega arith) (twos records (subst (Twice two_sequence t.of_type_2) c.in_default.is stated.type_2))
     (rule-broken (rule_13_four records t refl) c.in-Some-type_4.tlid
     (least-repeat four_tlid four_rtsq c.in-Some-type_4.tlid c.in-Some-type_4.field-0-1 t.of_type_4
-    (subst (Twice four_sequence t.of_type_4) c.in-Some-type_4.is told.type_4)))
+    (subst (Twice four_sequence t.of_type_4) c.in-Some-type_4.is stated.type_4)))
 
 pub returns-in-Some-type_6 : goal.returns-in-Some-type_6
-returns-in-Some-type_6 c records told =
+returns-in-Some-type_6 c records stated =
     let t : Typed = by_type records in
-    first-after records (omega arith) (twos records (subst (Twice two_sequence t.of_type_2) c.in_default.is told.type_2))
-    (first-after records (omega arith) (fours records (subst (Twice four_sequence t.of_type_4) c.in_default-type_4.is told.type_4))
+    first-after records (omega arith) (twos records (subst (Twice two_sequence t.of_type_2) c.in_default.is stated.type_2))
+    (first-after records (omega arith) (fours records (subst (Twice four_sequence t.of_type_4) c.in_default-type_4.is stated.type_4))
     (rule-broken (rule_13_six records t refl) c.in-Some-type_6.tlid
     (least-repeat six_tlid six_rtsq c.in-Some-type_6.tlid c.in-Some-type_6.field-0-1 t.of_type_6
-    (subst (Twice six_sequence t.of_type_6) c.in-Some-type_6.is told.type_6))))
+    (subst (Twice six_sequence t.of_type_6) c.in-Some-type_6.is stated.type_6))))
 
 pub returns : goal.returns
-returns c records told =
+returns c records stated =
     let t : Typed = by_type records in
-    rules-join records (twos records (subst (Twice two_sequence t.of_type_2) c.in_default.is told.type_2))
-    (rules-join records (fours records (subst (Twice four_sequence t.of_type_4) c.in_default-type_4.is told.type_4))
-    (sixes records (subst (Twice six_sequence t.of_type_6) c.in_default-type_6.is told.type_6)))
+    rules-join records (twos records (subst (Twice two_sequence t.of_type_2) c.in_default.is stated.type_2))
+    (rules-join records (fours records (subst (Twice four_sequence t.of_type_4) c.in_default-type_4.is stated.type_4))
+    (sixes records (subst (Twice six_sequence t.of_type_6) c.in_default-type_6.is stated.type_6)))

@@ -10,7 +10,7 @@ fed c limit closed open_part w = into_of limit c.self.inside.inner closed open_p
 
 pub invariant_of-self : goal.invariant_of-self
 invariant_of-self c =
-    listed_after c.self.inside.inner c.end_part.new.self c.end_part.result c.self.invariant c.end_part.ensures.kept c.end_part.ensures.told
+    listed_after c.self.inside.inner c.end_part.new.self c.end_part.result c.self.invariant c.end_part.ensures.kept c.end_part.ensures.reported
     (λ f e. (at_fault _ c.self.inside.inner.fault f e c.end_part.ensures.stood).0)
 
 pub returns-clause-fed : goal.returns-clause-fed

@@ -13,7 +13,7 @@ fed c limit closed open_part w = into_of limit c.self.inside.inner closed open_p
 
 pub invariant_of-self : goal.invariant_of-self
 invariant_of-self c =
-    listed_after c.self.inside.inner c.feed.new.self c.feed.result c.self.invariant c.feed.ensures.kept c.feed.ensures.told
+    listed_after c.self.inside.inner c.feed.new.self c.feed.result c.self.invariant c.feed.ensures.kept c.feed.ensures.reported
     (λ f e. (at_fault _ c.self.inside.inner.fault f e c.feed.ensures.stood).0)
 
 pub returns-clause-fed : goal.returns-clause-fed

@@ -14,7 +14,7 @@ fed g c limit closed open_part w = into_of limit c.self.inside.inner closed open
 pub invariant_of-self : goal.invariant_of-self
 invariant_of-self g c =
     listed_after c.self.inside.inner c.read_part.new.self c.read_part.result c.self.invariant c.read_part.ensures.kept
-    c.read_part.ensures.told (λ f e. (at_fault _ c.self.inside.inner.fault f e c.read_part.ensures.stood).0)
+    c.read_part.ensures.reported (λ f e. (at_fault _ c.self.inside.inner.fault f e c.read_part.ensures.stood).0)
 
 read : (limit : ℕ) (l : LoadedInto Records) (at_end : Type 0) (closed : List (List ℕ)) (part : List ℕ) (r : Result (Unit {0}) LoadFault)
     → MatchResult r (λ _. at_end × WasFedInto holds_list limit l (closed ++ part ∷ []) [])

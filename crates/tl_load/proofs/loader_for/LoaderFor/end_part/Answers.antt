@@ -1,7 +1,7 @@
 use Rattle.std.proofs.Common.{◌≡◌, ℕ, List, [], ◌∷◌, ◌++◌}
 use Rattle.std.specs.Prelude.{Some, None}
 use Rattle.tl_load.specs.Keeping.{WasFedInto}
-use Rattle.tl_load.proofs.Histories.{fed_closed, fed_closed_standing, told_at, with_fault_told, stands_at, some_after}
+use Rattle.tl_load.proofs.Histories.{fed_closed, fed_closed_standing, reported_at, with_fault_reported, stands_at, some_after}
 use Rattle.tl_load.specs.Steps.{Closes}
 use Rattle.tl_load.proofs.loader_for.LoaderFor.end_part.Given as given
 use Rattle.tl_load.proofs.loader_for.LoaderFor.end_part.Goals as goal
@@ -31,8 +31,8 @@ returns-clause-fed g c = goes_on g c
 
 pub returns-clause-fault : goal.returns-clause-fault
 returns-clause-fault g c limit closed open_part w =
-    rw c.latch.ensures.same (told_at g.K.Collector.holds limit c.latch.new.self _ _ c.close_part-outcome.result
-    (rw c.latch.ensures.stands (with_fault_told c.close_part-outcome.result c.close_part-outcome.new.self))
+    rw c.latch.ensures.same (reported_at g.K.Collector.holds limit c.latch.new.self _ _ c.close_part-outcome.result
+    (rw c.latch.ensures.stands (with_fault_reported c.close_part-outcome.result c.close_part-outcome.new.self))
     (goes_on g c limit closed open_part w))
 
 pub returns-clause-kept : goal.returns-clause-kept

@@ -2,7 +2,7 @@ use Rattle.std.proofs.Common.{◌≡◌, ℕ, List, ◌++◌}
 use Rattle.std.specs.Prelude.{Some, None}
 use Rattle.tl_load.specs.Keeping.{WasFedInto}
 use Rattle.tl_load.specs.Steps.{Takes}
-use Rattle.tl_load.proofs.Histories.{fed_piece, fed_standing, stands_at, told_at, with_fault_told, well_of_step, some_after}
+use Rattle.tl_load.proofs.Histories.{fed_piece, fed_standing, stands_at, reported_at, with_fault_reported, well_of_step, some_after}
 use Rattle.tl_load.proofs.loader_for.LoaderFor.feed.Given as given
 use Rattle.tl_load.proofs.loader_for.LoaderFor.feed.Goals as goal
 
@@ -31,8 +31,8 @@ returns-clause-fed g c = goes_on g c
 
 pub returns-clause-fault : goal.returns-clause-fault
 returns-clause-fault g c limit closed open_part w =
-    rw c.latch.ensures.same (told_at g.K.Collector.holds limit c.latch.new.self _ _ c.take_piece-outcome.result
-    (rw c.latch.ensures.stands (with_fault_told c.take_piece-outcome.result c.take_piece-outcome.new.self))
+    rw c.latch.ensures.same (reported_at g.K.Collector.holds limit c.latch.new.self _ _ c.take_piece-outcome.result
+    (rw c.latch.ensures.stands (with_fault_reported c.take_piece-outcome.result c.take_piece-outcome.new.self))
     (goes_on g c limit closed open_part w))
 
 pub returns-clause-well : goal.returns-clause-well

@@ -8,7 +8,7 @@ use Rattle.tl_number.proofs.arranged.Arranged.place_pairs.Goals as goal
 pub returns-clause-polygons : goal.returns-clause-polygons
 unfolding renaming_of
 returns-clause-polygons g c =
-    c.in_ok-polygons.ensures ∙ ap (λ keys. map under_cenid (numbered keys)) c.args.self.now.polygons_told.numbers
+    c.in_ok-polygons.ensures ∙ ap (λ keys. map under_cenid (numbered keys)) c.args.self.now.polygons_stated.numbers
 
 pub returns-clause-lands : goal.returns-clause-lands
 unfolding renaming_of
@@ -18,4 +18,4 @@ returns-clause-lands g c =
     let order = arrangement_of county view.steps.items in
     c.in_ok-lands.ensures (landmarks_in_order county order)
     (subst (λ places. AreReadAt county.landmarks places (landmarks_in_order county order)) (sym c.deref.ensures.value)
-    view.landmarks_told.landmarks)
+    view.landmarks_stated.landmarks)

@@ -15,7 +15,7 @@ returns-in-Some g c =
     (sym c.in-Some.is ∙ c.key_at.ensures)
     ∙ sym (key_numbered keys c.args.place))
     ∙ sym (slice_get-map (under_number county) (numbered keys) c.args.place)
-    ∙ ap (λ es. slice_get es c.args.place) c.args.self.now.polygons_told.by_number
+    ∙ ap (λ es. slice_get es c.args.place) c.args.self.now.polygons_stated.by_number
 
 pub returns-in-None : goal.returns-in-None
 returns-in-None g c =
@@ -25,4 +25,4 @@ returns-in-None g c =
     (sym c.in-None.is ∙ c.key_at.ensures)
     ∙ sym (key_numbered keys c.args.place))
     ∙ sym (slice_get-map (under_number county) (numbered keys) c.args.place)
-    ∙ ap (λ es. slice_get es c.args.place) c.args.self.now.polygons_told.by_number
+    ∙ ap (λ es. slice_get es c.args.place) c.args.self.now.polygons_stated.by_number

@@ -9,12 +9,12 @@ returns-in-Some g c =
     let county = g.C.Chart.county c.args.self.now.chart in
     c.polygon_body_at.ensures
     ∙ read_at (entry_values county.polygons) (entry_values (stepped county c.args.self.now.steps.items).polygons)
-    c.args.self.now.polygons.places.items c.args.self.now.polygons_told.bodies c.args.place c.in-Some.old
+    c.args.self.now.polygons.places.items c.args.self.now.polygons_stated.bodies c.args.place c.in-Some.old
     (c.in-Some.ensures ∙ ap (λ places. slice_get places c.args.place) c.deref.ensures.value)
 
 pub returns-in-None : goal.returns-in-None
 returns-in-None g c =
     let county = g.C.Chart.county c.args.self.now.chart in
     read_past (entry_values county.polygons) (entry_values (stepped county c.args.self.now.steps.items).polygons)
-    c.args.self.now.polygons.places.items c.args.self.now.polygons_told.bodies c.args.place
+    c.args.self.now.polygons.places.items c.args.self.now.polygons_stated.bodies c.args.place
     (c.in-None.ensures ∙ ap (λ places. slice_get places c.args.place) c.deref.ensures.value)

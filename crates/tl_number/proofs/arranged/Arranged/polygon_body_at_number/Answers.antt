@@ -11,12 +11,12 @@ use Rattle.tl_number.proofs.arranged.Arranged.polygon_body_at_number.Goals as go
 pub returns : goal.returns
 returns g c =
     let county = g.C.Chart.county c.args.self.now.chart in
-    let told = c.args.self.now.polygons_told in
+    let stated = c.args.self.now.polygons_stated in
     let keys = c.args.self.now.polygons.numbers in
     c.flatten.ensures ∙ ap option_flatten (c.polygon_body_at_key.ensures
     ∙ content_at_number (stepped county c.args.self.now.steps.items) c.args.self.now.whole.is_county.ascending.polygons c.args.place
     (under_number county (c.args.old, c.args.place + 1))
-    (sym (ap (λ ks. slice_get ks c.args.place) (c.deref.ensures.value ∙ told.keys)) ∙ c.stands_at.ensures.0 c.if-not-stands_at.false)
-    (sym (ap (λ es. slice_get es c.args.place) told.by_number) ∙ slice_get-map (under_number county) (numbered keys) c.args.place
+    (sym (ap (λ ks. slice_get ks c.args.place) (c.deref.ensures.value ∙ stated.keys)) ∙ c.stands_at.ensures.0 c.if-not-stands_at.false)
+    (sym (ap (λ es. slice_get es c.args.place) stated.by_number) ∙ slice_get-map (under_number county) (numbered keys) c.args.place
     ∙ ap (option_map (under_number county)) (key_numbered keys c.args.place
     ∙ ap (option_map (λ (key : PolygonKey). (key, c.args.place + 1))) c.requires)))

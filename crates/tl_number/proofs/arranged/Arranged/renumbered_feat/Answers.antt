@@ -11,5 +11,5 @@ returns-in-Some g c =
     let renaming = renaming_of county (arrangement_of county c.args.self.now.steps.items) in
     ap Some (c.new_feat.ensures ∙ ap (λ pairs. image nat_cmp pairs c.in-Some.number)
     (feats_paired county c.args.self.now.steps.items (g.met.C.Chart.is_county c.args.self.now.chart) c.args.self.now.whole
-    c.args.self.now.names c.args.self.now.names_told))
+    c.args.self.now.names c.args.self.now.names_stated))
     ∙ sym (ap (option_map (image nat_cmp renaming.names)) c.in-Some.is)

@@ -8,4 +8,4 @@ returns g c =
     c.number_at.ensures ∙ ap (λ n. slice_get (up_to n) c.args.place) (ap length c.as_slice.ensures.value)
     ∙ ap (λ numbers. slice_get numbers c.args.place) (sym (lands_stepped
     (g.C.Chart.county c.args.self.now.chart) c.args.self.now.steps.items
-    (g.met.C.Chart.is_county c.args.self.now.chart) c.args.self.now.whole c.args.self.now.landmarks c.args.self.now.landmarks_told))
+    (g.met.C.Chart.is_county c.args.self.now.chart) c.args.self.now.whole c.args.self.now.landmarks c.args.self.now.landmarks_stated))

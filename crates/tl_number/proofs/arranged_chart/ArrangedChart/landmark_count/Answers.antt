@@ -5,4 +5,4 @@ use Rattle.tl_number.proofs.arranged_chart.ArrangedChart.landmark_count.Goals as
 pub returns : goal.returns
 returns g c = ap length c.as_slice.ensures.value ∙ sym (landmarks_stepped
     (g.C.Chart.county c.args.self.now.chart) c.args.self.now.steps.items
-    (g.met.C.Chart.is_county c.args.self.now.chart) c.args.self.now.whole c.args.self.now.landmarks c.args.self.now.landmarks_told)
+    (g.met.C.Chart.is_county c.args.self.now.chart) c.args.self.now.whole c.args.self.now.landmarks c.args.self.now.landmarks_stated)

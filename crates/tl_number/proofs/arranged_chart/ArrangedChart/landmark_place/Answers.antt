@@ -9,7 +9,7 @@ returns-clause-found g c =
     subst (λ (numbers : List ℕ). IfSome c.place_of_number.result (λ place. slice_get numbers place ≡ Some c.args.land))
     (ap up_to (ap length c.as_slice.ensures.value) ∙ sym (lands_stepped
     (g.C.Chart.county c.args.self.now.chart) c.args.self.now.steps.items
-    (g.met.C.Chart.is_county c.args.self.now.chart) c.args.self.now.whole c.args.self.now.landmarks c.args.self.now.landmarks_told))
+    (g.met.C.Chart.is_county c.args.self.now.chart) c.args.self.now.whole c.args.self.now.landmarks c.args.self.now.landmarks_stated))
     c.place_of_number.ensures.found
 
 pub returns-clause-known : goal.returns-clause-known
@@ -17,4 +17,4 @@ returns-clause-known g c =
     c.place_of_number.ensures.known ∙ ap (stands_in nat_cmp c.args.land)
     (ap up_to (ap length c.as_slice.ensures.value) ∙ sym (lands_stepped
     (g.C.Chart.county c.args.self.now.chart) c.args.self.now.steps.items
-    (g.met.C.Chart.is_county c.args.self.now.chart) c.args.self.now.whole c.args.self.now.landmarks c.args.self.now.landmarks_told))
+    (g.met.C.Chart.is_county c.args.self.now.chart) c.args.self.now.whole c.args.self.now.landmarks c.args.self.now.landmarks_stated))

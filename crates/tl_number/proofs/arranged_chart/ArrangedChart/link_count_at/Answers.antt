@@ -1,30 +1,30 @@
 use Rattle.std.proofs.Common.{length, ap, ◌∙◌, arith}
-use Rattle.tl_number.proofs.Views.ViewTables.{bounds_counted, bounds_told, links_told, links_ordered}
+use Rattle.tl_number.proofs.Views.ViewTables.{bounds_counted, bounds_stated, links_stated, links_ordered}
 use Rattle.tl_number.proofs.arranged_chart.ArrangedChart.link_count_at.Goals as goal
 
 pub links_of_landmark-requires-clause-in_order : goal.links_of_landmark-requires-clause-in_order
 links_of_landmark-requires-clause-in_order g c =
     links_ordered (g.C.Chart.county c.args.self.now.chart) c.args.self.now.steps.items
     (g.met.C.Chart.is_county c.args.self.now.chart) c.args.self.now.whole
-    c.args.self.now.landmarks c.args.self.now.landmarks_told c.deref.result.now c.deref.ensures.value
+    c.args.self.now.landmarks c.args.self.now.landmarks_stated c.deref.result.now c.deref.ensures.value
 
 pub links_of_landmark-requires-clause-some : goal.links_of_landmark-requires-clause-some
 links_of_landmark-requires-clause-some g c =
     let count = bounds_counted (g.C.Chart.county c.args.self.now.chart) c.args.self.now.steps.items
     (g.met.C.Chart.is_county c.args.self.now.chart) c.args.self.now.whole
-    c.args.self.now.landmarks c.args.self.now.landmarks_told in
+    c.args.self.now.landmarks c.args.self.now.landmarks_stated in
     let same = ap length c.deref-2.ensures.value in
     omega (arith, count, same)
 
 pub links_of_landmark-requires-clause-bounds : goal.links_of_landmark-requires-clause-bounds
 links_of_landmark-requires-clause-bounds g c =
-    bounds_told (g.C.Chart.county c.args.self.now.chart) c.args.self.now.steps.items
+    bounds_stated (g.C.Chart.county c.args.self.now.chart) c.args.self.now.steps.items
     (g.met.C.Chart.is_county c.args.self.now.chart) c.args.self.now.whole
-    c.args.self.now.landmarks c.args.self.now.landmarks_told c.deref.result.now c.deref-2.result.now c.deref.ensures.value
+    c.args.self.now.landmarks c.args.self.now.landmarks_stated c.deref.result.now c.deref-2.result.now c.deref.ensures.value
     c.deref-2.ensures.value
 
 pub returns : goal.returns
-returns g c = ap length (c.links_of_landmark.ensures ∙ links_told (g.C.Chart.county c.args.self.now.chart) c.args.self.now.steps.items
+returns g c = ap length (c.links_of_landmark.ensures ∙ links_stated (g.C.Chart.county c.args.self.now.chart) c.args.self.now.steps.items
     (g.met.C.Chart.is_county c.args.self.now.chart) c.args.self.now.whole
-    c.args.self.now.landmarks c.args.self.now.landmarks_told c.deref.result.now c.deref-2.result.now
+    c.args.self.now.landmarks c.args.self.now.landmarks_stated c.deref.result.now c.deref-2.result.now
     c.deref.ensures.value c.deref-2.ensures.value c.args.place)

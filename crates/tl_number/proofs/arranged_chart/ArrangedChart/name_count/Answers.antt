@@ -4,4 +4,4 @@ use Rattle.tl_number.proofs.arranged_chart.ArrangedChart.name_count.Goals as goa
 
 pub returns : goal.returns
 returns g c = c.len.ensures.len ∙ sym (names_stepped (g.C.Chart.county c.args.self.now.chart) c.args.self.now.steps.items
-    (g.met.C.Chart.is_county c.args.self.now.chart) c.args.self.now.whole c.args.self.now.names c.args.self.now.names_told)
+    (g.met.C.Chart.is_county c.args.self.now.chart) c.args.self.now.whole c.args.self.now.names c.args.self.now.names_stated)

@@ -8,4 +8,4 @@ returns g c =
     c.number_at.ensures ∙ ap (λ n. slice_get (up_to n) c.args.place) (c.len.ensures.len)
     ∙ ap (λ numbers. slice_get numbers c.args.place) (sym (nodes_stepped
     (g.C.Chart.county c.args.self.now.chart) c.args.self.now.steps.items
-    (g.met.C.Chart.is_county c.args.self.now.chart) c.args.self.now.whole c.args.self.now.nodes.numbers c.args.self.now.nodes_told.numbers))
+    (g.met.C.Chart.is_county c.args.self.now.chart) c.args.self.now.whole c.args.self.now.nodes.numbers c.args.self.now.nodes_stated.numbers))

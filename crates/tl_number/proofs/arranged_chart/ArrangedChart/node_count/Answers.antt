@@ -7,4 +7,4 @@ pub returns : goal.returns
 returns g c =
     c.len.ensures.len ∙ sym (length-range_with_len 1 _) ∙ sym (ap length (nodes_stepped
     (g.C.Chart.county c.args.self.now.chart) c.args.self.now.steps.items
-    (g.met.C.Chart.is_county c.args.self.now.chart) c.args.self.now.whole c.args.self.now.nodes.numbers c.args.self.now.nodes_told.numbers))
+    (g.met.C.Chart.is_county c.args.self.now.chart) c.args.self.now.whole c.args.self.now.nodes.numbers c.args.self.now.nodes_stated.numbers))

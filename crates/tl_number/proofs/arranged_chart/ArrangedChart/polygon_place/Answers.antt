@@ -6,5 +6,5 @@ use Rattle.tl_number.proofs.arranged_chart.ArrangedChart.polygon_place.Goals as 
 
 pub place_of-requires : goal.place_of-requires
 place_of-requires g c =
-    subst (IsInOrder key_cmp) (sym (c.as_slice.ensures.value ∙ c.args.self.now.polygons_told.keys))
+    subst (IsInOrder key_cmp) (sym (c.as_slice.ensures.value ∙ c.args.self.now.polygons_stated.keys))
     (order_from_strict key_cmp _ c.args.self.now.whole.is_county.ascending.polygons)

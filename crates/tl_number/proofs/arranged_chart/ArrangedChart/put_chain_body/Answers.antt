@@ -3,7 +3,7 @@ use Rattle.tl_layout.specs.Columns.{joined}
 use Rattle.tl_layout.specs.Turned.{body_towards}
 use Rattle.tl_layout.specs.Type1Groups.{body_1_texts}
 use Rattle.tl_number.proofs.Records.ChainPlaces.{all_at, chain_there}
-use Rattle.tl_number.proofs.Views.ViewChains.{told, untold}
+use Rattle.tl_number.proofs.Views.ViewChains.{stated, unstated}
 use Rattle.tl_number.specs.ViewFacts.{stepped}
 use Rattle.tl_shape.specs.Chain.{Chain}
 use Rattle.tl_number.proofs.arranged_chart.ArrangedChart.put_chain_body.Goals as goal
@@ -18,7 +18,7 @@ pub returns-in-Some : goal.returns-in-Some
 returns-in-Some g c =
     let seen : Chain → List ℕ = λ chain. joined (take 15 c.args.out.now) (body_1_texts (body_towards c.args.turned chain.body)) in
     c.put_body_of_step.ensures
-    ∙ told (g.C.Chart.county c.args.self.now.chart) c.args.self.now.steps.items
+    ∙ stated (g.C.Chart.county c.args.self.now.chart) c.args.self.now.steps.items
     (g.met.C.Chart.is_county c.args.self.now.chart) c.args.self.now.whole
     (λ (o : Option Chain). option_map seen o) (λ (o : Option Chain). option_map seen o) (λ chain. refl) c.args.place c.in-Some.step
     c.in-Some.ensures
@@ -29,6 +29,6 @@ returns-in-None g c =
     let county = g.C.Chart.county view.chart in
     let there = chain_there (stepped county view.steps.items) view.whole.is_county view.whole.within_limits c.args.place c.requires.place in
     let none : false ≡ is_some (Some there.entry.1) =
-    untold county view.steps.items (g.met.C.Chart.is_county view.chart) view.whole (λ (o : Option Chain). is_some o) c.args.place c.in-None.ensures
+    unstated county view.steps.items (g.met.C.Chart.is_county view.chart) view.whole (λ (o : Option Chain). is_some o) c.args.place c.in-None.ensures
     ∙ ap is_some there.chain in
     absurd (cc)

@@ -1,19 +1,19 @@
 use Rattle.std.proofs.Common.{refl, ◌∙◌, Option, slice_get}
 use Rattle.tl_county.specs.ChartWords.{ranges_of}
 use Rattle.tl_shape.specs.Chain.{Chain}
-use Rattle.tl_number.proofs.Views.ViewChains.{told, untold}
+use Rattle.tl_number.proofs.Views.ViewChains.{stated, unstated}
 use Rattle.tl_number.proofs.arranged_chart.ArrangedChart.range_at.Goals as goal
 
 pub returns-in-Some : goal.returns-in-Some
 returns-in-Some g c =
     c.range_of_step.ensures
-    ∙ told (g.C.Chart.county c.args.self.now.chart) c.args.self.now.steps.items
+    ∙ stated (g.C.Chart.county c.args.self.now.chart) c.args.self.now.steps.items
     (g.met.C.Chart.is_county c.args.self.now.chart) c.args.self.now.whole
     (λ (o : Option Chain). slice_get (ranges_of o) c.args.range) (λ (o : Option Chain). slice_get (ranges_of o) c.args.range)
     (λ chain. refl) c.args.place c.in-Some.step c.in-Some.ensures
 
 pub returns-in-None : goal.returns-in-None
 returns-in-None g c =
-    untold (g.C.Chart.county c.args.self.now.chart) c.args.self.now.steps.items
+    unstated (g.C.Chart.county c.args.self.now.chart) c.args.self.now.steps.items
     (g.met.C.Chart.is_county c.args.self.now.chart) c.args.self.now.whole
     (λ (o : Option Chain). slice_get (ranges_of o) c.args.range) c.args.place c.in-None.ensures

@@ -8,8 +8,8 @@ returns g c = λ parts set.
     let seen = masked c.args._mask in
     let sight = masked_sight c.args._mask in
     if_ok_both c.text_and_renaming.result
-    (λ told text carries. (
-      text_of_set seen sight _ _ _ set told.0.items text,
-      carried_of_set seen sight _ _ _ set c.args.county.now.whole.is_county told.0.items text told.1 carries,
+    (λ reported text carries. (
+      text_of_set seen sight _ _ _ set reported.0.items text,
+      carried_of_set seen sight _ _ _ set c.args.county.now.whole.is_county reported.0.items text reported.1 carries,
     ))
     c.text_and_renaming.ensures.text c.text_and_renaming.ensures.carries

@@ -19,5 +19,5 @@ pub returns-clause-refused : goal.returns-clause-refused
 returns-clause-refused c = λ parts fed.
     let k = c.in_ok-tables.ensures.loaded record_limit parts [] fed in
     if_err_by c.link_records.result
-    (λ fault told. (set_refused parts k.0 k.2 fault (told k.0 k.1), no_device_refused k.0 fault (told k.0 k.1)))
+    (λ fault reported. (set_refused parts k.0 k.2 fault (reported k.0 k.1), no_device_refused k.0 fault (reported k.0 k.1)))
     c.link_records.ensures.refused

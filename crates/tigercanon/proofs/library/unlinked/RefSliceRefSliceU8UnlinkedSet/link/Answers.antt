@@ -16,7 +16,7 @@ pub returns-clause-refused : goal.returns-clause-refused
 returns-clause-refused c = λ parts is.
     let l = c.in_ok-tables.ensures.spelled in
     if_err_by c.link_records.result
-    (λ fault told. rw is (set_refused _ l.0 l.2 fault (told l.0 l.1), no_device_refused l.0 fault (told l.0 l.1)))
+    (λ fault reported. rw is (set_refused _ l.0 l.2 fault (reported l.0 l.1), no_device_refused l.0 fault (reported l.0 l.1)))
     c.link_records.ensures.refused
 
 pub returns-in_err-tables-clause-refused : goal.returns-in_err-tables-clause-refused

@@ -1,11 +1,11 @@
 //! A fault reported as numbers, and its status.
 
 ghost use Rattle.std.specs.Prelude.{◌≡◌, ◌≢◌, ◌<◌, ◌⊎◌, ℕ, List};
-ghost use Rattle.tigercanon.specs.Comparing.{TellsMemoryOfAccepted, TellsRefusalOfOne};
-ghost use Rattle.tigercanon.specs.Faults.{IsWantOfMemory, TellsRefusalOfRead};
+ghost use Rattle.tigercanon.specs.Comparing.{ReportsMemoryOfAccepted, ReportsRefusalOfOne};
+ghost use Rattle.tigercanon.specs.Faults.{IsWantOfMemory, ReportsRefusalOfRead};
 ghost use Rattle.tigercanon.specs.Statuses.{status_of};
-ghost use Rattle.tigercanon_c.specs.Answers.{TellsFirstFaultOfRead, status_of_two};
-ghost use Rattle.tigercanon_c.specs.Told.{fault_told, fault_told_of_two, in_numbers, no_fault, number_at, with_numbers, with_polygon, with_type};
+ghost use Rattle.tigercanon_c.specs.Answers.{ReportsFirstFaultOfRead, status_of_two};
+ghost use Rattle.tigercanon_c.specs.Reported.{fault_reported, fault_reported_of_two, in_numbers, no_fault, number_at, with_numbers, with_polygon, with_type};
 
 use crate::edge::FaultNumbers;
 use fault_report::{FaultPlace, FaultReport};
@@ -82,40 +82,40 @@ fn in_numbers(set: u8, report: FaultReport) -> FaultNumbers
 }
 
 /// A fault in numbers. `set` is 1 or 2 for one of two sets, and else 0.
-fn fault_told(set: u8, fault: Fault) -> FaultNumbers
-    ensures { result ≡ fault_told set fault }
+fn fault_reported(set: u8, fault: Fault) -> FaultNumbers
+    ensures { result ≡ fault_reported set fault }
 {
     in_numbers(set, fault.report())
 }
 
 /// Reports that there is no fault, and returns status 0.
-pub(crate) fn tell_none(fault: &mut FaultNumbers) -> u8
+pub(crate) fn report_none(fault: &mut FaultNumbers) -> u8
     ensures status { result ≡ 0 }
-    ensures told { fault.new ≡ no_fault }
+    ensures reported { fault.new ≡ no_fault }
 {
     *fault = with_numbers(0, 0, 0, 0, 0);
     0
 }
 
 /// Reports the fault of a set, and returns its status.
-pub(crate) fn tell(of: Fault, fault: &mut FaultNumbers) -> u8
+pub(crate) fn report(of: Fault, fault: &mut FaultNumbers) -> u8
     ensures status { result ≡ status_of of }
-    ensures told { fault.new ≡ fault_told 0 of }
+    ensures reported { fault.new ≡ fault_reported 0 of }
     ensures failed { 1 < result }
-    ensures refused { (parts : List (List ℕ)) → TellsRefusalOfRead parts of → (result ≡ 3) ⊎ (result ≡ 5) }
-    ensures faulty { (parts : List (List ℕ)) → TellsFirstFaultOfRead parts of → (result ≡ 3) ⊎ (result ≡ 5) }
+    ensures refused { (parts : List (List ℕ)) → ReportsRefusalOfRead parts of → (result ≡ 3) ⊎ (result ≡ 5) }
+    ensures faulty { (parts : List (List ℕ)) → ReportsFirstFaultOfRead parts of → (result ≡ 3) ⊎ (result ≡ 5) }
     ensures memory { IsWantOfMemory of → result ≡ 5 }
 {
-    *fault = fault_told(0, of);
+    *fault = fault_reported(0, of);
     Refusal(of).status()
 }
 
 /// Reports the fault of one of two sets, and returns its status.
-pub(crate) fn tell_of_two(of: CompareFault, fault: &mut FaultNumbers) -> u8
+pub(crate) fn report_of_two(of: CompareFault, fault: &mut FaultNumbers) -> u8
     ensures status { result ≡ status_of_two of }
-    ensures told { fault.new ≡ fault_told_of_two of }
+    ensures reported { fault.new ≡ fault_reported_of_two of }
     ensures failed { 1 < result }
-    ensures refused { (a b : List (List ℕ)) → TellsRefusalOfOne a b of
+    ensures refused { (a b : List (List ℕ)) → ReportsRefusalOfOne a b of
         → ((set : ℕ) → of ≢ CompareFault.In set (Fault.Load LoadFault.Device)) → (result ≡ 3) ⊎ (result ≡ 5) }
 {
     match of {
@@ -123,11 +123,11 @@ pub(crate) fn tell_of_two(of: CompareFault, fault: &mut FaultNumbers) -> u8
             set,
             fault: tag_set,
         } => {
-            *fault = fault_told(set, tag_set);
+            *fault = fault_reported(set, tag_set);
             Refusal(tag_set).status()
         }
         CompareFault::Memory => {
-            *fault = fault_told(0, Fault::Memory);
+            *fault = fault_reported(0, Fault::Memory);
             5
         }
     }

@@ -79,10 +79,10 @@ abbrev pub in_numbers : ℕ → FaultReport → FaultNumbers
 in_numbers set report = at_places set (refusal_number report.kind) report.places
 
 -- A fault of a set in numbers. The set is 0 if only one is read.
-abbrev pub fault_told : ℕ → Fault → FaultNumbers
-fault_told set fault = in_numbers set (report_of fault)
+abbrev pub fault_reported : ℕ → Fault → FaultNumbers
+fault_reported set fault = in_numbers set (report_of fault)
 
 -- the fault of one of two sets as numbers; if memory ran out for neither set in particular, it names no set
-abbrev pub fault_told_of_two : CompareFault → FaultNumbers
-fault_told_of_two (In set fault) = fault_told set fault
-fault_told_of_two NoVerdict = fault_told 0 Memory
+abbrev pub fault_reported_of_two : CompareFault → FaultNumbers
+fault_reported_of_two (In set fault) = fault_reported set fault
+fault_reported_of_two NoVerdict = fault_reported 0 Memory

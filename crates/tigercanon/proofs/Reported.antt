@@ -6,8 +6,8 @@ use Rattle.tl_load.specs.declared.fault.LoadFault.{LoadFault}
 use Rattle.tl_load.specs.declared.fault.LoadFault.TheVariants as faults
 use Rattle.tl_county.specs.declared.fault.LinkFault.TheVariants.{Memory as LinkMemory}
 use Rattle.tl_profile.specs.declared.fault.ProfileFault.TheVariants.{Memory as ProfileMemory}
-use Rattle.tigercanon.specs.Comparing.{TellsMemoryOfAccepted, TellsRefusalOfOne, TellsRefusalOfOneRead}
-use Rattle.tigercanon.specs.Faults.{IsWantOfMemory, TellsRefusal, TellsRefusalOfRead}
+use Rattle.tigercanon.specs.Comparing.{ReportsMemoryOfAccepted, ReportsRefusalOfOne, ReportsRefusalOfOneRead}
+use Rattle.tigercanon.specs.Faults.{IsWantOfMemory, ReportsRefusal, ReportsRefusalOfRead}
 use Rattle.tigercanon.specs.Sets.{IsAcceptedSet}
 use Rattle.tigercanon.specs.declared.fault.Fault.{Fault}
 use Rattle.tigercanon.specs.declared.fault.Fault.TheVariants.{Load, Link, Profile, Write, Memory}
@@ -31,43 +31,43 @@ is_not_device faults.Memory other = tt
 
 -- for an accepted set only out of memory can be reported
 module _ (parts : List (List ℕ)) (records : List Record) (accepted : IsAcceptedSet parts records) where
-  pub accepted_wants_memory : (f : Fault) → TellsRefusalOfRead parts f → IsWantOfMemory f
-  accepted_wants_memory (Load f) told = memory_alone parts records f accepted.spelled told.0 (is_not_device f (λ e. told.1 (ap Load e)))
-  accepted_wants_memory (Link f) told = go (link_memory_or_not f)
+  pub accepted_wants_memory : (f : Fault) → ReportsRefusalOfRead parts f → IsWantOfMemory f
+  accepted_wants_memory (Load f) reported = memory_alone parts records f accepted.spelled reported.0 (is_not_device f (λ e. reported.1 (ap Load e)))
+  accepted_wants_memory (Link f) reported = go (link_memory_or_not f)
     where
       go : (f ≡ LinkMemory) ⊎ (f ≢ LinkMemory) → IsWantOfMemory (Link f)
       go (inl e) = subst (λ g. IsWantOfMemory (Link g)) (sym e) tt
-      go (inr other) = absurd (accepted_set_not_refused parts records (Link f) accepted (told.0 other))
-  accepted_wants_memory (Profile f) told = go (profile_memory_or_not f)
+      go (inr other) = absurd (accepted_set_not_refused parts records (Link f) accepted (reported.0 other))
+  accepted_wants_memory (Profile f) reported = go (profile_memory_or_not f)
     where
       go : (f ≡ ProfileMemory) ⊎ (f ≢ ProfileMemory) → IsWantOfMemory (Profile f)
       go (inl e) = subst (λ g. IsWantOfMemory (Profile g)) (sym e) tt
-      go (inr other) = absurd (accepted_set_not_refused parts records (Profile f) accepted (told.0 other))
-  accepted_wants_memory (Write f) told = told.0
-  accepted_wants_memory Memory told = tt
+      go (inr other) = absurd (accepted_set_not_refused parts records (Profile f) accepted (reported.0 other))
+  accepted_wants_memory (Write f) reported = reported.0
+  accepted_wants_memory Memory reported = tt
 
-module _ {T : Type 0} (parts : List (List ℕ)) (r : Result T Fault) (told : IfErr r (TellsRefusalOfRead parts)) where
-  pub told_refused : IfErr r (TellsRefusal parts)
-  told_refused = if_err_by r (λ f h. h.0) told
+module _ {T : Type 0} (parts : List (List ℕ)) (r : Result T Fault) (reported : IfErr r (ReportsRefusalOfRead parts)) where
+  pub reported_refused : IfErr r (ReportsRefusal parts)
+  reported_refused = if_err_by r (λ f h. h.0) reported
 
-  pub told_no_device : r ≢ Err (Load faults.Device)
-  told_no_device e = (err_holds (TellsRefusalOfRead parts) r (Load faults.Device) e told).1 refl
+  pub reported_no_device : r ≢ Err (Load faults.Device)
+  reported_no_device e = (err_holds (ReportsRefusalOfRead parts) r (Load faults.Device) e reported).1 refl
 
-  pub told_succeeds : (records : List Record) → IsAcceptedSet parts records → IfErr r IsWantOfMemory
-  told_succeeds records accepted = if_err_by r (accepted_wants_memory parts records accepted) told
+  pub reported_succeeds : (records : List Record) → IsAcceptedSet parts records → IfErr r IsWantOfMemory
+  reported_succeeds records accepted = if_err_by r (accepted_wants_memory parts records accepted) reported
 
 -- the same for two sets
 module _ (a b : List (List ℕ)) where
-  pub one_refused : (f : CompareFault) → TellsRefusalOfOneRead a b f → TellsRefusalOfOne a b f
+  pub one_refused : (f : CompareFault) → ReportsRefusalOfOneRead a b f → ReportsRefusalOfOne a b f
   one_refused (In set f) (inl h) = inl (h.0, h.1.0)
   one_refused (In set f) (inr h) = inr (h.0, h.1, h.2.0)
   one_refused NoMemory h = absurd h
 
-  pub one_no_device : (set : ℕ) → TellsRefusalOfOneRead a b (In set (Load faults.Device)) → ⊥
+  pub one_no_device : (set : ℕ) → ReportsRefusalOfOneRead a b (In set (Load faults.Device)) → ⊥
   one_no_device set (inl h) = h.1.1 refl
   one_no_device set (inr h) = h.2.1 refl
 
-  pub one_succeeds : (f : CompareFault) → TellsRefusalOfOneRead a b f → TellsMemoryOfAccepted a b f
+  pub one_succeeds : (f : CompareFault) → ReportsRefusalOfOneRead a b f → ReportsMemoryOfAccepted a b f
   one_succeeds (In set f) (inl h) = (
     (λ is accepted. accepted_wants_memory a accepted.0 accepted.1 f h.1),
     (λ is accepted. absurd cc),

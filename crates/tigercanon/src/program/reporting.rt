@@ -2,12 +2,12 @@
 
 ghost use Rattle.std.specs.IoError.{error_kind};
 ghost use Rattle.std.specs.Prelude.{◌≡◌, ◌<◌, IfErr, IfOk};
-ghost use Rattle.tigercanon.specs.Outcomes.{TellsLineTo};
+ghost use Rattle.tigercanon.specs.Outcomes.{ReportsLineTo};
 ghost use Rattle.tigercanon.specs.Refusals.{IsUsage, not_utf8, plan_text_of};
 ghost use Rattle.tigercanon.specs.Statuses.{plan_status_of};
 
 use crate::fault::Fault;
-use crate::program::ending::{Stopped, tell_line, tell_stopped};
+use crate::program::ending::{Stopped, report_stopped, write_line};
 use command_line::PlanFault;
 use std::alloc::Global;
 use std::io::{Error, ErrorKind};
@@ -32,17 +32,17 @@ pub fn args_error(alloc: Global, error: &Error) -> PlanFault
 
 /// Writes to a sink why a command line isn't a plan, and returns the exit status: 2 for the usage, 5 for a failed allocation. The
 /// whole text is written unless the sink fails.
-pub fn tell<E: Sink>(fault: &PlanFault, err: &mut E) -> u8
+pub fn report<E: Sink>(fault: &PlanFault, err: &mut E) -> u8
     requires { E.failed err.old < u64.MAX }
     ensures status { result ≡ plan_status_of fault.now }
-    ensures told { TellsLineTo E.failed E.holds err.old err.new (plan_text_of fault.now) }
+    ensures reported { ReportsLineTo E.failed E.holds err.old err.new (plan_text_of fault.now) }
 {
     match fault {
         PlanFault::Usage(text) => {
-            tell_line(text.as_bytes(), err);
+            write_line(text.as_bytes(), err);
             2
         }
-        PlanFault::Memory => tell_stopped(
+        PlanFault::Memory => report_stopped(
             Stopped {
                 fault: Fault::Memory,
                 set: None,
@@ -56,11 +56,11 @@ pub fn tell<E: Sink>(fault: &PlanFault, err: &mut E) -> u8
 pub fn exit_status<E: Sink>(outcome: Result<u8, PlanFault>, err: &mut E) -> u8
     requires { E.failed err.old < u64.MAX }
     ensures done { IfOk outcome (λ status. (result ≡ status) × (err.new ≡ err.old)) }
-    ensures told { IfErr outcome (λ fault. (result ≡ plan_status_of fault)
-        × TellsLineTo E.failed E.holds err.old err.new (plan_text_of fault)) }
+    ensures reported { IfErr outcome (λ fault. (result ≡ plan_status_of fault)
+        × ReportsLineTo E.failed E.holds err.old err.new (plan_text_of fault)) }
 {
     match outcome {
         Ok(status) => status,
-        Err(fault) => tell(&fault, err),
+        Err(fault) => report(&fault, err),
     }
 }

@@ -1,8 +1,0 @@
-use Rattle.tigercanon.proofs.Leaving.{line_told}
-use Rattle.tigercanon.proofs.program.ending.tell_line.Goals as goal
-
-pub returns : goal.returns
-returns g c =
-    let w = c.write_text.ensures in
-    line_told g.E.Sink.failed g.E.Sink.holds c.args.err.now c.write_text.new.out c.args.line.now c.write_text.result w.whole w.none_failed
-    w.stopped w.failed
