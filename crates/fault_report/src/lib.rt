@@ -10,5 +10,5 @@ mod line;
 mod report;
 
 pub use kind::FaultKind;
-pub use line::{Line, push, push_digits};
+pub use line::{LINE_CAPACITY, Line, push, push_digits};
 pub use report::{FaultPlace, FaultReport};

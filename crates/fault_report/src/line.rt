@@ -8,15 +8,15 @@ ghost use Rattle.fault_report.specs.Reports.{place_text};
 use crate::report::FaultPlace;
 use arrayvec::ArrayVec;
 
-/// The capacity of a line. Every line is shorter.
-const CAPACITY: usize = 160;
+/// The capacity of a line, in bytes. Every line is shorter.
+pub const LINE_CAPACITY: usize = 160;
 
 /// A line that reports a fault.
-pub type Line = ArrayVec<u8, CAPACITY>;
+pub type Line = ArrayVec<u8, LINE_CAPACITY>;
 
 /// Appends bytes.
 pub fn push(line: &mut Line, bytes: &[u8])
-    requires { length line.old.items + length bytes.now ≤ CAPACITY }
+    requires { length line.old.items + length bytes.now ≤ LINE_CAPACITY }
     ensures bytes { line.new.items ≡ line.old.items ++ bytes.now }
     ensures length { length line.new.items ≡ length line.old.items + length bytes.now }
 {
@@ -25,7 +25,7 @@ pub fn push(line: &mut Line, bytes: &[u8])
 
 /// Appends a number in decimal.
 pub fn push_digits(line: &mut Line, number: u64)
-    requires { length line.old.items + 20 ≤ CAPACITY }
+    requires { length line.old.items + 20 ≤ LINE_CAPACITY }
     ensures bytes { line.new.items ≡ line.old.items ++ decimal number }
     ensures length { length line.new.items ≤ length line.old.items + 20 }
 {
@@ -35,7 +35,7 @@ pub fn push_digits(line: &mut Line, number: u64)
 
 /// Appends a blank and a number in decimal.
 fn push_number(line: &mut Line, number: u64)
-    requires { length line.old.items + 21 ≤ CAPACITY }
+    requires { length line.old.items + 21 ≤ LINE_CAPACITY }
     ensures bytes { line.new.items ≡ line.old.items ++ 32 ∷ decimal number }
     ensures length { length line.new.items ≤ length line.old.items + 21 }
 {
@@ -45,7 +45,7 @@ fn push_number(line: &mut Line, number: u64)
 
 /// Appends a blank and the character of a record type.
 fn push_record_type(line: &mut Line, byte: u8)
-    requires { length line.old.items + 21 ≤ CAPACITY }
+    requires { length line.old.items + 21 ≤ LINE_CAPACITY }
     ensures bytes { line.new.items ≡ line.old.items ++ 32 ∷ encode_utf8 byte }
     ensures length { length line.new.items ≤ length line.old.items + 21 }
 {
@@ -59,7 +59,7 @@ fn push_record_type(line: &mut Line, byte: u8)
 
 /// Appends a blank and a CENID in hexadecimal digits.
 fn push_cenid(line: &mut Line, cenid: &[u8; 5])
-    requires { length line.old.items + 21 ≤ CAPACITY }
+    requires { length line.old.items + 21 ≤ LINE_CAPACITY }
     ensures bytes { line.new.items ≡ line.old.items ++ 32 ∷ encode_lower cenid.now }
     ensures length { length line.new.items ≤ length line.old.items + 21 }
 {
@@ -71,7 +71,7 @@ fn push_cenid(line: &mut Line, cenid: &[u8; 5])
 
 /// Appends a place, after a blank.
 pub(crate) fn push_place(line: &mut Line, place: &FaultPlace)
-    requires { length line.old.items + 21 ≤ CAPACITY }
+    requires { length line.old.items + 21 ≤ LINE_CAPACITY }
     ensures bytes { line.new.items ≡ line.old.items ++ place_text place.now }
     ensures length { length line.new.items ≤ length line.old.items + 21 }
 {
