@@ -64,8 +64,8 @@ pub struct CanonicalText {
 fn append_line<L: Layout>(text: &mut Vec<u8>, found: &L) -> Result<(), AllocError>
     ensures { OnOk result (text.new.items ≡ text.old.items ++ (L.spelling found.now ++ 10 ∷ [])) }
 {
-    let mut room = [0; LONGEST_LINE + 1];
-    let line = &mut room[..L::LEN + 1];
+    let mut buffer = [0; LONGEST_LINE + 1];
+    let line = &mut buffer[..L::LEN + 1];
     put_line(found, line);
     reserve_ahead(text, L::LEN + 1);
     Ok(text.extend_from_slice(line)?)

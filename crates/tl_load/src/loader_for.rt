@@ -302,11 +302,11 @@ impl<K: Collector> LoaderFor<K> {
     }
 
     /// Feeds the bytes that the source returns until it returns none, and closes the part.
-    fn read_to_end<R: Source>(&mut self, source: &mut R, room: &mut [u8]) -> Result<(), LoadFault>
+    fn read_to_end<R: Source>(&mut self, source: &mut R, buffer: &mut [u8]) -> Result<(), LoadFault>
         requires parts { self.old.parts < u64.MAX }
-        requires some_room { 0 < length room.old }
+        requires some_room { 0 < length buffer.old }
         requires failures { R.failed source.old < u64.MAX }
-        ensures reads { (taken : List ℕ) × Gave R.remaining R.given source.old source.new taken × (length taken ≤ MOST_BYTES + length room.old)
+        ensures reads { (taken : List ℕ) × Gave R.remaining R.given source.old source.new taken × (length taken ≤ MOST_BYTES + length buffer.old)
             × Lifts K.holds (ReadsPart taken (IsAtEnd (R.remaining source.new))) self.old result self.new }
         ensures stops { StopsThere R.remaining R.given R.reads source.old source.new (TakesWell K.holds self.old) }
         ensures limit { self.new.limit ≡ self.old.limit }
@@ -317,14 +317,14 @@ impl<K: Collector> LoaderFor<K> {
         // This makes the loader's invariant known from here on.
         let _ = &self.line;
         loop {
-            let count = match source.read(room) {
+            let count = match source.read(buffer) {
                 Ok(count) => count,
                 Err(_) => return Err(LoadFault::Device),
             };
             if count == 0 {
                 return self.close_part();
             }
-            self.take_piece(&room[..count])?;
+            self.take_piece(&buffer[..count])?;
         }
     }
 
@@ -424,8 +424,8 @@ impl<K: Collector> LoaderFor<K> {
         ensures device { self.old.fault ≡ None → R.failed source.new ≡ (if is_device result then R.failed source.old + 1 else R.failed source.old) }
         ensures kept { HasSome K.holds self.old → OnOk result (HasSome K.holds self.new) }
     {
-        let mut room = [0; READ_BYTES];
-        self.read_part_by(source, &mut room)
+        let mut buffer = [0; READ_BYTES];
+        self.read_part_by(source, &mut buffer)
     }
 
     /// Like [`LoaderFor::read_part`], but reads through the caller's buffer, at most its length at a time. The buffer must not
@@ -433,14 +433,14 @@ impl<K: Collector> LoaderFor<K> {
     pub fn read_part_by<R: Source>(
         &mut self,
         source: &mut R,
-        room: &mut [u8],
+        buffer: &mut [u8],
     ) -> Result<(), LoadFault>
         requires parts { self.old.parts < u64.MAX }
-        requires some_room { 0 < length room.old }
+        requires some_room { 0 < length buffer.old }
         requires failures { R.failed source.old < u64.MAX }
         // The source's bytes were fed into the open part. There is a bound on them, so even an endless source can't keep the
         // call from returning.
-        ensures fed { (taken : List ℕ) × Gave R.remaining R.given source.old source.new taken × (length taken ≤ MOST_BYTES + length room.old)
+        ensures fed { (taken : List ℕ) × Gave R.remaining R.given source.old source.new taken × (length taken ≤ MOST_BYTES + length buffer.old)
             × FedPart (WasFedInto K.holds) self.old taken (IsAtEnd (R.remaining source.new)) result self.new }
         // Nothing is read after the read that causes a fault.
         ensures stops { self.old.fault ≡ None
@@ -457,7 +457,7 @@ impl<K: Collector> LoaderFor<K> {
         match self.fault {
             Some(fault) => Err(fault),
             None => {
-                let outcome = self.read_to_end(source, room);
+                let outcome = self.read_to_end(source, buffer);
                 self.latch(outcome)
             }
         }

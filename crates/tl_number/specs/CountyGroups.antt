@@ -4,7 +4,6 @@ use Rattle.tl_layout.specs.Coordinates.{Coordinates}
 use Rattle.tl_layout.specs.Fields.{Fields1, Fields2, Fields4, Fields5, Fields6, Fields7, Fields8, FieldsI, FieldsP}
 use Rattle.tl_layout.specs.declared.record_type.Record.{Record}
 use Rattle.tl_layout.specs.declared.record_type.Record.TheVariants.{One, Two, Four, Five, Six, Seven, Eight, I, P}
-use Rattle.tl_layout.specs.declared.type_i.BodyI.{BodyI}
 use Rattle.tl_layout.specs.declared.type_p.BodyP.{BodyP}
 use Rattle.tl_county.specs.County.{County}
 use Rattle.tl_county.specs.ChartWords.{chain_at}
@@ -31,10 +30,6 @@ type_4_by_chain county = map packed_fours county.chains
 
 abbrev pub type_6_by_chain : County → List (List Fields6)
 type_6_by_chain county = map packed_sixes county.chains
-
--- the content of the record of type I of the chain at a place
-abbrev pub IsLinkBodyAt : County → ℕ → Option BodyI → Type 0
-IsLinkBodyAt county place body = body ≡ option_map (λ chain. chain.topology) (chain_at county place)
 
 -- the type I record of each chain
 abbrev pub type_i_by_chain : County → List (List FieldsI)

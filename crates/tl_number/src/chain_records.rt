@@ -7,7 +7,7 @@ ghost use Rattle.tl_county.specs.Packing.{inner_points};
 use crate::groups::RecordGroups;
 use arrayvec::ArrayVec;
 use tl_county::Chart;
-use tl_layout::{BodyI, Point, Rec1, Rec2, Rec4, Rec6, RecI};
+use tl_layout::{Point, Rec1, Rec2, Rec4, Rec6, RecI};
 
 /// The number of shape points in a full record of type 2.
 const POINTS_A_RECORD: usize = 10;
@@ -217,39 +217,41 @@ impl<C: Chart> RecordGroups for RangeRecords<'_, C> {
     }
 }
 
-/// The record of type I of each chain: its nodes and the polygons on its sides.
+/// The record of type I of each chain: its nodes and the polygons on its sides. A head is a byte made from two bytes of the record's
+/// content. It has no meaning: reading it brings the content into the cache before the record is written.
 #[derive(Drop)]
 pub struct TopologyRecords<'a, C: Chart> {
     pub chart: &'a C,
 }
 
 impl<C: Chart> RecordGroups for TopologyRecords<'_, C> {
-    ghost use Rattle.tl_number.specs.CountyGroups.{IsLinkBodyAt, type_i_by_chain};
+    ghost use Rattle.tl_number.specs.CountyGroups.{type_i_by_chain};
 
     type Item = RecI;
 
-    type Head = Option<BodyI>;
+    type Head = u8;
 
     ghost groups = { λ g. type_i_by_chain (C.county g.chart.now) };
 
-    ghost IsHead = { λ g. IsLinkBodyAt (C.county g.chart.now) };
+    ghost IsHead = { λ _ _ _. Unit {0} };
 
     fn count(&self) -> usize {
         self.chart.chain_count()
     }
 
-    fn head(&self, group: usize) -> Option<BodyI> {
-        self.chart.link_body_at(group)
+    fn head(&self, group: usize) -> u8 {
+        let body = self.chart.link_body_there(group);
+        body.file.as_bytes()[0] ^ body.rs_i3.as_bytes()[9]
     }
 
-    fn count_in(&self, _group: usize, _head: Option<BodyI>) -> usize {
+    fn count_in(&self, _group: usize, _head: u8) -> usize {
         1
     }
 
-    fn record(&self, group: usize, head: Option<BodyI>, _place: usize) -> RecI {
+    fn record(&self, group: usize, _head: u8, _place: usize) -> RecI {
         RecI::new(
             self.chart.tlid_there(group),
-            head.unwrap(),
+            self.chart.link_body_there(group),
             self.chart.start_node_there(group),
             self.chart.end_node_there(group),
             self.chart.left_there(group),
@@ -257,10 +259,10 @@ impl<C: Chart> RecordGroups for TopologyRecords<'_, C> {
         )
     }
 
-    fn put(&self, group: usize, head: Option<BodyI>, _place: usize, out: &mut [u8]) {
+    fn put(&self, group: usize, _head: u8, _place: usize, out: &mut [u8]) {
         RecI::put_fields(
             self.chart.tlid_there(group),
-            head.as_ref().unwrap(),
+            &self.chart.link_body_there(group),
             self.chart.start_node_there(group),
             self.chart.end_node_there(group),
             &self.chart.left_there(group),

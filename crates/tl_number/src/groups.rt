@@ -51,7 +51,7 @@ pub trait RecordGroups {
         requires group { group < length (groups self.now) }
         requires head { IsHead self.now group head }
         requires place { place < length (group_at (groups self.now) group) }
-        requires room { length out.old ≡ Self.Item.LEN }
+        requires buffer { length out.old ≡ Self.Item.LEN }
         ensures { Some out.new ≡ option_map Self.Item.spelling (slice_get (group_at (groups self.now) group) place) }
     {
         self.record(group, head, place).put(out);
@@ -60,21 +60,21 @@ pub trait RecordGroups {
 
 /// Reads the heads of groups from one of them on, until the buffer is full or there are no more groups, and returns their
 /// number.
-pub fn read_heads<G: RecordGroups>(groups: &G, first: usize, room: &mut [G::Head]) -> usize
+pub fn read_heads<G: RecordGroups>(groups: &G, first: usize, buffer: &mut [G::Head]) -> usize
     requires { first < length (G.groups groups.now) }
-    ensures count { result ≡ min (length (G.groups groups.now) - first) (length room.old) }
-    ensures heads { AreHeads (G.IsHead groups.now) first (take result room.new) }
-    ensures room { length room.new ≡ length room.old }
+    ensures count { result ≡ min (length (G.groups groups.now) - first) (length buffer.old) }
+    ensures heads { AreHeads (G.IsHead groups.now) first (take result buffer.new) }
+    ensures buffer { length buffer.new ≡ length buffer.old }
 {
-    let count = (groups.count() - first).min(room.len());
+    let count = (groups.count() - first).min(buffer.len());
     for ahead in 0..count {
-        room[ahead] = groups.head(first + ahead);
+        buffer[ahead] = groups.head(first + ahead);
     }
     count
 }
 
 /// Passes on the records of one group, in their order.
-fn give_group<D, G: RecordGroups, T: RecordVisitor<D>>(
+fn visit_whole_group<D, G: RecordGroups, T: RecordVisitor<D>>(
     groups: &G,
     group: usize,
     head: G::Head,
@@ -94,7 +94,7 @@ fn give_group<D, G: RecordGroups, T: RecordVisitor<D>>(
 }
 
 /// Passes on the records of the groups with these heads, from one group on, group after group.
-fn give_headed<D, G: RecordGroups, T: RecordVisitor<D>>(
+fn visit_headed<D, G: RecordGroups, T: RecordVisitor<D>>(
     groups: &G,
     first: usize,
     heads: &[G::Head],
@@ -110,19 +110,19 @@ fn give_headed<D, G: RecordGroups, T: RecordVisitor<D>>(
     ensures ready { OnOk result (T.IsReady visitor.new device.new) }
 {
     for ahead in 0..heads.len() {
-        give_group(groups, first + ahead, heads[ahead], visitor, device)?;
+        visit_whole_group(groups, first + ahead, heads[ahead], visitor, device)?;
     }
     Ok(())
 }
 
-/// Passes on the records of all groups, group after group. `room` is the buffer for heads.
-pub(crate) fn give_groups<D, G: RecordGroups, T: RecordVisitor<D>>(
+/// Passes on the records of all groups, group after group. Heads are read into `buffer`.
+pub(crate) fn visit_groups<D, G: RecordGroups, T: RecordVisitor<D>>(
     groups: &G,
-    room: &mut [G::Head],
+    buffer: &mut [G::Head],
     visitor: &mut T,
     device: &mut D,
 ) -> Result<(), T::Fault>
-    requires room { 0 < length room.old }
+    requires buffer { 0 < length buffer.old }
     requires ready { T.IsReady visitor.old device.old }
     ensures given { T.Takes (map G.Item.as_record (grouped (G.groups groups.now))) visitor.old device.old result visitor.new device.new }
     ensures ready { OnOk result (T.IsReady visitor.new device.new) }
@@ -130,8 +130,8 @@ pub(crate) fn give_groups<D, G: RecordGroups, T: RecordVisitor<D>>(
     let count = groups.count();
     let mut first = 0;
     while first < count {
-        let heads = read_heads(groups, first, room);
-        give_headed(groups, first, &room[..heads], visitor, device)?;
+        let heads = read_heads(groups, first, buffer);
+        visit_headed(groups, first, &buffer[..heads], visitor, device)?;
         first += heads;
     }
     Ok(())

@@ -1,7 +1,7 @@
 //! Buffers for the heads of groups.
 
 use tl_county::PolygonKey;
-use tl_layout::{BodyI, BodyP, Point};
+use tl_layout::{BodyP, Point};
 
 /// How many heads are read together, so that no head waits for the one before it: the data of groups may be anywhere in memory.
 const HEADS_TOGETHER: usize = 64;
@@ -13,8 +13,8 @@ pub struct HeadBuffers {
     pub counts: [usize; HEADS_TOGETHER],
     /// The ends of chains.
     pub ends: [(Point, Point); HEADS_TOGETHER],
-    /// The contents of the type I records of chains.
-    pub link_bodies: [Option<BodyI>; HEADS_TOGETHER],
+    /// A byte from the content of the type I record of each chain.
+    pub topology_bytes: [u8; HEADS_TOGETHER],
     /// The keys of polygons, and the contents of their type P records.
     pub polygons: [(PolygonKey, Option<BodyP>); HEADS_TOGETHER],
 }
@@ -25,7 +25,7 @@ impl HeadBuffers {
         HeadBuffers {
             counts: [0; HEADS_TOGETHER],
             ends: [Default::default(); HEADS_TOGETHER],
-            link_bodies: [None; HEADS_TOGETHER],
+            topology_bytes: [0; HEADS_TOGETHER],
             polygons: [Default::default(); HEADS_TOGETHER],
         }
     }

@@ -19,7 +19,6 @@ mod canon_county;
 mod chain_records;
 mod cursor;
 mod first_appearance;
-mod giving;
 mod group_order;
 mod groups;
 mod heads;
@@ -44,6 +43,7 @@ mod step_readers;
 mod text_order;
 mod type_1_order;
 mod type_i_and_p_order;
+mod visiting;
 mod visitor;
 
 pub use arranged::{Arranged, Evidence, Unknown};
@@ -53,7 +53,6 @@ pub use canon_county::{CanonCounty, CanonCountyIn, Canonical};
 pub use chain_records::{
     ChainRecords, FurtherNameRecords, RangeRecords, ShapePointRecords, TopologyRecords,
 };
-pub use giving::visit_records;
 pub use groups::{RecordGroups, read_heads};
 pub use heads::HeadBuffers;
 pub use laws::{
@@ -73,4 +72,5 @@ pub use numbers::{Interner, NumericKey};
 pub use polygon_records::PolygonRecords;
 pub use record_eq::RecordEq;
 pub use sameness::same_records;
+pub use visiting::visit_records;
 pub use visitor::RecordVisitor;

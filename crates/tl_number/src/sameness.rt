@@ -77,11 +77,11 @@ fn are_same_headed<L: RecordEq, G: RecordGroups<Item = L>, H: RecordGroups<Item 
 fn are_same_groups<L: RecordEq, G: RecordGroups<Item = L>, H: RecordGroups<Item = L>>(
     a: &G,
     b: &H,
-    room: &mut [G::Head],
+    buffer: &mut [G::Head],
     other: &mut [H::Head],
 ) -> bool
-    requires room { 0 < length room.old }
-    requires other { length other.old ≡ length room.old }
+    requires buffer { 0 < length buffer.old }
+    requires other { length other.old ≡ length buffer.old }
     ensures { Decides result (G.groups a.now ≡ H.groups b.now) }
 {
     let count = a.count();
@@ -90,9 +90,9 @@ fn are_same_groups<L: RecordEq, G: RecordGroups<Item = L>, H: RecordGroups<Item 
     }
     let mut first = 0;
     while first < count {
-        let heads = read_heads(a, first, room);
+        let heads = read_heads(a, first, buffer);
         let others = read_heads(b, first, other);
-        let same = are_same_headed(a, b, first, &room[..heads], &other[..others]);
+        let same = are_same_headed(a, b, first, &buffer[..heads], &other[..others]);
         if !same {
             return false;
         }
@@ -115,7 +115,7 @@ fn have_same_counts<A: Chart, B: Chart>(a: &A, b: &B) -> bool
 fn have_same_heads<A: Chart, B: Chart>(
     a: &A,
     b: &B,
-    room: &mut HeadBuffers,
+    buffer: &mut HeadBuffers,
     other: &mut HeadBuffers,
 ) -> bool
     ensures { Decides result (HaveSameHeads (A.county a.now) (B.county b.now)) }
@@ -123,13 +123,13 @@ fn have_same_heads<A: Chart, B: Chart>(
     are_same_groups(
         &ChainRecords { chart: a },
         &ChainRecords { chart: b },
-        &mut room.ends,
+        &mut buffer.ends,
         &mut other.ends,
     ) && are_same_groups(
         &TopologyRecords { chart: a },
         &TopologyRecords { chart: b },
-        &mut room.link_bodies,
-        &mut other.link_bodies,
+        &mut buffer.topology_bytes,
+        &mut other.topology_bytes,
     )
 }
 
@@ -137,7 +137,7 @@ fn have_same_heads<A: Chart, B: Chart>(
 fn have_same_lists<A: Chart, B: Chart>(
     a: &A,
     b: &B,
-    room: &mut HeadBuffers,
+    buffer: &mut HeadBuffers,
     other: &mut HeadBuffers,
 ) -> bool
     ensures { Decides result (HaveSameLists (A.county a.now) (B.county b.now)) }
@@ -145,17 +145,17 @@ fn have_same_lists<A: Chart, B: Chart>(
     are_same_groups(
         &ShapePointRecords { chart: a },
         &ShapePointRecords { chart: b },
-        &mut room.counts,
+        &mut buffer.counts,
         &mut other.counts,
     ) && are_same_groups(
         &FurtherNameRecords { chart: a },
         &FurtherNameRecords { chart: b },
-        &mut room.counts,
+        &mut buffer.counts,
         &mut other.counts,
     ) && are_same_groups(
         &RangeRecords { chart: a },
         &RangeRecords { chart: b },
-        &mut room.counts,
+        &mut buffer.counts,
         &mut other.counts,
     )
 }
@@ -165,21 +165,21 @@ fn have_same_lists<A: Chart, B: Chart>(
 fn have_same_chains<A: Chart, B: Chart>(
     a: &A,
     b: &B,
-    room: &mut HeadBuffers,
+    buffer: &mut HeadBuffers,
     other: &mut HeadBuffers,
 ) -> bool
     ensures { Decides result (HaveSameCounts (A.county a.now) (B.county b.now) × HaveSameChains (A.county a.now) (B.county b.now)) }
 {
     have_same_counts(a, b)
-        && have_same_heads(a, b, room, other)
-        && have_same_lists(a, b, room, other)
+        && have_same_heads(a, b, buffer, other)
+        && have_same_lists(a, b, buffer, other)
 }
 
 /// Whether two counties have the same records of types 7 and 8.
 fn have_same_landmarks<A: Chart, B: Chart>(
     a: &CanonCounty<A>,
     b: &CanonCounty<B>,
-    room: &mut HeadBuffers,
+    buffer: &mut HeadBuffers,
     other: &mut HeadBuffers,
 ) -> bool
     ensures { Decides result (HaveSameLandmarks (arranged_county a.now) (arranged_county b.now)) }
@@ -187,12 +187,12 @@ fn have_same_landmarks<A: Chart, B: Chart>(
     are_same_groups(
         &LandmarkRecords { chart: a },
         &LandmarkRecords { chart: b },
-        &mut room.counts,
+        &mut buffer.counts,
         &mut other.counts,
     ) && are_same_groups(
         &LandmarkLinkRecords { county: a },
         &LandmarkLinkRecords { county: b },
-        &mut room.counts,
+        &mut buffer.counts,
         &mut other.counts,
     )
 }
@@ -202,7 +202,7 @@ fn have_same_landmarks<A: Chart, B: Chart>(
 fn have_same_entries<A: Chart, B: Chart>(
     a: &CanonCounty<A>,
     b: &CanonCounty<B>,
-    room: &mut HeadBuffers,
+    buffer: &mut HeadBuffers,
     other: &mut HeadBuffers,
 ) -> bool
     ensures { Decides result (HaveSameEntries (arranged_county a.now) (arranged_county b.now)) }
@@ -210,13 +210,13 @@ fn have_same_entries<A: Chart, B: Chart>(
     are_same_groups(
         &NameRecords { chart: a },
         &NameRecords { chart: b },
-        &mut room.counts,
+        &mut buffer.counts,
         &mut other.counts,
-    ) && have_same_landmarks(a, b, room, other)
+    ) && have_same_landmarks(a, b, buffer, other)
         && are_same_groups(
             &PolygonRecords { county: a },
             &PolygonRecords { county: b },
-            &mut room.polygons,
+            &mut buffer.polygons,
             &mut other.polygons,
         )
 }
@@ -226,7 +226,8 @@ fn have_same_entries<A: Chart, B: Chart>(
 pub fn same_records<A: Chart, B: Chart>(a: &CanonCounty<A>, b: &CanonCounty<B>) -> bool
     ensures { Decides result (packed (arranged_county a.now) ≡ packed (arranged_county b.now)) }
 {
-    let mut room = HeadBuffers::new();
+    let mut buffer = HeadBuffers::new();
     let mut other = HeadBuffers::new();
-    have_same_chains(a, b, &mut room, &mut other) && have_same_entries(a, b, &mut room, &mut other)
+    have_same_chains(a, b, &mut buffer, &mut other)
+        && have_same_entries(a, b, &mut buffer, &mut other)
 }

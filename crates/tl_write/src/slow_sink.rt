@@ -10,7 +10,7 @@ use tl_layout::DeviceFault;
 /// A sink into a borrowed buffer. It takes few bytes per write, and fails once the buffer is full.
 #[derive(Drop)]
 pub struct SlowSink<'a> {
-    room: &'a mut [u8],
+    buffer: &'a mut [u8],
     held: usize,
     most: usize,
     failures: u64,
@@ -22,19 +22,19 @@ impl<'a> Model for SlowSink<'a> {
 
     ghost Value = { LentRoom };
 
-    ghost view = { λ s. record { held = take s.held s.room.now; room = length s.room.now; most = s.most; failures = s.failures } };
+    ghost view = { λ s. record { held = take s.held s.buffer.now; room = length s.buffer.now; most = s.most; failures = s.failures } };
 
-    ghost invariant = { λ s. (0 < s.most) × (s.held ≤ length s.room.now) };
+    ghost invariant = { λ s. (0 < s.most) × (s.held ≤ length s.buffer.now) };
 }
 
 impl<'a> SlowSink<'a> {
     /// Makes a sink that takes at most `most` bytes per write and as many bytes in all as the buffer has; `most` must not be 0.
-    pub fn new(room: &'a mut [u8], most: usize) -> Self
+    pub fn new(buffer: &'a mut [u8], most: usize) -> Self
         requires { 0 < most }
-        ensures { result ≡ record { held = []; room = length room.old; most = most; failures = 0 } }
+        ensures { result ≡ record { held = []; room = length buffer.old; most = most; failures = 0 } }
     {
         SlowSink {
-            room,
+            buffer,
             held: 0,
             most,
             failures: 0,
@@ -45,7 +45,7 @@ impl<'a> SlowSink<'a> {
     pub fn held(&self) -> &[u8]
         ensures { result.now ≡ self.now.held }
     {
-        &self.room[..self.held]
+        &self.buffer[..self.held]
     }
 }
 
@@ -72,12 +72,12 @@ impl Sink for SlowSink<'_> {
         ensures room { self.new.room ≡ self.old.room }
         ensures most { self.new.most ≡ self.old.most }
     {
-        let count = self.most.min(buf.len().min(self.room.len() - self.held));
+        let count = self.most.min(buf.len().min(self.buffer.len() - self.held));
         if count == 0 && !buf.is_empty() {
             self.failures += 1;
             return Err(DeviceFault);
         }
-        let place = &mut self.room[self.held..self.held + count];
+        let place = &mut self.buffer[self.held..self.held + count];
         place.copy_from_slice(&buf[..count]);
         self.held += count;
         Ok(count)

@@ -39,18 +39,18 @@ fn put_line_of<G: RecordGroups>(
     group: usize,
     head: G::Head,
     place: usize,
-    room: &mut [u8],
+    buffer: &mut [u8],
 )
     requires group { group < length (G.groups groups.now) }
     requires head { G.IsHead groups.now group head }
     requires place { place < length (group_at (G.groups groups.now) group) }
-    requires room { length room.old ≡ G.Item.LEN + 1 }
+    requires room { length buffer.old ≡ G.Item.LEN + 1 }
     ensures { (found : G.Item) → slice_get (group_at (G.groups groups.now) group) place ≡ Some found
-        → room.new ≡ G.Item.spelling found ++ 10 ∷ [] }
+        → buffer.new ≡ G.Item.spelling found ++ 10 ∷ [] }
 {
     let len = <G::Item as Layout>::LEN;
-    groups.put(group, head, place, &mut room[..len]);
-    room[len] = b'\n';
+    groups.put(group, head, place, &mut buffer[..len]);
+    buffer[len] = b'\n';
 }
 
 impl TextBuffer {
@@ -149,8 +149,8 @@ impl TextBuffer {
             → self.new ≡ record { waiting = self.old.waiting ++ (G.Item.spelling found ++ 10 ∷ []); sent = self.old.sent } }
     {
         let end = self.filled + <G::Item as Layout>::LEN + 1;
-        let room = &mut self.bytes[self.filled..end];
-        put_line_of(groups, group, head, place, room);
+        let buffer = &mut self.bytes[self.filled..end];
+        put_line_of(groups, group, head, place, buffer);
         self.filled = end;
     }
 

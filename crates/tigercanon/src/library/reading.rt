@@ -37,7 +37,7 @@ pub(crate) fn load<K: Collector>(alloc: Global, parts: &[&[u8]]) -> Result<K, Lo
 }
 
 /// A buffer for the bytes of one read.
-fn room(alloc: Global) -> Result<Vec<u8>, AllocError>
+fn read_buffer(alloc: Global) -> Result<Vec<u8>, AllocError>
     ensures { IfOk result (λ piece. 0 < vec_len piece) }
 {
     vec![in alloc; 0u8; 65536]
@@ -48,9 +48,9 @@ fn room(alloc: Global) -> Result<Vec<u8>, AllocError>
 fn load_through<K: Collector, R: Source>(
     alloc: Global,
     sources: &mut [R],
-    room: &mut [u8],
+    buffer: &mut [u8],
 ) -> Result<K, LoadFault>
-    requires some_room { 0 < length room.old }
+    requires some_room { 0 < length buffer.old }
     requires failures { All (λ source. R.failed source < u64.MAX) sources.old }
     ensures loaded { IfOk result (λ kept. (parts : List (List ℕ)) × AreRead R.remaining R.given sources.old sources.new parts
         × (records : List Record) × K.holds kept records × SpellsWithin tiger record_limit parts records) }
@@ -60,7 +60,7 @@ fn load_through<K: Collector, R: Source>(
 {
     let mut loader = LoaderFor::<K>::new(alloc);
     for source in sources.iter_mut() {
-        loader.read_part_by(source, room)?;
+        loader.read_part_by(source, buffer)?;
     }
     loader.finish()
 }
@@ -78,8 +78,8 @@ pub(crate) fn load_sources<K: Collector, R: Source>(
     ensures device { result ≡ Err LoadFault.Device → OneFailed R.failed sources.old sources.new }
     ensures no_device { result ≢ Err LoadFault.Device → NoneFailed R.failed sources.old sources.new }
 {
-    match room(alloc) {
-        Ok(mut room) => load_through(alloc, sources, &mut room),
+    match read_buffer(alloc) {
+        Ok(mut buffer) => load_through(alloc, sources, &mut buffer),
         Err(_) => Err(LoadFault::Memory),
     }
 }
@@ -89,10 +89,10 @@ pub(crate) fn load_sources<K: Collector, R: Source>(
 fn read_to_end<K: Collector, R: Source>(
     loader: &mut LoaderFor<K>,
     source: &mut R,
-    room: &mut [u8],
+    buffer: &mut [u8],
 ) -> Result<(), LoadFault>
     requires parts { loader.old.parts < u64.MAX }
-    requires some_room { 0 < length room.old }
+    requires some_room { 0 < length buffer.old }
     requires failures { R.failed source.old < u64.MAX }
     requires no_device { IfSome loader.old.fault IsNotDevice }
     // The whole source was read, and no read failed.
@@ -104,13 +104,13 @@ fn read_to_end<K: Collector, R: Source>(
     ensures device { IfErr result (λ f. (f ≡ LoadFault.Device) × IsUnread R.failed R.reads source.old source.new) }
 {
     for made in 0..u64::MAX {
-        match source.read(room) {
+        match source.read(buffer) {
             Ok(0) => {
                 let _ = loader.end_part();
                 return Ok(());
             }
             Ok(count) => {
-                let _ = loader.feed(&room[..count]);
+                let _ = loader.feed(&buffer[..count]);
             }
             Err(_) => return Err(LoadFault::Device),
         }
@@ -122,12 +122,12 @@ fn read_to_end<K: Collector, R: Source>(
 fn read_each<K: Collector, R: Source>(
     loader: &mut LoaderFor<K>,
     sources: &mut [R],
-    room: &mut [u8],
+    buffer: &mut [u8],
 ) -> Result<(), LoadFault>
     requires new { loader.old.parts ≡ 0 }
     requires fed { WasFedInto K.holds record_limit loader.old [] [] }
     requires no_device { IfSome loader.old.fault IsNotDevice }
-    requires some_room { 0 < length room.old }
+    requires some_room { 0 < length buffer.old }
     requires failures { All (λ source. R.failed source < u64.MAX) sources.old }
     ensures fed { OnOk result ((parts : List (List ℕ)) × AreRead R.remaining R.given sources.old sources.new parts
         × WasFedInto K.holds record_limit loader.new parts []) }
@@ -136,7 +136,7 @@ fn read_each<K: Collector, R: Source>(
     ensures device { IfErr result (λ f. (f ≡ LoadFault.Device) × SomeUnread R.failed R.reads sources.old sources.new) }
 {
     for source in sources.iter_mut() {
-        read_to_end(loader, source, room)?;
+        read_to_end(loader, source, buffer)?;
     }
     Ok(())
 }
@@ -154,9 +154,9 @@ pub(crate) fn read_to_ends<K: Collector, R: Source>(
     ensures no_device { result ≢ Err (Fault.Load LoadFault.Device) → NoneFailed R.failed sources.old sources.new }
     ensures stopped { IfErr result (StopsReading (SomeUnread R.failed R.reads sources.old sources.new)) }
 {
-    let mut room = room(alloc)?;
+    let mut buffer = read_buffer(alloc)?;
     let mut loader = LoaderFor::<K>::new(alloc);
-    read_each(&mut loader, sources, &mut room)?;
+    read_each(&mut loader, sources, &mut buffer)?;
     Ok(loader)
 }
 

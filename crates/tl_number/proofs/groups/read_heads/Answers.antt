@@ -6,20 +6,20 @@ use Rattle.tl_number.proofs.groups.read_heads.Goals as goal
 
 pub loop-ahead-init : goal.loop-ahead-init
 loop-ahead-init g c = record {
-  room = refl;
+  buffer = refl;
   heads = no_heads (g.G.RecordGroups.IsHead c.args.groups.now) c.args.first;
 }
 
 pub loop-ahead-preserved : goal.loop-ahead-preserved
 loop-ahead-preserved g c =
-    let room = c.loop-ahead.room in
+    let buffer = c.loop-ahead.buffer in
     let i = c.loop-ahead.ahead in
     let head = c.head.result in
     let IsHead = g.G.RecordGroups.IsHead c.args.groups.now in
-    let there : i < length room = omega (arith, c.min-count.ensures, c.loop-ahead-test.true, c.loop-ahead.invariant.room) in
-    let read : length (take i room) ≡ i = length-take i room ∙ omega (arith, there) in
+    let there : i < length buffer = omega (arith, c.min-count.ensures, c.loop-ahead-test.true, c.loop-ahead.invariant.buffer) in
+    let read : length (take i buffer) ≡ i = length-take i buffer ∙ omega (arith, there) in
     record {
-      room = length-set room i head ∙ c.loop-ahead.invariant.room;
-      heads = subst (AreHeads IsHead c.args.first) (sym (take_more_set room i head there))
-          (one_more_head IsHead c.args.first (take i room) head c.loop-ahead.invariant.heads (rw read c.head.ensures));
+      buffer = length-set buffer i head ∙ c.loop-ahead.invariant.buffer;
+      heads = subst (AreHeads IsHead c.args.first) (sym (take_more_set buffer i head there))
+          (one_more_head IsHead c.args.first (take i buffer) head c.loop-ahead.invariant.heads (rw read c.head.ensures));
     }

@@ -5,7 +5,7 @@ use Rattle.tl_number.proofs.Records.SameGroups.{decides_no, same_whole}
 use Rattle.tl_number.proofs.sameness.are_same_groups.Goals as goal
 
 pub loop-first-init : goal.loop-first-init
-loop-first-init g c = record { room = refl; other = refl; within = omega arith; same = refl }
+loop-first-init g c = record { buffer = refl; other = refl; within = omega arith; same = refl }
 
 pub loop-first-preserved : goal.loop-first-preserved
 loop-first-preserved g c =
@@ -14,14 +14,14 @@ loop-first-preserved g c =
     let ys = g.H.RecordGroups.groups c.args.b.now in
     let i = c.loop-first.first in
     let n = c.read_heads-heads.result in
-    let room = c.read_heads-heads.new.room in
-    let counted : length (take n room) ≡ n =
-    length-take n room ∙ omega (arith, c.read_heads-heads.ensures.count, c.read_heads-heads.ensures.room) in
+    let buffer = c.read_heads-heads.new.buffer in
+    let counted : length (take n buffer) ≡ n =
+    length-take n buffer ∙ omega (arith, c.read_heads-heads.ensures.count, c.read_heads-heads.ensures.buffer) in
     let next : take n (drop i xs) ≡ take n (drop i ys) =
     ap (λ k. take k (drop i xs)) (sym counted) ∙ c.are_same_headed-same.ensures.0 same ∙ ap (λ k. take k (drop i ys)) counted in
     record {
-      room = c.read_heads-heads.ensures.room ∙ c.loop-first.invariant.room;
-      other = c.read_heads-others.ensures.room ∙ c.loop-first.invariant.other;
+      buffer = c.read_heads-heads.ensures.buffer ∙ c.loop-first.invariant.buffer;
+      other = c.read_heads-others.ensures.buffer ∙ c.loop-first.invariant.other;
       within = omega (arith, c.read_heads-heads.ensures.count, c.loop-first.invariant.within);
       same = take-add i n xs ∙ (λ k. c.loop-first.invariant.same k ++ next k) ∙ sym (take-add i n ys);
     }
@@ -30,7 +30,7 @@ pub returns-then-not-same : goal.returns-then-not-same
 returns-then-not-same g c =
     let other : c.are_same_headed-same.result ≡ false = search rules in
     decides_no c.are_same_headed-same.result other c.are_same_headed-same.ensures
-    (λ all. ap (λ gs. take (length (take c.read_heads-heads.result c.read_heads-heads.new.room)) (drop c.loop-first.first gs)) all)
+    (λ all. ap (λ gs. take (length (take c.read_heads-heads.result c.read_heads-heads.new.buffer)) (drop c.loop-first.first gs)) all)
 
 pub returns : goal.returns
 returns g c = (

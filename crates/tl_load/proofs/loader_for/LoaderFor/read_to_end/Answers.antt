@@ -103,7 +103,7 @@ pub returns-in_err-take_piece-clause-reads : goal.returns-in_err-take_piece-clau
 returns-in_err-take_piece-clause-reads g c =
     let r = c.loop-count.invariant.reads in
     let piece = take c.in-Ok.count c.read.new.buf in
-    let buffer : length c.read.new.buf ≡ length c.args.room.now = omega arith in
+    let buffer : length c.read.new.buf ≡ length c.args.buffer.now = omega arith in
     let len : length piece ≡ c.in-Ok.count = omega (arith, length-take c.in-Ok.count c.read.new.buf, c.in-Ok.ensures.bound) in
     let counted = subst (λ (n : ℕ). RoseBy n (g.R.Source.given c.loop-count.source) (g.R.Source.given c.read.new.self))
     (sym len) c.in-Ok.ensures.given in

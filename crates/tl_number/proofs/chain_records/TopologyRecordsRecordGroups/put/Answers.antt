@@ -1,10 +1,8 @@
 -- The written bytes are the spelling of the chain's record.
-use Rattle.std.proofs.Common.{◌≡◌, ◌∙◌, ◌∷◌, [], Some, option_map, sym, ap}
-use Rattle.std.specs.Option.{option_copied}
+use Rattle.std.proofs.Common.{◌∙◌, ◌∷◌, [], Some, option_map, sym, ap}
 use Rattle.tl_county.specs.Packing.{packed_i}
 use Rattle.tl_layout.specs.TypeI.{type_i_spelling}
 use Rattle.tl_number.proofs.Records.ChainPlaces.{chain_of_group}
-use Rattle.tl_number.proofs.Records.Grouped.{some-same}
 use Rattle.tl_number.proofs.Records.RecordPlaces.{tlid_of, part_of, lone_of}
 use Rattle.tl_number.proofs.chain_records.TopologyRecordsRecordGroups.put.Goals as goal
 
@@ -14,9 +12,7 @@ returns g c =
     let there = chain_of_group (λ entry. packed_i entry ∷ []) (g.C.Chart.county chart) (g.met.C.Chart.is_county chart)
     (g.met.C.Chart.within_limits chart) c.args.group c.requires.group in
     let tlid_is = tlid_of there c.tlid_there.result c.tlid_there.ensures in
-    let body_is : c.unwrap.result.now ≡ there.entry.1.topology =
-    some-same c.args.head c.unwrap.result.now there.entry.1.topology (ap option_copied (sym c.unwrap.ensures) ∙ c.as_ref.ensures.value)
-    (c.requires.head ∙ ap (option_map (λ chain. chain.topology)) there.chain) in
+    let body_is = part_of (λ chain. chain.topology) there c.link_body_there.result c.link_body_there.ensures in
     let start_is = part_of (λ chain. chain.start_node) there c.start_node_there.result c.start_node_there.ensures in
     let end_is = part_of (λ chain. chain.end_node) there c.end_node_there.result c.end_node_there.ensures in
     let left_is = part_of (λ chain. chain.left) there c.left_there.result c.left_there.ensures in

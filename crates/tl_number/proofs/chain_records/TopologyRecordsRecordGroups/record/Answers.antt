@@ -1,8 +1,7 @@
-use Rattle.std.proofs.Common.{◌≡◌, ◌∙◌, ◌∷◌, [], Some, option_map, sym, ap, subst}
+use Rattle.std.proofs.Common.{◌∙◌, ◌∷◌, [], Some, sym, ap, subst}
 use Rattle.tl_layout.specs.Numbers.{IsNumber, IsNumberOrNone}
 use Rattle.tl_county.specs.Packing.{packed_i}
 use Rattle.tl_number.proofs.Records.ChainPlaces.{chain_of_group}
-use Rattle.tl_number.proofs.Records.Grouped.{some-same}
 use Rattle.tl_number.proofs.Records.RecordPlaces.{tlid_of, part_of, lone_of}
 use Rattle.tl_number.proofs.chain_records.TopologyRecordsRecordGroups.record.Goals as goal
 
@@ -30,9 +29,7 @@ returns g c =
     let there = chain_of_group (λ entry. packed_i entry ∷ []) (g.C.Chart.county chart) (g.met.C.Chart.is_county chart)
     (g.met.C.Chart.within_limits chart) c.args.group c.requires.group in
     let tlid_is = tlid_of there c.tlid_there.result c.tlid_there.ensures in
-    let body_is : c.unwrap.result ≡ there.entry.1.topology =
-    some-same c.args.head c.unwrap.result there.entry.1.topology (sym c.unwrap.ensures)
-    (c.requires.head ∙ ap (option_map (λ chain. chain.topology)) there.chain) in
+    let body_is = part_of (λ chain. chain.topology) there c.link_body_there.result c.link_body_there.ensures in
     let start_is = part_of (λ chain. chain.start_node) there c.start_node_there.result c.start_node_there.ensures in
     let end_is = part_of (λ chain. chain.end_node) there c.end_node_there.result c.end_node_there.ensures in
     let left_is = part_of (λ chain. chain.left) there c.left_there.result c.left_there.ensures in

@@ -6,7 +6,7 @@ use Rattle.tl_number.specs.Groups.{group_at, grouped}
 use Rattle.tl_number.proofs.Records.GivenGroups.{around_group, with_group}
 use Rattle.tl_number.proofs.Records.Grouped.{length_headed}
 use Rattle.tl_number.proofs.Records.OneAfterAnother.{second_stops}
-use Rattle.tl_number.proofs.groups.give_headed.Goals as goal
+use Rattle.tl_number.proofs.groups.visit_headed.Goals as goal
 
 pub loop-ahead-init : goal.loop-ahead-init
 loop-ahead-init g c = record {
@@ -14,21 +14,21 @@ loop-ahead-init g c = record {
   ready = c.requires.ready;
 }
 
-pub give_group-requires-clause-ready : goal.give_group-requires-clause-ready
-give_group-requires-clause-ready g c = c.loop-ahead.invariant.ready
+pub visit_whole_group-requires-clause-ready : goal.visit_whole_group-requires-clause-ready
+visit_whole_group-requires-clause-ready g c = c.loop-ahead.invariant.ready
 
-pub returns-in_err-give_group-clause-given : goal.returns-in_err-give_group-clause-given
-returns-in_err-give_group-clause-given g c =
+pub returns-in_err-visit_whole_group-clause-given : goal.returns-in_err-visit_whole_group-clause-given
+returns-in_err-visit_whole_group-clause-given g c =
     let f = g.G.Item.Tabled.as_record in
     let groups = g.G.RecordGroups.groups c.args.groups.now in
     let i = c.loop-ahead.ahead in
     let gs = take (length c.args.heads.now) (drop c.args.first groups) in
     let p = err_from_is_err_and c.from_residual.result c.from_residual.ensures.1 in
-    subst (λ rs. g.T.RecordVisitor.Takes rs c.args.visitor.now c.args.device.now c.from_residual.result c.give_group.new.visitor
-    c.give_group.new.device) (sym (around_group f groups c.args.first (length c.args.heads.now) i c.requires.within c.loop-ahead-test.true))
+    subst (λ rs. g.T.RecordVisitor.Takes rs c.args.visitor.now c.args.device.now c.from_residual.result c.visit_whole_group.new.visitor
+    c.visit_whole_group.new.device) (sym (around_group f groups c.args.first (length c.args.heads.now) i c.requires.within c.loop-ahead-test.true))
     (rw (p.1, p.2) (second_stops g.T.RecordVisitor.Takes g.met.T.RecordVisitor.then g.met.T.RecordVisitor.stops
     (map f (grouped (take i gs))) (map f (group_at groups (c.args.first + i))) (map f (grouped (drop (suc i) gs)))
-    c.loop-ahead.invariant.taken c.in_err-give_group.ensures.given))
+    c.loop-ahead.invariant.taken c.in_err-visit_whole_group.ensures.given))
 
 pub loop-ahead-preserved : goal.loop-ahead-preserved
 loop-ahead-preserved g c =
@@ -37,12 +37,12 @@ loop-ahead-preserved g c =
     let i = c.loop-ahead.ahead in
     record {
       taken = subst (λ rs. g.T.RecordVisitor.Takes rs
-          c.args.visitor.now c.args.device.now (Ok tt) c.give_group.new.visitor c.give_group.new.device)
+          c.args.visitor.now c.args.device.now (Ok tt) c.visit_whole_group.new.visitor c.visit_whole_group.new.device)
           (sym (with_group f groups c.args.first (length c.args.heads.now) i c.requires.within c.loop-ahead-test.true))
           (g.met.T.RecordVisitor.then (map f (grouped (take i (take (length c.args.heads.now) (drop c.args.first groups)))))
-          (map f (group_at groups (c.args.first + i))) c.args.visitor.now c.loop-ahead.visitor c.give_group.new.visitor
-          c.args.device.now c.loop-ahead.device c.give_group.new.device (Ok tt) c.loop-ahead.invariant.taken c.in_ok-give_group.ensures.given);
-      ready = c.in_ok-give_group.ensures.ready;
+          (map f (group_at groups (c.args.first + i))) c.args.visitor.now c.loop-ahead.visitor c.visit_whole_group.new.visitor
+          c.args.device.now c.loop-ahead.device c.visit_whole_group.new.device (Ok tt) c.loop-ahead.invariant.taken c.in_ok-visit_whole_group.ensures.given);
+      ready = c.in_ok-visit_whole_group.ensures.ready;
     }
 
 pub returns-clause-given : goal.returns-clause-given
@@ -59,8 +59,8 @@ returns-clause-given g c =
 pub returns-clause-ready : goal.returns-clause-ready
 returns-clause-ready g c = c.loop-ahead.invariant.ready
 
-pub give_group-requires-clause-head : goal.give_group-requires-clause-head
-give_group-requires-clause-head g c =
+pub visit_whole_group-requires-clause-head : goal.visit_whole_group-requires-clause-head
+visit_whole_group-requires-clause-head g c =
     c.requires.heads c.loop-ahead.ahead c.index-heads-ahead.result
     (slice_get_read c.args.heads.now (length c.args.heads.now) c.loop-ahead.ahead c.index-heads-ahead.result refl c.loop-ahead-test.true
     c.index-heads-ahead.is)

@@ -1,6 +1,6 @@
 use Rattle.std.proofs.Common.{drop, length, map, take, Ok}
 use Rattle.tl_number.specs.Groups.{grouped}
-use Rattle.tl_number.proofs.groups.give_headed.Given as goal
+use Rattle.tl_number.proofs.groups.visit_headed.Given as goal
 
 -- the records of the first `ahead` groups were taken
 abbrev pub invariant-loop-ahead : goal.invariant-loop-ahead

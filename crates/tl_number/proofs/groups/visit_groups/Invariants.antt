@@ -1,11 +1,11 @@
 use Rattle.std.proofs.Common.{◌≡◌, ◌≤◌, ◌-◌, length, map, take, Ok}
 use Rattle.tl_number.specs.Groups.{grouped}
-use Rattle.tl_number.proofs.groups.give_groups.Given as goal
+use Rattle.tl_number.proofs.groups.visit_groups.Given as goal
 
 -- the records of the groups before `first` were taken
 abbrev pub invariant-loop-first : goal.invariant-loop-first
 invariant-loop-first g l = record {
-  room : length l.room ≡ length l.initial.room;
+  buffer : length l.buffer ≡ length l.initial.buffer;
   within : l.first ≤ length (g.G.RecordGroups.groups l.groups);
   taken : g.T.RecordVisitor.Takes (map g.G.Item.Tabled.as_record (grouped (take l.first (g.G.RecordGroups.groups l.groups))))
       l.initial.visitor l.initial.device (Ok tt) l.visitor l.device;

@@ -4,32 +4,32 @@ use Rattle.std.proofs.lemmas.Result.{err_from_is_err_and}
 use Rattle.tl_number.specs.Groups.{grouped}
 use Rattle.tl_number.proofs.Records.GivenGroups.{around_groups, with_groups}
 use Rattle.tl_number.proofs.Records.OneAfterAnother.{second_stops}
-use Rattle.tl_number.proofs.groups.give_groups.Goals as goal
+use Rattle.tl_number.proofs.groups.visit_groups.Goals as goal
 
 pub loop-first-init : goal.loop-first-init
 loop-first-init g c = record {
-  room = refl;
+  buffer = refl;
   within = omega arith;
   taken = g.met.T.RecordVisitor.none c.args.visitor.now c.args.device.now;
   ready = c.requires.ready;
 }
 
-pub returns-in_err-give_headed-clause-given : goal.returns-in_err-give_headed-clause-given
-returns-in_err-give_headed-clause-given g c =
+pub returns-in_err-visit_headed-clause-given : goal.returns-in_err-visit_headed-clause-given
+returns-in_err-visit_headed-clause-given g c =
     let f = g.G.Item.Tabled.as_record in
     let groups = g.G.RecordGroups.groups c.args.groups.now in
     let i = c.loop-first.first in
     let n = c.read_heads-heads.result in
     let p = err_from_is_err_and c.from_residual.result c.from_residual.ensures.1 in
-    subst (λ rs. g.T.RecordVisitor.Takes rs c.args.visitor.now c.args.device.now c.from_residual.result c.give_headed.new.visitor
-    c.give_headed.new.device) (sym (around_groups f groups i n))
+    subst (λ rs. g.T.RecordVisitor.Takes rs c.args.visitor.now c.args.device.now c.from_residual.result c.visit_headed.new.visitor
+    c.visit_headed.new.device) (sym (around_groups f groups i n))
     (rw (p.1, p.2) (second_stops g.T.RecordVisitor.Takes g.met.T.RecordVisitor.then g.met.T.RecordVisitor.stops
     (map f (grouped (take i groups))) (map f (grouped (take n (drop i groups)))) (map f (grouped (drop n (drop i groups))))
     c.loop-first.invariant.taken
     (subst (λ k. g.T.RecordVisitor.Takes (map f (grouped (take k (drop i groups)))) c.loop-first.visitor c.loop-first.device
-    (Err c.in_err-give_headed.field-0.0) c.give_headed.new.visitor c.give_headed.new.device)
-    (length-take n c.read_heads-heads.new.room ∙ omega (arith, c.read_heads-heads.ensures.count, c.read_heads-heads.ensures.room))
-    c.in_err-give_headed.ensures.given)))
+    (Err c.in_err-visit_headed.field-0.0) c.visit_headed.new.visitor c.visit_headed.new.device)
+    (length-take n c.read_heads-heads.new.buffer ∙ omega (arith, c.read_heads-heads.ensures.count, c.read_heads-heads.ensures.buffer))
+    c.in_err-visit_headed.ensures.given)))
 
 pub loop-first-preserved : goal.loop-first-preserved
 loop-first-preserved g c =
@@ -37,19 +37,19 @@ loop-first-preserved g c =
     let groups = g.G.RecordGroups.groups c.args.groups.now in
     let n = c.read_heads-heads.result in
     record {
-      room = c.read_heads-heads.ensures.room ∙ c.loop-first.invariant.room;
+      buffer = c.read_heads-heads.ensures.buffer ∙ c.loop-first.invariant.buffer;
       within = omega (arith, c.read_heads-heads.ensures.count, c.loop-first.invariant.within);
       taken = subst (λ rs. g.T.RecordVisitor.Takes rs
-          c.args.visitor.now c.args.device.now (Ok tt) c.give_headed.new.visitor c.give_headed.new.device)
+          c.args.visitor.now c.args.device.now (Ok tt) c.visit_headed.new.visitor c.visit_headed.new.device)
           (sym (with_groups f groups c.loop-first.first n))
           (g.met.T.RecordVisitor.then (map f (grouped (take c.loop-first.first groups))) (map f (grouped (take n (drop c.loop-first.first groups))))
-          c.args.visitor.now c.loop-first.visitor c.give_headed.new.visitor
-          c.args.device.now c.loop-first.device c.give_headed.new.device (Ok tt) c.loop-first.invariant.taken
+          c.args.visitor.now c.loop-first.visitor c.visit_headed.new.visitor
+          c.args.device.now c.loop-first.device c.visit_headed.new.device (Ok tt) c.loop-first.invariant.taken
           (subst (λ k. g.T.RecordVisitor.Takes (map f (grouped (take k (drop c.loop-first.first groups)))) c.loop-first.visitor c.loop-first.device
-          (Ok tt) c.give_headed.new.visitor c.give_headed.new.device)
-          (length-take n c.read_heads-heads.new.room ∙ omega (arith, c.read_heads-heads.ensures.count, c.read_heads-heads.ensures.room))
-          c.in_ok-give_headed.ensures.given));
-      ready = c.in_ok-give_headed.ensures.ready;
+          (Ok tt) c.visit_headed.new.visitor c.visit_headed.new.device)
+          (length-take n c.read_heads-heads.new.buffer ∙ omega (arith, c.read_heads-heads.ensures.count, c.read_heads-heads.ensures.buffer))
+          c.in_ok-visit_headed.ensures.given));
+      ready = c.in_ok-visit_headed.ensures.ready;
     }
 
 pub returns-clause-given : goal.returns-clause-given

@@ -1,6 +1,6 @@
 use Rattle.std.proofs.Common.{map, take, Ok}
 use Rattle.tl_number.specs.Groups.{group_at}
-use Rattle.tl_number.proofs.groups.give_group.Given as goal
+use Rattle.tl_number.proofs.groups.visit_whole_group.Given as goal
 
 -- the records up to the place were taken
 abbrev pub invariant-loop-place : goal.invariant-loop-place

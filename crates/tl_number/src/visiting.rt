@@ -9,17 +9,17 @@ use crate::arranged::{Arranged, Evidence};
 use crate::chain_records::{
     ChainRecords, FurtherNameRecords, RangeRecords, ShapePointRecords, TopologyRecords,
 };
-use crate::groups::give_groups;
+use crate::groups::visit_groups;
 use crate::heads::HeadBuffers;
 use crate::name_records::{LandmarkLinkRecords, LandmarkRecords, NameRecords};
 use crate::polygon_records::PolygonRecords;
 use crate::visitor::RecordVisitor;
 use tl_county::Chart;
 
-/// Passes on the records of types 1, 2 and 4 of a county, one type after another. `room` is the buffer for heads.
-fn give_types_1_to_4<D, C: Chart, T: RecordVisitor<D>>(
+/// Passes on the records of types 1, 2 and 4 of a county, one type after another. Heads are read into `buffer`.
+fn visit_types_1_to_4<D, C: Chart, T: RecordVisitor<D>>(
     chart: &C,
-    room: &mut HeadBuffers,
+    buffer: &mut HeadBuffers,
     visitor: &mut T,
     device: &mut D,
 ) -> Result<(), T::Fault>
@@ -28,17 +28,17 @@ fn give_types_1_to_4<D, C: Chart, T: RecordVisitor<D>>(
     ensures ready { OnOk result (T.IsReady visitor.new device.new) }
 {
     let chains = ChainRecords { chart };
-    give_groups(&chains, &mut room.ends, visitor, device)?;
+    visit_groups(&chains, &mut buffer.ends, visitor, device)?;
     let shape_points = ShapePointRecords { chart };
-    give_groups(&shape_points, &mut room.counts, visitor, device)?;
+    visit_groups(&shape_points, &mut buffer.counts, visitor, device)?;
     let further_names = FurtherNameRecords { chart };
-    give_groups(&further_names, &mut room.counts, visitor, device)
+    visit_groups(&further_names, &mut buffer.counts, visitor, device)
 }
 
-/// Passes on the records of types 5, 6 and 7 of a county, one type after another. `room` is the buffer for heads.
-fn give_types_5_to_7<D, C: Chart, T: RecordVisitor<D>>(
+/// Passes on the records of types 5, 6 and 7 of a county, one type after another. Heads are read into `buffer`.
+fn visit_types_5_to_7<D, C: Chart, T: RecordVisitor<D>>(
     chart: &C,
-    room: &mut HeadBuffers,
+    buffer: &mut HeadBuffers,
     visitor: &mut T,
     device: &mut D,
 ) -> Result<(), T::Fault>
@@ -47,18 +47,18 @@ fn give_types_5_to_7<D, C: Chart, T: RecordVisitor<D>>(
     ensures ready { OnOk result (T.IsReady visitor.new device.new) }
 {
     let names = NameRecords { chart };
-    give_groups(&names, &mut room.counts, visitor, device)?;
+    visit_groups(&names, &mut buffer.counts, visitor, device)?;
     let ranges = RangeRecords { chart };
-    give_groups(&ranges, &mut room.counts, visitor, device)?;
+    visit_groups(&ranges, &mut buffer.counts, visitor, device)?;
     let landmarks = LandmarkRecords { chart };
-    give_groups(&landmarks, &mut room.counts, visitor, device)
+    visit_groups(&landmarks, &mut buffer.counts, visitor, device)
 }
 
-/// Passes on the records of types 8, I and P of an arranged county, one type after another. `room` is the buffer for
-/// heads.
-fn give_types_8_to_p<D, C: Chart, S: Evidence, T: RecordVisitor<D>>(
+/// Passes on the records of types 8, I and P of an arranged county, one type after another. Heads are read into
+/// `buffer`.
+fn visit_types_8_to_p<D, C: Chart, S: Evidence, T: RecordVisitor<D>>(
     county: &Arranged<C, S>,
-    room: &mut HeadBuffers,
+    buffer: &mut HeadBuffers,
     visitor: &mut T,
     device: &mut D,
 ) -> Result<(), T::Fault>
@@ -67,11 +67,11 @@ fn give_types_8_to_p<D, C: Chart, S: Evidence, T: RecordVisitor<D>>(
     ensures ready { OnOk result (T.IsReady visitor.new device.new) }
 {
     let landmark_links = LandmarkLinkRecords { county };
-    give_groups(&landmark_links, &mut room.counts, visitor, device)?;
+    visit_groups(&landmark_links, &mut buffer.counts, visitor, device)?;
     let links = TopologyRecords { chart: county };
-    give_groups(&links, &mut room.link_bodies, visitor, device)?;
+    visit_groups(&links, &mut buffer.topology_bytes, visitor, device)?;
     let polygons = PolygonRecords { county };
-    give_groups(&polygons, &mut room.polygons, visitor, device)
+    visit_groups(&polygons, &mut buffer.polygons, visitor, device)
 }
 
 /// Passes all records of an arranged county to the visitor, type after type.
@@ -88,8 +88,8 @@ pub fn visit_records<D, C: Chart, S: Evidence, T: RecordVisitor<D>>(
     ensures given { T.Takes (packed (arranged_county county.now)) visitor.old device.old result visitor.new device.new }
     ensures ready { OnOk result (T.IsReady visitor.new device.new) }
 {
-    let mut room = HeadBuffers::new();
-    give_types_1_to_4(county, &mut room, visitor, device)?;
-    give_types_5_to_7(county, &mut room, visitor, device)?;
-    give_types_8_to_p(county, &mut room, visitor, device)
+    let mut buffer = HeadBuffers::new();
+    visit_types_1_to_4(county, &mut buffer, visitor, device)?;
+    visit_types_5_to_7(county, &mut buffer, visitor, device)?;
+    visit_types_8_to_p(county, &mut buffer, visitor, device)
 }

@@ -5,7 +5,7 @@ use Rattle.tl_number.specs.Groups.{group_at}
 use Rattle.tl_county.proofs.Lists.Places.{next_taken}
 use Rattle.tl_number.proofs.Records.ChainPlaces.{some_at}
 use Rattle.tl_number.proofs.Records.Grouped.{map-append, parted}
-use Rattle.tl_number.proofs.groups.give_group.Goals as goal
+use Rattle.tl_number.proofs.groups.visit_whole_group.Goals as goal
 
 pub loop-place-init : goal.loop-place-init
 loop-place-init g c = record {
