@@ -14,7 +14,7 @@ import shutil
 import socket
 import stat
 import time
-from contextlib import contextmanager
+from contextlib import contextmanager, suppress
 from typing import Iterator, NamedTuple, Sequence
 
 from .errors import Failure, reason
@@ -236,10 +236,8 @@ def write_all(handle: int, text: bytes) -> None:
 
 
 def discard(path: str) -> None:
-    try:
+    with suppress(OSError):
         os.unlink(path)
-    except OSError:
-        pass
 
 
 def see_that_it_may_be_a_manifest(name: str) -> None:

@@ -12,7 +12,6 @@ from typing import Any, Iterator
 
 from ..errors import Failure
 from ..manifest import flags_of
-from ..own import PROCESS
 from ..printing import print_lines
 from ..program import find_program
 from ..progress import report
@@ -94,15 +93,11 @@ def add_arguments(parser: argparse.ArgumentParser) -> None:
 def run(options: argparse.Namespace) -> int:
     """Runs the subcommand and returns its exit status."""
     check_options(options)
-    is_collecting = gc.isenabled()
     gc.disable()  # the counties are kept until the end, and looking for garbage in them takes a third of the time
     try:
         return compared(options)
     except NotCanonical as fault:
         raise Failure(f"the program doesn't print a canonical text: {fault}") from None
-    finally:
-        if is_collecting:
-            gc.enable()
 
 
 def check_options(options: argparse.Namespace) -> None:

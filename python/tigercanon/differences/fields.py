@@ -8,7 +8,7 @@ from functools import lru_cache
 from typing import Callable, Hashable, NamedTuple, Sequence, TypeVar
 
 from .columns import CHAIN, LANDMARK, LINK, NAME, POLYGON, RANGE, Layout
-from .reading import NO_POINT, POINT_WIDTH, Chain, County, Landmark, Name, Place, Polygon, PolygonKey
+from .reading import NO_POINT, POINT_WIDTH, Chain, County, Landmark, Place, Polygon, PolygonKey
 
 NONE = "(none)"
 BLANK = "(blank)"

@@ -21,7 +21,7 @@ from .fields import (
     rows,
 )
 from .matching import Comparison, Matched
-from .reading import NO_POINT, POINT_WIDTH, County
+from .reading import NO_POINT, POINT_WIDTH
 
 KINDS = ("in the first alone", "in the second alone", "changed", "alike")
 
@@ -43,11 +43,6 @@ class Thing:
     def either(self) -> Any:
         """The thing as the first map has it, or else the second."""
         return self.other if self.one is None else self.one
-
-    @property
-    def county(self) -> County:
-        """The map that `either` is of."""
-        return (self.comparison.second if self.one is None else self.comparison.first).county
 
     @property
     def name(self) -> str:
@@ -108,7 +103,8 @@ class LandmarkThing(Thing):
 
     @property
     def points(self) -> list[str]:
-        return landmark_points(self.either, self.county)
+        teller = self.comparison.second if self.one is None else self.comparison.first
+        return landmark_points(self.either, teller.county)
 
     @property
     def rows(self) -> list[Row]:
