@@ -4,11 +4,13 @@ from __future__ import annotations
 
 import json
 import re
+from dataclasses import replace
 from pathlib import Path
 from typing import Any
 
 import pytest
-from support import ROOT, Ended, built_program, call
+from support import PROGRAM, Ended, call
+from testing import ROOT
 
 from tigercanon.differences.sets import Canonical, Sets
 
@@ -22,7 +24,6 @@ KINDS = ("in the first alone", "in the second alone", "changed")
 WORDS_HEADING = re.compile(rf"(chain|landmark|polygon|feature name)s ({'|'.join(KINDS)}): ([\d,]+)")
 DEGREES = re.compile(r"(\d+)\.(\d{6})° ([NS]), (\d+)\.(\d{6})° ([WE])")
 PROGRESS = re.compile(r"tigercanon-tools: (normalising|reading|comparing|finding|writing) .*\n")
-PROGRAM = built_program()
 
 needs_leaflet = pytest.mark.skipif(not (LEAFLET / "leaflet.css").exists(), reason="libjs-leaflet isn't installed")
 
@@ -38,13 +39,6 @@ def diff(*words: object, program: object = PROGRAM, **options: Any) -> Ended:
 def sets_of(first: bytes, second: bytes) -> Sets:
     """Two sets with these canonical texts."""
     return Sets(Canonical("one", first), Canonical("other", second))
-
-
-def put_in(folder: Path, name: str, text: bytes) -> Path:
-    """A file in a folder."""
-    path = folder / name
-    path.write_bytes(text)
-    return path
 
 
 # Reading reports
@@ -85,9 +79,7 @@ def point_of_words(parts: tuple[str, ...]) -> Point:
 def in_words(difference: Difference) -> Difference:
     """A difference as a printed report has it."""
     place = difference.place
-    return Difference(
-        difference.what, difference.kind, (place[0], place[-1]) if difference.what == "chain" else place, difference.fields
-    )
+    return replace(difference, place=(place[0], place[-1])) if difference.what == "chain" else difference
 
 
 def counts_in_words(text: str) -> dict[str, list[str]]:

@@ -1,0 +1,84 @@
+"""Scripts beside the package: the man page and the completions of the tools agree with their help; and what the runner of the cases in
+vectors/ does without a program."""
+
+from __future__ import annotations
+
+import shutil
+import subprocess
+
+import pytest
+from testing import ROOT, script
+
+PAGES = script("release/tool-pages")
+RUN = ROOT / "vectors/run"
+
+
+def test_files() -> None:
+    """The files in the repository are those that release/tool-pages writes."""
+    for place, text in PAGES.pages().items():
+        assert (ROOT / place).read_text("utf-8") == text, f"{place}: run release/tool-pages"
+
+
+def test_they_have_all_commands() -> None:
+    """Each page has each command with its flags."""
+    for name, command in PAGES.commands().items():
+        for place, text in PAGES.pages().items():
+            plain = text.replace("\\-", "-")
+            assert name in plain, (place, name)
+            for flag in command.flags:
+                spelled = f"-l {flag[2:]} " if place.endswith(".fish") and flag.startswith("--") else flag
+                assert spelled in plain or len(flag) == 2, (place, name, flag)
+
+
+@pytest.mark.parametrize(
+    "words",
+    [
+        "man -l --warnings man/tigercanon-tools.1",
+        "bash -n completions/tigercanon-tools.bash",
+        "zsh -n completions/_tigercanon-tools",
+        "fish -n completions/tigercanon-tools.fish",
+    ],
+)
+def test_they_can_be_read(words: str) -> None:
+    if not shutil.which(words.split()[0]):
+        pytest.skip(f"no {words.split()[0]}")
+    ended = subprocess.run(words.split(), cwd=ROOT, capture_output=True)
+    assert (ended.returncode, ended.stderr) == (0, b"")
+
+
+def test_bash_completes() -> None:
+    """What bash offers for commands and for the flags of one."""
+    completion = (
+        "compopt() { :; }; . completions/tigercanon-tools.bash; COMP_WORDS=(tigercanon-tools ASKED); "
+        'COMP_CWORD=$((${#COMP_WORDS[@]} - 1)); _tigercanon_tools; echo "${COMPREPLY[*]}"'
+    )
+
+    def offered(words: str) -> str:
+        command = ["bash", "-c", completion.replace("ASKED", words)]
+        return subprocess.run(command, cwd=ROOT, capture_output=True, text=True).stdout.strip()
+
+    assert offered("du") == "duplicates"
+    assert offered("diff --ge") == "--geojson"
+    assert offered("diff --page x.html --no-s") == "--no-sources"
+
+
+def test_a_list_that_is_read_in_part() -> None:
+    """It ends silently, as any filter does."""
+    run = subprocess.Popen([RUN, "--list"], stdout=subprocess.PIPE, stderr=subprocess.PIPE)
+    assert run.stdout and run.stderr
+    run.stdout.readline()
+    run.stdout.close()
+    assert (run.stderr.read(), run.wait()) in ((b"", 0), (b"", -13))
+
+
+@pytest.mark.parametrize(
+    "words, why",
+    [
+        ([], "which PROGRAM? Give a command on the PATH, or a path with a slash"),
+        (["nosuch"], "there is no program nosuch on the PATH; a path needs a slash"),
+        (["./nosuch"], "there is no program ./nosuch"),
+    ],
+)
+def test_no_program(words: list[str], why: str) -> None:
+    run = subprocess.run([RUN, *words], capture_output=True, text=True)
+    assert (run.returncode, run.stdout, run.stderr) == (2, "", f"run: {why}\n")
